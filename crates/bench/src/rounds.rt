@@ -1,10 +1,10 @@
 //! The calls that are made, through any step interface.
+use rq_bytes::GhostList;
 use rq_engine::event::{Event, Reply};
 use rq_model::txn::Txn;
 use rq_page::layout::SLOTS;
 use rq_workers::gate::{BEFORE_AGAIN, Gate};
 use rq_workers::steps::Steps;
-use rq_workers::trail::Trail;
 use rq_workers::worker::Worker;
 use std::alloc::{AllocError, Global};
 use std::snapshot::Snapshot;
@@ -20,7 +20,7 @@ const ROUNDS_A_BATCH: u32 = 64;
 /// Lets its thread through, and others run before a call is tried again.
 #[derive(Drop)]
 struct Polite {
-    answers: Snapshot<Trail<(u32, bool)>>,
+    answers: Snapshot<GhostList<(u32, bool)>>,
 }
 
 impl Gate for Polite {
@@ -30,7 +30,7 @@ impl Gate for Polite {
         if point == BEFORE_AGAIN {
             thread::yield_now();
         }
-        Trail::note(&mut self.answers, &(point, true));
+        GhostList::note(&mut self.answers, &(point, true));
         true
     }
 }
@@ -86,7 +86,7 @@ fn send_of(alloc: Global, txn: Txn, sender: u32) -> Result<Event, AllocError> {
 // Goes through the operation of a transaction, and commits.
 fn committed<S: Steps + Drop, R: Wait>(rt: &R, steps: S, txn: Txn, start: &Event) -> S {
     let gate = Polite {
-        answers: Trail::empty(),
+        answers: GhostList::empty(),
     };
     let mut worker = Worker::new(gate, steps);
     let _ = worker.run(rt, start);

@@ -1,4 +1,4 @@
-//! Numbers in bytes, the highest byte first.
+//! Numbers in bytes, the highest byte first; and lists that contracts alone see.
 #![tactic(auto)]
 
 ghost use Rattle.std.specs.Prelude.{◌≡◌, ◌≤◌, ◌+◌, ◌↔◌, IsTrue, IsSome, IfSome, length};
@@ -7,8 +7,10 @@ ghost use Rattle.rq_bytes.specs.Number.{overlaid, number_at, with_number, Writte
 
 pub mod end;
 pub mod equal;
+mod ghost_list;
 
 use byteorder::{BigEndian, ByteOrder};
+pub use ghost_list::GhostList;
 
 /// Unsigned numbers that stand in byte strings from a place on, the highest byte first.
 ///

@@ -8,7 +8,7 @@ use Rattle.rq_disk.specs.declared.storage.NotedFile.{NotedFile}
 
 -- its calls, the newest first
 abbrev pub file_calls : NotedFile → List FileCall
-file_calls f = f.calls.value
+file_calls f = f.calls
 
 -- how many bytes it was told to have when it was opened
 abbrev pub opened_len : NotedFile → ℕ

@@ -8,7 +8,6 @@ use crate::noted::Calls;
 use std::fs::File;
 use std::io;
 use std::os::unix::fs::FileExt;
-use std::snapshot::Snapshot;
 
 /// A file that is read and written by places.
 pub trait Storage {
@@ -44,25 +43,25 @@ pub struct NotedFile {
     file: File,
     // its length when it was opened
     len: u64,
-    calls: Snapshot<Calls>,
+    calls: Calls,
 }
 
 impl Storage for NotedFile {
-    ghost calls = { λ f. f.calls.value };
+    ghost calls = { λ f. f.calls };
 
     ghost opened = { λ f. f.len };
 
     fn fill(&mut self, into: &mut [u8], at: u64) -> io::Result<()> {
         self.file.read_exact_at(into, at)?;
-        Calls::gave(&mut self.calls, at, into);
+        self.calls.gave(at, into);
         Ok(())
     }
 
     fn put(&mut self, bytes: &[u8], at: u64) -> io::Result<()> {
         let done = self.file.write_all_at(bytes, at);
         match done {
-            Ok(()) => Calls::took(&mut self.calls, at, bytes),
-            Err(_) => Calls::tried(&mut self.calls, at, bytes),
+            Ok(()) => self.calls.took(at, bytes),
+            Err(_) => self.calls.tried(at, bytes),
         }
         done
     }
@@ -70,8 +69,8 @@ impl Storage for NotedFile {
     fn sync(&mut self) -> io::Result<()> {
         let done = self.file.sync_data();
         match done {
-            Ok(()) => Calls::synced(&mut self.calls),
-            Err(_) => Calls::missed(&mut self.calls),
+            Ok(()) => self.calls.synced(),
+            Err(_) => self.calls.missed(),
         }
         done
     }

@@ -5,7 +5,6 @@ ghost use Rattle.std.specs.Prelude.{◌≡◌, [], ◌∷◌, ℕ, List, not, tr
 ghost use Rattle.rq_groups.specs.Ends.{AreApart, IsTail, first_of, has_held, held_by, is_free_for, released, with_held};
 ghost use Rattle.rq_groups.specs.Sides.{IsNewest, holds_end, is_free_end, with_end, without_newest};
 
-mod changes;
 mod heads;
 mod places;
 mod sent;

@@ -6,15 +6,26 @@ ghost use Rattle.rq_groups.specs.Ends.{AreApart, IsTail, first_of, has_held, hel
 ghost use Rattle.rq_flags.specs.Flags.{flag_at};
 
 use crate::Held;
-use crate::changes::Changes;
 use crate::heads::{self, Head};
 use crate::places::{Holders, Holding};
+use rq_bytes::GhostList;
 use rq_flags::Index;
 use rq_model::refusal::NoMemory;
 use rq_model::txn::Txn;
 use std::alloc::Global;
 use std::marker::Model;
 use std::snapshot::Snapshot;
+
+/// A change of what is held.
+#[derive(Drop)]
+pub(crate) enum Change {
+    /// An end was taken that nobody held.
+    Took(Held),
+    /// A transaction gave back all its ends.
+    Released(Txn),
+    /// What was taken last was given back.
+    Undid,
+}
 
 /// The ends of one side. Contracts see those that are held, the newest first. No call goes over all of them: the
 /// holder of an end stands at the place of its sender, and each transaction's ends are a chain.
@@ -23,7 +34,7 @@ pub(crate) struct Side {
     holders: Holders,
     // The transactions that hold one, each with the newest.
     heads: Vec<Head>,
-    changes: Snapshot<Changes>,
+    changes: Snapshot<GhostList<Change>>,
 }
 
 impl Model for Side {
@@ -53,7 +64,7 @@ impl Side {
             Ok(heads) => Ok(Side {
                 holders,
                 heads,
-                changes: Changes::none(),
+                changes: GhostList::empty(),
             }),
             Err(_) => Err(NoMemory),
         }
@@ -87,7 +98,7 @@ impl Side {
         }
         let next = heads::put(&mut self.heads, txn, sender)?;
         self.holders.put(sender, Holding { txn, next });
-        Changes::took(&mut self.changes, Held { txn, sender });
+        GhostList::note(&mut self.changes, &Change::Took(Held { txn, sender }));
         Ok(true)
     }
 
@@ -98,7 +109,7 @@ impl Side {
     {
         let next = self.holders.vacate(sender);
         heads::turn_back(&mut self.heads, txn, next);
-        Changes::undid(&mut self.changes);
+        GhostList::note(&mut self.changes, &Change::Undid);
     }
 
     /// Gives back every end that the transaction holds.
@@ -107,7 +118,7 @@ impl Side {
     {
         let newest = heads::remove(&mut self.heads, txn);
         empty_chain(&mut self.holders, newest);
-        Changes::released(&mut self.changes, txn);
+        GhostList::note(&mut self.changes, &Change::Released(txn));
     }
 
     /// The senders whose end somebody holds.

@@ -8,12 +8,11 @@ ghost use Rattle.rq_log.specs.Crash.{LeavesOnly};
 ghost use Rattle.rq_log.specs.Logged.{IsLog, WasDurable, WasLeftOrGoesOn};
 ghost use Rattle.rq_log.specs.Spelled.{spelled, AreSpelled, IsBeginning};
 
-mod past;
 mod reading;
 mod stream;
 
-use crate::past::Past;
 pub use crate::reading::LogReader;
+use rq_bytes::GhostList;
 use rq_disk::LogDevice;
 use rq_model::record::Record;
 use rq_model::refusal::{NoMemory, Refusal};
@@ -29,7 +28,7 @@ pub struct Log<L: LogDevice> {
     device: L,
     // the device as it was when its records were read, or when they were last forced
     settled: Snapshot<L>,
-    past: Snapshot<Past>,
+    past: Snapshot<GhostList<Record>>,
     buffer: Vec<u8>,
     reserved: usize,
     last: Lsn,
@@ -80,7 +79,7 @@ impl<L: LogDevice + Drop> Log<L> {
         alloc: Global,
         device: L,
         settled: Snapshot<L>,
-        past: Snapshot<Past>,
+        past: Snapshot<GhostList<Record>>,
         last: Lsn,
     ) -> Log<L>
         requires spelled { AreSpelled past.value }
@@ -198,7 +197,7 @@ impl<L: LogDevice> Log<L> {
         shows_fits(added);
         self.reserved -= spelled_len(added);
         encode(added, &mut self.buffer).unwrap();
-        Past::note(&mut self.past, added);
+        GhostList::note(&mut self.past, added);
         self.last += 1;
         self.last
     }

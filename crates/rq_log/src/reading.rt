@@ -4,9 +4,9 @@ ghost use Rattle.std.specs.Bool.{OnTrue, OnFalse};
 ghost use Rattle.rq_log.specs.Reading.{IsReading, StopsFor};
 ghost use Rattle.rq_log.specs.Spelled.{spelled};
 
-use crate::past::Past;
 use crate::stream::Stream;
 use crate::{Log, Stopped};
+use rq_bytes::GhostList;
 use rq_disk::LogDevice;
 use rq_model::record::Record;
 use rq_model::refusal::{Damage, Refusal};
@@ -22,7 +22,7 @@ pub struct LogReader<L: LogDevice> {
     stream: Stream<L>,
     // the device as it was before
     first: Snapshot<L>,
-    past: Snapshot<Past>,
+    past: Snapshot<GhostList<Record>>,
     last: Lsn,
 }
 
@@ -56,7 +56,7 @@ impl<L: LogDevice + Drop> LogReader<L> {
         Ok(LogReader {
             stream,
             first,
-            past: Past::empty(),
+            past: GhostList::empty(),
             last: 0,
         })
     }
@@ -187,7 +187,7 @@ impl<L: LogDevice> LogReader<L> {
             return Err(Refusal::Damaged(Damage::Record(self.last + 1)));
         };
         self.stream.skip(used);
-        Past::note(&mut self.past, into);
+        GhostList::note(&mut self.past, into);
         self.last += 1;
         Ok(true)
     }

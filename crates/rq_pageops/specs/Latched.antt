@@ -1,9 +1,10 @@
 -- The pages that operations under way have latched: a set for each of them.
-use Rattle.std.specs.Prelude.{◌≡◌, ℕ, ◌+◌, ◌≤◌, ◌++◌, ◌&&◌, nat_eq, cond, not, Bool, true, false, List, [], ◌∷◌, length, map, Option, Some, None}
+use Rattle.std.specs.Prelude.{◌≡◌, ℕ, ◌≤◌, ◌++◌, ◌&&◌, nat_eq, cond, not, Bool, true, false, List, [], ◌∷◌, length, map}
 use Rattle.std.specs.List.{filter}
-use Rattle.std.specs.declared.snapshot.Snapshot.{Snapshot}
 use Rattle.rq_model.specs.Words.{In}
 use Rattle.rq_level.specs.Given.{Pages, has_page, meets}
+use Rattle.rq_pageops.specs.declared.latches.Change.{Change}
+use Rattle.rq_pageops.specs.declared.latches.Change.TheVariants.{Took, Gave}
 
 -- the pages of all these sets
 abbrev pub pages_in : List (List ℕ) → List ℕ
@@ -54,14 +55,10 @@ given_back set (s ∷ ss) = cond (same_pages s set) (map (others set) ss) (other
 
 -- ---- the sets, as contracts alone see them
 
--- what came of a change, which took (true) or gave back (false) a set; and how many changes there were
-abbrev pub changed : Option (Bool × (Snapshot Pages × Snapshot (List (List ℕ) × ℕ))) → List (List ℕ)
-changed None = []
-changed (Some c) = cond c.0 (c.1.1.value.0 ++ c.1.0.value.pages ∷ []) (given_back c.1.0.value.pages c.1.1.value.0)
-
-abbrev pub changes : Option (Bool × (Snapshot Pages × Snapshot (List (List ℕ) × ℕ))) → ℕ
-changes None = 0
-changes (Some c) = c.1.1.value.1 + 1
+abbrev pub sets_after : List Change → List (List ℕ)
+sets_after [] = []
+sets_after (Took set ∷ changes) = sets_after changes ++ set.value.pages ∷ []
+sets_after (Gave set ∷ changes) = given_back set.value.pages (sets_after changes)
 
 -- no two of the sets meet, and all their pages are in one list; there is room for those of 4,096 operations
 pub record AreHeld (sets : List (List ℕ)) (all : Pages) : Type 0 where

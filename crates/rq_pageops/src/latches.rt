@@ -2,9 +2,9 @@
 ghost use Rattle.std.specs.Prelude.{◌≡◌, ◌<◌, ◌≤◌, ◌∷◌, ◌++◌, [], true, false, IfOk, length};
 ghost use Rattle.rq_level.specs.Given.{meets};
 ghost use Rattle.rq_model.specs.Words.{In};
-ghost use Rattle.rq_pageops.specs.Latched.{AreApart, IsGivenBack, OthersStay, others, pages_in};
+ghost use Rattle.rq_pageops.specs.Latched.{AreApart, IsGivenBack, OthersStay, given_back, others, pages_in, sets_after};
 
-use crate::sets::Sets;
+use rq_bytes::GhostList;
 use rq_level::PageSet;
 use rq_model::refusal::NoMemory;
 use std::alloc::Global;
@@ -17,23 +17,32 @@ pub const OPERATIONS: usize = 4096;
 /// The most pages that they latch: three each.
 pub const LATCHED_PAGES: usize = 3 * OPERATIONS;
 
+/// A change of the sets.
+#[derive(Drop)]
+pub(crate) enum Change {
+    /// One more was latched.
+    Took(Snapshot<PageSet>),
+    /// One was given back.
+    Gave(Snapshot<PageSet>),
+}
+
 /// The pages that operations under way have latched: a set for each, and no page in two of them. Contracts see the list
 /// of the sets.
 #[derive(Drop)]
 pub struct Latches {
     held: PageSet,
-    sets: Snapshot<Sets>,
+    changes: Snapshot<GhostList<Change>>,
 }
 
 impl Model for Latches {
     ghost use Rattle.std.specs.Prelude.{ℕ, List};
-    ghost use Rattle.rq_pageops.specs.Latched.{AreHeld};
+    ghost use Rattle.rq_pageops.specs.Latched.{AreHeld, sets_after};
 
     ghost Value = { List (List ℕ) };
 
-    ghost view = { λ l. l.sets.value.0 };
+    ghost view = { λ l. sets_after l.changes.value };
 
-    ghost invariant = { λ l. AreHeld l.sets.value.0 l.held };
+    ghost invariant = { λ l. AreHeld (sets_after l.changes.value) l.held };
 }
 
 impl Latches {
@@ -47,7 +56,7 @@ impl Latches {
         match PageSet::with_room(alloc, LATCHED_PAGES) {
             Ok(held) => Ok(Latches {
                 held,
-                sets: Sets::none(),
+                changes: GhostList::empty(),
             }),
             Err(refused) => Err(refused),
         }
@@ -74,7 +83,7 @@ impl Latches {
             return false;
         }
         self.held.add_all(set);
-        Sets::take(&mut self.sets, set);
+        took(&mut self.changes, set);
         true
     }
 
@@ -87,6 +96,20 @@ impl Latches {
         ensures few { length self.new ≤ length self.old }
     {
         self.held.remove_all(set);
-        Sets::give(&mut self.sets, set);
+        gave(&mut self.changes, set);
     }
+}
+
+// One set more.
+fn took(changes: &mut Snapshot<GhostList<Change>>, set: &PageSet)
+    ensures { sets_after changes.new.value ≡ sets_after changes.old.value ++ set.now.pages ∷ [] }
+{
+    GhostList::note(changes, &Change::Took(Snapshot::of(set)));
+}
+
+// One set given back.
+fn gave(changes: &mut Snapshot<GhostList<Change>>, set: &PageSet)
+    ensures { sets_after changes.new.value ≡ given_back set.now.pages (sets_after changes.old.value) }
+{
+    GhostList::note(changes, &Change::Gave(Snapshot::of(set)));
 }

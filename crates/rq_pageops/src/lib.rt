@@ -3,7 +3,6 @@
 
 mod latches;
 mod page_level;
-mod sets;
 
 pub use latches::{LATCHED_PAGES, Latches, OPERATIONS};
 pub use page_level::PageLevel;

@@ -1,12 +1,12 @@
 //! A connection: its bytes, its session over a store, and what was written to it.
 use bytes::BytesMut;
+use rq_bytes::GhostList;
 use rq_model::refusal::NoMemory;
 use rq_model::txn::Lsn;
 use rq_serving::serving::{Came, Serving};
 use rq_wire::{Answer, Fed, Frames, Request, answer};
 use rq_workers::gate::Gate;
 use rq_workers::steps::Steps;
-use rq_workers::trail::Trail;
 use std::alloc::Global;
 use std::snapshot::Snapshot;
 use std::sync::Wait;
@@ -15,13 +15,13 @@ use std::test::Fail;
 /// Lets its worker through.
 #[derive(Drop)]
 pub struct Open {
-    answers: Snapshot<Trail<(u32, bool)>>,
+    answers: Snapshot<GhostList<(u32, bool)>>,
 }
 
 impl Open {
     pub fn new() -> Self {
         Open {
-            answers: Trail::empty(),
+            answers: GhostList::empty(),
         }
     }
 }
@@ -30,7 +30,7 @@ impl Gate for Open {
     ghost answers = { λ gate. gate.answers.value };
 
     fn pass(&mut self, point: u32) -> bool {
-        Trail::note(&mut self.answers, &(point, true));
+        GhostList::note(&mut self.answers, &(point, true));
         true
     }
 }

@@ -6,6 +6,7 @@ ghost use Rattle.rq_shared.specs.Entries.{WasSound};
 use crate::connection::{Connection, connected};
 use crate::stores::{begun, called, has_aborted, small_engine, started};
 use bytes::BytesMut;
+use rq_bytes::GhostList;
 use rq_disk::{LogDevice, MemLog, MemPages, PageDevice};
 use rq_engine::engine::Engine;
 use rq_engine::event::{Event, Outcome, Reply};
@@ -20,7 +21,6 @@ use rq_workers::gate::{BEFORE_AGAIN, BETWEEN_STEPS, Gate};
 use rq_workers::kept::KeptSteps;
 use rq_workers::shared::{DropStamps, SharedSteps};
 use rq_workers::steps::Steps;
-use rq_workers::trail::Trail;
 use std::alloc::Global;
 use std::marker::Brand;
 use std::snapshot::Snapshot;
@@ -64,7 +64,7 @@ const SENT_AND_ABORTED: [u8; 25] = [
 #[derive(Drop)]
 struct Twice {
     asked: u32,
-    answers: Snapshot<Trail<(u32, bool)>>,
+    answers: Snapshot<GhostList<(u32, bool)>>,
 }
 
 impl Gate for Twice {
@@ -73,7 +73,7 @@ impl Gate for Twice {
     fn pass(&mut self, point: u32) -> bool {
         let passed = self.asked < 2;
         self.asked = self.asked.saturating_add(1);
-        Trail::note(&mut self.answers, &(point, passed));
+        GhostList::note(&mut self.answers, &(point, passed));
         passed
     }
 }
@@ -82,7 +82,7 @@ impl Twice {
     fn new() -> Self {
         Twice {
             asked: 0,
-            answers: Trail::empty(),
+            answers: GhostList::empty(),
         }
     }
 }
@@ -209,7 +209,7 @@ struct Behind<'a, S: Steps, R: Wait> {
     other: &'a Mutex<Other<S>>,
     left: u32,
     asked: u32,
-    answers: Snapshot<Trail<(u32, bool)>>,
+    answers: Snapshot<GhostList<(u32, bool)>>,
 }
 
 fn has_other_go_on<S: Steps, R: Wait>(rt: &R, other: &Mutex<Other<S>>) {
@@ -228,7 +228,7 @@ impl<S: Steps, R: Wait> Gate for Behind<'_, S, R> {
             self.left = self.left.saturating_sub(1);
             self.asked = self.asked.saturating_add(1);
         }
-        Trail::note(&mut self.answers, &(point, passed));
+        GhostList::note(&mut self.answers, &(point, passed));
         passed
     }
 }
@@ -281,7 +281,7 @@ fn aborted_behind<S: Steps + Drop, T: Steps, R: Wait>(
         other,
         left,
         asked: 0,
-        answers: Trail::empty(),
+        answers: GhostList::empty(),
     };
     let mut connection = connected(alloc, gate, steps);
     connection.take(rt, &ONE_SEND)?;

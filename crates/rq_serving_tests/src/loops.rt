@@ -7,6 +7,7 @@ use crate::stores::{
     KeepStamps, begun, called, calls_made, carried_out, committed, is_sent, small_engine,
     small_steps, start_of_send,
 };
+use rq_bytes::GhostList;
 use rq_disk::{LogDevice, MemLog, MemPages, PageDevice};
 use rq_engine::engine::Engine;
 use rq_engine::event::{Event, Outcome, Reply};
@@ -22,7 +23,6 @@ use rq_workers::acts::Ended;
 use rq_workers::gate::{BEFORE_AGAIN, BEFORE_FORCE, BEFORE_WRITE, Gate};
 use rq_workers::shared::SharedSteps;
 use rq_workers::steps::Steps;
-use rq_workers::trail::Trail;
 use rq_workers::worker::Worker;
 use std::alloc::Global;
 use std::marker::Brand;
@@ -38,7 +38,7 @@ use std::test::Fail;
 struct Often<'a> {
     point: u32,
     left: &'a AtomicU64,
-    answers: Snapshot<Trail<(u32, bool)>>,
+    answers: Snapshot<GhostList<(u32, bool)>>,
 }
 
 // Lets through so often at this point.
@@ -46,7 +46,7 @@ fn lets_through(point: u32, left: &AtomicU64) -> Often<'_> {
     Often {
         point,
         left,
-        answers: Trail::empty(),
+        answers: GhostList::empty(),
     }
 }
 
@@ -59,7 +59,7 @@ impl Gate for Often<'_> {
         if passed {
             self.left.store(left - 1, Ordering::SeqCst);
         }
-        Trail::note(&mut self.answers, &(point, passed));
+        GhostList::note(&mut self.answers, &(point, passed));
         passed
     }
 }

@@ -1,4 +1,5 @@
 //! Stores and calls for tests. They promise nothing, so that what makes many of them is checked fast.
+use rq_bytes::GhostList;
 use rq_disk::{CallKind, LogDevice, MemLog, MemPages, Mishap, PageChoice, PageDevice, Switch};
 use rq_engine::engine::Engine;
 use rq_engine::event::{CommitNo, Event, Outcome, Receipt, Reply};
@@ -14,7 +15,6 @@ use rq_workers::gate::Gate;
 use rq_workers::kept::KeptSteps;
 use rq_workers::shared::Keep;
 use rq_workers::steps::Steps;
-use rq_workers::trail::Trail;
 use rq_workers::worker::Worker;
 use std::alloc::{AllocError, Global};
 use std::snapshot::Snapshot;
@@ -192,14 +192,14 @@ pub fn receipt(stamped: &Stamped) -> Option<Receipt> {
 #[derive(Drop)]
 pub struct KeepStamps {
     pub stamps: Vec<Stamped>,
-    handed: Snapshot<Trail<Stamped>>,
+    handed: Snapshot<GhostList<Stamped>>,
 }
 
 impl KeepStamps {
     pub fn new(alloc: Global) -> Self {
         KeepStamps {
             stamps: Vec::new(alloc),
-            handed: Trail::empty(),
+            handed: GhostList::empty(),
         }
     }
 }
@@ -208,7 +208,7 @@ impl Keep for KeepStamps {
     ghost handed = { λ k. k.handed.value };
 
     fn keep(&mut self, stamped: Stamped) {
-        Trail::note(&mut self.handed, &stamped);
+        GhostList::note(&mut self.handed, &stamped);
         let _ = self.stamps.push(stamped);
     }
 }

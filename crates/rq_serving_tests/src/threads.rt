@@ -8,6 +8,7 @@ use crate::stores::{
     KeepStamps, carried_out, committed, crashed, has_sent, is_sent, opened, receipt, start_of_send,
     wide_engine,
 };
+use rq_bytes::GhostList;
 use rq_disk::{LogDevice, MemLog, MemPages, PageDevice};
 use rq_engine::engine::Engine;
 use rq_engine::event::{CommitNo, Event, Receipt};
@@ -24,7 +25,6 @@ use rq_workers::acts::Ended;
 use rq_workers::gate::{BETWEEN_STEPS, Gate};
 use rq_workers::shared::SharedSteps;
 use rq_workers::steps::Steps;
-use rq_workers::trail::Trail;
 use std::alloc::{AllocError, Global};
 use std::marker::Brand;
 use std::snapshot::Snapshot;
@@ -54,7 +54,7 @@ struct Own<G: Sharing> {
 #[derive(Drop)]
 struct HeldBetween<'a> {
     common: &'a Common,
-    answers: Snapshot<Trail<(u32, bool)>>,
+    answers: Snapshot<GhostList<(u32, bool)>>,
 }
 
 impl Gate for HeldBetween<'_> {
@@ -62,7 +62,7 @@ impl Gate for HeldBetween<'_> {
 
     fn pass(&mut self, point: u32) -> bool {
         let passed = point != BETWEEN_STEPS || self.is_let_go();
-        Trail::note(&mut self.answers, &(point, passed));
+        GhostList::note(&mut self.answers, &(point, passed));
         passed
     }
 }
@@ -123,7 +123,7 @@ fn send_held<S: Steps, R: Wait>(
     };
     let gate = HeldBetween {
         common,
-        answers: Trail::empty(),
+        answers: GhostList::empty(),
     };
     run_and_commit(rt, gate, steps, txn, &start)
 }

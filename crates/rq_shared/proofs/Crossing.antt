@@ -4,12 +4,11 @@ use denote.Param.Send.{IsSend, IsSync, sendable}
 use Rattle.std.proofs.Crossing.{crosses}
 use Rattle.std.proofs.sync.ledger.Book.TheSendSync as book
 use Rattle.std.specs.declared.sync.ledger.Ledger as ledger
+use Rattle.rq_bytes.proofs.ghost_list.GhostList.TheLaws.TheKnot as ghost_list
 use Rattle.rq_disk.specs.declared.device.LogDevice as log_device
 use Rattle.rq_disk.specs.declared.device.PageDevice as page_device
 use Rattle.rq_level.specs.declared.level.Level as level
-use Rattle.rq_groups.proofs.changes.Changes.TheLaws.TheKnot as changes
 use Rattle.rq_groups.specs.contracts.Ends as Ends
-use Rattle.rq_log.proofs.past.Past.TheLaws.TheKnot as past
 use Rattle.rq_engine.specs.contracts.engine.Engine as Engine
 use Rattle.rq_shared.proofs.count.Count.TheLaws.TheKnot as count
 use Rattle.rq_txn.proofs.Transactions.TheSendSync as transactions
@@ -20,11 +19,11 @@ use Rattle.rq_shared.specs.contracts.room.Room as Room
 use Rattle.rq_shared.specs.contracts.shared.Front as Front
 
 ends_send : IsSend Ends.the_row
-ends_send = search (crosses, changes.crosses, sendable) depth 60 fits 20000
+ends_send = search (crosses, ghost_list.crosses, sendable) depth 60 fits 20000
 
 module _ (P L B : RattleType) (p : page_device.Ghosts P.Denot) (l : log_device.Ghosts L.Denot) (b : level.Ghosts B.Denot) (s : IsSend P) (t : IsSend L) (u : IsSend B) where
   engine_send : IsSend (Engine.the_row P L B p l b)
-  engine_send = search (transactions.the_send, ends_send, crosses, past.crosses, sendable) depth 60 fits 20000
+  engine_send = search (transactions.the_send, ends_send, crosses, ghost_list.crosses, sendable) depth 60 fits 20000
 
   kept_send : IsSend (Kept.the_row P L B p l b)
   kept_send = search (engine_send, entry.the_send, crosses, count.crosses, sendable) depth 60 fits 20000

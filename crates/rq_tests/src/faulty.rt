@@ -6,7 +6,6 @@ use std::alloc::{AllocError, Global};
 use std::fs::File;
 use std::io;
 use std::os::unix::fs::FileExt;
-use std::snapshot::Snapshot;
 use std::sync::Arc;
 use std::sync::atomic::{AtomicU64, Ordering};
 
@@ -67,14 +66,14 @@ impl Countdown {
 pub struct Faulty {
     file: File,
     len: u64,
-    calls: Snapshot<Calls>,
+    calls: Calls,
     countdown: Countdown,
 }
 
 impl Faulty {
     /// A file of `len` bytes.
     pub fn new(file: File, len: u64, countdown: Countdown) -> Faulty
-        ensures calls { result.calls.value ≡ [] }
+        ensures calls { result.calls ≡ [] }
         ensures len { result.len ≡ len }
     {
         Faulty {
@@ -91,7 +90,7 @@ fn failure() -> io::Error {
 }
 
 impl Storage for Faulty {
-    ghost calls = { λ f. f.calls.value };
+    ghost calls = { λ f. f.calls };
 
     ghost opened = { λ f. f.len };
 
@@ -100,25 +99,25 @@ impl Storage for Faulty {
             return Err(failure());
         }
         self.file.read_exact_at(into, at)?;
-        Calls::gave(&mut self.calls, at, into);
+        self.calls.gave(at, into);
         Ok(())
     }
 
     fn put(&mut self, bytes: &[u8], at: u64) -> io::Result<()> {
         if self.file.write_all_at(bytes, at).is_err() || self.countdown.fails() {
-            Calls::tried(&mut self.calls, at, bytes);
+            self.calls.tried(at, bytes);
             return Err(failure());
         }
-        Calls::took(&mut self.calls, at, bytes);
+        self.calls.took(at, bytes);
         Ok(())
     }
 
     fn sync(&mut self) -> io::Result<()> {
         if self.countdown.fails() || self.file.sync_data().is_err() {
-            Calls::missed(&mut self.calls);
+            self.calls.missed();
             return Err(failure());
         }
-        Calls::synced(&mut self.calls);
+        self.calls.synced();
         Ok(())
     }
 }

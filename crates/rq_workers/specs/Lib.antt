@@ -1,4 +1,3 @@
-pub mod Trails
 pub mod Hearing
 pub mod Forcing
 pub mod Acts

@@ -6,7 +6,7 @@ ghost use Rattle.rq_workers.specs.Forcing.{lsn_forced, most_forced};
 ghost use Rattle.rq_workers.specs.Keeping.{entries_left};
 
 use crate::steps::Steps;
-use crate::trail::Trail;
+use rq_bytes::GhostList;
 use rq_disk::{LogDevice, PageDevice};
 use rq_engine::event::Event;
 use rq_level::Level;
@@ -19,10 +19,10 @@ use std::snapshot::Snapshot;
 pub struct KeptSteps<P: PageDevice, L: LogDevice, B: Level> {
     kept: Kept<P, L, B>,
     pass: u64,
-    made: Snapshot<Trail<Stamped>>,
-    forced: Snapshot<Trail<Stamped>>,
-    told: Snapshot<Trail<Stamped>>,
-    lacked: Snapshot<Trail<()>>,
+    made: Snapshot<GhostList<Stamped>>,
+    forced: Snapshot<GhostList<Stamped>>,
+    told: Snapshot<GhostList<Stamped>>,
+    lacked: Snapshot<GhostList<()>>,
     // as it was given
     begun: Snapshot<Kept<P, L, B>>,
     ghost audit: { kept.audit ≡ begun.value.audit ++ entries_left made.value },
@@ -38,10 +38,10 @@ impl<P: PageDevice + Drop, L: LogDevice + Drop, B: Level> KeptSteps<P, L, B> {
         KeptSteps {
             kept,
             pass,
-            made: Trail::empty(),
-            forced: Trail::empty(),
-            told: Trail::empty(),
-            lacked: Trail::empty(),
+            made: GhostList::empty(),
+            forced: GhostList::empty(),
+            told: GhostList::empty(),
+            lacked: GhostList::empty(),
             begun,
         }
     }
@@ -87,7 +87,7 @@ impl<P: PageDevice + Drop, L: LogDevice + Drop, B: Level> Steps for KeptSteps<P,
         ensures given { (self.new.pass ≡ self.old.pass) × (self.new.begun.value ≡ self.old.begun.value) }
     {
         let stamped = self.kept.step(self.pass, event);
-        Trail::note(&mut self.made, &stamped);
+        GhostList::note(&mut self.made, &stamped);
         stamped
     }
 
@@ -103,7 +103,7 @@ impl<P: PageDevice + Drop, L: LogDevice + Drop, B: Level> Steps for KeptSteps<P,
         ensures given { (self.new.pass ≡ self.old.pass) × (self.new.begun.value ≡ self.old.begun.value) }
     {
         let stamped = self.call(Event::Force);
-        Trail::note(&mut self.forced, &stamped);
+        GhostList::note(&mut self.forced, &stamped);
         stamped
     }
 
@@ -116,7 +116,7 @@ impl<P: PageDevice + Drop, L: LogDevice + Drop, B: Level> Steps for KeptSteps<P,
         ensures kept { (self.new.kept ≡ self.old.kept) × (self.new.pass ≡ self.old.pass)
             × (self.new.begun.value ≡ self.old.begun.value) }
     {
-        Trail::note(&mut self.told, &stamped);
+        GhostList::note(&mut self.told, &stamped);
     }
 
     fn copy(&mut self, event: &Event) -> Option<Event>
@@ -132,7 +132,7 @@ impl<P: PageDevice + Drop, L: LogDevice + Drop, B: Level> Steps for KeptSteps<P,
     {
         let copy = event.clone().ok();
         if copy.is_none() {
-            Trail::note(&mut self.lacked, &());
+            GhostList::note(&mut self.lacked, &());
         }
         copy
     }

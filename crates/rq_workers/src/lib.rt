@@ -7,6 +7,5 @@ pub mod kept;
 pub mod operation;
 pub mod shared;
 pub mod steps;
-pub mod trail;
 pub mod worker;
 pub mod writers;

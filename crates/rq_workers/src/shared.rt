@@ -6,7 +6,7 @@ ghost use Rattle.rq_workers.specs.Forcing.{lsn_forced};
 ghost use Rattle.rq_shared.specs.Calls.{CountsTaken, IsCalled, IsForced, IsTaken};
 
 use crate::steps::Steps;
-use crate::trail::Trail;
+use rq_bytes::GhostList;
 use rq_disk::{LogDevice, PageDevice};
 use rq_engine::event::Event;
 use rq_level::Level;
@@ -31,7 +31,7 @@ pub trait Keep {
 /// Stamps are dropped.
 #[derive(Drop)]
 pub struct DropStamps {
-    handed: Snapshot<Trail<Stamped>>,
+    handed: Snapshot<GhostList<Stamped>>,
 }
 
 impl DropStamps {
@@ -40,7 +40,7 @@ impl DropStamps {
         ensures { result.handed.value ≡ [] }
     {
         DropStamps {
-            handed: Trail::empty(),
+            handed: GhostList::empty(),
         }
     }
 }
@@ -49,7 +49,7 @@ impl Keep for DropStamps {
     ghost handed = { λ k. k.handed.value };
 
     fn keep(&mut self, stamped: Stamped) {
-        Trail::note(&mut self.handed, &stamped);
+        GhostList::note(&mut self.handed, &stamped);
     }
 }
 
@@ -62,9 +62,9 @@ pub struct SharedSteps<'a, P: PageDevice, L: LogDevice, B: Level, G: Sharing, R:
     mark: &'a Mark,
     seat: MarkPass,
     keep: K,
-    made: Snapshot<Trail<Stamped>>,
-    forced: Snapshot<Trail<Stamped>>,
-    lacked: Snapshot<Trail<()>>,
+    made: Snapshot<GhostList<Stamped>>,
+    forced: Snapshot<GhostList<Stamped>>,
+    lacked: Snapshot<GhostList<()>>,
     ghost of_mark: { seat.table ≡ mark.now },
 }
 
@@ -97,9 +97,9 @@ impl<
             mark,
             seat,
             keep,
-            made: Trail::empty(),
-            forced: Trail::empty(),
-            lacked: Trail::empty(),
+            made: GhostList::empty(),
+            forced: GhostList::empty(),
+            lacked: GhostList::empty(),
         }
     }
 
@@ -158,7 +158,7 @@ impl<'a, P: PageDevice + Drop, L: LogDevice + Drop, B: Level, G: Sharing, R: Wai
         ensures seat { self.new.seat ≡ self.old.seat }
     {
         let stamped = self.front.call(self.rt, &mut self.pass, event);
-        Trail::note(&mut self.made, &stamped);
+        GhostList::note(&mut self.made, &stamped);
         stamped
     }
 
@@ -176,8 +176,8 @@ impl<'a, P: PageDevice + Drop, L: LogDevice + Drop, B: Level, G: Sharing, R: Wai
         let stamped = self
             .front
             .force(self.rt, &mut self.pass, self.mark, &mut self.seat);
-        Trail::note(&mut self.made, &stamped);
-        Trail::note(&mut self.forced, &stamped);
+        GhostList::note(&mut self.made, &stamped);
+        GhostList::note(&mut self.forced, &stamped);
         stamped
     }
 
@@ -204,7 +204,7 @@ impl<'a, P: PageDevice + Drop, L: LogDevice + Drop, B: Level, G: Sharing, R: Wai
     {
         let copy = event.clone().ok();
         if copy.is_none() {
-            Trail::note(&mut self.lacked, &());
+            GhostList::note(&mut self.lacked, &());
         }
         copy
     }

@@ -7,7 +7,7 @@ ghost use Rattle.rq_workers.specs.Forcing.{most_forced};
 use crate::acts::{Act, Heard, heard_in};
 use crate::gate::Gate;
 use crate::steps::Steps;
-use crate::trail::Trail;
+use rq_bytes::GhostList;
 use rq_engine::event::Event;
 use std::marker::Model;
 use std::snapshot::Snapshot;
@@ -20,7 +20,7 @@ pub struct Worker<G: Gate, S: Steps> {
     steps: S,
     // the gate said no
     stopped: bool,
-    done: Snapshot<Trail<Act>>,
+    done: Snapshot<GhostList<Act>>,
     opened: Snapshot<G>,
     begun: Snapshot<S>,
 }
@@ -47,7 +47,7 @@ impl<G: Gate + Drop, S: Steps> Worker<G, S> {
             gate,
             steps,
             stopped: false,
-            done: Trail::empty(),
+            done: GhostList::empty(),
             opened,
             begun,
         }
@@ -68,7 +68,7 @@ impl<G: Gate + Drop, S: Steps> Worker<G, S> {
         if !passed {
             self.stopped = true;
         }
-        Trail::note(&mut self.done, &Act::Asked(point, passed));
+        GhostList::note(&mut self.done, &Act::Asked(point, passed));
         passed
     }
 
@@ -79,7 +79,7 @@ impl<G: Gate + Drop, S: Steps> Worker<G, S> {
     {
         let copy = self.steps.copy(event);
         if copy.is_none() {
-            Trail::note(&mut self.done, &Act::Lacked);
+            GhostList::note(&mut self.done, &Act::Lacked);
         }
         copy
     }
@@ -91,7 +91,7 @@ impl<G: Gate + Drop, S: Steps> Worker<G, S> {
     {
         let stamped = self.steps.call(event);
         let answer = heard_in(stamped.reply());
-        Trail::note(&mut self.done, &Act::Made(Snapshot::of(&stamped)));
+        GhostList::note(&mut self.done, &Act::Made(Snapshot::of(&stamped)));
         self.steps.seen(stamped);
         answer
     }
@@ -103,7 +103,7 @@ impl<G: Gate + Drop, S: Steps> Worker<G, S> {
     {
         let stamped = self.steps.force();
         let answer = heard_in(stamped.reply());
-        Trail::note(&mut self.done, &Act::Forced(Snapshot::of(&stamped)));
+        GhostList::note(&mut self.done, &Act::Forced(Snapshot::of(&stamped)));
         self.steps.seen(stamped);
         answer
     }

@@ -42,7 +42,7 @@ invariant_of-self-2 c =
     let held = held_after i.changes.value in
     let none : held_at ps s ≡ None = none_of (held_at ps s) (ap is_some (sym c.of.ensures) ∙ sym c.is_some.ensures ∙ c.if-is_some.false) in
     let next : set ps s (Some (record { txn = t; next = c.in_ok-next.next })) ≡ set ps s (Some (record { txn = t; next = newest_of t i.heads.items })) = ap (λ (o : Option ℕ). let h : Holding = record { txn = t; next = o } in set ps s (Some h)) c.in_ok-next.ensures.old in
-    subst (IsSide c.put-2.new.self c.put.new.heads.items) (sym c.took.ensures)
+    subst (IsSide c.put-2.new.self c.put.new.heads.items) (sym (ap held_after c.note.ensures))
     (side_taken ps c.put-2.new.self i.heads.items c.put.new.heads.items held t s c.self.invariant none (omega arith) (c.put-2.ensures ∙ next) c.in_ok-next.ensures.put)
 
 pub returns-clause-taken : goal.returns-clause-taken
@@ -53,7 +53,7 @@ returns-clause-taken c =
     let none : held_at i.holders s ≡ None = none_of (held_at i.holders s) (ap is_some (sym c.of.ensures) ∙ sym c.is_some.ensures ∙ c.if-is_some.false) in
     let new = not_held i.holders i.heads.items (held_after i.changes.value) c.self.invariant s none t in
     let h : Held = record { txn = t; sender = s } in
-    c.took.ensures ∙ ap (λ l. h ∷ l) c.self.view_is ∙ sym (with_new t s c.args.self.now (ap (has_held t s) (sym c.self.view_is) ∙ new))
+    ap held_after c.note.ensures ∙ ap (λ l. h ∷ l) c.self.view_is ∙ sym (with_new t s c.args.self.now (ap (has_held t s) (sym c.self.view_is) ∙ new))
 
 pub returns-clause-newly : goal.returns-clause-newly
 returns-clause-newly c =

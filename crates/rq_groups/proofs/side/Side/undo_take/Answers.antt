@@ -25,7 +25,7 @@ invariant_of-self c =
     let held = held_after i.changes.value in
     let h : Held = record { txn = c.args.txn; sender = c.args.sender } in
     let first : held ≡ h ∷ drop 1 held = newest_first h held (ap (take 1) c.self.view_is ∙ c.requires) in
-    subst (IsSide c.vacate-next.new.self c.turn_back.new.heads.items) (sym c.undid.ensures)
+    subst (IsSide c.vacate-next.new.self c.turn_back.new.heads.items) (sym (ap held_after c.note.ensures))
     (side_undone i.holders c.vacate-next.new.self i.heads.items c.turn_back.new.heads.items (drop 1 held) c.args.txn c.args.sender
     (subst (IsSide i.holders i.heads.items) first c.self.invariant) c.vacate-next.ensures.vacant
     (subst (λ (o : Option ℕ). IsTurned c.args.txn o i.heads.items c.turn_back.new.heads.items) c.vacate-next.ensures.next c.turn_back.ensures))

@@ -8,4 +8,4 @@ add_all-requires c = room_for _ _ c.args.set.now.pages _ c.self.view_is c.self.i
 pub invariant_of-self : goal.invariant_of-self
 invariant_of-self c =
     held_more _ _ c.args.set.now.pages _ _ c.self.invariant c.requires.few
-    (search rules) c.take.ensures c.add_all.ensures.pages c.add_all.ensures.room
+    (search rules) c.took.ensures c.add_all.ensures.pages c.add_all.ensures.room

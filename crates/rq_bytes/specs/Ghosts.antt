@@ -1,4 +1,4 @@
--- The values that a trail holds.
+-- The values that a list without bytes holds.
 use Rattle.std.specs.Prelude.{List, [], ◌∷◌, Option, Some, None}
 use Rattle.std.specs.declared.snapshot.Snapshot.{Snapshot}
 

@@ -7,17 +7,17 @@ use std::snapshot::Snapshot;
 
 /// Values, the newest first, as contracts see them.
 #[derive(Drop)]
-pub struct Trail<T> {
-    newest: Option<(Snapshot<T>, Snapshot<Trail<T>>)>,
+pub struct GhostList<T> {
+    newest: Option<(Snapshot<T>, Snapshot<GhostList<T>>)>,
 }
 
-impl<T> Model for Trail<T> {
+impl<T> Model for GhostList<T> {
     ghost use Rattle.std.specs.Prelude.{List, length};
-    ghost use Rattle.rq_workers.specs.Trails.{noted};
+    ghost use Rattle.rq_bytes.specs.Ghosts.{noted};
 
     ghost Value = { List T };
 
-    ghost view = { λ t. noted t.newest };
+    ghost view = { λ l. noted l.newest };
 
     ghost size = { length };
 
@@ -26,27 +26,27 @@ impl<T> Model for Trail<T> {
     ghost size_decreases = { λ a h. Prim.grind arith };
 }
 
-impl<T> Trail<T> {
+impl<T> GhostList<T> {
     /// No value.
-    pub fn empty() -> Snapshot<Trail<T>>
+    pub fn empty() -> Snapshot<GhostList<T>>
         ensures { result.value ≡ [] }
     {
-        Snapshot::of(&Trail { newest: None })
+        Snapshot::of(&GhostList { newest: None })
     }
 
-    fn with(before: Snapshot<Trail<T>>, value: &T) -> Snapshot<Trail<T>>
+    fn with(before: Snapshot<GhostList<T>>, value: &T) -> Snapshot<GhostList<T>>
         ensures { result.value ≡ value.now ∷ before.value }
     {
-        Snapshot::of(&Trail {
+        Snapshot::of(&GhostList {
             newest: Some((Snapshot::of(value), before)),
         })
     }
 
     /// Puts a value in front.
-    pub fn note(trail: &mut Snapshot<Trail<T>>, value: &T)
-        ensures { trail.new.value ≡ value.now ∷ trail.old.value }
+    pub fn note(list: &mut Snapshot<GhostList<T>>, value: &T)
+        ensures { list.new.value ≡ value.now ∷ list.old.value }
     {
-        let before = mem::replace(trail, Trail::empty());
-        *trail = Trail::with(before, value);
+        let before = mem::replace(list, GhostList::empty());
+        *list = GhostList::with(before, value);
     }
 }
