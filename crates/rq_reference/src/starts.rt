@@ -296,19 +296,6 @@ impl Reference {
         Ok(place)
     }
 
-    /// Whether the transaction may close the sender's group now.
-    ///
-    /// # Errors
-    /// `Failed`, `UnknownTransaction`, `NotOpen`, `Unfinished`, `UnknownSender`, `SenderBusy`, `Closed`, `LogFull`.
-    pub fn may_close(&self, txn: Txn, sender: u32) -> Result<(), Refusal>
-        ensures ok { OnOk result (Passes self.now.size self.now.ledger (Start_close txn sender)) }
-        ensures refused { IfErr result (λ r. MayBeRefused self.now (Start_close txn sender) r) }
-        ensures memory { IfErr result (λ r. r ≢ NoMemory) }
-    {
-        let _ = self.closing_place(txn, sender)?;
-        Ok(())
-    }
-
     /// Starts a close of the sender's group, and answers the operation's number.
     ///
     /// # Errors
@@ -407,20 +394,6 @@ impl Reference {
         Ok((place, gives))
     }
 
-    /// Whether a receive of the transaction from the sender's group would start now: it is free and holds a message for
-    /// it.
-    ///
-    /// # Errors
-    /// `Failed`, `UnknownTransaction`, `NotOpen`, `Unfinished`, `UnknownSender`, `ReceiverBusy`, `LogFull`, `NoMemory`.
-    pub fn may_receive_from(&self, txn: Txn, sender: u32) -> Result<bool, Refusal>
-        ensures ok { OnOk result (Passes self.now.size self.now.ledger (Start_receive_from txn sender)) }
-        ensures gives { IfOk result (λ yes. yes ≡ gives self.now.ledger txn (found txn self.now.ledger.open_ones) sender) }
-        ensures refused { IfErr result (λ r. MayBeRefused self.now (Start_receive_from txn sender) r) }
-    {
-        let (_, gives) = self.receiving_place_from(txn, sender)?;
-        Ok(gives)
-    }
-
     /// Starts a receive from the sender's group, and answers the operation's number: none where the group holds no
     /// message for the transaction.
     ///
@@ -467,20 +440,6 @@ impl Reference {
             return Err(Refusal::LogFull);
         }
         Ok((place, Some(act)))
-    }
-
-    /// What an aborting transaction would undo now: what it did last and has not undone.
-    ///
-    /// # Errors
-    /// `Failed`, `UnknownTransaction`, `NotOpen`, `Unfinished`, `LogFull`.
-    pub fn undoable(&self, txn: Txn) -> Result<Option<Act>, Refusal>
-        ensures ok { OnOk result (Passes self.now.size self.now.ledger (Undo_next txn)) }
-        ensures newest { IfOk result (λ act. op_in act ≡ newest (found txn self.now.ledger.open_ones)) }
-        ensures refused { IfErr result (λ r. MayBeRefused self.now (Undo_next txn) r) }
-        ensures memory { IfErr result (λ r. r ≢ NoMemory) }
-    {
-        let (_, act) = self.undoing_place(txn)?;
-        Ok(act)
     }
 
     /// Starts the inverse of what an aborting transaction did last and has not undone, and answers the operation's
