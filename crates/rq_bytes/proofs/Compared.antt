@@ -1,8 +1,8 @@
 -- Lists of bytes that are compared, some at a time.
 use Rattle.std.specs.Bool.{OnTrue}
-use Rattle.std.specs.Prelude.{◌&&◌, Bool, true, false, nat_eq}
+use Rattle.std.specs.Prelude.{◌&&◌, nat_eq}
 use Rattle.std.proofs.Common.{◌≡◌, ℕ, ◌+◌, ◌-◌, ◌≤◌, List, ◌++◌, length, take, drop, refl, sym, ap, ◌∙◌, arith}
-use Rattle.std.proofs.lemmas.Bool.{eqb-true, false≢true, OnTrue_from}
+use Rattle.std.proofs.lemmas.Bool.{eqb-true, OnTrue_from, and_parts}
 use Rattle.std.proofs.Math.Seq.{take-add, take-length}
 use Rattle.std.proofs.lemmas.List.{take-append-drop, length-drop}
 use Rattle.byteorder.specs.Endian.{big_number}
@@ -41,14 +41,6 @@ module _ (at : ℕ) (xs ys : List ℕ) where
 abbrev word : ℕ → List ℕ → ℕ
 word at xs = big_number 8 (take (length xs - at) (drop at xs))
 
-pub and_left : (p q : Bool) → (p && q) ≡ true → p ≡ true
-and_left true q e = refl
-and_left false q e = absurd (false≢true e)
-
-and_right : (p q : Bool) → (p && q) ≡ true → q ≡ true
-and_right true q e = e
-and_right false q e = absurd (false≢true e)
-
 module _ (xs ys : List ℕ) (f : AreBytes xs) (g : AreBytes ys) (long : 32 ≤ length xs) (wide : 32 ≤ length ys) where
   front_same : big_number 8 xs ≡ big_number 8 ys → word 8 xs ≡ word 8 ys → word 16 xs ≡ word 16 ys → word 24 xs ≡ word 24 ys → take 32 xs ≡ take 32 ys
   front_same a b c d =
@@ -63,10 +55,10 @@ module _ (xs ys : List ℕ) (f : AreBytes xs) (g : AreBytes ys) (long : 32 ≤ l
       → OnTrue (((nat_eq a k && nat_eq b l) && nat_eq c m) && nat_eq d n) (take 32 xs ≡ take 32 ys)
   same_front a b c d k l m n ea ek eb el ec em ed en =
       OnTrue_from (((nat_eq a k && nat_eq b l) && nat_eq c m) && nat_eq d n) (take 32 xs ≡ take 32 ys) (λ all.
-      let three = and_left ((nat_eq a k && nat_eq b l) && nat_eq c m) (nat_eq d n) all in
-      let two = and_left (nat_eq a k && nat_eq b l) (nat_eq c m) three in
-      let first : a ≡ k = eqb-true a k (and_left (nat_eq a k) (nat_eq b l) two) in
-      let second : b ≡ l = eqb-true b l (and_right (nat_eq a k) (nat_eq b l) two) in
-      let third : c ≡ m = eqb-true c m (and_right (nat_eq a k && nat_eq b l) (nat_eq c m) three) in
-      let fourth : d ≡ n = eqb-true d n (and_right ((nat_eq a k && nat_eq b l) && nat_eq c m) (nat_eq d n) all) in
+      let three = and_parts ((nat_eq a k && nat_eq b l) && nat_eq c m) (nat_eq d n) all in
+      let two = and_parts (nat_eq a k && nat_eq b l) (nat_eq c m) three.0 in
+      let first : a ≡ k = eqb-true a k (and_parts (nat_eq a k) (nat_eq b l) two.0).0 in
+      let second : b ≡ l = eqb-true b l (and_parts (nat_eq a k) (nat_eq b l) two.0).1 in
+      let third : c ≡ m = eqb-true c m two.1 in
+      let fourth : d ≡ n = eqb-true d n three.1 in
       front_same (sym ea ∙ first ∙ ek) (sym eb ∙ second ∙ el) (sym ec ∙ third ∙ em) (sym ed ∙ fourth ∙ en))

@@ -1,7 +1,7 @@
 -- Plans of the level of chains, by two that keep the same and are given the same.
 use Rattle.std.proofs.Common.{◌≡◌, ℕ, ◌+◌, ◌/◌, ◌≤◌, nat_eq, List, [], ◌∷◌, refl, sym, ◌∙◌, ap, subst, Bool, true, false, Option, Some, None, Result, Ok, Err, inl, inr, arith, true≢false}
 use Rattle.std.specs.Result.{IfOk}
-use Rattle.std.proofs.lemmas.Bool.{cases_Bool, cases_lt, eqb-true}
+use Rattle.std.proofs.lemmas.Bool.{cases_Bool, cases_lt, eqb-true, and_parts}
 use Rattle.std.proofs.lemmas.List.Elements.{All-head, All-tail}
 use Rattle.rq_model.specs.declared.record.Deed.{Deed}
 use Rattle.rq_model.specs.declared.record.Deed.TheVariants.{Append, UnlinkHead, Close as Close_deed}
@@ -10,7 +10,6 @@ use Rattle.rq_model.specs.declared.record.Record.TheVariants as records
 use Rattle.rq_model.specs.declared.refusal.Refusal.{Refusal}
 use Rattle.rq_model.specs.declared.refusal.Refusal.TheVariants as why
 use Rattle.rq_model.specs.Deeds.{deed_in, spelled_deed}
-use Rattle.rq_bytes.proofs.Compared.{and_left}
 use Rattle.rq_page.specs.declared.cell.Cell.{Cell}
 use Rattle.rq_page.specs.declared.directory.Directory.{Directory}
 use Rattle.rq_page.specs.Sizes.{Sizes, cell_at, directory_at}
@@ -139,7 +138,7 @@ module _ (z : Sizes) (k : Kept) (given : List Given) (all : AreGiven z given) wh
 taking_wants : (z : Sizes) (k : Kept) (latched : List ℕ) (Can : Type 0) (a : ℕ) (r : Refusal) → Can → IsLowest z k latched a → RefusesTaking z k latched Can r → IsMemory r
 taking_wants z k latched Can a why.NoMemory can f h = tt
 taking_wants z k latched Can a why.Latched can f h = true≢false (sym f.may ∙ h.0 f.place f.below)
-taking_wants z k latched Can a (why.Damaged d) can f h = true≢false (sym (and_left _ _ f.may) ∙ h can f.place f.below)
+taking_wants z k latched Can a (why.Damaged d) can f h = true≢false (sym (and_parts _ _ f.may).0 ∙ h can f.place f.below)
 taking_wants z k latched Can a _ can f h = absurd h
 
 other_wants : (Can : Type 0) (r : Refusal) → Can → RefusesOther Can r → IsMemory r

@@ -1,8 +1,8 @@
 -- Each level keeps its laws.
-use Rattle.std.proofs.Common.{◌≡◌, ℕ, zero, suc, ◌+◌, ◌*◌, nat_lt, Err, arith, List, [], ◌∷◌, Bool, true, false, cond, nat_eq, Option, None, Some, length, set, refl, sym, ap, ◌∙◌, inl, inr}
+use Rattle.std.proofs.Common.{◌≡◌, ℕ, zero, suc, ◌+◌, ◌*◌, nat_lt, Err, arith, List, Bool, true, false, cond, nat_eq, Option, None, Some, length, set, refl, sym, ap, ◌∙◌, inl, inr}
 use Rattle.std.proofs.lemmas.Bool.{cases_Bool, le-ltb}
 use Rattle.rq_page.specs.Pages.{lsn_of}
-use Rattle.std.proofs.lemmas.List.{length-set}
+use Rattle.std.proofs.lemmas.List.{length-set, set-set}
 use Rattle.rq_page.specs.declared.cell.CellSlot.{CellSlot}
 use Rattle.rq_page.specs.declared.cell.CellSlot.TheVariants as cells
 use Rattle.rq_page.specs.Cells.{cell_slot_in}
@@ -93,13 +93,8 @@ asks_page given true w = tt
 asks_page given false None = tt
 asks_page given false (Some w) = unless given w.at (given_at w.at given) refl
 
-set_twice : {X : Type 0} (xs : List X) (i : ℕ) (x y : X) → set (set xs i x) i y ≡ set xs i y
-set_twice [] i x y = refl
-set_twice (z ∷ xs) zero x y = refl
-set_twice (z ∷ xs) (suc i) x y = ap (λ l. z ∷ l) (set_twice xs i x y)
-
 cell_twice : (z : Sizes) (k : Kept) (place : ℕ) (x y : Bool) → noted_cell z (noted_cell z k place x) place y ≡ noted_cell z k place y
-cell_twice z k place x y = ap (λ (f : List Bool). record k { free = f; reserved = set (set k.reserved place false) place false }) (set_twice k.free place x y) ∙ ap (λ (r : List Bool). record k { free = set k.free place y; reserved = r }) (set_twice k.reserved place false false)
+cell_twice z k place x y = ap (λ (f : List Bool). record k { free = f; reserved = set (set k.reserved place false) place false }) (set-set k.free place x y) ∙ ap (λ (r : List Bool). record k { free = set k.free place y; reserved = r }) (set-set k.reserved place false false)
 
 in_twice : (z : Option Sizes) (k : Kept) (a : ℕ) (x y : List ℕ) → k.sizes ≡ z → noted_in (noted_in z k a x).sizes (noted_in z k a x) a y ≡ noted_in z k a y
 in_twice None k a x y e = ap (λ (o : Option Sizes). noted_in o k a y) e

@@ -1,24 +1,15 @@
 -- Slots that are noted one after the other.
-use Rattle.std.proofs.Common.{◌≡◌, ◌≢◌, ℕ, zero, suc, ◌/◌, ◌%◌, nat_lt, ◌&&◌, List, [], ◌∷◌, Bool, true, false, Option, None, Some, set, refl, sym, ap, ◌∙◌, inl, inr}
+use Rattle.std.proofs.Common.{◌≡◌, ◌≢◌, ℕ, ◌/◌, ◌%◌, nat_lt, ◌&&◌, List, Bool, true, false, Option, None, Some, set, refl, sym, ap, ◌∙◌, inl, inr}
 use Rattle.std.proofs.lemmas.Bool.{cases_Bool, ne_eqb, and_parts, ltb-true}
+use Rattle.std.proofs.lemmas.List.{set_comm}
 use Rattle.rq_page.specs.Sizes.{Sizes, IsCellAddress, cell_at, place_of, page_count}
 use Rattle.rq_page.proofs.Addresses.{places_are_cells}
 use Rattle.rq_level.specs.Kept.{Kept, noted, noted_in, noted_cell, is_cell_address, is_free_slot}
 
-set_apart : {X : Type 0} (xs : List X) (i j : ℕ) (x y : X) → i ≢ j → set (set xs i x) j y ≡ set (set xs j y) i x
-set_apart [] i j x y n = refl
-set_apart (z ∷ xs) zero zero x y n = absurd (n refl)
-set_apart (z ∷ xs) zero (suc j) x y n = refl
-set_apart (z ∷ xs) (suc i) zero x y n = refl
-set_apart (z ∷ xs) (suc i) (suc j) x y n = ap (λ l. z ∷ l) (set_apart xs i j x y (λ e. n (ap suc e)))
-
-set_both : {X : Type 0} (xs : List X) (i j : ℕ) (x : X) → i ≢ j → set (set xs i x) j x ≡ set (set xs j x) i x
-set_both xs i j x n = set_apart xs i j x x n
-
 cells_apart : (z : Sizes) (k : Kept) (i j : ℕ) (x y : Bool) → i ≢ j → noted_cell z (noted_cell z k i x) j y ≡ noted_cell z (noted_cell z k j y) i x
 cells_apart z k i j x y n =
-    ap (λ (f : List Bool). record k { free = f; reserved = set (set k.reserved i false) j false }) (set_apart k.free i j x y n)
-    ∙ ap (λ (r : List Bool). record k { free = set (set k.free j y) i x; reserved = r }) (set_both k.reserved i j false n)
+    ap (λ (f : List Bool). record k { free = f; reserved = set (set k.reserved i false) j false }) (set_comm k.free i j x y n)
+    ∙ ap (λ (r : List Bool). record k { free = set (set k.free j y) i x; reserved = r }) (set_comm k.reserved i j false false n)
 
 pub is_cell : (z : Sizes) (a : ℕ) → is_cell_address z a ≡ true → IsCellAddress z a
 is_cell z a e =

@@ -1,14 +1,9 @@
 -- What is left of a device that is read from its front.
-use Rattle.std.proofs.Common.{◌≡◌, ◌⊎◌, inl, inr, ℕ, zero, suc, ◌+◌, ◌-◌, ◌≤◌, min, List, [], ◌∷◌, ◌++◌, length, take, drop, sym, ◌∙◌, ap, arith, append_assoc}
+use Rattle.std.proofs.Common.{◌≡◌, ◌⊎◌, inl, inr, ℕ, ◌+◌, ◌-◌, ◌≤◌, min, List, [], ◌++◌, length, take, drop, sym, ◌∙◌, ap, arith, append_assoc}
 use Rattle.std.proofs.lemmas.Bool.{cases_lt}
 use Rattle.std.proofs.Math.Seq.{paste, take-append_seam}
 use Rattle.std.proofs.lemmas.List.Edits.{take-paste}
-use Rattle.std.proofs.lemmas.List.{drop_all, drop-take, length-take-le, take-append-drop}
-
-drop-drop : (n m : ℕ) (xs : List ℕ) → drop m (drop n xs) ≡ drop (n + m) xs
-drop-drop zero m xs = ap (λ k. drop k xs) (let e : m ≡ 0 + m = omega arith in e)
-drop-drop (suc n) m [] = drop_all m [] (omega arith) ∙ sym (drop_all (suc n + m) [] (omega arith))
-drop-drop (suc n) m (x ∷ xs) = drop-drop n m xs ∙ ap (λ k. drop k (x ∷ xs)) (let e : suc (n + m) ≡ suc n + m = omega arith in e)
+use Rattle.std.proofs.lemmas.List.{drop_all, drop-take, length-take-le, take-append-drop, drop-drop}
 
 -- a window whose elements were all written over
 pub filled_window : (n : ℕ) (xs ys : List ℕ) → n ≡ length xs → take n (xs ++ ys) ≡ xs
@@ -22,7 +17,7 @@ pasted old xs n le = ap (λ k. take k (paste old 0 xs n)) (let e : n ≡ 0 + n =
 pub skipped : (xs : List ℕ) (start end n : ℕ) → start + n ≤ end → take (end - (start + n)) (drop (start + n) xs) ≡ drop n (take (end - start) (drop start xs))
 skipped xs start end n le =
     let count : end - start ≡ n + (end - (start + n)) = omega (arith, le) in
-    sym (ap (λ k. drop n (take k (drop start xs))) count ∙ drop-take n (end - (start + n)) (drop start xs) ∙ ap (take (end - (start + n))) (drop-drop start n xs))
+    sym (ap (λ k. drop n (take k (drop start xs))) count ∙ drop-take n (end - (start + n)) (drop start xs) ∙ ap (take (end - (start + n))) (drop-drop n start xs))
 
 -- a read of as many as there are, and fit behind the first e bytes, filled the window or came to the end
 pub has_most : {unread : List ℕ} {now : ℕ} {honest : Type 0} {new : List ℕ} (w old : List ℕ) (count at e n : ℕ) → unread ≡ take count w → count ≡ e + n → length w ≡ 65536 → e + n ≤ 65536
@@ -36,5 +31,5 @@ has_most {unread} {now} {honest} {new} w old count at e n is total wide le read 
 pub left_same : {unread now_seen : List ℕ} {now : ℕ} (kept old : List ℕ) (at n : ℕ) → unread ≡ kept ++ take n (drop at old) → now ≡ at + n → now_seen ≡ old → unread ++ drop now now_seen ≡ kept ++ drop at old
 left_same {unread} {now_seen} {now} kept old at n is goes same =
     ap (λ l. l ++ drop now now_seen) is ∙ append_assoc kept (take n (drop at old)) (drop now now_seen)
-    ∙ ap (λ l. kept ++ (take n (drop at old) ++ l)) (ap (λ k. drop k now_seen) goes ∙ ap (drop (at + n)) same ∙ sym (drop-drop at n old))
+    ∙ ap (λ l. kept ++ (take n (drop at old) ++ l)) (ap (λ k. drop k now_seen) goes ∙ ap (drop (at + n)) same ∙ sym (drop-drop n at old))
     ∙ ap (λ l. kept ++ l) (take-append-drop n (drop at old))

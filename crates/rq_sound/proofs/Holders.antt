@@ -3,7 +3,7 @@
 use Rattle.std.proofs.Common.{◌≡◌, ℕ, zero, suc, ◌+◌, ◌-◌, ◌/◌, ◌<◌, ◌++◌, List, [], ◌∷◌, drop, take, length, map, reverse, refl, sym, ◌∙◌, ap, subst, Bool, true, false, nat_eq, ◌&&◌, Option, Some, None, inl, inr, arith}
 use Rattle.std.specs.List.{filter_map}
 use Rattle.std.proofs.lemmas.Bool.{cases_Bool, eqb-true, false≢true, false_from_ne_true, true≢false, and_from, or_from, or_left, or_parts, or_right}
-use Rattle.std.proofs.lemmas.List.{append-nil, reverse-append, take-append-drop, map-append}
+use Rattle.std.proofs.lemmas.List.{append-nil, reverse-append, take-append-drop, map-append, drop-map, take-map}
 use Rattle.std.proofs.lemmas.List.Elements.{filter_map-append}
 use Rattle.std.proofs.lemmas.Option.{same_Some}
 use Rattle.rq_model.specs.declared.message.Message.{Message}
@@ -28,7 +28,7 @@ use Rattle.rq_views.specs.Items.{items, layout_of, operation}
 use Rattle.rq_views.specs.Legal.{Placed, no_view, open_deeds, under_way, view}
 use Rattle.rq_views.specs.Log.{Slots, Write, cells_of}
 use Rattle.rq_views.specs.Plans.{ShowsAt, Spares}
-use Rattle.rq_views.proofs.Committed.{say, takes_form, map_drop}
+use Rattle.rq_views.proofs.Committed.{say, takes_form}
 use Rattle.rq_views.proofs.Deeds.{Sound}
 use Rattle.rq_views.proofs.GroupRule.{held}
 use Rattle.rq_views.proofs.Holding.{committed_is_group, tag_and_body, view_holds}
@@ -72,12 +72,6 @@ chain_shown z q g v h =
     ∙ ap (chain_from (cells_of q) (length k.nodes)) k.head
     ∙ cells_told (cells_of q) g 0 (d.received + 1) k.nodes k.linked
     ∙ ap (map (message_of g)) (sym k.messages)
-
--- messages that were sent for a group, and lists of them
-take_map : {X Y : Type 0} (f : X → Y) (k : ℕ) (xs : List X) → map f (take k xs) ≡ take k (map f xs)
-take_map f zero xs = refl
-take_map f (suc k) [] = refl
-take_map f (suc k) (x ∷ xs) = ap (λ l. f x ∷ l) (take_map f k xs)
 
 take_next : {X : Type 0} (k : ℕ) (xs : List X) (x : X) (rest : List X) → drop k xs ≡ x ∷ rest → take (suc k) xs ≡ take k xs ++ x ∷ []
 take_next zero [] x rest e = cc
@@ -317,14 +311,14 @@ module _ (s : State) (k : IsSound s) where
         ap (map (message_of g)) shown
         ∙ map-append (message_of g) (drop n rest) (map tag_and_body ms)
         ∙ ap (λ l. map (message_of g) (drop n rest) ++ l) (back g (say (deeds_of sender)) ∙ sends_are)
-        ∙ ap (λ l. l ++ holder_sends s g) (map_drop (message_of g) n rest ∙ ap (λ i. drop i (map (message_of g) rest)) count_is ∙ ap (drop (length (holder_takes s g))) (sym rest_is))
+        ∙ ap (λ l. l ++ holder_sends s g) (sym (drop-map (message_of g) n rest) ∙ ap (λ i. drop i (map (message_of g) rest)) count_is ∙ ap (drop (length (holder_takes s g))) (sym rest_is))
 
     pub taken_first : holder_takes s g ≡ take (length (holder_takes s g)) (rest_in (committed_of s.records) g)
     taken_first =
         let sound = (held g (items s.sizes s.records) groups).takes taker in
         ap (filter_map (taken_from g)) (sym taker_did)
         ∙ takes_are g (deeds_of taker) (committed (items s.sizes s.records) g) sound
-        ∙ take_map (message_of g) (removed g (say (deeds_of taker))) rest
+        ∙ sym (take-map (message_of g) (removed g (say (deeds_of taker))) rest)
         ∙ ap (λ i. take i (map (message_of g) rest)) count_is
         ∙ ap (take (length (holder_takes s g))) (sym rest_is)
 

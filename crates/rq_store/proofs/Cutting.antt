@@ -1,7 +1,7 @@
 -- What is so of a log is so of its first records, and pages that fit these fit all of them.
 use Rattle.std.proofs.Common.{◌≡◌, ℕ, zero, suc, ◌+◌, ◌-◌, ◌≤◌, List, [], ◌∷◌, length, drop, sym, ◌∙◌, ap, subst, inl, inr, arith}
 use Rattle.std.proofs.lemmas.Bool.{cases_lt}
-use Rattle.std.proofs.lemmas.List.{drop_all, drop-drop}
+use Rattle.std.proofs.lemmas.List.{drop_all, drop-drop, length-drop}
 use Rattle.rq_model.specs.declared.record.Record.{Record}
 use Rattle.rq_page.specs.Sizes.{Sizes}
 use Rattle.rq_page.specs.Pages.{lsn_of}
@@ -36,20 +36,15 @@ longer_continues lost kept log h = (
   drop-drop (length log - kept - lost) lost log ∙ (let e : lost + (length log - kept - lost) ≡ length log - kept = omega (arith, h) in ap (λ n. drop n log) e),
 )
 
-drop_length : {X : Type 0} (n : ℕ) (xs : List X) → length (drop n xs) ≡ length xs - n
-drop_length zero xs = omega arith
-drop_length (suc n) [] = omega arith
-drop_length (suc n) (x ∷ xs) = let e = drop_length n xs in omega (arith, e)
-
 -- and so it is of two logs of which one goes on from the other
 pub oldest_continues : (few many : ℕ) (older newer : List Record) → Continues older newer → few ≤ length older → few ≤ many → many ≤ length newer → Continues (oldest few older) (oldest many newer)
 oldest_continues few many older newer c short order long = elim (cases_lt (length newer) c.0) [
   | inl all ↦
-      let none : length older ≡ 0 = sym (ap length c.1) ∙ drop_length c.0 newer ∙ omega (arith, all) in
+      let none : length older ≡ 0 = sym (ap length c.1) ∙ length-drop c.0 newer ∙ omega (arith, all) in
       let e : oldest few older ≡ [] = drop_all (length older - few) older (omega (arith, none)) in
       (length (oldest many newer), drop_all (length (oldest many newer)) (oldest many newer) (omega arith) ∙ sym e)
   | inr some ↦
-      let was : length older ≡ length newer - c.0 = sym (ap length c.1) ∙ drop_length c.0 newer in (
+      let was : length older ≡ length newer - c.0 = sym (ap length c.1) ∙ length-drop c.0 newer in (
         many - few,
         drop-drop (many - few) (length newer - many) newer
             ∙ (let e : length newer - many + (many - few) ≡ c.0 + (length older - few) = omega (arith, was, short, order, long, some) in ap (λ n. drop n newer) e)
@@ -76,7 +71,7 @@ all_fit_longer may_be z older newer c f = record {
 -- a page that fits a log fits as many of its first records as its LSN says, and more
 pub page_fits_oldest : (z : Sizes) (p kept : ℕ) (image : List ℕ) (log : List Record) → lsn_of image ≤ kept → kept ≤ length log → FitsPage z log p image → FitsPage z (oldest kept log) p image
 page_fits_oldest z p kept image log low high f =
-    let count : length (oldest kept log) ≡ kept = drop_length (length log - kept) log ∙ omega (arith, high) in
+    let count : length (oldest kept log) ≡ kept = length-drop (length log - kept) log ∙ omega (arith, high) in
     let same : oldest (lsn_of image) (oldest kept log) ≡ oldest (lsn_of image) log =
     drop-drop (length (oldest kept log) - lsn_of image) (length log - kept) log
     ∙ (let e : length log - kept + (length (oldest kept log) - lsn_of image) ≡ length log - lsn_of image = omega (arith, count, low, high) in ap (λ n. drop n log) e)

@@ -1,6 +1,6 @@
 -- What a transaction's own deeds make of a group, and of a view of it.
-use Rattle.std.proofs.Common.{◌≡◌, ℕ, zero, suc, ◌+◌, ◌-◌, ◌≤◌, List, [], ◌∷◌, ◌++◌, length, map, drop, refl, sym, ◌∙◌, ap, subst, Bool, true, cond, append_assoc, inl, inr, arith, ◌||◌, nat_eq}
-use Rattle.std.proofs.lemmas.List.{append-nil, length-append, drop-drop, drop-append-le, length-map, length-drop, map_push, map-append}
+use Rattle.std.proofs.Common.{◌≡◌, ℕ, ◌+◌, ◌-◌, ◌≤◌, List, [], ◌∷◌, ◌++◌, length, map, drop, refl, sym, ◌∙◌, ap, subst, Bool, true, cond, append_assoc, inl, inr, arith, ◌||◌, nat_eq}
+use Rattle.std.proofs.lemmas.List.{append-nil, length-append, drop-drop, drop-append-le, length-map, length-drop, map_push, map-append, drop-map}
 use Rattle.std.proofs.lemmas.Bool.{cases_Bool, eqb-true}
 use Rattle.std.proofs.Math.Bool.{or_comm}
 use Rattle.rq_model.specs.declared.message.Message.{Message}
@@ -93,11 +93,6 @@ messages_are : (s : ℕ) (ms : List Message) → Ours s ms → map (message_of s
 messages_are s [] o = refl
 messages_are s (m ∷ ms) o = ap (λ x. x ∷ map (message_of s) (map pair ms)) (message_is s m o.0) ∙ ap (λ l. m ∷ l) (messages_are s ms o.1)
 
-pub map_drop : {X Y : Type 0} (f : X → Y) (k : ℕ) (xs : List X) → map f (drop k xs) ≡ drop k (map f xs)
-map_drop f zero xs = refl
-map_drop f (suc k) [] = refl
-map_drop f (suc k) (x ∷ xs) = map_drop f k xs
-
 -- a commit of these deeds keeps the view that of the group, where no more was taken than there was
 pub committed_own : (s : ℕ) (ps : List Placed) (g : Group) (v : View) → IsViewOf s g v → removed s (say ps) ≤ length v.messages
     → IsViewOf s (with_own s (say ps) g) (with_all (side (on_sending_end s) ps) (with_all (side (on_receiving_end s) ps) v))
@@ -117,7 +112,7 @@ committed_own s ps g v h le =
           let n : removed s ds ≤ length g.rest = subst (λ k. removed s ds ≤ k) (sym (ap length h.rest ∙ length-map v.messages (message_of s))) le in
           drop-append-le (removed s ds) g.rest (added s ds) n
           ∙ ap (λ l. drop (removed s ds) l ++ added s ds) h.rest
-          ∙ ap (λ l. l ++ added s ds) (sym (map_drop (message_of s) (removed s ds) v.messages))
+          ∙ ap (λ l. l ++ added s ds) (drop-map (message_of s) (removed s ds) v.messages)
           ∙ ap (λ l. map (message_of s) (drop (removed s ds) v.messages) ++ l) (sym (messages_are s (added s ds) (added_ours s ds)))
           ∙ sym (map-append (message_of s) (drop (removed s ds) v.messages) (map pair (added s ds)));
     })

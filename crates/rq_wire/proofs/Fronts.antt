@@ -3,6 +3,7 @@ use Rattle.std.proofs.Common.{◌≡◌, ℕ, ◌+◌, ◌-◌, ◌<◌, ◌≤�
 use Rattle.std.specs.Prelude.{nat_lt, slice_index, Option, Some, None}
 use Rattle.std.proofs.lemmas.List.{take-append-le, drop-append-le, length-drop}
 use Rattle.std.proofs.lemmas.Bool.{ltb-false, le-ltb}
+use Rattle.std.proofs.Math.Seq.{drop-append_seam}
 use Rattle.byteorder.specs.Numbers.{big_from-append}
 use Rattle.rq_bytes.specs.Number.{number_at}
 use Rattle.rq_wire.specs.declared.request.Request.{Request}
@@ -12,19 +13,10 @@ use Rattle.rq_wire.specs.Looks.{pick, is_size, is_kind, whole_frame, request_in,
 use Rattle.rq_wire.specs.Stream.{Begins, AreRequests, stop}
 use Rattle.rq_wire.specs.Notes.{Keeps}
 
--- the front of a list, and what is behind it
-pub take_front : (xs ys : List ℕ) → take (length xs) (xs ++ ys) ≡ xs
-take_front [] ys = refl
-take_front (x ∷ xs) ys = ap (λ (t : List ℕ). x ∷ t) (take_front xs ys)
-
-pub drop_front : (xs ys : List ℕ) → drop (length xs) (xs ++ ys) ≡ ys
-drop_front [] ys = refl
-drop_front (x ∷ xs) ys = drop_front xs ys
-
 -- what a piece added
 pub added : (held : ℕ) (unread piece all : List ℕ) → held ≡ length unread → all ≡ unread ++ piece
     → drop held all ≡ piece
-added held unread piece all h e = ap (λ (n : ℕ). drop n all) h ∙ ap (drop (length unread)) e ∙ drop_front unread piece
+added held unread piece all h e = ap (λ (n : ℕ). drop n all) h ∙ ap (drop (length unread)) e ∙ drop-append_seam unread piece
 
 pub record Picks (s v b k c : Bool) (f : Front) (r : Request) (n : ℕ) : Type 0 where
   pub short : s ≡ false

@@ -3,7 +3,8 @@ use Rattle.std.proofs.Common.{◌≡◌, ℕ, suc, ◌+◌, ◌-◌, ◌^◌, �
 use Rattle.std.specs.Prelude.{nat_lt, ◌==◌, slice_index, Option, Some, None}
 use Rattle.std.proofs.lemmas.Bool.Decides.{nat_tests}
 use Rattle.std.proofs.lemmas.List.{take-append-drop, length-take, length-drop, append-nil, drop-drop}
-use Rattle.std.proofs.lemmas.Bool.{ltb-false, le-ltb}
+use Rattle.std.proofs.lemmas.Bool.{ltb-false, le-ltb, eqb-true}
+use Rattle.std.proofs.Math.Seq.{take-append_seam, drop-append_seam}
 use Rattle.byteorder.specs.Endian.{big_number}
 use Rattle.rq_bytes.specs.Number.{number_at, AreBytes, number}
 use Rattle.rq_wire.specs.declared.request.Request.{Request}
@@ -12,7 +13,7 @@ use Rattle.rq_wire.specs.declared.look.Front.TheVariants.{Frame}
 use Rattle.rq_wire.specs.Looks.{is_size, is_kind, only, whole_frame, request_in, looks}
 use Rattle.rq_wire.specs.Spelling.{IsRequest, frame, request_kind, request_fields, spelled}
 use Rattle.rq_bytes.proofs.Strings.{AreBytes-take, AreBytes-drop, length-number, number_read, number_written, number_below}
-use Rattle.rq_wire.proofs.Fronts.{picked, told, take_front, drop_front, size}
+use Rattle.rq_wire.proofs.Fronts.{picked, told, size}
 
 -- ---- from requests to bytes
 
@@ -56,7 +57,7 @@ module _ (kind : ℕ) (fields rest : List ℕ) where
       let long = length-whole in
       let inner : take (1 + length fields - 1) (drop 3 whole) ≡ fields =
       ap (λ (n : ℕ). take n (drop 3 whole)) (omega arith) ∙ ap (take (length fields)) behind_third
-      ∙ take_front fields rest in
+      ∙ take-append_seam fields rest in
       picked (nat_lt (length whole) 2) (is_size (number_at 2 0 whole)) (nat_lt (length whole) 3) (is_kind
       (slice_index whole 2)) (nat_lt (length whole) (2 + number_at 2 0 whole))
       (whole_frame (request_in (slice_index whole 2) (take (number_at 2 0 whole - 1) (drop 3 whole))) (2 + number_at
@@ -168,10 +169,10 @@ apart kind other fields others x y short shorts e =
     let behinds : fields ++ x ≡ others ++ y = sym (behind_third kind fields x) ∙ ap (drop 3) e
     ∙ behind_third other others y in (
       sym (third kind fields x) ∙ ap (λ (l : List ℕ). slice_index l 2) e ∙ third other others y,
-      sym (take_front fields x) ∙ ap (λ (n : ℕ). take n (fields ++ x)) same ∙ ap (take (length others)) behinds
-          ∙ take_front others y,
-      sym (drop_front fields x) ∙ ap (λ (n : ℕ). drop n (fields ++ x)) same ∙ ap (drop (length others)) behinds
-          ∙ drop_front others y,
+      sym (take-append_seam fields x) ∙ ap (λ (n : ℕ). take n (fields ++ x)) same ∙ ap (take (length others)) behinds
+          ∙ take-append_seam others y,
+      sym (drop-append_seam fields x) ∙ ap (λ (n : ℕ). drop n (fields ++ x)) same ∙ ap (drop (length others)) behinds
+          ∙ drop-append_seam others y,
     )
 
 -- ---- from bytes to requests
@@ -192,15 +193,12 @@ chosen false x y z e = inr (refl, e)
 some_is : (q r : Request) → Some q ≡ Some r → q ≡ r
 some_is q r e = cc
 
-is_number : (a b : ℕ) → (a == b) ≡ true → a ≡ b
-is_number a b e = grind (arith, nat_tests)
-
 no_fields : (fields : List ℕ) → (length fields == 0) ≡ true → fields ≡ []
 no_fields [] e = refl
-no_fields (x ∷ xs) e = absurd (omega (arith, is_number (length (x ∷ xs)) 0 e))
+no_fields (x ∷ xs) e = absurd (omega (arith, eqb-true (length (x ∷ xs)) 0 e))
 
 take_whole : (n : ℕ) (xs : List ℕ) → length xs ≡ n → take n xs ≡ xs
-take_whole n xs h = ap (λ (k : ℕ). take k xs) (sym h) ∙ ap (take (length xs)) (sym (append-nil xs)) ∙ take_front xs []
+take_whole n xs h = ap (λ (k : ℕ). take k xs) (sym h) ∙ ap (take (length xs)) (sym (append-nil xs)) ∙ take-append_seam xs []
 
 -- a request that says no more than its kind
 plain : (kind n : ℕ) (fields : List ℕ) (q r : Request) → (kind == n) ≡ true → only (length fields == 0) q ≡ Some r
@@ -208,7 +206,7 @@ plain : (kind n : ℕ) (fields : List ℕ) (q r : Request) → (kind == n) ≡ t
 plain kind n fields q r k e of none good =
     elim (chosen (length fields == 0) (Some q) None (Some r) e) [
       | inl (empty, is) ↦ subst (Spells kind fields) (some_is q r is) (record {
-        of_kind = is_number kind n k
+        of_kind = eqb-true kind n k
             ∙ of;
         of_fields = no_fields fields empty ∙ sym none;
         good = good;
@@ -225,7 +223,7 @@ with_sender : (kind : ℕ) (fields : List ℕ) (q : ℕ → Request) (r : Reques
 with_sender kind fields q r bytes e of says good =
     elim (chosen (length fields == 4) (Some (q (number_at 4 0 fields))) None (Some r) e) [
       | inl (long, is) ↦
-          let four_long : length fields ≡ 4 = is_number (length fields) 4 long in
+          let four_long : length fields ≡ 4 = eqb-true (length fields) 4 long in
           subst (Spells kind fields) (some_is (q (number_at 4 0 fields)) r is) (record {
             of_kind = of;
             of_fields = sym (says ∙ number_written 4 fields bytes (omega (arith, four_long))
@@ -295,15 +293,15 @@ fields_told kind fields r bytes most known whole =
       | inl (k, g) ↦ plain kind 1 fields Begin r k g refl refl tt
       | inr (n1, e) ↦ elim (chosen (kind == 2) _ _ _ e) [
         | inl (k, g) ↦
-            let is = is_number kind 2 k in
+            let is = eqb-true kind 2 k in
             subst (λ (n : ℕ). Spells n fields r) (sym is) (send_told fields r bytes most (subst (λ (n : ℕ).
             request_in n fields ≡ Some r) is whole))
         | inr (n2, e) ↦ elim (chosen (kind == 3) _ _ _ e) [
           | inl (k, g) ↦ plain kind 3 fields Receive r k g refl refl tt
           | inr (n3, e) ↦ elim (chosen (kind == 4) _ _ _ e) [
-            | inl (k, g) ↦ with_sender kind fields ReceiveFrom r bytes g (is_number kind 4 k) refl (λ b. b)
+            | inl (k, g) ↦ with_sender kind fields ReceiveFrom r bytes g (eqb-true kind 4 k) refl (λ b. b)
             | inr (n4, e) ↦ elim (chosen (kind == 5) _ _ _ e) [
-              | inl (k, g) ↦ with_sender kind fields Close r bytes g (is_number kind 5 k) refl (λ b. b)
+              | inl (k, g) ↦ with_sender kind fields Close r bytes g (eqb-true kind 5 k) refl (λ b. b)
               | inr (n5, e) ↦ elim (chosen (kind == 6) _ _ _ e) [
                 | inl (k, g) ↦ plain kind 6 fields Commit r k g refl refl tt
                 | inr (n6, e) ↦ elim (chosen (kind == 7) _ _ _ e) [

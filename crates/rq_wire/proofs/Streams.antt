@@ -1,5 +1,6 @@
 -- The requests of a stream are those whose frames stand at its front, and there is one list of them.
 use Rattle.std.proofs.Common.{◌≡◌, ℕ, Bool, true, false, List, [], ◌∷◌, ◌++◌, length, drop, refl, sym, ap, ◌∙◌, subst, append_assoc}
+use Rattle.std.proofs.Math.Seq.{drop-append_seam}
 use Rattle.rq_wire.specs.declared.request.Request.{Request}
 use Rattle.rq_wire.specs.declared.look.Front.TheVariants.{Frame}
 use Rattle.rq_wire.specs.Looks.{looks}
@@ -7,7 +8,6 @@ use Rattle.rq_wire.specs.Spelling.{AreRequested, spelled, spelled_all}
 use Rattle.rq_bytes.specs.Number.{AreBytes}
 use Rattle.rq_wire.specs.Stream.{Begins, AreRequests, stop}
 use Rattle.rq_bytes.proofs.Strings.{AreBytes-drop}
-use Rattle.rq_wire.proofs.Fronts.{drop_front}
 use Rattle.rq_wire.proofs.Spells.{spelled_is_read, read_is_spelled}
 
 pub to_frames : (rs : List Request) (bytes rest : List ℕ) → AreBytes bytes → Begins rs bytes rest
@@ -30,7 +30,7 @@ from_frames (r ∷ rs) bytes rest are e =
       length (spelled r),
       ap looks regrouped ∙ spelled_is_read r (spelled_all rs ++ rest) are.0,
       from_frames rs (drop (length (spelled r)) bytes) rest are.1 (ap (drop (length (spelled r))) regrouped
-          ∙ drop_front (spelled r) (spelled_all rs ++ rest)),
+          ∙ drop-append_seam (spelled r) (spelled_all rs ++ rest)),
     )
 
 same_stop : (fault other : Bool) → stop fault ≡ stop other → fault ≡ other
