@@ -1,7 +1,7 @@
 -- What the calls of an abort answer, from what their bodies found and made.
 use Rattle.std.proofs.Common.{◌≡◌, ℕ, ◌+◌, ◌-◌, ◌<◌, ◌&&◌, ◌||◌, ◌++◌, List, [], ◌∷◌, length, refl, sym, ◌∙◌, ap, subst, Bool, true, false, not, Option, Some, None, IfSome, option_map, arith, inl, inr}
 use Rattle.std.specs.List.{sum_by}
-use Rattle.std.proofs.lemmas.Bool.{cases_Bool, eq-eqb, false≢true}
+use Rattle.std.proofs.lemmas.Bool.{cases_Bool, eq-eqb, false≢true, or_right}
 use Rattle.std.proofs.lemmas.Option.{same_Some}
 use Rattle.std.proofs.lemmas.List.{length-append}
 use Rattle.std.proofs.lemmas.List.Sums.{sum_by_push}
@@ -146,16 +146,12 @@ end_unfinished s t n f running h back k =
     let r = turned_row s t n (Some f) back in
     let some : has_done (found t (ledger_of s).open_ones) ≡ true =
     at_own s t r.0 (λ q. has_done (found q (ledger_of s).open_ones) ≡ true) r.1 (λ e. tests_read.done_is s r.0 e ∙ not_empty r.0.finished r.2.3) in
-    let done : (is_busy (found t (ledger_of s).open_ones) || has_done (found t (ledger_of s).open_ones)) ≡ true = or_right_true (is_busy (found t (ledger_of s).open_ones)) _ some in
+    let done : (is_busy (found t (ledger_of s).open_ones) || has_done (found t (ledger_of s).open_ones)) ≡ true = or_right (is_busy (found t (ledger_of s).open_ones)) _ some in
     refuse s (End_abort t) why.Unfinished refl tt (rw (h.0, h.1.0, h.1.1.0, done) refl) k
   where
     not_empty : (fs : List Finished) → last fs ≡ Some f → is_some (first fs) ≡ true
     not_empty [] e = cc e
     not_empty (g ∷ fs) e = refl
-
-    or_right_true : (a b : Bool) → b ≡ true → (a || b) ≡ true
-    or_right_true true b e = refl
-    or_right_true false b e = e
 
 pub end_full : (s : State) (t : Txn) (n : ℕ) → NoneHolds (ready_tests (ledger_of s) t true) → IsTurnedBack s t n None → log_full (ledger_of s) 1 ≡ true → Refuses s (End_abort t) why.LogFull
 end_full s t n h back full k =

@@ -1,5 +1,5 @@
 -- What is latched, exactly: whether a planned send or receive meets others' pages, and what that makes of the call.
-use Rattle.std.proofs.Common.{◌≡◌, ℕ, ◌/◌, ◌<◌, ◌||◌, List, [], ◌∷◌, length, reverse, refl, sym, ◌∙◌, ap, subst, Bool, true, false, Option, Some, None, inl, inr, arith}
+use Rattle.std.proofs.Common.{◌≡◌, ℕ, ◌/◌, ◌<◌, ◌||◌, List, [], ◌∷◌, length, reverse, refl, sym, ◌∙◌, ap, subst, true, false, Option, Some, None, inl, inr, arith}
 use Rattle.std.proofs.lemmas.Bool.{cases_Bool, false≢true, or_left, true≢false}
 use Rattle.rq_model.specs.declared.message.Message.{Message}
 use Rattle.rq_model.specs.declared.record.Deed.{Deed}
@@ -16,6 +16,7 @@ use Rattle.rq_views.specs.Plans.{Turn}
 use Rattle.rq_views.specs.Plans.Turn.{Did, Undid}
 use Rattle.rq_level.specs.declared.writes.SlotWrite.{SlotWrite}
 use Rattle.std.proofs.lemmas.List.{length-map, length-reverse}
+use Rattle.std.proofs.Math.Bool.{or-false}
 use Rattle.rq_views.specs.Log.{Write}
 use Rattle.rq_level.specs.Writes.{write_of, writes_of}
 use Rattle.rq_txn.specs.declared.Finished.{Finished}
@@ -163,13 +164,9 @@ module _ (s : State) (k : IsSound s) where
     | inr x ↦ free (inr x.1)
   ]
   undo_needs_none (Close g) h free = elim h [
-    | inl y ↦ free (sym (or_false (latched_in s.rows (directory_at g / 16))) ∙ latched_exact.as_read s (Undid (Close g)) k ∙ y)
+    | inl y ↦ free (sym (or-false (latched_in s.rows (directory_at g / 16))) ∙ latched_exact.as_read s (Undid (Close g)) k ∙ y)
     | inr x ↦ false≢true x.0
   ]
-    where
-      or_false : (b : Bool) → (b || false) ≡ b
-      or_false true = refl
-      or_false false = refl
 
   module _ (t : Txn) (f : Finished) (newest : OnFound (found_row t s.rows) (λ r. last r.finished ≡ Some f)) where
     begins_it : Begins s (Undo_next t) (Undid f.deed)

@@ -1,7 +1,8 @@
 -- What a sound store gives the calls.
-use Rattle.std.proofs.Common.{◌≡◌, ℕ, ◌+◌, ◌-◌, ◌/◌, ◌%◌, ◌<◌, ◌≤◌, ◌&&◌, List, ◌∷◌, length, refl, ◌∙◌, ap, subst, Bool, true, false, nat_lt, Some, None, arith}
+use Rattle.std.proofs.Common.{◌≡◌, ℕ, ◌+◌, ◌-◌, ◌/◌, ◌%◌, ◌<◌, ◌≤◌, ◌&&◌, List, ◌∷◌, length, refl, ◌∙◌, ap, subst, true, false, nat_lt, Some, None, arith}
 use Rattle.std.specs.List.{slice_get}
 use Rattle.std.proofs.lemmas.Bool.{and_from, lt-ltb}
+use Rattle.std.proofs.Math.Bool.{and-false}
 use Rattle.rq_model.specs.declared.txn.Txn.{Txn}
 use Rattle.rq_model.specs.declared.record.Deed.{Deed}
 use Rattle.rq_model.specs.declared.record.Deed.TheVariants.{Append, Close, UnlinkHead}
@@ -219,10 +220,7 @@ module _ (s : State) (k : IsSound s) (t : Txn) (r : Row) (at_row : found_row t s
 
   pub gives_none : (g : ℕ) → g < sender_count s.sizes → is_free_for t g s.ends.receiving ≡ true → waits s.waiting g ≡ 0 → gives (ledger_of s) t (found t (ledger_of s).open_ones) g ≡ false
   gives_none g m free n = at_own s t r (λ q. gives (ledger_of s) q (found q (ledger_of s).open_ones) g ≡ false) at_row
-      (λ e. waits_given.each s r g k e m ∙ ap (λ w. is_free_for r.txn g s.ends.receiving && nat_lt 0 w) n ∙ never (is_free_for r.txn g s.ends.receiving)) where
-        never : (b : Bool) → (b && false) ≡ false
-        never true = refl
-        never false = refl
+      (λ e. waits_given.each s r g k e m ∙ ap (λ w. is_free_for r.txn g s.ends.receiving && nat_lt 0 w) n ∙ and-false (is_free_for r.txn g s.ends.receiving))
 
   pub some_gives : (g : ℕ) → WaitsFor s t g → any_gives (below (sender_count s.sizes)) (ledger_of s) t (found t (ledger_of s).open_ones) ≡ true
   some_gives g w = at_own s t r (λ q. WaitsFor s q g → any_gives (below (sender_count s.sizes)) (ledger_of s) q (found q (ledger_of s).open_ones) ≡ true) at_row (λ e w. waits_given.some s r g k e w) w

@@ -1,6 +1,6 @@
 -- What a receive answers, from what its tests found.
 use Rattle.std.proofs.Common.{◌≡◌, ℕ, ◌+◌, ◌<◌, ◌≤◌, ◌&&◌, refl, sym, ◌∙◌, ap, subst, Bool, true, false, not, nat_lt, Some, None, inl, inr}
-use Rattle.std.proofs.lemmas.Bool.{lt-ltb, true≢false}
+use Rattle.std.proofs.lemmas.Bool.{lt-ltb, true≢false, and_right}
 use Rattle.rq_model.specs.declared.txn.Txn.{Txn}
 use Rattle.rq_model.specs.declared.refusal.Refusal.TheVariants as why
 use Rattle.rq_model.specs.History.{Call}
@@ -87,18 +87,10 @@ module _ (s : State) (t : Txn) (h : NoneHolds (ready_tests (ledger_of s) t false
 
       module _ (room : log_full (ledger_of s) 4 ≡ false) where
         pub passes : (k : IsSound s) → Passes (size_of s.sizes) (ledger_of s) (Start_receive t)
-        passes k = (h.0, (h.1.0, (h.1.1.0, (h.1.1.1.0, (and_none _ _ room, tt)))))
-          where
-            and_none : (a b : Bool) → b ≡ false → (a && b) ≡ false
-            and_none true b e = e
-            and_none false b e = refl
+        passes k = (h.0, (h.1.0, (h.1.1.0, (h.1.1.1.0, (and_right _ _ room, tt)))))
 
         pub passes_from : (k : IsSound s) → Passes (size_of s.sizes) (ledger_of s) (Start_receive_from t e)
-        passes_from k = (h.0, (h.1.0, (h.1.1.0, (h.1.1.1.0, (known, (is_free k, (and_none _ _ room, tt)))))))
-          where
-            and_none : (a b : Bool) → b ≡ false → (a && b) ≡ false
-            and_none true b e = e
-            and_none false b e = refl
+        passes_from k = (h.0, (h.1.0, (h.1.1.0, (h.1.1.1.0, (known, (is_free k, (and_right _ _ room, tt)))))))
 
         -- a receive that meets a latched page
         pub any_refused : ((g : ℕ) → WaitsFor s t g → take_latched s g ≡ true) → Refuses s (Start_receive t) why.Latched

@@ -1,8 +1,9 @@
 -- A list that is gone through, from its first number on.
-use Rattle.std.proofs.Common.{◌≡◌, ◌++◌, ℕ, ◌<◌, suc, Bool, true, false, cond, nat_eq, ◌||◌, List, [], ◌∷◌, length, Option, Some, None, refl, sym, ◌∙◌, ap, subst, inl, inr, arith}
+use Rattle.std.proofs.Common.{◌≡◌, ◌++◌, ℕ, ◌<◌, suc, true, false, cond, nat_eq, ◌||◌, List, [], ◌∷◌, length, Option, Some, None, refl, sym, ◌∙◌, ap, subst, inl, inr, arith}
 use Rattle.std.proofs.lemmas.Bool.{cases_Bool, eqb-true, eq-eqb, true≢false, or_cases, or_right}
 use Rattle.std.proofs.lemmas.Option.{same_Some}
 use Rattle.std.proofs.lemmas.List.{append_assoc}
+use Rattle.std.proofs.Math.Bool.{or_assoc}
 use Rattle.rq_model.specs.declared.txn.Txn.{Txn}
 use Rattle.rq_model.specs.Words.{has_number}
 use Rattle.rq_groups.specs.declared.Held.{Held}
@@ -27,10 +28,7 @@ begins s (x ∷ xs) e = (xs, ap (λ y. y ∷ xs) (sym (same_Some s x e)))
 
 has_either : (s : ℕ) (front rest : List ℕ) → has_number s (front ++ rest) ≡ (has_number s front || has_number s rest)
 has_either s [] rest = refl
-has_either s (x ∷ front) rest = ap (λ b. nat_eq x s || b) (has_either s front rest) ∙ or_assoc (nat_eq x s) (has_number s front) (has_number s rest) where
-  or_assoc : (a b c : Bool) → (a || (b || c)) ≡ ((a || b) || c)
-  or_assoc true b c = refl
-  or_assoc false b c = refl
+has_either s (x ∷ front) rest = ap (λ b. nat_eq x s || b) (has_either s front rest) ∙ sym (or_assoc (nat_eq x s) (has_number s front) (has_number s rest))
 
 pub walk_next : (ss : List ℕ) (s : ℕ) (next : Option ℕ) (P : ℕ → Type 0) → IsWalk ss (Some s) P → ((older : List ℕ) → IsTail ss (s ∷ older) → next ≡ first_of older) → P s → IsWalk ss next P
 walk_next ss s next P w follows own =

@@ -1,6 +1,6 @@
 -- The ends that lost transactions used: each has one user.
 use Rattle.std.proofs.Common.{◌≡◌, ℕ, Bool, true, false, not, ◌&&◌, ◌||◌, ◌⊎◌, nat_eq, List, [], ◌∷◌, map, Option, Some, None, inl, inr, refl, sym, ◌∙◌, ap, subst}
-use Rattle.std.proofs.lemmas.Bool.{cases_Bool, false≢true, or_parts, or_cases, and_parts, and_from, eqb-true}
+use Rattle.std.proofs.lemmas.Bool.{cases_Bool, false≢true, or_parts, or_cases, and_parts, and_from, eqb-true, not-true}
 use Rattle.std.proofs.Math.Bool.{and-false}
 use Rattle.rq_model.specs.declared.txn.Txn.{Txn}
 use Rattle.rq_model.specs.declared.record.Record.{Record}
@@ -55,14 +55,10 @@ one_user f out (r ∷ log) k t u a b =
     same_one : (d e : Ending) → Some d ≡ Some e → d ≡ e
     same_one d e h = cc
 
-    off : (b : Bool) → not b ≡ true → b ≡ false
-    off true e = absurd (false≢true e)
-    off false e = refl
-
     split : (v : Txn) → holds f (r ∷ log) v ≡ true → (any_use f (kept (λ w. same_txn w v) (ending r) (deeds (λ w. same_txn w v) log)) ≡ true) × (has_end log v ≡ false)
     split v h =
         let g = and_parts (any_use f (deeds (λ w. same_txn w v) (r ∷ log))) (not (has_end (r ∷ log) v)) h in
-        (g.0, (or_parts (ends_txn v r) (has_end log v) (off (has_end (r ∷ log) v) g.1)).1)
+        (g.0, (or_parts (ends_txn v r) (has_end log v) (not-true (has_end (r ∷ log) v) g.1)).1)
 
     join : (v : Txn) → any_use f (deeds (λ w. same_txn w v) log) ≡ true → has_end log v ≡ false → holds f log v ≡ true
     join v used running = and_from (any_use f (deeds (λ w. same_txn w v) log)) (not (has_end log v)) used (ap not running)

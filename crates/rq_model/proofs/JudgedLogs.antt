@@ -1,6 +1,7 @@
 -- What worked logs come to, and which keep the rules.
-use Rattle.std.proofs.Common.{◌≡◌, ◌<◌, ◌&&◌, ◌||◌, ℕ, refl, sym, ◌∙◌, [], ◌∷◌, ◌++◌, length, Bool, true, false, subst, inl, inr, arith}
+use Rattle.std.proofs.Common.{◌≡◌, ◌<◌, ◌||◌, ℕ, refl, sym, ◌∙◌, [], ◌∷◌, ◌++◌, length, Bool, true, false, subst, inl, inr, arith}
 use Rattle.std.proofs.lemmas.Bool.{cases_Bool, false≢true, true≢false, eqb-true}
+use Rattle.std.proofs.Math.Bool.{and-false}
 use Rattle.rq_model.specs.declared.txn.Txn.{Txn}
 use Rattle.rq_model.specs.declared.record.Record.TheVariants.{Commit, Restart}
 use Rattle.rq_model.specs.Words.{same_txn}
@@ -19,10 +20,7 @@ sent_keeps = (tt, (λ t e. refl), (may_send, (λ t e. refl), (tt, (λ t e. refl)
 
 -- nobody holds an end, once the sender has committed
 none_holds : (f : Said → Bool) (u : Txn) → holds f sent_log u ≡ false
-none_holds f u = elim (cases_Bool (same_txn sender_one u)) [ inl y ↦ rw y (by_end _) | inr n ↦ rw n refl ] where
-  by_end : (b : Bool) → (b && false) ≡ false
-  by_end true = refl
-  by_end false = refl
+none_holds f u = elim (cases_Bool (same_txn sender_one u)) [ inl y ↦ rw y (and-false _) | inr n ↦ rw n refl ]
 
 may_take : (s : ℕ) → MayEnd sent_log s taker (Removed (letter 7 97))
 may_take s = record {

@@ -1,11 +1,12 @@
 -- The operations that have begun and have no end are kept, and the greatest number.
 use Rattle.std.proofs.Common.{◌≡◌, ℕ, ◌≤◌, Bool, true, false, not, ◌||◌, ◌&&◌, max, List, [], ◌∷◌, ◌++◌, inl, inr, refl, sym, ◌∙◌, ap, arith}
-use Rattle.std.proofs.lemmas.Bool.{cases_Bool, or_left, false≢true}
+use Rattle.std.proofs.lemmas.Bool.{cases_Bool, or_left, false≢true, false_from_ne_true}
 use Rattle.rq_model.specs.declared.txn.Txn.{Txn}
 use Rattle.rq_model.specs.declared.txn.Sub.{Sub}
 use Rattle.rq_model.specs.declared.record.Record.{Record}
 use Rattle.rq_model.specs.declared.record.Record.TheVariants as records
 use Rattle.rq_model.specs.Content.{has_end}
+use Rattle.rq_model.proofs.Lists.{or_swap}
 use Rattle.rq_page.specs.Sizes.{Sizes}
 use Rattle.rq_views.specs.Log.{same_op}
 use Rattle.rq_views.specs.Items.{item_of, items, operation}
@@ -70,11 +71,7 @@ within_greatest t n log h =
 -- lists of operations
 behind : (o u : Sub) (os : List Sub) → has_sub o (os ++ u ∷ []) ≡ (same_op u o || has_sub o os)
 behind o u [] = refl
-behind o u (x ∷ os) = ap (λ b. same_op x o || b) (behind o u os) ∙ swapped (same_op x o) (same_op u o) (has_sub o os) where
-  swapped : (a b c : Bool) → (a || (b || c)) ≡ (b || (a || c))
-  swapped true true c = refl
-  swapped true false c = refl
-  swapped false b c = refl
+behind o u (x ∷ os) = ap (λ b. same_op x o || b) (behind o u os) ∙ or_swap (same_op x o) (same_op u o) (has_sub o os)
 
 with_one : (o u : Sub) (os : List Sub) → has_sub o (with_sub u os) ≡ (same_op u o || has_sub o os)
 with_one o u os = elim (cases_Bool (has_sub u os)) [
@@ -96,13 +93,10 @@ without_one o u (x ∷ os) = elim (cases_Bool (same_op u x)) [
     | inr off ↦ (let other : same_op x o ≡ false = ap (λ (v : Sub). same_op v o) (sym (op_is u x y)) ∙ off in rw (off, other) refl)
   ])
   | inr n ↦ rw n (ap (λ b. same_op x o || b) (without_one o u os) ∙ elim (cases_Bool (same_op u o)) [
-    | inl own ↦ (let other : same_op x o ≡ false = not_that (same_op x o) (λ e. false≢true (sym n ∙ ap (same_op u) (op_is x o e) ∙ own)) in rw (own, other) refl)
+    | inl own ↦ (let other : same_op x o ≡ false = false_from_ne_true (same_op x o) (λ e. false≢true (sym n ∙ ap (same_op u) (op_is x o e) ∙ own)) in rw (own, other) refl)
     | inr off ↦ rw off refl
   ])
-] where
-  not_that : (b : Bool) → (b ≡ true → ⊥) → b ≡ false
-  not_that true f = absurd (f refl)
-  not_that false f = refl
+]
 
 same_begun : (u o : Sub) (log : List Record) → has_op u log ≡ true → (same_op u o || has_op o log) ≡ has_op o log
 same_begun u o log h = elim (cases_Bool (same_op u o)) [

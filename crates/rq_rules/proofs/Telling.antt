@@ -1,6 +1,6 @@
 -- What is named by a log whose records follow the rules.
-use Rattle.std.proofs.Common.{◌≡◌, ℕ, ◌+◌, ◌<◌, ◌≤◌, Bool, true, false, not, ◌||◌, ◌&&◌, max, nat_eq, List, [], ◌∷◌, length, Some, inl, inr, refl, sym, ◌∙◌, ap, subst, arith, ◌⊎◌}
-use Rattle.std.proofs.lemmas.Bool.{and_from, cases_Bool, cases_lt, eq-eqb, eqb-true, false≢true, true≢false, ne_eqb, or_left, or_parts, or_right}
+use Rattle.std.proofs.Common.{◌≡◌, ℕ, ◌+◌, ◌<◌, ◌≤◌, true, false, ◌||◌, ◌&&◌, max, nat_eq, List, [], ◌∷◌, length, Some, inl, inr, refl, sym, ◌∙◌, ap, subst, arith, ◌⊎◌}
+use Rattle.std.proofs.lemmas.Bool.{and_from, cases_Bool, cases_lt, eq-eqb, eqb-true, true≢false, ne_eqb, or_left, or_parts, or_right, not-true}
 use Rattle.rq_model.specs.declared.txn.Txn.{Txn}
 use Rattle.rq_model.specs.declared.txn.Sub.{Sub}
 use Rattle.rq_model.specs.declared.record.Record.{Record}
@@ -62,11 +62,7 @@ named_there : (log : List Record) (t : Txn) (n lsn page slot : ℕ) (after : Lis
 named_there log t n lsn page slot after e =
     let p = spot_at lsn (operation t n) page slot after in
     let i = In-filter (written.stands (operation t n) log) (writes_of (operation t n) log) p (first_in (standing (operation t n) log) p e) in
-    (write_there (operation t n) log p i.0, not_not (any_record (undoes (operation t n) lsn) log) i.1)
-  where
-    not_not : (b : Bool) → not b ≡ true → b ≡ false
-    not_not true k = absurd (false≢true k)
-    not_not false k = refl
+    (write_there (operation t n) log p i.0, not-true (any_record (undoes (operation t n) lsn) log) i.1)
 
 same_writer : (t u : Txn) (n m p q s r : ℕ) (a b x y : List ℕ) → Some (records.PageOp t n p s a x) ≡ Some (records.PageOp u m q r b y) → operation t n ≡ operation u m
 same_writer t u n m p q s r a b x y e = let k : t ≡ u = cc in let l : n ≡ m = cc in λ i. record { txn = k i; number = l i }
@@ -163,11 +159,7 @@ end_there t (records.Restart j ∷ log) lsn i = older_end t (records.Restart j) 
 end_named : (log : List Record) (t : Txn) (lsn : ℕ) → first (left_of t log) ≡ Some lsn → EndsThere log t lsn × (any_record (takes_back t lsn) log ≡ false)
 end_named log t lsn e =
     let i = In-filter (owed.is_left t log) (ends_of t log) lsn (first_in (left_of t log) lsn e) in
-    (end_there t log lsn i.0, not_not (any_record (takes_back t lsn) log) i.1)
-  where
-    not_not : (b : Bool) → not b ≡ true → b ≡ false
-    not_not true k = absurd (false≢true k)
-    not_not false k = refl
+    (end_there t log lsn i.0, not-true (any_record (takes_back t lsn) log) i.1)
 
 same_ender : (t u : Txn) (n m i j : ℕ) (a b : List ℕ) → Some (records.OpEnd t n i a) ≡ Some (records.OpEnd u m j b) → t ≡ u
 same_ender t u n m i j a b e = cc

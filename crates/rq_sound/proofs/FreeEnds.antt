@@ -1,6 +1,7 @@
 -- An end is free by the ledger where it is by the ends that are held.
-use Rattle.std.proofs.Common.{◌≡◌, ◌≢◌, ℕ, ◌&&◌, ◌||◌, List, [], ◌∷◌, refl, sym, ◌∙◌, ap, Bool, true, false, not, Option, Some, None, inl, inr}
+use Rattle.std.proofs.Common.{◌≡◌, ◌≢◌, ℕ, ◌&&◌, ◌||◌, List, [], ◌∷◌, refl, sym, ◌∙◌, ap, true, false, not, Option, Some, None, inl, inr}
 use Rattle.std.proofs.lemmas.Bool.{cases_Bool, false≢true, false_from_ne_true, and_from, or_left, or_right}
+use Rattle.std.proofs.Math.Bool.{and-false}
 use Rattle.rq_model.specs.declared.txn.Txn.{Txn}
 use Rattle.rq_model.specs.Words.{In, is_some, same_txn, has_number}
 use Rattle.rq_model.specs.Ledger.{Open}
@@ -36,11 +37,8 @@ module _ (ends : HeldEnds) (hs : List Held) (side : Open → List ℕ) (is : (r 
         let a : same_txn q.txn t ≡ false = false_from_ne_true (same_txn q.txn t) (λ y. n (ap (λ (x : Row). x.txn) w ∙ same_is q.txn t y)) in
         let b : has_number e (side (open_of ends q)) ≡ true = ap (has_number e) (is q) ∙ sym (has_is_number q.txn e hs) ∙ ap (λ (x : Row). has_held x.txn e hs) (sym w) ∙ h in
         rw (a, b) refl
-    | inr j ↦ ap (λ b. (same_txn q.txn t || not (has_number e (side (open_of ends q)))) && b) (taken_row t e rows r j n h) ∙ never (same_txn q.txn t || not (has_number e (side (open_of ends q))))
-  ] where
-    never : (b : Bool) → (b && false) ≡ false
-    never true = refl
-    never false = refl
+    | inr j ↦ ap (λ b. (same_txn q.txn t || not (has_number e (side (open_of ends q)))) && b) (taken_row t e rows r j n h) ∙ and-false (same_txn q.txn t || not (has_number e (side (open_of ends q))))
+  ]
 
   free_side : (rows : List Row) → AreEnds rows hs → (t : Txn) (e : ℕ) → free_of side t e (open_ones_of ends rows) ≡ is_free_for t e hs
   free_side rows a t e = elim (cases_Bool (is_free_for t e hs)) [

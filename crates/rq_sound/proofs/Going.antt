@@ -1,7 +1,7 @@
 -- Several operations under way, each with its own latched pages: what is so of one stays so while another makes a write
 -- or ends.
 use Rattle.std.proofs.Common.{◌≡◌, ◌≢◌, ℕ, ◌+◌, ◌/◌, ◌%◌, ◌<◌, ◌==◌, ◌&&◌, ◌||◌, ◌++◌, ◌⊎◌, List, [], ◌∷◌, length, map, take, drop, reverse, refl, sym, ◌∙◌, ap, subst, zero, suc, Bool, true, false, not, Some, inl, inr, nat_eq, cond, if◌then◌else◌, arith}
-use Rattle.std.proofs.lemmas.Bool.{false≢true, true≢false, cases_Bool, or_from, or_parts, eqb-true, eq-eqb, cond-false}
+use Rattle.std.proofs.lemmas.Bool.{false≢true, true≢false, cases_Bool, or_from, or_parts, eqb-true, eq-eqb, cond-false, or_right, and_right}
 use Rattle.std.proofs.lemmas.List.{reverse-append}
 use Rattle.std.specs.List.{slice_get}
 use Rattle.std.proofs.Math.Bool.{and-false}
@@ -149,10 +149,7 @@ with_ends z log ends after t u held g = record { made = g.made; going = g.going;
 pub page_latched : (us : List SlotWrite) (k : ℕ) (w : SlotWrite) → slice_get us k ≡ Some w → has_page (w.at / 16) (map (λ x. x.at / 16) us) ≡ true
 page_latched [] k w e = cc
 page_latched (x ∷ us) zero w e = let same : x ≡ w = cc in ap (λ b. b || has_page (w.at / 16) (map (λ y. y.at / 16) us)) (eq-eqb (x.at / 16) (w.at / 16) (ap (λ (y : SlotWrite). y.at / 16) same))
-page_latched (x ∷ us) (suc k) w e = or_true (nat_eq (x.at / 16) (w.at / 16)) (has_page (w.at / 16) (map (λ y. y.at / 16) us)) (page_latched us k w e) where
-  or_true : (a b : Bool) → b ≡ true → (a || b) ≡ true
-  or_true true b e = refl
-  or_true false b e = e
+page_latched (x ∷ us) (suc k) w e = or_right (nat_eq (x.at / 16) (w.at / 16)) (has_page (w.at / 16) (map (λ y. y.at / 16) us)) (page_latched us k w e)
 
 -- no planned write is on a page that is not latched
 pub off_latched : (z : Sizes) (a : ℕ) (us : List SlotWrite) (ws : List Write) → has_page (a / 16) (map (λ w. w.at / 16) us) ≡ false → Untouched a ws → Untouched a (onto (writes_of z us) ws)
@@ -208,7 +205,7 @@ module _ (z : Sizes) (log : List Record) (ends : HeldEnds) (t : Txn) (u : Under)
     going = g.going;
     forward = g.forward;
     uncrossed = λ p on. rw (same_op_self own) (or_from _ _ (own_never (began own (items z log)) (wr.at / 16 == p)) (g.uncrossed p on));
-    stands = λ p none. or_from _ _ (and_last (same_op own own) (wr.at / 16 == p) (elim (cases_Bool (wr.at / 16 == p)) [
+    stands = λ p none. or_from _ _ (and_right (same_op own own) (wr.at / 16 == p) (elim (cases_Bool (wr.at / 16 == p)) [
       | inl y ↦ absurd (true≢false (sym on_latched ∙ ap (latched_by u) (eqb-true (wr.at / 16) p y) ∙ none))
       | inr k ↦ k
     ])) (g.stands p none);
@@ -219,10 +216,7 @@ module _ (z : Sizes) (log : List Record) (ends : HeldEnds) (t : Txn) (u : Under)
     held = g.held;
     sender = g.sender;
     reads = g.reads;
-  } where
-    and_last : (a b : Bool) → b ≡ false → (a && b) ≡ false
-    and_last true b e = e
-    and_last false b e = refl
+  }
 
 -- An operation starts whose latched pages are nobody else's: its plan fits the slots as they are.
 pub starts : (z : Sizes) (log : List Record) (ends : HeldEnds) (t : Txn) (u : Under) → IsLegalLog (layout_of z) (items z log) → began (operation t u.number) (items z log) ≡ false → u.made ≡ 0

@@ -6,6 +6,7 @@ use Rattle.std.proofs.lemmas.Bool.{cases_Bool, eqb-true, false≢true, false_fro
 use Rattle.std.proofs.lemmas.List.{append-nil, reverse-append, take-append-drop, map-append, drop-map, take-map}
 use Rattle.std.proofs.lemmas.List.Elements.{filter_map-append}
 use Rattle.std.proofs.lemmas.Option.{same_Some}
+use Rattle.std.proofs.Math.Bool.{and-false}
 use Rattle.rq_model.specs.declared.message.Message.{Message}
 use Rattle.rq_model.specs.declared.record.Deed.{Deed}
 use Rattle.rq_model.specs.declared.record.Deed.TheVariants.{Append, UnlinkHead, Close}
@@ -191,11 +192,8 @@ none_held : (g : ℕ) (hs : List Held) (t : Txn) → holder_of g hs ≡ None →
 none_held g [] t e = refl
 none_held g (h ∷ hs) t e = elim (cases_Bool (nat_eq h.sender g)) [
   | inl y ↦ (let bad : Some h.txn ≡ None = rw y at e in cc)
-  | inr n ↦ or_from _ _ (ap (λ b. same_txn h.txn t && b) n ∙ never (same_txn h.txn t)) (none_held g hs t (rw n at e))
-] where
-  never : (b : Bool) → (b && false) ≡ false
-  never true = refl
-  never false = refl
+  | inr n ↦ or_from _ _ (ap (λ b. same_txn h.txn t && b) n ∙ and-false (same_txn h.txn t)) (none_held g hs t (rw n at e))
+]
 
 found_holder : (g : ℕ) (hs : List Held) → ((t u : Txn) → has_held t g hs ≡ true → has_held u g hs ≡ true → t ≡ u) → (t : Txn) → has_held t g hs ≡ true → holder_of g hs ≡ Some t
 found_holder g hs one t h = at (holder_of g hs) refl where

@@ -1,6 +1,7 @@
 -- Which of some slots are on latched pages, and which of some writes; and a search below a number.
-use Rattle.std.proofs.Common.{◌≡◌, ◌||◌, ℕ, zero, suc, ◌/◌, ◌<◌, ◌++◌, ◌⊎◌, List, [], ◌∷◌, refl, ◌∙◌, ap, subst, Bool, true, false, nat_eq, Option, Some, None, inl, inr, arith}
+use Rattle.std.proofs.Common.{◌≡◌, ◌||◌, ℕ, zero, suc, ◌/◌, ◌<◌, ◌++◌, ◌⊎◌, List, [], ◌∷◌, refl, sym, ◌∙◌, ap, subst, Bool, true, false, nat_eq, Option, Some, None, inl, inr, arith}
 use Rattle.std.proofs.lemmas.Bool.{cases_Bool, cases_eq, eq-eqb, eqb-true, false_from_ne_true, or_from, or_parts}
+use Rattle.std.proofs.Math.Bool.{or_assoc}
 use Rattle.rq_page.specs.declared.cell.Cell.{Cell}
 use Rattle.rq_page.specs.Sizes.{Sizes, IsCellAddress}
 use Rattle.rq_views.specs.InStore.{IsInPlace, WritesStand}
@@ -39,10 +40,7 @@ named_off rows a h = elim (cases_eq a 0) [
 
 pub any_append : (rows : List Row) (xs ys : List ℕ) → any_latched rows (xs ++ ys) ≡ (any_latched rows xs || any_latched rows ys)
 any_append rows [] ys = refl
-any_append rows (x ∷ xs) ys = ap (λ b. latched_in rows (x / 16) || b) (any_append rows xs ys) ∙ turn (latched_in rows (x / 16)) (any_latched rows xs) (any_latched rows ys) where
-  turn : (a b c : Bool) → (a || (b || c)) ≡ ((a || b) || c)
-  turn true b c = refl
-  turn false b c = refl
+any_append rows (x ∷ xs) ys = ap (λ b. latched_in rows (x / 16) || b) (any_append rows xs ys) ∙ sym (or_assoc (latched_in rows (x / 16)) (any_latched rows xs) (any_latched rows ys))
 
 pub any_parts : (rows : List Row) (xs ys : List ℕ) → any_latched rows (xs ++ ys) ≡ false → (any_latched rows xs ≡ false) × (any_latched rows ys ≡ false)
 any_parts rows [] ys h = (refl, h)

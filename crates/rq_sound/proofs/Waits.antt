@@ -1,6 +1,7 @@
 -- Which groups give a transaction a message.
 use Rattle.std.proofs.Common.{◌≡◌, ◌≢◌, ℕ, zero, suc, ◌+◌, ◌<◌, ◌&&◌, ◌||◌, ◌++◌, List, [], ◌∷◌, length, refl, sym, ◌∙◌, ap, Bool, true, false, nat_lt, nat_eq, Option, Some, inl, inr, arith}
 use Rattle.std.proofs.lemmas.Bool.{cases_Bool, true≢false, false_from_ne_true, or_from, or_left, or_right, eq-eqb, eqb-true, lt-ltb, ltb-true, and_from}
+use Rattle.std.proofs.Math.Bool.{or_assoc, and-false}
 use Rattle.rq_model.specs.Ledger.{Open, found, rest_in}
 use Rattle.rq_model.specs.Commits.{committed_of}
 use Rattle.rq_model.specs.Tests.{any_gives, below, gives, holds_for}
@@ -52,23 +53,16 @@ module _ (s : State) (k : IsSound s) (r : Row) (at_row : found_row r.txn s.rows 
   no_more : (n : ℕ) → n ≡ 0 → nat_lt 0 n ≡ false
   no_more n e = false_from_ne_true (nat_lt 0 n) (λ y. let l : 0 < n = ltb-true 0 n y in omega (arith, l, e))
 
-  never : (b : Bool) → (b && false) ≡ false
-  never true = refl
-  never false = refl
-
   -- and none where none waits
   pub gives_none : (g : ℕ) → g < sender_count s.sizes → (is_free_for r.txn g s.ends.receiving ≡ true → waits s.waiting g ≡ 0) → given g ≡ false
   gives_none g below none = gives_is g below ∙ elim (cases_Bool (is_free_for r.txn g s.ends.receiving)) [
-    | inl y ↦ ap (λ b. is_free_for r.txn g s.ends.receiving && b) (no_more (waits s.waiting g) (none y)) ∙ never (is_free_for r.txn g s.ends.receiving)
+    | inl y ↦ ap (λ b. is_free_for r.txn g s.ends.receiving && b) (no_more (waits s.waiting g) (none y)) ∙ and-false (is_free_for r.txn g s.ends.receiving)
     | inr n ↦ rw n refl
   ]
 
   any_append : (xs ys : List ℕ) → any_given (xs ++ ys) ≡ (any_given xs || any_given ys)
   any_append [] ys = refl
-  any_append (x ∷ xs) ys = ap (λ b. given x || b) (any_append xs ys) ∙ or_after (given x) (any_given xs) (any_given ys) where
-    or_after : (a b c : Bool) → (a || (b || c)) ≡ ((a || b) || c)
-    or_after true b c = refl
-    or_after false b c = refl
+  any_append (x ∷ xs) ys = ap (λ b. given x || b) (any_append xs ys) ∙ sym (or_assoc (given x) (any_given xs) (any_given ys))
 
   some_below : (n g : ℕ) → g < n → given g ≡ true → any_given (below n) ≡ true
   some_below zero g m h = absurd (omega (arith, m))

@@ -1,6 +1,6 @@
 -- Who holds an end: once it is taken, while it is free, and when a transaction lets go of its own.
-use Rattle.std.proofs.Common.{◌≡◌, ◌≢◌, ℕ, ◌&&◌, ◌||◌, List, [], ◌∷◌, refl, sym, ◌∙◌, ap, true, false, not, inl, inr, nat_eq, Bool}
-use Rattle.std.proofs.lemmas.Bool.{cases_Bool, false≢true, true≢false, or_left, or_right, or_cases, and_parts, eq-eqb, and_from, or_parts}
+use Rattle.std.proofs.Common.{◌≡◌, ◌≢◌, ℕ, ◌&&◌, ◌||◌, List, [], ◌∷◌, refl, sym, ◌∙◌, ap, true, false, not, inl, inr, nat_eq}
+use Rattle.std.proofs.lemmas.Bool.{cases_Bool, false≢true, true≢false, or_left, or_right, or_cases, and_parts, eq-eqb, and_from, or_parts, not-false}
 use Rattle.rq_model.specs.declared.txn.Txn.{Txn}
 use Rattle.rq_model.specs.declared.record.Deed.{Deed}
 use Rattle.rq_model.specs.declared.record.Deed.TheVariants.{Append, UnlinkHead, Close}
@@ -39,12 +39,9 @@ holder t e (x ∷ hs) h = elim (cases_Bool (same_txn x.txn t || not (nat_eq x.se
   | inl y ↦ let g = holder t e hs (rw y at h) in (g.0, g.1, or_right (same_txn x.txn g.0 && nat_eq x.sender e) (has_held g.0 e hs) g.2)
   | inr n ↦
       let p = or_parts (same_txn x.txn t) (not (nat_eq x.sender e)) n in
-      let q : nat_eq x.sender e ≡ true = not_not (nat_eq x.sender e) p.1 in
+      let q : nat_eq x.sender e ≡ true = not-false (nat_eq x.sender e) p.1 in
       (x.txn, not_same x.txn t p.0, or_left (same_txn x.txn x.txn && nat_eq x.sender e) (has_held x.txn e hs) (and_from _ _ (same_self x.txn) q))
-] where
-  not_not : (b : Bool) → not b ≡ false → b ≡ true
-  not_not true e = refl
-  not_not false e = absurd (true≢false e)
+]
 
 -- who holds no end has none
 pub none_held : (t : Txn) (hs : List Held) → ((s : ℕ) → has_held t s hs ≡ false) → held_by t hs ≡ []

@@ -5,6 +5,7 @@ use Rattle.std.specs.Prelude.{slice_index_or}
 use Rattle.std.proofs.lemmas.Bool.{cases_Bool, true≢false, false≢true, or_parts, or_from, and_parts, and_left, and_right, eqb-true, not-false, cases_eq}
 use Rattle.std.proofs.lemmas.List.{length-append, length-map, map-append}
 use Rattle.std.proofs.lemmas.List.Sums.{length-filter, count_by-le-length}
+use Rattle.std.proofs.Math.Bool.{or-false, or_assoc}
 use Rattle.rq_model.specs.declared.txn.Txn.{Txn}
 use Rattle.rq_model.specs.declared.txn.Sub.{Sub}
 use Rattle.rq_model.specs.declared.record.Record.{Record}
@@ -70,15 +71,9 @@ over_same z t n (r ∷ log) =
 
 -- one more pair hides none
 pair_behind : (t : Txn) (n : ℕ) (ps : List (Txn × ℕ)) (p : Txn × ℕ) → has_pair t n (ps ++ p ∷ []) ≡ (has_pair t n ps || (same_txn p.0 t && nat_eq p.1 n))
-pair_behind t n [] p = or_end (same_txn p.0 t && nat_eq p.1 n) where
-  or_end : (b : Bool) → (b || false) ≡ b
-  or_end true = refl
-  or_end false = refl
+pair_behind t n [] p = or-false (same_txn p.0 t && nat_eq p.1 n)
 pair_behind t n (q ∷ ps) p =
-    ap (λ b. (same_txn q.0 t && nat_eq q.1 n) || b) (pair_behind t n ps p) ∙ or_both (same_txn q.0 t && nat_eq q.1 n) (has_pair t n ps) (same_txn p.0 t && nat_eq p.1 n) where
-      or_both : (a b c : Bool) → (a || (b || c)) ≡ ((a || b) || c)
-      or_both true b c = refl
-      or_both false b c = refl
+    ap (λ b. (same_txn q.0 t && nat_eq q.1 n) || b) (pair_behind t n ps p) ∙ sym (or_assoc (same_txn q.0 t && nat_eq q.1 n) (has_pair t n ps) (same_txn p.0 t && nat_eq p.1 n))
 
 -- a pair that is none of the list is none of what was there, and is not the one that was added
 pair_added : (t : Txn) (n : ℕ) (u : Txn) (m : ℕ) (ps : List (Txn × ℕ)) → has_pair t n (add_pair (Some (u, m)) ps) ≡ false → (has_pair t n ps ≡ false) × ((same_txn u t && nat_eq m n) ≡ false)

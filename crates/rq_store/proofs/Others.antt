@@ -1,6 +1,7 @@
 -- What a record of one transaction leaves of the rows of the others.
-use Rattle.std.proofs.Common.{◌≡◌, ◌≢◌, ℕ, ◌≤◌, ◌==◌, ◌&&◌, max, cond, refl, sym, ◌∙◌, ap, Bool, true, false, Option, Some, None, inl, inr, arith}
+use Rattle.std.proofs.Common.{◌≡◌, ◌≢◌, ℕ, ◌≤◌, ◌==◌, max, cond, refl, sym, ◌∙◌, ap, true, false, Option, Some, None, inl, inr, arith}
 use Rattle.std.proofs.lemmas.Bool.{cases_Bool, eqb-true}
+use Rattle.std.proofs.Math.Bool.{and-false}
 use Rattle.rq_model.specs.declared.txn.Txn.{Txn}
 use Rattle.rq_model.proofs.Lists.{same_self}
 use Rattle.rq_model.specs.Words.{same_txn, is_some}
@@ -20,11 +21,8 @@ other_op t u n m e = rw e refl
 pub other_number : (t u : Txn) (n m : ℕ) → n ≢ m → same_op (operation t n) (operation u m) ≡ false
 other_number t u n m e = elim (cases_Bool (n == m)) [
   | inl y ↦ absurd (e (eqb-true n m y))
-  | inr k ↦ rw k (and_never (same_txn t u))
-] where
-  and_never : (b : Bool) → (b && false) ≡ false
-  and_never true = refl
-  and_never false = refl
+  | inr k ↦ rw k (and-false (same_txn t u))
+]
 
 -- the greatest number of a transaction after a record of another's operation
 pub other_greatest : (t u : Txn) (n most : ℕ) → same_txn t u ≡ false → max (cond (same_txn t u) n 0) most ≡ most
