@@ -1,14 +1,10 @@
 -- What the calls of an abort answer, from what their bodies found and made.
 use Rattle.std.proofs.Common.{◌≡◌, ℕ, ◌+◌, ◌-◌, ◌<◌, ◌&&◌, ◌||◌, ◌++◌, List, [], ◌∷◌, length, refl, sym, ◌∙◌, ap, subst, Bool, true, false, not, Option, Some, None, IfSome, option_map, arith, inl, inr}
-use Rattle.std.specs.List.{sum_by}
-use Rattle.std.proofs.lemmas.Bool.{cases_Bool, eq-eqb, false≢true, or_right}
+use Rattle.std.proofs.lemmas.Bool.{cases_Bool, false≢true, or_right}
 use Rattle.std.proofs.lemmas.Option.{same_Some}
-use Rattle.std.proofs.lemmas.List.{length-append}
-use Rattle.std.proofs.lemmas.List.Sums.{sum_by_push}
 use Rattle.rq_model.specs.declared.txn.Txn.{Txn}
 use Rattle.rq_model.specs.declared.txn.Sub.{Sub}
 use Rattle.rq_model.specs.declared.record.Deed.{Deed}
-use Rattle.rq_model.specs.declared.record.Deed.TheVariants.{Append, UnlinkHead, Close}
 use Rattle.rq_model.specs.declared.record.Record.{Record}
 use Rattle.rq_model.specs.declared.record.Record.TheVariants.{AbortEnd}
 use Rattle.rq_model.specs.declared.refusal.Refusal.TheVariants as why
@@ -19,37 +15,27 @@ use Rattle.rq_model.specs.Tests.{IsUnready, NoneHolds, Passes, has_done, is_abor
 use Rattle.rq_model.specs.Replay.Reply.{Gave_aborted, Gave_aborting, Gave_nothing_left, Gave_sub, Gave_undone}
 use Rattle.rq_model.specs.Words.{In, first, front, is_some, last, last_or, same_txn}
 use Rattle.rq_model.proofs.Lists.{same_is}
-use Rattle.rq_page.specs.Sizes.{cell_count}
-use Rattle.rq_views.specs.Chain.{View}
-use Rattle.rq_views.specs.Claims.{appends_of, takes_of}
-use Rattle.rq_views.specs.Log.{Slots}
-use Rattle.rq_views.proofs.CanUndo.{can_undo_sent, can_undo_taken}
-use Rattle.rq_views.specs.Items.{items}
-use Rattle.rq_views.specs.Legal.{open_deeds, view}
+use Rattle.rq_views.specs.Claims.{appends_of}
 use Rattle.rq_views.specs.Plans.{deed_sender}
-use Rattle.rq_views.specs.Stored.{slots_in, count_used}
+use Rattle.rq_views.specs.Stored.{slots_in}
 use Rattle.rq_txn.specs.declared.Aim.TheVariants.{Undoing}
 use Rattle.rq_txn.specs.declared.Finished.{Finished}
 use Rattle.rq_txn.specs.Rows.{AreDistinct, Row, Under, change_row, found_row, row_aborting, row_started, row_taken_back, row_undone, without_row}
 use Rattle.rq_txn.proofs.Finding.{change_none}
 use Rattle.rq_groups.specs.Ends.{HeldEnds, released}
 use Rattle.rq_store.specs.State.{State, job_under, ledger_of, op_done, open_of, phase_of, size_of}
-use Rattle.rq_store.specs.Rows.{placed}
-use Rattle.rq_store.specs.Settled.{takes_one}
-use Rattle.rq_store.proofs.Grouping.{groups_of}
 use Rattle.rq_store.proofs.RowLists.{found_in}
 use Rattle.rq_planner.specs.Answered.{IsNewestDeed}
-use Rattle.rq_sound.specs.Counted.{appends_aim, takes_all}
+use Rattle.rq_sound.specs.Counted.{appends_aim}
 use Rattle.rq_sound.specs.Plans.{AreUnlatched}
 use Rattle.rq_sound.specs.Rows.{comp_end}
 use Rattle.rq_sound.specs.Sound.{IsSound}
 use Rattle.rq_sound.specs.Steps.{Steps}
 use Rattle.rq_sound.proofs.AbortSteps.{abort_steps}
-use Rattle.rq_sound.proofs.FreeCells.{open_is, room_to_put_back}
-use Rattle.rq_sound.proofs.Groups.{slots_are}
 use Rattle.rq_sound.proofs.Planned.{plans_start}
 use Rattle.rq_sound.proofs.Refusals.{tests_read}
-use Rattle.rq_sound.specs.Inverses.{HasFree, MayBeUndone}
+use Rattle.rq_sound.specs.Inverses.{MayBeUndone}
+use Rattle.rq_sound.proofs.Inverses.{may_be_undone as newest_may}
 use Rattle.rq_engine.specs.Aborts.{IsTurnedBack, IsUndoPlan, UndoIsLatched}
 use Rattle.rq_engine.specs.Answers.{HasNothingUnderWay, IsUnderWay, Refuses}
 use Rattle.rq_engine.specs.Moves.{with_taken}
@@ -215,31 +201,7 @@ module _ (s : State) (t : Txn) (n : ℕ) (f : Finished) (h : NoneHolds (ready_te
 
   -- what it needs is there
   pub may_be_undone : IsSound s → MayBeUndone s f.deed
-  may_be_undone k = at f.deed refl where
-    r : (r : Row) × (found_row t s.rows ≡ Some r) × ((r.under ≡ None) × (n ≡ r.number + 1) × (r.aborting ≡ true) × (last r.finished ≡ Some f))
-    r = turned_row s t n (Some f) back
-
-    here : (d : Deed) → f.deed ≡ d → open_deeds r.0.txn (items s.sizes s.records) ≡ record { lsn = f.lsn; deed = d } ∷ placed (front r.0.finished)
-    here d e = open_is s.sizes s.records s.ends s.rows s.incarnation s.begins s.cells_in_use s.waiting k.standing k.counted k.log r.0 (found_in t s.rows r.0 r.1).0 r.2.0 (front r.0.finished) f (last_some r.0.finished f r.2.3)
-        ∙ ap (λ (x : Deed). record { lsn = f.lsn; deed = x } ∷ placed (front r.0.finished)) e
-
-    -- a message that was taken has its cell
-    free : 0 < takes_of f.deed → HasFree s
-    free takes =
-        let a : takes_all r.0 ≡ sum_by takes_one (front r.0.finished) + takes_of f.deed = ap (sum_by takes_one) (last_some r.0.finished f r.2.3) ∙ sum_by_push takes_one (front r.0.finished) f in
-        subst (λ (q : Slots). count_used s.sizes q < cell_count s.sizes) (sym (slots_are s k))
-        (room_to_put_back s.sizes s.records s.ends s.rows s.incarnation s.begins s.cells_in_use s.waiting k.standing k.counted r.0 (found_in t s.rows r.0 r.1).0 r.2.0 (omega (arith, a, takes)))
-
-    at : (d : Deed) → f.deed ≡ d → MayBeUndone s d
-    at (Append g m tag previous body) e =
-        let x = can_undo_sent g (items s.sizes s.records) r.0.txn (record { lsn = f.lsn; deed = Append g m tag previous body }) (placed (front r.0.finished)) (groups_of s.sizes s.records k.log) (here (Append g m tag previous body) e) (eq-eqb g g refl) in
-        let more : length (view (items s.sizes s.records) g).messages ≡ length (x.0.messages ++ (tag, body) ∷ []) = ap (λ (v : View). length v.messages) x.1 in
-        let j = length-append x.0.messages ((tag, body) ∷ []) in
-        omega (arith, more, j)
-    at (UnlinkHead g m tag body) e =
-        let x = can_undo_taken g (items s.sizes s.records) r.0.txn f.lsn g m tag body (placed (front r.0.finished)) (groups_of s.sizes s.records k.log) (here (UnlinkHead g m tag body) e) (eq-eqb g g refl) in
-        (x.1, free (let one : takes_of f.deed ≡ 1 = ap takes_of e in omega (arith, one)))
-    at (Close g) e = tt
+  may_be_undone k = newest_may s is_newest.row is_newest.older (record { lsn = is_newest.lsn; deed = f.deed }) k is_newest.idle is_newest.last
 
   -- an inverse that meets a latched page
   pub undo_refused : (IsSound s → MayBeUndone s f.deed) → log_full (ledger_of s) (undo_cost (Some (op_done f))) ≡ false → UndoIsLatched s f.deed → Refuses s (Undo_next t) why.Latched

@@ -14,7 +14,6 @@ use Rattle.rq_page.specs.Sizes.{Sizes, directory_at, sender_count}
 use Rattle.rq_views.specs.InStore.{InStore}
 use Rattle.rq_views.specs.Chain.{View}
 use Rattle.rq_views.specs.Items.{ReadsItsDeeds, items, told_deed}
-use Rattle.rq_views.specs.Legal.{open_deeds}
 use Rattle.rq_views.specs.Log.{Slots}
 use Rattle.rq_views.specs.Stored.{slots_in}
 use Rattle.rq_views.specs.Plans.{deed_sender}
@@ -27,21 +26,20 @@ use Rattle.rq_store.specs.State.{State}
 use Rattle.rq_store.proofs.Grouping.{groups_of}
 use Rattle.rq_store.specs.Whole.{IsWhole}
 use Rattle.rq_store.proofs.Others.{none_of}
-use Rattle.rq_store.proofs.RowLists.{found_in, none_under}
+use Rattle.rq_store.proofs.RowLists.{none_under}
 use Rattle.rq_sound.specs.Sound.{IsSound}
 use Rattle.rq_sound.specs.Calls.{IsIdle}
 use Rattle.rq_sound.specs.Groups.{TellsGroup, slots_now}
-use Rattle.rq_sound.proofs.FreeCells.{open_is}
 use Rattle.rq_sound.proofs.Groups.{none_latched, slots_tell}
 use Rattle.rq_sound.proofs.Planned.{sent_last}
 use Rattle.rq_sound.specs.Inverses.{StandsOn}
+use Rattle.rq_sound.proofs.Inverses.{may_be_undone, open_deed}
 use Rattle.rq_lost.specs.declared.dues.Due.{Due}
 use Rattle.rq_lost.specs.Choices.{least_free}
 use Rattle.rq_lost.specs.Dues.{but_newest, deed_due, due_of, dues, finished_due}
 use Rattle.rq_lost.specs.Moves.{newest_store}
 use Rattle.rq_lost.specs.Walk.{DuesCanBeUndone, IsBetween, ShowsUndone, StandsLast}
 use Rattle.rq_lost.proofs.Choosing.{chosen_back}
-use Rattle.rq_lost.proofs.Found.{may_be_undone}
 use Rattle.rq_lost.proofs.Logging.{come_sizes, come_sound}
 
 pub in_newest : (t : Txn) (ds : List Due) (d : Due) → In d (but_newest t ds) → In d ds
@@ -82,16 +80,12 @@ last_stands s r rest f k m idle newest below = at f.deed refl below where
   q : Slots
   q = slots_now s
 
-  here : (d : Deed) → f.deed ≡ d → open_deeds r.txn (items s.sizes s.records) ≡ record { lsn = f.lsn; deed = d } ∷ placed rest
-  here d e = open_is s.sizes s.records s.ends s.rows s.incarnation s.begins s.cells_in_use s.waiting k.standing k.counted k.log r (found_in r.txn s.rows r m.at_row).0 m.idle rest f newest
-      ∙ ap (λ (x : Deed). record { lsn = f.lsn; deed = x } ∷ placed rest) e
-
   at : (d : Deed) → f.deed ≡ d → deed_sender d < sender_count s.sizes → StandsLast q d
   at (Append g n tag previous body) e low =
       let shows = slots_tell.shows s g k low (slots_tell.none_latched s (directory_at g / 16) idle) in
       let d = shows.directory in
       let tells : TellsGroup s g d = slots_tell.tells s g d k low (slots_tell.none_latched s (directory_at g / 16) idle) shows.at in
-      let number = sent_last (items s.sizes s.records) r.txn f.lsn g n tag previous body (placed rest) (groups_of s.sizes s.records k.log) (here (Append g n tag previous body) e) in
+      let number = sent_last (items s.sizes s.records) r.txn f.lsn g n tag previous body (placed rest) (groups_of s.sizes s.records k.log) (open_deed s r rest f k m newest (Append g n tag previous body) e) in
       let received = tells.received in
       let sent = tells.sent in
       let is : d.sent ≡ n = (let a = number.0 in omega (arith, a, received, sent)) in
@@ -100,12 +94,12 @@ last_stands s r rest f k m idle newest below = at f.deed refl below where
   at (UnlinkHead g n tag body) e low =
       let shows = slots_tell.shows s g k low (slots_tell.none_latched s (directory_at g / 16) idle) in
       let tells : TellsGroup s g shows.directory = slots_tell.tells s g shows.directory k low (slots_tell.none_latched s (directory_at g / 16) idle) shows.at in
-      let x = can_undo_taken g (items s.sizes s.records) r.txn f.lsn g n tag body (placed rest) (groups_of s.sizes s.records k.log) (here (UnlinkHead g n tag body) e) (eq-eqb g g refl) in
+      let x = can_undo_taken g (items s.sizes s.records) r.txn f.lsn g n tag body (placed rest) (groups_of s.sizes s.records k.log) (open_deed s r rest f k m newest (UnlinkHead g n tag body) e) (eq-eqb g g refl) in
       record { directory = shows.directory; at = shows.at; last = sym tells.received ∙ x.0 }
   at (Close g) e low =
       let shows = slots_tell.shows s g k low (slots_tell.none_latched s (directory_at g / 16) idle) in
       let tells : TellsGroup s g shows.directory = slots_tell.tells s g shows.directory k low (slots_tell.none_latched s (directory_at g / 16) idle) shows.at in
-      let x = can_undo_sent g (items s.sizes s.records) r.txn (record { lsn = f.lsn; deed = Close g }) (placed rest) (groups_of s.sizes s.records k.log) (here (Close g) e) (eq-eqb g g refl) in
+      let x = can_undo_sent g (items s.sizes s.records) r.txn (record { lsn = f.lsn; deed = Close g }) (placed rest) (groups_of s.sizes s.records k.log) (open_deed s r rest f k m newest (Close g) e) (eq-eqb g g refl) in
       record { directory = shows.directory; at = shows.at; last = sym tells.closed ∙ ap (λ (v : View). v.closed) x.1 }
 
 pub due_may : (base : State) (images : List (List ℕ)) (log : List Record) (d : Due) (ds : List Due) → IsSound base → IsBetween base images log → least_free (dues log) (lost log) ≡ None → dues log ≡ d ∷ ds

@@ -10,7 +10,7 @@ use Rattle.rq_model.specs.History.Job.{Sending, Taking, Ending}
 use Rattle.rq_model.specs.Ledger.{Open, found}
 use Rattle.rq_model.specs.Legal.{OnFound}
 use Rattle.rq_model.specs.Tests.{Passes, any_gives, below, gives, is_busy, newest, starts}
-use Rattle.rq_model.specs.Words.{In, is_some, last, last_or}
+use Rattle.rq_model.specs.Words.{is_some, last, last_or}
 use Rattle.rq_page.specs.declared.cell.Cell.{Cell}
 use Rattle.rq_page.specs.declared.directory.Directory.{Directory}
 use Rattle.rq_page.specs.Sizes.{Sizes, IsCellAddress, cell_at, cell_count, directory_at, place_of, sender_count}
@@ -20,9 +20,9 @@ use Rattle.rq_page.proofs.Addresses.{cells_have_places, places_are_cells}
 use Rattle.rq_views.specs.Chain.{Shows, View, directory_appended}
 use Rattle.rq_views.specs.InStore.{AllStand, IsInPlace, WritesStand}
 use Rattle.rq_views.specs.Items.{items, layout_of}
-use Rattle.rq_views.specs.Legal.{open_deeds, view}
+use Rattle.rq_views.specs.Legal.{view}
 use Rattle.rq_views.specs.Log.{HasBefores, Places, Slots, Write, cells_of}
-use Rattle.rq_views.specs.Plans.{IsPutBack, IsUnlinkTail, ShowsAt, Turn, append_writes, deed_sender, directory_head_unlinked, directory_put_back, directory_tail_unlinked, directory_write, put_back_writes, unlink_head_writes, unlink_tail_writes, with_next, with_prev}
+use Rattle.rq_views.specs.Plans.{IsPutBack, IsUnlinkTail, ShowsAt, Turn, append_writes, directory_head_unlinked, directory_put_back, directory_tail_unlinked, directory_write, put_back_writes, unlink_head_writes, unlink_tail_writes, with_next, with_prev}
 use Rattle.rq_views.specs.Plans.Turn.{Did, Undid}
 use Rattle.rq_views.specs.Stored.{is_used}
 use Rattle.rq_views.proofs.CanUndo.{can_undo_taken}
@@ -44,7 +44,7 @@ use Rattle.rq_sound.specs.Groups.{StandsAt, slots_now}
 use Rattle.rq_sound.specs.Plans.{AreOff}
 use Rattle.rq_sound.specs.Latching.{AllFreeLatched, Begins, IsLatched, LatchedIsExact, MayBePlanned, NeedsLatched, any_latched, at_head, at_tail, before_tail, behind_head, completed, head_in, named, needed, next_in, prev_in, tail_in}
 use Rattle.rq_sound.proofs.ChainEnds.{empty_links, front_stands, head_stands, next_stands, tail_stands}
-use Rattle.rq_sound.proofs.FreeCells.{all_one, of_store, open_is}
+use Rattle.rq_sound.proofs.FreeCells.{all_one}
 use Rattle.rq_sound.proofs.Going.{unlatched_is_quiet}
 use Rattle.rq_sound.proofs.Groups.{all_stand, shows_now, tells_group}
 use Rattle.rq_sound.proofs.LatchLists.{any_append, any_join, any_parts, end_before, end_stands, link_off, named_off, off_named, relinked_parts, relinked_stand, some_below}
@@ -55,6 +55,7 @@ use Rattle.rq_sound.proofs.PlanFits.{above, is_put_back, is_unlink_tail, put_bac
 use Rattle.rq_sound.proofs.Planned.{sent_last}
 use Rattle.rq_sound.proofs.UsedCells.{free_from}
 use Rattle.rq_sound.proofs.Waits.{gives_is, none_gives}
+use Rattle.rq_sound.proofs.Inverses.{open_deed, deed_below}
 
 -- the last of what is finished
 last_push : (xs : List Finished) (x : Finished) → last (xs ++ x ∷ []) ≡ Some x
@@ -460,23 +461,14 @@ module _ (s : State) (k : IsSound s) where
 
   -- the inverse of a transaction's newest deed
   module _ (r : Row) (m : IsIdle s r) (fs : List Finished) (f : Finished) (newest_is : r.finished ≡ fs ++ f ∷ []) where
-    row : In r s.rows
-    row = (found_in r.txn s.rows r m.at_row).0
-
-    inside_of : (d : Deed) → f.deed ≡ d → deed_sender d < sender_count z
-    inside_of d e = subst (λ y. deed_sender y < sender_count z) e (of_store s.sizes s.records s.ends s.rows s.incarnation s.begins s.cells_in_use s.waiting k.standing k.counted k.log r row m.idle fs f newest_is)
-
-    open_deed : (d : Deed) → f.deed ≡ d → open_deeds r.txn (items s.sizes s.records) ≡ record { lsn = f.lsn; deed = d } ∷ placed fs
-    open_deed d e = open_is s.sizes s.records s.ends s.rows s.incarnation s.begins s.cells_in_use s.waiting k.standing k.counted k.log r row m.idle fs f newest_is ∙ ap (λ (y : Deed). record { lsn = f.lsn; deed = y } ∷ placed fs) e
-
     inverse_or : (d : Deed) → f.deed ≡ d → NeedsLatched s (Undid d) ⊎ MayBePlanned s (Undid d)
     inverse_or (Append g n tag previous body) e = elim (cases_Bool (any_latched s.rows (before_tail (completed s) g))) [
       | inl y ↦ inl (inl y)
       | inr none ↦
-          let inside = inside_of (Append g n tag previous body) e in
+          let inside = deed_below s r fs f k m newest_is (Append g n tag previous body) e in
           let front = (any_parts s.rows (at_tail (completed s) g) (named (prev_in (completed s (tail_in (completed s (directory_at g)))))) none).0 in
           let dir = first_off g (named (tail_in (completed s (directory_at g)))) front in
-          let last_one = sent_last (items s.sizes s.records) r.txn f.lsn g n tag previous body (placed fs) (groups_of s.sizes s.records k.log) (open_deed (Append g n tag previous body) e) in
+          let last_one = sent_last (items s.sizes s.records) r.txn f.lsn g n tag previous body (placed fs) (groups_of s.sizes s.records k.log) (open_deed s r fs f k m newest_is (Append g n tag previous body) e) in
           let number = last_one.0 in
           let some = last_one.1 in
           let t = tells_group s g (shown g inside dir).directory k inside dir (shown g inside dir).at in
@@ -488,9 +480,9 @@ module _ (s : State) (k : IsSound s) where
       | inl y ↦ inl (inl y)
       | inr none ↦ elim find_cell [
         | inl c ↦
-            let inside = inside_of (UnlinkHead g n tag body) e in
+            let inside = deed_below s r fs f k m newest_is (UnlinkHead g n tag body) e in
             let dir = first_off g (named (head_in (completed s (directory_at g)))) none in
-            let x = can_undo_taken g (items s.sizes s.records) r.txn f.lsn g n tag body (placed fs) (groups_of s.sizes s.records k.log) (open_deed (UnlinkHead g n tag body) e) (eq-eqb g g refl) in
+            let x = can_undo_taken g (items s.sizes s.records) r.txn f.lsn g n tag body (placed fs) (groups_of s.sizes s.records k.log) (open_deed s r fs f k m newest_is (UnlinkHead g n tag body) e) (eq-eqb g g refl) in
             let some : 0 < (viewed g).received = x.1 in
             let number : (viewed g).received ≡ n = x.0 in
             let received = (tells_group s g (shown g inside dir).directory k inside dir (shown g inside dir).at).received in
@@ -500,7 +492,7 @@ module _ (s : State) (k : IsSound s) where
     ]
     inverse_or (Close g) e = elim (cases_Bool (any_latched s.rows (directory_at g ∷ []))) [
       | inl y ↦ inl (inl y)
-      | inr n ↦ inr (may_reopen g (inside_of (Close g) e) (first_off g [] n))
+      | inr n ↦ inr (may_reopen g (deed_below s r fs f k m newest_is (Close g) e) (first_off g [] n))
     ]
 
   -- a transaction that passes the tests has a row

@@ -35,6 +35,7 @@ pub mod ChainEnds
 pub mod Flags
 pub mod Closing
 pub mod Groups
+pub mod Inverses
 pub mod PlanFits
 pub mod Planned
 pub mod Levels

@@ -45,11 +45,11 @@ use Rattle.rq_sound.specs.Calls.{IsIdle}
 use Rattle.rq_sound.specs.Groups.{slots_now}
 use Rattle.rq_sound.specs.Plans.{AreUnlatched, IsNew, IsPlannedFrom, PlansMayStart}
 use Rattle.rq_sound.proofs.Contracts.{answered}
-use Rattle.rq_sound.proofs.FreeCells.{of_store, open_is}
 use Rattle.rq_sound.proofs.FreeEnds.{free_is, free_to_take}
 use Rattle.rq_sound.proofs.Groups.{all_stand, shows_now, slots_are}
 use Rattle.rq_store.proofs.Opens.{found_open, open_found}
 use Rattle.rq_sound.proofs.PlanFits.{above, is_put_back, is_unlink_tail, put_back_fits, unlink_tail_fits, writes_directory}
+use Rattle.rq_sound.proofs.Inverses.{open_deed, deed_below}
 
 -- the newest send of a transaction is its group's last message, by its number
 pub sent_last : (log : List Item) (t : Txn) (lsn g n tag previous : ℕ) (body : List ℕ) (ps : List Placed) → KeepsGroups log → open_deeds t log ≡ record { lsn = lsn; deed = Append g n tag previous body } ∷ ps
@@ -115,23 +115,14 @@ module _ (s : State) (k : IsSound s) where
   -- the inverse of a transaction's newest deed
   fits_inverse : (us : List SlotWrite) (r : Row) (fs : List Finished) (f : Finished) (d : Deed) → f.deed ≡ d → AreUnlatched s us → IsIdle s r → r.finished ≡ fs ++ f ∷ [] → IsPlannedFrom s.sizes q us (Undid d) → Fits us (Undid d)
   fits_inverse us r fs f d e free m newest = at d e where
-    here : In r s.rows
-    here = (found_in r.txn s.rows r m.at_row).0
-
-    open_deed : (d : Deed) → f.deed ≡ d → open_deeds r.txn (items s.sizes s.records) ≡ record { lsn = f.lsn; deed = d } ∷ placed fs
-    open_deed d e = open_is s.sizes s.records s.ends s.rows s.incarnation s.begins s.cells_in_use s.waiting k.standing k.counted k.log r here m.idle fs f newest ∙ ap (λ (y : Deed). record { lsn = f.lsn; deed = y } ∷ placed fs) e
-
-    below : (d : Deed) → f.deed ≡ d → deed_sender d < sender_count s.sizes
-    below d e = subst (λ y. deed_sender y < sender_count s.sizes) e (of_store s.sizes s.records s.ends s.rows s.incarnation s.begins s.cells_in_use s.waiting k.standing k.counted k.log r here m.idle fs f newest)
-
     groups : KeepsGroups (items s.sizes s.records)
     groups = groups_of s.sizes s.records k.log
 
     at : (d : Deed) → f.deed ≡ d → IsPlannedFrom s.sizes q us (Undid d) → Fits us (Undid d)
     at (Append g n tag previous body) e p =
-        let c = chain us g p.directory _ _ free (below (Append g n tag previous body) e) p.writes p.directory_is in
+        let c = chain us g p.directory _ _ free (deed_below s r fs f k m newest (Append g n tag previous body) e) p.writes p.directory_is in
         let plan : IsUnlinkTail l g p.directory.sent previous (whole us) = is_unlink_tail s.sizes q (all_stand s k) zero g p.directory (viewed g) p.directory_is c p.cell p.tail_is previous p.front (whole us) p.beside p.writes in
-        let number = (sent_last (items s.sizes s.records) r.txn f.lsn g n tag previous body (placed fs) groups (open_deed (Append g n tag previous body) e)).0 in
+        let number = (sent_last (items s.sizes s.records) r.txn f.lsn g n tag previous body (placed fs) groups (open_deed s r fs f k m newest (Append g n tag previous body) e)).0 in
         let size : length (viewed g).messages ≡ length c.nodes = ap length c.messages ∙ length-map c.nodes message in
         let sent = c.sent in
         let received = c.received in
@@ -140,8 +131,8 @@ module _ (s : State) (k : IsSound s) where
           subst (λ ws. HasBefores ws q) (sym p.writes) (unlink_tail_fits s.sizes q (all_stand s k) zero g p.directory (viewed g) p.directory_is c p.cell p.tail_is previous p.front p.beside),
         )
     at (UnlinkHead g n tag body) e p =
-        let c = chain us g p.directory _ _ free (below (UnlinkHead g n tag body) e) p.writes p.directory_is in
-        let x = can_undo_taken g (items s.sizes s.records) r.txn f.lsn g n tag body (placed fs) groups (open_deed (UnlinkHead g n tag body) e) (eq-eqb g g refl) in
+        let c = chain us g p.directory _ _ free (deed_below s r fs f k m newest (UnlinkHead g n tag body) e) p.writes p.directory_is in
+        let x = can_undo_taken g (items s.sizes s.records) r.txn f.lsn g n tag body (placed fs) groups (open_deed s r fs f k m newest (UnlinkHead g n tag body) e) (eq-eqb g g refl) in
         let some : 0 < (viewed g).received = x.1 in
         let received = c.received in
         let plan : IsPutBack l g p.directory.received tag body (whole us) = is_put_back s.sizes q (all_stand s k) zero g p.directory (viewed g) p.directory_is c tag p.new body p.old (whole us) p.cell (omega (arith, some, received)) p.beside p.writes in (

@@ -1,5 +1,5 @@
 -- What the level of chains finds in a sound store.
-use Rattle.std.proofs.Common.{◌≡◌, ℕ, ◌/◌, ◌<◌, ◌≤◌, ◌^◌, ◌++◌, List, [], ◌∷◌, length, refl, sym, ◌∙◌, ap, subst, true, false, Option, Some, None, nat_eq, arith}
+use Rattle.std.proofs.Common.{◌≡◌, ℕ, ◌/◌, ◌<◌, ◌≤◌, ◌^◌, ◌++◌, List, [], ◌∷◌, length, refl, sym, ◌∙◌, subst, true, false, Option, Some, None, nat_eq, arith}
 use Rattle.std.proofs.lemmas.Bool.{eq-eqb, false_from_ne_true, eqb-true}
 use Rattle.rq_model.specs.declared.record.Deed.{Deed}
 use Rattle.rq_model.specs.declared.record.Deed.TheVariants.{Append, UnlinkHead, Close}
@@ -28,12 +28,13 @@ use Rattle.rq_sound.specs.Calls.{IsIdle}
 use Rattle.rq_sound.specs.Groups.{TellsGroup, slots_now}
 use Rattle.rq_sound.specs.Latching.{at_head, at_tail, before_tail, behind_head, head_in, named, needed, next_in, prev_in, tail_in}
 use Rattle.rq_sound.specs.Wants.{AreGivenOf, CanUndo, LevelsFindAll}
-use Rattle.rq_sound.proofs.FreeCells.{of_store, open_is}
+use Rattle.rq_sound.proofs.FreeCells.{of_store}
 use Rattle.rq_sound.proofs.Groups.{tells_group}
 use Rattle.rq_sound.proofs.Latching as latching
 use Rattle.rq_sound.proofs.PlanFits.{above}
 use Rattle.rq_sound.proofs.Planned.{sent_last}
 use Rattle.rq_sound.proofs.UndoPlans.{closed_before}
+use Rattle.rq_sound.proofs.Inverses.{open_deed}
 
 pub given_parts : (s : State) (given : List Given) (xs ys : List ℕ) → AreGivenOf s given (xs ++ ys) → AreGivenOf s given xs × AreGivenOf s given ys
 given_parts s given [] ys h = (tt, h)
@@ -110,15 +111,10 @@ module _ (s : State) (given : List Given) (k : IsSound s) (g : ℕ) (inside : g 
 
   -- the inverse of the newest deed
   module _ (r : Row) (fs : List Finished) (f : Finished) (m : IsIdle s r) (newest : r.finished ≡ fs ++ f ∷ []) where
-    open_deed : (x : Deed) → f.deed ≡ x → open_deeds r.txn (items s.sizes s.records) ≡ record { lsn = f.lsn; deed = x } ∷ placed fs
-    open_deed x e =
-        open_is s.sizes s.records s.ends s.rows s.incarnation s.begins s.cells_in_use s.waiting k.standing k.counted k.log r (found_in r.txn s.rows r m.at_row).0 m.idle fs f newest
-        ∙ ap (λ (y : Deed). record { lsn = f.lsn; deed = y } ∷ placed fs) e
-
     pub can_undo_one : (x : Deed) → f.deed ≡ x → deed_sender x ≡ g → AreGivenOf s given (needed (slots_now s) (Undid x)) → CanUndo s.sizes given x
     can_undo_one (Append e n tag previous body) is own h = subst (λ y. CanUndo s.sizes given (Append y n tag previous body)) (sym own) (
         let h : AreGivenOf s given (before_tail (slots_now s) g) = subst (λ y. AreGivenOf s given (before_tail (slots_now s) y)) own h in
-        let last_one = sent_last (items s.sizes s.records) r.txn f.lsn g n tag previous body (placed fs) (groups_of s.sizes s.records k.log) (subst (λ y. open_deeds r.txn (items s.sizes s.records) ≡ record { lsn = f.lsn; deed = Append y n tag previous body } ∷ placed fs) own (open_deed (Append e n tag previous body) is)) in
+        let last_one = sent_last (items s.sizes s.records) r.txn f.lsn g n tag previous body (placed fs) (groups_of s.sizes s.records k.log) (subst (λ y. open_deeds r.txn (items s.sizes s.records) ≡ record { lsn = f.lsn; deed = Append y n tag previous body } ∷ placed fs) own (open_deed s r fs f k m newest (Append e n tag previous body) is)) in
         let number = last_one.0 in
         let some = last_one.1 in
         let sent = told.sent in
@@ -145,7 +141,7 @@ module _ (s : State) (given : List Given) (k : IsSound s) (g : ℕ) (inside : g 
         )
     can_undo_one (UnlinkHead e n tag body) is own h = subst (λ y. CanUndo s.sizes given (UnlinkHead y n tag body)) (sym own) (
         let h : AreGivenOf s given (at_head (slots_now s) g) = subst (λ y. AreGivenOf s given (at_head (slots_now s) y)) own h in
-        let x = can_undo_taken g (items s.sizes s.records) r.txn f.lsn g n tag body (placed fs) (groups_of s.sizes s.records k.log) (subst (λ y. open_deeds r.txn (items s.sizes s.records) ≡ record { lsn = f.lsn; deed = UnlinkHead y n tag body } ∷ placed fs) own (open_deed (UnlinkHead e n tag body) is)) (eq-eqb g g refl) in
+        let x = can_undo_taken g (items s.sizes s.records) r.txn f.lsn g n tag body (placed fs) (groups_of s.sizes s.records k.log) (subst (λ y. open_deeds r.txn (items s.sizes s.records) ≡ record { lsn = f.lsn; deed = UnlinkHead y n tag body } ∷ placed fs) own (open_deed s r fs f k m newest (UnlinkHead e n tag body) is)) (eq-eqb g g refl) in
         let some : 0 < (view (items s.sizes s.records) g).received = x.1 in
         let received = told.received in
         let c = latching.head_cell s k g inside off in
@@ -160,7 +156,7 @@ module _ (s : State) (given : List Given) (k : IsSound s) (g : ℕ) (inside : g 
         }
         )
     can_undo_one (Close e) is own h = subst (λ y. CanUndo s.sizes given (Close y)) (sym own) (
-        can_reopen (closed_before (items s.sizes s.records) r.txn f.lsn g (placed fs) (groups_of s.sizes s.records k.log) (subst (λ y. open_deeds r.txn (items s.sizes s.records) ≡ record { lsn = f.lsn; deed = Close y } ∷ placed fs) own (open_deed (Close e) is))) (subst (λ y. AreGivenOf s given (directory_at y ∷ [])) own h)
+        can_reopen (closed_before (items s.sizes s.records) r.txn f.lsn g (placed fs) (groups_of s.sizes s.records k.log) (subst (λ y. open_deeds r.txn (items s.sizes s.records) ≡ record { lsn = f.lsn; deed = Close y } ∷ placed fs) own (open_deed s r fs f k m newest (Close e) is))) (subst (λ y. AreGivenOf s given (directory_at y ∷ [])) own h)
         )
 
 pub levels_find : LevelsFindAll

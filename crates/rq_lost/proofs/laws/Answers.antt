@@ -1,6 +1,6 @@
 use Rattle.rq_lost.proofs.Moving.{move_sound, move_extends, move_commits, aborted_sound, aborted_commits}
 use Rattle.rq_lost.proofs.Settled.{none_lost, none_unfinished}
-use Rattle.rq_lost.proofs.Found.{may_be_undone, free_of_latches}
+use Rattle.rq_lost.proofs.Found.{free_of_latches}
 use Rattle.rq_lost.proofs.Store.{lost_sound, some_incarnation}
 use Rattle.rq_lost.proofs.Working.{move_less}
 use Rattle.rq_lost.proofs.Stopping.{lost_restored, may_stop, stop_repeated}
@@ -9,6 +9,7 @@ use Rattle.std.proofs.Common.{◌∙◌, subst}
 use Rattle.rq_model.specs.Words.{In}
 use Rattle.rq_lost.proofs.Owing.{first_due, none_due, rest_due}
 use Rattle.rq_model.specs.Unended.{lost}
+use Rattle.rq_sound.proofs.Inverses.{may_be_undone}
 use Rattle.rq_lost.proofs.Choosing.{chosen_back, chosen_done, chosen_ends, lost_first, lost_stay}
 use Rattle.rq_lost.proofs.Numbering.{once, row_number}
 use Rattle.rq_lost.proofs.Walking.{aborts_go_on, aborts_come}
