@@ -17,7 +17,7 @@ use Rattle.rq_model.specs.Ledger.{Open, Done, Ledger, rest_in, found, without, o
 use Rattle.rq_model.specs.Legal.{OnFound, At, CanStart, Legal, IsLegal, IsDoneBy, start_of}
 use Rattle.rq_model.specs.Tests.{free_to_receive, free_of, Size, Passes}
 use Rattle.rq_model.proofs.Lists.{prefix_nil, prefix_shorter, prefix_next, same_is}
-use Rattle.rq_model.proofs.Keeps.{Good, IsOld, Changes, Good-change, Good-commit, Good-without, Good-crash, Good-none, found_in}
+use Rattle.rq_model.proofs.Keeps.{Good, IsCurrent, Changes, Good-change, Good-commit, Good-without, Good-crash, Good-none, found_in}
 
 abbrev pub GoodAt : Ledger → Type 0
 GoodAt l = Good l.committed l.open_ones l.incarnation l.begins
@@ -154,7 +154,7 @@ step_at l t h = on_found (found t l.open_ones) (λ o. 0 < o.left) h
 
 Good-begun : (l : Ledger) (t : Txn) → GoodAt l → t.incarnation ≡ l.incarnation → t.count ≡ l.begins + 1 → Good l.committed (fresh_one t ∷ l.open_ones) l.incarnation (l.begins + 1)
 Good-begun l t g e k =
-    let other : (o : Open) → In o l.open_ones → o.txn ≡ t → ⊥ = λ o j w. let h = g.old o j in let a : o.txn.count ≤ l.begins = h.not_more (ap (λ (x : Txn). x.incarnation) w ∙ e) in let c : o.txn.count ≡ t.count = ap (λ (x : Txn). x.count) w in omega arith in
+    let other : (o : Open) → In o l.open_ones → o.txn ≡ t → ⊥ = λ o j w. let h = g.old o j in let a : o.txn.count ≤ l.begins = h.counted in let c : o.txn.count ≡ t.count = ap (λ (x : Txn). x.count) w in omega arith in
     record {
       along = g.along;
       now = g.now;
@@ -170,8 +170,8 @@ Good-begun l t g e k =
         | inr w ↦ elim h [ inl v ↦ absurd (other o w (x ∙ ap (λ (y : Open). y.txn) v)) | inr v ↦ g.unique o p w v x ]
       ];
       old = λ o j. elim j [
-        | inl w ↦ subst (IsOld l.incarnation (l.begins + 1)) (sym (ap (λ (y : Open). y.txn) w)) (record { not_later = omega (arith, e); not_more = λ _. omega (arith, k) })
-        | inr w ↦ let h = g.old o w in record { not_later = h.not_later; not_more = λ v. let a : o.txn.count ≤ l.begins = h.not_more v in omega arith }
+        | inl w ↦ subst (IsCurrent l.incarnation (l.begins + 1)) (sym (ap (λ (y : Open). y.txn) w)) (record { of_incarnation = e; counted = omega (arith, k) })
+        | inr w ↦ let h = g.old o w in record { of_incarnation = h.of_incarnation; counted = let a : o.txn.count ≤ l.begins = h.counted in omega arith }
       ];
     }
 

@@ -43,6 +43,8 @@ worked = record {
   out_of_memory_after_failure = λ a. (let e = a.0 in cc e);
   acknowledged_too_early = λ a. (let e = a.0.1 in cc e);
   never_acknowledged = λ a. (let e = a.0.1 in cc e);
+  acknowledged_no_more = search rules;
+  acknowledged_too_late = λ a. (let e = a.0.1 in cc e);
   begun_next = λ a. (let e = a.0.2 in omega (arith, e));
   started_next = λ a. (let e = a.0.1.0 in omega (arith, e));
   stepped_next = λ a. (let e = a.0.2 in omega (arith, e));

@@ -1,5 +1,5 @@
 -- What every legal entry keeps of the ledger.
-use Rattle.std.proofs.Common.{◌≡◌, ℕ, zero, suc, ◌≤◌, List, [], ◌∷◌, ◌++◌, length, take, drop, refl, sym, ◌∙◌, ap, subst, true, false, not, Some, ◌⊎◌, inl, inr, ◌≢◌}
+use Rattle.std.proofs.Common.{◌≡◌, ℕ, zero, suc, ◌≤◌, List, [], ◌∷◌, ◌++◌, length, take, drop, refl, sym, ◌∙◌, ap, subst, true, false, not, Some, ◌⊎◌, inl, inr, ◌≢◌, arith}
 use Rattle.std.specs.List.{filter_map}
 use Rattle.std.proofs.lemmas.List.Concat.{flat_map-append}
 use Rattle.std.proofs.lemmas.List.{append-nil}
@@ -16,6 +16,14 @@ pub record IsOld (i b : ℕ) (t : Txn) : Type 0 where
   pub not_later : t.incarnation ≤ i
   pub not_more : t.incarnation ≡ i → t.count ≤ b
 
+-- one that was given out in this incarnation
+pub record IsCurrent (i b : ℕ) (t : Txn) : Type 0 where
+  pub of_incarnation : t.incarnation ≡ i
+  pub counted : t.count ≤ b
+
+pub current_old : (i b : ℕ) (t : Txn) → IsCurrent i b t → IsOld i b t
+current_old i b t h = record { not_later = (let e = h.of_incarnation in omega (arith, e)); not_more = λ _. h.counted }
+
 pub record Good (c : List Done) (os : List Open) (i b : ℕ) : Type 0 where
   pub along : (k s : ℕ) → IsPrefix (taken_in (take k c) s) (sent_in (take k c) s)
   pub now : (s : ℕ) → IsPrefix (taken_in c s) (sent_in c s)
@@ -24,7 +32,7 @@ pub record Good (c : List Done) (os : List Open) (i b : ℕ) : Type 0 where
   pub under : (o : Open) (s : ℕ) → In o os → o.under ≡ Some (Taking s) → has_number s o.receiving ≡ true
   pub one : (o p : Open) (s : ℕ) → In o os → In p os → has_number s o.receiving ≡ true → has_number s p.receiving ≡ true → o.txn ≡ p.txn
   pub unique : (o p : Open) → In o os → In p os → o.txn ≡ p.txn → o ≡ p
-  pub old : (o : Open) → In o os → IsOld i b o.txn
+  pub old : (o : Open) → In o os → IsCurrent i b o.txn
 
 -- what is found stands there, under that number
 pub found_in : (t : Txn) (os : List Open) (o : Open) → found t os ≡ Some o → In o os × (o.txn ≡ t)
@@ -83,7 +91,7 @@ Good-change c os i b t f o g e h =
           | inr v ↦ g.unique q r w.0 v.0 x
         ]
       ];
-      old = λ q j. elim (cases q j) [ inl w ↦ subst (IsOld i b) (sym (ap (λ (x : Open). x.txn) w ∙ h.txn)) (g.old o at.0) | inr w ↦ g.old q w.0 ];
+      old = λ q j. elim (cases q j) [ inl w ↦ subst (IsCurrent i b) (sym (ap (λ (x : Open). x.txn) w ∙ h.txn)) (g.old o at.0) | inr w ↦ g.old q w.0 ];
     }
 
 pub taken_more : (c : List Done) (d : Done) (s : ℕ) → taken_in (c ++ d ∷ []) s ≡ taken_in c s ++ filter_map (taken_from s) d.ops

@@ -14,6 +14,7 @@ pub mod Counts
 pub mod Cuts
 pub mod EntryKinds
 pub mod Placed
+pub mod Receipts
 pub mod Replayed
 pub mod Bridges
 pub mod Sent

@@ -94,14 +94,12 @@ no_commit e t n none q = true≢false (ap is_commit q ∙ none)
 older : (e : Entry) (h : List Entry) (t : Txn) (n : ℕ) → is_commit e ≡ false → In (Committed t n) (e ∷ h) → In (Committed t n) h
 older e h t n none j = elim j [ inl q ↦ absurd (no_commit e t n none q) | inr i ↦ i ]
 
--- who commits has begun, and not in a later incarnation
-committer : (z : Size) (h : List Entry) (t : Txn) (n : ℕ) → IsLegal z h → Legal z (ledger h) (Committed t n) → t.incarnation ≤ (ledger h).incarnation
+-- who commits has begun in this incarnation
+pub committer : (z : Size) (h : List Entry) (t : Txn) (n : ℕ) → IsLegal z h → Legal z (ledger h) (Committed t n) → t.incarnation ≡ (ledger h).incarnation
 committer z h t n a c =
     let s = some_is (found t (ledger h).open_ones) (not-false (is_some (found t (ledger h).open_ones)) c.0.1.0) in
     let at = found_in t (ledger h).open_ones s.0 s.1 in
-    let o = ((Good-ledger z h a).old s.0 at.0).not_later in
-    let e = ap (λ (u : Txn). u.incarnation) at.1 in
-    omega (arith, o, e)
+    sym (ap (λ (u : Txn). u.incarnation) at.1) ∙ ((Good-ledger z h a).old s.0 at.0).of_incarnation
 
 known_after : (z : Size) (h : List Entry) (e : Entry) → Kind e → IsLegal z (e ∷ h) → Known h (ledger h) → Known (e ∷ h) (after e (ledger h))
 known_after z h e (Plain f none) a w =
@@ -115,7 +113,7 @@ known_after z h e (Commits u m) a w =
     let l = ledger h in
     let d : Done = record { txn = u; lsn = m; ops = ops_of (found u l.open_ones) } in
     record {
-      old = λ t n j. elim j [ inl q ↦ (let e : t ≡ u = cc q in subst (λ (x : Txn). x.incarnation ≤ l.incarnation) (sym e) (committer z h u m a.1 a.0)) | inr i ↦ w.old t n i ];
+      old = λ t n j. elim j [ inl q ↦ (let e : t ≡ u = cc q in let f = ap (λ (x : Txn). x.incarnation) e in let i = committer z h u m a.1 a.0 in omega (arith, f, i)) | inr i ↦ w.old t n i ];
       stands = λ r t n j i. elim j [
         | inl q ↦ (let e : t ≡ u = cc q in let g : n ≡ m = cc q in record { done = d; there = In-last d l.committed; txn = sym e; at = sym g })
         | inr k ↦ (let s = w.stands r t n k i in record { done = s.done; there = In-left l.committed (d ∷ []) s.done s.there; txn = s.txn; at = s.at })

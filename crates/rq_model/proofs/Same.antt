@@ -15,7 +15,7 @@ use Rattle.rq_model.specs.Ledger.{Open, Done, Ledger, sent_in, taken_in, found, 
 use Rattle.rq_model.specs.Legal.{Legal, IsLegal, start_of}
 use Rattle.rq_model.specs.Tests.{Size, Passes, is_aborting}
 use Rattle.rq_model.proofs.Lists.{same_is, same_self}
-use Rattle.rq_model.proofs.Keeps.{IsOld, found_in, changed, gone}
+use Rattle.rq_model.proofs.Keeps.{IsOld, current_old, found_in, changed, gone}
 use Rattle.rq_model.proofs.Each.{start_at, did_at, undid_at, step_at, GoodAt, Good-ledger, known}
 
 pub record Tied (h : List Entry) (c : List Done) (os : List Open) (i b : ℕ) : Type 0 where
@@ -74,7 +74,7 @@ Tied-did h l t n op o g good e =
       ];
       undoing = λ q j a. elim (cases q j) [ inl w ↦ let v : None ≡ Some Undoing = ap (λ (x : Open). x.under) (sym w) ∙ a in absurd (cc) | inr w ↦ g.undoing q w.0 a ];
       apart = λ d q j m x. elim (cases q m) [ inl w ↦ g.apart d o j at.0 (x ∙ ap (λ (y : Open). y.txn) w) | inr w ↦ g.apart d q j w.0 x ];
-      none = λ u m. others u (λ x. m (subst (IsOld l.incarnation l.begins) (at.1 ∙ x) (good.old o at.0))) ∙ g.none u m;
+      none = λ u m. others u (λ x. m (subst (IsOld l.incarnation l.begins) (at.1 ∙ x) (current_old l.incarnation l.begins o.txn (good.old o at.0)))) ∙ g.none u m;
       old_done = g.old_done;
     }
 
@@ -96,7 +96,7 @@ Tied-commit h l t n o g good e a =
       none = g.none;
       old_done = λ d j. elim (In-append l.committed (record { txn = t; lsn = n; ops = o.ops }) d j) [
         | inl w ↦ g.old_done d w
-        | inr w ↦ subst (IsOld l.incarnation l.begins) (at.1 ∙ ap (λ (y : Done). y.txn) (sym w)) (good.old o at.0)
+        | inr w ↦ subst (IsOld l.incarnation l.begins) (at.1 ∙ ap (λ (y : Done). y.txn) (sym w)) (current_old l.incarnation l.begins o.txn (good.old o at.0))
       ];
     }
 

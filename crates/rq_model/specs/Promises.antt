@@ -1,5 +1,5 @@
 -- What holds at every place of every legal history, and how a history goes on.
-use Rattle.std.specs.Prelude.{◌≡◌, ℕ, ◌+◌, ◌≤◌, List, ◌∷◌, ◌++◌, length, true, false, map}
+use Rattle.std.specs.Prelude.{◌≡◌, ℕ, ◌+◌, ◌≤◌, List, [], ◌∷◌, ◌++◌, length, Bool, true, false, ◌&&◌, ◌||◌, not, map}
 use Rattle.rq_model.specs.declared.refusal.Refusal.TheVariants.{Failed}
 use Rattle.rq_model.specs.declared.txn.Txn.{Txn}
 use Rattle.rq_model.specs.declared.message.Message.{Message}
@@ -7,7 +7,7 @@ use Rattle.rq_model.specs.declared.record.Record.{Record}
 use Rattle.rq_model.specs.declared.record.Record.TheVariants.{Restart as Restart_record}
 use Rattle.rq_model.specs.Words.{In}
 use Rattle.rq_model.specs.History.{Entry, Call, Fifo, commits, ended}
-use Rattle.rq_model.specs.History.Entry.{Started, Acknowledged, Committed, Crash, Refused, Restarted}
+use Rattle.rq_model.specs.History.Entry.{Started, Acknowledged, Committed, Forced, Crash, Refused, Restarted}
 use Rattle.rq_model.specs.History.Job.{Sending}
 use Rattle.rq_model.specs.Ledger.{Done, Ledger, ledger, kept_in, runs}
 use Rattle.rq_model.specs.Ledger.Phase.{Shut}
@@ -29,6 +29,25 @@ abbrev pub AcknowledgedStay : Size → Type 0
 AcknowledgedStay z = (newer older : List Entry) (t : Txn) (lsn : ℕ)
     → IsLegal z (newer ++ (Acknowledged t lsn true ∷ older)) → In (Committed t lsn) older
     → In t (commits (newer ++ (Acknowledged t lsn true ∷ older)))
+
+abbrev pub is_force : Entry → Bool
+is_force (Forced lsn) = true
+is_force _ = false
+
+abbrev pub is_restart : Entry → Bool
+is_restart (Restarted i records) = true
+is_restart _ = false
+
+-- one of the entries is such
+abbrev pub any_entry : (Entry → Bool) → List Entry → Bool
+any_entry f [] = false
+any_entry f (e ∷ h) = f e || any_entry f h
+
+-- for the number that a commit answered a receipt is given exactly where a force has answered since, and no restart
+abbrev pub ReceiptsAreExact : Size → Type 0
+ReceiptsAreExact z = (newer older : List Entry) (t : Txn) (lsn : ℕ) (given : Bool)
+    → IsLegal z (Acknowledged t lsn given ∷ (newer ++ (Committed t lsn ∷ older)))
+    → given ≡ (any_entry is_force newer && not (any_entry is_restart newer))
 
 -- nothing is sent to a group that a committed transaction closed
 abbrev pub NothingBehindClose : Size → Type 0

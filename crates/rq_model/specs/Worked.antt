@@ -213,6 +213,8 @@ pub record AreWorked : Type 0 where
   pub out_of_memory_after_failure : IsLegal small (Refused Begin NoMemory ∷ failed_force) → ⊥
   pub acknowledged_too_early : IsLegal small (Acknowledged (txn 1 1) 5 true ∷ committed_once) → ⊥
   pub never_acknowledged : IsLegal small (Acknowledged (txn 1 1) 5 false ∷ Forced 5 ∷ committed_once) → ⊥
+  pub acknowledged_no_more : IsLegal small (Acknowledged (txn 1 1) 5 false ∷ taken_and_opened)
+  pub acknowledged_too_late : IsLegal small (Acknowledged (txn 1 1) 5 true ∷ taken_and_opened) → ⊥
   pub begun_next : IsLegal small (Begun (txn 1 2) ∷ opened) → ⊥
   pub started_next : IsLegal small (Started (txn 1 1) 2 (Sending hello) ∷ Begun (txn 1 1) ∷ opened) → ⊥
   pub stepped_next : IsLegal small (Stepped (txn 1 1) 1 3 ∷ Started (txn 1 1) 1 (Sending hello) ∷ Begun (txn 1 1)

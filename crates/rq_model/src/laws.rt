@@ -10,7 +10,7 @@ ghost use Rattle.rq_model.specs.Commits.{committed_of};
 ghost use Rattle.rq_model.specs.Rules.{KeepsRules};
 ghost use Rattle.rq_model.specs.Ledger.{ledger, group_in};
 ghost use Rattle.rq_model.specs.History.{Entry};
-ghost use Rattle.rq_model.specs.Promises.{AcknowledgedStay, CrashGoesOn, FifoThroughout, NothingBehindClose, ReplayGoesOn, RestartGoesOn, ShutCrashGoesOn, StillStoreRefuses};
+ghost use Rattle.rq_model.specs.Promises.{AcknowledgedStay, CrashGoesOn, FifoThroughout, NothingBehindClose, ReceiptsAreExact, ReplayGoesOn, RestartGoesOn, ShutCrashGoesOn, StillStoreRefuses};
 ghost use Rattle.rq_model.specs.Legal.{IsLegal};
 ghost use Rattle.rq_model.specs.Tests.{Size};
 ghost use Rattle.rq_model.specs.Worked.{AreWorked};
@@ -31,6 +31,12 @@ pub fn forced_stay()
 /// A commit that was acknowledged by a receipt is in the commit list of every history that goes on from there.
 pub fn acknowledged_stay()
     ensures { (size : Size) → AcknowledgedStay size }
+{}
+
+/// For the number that a commit answered a receipt is given exactly where a force has answered since, and the store was
+/// not opened again.
+pub fn receipts_are_exact()
+    ensures { (size : Size) → ReceiptsAreExact size }
 {}
 
 /// Nothing is sent to a group that a committed transaction has closed.

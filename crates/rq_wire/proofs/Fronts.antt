@@ -174,32 +174,30 @@ fault_stays a b e =
 -- what a connection keeps, one piece later
 module _ (bytes : List ℕ) (rs : List Request) (fault : Bool) (unread piece bytes' : List ℕ) (given' : List Request)
     (keeps : Keeps bytes rs fault unread) (more : bytes' ≡ bytes ++ piece) where
-  longer : Begins rs bytes' (keeps.rest ++ piece)
-  longer = subst (λ (l : List ℕ). Begins rs l (keeps.rest ++ piece)) (sym more) (begins_longer rs bytes piece
-      keeps.rest keeps.begins)
+  longer : Begins rs bytes' (unread ++ piece)
+  longer = subst (λ (l : List ℕ). Begins rs l (unread ++ piece)) (sym more) (begins_longer rs bytes piece unread
+      keeps.begins)
 
-  pub fed_on : (qs : List Request) (rest unread' : List ℕ) (fault' : Bool) → fault ≡ false → given' ≡ rs ++ qs
+  pub fed_on : (qs : List Request) (rest unread' : List ℕ) (fault' : Bool) → given' ≡ rs ++ qs
       → Begins qs (unread ++ piece) rest → looks rest ≡ stop fault' → unread' ≡ rest
       → Keeps bytes' given' fault' unread'
-  fed_on qs rest unread' fault' sound is begins stops left =
-      let here : keeps.rest ++ piece ≡ unread ++ piece = ap (λ (l : List ℕ). l ++ piece) (keeps.kept sound) in
+  fed_on qs rest unread' fault' is begins stops left =
+      let begun = begins_more rs qs bytes' (unread ++ piece) rest longer begins in
       record {
-        rest = rest;
-        begins = subst (λ (l : List Request). Begins l bytes' rest) (sym is) (begins_more rs qs bytes' (unread ++
-            piece) rest (subst (Begins rs bytes') here longer) begins);
-        stops = stops;
-        kept = λ e. sym left;
+        begins = subst (Begins given' bytes') (sym left) (subst (λ (l : List Request). Begins l bytes' rest) (sym is)
+            begun);
+        stops = ap looks left ∙ stops;
       }
 
 pub exact : (bytes : List ℕ) (rs : List Request) (fault : Bool) (unread : List ℕ) → Keeps bytes rs fault unread
     → AreRequests bytes rs fault
-exact bytes rs fault unread k = (k.rest, k.begins, k.stops)
+exact bytes rs fault unread k = (unread, k.begins, k.stops)
 
 -- whatever stands behind a fault
 pub behind_fault : (bytes : List ℕ) (rs : List Request) (fault : Bool) (unread : List ℕ) → Keeps bytes rs fault unread
     → fault ≡ true → (more : List ℕ) → AreRequests (bytes ++ more) rs true
 behind_fault bytes rs fault unread k bad more = (
-  k.rest ++ more,
-  begins_longer rs bytes more k.rest k.begins,
-  fault_stays k.rest more (k.stops ∙ ap stop bad),
+  unread ++ more,
+  begins_longer rs bytes more unread k.begins,
+  fault_stays unread more (k.stops ∙ ap stop bad),
 )

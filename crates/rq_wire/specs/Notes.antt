@@ -1,5 +1,5 @@
 -- What a connection was fed and gave, until a fault.
-use Rattle.std.specs.Prelude.{◌≡◌, ℕ, Bool, false, List, drop, flat_map}
+use Rattle.std.specs.Prelude.{◌≡◌, ℕ, Bool, List, drop, flat_map}
 use Rattle.rq_wire.specs.declared.request.Request.{Request}
 use Rattle.rq_wire.specs.declared.frames.Note.{Note}
 use Rattle.rq_wire.specs.Looks.{looks}
@@ -17,9 +17,7 @@ pub record Wire : Type 0 where
   pub given : List Request
   pub fault : Bool
 
--- the bytes behind the requests given; up to a fault they are kept
+-- what is kept is what stands behind the requests given: a fault, or what is no whole frame yet
 pub record Keeps (bytes : List ℕ) (requests : List Request) (fault : Bool) (unread : List ℕ) : Type 0 where
-  pub rest : List ℕ
-  pub begins : Begins requests bytes rest
-  pub stops : looks rest ≡ stop fault
-  pub kept : fault ≡ false → rest ≡ unread
+  pub begins : Begins requests bytes unread
+  pub stops : looks unread ≡ stop fault

@@ -28,8 +28,8 @@ pub(crate) struct Note {
     requests: Snapshot<Vec<Request>>,
 }
 
-/// The bytes that were fed and are no whole frame yet. Contracts see all bytes that were fed, up to the piece with a
-/// fault, the requests given, and whether there was a fault.
+/// The bytes that were fed and are no whole frame yet. Behind a fault no more are kept. Contracts see all bytes that
+/// were fed, up to the piece with a fault, the requests given, and whether there was a fault.
 #[derive(Drop)]
 pub struct Frames {
     alloc: Global,
