@@ -30,7 +30,7 @@ impl Gate for Polite {
         if point == BEFORE_AGAIN {
             thread::yield_now();
         }
-        GhostList::note(&mut self.answers, &(point, true));
+        GhostList::push(&mut self.answers, &(point, true));
         true
     }
 }

@@ -10,7 +10,7 @@ use rq_engine::engine::Engine;
 use rq_levels::StoreLevel;
 use rq_shared::mark::{Mark, MarkPass};
 use rq_shared::room::Pass;
-use rq_shared::shared::{Front, Shared};
+use rq_shared::shared::{EngineLock, Shared};
 use rq_shared::sharing::Sharing;
 use rq_workers::shared::{DropStamps, SharedSteps};
 use std::alloc::Global;
@@ -40,14 +40,14 @@ type Both = (Option<Tally>, Option<Tally>);
 fn work<P: PageDevice + Drop, L: LogDevice + Drop, G: Sharing, R: Wait>(
     rt: &R,
     alloc: Global,
-    front: &Front<P, L, StoreLevel, G>,
+    lock: &EngineLock<P, L, StoreLevel, G>,
     own: Own<G>,
     common: &Common,
 ) -> Option<Tally>
     requires { own.seat.table ≡ common.now.mark }
 {
     let Own { pass, seat, sender } = own;
-    let mut steps = SharedSteps::new(rt, front, pass, &common.mark, seat, DropStamps::new());
+    let mut steps = SharedSteps::new(rt, lock, pass, &common.mark, seat, DropStamps::new());
     let mut tally = Tally::none();
     for _ in 0..common.batches {
         steps = batch(rt, alloc, steps, sender)?;
@@ -65,7 +65,7 @@ fn two<
 >(
     rt: &R,
     alloc: Global,
-    front: &Front<P, L, StoreLevel, G>,
+    lock: &EngineLock<P, L, StoreLevel, G>,
     one: Own<G>,
     other: Own<G>,
     common: &Common,
@@ -76,10 +76,10 @@ fn two<
         rt,
         move || -> Option<Tally>
             requires { one.seat.table ≡ common.now.mark }
-        { work(rt, alloc, front, one, common) },
+        { work(rt, alloc, lock, one, common) },
         move || -> Option<Tally>
             requires { other.seat.table ≡ common.now.mark }
-        { work(rt, alloc, front, other, common) },
+        { work(rt, alloc, lock, other, common) },
     )
 }
 
@@ -99,7 +99,7 @@ fn four<
 >(
     rt: &R,
     alloc: Global,
-    front: &Front<P, L, StoreLevel, G>,
+    lock: &EngineLock<P, L, StoreLevel, G>,
     first: Pair<G>,
     second: Pair<G>,
     common: &Common,
@@ -111,10 +111,10 @@ fn four<
         rt,
         move || -> Both
             requires { (first.one.seat.table ≡ common.now.mark) × (first.other.seat.table ≡ common.now.mark) }
-        { two(rt, alloc, front, first.one, first.other, common) },
+        { two(rt, alloc, lock, first.one, first.other, common) },
         move || -> Both
             requires { (second.one.seat.table ≡ common.now.mark) × (second.other.seat.table ≡ common.now.mark) }
-        { two(rt, alloc, front, second.one, second.other, common) },
+        { two(rt, alloc, lock, second.one, second.other, common) },
     )
 }
 
@@ -148,7 +148,7 @@ pub fn share<
         other: own_of(&mut shared, &mark, &mut seat, sender_of(3))?,
     };
     let common = Common { mark, batches };
-    let ((a, b), (c, d)) = four(rt, alloc, shared.front(), first, second, &common);
+    let ((a, b), (c, d)) = four(rt, alloc, shared.engine_lock(), first, second, &common);
     Some(a?.and(b?).and(c?).and(d?))
 }
 

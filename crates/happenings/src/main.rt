@@ -9,7 +9,7 @@ mod reading;
 use crate::printing::print_entry;
 use crate::reading::{List, read_list};
 use rq_core::happening::{Entry, Happening};
-use rq_core::world::{Outcome, World};
+use rq_core::world::{RunResult, World};
 use rq_levels::sets_of_levels;
 use rq_page::layout::Layout;
 use std::alloc::{AllocError, Global};
@@ -83,7 +83,7 @@ fn run_world(
     restarts: usize,
 ) -> Result<Vec<Entry>, AllocError> {
     let sets = sets_of_levels(alloc, restarts)?;
-    let Outcome {
+    let RunResult {
         entries,
         pages: _,
         log: _,

@@ -43,7 +43,7 @@ impl<T> GhostList<T> {
     }
 
     /// Puts a value in front.
-    pub fn note(list: &mut Snapshot<GhostList<T>>, value: &T)
+    pub fn push(list: &mut Snapshot<GhostList<T>>, value: &T)
         ensures { list.new.value ≡ value.now ∷ list.old.value }
     {
         let before = mem::replace(list, GhostList::empty());

@@ -34,7 +34,7 @@ use Rattle.rq_txn.specs.Rows.{found_row, fresh_row, finished_of}
 use Rattle.rq_store.specs.Fitting.{AllFit, FitsLog, image_in, left_by}
 use Rattle.rq_sound.specs.Sound.{IsSound}
 use Rattle.rq_store.specs.State.{State, ledger_of, size_of}
-use Rattle.rq_sound.specs.Steps.{Steps}
+use Rattle.rq_sound.specs.ModelSteps.{IsModelStep}
 use Rattle.rq_store.specs.Whole.{IsWhole}
 use Rattle.rq_store.proofs.Cutting.{fits_log_longer}
 use Rattle.rq_store.proofs.Formatting.{formatted_fits}
@@ -50,19 +50,19 @@ use Rattle.rq_engine.specs.declared.event.Reply.TheVariants as reply
 use Rattle.rq_engine.proofs.Crashing.{fit_kept, runs_through_cuts}
 use Rattle.rq_engine.proofs.Refusals.{refuse, refuse_full}
 use Rattle.rq_engine.proofs.Standing.{close_steps, start_steps}
-use Rattle.rq_undone.specs.Analysis.{analysis}
-use Rattle.rq_undone.proofs.Undos.{nothing_undone, undoing_none}
+use Rattle.rq_page_undo.specs.Analysis.{analysis}
+use Rattle.rq_page_undo.proofs.Undos.{nothing_undone, undoing_none}
 use Rattle.rq_restart.specs.Aborting.{RepeatedFrom}
 use Rattle.rq_restart.specs.Checked.{IsEnded, IsGoneThrough}
-use Rattle.rq_links.specs.Links.{AreLinked}
-use Rattle.rq_links.proofs.Sound.{sound_linked}
+use Rattle.rq_chain_check.specs.Links.{AreLinked}
+use Rattle.rq_chain_check.proofs.Sound.{sound_linked}
 use Rattle.rq_restart.specs.Repeating.{Paged, Repeats, slots_on}
-use Rattle.rq_undone.specs.Pages.{IsUndone}
+use Rattle.rq_page_undo.specs.Pages.{IsUndone}
 use Rattle.rq_restart.specs.Mended.{IsMended}
 use Rattle.rq_restart.specs.Restarting.{LogStops}
-use Rattle.rq_restart.proofs.Aborts.{aborting_none, behind_none, working_lost}
-use Rattle.rq_lost.specs.Recovered.IsRecovered.{NoneLost}
-use Rattle.rq_lost.specs.Recovered.IsRecovering.{Undoing}
+use Rattle.rq_restart.proofs.Aborts.{aborting_none, behind_none, active_lost}
+use Rattle.rq_loser_undo.specs.Recovered.IsRecovered.{NoneLost}
+use Rattle.rq_loser_undo.specs.Recovered.IsRecovering.{Undoing}
 use Rattle.rq_restart.proofs.Parsing.{one_log}
 use Rattle.rq_core.specs.Devices.{mem_log, mem_pages}
 use Rattle.rq_core.specs.Worked.{hello}
@@ -296,11 +296,11 @@ module _ (n : ℕ) where
         }
 
 -- what a refusal tells of the tests
-full_says : (n : ℕ) (c : Call) (new : State) → Steps (one_begun n) c (Gave_refusal why.LogFull) new
+full_says : (n : ℕ) (c : Call) (new : State) → IsModelStep (one_begun n) c (Gave_refusal why.LogFull) new
     → first_of (tests (size_of sizes) (ledger_of (one_begun n)) c) ≡ Some why.LogFull
 full_says n c new x = subst (Legal (size_of sizes) (ledger_of (one_begun n))) x.says x.legal
 
-not_full : (n : ℕ) (c : Call) (new : State) → Passes (size_of sizes) (ledger_of (one_begun n)) c → Steps (one_begun n) c (Gave_refusal why.LogFull) new → ⊥
+not_full : (n : ℕ) (c : Call) (new : State) → Passes (size_of sizes) (ledger_of (one_begun n)) c → IsModelStep (one_begun n) c (Gave_refusal why.LogFull) new → ⊥
 not_full n c new passes x =
     let e = sym (none_first (tests (size_of sizes) (ledger_of (one_begun n)) c) passes) ∙ full_says n c new x in
     cc e
@@ -345,9 +345,9 @@ no_operation : (n : ℕ) → (analysis (restarts n)).unfinished ≡ []
 no_operation zero = refl
 no_operation (suc n) = no_operation n
 
-no_spot : (n : ℕ) → (analysis (restarts n)).spots ≡ []
-no_spot zero = refl
-no_spot (suc n) = no_spot n
+none_undoable : (n : ℕ) → (analysis (restarts n)).undoable ≡ []
+none_undoable zero = refl
+none_undoable (suc n) = none_undoable n
 
 gone : (n : ℕ) → IsGoneThrough sizes (restarts n) read_pages read_pages
 gone n = record {
@@ -366,7 +366,7 @@ linked : (n : ℕ) → AreLinked sizes (slots_on sizes read_pages)
 linked n = sound_linked.left sizes (slots_on sizes read_pages) (restarts n) (whole n) (none_unfinished n) (λ a. first_sound.pages a ∙ sym (same_slots n a))
 
 lost_none : (n : ℕ) → IsWhole sizes (restarts n) → lost (restarts n) ≡ []
-lost_none n w = sym (working_lost sizes (restarts n) w) ∙ ended n
+lost_none n w = sym (active_lost sizes (restarts n) w) ∙ ended n
 
 module _ (n : ℕ) (pages : MemPages) (log : MemLog) (h : Hold pages formatted_pages log (restarts n)) where
   checked : (new : MemLog) → n < 2 ^ 50 → Checked pages log new read_pages (restarts (suc n))
@@ -420,7 +420,7 @@ module _ (n : ℕ) (pages : MemPages) (log : MemLog) (h : Hold pages formatted_p
       let e = length_is n in
       let d : length (restarts n) ≡ length r.0 = ap (λ (x : List Record). length x) same in
       let b = r.3.0 in
-      let undone : b.undone ≡ r.0 = nothing_undone r.0 b.undone (subst (λ l. (analysis l).unfinished ≡ []) same (no_operation n)) (subst (λ l. (analysis l).spots ≡ []) same (no_spot n)) b.undoing in
+      let undone : b.undone ≡ r.0 = nothing_undone r.0 b.undone (subst (λ l. (analysis l).unfinished ≡ []) same (no_operation n)) (subst (λ l. (analysis l).undoable ≡ []) same (none_undoable n)) b.undoing in
       let f : length b.now ≡ length r.0 = ap (λ (x : List Record). length x) (b.none_lost (subst IsEnded same (ended n)) ∙ undone) in
       let long = b.full in
       omega (arith, low, e, d, f, long)

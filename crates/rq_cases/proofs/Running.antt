@@ -21,7 +21,7 @@ use Rattle.rq_store.specs.State.{State}
 use Rattle.rq_sound.specs.Calls.{sends_for}
 use Rattle.rq_sound.specs.Counted.{sends_in}
 use Rattle.rq_sound.specs.Sound.{IsSound}
-use Rattle.rq_sound.specs.Steps.{Steps}
+use Rattle.rq_sound.specs.ModelSteps.{IsModelStep}
 use Rattle.rq_sound.proofs.AbortSteps.{abort_steps}
 use Rattle.rq_sound.proofs.Opened.{formatted_sound}
 use Rattle.rq_engine.proofs.Standing.{commit_steps, finish_steps, start_steps, step_steps, take_steps}
@@ -67,7 +67,7 @@ pub fresh_sound : IsSound fresh
 fresh_sound = subst IsSound first_is first_sound
 
 -- 1.1 sends
-pub begin : Steps fresh Begin (Gave_txn t1) begun
+pub begin : IsModelStep fresh Begin (Gave_txn t1) begun
 begin = abort_steps.begins fresh fresh_sound refl refl
 
 pub send_plan : IsSendPlan sizes (slots_in sizes formatted_pages) (send_under 0) 0 7 (104 ∷ [])
@@ -87,7 +87,7 @@ send_plan = record {
   reads = refl;
 }
 
-pub start_send : Steps begun (Start_send t1 (record { sender = 0; tag = 7; body = 104 ∷ [] })) (Gave_sub t1 1) send_started
+pub start_send : IsModelStep begun (Start_send t1 (record { sender = 0; tag = 7; body = 104 ∷ [] })) (Gave_sub t1 1) send_started
 start_send =
     start_steps begun begin.sound t1 (fresh_row t1) (send_under 0) 0 7 (104 ∷ []) refl refl (λ page of. refl) refl
     send_plan
@@ -101,7 +101,7 @@ fill_put = record {
   headers = headers_with 0 2 groups_0 cells_1 (omega arith) (omega arith) groups_0_long cells_1_long;
 }
 
-pub step_cell : Steps send_started (Step t1 1) (Gave_lsn 2) cell_filled
+pub step_cell : IsModelStep send_started (Step t1 1) (Gave_lsn 2) cell_filled
 step_cell =
     step_steps send_started start_send.sound t1 (busy_row t1 (send_under 0)) (send_under 0) fill_cell filled_pages refl
     refl refl
@@ -116,14 +116,14 @@ sent_put = record {
   headers = headers_with 3 2 groups_1 cells_1 (omega arith) (omega arith) groups_1_long cells_1_long;
 }
 
-pub step_group : Steps cell_filled (Step t1 1) (Gave_lsn 3) group_counted
+pub step_group : IsModelStep cell_filled (Step t1 1) (Gave_lsn 3) group_counted
 step_group =
     step_steps cell_filled step_cell.sound t1 (busy_row t1 (send_under 1)) (send_under 1) count_sent sent_pages refl refl
     refl
     (slots_put sizes filled_pages sent_pages 17 count_sent.after 3 (omega arith) sent_written sent_put.others)
     sent_put new_told.1 sent_told.1 refl
 
-pub finish_send : Steps group_counted (Finish t1 1) Gave_sent sent
+pub finish_send : IsModelStep group_counted (Finish t1 1) Gave_sent sent
 finish_send =
     finish_steps group_counted step_group.sound t1 (busy_row t1 (send_under 2)) (send_under 2) (sends 0) (waits_of_0 0)
     refl refl refl refl (λ g. omega arith) refl
@@ -143,16 +143,16 @@ sent_tagged : (g : ℕ) → g < 15
 sent_tagged zero low = refl
 sent_tagged (suc g) low = (let e : nat_eq 0 (suc g) ≡ false = grind (arith, nat_tests) in rw e refl)
 
-pub commit_send : Steps sent (Commit t1) (Gave_commit (record { txn = t1; lsn = 5 })) committed
+pub commit_send : IsModelStep sent (Commit t1) (Gave_commit (record { txn = t1; lsn = 5 })) committed
 commit_send =
     commit_steps sent finish_send.sound t1 (done_row t1 did_send) 1 (waits_of_0 1) committed.sent refl refl refl refl
     sent_waits sent_counted sent_tagged refl refl
 
-pub force : Steps committed Force (Gave_forced 5) forced
+pub force : IsModelStep committed Force (Gave_forced 5) forced
 force = abort_steps.forces committed commit_send.sound refl
 
 -- 1.2 takes
-pub begin_again : Steps forced Begin (Gave_txn t2) begun_again
+pub begin_again : IsModelStep forced Begin (Gave_txn t2) begun_again
 begin_again = abort_steps.begins forced force.sound refl refl
 
 pub take_plan : IsTakePlan sizes (slots_in sizes sent_pages) (take_under 0) 0
@@ -172,7 +172,7 @@ take_plan = record {
   reads = refl;
 }
 
-pub start_take : Steps begun_again (Start_receive t2) (Gave_sub t2 1) take_started
+pub start_take : IsModelStep begun_again (Start_receive t2) (Gave_sub t2 1) take_started
 start_take =
     take_steps begun_again begin_again.sound t2 (fresh_row t2) (take_under 0) 0 refl refl (λ page of. refl) refl
     take_plan (omega arith)
@@ -186,7 +186,7 @@ free_put = record {
   headers = headers_with 3 6 groups_1 cells_2 (omega arith) (omega arith) groups_1_long cells_2_long;
 }
 
-pub step_free : Steps take_started (Step t2 1) (Gave_lsn 6) cell_freed
+pub step_free : IsModelStep take_started (Step t2 1) (Gave_lsn 6) cell_freed
 step_free =
     step_steps take_started start_take.sound t2 (busy_row t2 (take_under 0)) (take_under 0) free_cell freed_pages refl
     refl refl
@@ -201,7 +201,7 @@ taken_put = record {
   headers = headers_with 7 6 groups_2 cells_2 (omega arith) (omega arith) groups_2_long cells_2_long;
 }
 
-pub step_taken : Steps cell_freed (Step t2 1) (Gave_lsn 7) take_counted
+pub step_taken : IsModelStep cell_freed (Step t2 1) (Gave_lsn 7) take_counted
 step_taken =
     step_steps cell_freed step_free.sound t2 (busy_row t2 (take_under 1)) (take_under 1) count_taken taken_pages refl
     refl refl
@@ -213,7 +213,7 @@ taken_waits : (g : ℕ) → waits (waits_of_0 0) g ≡ waits (waits_of_0 1) g - 
 taken_waits zero = refl
 taken_waits (suc g) = (let e : nat_eq 0 (suc g) ≡ false = grind (arith, nat_tests) in rw e (omega arith))
 
-pub finish_take : Steps take_counted (Finish t2 1) (Gave_message (record { sender = 0; tag = 7; body = 104 ∷ [] })) taken
+pub finish_take : IsModelStep take_counted (Finish t2 1) (Gave_message (record { sender = 0; tag = 7; body = 104 ∷ [] })) taken
 finish_take =
     finish_steps take_counted step_taken.sound t2 (busy_row t2 (take_under 2)) (take_under 2) (takes 0) (waits_of_0 0)
     refl refl refl refl taken_waits refl
@@ -221,7 +221,7 @@ finish_take =
 took_none : (g : ℕ) → g < 15 → waits (waits_of_0 0) g ≡ waits (waits_of_0 0) g + sends_in g (done_row t2 did_take)
 took_none g low = omega arith
 
-pub commit_take : Steps taken (Commit t2) (Gave_commit (record { txn = t2; lsn = 9 })) all_committed
+pub commit_take : IsModelStep taken (Commit t2) (Gave_commit (record { txn = t2; lsn = 9 })) all_committed
 commit_take =
     commit_steps taken finish_take.sound t2 (done_row t2 did_take) 0 (waits_of_0 0) taken.sent refl refl refl refl
     took_none (λ g low. omega arith) (λ g low. refl) refl refl

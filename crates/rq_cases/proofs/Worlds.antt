@@ -8,7 +8,7 @@ use Rattle.rq_model.specs.History.Job.{Sending}
 use Rattle.rq_model.specs.Ledger.{Ledger, ledger, group_in}
 use Rattle.rq_model.specs.Legal.{IsLegal}
 use Rattle.rq_model.specs.Promises.{AcknowledgedStay, CrashGoesOn, FifoThroughout, ShutCrashGoesOn}
-use Rattle.rq_model.specs.Words.Op.{Send}
+use Rattle.rq_model.specs.Vocabulary.Op.{Send}
 use Rattle.rq_model.proofs.Told.{content_is}
 use Rattle.rq_model.specs.History.Call.{Force}
 use Rattle.rq_model.specs.Replay.Reply.{Gave_forced}

@@ -20,7 +20,7 @@ use Rattle.rq_store.specs.Opening.{next_restart, opened}
 use Rattle.rq_store.specs.Settled.{takes_one}
 use Rattle.rq_sound.specs.Sound.{IsSound}
 use Rattle.rq_store.specs.State.{State, ledger_of, size_of}
-use Rattle.rq_sound.specs.Steps.{Steps}
+use Rattle.rq_sound.specs.ModelSteps.{IsModelStep}
 use Rattle.rq_engine.specs.Lists.{done_by}
 use Rattle.rq_engine.specs.Moves.{with_sends, with_tags}
 use Rattle.rq_engine.specs.Opened.{OpenStore}
@@ -69,25 +69,25 @@ one_committed n = record (one_begun n) {
 
 -- its commit is answered
 abbrev pub Commits : ℕ → Number → State → Type 0
-Commits n number new = Steps (one_begun n) (Commit (only_one n)) (Gave_commit number) new
+Commits n number new = IsModelStep (one_begun n) (Commit (only_one n)) (Gave_commit number) new
 
 -- or the log is full for it
 abbrev pub IsFull : ℕ → State → Type 0
-IsFull n new = Steps (one_begun n) (Commit (only_one n)) (Gave_refusal why.LogFull) new
+IsFull n new = IsModelStep (one_begun n) (Commit (only_one n)) (Gave_refusal why.LogFull) new
 
 -- the start of a send is answered, or the log is full for it
 abbrev pub Sends : ℕ → ℕ → State → Type 0
-Sends n number new = Steps (one_begun n) (Start_send (only_one n) hello) (Gave_sub (only_one n) number) new
+Sends n number new = IsModelStep (one_begun n) (Start_send (only_one n) hello) (Gave_sub (only_one n) number) new
 
 abbrev pub IsFullForSend : ℕ → State → Type 0
-IsFullForSend n new = Steps (one_begun n) (Start_send (only_one n) hello) (Gave_refusal why.LogFull) new
+IsFullForSend n new = IsModelStep (one_begun n) (Start_send (only_one n) hello) (Gave_refusal why.LogFull) new
 
 -- so of a close
 abbrev pub Closes : ℕ → ℕ → State → Type 0
-Closes n number new = Steps (one_begun n) (Start_close (only_one n) 0) (Gave_sub (only_one n) number) new
+Closes n number new = IsModelStep (one_begun n) (Start_close (only_one n) 0) (Gave_sub (only_one n) number) new
 
 abbrev pub IsFullForClose : ℕ → State → Type 0
-IsFullForClose n new = Steps (one_begun n) (Start_close (only_one n) 0) (Gave_refusal why.LogFull) new
+IsFullForClose n new = IsModelStep (one_begun n) (Start_close (only_one n) 0) (Gave_refusal why.LogFull) new
 
 -- whether a commit passes the bound where a send is under way over a log of so many records
 abbrev pub full_beside : ℕ → Bool

@@ -12,7 +12,7 @@ use Rattle.rq_model.specs.Ledger.{ledger}
 use Rattle.rq_model.specs.Legal.{At, IsLegal}
 use Rattle.rq_model.specs.Tests.{Size, any_busy}
 use Rattle.rq_model.specs.Replay.Reply.{Gave_forced, Gave_refusal}
-use Rattle.rq_model.specs.Words.Op.{Take}
+use Rattle.rq_model.specs.Vocabulary.Op.{Take}
 use Rattle.rq_core.specs.Always.{GivesTo}
 use Rattle.rq_core.specs.Happenings.{Course, Tells}
 use Rattle.rq_model.specs.Causes.{HasCause}

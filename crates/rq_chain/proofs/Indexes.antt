@@ -2,7 +2,7 @@
 use Rattle.std.proofs.Common.{◌≡◌, ℕ, zero, suc, ◌&&◌, not, Bool, true, false, List, length, replicate, get_or, refl, sym, ap, ◌∙◌}
 use Rattle.std.proofs.lemmas.Bool.{true≢false}
 use Rattle.std.proofs.lemmas.List.{length-replicate}
-use Rattle.rq_level.specs.Kept.{flag_at}
+use Rattle.rq_level.specs.LevelState.{flag_at}
 use Rattle.rq_chain.specs.Cells.{Flags, IsIndexed, is_open}
 
 unset_at : (n i : ℕ) → get_or (replicate n false) i false ≡ false

@@ -11,19 +11,19 @@ use Rattle.rq_page.specs.Sizes.{Sizes, directory_at, sender_count}
 use Rattle.rq_page.specs.Slots.Slot.{Used, Sender}
 use Rattle.rq_views.specs.Plans.{append_writes, unlink_head_writes, unlink_tail_writes, put_back_writes, directory_write}
 use Rattle.rq_views.specs.Items.{layout_of}
-use Rattle.rq_level.specs.Kept.{Kept, IsLowest, reserved_at}
+use Rattle.rq_level.specs.LevelState.{LevelState, IsLowest, reserved_at}
 use Rattle.rq_level.specs.Given.{GivenHolds}
 use Rattle.rq_level.specs.ChainPlans.{Beside, IsSent, CanReceive, IsReceived, CanMark, IsMarked, CanUnlinkTail, IsTailUnlinked, IsReturned, IsReopened, IsInverse, RefusesOther, Undoes}
 use Rattle.rq_level.specs.Writes.{writes_of, AreSlotWrites}
 use Rattle.rq_level.specs.declared.slots.Given.{Given}
 use Rattle.rq_level.specs.declared.writes.Plan.{Plan}
-use Rattle.rq_level.specs.declared.writes.Outcome.TheVariants as gives
+use Rattle.rq_level.specs.declared.writes.PlannedReply.TheVariants as gives
 use Rattle.rq_chain.specs.declared.Neighbour.{Neighbour}
-use Rattle.rq_chain.specs.declared.Group.{Group}
+use Rattle.rq_chain.specs.declared.DirectoryEntry.{DirectoryEntry}
 use Rattle.rq_chain.specs.Neighbours.{cell_beside}
 use Rattle.rq_chain.proofs.Givens.{holds_one}
 
-module _ (z : Sizes) (k : Kept) (given : List Given) (latched : List ℕ) (s tag : ℕ) (body : List ℕ) (p : Plan) (after : Kept) (g : Group) where
+module _ (z : Sizes) (k : LevelState) (given : List Given) (latched : List ℕ) (s tag : ℕ) (body : List ℕ) (p : Plan) (after : LevelState) (g : DirectoryEntry) where
   pub is_sent : (tail : Option Neighbour) (new at : ℕ) → s < sender_count z → g.sender ≡ s → GivenHolds z given (directory_at s) (Sender s g.directory) → g.directory.sent ≤ 2 ^ 50
       → at ≡ g.directory.tail → Beside z given at (cell_beside tail) → IsLowest z k latched new
       → reverse (writes_of z p.writes.items) ≡ append_writes (layout_of z) g.sender g.directory new tag body (cell_beside tail)
@@ -94,7 +94,7 @@ opposite true false n = refl
 opposite false true n = refl
 opposite false false n = absurd (n refl)
 
-pub is_marked : (z : Sizes) (given : List Given) (s : ℕ) (closed : Bool) (p : Plan) (g : Group) → s < sender_count z → g.sender ≡ s → GivenHolds z given (directory_at s) (Sender s g.directory)
+pub is_marked : (z : Sizes) (given : List Given) (s : ℕ) (closed : Bool) (p : Plan) (g : DirectoryEntry) → s < sender_count z → g.sender ≡ s → GivenHolds z given (directory_at s) (Sender s g.directory)
     → (g.directory.closed ≡ closed → ⊥) → reverse (writes_of z p.writes.items) ≡ directory_write (layout_of z) g.sender g.directory (record g.directory { closed = closed }) ∷ []
     → AreSlotWrites z p.writes.items → IsMarked z given s closed p
 is_marked z given s closed p g below own holds other writes slots = record {
@@ -103,7 +103,7 @@ is_marked z given s closed p g below own holds other writes slots = record {
   slots = slots;
 }
 
-pub is_unlinked : (z : Sizes) (k : Kept) (given : List Given) (s n previous : ℕ) (p : Plan) (g : Group) (tail : Neighbour) (front : Option Neighbour) (at behind : ℕ)
+pub is_unlinked : (z : Sizes) (k : LevelState) (given : List Given) (s n previous : ℕ) (p : Plan) (g : DirectoryEntry) (tail : Neighbour) (front : Option Neighbour) (at behind : ℕ)
     → s < sender_count z → g.sender ≡ s → GivenHolds z given (directory_at s) (Sender s g.directory)
     → g.directory.received < g.directory.sent → g.directory.sent ≡ n → 0 < at → at ≡ g.directory.tail → GivenHolds z given at (Used tail.cell) → tail.cell.sequence ≡ n
     → behind ≡ tail.cell.prev → Beside z given behind (cell_beside front)
@@ -129,7 +129,7 @@ is_unlinked z k given s n previous p g tail front at behind below own holds some
   kept = refl;
 }
 
-pub is_returned : (z : Sizes) (k : Kept) (given : List Given) (latched : List ℕ) (s n tag : ℕ) (body : List ℕ) (p : Plan) (after : Kept) (g : Group) (head : Option Neighbour) (new at : ℕ)
+pub is_returned : (z : Sizes) (k : LevelState) (given : List Given) (latched : List ℕ) (s n tag : ℕ) (body : List ℕ) (p : Plan) (after : LevelState) (g : DirectoryEntry) (head : Option Neighbour) (new at : ℕ)
     → s < sender_count z → g.sender ≡ s → GivenHolds z given (directory_at s) (Sender s g.directory) → 0 < g.directory.received → g.directory.received ≡ n
     → at ≡ g.directory.head → Beside z given at (cell_beside head) → IsLowest z k latched new
     → reverse (writes_of z p.writes.items) ≡ put_back_writes (layout_of z) g.sender g.directory new tag body (cell_beside head)
@@ -152,7 +152,7 @@ no_tail z given s n at d at_is h none can =
     let f : d ≡ can.directory = cc in
     none can.cell (subst (λ (a : ℕ). GivenHolds z given a (Used can.cell)) (sym (at_is ∙ ap (λ (y : Directory). y.tail) f)) can.tail_is)
 
-pub close_undone : (z : Sizes) (k : Kept) (given : List Given) (latched : List ℕ) (s : ℕ) (r : Result Plan Refusal) → IfOk r (λ p. (k : Kept) → IsReopened z k given s p k)
+pub close_undone : (z : Sizes) (k : LevelState) (given : List Given) (latched : List ℕ) (s : ℕ) (r : Result Plan Refusal) → IfOk r (λ p. (k : LevelState) → IsReopened z k given s p k)
     → IfErr r (λ e. RefusesOther (CanMark z given s false) e) → Undoes (Some z) (Some (Close s)) k given latched r k
 close_undone z k given latched s (Ok p) ok err = ok k
 close_undone z k given latched s (Err e) ok err = (err, refl)

@@ -2,7 +2,7 @@
 use Rattle.std.specs.Prelude.{◌≡◌, ℕ, ◌/◌, ◌<◌, ◌≤◌, ◌&&◌, not, Bool, true, false, List, length, slice_set}
 use Rattle.rq_page.specs.Sizes.{Sizes, cell_at}
 use Rattle.rq_level.specs.Given.{has_page}
-use Rattle.rq_level.specs.Kept.{flag_at}
+use Rattle.rq_level.specs.LevelState.{flag_at}
 
 -- by their places, whether cells are free, and whether plans have chosen them
 pub record Flags : Type 0 where

@@ -6,7 +6,7 @@ use Rattle.rq_page.specs.declared.cell.CellSlot.TheVariants as cells
 use Rattle.rq_page.specs.Sizes.{Sizes, IsCellAddress, directory_at, sender_count}
 use Rattle.rq_page.specs.Slots.{IsCellOf, IsDirectoryOf}
 use Rattle.rq_chain.specs.declared.Neighbour.{Neighbour}
-use Rattle.rq_chain.specs.declared.Group.{Group}
+use Rattle.rq_chain.specs.declared.DirectoryEntry.{DirectoryEntry}
 
 -- the cell beside, if there is one
 abbrev pub cell_beside : Option Neighbour → Option Cell
@@ -30,7 +30,7 @@ IsNeighbour z a None = a ≡ 0
 IsNeighbour z a (Some n) = IsNeighbourAt z a n
 
 -- the group stands where its sender's directory slot is, and may stand there
-pub record IsGroupOf (z : Sizes) (g : Group) : Type 0 where
+pub record IsGroupOf (z : Sizes) (g : DirectoryEntry) : Type 0 where
   pub at : g.at ≡ directory_at g.sender
   pub sender : g.sender < sender_count z
   pub directory : IsDirectoryOf z g.sender (record { sender = g.sender; directory = g.directory })

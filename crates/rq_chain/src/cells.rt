@@ -2,10 +2,10 @@
 ghost use Rattle.std.specs.Prelude.{◌≡◌, ◌<◌, ◌≤◌, ◌+◌, ◌*◌, ◌/◌, ℕ, IfSome, IfNone, None, Some, length, true, false};
 ghost use Rattle.rq_page.specs.Sizes.{cell_at, cell_count};
 ghost use Rattle.rq_level.specs.Given.{has_page};
-ghost use Rattle.rq_flags.specs.Marks.{IsNextMark};
+ghost use Rattle.rq_bitset.specs.Bits.{IsNextBit};
 ghost use Rattle.rq_chain.specs.Cells.{Flags, IsLowestIn, NoneInPage, NoneToTakeIn, is_open, noted_flags, reserved_flags, takes};
 
-use rq_flags::Marks;
+use rq_bitset::BitSet;
 use rq_level::PageSet;
 use rq_model::refusal::NoMemory;
 use rq_page::layout::{CELLS_LIMIT, Layout, SLOTS};
@@ -16,9 +16,9 @@ use std::marker::Model;
 /// marked there has no cell to take. Contracts see the flags.
 #[derive(Drop)]
 pub(crate) struct FreeCells {
-    free: Marks,
-    reserved: Marks,
-    pages: Marks,
+    free: BitSet,
+    reserved: BitSet,
+    pages: BitSet,
 }
 
 impl Model for FreeCells {
@@ -38,9 +38,9 @@ impl FreeCells {
     /// `NoMemory`.
     pub fn new(alloc: Global) -> Result<FreeCells, NoMemory> {
         Ok(FreeCells {
-            free: Marks::new(alloc, CELLS_LIMIT * SLOTS)?,
-            reserved: Marks::new(alloc, CELLS_LIMIT * SLOTS)?,
-            pages: Marks::new(alloc, CELLS_LIMIT)?,
+            free: BitSet::new(alloc, CELLS_LIMIT * SLOTS)?,
+            reserved: BitSet::new(alloc, CELLS_LIMIT * SLOTS)?,
+            pages: BitSet::new(alloc, CELLS_LIMIT)?,
         })
     }
 
@@ -53,7 +53,7 @@ impl FreeCells {
 
     /// The lowest cell that is free.
     pub fn lowest_free(&self) -> Option<u32>
-        ensures { IsNextMark self.now.free 0 result }
+        ensures { IsNextBit self.now.free 0 result }
     {
         self.free.next(0)
     }

@@ -8,7 +8,7 @@ ghost use Rattle.rq_page.specs.declared.cell.Cell.{Cell};
 ghost use Rattle.rq_level.specs.Given.{given_at, AreGiven, GivenHolds};
 ghost use Rattle.rq_level.specs.ChainPlans.{Beside};
 
-use crate::{Group, Neighbour};
+use crate::{DirectoryEntry, Neighbour};
 use rq_level::Slots;
 use rq_model::record::Slot;
 use rq_page::addr::Addr;
@@ -20,7 +20,7 @@ use rq_page::layout::Layout;
 pub(crate) const SENT_LIMIT: u64 = 1 << 50;
 
 /// A sender's group, where its directory slot was given.
-pub(crate) fn group_given(layout: &Layout, given: &Slots, sender: u32) -> Option<Group>
+pub(crate) fn group_given(layout: &Layout, given: &Slots, sender: u32) -> Option<DirectoryEntry>
     requires sender { sender < sender_count layout.now }
     requires given { AreGiven layout.now given.now }
     ensures group { IfSome result (λ g. IsGroupOf layout.now g × (g.sender ≡ sender)) }
@@ -30,7 +30,7 @@ pub(crate) fn group_given(layout: &Layout, given: &Slots, sender: u32) -> Option
     let at = layout.directory_of(sender);
     let bytes = given.get(at)?;
     let held = DirectorySlot::decode(bytes).unwrap();
-    Some(Group {
+    Some(DirectoryEntry {
         at,
         sender,
         directory: held.directory,
@@ -89,14 +89,14 @@ pub(crate) fn beside_given(layout: &Layout, given: &Slots, at: Addr) -> Option<O
 }
 
 /// The cell of a group's last message, or none.
-pub(crate) fn tail_of(group: &Group) -> Addr
+pub(crate) fn tail_of(group: &DirectoryEntry) -> Addr
     ensures { result ≡ group.now.directory.tail }
 {
     group.directory.tail
 }
 
 /// The cell of a group's first message, or none.
-pub(crate) fn head_of(group: &Group) -> Addr
+pub(crate) fn head_of(group: &DirectoryEntry) -> Addr
     ensures { result ≡ group.now.directory.head }
 {
     group.directory.head

@@ -2,7 +2,7 @@
 ghost use Rattle.std.specs.Prelude.{◌≡◌, ◌<◌, IfOk, IfErr, IfSome, IfNone, OnErr, None, Some, length, true, false};
 ghost use Rattle.std.specs.Bool.{OnTrue, OnFalse};
 ghost use Rattle.rq_page.specs.Sizes.{IsCellAddress, place_of};
-ghost use Rattle.rq_level.specs.Kept.{Kept, IsLowest, NoneToTake, NoneFree, SomeFree, reserved_at, told_sizes, is_cell_address, noted_cell, noted};
+ghost use Rattle.rq_level.specs.LevelState.{LevelState, IsLowest, NoneToTake, NoneFree, SomeFree, reserved_at, told_sizes, is_cell_address, noted_cell, noted};
 ghost use Rattle.rq_level.specs.Given.{AreGiven};
 ghost use Rattle.rq_level.specs.ChainPlans.{CanSend, IsSent, RefusesTaking, CanReceive, IsReceived, RefusesOther, CanMark, IsMarked, IsClosed, CanUnlinkTail, IsTailUnlinked, CanPutBack, IsReturned, IsReopened, IsInverse, Plans, Undoes};
 ghost use Rattle.rq_level.specs.declared.writes.Plan.{Plan};
@@ -12,11 +12,11 @@ ghost use Rattle.rq_chain.specs.Refusing.{NoCell};
 use crate::cells::FreeCells;
 use crate::doing::{Doing, read_doing};
 use crate::given::{SENT_LIMIT, beside_given, cell_given, group_given, head_of, tail_of};
-use crate::plans::{append, mark, put_back, unlink_head, unlink_tail};
+use crate::plans::{append, put_back, set_closed, unlink_head, unlink_tail};
 use crate::wants::{undo_wanted, wanted};
 use crate::{ChainPlan, Neighbour};
 use byteorder::{BigEndian, ByteOrder};
-use rq_level::{Level, Op, Outcome, PageSet, Plan, SlotWrite, Slots, Want, redo_page};
+use rq_level::{Level, Op, PageSet, Plan, PlannedReply, SlotWrite, Slots, Want, redo_page};
 use rq_model::message::{Body, Message};
 use rq_model::record::{Deed, DeedBytes, Record, Slot};
 use rq_model::refusal::{Damage, NoMemory, Refusal};
@@ -37,9 +37,9 @@ pub struct ChainLevel {
 }
 
 impl Model for ChainLevel {
-    ghost use Rattle.rq_level.specs.Kept.{Kept};
+    ghost use Rattle.rq_level.specs.LevelState.{LevelState};
 
-    ghost Value = { Kept };
+    ghost Value = { LevelState };
 
     ghost view = { λ c. record { sizes = c.layout; free = c.cells.free; reserved = c.cells.reserved } };
 }
@@ -179,7 +179,7 @@ impl ChainLevel {
         Ok(Plan {
             writes,
             deed: encode_deed(&deed),
-            reply: Some(Outcome::Sent),
+            reply: Some(PlannedReply::Sent),
         })
     }
 
@@ -233,11 +233,11 @@ impl ChainLevel {
         ensures ok { IfOk result (λ p. IsClosed layout.now self.now given.now sender p self.now) }
         ensures err { IfErr result (λ r. RefusesOther (CanMark layout.now given.now sender true) r) }
     {
-        let writes = marked(alloc, layout, given, sender, true)?;
+        let writes = closed_writes(alloc, layout, given, sender, true)?;
         Ok(Plan {
             writes,
             deed: encode_deed(&Deed::Close { sender }),
-            reply: Some(Outcome::Closed),
+            reply: Some(PlannedReply::Closed),
         })
     }
 
@@ -399,7 +399,7 @@ impl Level for ChainLevel {
 }
 
 // The write that closes a group or opens it again, where it is not so already.
-fn marked(
+fn closed_writes(
     alloc: Global,
     layout: &Layout,
     given: &Slots,
@@ -420,7 +420,7 @@ fn marked(
     if group.directory.closed == closed {
         return Err(damaged);
     }
-    match mark(alloc, layout, &group, closed) {
+    match set_closed(alloc, layout, &group, closed) {
         Ok(writes) => Ok(writes),
         Err(NoMemory) => Err(Refusal::NoMemory),
     }
@@ -429,10 +429,10 @@ fn marked(
 // The plan of the inverse of a close.
 fn reopened(alloc: Global, layout: &Layout, given: &Slots, sender: u32) -> Result<Plan, Refusal>
     requires { AreGiven layout.now given.now }
-    ensures ok { IfOk result (λ p. (k : Kept) → IsReopened layout.now k given.now sender p k) }
+    ensures ok { IfOk result (λ p. (k : LevelState) → IsReopened layout.now k given.now sender p k) }
     ensures err { IfErr result (λ r. RefusesOther (CanMark layout.now given.now sender false) r) }
 {
-    let writes = marked(alloc, layout, given, sender, false)?;
+    let writes = closed_writes(alloc, layout, given, sender, false)?;
     Ok(inverse(writes))
 }
 
@@ -446,7 +446,7 @@ fn unlinked_tail(
     previous: u64,
 ) -> Result<Plan, Refusal>
     requires { AreGiven layout.now given.now }
-    ensures ok { IfOk result (λ p. (k : Kept) → IsTailUnlinked layout.now k given.now sender sequence previous p k) }
+    ensures ok { IfOk result (λ p. (k : LevelState) → IsTailUnlinked layout.now k given.now sender sequence previous p k) }
     ensures err { IfErr result (λ r. RefusesOther (CanUnlinkTail layout.now given.now sender sequence) r) }
 {
     let damaged = Refusal::Damaged(Damage::Page(1));
@@ -486,7 +486,7 @@ fn inverse(writes: Vec<SlotWrite>) -> Plan
     Plan {
         writes,
         deed: DeedBytes::new(&[]).unwrap(),
-        reply: Some(Outcome::Undone),
+        reply: Some(PlannedReply::Undone),
     }
 }
 
@@ -498,10 +498,10 @@ fn front_of(tail: &Neighbour) -> Addr
 }
 
 // What the end of a receive answers.
-fn message_of(sender: u32, head: &Neighbour) -> Outcome
-    ensures { result ≡ Outcome.Message (record { sender = sender; tag = head.now.cell.tag; body = head.now.cell.body }) }
+fn message_of(sender: u32, head: &Neighbour) -> PlannedReply
+    ensures { result ≡ PlannedReply.Message (record { sender = sender; tag = head.now.cell.tag; body = head.now.cell.body }) }
 {
-    Outcome::Message(Message {
+    PlannedReply::Message(Message {
         sender,
         tag: head.cell.tag,
         body: head.cell.body,

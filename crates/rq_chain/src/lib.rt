@@ -13,7 +13,7 @@ mod wants;
 mod writes;
 
 pub use level::ChainLevel;
-pub use plans::{append, mark, put_back, unlink_head, unlink_tail};
+pub use plans::{append, put_back, set_closed, unlink_head, unlink_tail};
 use rq_level::SlotWrite;
 use rq_model::record::Deed;
 use rq_page::addr::Addr;
@@ -36,7 +36,7 @@ pub struct Neighbour {
 
 /// A sender's directory slot: where it stands, whose it is, and what it says.
 #[derive(Clone, Copy)]
-pub struct Group {
+pub struct DirectoryEntry {
     pub at: Addr,
     pub sender: u32,
     pub directory: Directory,

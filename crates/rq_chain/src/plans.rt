@@ -9,7 +9,7 @@ ghost use Rattle.rq_level.specs.Writes.{write_of, writes_of, IsSlotWrite, AreSlo
 ghost use Rattle.rq_chain.specs.Neighbours.{cell_beside, IsNeighbour, IsNeighbourAt, IsGroupOf};
 
 use crate::writes::{cell_write, group_write, listed};
-use crate::{ChainPlan, Group, Neighbour};
+use crate::{ChainPlan, DirectoryEntry, Neighbour};
 use rq_level::SlotWrite;
 use rq_model::message::{BODY_LIMIT, Body};
 use rq_model::record::Deed;
@@ -24,7 +24,7 @@ use std::alloc::Global;
 pub fn append(
     alloc: Global,
     layout: &Layout,
-    group: &Group,
+    group: &DirectoryEntry,
     tail: Option<Neighbour>,
     free: Addr,
     tag: u64,
@@ -64,7 +64,7 @@ pub fn append(
 pub fn unlink_head(
     alloc: Global,
     layout: &Layout,
-    group: &Group,
+    group: &DirectoryEntry,
     head: &Neighbour,
     next: Option<Neighbour>,
 ) -> Result<ChainPlan, NoMemory>
@@ -100,7 +100,7 @@ pub fn unlink_head(
 pub fn unlink_tail(
     alloc: Global,
     layout: &Layout,
-    group: &Group,
+    group: &DirectoryEntry,
     tail: &Neighbour,
     front: Option<Neighbour>,
     previous: u64,
@@ -128,7 +128,7 @@ pub fn unlink_tail(
 pub fn put_back(
     alloc: Global,
     layout: &Layout,
-    group: &Group,
+    group: &DirectoryEntry,
     head: Option<Neighbour>,
     free: Addr,
     tag: u64,
@@ -153,10 +153,10 @@ pub fn put_back(
 }
 
 /// Closes a group, or opens it again.
-pub fn mark(
+pub fn set_closed(
     alloc: Global,
     layout: &Layout,
-    group: &Group,
+    group: &DirectoryEntry,
     closed: bool,
 ) -> Result<Vec<SlotWrite>, NoMemory>
     requires group { IsGroupOf layout.now group.now }
@@ -165,12 +165,12 @@ pub fn mark(
         (record group.now.directory { closed = closed }) ∷ []) }
     ensures slots { IfOk result (λ writes. AreSlotWrites layout.now writes.items) }
 {
-    let write = group_write(layout, group, &marked(layout, group, closed));
+    let write = group_write(layout, group, &with_closed(layout, group, closed));
     listed(alloc, &[write])
 }
 
 // The cell of a group's next message.
-fn next_cell(layout: &Layout, group: &Group, tag: u64, body: Body) -> Cell
+fn next_cell(layout: &Layout, group: &DirectoryEntry, tag: u64, body: Body) -> Cell
     requires room { group.now.directory.sent < 2 ^ 64 - 1 }
     requires group { IsGroupOf layout.now group.now }
     ensures cell { result ≡ record {
@@ -196,7 +196,7 @@ fn next_cell(layout: &Layout, group: &Group, tag: u64, body: Body) -> Cell
 }
 
 // What the directory says of a group with one message more, which stands in this cell.
-fn appended(layout: &Layout, group: &Group, cell: Addr, tag: u64) -> Directory
+fn appended(layout: &Layout, group: &DirectoryEntry, cell: Addr, tag: u64) -> Directory
     requires room { group.now.directory.sent < 2 ^ 64 - 1 }
     requires group { IsGroupOf layout.now group.now }
     requires cell { IsCellAddress layout.now cell }
@@ -217,7 +217,7 @@ fn appended(layout: &Layout, group: &Group, cell: Addr, tag: u64) -> Directory
 }
 
 // What the directory says of a group without its first message, which stands in this cell.
-fn head_unlinked(layout: &Layout, group: &Group, head: &Cell) -> Directory
+fn head_unlinked(layout: &Layout, group: &DirectoryEntry, head: &Cell) -> Directory
     requires some { group.now.directory.received < group.now.directory.sent }
     requires group { IsGroupOf layout.now group.now }
     requires head { IsCellOf layout.now head.now }
@@ -238,7 +238,7 @@ fn head_unlinked(layout: &Layout, group: &Group, head: &Cell) -> Directory
 }
 
 // The cell of a message that comes back to the front of its group.
-fn returned_cell(layout: &Layout, group: &Group, tag: u64, body: Body) -> Cell
+fn returned_cell(layout: &Layout, group: &DirectoryEntry, tag: u64, body: Body) -> Cell
     requires some { 0 < group.now.directory.received }
     requires group { IsGroupOf layout.now group.now }
     ensures cell { result ≡ record {
@@ -264,7 +264,7 @@ fn returned_cell(layout: &Layout, group: &Group, tag: u64, body: Body) -> Cell
 }
 
 // What the directory says of a group without its last message, which stands in this cell.
-fn tail_unlinked(layout: &Layout, group: &Group, tail: &Cell, previous: u64) -> Directory
+fn tail_unlinked(layout: &Layout, group: &DirectoryEntry, tail: &Cell, previous: u64) -> Directory
     requires some { group.now.directory.received < group.now.directory.sent }
     requires group { IsGroupOf layout.now group.now }
     requires tail { IsCellOf layout.now tail.now }
@@ -289,7 +289,7 @@ fn tail_unlinked(layout: &Layout, group: &Group, tail: &Cell, previous: u64) -> 
 }
 
 // What the directory says of a group with a message back in front, which stands in this cell.
-fn returned(layout: &Layout, group: &Group, cell: Addr) -> Directory
+fn returned(layout: &Layout, group: &DirectoryEntry, cell: Addr) -> Directory
     requires some { 0 < group.now.directory.received }
     requires group { IsGroupOf layout.now group.now }
     requires cell { IsCellAddress layout.now cell }
@@ -310,7 +310,7 @@ fn returned(layout: &Layout, group: &Group, cell: Addr) -> Directory
 }
 
 // What the directory says of a group that is closed or not.
-fn marked(layout: &Layout, group: &Group, closed: bool) -> Directory
+fn with_closed(layout: &Layout, group: &DirectoryEntry, closed: bool) -> Directory
     requires group { IsGroupOf layout.now group.now }
     ensures directory { result ≡ record group.now.directory { closed = closed } }
     ensures fits { IsDirectoryOf layout.now group.now.sender

@@ -7,7 +7,7 @@ ghost use Rattle.rq_views.specs.Plans.{directory_write};
 ghost use Rattle.rq_level.specs.Writes.{write_of, IsSlotWrite};
 ghost use Rattle.rq_chain.specs.Neighbours.{IsGroupOf};
 
-use crate::Group;
+use crate::DirectoryEntry;
 use rq_level::SlotWrite;
 use rq_model::refusal::NoMemory;
 use rq_page::addr::Addr;
@@ -42,7 +42,7 @@ pub(crate) fn cell_write(
 }
 
 /// The write that has a group's directory slot say something else.
-pub(crate) fn group_write(layout: &Layout, group: &Group, after: &Directory) -> SlotWrite
+pub(crate) fn group_write(layout: &Layout, group: &DirectoryEntry, after: &Directory) -> SlotWrite
     requires group { IsGroupOf layout.now group.now }
     requires after { IsDirectoryOf layout.now group.now.sender
         (record { sender = group.now.sender; directory = after.now }) }

@@ -6,7 +6,7 @@ use Rattle.std.proofs.lemmas.List.{append-nil, append_assoc}
 use Rattle.rq_model.specs.declared.message.Message.{Message}
 use Rattle.rq_model.specs.declared.record.Deed.{Deed}
 use Rattle.rq_model.specs.declared.record.Deed.TheVariants.{Append, UnlinkHead, Close}
-use Rattle.rq_model.specs.Words.{sent_for, taken_from}
+use Rattle.rq_model.specs.Vocabulary.{sent_for, taken_from}
 use Rattle.rq_model.specs.Content.{said, tag_after, closed, closed_one}
 use Rattle.rq_model.specs.Commits.{op_of}
 use Rattle.rq_model.proofs.Ends.{no_last}

@@ -12,7 +12,7 @@ use Rattle.rq_model.specs.declared.txn.Txn.{Txn}
 use Rattle.rq_model.specs.declared.refusal.Refusal.{Refusal}
 use Rattle.rq_model.specs.declared.refusal.Refusal.TheVariants.{NoMemory}
 use Rattle.rq_model.specs.Tests.{below}
-use Rattle.rq_model.specs.Words.{In, same_txn, sent_for, taken_from}
+use Rattle.rq_model.specs.Vocabulary.{In, same_txn, sent_for, taken_from}
 use Rattle.rq_model.specs.History.{Group}
 use Rattle.rq_model.specs.Ledger.{group_in}
 use Rattle.rq_model.specs.Content.{added, removed, closed, tag_after}

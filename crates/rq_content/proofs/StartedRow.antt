@@ -2,7 +2,7 @@
 use Rattle.std.proofs.Common.{◌≡◌, List, [], ◌∷◌, sym, subst, refl, inl, inr, IfSome, IsSome}
 use Rattle.std.proofs.lemmas.Bool.{cases_Bool}
 use Rattle.rq_model.specs.declared.txn.Txn.{Txn}
-use Rattle.rq_model.specs.Words.{same_txn}
+use Rattle.rq_model.specs.Vocabulary.{same_txn}
 use Rattle.rq_txn.specs.Rows.{Row, Under, found_row, change_row, row_started}
 
 started_is_under : (t : Txn) (u : Under) (rows : List Row) → IfSome (found_row t (change_row t (row_started u) rows)) (λ row. IsSome row.under)

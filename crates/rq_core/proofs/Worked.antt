@@ -2,7 +2,7 @@
 use Rattle.std.proofs.Common.{rules, ◌≡◌, ℕ, refl, List, ◌∷◌, true, false, ap, arith, ◌≤◌, ◌<◌, sym, ◌∙◌, zero, suc, nat_eq}
 use Rattle.std.proofs.lemmas.Bool.Decides.{nat_tests}
 use Rattle.rq_model.specs.declared.refusal.Refusal.TheVariants.{Failed}
-use Rattle.rq_model.specs.Words.Op.{Send}
+use Rattle.rq_model.specs.Vocabulary.Op.{Send}
 use Rattle.rq_model.specs.History.{Entry}
 use Rattle.rq_model.specs.History.Call.{Acknowledge}
 use Rattle.rq_model.specs.History.Job.{Sending}

@@ -6,7 +6,7 @@ use Rattle.std.proofs.lemmas.List.{take-append-drop, length-drop}
 use Rattle.rq_model.specs.declared.record.Record.{Record}
 use Rattle.rq_model.specs.declared.refusal.Refusal.{Refusal}
 use Rattle.rq_model.specs.declared.refusal.Refusal.TheVariants as why
-use Rattle.rq_model.specs.Words.{In}
+use Rattle.rq_model.specs.Vocabulary.{In}
 use Rattle.rq_model.specs.History.{Entry, commits}
 use Rattle.rq_model.specs.History.Call.{Hand_over}
 use Rattle.rq_model.specs.History.Entry.{Crash as Crash_entry, Restarted as Restarted_entry}
@@ -45,8 +45,8 @@ use Rattle.rq_engine.specs.declared.event.Progress.TheVariants as progress
 use Rattle.rq_engine.specs.declared.event.Reply.{Reply}
 use Rattle.rq_engine.specs.declared.event.Reply.TheVariants as reply
 use Rattle.rq_restart.specs.Restarting.{IsReadAs, IsLeftOn, IsOpenedOver, Reports}
-use Rattle.rq_lost.specs.Recovered.{IsRecovered, IsRecoveredFrom}
-use Rattle.rq_lost.proofs.Recovering.{recovered_from}
+use Rattle.rq_loser_undo.specs.Recovered.{IsRecovered, IsRecoveredFrom}
+use Rattle.rq_loser_undo.proofs.Recovering.{recovered_from}
 use Rattle.rq_restart.proofs.Begun.{mended_incarnation}
 use Rattle.rq_restart.specs.Underway.{IsStore, IsSomeStore, IsLeftOrGoesOn}
 use Rattle.rq_restart.specs.Once.{OneLogEach, AsManyAsTheLog, OneSizeEach}

@@ -11,8 +11,8 @@ use Rattle.rq_core.specs.declared.happening.Entry.{Entry}
 use Rattle.rq_core.specs.declared.happening.Entry.TheVariants as entry
 use Rattle.rq_core.specs.declared.happening.Happening.{Happening}
 use Rattle.rq_core.specs.declared.happening.Happening.TheVariants as happening
-use Rattle.rq_core.specs.declared.world.Store.{Store}
-use Rattle.rq_core.specs.declared.world.Store.TheVariants as store
+use Rattle.rq_core.specs.declared.world.WorldState.{WorldState}
+use Rattle.rq_core.specs.declared.world.WorldState.TheVariants as store
 use Rattle.rq_core.specs.Happenings.{Happening as Happens, Answer, Report, Course, course_of}
 use Rattle.rq_core.specs.Happenings.Happening.{Asks, Acknowledges, Fails, Crashes, Stops_in, Restarts, Stops_restart}
 use Rattle.rq_core.specs.Happenings.Answer.{Answered, Crashed, Restarted, Refused, Running, Nothing}
@@ -52,6 +52,6 @@ commit_told _ = None
 abbrev pub course : List Happening → List Entry → Course
 course xs es = course_of (map happens xs) (map answer_in es)
 
-abbrev pub world_of : {B : Type 0} → Store B → World MemPages MemLog
+abbrev pub world_of : {B : Type 0} → WorldState B → World MemPages MemLog
 world_of (store.Shut pages log) = Is_shut pages log
 world_of (store.Open engine) = Is_open engine

@@ -3,7 +3,7 @@ use Rattle.std.specs.Prelude.{ℕ, List, [], ◌∷◌, Some, None, true, false,
 use Rattle.rq_model.specs.declared.message.Message.{Message}
 use Rattle.rq_model.specs.declared.refusal.Refusal.TheVariants.{DiskWrite, Failed, Damaged, Latched, NoMemory}
 use Rattle.rq_model.specs.declared.refusal.Damage.TheVariants as damage
-use Rattle.rq_model.specs.Words.Op.{Send}
+use Rattle.rq_model.specs.Vocabulary.Op.{Send}
 use Rattle.rq_model.specs.History.{Entry}
 use Rattle.rq_model.specs.History.Call.{Begin, Start_send, Step, Finish, Commit as Commit_call, Acknowledge, Force}
 use Rattle.rq_model.specs.History.Job.{Sending, Taking}

@@ -48,14 +48,14 @@ impl Model for World {
 
 /// What a run came to: an entry for each happening, in order, and both devices as they are at its end.
 #[derive(Drop)]
-pub struct Outcome {
+pub struct RunResult {
     pub entries: Vec<Entry>,
     pub pages: MemPages,
     pub log: MemLog,
 }
 
 #[derive(Drop)]
-enum Store<B: Level> {
+enum WorldState<B: Level> {
     Shut(MemPages, MemLog),
     Open(Engine<MemPages, MemLog, B>),
 }
@@ -95,7 +95,7 @@ impl World {
         self,
         happenings: &[Happening],
         mut sets: Vec<StoreLevels<B>>,
-    ) -> Result<Outcome, AllocError>
+    ) -> Result<RunResult, AllocError>
         ensures each { IfOk result (λ o. length o.entries.items ≡ length happenings.now) }
         ensures run { IfOk result (λ o. IsRun self (course happenings.now o.entries.items) o.pages o.log) }
         ensures headline { IfOk result (λ o. IsHeadline self (course happenings.now o.entries.items) o.pages o.log) }
@@ -108,7 +108,7 @@ impl World {
             log,
         } = self;
         let mut entries = Vec::with_capacity(alloc, happenings.len())?;
-        let mut store = Store::Shut(pages, log);
+        let mut store = WorldState::Shut(pages, log);
         for happening in happenings {
             let (next, entry) = happen(alloc, &switch, store, happening, &entries, &mut sets)?;
             store = next;
@@ -116,7 +116,7 @@ impl World {
         }
         a_run_is_told();
         let (pages, log) = given_up(store);
-        Ok(Outcome {
+        Ok(RunResult {
             entries,
             pages,
             log,
@@ -128,17 +128,17 @@ impl World {
 fn happen<B: Level>(
     alloc: Global,
     switch: &Switch,
-    store: Store<B>,
+    store: WorldState<B>,
     happening: &Happening,
     entries: &[Entry],
     sets: &mut Vec<StoreLevels<B>>,
-) -> Result<(Store<B>, Entry), AllocError>
+) -> Result<(WorldState<B>, Entry), AllocError>
     ensures { IfOk result (λ r. (c : Course) → answers_of c ≡ map answer_in entries.now
         → Happened c (happens happening.now) (world_of store) (answer_in r.1) (world_of r.0)) }
 {
     match store {
-        Store::Open(engine) => happen_to_open(switch, engine, happening, entries),
-        Store::Shut(pages, log) => {
+        WorldState::Open(engine) => happen_to_open(switch, engine, happening, entries),
+        WorldState::Shut(pages, log) => {
             happen_to_shut(alloc, switch, pages, log, happening, entries, sets)
         }
     }
@@ -149,7 +149,7 @@ fn happen_to_open<B: Level>(
     engine: Engine<MemPages, MemLog, B>,
     happening: &Happening,
     entries: &[Entry],
-) -> Result<(Store<B>, Entry), AllocError>
+) -> Result<(WorldState<B>, Entry), AllocError>
     ensures { IfOk result (λ r. (c : Course) → answers_of c ≡ map answer_in entries.now
         → Happened c (happens happening.now) (Is_open engine) (answer_in r.1) (world_of r.0)) }
 {
@@ -157,11 +157,11 @@ fn happen_to_open<B: Level>(
         Happening::Call(event) => Ok(ask(engine, event)),
         Happening::Ack(n) => match committed(entries, *n) {
             Some(number) => Ok(ask(engine, &Event::Acknowledged(number))),
-            None => Ok((Store::Open(engine), Entry::Nothing)),
+            None => Ok((WorldState::Open(engine), Entry::Nothing)),
         },
         Happening::Fail(n) => {
             switch.arm_call(*n, Mishap::Fail);
-            Ok((Store::Open(engine), Entry::Nothing))
+            Ok((WorldState::Open(engine), Entry::Nothing))
         }
         Happening::Crash(choice) => {
             let images = images(choice)?;
@@ -172,7 +172,7 @@ fn happen_to_open<B: Level>(
             Ok(stop_in(switch, engine, event, *n, choice.keep, images))
         }
         Happening::Restart | Happening::RestartStop(..) => {
-            Ok((Store::Open(engine), Entry::Running))
+            Ok((WorldState::Open(engine), Entry::Running))
         }
     }
 }
@@ -185,7 +185,7 @@ fn happen_to_shut<B: Level>(
     happening: &Happening,
     entries: &[Entry],
     sets: &mut Vec<StoreLevels<B>>,
-) -> Result<(Store<B>, Entry), AllocError>
+) -> Result<(WorldState<B>, Entry), AllocError>
     ensures { IfOk result (λ r. (c : Course) → answers_of c ≡ map answer_in entries.now
         → Happened c (happens happening.now) (Is_shut pages log) (answer_in r.1) (world_of r.0)) }
 {
@@ -193,11 +193,11 @@ fn happen_to_shut<B: Level>(
         Happening::Call(_) | Happening::StopIn(..) => Ok(not_open(pages, log)),
         Happening::Ack(n) => match committed(entries, *n) {
             Some(_) => Ok(not_open(pages, log)),
-            None => Ok((Store::Shut(pages, log), Entry::Nothing)),
+            None => Ok((WorldState::Shut(pages, log), Entry::Nothing)),
         },
         Happening::Fail(n) => {
             switch.arm_call(*n, Mishap::Fail);
-            Ok((Store::Shut(pages, log), Entry::Nothing))
+            Ok((WorldState::Shut(pages, log), Entry::Nothing))
         }
         Happening::Crash(_) => Ok(crash_shut(pages, log)),
         Happening::Restart => {
@@ -221,29 +221,29 @@ fn next_set<B: Level>(sets: &mut Vec<StoreLevels<B>>) -> Result<StoreLevels<B>, 
 }
 
 // The answer to a call of a store that is not open.
-fn not_open<B: Level>(pages: MemPages, log: MemLog) -> (Store<B>, Entry)
+fn not_open<B: Level>(pages: MemPages, log: MemLog) -> (WorldState<B>, Entry)
     ensures { (call : Call) → HappensIn (Makes call) (Is_shut pages log) (answer_in result.1) (world_of result.0) }
 {
     (
-        Store::Shut(pages, log),
+        WorldState::Shut(pages, log),
         Entry::Answered(Reply::Refused(Refusal::Failed)),
     )
 }
 
 // The power fails while the store is not open: all that its devices hold outlives it.
-fn crash_shut<B: Level>(pages: MemPages, log: MemLog) -> (Store<B>, Entry)
+fn crash_shut<B: Level>(pages: MemPages, log: MemLog) -> (WorldState<B>, Entry)
     ensures { HappensIn (Is Crashes) (Is_shut pages log) (answer_in result.1) (world_of result.0) }
 {
     crash(pages, log, u64::MAX, PageChoice::Newest)
 }
 
 // Makes a call of an open store.
-fn ask<B: Level>(engine: Engine<MemPages, MemLog, B>, event: &Event) -> (Store<B>, Entry)
+fn ask<B: Level>(engine: Engine<MemPages, MemLog, B>, event: &Event) -> (WorldState<B>, Entry)
     ensures { HappensIn (Makes (call_of event.now)) (Is_open engine) (answer_in result.1) (world_of result.0) }
 {
     let mut engine = engine;
     let answer = engine.apply(event);
-    (Store::Open(engine), Entry::Answered(answer))
+    (WorldState::Open(engine), Entry::Answered(answer))
 }
 
 // The power fails. What was not handed over yet may outlive it too, as if it had been.
@@ -252,7 +252,7 @@ fn crash_open<B: Level>(
     engine: Engine<MemPages, MemLog, B>,
     keep: u64,
     images: PageChoice,
-) -> (Store<B>, Entry)
+) -> (WorldState<B>, Entry)
     ensures { HappensIn (Is Crashes) (Is_open engine) (answer_in result.1) (world_of result.0) }
 {
     let mut engine = engine;
@@ -272,7 +272,7 @@ fn stop_in<B: Level>(
     n: u64,
     keep: u64,
     images: PageChoice,
-) -> (Store<B>, Entry)
+) -> (WorldState<B>, Entry)
     ensures { HappensIn (Is (Stops_in (call_of event.now))) (Is_open engine) (answer_in result.1) (world_of result.0) }
 {
     let mut engine = engine;
@@ -283,7 +283,7 @@ fn stop_in<B: Level>(
         let (pages, log) = engine.give_back();
         return crash(pages, log, keep, images);
     }
-    (Store::Open(engine), Entry::Answered(reply))
+    (WorldState::Open(engine), Entry::Answered(reply))
 }
 
 // Whether the machine stopped since the switch was armed; it is not armed any more.
@@ -300,13 +300,13 @@ fn reopen<B: Level>(
     pages: MemPages,
     log: MemLog,
     levels: StoreLevels<B>,
-) -> (Store<B>, Entry)
+) -> (WorldState<B>, Entry)
     ensures { HappensIn (Is Restarts) (Is_shut pages log) (answer_in result.1) (world_of result.0) }
 {
     match try_restart(alloc, pages, log, levels) {
-        Ok((engine, report)) => (Store::Open(engine), Entry::Restarted(report)),
+        Ok((engine, report)) => (WorldState::Open(engine), Entry::Restarted(report)),
         Err(stopped) => (
-            Store::Shut(stopped.pages, stopped.log),
+            WorldState::Shut(stopped.pages, stopped.log),
             Entry::Refused(stopped.refusal),
         ),
     }
@@ -322,17 +322,17 @@ fn reopen_stopped<B: Level>(
     n: u64,
     keep: u64,
     images: PageChoice,
-) -> (Store<B>, Entry)
+) -> (WorldState<B>, Entry)
     ensures { HappensIn (Is Stops_restart) (Is_shut pages log) (answer_in result.1) (world_of result.0) }
 {
     switch.arm_call(n, Mishap::Stop);
     let restarted = try_restart(alloc, pages, log, levels);
     let power_failed = is_stopped(switch);
     match restarted {
-        Ok((engine, report)) => (Store::Open(engine), Entry::Restarted(report)),
+        Ok((engine, report)) => (WorldState::Open(engine), Entry::Restarted(report)),
         Err(stopped) if power_failed => { crash(stopped.pages, stopped.log, keep, images) }
         Err(stopped) => (
-            Store::Shut(stopped.pages, stopped.log),
+            WorldState::Shut(stopped.pages, stopped.log),
             Entry::Refused(stopped.refusal),
         ),
     }
@@ -352,22 +352,27 @@ fn try_restart<B: Level>(
 }
 
 // Both devices as the crash leaves them.
-fn crash<B: Level>(pages: MemPages, log: MemLog, keep: u64, images: PageChoice) -> (Store<B>, Entry)
+fn crash<B: Level>(
+    pages: MemPages,
+    log: MemLog,
+    keep: u64,
+    images: PageChoice,
+) -> (WorldState<B>, Entry)
     ensures { IsLeftBy pages log (answer_in result.1) (world_of result.0) }
 {
     let pages = pages.crash(images);
     let log = log.crash(keep);
     let records = log.records();
-    (Store::Shut(pages, log), Entry::Crashed(records))
+    (WorldState::Shut(pages, log), Entry::Crashed(records))
 }
 
 // The devices of a store that is given up.
-fn given_up<B: Level>(store: Store<B>) -> (MemPages, MemLog)
+fn given_up<B: Level>(store: WorldState<B>) -> (MemPages, MemLog)
     ensures { GivesUp (world_of store) result.0 result.1 }
 {
     match store {
-        Store::Shut(pages, log) => (pages, log),
-        Store::Open(engine) => {
+        WorldState::Shut(pages, log) => (pages, log),
+        WorldState::Open(engine) => {
             engine.shows_kept();
             engine.give_back()
         }

@@ -2,7 +2,7 @@
 use Rattle.std.specs.Prelude.{ℕ, List}
 use Rattle.rq_disk.specs.FileCalls.{FileCall}
 use Rattle.rq_disk.specs.declared.file_log.FileLog.{FileLog}
-use Rattle.rq_disk.specs.declared.held.Held as held
+use Rattle.rq_disk.specs.declared.contents.FileContents as held
 use Rattle.rq_disk.specs.declared.storage.Storage as storage
 use Rattle.rq_disk.specs.declared.storage.NotedFile.{NotedFile}
 

@@ -4,8 +4,8 @@ ghost use Rattle.rq_disk.specs.FileCalls.{has_failed};
 ghost use Rattle.rq_disk.specs.LogFile.{grown, writes_at_end};
 ghost use Rattle.rq_disk.specs.Device.{Only};
 
+use crate::contents::FileContents;
 use crate::device::{DeviceFailed, LogDevice};
-use crate::held::Held;
 use crate::storage::{NotedFile, Storage};
 use std::fs::File;
 use std::io;
@@ -14,7 +14,7 @@ use std::marker::PhantomData;
 /// A log in a file that held what `S` says when it was opened. After an append or a force that failed every call fails,
 /// until the file is opened again.
 #[derive(Drop)]
-pub struct FileLog<S: Held, F: Storage = NotedFile> {
+pub struct FileLog<S: FileContents, F: Storage = NotedFile> {
     file: F,
     // its length when it was opened
     first: u64,
@@ -29,7 +29,7 @@ pub struct FileLog<S: Held, F: Storage = NotedFile> {
     ghost stops: { broken ≡ has_failed (F.Storage.calls file) },
 }
 
-impl<S: Held, F: Storage> LogDevice for FileLog<S, F> {
+impl<S: FileContents, F: Storage> LogDevice for FileLog<S, F> {
     ghost use Rattle.std.specs.Prelude.{true, length};
     ghost use Rattle.rq_disk.specs.LogFile.{log_bytes, log_may_leave, LogAgrees, LogLeftSince, log_all};
     ghost use Rattle.rq_disk.specs.Since.{since_counts_now, since_only_now};
@@ -107,7 +107,7 @@ fn bytes_between(at: u64, end: u64, most: usize) -> usize
     std::cmp::min(most as u64, end.saturating_sub(at)) as usize
 }
 
-impl<S: Held, F: Storage> FileLog<S, F> {
+impl<S: FileContents, F: Storage> FileLog<S, F> {
     /// The log in a file of `len` bytes of which nothing was asked so far, and which held what `S` says. It is honest
     /// where that was so long.
     pub fn new(file: F, len: u64) -> FileLog<S, F>
@@ -131,7 +131,7 @@ impl<S: Held, F: Storage> FileLog<S, F> {
     }
 }
 
-impl<S: Held> FileLog<S> {
+impl<S: FileContents> FileLog<S> {
     ghost use Rattle.rq_disk.specs.Stored.{first_len};
 
     /// The log in a file, which is locked and forced first.

@@ -4,8 +4,8 @@ ghost use Rattle.rq_disk.specs.Device.{Only};
 ghost use Rattle.rq_disk.specs.FileCalls.{has_failed};
 ghost use Rattle.rq_disk.specs.PageFile.{are_whole};
 
+use crate::contents::FileContents;
 use crate::device::{DeviceFailed, PAGE, PageDevice};
-use crate::held::Held;
 use crate::storage::{NotedFile, Storage};
 use std::fs::File;
 use std::io;
@@ -14,7 +14,7 @@ use std::marker::PhantomData;
 /// Pages in a file that held what `S` says when it was opened. There are as many as it had then: a read or a write past
 /// the last one fails. After a write or a sync that failed every call fails, until the file is opened again.
 #[derive(Drop)]
-pub struct FilePages<S: Held, F: Storage = NotedFile> {
+pub struct FilePages<S: FileContents, F: Storage = NotedFile> {
     file: F,
     // how many pages there are
     count: u32,
@@ -26,7 +26,7 @@ pub struct FilePages<S: Held, F: Storage = NotedFile> {
     ghost whole: { are_whole (F.Storage.calls file) ≡ true },
 }
 
-impl<S: Held, F: Storage> PageDevice for FilePages<S, F> {
+impl<S: FileContents, F: Storage> PageDevice for FilePages<S, F> {
     ghost use Rattle.std.specs.Prelude.{true, length};
     ghost use Rattle.rq_disk.specs.Device.{Leaves};
     ghost use Rattle.rq_disk.specs.PageFile.{images_now, page_may_be, PagesAgree, PagesLeftSince, page_seen};
@@ -98,7 +98,7 @@ fn place_of(page: u32) -> u64
     u64::from(page) * PAGE as u64
 }
 
-impl<S: Held, F: Storage> FilePages<S, F> {
+impl<S: FileContents, F: Storage> FilePages<S, F> {
     /// The first `count` pages of a file of which nothing was asked so far, and which held what `S` says.
     pub fn new(file: F, count: u32) -> FilePages<S, F>
         requires unasked { F.calls file ≡ [] }
@@ -120,7 +120,7 @@ impl<S: Held, F: Storage> FilePages<S, F> {
     }
 }
 
-impl<S: Held> FilePages<S> {
+impl<S: FileContents> FilePages<S> {
     /// The pages in a file, which is locked and synced first. Bytes behind the last whole page are left out.
     ///
     /// # Errors

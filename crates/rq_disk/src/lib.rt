@@ -2,11 +2,11 @@
 #![tactic(auto)]
 
 mod choice;
+mod contents;
 mod device;
 mod file_log;
 mod file_pages;
 mod framing;
-mod held;
 pub mod laws;
 mod mem_log;
 mod mem_pages;
@@ -16,10 +16,10 @@ mod storage;
 mod switch;
 
 pub use choice::PageChoice;
+pub use contents::{FileContents, Unknown};
 pub use device::{DeviceFailed, LogDevice, PAGE, PageDevice};
 pub use file_log::FileLog;
 pub use file_pages::FilePages;
-pub use held::{Held, Unknown};
 pub use mem_log::MemLog;
 pub use mem_pages::MemPages;
 pub use noted::Calls;

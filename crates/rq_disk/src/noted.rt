@@ -48,35 +48,35 @@ impl Calls {
     pub fn gave(&mut self, at: u64, bytes: &[u8])
         ensures { self.new ≡ Gave at bytes.now ∷ self.old }
     {
-        GhostList::note(&mut self.notes, &Note::Gave(at, listed(bytes)));
+        GhostList::push(&mut self.notes, &Note::Gave(at, listed(bytes)));
     }
 
     /// It wrote these bytes to a place and what follows it.
     pub fn took(&mut self, at: u64, bytes: &[u8])
         ensures { self.new ≡ Took at bytes.now ∷ self.old }
     {
-        GhostList::note(&mut self.notes, &Note::Took(at, listed(bytes)));
+        GhostList::push(&mut self.notes, &Note::Took(at, listed(bytes)));
     }
 
     /// It failed to write these bytes there.
     pub fn tried(&mut self, at: u64, bytes: &[u8])
         ensures { self.new ≡ Tried at bytes.now ∷ self.old }
     {
-        GhostList::note(&mut self.notes, &Note::Tried(at, listed(bytes)));
+        GhostList::push(&mut self.notes, &Note::Tried(at, listed(bytes)));
     }
 
     /// It was synced.
     pub fn synced(&mut self)
         ensures { self.new ≡ Synced ∷ self.old }
     {
-        GhostList::note(&mut self.notes, &Note::Synced);
+        GhostList::push(&mut self.notes, &Note::Synced);
     }
 
     /// It failed to sync.
     pub fn missed(&mut self)
         ensures { self.new ≡ Missed ∷ self.old }
     {
-        GhostList::note(&mut self.notes, &Note::Missed);
+        GhostList::push(&mut self.notes, &Note::Missed);
     }
 }
 
@@ -88,7 +88,7 @@ fn listed(bytes: &[u8]) -> Snapshot<GhostList<u8>>
     let mut at = bytes.len();
     while at > 0 {
         at -= 1;
-        GhostList::note(&mut content, &bytes[at]);
+        GhostList::push(&mut content, &bytes[at]);
     }
     content
 }

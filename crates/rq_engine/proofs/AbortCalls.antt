@@ -13,7 +13,7 @@ use Rattle.rq_model.specs.Ledger.{found, runs}
 use Rattle.rq_model.specs.Legal.{OnFound}
 use Rattle.rq_model.specs.Tests.{IsUnready, NoneHolds, Passes, has_done, is_aborting, is_busy, log_full, newest, ready_tests, undo_cost}
 use Rattle.rq_model.specs.Replay.Reply.{Gave_aborted, Gave_aborting, Gave_nothing_left, Gave_sub, Gave_undone}
-use Rattle.rq_model.specs.Words.{In, first, front, is_some, last, last_or, same_txn}
+use Rattle.rq_model.specs.Vocabulary.{In, first, front, is_some, last, last_or, same_txn}
 use Rattle.rq_model.proofs.Lists.{same_is}
 use Rattle.rq_views.specs.Claims.{appends_of}
 use Rattle.rq_views.specs.Plans.{deed_sender}
@@ -30,7 +30,7 @@ use Rattle.rq_sound.specs.Counted.{appends_aim}
 use Rattle.rq_sound.specs.Plans.{AreUnlatched}
 use Rattle.rq_sound.specs.Rows.{comp_end}
 use Rattle.rq_sound.specs.Sound.{IsSound}
-use Rattle.rq_sound.specs.Steps.{Steps}
+use Rattle.rq_sound.specs.ModelSteps.{IsModelStep}
 use Rattle.rq_sound.proofs.AbortSteps.{abort_steps}
 use Rattle.rq_sound.proofs.Planned.{plans_start}
 use Rattle.rq_sound.proofs.Refusals.{tests_read}
@@ -41,7 +41,7 @@ use Rattle.rq_engine.specs.Answers.{HasNothingUnderWay, IsUnderWay, Refuses}
 use Rattle.rq_engine.specs.Moves.{with_taken}
 use Rattle.rq_engine.proofs.Calls.{AllMade, going_of}
 use Rattle.rq_engine.proofs.Latches.{undo_busy}
-use Rattle.rq_engine.specs.Kept.{IsKept}
+use Rattle.rq_engine.specs.Invariant.{IsConsistent}
 use Rattle.rq_engine.proofs.Keeping.{kept_aborted, kept_aborting}
 use Rattle.rq_engine.proofs.Refusals.{found_none, found_of, found_some, not_full, refuse}
 use Rattle.rq_engine.proofs.Standing.{at_own, going_at, refused_steps}
@@ -112,17 +112,17 @@ module _ (s : State) (t : Txn) (n : ℕ) (o : Option Finished) (h : IsTurnedBack
 
 -- ---- an abort begins
 
-pub abort_kept : (s : State) (f : Bool) (o res n : ℕ) (t : Txn) → IsKept s f o res → HasNothingUnderWay s t n → IsKept (record s { rows = change_row t row_aborting s.rows }) f o res
+pub abort_kept : (s : State) (f : Bool) (o res n : ℕ) (t : Txn) → IsConsistent s f o res → HasNothingUnderWay s t n → IsConsistent (record s { rows = change_row t row_aborting s.rows }) f o res
 abort_kept s f o res n t k h =
     let r = found_of (λ r. (r.under ≡ None) × (n ≡ r.number + 1)) (found_row t s.rows) h in
     kept_aborting s f o res k t r.0 r.1
 
 pub abort_done : (s : State) (t : Txn) (n : ℕ) → s.failed ≡ false → NoneHolds (ready_tests (ledger_of s) t false) → HasNothingUnderWay s t n
-    → IsSound s → Steps s (Start_abort t) Gave_aborting (record s { rows = change_row t row_aborting s.rows })
+    → IsSound s → IsModelStep s (Start_abort t) Gave_aborting (record s { rows = change_row t row_aborting s.rows })
 abort_done s t n running tested h k =
     let r = found_of (λ r. (r.under ≡ None) × (n ≡ r.number + 1)) (found_row t s.rows) h in
     let forward : r.0.aborting ≡ false = sym (ap is_aborting (found_some s t r.0 r.1)) ∙ tested.1.1.0 in
-    at_own s t r.0 (λ q. Steps s (Start_abort q) Gave_aborting (record s { rows = change_row q row_aborting s.rows })) r.1
+    at_own s t r.0 (λ q. IsModelStep s (Start_abort q) Gave_aborting (record s { rows = change_row q row_aborting s.rows })) r.1
     (λ e. abort_steps.starts_abort s r.0 k running (record { at_row = e; idle = r.2.0 }) forward)
 
 -- ---- and ends
@@ -147,25 +147,25 @@ end_full s t n h back full k =
     let done : (is_busy (found t (ledger_of s).open_ones) || has_done (found t (ledger_of s).open_ones)) ≡ false = rw (h.1.1.1.0, none) refl in
     refuse s (End_abort t) why.LogFull refl tt (rw (h.0, h.1.0, h.1.1.0, done, full) refl) k
 
-pub aborted_kept : (s : State) (f : Bool) (o res n : ℕ) (t : Txn) (x : Record) (ends : HeldEnds) → IsKept s f o res → HasNothingUnderWay s t n → log_full (ledger_of s) 1 ≡ false
-    → IsKept (record s { rows = without_row t s.rows; ends = ends; records = x ∷ s.records }) f o res
+pub aborted_kept : (s : State) (f : Bool) (o res n : ℕ) (t : Txn) (x : Record) (ends : HeldEnds) → IsConsistent s f o res → HasNothingUnderWay s t n → log_full (ledger_of s) 1 ≡ false
+    → IsConsistent (record s { rows = without_row t s.rows; ends = ends; records = x ∷ s.records }) f o res
 aborted_kept s f o res n t x ends k h room =
     let r = found_of (λ r. (r.under ≡ None) × (n ≡ r.number + 1)) (found_row t s.rows) h in
     kept_aborted s f o res k t r.0 r.1 x ends r.2.0 (not_full s 1 room)
 
 pub aborted_done : (s : State) (t : Txn) (n : ℕ) → s.failed ≡ false → IsTurnedBack s t n None → log_full (ledger_of s) 1 ≡ false → IsSound s
-    → Steps s (End_abort t) Gave_aborted (record s { rows = without_row t s.rows; ends = record { sending = released t s.ends.sending; receiving = released t s.ends.receiving }; records = AbortEnd t ∷ s.records })
+    → IsModelStep s (End_abort t) Gave_aborted (record s { rows = without_row t s.rows; ends = record { sending = released t s.ends.sending; receiving = released t s.ends.receiving }; records = AbortEnd t ∷ s.records })
 aborted_done s t n running back room k =
     let r = turned_row s t n None back in
-    at_own s t r.0 (λ q. Steps s (End_abort q) Gave_aborted (record s { rows = without_row q s.rows; ends = record { sending = released q s.ends.sending; receiving = released q s.ends.receiving }; records = AbortEnd q ∷ s.records })) r.1
+    at_own s t r.0 (λ q. IsModelStep s (End_abort q) Gave_aborted (record s { rows = without_row q s.rows; ends = record { sending = released q s.ends.sending; receiving = released q s.ends.receiving }; records = AbortEnd q ∷ s.records })) r.1
     (λ e. abort_steps.ends_abort s r.0 k running (record { at_row = e; idle = r.2.0 }) r.2.2 (last_none r.0.finished r.2.3) room)
 
 -- ---- inverses
 
-pub none_done : (s : State) (t : Txn) (n : ℕ) → s.failed ≡ false → IsTurnedBack s t n None → IsSound s → Steps s (Undo_next t) Gave_nothing_left s
+pub none_done : (s : State) (t : Txn) (n : ℕ) → s.failed ≡ false → IsTurnedBack s t n None → IsSound s → IsModelStep s (Undo_next t) Gave_nothing_left s
 none_done s t n running back k =
     let r = turned_row s t n None back in
-    at_own s t r.0 (λ q. Steps s (Undo_next q) Gave_nothing_left s) r.1
+    at_own s t r.0 (λ q. IsModelStep s (Undo_next q) Gave_nothing_left s) r.1
     (λ e. abort_steps.none_left s r.0 k running (record { at_row = e; idle = r.2.0 }) r.2.2 (last_none r.0.finished r.2.3))
 
 module _ (s : State) (t : Txn) (n : ℕ) (f : Finished) (h : NoneHolds (ready_tests (ledger_of s) t true)) (back : IsTurnedBack s t n (Some f)) where
@@ -209,16 +209,16 @@ module _ (s : State) (t : Txn) (n : ℕ) (f : Finished) (h : NoneHolds (ready_te
 
   -- an inverse that has started
   pub undo_done : (new : State) (u : Under) → s.failed ≡ false → u.number ≡ n → AreUnlatched s u.writes → IsUndoPlan s.sizes (slots_in s.sizes s.images) u f → log_full (ledger_of s) (undo_cost (Some (op_done f))) ≡ false
-      → new ≡ record s { rows = change_row t (row_started u) s.rows } → IsSound s → Steps s (Undo_next t) (Gave_sub t n) new
+      → new ≡ record s { rows = change_row t (row_started u) s.rows } → IsSound s → IsModelStep s (Undo_next t) (Gave_sub t n) new
   undo_done new u running number off plan room is k =
       let r = turned_row s t n (Some f) back in
       let newest = last_some r.0.finished f r.2.3 in
       let none : appends_aim u.aim ≡ 0 = ap appends_aim plan.aim in
       let cells : s.cells_in_use + appends_aim u.aim ≡ s.cells_in_use = omega (arith, none) in
-      subst (λ (x : State). Steps s (Undo_next t) (Gave_sub t n) x) (sym is)
-      (subst (λ (m : ℕ). Steps s (Undo_next t) (Gave_sub t m) (record s { rows = change_row t (row_started u) s.rows })) (sym r.2.1)
-      (at_own s t r.0 (λ q. Steps s (Undo_next q) (Gave_sub q (r.0.number + 1)) (record s { rows = change_row q (row_started u) s.rows })) r.1 (λ e.
-      subst (λ (c : ℕ). Steps s (Undo_next r.0.txn) (Gave_sub r.0.txn (r.0.number + 1)) (record s { rows = change_row r.0.txn (row_started u) s.rows; cells_in_use = c })) cells
+      subst (λ (x : State). IsModelStep s (Undo_next t) (Gave_sub t n) x) (sym is)
+      (subst (λ (m : ℕ). IsModelStep s (Undo_next t) (Gave_sub t m) (record s { rows = change_row t (row_started u) s.rows })) (sym r.2.1)
+      (at_own s t r.0 (λ q. IsModelStep s (Undo_next q) (Gave_sub q (r.0.number + 1)) (record s { rows = change_row q (row_started u) s.rows })) r.1 (λ e.
+      subst (λ (c : ℕ). IsModelStep s (Undo_next r.0.txn) (Gave_sub r.0.txn (r.0.number + 1)) (record s { rows = change_row r.0.txn (row_started u) s.rows; cells_in_use = c })) cells
       (abort_steps.starts_inverse s r.0 u (front r.0.finished) f k running
       (plans_start.inverses s r.0 u (front r.0.finished) f k (record { idle = record { at_row = e; idle = r.2.0 }; number = number ∙ r.2.1; made = plan.made; aim_is = plan.aim; free = off }) plan.plan r.2.2 newest)
       room))))
@@ -238,14 +238,14 @@ same_change t f g (x ∷ rows) r d e same = elim (cases_Bool (same_txn x.txn t))
 
 pub undone_done : (s new : State) (sub : Sub) (lsn : ℕ) (d : Deed) → s.failed ≡ false → deed_sender d < length s.waiting → IsUnderWay s sub (AllMade (Undoing lsn d))
     → new ≡ record s { rows = change_row sub.txn row_taken_back s.rows; records = comp_end sub.txn sub.number lsn ∷ s.records; cells_in_use = s.cells_in_use - appends_of d; waiting = with_taken d s.waiting }
-    → IsSound s → Steps s (Finish sub.txn sub.number) Gave_undone new
+    → IsSound s → IsModelStep s (Finish sub.txn sub.number) Gave_undone new
 undone_done s new sub lsn d running within h is k =
     let g = going_of s sub (AllMade (Undoing lsn d)) h in
     let made = (going_at s k sub.txn g.row g.under g.found g.is).0 in
     let all = g.so.0 in
     let rows = same_change sub.txn (row_undone (front g.row.finished)) row_taken_back s.rows g.row k.standing.distinct g.found refl in
-    let a = at_own s sub.txn g.row (λ q. Steps s (Finish q g.under.number) Gave_undone (record s { rows = change_row q (row_undone (front g.row.finished)) s.rows; records = comp_end q g.under.number lsn ∷ s.records; cells_in_use = s.cells_in_use - appends_of d; waiting = with_taken d s.waiting })) g.found
+    let a = at_own s sub.txn g.row (λ q. IsModelStep s (Finish q g.under.number) Gave_undone (record s { rows = change_row q (row_undone (front g.row.finished)) s.rows; records = comp_end q g.under.number lsn ∷ s.records; cells_in_use = s.cells_in_use - appends_of d; waiting = with_taken d s.waiting })) g.found
     (λ e. abort_steps.undoes s g.row g.under lsn d (with_taken d s.waiting) k running (record { at_row = e; under = g.is; aim_is = g.so.1; made = omega (arith, made, all) }) (λ p. waits-with_taken d s.waiting p within)) in
-    let b = subst (λ (n : ℕ). Steps s (Finish sub.txn n) Gave_undone (record s { rows = change_row sub.txn (row_undone (front g.row.finished)) s.rows; records = comp_end sub.txn n lsn ∷ s.records; cells_in_use = s.cells_in_use - appends_of d; waiting = with_taken d s.waiting })) g.number a in
-    subst (λ (x : State). Steps s (Finish sub.txn sub.number) Gave_undone x) (sym is)
-    (subst (λ (rs : List Row). Steps s (Finish sub.txn sub.number) Gave_undone (record s { rows = rs; records = comp_end sub.txn sub.number lsn ∷ s.records; cells_in_use = s.cells_in_use - appends_of d; waiting = with_taken d s.waiting })) rows b)
+    let b = subst (λ (n : ℕ). IsModelStep s (Finish sub.txn n) Gave_undone (record s { rows = change_row sub.txn (row_undone (front g.row.finished)) s.rows; records = comp_end sub.txn n lsn ∷ s.records; cells_in_use = s.cells_in_use - appends_of d; waiting = with_taken d s.waiting })) g.number a in
+    subst (λ (x : State). IsModelStep s (Finish sub.txn sub.number) Gave_undone x) (sym is)
+    (subst (λ (rs : List Row). IsModelStep s (Finish sub.txn sub.number) Gave_undone (record s { rows = rs; records = comp_end sub.txn sub.number lsn ∷ s.records; cells_in_use = s.cells_in_use - appends_of d; waiting = with_taken d s.waiting })) rows b)

@@ -12,7 +12,7 @@ use Rattle.rq_model.specs.declared.record.Record.{Record}
 use Rattle.rq_model.specs.declared.record.Record.TheVariants as records
 use Rattle.rq_model.specs.declared.refusal.Refusal.{Refusal}
 use Rattle.rq_model.specs.declared.refusal.Refusal.TheVariants as why
-use Rattle.rq_model.specs.Words.{is_some, same_txn}
+use Rattle.rq_model.specs.Vocabulary.{is_some, same_txn}
 use Rattle.rq_views.specs.Plans.{deed_sender}
 use Rattle.rq_model.specs.History.{Call, Group}
 use Rattle.rq_model.specs.History.Call.{Commit, Step, Finish, Show, Last_tag}
@@ -43,20 +43,20 @@ use Rattle.rq_sound.specs.Counted.{sends_in, takes_all}
 use Rattle.rq_sound.specs.Sound.{IsSound}
 use Rattle.rq_store.proofs.RowSums.{one_of_sum}
 use Rattle.rq_store.specs.Steps.{page_op, op_end, gave_done}
-use Rattle.rq_sound.specs.Steps.{Steps}
+use Rattle.rq_sound.specs.ModelSteps.{IsModelStep}
 use Rattle.rq_store.proofs.RowLists.{found_in}
 use Rattle.rq_store.proofs.Opens.{busy_is}
 use Rattle.rq_model.specs.Commits.{committed_of}
 use Rattle.rq_engine.proofs.Standing.{going_at, step_steps, finish_steps, commit_steps}
-use Rattle.rq_engine.specs.Kept.{EndFits, IsKept, end_bytes, room_one, room_of}
+use Rattle.rq_engine.specs.Invariant.{EndFits, IsConsistent, end_bytes, room_one, room_of}
 use Rattle.rq_engine.proofs.Waits.{waits-with_sends, waits-without_taken}
 use Rattle.rq_engine.specs.Answers.{Refuses, OnUnder, IsUnderWay, IsNotUnderWay, NotFound, IsOther, Idle, CannotFinish, IsMade, HasNothingUnderWay}
 use Rattle.rq_engine.proofs.Keeping.{kept_at, under_at, kept_stepped, kept_finished, kept_undone, kept_committed}
 use Rattle.rq_engine.proofs.Refusals.{refuse, refuse_failed, found_of, found_some, found_none, not_full}
 
 -- from what is inside an engine to what is seen of it
-pub from_inside : {a b new : State} {c : Call} {gave : Gave} → a ≡ b → (IsSound a → Steps a c gave new) → IsSound b → Steps b c gave new
-from_inside {a} {b} {new} {c} {gave} e h k = subst (λ (s : State). Steps s c gave new) e (h (subst IsSound (sym e) k))
+pub from_inside : {a b new : State} {c : Call} {gave : Gave} → a ≡ b → (IsSound a → IsModelStep a c gave new) → IsSound b → IsModelStep b c gave new
+from_inside {a} {b} {new} {c} {gave} e h k = subst (λ (s : State). IsModelStep s c gave new) e (h (subst IsSound (sym e) k))
 
 -- the row and the operation that are going
 pub record Going (s : State) (sub : Sub) (P : Row → Under → Type 0) : Type 0 where
@@ -85,7 +85,7 @@ sum_at f t (q ∷ rows) r e = elim (cases_Bool (same_txn q.txn t)) [
   | inr n ↦ let h = sum_at f t rows r (rw n at e) in let a = sum_by-cons f q rows in omega (arith, a, h)
 ]
 
-module _ (s : State) (f : Bool) (o res : ℕ) (k : IsKept s f o res) (sub : Sub) (P : Row → Under → Type 0) (h : IsUnderWay s sub P) where
+module _ (s : State) (f : Bool) (o res : ℕ) (k : IsConsistent s f o res) (sub : Sub) (P : Row → Under → Type 0) (h : IsUnderWay s sub P) where
   abbrev g : Going s sub P
   g = going_of s sub P h
 
@@ -139,7 +139,7 @@ Next w r u = slice_get u.writes u.made ≡ Some w
 abbrev pub AllMade : Aim → Row → Under → Type 0
 AllMade aim r u = (length u.writes ≤ u.made) × (u.aim ≡ aim)
 
-module _ (s : State) (f : Bool) (o res : ℕ) (k : IsKept s f o res) (sub : Sub) (w : SlotWrite) (h : IsUnderWay s sub (Next w)) where
+module _ (s : State) (f : Bool) (o res : ℕ) (k : IsConsistent s f o res) (sub : Sub) (w : SlotWrite) (h : IsUnderWay s sub (Next w)) where
   abbrev gw : Going s sub (Next w)
   gw = going_of s sub (Next w) h
 
@@ -155,10 +155,10 @@ module _ (s : State) (f : Bool) (o res : ℕ) (k : IsKept s f o res) (sub : Sub)
   pub next_more : IfSome (found_row sub.txn s.rows) (λ (r : Row). IfSome r.under (λ (u : Under). u.made < length u.writes))
   next_more = subst (λ (q : Option Row). IfSome q (λ (r : Row). IfSome r.under (λ (u : Under). u.made < length u.writes))) (sym gw.found) (subst (λ (q : Option Under). IfSome q (λ (u : Under). u.made < length u.writes)) (sym gw.is) more)
 
-  pub next_kept : (x : Record) (images : List (List ℕ)) (left : ℕ) → left + 546 ≡ res → IsKept (record s { rows = change_row sub.txn row_stepped s.rows; images = images; records = x ∷ s.records }) f (o - 1) left
+  pub next_kept : (x : Record) (images : List (List ℕ)) (left : ℕ) → left + 546 ≡ res → IsConsistent (record s { rows = change_row sub.txn row_stepped s.rows; images = images; records = x ∷ s.records }) f (o - 1) left
   next_kept x images left e = kept_stepped s f o res k sub.txn gw.row gw.found gw.under x images left gw.is more e
 
-module _ (s : State) (f : Bool) (o res : ℕ) (k : IsKept s f o res) (sub : Sub) (aim : Aim) (h : IsUnderWay s sub (AllMade aim)) where
+module _ (s : State) (f : Bool) (o res : ℕ) (k : IsConsistent s f o res) (sub : Sub) (aim : Aim) (h : IsUnderWay s sub (AllMade aim)) where
   abbrev gd : Going s sub (AllMade aim)
   gd = going_of s sub (AllMade aim) h
 
@@ -177,20 +177,20 @@ module _ (s : State) (f : Bool) (o res : ℕ) (k : IsKept s f o res) (sub : Sub)
   same_end : (left : ℕ) → left + end_bytes aim ≡ res → left + end_bytes gd.under.aim ≡ res
   same_end left e = let c : end_bytes gd.under.aim ≡ end_bytes aim = ap end_bytes gd.so.1 in omega (arith, c, e)
 
-  pub end_kept : (d : Deed) (x : Record) (end : Finished) (left : ℕ) → left + end_bytes aim ≡ res → 1 ≤ end.lsn → end.deed ≡ deed_of aim → deed_in (spelled_deed end.deed) ≡ Some end.deed → IsKept (record s { rows = change_row sub.txn (row_finished end) s.rows; records = x ∷ s.records; waiting = without_taken d s.waiting }) f (o - 1) left
+  pub end_kept : (d : Deed) (x : Record) (end : Finished) (left : ℕ) → left + end_bytes aim ≡ res → 1 ≤ end.lsn → end.deed ≡ deed_of aim → deed_in (spelled_deed end.deed) ≡ Some end.deed → IsConsistent (record s { rows = change_row sub.txn (row_finished end) s.rows; records = x ∷ s.records; waiting = without_taken d s.waiting }) f (o - 1) left
   end_kept d x end left e low is reads = kept_finished s f o res k sub.txn gd.row gd.found gd.under x end left d gd.is all_made (same_end left e)
       (record { lsn = low; sender = subst (λ (y : Deed). deed_sender y < sender_count s.sizes) (sym is) end_sender; reads = reads })
 
-  pub undo_kept : (d : Deed) (x : Record) (cells left : ℕ) → left + end_bytes aim ≡ res → IsKept (record s { rows = change_row sub.txn row_taken_back s.rows; records = x ∷ s.records; cells_in_use = cells; waiting = with_taken d s.waiting }) f (o - 1) left
+  pub undo_kept : (d : Deed) (x : Record) (cells left : ℕ) → left + end_bytes aim ≡ res → IsConsistent (record s { rows = change_row sub.txn row_taken_back s.rows; records = x ∷ s.records; cells_in_use = cells; waiting = with_taken d s.waiting }) f (o - 1) left
   undo_kept d x cells left e = kept_undone s f o res k sub.txn gd.row gd.found gd.under x cells left d gd.is all_made (same_end left e)
 
 -- one more write
-pub step_done : (s new : State) (sub : Sub) (w : SlotWrite) (lsn : ℕ) → s.failed ≡ false → IsUnderWay s sub (Next w) → IsMade s sub w new → lsn ≡ length s.records + 1 → IsSound s → Steps s (Step sub.txn sub.number) (Gave_lsn lsn) new
+pub step_done : (s new : State) (sub : Sub) (w : SlotWrite) (lsn : ℕ) → s.failed ≡ false → IsUnderWay s sub (Next w) → IsMade s sub w new → lsn ≡ length s.records + 1 → IsSound s → IsModelStep s (Step sub.txn sub.number) (Gave_lsn lsn) new
 step_done s new sub w lsn running h m at k =
     let g = going_of s sub (Next w) h in
     let a = step_steps s k sub.txn g.row g.under w new.images g.found g.is g.so m.slots m.put_in m.before m.slot running in
-    let b = subst (λ (n : ℕ). Steps s (Step sub.txn n) (Gave_lsn (length s.records + 1)) (record s { rows = change_row sub.txn row_stepped s.rows; images = new.images; records = page_op sub.txn n w ∷ s.records })) g.number a in
-    subst (λ (n : ℕ). Steps s (Step sub.txn sub.number) (Gave_lsn n) new) (sym at) (subst (λ (x : State). Steps s (Step sub.txn sub.number) (Gave_lsn (length s.records + 1)) x) (sym m.state) b)
+    let b = subst (λ (n : ℕ). IsModelStep s (Step sub.txn n) (Gave_lsn (length s.records + 1)) (record s { rows = change_row sub.txn row_stepped s.rows; images = new.images; records = page_op sub.txn n w ∷ s.records })) g.number a in
+    subst (λ (n : ℕ). IsModelStep s (Step sub.txn sub.number) (Gave_lsn n) new) (sym at) (subst (λ (x : State). IsModelStep s (Step sub.txn sub.number) (Gave_lsn (length s.records + 1)) x) (sym m.state) b)
 
 -- the ledger finds what is going, and what is not
 ledger_going : (s : State) (k : IsSound s) (sub : Sub) (P : Row → Under → Type 0) (g : Going s sub P) → has_under sub.number (found sub.txn (ledger_of s).open_ones) ≡ true
@@ -209,7 +209,7 @@ not_under s k sub h = at (found_row sub.txn s.rows) refl h where
   at (Some r) e h = ap (has_under sub.number) (found_some s sub.txn r e) ∙ under r r.under e refl h
 
 -- no write is left
-pub step_ready : (s : State) (sub : Sub) → s.failed ≡ false → IsUnderWay s sub (λ r u. slice_get u.writes u.made ≡ None) → IsSound s → Steps s (Step sub.txn sub.number) Gave_ready s
+pub step_ready : (s : State) (sub : Sub) → s.failed ≡ false → IsUnderWay s sub (λ r u. slice_get u.writes u.made ≡ None) → IsSound s → IsModelStep s (Step sub.txn sub.number) Gave_ready s
 step_ready s sub running h k =
     let g = going_of s sub (λ r u. slice_get u.writes u.made ≡ None) h in
     let left : left_under g.row.under ≡ 0 = ap left_under g.is ∙ (let e = none_left g.under.writes g.under.made g.so in omega (arith, e)) in
@@ -259,14 +259,14 @@ step_idle s sub why.TooManyTransactions h = absurd h
 step_idle s sub why.NotForced h = absurd h
 step_idle s sub why.LogFull h = absurd h
 
-pub finish_done : (s new : State) (sub : Sub) (d : Deed) → s.failed ≡ false → IsUnderWay s sub (AllMade (Doing d)) → new ≡ record s { rows = change_row sub.txn (row_finished (record { lsn = length s.records + 1; deed = d })) s.rows; records = op_end sub.txn sub.number d ∷ s.records; waiting = without_taken d s.waiting } → IsSound s → Steps s (Finish sub.txn sub.number) (gave_done d) new
+pub finish_done : (s new : State) (sub : Sub) (d : Deed) → s.failed ≡ false → IsUnderWay s sub (AllMade (Doing d)) → new ≡ record s { rows = change_row sub.txn (row_finished (record { lsn = length s.records + 1; deed = d })) s.rows; records = op_end sub.txn sub.number d ∷ s.records; waiting = without_taken d s.waiting } → IsSound s → IsModelStep s (Finish sub.txn sub.number) (gave_done d) new
 finish_done s new sub d running h e k =
     let g = going_of s sub (AllMade (Doing d)) h in
     let made = (going_at s k sub.txn g.row g.under g.found g.is).0 in
     let all = g.so.0 in
     let a = finish_steps s k sub.txn g.row g.under d (without_taken d s.waiting) g.found g.is g.so.1 (omega (arith, made, all)) (λ p. waits-without_taken d s.waiting p) running in
-    let b = subst (λ (n : ℕ). Steps s (Finish sub.txn n) (gave_done d) (record s { rows = change_row sub.txn (row_finished (record { lsn = length s.records + 1; deed = d })) s.rows; records = op_end sub.txn n d ∷ s.records; waiting = without_taken d s.waiting })) g.number a in
-    subst (λ (x : State). Steps s (Finish sub.txn sub.number) (gave_done d) x) (sym e) b
+    let b = subst (λ (n : ℕ). IsModelStep s (Finish sub.txn n) (gave_done d) (record s { rows = change_row sub.txn (row_finished (record { lsn = length s.records + 1; deed = d })) s.rows; records = op_end sub.txn n d ∷ s.records; waiting = without_taken d s.waiting })) g.number a in
+    subst (λ (x : State). IsModelStep s (Finish sub.txn sub.number) (gave_done d) x) (sym e) b
 
 steps_are_left : (s : State) (sub : Sub) → s.failed ≡ false → IsUnderWay s sub (λ r u. u.made < length u.writes) → Refuses s (Finish sub.txn sub.number) why.Unfinished
 steps_are_left s sub running h k =
@@ -297,7 +297,7 @@ finish_idle s sub why.NotForced h = absurd h
 finish_idle s sub why.LogFull h = absurd h
 
 -- a commit
-pub commit_range : (s : State) (f : Bool) (o res n : ℕ) (t : Txn) → IsKept s f o res → HasNothingUnderWay s t n → (0 < t.incarnation) × (0 < t.count)
+pub commit_range : (s : State) (f : Bool) (o res n : ℕ) (t : Txn) → IsConsistent s f o res → HasNothingUnderWay s t n → (0 < t.incarnation) × (0 < t.count)
 commit_range s f o res n t k h =
     let r = found_of (λ r. (r.under ≡ None) × (n ≡ r.number + 1)) (found_row t s.rows) h in
     let row = kept_at s f o res t r.0 k r.1 in
@@ -308,15 +308,15 @@ commit_range s f o res n t k h =
     let d = row.low in
     (omega (arith, a, c), omega (arith, b, d))
 
-pub commit_kept : (s : State) (f : Bool) (o res n : ℕ) (t : Txn) (x : Record) (ends : HeldEnds) (cells : ℕ) → IsKept s f o res → HasNothingUnderWay s t n → log_full (ledger_of s) 1 ≡ false
-    → IsKept (record s { rows = without_row t s.rows; ends = ends; records = x ∷ s.records; cells_in_use = cells; waiting = with_sends (finished_of (found_row t s.rows)) s.waiting; sent = with_tags (finished_of (found_row t s.rows)) s.sent }) f o res
+pub commit_kept : (s : State) (f : Bool) (o res n : ℕ) (t : Txn) (x : Record) (ends : HeldEnds) (cells : ℕ) → IsConsistent s f o res → HasNothingUnderWay s t n → log_full (ledger_of s) 1 ≡ false
+    → IsConsistent (record s { rows = without_row t s.rows; ends = ends; records = x ∷ s.records; cells_in_use = cells; waiting = with_sends (finished_of (found_row t s.rows)) s.waiting; sent = with_tags (finished_of (found_row t s.rows)) s.sent }) f o res
 commit_kept s f o res n t x ends cells k h room =
     let r = found_of (λ r. (r.under ≡ None) × (n ≡ r.number + 1)) (found_row t s.rows) h in
-    subst (λ (q : Option Row). IsKept (record s { rows = without_row t s.rows; ends = ends; records = x ∷ s.records; cells_in_use = cells; waiting = with_sends (finished_of q) s.waiting; sent = with_tags (finished_of q) s.sent }) f o res) (sym r.1)
+    subst (λ (q : Option Row). IsConsistent (record s { rows = without_row t s.rows; ends = ends; records = x ∷ s.records; cells_in_use = cells; waiting = with_sends (finished_of q) s.waiting; sent = with_tags (finished_of q) s.sent }) f o res) (sym r.1)
     (kept_committed s f o res k t r.0 r.1 x ends cells r.2.0 (not_full s 1 room))
 
-pub commit_done : (s : State) (f : Bool) (o res n lsn cells : ℕ) (t : Txn) → IsKept s f o res → s.failed ≡ false → NoneHolds (ready_tests (ledger_of s) t false) → HasNothingUnderWay s t n → log_full (ledger_of s) 1 ≡ false → lsn ≡ length s.records + 1 → cells ≡ s.cells_in_use - sum_by takes_one (finished_of (found_row t s.rows)) → IsSound s
-    → Steps s (Commit t) (Gave_commit (record { txn = t; lsn = lsn })) (record s { rows = without_row t s.rows; ends = record { sending = released t s.ends.sending; receiving = released t s.ends.receiving }; records = records.Commit t ∷ s.records; cells_in_use = cells; waiting = with_sends (finished_of (found_row t s.rows)) s.waiting; sent = with_tags (finished_of (found_row t s.rows)) s.sent })
+pub commit_done : (s : State) (f : Bool) (o res n lsn cells : ℕ) (t : Txn) → IsConsistent s f o res → s.failed ≡ false → NoneHolds (ready_tests (ledger_of s) t false) → HasNothingUnderWay s t n → log_full (ledger_of s) 1 ≡ false → lsn ≡ length s.records + 1 → cells ≡ s.cells_in_use - sum_by takes_one (finished_of (found_row t s.rows)) → IsSound s
+    → IsModelStep s (Commit t) (Gave_commit (record { txn = t; lsn = lsn })) (record s { rows = without_row t s.rows; ends = record { sending = released t s.ends.sending; receiving = released t s.ends.receiving }; records = records.Commit t ∷ s.records; cells_in_use = cells; waiting = with_sends (finished_of (found_row t s.rows)) s.waiting; sent = with_tags (finished_of (found_row t s.rows)) s.sent })
 commit_done s f o res n lsn cells t c running tested h room at freed k =
     let r = found_of (λ r. (r.under ≡ None) × (n ≡ r.number + 1)) (found_row t s.rows) h in
     let fs = finished_of (found_row t s.rows) in
@@ -332,15 +332,15 @@ commit_done s f o res n lsn cells t c running tested h room at freed k =
     (λ g m. ap (λ l. sent_count (with_tags l s.sent) g) own ∙ count-with_tags r.0.finished s.sent g (let l = c.sent.counts in omega (arith, l, m))) in
     let tagged : (g : ℕ) → g < sender_count s.sizes → sent_tag (with_tags fs s.sent) g ≡ tag_after (sent_tag s.sent g) (sends_for g r.0) =
     (λ g m. ap (λ l. sent_tag (with_tags l s.sent) g) own ∙ tag-with_tags r.0.finished s.sent g (let l = c.sent.tags in omega (arith, l, m))) in
-    subst (λ (m : ℕ). Steps s (Commit t) (Gave_commit (record { txn = t; lsn = m })) (record s { rows = without_row t s.rows; ends = record { sending = released t s.ends.sending; receiving = released t s.ends.receiving }; records = records.Commit t ∷ s.records; cells_in_use = cells; waiting = with_sends fs s.waiting; sent = with_tags fs s.sent })) (sym at)
+    subst (λ (m : ℕ). IsModelStep s (Commit t) (Gave_commit (record { txn = t; lsn = m })) (record s { rows = without_row t s.rows; ends = record { sending = released t s.ends.sending; receiving = released t s.ends.receiving }; records = records.Commit t ∷ s.records; cells_in_use = cells; waiting = with_sends fs s.waiting; sent = with_tags fs s.sent })) (sym at)
     (commit_steps s k t r.0 cells (with_sends fs s.waiting) (with_tags fs s.sent) r.1 r.2.0 forward (omega (arith, freed, taken, enough)) waited counted tagged running room)
 
 -- what a sender's committed sends come to
-pub tag_told : (s : State) (g sent tag : ℕ) → s.failed ≡ false → g < sender_count s.sizes → sent ≡ sent_count s.sent g → tag ≡ sent_tag s.sent g → IsSound s → Steps s (Last_tag g) (Gave_tag sent tag) s
+pub tag_told : (s : State) (g sent tag : ℕ) → s.failed ≡ false → g < sender_count s.sizes → sent ≡ sent_count s.sent g → tag ≡ sent_tag s.sent g → IsSound s → IsModelStep s (Last_tag g) (Gave_tag sent tag) s
 tag_told s g sent tag running below counted tagged k = rw (counted ∙ k.sent.counts g below, tagged ∙ k.sent.tags g below) (unchanged.tells s g k running below)
 
 -- the content
-pub content_done : (s : State) (groups : List Group) → s.failed ≡ false → any_under s.rows ≡ false → groups ≡ map (group_in (committed_of s.records)) (below (sender_count s.sizes)) → IsSound s → Steps s Show (Gave_content groups) s
+pub content_done : (s : State) (groups : List Group) → s.failed ≡ false → any_under s.rows ≡ false → groups ≡ map (group_in (committed_of s.records)) (below (sender_count s.sizes)) → IsSound s → IsModelStep s Show (Gave_content groups) s
 content_done s groups running idle e k = record {
   entry = Shown groups;
   says = refl;

@@ -22,7 +22,7 @@ use Rattle.rq_store.proofs.RowLists.{found_in}
 use Rattle.rq_sound.proofs.Groups.{slots_tell}
 use Rattle.rq_sound.specs.Plans.{AreUnlatched}
 use Rattle.rq_sound.specs.Sound.{IsSound}
-use Rattle.rq_sound.specs.Steps.{Steps}
+use Rattle.rq_sound.specs.ModelSteps.{IsModelStep}
 use Rattle.rq_sound.proofs.FreeEnds.{free_is}
 use Rattle.rq_engine.specs.Answers.{Refuses, HasNothingUnderWay}
 use Rattle.rq_engine.specs.Closes.{IsClosePlan, close_latched}
@@ -79,9 +79,9 @@ module _ (s : State) (t : Txn) (e : ℕ) (h : NoneHolds (ready_tests (ledger_of 
   pub close_done : (new : State) (n : ℕ) (plan : Plan) → HasNothingUnderWay s t n → AreUnlatched s plan.writes.items → IsClosePlan s.sizes (slots_in s.sizes s.images) (under_plan n plan) e
       → (IsSound s → Passes (size_of s.sizes) (ledger_of s) call)
       → new ≡ record s { rows = change_row t (row_started (under_plan n plan)) s.rows; ends = record { sending = with_held t e s.ends.sending; receiving = s.ends.receiving } }
-      → IsSound s → Steps s call (Gave_sub t n) new
+      → IsSound s → IsModelStep s call (Gave_sub t n) new
   close_done new n plan ready off planned may is k =
       let r = found_of (λ r. (r.under ≡ None) × (n ≡ r.number + 1)) (found_row t s.rows) ready in
       let a = close_steps s k t r.0 (under_plan n plan) e r.1 r.2.0 off r.2.1 planned (may k) in
-      let c = subst (λ (m : ℕ). Steps s call (Gave_sub t m) (record s { rows = change_row t (row_started (under_plan n plan)) s.rows; ends = record { sending = with_held t e s.ends.sending; receiving = s.ends.receiving } })) (sym r.2.1) a in
-      subst (λ (x : State). Steps s call (Gave_sub t n) x) (sym is) c
+      let c = subst (λ (m : ℕ). IsModelStep s call (Gave_sub t m) (record s { rows = change_row t (row_started (under_plan n plan)) s.rows; ends = record { sending = with_held t e s.ends.sending; receiving = s.ends.receiving } })) (sym r.2.1) a in
+      subst (λ (x : State). IsModelStep s call (Gave_sub t n) x) (sym is) c

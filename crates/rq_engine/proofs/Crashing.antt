@@ -26,7 +26,7 @@ use Rattle.rq_pool.specs.Writing.{DeviceAfter, MayHaveWritten}
 use Rattle.rq_store.specs.State.{State}
 use Rattle.rq_store.specs.Fitting.{oldest, FitsPage, FitsLog, AllFit, image_in}
 use Rattle.rq_sound.specs.Sound.{IsSound}
-use Rattle.rq_sound.specs.Steps.{Steps}
+use Rattle.rq_sound.specs.ModelSteps.{IsModelStep}
 use Rattle.rq_store.proofs.Begun.{begun_cut}
 use Rattle.rq_store.proofs.Cutting.{whole_dropped, longer_continues, oldest_continues, all_fit_longer, page_fits_oldest, fits_log, fits_log_longer}
 use Rattle.rq_engine.specs.declared.event.Event.{Event}
@@ -117,7 +117,7 @@ module _ {P L : Type 0} (p : page_device.Ghosts P) (l : log_device.Ghosts L) (on
     goes (event.WritePage page) r when say = goes_out page (written_by r) when say
     goes _ r when say = stays say
 
-    pub fit_kept : (e : Event) (r : Reply) (call : Call) (gave : Gave) → new.state.sizes ≡ old.state.sizes → Steps old.state call gave new.state → WritesSay old e r → PagesSay p old new e r → AreFit p new
+    pub fit_kept : (e : Event) (r : Reply) (call : Call) (gave : Gave) → new.state.sizes ≡ old.state.sizes → IsModelStep old.state call gave new.state → WritesSay old e r → PagesSay p old new e r → AreFit p new
     fit_kept e r call gave sizes steps when say =
         subst (λ (y : Sizes). AllFit (p.may_be new.pages) y (oldest new.state.forced new.state.records)) (sym sizes)
         (all_fit_longer (p.may_be new.pages) z kept (oldest new.state.forced new.state.records)

@@ -6,11 +6,11 @@ use Rattle.std.proofs.lemmas.List.Sums.{sum_by-cons}
 use Rattle.rq_model.specs.declared.txn.Txn.{Txn}
 use Rattle.rq_model.specs.declared.record.Record.{Record}
 use Rattle.rq_model.specs.declared.record.Deed.{Deed}
-use Rattle.rq_model.specs.Words.{In, front}
+use Rattle.rq_model.specs.Vocabulary.{In, front}
 use Rattle.rq_page.specs.Sizes.{Sizes}
 use Rattle.rq_txn.specs.declared.Finished.{Finished}
 use Rattle.rq_txn.specs.Rows.{Row, Under, found_row, change_row, without_row, fresh_row, row_started, row_stepped, row_aborting, row_finished, row_taken_back, under_stepped}
-use Rattle.rq_engine.specs.Kept.{AreSendsKept, IsDoneKept, IsKept, IsRowKept, IsUnderKept, UnderKept, end_bytes, room_one, room_of, total_of, done_one}
+use Rattle.rq_engine.specs.Invariant.{AreSendsConsistent, IsDoneConsistent, IsConsistent, IsRowConsistent, IsUnderConsistent, UnderConsistent, end_bytes, room_one, room_of, total_of, done_one}
 use Rattle.rq_engine.specs.Moves.{with_tags, with_sends, with_taken, without_taken}
 use Rattle.rq_engine.proofs.Tags.{sends_on, sends_more}
 use Rattle.rq_groups.specs.Ends.{HeldEnds}
@@ -21,19 +21,19 @@ use Rattle.rq_engine.proofs.Waits.{length-with_sends, length-with_taken, length-
 use Rattle.rq_groups.specs.Waiting.{waits}
 
 -- of rows that are kept, the one that is found
-pub kept_at : (s : State) (f : Bool) (o res : ℕ) (t : Txn) (r : Row) → IsKept s f o res → found_row t s.rows ≡ Some r → IsRowKept s.sizes s.incarnation s.begins (total_of s) r
+pub kept_at : (s : State) (f : Bool) (o res : ℕ) (t : Txn) (r : Row) → IsConsistent s f o res → found_row t s.rows ≡ Some r → IsRowConsistent s.sizes s.incarnation s.begins (total_of s) r
 kept_at s f o res t r k e = k.rows r (found_in t s.rows r e).0
 
 -- and its operation under way
-pub under_at : (s : State) (f : Bool) (o res : ℕ) (t : Txn) (r : Row) (u : Under) → IsKept s f o res → found_row t s.rows ≡ Some r → r.under ≡ Some u → IsUnderKept s.sizes u
-under_at s f o res t r u k e under = subst (UnderKept s.sizes) under (kept_at s f o res t r k e).under
+pub under_at : (s : State) (f : Bool) (o res : ℕ) (t : Txn) (r : Row) (u : Under) → IsConsistent s f o res → found_row t s.rows ≡ Some r → r.under ≡ Some u → IsUnderConsistent s.sizes u
+under_at s f o res t r u k e under = subst (UnderConsistent s.sizes) under (kept_at s f o res t r k e).under
 
 -- the next count is greater than those of all rows
-pub next_rises : (s : State) (f : Bool) (o res : ℕ) → IsKept s f o res → (r : Row) → In r s.rows → r.txn.count < s.begins + 1
+pub next_rises : (s : State) (f : Bool) (o res : ℕ) → IsConsistent s f o res → (r : Row) → In r s.rows → r.txn.count < s.begins + 1
 next_rises s f o res k r i = let high = (k.rows r i).high in omega arith
 
 -- the next number has no row
-pub new_number : (s : State) (f : Bool) (o res : ℕ) → IsKept s f o res → found_row (record { incarnation = s.incarnation; count = s.begins + 1 }) s.rows ≡ None
+pub new_number : (s : State) (f : Bool) (o res : ℕ) → IsConsistent s f o res → found_row (record { incarnation = s.incarnation; count = s.begins + 1 }) s.rows ≡ None
 new_number s f o res k = at (found_row (record { incarnation = s.incarnation; count = s.begins + 1 }) s.rows) refl where
   at : (q : Option Row) → found_row (record { incarnation = s.incarnation; count = s.begins + 1 }) s.rows ≡ q → q ≡ None
   at None e = refl
@@ -43,10 +43,10 @@ new_number s f o res k = at (found_row (record { incarnation = s.incarnation; co
       let v : r.txn.count ≡ s.begins + 1 = ap (λ (y : Txn). y.count) i.1 in
       absurd (omega (arith, c, v))
 
-row_more : (z : Sizes) (i b c m n : ℕ) (r : Row) → b ≤ c → m ≤ n → IsRowKept z i b m r → IsRowKept z i c n r
+row_more : (z : Sizes) (i b c m n : ℕ) (r : Row) → b ≤ c → m ≤ n → IsRowConsistent z i b m r → IsRowConsistent z i c n r
 row_more z i b c m n r le more h = record { mine = h.mine; low = h.low; high = omega (arith, le, h.high); number = omega (arith, more, h.number); done = h.done; under = h.under }
 
-pub kept_begun : (s : State) (f : Bool) (o res : ℕ) → IsKept s f o res → IsKept (record s { rows = fresh_row (record { incarnation = s.incarnation; count = s.begins + 1 }) ∷ s.rows; begins = s.begins + 1 }) f o res
+pub kept_begun : (s : State) (f : Bool) (o res : ℕ) → IsConsistent s f o res → IsConsistent (record s { rows = fresh_row (record { incarnation = s.incarnation; count = s.begins + 1 }) ∷ s.rows; begins = s.begins + 1 }) f o res
 kept_begun s f o res k =
     let t : Txn = record { incarnation = s.incarnation; count = s.begins + 1 } in
     let a : owed_by (fresh_row t ∷ s.rows) ≡ owed_by s.rows = sum_by-cons owed_one (fresh_row t) s.rows ∙ omega arith in
@@ -59,7 +59,7 @@ kept_begun s f o res k =
       count = omega (arith, a, k.count);
       distinct = (new_number s f o res k, k.distinct);
       rows = λ r i. elim i [
-        | inl e ↦ subst (λ (q : Row). IsRowKept s.sizes s.incarnation (s.begins + 1) (length s.records + owed_by (fresh_row t ∷ s.rows)) q) (sym e) (record { mine = refl; low = omega arith; high = omega arith; number = omega arith; done = λ f i. absurd i; under = tt })
+        | inl e ↦ subst (λ (q : Row). IsRowConsistent s.sizes s.incarnation (s.begins + 1) (length s.records + owed_by (fresh_row t ∷ s.rows)) q) (sym e) (record { mine = refl; low = omega arith; high = omega arith; number = omega arith; done = λ f i. absurd i; under = tt })
         | inr j ↦ row_more s.sizes s.incarnation s.begins (s.begins + 1) (total_of s) (length s.records + owed_by (fresh_row t ∷ s.rows)) r (omega arith) (omega (arith, a)) (k.rows r j)
       ];
       senders = k.senders;
@@ -68,8 +68,8 @@ kept_begun s f o res k =
     }
 
 -- one more is done, or the newest is undone
-done_more : (z : Sizes) (fs : List Finished) (f : Finished) → ((x : Finished) → In x fs → IsDoneKept z x) → IsDoneKept z f → (x : Finished) → In x (fs ++ f ∷ []) → IsDoneKept z x
-done_more z [] f h own x (inl e) = subst (IsDoneKept z) (sym e) own
+done_more : (z : Sizes) (fs : List Finished) (f : Finished) → ((x : Finished) → In x fs → IsDoneConsistent z x) → IsDoneConsistent z f → (x : Finished) → In x (fs ++ f ∷ []) → IsDoneConsistent z x
+done_more z [] f h own x (inl e) = subst (IsDoneConsistent z) (sym e) own
 done_more z [] f h own x (inr i) = absurd i
 done_more z (y ∷ fs) f h own x (inl e) = h x (inl e)
 done_more z (y ∷ fs) f h own x (inr i) = done_more z fs f (λ q j. h q (inr j)) own x i
@@ -85,17 +85,17 @@ length-front [] = omega arith
 length-front (f ∷ []) = omega arith
 length-front (f ∷ g ∷ fs) = let h = length-front (g ∷ fs) in omega (arith, h)
 
-module _ (s : State) (f : Bool) (o res : ℕ) (k : IsKept s f o res) (t : Txn) (r : Row) (at_row : found_row t s.rows ≡ Some r) where
+module _ (s : State) (f : Bool) (o res : ℕ) (k : IsConsistent s f o res) (t : Txn) (r : Row) (at_row : found_row t s.rows ≡ Some r) where
   -- a change of one row
-  changed_rows : (g : Row → Row) (total : ℕ) → ((q : Row) → (g q).txn ≡ q.txn) → total_of s ≤ total → IsRowKept s.sizes s.incarnation s.begins total (g r)
-      → (q : Row) → In q (change_row t g s.rows) → IsRowKept s.sizes s.incarnation s.begins total q
+  changed_rows : (g : Row → Row) (total : ℕ) → ((q : Row) → (g q).txn ≡ q.txn) → total_of s ≤ total → IsRowConsistent s.sizes s.incarnation s.begins total (g r)
+      → (q : Row) → In q (change_row t g s.rows) → IsRowConsistent s.sizes s.incarnation s.begins total q
   changed_rows g total keeps more own q i = elim (changed t g s.rows r q k.distinct at_row i) [
-    | inl e ↦ subst (λ (y : Row). IsRowKept s.sizes s.incarnation s.begins total y) (sym e) own
+    | inl e ↦ subst (λ (y : Row). IsRowConsistent s.sizes s.incarnation s.begins total y) (sym e) own
     | inr h ↦ row_more s.sizes s.incarnation s.begins s.begins (total_of s) total q (omega arith) more (k.rows q h.0)
   ]
 
-  pub kept_started : (u : Under) (ends : HeldEnds) (cells : ℕ) → r.under ≡ None → IsUnderKept s.sizes u → u.number ≡ r.number + 1 → u.made ≡ 0 → total_of s + (length u.writes + 1) ≤ 2 ^ 50
-      → IsKept (record s { rows = change_row t (row_started u) s.rows; ends = ends; cells_in_use = cells }) f (o + (length u.writes + 1)) (res + (546 * length u.writes + end_bytes u.aim))
+  pub kept_started : (u : Under) (ends : HeldEnds) (cells : ℕ) → r.under ≡ None → IsUnderConsistent s.sizes u → u.number ≡ r.number + 1 → u.made ≡ 0 → total_of s + (length u.writes + 1) ≤ 2 ^ 50
+      → IsConsistent (record s { rows = change_row t (row_started u) s.rows; ends = ends; cells_in_use = cells }) f (o + (length u.writes + 1)) (res + (546 * length u.writes + end_bytes u.aim))
   kept_started u ends cells none h number made fits =
       let a = rows_one owed_one t (row_started u) s.rows r k.distinct at_row in
       let b = rows_one room_one t (row_started u) s.rows r k.distinct at_row in
@@ -119,7 +119,7 @@ module _ (s : State) (f : Bool) (o res : ℕ) (k : IsKept s f o res) (t : Txn) (
       }
 
   pub kept_stepped : (u : Under) (x : Record) (images : List (List ℕ)) (left : ℕ) → r.under ≡ Some u → u.made < length u.writes → left + 546 ≡ res
-      → IsKept (record s { rows = change_row t row_stepped s.rows; images = images; records = x ∷ s.records }) f (o - 1) left
+      → IsConsistent (record s { rows = change_row t row_stepped s.rows; images = images; records = x ∷ s.records }) f (o - 1) left
   kept_stepped u x images left under more fits =
       let a = rows_one owed_one t row_stepped s.rows r k.distinct at_row in
       let b = rows_one room_one t row_stepped s.rows r k.distinct at_row in
@@ -138,14 +138,14 @@ module _ (s : State) (f : Bool) (o res : ℕ) (k : IsKept s f o res) (t : Txn) (
         room = (let w = k.room in omega (arith, b, d, v, w, fits, more));
         count = (let w = k.count in omega (arith, same, w));
         distinct = distinct_change t row_stepped s.rows (λ q. refl) k.distinct;
-        rows = changed_rows row_stepped (length (x ∷ s.records) + owed_by (change_row t row_stepped s.rows)) (λ q. refl) (omega (arith, same)) (record { mine = row.mine; low = row.low; high = row.high; number = (let n = row.number in omega (arith, n, same)); done = row.done; under = subst (λ (y : Option Under). UnderKept s.sizes (under_stepped y)) (sym under) (record { number = h.number; made = omega (arith, more); slots = h.slots; sender = h.sender; fits = h.fits }) });
+        rows = changed_rows row_stepped (length (x ∷ s.records) + owed_by (change_row t row_stepped s.rows)) (λ q. refl) (omega (arith, same)) (record { mine = row.mine; low = row.low; high = row.high; number = (let n = row.number in omega (arith, n, same)); done = row.done; under = subst (λ (y : Option Under). UnderConsistent s.sizes (under_stepped y)) (sym under) (record { number = h.number; made = omega (arith, more); slots = h.slots; sender = h.sender; fits = h.fits }) });
         senders = k.senders;
         few = λ g. (let c = rows_sum done_one t row_stepped s.rows (λ q i e. refl) in let d = k.few g in omega (arith, c, d));
         sent = sends_on k.sent (let c = rows_sum done_one t row_stepped s.rows (λ q i e. refl) in omega (arith, c));
       }
 
-  pub kept_finished : (u : Under) (x : Record) (end : Finished) (left : ℕ) (d : Deed) → r.under ≡ Some u → u.made ≡ length u.writes → left + end_bytes u.aim ≡ res → IsDoneKept s.sizes end
-      → IsKept (record s { rows = change_row t (row_finished end) s.rows; records = x ∷ s.records; waiting = without_taken d s.waiting }) f (o - 1) left
+  pub kept_finished : (u : Under) (x : Record) (end : Finished) (left : ℕ) (d : Deed) → r.under ≡ Some u → u.made ≡ length u.writes → left + end_bytes u.aim ≡ res → IsDoneConsistent s.sizes end
+      → IsConsistent (record s { rows = change_row t (row_finished end) s.rows; records = x ∷ s.records; waiting = without_taken d s.waiting }) f (o - 1) left
   kept_finished u x end left d0 under made fits own =
       let a = rows_one owed_one t (row_finished end) s.rows r k.distinct at_row in
       let b = rows_one room_one t (row_finished end) s.rows r k.distinct at_row in
@@ -179,7 +179,7 @@ module _ (s : State) (f : Bool) (o res : ℕ) (k : IsKept s f o res) (t : Txn) (
 
   -- an inverse ends
   pub kept_undone : (u : Under) (x : Record) (cells left : ℕ) (d : Deed) → r.under ≡ Some u → u.made ≡ length u.writes → left + end_bytes u.aim ≡ res
-      → IsKept (record s { rows = change_row t row_taken_back s.rows; records = x ∷ s.records; cells_in_use = cells; waiting = with_taken d s.waiting }) f (o - 1) left
+      → IsConsistent (record s { rows = change_row t row_taken_back s.rows; records = x ∷ s.records; cells_in_use = cells; waiting = with_taken d s.waiting }) f (o - 1) left
   kept_undone u x cells left d0 under made fits =
       let a = rows_one owed_one t row_taken_back s.rows r k.distinct at_row in
       let b = rows_one room_one t row_taken_back s.rows r k.distinct at_row in
@@ -212,7 +212,7 @@ module _ (s : State) (f : Bool) (o res : ℕ) (k : IsKept s f o res) (t : Txn) (
       }
 
   -- a transaction is turned to abort
-  pub kept_aborting : IsKept (record s { rows = change_row t row_aborting s.rows }) f o res
+  pub kept_aborting : IsConsistent (record s { rows = change_row t row_aborting s.rows }) f o res
   kept_aborting =
       let a = rows_sum owed_one t row_aborting s.rows (λ q i e. refl) in
       let b = rows_sum room_one t row_aborting s.rows (λ q i e. refl) in
@@ -232,7 +232,7 @@ module _ (s : State) (f : Bool) (o res : ℕ) (k : IsKept s f o res) (t : Txn) (
 
   -- an abort ends
   pub kept_aborted : (x : Record) (ends : HeldEnds) → r.under ≡ None → total_of s + 1 ≤ 2 ^ 50
-      → IsKept (record s { rows = without_row t s.rows; ends = ends; records = x ∷ s.records }) f o res
+      → IsConsistent (record s { rows = without_row t s.rows; ends = ends; records = x ∷ s.records }) f o res
   kept_aborted x ends none fits =
       let a = rows_without owed_one t s.rows r k.distinct at_row in
       let b = rows_without room_one t s.rows r k.distinct at_row in
@@ -252,7 +252,7 @@ module _ (s : State) (f : Bool) (o res : ℕ) (k : IsKept s f o res) (t : Txn) (
       }
 
   pub kept_committed : (x : Record) (ends : HeldEnds) (cells : ℕ) → r.under ≡ None → total_of s + 1 ≤ 2 ^ 50
-      → IsKept (record s { rows = without_row t s.rows; ends = ends; records = x ∷ s.records; cells_in_use = cells; waiting = with_sends r.finished s.waiting; sent = with_tags r.finished s.sent }) f o res
+      → IsConsistent (record s { rows = without_row t s.rows; ends = ends; records = x ∷ s.records; cells_in_use = cells; waiting = with_sends r.finished s.waiting; sent = with_tags r.finished s.sent }) f o res
   kept_committed x ends cells none fits =
       let a = rows_without owed_one t s.rows r k.distinct at_row in
       let b = rows_without room_one t s.rows r k.distinct at_row in
@@ -272,7 +272,7 @@ module _ (s : State) (f : Bool) (o res : ℕ) (k : IsKept s f o res) (t : Txn) (
       }
 
 -- what a device did, and whether it failed, is all that changed
-pub kept_device : (s : State) (f g : Bool) (o res left forced : ℕ) (failed : Bool) (log : List Record) → IsKept s f o res → log ≡ s.records → left ≡ res → (failed ≡ false → g ≡ false) → IsKept (record s { records = log; forced = forced; failed = failed }) g o left
+pub kept_device : (s : State) (f g : Bool) (o res left forced : ℕ) (failed : Bool) (log : List Record) → IsConsistent s f o res → log ≡ s.records → left ≡ res → (failed ≡ false → g ≡ false) → IsConsistent (record s { records = log; forced = forced; failed = failed }) g o left
 kept_device s f g o res left forced failed log k same room fails = record {
   incarnation = k.incarnation;
   fails = fails;
@@ -280,12 +280,12 @@ kept_device s f g o res left forced failed log k same room fails = record {
   room = (let a = k.room in omega (arith, a, room));
   count = subst (λ (l : List Record). length l + owed_by s.rows ≤ 2 ^ 50) (sym same) k.count;
   distinct = k.distinct;
-  rows = λ r i. subst (λ (l : List Record). IsRowKept s.sizes s.incarnation s.begins (length l + owed_by s.rows) r) (sym same) (k.rows r i);
+  rows = λ r i. subst (λ (l : List Record). IsRowConsistent s.sizes s.incarnation s.begins (length l + owed_by s.rows) r) (sym same) (k.rows r i);
   senders = k.senders;
   few = λ g. subst (λ (l : List Record). waits s.waiting g + sum_by done_one s.rows ≤ length l) (sym same) (k.few g);
-  sent = subst (λ (l : List Record). AreSendsKept s.sizes (length l) (sum_by done_one s.rows) s.sent) (sym same) k.sent;
+  sent = subst (λ (l : List Record). AreSendsConsistent s.sizes (length l) (sum_by done_one s.rows) s.sent) (sym same) k.sent;
 }
 
 -- the ends are of no account to it, nor is room that was taken and given back
-pub kept_back : (s : State) (f : Bool) (o res left : ℕ) (ends : HeldEnds) → IsKept s f o res → left ≡ res → IsKept (record s { ends = ends }) f o left
+pub kept_back : (s : State) (f : Bool) (o res left : ℕ) (ends : HeldEnds) → IsConsistent s f o res → left ≡ res → IsConsistent (record s { ends = ends }) f o left
 kept_back s f o res left ends k e = record { incarnation = k.incarnation; fails = k.fails; owes = k.owes; room = (let a = k.room in omega (arith, a, e)); count = k.count; distinct = k.distinct; rows = k.rows; senders = k.senders; few = k.few; sent = k.sent }

@@ -8,7 +8,7 @@ use Rattle.rq_model.specs.declared.refusal.Refusal.{Refusal}
 use Rattle.rq_model.specs.declared.refusal.Refusal.TheVariants as why
 use Rattle.rq_model.specs.declared.txn.Txn.{Txn}
 use Rattle.rq_model.specs.Legal.{OnFound}
-use Rattle.rq_model.specs.Words.{last}
+use Rattle.rq_model.specs.Vocabulary.{last}
 use Rattle.rq_model.specs.History.Call.{Start_close, Start_send, Start_receive, Start_receive_from, Undo_next}
 use Rattle.rq_model.specs.History.Job.{Sending, Taking, Ending}
 use Rattle.rq_page.specs.Sizes.{cell_count, directory_at, Sizes}

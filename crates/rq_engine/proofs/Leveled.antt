@@ -38,7 +38,7 @@ use Rattle.rq_planner.specs.Answered.{IsDeedFor, IsHeldUp, IsPlanOf, SendTakesLo
 use Rattle.rq_planner.specs.Asked.{asked_by, asked_in, doing_sender, to_do}
 use Rattle.rq_planner.specs.Asked.Asked.{Do}
 use Rattle.rq_engine.specs.Closes.{IsClosePlan, close_latched}
-use Rattle.rq_engine.specs.Plans.{IsDeedPlan, bare}
+use Rattle.rq_engine.specs.Plans.{IsDeedPlan, known_part}
 use Rattle.rq_engine.specs.Sends.{take_latched, under_plan}
 use Rattle.rq_engine.proofs.Latches.{one_write}
 use Rattle.rq_engine.proofs.Inverses.{of_writes, relinked_count}
@@ -73,7 +73,7 @@ some_doing a b e = cc
 some_deed : (a b : Deed) → Some a ≡ Some b → a ≡ b
 some_deed a b e = cc
 
-module _ (s : State) (d : Doing) (p : Plan) (h : IsPlanOf (bare s) d p) where
+module _ (s : State) (d : Doing) (p : Plan) (h : IsPlanOf (known_part s) d p) where
   pub plan_few : length p.writes.items ≤ 3
   plan_few = few_of s.sizes (slots_now s) p.writes.items h.deed h.follows.0
 
@@ -206,14 +206,14 @@ take_plan s g n plan room below h = at plan.deed refl h.asked h.planned where
   at (Append x m t previous b) is same p = absurd same
   at (Close_deed x) is same p = absurd same
 
-pub take_free : (s : State) (g : ℕ) → (IsHeldUp (bare s) (Do (Receive g)) → ⊥) → take_latched s g ≡ false
+pub take_free : (s : State) (g : ℕ) → (IsHeldUp (known_part s) (Do (Receive g)) → ⊥) → take_latched s g ≡ false
 take_free s g h = false_from_ne_true (take_latched s g) h
 
 -- a close needs the page of its directory slot
-pub close_held : (s : State) (g : ℕ) → IsHeldUp (bare s) (Do (Close g)) → close_latched s g ≡ true
+pub close_held : (s : State) (g : ℕ) → IsHeldUp (known_part s) (Do (Close g)) → close_latched s g ≡ true
 close_held s g h = elim (or_cases (latched_in s.rows (directory_at g / 16)) false h) [ inl y ↦ y | inr n ↦ absurd (true≢false (sym n)) ]
 
-pub close_free : (s : State) (g : ℕ) → (IsHeldUp (bare s) (Do (Close g)) → ⊥) → close_latched s g ≡ false
+pub close_free : (s : State) (g : ℕ) → (IsHeldUp (known_part s) (Do (Close g)) → ⊥) → close_latched s g ≡ false
 close_free s g h = false_from_ne_true (close_latched s g) (λ y. h (or_left (latched_in s.rows (directory_at g / 16)) false y))
 
 -- it makes one write

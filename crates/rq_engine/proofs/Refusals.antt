@@ -4,7 +4,7 @@ use Rattle.std.proofs.lemmas.Bool.{cases_Bool, false≢true, false_from_ne_true,
 use Rattle.rq_model.specs.declared.txn.Txn.{Txn}
 use Rattle.rq_model.specs.declared.refusal.Refusal.{Refusal}
 use Rattle.rq_model.specs.declared.refusal.Refusal.TheVariants as why
-use Rattle.rq_model.specs.Words.{is_some}
+use Rattle.rq_model.specs.Vocabulary.{is_some}
 use Rattle.rq_model.specs.History.{Call}
 use Rattle.rq_model.specs.History.Call.{Begin, Commit, Start_send, Step, Finish, Acknowledge, Force, Hand_over, Show, Start_receive, Start_receive_from, Start_close, Start_abort, Undo_next, End_abort, Write_page, Last_tag}
 use Rattle.rq_model.specs.History.Entry.{Refused}

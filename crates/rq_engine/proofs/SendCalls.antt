@@ -3,7 +3,7 @@ use Rattle.std.proofs.Common.{◌≡◌, ℕ, ◌+◌, ◌*◌, ◌<◌, ◌≤�
 use Rattle.std.proofs.lemmas.Bool.{false_from_ne_true, eqb-true, eq-eqb, lt-ltb, le-ltb}
 use Rattle.rq_model.specs.declared.txn.Txn.{Txn}
 use Rattle.rq_model.specs.declared.refusal.Refusal.TheVariants as why
-use Rattle.rq_model.specs.Words.{is_some, message_of}
+use Rattle.rq_model.specs.Vocabulary.{is_some, message_of}
 use Rattle.rq_model.specs.History.{Call}
 use Rattle.rq_model.specs.History.Call.{Start_send}
 use Rattle.rq_model.specs.Ledger.{found, ended_in}
@@ -20,7 +20,7 @@ use Rattle.rq_store.specs.State.{State, ledger_of, size_of, job_under}
 use Rattle.rq_store.specs.Plans.{IsSendPlan}
 use Rattle.rq_sound.specs.Sound.{IsSound}
 use Rattle.rq_store.proofs.RowLists.{found_in}
-use Rattle.rq_sound.specs.Steps.{Steps}
+use Rattle.rq_sound.specs.ModelSteps.{IsModelStep}
 use Rattle.rq_sound.proofs.FreeEnds.{free_is}
 use Rattle.rq_sound.proofs.Asked.{cells_are}
 use Rattle.rq_sound.specs.Plans.{AreUnlatched}
@@ -32,7 +32,7 @@ use Rattle.rq_model.specs.Replay.Reply.{Gave_sub}
 use Rattle.rq_engine.specs.Answers.{Refuses, HasNothingUnderWay, OnUnder}
 use Rattle.rq_model.specs.Legal.{OnFound}
 use Rattle.rq_chain.specs.declared.ChainPlan.{ChainPlan as Plan}
-use Rattle.rq_engine.specs.Kept.{IsKept, IsUnderKept, end_bytes}
+use Rattle.rq_engine.specs.Invariant.{IsConsistent, IsUnderConsistent, end_bytes}
 use Rattle.rq_engine.specs.Sends.{under_plan, FitsUnder, HasRoom, SendIsLatched}
 use Rattle.rq_engine.proofs.Keeping.{kept_started}
 use Rattle.rq_engine.proofs.Refusals.{not_full, refuse, found_of, on_found, found_some, found_none}
@@ -104,16 +104,16 @@ pub has_room : (s : State) (ws : List SlotWrite) (more : ℕ) → log_full (ledg
 has_room s ws more full few = let left = not_full s more full in omega (arith, left, few)
 
 -- the operation that begins is kept as every other
-pub start_kept : (s : State) (f : Bool) (o res room : ℕ) (t : Txn) (u : Under) → IsKept s f o res → HasNothingUnderWay s t u.number → HasRoom s u.writes → FitsUnder s.sizes u room
-    → IsKept (record s { rows = change_row t (row_started u) s.rows }) f (o + (length u.writes + 1)) (res + room)
+pub start_kept : (s : State) (f : Bool) (o res room : ℕ) (t : Txn) (u : Under) → IsConsistent s f o res → HasNothingUnderWay s t u.number → HasRoom s u.writes → FitsUnder s.sizes u room
+    → IsConsistent (record s { rows = change_row t (row_started u) s.rows }) f (o + (length u.writes + 1)) (res + room)
 start_kept s f o res room t u k h left fits =
     let r = found_of (λ r. (r.under ≡ None) × (u.number ≡ r.number + 1)) (found_row t s.rows) h in
     let number = r.2.1 in
     let made = fits.made in
-    let under : IsUnderKept s.sizes u = record { number = omega (arith, number); made = omega (arith, made); slots = fits.slots; sender = fits.sender; fits = fits.fits } in
+    let under : IsUnderConsistent s.sizes u = record { number = omega (arith, number); made = omega (arith, made); slots = fits.slots; sender = fits.sender; fits = fits.fits } in
     let a = kept_started s f o res k t r.0 r.1 u s.ends s.cells_in_use r.2.0 under number made (omega (arith, left)) in
     let same : res + (546 * length u.writes + end_bytes u.aim) ≡ res + room = (let e = fits.room_is in omega (arith, e)) in
-    subst (λ (m : ℕ). IsKept (record s { rows = change_row t (row_started u) s.rows }) f (o + (length u.writes + 1)) m) same a
+    subst (λ (m : ℕ). IsConsistent (record s { rows = change_row t (row_started u) s.rows }) f (o + (length u.writes + 1)) m) same a
 
 -- a send that meets a latched page
 pub send_refused : (s : State) (t : Txn) (g tag : ℕ) (body : List ℕ) → (IsSound s → Passes (size_of s.sizes) (ledger_of s) (Start_send t (message_of g tag body))) → s.cells_in_use < cell_count s.sizes → SendIsLatched s g
@@ -124,13 +124,13 @@ send_refused s t g tag body may room latched k = (refused_steps s k (Start_send 
 pub send_done : (s new : State) (t : Txn) (n e tag : ℕ) (body b : List ℕ) (plan : Plan) → HasNothingUnderWay s t n → NoneHolds (ready_tests (ledger_of s) t false) → AreUnlatched s plan.writes.items → b ≡ body
     → IsSendPlan s.sizes (slots_in s.sizes s.images) (under_plan n plan) e tag b → is_free_for t e s.ends.sending ≡ true → s.cells_in_use < cell_count s.sizes → (IsSound s → Passes (size_of s.sizes) (ledger_of s) (Start_send t (message_of e tag body)))
     → new ≡ record s { rows = change_row t (row_started (under_plan n plan)) s.rows; ends = record { sending = with_held t e s.ends.sending; receiving = s.ends.receiving }; cells_in_use = s.cells_in_use + 1 }
-    → IsSound s → Steps s (Start_send t (message_of e tag body)) (Gave_sub t n) new
+    → IsSound s → IsModelStep s (Start_send t (message_of e tag body)) (Gave_sub t n) new
 send_done s new t n e tag body b plan ready h off same p free room may is k =
     let r = found_of (λ r. (r.under ≡ None) × (n ≡ r.number + 1)) (found_row t s.rows) ready in
     let planned = subst (λ (x : List ℕ). IsSendPlan s.sizes (slots_in s.sizes s.images) (under_plan n plan) e tag x) same p in
     let a = start_steps s k t r.0 (under_plan n plan) e tag body r.1 r.2.0 off r.2.1 planned (may k) in
-    let c = subst (λ (m : ℕ). Steps s (Start_send t (message_of e tag body)) (Gave_sub t m) (record s { rows = change_row t (row_started (under_plan n plan)) s.rows; ends = record { sending = with_held t e s.ends.sending; receiving = s.ends.receiving }; cells_in_use = s.cells_in_use + 1 })) (sym r.2.1) a in
-    subst (λ (x : State). Steps s (Start_send t (message_of e tag body)) (Gave_sub t n) x) (sym is) c
+    let c = subst (λ (m : ℕ). IsModelStep s (Start_send t (message_of e tag body)) (Gave_sub t m) (record s { rows = change_row t (row_started (under_plan n plan)) s.rows; ends = record { sending = with_held t e s.ends.sending; receiving = s.ends.receiving }; cells_in_use = s.cells_in_use + 1 })) (sym r.2.1) a in
+    subst (λ (x : State). IsModelStep s (Start_send t (message_of e tag body)) (Gave_sub t n) x) (sym is) c
 
 -- what was planned is under way
 pub going_started : (s : State) (rows : List Row) (t : Txn) (n : ℕ) (plan : Plan) (P : Row → Under → Type 0) → HasNothingUnderWay s t n → rows ≡ change_row t (row_started (under_plan n plan)) s.rows

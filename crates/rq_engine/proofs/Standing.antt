@@ -39,7 +39,7 @@ use Rattle.rq_sound.specs.Plans.{AreUnlatched, IsNew}
 use Rattle.rq_sound.specs.Sound.{IsSound}
 use Rattle.rq_sound.specs.Standing.{IsAsPlanned}
 use Rattle.rq_sound.specs.Starts.{MayDo}
-use Rattle.rq_sound.specs.Steps.{Steps}
+use Rattle.rq_sound.specs.ModelSteps.{IsModelStep}
 use Rattle.rq_sound.proofs.AbortSteps.{abort_steps}
 use Rattle.rq_sound.proofs.DeedSteps.{deed_steps}
 use Rattle.rq_sound.proofs.Planned.{plans_start}
@@ -47,16 +47,16 @@ use Rattle.rq_sound.proofs.Refusals.{refusal_steps}
 use Rattle.rq_sound.proofs.Unchanged.{unchanged}
 use Rattle.rq_sound.proofs.Waits.{waits_given}
 
-pub refused_steps : (s : State) → IsSound s → (c : Call) (r : Refusal) → LegalRefusal (size_of s.sizes) (ledger_of s) c r → after (Refused c r) (ledger_of s) ≡ ledger_of s → Steps s c (Gave_refusal r) s
+pub refused_steps : (s : State) → IsSound s → (c : Call) (r : Refusal) → LegalRefusal (size_of s.sizes) (ledger_of s) c r → after (Refused c r) (ledger_of s) ≡ ledger_of s → IsModelStep s c (Gave_refusal r) s
 refused_steps s k c r legal same = refusal_steps.refused s c r k legal same
 
-pub failed_steps : (s : State) → IsSound s → s.failed ≡ false → (c : Call) → Steps s c (Gave_refusal DiskWrite) (record s { failed = true })
+pub failed_steps : (s : State) → IsSound s → s.failed ≡ false → (c : Call) → IsModelStep s c (Gave_refusal DiskWrite) (record s { failed = true })
 failed_steps s k running c = refusal_steps.fails s c k running
 
-pub hand_over_steps : (s : State) → IsSound s → s.failed ≡ false → Steps s Hand_over Gave_handed_over s
+pub hand_over_steps : (s : State) → IsSound s → s.failed ≡ false → IsModelStep s Hand_over Gave_handed_over s
 hand_over_steps s k running = unchanged.hands_over s k running
 
-pub force_steps : (s : State) → IsSound s → s.failed ≡ false → Steps s Force (Gave_forced (length s.records)) (record s { forced = length s.records })
+pub force_steps : (s : State) → IsSound s → s.failed ≡ false → IsModelStep s Force (Gave_forced (length s.records)) (record s { forced = length s.records })
 force_steps s k running = abort_steps.forces s k running
 
 -- what is so of the transaction's own number is so of the one it is found by
@@ -72,9 +72,9 @@ going_at s k t r u e under =
 -- one more write
 pub step_steps : (s : State) (k : IsSound s) (t : Txn) (r : Row) (u : Under) (w : SlotWrite) (images : List (List ℕ)) → found_row t s.rows ≡ Some r → r.under ≡ Some u → slice_get u.writes u.made ≡ Some w
     → ((a : ℕ) → slots_in s.sizes images a ≡ put (slots_in s.sizes s.images) w.at (held_in s.sizes (w.at / 16) w.after) a) → IsPutIn s w images → IsSlotOf s.sizes (w.at / 16) (w.at % 16) w.before → IsSlotOf s.sizes (w.at / 16) (w.at % 16) w.after → s.failed ≡ false
-    → Steps s (Step t u.number) (Gave_lsn (length s.records + 1)) (record s { rows = change_row t row_stepped s.rows; images = images; records = page_op t u.number w ∷ s.records })
+    → IsModelStep s (Step t u.number) (Gave_lsn (length s.records + 1)) (record s { rows = change_row t row_stepped s.rows; images = images; records = page_op t u.number w ∷ s.records })
 step_steps s k t r u w images at_row under next slots put_in before slot running =
-    at_own s t r (λ q. Steps s (Step q u.number) (Gave_lsn (length s.records + 1)) (record s { rows = change_row q row_stepped s.rows; images = images; records = page_op q u.number w ∷ s.records })) at_row (λ e. abort_steps.steps s r u w images k running (record {
+    at_own s t r (λ q. IsModelStep s (Step q u.number) (Gave_lsn (length s.records + 1)) (record s { rows = change_row q row_stepped s.rows; images = images; records = page_op q u.number w ∷ s.records })) at_row (λ e. abort_steps.steps s r u w images k running (record {
       at_row = e;
       under = under;
       next = next;
@@ -85,17 +85,17 @@ step_steps s k t r u w images at_row under next slots put_in before slot running
 
 -- a deed's end
 pub finish_steps : (s : State) (k : IsSound s) (t : Txn) (r : Row) (u : Under) (d : Deed) (ws : List ℕ) → found_row t s.rows ≡ Some r → r.under ≡ Some u → u.aim ≡ Doing d → u.made ≡ length u.writes → ((g : ℕ) → waits ws g ≡ waits s.waiting g - took g d) → s.failed ≡ false
-    → Steps s (Finish t u.number) (gave_done d) (record s { rows = change_row t (row_finished (record { lsn = length s.records + 1; deed = d })) s.rows; records = op_end t u.number d ∷ s.records; waiting = ws })
+    → IsModelStep s (Finish t u.number) (gave_done d) (record s { rows = change_row t (row_finished (record { lsn = length s.records + 1; deed = d })) s.rows; records = op_end t u.number d ∷ s.records; waiting = ws })
 finish_steps s k t r u d ws at_row under aim made waited running =
-    at_own s t r (λ q. Steps s (Finish q u.number) (gave_done d) (record s { rows = change_row q (row_finished (record { lsn = length s.records + 1; deed = d })) s.rows; records = op_end q u.number d ∷ s.records; waiting = ws })) at_row
+    at_own s t r (λ q. IsModelStep s (Finish q u.number) (gave_done d) (record s { rows = change_row q (row_finished (record { lsn = length s.records + 1; deed = d })) s.rows; records = op_end q u.number d ∷ s.records; waiting = ws })) at_row
     (λ e. deed_steps.finishes s r u d ws k running (record { at_row = e; under = under; aim_is = aim; made = made }) waited)
 
 pub commit_steps : (s : State) (k : IsSound s) (t : Txn) (r : Row) (cells : ℕ) (ws : List ℕ) (ss : SentBy) → found_row t s.rows ≡ Some r → r.under ≡ None → r.aborting ≡ false → cells + takes_all r ≡ s.cells_in_use
     → ((g : ℕ) → g < sender_count s.sizes → waits ws g ≡ waits s.waiting g + sends_in g r) → ((g : ℕ) → g < sender_count s.sizes → sent_count ss g ≡ sent_count s.sent g + sends_in g r)
     → ((g : ℕ) → g < sender_count s.sizes → sent_tag ss g ≡ tag_after (sent_tag s.sent g) (sends_for g r)) → s.failed ≡ false → log_full (ledger_of s) 1 ≡ false
-    → Steps s (Commit t) (Gave_commit (record { txn = t; lsn = length s.records + 1 })) (record s { rows = without_row t s.rows; ends = record { sending = released t s.ends.sending; receiving = released t s.ends.receiving }; records = records.Commit t ∷ s.records; cells_in_use = cells; waiting = ws; sent = ss })
+    → IsModelStep s (Commit t) (Gave_commit (record { txn = t; lsn = length s.records + 1 })) (record s { rows = without_row t s.rows; ends = record { sending = released t s.ends.sending; receiving = released t s.ends.receiving }; records = records.Commit t ∷ s.records; cells_in_use = cells; waiting = ws; sent = ss })
 commit_steps s k t r cells ws ss at_row idle forward freed waited counted tagged running room =
-    at_own s t r (λ q. Steps s (Commit q) (Gave_commit (record { txn = q; lsn = length s.records + 1 })) (record s { rows = without_row q s.rows; ends = record { sending = released q s.ends.sending; receiving = released q s.ends.receiving }; records = records.Commit q ∷ s.records; cells_in_use = cells; waiting = ws; sent = ss })) at_row
+    at_own s t r (λ q. IsModelStep s (Commit q) (Gave_commit (record { txn = q; lsn = length s.records + 1 })) (record s { rows = without_row q s.rows; ends = record { sending = released q s.ends.sending; receiving = released q s.ends.receiving }; records = records.Commit q ∷ s.records; cells_in_use = cells; waiting = ws; sent = ss })) at_row
     (λ e. deed_steps.commits s r cells ws ss k running (record { idle = record { at_row = e; idle = idle }; forward = forward; freed = freed; waits = waited; counts = counted; tags = tagged }) room)
 
 -- what is planned on pages that nobody has latched
@@ -114,7 +114,7 @@ module _ (s : State) (k : IsSound s) (r : Row) (u : Under) (at_row : found_row r
 
   -- a send
   own_send : (e tag : ℕ) (body : List ℕ) → IsSendPlan s.sizes (slots_in s.sizes s.images) u e tag body → Passes (size_of s.sizes) (ledger_of s) (Start_send r.txn (record { sender = e; tag = tag; body = body }))
-      → Steps s (Start_send r.txn (record { sender = e; tag = tag; body = body })) (Gave_sub r.txn (r.number + 1))
+      → IsModelStep s (Start_send r.txn (record { sender = e; tag = tag; body = body })) (Gave_sub r.txn (r.number + 1))
       (record s { rows = change_row r.txn (row_started u) s.rows; ends = record { sending = with_held r.txn e s.ends.sending; receiving = s.ends.receiving }; cells_in_use = s.cells_in_use + 1 })
   own_send e tag body plan passes =
       let d : Deed = Append e (plan.directory.sent + 1) tag plan.directory.last_tag body in
@@ -130,18 +130,18 @@ module _ (s : State) (k : IsSound s) (r : Row) (u : Under) (at_row : found_row r
         beside = plan.beside;
         writes = plan.writes;
       }) (reads_of d plan.aim plan.reads) tt passes in
-      subst (λ (n : ℕ). Steps s (Start_send r.txn (record { sender = e; tag = tag; body = body })) (Gave_sub r.txn (r.number + 1))
+      subst (λ (n : ℕ). IsModelStep s (Start_send r.txn (record { sender = e; tag = tag; body = body })) (Gave_sub r.txn (r.number + 1))
       (record s { rows = change_row r.txn (row_started u) s.rows; ends = record { sending = with_held r.txn e s.ends.sending; receiving = s.ends.receiving }; cells_in_use = s.cells_in_use + n })) (ap appends_aim plan.aim)
       (deed_steps.starts s r u d k may passes)
 
   -- a close
   own_close : (e : ℕ) → IsClosePlan s.sizes (slots_in s.sizes s.images) u e → Passes (size_of s.sizes) (ledger_of s) (Start_close r.txn e)
-      → Steps s (Start_close r.txn e) (Gave_sub r.txn (r.number + 1))
+      → IsModelStep s (Start_close r.txn e) (Gave_sub r.txn (r.number + 1))
       (record s { rows = change_row r.txn (row_started u) s.rows; ends = record { sending = with_held r.txn e s.ends.sending; receiving = s.ends.receiving } })
   own_close e plan passes =
       let d : Deed = Close e in
       let may : MayDo s r u d = plans_start.deeds s r u d k (new d plan.aim plan.made) plan.marking (reads_of d plan.aim plan.reads) tt passes in
-      subst (λ (n : ℕ). Steps s (Start_close r.txn e) (Gave_sub r.txn (r.number + 1))
+      subst (λ (n : ℕ). IsModelStep s (Start_close r.txn e) (Gave_sub r.txn (r.number + 1))
       (record s { rows = change_row r.txn (row_started u) s.rows; ends = record { sending = with_held r.txn e s.ends.sending; receiving = s.ends.receiving }; cells_in_use = n }))
       (let a : appends_aim u.aim ≡ 0 = ap appends_aim plan.aim in let same : s.cells_in_use + appends_aim u.aim ≡ s.cells_in_use = omega (arith, a) in same)
       (deed_steps.starts s r u d k may passes)
@@ -171,45 +171,45 @@ module _ (s : State) (k : IsSound s) (r : Row) (u : Under) (at_row : found_row r
     abbrev taken : ℕ → State
     taken n = record s { rows = change_row r.txn (row_started u) s.rows; ends = record { sending = s.ends.sending; receiving = with_held r.txn e s.ends.receiving }; cells_in_use = n }
 
-    own_take : Steps s (Start_receive r.txn) (Gave_sub r.txn (r.number + 1)) (taken s.cells_in_use)
-    own_take = subst (λ (n : ℕ). Steps s (Start_receive r.txn) (Gave_sub r.txn (r.number + 1)) (taken n)) no_more
+    own_take : IsModelStep s (Start_receive r.txn) (Gave_sub r.txn (r.number + 1)) (taken s.cells_in_use)
+    own_take = subst (λ (n : ℕ). IsModelStep s (Start_receive r.txn) (Gave_sub r.txn (r.number + 1)) (taken n)) no_more
         (deed_steps.receives_any s r u e (plan.directory.received + 1) plan.cell.tag plan.cell.body k may_take passes)
 
-    own_take_from : Steps s (Start_receive_from r.txn e) (Gave_sub r.txn (r.number + 1)) (taken s.cells_in_use)
-    own_take_from = subst (λ (n : ℕ). Steps s (Start_receive_from r.txn e) (Gave_sub r.txn (r.number + 1)) (taken n)) no_more
+    own_take_from : IsModelStep s (Start_receive_from r.txn e) (Gave_sub r.txn (r.number + 1)) (taken s.cells_in_use)
+    own_take_from = subst (λ (n : ℕ). IsModelStep s (Start_receive_from r.txn e) (Gave_sub r.txn (r.number + 1)) (taken n)) no_more
         (deed_steps.starts s r u deed k may_take passes)
 
 pub start_steps : (s : State) (k : IsSound s) (t : Txn) (r : Row) (u : Under) (e tag : ℕ) (body : List ℕ) → found_row t s.rows ≡ Some r → r.under ≡ None → AreUnlatched s u.writes → u.number ≡ r.number + 1
     → IsSendPlan s.sizes (slots_in s.sizes s.images) u e tag body
     → Passes (size_of s.sizes) (ledger_of s) (Start_send t (record { sender = e; tag = tag; body = body }))
-    → Steps s (Start_send t (record { sender = e; tag = tag; body = body })) (Gave_sub t (r.number + 1)) (record s { rows = change_row t (row_started u) s.rows; ends = record { sending = with_held t e s.ends.sending; receiving = s.ends.receiving }; cells_in_use = s.cells_in_use + 1 })
+    → IsModelStep s (Start_send t (record { sender = e; tag = tag; body = body })) (Gave_sub t (r.number + 1)) (record s { rows = change_row t (row_started u) s.rows; ends = record { sending = with_held t e s.ends.sending; receiving = s.ends.receiving }; cells_in_use = s.cells_in_use + 1 })
 start_steps s k t r u e tag body at_row idle free number plan passes =
     at_own s t r (λ q. Passes (size_of s.sizes) (ledger_of s) (Start_send q (record { sender = e; tag = tag; body = body }))
-    → Steps s (Start_send q (record { sender = e; tag = tag; body = body })) (Gave_sub q (r.number + 1)) (record s { rows = change_row q (row_started u) s.rows; ends = record { sending = with_held q e s.ends.sending; receiving = s.ends.receiving }; cells_in_use = s.cells_in_use + 1 })) at_row
+    → IsModelStep s (Start_send q (record { sender = e; tag = tag; body = body })) (Gave_sub q (r.number + 1)) (record s { rows = change_row q (row_started u) s.rows; ends = record { sending = with_held q e s.ends.sending; receiving = s.ends.receiving }; cells_in_use = s.cells_in_use + 1 })) at_row
     (λ f. own_send s k r u f idle free number e tag body plan) passes
 
 pub close_steps : (s : State) (k : IsSound s) (t : Txn) (r : Row) (u : Under) (e : ℕ) → found_row t s.rows ≡ Some r → r.under ≡ None → AreUnlatched s u.writes → u.number ≡ r.number + 1 → IsClosePlan s.sizes (slots_in s.sizes s.images) u e
     → Passes (size_of s.sizes) (ledger_of s) (Start_close t e)
-    → Steps s (Start_close t e) (Gave_sub t (r.number + 1)) (record s { rows = change_row t (row_started u) s.rows; ends = record { sending = with_held t e s.ends.sending; receiving = s.ends.receiving } })
+    → IsModelStep s (Start_close t e) (Gave_sub t (r.number + 1)) (record s { rows = change_row t (row_started u) s.rows; ends = record { sending = with_held t e s.ends.sending; receiving = s.ends.receiving } })
 close_steps s k t r u e at_row idle free number plan passes =
     at_own s t r (λ q. Passes (size_of s.sizes) (ledger_of s) (Start_close q e)
-    → Steps s (Start_close q e) (Gave_sub q (r.number + 1)) (record s { rows = change_row q (row_started u) s.rows; ends = record { sending = with_held q e s.ends.sending; receiving = s.ends.receiving } })) at_row
+    → IsModelStep s (Start_close q e) (Gave_sub q (r.number + 1)) (record s { rows = change_row q (row_started u) s.rows; ends = record { sending = with_held q e s.ends.sending; receiving = s.ends.receiving } })) at_row
     (λ f. own_close s k r u f idle free number e plan) passes
 
 pub take_steps : (s : State) (k : IsSound s) (t : Txn) (r : Row) (u : Under) (e : ℕ) → found_row t s.rows ≡ Some r → r.under ≡ None → AreUnlatched s u.writes → u.number ≡ r.number + 1 → IsTakePlan s.sizes (slots_in s.sizes s.images) u e → 1 ≤ waits s.waiting e
     → Passes (size_of s.sizes) (ledger_of s) (Start_receive_from t e)
-    → Steps s (Start_receive t) (Gave_sub t (r.number + 1)) (record s { rows = change_row t (row_started u) s.rows; ends = record { sending = s.ends.sending; receiving = with_held t e s.ends.receiving } })
+    → IsModelStep s (Start_receive t) (Gave_sub t (r.number + 1)) (record s { rows = change_row t (row_started u) s.rows; ends = record { sending = s.ends.sending; receiving = with_held t e s.ends.receiving } })
 take_steps s k t r u e at_row idle free number plan wait passes =
     at_own s t r (λ q. Passes (size_of s.sizes) (ledger_of s) (Start_receive_from q e)
-    → Steps s (Start_receive q) (Gave_sub q (r.number + 1)) (record s { rows = change_row q (row_started u) s.rows; ends = record { sending = s.ends.sending; receiving = with_held q e s.ends.receiving } })) at_row
+    → IsModelStep s (Start_receive q) (Gave_sub q (r.number + 1)) (record s { rows = change_row q (row_started u) s.rows; ends = record { sending = s.ends.sending; receiving = with_held q e s.ends.receiving } })) at_row
     (λ f p. own_take s k r u f idle free number e plan wait p) passes
 
 pub take_from_steps : (s : State) (k : IsSound s) (t : Txn) (r : Row) (u : Under) (e : ℕ) → found_row t s.rows ≡ Some r → r.under ≡ None → AreUnlatched s u.writes → u.number ≡ r.number + 1 → IsTakePlan s.sizes (slots_in s.sizes s.images) u e → 1 ≤ waits s.waiting e
     → Passes (size_of s.sizes) (ledger_of s) (Start_receive_from t e)
-    → Steps s (Start_receive_from t e) (Gave_sub t (r.number + 1)) (record s { rows = change_row t (row_started u) s.rows; ends = record { sending = s.ends.sending; receiving = with_held t e s.ends.receiving } })
+    → IsModelStep s (Start_receive_from t e) (Gave_sub t (r.number + 1)) (record s { rows = change_row t (row_started u) s.rows; ends = record { sending = s.ends.sending; receiving = with_held t e s.ends.receiving } })
 take_from_steps s k t r u e at_row idle free number plan wait passes =
     at_own s t r (λ q. Passes (size_of s.sizes) (ledger_of s) (Start_receive_from q e)
-    → Steps s (Start_receive_from q e) (Gave_sub q (r.number + 1)) (record s { rows = change_row q (row_started u) s.rows; ends = record { sending = s.ends.sending; receiving = with_held q e s.ends.receiving } })) at_row
+    → IsModelStep s (Start_receive_from q e) (Gave_sub q (r.number + 1)) (record s { rows = change_row q (row_started u) s.rows; ends = record { sending = s.ends.sending; receiving = with_held q e s.ends.receiving } })) at_row
     (λ f p. own_take_from s k r u f idle free number e plan wait p) passes
 
 -- which groups give a message
@@ -229,10 +229,10 @@ module _ (s : State) (k : IsSound s) (t : Txn) (r : Row) (at_row : found_row t s
   none_gives none = at_own s t r (λ q. NoneWaits s q → any_gives (below (sender_count s.sizes)) (ledger_of s) q (found q (ledger_of s).open_ones) ≡ false) at_row (λ e w. waits_given.none s r k e w) none
 
   module _ (idle : r.under ≡ None) where
-    pub none_steps : NoneWaits s t → Passes (size_of s.sizes) (ledger_of s) (Start_receive t) → Steps s (Start_receive t) Gave_none s
-    none_steps none passes = at_own s t r (λ q. NoneWaits s q → Passes (size_of s.sizes) (ledger_of s) (Start_receive q) → Steps s (Start_receive q) Gave_none s) at_row
+    pub none_steps : NoneWaits s t → Passes (size_of s.sizes) (ledger_of s) (Start_receive t) → IsModelStep s (Start_receive t) Gave_none s
+    none_steps none passes = at_own s t r (λ q. NoneWaits s q → Passes (size_of s.sizes) (ledger_of s) (Start_receive q) → IsModelStep s (Start_receive q) Gave_none s) at_row
         (λ e w p. deed_steps.none s r k (record { at_row = e; idle = idle }) w p) none passes
 
-    pub none_from_steps : (g : ℕ) → g < sender_count s.sizes → is_free_for t g s.ends.receiving ≡ true → waits s.waiting g ≡ 0 → Passes (size_of s.sizes) (ledger_of s) (Start_receive_from t g) → Steps s (Start_receive_from t g) Gave_none s
-    none_from_steps g m free none passes = at_own s t r (λ q. is_free_for q g s.ends.receiving ≡ true → Passes (size_of s.sizes) (ledger_of s) (Start_receive_from q g) → Steps s (Start_receive_from q g) Gave_none s) at_row
+    pub none_from_steps : (g : ℕ) → g < sender_count s.sizes → is_free_for t g s.ends.receiving ≡ true → waits s.waiting g ≡ 0 → Passes (size_of s.sizes) (ledger_of s) (Start_receive_from t g) → IsModelStep s (Start_receive_from t g) Gave_none s
+    none_from_steps g m free none passes = at_own s t r (λ q. is_free_for q g s.ends.receiving ≡ true → Passes (size_of s.sizes) (ledger_of s) (Start_receive_from q g) → IsModelStep s (Start_receive_from q g) Gave_none s) at_row
         (λ e f p. deed_steps.none_from s r g k (record { at_row = e; idle = idle }) m f none p) free passes

@@ -6,7 +6,7 @@ use Rattle.std.proofs.lemmas.List.{get_or_past}
 use Rattle.rq_model.specs.declared.message.Message.{Message}
 use Rattle.rq_model.specs.declared.record.Deed.{Deed}
 use Rattle.rq_model.specs.declared.record.Deed.TheVariants.{Append, UnlinkHead, Close}
-use Rattle.rq_model.specs.Words.{sent_for}
+use Rattle.rq_model.specs.Vocabulary.{sent_for}
 use Rattle.rq_model.specs.Content.{said, tag_after}
 use Rattle.rq_model.specs.Commits.{op_of}
 use Rattle.rq_page.specs.Sizes.{Sizes}
@@ -14,7 +14,7 @@ use Rattle.rq_txn.specs.declared.Finished.{Finished}
 use Rattle.rq_groups.specs.Sent.{SentBy, sent_count, sent_tag, with_one_more}
 use Rattle.rq_groups.proofs.Sents.{length-counts, length-tags, count_same, count_other, tag_same, tag_other}
 use Rattle.rq_store.specs.State.{op_done}
-use Rattle.rq_engine.specs.Kept.{AreSendsKept}
+use Rattle.rq_engine.specs.Invariant.{AreSendsConsistent}
 use Rattle.rq_engine.specs.Moves.{with_tag, with_tags}
 use Rattle.rq_engine.proofs.Waits.{sent_one, sent_more}
 
@@ -83,11 +83,11 @@ few_more [] sent g = omega arith
 few_more (f ∷ fs) sent g = let a = one_at_most f.deed sent g in let b = few_more fs (with_tag f.deed sent) g in omega (arith, a, b)
 
 -- more records, and no more that open transactions may have sent
-pub sends_on : {z : Sizes} {sent : SentBy} {records done now left : ℕ} → AreSendsKept z records done sent → records + left ≤ now + done → AreSendsKept z now left sent
+pub sends_on : {z : Sizes} {sent : SentBy} {records done now left : ℕ} → AreSendsConsistent z records done sent → records + left ≤ now + done → AreSendsConsistent z now left sent
 sends_on k more = record { counts = k.counts; tags = k.tags; few = λ g. (let a = k.few g in omega (arith, a, more)) }
 
 -- what a transaction finished is committed
-pub sends_more : {z : Sizes} {records done now left : ℕ} (fs : List Finished) (sent : SentBy) → AreSendsKept z records done sent → records + left + length fs ≤ now + done → AreSendsKept z now left (with_tags fs sent)
+pub sends_more : {z : Sizes} {records done now left : ℕ} (fs : List Finished) (sent : SentBy) → AreSendsConsistent z records done sent → records + left + length fs ≤ now + done → AreSendsConsistent z now left (with_tags fs sent)
 sends_more fs sent k more = record {
   counts = (length-with_tags fs sent).0 ∙ k.counts;
   tags = (length-with_tags fs sent).1 ∙ k.tags;

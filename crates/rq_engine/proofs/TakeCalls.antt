@@ -16,7 +16,7 @@ use Rattle.rq_groups.specs.Waiting.{waits}
 use Rattle.rq_store.specs.State.{State, ledger_of, phase_of, size_of}
 use Rattle.rq_sound.specs.Sound.{IsSound}
 use Rattle.rq_store.specs.Plans.{IsTakePlan, NoneWaits, WaitsFor}
-use Rattle.rq_sound.specs.Steps.{Steps}
+use Rattle.rq_sound.specs.ModelSteps.{IsModelStep}
 use Rattle.rq_sound.proofs.FreeEnds.{free_to_take}
 use Rattle.rq_sound.specs.Groups.{slots_now}
 use Rattle.rq_sound.specs.Latching.{behind_head}
@@ -38,7 +38,7 @@ module _ (s : State) (t : Txn) (h : NoneHolds (ready_tests (ledger_of s) t false
   own_row = let n = ready_row s t h in let f = found_of (λ r. (r.under ≡ None) × (n.0 ≡ r.number + 1)) (found_row t s.rows) n.1 in (f.0, f.1, f.2.0)
 
   -- none is given where none waits
-  pub none_done : NoneWaits s t → IsSound s → Steps s (Start_receive t) Gave_none s
+  pub none_done : NoneWaits s t → IsSound s → IsModelStep s (Start_receive t) Gave_none s
   none_done none k =
       let g = none_gives s k t own_row.0 own_row.1 none in
       none_steps s k t own_row.0 own_row.1 own_row.2 none (h.0, (h.1.0, (h.1.1.0, (h.1.1.1.0, (ap (λ b. b && log_full (ledger_of s) 4) g, tt)))))
@@ -52,15 +52,15 @@ module _ (s : State) (t : Txn) (h : NoneHolds (ready_tests (ledger_of s) t false
   -- a start may be refused for want of memory
   pub take_memory : (e : ℕ) (call : Call) → IsTakeCall t e call → Refuses s call why.NoMemory
   take_memory e call is k = elim is [
-    | inl x ↦ subst (λ (y : Call). Steps s y (Gave_refusal why.NoMemory) s × HasCause (any_under s.rows) y why.NoMemory) (sym x) (no_memory s (Start_receive t) refl running k)
-    | inr x ↦ subst (λ (y : Call). Steps s y (Gave_refusal why.NoMemory) s × HasCause (any_under s.rows) y why.NoMemory) (sym x) (no_memory s (Start_receive_from t e) refl running k)
+    | inl x ↦ subst (λ (y : Call). IsModelStep s y (Gave_refusal why.NoMemory) s × HasCause (any_under s.rows) y why.NoMemory) (sym x) (no_memory s (Start_receive t) refl running k)
+    | inr x ↦ subst (λ (y : Call). IsModelStep s y (Gave_refusal why.NoMemory) s × HasCause (any_under s.rows) y why.NoMemory) (sym x) (no_memory s (Start_receive_from t e) refl running k)
   ]
 
   module _ (e : ℕ) where
     pub receiver_busy : e < sender_count s.sizes → is_free_for t e s.ends.receiving ≡ false → Refuses s (Start_receive_from t e) why.ReceiverBusy
     receiver_busy m busy k = refuse s (Start_receive_from t e) why.ReceiverBusy refl tt (rw (h.0, h.1.0, h.1.1.0, h.1.1.1.0, ap not (lt-ltb e (sender_count s.sizes) m), ap not (free_to_take s k t e ∙ busy)) refl) k
 
-    pub none_from_done : e < sender_count s.sizes → is_free_for t e s.ends.receiving ≡ true → waits s.waiting e ≡ 0 → IsSound s → Steps s (Start_receive_from t e) Gave_none s
+    pub none_from_done : e < sender_count s.sizes → is_free_for t e s.ends.receiving ≡ true → waits s.waiting e ≡ 0 → IsSound s → IsModelStep s (Start_receive_from t e) Gave_none s
     none_from_done m free none k =
         let g = gives_none s k t own_row.0 own_row.1 e m free none in
         none_from_steps s k t own_row.0 own_row.1 own_row.2 e m free none
@@ -81,8 +81,8 @@ module _ (s : State) (t : Txn) (h : NoneHolds (ready_tests (ledger_of s) t false
 
       pub log_is_full : log_full (ledger_of s) 4 ≡ true → (call : Call) → IsTakeCall t e call → Refuses s call why.LogFull
       log_is_full c call is k = elim is [
-        | inl x ↦ subst (λ (y : Call). Steps s y (Gave_refusal why.LogFull) s × HasCause (any_under s.rows) y why.LogFull) (sym x) (refuse s (Start_receive t) why.LogFull refl tt (rw (h.0, h.1.0, h.1.1.0, h.1.1.1.0, some k, c) refl) k)
-        | inr x ↦ subst (λ (y : Call). Steps s y (Gave_refusal why.LogFull) s × HasCause (any_under s.rows) y why.LogFull) (sym x) (refuse s (Start_receive_from t e) why.LogFull refl tt (rw (h.0, h.1.0, h.1.1.0, h.1.1.1.0, known, is_free k, one k, c) refl) k)
+        | inl x ↦ subst (λ (y : Call). IsModelStep s y (Gave_refusal why.LogFull) s × HasCause (any_under s.rows) y why.LogFull) (sym x) (refuse s (Start_receive t) why.LogFull refl tt (rw (h.0, h.1.0, h.1.1.0, h.1.1.1.0, some k, c) refl) k)
+        | inr x ↦ subst (λ (y : Call). IsModelStep s y (Gave_refusal why.LogFull) s × HasCause (any_under s.rows) y why.LogFull) (sym x) (refuse s (Start_receive_from t e) why.LogFull refl tt (rw (h.0, h.1.0, h.1.1.0, h.1.1.1.0, known, is_free k, one k, c) refl) k)
       ]
 
       module _ (room : log_full (ledger_of s) 4 ≡ false) where
@@ -102,12 +102,12 @@ module _ (s : State) (t : Txn) (h : NoneHolds (ready_tests (ledger_of s) t false
         -- a receive that has started
         pub take_done : (new : State) (n : ℕ) (plan : Plan) → HasNothingUnderWay s t n → AreUnlatched s plan.writes.items → IsTakePlan s.sizes (slots_in s.sizes s.images) (under_plan n plan) e
             → new ≡ record s { rows = change_row t (row_started (under_plan n plan)) s.rows; ends = record { sending = s.ends.sending; receiving = with_held t e s.ends.receiving } }
-            → (call : Call) → IsTakeCall t e call → IsSound s → Steps s call (Gave_sub t n) new
+            → (call : Call) → IsTakeCall t e call → IsSound s → IsModelStep s call (Gave_sub t n) new
         take_done new n plan ready off planned is call c k =
             let r = found_of (λ r. (r.under ≡ None) × (n ≡ r.number + 1)) (found_row t s.rows) ready in
-            subst (λ (x : State). Steps s call (Gave_sub t n) x) (sym is) (elim c [
-              | inl x ↦ subst (λ (y : Call). Steps s y (Gave_sub t n) after) (sym x) (subst (λ (m : ℕ). Steps s (Start_receive t) (Gave_sub t m) after) (sym r.2.1) (take_steps s k t r.0 (under_plan n plan) e r.1 r.2.0 off r.2.1 planned wait (passes_from k)))
-              | inr x ↦ subst (λ (y : Call). Steps s y (Gave_sub t n) after) (sym x) (subst (λ (m : ℕ). Steps s (Start_receive_from t e) (Gave_sub t m) after) (sym r.2.1) (take_from_steps s k t r.0 (under_plan n plan) e r.1 r.2.0 off r.2.1 planned wait (passes_from k)))
+            subst (λ (x : State). IsModelStep s call (Gave_sub t n) x) (sym is) (elim c [
+              | inl x ↦ subst (λ (y : Call). IsModelStep s y (Gave_sub t n) after) (sym x) (subst (λ (m : ℕ). IsModelStep s (Start_receive t) (Gave_sub t m) after) (sym r.2.1) (take_steps s k t r.0 (under_plan n plan) e r.1 r.2.0 off r.2.1 planned wait (passes_from k)))
+              | inr x ↦ subst (λ (y : Call). IsModelStep s y (Gave_sub t n) after) (sym x) (subst (λ (m : ℕ). IsModelStep s (Start_receive_from t e) (Gave_sub t m) after) (sym r.2.1) (take_from_steps s k t r.0 (under_plan n plan) e r.1 r.2.0 off r.2.1 planned wait (passes_from k)))
             ])
           where
             after : State

@@ -5,7 +5,7 @@ use Rattle.std.proofs.lemmas.Bool.{cases_Bool, cases_lt, cases_eq, eq-eqb, ne_eq
 use Rattle.std.proofs.lemmas.List.{get_or_past}
 use Rattle.rq_model.specs.declared.record.Deed.{Deed}
 use Rattle.rq_model.specs.declared.record.Deed.TheVariants.{Append, UnlinkHead, Close}
-use Rattle.rq_model.specs.Words.{sent_for}
+use Rattle.rq_model.specs.Vocabulary.{sent_for}
 use Rattle.rq_model.specs.Content.{said}
 use Rattle.rq_model.specs.Commits.{op_of}
 use Rattle.rq_txn.specs.declared.Finished.{Finished}

@@ -5,7 +5,7 @@ use Rattle.rq_model.specs.declared.record.Record.TheVariants.{AbortEnd}
 use Rattle.rq_model.specs.declared.txn.Sub.{Sub}
 use Rattle.rq_model.specs.declared.txn.Txn.{Txn}
 use Rattle.rq_model.specs.Legal.{OnFound}
-use Rattle.rq_model.specs.Words.{last}
+use Rattle.rq_model.specs.Vocabulary.{last}
 use Rattle.rq_page.specs.Sizes.{Sizes}
 use Rattle.rq_views.specs.Claims.{appends_of}
 use Rattle.rq_views.specs.Log.{Slots}

@@ -17,23 +17,23 @@ use Rattle.rq_txn.specs.Rows.{Row, Under, found_row, change_row, row_stepped, an
 use Rattle.rq_store.specs.State.{State}
 use Rattle.rq_sound.specs.Sound.{IsSound}
 use Rattle.rq_store.specs.Steps.{IsPutIn, page_op}
-use Rattle.rq_sound.specs.Steps.{Steps}
+use Rattle.rq_sound.specs.ModelSteps.{IsModelStep}
 use Rattle.rq_disk.specs.declared.device.LogDevice as log_device
 use Rattle.rq_disk.specs.declared.device.PageDevice as page_device
 use Rattle.rq_engine.specs.Opened.{OpenStore, AreHonest}
 
 -- the call may be refused so, and that changes nothing
 abbrev pub Refuses : State → Call → Refusal → Type 0
-Refuses s call r = IsSound s → Steps s call (Gave_refusal r) s × HasCause (any_under s.rows) call r
+Refuses s call r = IsSound s → IsModelStep s call (Gave_refusal r) s × HasCause (any_under s.rows) call r
 
 -- The call with its answer is an entry that may come next where the store goes back to a legal log and both devices
 -- have been honest up to its end, and the store after it is what that entry makes of it.
 abbrev pub AnswersLegally : {P L X : Type 0} → page_device.Ghosts P → log_device.Ghosts L
     → OpenStore P L → Call → (X → Gave) → Result X Refusal → OpenStore P L → Type 0
 AnswersLegally p l old call gave (Ok x) new = AreHonest p l new → IsSound old.state
-    → Steps old.state call (gave x) new.state
+    → IsModelStep old.state call (gave x) new.state
 AnswersLegally p l old call gave (Err r) new = AreHonest p l new → IsSound old.state
-    → Steps old.state call (Gave_refusal r) new.state × HasCause (any_under old.state.rows) call r
+    → IsModelStep old.state call (Gave_refusal r) new.state × HasCause (any_under old.state.rows) call r
 
 -- what is so of a transaction's operation under way, if it has this number
 abbrev pub OnUnder : ℕ → (Row → Under → Type 0) → Row → Option Under → Type 0

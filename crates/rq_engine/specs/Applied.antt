@@ -15,7 +15,7 @@ use Rattle.rq_pool.specs.Writing.{changed_after}
 use Rattle.rq_store.specs.State.{State}
 use Rattle.rq_sound.specs.Latching.{IsLatched}
 use Rattle.rq_sound.specs.Sound.{IsSound}
-use Rattle.rq_sound.specs.Steps.{Steps}
+use Rattle.rq_sound.specs.ModelSteps.{IsModelStep}
 use Rattle.rq_engine.specs.declared.event.Event.{Event}
 use Rattle.rq_engine.specs.declared.event.Event.TheVariants as event
 use Rattle.rq_engine.specs.declared.event.Progress.{Progress}
@@ -101,7 +101,7 @@ pub record Applied {P L : Type 0} (p : page_device.Ghosts P) (l : log_device.Gho
     (e : Event) (r : Reply) (new : OpenStore P L) : Type 0 where
   -- of a sound store over honest devices: the entry that event and reply say may come next, and a refusal has its cause;
   -- and whatever its devices, latches are judged
-  pub steps : AreHonest p l new → IsSound old.state → Steps old.state (call_of e) (gave r) new.state
+  pub steps : AreHonest p l new → IsSound old.state → IsModelStep old.state (call_of e) (gave r) new.state
   pub cause : AreHonest p l new → IsSound old.state → RefusedForCause old.state e r
   pub latched : IsSound old.state → LatchedSay old.state e r
   -- of every store

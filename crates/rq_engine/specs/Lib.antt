@@ -2,7 +2,7 @@ pub mod Opened
 pub mod Says
 pub mod Moves
 pub mod Receives
-pub mod Kept
+pub mod Invariant
 pub mod Answers
 pub mod Sends
 pub mod Plans

@@ -14,8 +14,8 @@ use Rattle.rq_planner.specs.Asked.Asked.{Do}
 use Rattle.rq_engine.specs.Sends.{FitsPlan}
 
 -- what the level may see of a store: its pages, and what is under way
-abbrev pub bare : State → State
-bare s = known s.sizes s.images s.rows
+abbrev pub known_part : State → State
+known_part s = known s.sizes s.images s.rows
 
 -- something is to be done, for a sender of the store
 pub record IsToDo (z : Sizes) (asked : Option Asked) : Type 0 where

@@ -12,7 +12,7 @@ use Rattle.rq_store.specs.State.{State, owed_by}
 use Rattle.rq_sound.specs.Groups.{slots_now}
 use Rattle.rq_sound.specs.Latching.{AllFreeLatched, any_latched, at_tail, behind_head}
 use Rattle.rq_sound.specs.Lowest.{FirstIsLowest}
-use Rattle.rq_engine.specs.Kept.{EndFits, end_bytes}
+use Rattle.rq_engine.specs.Invariant.{EndFits, end_bytes}
 
 -- the log has room for the records of so many writes, and an end, behind those that are owed
 abbrev pub HasRoom : State → List SlotWrite → Type 0

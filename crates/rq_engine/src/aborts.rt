@@ -7,7 +7,7 @@ ghost use Rattle.rq_store.specs.State.{ledger_of};
 ghost use Rattle.rq_engine.specs.Opened.{LeavesDevices};
 ghost use Rattle.rq_engine.specs.Answers.{AnswersLegally, Refuses};
 ghost use Rattle.rq_engine.specs.Aborts.{IsAborted, IsAborting, IsTurnedBack};
-ghost use Rattle.rq_engine.specs.Kept.{IsDoneKept};
+ghost use Rattle.rq_engine.specs.Invariant.{IsDoneConsistent};
 
 use crate::engine::Engine;
 use rq_disk::{LogDevice, PageDevice};
@@ -86,7 +86,7 @@ impl<P: PageDevice, L: LogDevice, B: Level> Engine<P, L, B> {
         ensures ready { IfOk result (λ found. IsTurnedBack self.now.state txn found.0 found.1) }
         ensures running { OnOk result (self.now.state.failed ≡ false) }
         ensures passes { OnOk result (NoneHolds (ready_tests (ledger_of self.now.state) txn true)) }
-        ensures kept { IfOk result (λ found. IfSome found.1 (λ done. IsDoneKept self.now.state.sizes done)) }
+        ensures kept { IfOk result (λ found. IfSome found.1 (λ done. IsDoneConsistent self.now.state.sizes done)) }
         ensures failed { (result ≡ Err Refusal.Failed) ↔ (self.now.state.failed ≡ true) }
         ensures refused { IfErr result (λ r. IsUnready (ledger_of self.now.state) txn true r) }
     {

@@ -5,7 +5,7 @@ ghost use Rattle.rq_model.specs.Replay.Reply.{Gave_content};
 ghost use Rattle.rq_log.specs.Crash.{LeavesOnly};
 ghost use Rattle.rq_log.specs.Spelled.{IsBeginning};
 ghost use Rattle.rq_sound.specs.Sound.{IsSound};
-ghost use Rattle.rq_sound.specs.Steps.{Steps};
+ghost use Rattle.rq_sound.specs.ModelSteps.{IsModelStep};
 ghost use Rattle.rq_content.specs.Read.{group_of};
 ghost use Rattle.rq_engine.specs.Answers.{AnswersLegally};
 ghost use Rattle.rq_engine.specs.Applied.{Applied, ChangesSay, LatchedSay, RefusalLeaves, StartSays};
@@ -59,7 +59,7 @@ impl<P: PageDevice, L: LogDevice, B: Level> Engine<P, L, B> {
     fn call(&mut self, event: &Event) -> Reply
         // Of a sound store: the entry that it is, and a refusal's cause.
         ensures answered { AreHonest P.PageDevice L.LogDevice self.new → IsSound self.old.state
-            → Steps self.old.state (call_of event.now) (gave result) self.new.state }
+            → IsModelStep self.old.state (call_of event.now) (gave result) self.new.state }
         ensures cause { AreHonest P.PageDevice L.LogDevice self.new → IsSound self.old.state
             → RefusedForCause self.old.state event.now result }
         // Answers that change nothing, or one thing.

@@ -64,7 +64,7 @@ pub struct Engine<P: PageDevice, L: LogDevice, B: Level> {
 
 impl<P: PageDevice, L: LogDevice, B: Level> Model for Engine<P, L, B> {
     ghost use Rattle.rq_engine.specs.Opened.{OpenStore};
-    ghost use Rattle.rq_engine.specs.Kept.{IsEngine};
+    ghost use Rattle.rq_engine.specs.Invariant.{IsEngine};
 
     ghost Value = { OpenStore P L };
 

@@ -139,7 +139,7 @@ impl<P: PageDevice, L: LogDevice, B: Level> Engine<P, L, B> {
         shows_size(&record);
         let lsn = self.log.append(&record);
         self.pages.set_slot(write.at, &write.after, lsn);
-        self.planner.note(write.at, &write.after);
+        self.planner.noted(write.at, &write.after);
         self.transactions.step(sub.txn);
         self.owed -= 1;
         lsn

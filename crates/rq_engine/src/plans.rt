@@ -5,7 +5,7 @@ ghost use Rattle.rq_level.specs.Ops.{Doing};
 ghost use Rattle.rq_sound.specs.Sound.{IsSound};
 ghost use Rattle.rq_planner.specs.Answered.{IsHeldUp, IsPlanned, MayBeAsked};
 ghost use Rattle.rq_planner.specs.Asked.{Do, IsOfStore, asked_by, undone_by};
-ghost use Rattle.rq_engine.specs.Plans.{IsDeedPlan, IsToDo, bare};
+ghost use Rattle.rq_engine.specs.Plans.{IsDeedPlan, IsToDo, known_part};
 
 use crate::engine::Engine;
 use crate::starts::room_of;
@@ -27,9 +27,9 @@ impl<P: PageDevice, L: LogDevice, B: Level> Engine<P, L, B> {
         ensures plan { IfOk result (λ found. IfSome found (λ planned. (d : Doing) → asked_by op.now ≡ Some (Do d)
             → IsDeedPlan self.old.state d planned.0 planned.1)) }
         ensures unlatched { IfOk result (λ found. IfSome found (λ _. (d : Doing) → asked_by op.now ≡ Some (Do d)
-            → IsHeldUp (bare self.old.state) (Do d) → ⊥)) }
+            → IsHeldUp (known_part self.old.state) (Do d) → ⊥)) }
         ensures latched { IfOk result (λ found. IfNone found ((d : Doing) → asked_by op.now ≡ Some (Do d)
-            → IsHeldUp (bare self.old.state) (Do d))) }
+            → IsHeldUp (known_part self.old.state) (Do d))) }
         // Why there is none otherwise.
         ensures plain { IfErr result (λ r. r ≢ Refusal.Failed) }
         ensures refused { IsSound self.old.state → (d : Doing) → asked_by op.now ≡ Some (Do d)
@@ -53,20 +53,20 @@ impl<P: PageDevice, L: LogDevice, B: Level> Engine<P, L, B> {
         requires forward { op.now.undo ≡ false }
         requires asked { IsOfStore self.old.state.sizes (asked_by op.now) }
         ensures same { self.new ≡ self.old }
-        ensures planned { IsPlanned (bare self.old.state) (asked_by op.now) result }
+        ensures planned { IsPlanned (known_part self.old.state) (asked_by op.now) result }
     {
         self.planner
             .plan(self.alloc, &self.pages, &self.transactions, op)
     }
 
     // What the level plans to take back the operation whose end the record is.
-    pub(crate) fn plan_back(&mut self, told: &Record) -> Result<Option<Plan>, Refusal>
+    pub(crate) fn plan_inverse(&mut self, told: &Record) -> Result<Option<Plan>, Refusal>
         requires { IsOfStore self.old.state.sizes (undone_by told.now) }
         ensures same { self.new ≡ self.old }
-        ensures planned { IsPlanned (bare self.old.state) (undone_by told.now) result }
+        ensures planned { IsPlanned (known_part self.old.state) (undone_by told.now) result }
     {
         self.planner
-            .plan_back(self.alloc, &self.pages, &self.transactions, told)
+            .plan_inverse(self.alloc, &self.pages, &self.transactions, told)
     }
 }
 

@@ -3,7 +3,7 @@ ghost use Rattle.std.specs.Prelude.{◌≡◌, ◌≢◌, ◌↔◌, Err, ◌<�
 ghost use Rattle.rq_model.specs.History.Call.{Start_send};
 ghost use Rattle.rq_model.specs.Replay.Reply.{Gave_sub};
 ghost use Rattle.rq_model.specs.Tests.{NoneHolds, Passes, log_full, ready_tests};
-ghost use Rattle.rq_model.specs.Words.{message_of};
+ghost use Rattle.rq_model.specs.Vocabulary.{message_of};
 ghost use Rattle.rq_page.specs.Sizes.{sender_count, cell_count};
 ghost use Rattle.rq_views.specs.Stored.{slots_in};
 ghost use Rattle.rq_groups.specs.Ends.{is_free_for};

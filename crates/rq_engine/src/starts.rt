@@ -22,7 +22,7 @@ use rq_txn::{Aim, Operation};
 pub(crate) const CHAIN_OPERATION: u64 = 4;
 
 /// What a close, or the inverse of one, is counted as where it starts: one slot and an end.
-pub(crate) const MARK_OPERATION: u64 = 2;
+pub(crate) const CLOSE_OPERATION: u64 = 2;
 
 /// How many bytes the records of a planned operation take in the log.
 pub(crate) fn room_of(plan: &ChainPlan) -> usize

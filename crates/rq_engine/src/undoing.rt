@@ -14,14 +14,14 @@ ghost use Rattle.rq_planner.specs.Answered.{IsNewestDeed};
 ghost use Rattle.rq_engine.specs.Opened.{LeavesDevices};
 ghost use Rattle.rq_engine.specs.Answers.{AnswersLegally};
 ghost use Rattle.rq_engine.specs.Applied.{TakesUnlatched};
-ghost use Rattle.rq_engine.specs.Kept.{IsDoneKept};
+ghost use Rattle.rq_engine.specs.Invariant.{IsDoneConsistent};
 ghost use Rattle.rq_engine.specs.Receives.{undoing_of};
 ghost use Rattle.rq_engine.specs.Sends.{HasRoom};
 ghost use Rattle.rq_engine.specs.Aborts.{IsTurnedBack, UndoIsLatched, UndoSays, UndoTakesLowest};
 
 use crate::engine::Engine;
 use crate::operations::CHAIN_LEVEL;
-use crate::starts::{CHAIN_OPERATION, MARK_OPERATION};
+use crate::starts::{CHAIN_OPERATION, CLOSE_OPERATION};
 use rq_disk::{LogDevice, PageDevice};
 use rq_level::{Level, SlotWrite};
 use rq_model::record::{Deed, Record};
@@ -37,7 +37,7 @@ fn undo_records(deed: &Deed) -> u64
     match deed {
         Deed::Append { .. } => CHAIN_OPERATION,
         Deed::UnlinkHead { .. } => CHAIN_OPERATION,
-        Deed::Close { .. } => MARK_OPERATION,
+        Deed::Close { .. } => CLOSE_OPERATION,
     }
 }
 
@@ -84,7 +84,7 @@ impl<P: PageDevice, L: LogDevice, B: Level> Engine<P, L, B> {
     ) -> Result<(), Refusal>
         requires ready { IsTurnedBack self.old.state txn number (Some done.now) }
         requires slots { AreSlotWrites self.old.state.sizes writes.items }
-        requires kept { IsDoneKept self.old.state.sizes done.now }
+        requires kept { IsDoneConsistent self.old.state.sizes done.now }
         requires count { length writes.items ≤ 3 }
         requires log { HasRoom self.old.state writes.items }
         ensures started { OnOk result (self.new.state ≡ record self.old.state {
@@ -125,7 +125,7 @@ impl<P: PageDevice, L: LogDevice, B: Level> Engine<P, L, B> {
         number: u64,
         done: &Finished,
     ) -> Result<Option<Vec<SlotWrite>>, Refusal>
-        requires { IsDoneKept self.old.state.sizes done.now }
+        requires { IsDoneConsistent self.old.state.sizes done.now }
         ensures same { self.new ≡ self.old }
         // The plan.
         ensures plan { IfOk result (λ found. IfSome found (λ writes. IsPlannedFrom self.old.state.sizes
@@ -149,7 +149,7 @@ impl<P: PageDevice, L: LogDevice, B: Level> Engine<P, L, B> {
             level: CHAIN_LEVEL,
             deed: encode_deed(&done.deed),
         };
-        match self.plan_back(&end) {
+        match self.plan_inverse(&end) {
             Ok(Some(plan)) => Ok(Some(plan.writes)),
             Ok(None) => Ok(None),
             Err(refusal) => Err(refusal),

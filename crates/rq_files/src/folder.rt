@@ -4,7 +4,7 @@ ghost use Rattle.rq_disk.specs.Device.{Only};
 ghost use Rattle.rq_disk.specs.Stored.{first_len};
 
 use crate::fault::Fault;
-use rq_disk::{FileLog, FilePages, Held, LogDevice, PAGE, PageDevice, Unknown};
+use rq_disk::{FileContents, FileLog, FilePages, LogDevice, PAGE, PageDevice, Unknown};
 use rq_model::refusal::Refusal;
 use rq_page::layout::Layout;
 use rq_restart::format::format;
@@ -77,7 +77,7 @@ pub fn format_folder<R: Files<File = File> + AllocGlobal>(
 ///
 /// # Errors
 /// `WouldBlock` where another opening has a file; those of the system.
-pub fn open_folder<S: Held, R: Files<File = File> + AllocGlobal>(
+pub fn open_folder<S: FileContents, R: Files<File = File> + AllocGlobal>(
     rt: &R,
     folder: &str,
     _held: S,

@@ -5,14 +5,14 @@ use Rattle.std.proofs.lemmas.List.{get_or-set_same, get_or-set_other, get_or_pas
 use Rattle.std.proofs.lemmas.Bool.{cases_Bool, cases_eq, cases_lt, and_parts, and_from, eq-eqb, eqb-true, true≢false, or_right, or_left}
 use Rattle.std.proofs.lemmas.Option.{same_Some}
 use Rattle.rq_model.specs.declared.txn.Txn.{Txn}
-use Rattle.rq_model.specs.Words.{same_txn, has_number}
+use Rattle.rq_model.specs.Vocabulary.{same_txn, has_number}
 use Rattle.rq_model.proofs.Lists.{same_is, same_self, not_same}
 use Rattle.rq_groups.specs.declared.Held.{Held}
 use Rattle.rq_groups.specs.declared.heads.Head.{Head}
 use Rattle.rq_groups.specs.declared.places.Holding.{Holding}
 use Rattle.rq_groups.specs.Ends.{AreApart, IsTail, first_of, has_held, is_held, is_free_for, held_by, released}
 use Rattle.rq_groups.specs.Heads.{newest_of, IsTurned}
-use Rattle.rq_groups.specs.Chains.{held_at, next_of, IsChain, IsSide, AreEmptied}
+use Rattle.rq_groups.specs.Chains.{held_at, next_of, IsChain, IsEndTable, AreEmptied}
 use Rattle.rq_groups.proofs.Holders.{has_is_number, held_first, held_later, held_released_same, held_released_other}
 
 abbrev pub Places : Type 0
@@ -67,7 +67,7 @@ chain_of ps t o ss rs e c = subst (λ x. IsChain ps t o x) e c
 holder_is : (a b : Holding) → Some a ≡ Some b → a.txn ≡ b.txn
 holder_is a b e = ap (λ (h : Holding). h.txn) (same_Some a b e)
 
-module _ (ps : Places) (hs : List Head) (held : List Held) (k : IsSide ps hs held) where
+module _ (ps : Places) (hs : List Head) (held : List Held) (k : IsEndTable ps hs held) where
   -- the holder of an end stands at its place
   pub held_there : (t : Txn) (s : ℕ) → has_held t s held ≡ true → (next : Option ℕ) × (held_at ps s ≡ Some (record { txn = t; next = next }))
   held_there t s h = chain_holds ps t (newest_of t hs) (held_by t held) s (k.chains t) (sym (has_is_number t s held) ∙ h)
@@ -111,10 +111,10 @@ held_by_own t u s (x ∷ hs) f h =
     ]
 
 -- whether the end is free, by what stands at its place
-pub free_vacant : (ps : Places) (hs : List Head) (held : List Held) (t : Txn) (s : ℕ) → IsSide ps hs held → held_at ps s ≡ None → is_free_for t s held ≡ true
+pub free_vacant : (ps : Places) (hs : List Head) (held : List Held) (t : Txn) (s : ℕ) → IsEndTable ps hs held → held_at ps s ≡ None → is_free_for t s held ≡ true
 free_vacant ps hs held t s k e = free_of t s held (λ u h. absurd (true≢false (sym h ∙ not_held ps hs held k s e u)))
 
-pub free_held : (ps : Places) (hs : List Head) (held : List Held) (t : Txn) (s : ℕ) (h : Holding) → IsSide ps hs held → held_at ps s ≡ Some h → is_free_for t s held ≡ same_txn h.txn t
+pub free_held : (ps : Places) (hs : List Head) (held : List Held) (t : Txn) (s : ℕ) (h : Holding) → IsEndTable ps hs held → held_at ps s ≡ Some h → is_free_for t s held ≡ same_txn h.txn t
 free_held ps hs held t s h k e =
     let own = k.holds s h e in
     elim (cases_Bool (same_txn h.txn t)) [
@@ -126,7 +126,7 @@ free_held ps hs held t s h k e =
     ]
 
 -- a free end that has a holder is the transaction's
-pub free_own : (ps : Places) (hs : List Head) (held : List Held) (t : Txn) (s : ℕ) → IsSide ps hs held → is_free_for t s held ≡ true → is_some (held_at ps s) ≡ true → has_held t s held ≡ true
+pub free_own : (ps : Places) (hs : List Head) (held : List Held) (t : Txn) (s : ℕ) → IsEndTable ps hs held → is_free_for t s held ≡ true → is_some (held_at ps s) ≡ true → has_held t s held ≡ true
 free_own ps hs held t s k f o = own (held_at ps s) refl o where
   own : (h : Option Holding) → held_at ps s ≡ h → is_some h ≡ true → has_held t s held ≡ true
   own None e i = absurd (true≢false (sym i))
@@ -143,7 +143,7 @@ turned_other : (t u : Txn) (v : Option ℕ) (hs new : List Head) → IsTurned t 
 turned_other t u v hs new r n = r.each u ∙ (rw n refl)
 
 -- an end that nobody held is taken
-pub side_taken : (ps qs : Places) (hs new : List Head) (held : List Held) (t : Txn) (s : ℕ) → IsSide ps hs held → held_at ps s ≡ None → s < length ps → qs ≡ set ps s (Some (record { txn = t; next = newest_of t hs })) → IsTurned t (Some s) hs new → IsSide qs new (record { txn = t; sender = s } ∷ held)
+pub side_taken : (ps qs : Places) (hs new : List Head) (held : List Held) (t : Txn) (s : ℕ) → IsEndTable ps hs held → held_at ps s ≡ None → s < length ps → qs ≡ set ps s (Some (record { txn = t; next = newest_of t hs })) → IsTurned t (Some s) hs new → IsEndTable qs new (record { txn = t; sender = s } ∷ held)
 side_taken ps qs hs new held t s k none lt is turned =
     let h : Held = record { txn = t; sender = s } in
     let q : Holding = record { txn = t; next = newest_of t hs } in
@@ -170,12 +170,12 @@ side_taken ps qs hs new held t s k none lt is turned =
     }
 
 -- what is known of the end that was taken last
-pub newest_known : (ps : Places) (hs : List Head) (rest : List Held) (t : Txn) (s : ℕ) → IsSide ps hs (record { txn = t; sender = s } ∷ rest) → IsChain ps t (newest_of t hs) (s ∷ held_by t rest)
+pub newest_known : (ps : Places) (hs : List Head) (rest : List Held) (t : Txn) (s : ℕ) → IsEndTable ps hs (record { txn = t; sender = s } ∷ rest) → IsChain ps t (newest_of t hs) (s ∷ held_by t rest)
 newest_known ps hs rest t s k =
     chain_of ps t (newest_of t hs) (held_by t (record { txn = t; sender = s } ∷ rest)) (s ∷ held_by t rest) (held_first t (record { txn = t; sender = s }) rest (same_self t)) (k.chains t)
 
 -- it is given back
-pub side_undone : (ps qs : Places) (hs new : List Head) (rest : List Held) (t : Txn) (s : ℕ) → IsSide ps hs (record { txn = t; sender = s } ∷ rest) → qs ≡ set ps s None → IsTurned t (next_of (held_at ps s)) hs new → IsSide qs new rest
+pub side_undone : (ps qs : Places) (hs new : List Head) (rest : List Held) (t : Txn) (s : ℕ) → IsEndTable ps hs (record { txn = t; sender = s } ∷ rest) → qs ≡ set ps s None → IsTurned t (next_of (held_at ps s)) hs new → IsEndTable qs new rest
 side_undone ps qs hs new rest t s k is turned =
     let h : Held = record { txn = t; sender = s } in
     let mine = newest_known ps hs rest t s k in
@@ -219,7 +219,7 @@ side_undone ps qs hs new rest t s k is turned =
       no_first false b c e = refl
 
 -- all that a transaction holds is given back
-pub side_released : (ps qs : Places) (hs new : List Head) (held : List Held) (t : Txn) → IsSide ps hs held → IsTurned t None hs new → AreEmptied ps qs (held_by t held) [] → IsSide qs new (released t held)
+pub side_released : (ps qs : Places) (hs new : List Head) (held : List Held) (t : Txn) → IsEndTable ps hs held → IsTurned t None hs new → AreEmptied ps qs (held_by t held) [] → IsEndTable qs new (released t held)
 side_released ps qs hs new held t k turned out =
     let apart : (u : Txn) → same_txn t u ≡ false → (x : ℕ) → has_number x (held_by u held) ≡ true → has_number x (held_by t held) ≡ false =
     λ u n x i. elim (cases_Bool (has_number x (held_by t held))) [
@@ -356,7 +356,7 @@ held_some t s (h ∷ hs) e =
       | inr n ↦ or_right (nat_eq h.sender s) (is_held s hs) (held_some t s hs (rw n at e))
     ]
 
-pub held_is_some : (ps : Places) (hs : List Head) (held : List Held) (s : ℕ) → IsSide ps hs held → is_some (held_at ps s) ≡ is_held s held
+pub held_is_some : (ps : Places) (hs : List Head) (held : List Held) (s : ℕ) → IsEndTable ps hs held → is_some (held_at ps s) ≡ is_held s held
 held_is_some ps hs held s k = at (held_at ps s) refl where
   at : (o : Option Holding) → held_at ps s ≡ o → is_some (held_at ps s) ≡ is_held s held
   at None e = ap is_some e ∙ sym (held_none s held (not_held ps hs held k s e))
@@ -383,11 +383,11 @@ free_is_own t s (h ∷ hs) e f =
       first true b e g = refl
       first false b e g = absurd (true≢false (sym g ∙ ap not e))
 
-pub own_is_free : (ps : Places) (hs : List Head) (held : List Held) (t : Txn) (s : ℕ) → IsSide ps hs held → has_held t s held ≡ true → is_free_for t s held ≡ true
+pub own_is_free : (ps : Places) (hs : List Head) (held : List Held) (t : Txn) (s : ℕ) → IsEndTable ps hs held → has_held t s held ≡ true → is_free_for t s held ≡ true
 own_is_free ps hs held t s k h =
     let a = held_there ps hs held k t s h in
     free_held ps hs held t s (record { txn = t; next = a.0 }) k a.1 ∙ same_self t
 
-pub chain_split : (ps : Places) (hs : List Head) (held : List Held) (t : Txn) (older : List ℕ) (s : ℕ) → IsSide ps hs held → IsTail (held_by t held) (s ∷ older) → held_at ps s ≡ Some (record { txn = t; next = first_of older })
+pub chain_split : (ps : Places) (hs : List Head) (held : List Held) (t : Txn) (older : List ℕ) (s : ℕ) → IsEndTable ps hs held → IsTail (held_by t held) (s ∷ older) → held_at ps s ≡ Some (record { txn = t; next = first_of older })
 chain_split ps hs held t older s k tail =
     chain_behind ps t (newest_of t hs) tail.0 older s (chain_of ps t (newest_of t hs) (held_by t held) (tail.0 ++ s ∷ older) (sym tail.1) (k.chains t))

@@ -2,7 +2,7 @@
 use Rattle.std.proofs.Common.{◌≡◌, ℕ, true, false, cond, nat_eq, ◌||◌, List, [], ◌∷◌, refl, sym, ◌∙◌, ap, inl, inr}
 use Rattle.std.proofs.lemmas.Bool.{cases_Bool}
 use Rattle.rq_model.specs.declared.txn.Txn.{Txn}
-use Rattle.rq_model.specs.Words.{same_txn, has_number}
+use Rattle.rq_model.specs.Vocabulary.{same_txn, has_number}
 use Rattle.rq_model.specs.Ledger.{add_number}
 use Rattle.rq_model.proofs.Lists.{same_is, same_self}
 use Rattle.rq_groups.specs.declared.Held.{Held}

@@ -5,7 +5,7 @@ use Rattle.std.proofs.lemmas.Option.{same_Some}
 use Rattle.std.proofs.lemmas.List.{append_assoc}
 use Rattle.std.proofs.Math.Bool.{or_assoc}
 use Rattle.rq_model.specs.declared.txn.Txn.{Txn}
-use Rattle.rq_model.specs.Words.{has_number}
+use Rattle.rq_model.specs.Vocabulary.{has_number}
 use Rattle.rq_groups.specs.declared.Held.{Held}
 use Rattle.rq_groups.proofs.Holders.{has_is_number}
 use Rattle.rq_groups.specs.Ends.{AreApart, IsTail, first_of, has_held, held_by}

@@ -2,11 +2,11 @@
 use Rattle.std.specs.Prelude.{◌≡◌, ℕ, true, false, cond, List, [], ◌∷◌, Option, Some, None, slice_index_or}
 use Rattle.std.specs.Option.{is_some}
 use Rattle.rq_model.specs.declared.txn.Txn.{Txn}
-use Rattle.rq_model.specs.Words.{has_number}
+use Rattle.rq_model.specs.Vocabulary.{has_number}
 use Rattle.rq_groups.specs.declared.Held.{Held}
 use Rattle.rq_groups.specs.declared.heads.Head.{Head}
 use Rattle.rq_groups.specs.declared.places.Holding.{Holding}
-use Rattle.rq_flags.specs.Flags.{flag_at}
+use Rattle.rq_bitset.specs.Flags.{flag_at}
 use Rattle.rq_groups.specs.Ends.{has_held, held_by}
 use Rattle.rq_groups.specs.Heads.{AreInOrder, newest_of}
 
@@ -29,7 +29,7 @@ IsChain places t newest [] = newest ≡ None
 IsChain places t newest (s ∷ older) = (newest ≡ Some s) × (has_number s older ≡ false) × ((next : Option ℕ) × (held_at places s ≡ Some (record { txn = t; next = next })) × IsChain places t next older)
 
 -- the places and the heads tell who holds what
-pub record IsSide (places : List (Option Holding)) (heads : List Head) (held : List Held) : Type 0 where
+pub record IsEndTable (places : List (Option Holding)) (heads : List Head) (held : List Held) : Type 0 where
   pub order : AreInOrder heads
   pub chains : (t : Txn) → IsChain places t (newest_of t heads) (held_by t held)
   pub holds : (s : ℕ) (h : Holding) → held_at places s ≡ Some h → has_held h.txn s held ≡ true

@@ -1,8 +1,8 @@
 -- What is held after changes of it.
 use Rattle.std.specs.Prelude.{List, [], ◌∷◌, drop}
 use Rattle.rq_groups.specs.declared.Held.{Held}
-use Rattle.rq_groups.specs.declared.side.Change.{Change}
-use Rattle.rq_groups.specs.declared.side.Change.TheVariants.{Took, Released, Undid}
+use Rattle.rq_groups.specs.declared.end_table.Change.{Change}
+use Rattle.rq_groups.specs.declared.end_table.Change.TheVariants.{Took, Released, Undid}
 use Rattle.rq_groups.specs.Ends.{released}
 
 -- the ends held, the newest first

@@ -2,7 +2,7 @@
 use Rattle.std.specs.Prelude.{◌≡◌, ◌++◌, Option, Some, None, ℕ, Bool, true, false, cond, not, nat_eq, ◌&&◌, ◌||◌, List, [], ◌∷◌}
 use Rattle.std.specs.List.{filter}
 use Rattle.rq_model.specs.declared.txn.Txn.{Txn}
-use Rattle.rq_model.specs.Words.{has_number, same_txn}
+use Rattle.rq_model.specs.Vocabulary.{has_number, same_txn}
 use Rattle.rq_groups.specs.declared.Held.{Held}
 
 -- the ends held, the newest first

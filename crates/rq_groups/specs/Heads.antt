@@ -1,7 +1,7 @@
 -- For each transaction that holds ends of a side the newest of them, in the order of the transactions.
 use Rattle.std.specs.Prelude.{◌≡◌, ℕ, ◌<◌, ◌≤◌, Bool, true, cond, nat_eq, nat_lt, ◌&&◌, ◌||◌, List, [], ◌∷◌, Option, Some, None, length, take, drop, slice_index_or}
 use Rattle.rq_model.specs.declared.txn.Txn.{Txn}
-use Rattle.rq_model.specs.Words.{In, same_txn}
+use Rattle.rq_model.specs.Vocabulary.{In, same_txn}
 use Rattle.rq_groups.specs.declared.heads.Head.{Head}
 
 -- the order of transactions

@@ -1,6 +1,6 @@
 //! The transactions that hold ends of a side, each with its newest one, found by a binary search.
 ghost use Rattle.std.specs.Prelude.{◌≡◌, ◌<◌, ◌≤◌, length, Some, None, IfOk, IsSome, OnErr, MatchResult, true, false, take, drop};
-ghost use Rattle.rq_model.specs.Words.{In};
+ghost use Rattle.rq_model.specs.Vocabulary.{In};
 ghost use Rattle.rq_groups.specs.Heads.{AreInOrder, IsAt, IsGap, IsTurned, is_before, newest_of};
 
 use rq_model::refusal::NoMemory;

@@ -5,17 +5,17 @@ ghost use Rattle.std.specs.Prelude.{◌≡◌, [], ◌∷◌, ℕ, List, not, tr
 ghost use Rattle.rq_groups.specs.Ends.{AreApart, IsTail, first_of, has_held, held_by, is_free_for, released, with_held};
 ghost use Rattle.rq_groups.specs.Sides.{IsNewest, holds_end, is_free_end, with_end, without_newest};
 
+mod end_table;
 mod heads;
 mod places;
 mod sent;
-mod side;
 mod waiting;
 
+use end_table::EndTable;
 use rq_model::limits::TRANSACTION_LIMIT;
 use rq_model::refusal::NoMemory;
 use rq_model::txn::Txn;
 pub use sent::{LastTag, Sent};
-use side::Side;
 use std::alloc::Global;
 use std::marker::Model;
 pub use waiting::Waiting;
@@ -41,8 +41,8 @@ pub enum End {
 /// The ends that transactions hold. Contracts see the lists of them, the newest first.
 #[derive(Drop)]
 pub struct Ends {
-    sending: Side,
-    receiving: Side,
+    sending: EndTable,
+    receiving: EndTable,
 }
 
 impl Model for Ends {
@@ -63,8 +63,8 @@ impl Ends {
         ensures receiving { IfOk result (λ ends. ends.receiving ≡ []) }
     {
         let transactions = TRANSACTION_LIMIT.min(senders as usize);
-        let sending = Side::new(alloc, senders, transactions)?;
-        let receiving = Side::new(alloc, senders, transactions)?;
+        let sending = EndTable::new(alloc, senders, transactions)?;
+        let receiving = EndTable::new(alloc, senders, transactions)?;
         Ok(Ends { sending, receiving })
     }
 

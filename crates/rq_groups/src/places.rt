@@ -2,7 +2,7 @@
 ghost use Rattle.std.specs.Prelude.{◌≡◌, ◌<◌, Some, None, IfOk, length, replicate, slice_set};
 ghost use Rattle.rq_groups.specs.Chains.{AreHolders, held_at, next_of};
 
-use rq_flags::Index;
+use rq_bitset::Index;
 use rq_model::refusal::NoMemory;
 use rq_model::txn::Txn;
 use std::alloc::Global;

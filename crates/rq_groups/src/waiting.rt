@@ -4,7 +4,7 @@ ghost use Rattle.rq_groups.specs.Ends.{has_held, is_free_for, is_held};
 ghost use Rattle.rq_groups.specs.Waiting.{waits, more_waiting, fewer_waiting};
 
 use crate::Ends;
-use rq_flags::Index;
+use rq_bitset::Index;
 use rq_model::refusal::NoMemory;
 use rq_model::txn::Txn;
 use std::alloc::Global;
@@ -21,7 +21,7 @@ pub struct Waiting {
 
 impl Model for Waiting {
     ghost use Rattle.std.specs.Prelude.{ℕ, List, length, ◌*◌, ◌<◌, ◌≤◌, ◌^◌};
-    ghost use Rattle.rq_flags.specs.Flags.{AreFlags};
+    ghost use Rattle.rq_bitset.specs.Flags.{AreFlags};
 
     ghost Value = { List ℕ };
 

@@ -4,8 +4,8 @@ use Rattle.std.specs.Prelude.{IfNone, IfOk, IfSome}
 use Rattle.rq_model.specs.declared.refusal.NoMemory.{NoMemory}
 use Rattle.rq_page.specs.Sizes.{Sizes}
 use Rattle.rq_views.specs.Stored.{slots_in}
-use Rattle.rq_links.specs.Links.{AreLinked, IsFault}
-use Rattle.rq_links.proofs.Faults.{faults_exact}
+use Rattle.rq_chain_check.specs.Links.{AreLinked, IsFault}
+use Rattle.rq_chain_check.proofs.Faults.{faults_exact}
 
 -- none is named where chains are whole, else this one
 abbrev pub Names : Sizes → List (List ℕ) → Option ℕ → Type 0

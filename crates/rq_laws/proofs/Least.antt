@@ -3,7 +3,7 @@ use Rattle.std.proofs.Common.{◌≡◌, ℕ, ◌≤◌, ◌<◌, List, length, 
 use Rattle.std.specs.Prelude.{IfSome, IfNone}
 use Rattle.std.proofs.lemmas.Bool.{cases_lt}
 use Rattle.rq_model.specs.declared.txn.Txn.{Txn}
-use Rattle.rq_model.specs.Words.{is_some}
+use Rattle.rq_model.specs.Vocabulary.{is_some}
 use Rattle.rq_page.specs.Sizes.{Sizes, IsCellAddress, place_of}
 use Rattle.rq_page.specs.Slots.Slot.{Free}
 use Rattle.rq_views.specs.Log.{Slots}

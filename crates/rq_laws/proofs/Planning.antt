@@ -18,11 +18,11 @@ use Rattle.rq_page.specs.Slots.Slot.{Used}
 use Rattle.rq_views.specs.Items.{layout_of}
 use Rattle.rq_views.specs.Plans.{append_writes, unlink_head_writes, unlink_tail_writes, put_back_writes, directory_write}
 use Rattle.rq_level.specs.declared.slots.Given.{Given}
-use Rattle.rq_level.specs.declared.writes.Outcome.TheVariants as gives
+use Rattle.rq_level.specs.declared.writes.PlannedReply.TheVariants as gives
 use Rattle.rq_level.specs.declared.writes.Plan.{Plan}
 use Rattle.rq_level.specs.ChainPlans.{Beside, CanMark, CanReceive, CanSend, CanPutBack, CanUnlinkTail, IsClosed, IsMarked, IsReceived, IsReopened, IsReturned, IsSent, IsTailUnlinked, Plans, PlansFor, RefusesOther, RefusesTaking, RefusesUnread, Undoes, chain_undoes}
 use Rattle.rq_level.specs.Given.{AreGiven, GivenHolds, HoldsBytes, IsGiven, given_at}
-use Rattle.rq_level.specs.Kept.{Kept, IsLowest, reserved_at}
+use Rattle.rq_level.specs.LevelState.{LevelState, IsLowest, reserved_at}
 use Rattle.rq_level.specs.Meaning.{AreOf, meaning_of}
 use Rattle.rq_level.specs.Ops.{Doing, Job, doing_in}
 use Rattle.rq_level.specs.Ops.Doing.{Send, Receive, Close}
@@ -56,7 +56,7 @@ directory_given z given s d e f h = sender_same s s d e (same_held z (directory_
 cell_given : (z : Sizes) (given : List Given) (a b : ℕ) (c d : Cell) → a ≡ b → GivenHolds z given a (Used c) → GivenHolds z given b (Used d) → c ≡ d
 cell_given z given a b c d e f h = same_cell c d (same_held z b (Used c) (Used d) (given_at b given) (subst (λ (x : ℕ). GivenHolds z given x (Used c)) e f) h)
 
-lowest_given : (z : Sizes) (k : Kept) (latched : List ℕ) (a b : ℕ) → IsLowest z k latched a → IsLowest z k latched b → a ≡ b
+lowest_given : (z : Sizes) (k : LevelState) (latched : List ℕ) (a b : ℕ) → IsLowest z k latched a → IsLowest z k latched b → a ≡ b
 lowest_given z k latched a b f h = elim (cases_lt f.place h.place) [
   | inl lt ↦ absurd (true≢false (sym f.may ∙ h.others f.place lt))
   | inr ge ↦
@@ -68,9 +68,9 @@ lowest_given z k latched a b f h = elim (cases_lt f.place h.place) [
 
 -- ---- plans
 
-module _ (z : Sizes) (k : Kept) (given : List Given) (all : AreGiven z given) where
+module _ (z : Sizes) (k : LevelState) (given : List Given) (all : AreGiven z given) where
   module _ (latched : List ℕ) where
-    sent_alike : (s tag : ℕ) (body : List ℕ) (p q : Plan) (x y : Kept) → IsSent z k given latched s tag body p x → IsSent z k given latched s tag body q y → PlansAlike z p q × (x ≡ y)
+    sent_alike : (s tag : ℕ) (body : List ℕ) (p q : Plan) (x y : LevelState) → IsSent z k given latched s tag body p x → IsSent z k given latched s tag body q y → PlansAlike z p q × (x ≡ y)
     sent_alike s tag body p q x y f h =
         let d = directory_given z given s f.can.directory h.can.directory f.can.directory_is h.can.directory_is in
         let o = beside_given z given f.can.directory.tail h.can.directory.tail f.can.old h.can.old all (ap (λ (d : Directory). d.tail) d) f.can.beside h.can.beside in
@@ -83,7 +83,7 @@ module _ (z : Sizes) (k : Kept) (given : List Given) (all : AreGiven z given) wh
           f.kept ∙ ap (reserved_at z k) w ∙ sym h.kept,
         )
 
-    returned_alike : (s n tag : ℕ) (body : List ℕ) (p q : Plan) (x y : Kept) → IsReturned z k given latched s n tag body p x → IsReturned z k given latched s n tag body q y → PlansAlike z p q × (x ≡ y)
+    returned_alike : (s n tag : ℕ) (body : List ℕ) (p q : Plan) (x y : LevelState) → IsReturned z k given latched s n tag body p x → IsReturned z k given latched s n tag body q y → PlansAlike z p q × (x ≡ y)
     returned_alike s n tag body p q x y f h =
         let d = directory_given z given s f.can.directory h.can.directory f.can.directory_is h.can.directory_is in
         let o = beside_given z given f.can.directory.head h.can.directory.head f.can.old h.can.old all (ap (λ (d : Directory). d.head) d) f.can.beside h.can.beside in
@@ -96,7 +96,7 @@ module _ (z : Sizes) (k : Kept) (given : List Given) (all : AreGiven z given) wh
           f.kept ∙ ap (reserved_at z k) w ∙ sym h.kept,
         )
 
-  received_alike : (s : ℕ) (p q : Plan) (x y : Kept) → IsReceived z k given s p x → IsReceived z k given s q y → PlansAlike z p q × (x ≡ y)
+  received_alike : (s : ℕ) (p q : Plan) (x y : LevelState) → IsReceived z k given s p x → IsReceived z k given s q y → PlansAlike z p q × (x ≡ y)
   received_alike s p q x y f h =
       let d = directory_given z given s f.can.directory h.can.directory f.can.directory_is h.can.directory_is in
       let c = cell_given z given f.can.directory.head h.can.directory.head f.can.cell h.can.cell (ap (λ (d : Directory). d.head) d) f.can.head_is h.can.head_is in
@@ -109,7 +109,7 @@ module _ (z : Sizes) (k : Kept) (given : List Given) (all : AreGiven z given) wh
         f.kept ∙ sym h.kept,
       )
 
-  unlinked_alike : (s n previous : ℕ) (p q : Plan) (x y : Kept) → IsTailUnlinked z k given s n previous p x → IsTailUnlinked z k given s n previous q y → PlansAlike z p q × (x ≡ y)
+  unlinked_alike : (s n previous : ℕ) (p q : Plan) (x y : LevelState) → IsTailUnlinked z k given s n previous p x → IsTailUnlinked z k given s n previous q y → PlansAlike z p q × (x ≡ y)
   unlinked_alike s n previous p q x y f h =
       let d = directory_given z given s f.can.directory h.can.directory f.can.directory_is h.can.directory_is in
       let c = cell_given z given f.can.directory.tail h.can.directory.tail f.can.cell h.can.cell (ap (λ (d : Directory). d.tail) d) f.can.tail_is h.can.tail_is in
@@ -127,15 +127,15 @@ module _ (z : Sizes) (k : Kept) (given : List Given) (all : AreGiven z given) wh
       let d = directory_given z given s f.can.directory h.can.directory f.can.directory_is h.can.directory_is in
       record { writes = f.writes ∙ ap (λ (d : Directory). directory_write (layout_of z) s d (record d { closed = closed }) ∷ []) d ∙ sym h.writes; deed = deed; reply = reply }
 
-  closed_alike : (s : ℕ) (p q : Plan) (x y : Kept) → IsClosed z k given s p x → IsClosed z k given s q y → PlansAlike z p q × (x ≡ y)
+  closed_alike : (s : ℕ) (p q : Plan) (x y : LevelState) → IsClosed z k given s p x → IsClosed z k given s q y → PlansAlike z p q × (x ≡ y)
   closed_alike s p q x y f h = (marked_alike s true p q f.marked h.marked (f.deed ∙ sym h.deed) (f.reply ∙ sym h.reply), f.kept ∙ sym h.kept)
 
-  reopened_alike : (s : ℕ) (p q : Plan) (x y : Kept) → IsReopened z k given s p x → IsReopened z k given s q y → PlansAlike z p q × (x ≡ y)
+  reopened_alike : (s : ℕ) (p q : Plan) (x y : LevelState) → IsReopened z k given s p x → IsReopened z k given s q y → PlansAlike z p q × (x ≡ y)
   reopened_alike s p q x y f h = (marked_alike s false p q f.marked h.marked (f.inverse.deed ∙ sym h.inverse.deed) (f.inverse.reply ∙ sym h.inverse.reply), f.kept ∙ sym h.kept)
 
 -- ---- where one is planned, the other is refused for want of memory alone
 
-taking_wants : (z : Sizes) (k : Kept) (latched : List ℕ) (Can : Type 0) (a : ℕ) (r : Refusal) → Can → IsLowest z k latched a → RefusesTaking z k latched Can r → IsMemory r
+taking_wants : (z : Sizes) (k : LevelState) (latched : List ℕ) (Can : Type 0) (a : ℕ) (r : Refusal) → Can → IsLowest z k latched a → RefusesTaking z k latched Can r → IsMemory r
 taking_wants z k latched Can a why.NoMemory can f h = tt
 taking_wants z k latched Can a why.Latched can f h = true≢false (sym f.may ∙ h.0 f.place f.below)
 taking_wants z k latched Can a (why.Damaged d) can f h = true≢false (sym (and_parts _ _ f.may).0 ∙ h can f.place f.below)
@@ -148,19 +148,19 @@ other_wants Can _ can h = absurd h
 
 -- ---- what is asked
 
-abbrev SameKept : Result Plan Refusal → Result Plan Refusal → Kept → Kept → Type 0
+abbrev SameKept : Result Plan Refusal → Result Plan Refusal → LevelState → LevelState → Type 0
 SameKept p q x y = IfOk p (λ _. IfOk q (λ _. x ≡ y))
 
-abbrev Alike : Option Sizes → Result Plan Refusal → Result Plan Refusal → Kept → Kept → Type 0
+abbrev Alike : Option Sizes → Result Plan Refusal → Result Plan Refusal → LevelState → LevelState → Type 0
 Alike zs p q x y = PlannedAlike zs p q × SameKept p q x y
 
-unread_alike : (zs : Option Sizes) (k : Kept) (p q : Result Plan Refusal) (x y : Kept) → RefusesUnread k p x → RefusesUnread k q y → Alike zs p q x y
+unread_alike : (zs : Option Sizes) (k : LevelState) (p q : Result Plan Refusal) (x y : LevelState) → RefusesUnread k p x → RefusesUnread k q y → Alike zs p q x y
 unread_alike zs k (Ok a) q x y f h = absurd f
 unread_alike zs k (Err r) (Ok b) x y f h = absurd h
 unread_alike (Some z) k (Err r) (Err s) x y f h = (tt, tt)
 unread_alike None k (Err r) (Err s) x y f h = (tt, tt)
 
-plans_alike : (zs : Option Sizes) (d : Option Doing) (k : Kept) (given : List Given) (latched : List ℕ) (p q : Result Plan Refusal) (x y : Kept) → AreOf zs given
+plans_alike : (zs : Option Sizes) (d : Option Doing) (k : LevelState) (given : List Given) (latched : List ℕ) (p q : Result Plan Refusal) (x y : LevelState) → AreOf zs given
     → Plans zs d k given latched p x → Plans zs d k given latched q y → Alike zs p q x y
 plans_alike (Some z) (Some (Send s tag body)) k given latched (Ok a) (Ok b) x y all f h = sent_alike z k given all latched s tag body a b x y f h
 plans_alike (Some z) (Some (Send s tag body)) k given latched (Ok a) (Err r) x y all f h = (taking_wants z k latched (CanSend z given s) f.new r f.can f.lowest h.0, tt)
@@ -178,12 +178,12 @@ plans_alike (Some z) None k given latched p q x y all f h = unread_alike (Some z
 plans_alike None (Some d) k given latched p q x y all f h = unread_alike None k p q x y f h
 plans_alike None None k given latched p q x y all f h = unread_alike None k p q x y f h
 
-for_alike : (undo : Bool) (zs : Option Sizes) (d : Option Doing) (k : Kept) (given : List Given) (latched : List ℕ) (p q : Result Plan Refusal) (x y : Kept) → AreOf zs given
+for_alike : (undo : Bool) (zs : Option Sizes) (d : Option Doing) (k : LevelState) (given : List Given) (latched : List ℕ) (p q : Result Plan Refusal) (x y : LevelState) → AreOf zs given
     → PlansFor undo zs d k given latched p x → PlansFor undo zs d k given latched q y → Alike zs p q x y
 for_alike true zs d k given latched p q x y all f h = unread_alike zs k p q x y f h
 for_alike false zs d k given latched p q x y all f h = plans_alike zs d k given latched p q x y all f h
 
-undoes_alike : (zs : Option Sizes) (d : Option Deed) (k : Kept) (given : List Given) (latched : List ℕ) (p q : Result Plan Refusal) (x y : Kept) → AreOf zs given
+undoes_alike : (zs : Option Sizes) (d : Option Deed) (k : LevelState) (given : List Given) (latched : List ℕ) (p q : Result Plan Refusal) (x y : LevelState) → AreOf zs given
     → Undoes zs d k given latched p x → Undoes zs d k given latched q y → Alike zs p q x y
 undoes_alike (Some z) (Some (Append s n tag previous body)) k given latched (Ok a) (Ok b) x y all f h = unlinked_alike z k given all s n previous a b x y f h
 undoes_alike (Some z) (Some (Append s n tag previous body)) k given latched (Ok a) (Err r) x y all f h = (other_wants (CanUnlinkTail z given s n) r f.can h.0, tt)
@@ -201,25 +201,25 @@ undoes_alike (Some z) None k given latched p q x y all f h = unread_alike (Some 
 undoes_alike None (Some d) k given latched p q x y all f h = unread_alike None k p q x y f h
 undoes_alike None None k given latched p q x y all f h = unread_alike None k p q x y f h
 
-record_alike : (k : Kept) (told : Record) (given : List Given) (latched : List ℕ) (p q : Result Plan Refusal) (x y : Kept) → AreOf k.sizes given
+record_alike : (k : LevelState) (told : Record) (given : List Given) (latched : List ℕ) (p q : Result Plan Refusal) (x y : LevelState) → AreOf k.sizes given
     → chain_undoes k told given latched p x → chain_undoes k told given latched q y → Alike k.sizes p q x y
 record_alike k (records.OpEnd t n level deed) given latched p q x y all f h = undoes_alike k.sizes (deed_in deed) k given latched p q x y all f h
 record_alike k _ given latched p q x y all f h = unread_alike k.sizes k p q x y f h
 
 -- levels of chains that keep the same plan alike
-pub level_plans : (n m : ℕ) (k j : Kept) (job : Job) (given : List Given) (latched : List ℕ) (p q : Result Plan Refusal) (x y : Kept) → n ≡ 1 → m ≡ 1 → k ≡ j → AreOf k.sizes given
+pub level_plans : (n m : ℕ) (k j : LevelState) (job : Job) (given : List Given) (latched : List ℕ) (p q : Result Plan Refusal) (x y : LevelState) → n ≡ 1 → m ≡ 1 → k ≡ j → AreOf k.sizes given
     → (meaning_of n).plans k job given latched p x → (meaning_of m).plans j job given latched q y → Alike k.sizes p q x y
 unfolding meaning_of
 level_plans n m k j job given latched p q x y one also same all f h =
     for_alike job.undo k.sizes (doing_in job.bytes) k given latched p q x y all
     (subst (λ (i : ℕ). (meaning_of i).plans k job given latched p x) one f)
-    (subst (λ (v : Kept). (meaning_of 1).plans v job given latched q y) (sym same) (subst (λ (i : ℕ). (meaning_of i).plans j job given latched q y) also h))
+    (subst (λ (v : LevelState). (meaning_of 1).plans v job given latched q y) (sym same) (subst (λ (i : ℕ). (meaning_of i).plans j job given latched q y) also h))
 
 -- and take back alike
-pub level_undoes : (n m : ℕ) (k j : Kept) (told : Record) (given : List Given) (latched : List ℕ) (p q : Result Plan Refusal) (x y : Kept) → n ≡ 1 → m ≡ 1 → k ≡ j → AreOf k.sizes given
+pub level_undoes : (n m : ℕ) (k j : LevelState) (told : Record) (given : List Given) (latched : List ℕ) (p q : Result Plan Refusal) (x y : LevelState) → n ≡ 1 → m ≡ 1 → k ≡ j → AreOf k.sizes given
     → (meaning_of n).undoes k told given latched p x → (meaning_of m).undoes j told given latched q y → Alike k.sizes p q x y
 unfolding meaning_of
 level_undoes n m k j told given latched p q x y one also same all f h =
     record_alike k told given latched p q x y all
     (subst (λ (i : ℕ). (meaning_of i).undoes k told given latched p x) one f)
-    (subst (λ (v : Kept). (meaning_of 1).undoes v told given latched q y) (sym same) (subst (λ (i : ℕ). (meaning_of i).undoes j told given latched q y) also h))
+    (subst (λ (v : LevelState). (meaning_of 1).undoes v told given latched q y) (sym same) (subst (λ (i : ℕ). (meaning_of i).undoes j told given latched q y) also h))

@@ -15,7 +15,7 @@ use Rattle.rq_model.specs.History.Job.{Taking}
 use Rattle.rq_model.specs.History.Call.{Begin, Start_send, Start_receive, Start_receive_from, Start_close, Step, Finish, Commit, Start_abort, Undo_next, End_abort}
 use Rattle.rq_model.specs.Legal.{Legal, LegalRefusal, OnFound}
 use Rattle.rq_model.specs.Ledger.{Ledger, Open, found}
-use Rattle.rq_model.specs.Words.{is_some, last}
+use Rattle.rq_model.specs.Vocabulary.{is_some, last}
 use Rattle.rq_model.specs.Replay.{Reply as Gave}
 use Rattle.rq_model.specs.Replay.Reply.{Gave_sub, Gave_txn, Gave_commit, Gave_aborting, Gave_aborted, Gave_refusal}
 use Rattle.rq_model.specs.Tests.{Size, NoneHolds, Passes, any_gives, below, first_of, free_to_receive, gives, holds_for, log_full, newest, starts, tests}
@@ -25,7 +25,7 @@ use Rattle.rq_disk.specs.declared.device.PageDevice as page_device
 use Rattle.rq_store.specs.State.{State, ledger_of, size_of}
 use Rattle.rq_sound.specs.Latching.{IsLatched}
 use Rattle.rq_sound.specs.Sound.{IsSound}
-use Rattle.rq_sound.specs.Steps.{Steps}
+use Rattle.rq_sound.specs.ModelSteps.{IsModelStep}
 use Rattle.rq_engine.specs.declared.event.Outcome.{Outcome}
 use Rattle.rq_engine.specs.declared.event.Outcome.TheVariants as outcome
 use Rattle.rq_engine.specs.declared.event.Progress.{Progress}
@@ -93,13 +93,13 @@ both_refused z l c r s v w = elim v [
   ]
 ]
 
-refusal_legal : (old : State) (c : Call) (r : Refusal) (new : State) → Steps old c (Gave_refusal r) new → LegalRefusal (size_of old.sizes) (ledger_of old) c r
+refusal_legal : (old : State) (c : Call) (r : Refusal) (new : State) → IsModelStep old c (Gave_refusal r) new → LegalRefusal (size_of old.sizes) (ledger_of old) c r
 refusal_legal old c r new s = subst (λ (e : Entry). Legal (size_of old.sizes) (ledger_of old) e) s.says s.legal
 
 module _ {P L X : Type 0} (p : page_device.Ghosts P) (l : log_device.Ghosts L) (c : Call) (gave : X → Gave) where
   -- what is answered says that the tests are passed
   abbrev pub SaysPassed : Type 0
-  SaysPassed = (old new : State) (a : X) → Steps old c (gave a) new → Passes (size_of old.sizes) (ledger_of old) c
+  SaysPassed = (old new : State) (a : X) → IsModelStep old c (gave a) new → Passes (size_of old.sizes) (ledger_of old) c
 
   why_refused : (old new : OpenStore P L) (r : Refusal) → writes_out c ≡ false → AnswersLegally p l old c gave (Err r) new → AreHonest p l new → IsSound old.state → Why (size_of old.state.sizes) (ledger_of old.state) c r
   why_refused old new r w a h k = let s = a h k in legal_why (any_under old.state.rows) (size_of old.state.sizes) (ledger_of old.state) c r w (refusal_legal old.state c r new.state s.0) s.1
@@ -135,7 +135,7 @@ module _ {P L X : Type 0} (p : page_device.Ghosts P) (l : log_device.Ghosts L) (
 module _ {P L : Type 0} (p : page_device.Ghosts P) (l : log_device.Ghosts L) (c : Call) (gave : Option Sub → Gave) where
   -- where nothing is started there is nothing to start
   abbrev pub SaysNothing : Type 0
-  SaysNothing = (old new : State) → Steps old c (gave None) new → starts (size_of old.sizes) (ledger_of old) c ≡ false
+  SaysNothing = (old new : State) → IsModelStep old c (gave None) new → starts (size_of old.sizes) (ledger_of old) c ≡ false
 
   none_latched : (old x y : OpenStore P L) (r : Refusal) → SaysNothing → AnswersLegally p l old c gave (Ok None) x → AnswersLegally p l old c gave (Err r) y → AreHonest p l x → AreHonest p l y → IsSound old.state → r ≡ why.Latched → ⊥
   none_latched old x y r none f g hx hy k e =
@@ -181,29 +181,29 @@ takes_apart {P} {L} old old2 c r q e f g k = taken_one old.state c r q (f k) (su
 
 -- ---- calls whose answers say that their tests are passed
 
-pub send_passed : (t : Txn) (m : Message) (old new : State) (a : Sub) → Steps old (Start_send t m) (Gave_sub a.txn a.number) new → Passes (size_of old.sizes) (ledger_of old) (Start_send t m)
+pub send_passed : (t : Txn) (m : Message) (old new : State) (a : Sub) → IsModelStep old (Start_send t m) (Gave_sub a.txn a.number) new → Passes (size_of old.sizes) (ledger_of old) (Start_send t m)
 send_passed t m old new a s = (subst (λ (e : Entry). Legal (size_of old.sizes) (ledger_of old) e) s.says.1 s.legal).0
 
-pub close_passed : (t : Txn) (g : ℕ) (old new : State) (a : Sub) → Steps old (Start_close t g) (Gave_sub a.txn a.number) new → Passes (size_of old.sizes) (ledger_of old) (Start_close t g)
+pub close_passed : (t : Txn) (g : ℕ) (old new : State) (a : Sub) → IsModelStep old (Start_close t g) (Gave_sub a.txn a.number) new → Passes (size_of old.sizes) (ledger_of old) (Start_close t g)
 close_passed t g old new a s = (subst (λ (e : Entry). Legal (size_of old.sizes) (ledger_of old) e) s.says.1 s.legal).0
 
-pub abort_passed : {X : Type 0} (t : Txn) (old new : State) (a : X) → Steps old (Start_abort t) Gave_aborting new → Passes (size_of old.sizes) (ledger_of old) (Start_abort t)
+pub abort_passed : {X : Type 0} (t : Txn) (old new : State) (a : X) → IsModelStep old (Start_abort t) Gave_aborting new → Passes (size_of old.sizes) (ledger_of old) (Start_abort t)
 abort_passed t old new a s = subst (λ (e : Entry). Legal (size_of old.sizes) (ledger_of old) e) s.says s.legal
 
-pub begin_passed : (old new : State) (a : Txn) → Steps old Begin (Gave_txn a) new → Passes (size_of old.sizes) (ledger_of old) Begin
+pub begin_passed : (old new : State) (a : Txn) → IsModelStep old Begin (Gave_txn a) new → Passes (size_of old.sizes) (ledger_of old) Begin
 begin_passed old new a s = (subst (λ (e : Entry). Legal (size_of old.sizes) (ledger_of old) e) s.says s.legal).0
 
-pub commit_passed : (t : Txn) (old new : State) (a : CommitNo) → Steps old (Commit t) (Gave_commit (commit_number a)) new → Passes (size_of old.sizes) (ledger_of old) (Commit t)
+pub commit_passed : (t : Txn) (old new : State) (a : CommitNo) → IsModelStep old (Commit t) (Gave_commit (commit_number a)) new → Passes (size_of old.sizes) (ledger_of old) (Commit t)
 commit_passed t old new a s = (subst (λ (e : Entry). Legal (size_of old.sizes) (ledger_of old) e) s.says.1 s.legal).0
 
-pub end_passed : {X : Type 0} (t : Txn) (old new : State) (a : X) → Steps old (End_abort t) Gave_aborted new → Passes (size_of old.sizes) (ledger_of old) (End_abort t)
+pub end_passed : {X : Type 0} (t : Txn) (old new : State) (a : X) → IsModelStep old (End_abort t) Gave_aborted new → Passes (size_of old.sizes) (ledger_of old) (End_abort t)
 end_passed t old new a s = subst (λ (e : Entry). Legal (size_of old.sizes) (ledger_of old) e) s.says s.legal
 
-pub step_passed : (t : Txn) (n : ℕ) (old new : State) (a : Progress) → Steps old (Step t n) (progress_of a) new → Passes (size_of old.sizes) (ledger_of old) (Step t n)
+pub step_passed : (t : Txn) (n : ℕ) (old new : State) (a : Progress) → IsModelStep old (Step t n) (progress_of a) new → Passes (size_of old.sizes) (ledger_of old) (Step t n)
 step_passed t n old new (progress.Done lsn) s = (subst (λ (e : Entry). Legal (size_of old.sizes) (ledger_of old) e) s.says s.legal).0
 step_passed t n old new progress.Ready s = (subst (λ (e : Entry). Legal (size_of old.sizes) (ledger_of old) e) s.says s.legal).0
 
-pub finish_passed : (t : Txn) (n : ℕ) (old new : State) (a : Outcome) → Steps old (Finish t n) (outcome_of a) new → Passes (size_of old.sizes) (ledger_of old) (Finish t n)
+pub finish_passed : (t : Txn) (n : ℕ) (old new : State) (a : Outcome) → IsModelStep old (Finish t n) (outcome_of a) new → Passes (size_of old.sizes) (ledger_of old) (Finish t n)
 finish_passed t n old new outcome.Sent s = (subst (λ (e : Entry). Legal (size_of old.sizes) (ledger_of old) e) s.says.1 s.legal).0
 finish_passed t n old new (outcome.Message m) s = (subst (λ (e : Entry). Legal (size_of old.sizes) (ledger_of old) e) s.says s.legal).0
 finish_passed t n old new outcome.Closed s = (subst (λ (e : Entry). Legal (size_of old.sizes) (ledger_of old) e) s.says.1 s.legal).0
@@ -246,7 +246,7 @@ module _ (l : Ledger) (t : Txn) where
   none_newest None k = absurd k
   none_newest (Some o) k = ap is_some k
 
-pub receive_passed : (t : Txn) (old new : State) (a : Option Sub) → Steps old (Start_receive t) (started_of a) new → Passes (size_of old.sizes) (ledger_of old) (Start_receive t)
+pub receive_passed : (t : Txn) (old new : State) (a : Option Sub) → IsModelStep old (Start_receive t) (started_of a) new → Passes (size_of old.sizes) (ledger_of old) (Start_receive t)
 receive_passed t old new None s = (subst (entry_legal old) s.says s.legal).0
 receive_passed t old new (Some a) s =
     let g = s.says.1 in
@@ -255,25 +255,25 @@ receive_passed t old new (Some a) s =
     let full = room_for (ledger_of old) t g a.number (found t (ledger_of old).open_ones) h.1 (not-false _ p.1.1.1.1.1.0) p.1.1.1.1.1.1.0 in
     (p.0, (p.1.0, (p.1.1.0, (p.1.1.1.0, (and_right _ _ full, tt)))))
 
-pub receive_nothing : (t : Txn) (old new : State) → Steps old (Start_receive t) (started_of None) new → starts (size_of old.sizes) (ledger_of old) (Start_receive t) ≡ false
+pub receive_nothing : (t : Txn) (old new : State) → IsModelStep old (Start_receive t) (started_of None) new → starts (size_of old.sizes) (ledger_of old) (Start_receive t) ≡ false
 receive_nothing t old new s =
     let h : Legal (size_of old.sizes) (ledger_of old) (None_free t) = subst (entry_legal old) s.says s.legal in
     none_below (ledger_of old) t (size_of old.sizes).senders (found t (ledger_of old).open_ones) (gives_not (ledger_of old) t (size_of old.sizes).senders (found t (ledger_of old).open_ones) h.1)
 
-pub from_passed : (t : Txn) (g : ℕ) (old new : State) (a : Option Sub) → Steps old (Start_receive_from t g) (started_of a) new → Passes (size_of old.sizes) (ledger_of old) (Start_receive_from t g)
+pub from_passed : (t : Txn) (g : ℕ) (old new : State) (a : Option Sub) → IsModelStep old (Start_receive_from t g) (started_of a) new → Passes (size_of old.sizes) (ledger_of old) (Start_receive_from t g)
 from_passed t g old new None s = (subst (entry_legal old) s.says s.legal).0
 from_passed t g old new (Some a) s = (subst (entry_legal old) s.says.1 s.legal).0
 
-pub from_nothing : (t : Txn) (g : ℕ) (old new : State) → Steps old (Start_receive_from t g) (started_of None) new → starts (size_of old.sizes) (ledger_of old) (Start_receive_from t g) ≡ false
+pub from_nothing : (t : Txn) (g : ℕ) (old new : State) → IsModelStep old (Start_receive_from t g) (started_of None) new → starts (size_of old.sizes) (ledger_of old) (Start_receive_from t g) ≡ false
 from_nothing t g old new s =
     let h : Legal (size_of old.sizes) (ledger_of old) (None_from t g) = subst (entry_legal old) s.says s.legal in
     gives_nothing (ledger_of old) t g (found t (ledger_of old).open_ones) h.1
 
-pub undo_passed : (t : Txn) (old new : State) (a : Option Sub) → Steps old (Undo_next t) (undoing_of a) new → Passes (size_of old.sizes) (ledger_of old) (Undo_next t)
+pub undo_passed : (t : Txn) (old new : State) (a : Option Sub) → IsModelStep old (Undo_next t) (undoing_of a) new → Passes (size_of old.sizes) (ledger_of old) (Undo_next t)
 undo_passed t old new None s = (subst (entry_legal old) s.says s.legal).0
 undo_passed t old new (Some a) s = (subst (entry_legal old) s.says.1 s.legal).0
 
-pub undo_nothing : (t : Txn) (old new : State) → Steps old (Undo_next t) (undoing_of None) new → starts (size_of old.sizes) (ledger_of old) (Undo_next t) ≡ false
+pub undo_nothing : (t : Txn) (old new : State) → IsModelStep old (Undo_next t) (undoing_of None) new → starts (size_of old.sizes) (ledger_of old) (Undo_next t) ≡ false
 undo_nothing t old new s =
     let h : Legal (size_of old.sizes) (ledger_of old) (None_left t) = subst (entry_legal old) s.says s.legal in
     none_newest (ledger_of old) t (found t (ledger_of old).open_ones) h.1

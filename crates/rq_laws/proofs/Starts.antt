@@ -2,7 +2,7 @@
 use Rattle.std.proofs.Common.{◌≡◌, ℕ, ◌+◌, ◌/◌, List, [], ◌∷◌, map, reverse, refl, sym, ◌∙◌, ap, ap₂, subst, true, false, Option, Some, None, Result, Ok, Err, inl, inr, arith, option_map, true≢false}
 use Rattle.std.specs.Result.{IfOk}
 use Rattle.std.proofs.lemmas.Bool.{cases_Bool, cases_lt}
-use Rattle.rq_model.specs.Words.{same_txn}
+use Rattle.rq_model.specs.Vocabulary.{same_txn}
 use Rattle.rq_model.specs.declared.refusal.Refusal.{Refusal}
 use Rattle.rq_model.specs.declared.record.Deed.TheVariants.{Append, UnlinkHead}
 use Rattle.rq_model.specs.declared.txn.Sub.{Sub}

@@ -13,11 +13,11 @@ use Rattle.rq_record.specs.declared.step.Step.{Step}
 use Rattle.rq_record.specs.declared.step.Step.TheVariants as steps
 use Rattle.rq_record.specs.Decoding.{IfRecord, IsFront}
 use Rattle.rq_record.specs.Spelling.{BeginsRecord, HoldsRecord, IsRecord, spelling}
-use Rattle.rq_undone.specs.declared.history.Spot.{Spot}
-use Rattle.rq_undone.specs.Analysis.{Analysis, has_sub}
-use Rattle.rq_undone.specs.Pages.{IsNextUndo, op_less, undo_of, void_of}
-use Rattle.rq_undone.specs.Pages.IsNextUndo.{Voids, Undoes}
-use Rattle.rq_undone.proofs.Next.{op_turn}
+use Rattle.rq_page_undo.specs.declared.open_work.UndoableWrite.{UndoableWrite}
+use Rattle.rq_page_undo.specs.Analysis.{Analysis, has_sub}
+use Rattle.rq_page_undo.specs.Pages.{IsNextUndo, op_less, undo_of, void_of}
+use Rattle.rq_page_undo.specs.Pages.IsNextUndo.{Voids, Undoes}
+use Rattle.rq_page_undo.proofs.Next.{op_turn}
 use Rattle.rq_laws.specs.Alike.{PagesAlike}
 
 -- ---- pages
@@ -79,28 +79,28 @@ least_one a b n m = elim (cases_Bool (same_op b a)) [
   | inr d ↦ absurd (true≢false (sym (op_turn a b d n) ∙ m))
 ]
 
-first_one : (p q : Spot) (ps qs : List Spot) → p ∷ ps ≡ q ∷ qs → p ≡ q
+first_one : (p q : UndoableWrite) (ps qs : List UndoableWrite) → p ∷ ps ≡ q ∷ qs → p ≡ q
 first_one p q ps qs e = cc
 
-no_spot : (p : Spot) (ps : List Spot) → [] ≡ p ∷ ps → ⊥
-no_spot p ps e = cc
+none_undoable : (p : UndoableWrite) (ps : List UndoableWrite) → [] ≡ p ∷ ps → ⊥
+none_undoable p ps e = cc
 
 undo_one : (h : Analysis) (r s : Record) → IsNextUndo h r → IsNextUndo h s → r ≡ s
 undo_one h r s (Voids o spent least is) (Voids q other lowest are) = is ∙ ap void_of (least_one o q (lowest o spent) (least q other)) ∙ sym are
-undo_one h r s (Voids o spent least is) (Undoes p ps none spots are) = absurd (true≢false (sym (none o spent.unfinished) ∙ spent.none))
-undo_one h r s (Undoes p ps none spots is) (Voids o spent least are) = absurd (true≢false (sym (none o spent.unfinished) ∙ spent.none))
-undo_one h r s (Undoes p ps none spots is) (Undoes q qs void others are) = is ∙ ap undo_of (first_one p q ps qs (sym spots ∙ others)) ∙ sym are
+undo_one h r s (Voids o spent least is) (Undoes p ps none undoable are) = absurd (true≢false (sym (none o spent.unfinished) ∙ spent.none))
+undo_one h r s (Undoes p ps none undoable is) (Voids o spent least are) = absurd (true≢false (sym (none o spent.unfinished) ∙ spent.none))
+undo_one h r s (Undoes p ps none undoable is) (Undoes q qs void others are) = is ∙ ap undo_of (first_one p q ps qs (sym undoable ∙ others)) ∙ sym are
 
-none_next : (h : Analysis) (r : Record) → (h.unfinished ≡ [] → h.spots ≡ []) → h.unfinished ≡ [] → IsNextUndo h r → ⊥
+none_next : (h : Analysis) (r : Record) → (h.unfinished ≡ [] → h.undoable ≡ []) → h.unfinished ≡ [] → IsNextUndo h r → ⊥
 none_next h r own e (Voids o spent least is) = true≢false (sym spent.unfinished ∙ ap (has_sub o) e)
-none_next h r own e (Undoes p ps none spots is) = no_spot p ps (sym (own e) ∙ spots)
+none_next h r own e (Undoes p ps none undoable is) = none_undoable p ps (sym (own e) ∙ undoable)
 
-undo_here : (h : Analysis) (p q : Option Record) → (h.unfinished ≡ [] → h.spots ≡ []) → IfSome p (IsNextUndo h) → IfNone p (h.unfinished ≡ []) → IfSome q (IsNextUndo h) → IfNone q (h.unfinished ≡ []) → p ≡ q
+undo_here : (h : Analysis) (p q : Option Record) → (h.unfinished ≡ [] → h.undoable ≡ []) → IfSome p (IsNextUndo h) → IfNone p (h.unfinished ≡ []) → IfSome q (IsNextUndo h) → IfNone q (h.unfinished ≡ []) → p ≡ q
 undo_here h None None own f n g m = refl
 undo_here h None (Some s) own f n g m = absurd (none_next h s own n g)
 undo_here h (Some r) None own f n g m = absurd (none_next h r own m f)
 undo_here h (Some r) (Some s) own f n g m = ap Some (undo_one h r s f g)
 
 -- the record by which operations without an end are undone next is one
-pub undo_same : (h k : Analysis) (p q : Option Record) → h ≡ k → (h.unfinished ≡ [] → h.spots ≡ []) → IfSome p (IsNextUndo h) → IfNone p (h.unfinished ≡ []) → IfSome q (IsNextUndo k) → IfNone q (k.unfinished ≡ []) → p ≡ q
+pub undo_same : (h k : Analysis) (p q : Option Record) → h ≡ k → (h.unfinished ≡ [] → h.undoable ≡ []) → IfSome p (IsNextUndo h) → IfNone p (h.unfinished ≡ []) → IfSome q (IsNextUndo k) → IfNone q (k.unfinished ≡ []) → p ≡ q
 undo_same h k p q is own f n = subst (λ (j : Analysis). IfSome q (IsNextUndo j) → IfNone q (j.unfinished ≡ []) → p ≡ q) is (undo_here h p q own f n)

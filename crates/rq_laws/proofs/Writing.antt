@@ -23,7 +23,7 @@ use Rattle.rq_pool.specs.Writing.{DeviceAfter, IsUnwritten, changed_after}
 use Rattle.rq_page.specs.Pages.{lsn_of}
 use Rattle.rq_store.specs.State.{State, ledger_of, size_of}
 use Rattle.rq_sound.specs.Sound.{IsSound}
-use Rattle.rq_sound.specs.Steps.{Steps}
+use Rattle.rq_sound.specs.ModelSteps.{IsModelStep}
 use Rattle.rq_engine.specs.Answers.{AnswersLegally}
 use Rattle.rq_engine.specs.Lists.{IsCommitted}
 use Rattle.rq_engine.specs.Opened.{AreHonest, NotWritten, OpenStore, WritesWhen, pooled, state_after}
@@ -261,13 +261,13 @@ the_same (Err d) (Err e) f h alike = elim alike [
 abbrev entry_legal : State → Entry → Type 0
 entry_legal old e = Legal (size_of old.sizes) (ledger_of old) e
 
-pub tag_passed : (sender : ℕ) (old new : State) (a : LastTag) → Steps old (Last_tag sender) (Gave_tag a.sent a.tag) new → Passes (size_of old.sizes) (ledger_of old) (Last_tag sender)
+pub tag_passed : (sender : ℕ) (old new : State) (a : LastTag) → IsModelStep old (Last_tag sender) (Gave_tag a.sent a.tag) new → Passes (size_of old.sizes) (ledger_of old) (Last_tag sender)
 tag_passed sender old new a s = (subst (entry_legal old) s.says s.legal).0
 
-pub show_passed : (old new : State) (a : Vec GroupContent Global) → Steps old Show (Gave_content (map group_of a.items)) new → Passes (size_of old.sizes) (ledger_of old) Show
+pub show_passed : (old new : State) (a : Vec GroupContent Global) → IsModelStep old Show (Gave_content (map group_of a.items)) new → Passes (size_of old.sizes) (ledger_of old) Show
 show_passed old new a s = (subst (entry_legal old) s.says s.legal).0
 
-shown : (old new : State) (gs : List Group) → Steps old Show (Gave_content gs) new → gs ≡ map (group_in (ledger_of old).committed) (below (size_of old.sizes).senders)
+shown : (old new : State) (gs : List Group) → IsModelStep old Show (Gave_content gs) new → gs ≡ map (group_in (ledger_of old).committed) (below (size_of old.sizes).senders)
 shown old new gs s = (subst (entry_legal old) s.says s.legal).1
 
 module _ {P L : Type 0} (p : page_device.Ghosts P) (l : log_device.Ghosts L) where

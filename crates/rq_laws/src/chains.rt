@@ -4,7 +4,7 @@ ghost use Rattle.rq_page.specs.Sizes.{IsCellAddress};
 ghost use Rattle.rq_level.specs.Writes.{writes_of};
 ghost use Rattle.rq_chain.specs.Neighbours.{IsGroupOf, IsNeighbour, IsNeighbourAt};
 
-use rq_chain::{ChainPlan, Group, Neighbour, append, put_back, unlink_head};
+use rq_chain::{ChainPlan, DirectoryEntry, Neighbour, append, put_back, unlink_head};
 use rq_level::SlotWrite;
 use rq_model::message::Body;
 use rq_model::refusal::NoMemory;
@@ -17,7 +17,7 @@ use std::alloc::Global;
 pub fn sends(
     alloc: Global,
     layout: &Layout,
-    group: &Group,
+    group: &DirectoryEntry,
     tail: Option<Neighbour>,
     tail_again: Option<Neighbour>,
     free: Addr,
@@ -45,7 +45,7 @@ pub fn sends(
 pub fn takes(
     alloc: Global,
     layout: &Layout,
-    group: &Group,
+    group: &DirectoryEntry,
     head: &Neighbour,
     next: Option<Neighbour>,
     next_again: Option<Neighbour>,
@@ -68,7 +68,7 @@ pub fn takes(
 pub fn puts_back(
     alloc: Global,
     layout: &Layout,
-    group: &Group,
+    group: &DirectoryEntry,
     head: Option<Neighbour>,
     head_again: Option<Neighbour>,
     free: Addr,

@@ -1,7 +1,7 @@
 //! Ends of groups, what waits of each sender, and rows of transactions.
 ghost use Rattle.std.specs.Prelude.{◌≡◌, true, IfOk, IfSome, IsSome};
 ghost use Rattle.rq_groups.specs.Sides.{is_free_end};
-ghost use Rattle.rq_model.specs.Words.{is_some};
+ghost use Rattle.rq_model.specs.Vocabulary.{is_some};
 ghost use Rattle.rq_txn.specs.Rows.{found_row};
 
 use rq_groups::{End, Ends, Waiting};

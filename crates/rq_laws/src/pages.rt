@@ -3,9 +3,9 @@ ghost use Rattle.std.specs.Prelude.{◌≡◌, ◌<◌, ◌≤◌, IfOk, length}
 ghost use Rattle.rq_laws.specs.Alike.{PagesAlike};
 ghost use Rattle.rq_pageops.specs.Latched.{pages_in};
 
+use rq_chain_check::first_broken;
 use rq_disk::PageDevice;
 use rq_level::PageSet;
-use rq_links::first_broken;
 use rq_model::record::Slot;
 use rq_model::refusal::NoMemory;
 use rq_model::txn::Lsn;

@@ -3,12 +3,12 @@ ghost use Rattle.std.specs.Prelude.{◌≡◌, [], IfOk};
 
 use rq_disk::LogDevice;
 use rq_log::Log;
-use rq_lost::Dues;
+use rq_loser_undo::PendingUndos;
 use rq_model::record::Record;
 use rq_model::refusal::{NoMemory, Refusal};
 use rq_model::txn::Lsn;
+use rq_page_undo::OpenWork;
 use rq_record::{Step, decode};
-use rq_undone::History;
 
 /// The same bytes are read as the same record, or as a beginning of one, or as none. Excludes a reader that takes a
 /// longer Commit, and one that calls a beginning bad.
@@ -35,8 +35,8 @@ pub fn hands_over<L: LogDevice>(
 /// After a record, the same is to be taken back. Excludes a Commit that leaves what it committed to be taken back, and
 /// an end of an inverse that leaves due what the inverse took back.
 pub fn dues(
-    first: &mut Dues,
-    second: &mut Dues,
+    first: &mut PendingUndos,
+    second: &mut PendingUndos,
     lsn: Lsn,
     told: &Record,
 ) -> (Result<(), NoMemory>, Result<(), NoMemory>)
@@ -49,8 +49,8 @@ pub fn dues(
 /// After a record, the same operations have no end, with the same writes. Excludes operations that are finished and
 /// undone by what stood in their slots before.
 pub fn notes(
-    first: &mut History,
-    second: &mut History,
+    first: &mut OpenWork,
+    second: &mut OpenWork,
     lsn: Lsn,
     told: &Record,
 ) -> (Result<bool, Refusal>, Result<bool, Refusal>)
@@ -62,9 +62,9 @@ pub fn notes(
 
 /// The record by which operations without an end are undone next is one. Excludes an operation that is voided with a
 /// write left.
-pub fn next_undo(first: &History, second: &History) -> (Option<Record>, Option<Record>)
+pub fn next_undo(first: &OpenWork, second: &OpenWork) -> (Option<Record>, Option<Record>)
     requires same { first.now ≡ second.now }
-    requires own { first.now.unfinished ≡ [] → first.now.spots ≡ [] }
+    requires own { first.now.unfinished ≡ [] → first.now.undoable ≡ [] }
     ensures { result.0 ≡ result.1 }
 {
     (first.next_undo(), second.next_undo())

@@ -11,7 +11,7 @@ use Rattle.rq_model.specs.declared.record.Record.TheVariants as records
 use Rattle.rq_model.specs.Deeds.{deed_in}
 use Rattle.rq_views.specs.Log.{Write}
 use Rattle.rq_views.specs.Plans.{relinked}
-use Rattle.rq_level.specs.Kept.{Kept}
+use Rattle.rq_level.specs.LevelState.{LevelState}
 use Rattle.rq_level.specs.Ops.{Doing, Overwrite}
 use Rattle.rq_level.specs.Ops.Doing.{Send, Receive, Close}
 use Rattle.rq_level.specs.Writes.{writes_of, write_of}
@@ -36,7 +36,7 @@ three z items d c at o f e = as_many z items _ 3 e (omega (arith, linked at o f 
 one : (z : Sizes) (items : List SlotWrite) (d : Write) → reverse (writes_of z items) ≡ d ∷ [] → length items ≤ 3
 one z items d e = as_many z items _ 3 e (omega arith)
 
-planned : (z : Option Sizes) (d : Option Doing) (k : Kept) (given : List Given) (latched : List ℕ) (p : Plan) (after : Kept)
+planned : (z : Option Sizes) (d : Option Doing) (k : LevelState) (given : List Given) (latched : List ℕ) (p : Plan) (after : LevelState)
     → Plans z d k given latched (Ok p) after → length p.writes.items ≤ 3
 planned (Some z) (Some (Send s tag body)) k given latched p after h = three z p.writes.items _ _ _ _ _ h.writes
 planned (Some z) (Some (Receive s)) k given latched p after h = three z p.writes.items _ _ _ _ _ h.writes
@@ -45,12 +45,12 @@ planned (Some z) None k given latched p after h = absurd h
 planned None (Some d) k given latched p after h = absurd h
 planned None None k given latched p after h = absurd h
 
-pub few_planned : (undo : Bool) (z : Option Sizes) (d : Option Doing) (k : Kept) (given : List Given) (latched : List ℕ) (p : Plan) (after : Kept)
+pub few_planned : (undo : Bool) (z : Option Sizes) (d : Option Doing) (k : LevelState) (given : List Given) (latched : List ℕ) (p : Plan) (after : LevelState)
     → PlansFor undo z d k given latched (Ok p) after → length p.writes.items ≤ 3
 few_planned true z d k given latched p after h = absurd h
 few_planned false z d k given latched p after h = planned z d k given latched p after h
 
-undone : (z : Option Sizes) (d : Option Deed) (k : Kept) (given : List Given) (latched : List ℕ) (p : Plan) (after : Kept)
+undone : (z : Option Sizes) (d : Option Deed) (k : LevelState) (given : List Given) (latched : List ℕ) (p : Plan) (after : LevelState)
     → Undoes z d k given latched (Ok p) after → length p.writes.items ≤ 3
 undone (Some z) (Some (Append s n tag previous body)) k given latched p after h = three z p.writes.items _ _ _ _ _ h.writes
 undone (Some z) (Some (UnlinkHead s n tag body)) k given latched p after h = three z p.writes.items _ _ _ _ _ h.writes
@@ -59,7 +59,7 @@ undone (Some z) None k given latched p after h = absurd h
 undone None (Some d) k given latched p after h = absurd h
 undone None None k given latched p after h = absurd h
 
-pub few_undone : (k : Kept) (told : Record) (given : List Given) (latched : List ℕ) (p : Plan) (after : Kept)
+pub few_undone : (k : LevelState) (told : Record) (given : List Given) (latched : List ℕ) (p : Plan) (after : LevelState)
     → chain_undoes k told given latched (Ok p) after → length p.writes.items ≤ 3
 few_undone k (records.OpEnd t n level deed) given latched p after h = undone k.sizes (deed_in deed) k given latched p after h
 few_undone k _ given latched p after h = absurd h
@@ -69,25 +69,25 @@ single a before after [] h = absurd h
 single a before after (w ∷ []) h = omega arith
 single a before after (w ∷ v ∷ ws) h = absurd h
 
-one_planned : (k : Kept) (w : Option Overwrite) (given : List Given) (p : Plan) (after : Kept) → PlansWrite k w given (Ok p) after → length p.writes.items ≤ 3
+one_planned : (k : LevelState) (w : Option Overwrite) (given : List Given) (p : Plan) (after : LevelState) → PlansWrite k w given (Ok p) after → length p.writes.items ≤ 3
 one_planned k None given p after h = absurd h
 one_planned k (Some w) given p after h = single _ _ _ p.writes.items h.0.plan.write
 
-pub few_written : (undo : Bool) (k : Kept) (w : Option Overwrite) (given : List Given) (p : Plan) (after : Kept) → WritesFor undo k w given (Ok p) after → length p.writes.items ≤ 3
+pub few_written : (undo : Bool) (k : LevelState) (w : Option Overwrite) (given : List Given) (p : Plan) (after : LevelState) → WritesFor undo k w given (Ok p) after → length p.writes.items ≤ 3
 few_written true k w given p after h = absurd h
 few_written false k w given p after h = one_planned k w given p after h
 
-taken_back : (k : Kept) (is : Bool) (a : ℕ) (before after : List ℕ) (p : Plan) (kept : Kept) → TakesBack k is a before after (Ok p) kept → length p.writes.items ≤ 3
+taken_back : (k : LevelState) (is : Bool) (a : ℕ) (before after : List ℕ) (p : Plan) (kept : LevelState) → TakesBack k is a before after (Ok p) kept → length p.writes.items ≤ 3
 taken_back k true a before after p kept h = single _ _ _ p.writes.items h.0.write
 taken_back k false a before after p kept h = absurd h
 
-pub few_taken_back : (k : Kept) (told : Record) (given : List Given) (latched : List ℕ) (p : Plan) (after : Kept)
+pub few_taken_back : (k : LevelState) (told : Record) (given : List Given) (latched : List ℕ) (p : Plan) (after : LevelState)
     → page_undoes k told given latched (Ok p) after → length p.writes.items ≤ 3
 few_taken_back k (records.PageOp t n page slot x y) given latched p after h = taken_back k (is_slot_number slot) (page * 16 + slot) x y p after h
 few_taken_back k _ given latched p after h = absurd h
 
 -- an inverse tells no deed
-silent : (z : Option Sizes) (d : Option Deed) (k : Kept) (given : List Given) (latched : List ℕ) (p : Plan) (after : Kept)
+silent : (z : Option Sizes) (d : Option Deed) (k : LevelState) (given : List Given) (latched : List ℕ) (p : Plan) (after : LevelState)
     → Undoes z d k given latched (Ok p) after → p.deed ≡ []
 silent (Some z) (Some (Append s n tag previous body)) k given latched p after h = h.inverse.deed
 silent (Some z) (Some (UnlinkHead s n tag body)) k given latched p after h = h.inverse.deed
@@ -96,16 +96,16 @@ silent (Some z) None k given latched p after h = absurd h
 silent None (Some d) k given latched p after h = absurd h
 silent None None k given latched p after h = absurd h
 
-pub silent_undone : (k : Kept) (told : Record) (given : List Given) (latched : List ℕ) (p : Plan) (after : Kept)
+pub silent_undone : (k : LevelState) (told : Record) (given : List Given) (latched : List ℕ) (p : Plan) (after : LevelState)
     → chain_undoes k told given latched (Ok p) after → p.deed ≡ []
 silent_undone k (records.OpEnd t n level deed) given latched p after h = silent k.sizes (deed_in deed) k given latched p after h
 silent_undone k _ given latched p after h = absurd h
 
-silent_back : (k : Kept) (is : Bool) (a : ℕ) (before after : List ℕ) (p : Plan) (kept : Kept) → TakesBack k is a before after (Ok p) kept → p.deed ≡ []
+silent_back : (k : LevelState) (is : Bool) (a : ℕ) (before after : List ℕ) (p : Plan) (kept : LevelState) → TakesBack k is a before after (Ok p) kept → p.deed ≡ []
 silent_back k true a before after p kept h = h.0.deed
 silent_back k false a before after p kept h = absurd h
 
-pub silent_taken_back : (k : Kept) (told : Record) (given : List Given) (latched : List ℕ) (p : Plan) (after : Kept)
+pub silent_taken_back : (k : LevelState) (told : Record) (given : List Given) (latched : List ℕ) (p : Plan) (after : LevelState)
     → page_undoes k told given latched (Ok p) after → p.deed ≡ []
 silent_taken_back k (records.PageOp t n page slot x y) given latched p after h = silent_back k (is_slot_number slot) (page * 16 + slot) x y p after h
 silent_taken_back k _ given latched p after h = absurd h

@@ -8,7 +8,7 @@ use Rattle.rq_page.specs.declared.cell.CellSlot.TheVariants as cells
 use Rattle.rq_page.specs.Cells.{cell_slot_in}
 use Rattle.rq_page.specs.Directories.{directory_in}
 use Rattle.rq_page.specs.Sizes.{Sizes, directory_at, place_of}
-use Rattle.rq_level.specs.Kept.{Kept, noted, noted_in, noted_cell, is_cell_address, is_free_slot}
+use Rattle.rq_level.specs.LevelState.{LevelState, noted, noted_in, noted_cell, is_cell_address, is_free_slot}
 use Rattle.rq_level.specs.Ops.{Doing, Overwrite, doing_in, overwrite_in}
 use Rattle.rq_level.specs.PagePlans.{write_wants, PlansWrite, WritesFor, CannotOverwrite, TakesBack, is_slot_number, page_undoes}
 use Rattle.rq_model.specs.declared.record.Record.{Record}
@@ -93,40 +93,40 @@ asks_page given true w = tt
 asks_page given false None = tt
 asks_page given false (Some w) = unless given w.at (given_at w.at given) refl
 
-cell_twice : (z : Sizes) (k : Kept) (place : ℕ) (x y : Bool) → noted_cell z (noted_cell z k place x) place y ≡ noted_cell z k place y
+cell_twice : (z : Sizes) (k : LevelState) (place : ℕ) (x y : Bool) → noted_cell z (noted_cell z k place x) place y ≡ noted_cell z k place y
 cell_twice z k place x y = ap (λ (f : List Bool). record k { free = f; reserved = set (set k.reserved place false) place false }) (set-set k.free place x y) ∙ ap (λ (r : List Bool). record k { free = set k.free place y; reserved = r }) (set-set k.reserved place false false)
 
-in_twice : (z : Option Sizes) (k : Kept) (a : ℕ) (x y : List ℕ) → k.sizes ≡ z → noted_in (noted_in z k a x).sizes (noted_in z k a x) a y ≡ noted_in z k a y
+in_twice : (z : Option Sizes) (k : LevelState) (a : ℕ) (x y : List ℕ) → k.sizes ≡ z → noted_in (noted_in z k a x).sizes (noted_in z k a x) a y ≡ noted_in z k a y
 in_twice None k a x y e = ap (λ (o : Option Sizes). noted_in o k a y) e
 in_twice (Some z) k a x y e = elim (cases_Bool (is_cell_address z a)) [
   | inl b ↦ rw b (ap (λ (o : Option Sizes). noted_in o (noted_cell z k (place_of z a) (is_free_slot x)) a y) e ∙ rw b (cell_twice z k (place_of z a) (is_free_slot x) (is_free_slot y)))
   | inr n ↦ rw n (ap (λ (o : Option Sizes). noted_in o k a y) e ∙ rw n refl)
 ]
 
-twice : (k : Kept) (a : ℕ) (x y : List ℕ) → noted (noted k a x) a y ≡ noted k a y
+twice : (k : LevelState) (a : ℕ) (x y : List ℕ) → noted (noted k a x) a y ≡ noted k a y
 twice k a x y = elim (cases_Bool (nat_eq a 1)) [
   | inl b ↦ rw b refl
   | inr n ↦ rw n (in_twice k.sizes k a x y refl)
 ]
 
-abbrev KeepsRoom : Kept → Kept → Type 0
+abbrev KeepsRoom : LevelState → LevelState → Type 0
 KeepsRoom now k = (length now.free ≡ length k.free) × (length now.reserved ≡ length k.reserved)
 
-in_room : (z : Option Sizes) (k : Kept) (a : ℕ) (x : List ℕ) → KeepsRoom (noted_in z k a x) k
+in_room : (z : Option Sizes) (k : LevelState) (a : ℕ) (x : List ℕ) → KeepsRoom (noted_in z k a x) k
 in_room None k a x = (refl, refl)
 in_room (Some z) k a x = elim (cases_Bool (is_cell_address z a)) [ inl b ↦ rw b (length-set k.free (place_of z a) (is_free_slot x), length-set k.reserved (place_of z a) false) | inr n ↦ rw n (refl, refl) ]
 
-keeps_room : (k : Kept) (a : ℕ) (x : List ℕ) → KeepsRoom (noted k a x) k
+keeps_room : (k : LevelState) (a : ℕ) (x : List ℕ) → KeepsRoom (noted k a x) k
 keeps_room k a x = elim (cases_Bool (nat_eq a 1)) [ inl b ↦ rw b (refl, refl) | inr n ↦ rw n (in_room k.sizes k a x) ]
 
 -- refusals
-may_damage : (k : Kept) (r : Refusal) (after : Kept) → RefusesUnread k (Err r) after → MayHaveNoPlan r × (after ≡ k)
+may_damage : (k : LevelState) (r : Refusal) (after : LevelState) → RefusesUnread k (Err r) after → MayHaveNoPlan r × (after ≡ k)
 may_damage k (why.Damaged d) after h = (tt, h.1)
 may_damage k why.NoMemory after h = absurd h.0
 may_damage k why.Latched after h = absurd h.0
 may_damage k _ after h = absurd h.0
 
-may_take_none : (z : Sizes) (k : Kept) (latched : List ℕ) (Can : Type 0) (r : Refusal) → RefusesTaking z k latched Can r → MayHaveNoPlan r
+may_take_none : (z : Sizes) (k : LevelState) (latched : List ℕ) (Can : Type 0) (r : Refusal) → RefusesTaking z k latched Can r → MayHaveNoPlan r
 may_take_none z k latched Can why.NoMemory h = tt
 may_take_none z k latched Can why.Latched h = tt
 may_take_none z k latched Can (why.Damaged d) h = tt
@@ -138,7 +138,7 @@ may_other Can (why.Damaged d) h = tt
 may_other Can why.Latched h = absurd h
 may_other Can _ h = absurd h
 
-refuses_one : (z : Option Sizes) (d : Option Doing) (k : Kept) (given : List Given) (latched : List ℕ) (r : Refusal) (after : Kept)
+refuses_one : (z : Option Sizes) (d : Option Doing) (k : LevelState) (given : List Given) (latched : List ℕ) (r : Refusal) (after : LevelState)
     → Plans z d k given latched (Err r) after → MayHaveNoPlan r × (after ≡ k)
 refuses_one (Some z) (Some (Send s tag body)) k given latched r after h = (may_take_none z k latched (CanSend z given s) r h.0, h.1)
 refuses_one (Some z) (Some (Receive s)) k given latched r after h = (may_other (CanReceive z given s) r h.0, h.1)
@@ -147,7 +147,7 @@ refuses_one (Some z) None k given latched r after h = may_damage k r after h
 refuses_one None (Some d) k given latched r after h = may_damage k r after h
 refuses_one None None k given latched r after h = may_damage k r after h
 
-refuses_back : (z : Option Sizes) (d : Option Deed) (k : Kept) (given : List Given) (latched : List ℕ) (r : Refusal) (after : Kept)
+refuses_back : (z : Option Sizes) (d : Option Deed) (k : LevelState) (given : List Given) (latched : List ℕ) (r : Refusal) (after : LevelState)
     → Undoes z d k given latched (Err r) after → MayHaveNoPlan r × (after ≡ k)
 refuses_back (Some z) (Some (Append s n tag previous body)) k given latched r after h = (may_other (CanUnlinkTail z given s n) r h.0, h.1)
 refuses_back (Some z) (Some (UnlinkHead s n tag body)) k given latched r after h = (may_take_none z k latched (CanPutBack z given s n) r h.0, h.1)
@@ -156,7 +156,7 @@ refuses_back (Some z) None k given latched r after h = may_damage k r after h
 refuses_back None (Some d) k given latched r after h = may_damage k r after h
 refuses_back None None k given latched r after h = may_damage k r after h
 
-refuses_record : (k : Kept) (told : Record) (given : List Given) (latched : List ℕ) (r : Refusal) (after : Kept)
+refuses_record : (k : LevelState) (told : Record) (given : List Given) (latched : List ℕ) (r : Refusal) (after : LevelState)
     → chain_undoes k told given latched (Err r) after → MayHaveNoPlan r × (after ≡ k)
 refuses_record k (records.OpEnd t n level deed) given latched r after h = refuses_back k.sizes (deed_in deed) k given latched r after h
 refuses_record k _ given latched r after h = may_damage k r after h
@@ -167,26 +167,26 @@ may_write given w (why.Damaged d) h = tt
 may_write given w why.Latched h = absurd h
 may_write given w _ h = absurd h
 
-refuses_write : (k : Kept) (w : Option Overwrite) (given : List Given) (r : Refusal) (after : Kept) → PlansWrite k w given (Err r) after → MayHaveNoPlan r × (after ≡ k)
+refuses_write : (k : LevelState) (w : Option Overwrite) (given : List Given) (r : Refusal) (after : LevelState) → PlansWrite k w given (Err r) after → MayHaveNoPlan r × (after ≡ k)
 refuses_write k None given r after h = may_damage k r after h
 refuses_write k (Some w) given r after h = (may_write given w r h.0, h.1)
 
-refuses_taking : (k : Kept) (is : Bool) (a : ℕ) (before after : List ℕ) (r : Refusal) (kept : Kept) → TakesBack k is a before after (Err r) kept → MayHaveNoPlan r × (kept ≡ k)
+refuses_taking : (k : LevelState) (is : Bool) (a : ℕ) (before after : List ℕ) (r : Refusal) (kept : LevelState) → TakesBack k is a before after (Err r) kept → MayHaveNoPlan r × (kept ≡ k)
 refuses_taking k true a before after why.NoMemory kept h = (tt, h)
 refuses_taking k true a before after _ kept h = absurd h
 refuses_taking k false a before after r kept h = may_damage k r kept h
 
-refuses_page : (k : Kept) (told : Record) (given : List Given) (latched : List ℕ) (r : Refusal) (after : Kept)
+refuses_page : (k : LevelState) (told : Record) (given : List Given) (latched : List ℕ) (r : Refusal) (after : LevelState)
     → page_undoes k told given latched (Err r) after → MayHaveNoPlan r × (after ≡ k)
 refuses_page k (records.PageOp t n page slot x y) given latched r after h = refuses_taking k (is_slot_number slot) (page * 16 + slot) x y r after h
 refuses_page k _ given latched r after h = may_damage k r after h
 
-plans_for : (undo : Bool) (z : Option Sizes) (d : Option Doing) (k : Kept) (given : List Given) (latched : List ℕ) (r : Refusal) (after : Kept)
+plans_for : (undo : Bool) (z : Option Sizes) (d : Option Doing) (k : LevelState) (given : List Given) (latched : List ℕ) (r : Refusal) (after : LevelState)
     → PlansFor undo z d k given latched (Err r) after → MayHaveNoPlan r × (after ≡ k)
 plans_for true z d k given latched r after h = may_damage k r after h
 plans_for false z d k given latched r after h = refuses_one z d k given latched r after h
 
-writes_for : (undo : Bool) (k : Kept) (w : Option Overwrite) (given : List Given) (r : Refusal) (after : Kept) → WritesFor undo k w given (Err r) after → MayHaveNoPlan r × (after ≡ k)
+writes_for : (undo : Bool) (k : LevelState) (w : Option Overwrite) (given : List Given) (r : Refusal) (after : LevelState) → WritesFor undo k w given (Err r) after → MayHaveNoPlan r × (after ≡ k)
 writes_for true k w given r after h = may_damage k r after h
 writes_for false k w given r after h = refuses_write k w given r after h
 

@@ -6,7 +6,7 @@ use Rattle.rq_page.specs.Formatted.{IsFormatted}
 use Rattle.rq_page.specs.Pages.{slot_of}
 use Rattle.rq_page.specs.Sizes.{Sizes, IsInRange}
 use Rattle.rq_page.proofs.Formats as formats
-use Rattle.rq_level.specs.Kept.{in_range, sizes_at, told_sizes}
+use Rattle.rq_level.specs.LevelState.{in_range, sizes_at, told_sizes}
 
 within : (z : Sizes) → IsInRange z → in_range z ≡ true
 within z r =

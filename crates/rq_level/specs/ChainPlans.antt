@@ -18,14 +18,14 @@ use Rattle.rq_page.specs.Sizes.{Sizes, directory_at, sender_count}
 use Rattle.rq_page.specs.Slots.Slot.{Free, Used, Sender}
 use Rattle.rq_views.specs.Plans.{append_writes, unlink_head_writes, unlink_tail_writes, put_back_writes, directory_write}
 use Rattle.rq_views.specs.Items.{layout_of}
-use Rattle.rq_level.specs.Kept.{Kept, IsLowest, NoneToTake, NoneFree, SomeFree, reserved_at}
+use Rattle.rq_level.specs.LevelState.{LevelState, IsLowest, NoneToTake, NoneFree, SomeFree, reserved_at}
 use Rattle.rq_level.specs.Ops.{Job, Doing, doing_in}
 use Rattle.rq_level.specs.Ops.Doing.{Send, Receive, Close}
 use Rattle.rq_level.specs.Given.{given_at, GivenHolds}
 use Rattle.rq_level.specs.Writes.{writes_of, AreSlotWrites}
 use Rattle.rq_level.specs.declared.slots.Given.{Given}
 use Rattle.rq_level.specs.declared.writes.Plan.{Plan}
-use Rattle.rq_level.specs.declared.writes.Outcome.TheVariants as gives
+use Rattle.rq_level.specs.declared.writes.PlannedReply.TheVariants as gives
 
 -- the cell that a link names was given: none where it is 0
 abbrev pub Beside : Sizes → List Given → ℕ → Option Cell → Type 0
@@ -42,7 +42,7 @@ pub record CanSend (z : Sizes) (given : List Given) (s : ℕ) : Type 0 where
   pub beside : Beside z given directory.tail old
 
 -- the plan of a send, into the lowest free cell
-pub record IsSent (z : Sizes) (k : Kept) (given : List Given) (latched : List ℕ) (s tag : ℕ) (body : List ℕ) (p : Plan) (after : Kept) : Type 0 where
+pub record IsSent (z : Sizes) (k : LevelState) (given : List Given) (latched : List ℕ) (s tag : ℕ) (body : List ℕ) (p : Plan) (after : LevelState) : Type 0 where
   pub can : CanSend z given s
   pub new : ℕ
   pub lowest : IsLowest z k latched new
@@ -66,7 +66,7 @@ pub record CanReceive (z : Sizes) (given : List Given) (s : ℕ) : Type 0 where
   pub beside : Beside z given cell.next next
 
 -- the plan of a receive
-pub record IsReceived (z : Sizes) (k : Kept) (given : List Given) (s : ℕ) (p : Plan) (after : Kept) : Type 0 where
+pub record IsReceived (z : Sizes) (k : LevelState) (given : List Given) (s : ℕ) (p : Plan) (after : LevelState) : Type 0 where
   pub can : CanReceive z given s
   pub writes : reverse (writes_of z p.writes.items) ≡ unlink_head_writes (layout_of z) s can.directory can.cell can.next
   pub slots : AreSlotWrites z p.writes.items
@@ -90,7 +90,7 @@ pub record IsMarked (z : Sizes) (given : List Given) (s : ℕ) (closed : Bool) (
   pub slots : AreSlotWrites z p.writes.items
 
 -- the plan of a close
-pub record IsClosed (z : Sizes) (k : Kept) (given : List Given) (s : ℕ) (p : Plan) (after : Kept) : Type 0 where
+pub record IsClosed (z : Sizes) (k : LevelState) (given : List Given) (s : ℕ) (p : Plan) (after : LevelState) : Type 0 where
   pub marked : IsMarked z given s true p
   pub deed : p.deed ≡ spelled_deed (Close_deed s)
   pub reads : deed_in p.deed ≡ Some (Close_deed s)
@@ -117,8 +117,8 @@ pub record CanUnlinkTail (z : Sizes) (given : List Given) (s n : ℕ) : Type 0 w
   pub beside : Beside z given cell.prev front
 
 -- the plan of the inverse of a send
-pub record IsTailUnlinked (z : Sizes) (k : Kept) (given : List Given) (s n previous : ℕ) (p : Plan)
-    (after : Kept) : Type 0 where
+pub record IsTailUnlinked (z : Sizes) (k : LevelState) (given : List Given) (s n previous : ℕ) (p : Plan)
+    (after : LevelState) : Type 0 where
   pub can : CanUnlinkTail z given s n
   pub writes : reverse (writes_of z p.writes.items)
       ≡ unlink_tail_writes (layout_of z) s can.directory can.cell previous can.front
@@ -137,8 +137,8 @@ pub record CanPutBack (z : Sizes) (given : List Given) (s n : ℕ) : Type 0 wher
   pub beside : Beside z given directory.head old
 
 -- the plan of the inverse of a receive, into the lowest free cell
-pub record IsReturned (z : Sizes) (k : Kept) (given : List Given) (latched : List ℕ) (s n tag : ℕ) (body : List ℕ)
-    (p : Plan) (after : Kept) : Type 0 where
+pub record IsReturned (z : Sizes) (k : LevelState) (given : List Given) (latched : List ℕ) (s n tag : ℕ) (body : List ℕ)
+    (p : Plan) (after : LevelState) : Type 0 where
   pub can : CanPutBack z given s n
   pub new : ℕ
   pub lowest : IsLowest z k latched new
@@ -149,13 +149,13 @@ pub record IsReturned (z : Sizes) (k : Kept) (given : List Given) (latched : Lis
   pub kept : after ≡ reserved_at z k new
 
 -- the plan of the inverse of a close
-pub record IsReopened (z : Sizes) (k : Kept) (given : List Given) (s : ℕ) (p : Plan) (after : Kept) : Type 0 where
+pub record IsReopened (z : Sizes) (k : LevelState) (given : List Given) (s : ℕ) (p : Plan) (after : LevelState) : Type 0 where
   pub marked : IsMarked z given s false p
   pub inverse : IsInverse p
   pub kept : after ≡ k
 
 -- why an operation that takes a free cell has no plan, where the slots hold what it needs if Can
-abbrev pub RefusesTaking : Sizes → Kept → List ℕ → Type 0 → Refusal → Type 0
+abbrev pub RefusesTaking : Sizes → LevelState → List ℕ → Type 0 → Refusal → Type 0
 RefusesTaking z k latched Can why.NoMemory = Unit {0}
 RefusesTaking z k latched Can why.Latched = NoneToTake z k latched × SomeFree z k
 RefusesTaking z k latched Can (why.Damaged d) = Can → NoneFree z k
@@ -173,12 +173,12 @@ TellsDamage (why.Damaged d) = Unit {0}
 TellsDamage _ = ⊥
 
 -- what can't be read, or of a store whose sizes are not known, is refused as damage
-abbrev pub RefusesUnread : Kept → Result Plan Refusal → Kept → Type 0
+abbrev pub RefusesUnread : LevelState → Result Plan Refusal → LevelState → Type 0
 RefusesUnread k (Ok p) after = ⊥
 RefusesUnread k (Err r) after = TellsDamage r × (after ≡ k)
 
 -- what the level answers, and what it keeps then
-abbrev pub Plans : Option Sizes → Option Doing → Kept → List Given → List ℕ → Result Plan Refusal → Kept → Type 0
+abbrev pub Plans : Option Sizes → Option Doing → LevelState → List Given → List ℕ → Result Plan Refusal → LevelState → Type 0
 Plans (Some z) (Some (Send s tag body)) k given latched (Ok p) after = IsSent z k given latched s tag body p after
 Plans (Some z) (Some (Send s tag body)) k given latched (Err r) after =
     RefusesTaking z k latched (CanSend z given s) r × (after ≡ k)
@@ -189,17 +189,17 @@ Plans (Some z) (Some (Close s)) k given latched (Err r) after = RefusesOther (Ca
 Plans _ _ k given latched answer after = RefusesUnread k answer after
 
 -- what is to be taken back is not planned as something to do
-abbrev pub PlansFor : (undo : Bool) → Option Sizes → Option Doing → Kept → List Given → List ℕ → Result Plan Refusal → Kept
-    → Type 0
+abbrev pub PlansFor : (undo : Bool) → Option Sizes → Option Doing → LevelState → List Given → List ℕ → Result Plan Refusal
+    → LevelState → Type 0
 PlansFor true z doing k given latched answer after = RefusesUnread k answer after
 PlansFor false z doing k given latched answer after = Plans z doing k given latched answer after
 
-abbrev pub chain_plans : Kept → Job → List Given → List ℕ → Result Plan Refusal → Kept → Type 0
+abbrev pub chain_plans : LevelState → Job → List Given → List ℕ → Result Plan Refusal → LevelState → Type 0
 chain_plans k job given latched answer after =
     PlansFor job.undo k.sizes (doing_in job.bytes) k given latched answer after
 
 -- the same of the inverse of what a deed tells
-abbrev pub Undoes : Option Sizes → Option Deed → Kept → List Given → List ℕ → Result Plan Refusal → Kept → Type 0
+abbrev pub Undoes : Option Sizes → Option Deed → LevelState → List Given → List ℕ → Result Plan Refusal → LevelState → Type 0
 Undoes (Some z) (Some (Append s n tag previous body)) k given latched (Ok p) after =
     IsTailUnlinked z k given s n previous p after
 Undoes (Some z) (Some (Append s n tag previous body)) k given latched (Err r) after =
@@ -214,7 +214,7 @@ Undoes (Some z) (Some (Close_deed s)) k given latched (Err r) after =
 Undoes _ _ k given latched answer after = RefusesUnread k answer after
 
 -- a record that ends an operation tells its deed
-abbrev pub chain_undoes : Kept → Record → List Given → List ℕ → Result Plan Refusal → Kept → Type 0
+abbrev pub chain_undoes : LevelState → Record → List Given → List ℕ → Result Plan Refusal → LevelState → Type 0
 chain_undoes k (OpEnd t n level deed) given latched r after = Undoes k.sizes (deed_in deed) k given latched r after
 chain_undoes k _ given latched answer after = RefusesUnread k answer after
 

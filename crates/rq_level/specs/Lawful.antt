@@ -3,7 +3,7 @@ use Rattle.std.specs.Prelude.{◌≡◌, ◌≢◌, ◌≤◌, ℕ, Bool, false,
 use Rattle.rq_model.specs.declared.record.Record.{Record}
 use Rattle.rq_model.specs.declared.refusal.Refusal.{Refusal}
 use Rattle.rq_model.specs.declared.refusal.Refusal.TheVariants as why
-use Rattle.rq_level.specs.Kept.{Kept}
+use Rattle.rq_level.specs.LevelState.{LevelState}
 use Rattle.rq_level.specs.Ops.{Job}
 use Rattle.rq_level.specs.Given.{given_at}
 use Rattle.rq_level.specs.Meaning.{Meaning, Redo, AppliesOnce, meaning_of}
@@ -23,27 +23,27 @@ MayHaveNoPlan _ = ⊥
 
 pub record IsLawful (m : Meaning) : Type 0 where
   -- what is not planned leaves what the level keeps, and is refused for memory, a latch or damage alone
-  pub refuses : (k : Kept) (job : Job) (given : List Given) (latched : List ℕ) (r : Refusal) (after : Kept)
+  pub refuses : (k : LevelState) (job : Job) (given : List Given) (latched : List ℕ) (r : Refusal) (after : LevelState)
       → m.plans k job given latched (Err r) after → MayHaveNoPlan r × (after ≡ k)
-  pub refuses_undo : (k : Kept) (told : Record) (given : List Given) (latched : List ℕ) (r : Refusal) (after : Kept)
+  pub refuses_undo : (k : LevelState) (told : Record) (given : List Given) (latched : List ℕ) (r : Refusal) (after : LevelState)
       → m.undoes k told given latched (Err r) after → MayHaveNoPlan r × (after ≡ k)
   -- a plan has at most three writes
-  pub count : (k : Kept) (job : Job) (given : List Given) (latched : List ℕ) (p : Plan) (after : Kept)
+  pub count : (k : LevelState) (job : Job) (given : List Given) (latched : List ℕ) (p : Plan) (after : LevelState)
       → m.plans k job given latched (Ok p) after → length p.writes.items ≤ 3
-  pub count_undo : (k : Kept) (told : Record) (given : List Given) (latched : List ℕ) (p : Plan) (after : Kept)
+  pub count_undo : (k : LevelState) (told : Record) (given : List Given) (latched : List ℕ) (p : Plan) (after : LevelState)
       → m.undoes k told given latched (Ok p) after → length p.writes.items ≤ 3
   -- the plan of what takes something back tells no deed
-  pub silent : (k : Kept) (told : Record) (given : List Given) (latched : List ℕ) (p : Plan) (after : Kept)
+  pub silent : (k : LevelState) (told : Record) (given : List Given) (latched : List ℕ) (p : Plan) (after : LevelState)
       → m.undoes k told given latched (Ok p) after → p.deed ≡ []
   -- it asks for no slot twice
   pub asks : (job : Job) (given : List Given) → IsNotGiven given (m.want job given)
   -- a slot that is noted again counts as it was noted last
-  pub last : (k : Kept) (a : ℕ) (x y : List ℕ) → m.note (m.note k a x) a y ≡ m.note k a y
+  pub last : (k : LevelState) (a : ℕ) (x y : List ℕ) → m.note (m.note k a x) a y ≡ m.note k a y
   -- slots are noted in any order, but for the one that tells the sizes
-  pub commutes : (k : Kept) (a b : ℕ) (x y : List ℕ) → a ≢ 1 → b ≢ 1 → a ≢ b
+  pub commutes : (k : LevelState) (a b : ℕ) (x y : List ℕ) → a ≢ 1 → b ≢ 1 → a ≢ b
       → m.note (m.note k a x) b y ≡ m.note (m.note k b y) a x
   -- noting keeps how many flags there are
-  pub room : (k : Kept) (a : ℕ) (x : List ℕ)
+  pub room : (k : LevelState) (a : ℕ) (x : List ℕ)
       → (length (m.note k a x).free ≡ length k.free) × (length (m.note k a x).reserved ≡ length k.reserved)
 
 -- a record that is applied again to its page changes nothing

@@ -1,7 +1,7 @@
 pub mod Writes
 pub mod Ops
 pub mod Given
-pub mod Kept
+pub mod LevelState
 pub mod ChainPlans
 pub mod PagePlans
 pub mod Meaning

@@ -4,9 +4,9 @@ use Rattle.rq_model.specs.declared.record.Record.{Record}
 use Rattle.rq_model.specs.declared.record.Record.TheVariants.{PageOp, PageUndo}
 use Rattle.rq_model.specs.declared.refusal.Refusal.{Refusal}
 use Rattle.rq_model.specs.Deeds.{deed_in}
-use Rattle.rq_model.specs.Words.{is_some}
+use Rattle.rq_model.specs.Vocabulary.{is_some}
 use Rattle.rq_page.specs.Pages.{lsn_of, IsWritten}
-use Rattle.rq_level.specs.Kept.{Kept, nothing_kept, noted}
+use Rattle.rq_level.specs.LevelState.{LevelState, nothing_kept, noted}
 use Rattle.rq_level.specs.Ops.{Job}
 use Rattle.rq_level.specs.Given.{AreGiven}
 use Rattle.rq_level.specs.ChainPlans.{RefusesUnread, chain_plans, chain_undoes, job_wanted}
@@ -23,11 +23,11 @@ pub record Meaning : Type 1 where
   -- the slot that it asks for next, if it asks for one
   pub want : Job → List Given → Option ℕ
   -- what it may answer to an operation that is to be planned, and what it keeps then
-  pub plans : Kept → Job → List Given → List ℕ → Result Plan Refusal → Kept → Type 0
+  pub plans : LevelState → Job → List Given → List ℕ → Result Plan Refusal → LevelState → Type 0
   -- and to a record that is to be undone
-  pub undoes : Kept → Record → List Given → List ℕ → Result Plan Refusal → Kept → Type 0
+  pub undoes : LevelState → Record → List Given → List ℕ → Result Plan Refusal → LevelState → Type 0
   -- what it keeps once a slot is noted
-  pub note : Kept → ℕ → List ℕ → Kept
+  pub note : LevelState → ℕ → List ℕ → LevelState
 
 abbrev pub chain_meaning : Meaning
 chain_meaning = record {
@@ -99,7 +99,7 @@ IsRedo None = Unit {0}
 IsRedo (Some w) = (1 ≤ w.slot) × (w.slot ≤ 15)
 
 -- what the level of a number keeps
-abbrev pub kept_at : List Kept → ℕ → Kept
+abbrev pub kept_at : List LevelState → ℕ → LevelState
 kept_at ks i = slice_index_or ks i nothing_kept
 
 -- numbers that count on by one

@@ -6,7 +6,7 @@ use Rattle.rq_model.specs.declared.refusal.Refusal.{Refusal}
 use Rattle.rq_model.specs.declared.refusal.Refusal.TheVariants as why
 use Rattle.rq_level.specs.ChainPlans.{RefusesUnread, unless_given}
 use Rattle.rq_level.specs.Given.{given_at}
-use Rattle.rq_level.specs.Kept.{Kept}
+use Rattle.rq_level.specs.LevelState.{LevelState}
 use Rattle.rq_level.specs.Ops.{Job, Overwrite, overwrite_in}
 use Rattle.rq_level.specs.declared.slots.Given.{Given}
 use Rattle.rq_level.specs.declared.writes.Plan.{Plan}
@@ -36,18 +36,18 @@ CannotOverwrite given w why.NoMemory = Unit {0}
 CannotOverwrite given w (why.Damaged d) = given_at w.at given ≡ None
 CannotOverwrite given w _ = ⊥
 
-abbrev pub PlansWrite : Kept → Option Overwrite → List Given → Result Plan Refusal → Kept → Type 0
+abbrev pub PlansWrite : LevelState → Option Overwrite → List Given → Result Plan Refusal → LevelState → Type 0
 PlansWrite k None given answer after = RefusesUnread k answer after
 PlansWrite k (Some w) given (Ok p) after = IsOverwritten given w p × (after ≡ k)
 PlansWrite k (Some w) given (Err r) after = CannotOverwrite given w r × (after ≡ k)
 
 -- what is to be taken back is not planned as something to do
-abbrev pub WritesFor : (undo : Bool) → Kept → Option Overwrite → List Given → Result Plan Refusal → Kept → Type 0
+abbrev pub WritesFor : (undo : Bool) → LevelState → Option Overwrite → List Given → Result Plan Refusal → LevelState → Type 0
 WritesFor true k w given answer after = RefusesUnread k answer after
 WritesFor false k w given answer after = PlansWrite k w given answer after
 
 -- What the level answers to what it reads. It keeps nothing.
-abbrev pub page_plans : Kept → Job → List Given → List ℕ → Result Plan Refusal → Kept → Type 0
+abbrev pub page_plans : LevelState → Job → List Given → List ℕ → Result Plan Refusal → LevelState → Type 0
 page_plans k job given latched answer after = WritesFor job.undo k (overwrite_in job.bytes) given answer after
 
 -- a slot of a page is one of 1 to 15
@@ -55,14 +55,14 @@ abbrev pub is_slot_number : ℕ → Bool
 is_slot_number n = nat_le 1 n && nat_le n 15
 
 -- a slot write that is taken back: the slot has its bytes from before
-abbrev pub TakesBack : Kept → (is : Bool) → ℕ → List ℕ → List ℕ → Result Plan Refusal → Kept → Type 0
+abbrev pub TakesBack : LevelState → (is : Bool) → ℕ → List ℕ → List ℕ → Result Plan Refusal → LevelState → Type 0
 TakesBack k true a before after (Ok p) kept = IsWritePlan a after before p × (kept ≡ k)
 TakesBack k true a before after (Err why.NoMemory) kept = kept ≡ k
 TakesBack k true a before after (Err _) kept = ⊥
 TakesBack k false a before after answer kept = RefusesUnread k answer kept
 
 -- and of a record of a slot of a page
-abbrev pub page_undoes : Kept → Record → List Given → List ℕ → Result Plan Refusal → Kept → Type 0
+abbrev pub page_undoes : LevelState → Record → List Given → List ℕ → Result Plan Refusal → LevelState → Type 0
 page_undoes k (PageOp t n page slot before after) given latched answer kept =
     TakesBack k (is_slot_number slot) (page * 16 + slot) before after answer kept
 page_undoes k _ given latched answer kept = RefusesUnread k answer kept

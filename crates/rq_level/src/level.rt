@@ -1,6 +1,6 @@
 //! The interface of a level of recovery.
 ghost use Rattle.std.specs.Prelude.{◌≡◌, ◌≤◌, ℕ};
-ghost use Rattle.rq_level.specs.Kept.{Kept};
+ghost use Rattle.rq_level.specs.LevelState.{LevelState};
 ghost use Rattle.rq_level.specs.Lawful.{AllLawful, AppliedTwiceIsOnce};
 ghost use Rattle.rq_level.specs.Meaning.{meaning_of, wish, AreOf, redo_of, AppliesOnce, IsRedo, IsAppliedOnce};
 
@@ -29,7 +29,7 @@ pub trait Level: Drop {
     ghost level: { Self → ℕ };
 
     /// What it keeps of the slots of the store.
-    ghost kept: { Self → Kept };
+    ghost kept: { Self → LevelState };
 
     /// Its place among the levels.
     fn number(&self) -> u8

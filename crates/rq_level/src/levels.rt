@@ -1,6 +1,6 @@
 //! All levels of a store.
 ghost use Rattle.std.specs.Prelude.{◌≡◌, ℕ, ◌<◌, length, map, slice_set};
-ghost use Rattle.rq_level.specs.Kept.{Kept};
+ghost use Rattle.rq_level.specs.LevelState.{LevelState};
 ghost use Rattle.rq_level.specs.Meaning.{meaning_of, wish, AreOf, redo_of, AppliesOnce, IsRedo, kept_at, CountOn};
 
 use crate::level::{Level, Want};
@@ -23,9 +23,9 @@ pub struct Levels<B: Level> {
 
 impl<B: Level> Model for Levels<B> {
     ghost use Rattle.std.specs.Prelude.{◌≡◌, ◌<◌, ℕ, List, length, map, slice_index_or};
-    ghost use Rattle.rq_level.specs.Kept.{Kept};
+    ghost use Rattle.rq_level.specs.LevelState.{LevelState};
 
-    ghost Value = { List Kept };
+    ghost Value = { List LevelState };
 
     ghost view = { λ a. map (λ b. B.kept b) a.all.items };
 

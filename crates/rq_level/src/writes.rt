@@ -17,7 +17,7 @@ pub struct SlotWrite {
 
 /// What the end of an operation answers.
 #[derive(Clone, Copy)]
-pub enum Outcome {
+pub enum PlannedReply {
     Sent,
     Message(Message),
     Closed,
@@ -29,5 +29,5 @@ pub enum Outcome {
 pub struct Plan {
     pub writes: Vec<SlotWrite>,
     pub deed: DeedBytes,
-    pub reply: Option<Outcome>,
+    pub reply: Option<PlannedReply>,
 }

@@ -1,6 +1,6 @@
 -- What a level of a store is, by which of the two it is.
 use Rattle.std.specs.Prelude.{ℕ}
-use Rattle.rq_level.specs.Kept.{Kept, nothing_kept}
+use Rattle.rq_level.specs.LevelState.{LevelState, nothing_kept}
 use Rattle.rq_levels.specs.declared.store_level.StoreLevel.{StoreLevel}
 use Rattle.rq_levels.specs.declared.store_level.StoreLevel.TheVariants as levels
 
@@ -8,6 +8,6 @@ abbrev pub number_of : StoreLevel → ℕ
 number_of (levels.Slots level) = 0
 number_of (levels.Chains level) = 1
 
-abbrev pub kept_of : StoreLevel → Kept
+abbrev pub kept_of : StoreLevel → LevelState
 kept_of (levels.Slots level) = nothing_kept
 kept_of (levels.Chains level) = level

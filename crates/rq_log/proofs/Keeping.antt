@@ -3,8 +3,8 @@ use Rattle.std.proofs.Common.{◌≡◌, ◌≢◌, ◌⊎◌, ⊎_elim, inl, in
 use Rattle.std.proofs.lemmas.List.{append-nil, take-append-drop}
 use Rattle.rq_model.specs.declared.record.Record.{Record}
 use Rattle.rq_disk.specs.declared.device.LogDevice.{Ghosts}
-use Rattle.rq_record.specs.declared.step.Front.{Front}
-use Rattle.rq_record.specs.declared.step.Front.TheVariants as fronts
+use Rattle.rq_record.specs.declared.step.Decoded.{Decoded}
+use Rattle.rq_record.specs.declared.step.Decoded.TheVariants as fronts
 use Rattle.rq_record.specs.declared.step.Step.TheVariants as steps
 use Rattle.rq_record.specs.Decoding.{IsFront, step_with}
 use Rattle.rq_record.specs.Spelling.{HoldsRecord, spelling}
@@ -28,7 +28,7 @@ read_twice g old mid new a b = record {
 }
 
 -- where a record is told, one was written over the lent one
-pub fronted : (f : Front) (lent r : Record) (used : ℕ) → step_with f lent ≡ steps.Record r used → f ≡ fronts.Record used
+pub fronted : (f : Decoded) (lent r : Record) (used : ℕ) → step_with f lent ≡ steps.Record r used → f ≡ fronts.Record used
 fronted (fronts.Record k) lent r used e = cc
 fronted fronts.Short lent r used e = absurd cc
 fronted fronts.Bad lent r used e = absurd cc

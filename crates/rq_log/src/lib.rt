@@ -65,7 +65,7 @@ impl<L: LogDevice> Model for Log<L> {
 
 /// A log that could not be read: why, and its device.
 #[derive(Drop)]
-pub struct Stopped<L> {
+pub struct RefusedLog<L> {
     pub refusal: Refusal,
     pub device: L,
 }
@@ -197,7 +197,7 @@ impl<L: LogDevice> Log<L> {
         shows_fits(added);
         self.reserved -= spelled_len(added);
         encode(added, &mut self.buffer).unwrap();
-        GhostList::note(&mut self.past, added);
+        GhostList::push(&mut self.past, added);
         self.last += 1;
         self.last
     }

@@ -5,13 +5,13 @@ ghost use Rattle.rq_log.specs.Reading.{IsReading, StopsFor};
 ghost use Rattle.rq_log.specs.Spelled.{spelled};
 
 use crate::stream::Stream;
-use crate::{Log, Stopped};
+use crate::{Log, RefusedLog};
 use rq_bytes::GhostList;
 use rq_disk::LogDevice;
 use rq_model::record::Record;
 use rq_model::refusal::{Damage, Refusal};
 use rq_model::txn::Lsn;
-use rq_record::{Front, decode_into};
+use rq_record::{Decoded, decode_into};
 use std::alloc::Global;
 use std::marker::Model;
 use std::snapshot::Snapshot;
@@ -47,7 +47,7 @@ impl<L: LogDevice + Drop> LogReader<L> {
     ///
     /// # Errors
     /// `NoMemory`.
-    pub fn new(alloc: Global, device: L) -> Result<LogReader<L>, Stopped<L>>
+    pub fn new(alloc: Global, device: L) -> Result<LogReader<L>, RefusedLog<L>>
         ensures ok { IfOk result (λ r. r ≡ record { records = []; device = device; first = device }) }
         ensures err { IfErr result (λ stopped. (stopped.refusal ≡ Refusal.NoMemory) × (stopped.device ≡ device)) }
     {
@@ -180,14 +180,14 @@ impl<L: LogDevice> LogReader<L> {
     {
         self.stream.fill()?;
         self.stream.shows_at();
-        let Front::Record(used) = decode_into(self.stream.unread(), into) else {
+        let Decoded::Record(used) = decode_into(self.stream.unread(), into) else {
             if self.stream.unread().is_empty() {
                 return Ok(false);
             }
             return Err(Refusal::Damaged(Damage::Record(self.last + 1)));
         };
         self.stream.skip(used);
-        GhostList::note(&mut self.past, into);
+        GhostList::push(&mut self.past, into);
         self.last += 1;
         Ok(true)
     }

@@ -3,7 +3,7 @@ ghost use Rattle.std.specs.Prelude.{◌≡◌, ◌+◌, ◌-◌, ◌^◌, ◌<�
 ghost use Rattle.rq_disk.specs.Device.{FailureIsCounted};
 ghost use Rattle.rq_log.specs.Reading.{Fails, HasMost, IsRead, left_of};
 
-use crate::Stopped;
+use crate::RefusedLog;
 use rq_disk::LogDevice;
 use rq_model::refusal::Refusal;
 use rq_record::PAGE_OP_BYTES;
@@ -52,7 +52,7 @@ impl<L: LogDevice + Drop> Stream<L> {
     ghost use Rattle.std.specs.Prelude.{[], false};
 
     /// Nothing is read yet.
-    pub(crate) fn new(alloc: Global, device: L) -> Result<Stream<L>, Stopped<L>>
+    pub(crate) fn new(alloc: Global, device: L) -> Result<Stream<L>, RefusedLog<L>>
         ensures ok { IfOk result (λ s. s ≡ record { unread = []; at = 0; ended = false; device = device }) }
         ensures err { IfErr result (λ stopped. (stopped.refusal ≡ Refusal.NoMemory) × (stopped.device ≡ device)) }
     {
@@ -65,7 +65,7 @@ impl<L: LogDevice + Drop> Stream<L> {
                 at: 0,
                 ended: false,
             }),
-            Err(_) => Err(Stopped {
+            Err(_) => Err(RefusedLog {
                 refusal: Refusal::NoMemory,
                 device,
             }),

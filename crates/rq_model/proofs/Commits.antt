@@ -7,7 +7,7 @@ use Rattle.rq_model.specs.declared.txn.Txn.{Txn}
 use Rattle.rq_model.specs.declared.record.Record.{Record}
 use Rattle.rq_model.specs.declared.record.Record.TheVariants.{Commit}
 use Rattle.rq_model.specs.declared.message.Message.{Message}
-use Rattle.rq_model.specs.Words.{same_txn, last_or}
+use Rattle.rq_model.specs.Vocabulary.{same_txn, last_or}
 use Rattle.rq_model.specs.History.{Group}
 use Rattle.rq_model.specs.Ledger.{tag_of}
 use Rattle.rq_model.specs.Content.{Said, Ending, ending, ends_txn, commits_txn, has_commit, has_end, kept, deeds, no_group, with_deed, with_deeds, content, added_one, added, removed_one, removed, closed_one, closed, shape, tag_after, with_own}

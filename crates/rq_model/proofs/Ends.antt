@@ -2,7 +2,7 @@
 use Rattle.std.proofs.Common.{◌≡◌, ℕ, List, [], ◌∷◌, ◌++◌, refl, sym, ◌∙◌, ap, true, false, Option, Some, None, ◌⊎◌, inl, inr, ◌&&◌, ◌||◌}
 use Rattle.std.proofs.lemmas.Bool.{cases_Bool, or_cases, or_parts, or_from, or_left, or_right, and_parts, and_from, false≢true, false_from_ne_true}
 use Rattle.rq_model.specs.declared.txn.Txn.{Txn}
-use Rattle.rq_model.specs.Words.{Op, In, same_txn, ends, has_txn}
+use Rattle.rq_model.specs.Vocabulary.{Op, In, same_txn, ends, has_txn}
 use Rattle.rq_model.specs.History.{Entry, Fin, finished, did_by, ops_by, ended, closes_by, is_send_by, sends_to, NoneAfterEnd}
 use Rattle.rq_model.specs.Ledger.{any_ends}
 use Rattle.rq_model.proofs.Lists.{same_is, same_self}

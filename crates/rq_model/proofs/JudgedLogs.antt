@@ -4,7 +4,7 @@ use Rattle.std.proofs.lemmas.Bool.{cases_Bool, false≢true, true≢false, eqb-t
 use Rattle.std.proofs.Math.Bool.{and-false}
 use Rattle.rq_model.specs.declared.txn.Txn.{Txn}
 use Rattle.rq_model.specs.declared.record.Record.TheVariants.{Commit, Restart}
-use Rattle.rq_model.specs.Words.{same_txn}
+use Rattle.rq_model.specs.Vocabulary.{same_txn}
 use Rattle.rq_model.specs.Content.{Said, removed, added, deeds, has_commit, has_end, ends_txn}
 use Rattle.rq_model.specs.Rules.{KeepsRules, MayEnd, holds, uses_receive}
 use Rattle.rq_model.specs.Content.Said.{Added, Removed}

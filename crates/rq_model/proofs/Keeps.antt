@@ -6,7 +6,7 @@ use Rattle.std.proofs.lemmas.List.{append-nil}
 use Rattle.std.proofs.lemmas.Bool.{cases_Bool, true≢false}
 use Rattle.std.proofs.lemmas.Option.{same_Some}
 use Rattle.rq_model.specs.declared.txn.Txn.{Txn}
-use Rattle.rq_model.specs.Words.{IsPrefix, In, same_txn, taken_from, sent_for, has_number}
+use Rattle.rq_model.specs.Vocabulary.{IsPrefix, In, same_txn, taken_from, sent_for, has_number}
 use Rattle.rq_model.specs.History.Job.{Taking}
 use Rattle.rq_model.specs.Ledger.{Open, Done, sent_in, taken_in, rest_in, found, change, change_one, without, own_takes}
 use Rattle.rq_model.proofs.Lists.{prefix_nil, prefix_longer, prefix_join, prefix_rest_more, In-map, In-filter, same_is, same_self, not_same, take_one_more, take_twice}

@@ -6,7 +6,7 @@ use Rattle.std.proofs.lemmas.List.Prefix.{front_rest}
 use Rattle.std.proofs.lemmas.Bool.{cases_Bool, and_parts, eqb-true, eq-eqb, and_from, true≢false}
 use Rattle.std.proofs.lemmas.Option.{same_Some}
 use Rattle.rq_model.specs.declared.txn.Txn.{Txn}
-use Rattle.rq_model.specs.Words.{IsPrefix, In, same_txn}
+use Rattle.rq_model.specs.Vocabulary.{IsPrefix, In, same_txn}
 
 pub prefix_nil : {X : Type 0} (ys : List X) → IsPrefix [] ys
 prefix_nil ys = (ys, refl)

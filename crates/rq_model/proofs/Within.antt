@@ -4,7 +4,7 @@ use Rattle.std.proofs.lemmas.Bool.{cases_Bool, or_cases, or_parts, or_left, or_r
 use Rattle.rq_model.specs.declared.txn.Txn.{Txn}
 use Rattle.rq_model.specs.declared.record.Record.{Record}
 use Rattle.rq_model.specs.declared.record.Record.TheVariants.{PageOp, PageUndo, OpEnd, OpVoid, CompEnd, Commit, Restart, AbortEnd}
-use Rattle.rq_model.specs.Words.{same_txn}
+use Rattle.rq_model.specs.Vocabulary.{same_txn}
 use Rattle.rq_model.specs.Content.{Said, Ending, ending, ends_txn, has_commit, has_end, kept, deeds, added, removed, removed_one}
 use Rattle.rq_model.specs.Rules.{uses_receive, any_use, holds, EndingMay, KeepsRules}
 use Rattle.rq_model.proofs.Lists.{same_is, same_self}

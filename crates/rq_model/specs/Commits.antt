@@ -3,8 +3,8 @@ use Rattle.std.specs.Prelude.{◌+◌, List, [], ◌∷◌, ◌++◌, length}
 use Rattle.rq_model.specs.declared.txn.Txn.{Txn}
 use Rattle.rq_model.specs.declared.record.Record.{Record}
 use Rattle.rq_model.specs.declared.record.Record.TheVariants.{Commit}
-use Rattle.rq_model.specs.Words.{Op, same_txn}
-use Rattle.rq_model.specs.Words.Op.{Send, Take, End}
+use Rattle.rq_model.specs.Vocabulary.{Op, same_txn}
+use Rattle.rq_model.specs.Vocabulary.Op.{Send, Take, End}
 use Rattle.rq_model.specs.Ledger.{Done}
 use Rattle.rq_model.specs.Content.{Said, deeds}
 use Rattle.rq_model.specs.Content.Said.{Added, Removed, Ended}

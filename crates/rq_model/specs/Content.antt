@@ -6,7 +6,7 @@ use Rattle.rq_model.specs.declared.record.Deed.TheVariants.{Append, UnlinkHead, 
 use Rattle.rq_model.specs.declared.record.Record.{Record}
 use Rattle.rq_model.specs.declared.record.Record.TheVariants.{OpEnd, Commit, AbortEnd}
 use Rattle.rq_model.specs.declared.message.Message.{Message}
-use Rattle.rq_model.specs.Words.{same_txn, last_or}
+use Rattle.rq_model.specs.Vocabulary.{same_txn, last_or}
 use Rattle.rq_model.specs.History.{Group}
 use Rattle.rq_model.specs.Ledger.{tag_of}
 use Rattle.rq_model.specs.Deeds.{deed_in}

@@ -1,7 +1,7 @@
 -- What finished operations count: whose they are, and which of them take a message.
 use Rattle.std.specs.Prelude.{ℕ, ◌<◌, Bool, true, false, List, [], ◌∷◌}
-use Rattle.rq_model.specs.Words.{Op}
-use Rattle.rq_model.specs.Words.Op.{Send, Take, End}
+use Rattle.rq_model.specs.Vocabulary.{Op}
+use Rattle.rq_model.specs.Vocabulary.Op.{Send, Take, End}
 
 -- the operation took a message
 abbrev pub is_taken : Op → Bool

@@ -1,7 +1,7 @@
 -- What is shown of a group, from the history, and what a commit makes of it.
 use Rattle.std.specs.Prelude.{◌≡◌, ℕ, ◌+◌, List, ◌++◌, ◌||◌, take, drop, length}
 use Rattle.std.specs.List.{filter_map}
-use Rattle.rq_model.specs.Words.{Op, sent_for, taken_from}
+use Rattle.rq_model.specs.Vocabulary.{Op, sent_for, taken_from}
 use Rattle.rq_model.specs.History.{Group, Entry, commits, durable, sends, takes, rest, ended}
 use Rattle.rq_model.specs.Ledger.{tag_of, any_ends}
 use Rattle.rq_model.specs.declared.record.Record.{Record}

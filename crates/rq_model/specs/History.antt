@@ -5,8 +5,8 @@ use Rattle.std.specs.List.{filter_map, flat_map}
 use Rattle.rq_model.specs.declared.txn.Txn.{Txn}
 use Rattle.rq_model.specs.declared.refusal.Refusal.{Refusal}
 use Rattle.rq_model.specs.declared.message.Message.{Message}
-use Rattle.rq_model.specs.Words.{Op, same_txn, sent_for, taken_from, ends, has_txn, IsPrefix}
-use Rattle.rq_model.specs.Words.Op.{Send, Take, End}
+use Rattle.rq_model.specs.Vocabulary.{Op, same_txn, sent_for, taken_from, ends, has_txn, IsPrefix}
+use Rattle.rq_model.specs.Vocabulary.Op.{Send, Take, End}
 
 -- What an operation under way is to do. Of a receive it is the group that was picked.
 pub data Job : Type 0 where

@@ -1,5 +1,5 @@
 pub mod Numbers
-pub mod Words
+pub mod Vocabulary
 pub mod History
 pub mod Ledger
 pub mod Legal

@@ -5,7 +5,7 @@ use Rattle.rq_model.specs.declared.txn.Txn.{Txn}
 use Rattle.rq_model.specs.declared.message.Message.{Message}
 use Rattle.rq_model.specs.declared.record.Record.{Record}
 use Rattle.rq_model.specs.declared.record.Record.TheVariants.{Restart as Restart_record}
-use Rattle.rq_model.specs.Words.{In}
+use Rattle.rq_model.specs.Vocabulary.{In}
 use Rattle.rq_model.specs.History.{Entry, Call, Fifo, commits, ended}
 use Rattle.rq_model.specs.History.Entry.{Started, Acknowledged, Committed, Forced, Crash, Refused, Restarted}
 use Rattle.rq_model.specs.History.Job.{Sending}

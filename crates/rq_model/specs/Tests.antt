@@ -4,8 +4,8 @@ use Rattle.std.specs.List.{filter, sum_by}
 use Rattle.rq_model.specs.declared.txn.Txn.{Txn}
 use Rattle.rq_model.specs.declared.refusal.Refusal.{Refusal}
 use Rattle.rq_model.specs.declared.refusal.Refusal.TheVariants.{Failed, UnknownTransaction, NotOpen, Unfinished, UnknownSender, TooLong, SenderBusy, Closed, ReceiverBusy, TooManyTransactions, LogFull, UnknownOperation, Full, DiskRead, Latched, PoolFull, DiskWrite, Damaged, NotForced}
-use Rattle.rq_model.specs.Words.{Op, same_txn, has_number, first, last, is_some}
-use Rattle.rq_model.specs.Words.Op.{Send, Take, End}
+use Rattle.rq_model.specs.Vocabulary.{Op, same_txn, has_number, first, last, is_some}
+use Rattle.rq_model.specs.Vocabulary.Op.{Send, Take, End}
 use Rattle.rq_model.specs.History.{Job, Call}
 use Rattle.rq_model.specs.History.Call.{Begin, Start_send, Start_receive, Start_receive_from, Start_close, Step, Finish, Commit, Acknowledge, Start_abort, Undo_next, End_abort, Hand_over, Force, Write_page, Last_tag, Show}
 use Rattle.rq_model.specs.History.Job.{Sending}

@@ -4,7 +4,7 @@ use Rattle.rq_model.specs.declared.txn.Txn.{Txn}
 use Rattle.rq_model.specs.declared.record.Record.{Record}
 use Rattle.rq_model.specs.declared.record.Record.TheVariants.{PageOp, OpEnd, OpVoid, CompEnd}
 use Rattle.std.specs.List.{filter}
-use Rattle.rq_model.specs.Words.{same_txn, has_txn}
+use Rattle.rq_model.specs.Vocabulary.{same_txn, has_txn}
 use Rattle.rq_model.specs.Content.{Ending, ending, has_end}
 
 -- operations that have records and no end, and transactions with an ended operation and no end

@@ -4,7 +4,7 @@ use Rattle.rq_model.specs.declared.txn.Txn.{Txn}
 use Rattle.rq_model.specs.declared.record.Deed.TheVariants.{Append, UnlinkHead}
 use Rattle.rq_model.specs.declared.record.Record.{Record}
 use Rattle.rq_model.specs.declared.record.Record.TheVariants.{OpEnd, Commit, Restart}
-use Rattle.rq_model.specs.Words.{same_txn}
+use Rattle.rq_model.specs.Vocabulary.{same_txn}
 use Rattle.rq_model.specs.Deeds.{spelled_deed}
 use Rattle.rq_model.specs.History.{Group}
 use Rattle.rq_model.specs.Ledger.{group_in}

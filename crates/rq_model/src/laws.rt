@@ -3,7 +3,7 @@ ghost use Rattle.std.specs.Prelude.{◌≡◌, ◌∷◌, ◌++◌, ℕ, List, t
 ghost use Rattle.rq_model.specs.declared.txn.Txn.{Txn};
 ghost use Rattle.rq_model.specs.declared.record.Record.{Record};
 ghost use Rattle.rq_model.specs.declared.record.Record.TheVariants.{Commit};
-ghost use Rattle.rq_model.specs.Words.{same_txn};
+ghost use Rattle.rq_model.specs.Vocabulary.{same_txn};
 ghost use Rattle.rq_model.specs.Groups.{group, Survives, commits_left};
 ghost use Rattle.rq_model.specs.Content.{content, with_own, deeds};
 ghost use Rattle.rq_model.specs.Commits.{committed_of};

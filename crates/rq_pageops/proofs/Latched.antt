@@ -4,7 +4,7 @@ use Rattle.std.proofs.lemmas.Bool.{cases_Bool, and_parts, or_parts, or_from, eqb
 use Rattle.std.proofs.lemmas.List.{length-append, append_assoc, append-nil}
 use Rattle.std.proofs.lemmas.List.Elements.{filter-append}
 use Rattle.std.specs.List.{filter}
-use Rattle.rq_model.specs.Words.{In}
+use Rattle.rq_model.specs.Vocabulary.{In}
 use Rattle.rq_level.specs.Given.{Pages, has_page, meets}
 use Rattle.rq_pageops.specs.Latched.{pages_in, MeetsNone, AreApart, AreFew, IsGivenBack, OthersStay, AreHeld, others, same_pages, given_back}
 

@@ -1,7 +1,7 @@
 -- The pages that operations under way have latched: a set for each of them.
 use Rattle.std.specs.Prelude.{◌≡◌, ℕ, ◌≤◌, ◌++◌, ◌&&◌, nat_eq, cond, not, Bool, true, false, List, [], ◌∷◌, length, map}
 use Rattle.std.specs.List.{filter}
-use Rattle.rq_model.specs.Words.{In}
+use Rattle.rq_model.specs.Vocabulary.{In}
 use Rattle.rq_level.specs.Given.{Pages, has_page, meets}
 use Rattle.rq_pageops.specs.declared.latches.Change.{Change}
 use Rattle.rq_pageops.specs.declared.latches.Change.TheVariants.{Took, Gave}

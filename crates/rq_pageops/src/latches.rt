@@ -1,7 +1,7 @@
 //! The pages that operations under way have latched.
 ghost use Rattle.std.specs.Prelude.{◌≡◌, ◌<◌, ◌≤◌, ◌∷◌, ◌++◌, [], true, false, IfOk, length};
 ghost use Rattle.rq_level.specs.Given.{meets};
-ghost use Rattle.rq_model.specs.Words.{In};
+ghost use Rattle.rq_model.specs.Vocabulary.{In};
 ghost use Rattle.rq_pageops.specs.Latched.{AreApart, IsGivenBack, OthersStay, given_back, others, pages_in, sets_after};
 
 use rq_bytes::GhostList;
@@ -104,12 +104,12 @@ impl Latches {
 fn took(changes: &mut Snapshot<GhostList<Change>>, set: &PageSet)
     ensures { sets_after changes.new.value ≡ sets_after changes.old.value ++ set.now.pages ∷ [] }
 {
-    GhostList::note(changes, &Change::Took(Snapshot::of(set)));
+    GhostList::push(changes, &Change::Took(Snapshot::of(set)));
 }
 
 // One set given back.
 fn gave(changes: &mut Snapshot<GhostList<Change>>, set: &PageSet)
     ensures { sets_after changes.new.value ≡ given_back set.now.pages (sets_after changes.old.value) }
 {
-    GhostList::note(changes, &Change::Gave(Snapshot::of(set)));
+    GhostList::push(changes, &Change::Gave(Snapshot::of(set)));
 }

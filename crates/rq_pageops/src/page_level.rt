@@ -1,6 +1,6 @@
 //! The level of single slots.
 ghost use Rattle.std.specs.Prelude.{◌≡◌, ◌+◌, ◌*◌, ◌<◌, ◌^◌, ◌/◌, ◌%◌, IfSome, IfNone, IfOk, Some, None};
-ghost use Rattle.rq_level.specs.Kept.{Kept};
+ghost use Rattle.rq_level.specs.LevelState.{LevelState};
 ghost use Rattle.rq_level.specs.Ops.{overwrite_in};
 ghost use Rattle.rq_level.specs.PagePlans.{IsWritePlan, PlansWrite, TakesBack, is_slot_number};
 
@@ -21,7 +21,7 @@ const OVERWRITE: usize = 8 + 256;
 pub struct PageLevel;
 
 impl Level for PageLevel {
-    ghost use Rattle.rq_level.specs.Kept.{nothing_kept};
+    ghost use Rattle.rq_level.specs.LevelState.{nothing_kept};
 
     ghost level = { λ _. 0 };
 
@@ -111,7 +111,7 @@ fn read_overwrite(bytes: &[u8]) -> Option<(Addr, &[u8; 256])>
 
 // The plan of writing over a slot.
 fn plan_overwrite(alloc: Global, bytes: &[u8], given: &Slots) -> Result<Plan, Refusal>
-    ensures { (k : Kept) → PlansWrite k (overwrite_in bytes.now) given.now result k }
+    ensures { (k : LevelState) → PlansWrite k (overwrite_in bytes.now) given.now result k }
 {
     let Some((at, after)) = read_overwrite(bytes) else {
         return Err(Refusal::Damaged(Damage::Page(0)));
@@ -130,7 +130,7 @@ fn take_back(
     before: &Slot,
     after: &Slot,
 ) -> Result<Plan, Refusal>
-    ensures { (k : Kept) → TakesBack k (is_slot_number slot) (page * 16 + slot) before.now after.now result k }
+    ensures { (k : LevelState) → TakesBack k (is_slot_number slot) (page * 16 + slot) before.now after.now result k }
 {
     if slot == 0 || slot > 15 {
         return Err(Refusal::Damaged(Damage::Page(page)));

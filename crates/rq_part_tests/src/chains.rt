@@ -1,6 +1,6 @@
 //! The plan of a send to a group that is empty and to one that has a message, and of a receive of the first message of two and
 //! of the only one.
-use rq_chain::{ChainPlan, Group, Neighbour, append, unlink_head};
+use rq_chain::{ChainPlan, DirectoryEntry, Neighbour, append, unlink_head};
 use rq_model::message::Body;
 use rq_model::record::{Deed, Slot};
 use rq_page::addr::Addr;
@@ -58,7 +58,7 @@ fn is_of_two(plan: &ChainPlan, cell: CellSlot, directory: Directory, deed: &Deed
 // The plan of the first message of a group.
 fn first_append(alloc: Global) -> Result<ChainPlan, Fail> {
     let layout = Layout::new(1, 1).ok_or("a small store")?;
-    let group = Group {
+    let group = DirectoryEntry {
         at: layout.directory_of(3),
         sender: 3,
         directory: Directory::new(),
@@ -73,7 +73,7 @@ fn next_append(alloc: Global) -> Result<ChainPlan, Fail> {
     let layout = Layout::new(1, 1).ok_or("a small store")?;
     let body = hello()?;
     let last = layout.cell_addr(0);
-    let group = Group {
+    let group = DirectoryEntry {
         at: layout.directory_of(3),
         sender: 3,
         directory: Directory {
@@ -105,7 +105,7 @@ fn only_unlink(alloc: Global) -> Result<ChainPlan, Fail> {
     let layout = Layout::new(1, 1).ok_or("a small store")?;
     let body = hello()?;
     let at = layout.cell_addr(0);
-    let group = Group {
+    let group = DirectoryEntry {
         at: layout.directory_of(3),
         sender: 3,
         directory: Directory {
@@ -134,7 +134,7 @@ fn first_unlink(alloc: Global) -> Result<ChainPlan, Fail> {
     let body = hello()?;
     let first = layout.cell_addr(2);
     let second = layout.cell_addr(0);
-    let group = Group {
+    let group = DirectoryEntry {
         at: layout.directory_of(3),
         sender: 3,
         directory: Directory {

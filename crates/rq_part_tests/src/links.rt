@@ -1,5 +1,5 @@
+use rq_chain_check::first_broken;
 use rq_disk::{MemPages, PAGE, PageDevice, Switch};
-use rq_links::first_broken;
 use rq_model::message::Body;
 use rq_model::record::Slot;
 use rq_model::refusal::{NoMemory, Refusal};

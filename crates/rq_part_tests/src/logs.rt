@@ -5,7 +5,7 @@ ghost use Rattle.rq_record.specs.Spelling.{IsInRange};
 
 use crate::rows::{Asked, are_so};
 use rq_disk::{CallKind, DeviceFailed, LogDevice, MemLog, Mishap, Switch};
-use rq_log::{Log, LogReader, Stopped};
+use rq_log::{Log, LogReader, RefusedLog};
 use rq_model::record::Record;
 use rq_model::refusal::{Damage, NoMemory, Refusal};
 use rq_model::txn::Txn;
@@ -60,7 +60,7 @@ fn read<L: LogDevice + Drop>(alloc: Global, device: L) -> Result<(Vec<Record>, L
             Err(refusal) => Err(refusal),
         },
         Err(stopped) => {
-            let Stopped { refusal, device: _ } = stopped;
+            let RefusedLog { refusal, device: _ } = stopped;
             Err(refusal)
         }
     }
@@ -75,7 +75,7 @@ fn stopped<L: LogDevice + Drop>(alloc: Global, device: L) -> (Vec<Record>, Optio
             Err(refusal) => (records, Some(refusal)),
         },
         Err(stopped) => {
-            let Stopped { refusal, device: _ } = stopped;
+            let RefusedLog { refusal, device: _ } = stopped;
             (records, Some(refusal))
         }
     }

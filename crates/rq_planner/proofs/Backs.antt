@@ -21,7 +21,7 @@ use Rattle.rq_level.specs.ChainPlans.{Beside, CanMark, CanPutBack, CanUnlinkTail
 use Rattle.rq_level.specs.declared.slots.Given.{Given}
 use Rattle.rq_level.specs.declared.writes.Plan.{Plan}
 use Rattle.rq_level.specs.Given.{GivenHolds}
-use Rattle.rq_level.specs.Kept.{Kept, NoneFree, flag_at}
+use Rattle.rq_level.specs.LevelState.{LevelState, NoneFree, flag_at}
 use Rattle.rq_level.specs.Meaning.{meaning_of}
 use Rattle.rq_txn.specs.Rows.{Row}
 use Rattle.rq_store.specs.Plans.{Stands_at}
@@ -92,7 +92,7 @@ module _ (s : State) (given : List Given) where
   }
 
 -- the level knows a cell that is free
-not_full : (s : State) (k : Kept) (a : ℕ) → KeepsCells s k → IsCellAddress s.sizes a → slots_now s a ≡ Free → NoneFree s.sizes k → ⊥
+not_full : (s : State) (k : LevelState) (a : ℕ) → KeepsCells s k → IsCellAddress s.sizes a → slots_now s a ≡ Free → NoneFree s.sizes k → ⊥
 not_full s k a keeps cell free none =
     let i = places_are_cells s.sizes a cell in
     let known : flag_at k.free (place_of s.sizes a) ≡ true = keeps.free (place_of s.sizes a) i.0 ∙ ap (λ n. not (is_used (slots_now s n))) i.1 ∙ ap (λ x. not (is_used x)) free in
@@ -100,7 +100,7 @@ not_full s k a keeps cell free none =
 
 -- ---- what is answered
 
-module _ (s : State) (k : Kept) (given : List Given) (latched : List ℕ) (keeps : KeepsCells s k) (on : AreLatched s latched) (after : Kept) where
+module _ (s : State) (k : LevelState) (given : List Given) (latched : List ℕ) (keeps : KeepsCells s k) (on : AreLatched s latched) (after : LevelState) where
   beside_is : (h : IsGathered s given) (a : ℕ) (o : Option Cell) → Beside s.sizes given a o → Stands_at (slots_now s) a o
   beside_is h a None e = e
   beside_is h a (Some c) e = h.as_is a (Used c) e

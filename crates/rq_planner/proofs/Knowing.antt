@@ -8,7 +8,7 @@ use Rattle.rq_page.proofs.Addresses.{cells_have_places, places_are_cells}
 use Rattle.rq_views.specs.Log.{put}
 use Rattle.rq_views.specs.Stored.{IsStoreSlot, is_used, slot_at, slots_in}
 use Rattle.rq_views.proofs.Overlay.{put_at, put_off}
-use Rattle.rq_level.specs.Kept.{Kept, flag_at, is_cell_address, is_free_slot, noted, noted_cell, noted_in}
+use Rattle.rq_level.specs.LevelState.{LevelState, flag_at, is_cell_address, is_free_slot, noted, noted_cell, noted_in}
 use Rattle.rq_level.proofs.Noting.{is_cell}
 use Rattle.rq_sound.proofs.KeptCells.{cell_is, flag_other, flag_same, free_by_byte, place_is}
 use Rattle.rq_planner.specs.Answered.{KnowsCells}
@@ -16,7 +16,7 @@ use Rattle.rq_planner.proofs.Told.{slot_is}
 
 -- ---- a slot is written
 
-module _ (z : Sizes) (images new : List (List ℕ)) (k : Kept) (a : ℕ) (bytes : List ℕ) (store : IsStoreSlot z a)
+module _ (z : Sizes) (images new : List (List ℕ)) (k : LevelState) (a : ℕ) (bytes : List ℕ) (store : IsStoreSlot z a)
     (now : (b : ℕ) → slots_in z new b ≡ put (slots_in z images) a (held_in z (a / 16) bytes) b) (h : KnowsCells z images k) where
   abbrev p : ℕ
   p = place_of z a
@@ -72,7 +72,7 @@ module _ (z : Sizes) (images new : List (List ℕ)) (k : Kept) (a : ℕ) (bytes 
   ])
 
 -- the slot is told as it is then, and no other differs
-pub knows_again : (z : Sizes) (images new : List (List ℕ)) (k after : Kept) (a : ℕ) → IsStoreSlot z a → ((b : ℕ) → b ≢ a → slots_in z new b ≡ slots_in z images b) → KnowsCells z images k → after ≡ noted k a (slot_at new a) → KnowsCells z new after
+pub knows_again : (z : Sizes) (images new : List (List ℕ)) (k after : LevelState) (a : ℕ) → IsStoreSlot z a → ((b : ℕ) → b ≢ a → slots_in z new b ≡ slots_in z images b) → KnowsCells z images k → after ≡ noted k a (slot_at new a) → KnowsCells z new after
 knows_again z images new k after a store others h e = subst (KnowsCells z new) (sym e) (knows_written z images new k a (slot_at new a) store now h) where
   now : (b : ℕ) → slots_in z new b ≡ put (slots_in z images) a (held_in z (a / 16) (slot_at new a)) b
   now b = elim (cases_eq b a) [

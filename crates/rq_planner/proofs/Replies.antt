@@ -25,7 +25,7 @@ use Rattle.rq_level.specs.declared.slots.Given.{Given}
 use Rattle.rq_level.specs.declared.writes.Plan.{Plan}
 use Rattle.rq_level.specs.declared.writes.SlotWrite.{SlotWrite}
 use Rattle.rq_level.specs.Given.{has_page}
-use Rattle.rq_level.specs.Kept.{Kept, IsLowest, NoneToTake, flag_at}
+use Rattle.rq_level.specs.LevelState.{LevelState, IsLowest, NoneToTake, flag_at}
 use Rattle.rq_level.specs.Meaning.{meaning_of}
 use Rattle.rq_level.specs.Ops.{Doing, Job, doing_in}
 use Rattle.rq_level.specs.Ops.Doing.{Send, Receive, Close}
@@ -56,11 +56,11 @@ takes_lowest z q rows a (w ∷ ws) at lowest off = (subst (AreLatchedBelow z q r
 pub some_is : (a b : Asked) → Some a ≡ Some b → a ≡ b
 some_is a b e = cc
 
-module _ (s : State) (k : Kept) (a : Asked) where
+module _ (s : State) (k : LevelState) (a : Asked) where
   for_one : (P : Asked → Type 0) → P a → (b : Asked) → Some a ≡ Some b → P b
   for_one P h b e = subst P (some_is a b e) h
 
-  planned_answer : (after : Kept) (p : Plan) → IsPlanFor s a p → AreSlotWrites s.sizes p.writes.items → (IsHeldUp s a → ⊥)
+  planned_answer : (after : LevelState) (p : Plan) → IsPlanFor s a p → AreSlotWrites s.sizes p.writes.items → (IsHeldUp s a → ⊥)
       → ((rows : List Row) → KeepsCells (record s { rows = rows }) k → KeepsBeside (record s { rows = rows }) after (places_of p.writes.items)) → IsAnswered s k (Some a) (Ok (Some p)) after
   planned_answer after p is slots off beside = record {
     read = refl;
@@ -76,7 +76,7 @@ module _ (s : State) (k : Kept) (a : Asked) where
     memory = λ whole e sound b is may. tt;
   }
 
-  latched_answer : (after : Kept) → after ≡ k → IsHeldUp s a → IsAnswered s k (Some a) (Ok None) after
+  latched_answer : (after : LevelState) → after ≡ k → IsHeldUp s a → IsAnswered s k (Some a) (Ok None) after
   latched_answer after same held = record {
     read = refl;
     plan = tt;
@@ -91,7 +91,7 @@ module _ (s : State) (k : Kept) (a : Asked) where
     memory = λ whole e sound b is may. tt;
   }
 
-  refused_answer : (after : Kept) (r : Refusal) → after ≡ k → RefusesPlan r → r ≢ why.Failed → r ≢ why.Latched → ((whole : State) → known whole.sizes whole.images whole.rows ≡ s → IsSound whole → MayBeAsked whole a → r ≡ why.NoMemory) → IsAnswered s k (Some a) (Err r) after
+  refused_answer : (after : LevelState) (r : Refusal) → after ≡ k → RefusesPlan r → r ≢ why.Failed → r ≢ why.Latched → ((whole : State) → known whole.sizes whole.images whole.rows ≡ s → IsSound whole → MayBeAsked whole a → r ≡ why.NoMemory) → IsAnswered s k (Some a) (Err r) after
   refused_answer after r same causes failed latched memory = record {
     read = tt;
     plan = tt;
@@ -106,11 +106,11 @@ module _ (s : State) (k : Kept) (a : Asked) where
     memory = λ whole e sound. for_one (λ b. MayBeAsked whole b → r ≡ why.NoMemory) (memory whole e sound);
   }
 
-  memory_answer : (after : Kept) → after ≡ k → IsAnswered s k (Some a) (Err why.NoMemory) after
+  memory_answer : (after : LevelState) → after ≡ k → IsAnswered s k (Some a) (Err why.NoMemory) after
   memory_answer after same = refused_answer after why.NoMemory same tt (λ e. cc) (λ e. cc) (λ whole e sound may. refl)
 
 -- where nothing can be read
-unread_answer : (s : State) (k after : Kept) (r : Refusal) → after ≡ k → RefusesPlan r → r ≢ why.Failed → r ≢ why.Latched → IsAnswered s k None (Err r) after
+unread_answer : (s : State) (k after : LevelState) (r : Refusal) → after ≡ k → RefusesPlan r → r ≢ why.Failed → r ≢ why.Latched → IsAnswered s k None (Err r) after
 unread_answer s k after r same causes failed latched = record {
   read = tt;
   plan = tt;
@@ -144,7 +144,7 @@ module _ (s : State) (given : List Given) (h : IsGathered s given) where
   not_latched xs g on = true≢false (sym on ∙ off_given xs g)
 
 -- the cell that is taken is none of a latched page, and those below it are
-module _ (s : State) (k : Kept) (latched : List ℕ) (keeps : KeepsCells s k) (on : AreLatched s latched) (new : ℕ) (low : IsLowest s.sizes k latched new) where
+module _ (s : State) (k : LevelState) (latched : List ℕ) (keeps : KeepsCells s k) (on : AreLatched s latched) (new : ℕ) (low : IsLowest s.sizes k latched new) where
   not_all : AreAllLatched s.sizes (slots_now s) s.rows → ⊥
   not_all all = let x = levels_plan.lowest s k latched new keeps on low in true≢false (sym (all new x.0 x.1) ∙ x.2)
 
@@ -192,8 +192,8 @@ first_new z us beside (Some c) f first new e = first_at z us (first ∷ record {
 
 -- ---- plans
 
-module _ (s : State) (k : Kept) (given : List Given) (latched : List ℕ) (keeps : KeepsCells s k) (on : AreLatched s latched) where
-  do_plan : (d : Doing) (p : Plan) (after : Kept) → HasGatheredFor s given (Some (Do d)) → Plans (Some s.sizes) (Some d) k given latched (Ok p) after → IsPlanOf s d p
+module _ (s : State) (k : LevelState) (given : List Given) (latched : List ℕ) (keeps : KeepsCells s k) (on : AreLatched s latched) where
+  do_plan : (d : Doing) (p : Plan) (after : LevelState) → HasGatheredFor s given (Some (Do d)) → Plans (Some s.sizes) (Some d) k given latched (Ok p) after → IsPlanOf s d p
   do_plan (Send g tag body) p after h m = record {
     deed = Append g (m.can.directory.sent + 1) tag m.can.directory.last_tag body;
     asked = (refl, refl, refl);
@@ -226,12 +226,12 @@ module _ (s : State) (k : Kept) (given : List Given) (latched : List ℕ) (keeps
     lowest = tt;
   }
 
-  do_free : (d : Doing) (p : Plan) (after : Kept) → HasGatheredFor s given (Some (Do d)) → Plans (Some s.sizes) (Some d) k given latched (Ok p) after → IsHeldUp s (Do d) → ⊥
+  do_free : (d : Doing) (p : Plan) (after : LevelState) → HasGatheredFor s given (Some (Do d)) → Plans (Some s.sizes) (Some d) k given latched (Ok p) after → IsHeldUp s (Do d) → ⊥
   do_free (Send g tag body) p after h m held = ⊎_elim (not_latched s given h.has.gathered (needed_by (slots_now s) (Some (Do (Send g tag body)))) h.all) (not_all s k latched keeps on m.new m.lowest) held
   do_free (Receive g) p after h m held = not_latched s given h.has.gathered (needed_by (slots_now s) (Some (Do (Receive g)))) h.all held
   do_free (Close g) p after h m held = not_latched s given h.has.gathered (needed_by (slots_now s) (Some (Do (Close g)))) h.all held
 
-  undo_plan : (d : Deed) (p : Plan) (after : Kept) → HasGatheredFor s given (Some (Undo d)) → Undoes (Some s.sizes) (Some d) k given latched (Ok p) after → IsPlanBack s d p
+  undo_plan : (d : Deed) (p : Plan) (after : LevelState) → HasGatheredFor s given (Some (Undo d)) → Undoes (Some s.sizes) (Some d) k given latched (Ok p) after → IsPlanBack s d p
   undo_plan (Append g n tag previous body) p after h m = record {
     inverse = m.inverse;
     follows = levels_plan.unsent s k given g n tag previous body p after h.has.gathered m;
@@ -252,7 +252,7 @@ module _ (s : State) (k : Kept) (given : List Given) (latched : List ℕ) (keeps
     lowest = tt;
   }
 
-  undo_free : (d : Deed) (p : Plan) (after : Kept) → HasGatheredFor s given (Some (Undo d)) → Undoes (Some s.sizes) (Some d) k given latched (Ok p) after → IsHeldUp s (Undo d) → ⊥
+  undo_free : (d : Deed) (p : Plan) (after : LevelState) → HasGatheredFor s given (Some (Undo d)) → Undoes (Some s.sizes) (Some d) k given latched (Ok p) after → IsHeldUp s (Undo d) → ⊥
   undo_free (Append g n tag previous body) p after h m held = not_latched s given h.has.gathered (needed_by (slots_now s) (Some (Undo (Append g n tag previous body)))) h.all held
   undo_free (UnlinkHead g n tag body) p after h m held = ⊎_elim (not_latched s given h.has.gathered (needed_by (slots_now s) (Some (Undo (UnlinkHead g n tag body)))) h.all) (not_all s k latched keeps on m.new m.lowest) held
   undo_free (Close_deed g) p after h m held = true≢false (sym held ∙ h.has.gathered.unlatched (directory_at g) (slots_now s (directory_at g)) h.all.0)
@@ -267,10 +267,10 @@ module _ (whole : State) (sound : IsSound whole) where
   same_given given [] h = tt
   same_given given (x ∷ xs) h = (h.0, same_given given xs h.1)
 
-  same_keeps : (k : Kept) → KeepsCells bare k → KeepsCells whole k
+  same_keeps : (k : LevelState) → KeepsCells bare k → KeepsCells whole k
   same_keeps k h = record { sizes = h.sizes; free_count = h.free_count; chosen_count = h.chosen_count; free = h.free; chosen = h.chosen }
 
-  module _ (k : Kept) (given : List Given) (latched : List ℕ) (keeps : KeepsCells bare k) (on : AreLatched bare latched) (x : Damage) (after : Kept) where
+  module _ (k : LevelState) (given : List Given) (latched : List ℕ) (keeps : KeepsCells bare k) (on : AreLatched bare latched) (x : Damage) (after : LevelState) where
     no_doing : (d : Doing) → HasGatheredFor bare given (Some (Do d)) → doing_sender d < sender_count whole.sizes → Plans (Some whole.sizes) (Some d) k given latched (Err (why.Damaged x)) after → MayBeAsked whole (Do d) → ⊥
     no_doing (Send g tag body) h inside m may =
         levels_refuse.sends whole k given latched g (why.Damaged x) sound (same_keeps k keeps) on may.0
@@ -294,7 +294,7 @@ module _ (whole : State) (sound : IsSound whole) where
 
 -- ---- what is answered
 
-module _ (s : State) (k : Kept) (given : List Given) (latched : List ℕ) (keeps : KeepsCells s k) (on : AreLatched s latched) (after : Kept) where
+module _ (s : State) (k : LevelState) (given : List Given) (latched : List ℕ) (keeps : KeepsCells s k) (on : AreLatched s latched) (after : LevelState) where
   damaged_do : (d : Doing) (x : Damage) → after ≡ k → HasGatheredFor s given (Some (Do d)) → doing_sender d < sender_count s.sizes → Plans (Some s.sizes) (Some d) k given latched (Err (why.Damaged x)) after
       → IsAnswered s k (Some (Do d)) (Err (why.Damaged x)) after
   damaged_do d x same h inside m = refused_answer s k (Do d) after (why.Damaged x) same tt (λ e. cc) (λ e. cc)

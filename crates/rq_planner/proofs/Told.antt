@@ -14,7 +14,7 @@ use Rattle.rq_page.proofs.Addresses.{cells_have_places}
 use Rattle.rq_views.specs.Stored.{IsStoreSlot, slot_at, slots_in}
 use Rattle.rq_pool.specs.Pooled.{IsPool}
 use Rattle.rq_level.specs.declared.writes.SlotWrite.{SlotWrite}
-use Rattle.rq_level.specs.Kept.{Kept, noted}
+use Rattle.rq_level.specs.LevelState.{LevelState, noted}
 use Rattle.rq_level.specs.Meaning.{meaning_of}
 use Rattle.rq_level.specs.Writes.{AreSlotWrites}
 use Rattle.rq_level.proofs.Superblock.{sizes_told}
@@ -27,7 +27,7 @@ use Rattle.rq_planner.specs.Asked.{known}
 
 -- ---- the sizes
 
-pub first_noted : (n a : ℕ) (k after : Kept) (z : Sizes) (image bytes : List ℕ) → n ≡ 1 → a ≡ 1 → after ≡ (meaning_of n).note k a bytes → IsInRange z → IsFormatted z 0 image → bytes ≡ slot_of 1 image → after ≡ record k { sizes = Some z }
+pub first_noted : (n a : ℕ) (k after : LevelState) (z : Sizes) (image bytes : List ℕ) → n ≡ 1 → a ≡ 1 → after ≡ (meaning_of n).note k a bytes → IsInRange z → IsFormatted z 0 image → bytes ≡ slot_of 1 image → after ≡ record k { sizes = Some z }
 unfolding meaning_of
 first_noted n a k after z image bytes one first e range is at =
     e ∙ ap (λ (m : ℕ). (meaning_of m).note k a bytes) one ∙ ap (λ (m : ℕ). noted k m bytes) first ∙ ap (λ (o : Option Sizes). record k { sizes = o }) (sizes_told z image bytes range is at)
@@ -56,23 +56,23 @@ empty_stands z images a free empty cell pool spelling is here e =
     e ∙ sym (ap slot_bytes held) ∙ (spelling z (a / 16) (a % 16) (slot_at images a) (pool.slots a stands)).1
 
 -- the level was told of it by these bytes
-pub empty_noted : (n a : ℕ) (k after : Kept) (empty bytes : List ℕ) → n ≡ 1 → after ≡ (meaning_of n).note k a empty → empty ≡ bytes → after ≡ noted k a bytes
+pub empty_noted : (n a : ℕ) (k after : LevelState) (empty bytes : List ℕ) → n ≡ 1 → after ≡ (meaning_of n).note k a empty → empty ≡ bytes → after ≡ noted k a bytes
 unfolding meaning_of
 empty_noted n a k after empty bytes one e same = e ∙ ap (λ (m : ℕ). (meaning_of m).note k a empty) one ∙ ap (noted k a) same
 
 module _ (z : Sizes) (images : List (List ℕ)) where
-  pub knows_cell : (k after : Kept) (a count : ℕ) → a ≡ cell_at z count → count < cell_count z → after ≡ noted k a (slot_at images a) → KnowsFirst z (slots_in z images) k count → KnowsFirst z (slots_in z images) after (count + 1)
+  pub knows_cell : (k after : LevelState) (a count : ℕ) → a ≡ cell_at z count → count < cell_count z → after ≡ noted k a (slot_at images a) → KnowsFirst z (slots_in z images) k count → KnowsFirst z (slots_in z images) after (count + 1)
   knows_cell k after a count at inside e h =
       let stands = cell_of_store z (cell_at z count) (cells_have_places z count inside).0 in
       let e : after ≡ noted k (cell_at z count) (slot_at images (cell_at z count)) = e ∙ ap (λ (n : ℕ). noted k n (slot_at images n)) at in
-      subst (λ (x : Kept). KnowsFirst z (slots_in z images) x (count + 1)) (sym e) (noted_known.notes_next z (slots_in z images) k count (slot_at images (cell_at z count)) inside (slot_is z images (cell_at z count) stands) h)
+      subst (λ (x : LevelState). KnowsFirst z (slots_in z images) x (count + 1)) (sym e) (noted_known.notes_next z (slots_in z images) k count (slot_at images (cell_at z count)) inside (slot_is z images (cell_at z count) stands) h)
 
   -- a slot of a plan is told as it is
-  pub one_back : (rows : List Row) (k after : Kept) (a : ℕ) (planned : List ℕ) → IsStoreSlot z a → after ≡ noted k a (slot_at images a) → KeepsBeside (known z images rows) k (a ∷ planned) → KeepsBeside (known z images rows) after planned
+  pub one_back : (rows : List Row) (k after : LevelState) (a : ℕ) (planned : List ℕ) → IsStoreSlot z a → after ≡ noted k a (slot_at images a) → KeepsBeside (known z images rows) k (a ∷ planned) → KeepsBeside (known z images rows) after planned
   one_back rows k after a planned stands e h =
-      subst (λ (x : Kept). KeepsBeside (known z images rows) x planned) (sym e) (planned_kept.notes (known z images rows) k a (slot_at images a) planned stands (slot_is z images a stands) h)
+      subst (λ (x : LevelState). KeepsBeside (known z images rows) x planned) (sym e) (planned_kept.notes (known z images rows) k a (slot_at images a) planned stands (slot_is z images a stands) h)
 
-  pub rest_back : (rows : List Row) (k after : Kept) (ws : List SlotWrite) (i : ℕ) (w : SlotWrite) → w ≡ slice_index_or ws i w → i < length ws → AreSlotWrites z ws → after ≡ noted k w.at (slot_at images w.at)
+  pub rest_back : (rows : List Row) (k after : LevelState) (ws : List SlotWrite) (i : ℕ) (w : SlotWrite) → w ≡ slice_index_or ws i w → i < length ws → AreSlotWrites z ws → after ≡ noted k w.at (slot_at images w.at)
       → KeepsBeside (known z images rows) k (places_of (drop i ws)) → KeepsBeside (known z images rows) after (places_of (drop (i + 1) ws))
   rest_back rows k after ws i w is lt stand e h =
       let stands : IsStoreSlot z w.at = subst (λ (x : SlotWrite). IsStoreSlot z x.at) (sym is) (stand i w lt).place in
@@ -80,5 +80,5 @@ module _ (z : Sizes) (images : List (List ℕ)) where
       let here : drop i ws ≡ w ∷ drop (i + 1) ws = drop-cons ws i w lt ∙ ap (λ (x : SlotWrite). x ∷ drop (suc i) ws) (sym is) ∙ ap (λ (n : ℕ). w ∷ drop n ws) next in
       one_back rows k after w.at (places_of (drop (i + 1) ws)) stands e (subst (λ (us : List SlotWrite). KeepsBeside (known z images rows) k (places_of us)) here h)
 
-  pub all_back : (rows : List Row) (k : Kept) (ws : List SlotWrite) (i : ℕ) → length ws ≤ i → KeepsBeside (known z images rows) k (places_of (drop i ws)) → KeepsCells (known z images rows) k
+  pub all_back : (rows : List Row) (k : LevelState) (ws : List SlotWrite) (i : ℕ) → length ws ≤ i → KeepsBeside (known z images rows) k (places_of (drop i ws)) → KeepsCells (known z images rows) k
   all_back rows k ws i past h = planned_kept.given_back (known z images rows) k (subst (λ (us : List SlotWrite). KeepsBeside (known z images rows) k (places_of us)) (drop_all i ws past) h)

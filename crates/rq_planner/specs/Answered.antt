@@ -13,11 +13,11 @@ use Rattle.rq_views.specs.Log.{Slots}
 use Rattle.rq_views.specs.Plans.Turn.{Did, Undid}
 use Rattle.rq_level.specs.ChainPlans.{IsInverse}
 use Rattle.rq_level.specs.declared.slots.Given.{Given}
-use Rattle.rq_level.specs.declared.writes.Outcome.{Outcome}
-use Rattle.rq_level.specs.declared.writes.Outcome.TheVariants as gives
+use Rattle.rq_level.specs.declared.writes.PlannedReply.{PlannedReply}
+use Rattle.rq_level.specs.declared.writes.PlannedReply.TheVariants as gives
 use Rattle.rq_level.specs.declared.writes.Plan.{Plan}
 use Rattle.rq_level.specs.declared.writes.SlotWrite.{SlotWrite}
-use Rattle.rq_level.specs.Kept.{Kept}
+use Rattle.rq_level.specs.LevelState.{LevelState}
 use Rattle.rq_level.specs.Ops.{Doing}
 use Rattle.rq_level.specs.Ops.Doing.{Send, Receive, Close}
 use Rattle.rq_level.specs.Writes.{AreSlotWrites}
@@ -58,7 +58,7 @@ IsDeedFor (Close g) (Close_deed h) = h ≡ g
 IsDeedFor _ _ = ⊥
 
 -- what the end of an operation answers that did this
-abbrev pub answer_of : Deed → Outcome
+abbrev pub answer_of : Deed → PlannedReply
 answer_of (Append g n tag previous body) = gives.Sent
 answer_of (UnlinkHead g n tag body) = gives.Message (record { sender = g; tag = tag; body = body })
 answer_of (Close_deed g) = gives.Closed
@@ -132,8 +132,8 @@ unless_latched (Err why.Latched) = Ok None
 unless_latched (Err r) = Err r
 
 -- What is answered to what is asked, and what the level keeps then.
-pub record IsAnswered (s : State) (k : Kept) (asked : Option Asked) (answer : Result (Option Plan) Refusal) (after : Kept)
-    : Type 0 where
+pub record IsAnswered (s : State) (k : LevelState) (asked : Option Asked) (answer : Result (Option Plan) Refusal)
+    (after : LevelState) : Type 0 where
   -- what nothing can be read from has no plan, and no latch holds it up
   pub read : IfOk answer (λ found. is_some asked ≡ true)
   -- the plan, and the level knows the cell that it chose, whatever else is under way on these pages
@@ -155,7 +155,7 @@ pub record IsAnswered (s : State) (k : Kept) (asked : Option Asked) (answer : Re
 -- ---- by a planner
 
 -- A level knows the cells of a store with these pages, whatever is under way there: it has chosen none of them.
-abbrev pub KnowsCells : Sizes → List (List ℕ) → Kept → Type 0
+abbrev pub KnowsCells : Sizes → List (List ℕ) → LevelState → Type 0
 KnowsCells z images k = KeepsCells (known z images []) k
 
 -- What is answered to what is asked, where the level keeps no cell chosen behind it.

@@ -35,8 +35,8 @@ known z images rows = record {
 }
 
 -- what its pages and its rows tell of a store
-abbrev pub seen : {P : Type 0} → Pooled P → List Row → State
-seen pages rows = known pages.sizes pages.images rows
+abbrev pub known_from : {P : Type 0} → Pooled P → List Row → State
+known_from pages rows = known pages.sizes pages.images rows
 
 -- ---- what is asked
 

@@ -4,7 +4,7 @@ ghost use Rattle.std.specs.Bool.{OnFalse, OnTrue};
 ghost use Rattle.rq_sound.specs.Groups.{slots_now};
 ghost use Rattle.rq_sound.specs.Latching.{any_latched};
 ghost use Rattle.rq_planner.specs.Answered.{HasGatheredFor};
-ghost use Rattle.rq_planner.specs.Asked.{IsOfStore, asked_by, needed_by, seen};
+ghost use Rattle.rq_planner.specs.Asked.{IsOfStore, asked_by, needed_by, known_from};
 
 use rq_disk::PageDevice;
 use rq_level::{Level, Op, Slots, Want};
@@ -28,9 +28,9 @@ pub(crate) fn gather<P: PageDevice, B: Level>(
     requires told { (B.kept level.now).sizes ≡ Some pages.now.sizes }
     requires asked { IsOfStore pages.now.sizes (asked_by op.now) }
     ensures all { IfOk result (λ all. OnTrue all
-        (HasGatheredFor (seen pages.now transactions.now) slots.new (asked_by op.now))) }
+        (HasGatheredFor (known_from pages.now transactions.now) slots.new (asked_by op.now))) }
     ensures latched { IfOk result (λ all. OnFalse all (any_latched transactions.now
-        (needed_by (slots_now (seen pages.now transactions.now)) (asked_by op.now)) ≡ true)) }
+        (needed_by (slots_now (known_from pages.now transactions.now)) (asked_by op.now)) ≡ true)) }
     ensures refusal { IfErr result (λ r. r ≡ Refusal.NoMemory) }
 {
     slots.clear();

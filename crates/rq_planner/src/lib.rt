@@ -14,5 +14,5 @@ mod telling;
 
 pub use handed::StoreLevels;
 pub use planner::Planner;
-pub use planning::{plan, plan_back};
-pub use telling::{give_back, tell_store};
+pub use planning::{plan, plan_inverse};
+pub use telling::{tell_store, unreserve};

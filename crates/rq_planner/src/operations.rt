@@ -22,10 +22,10 @@ pub(crate) struct Operations<B: Level> {
 
 impl<B: Level> Model for Operations<B> {
     ghost use Rattle.std.specs.Prelude.{◌<◌, length};
-    ghost use Rattle.rq_level.specs.Kept.{Kept};
+    ghost use Rattle.rq_level.specs.LevelState.{LevelState};
     ghost use Rattle.rq_level.specs.Meaning.{kept_at};
 
-    ghost Value = { Kept };
+    ghost Value = { LevelState };
 
     ghost view = { λ o. kept_at o.levels 1 };
 

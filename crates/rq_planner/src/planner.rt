@@ -1,9 +1,9 @@
 //! Planners: a level, with the slots that it is given.
 ghost use Rattle.std.specs.Prelude.{◌≡◌, ◌≢◌, ℕ, List, ◌≤◌, IfErr, IfOk, false, length};
 ghost use Rattle.rq_page.specs.Sizes.{cell_count};
-ghost use Rattle.rq_level.specs.Kept.{noted};
+ghost use Rattle.rq_level.specs.LevelState.{noted};
 ghost use Rattle.rq_planner.specs.Answered.{IsPlanned, KnowsCells, RefusesPlan};
-ghost use Rattle.rq_planner.specs.Asked.{IsOfStore, asked_by, seen, undone_by};
+ghost use Rattle.rq_planner.specs.Asked.{IsOfStore, asked_by, known_from, undone_by};
 ghost use Rattle.rq_planner.specs.Backs.{IsJudgedBack, IsRefusedBack, IsTakingBack};
 ghost use Rattle.rq_planner.specs.Handed.{HasRoom};
 ghost use Rattle.rq_views.specs.Stored.{IsStoreSlot, slots_in};
@@ -11,8 +11,8 @@ ghost use Rattle.rq_views.specs.Stored.{IsStoreSlot, slots_in};
 use crate::deeds::deed_of_store;
 use crate::handed::StoreLevels;
 use crate::operations::Operations;
-use crate::planning::{plan, plan_back};
-use crate::telling::{give_back, tell, tell_store};
+use crate::planning::{plan, plan_inverse};
+use crate::telling::{tell, tell_store, unreserve};
 use rq_disk::PageDevice;
 use rq_level::{Level, Op, Plan, Slots};
 use rq_model::record::{Record, Slot};
@@ -34,9 +34,9 @@ pub struct Planner<B: Level> {
 }
 
 impl<B: Level> Model for Planner<B> {
-    ghost use Rattle.rq_level.specs.Kept.{Kept};
+    ghost use Rattle.rq_level.specs.LevelState.{LevelState};
 
-    ghost Value = { Kept };
+    ghost Value = { LevelState };
 
     ghost view = { λ p. p.level };
 }
@@ -62,7 +62,7 @@ impl<B: Level> Planner<B> {
     }
 
     /// A slot was written. Takes no memory.
-    pub fn note(&mut self, at: Addr, bytes: &Slot)
+    pub fn noted(&mut self, at: Addr, bytes: &Slot)
         ensures { self.new ≡ noted self.old at bytes.now }
     {
         self.level.noted(at, bytes);
@@ -94,7 +94,7 @@ impl<B: Level> Planner<B> {
         requires forward { op.now.undo ≡ false }
         requires asked { IsOfStore pages.now.sizes (asked_by op.now) }
         ensures cells { KnowsCells pages.now.sizes pages.now.images self.new }
-        ensures planned { IsPlanned (seen pages.now transactions.now) (asked_by op.now) result }
+        ensures planned { IsPlanned (known_from pages.now transactions.now) (asked_by op.now) result }
     {
         match plan(
             alloc,
@@ -105,7 +105,7 @@ impl<B: Level> Planner<B> {
             &mut self.slots,
         ) {
             Ok(Some(plan)) => {
-                give_back(pages, &mut self.level, &plan.writes);
+                unreserve(pages, &mut self.level, &plan.writes);
                 Ok(Some(plan))
             }
             Ok(None) => Ok(None),
@@ -117,7 +117,7 @@ impl<B: Level> Planner<B> {
     ///
     /// # Errors
     /// `NoMemory`; of a store that is not sound, or where the operation may not be undone, also `Damaged`.
-    pub fn plan_back<P: PageDevice>(
+    pub fn plan_inverse<P: PageDevice>(
         &mut self,
         alloc: Global,
         pages: &Pages<P>,
@@ -127,11 +127,11 @@ impl<B: Level> Planner<B> {
         requires cells { KnowsCells pages.now.sizes pages.now.images self.old }
         requires asked { IsOfStore pages.now.sizes (undone_by told.now) }
         ensures cells { KnowsCells pages.now.sizes pages.now.images self.new }
-        ensures planned { IsPlanned (seen pages.now transactions.now) (undone_by told.now) result }
+        ensures planned { IsPlanned (known_from pages.now transactions.now) (undone_by told.now) result }
         ensures judged { IsJudgedBack pages.now.sizes (slots_in pages.now.sizes pages.now.images) (undone_by told.now)
             result }
     {
-        match plan_back(
+        match plan_inverse(
             alloc,
             pages,
             transactions,
@@ -140,7 +140,7 @@ impl<B: Level> Planner<B> {
             &mut self.slots,
         ) {
             Ok(Some(plan)) => {
-                give_back(pages, &mut self.level, &plan.writes);
+                unreserve(pages, &mut self.level, &plan.writes);
                 Ok(Some(plan))
             }
             Ok(None) => Ok(None),
@@ -153,7 +153,7 @@ impl<B: Level> Planner<B> {
     /// # Errors
     /// `NoMemory`; `Damaged` where the record tells no deed, or one that the slots as they are do not show to be done last
     /// (of a close: where its group is not closed).
-    pub fn take_back<P: PageDevice>(
+    pub fn plan_inverse_alone<P: PageDevice>(
         &mut self,
         alloc: Global,
         pages: &Pages<P>,
@@ -171,7 +171,7 @@ impl<B: Level> Planner<B> {
             return Err(Refusal::Damaged(Damage::Page(0)));
         };
         let nobody = Transactions::new(alloc);
-        match plan_back(
+        match plan_inverse(
             alloc,
             pages,
             &nobody,
@@ -180,7 +180,7 @@ impl<B: Level> Planner<B> {
             &mut self.slots,
         ) {
             Ok(Some(plan)) => {
-                give_back(pages, &mut self.level, &plan.writes);
+                unreserve(pages, &mut self.level, &plan.writes);
                 Ok(plan)
             }
             Ok(None) => Err(Refusal::Damaged(Damage::Page(0))),

@@ -2,7 +2,7 @@
 ghost use Rattle.std.specs.Prelude.{◌≡◌, Some, false};
 ghost use Rattle.rq_sound.specs.Levels.{KeepsCells};
 ghost use Rattle.rq_planner.specs.Answered.{IsAnswered, unless_latched};
-ghost use Rattle.rq_planner.specs.Asked.{IsOfStore, asked_by, seen, undone_by};
+ghost use Rattle.rq_planner.specs.Asked.{IsOfStore, asked_by, known_from, undone_by};
 ghost use Rattle.rq_planner.specs.Backs.{IsJudgedBack};
 ghost use Rattle.rq_views.specs.Stored.{slots_in};
 
@@ -30,11 +30,11 @@ pub fn plan<P: PageDevice, B: Level>(
     slots: &mut Slots,
 ) -> Result<Option<Plan>, Refusal>
     requires number { B.level level.old ≡ 1 }
-    requires cells { KeepsCells (seen pages.now transactions.now) (B.kept level.old) }
+    requires cells { KeepsCells (known_from pages.now transactions.now) (B.kept level.old) }
     requires forward { op.now.undo ≡ false }
     requires asked { IsOfStore pages.now.sizes (asked_by op.now) }
     ensures same { B.level level.new ≡ 1 }
-    ensures answered { IsAnswered (seen pages.now transactions.now) (B.kept level.old) (asked_by op.now) result
+    ensures answered { IsAnswered (known_from pages.now transactions.now) (B.kept level.old) (asked_by op.now) result
         (B.kept level.new) }
 {
     match gather(pages, transactions, level, op, slots) {
@@ -49,7 +49,7 @@ pub fn plan<P: PageDevice, B: Level>(
 /// # Errors
 /// `NoMemory`; of a store that is not sound, or where the operation may not be undone, also `Damaged`.
 #[tactic(auto, using(crate::proofs::Replies::held_read, crate::proofs::Replies::memory_causes))]
-pub fn plan_back<P: PageDevice, B: Level>(
+pub fn plan_inverse<P: PageDevice, B: Level>(
     alloc: Global,
     pages: &Pages<P>,
     transactions: &Transactions,
@@ -58,10 +58,10 @@ pub fn plan_back<P: PageDevice, B: Level>(
     slots: &mut Slots,
 ) -> Result<Option<Plan>, Refusal>
     requires number { B.level level.old ≡ 1 }
-    requires cells { KeepsCells (seen pages.now transactions.now) (B.kept level.old) }
+    requires cells { KeepsCells (known_from pages.now transactions.now) (B.kept level.old) }
     requires asked { IsOfStore pages.now.sizes (undone_by told.now) }
     ensures same { B.level level.new ≡ 1 }
-    ensures answered { IsAnswered (seen pages.now transactions.now) (B.kept level.old) (undone_by told.now) result
+    ensures answered { IsAnswered (known_from pages.now transactions.now) (B.kept level.old) (undone_by told.now) result
         (B.kept level.new) }
     ensures judged { IsJudgedBack pages.now.sizes (slots_in pages.now.sizes pages.now.images) (undone_by told.now)
         result }

@@ -4,12 +4,12 @@ ghost use Rattle.rq_page.specs.Cells.{free_bytes};
 ghost use Rattle.rq_page.specs.Sizes.{IsCellAddress, cell_count};
 ghost use Rattle.rq_page.specs.Slots.{Free};
 ghost use Rattle.rq_views.specs.Stored.{IsStoreSlot, slot_at, slots_in};
-ghost use Rattle.rq_level.specs.Kept.{noted};
+ghost use Rattle.rq_level.specs.LevelState.{noted};
 ghost use Rattle.rq_level.specs.Writes.{AreSlotWrites};
 ghost use Rattle.rq_txn.specs.Rows.{Row};
 ghost use Rattle.rq_sound.specs.Chosen.{KeepsBeside, places_of};
 ghost use Rattle.rq_sound.specs.Levels.{KeepsCells};
-ghost use Rattle.rq_planner.specs.Asked.{seen};
+ghost use Rattle.rq_planner.specs.Asked.{known_from};
 
 use rq_disk::PageDevice;
 use rq_level::{Level, SlotWrite};
@@ -21,12 +21,12 @@ use rq_pool::Pages;
 
 /// Gives back a plan that doesn't start: tells the level of each of its slots as it is. The cell that the plan chose may be
 /// chosen again.
-pub fn give_back<P: PageDevice, B: Level>(pages: &Pages<P>, level: &mut B, writes: &[SlotWrite])
+pub fn unreserve<P: PageDevice, B: Level>(pages: &Pages<P>, level: &mut B, writes: &[SlotWrite])
     requires number { B.level level.old ≡ 1 }
     requires slots { AreSlotWrites pages.now.sizes writes.now }
     ensures same { B.level level.new ≡ 1 }
-    ensures cells { (rows : List Row) → KeepsBeside (seen pages.now rows) (B.kept level.old) (places_of writes.now)
-        → KeepsCells (seen pages.now rows) (B.kept level.new) }
+    ensures cells { (rows : List Row) → KeepsBeside (known_from pages.now rows) (B.kept level.old) (places_of writes.now)
+        → KeepsCells (known_from pages.now rows) (B.kept level.new) }
 {
     for write in writes {
         tell(pages, level, write.at);
@@ -40,7 +40,7 @@ pub fn tell_store<P: PageDevice, B: Level>(pages: &Pages<P>, level: &mut B)
     requires free { cell_count pages.now.sizes ≤ length (B.kept level.old).free }
     requires chosen { cell_count pages.now.sizes ≤ length (B.kept level.old).reserved }
     ensures same { B.level level.new ≡ 1 }
-    ensures cells { (rows : List Row) → KeepsCells (seen pages.now rows) (B.kept level.new) }
+    ensures cells { (rows : List Row) → KeepsCells (known_from pages.now rows) (B.kept level.new) }
 {
     tell_sizes(pages, level);
     let layout = pages.layout();

@@ -2,7 +2,7 @@
 use Rattle.std.proofs.Common.{◌≡◌, ◌≢◌, ℕ, ◌*◌, ◌/◌, ◌%◌, ◌<◌, ◌≤◌, Bool, true, false, cond, nat_lt, List, [], ◌∷◌, ◌++◌, ◌+◌, ◌-◌, length, refl, sym, ap, ◌∙◌, arith, inl, inr}
 use Rattle.std.specs.Prelude.{Option, None, Some, IfSome, IfNone}
 use Rattle.std.proofs.lemmas.Bool.{cases_eq, cases_lt}
-use Rattle.rq_flags.specs.Flags.{flag_at, IsNextFlag}
+use Rattle.rq_bitset.specs.Flags.{flag_at, IsNextFlag}
 use Rattle.rq_page.specs.Sizes.{Sizes, IsCellAddress, cell_count, cell_at, page_count, place_of}
 use Rattle.rq_page.specs.Slots.{Free, held_in}
 use Rattle.rq_page.specs.Pages.{slot_of, IsWritten}

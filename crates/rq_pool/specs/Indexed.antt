@@ -1,6 +1,6 @@
 -- The index of the cells that are free.
 use Rattle.std.specs.Prelude.{◌≡◌, ℕ, ◌*◌, ◌<◌, ◌≤◌, cond, List, length}
-use Rattle.rq_flags.specs.Flags.{flag_at}
+use Rattle.rq_bitset.specs.Flags.{flag_at}
 use Rattle.rq_page.specs.Sizes.{Sizes, cell_count, cell_at}
 use Rattle.rq_page.specs.Slots.{Slot}
 use Rattle.rq_views.specs.Stored.{slots_in, is_used}

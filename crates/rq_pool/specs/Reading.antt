@@ -9,7 +9,7 @@ use Rattle.rq_page.specs.Sizes.{Sizes, IsInRange, page_count}
 use Rattle.rq_page.specs.Pages.{slot_of}
 use Rattle.rq_page.specs.Slots.{IsSlotOf}
 use Rattle.rq_page.specs.Formatted.{IsFormatted, IsHeaderOf}
-use Rattle.rq_pool.specs.declared.Stopped.{Stopped}
+use Rattle.rq_pool.specs.declared.RefusedPages.{RefusedPages}
 use Rattle.rq_pool.specs.Pooled.{Pooled, image_at}
 
 -- a device was only read: it reads the same, a crash leaves no more than before, and time goes on
@@ -78,6 +78,6 @@ NotReadAgain g z page (why.Damaged (damage.Page n)) old new =
 NotReadAgain g z page _ old new = ⊥
 
 -- the device as it is afterwards
-abbrev pub device_of : {P : Type 0} → Result (Pooled P) (Stopped P) → P
+abbrev pub device_of : {P : Type 0} → Result (Pooled P) (RefusedPages P) → P
 device_of (Ok pages) = pages.device
 device_of (Err stopped) = stopped.device

@@ -1,13 +1,13 @@
 //! Which cells are free, by an index of their places.
 ghost use Rattle.std.specs.Prelude.{◌≡◌, ◌≢◌, ◌*◌, ◌/◌, ◌%◌, ◌<◌, ◌≤◌, ◌==◌, ℕ, length, slice_index};
-ghost use Rattle.rq_flags.specs.Flags.{flag_at};
+ghost use Rattle.rq_bitset.specs.Flags.{flag_at};
 ghost use Rattle.rq_page.specs.Sizes.{cell_count, cell_at};
 ghost use Rattle.rq_views.specs.Stored.{slot_at};
 ghost use Rattle.rq_pool.specs.Frames.{images_of};
 ghost use Rattle.rq_pool.specs.Indexed.{IsNoted};
 
 use crate::Frame;
-use rq_flags::Index;
+use rq_bitset::Index;
 use rq_page::addr::Addr;
 use rq_page::layout::{Layout, SLOTS};
 

@@ -18,8 +18,8 @@ mod reading;
 use crate::frames::{mark_written, set_page, write_slot};
 use crate::free::{note_page, note_slot};
 use crate::reading::{read_again, read_frames, read_superblock};
+use rq_bitset::Index;
 use rq_disk::PageDevice;
-use rq_flags::Index;
 use rq_model::record::Slot;
 use rq_model::refusal::Refusal;
 use rq_model::txn::Lsn;
@@ -78,7 +78,7 @@ impl<P: PageDevice> Model for Pages<P> {
 
 /// Pages that could not be had: why, and their device.
 #[derive(Drop)]
-pub struct Stopped<P> {
+pub struct RefusedPages<P> {
     pub refusal: Refusal,
     pub device: P,
 }
@@ -90,7 +90,7 @@ impl<P: PageDevice + Drop> Pages<P> {
     /// It stops by `DiskRead`, by `Damaged` with the number of the first page that is none of a store's, or,
     /// where the superblock tells the sizes, by `NoMemory`.
     #[tactic(auto, using(crate::proofs::Over::over_loaded))]
-    pub fn load(alloc: Global, mut device: P) -> Result<Pages<P>, Stopped<P>>
+    pub fn load(alloc: Global, mut device: P) -> Result<Pages<P>, RefusedPages<P>>
         ensures pages { IfOk result (λ pages. ArePages pages.sizes pages.images) }
         ensures seen { IfOk result (λ pages. P.honest pages.device
             → AreSeen (P.seen device) pages.images (page_count pages.sizes)) }
@@ -101,7 +101,7 @@ impl<P: PageDevice + Drop> Pages<P> {
     {
         let (superblock, layout) = match read_superblock(&mut device) {
             Ok(first) => first,
-            Err(refusal) => return Err(Stopped { refusal, device }),
+            Err(refusal) => return Err(RefusedPages { refusal, device }),
         };
         match read_frames(alloc, &mut device, &layout, superblock) {
             Ok((frames, free)) => Ok(Pages {
@@ -110,7 +110,7 @@ impl<P: PageDevice + Drop> Pages<P> {
                 frames,
                 free,
             }),
-            Err(refusal) => Err(Stopped { refusal, device }),
+            Err(refusal) => Err(RefusedPages { refusal, device }),
         }
     }
 

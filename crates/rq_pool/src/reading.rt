@@ -12,9 +12,9 @@ ghost use Rattle.rq_pool.specs.Reading.{OnlyRead, HasAnswered, IsSuperblock, IsS
 
 use crate::Frame;
 use crate::free::note_page;
+use rq_bitset::Index;
 use rq_bytes::equal::are_equal;
 use rq_disk::{PAGE, PageDevice};
-use rq_flags::Index;
 use rq_model::record::Slot;
 use rq_model::refusal::{Damage, Refusal};
 use rq_page::cell::CellSlot;

@@ -5,8 +5,8 @@ use Rattle.rq_record.specs.declared.reading.Stop.{Stop}
 use Rattle.rq_record.specs.declared.reading.Stop.TheVariants as stops
 use Rattle.rq_record.specs.declared.step.Step.{Step}
 use Rattle.rq_record.specs.declared.step.Step.TheVariants as steps
-use Rattle.rq_record.specs.declared.step.Front.{Front}
-use Rattle.rq_record.specs.declared.step.Front.TheVariants as fronts
+use Rattle.rq_record.specs.declared.step.Decoded.{Decoded}
+use Rattle.rq_record.specs.declared.step.Decoded.TheVariants as fronts
 use Rattle.rq_record.specs.Spelling.{IsRecord, spelling}
 
 -- a fact of the record that was decoded, and of the number of its bytes
@@ -26,7 +26,7 @@ step_of bytes (Err stops.Short) = steps.Short
 step_of bytes (Err stops.Bad) = steps.Bad
 
 -- the answer, with the record that was lent
-abbrev pub step_with : Front → Record → Step
+abbrev pub step_with : Decoded → Record → Step
 step_with (fronts.Record used) r = steps.Record r used
 step_with fronts.Short r = steps.Short
 step_with fronts.Bad r = steps.Bad

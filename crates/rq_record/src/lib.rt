@@ -11,7 +11,7 @@ pub use deed::{decode_deed, encode_deed, shows_deed_fits};
 pub use laws::{deeds_are_told, framed, lengths, one_deed, one_spelling};
 pub use reading::{decode, decode_into};
 pub use rq_model::record::{Deed, Record};
-pub use step::{Front, Step};
+pub use step::{Decoded, Step};
 pub use writing::{encode, shows_fits, shows_size, spelled_len};
 
 /// The bytes of a PageOp record.

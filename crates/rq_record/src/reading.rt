@@ -5,7 +5,7 @@ ghost use Rattle.rq_record.specs.Spelling.{IsRecord, spelling, BeginsRecord, Hol
 ghost use Rattle.rq_record.specs.Decoding.{IfRecord, IsFront, step_of, step_with};
 ghost use Rattle.rq_record.specs.Reading.{Gives, bytes_at, number_at, positive_at, byte_between, txn_at, page_op_at, page_undo_at, op_end_at, op_void_at, comp_end_at, commit_at, restart_at, abort_end_at, kind_of, is_size, begins_size, size_at, kind_at, IsDeedSize, fields_at, record_at};
 
-use crate::step::{Front, Step};
+use crate::step::{Decoded, Step};
 use byteorder::{BigEndian, ByteOrder};
 use rq_model::record::{DeedBytes, Record, SLOT_BYTES, Slot};
 use rq_model::txn::Txn;
@@ -347,19 +347,19 @@ fn take_record<'a>(bytes: &'a [u8], into: &mut Record) -> Result<&'a [u8], Stop>
 }
 
 // What stands at the front of the bytes.
-fn front_of(input: &[u8], into: &mut Record) -> Front
+fn front_of(input: &[u8], into: &mut Record) -> Decoded
     ensures { step_with result into.new ≡ step_of input.now (record_at input.now) }
 {
     match take_record(input, into) {
-        Ok(rest) => Front::Record(input.len() - rest.len()),
-        Err(Stop::Short) => Front::Short,
-        Err(Stop::Bad) => Front::Bad,
+        Ok(rest) => Decoded::Record(input.len() - rest.len()),
+        Err(Stop::Short) => Decoded::Short,
+        Err(Stop::Bad) => Decoded::Bad,
     }
 }
 
 /// Writes the record at the front of the bytes over a lent one, and answers what stands there: a record with bytes behind it
 /// or none, a proper beginning of a record, or neither.
-pub fn decode_into(input: &[u8], into: &mut Record) -> Front
+pub fn decode_into(input: &[u8], into: &mut Record) -> Decoded
     ensures front { IfRecord (step_with result into.new) (λ r used. IsFront r used input.now) }
     ensures found { (r : Record) (rest : List ℕ) → IsRecord r → input.now ≡ spelling r ++ rest
         → step_with result into.new ≡ Step.Record r (length (spelling r)) }
@@ -380,8 +380,8 @@ pub fn decode(input: &[u8]) -> Step
 {
     let mut record = Record::Restart { incarnation: 0 };
     match decode_into(input, &mut record) {
-        Front::Record(used) => Step::Record(record, used),
-        Front::Short => Step::Short,
-        Front::Bad => Step::Bad,
+        Decoded::Record(used) => Step::Record(record, used),
+        Decoded::Short => Step::Short,
+        Decoded::Bad => Step::Bad,
     }
 }

@@ -14,7 +14,7 @@ pub enum Step {
 
 /// The same, where the record was written over one that was lent.
 #[derive(Clone, Copy, PartialEq, Eq)]
-pub enum Front {
+pub enum Decoded {
     /// A record, which takes so many bytes. Bytes may follow it.
     Record(usize),
     /// A proper beginning of some record.

@@ -6,7 +6,7 @@ use Rattle.std.specs.List.{remove, filter_map, cons_option}
 use Rattle.rq_model.specs.declared.txn.Txn.{Txn}
 use Rattle.rq_reference.specs.declared.rows.OpenTxn.{OpenTxn}
 use Rattle.rq_reference.specs.declared.rows.Act.{Act}
-use Rattle.rq_model.specs.Words.{Op, same_txn, last_or}
+use Rattle.rq_model.specs.Vocabulary.{Op, same_txn, last_or}
 use Rattle.rq_model.specs.declared.message.Message.{Message}
 use Rattle.rq_model.specs.Tests.{below, count_rest}
 use Rattle.rq_model.specs.Ledger.{Open, Done, Ledger, change, without, found, tag_of, rest_in, kept_in}

@@ -7,8 +7,8 @@ use Rattle.rq_model.specs.declared.txn.Txn.{Txn}
 use Rattle.rq_model.specs.declared.message.Message.{Message}
 use Rattle.rq_reference.specs.declared.rows.OpenTxn.{OpenTxn}
 use Rattle.rq_reference.specs.declared.rows.Act.{Act}
-use Rattle.rq_model.specs.Words.{Op, first, last, last_or, front, is_some, has_number, sent_for}
-use Rattle.rq_model.specs.Words.Op.{Send, Take, End}
+use Rattle.rq_model.specs.Vocabulary.{Op, first, last, last_or, front, is_some, has_number, sent_for}
+use Rattle.rq_model.specs.Vocabulary.Op.{Send, Take, End}
 use Rattle.rq_model.specs.History.{Job}
 use Rattle.rq_model.specs.History.Job.{Sending, Taking, Ending, Undoing}
 use Rattle.rq_model.specs.History.Call.{Start_receive, Finish}

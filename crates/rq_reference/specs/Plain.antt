@@ -10,8 +10,8 @@ use Rattle.rq_reference.specs.declared.rows.Work.{Work}
 use Rattle.rq_reference.specs.declared.rows.Work.TheVariants.{Sending as Sending_work, Taking as Taking_work, Closing as Closing_work, Undoing as Undoing_work}
 use Rattle.rq_reference.specs.declared.rows.OpenTxn.{OpenTxn}
 use Rattle.rq_reference.specs.declared.rows.CommittedTxn.{CommittedTxn}
-use Rattle.rq_model.specs.Words.{Op, first, front, has_number}
-use Rattle.rq_model.specs.Words.Op.{Send, Take, End}
+use Rattle.rq_model.specs.Vocabulary.{Op, first, front, has_number}
+use Rattle.rq_model.specs.Vocabulary.Op.{Send, Take, End}
 use Rattle.rq_model.specs.History.{Job, Call, Entry}
 use Rattle.rq_model.specs.History.Job.{Sending, Taking, Ending, Undoing}
 use Rattle.rq_model.specs.History.Entry.{Refused, Ready, Stepped, Did, Undid, Started, None_free, None_from, None_left}

@@ -2,7 +2,7 @@
 ghost use Rattle.rq_model.specs.Ledger.{add_number, any_ends, ended_in, group_in, own_sends, own_takes, rest_in, sent_in, tag_of, taken_in, kept_in};
 ghost use Rattle.rq_model.specs.Tests.{any_busy, below, count_rest, free_to_receive, free_to_send, is_sending, owed, pending};
 ghost use Rattle.rq_reference.specs.Plain.{PlaceOf, done_of, job_of, op_in, op_of, open_of, ops_with, pick, receiving_with, sending_with};
-ghost use Rattle.rq_model.specs.Words.{first, front, has_number, is_some, last, sent_for, taken_from};
+ghost use Rattle.rq_model.specs.Vocabulary.{first, front, has_number, is_some, last, sent_for, taken_from};
 ghost use Rattle.std.specs.List.{filter_map, slice_get, sum_by};
 ghost use Rattle.std.specs.Prelude.{[], ◌∷◌, ◌≡◌, ◌+◌, ◌-◌, ◌++◌, ◌^◌, ◌≤◌, IfOk, OnOk, drop, length, map, min, nat_eq, nat_lt};
 

@@ -7,7 +7,7 @@ ghost use Rattle.rq_model.specs.History.Job.{Ending, Sending};
 ghost use Rattle.rq_model.specs.Ledger.{ended_in, found, in_chain, own_takes, rest_in, undo_writes, writes};
 ghost use Rattle.rq_model.specs.Legal.{At};
 ghost use Rattle.rq_reference.specs.Plain.{May, MayBeRefused, StandsAt, group_of, job_of, next, op_in, op_of, pick, receivable, receive_entry, receive_from_entry, undo_entry};
-ghost use Rattle.rq_model.specs.Words.{message_of, first, is_some};
+ghost use Rattle.rq_model.specs.Vocabulary.{message_of, first, is_some};
 ghost use Rattle.rq_model.specs.Tests.{Passes, cells_in_use, free_to_receive, free_to_send, gives, has_closed, log_full, newest, undo_cost};
 ghost use Rattle.rq_model.specs.declared.refusal.Refusal.TheVariants.{NoMemory};
 

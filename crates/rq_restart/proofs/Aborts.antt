@@ -11,7 +11,7 @@ use Rattle.rq_model.specs.declared.txn.Txn.{Txn}
 use Rattle.rq_model.specs.Incarnations.{Extends, incarnation_of, is_plain}
 use Rattle.rq_model.proofs.Cuts.{extends_join}
 use Rattle.rq_model.specs.Unended.{lost}
-use Rattle.rq_model.specs.Words.{In, same_txn}
+use Rattle.rq_model.specs.Vocabulary.{In, same_txn}
 use Rattle.rq_page.specs.Sizes.{Sizes}
 use Rattle.rq_pool.specs.Pooled.{Pooled}
 use Rattle.rq_level.specs.declared.writes.SlotWrite.{SlotWrite}
@@ -19,15 +19,15 @@ use Rattle.rq_store.specs.State.{State}
 use Rattle.rq_store.specs.Steps.{page_op}
 use Rattle.rq_sound.specs.Rows.{comp_end}
 use Rattle.rq_store.specs.Whole.{IsWhole}
-use Rattle.rq_undone.specs.Analysis.{Analysis, analysis, without_txn}
-use Rattle.rq_undone.proofs.Lists.{filter_less}
-use Rattle.rq_lost.specs.Choices.{least_free}
-use Rattle.rq_lost.proofs.Choosing.{least_there}
+use Rattle.rq_page_undo.specs.Analysis.{Analysis, analysis, without_txn}
+use Rattle.rq_page_undo.proofs.Lists.{filter_less}
+use Rattle.rq_loser_undo.specs.Choices.{least_free}
+use Rattle.rq_loser_undo.proofs.Choosing.{least_there}
 use Rattle.rq_model.proofs.Lists.{same_self}
-use Rattle.rq_undone.proofs.Noting.{noted_working}
+use Rattle.rq_page_undo.proofs.Noting.{noted_active}
 use Rattle.rq_restart.specs.declared.findings.Findings.{Findings}
 use Rattle.rq_restart.specs.Found.{AreFindings}
-use Rattle.rq_lost.specs.declared.dues.Due.{Due}
+use Rattle.rq_loser_undo.specs.declared.dues.PendingUndo.{PendingUndo}
 use Rattle.rq_restart.specs.Aborting.{AbortStops, AbortsBehind, AbortsFrom, AbortsOn, ArePlanned, AreRounds, HasGoneOn, IsAborting, IsBadStep, IsNextRound, IsMaking, IsOnItsWay, IsPlannedBack, IsPlannedOn, IsTakenNext, OfStore, RepeatedSince, Round, after_round, after_rounds, with_writes}
 use Rattle.rq_restart.specs.Aborting.Round.{Ends, TakesBack}
 use Rattle.rq_restart.specs.Aborting.IsAborting.{Between, Within}
@@ -60,7 +60,7 @@ behind_none log = record { rounds = []; turns = tt; are = refl }
 
 -- ---- each planned
 
-pub plan_weaker : (z : Sizes) (one other : Paged → Type 0) → ((p : Paged) → one p → other p) → (d : Due) (ws : List SlotWrite) → IsPlannedOn z one d ws → IsPlannedOn z other d ws
+pub plan_weaker : (z : Sizes) (one other : Paged → Type 0) → ((p : Paged) → one p → other p) → (d : PendingUndo) (ws : List SlotWrite) → IsPlannedOn z one d ws → IsPlannedOn z other d ws
 plan_weaker z one other j d ws h = record { pages = h.pages; on_pages = j h.pages h.on_pages; plan = h.plan }
 
 module _ (z : Sizes) (one other : List Record → Paged → Type 0) (j : (l : List Record) (p : Paged) → one l p → other l p) where
@@ -103,10 +103,10 @@ module _ (z : Sizes) (on : List Record → Paged → Type 0) where
   same_aborting a b c h (Within older d n ws made k next plan are) = Within older d n ws made (same_join a b older h k) next plan are
 
   -- the first writes of what is due first, and all of them with their end
-  pub making_aborts : (log now : List Record) (d : Due) (n : ℕ) (ws : List SlotWrite) → IsTakenNext log d n → IsPlannedOn z (on log) d ws → IsMaking d.txn n ws log now → IsAborting z on log now
+  pub making_aborts : (log now : List Record) (d : PendingUndo) (n : ℕ) (ws : List SlotWrite) → IsTakenNext log d n → IsPlannedOn z (on log) d ws → IsMaking d.txn n ws log now → IsAborting z on log now
   making_aborts log now d n ws next plan m = Within log d n ws m.made (aborts_none log) next plan m.are
 
-  pub closing_aborts : (log now : List Record) (d : Due) (n : ℕ) (ws : List SlotWrite) → IsTakenNext log d n → IsPlannedOn z (on log) d ws → with_writes d.txn n ws log ≡ now → AbortsOn z on log (comp_end d.txn n d.lsn ∷ now)
+  pub closing_aborts : (log now : List Record) (d : PendingUndo) (n : ℕ) (ws : List SlotWrite) → IsTakenNext log d n → IsPlannedOn z (on log) d ws → with_writes d.txn n ws log ≡ now → AbortsOn z on log (comp_end d.txn n d.lsn ∷ now)
   closing_aborts log now d n ws next plan are = record {
     behind = record { rounds = TakesBack d n ws ∷ []; turns = (next, tt); are = ap (λ l. comp_end d.txn n d.lsn ∷ l) are };
     planned = (plan, tt);
@@ -124,7 +124,7 @@ module _ (z : Sizes) (a b : List Record) (old mid : Paged) (repeated : RepeatedS
   aborting_join c h k = same_aborting z (RepeatedSince z a old) a b c h (aborting_weaker z (RepeatedSince z b mid) (RepeatedSince z a old) since b c k)
 
 -- what is planned over the pages as they are
-pub planned_here : (z : Sizes) (log : List Record) (old : Paged) (d : Due) (ws : List SlotWrite) → IsPlannedBack z (slots_on z old) d ws → IsPlannedOn z (RepeatedSince z log old log) d ws
+pub planned_here : (z : Sizes) (log : List Record) (old : Paged) (d : PendingUndo) (ws : List SlotWrite) → IsPlannedBack z (slots_on z old) d ws → IsPlannedOn z (RepeatedSince z log old log) d ws
 planned_here z log old d ws plan = record { pages = old; on_pages = λ first k. k; plan = plan }
 
 -- ---- writes of an operation
@@ -260,15 +260,15 @@ pub stops_before : {P : Type 0} (z : Sizes) (one other : List Record → Type 0)
 stops_before z one other log old before here e j f s = stops_join z (Unit {0}) log log old old before here (none_gone z log old before here f) one other (λ u. j) e s
 
 -- of a whole log those that are noted are lost
-pub working_lost : (z : Sizes) (log : List Record) → IsWhole z log → (analysis log).working ≡ lost log
-working_lost z log w = noted_working z log w.legal w.reads
+pub active_lost : (z : Sizes) (log : List Record) → IsWhole z log → (analysis log).active ≡ lost log
+active_lost z log w = noted_active z log w.legal w.reads
 
 -- the next of those that have no end is one of them, and fewer are left once it has its end
-pub ended_less : (log now : List Record) (f g : Findings) (t : Txn) → AreFindings f log → AreFindings g now → now ≡ records.AbortEnd t ∷ log → least_free f.dues f.history.working ≡ Some t → length g.history.working < length f.history.working
+pub ended_less : (log now : List Record) (f g : Findings) (t : Txn) → AreFindings f log → AreFindings g now → now ≡ records.AbortEnd t ∷ log → least_free f.dues f.open_work.active ≡ Some t → length g.open_work.active < length f.open_work.active
 ended_less log now f g t are then grown e =
-    let there : In t f.history.working = least_there f.dues f.history.working t e in
+    let there : In t f.open_work.active = least_there f.dues f.open_work.active t e in
     let off : not (same_txn t t) ≡ false = ap not (same_self t) in
-    let less = filter_less (λ (u : Txn). not (same_txn t u)) f.history.working t there off in
-    let same : g.history.working ≡ without_txn t f.history.working = ap (λ (h : Analysis). h.working) (then.history ∙ ap analysis grown) ∙ ap (λ (h : Analysis). without_txn t h.working) (sym are.history) in
-    let n : length g.history.working ≡ length (without_txn t f.history.working) = ap length same in
+    let less = filter_less (λ (u : Txn). not (same_txn t u)) f.open_work.active t there off in
+    let same : g.open_work.active ≡ without_txn t f.open_work.active = ap (λ (h : Analysis). h.active) (then.open_work ∙ ap analysis grown) ∙ ap (λ (h : Analysis). without_txn t h.active) (sym are.open_work) in
+    let n : length g.open_work.active ≡ length (without_txn t f.open_work.active) = ap length same in
     omega (arith, less, n)

@@ -24,13 +24,13 @@ use Rattle.rq_store.specs.Whole.{IsWhole}
 use Rattle.rq_store.proofs.Bounds.{may_redo}
 use Rattle.rq_store.proofs.Cutting.{fits_log_longer}
 use Rattle.rq_store.proofs.Redoing.{redone_slots}
-use Rattle.rq_undone.specs.Analysis.{Analysis, analysis}
-use Rattle.rq_undone.specs.Pages.{IsNextUndo, IsUndoing, UndoesBehind}
-use Rattle.rq_undone.specs.Pages.IsNextUndo.{Voids, Undoes}
-use Rattle.rq_undone.proofs.Noting.{few_incarnations, noted_incarnation, noted_unfinished, noted_working, pair_of}
-use Rattle.rq_undone.proofs.Undos.{undo_keeps_whole, undoing_extends}
-use Rattle.rq_lost.specs.Recovered.{IsRecovered, IsRecoveredFrom}
-use Rattle.rq_lost.proofs.Recovering.{recovered_from}
+use Rattle.rq_page_undo.specs.Analysis.{Analysis, analysis}
+use Rattle.rq_page_undo.specs.Pages.{IsNextUndo, IsUndoing, UndoesBehind}
+use Rattle.rq_page_undo.specs.Pages.IsNextUndo.{Voids, Undoes}
+use Rattle.rq_page_undo.proofs.Noting.{few_incarnations, noted_incarnation, noted_unfinished, noted_active, pair_of}
+use Rattle.rq_page_undo.proofs.Undos.{undo_keeps_whole, undoing_extends}
+use Rattle.rq_loser_undo.specs.Recovered.{IsRecovered, IsRecoveredFrom}
+use Rattle.rq_loser_undo.proofs.Recovering.{recovered_from}
 use Rattle.rq_engine.proofs.Crashing.{spelled_dropped}
 use Rattle.rq_rules.proofs.Whole.{whole_logs}
 use Rattle.rq_restart.specs.Aborting.IsAborting.{Between}
@@ -109,12 +109,12 @@ module _ (log mended : List Record) (m : IsMended log mended) (h : Analysis) (no
   begun_is new e f = record { mended = mended; mends = m; records = begins new.records e; forced = f.0; running = f.1 }
 
   pub reports : (z : Sizes) (now : List Record) (incarnation count unfinished_count gone : ℕ)
-      → (incarnation ≡ last + 1) × (count ≡ length now) × (unfinished_count ≡ length (analysis log).unfinished) × (gone ≡ length (analysis log).working) → Reports z log now incarnation count unfinished_count gone
+      → (incarnation ≡ last + 1) × (count ≡ length now) × (unfinished_count ≡ length (analysis log).unfinished) × (gone ≡ length (analysis log).active) → Reports z log now incarnation count unfinished_count gone
   reports z now incarnation count unfinished_count gone told = record {
     incarnation_is = told.0 ∙ ap (λ n. n + 1) (last_is ∙ mended_incarnation log mended m);
     records_are = told.1;
     unfinished_are = λ w. told.2 ∙ sym (length-map (analysis log).unfinished pair_of) ∙ ap length (noted_unfinished z log w.legal);
-    lost_are = λ w. told.3 ∙ ap length (noted_working z log w.legal w.reads);
+    lost_are = λ w. told.3 ∙ ap length (noted_active z log w.legal w.reads);
   }
 
   -- why the incarnation was not begun

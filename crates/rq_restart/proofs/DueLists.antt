@@ -5,28 +5,28 @@ use Rattle.rq_model.specs.declared.record.Record.{Record}
 use Rattle.rq_model.specs.declared.record.Record.TheVariants.{PageOp, PageUndo, OpEnd, OpVoid, CompEnd, Commit, Restart, AbortEnd}
 use Rattle.rq_model.specs.declared.txn.Txn.{Txn}
 use Rattle.rq_model.specs.Content.{commits_txn, ends_txn, has_end}
-use Rattle.rq_model.specs.Words.{In, has_txn, same_txn}
+use Rattle.rq_model.specs.Vocabulary.{In, has_txn, same_txn}
 use Rattle.rq_model.proofs.Lists.{In-filter, same_is, same_self}
 use Rattle.rq_record.specs.Spelling.{IsTxnInRange}
 use Rattle.rq_log.specs.Spelled.{AreSpelled}
-use Rattle.rq_undone.specs.Analysis.{analysis, with_txn, without_txn}
-use Rattle.rq_lost.specs.declared.dues.Due.{Due}
-use Rattle.rq_lost.specs.Choices.{least_free, lesser_in}
-use Rattle.rq_lost.specs.Dues.{any_due, but_own, due_of, dues}
-use Rattle.rq_lost.proofs.Planning.{in_newest}
+use Rattle.rq_page_undo.specs.Analysis.{analysis, with_txn, without_txn}
+use Rattle.rq_loser_undo.specs.declared.dues.PendingUndo.{PendingUndo}
+use Rattle.rq_loser_undo.specs.Choices.{least_free, lesser_in}
+use Rattle.rq_loser_undo.specs.Dues.{any_due, but_own, due_of, dues}
+use Rattle.rq_loser_undo.proofs.Planning.{in_newest}
 
-own_in : (t : Txn) (ds : List Due) (d : Due) → In d (but_own t ds) → In d ds
-own_in t ds d i = (In-filter (λ (x : Due). not (due_of t x)) ds d i).0
+own_in : (t : Txn) (ds : List PendingUndo) (d : PendingUndo) → In d (but_own t ds) → In d ds
+own_in t ds d i = (In-filter (λ (x : PendingUndo). not (due_of t x)) ds d i).0
 
 -- where nothing is the transaction's, all stay
-pub own_stay : (t : Txn) (ds : List Due) → any_due t ds ≡ false → but_own t ds ≡ ds
+pub own_stay : (t : Txn) (ds : List PendingUndo) → any_due t ds ≡ false → but_own t ds ≡ ds
 own_stay t [] off = refl
 own_stay t (d ∷ ds) off = let k = or_parts (same_txn d.txn t) (any_due t ds) off in rw k.0 (ap (λ l. d ∷ l) (own_stay t ds k.1))
 
 -- what is due is told by an OpEnd of the log
-pub due_told : (P : Due → Type 0) (Q : List Record → Type 0) → ((r : Record) (log : List Record) → Q (r ∷ log) → Q log)
+pub due_told : (P : PendingUndo → Type 0) (Q : List Record → Type 0) → ((r : Record) (log : List Record) → Q (r ∷ log) → Q log)
     → ((t : Txn) (n level : ℕ) (deed : List ℕ) (log : List Record) → Q (OpEnd t n level deed ∷ log) → P (record { txn = t; lsn = length log + 1; level = level; deed = deed }))
-    → (log : List Record) → Q log → (d : Due) → In d (dues log) → P d
+    → (log : List Record) → Q log → (d : PendingUndo) → In d (dues log) → P d
 due_told P Q older one [] q d i = absurd i
 due_told P Q older one (OpEnd t n level deed ∷ log) q d i = elim i [
   | inl e ↦ subst P (sym e) (one t n level deed log q)
@@ -40,10 +40,10 @@ due_told P Q older one (OpVoid t n ∷ log) q d i = due_told P Q older one log (
 due_told P Q older one (Restart n ∷ log) q d i = due_told P Q older one log (older (Restart n) log q) d i
 due_told P Q older one (AbortEnd t ∷ log) q d i = due_told P Q older one log (older (AbortEnd t) log q) d (own_in t (dues log) d i)
 
-abbrev IsDueInRange : Due → Type 0
+abbrev IsDueInRange : PendingUndo → Type 0
 IsDueInRange d = IsTxnInRange d.txn × (0 < d.lsn)
 
-pub due_range : (log : List Record) → AreSpelled log → (d : Due) → In d (dues log) → IsDueInRange d
+pub due_range : (log : List Record) → AreSpelled log → (d : PendingUndo) → In d (dues log) → IsDueInRange d
 due_range log a d i = due_told IsDueInRange AreSpelled (λ r older h. h.1) (λ t n level deed older h. (h.0.0.0, omega arith)) log a d i
 
 -- transactions without an end are in range
@@ -56,35 +56,35 @@ with_in t ts x i = elim (cases_Bool (has_txn t ts)) [
   by [] j = elim j [ inl e ↦ inl e | inr k ↦ absurd k ]
   by (u ∷ us) j = elim j [ inl e ↦ inr (inl e) | inr k ↦ elim (by us k) [ inl e ↦ inl e | inr m ↦ inr (inr m) ] ]
 
-pub working_range : (log : List Record) → AreSpelled log → (t : Txn) → In t (analysis log).working → IsTxnInRange t
-working_range [] a t i = absurd i
-working_range (OpEnd u n level deed ∷ log) a t i = elim (with_in u (analysis log).working t i) [
+pub active_range : (log : List Record) → AreSpelled log → (t : Txn) → In t (analysis log).active → IsTxnInRange t
+active_range [] a t i = absurd i
+active_range (OpEnd u n level deed ∷ log) a t i = elim (with_in u (analysis log).active t i) [
   | inl e ↦ subst IsTxnInRange (sym e) a.0.0.0
-  | inr j ↦ working_range log a.1 t j
+  | inr j ↦ active_range log a.1 t j
 ]
-working_range (Commit u ∷ log) a t i = working_range log a.1 t (In-filter (λ (x : Txn). not (same_txn u x)) (analysis log).working t i).0
-working_range (AbortEnd u ∷ log) a t i = working_range log a.1 t (In-filter (λ (x : Txn). not (same_txn u x)) (analysis log).working t i).0
-working_range (PageOp u n page slot before after ∷ log) a t i = working_range log a.1 t i
-working_range (PageUndo u n undone page slot after ∷ log) a t i = working_range log a.1 t i
-working_range (OpVoid u n ∷ log) a t i = working_range log a.1 t i
-working_range (CompEnd u n undone ∷ log) a t i = working_range log a.1 t i
-working_range (Restart n ∷ log) a t i = working_range log a.1 t i
+active_range (Commit u ∷ log) a t i = active_range log a.1 t (In-filter (λ (x : Txn). not (same_txn u x)) (analysis log).active t i).0
+active_range (AbortEnd u ∷ log) a t i = active_range log a.1 t (In-filter (λ (x : Txn). not (same_txn u x)) (analysis log).active t i).0
+active_range (PageOp u n page slot before after ∷ log) a t i = active_range log a.1 t i
+active_range (PageUndo u n undone page slot after ∷ log) a t i = active_range log a.1 t i
+active_range (OpVoid u n ∷ log) a t i = active_range log a.1 t i
+active_range (CompEnd u n undone ∷ log) a t i = active_range log a.1 t i
+active_range (Restart n ∷ log) a t i = active_range log a.1 t i
 
 -- ---- which transaction is next, once the first due is taken back
 
 -- each of these has something due
-abbrev AllOwe : List Due → List Txn → Type 0
+abbrev AllOwe : List PendingUndo → List Txn → Type 0
 AllOwe ds [] = Unit {0}
 AllOwe ds (t ∷ ts) = (any_due t ds ≡ true) × AllOwe ds ts
 
-all_owe : (ds : List Due) (ts : List Txn) → least_free ds ts ≡ None → AllOwe ds ts
+all_owe : (ds : List PendingUndo) (ts : List Txn) → least_free ds ts ≡ None → AllOwe ds ts
 all_owe ds [] e = tt
 all_owe ds (t ∷ ts) e = elim (cases_Bool (any_due t ds)) [
   | inl y ↦ (y, all_owe ds ts (rw y at e))
   | inr n ↦ (let bad : Some (lesser_in t (least_free ds ts)) ≡ None = rw n at e in absurd (cc bad))
 ]
 
-none_owes : (ds : List Due) (ts : List Txn) → AllOwe ds ts → least_free ds ts ≡ None
+none_owes : (ds : List PendingUndo) (ts : List Txn) → AllOwe ds ts → least_free ds ts ≡ None
 none_owes ds [] h = refl
 none_owes ds (t ∷ ts) h = rw h.0 (none_owes ds ts h.1)
 
@@ -93,7 +93,7 @@ pub nobody_left : (ts : List Txn) → least_free [] ts ≡ None → ts ≡ []
 nobody_left [] e = refl
 nobody_left (t ∷ ts) e = absurd (cc e)
 
-module _ (d : Due) (ds : List Due) where
+module _ (d : PendingUndo) (ds : List PendingUndo) where
   turned : (t : Txn) → same_txn d.txn t ≡ false → any_due t (d ∷ ds) ≡ true → any_due t ds ≡ true
   turned t n y = rw n at y
 
@@ -187,20 +187,20 @@ other_in t x (u ∷ ts) off i = elim i [
   | inr j ↦ elim (cases_Bool (same_txn t u)) [ inl y ↦ rw y (other_in t x ts off j) | inr n ↦ rw n (inr (other_in t x ts off j)) ]
 ]
 
-pub due_working : (log : List Record) (d : Due) → In d (dues log) → has_end log d.txn ≡ false → In d.txn (analysis log).working
-due_working [] d i e = absurd i
-due_working (OpEnd u n level deed ∷ log) d i e = elim i [
-  | inl is ↦ subst (λ t. In t (with_txn u (analysis log).working)) (sym (ap (λ (x : Due). x.txn) is)) (comes_in u (analysis log).working)
-  | inr j ↦ stays_in u (analysis log).working d.txn (due_working log d j e)
+pub due_active : (log : List Record) (d : PendingUndo) → In d (dues log) → has_end log d.txn ≡ false → In d.txn (analysis log).active
+due_active [] d i e = absurd i
+due_active (OpEnd u n level deed ∷ log) d i e = elim i [
+  | inl is ↦ subst (λ t. In t (with_txn u (analysis log).active)) (sym (ap (λ (x : PendingUndo). x.txn) is)) (comes_in u (analysis log).active)
+  | inr j ↦ stays_in u (analysis log).active d.txn (due_active log d j e)
 ]
-due_working (Commit u ∷ log) d i e =
+due_active (Commit u ∷ log) d i e =
     let k = or_parts (ends_txn d.txn (Commit u)) (has_end log d.txn) e in
-    other_in u d.txn (analysis log).working (or_parts (commits_txn d.txn (Commit u)) false k.0).0 (due_working log d (own_in u (dues log) d i) k.1)
-due_working (AbortEnd u ∷ log) d i e =
+    other_in u d.txn (analysis log).active (or_parts (commits_txn d.txn (Commit u)) false k.0).0 (due_active log d (own_in u (dues log) d i) k.1)
+due_active (AbortEnd u ∷ log) d i e =
     let k = or_parts (ends_txn d.txn (AbortEnd u)) (has_end log d.txn) e in
-    other_in u d.txn (analysis log).working k.0 (due_working log d (own_in u (dues log) d i) k.1)
-due_working (CompEnd u n undone ∷ log) d i e = due_working log d (in_newest u (dues log) d i) e
-due_working (PageOp u n page slot before after ∷ log) d i e = due_working log d i e
-due_working (PageUndo u n undone page slot after ∷ log) d i e = due_working log d i e
-due_working (OpVoid u n ∷ log) d i e = due_working log d i e
-due_working (Restart n ∷ log) d i e = due_working log d i e
+    other_in u d.txn (analysis log).active k.0 (due_active log d (own_in u (dues log) d i) k.1)
+due_active (CompEnd u n undone ∷ log) d i e = due_active log d (in_newest u (dues log) d i) e
+due_active (PageOp u n page slot before after ∷ log) d i e = due_active log d i e
+due_active (PageUndo u n undone page slot after ∷ log) d i e = due_active log d i e
+due_active (OpVoid u n ∷ log) d i e = due_active log d i e
+due_active (Restart n ∷ log) d i e = due_active log d i e

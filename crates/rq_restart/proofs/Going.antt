@@ -15,10 +15,10 @@ use Rattle.rq_store.specs.Fitting.{oldest}
 use Rattle.rq_store.specs.Whole.{IsWhole}
 use Rattle.rq_store.proofs.Cutting.{whole_dropped}
 use Rattle.rq_store.proofs.Bounds.{may_redo}
-use Rattle.rq_undone.specs.Analysis.{analysis, analysis_after}
-use Rattle.rq_lost.specs.Dues.{dues, dues_after}
-use Rattle.rq_lost.specs.Numbers.{numbers_after}
-use Rattle.rq_rules.specs.Kept.{ended_after}
+use Rattle.rq_page_undo.specs.Analysis.{analysis, analysis_after}
+use Rattle.rq_loser_undo.specs.Dues.{dues, dues_after}
+use Rattle.rq_loser_undo.specs.Numbers.{numbers_after}
+use Rattle.rq_rules.specs.ScanState.{ended_after}
 use Rattle.rq_rules.proofs.Whole.{whole_logs}
 use Rattle.rq_restart.specs.declared.findings.Findings.{Findings}
 use Rattle.rq_restart.specs.Found.{AreFindings, MayFollow, findings_after}
@@ -29,7 +29,7 @@ use Rattle.rq_restart.proofs.Repeated.{up_to}
 -- what is found with one record more
 pub found_next : (f k : Findings) (log : List Record) (r : Record) (lsn : ℕ) → lsn ≡ length log + 1 → AreFindings f log → MayFollow log r → k ≡ findings_after lsn r f → AreFindings k (r ∷ log)
 found_next f k log r lsn place are may e = record {
-  history = ap (λ (x : Findings). x.history) e ∙ ap (analysis_after lsn r) are.history ∙ ap (λ n. analysis_after n r (analysis log)) place;
+  open_work = ap (λ (x : Findings). x.open_work) e ∙ ap (analysis_after lsn r) are.open_work ∙ ap (λ n. analysis_after n r (analysis log)) place;
   dues = ap (λ (x : Findings). x.dues) e ∙ ap (dues_after lsn r) are.dues ∙ ap (λ n. dues_after n r (dues log)) place;
   numbers = ap (λ (x : Findings). x.numbers) e ∙ ap (numbers_after r) are.numbers;
   ended = ap (λ (x : Findings). x.ended) e ∙ ap (ended_after r) are.ended;

@@ -8,10 +8,10 @@ use Rattle.rq_page.specs.Sizes.{Sizes}
 use Rattle.rq_pool.specs.Pooled.{IsPool, Pooled}
 use Rattle.rq_views.specs.Stored.{slots_in}
 use Rattle.rq_store.specs.Opening.{IsLeft}
-use Rattle.rq_lost.specs.Recovered.{IsRecovered}
-use Rattle.rq_links.specs.Links.{AreLinked}
-use Rattle.rq_links.proofs.Faults.{faults_exact}
-use Rattle.rq_links.proofs.Sound.{sound_linked}
+use Rattle.rq_loser_undo.specs.Recovered.{IsRecovered}
+use Rattle.rq_chain_check.specs.Links.{AreLinked}
+use Rattle.rq_chain_check.proofs.Faults.{faults_exact}
+use Rattle.rq_chain_check.proofs.Sound.{sound_linked}
 use Rattle.rq_restart.specs.Mended.{ArePlannedFrom, IsMended, LinkStops, MendStops}
 use Rattle.rq_restart.specs.Repeating.{Paged, Repeats, paged, slots_on}
 use Rattle.rq_restart.proofs.Begun.{begun_sound}

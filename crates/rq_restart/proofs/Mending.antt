@@ -16,46 +16,46 @@ use Rattle.rq_store.specs.State.{State}
 use Rattle.rq_store.proofs.Fitting.{oldest_all}
 use Rattle.rq_store.proofs.Redoing.{redone_slots}
 use Rattle.rq_sound.specs.Sound.{IsSound}
-use Rattle.rq_undone.specs.Analysis.{analysis}
-use Rattle.rq_undone.specs.Pages.{IsNextUndo, IsUndone, UndoesBehind}
-use Rattle.rq_undone.specs.Pages.IsNextUndo.{Voids, Undoes}
-use Rattle.rq_undone.specs.Theorems.{IsUndoneFrom}
-use Rattle.rq_undone.proofs.Undos.{undone_from}
-use Rattle.rq_lost.specs.declared.dues.Due.{Due}
-use Rattle.rq_lost.specs.Choices.{least_free}
-use Rattle.rq_lost.specs.Dues.{dues}
-use Rattle.rq_lost.specs.Lost.{IsRepeated, lost_store}
-use Rattle.rq_lost.specs.Moves.{newest_store}
-use Rattle.rq_lost.specs.Recovered.{IsRecovered, IsRecovering}
-use Rattle.rq_lost.specs.Recovered.IsRecovered.{AllAborted, NoneLost}
-use Rattle.rq_lost.specs.Recovered.IsRecovering.{Aborting, Undoing}
-use Rattle.rq_lost.specs.Walk.{IsBetween}
-use Rattle.rq_lost.proofs.Owing.{first_due}
-use Rattle.rq_lost.proofs.Logging.{come_sound}
-use Rattle.rq_lost.proofs.Store.{lost_sound, some_incarnation}
-use Rattle.rq_lost.proofs.Walking.{aborts_come}
+use Rattle.rq_page_undo.specs.Analysis.{analysis}
+use Rattle.rq_page_undo.specs.Pages.{IsNextUndo, IsUndone, UndoesBehind}
+use Rattle.rq_page_undo.specs.Pages.IsNextUndo.{Voids, Undoes}
+use Rattle.rq_page_undo.specs.Theorems.{IsUndoneFrom}
+use Rattle.rq_page_undo.proofs.Undos.{undone_from}
+use Rattle.rq_loser_undo.specs.declared.dues.PendingUndo.{PendingUndo}
+use Rattle.rq_loser_undo.specs.Choices.{least_free}
+use Rattle.rq_loser_undo.specs.Dues.{dues}
+use Rattle.rq_loser_undo.specs.Lost.{IsRepeated, lost_store}
+use Rattle.rq_loser_undo.specs.Moves.{newest_store}
+use Rattle.rq_loser_undo.specs.Recovered.{IsRecovered, IsRecovering}
+use Rattle.rq_loser_undo.specs.Recovered.IsRecovered.{AllAborted, NoneLost}
+use Rattle.rq_loser_undo.specs.Recovered.IsRecovering.{Aborting, Undoing}
+use Rattle.rq_loser_undo.specs.Walk.{IsBetween}
+use Rattle.rq_loser_undo.proofs.Owing.{first_due}
+use Rattle.rq_loser_undo.proofs.Logging.{come_sound}
+use Rattle.rq_loser_undo.proofs.Store.{lost_sound, some_incarnation}
+use Rattle.rq_loser_undo.proofs.Walking.{aborts_come}
 use Rattle.rq_restart.specs.Aborting.{AbortStops, AbortsFrom, AbortsOn, HasGoneOn, IsAborting, IsAbortingFrom, IsFull, IsOnItsWay, IsShown, RepeatedFrom, RepeatedSince}
 use Rattle.rq_restart.specs.Aborting.IsOnItsWay.{Between, Within}
 use Rattle.rq_restart.specs.Checked.{IsEnded}
 use Rattle.rq_restart.specs.Mended.{IsMendedSince, MendStops}
 use Rattle.rq_restart.specs.Repeating.{Paged, Repeats, paged}
 use Rattle.rq_restart.specs.Undoing.{UndoStops}
-use Rattle.rq_restart.proofs.Aborts.{aborting_none, aborting_weaker, bad_weaker, planned_weaker, working_lost}
+use Rattle.rq_restart.proofs.Aborts.{aborting_none, aborting_weaker, bad_weaker, planned_weaker, active_lost}
 use Rattle.rq_restart.proofs.Lefts.{left_undoing}
 use Rattle.rq_restart.proofs.Repeated.{all_up_to}
 use Rattle.rq_restart.proofs.Showing.{between_holds}
 
 -- undoing by pages leaves the transactions that have no end
-same_one : (log : List Record) (r : Record) → IsNextUndo (analysis log) r → (analysis (r ∷ log)).working ≡ (analysis log).working
+same_one : (log : List Record) (r : Record) → IsNextUndo (analysis log) r → (analysis (r ∷ log)).active ≡ (analysis log).active
 same_one log r (Voids o s least e) = rw e refl
 same_one log r (Undoes p ps none f e) = rw e refl
 
-same_behind : (log front : List Record) → UndoesBehind log front → (analysis (front ++ log)).working ≡ (analysis log).working
+same_behind : (log front : List Record) → UndoesBehind log front → (analysis (front ++ log)).active ≡ (analysis log).active
 same_behind log [] h = refl
 same_behind log (r ∷ front) h = same_one (front ++ log) r h.0 ∙ same_behind log front h.1
 
-pub undone_working : (log undone : List Record) → IsUndone log undone → (analysis undone).working ≡ (analysis log).working
-undone_working log undone u = ap (λ l. (analysis l).working) (sym u.undoing.are) ∙ same_behind log u.undoing.front u.undoing.undoes
+pub undone_active : (log undone : List Record) → IsUndone log undone → (analysis undone).active ≡ (analysis log).active
+undone_active log undone u = ap (λ l. (analysis l).active) (sym u.undoing.are) ∙ same_behind log u.undoing.front u.undoing.undoes
 
 -- at its end a restart has been on its way
 pub recovered_on : (z : Sizes) (log now : List Record) → IsRecovered z log now → IsRecovering z log now
@@ -82,7 +82,7 @@ module _ {P : Type 0} (z : Sizes) (log undone : List Record) (mid : Pooled P) (u
 
   module _ (some : IsEnded undone → ⊥) where
     some_lost : lost undone ≢ []
-    some_lost e = some (working_lost z undone from.whole ∙ e)
+    some_lost e = some (active_lost z undone from.whole ∙ e)
 
     is_repeated : IsRepeated z mid.images undone (length undone)
     is_repeated = record {
@@ -117,11 +117,11 @@ module _ {P : Type 0} (z : Sizes) (log undone : List Record) (mid : Pooled P) (u
       after = g.shown base sound refl shown
 
       none_lost : lost now ≡ []
-      none_lost = sym (working_lost z now (between_holds base new.images now sound after).whole) ∙ ended
+      none_lost = sym (active_lost z now (between_holds base new.images now sound after).whole) ∙ ended
 
       nothing_due : dues now ≡ []
       nothing_due = by (dues now) refl where
-        by : (ds : List Due) → dues now ≡ ds → ds ≡ []
+        by : (ds : List PendingUndo) → dues now ≡ ds → ds ≡ []
         by [] e = refl
         by (d ∷ ds) e =
             let s = newest_store base after.stores in
@@ -135,9 +135,9 @@ module _ {P : Type 0} (z : Sizes) (log undone : List Record) (mid : Pooled P) (u
 
   -- so the log is recovered
   pub recovered_is : (now : List Record) (new : Pooled P) → HasGoneOn z (AbortsFrom z undone mid now) undone now mid new (IsShown undone mid) (IsShown now new) → IsEnded now → (IsEnded undone → now ≡ undone) → IsRecovered z log now
-  recovered_is now new g ended none = by (analysis undone).working refl where
-    by : (ts : List Txn) → (analysis undone).working ≡ ts → IsRecovered z log now
-    by [] e = subst (IsRecovered z log) (sym (none e)) (NoneLost u (sym (working_lost z undone from.whole) ∙ e))
+  recovered_is now new g ended none = by (analysis undone).active refl where
+    by : (ts : List Txn) → (analysis undone).active ≡ ts → IsRecovered z log now
+    by [] e = subst (IsRecovered z log) (sym (none e)) (NoneLost u (sym (active_lost z undone from.whole) ∙ e))
     by (t ∷ ts) e = all_recovered (λ bad. (let k : t ∷ ts ≡ [] = sym e ∙ bad in cc k)) now new g ended
 
 -- why operations were not undone, or then transactions, is why the log was not mended
@@ -155,7 +155,7 @@ abort_mends_not z log undone mid u pool some first repeated why.LogFull s = reco
   now = s.last;
   aborting = aborting_weaker z (RepeatedSince z undone (paged mid)) (RepeatedFrom z first) (λ l p h. h first repeated) undone s.last s.aborting;
   turn = inr u;
-  none_lost = λ e. absurd (some (undone_working log undone u ∙ e));
+  none_lost = λ e. absurd (some (undone_active log undone u ∙ e));
   full = s.full;
   recovering = λ left. full_recovering z log undone mid u pool first left repeated some s;
 }

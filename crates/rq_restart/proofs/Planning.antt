@@ -30,10 +30,10 @@ use Rattle.rq_sound.specs.Inverses.{InverseTakesLowest, MayBeUndone}
 use Rattle.rq_planner.specs.Asked.{to_undo}
 use Rattle.rq_planner.specs.Asked.Asked.{Undo}
 use Rattle.rq_planner.specs.Backs.{CanBeTakenBack, IsRefusedBack, IsTakingBack}
-use Rattle.rq_links.proofs.Chains.{sender_same}
-use Rattle.rq_lost.specs.declared.dues.Due.{Due}
-use Rattle.rq_lost.specs.Dues.{deed_due}
-use Rattle.rq_lost.specs.Walk.{ShowsUndone, StandsLast}
+use Rattle.rq_chain_check.proofs.Chains.{sender_same}
+use Rattle.rq_loser_undo.specs.declared.dues.PendingUndo.{PendingUndo}
+use Rattle.rq_loser_undo.specs.Dues.{deed_due}
+use Rattle.rq_loser_undo.specs.Walk.{ShowsUndone, StandsLast}
 use Rattle.rq_restart.specs.Aborting.{IsPlannedBack, PlanStops, blamed_on}
 
 -- ---- what a sound store shows to be done last, with nothing under way, can be taken back
@@ -96,14 +96,14 @@ shows_can z images log d low shows =
 -- ---- what the level plans
 
 -- the deed that is read is what is due
-deed_is : (d : Due) (deed : Deed) → deed_in d.deed ≡ Some deed → deed_due d ≡ deed
+deed_is : (d : PendingUndo) (deed : Deed) → deed_in d.deed ≡ Some deed → deed_due d ≡ deed
 deed_is d deed e = ap told_deed e
 
 asked_is : (o : Option Deed) (d : Deed) → to_undo o ≡ Some (Undo d) → o ≡ Some d
 asked_is None d e = absurd (let no : None ≡ Some (Undo d) = e in cc no)
 asked_is (Some x) d e = let same : Some (Undo x) ≡ Some (Undo d) = e in cc same
 
-pub planned_back : (z : Sizes) (q : Slots) (due : Due) (t : Txn) (n level : ℕ) (p : Plan) → IsTakingBack z q (records.OpEnd t n level due.deed) p → IsPlannedBack z q due p.writes.items
+pub planned_back : (z : Sizes) (q : Slots) (due : PendingUndo) (t : Txn) (n level : ℕ) (p : Plan) → IsTakingBack z q (records.OpEnd t n level due.deed) p → IsPlannedBack z q due p.writes.items
 planned_back z q due t n level p b = record {
   deed = b.deed;
   reads = asked_is (deed_in due.deed) b.deed b.reads;
@@ -113,7 +113,7 @@ planned_back z q due t n level p b = record {
   lowest = b.lowest;
 }
 
-module _ (z : Sizes) (q : Slots) (due : Due) (ws : List SlotWrite) (b : IsPlannedBack z q due ws) where
+module _ (z : Sizes) (q : Slots) (due : PendingUndo) (ws : List SlotWrite) (b : IsPlannedBack z q due ws) where
   pub plan_is : IsPlannedFrom z q ws (Undid (deed_due due))
   plan_is = subst (λ (d : Deed). IsPlannedFrom z q ws (Undid d)) (sym (deed_is due b.deed b.reads)) b.planned
 
@@ -121,7 +121,7 @@ module _ (z : Sizes) (q : Slots) (due : Due) (ws : List SlotWrite) (b : IsPlanne
   lowest_is = subst (λ (d : Deed). InverseTakesLowest z q [] d ws) (sym (deed_is due b.deed b.reads)) b.lowest
 
 -- and why it plans nothing
-pub why_not_planned : (z : Sizes) (images : List (List ℕ)) (due : Due) (r : Refusal) → IsRefusedBack z (slots_in z images) (to_undo (deed_in due.deed)) r → PlanStops z images due (blamed_on due.lsn r)
+pub why_not_planned : (z : Sizes) (images : List (List ℕ)) (due : PendingUndo) (r : Refusal) → IsRefusedBack z (slots_in z images) (to_undo (deed_in due.deed)) r → PlanStops z images due (blamed_on due.lsn r)
 why_not_planned z images due why.NoMemory f = tt
 why_not_planned z images due (why.Damaged x) f = (refl, λ deed told can. (let e = f deed (ap to_undo told) can in cc e))
 why_not_planned z images due _ f = (refl, λ deed told can. (let e = f deed (ap to_undo told) can in cc e))

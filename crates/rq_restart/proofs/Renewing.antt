@@ -8,7 +8,7 @@ use Rattle.rq_page.specs.Slots.{held_in}
 use Rattle.rq_page.specs.Slots.Slot.{Free}
 use Rattle.rq_views.specs.Stored.{slot_at, slots_in}
 use Rattle.rq_level.specs.declared.writes.SlotWrite.{SlotWrite}
-use Rattle.rq_level.specs.Kept.{Kept}
+use Rattle.rq_level.specs.LevelState.{LevelState}
 use Rattle.rq_pool.specs.Pooled.{Pooled}
 use Rattle.rq_store.specs.Fitting.{ToldWrite, image_in, told_by}
 use Rattle.rq_store.specs.Opening.{IsRedone, Redoes}
@@ -43,5 +43,5 @@ pub write_elsewhere : (z : Sizes) (old new : List (List ℕ)) (t : Txn) (n lsn :
 write_elsewhere z old new t n lsn w r a ne = elsewhere z old new (record { page = w.at / 16; slot = w.at % 16; after = w.after }) lsn r a (λ e. ne (e ∙ address_is w.at))
 
 -- pages that are what they were have the cells that they had
-pub cells_same : {P : Type 0} (old new : Pooled P) (k : Kept) → new ≡ old → KnowsCells old.sizes old.images k → KnowsCells new.sizes new.images k
+pub cells_same : {P : Type 0} (old new : Pooled P) (k : LevelState) → new ≡ old → KnowsCells old.sizes old.images k → KnowsCells new.sizes new.images k
 cells_same {P} old new k e h = subst (λ (p : Pooled P). KnowsCells p.sizes p.images k) (sym e) h

@@ -11,7 +11,7 @@ use Rattle.rq_model.specs.declared.refusal.Damage.TheVariants as damage
 use Rattle.rq_model.specs.declared.txn.Sub.{Sub}
 use Rattle.rq_model.specs.declared.txn.Txn.{Txn}
 use Rattle.rq_model.specs.Unended.{lost}
-use Rattle.rq_model.specs.Words.{In, same_txn}
+use Rattle.rq_model.specs.Vocabulary.{In, same_txn}
 use Rattle.rq_page.specs.Sizes.{Sizes}
 use Rattle.rq_pool.specs.Pooled.{IsPool, Pooled}
 use Rattle.rq_views.specs.Items.{items, item_of, layout_of, operation}
@@ -30,22 +30,22 @@ use Rattle.rq_store.specs.Whole.{IsWhole}
 use Rattle.rq_sound.specs.Plans.{IsPlannedFrom}
 use Rattle.rq_sound.specs.Rows.{comp_end}
 use Rattle.rq_sound.specs.Sound.{IsSound}
-use Rattle.rq_undone.specs.Analysis.{Analysis, analysis, without_txn}
+use Rattle.rq_page_undo.specs.Analysis.{Analysis, analysis, without_txn}
 use Rattle.rq_sound.specs.Inverses.{InverseTakesLowest}
-use Rattle.rq_lost.specs.declared.dues.Due.{Due}
-use Rattle.rq_lost.specs.Choices.{least_free}
-use Rattle.rq_lost.specs.Dues.{any_due, but_own, deed_due, dues}
-use Rattle.rq_lost.specs.Moves.{newest_store}
-use Rattle.rq_lost.specs.Numbers.{number_of, numbers}
-use Rattle.rq_lost.specs.Walk.{IsBetween, IsWithin, ShowsUndone}
-use Rattle.rq_lost.proofs.Choosing.{chosen_back, least_there}
-use Rattle.rq_lost.proofs.Logging.{write_whole}
-use Rattle.rq_lost.proofs.Moving.{moves_sound}
-use Rattle.rq_lost.proofs.Numbering.{kept}
-use Rattle.rq_lost.proofs.Owing.{rest_due}
-use Rattle.rq_lost.proofs.Planning.{due_may, due_reads}
-use Rattle.rq_lost.proofs.Recovering.{behind}
-use Rattle.rq_lost.proofs.Walking.{aborts_go_on}
+use Rattle.rq_loser_undo.specs.declared.dues.PendingUndo.{PendingUndo}
+use Rattle.rq_loser_undo.specs.Choices.{least_free}
+use Rattle.rq_loser_undo.specs.Dues.{any_due, but_own, deed_due, dues}
+use Rattle.rq_loser_undo.specs.Moves.{newest_store}
+use Rattle.rq_loser_undo.specs.Numbers.{number_of, numbers}
+use Rattle.rq_loser_undo.specs.Walk.{IsBetween, IsWithin, ShowsUndone}
+use Rattle.rq_loser_undo.proofs.Choosing.{chosen_back, least_there}
+use Rattle.rq_loser_undo.proofs.Logging.{write_whole}
+use Rattle.rq_loser_undo.proofs.Moving.{moves_sound}
+use Rattle.rq_loser_undo.proofs.Numbering.{kept}
+use Rattle.rq_loser_undo.proofs.Owing.{rest_due}
+use Rattle.rq_loser_undo.proofs.Planning.{due_may, due_reads}
+use Rattle.rq_loser_undo.proofs.Recovering.{behind}
+use Rattle.rq_loser_undo.proofs.Walking.{aborts_go_on}
 use Rattle.rq_restart.specs.declared.findings.Findings.{Findings}
 use Rattle.rq_restart.specs.Aborting.{AbortStops, CannotBeTaken, IsAbortingFrom, IsBadStep, IsNotUndone, IsOnItsWay, IsShown, IsShownWithin, IsTakenNext, OfStore, PlanStops, RepeatedSince}
 use Rattle.rq_restart.specs.Aborting.IsBadStep.{BadDue}
@@ -53,7 +53,7 @@ use Rattle.rq_restart.specs.Aborting.IsOnItsWay.{Between, Within}
 use Rattle.rq_restart.specs.Checked.{IsEnded}
 use Rattle.rq_restart.specs.Found.{AreFindings}
 use Rattle.rq_restart.specs.Repeating.{Belongs, IsRepeated, Paged, Repeats, paged}
-use Rattle.rq_restart.proofs.Aborts.{aborting_none, working_lost}
+use Rattle.rq_restart.proofs.Aborts.{aborting_none, active_lost}
 use Rattle.rq_restart.proofs.DueLists.{nobody_left, one_next, own_stay}
 use Rattle.rq_restart.proofs.Planning.{shows_can}
 use Rattle.rq_restart.proofs.Showing.{belongs_next, between_holds, put_next, within_holds}
@@ -84,12 +84,12 @@ few_numbers l t [] g h = omega arith
 few_numbers l t (r ∷ log) g h = (let a = rises l t r log g h in let b = few_numbers l t log g.1 h.1 in omega (arith, a, b))
 
 -- the next that is found is one of those that have no end
-pub least_in : (log : List Record) (f : Findings) → AreFindings f log → (t : Txn) → least_free f.dues f.history.working ≡ Some t → In t (analysis log).working
-least_in log f are t e = subst (In t) (ap (λ h. h.working) are.history) (least_there f.dues f.history.working t e)
+pub least_in : (log : List Record) (f : Findings) → AreFindings f log → (t : Txn) → least_free f.dues f.open_work.active ≡ Some t → In t (analysis log).active
+least_in log f are t e = subst (In t) (ap (λ h. h.active) are.open_work) (least_there f.dues f.open_work.active t e)
 
 -- who is next by what is found is next by the log
-pub least_of : (log : List Record) (f : Findings) → AreFindings f log → (o : Option Txn) → least_free f.dues f.history.working ≡ o → least_free (dues log) (analysis log).working ≡ o
-least_of log f are o e = ap (λ (h : Analysis). least_free (dues log) h.working) (sym are.history) ∙ ap (λ l. least_free l f.history.working) (sym are.dues) ∙ e
+pub least_of : (log : List Record) (f : Findings) → AreFindings f log → (o : Option Txn) → least_free f.dues f.open_work.active ≡ o → least_free (dues log) (analysis log).active ≡ o
+least_of log f are o e = ap (λ (h : Analysis). least_free (dues log) h.active) (sym are.open_work) ∙ ap (λ l. least_free l f.open_work.active) (sym are.dues) ∙ e
 
 -- ---- a store that is shown
 
@@ -101,17 +101,17 @@ module _ {P : Type 0} (z : Sizes) (log : List Record) (old : Pooled P) (f : Find
   whole_shown base k same b = subst (λ y. IsWhole y log) same (between_holds base old.images log k b).whole
 
   -- those that are found to have no end are lost
-  pub found_lost : (base : State) → IsSound base → base.sizes ≡ z → shown base → f.history.working ≡ lost log
-  found_lost base k same b = ap (λ h. h.working) are.history ∙ working_lost z log (whole_shown base k same b)
+  pub found_lost : (base : State) → IsSound base → base.sizes ≡ z → shown base → f.open_work.active ≡ lost log
+  found_lost base k same b = ap (λ h. h.active) are.open_work ∙ active_lost z log (whole_shown base k same b)
 
-  least_is : (o : Option Txn) → least_free f.dues f.history.working ≡ o → (base : State) → IsSound base → base.sizes ≡ z → shown base → least_free (dues log) (lost log) ≡ o
-  least_is o e base k same b = ap (λ ts. least_free (dues log) ts) (sym (found_lost base k same b)) ∙ ap (λ ds. least_free ds f.history.working) (sym are.dues) ∙ e
+  least_is : (o : Option Txn) → least_free f.dues f.open_work.active ≡ o → (base : State) → IsSound base → base.sizes ≡ z → shown base → least_free (dues log) (lost log) ≡ o
+  least_is o e base k same b = ap (λ ts. least_free (dues log) ts) (sym (found_lost base k same b)) ∙ ap (λ ds. least_free ds f.open_work.active) (sym are.dues) ∙ e
 
   pub shown_way : OfStore z shown (λ base. IsOnItsWay base log)
   shown_way base k same b = Between old.images b
 
   -- the end of the next that has nothing due
-  module _ (t : Txn) (e : least_free f.dues f.history.working ≡ Some t) where
+  module _ (t : Txn) (e : least_free f.dues f.open_work.active ≡ Some t) where
     then : (base : State) → IsSound base → base.sizes ≡ z → shown base → IsBetween base old.images (records.AbortEnd t ∷ log)
     then base k same b = aborts_go_on.ends base old.images log t k b (least_is (Some t) e base k same b)
 
@@ -125,7 +125,7 @@ module _ {P : Type 0} (z : Sizes) (log : List Record) (old : Pooled P) (f : Find
     end_shown new is base k same b = subst (λ (p : Pooled P). IsBetween base p.images (records.AbortEnd t ∷ log)) (sym is) (then base k same b)
 
   -- what is due first
-  module _ (d : Due) (ds : List Due) (first : f.dues ≡ d ∷ ds) (none : least_free f.dues f.history.working ≡ None) where
+  module _ (d : PendingUndo) (ds : List PendingUndo) (first : f.dues ≡ d ∷ ds) (none : least_free f.dues f.open_work.active ≡ None) where
     first_is : dues log ≡ d ∷ ds
     first_is = sym are.dues ∙ first
 
@@ -138,7 +138,7 @@ module _ {P : Type 0} (z : Sizes) (log : List Record) (old : Pooled P) (f : Find
         (h.0, h.2, h.3.row)
 
     -- its transaction is lost
-    pub first_lost : OfStore z shown (λ base. In d.txn f.history.working)
+    pub first_lost : OfStore z shown (λ base. In d.txn f.open_work.active)
     first_lost base k same b =
         let s = newest_store base b.stores in
         let r = row base k same b in
@@ -165,7 +165,7 @@ module _ {P : Type 0} (z : Sizes) (log : List Record) (old : Pooled P) (f : Find
         bad (deed_due d) read.0 (shows_can z old.images log (deed_due d) read.1 (subst (λ y. ShowsUndone y old.images log (deed_due d)) same may))
 
     -- nobody without an end has nothing due
-    nobody_is : least_free (dues log) (analysis log).working ≡ None
+    nobody_is : least_free (dues log) (analysis log).active ≡ None
     nobody_is = least_of log f are None none
 
     pub taken_next : (n : ℕ) → n ≡ number_of d.txn f.numbers + 1 → IsTakenNext log d n
@@ -202,17 +202,17 @@ module _ {P : Type 0} (z : Sizes) (log : List Record) (old : Pooled P) (f : Find
         omega (arith, many, few, e, low, count, all, same_number)
 
 -- once what was due first is taken back, its transaction, which has nothing more due and no end, ends next
-pub ends_next : (mid : List Record) (f h : Findings) → AreFindings h mid → (d : Due) → least_free (d ∷ h.dues) f.history.working ≡ None → h.history.working ≡ f.history.working → any_due d.txn h.dues ≡ false → In d.txn f.history.working
-    → least_free (dues mid) (analysis mid).working ≡ Some d.txn
-ends_next mid f h then d none working off there = least_of mid h then (Some d.txn) (ap (least_free h.dues) working ∙ one_next d h.dues f.history.working off none there)
+pub ends_next : (mid : List Record) (f h : Findings) → AreFindings h mid → (d : PendingUndo) → least_free (d ∷ h.dues) f.open_work.active ≡ None → h.open_work.active ≡ f.open_work.active → any_due d.txn h.dues ≡ false → In d.txn f.open_work.active
+    → least_free (dues mid) (analysis mid).active ≡ Some d.txn
+ends_next mid f h then d none active off there = least_of mid h then (Some d.txn) (ap (least_free h.dues) active ∙ one_next d h.dues f.open_work.active off none there)
 
 -- what is due first is taken back, and its transaction has nothing more
-module _ {P : Type 0} (z : Sizes) (log mid : List Record) (old now : Pooled P) (f h : Findings) (are : AreFindings f log) (then : AreFindings h mid) (d : Due) (first : f.dues ≡ d ∷ h.dues) (none : least_free f.dues f.history.working ≡ None)
-    (working : h.history.working ≡ f.history.working) (off : any_due d.txn h.dues ≡ false) (shown_then : OfStore z (IsShown log old) (IsShown mid now)) where
-  next_is : (base : State) → IsSound base → base.sizes ≡ z → IsShown log old base → least_free h.dues h.history.working ≡ Some d.txn
+module _ {P : Type 0} (z : Sizes) (log mid : List Record) (old now : Pooled P) (f h : Findings) (are : AreFindings f log) (then : AreFindings h mid) (d : PendingUndo) (first : f.dues ≡ d ∷ h.dues) (none : least_free f.dues f.open_work.active ≡ None)
+    (active : h.open_work.active ≡ f.open_work.active) (off : any_due d.txn h.dues ≡ false) (shown_then : OfStore z (IsShown log old) (IsShown mid now)) where
+  next_is : (base : State) → IsSound base → base.sizes ≡ z → IsShown log old base → least_free h.dues h.open_work.active ≡ Some d.txn
   next_is base k same b =
-      ap (least_free h.dues) working
-      ∙ one_next d h.dues f.history.working off (ap (λ ds. least_free ds f.history.working) (sym first) ∙ none) (first_lost z log old f are d h.dues first none base k same b)
+      ap (least_free h.dues) active
+      ∙ one_next d h.dues f.open_work.active off (ap (λ ds. least_free ds f.open_work.active) (sym first) ∙ none) (first_lost z log old f are d h.dues first none base k same b)
 
   pub next_belongs : OfStore z (IsShown log old) (λ base. Belongs z mid (records.AbortEnd d.txn) (paged now))
   next_belongs base k same b = end_belongs z mid now h then d.txn (next_is base k same b) base k same (shown_then base k same b)
@@ -225,7 +225,7 @@ module _ {P : Type 0} (z : Sizes) (log mid : List Record) (old now : Pooled P) (
 
 -- ---- an inverse under way
 
-module _ {P : Type 0} (z : Sizes) (log : List Record) (old : Pooled P) (d : Due) (n : ℕ) (ws : List SlotWrite) (made : ℕ) where
+module _ {P : Type 0} (z : Sizes) (log : List Record) (old : Pooled P) (d : PendingUndo) (n : ℕ) (ws : List SlotWrite) (made : ℕ) where
   abbrev within : State → Type 0
   within = IsShownWithin log old d n ws made
 
@@ -252,7 +252,7 @@ module _ {P : Type 0} (z : Sizes) (log : List Record) (old : Pooled P) (d : Due)
         (put_next base old.images new.images log d.txn n w h (whole base k same i) (subst (λ y. IsPool y new.images) (sym same) pool) one.redone)
 
 -- its end
-module _ {P : Type 0} (z : Sizes) (log : List Record) (old : Pooled P) (d : Due) (n : ℕ) (ws : List SlotWrite) where
+module _ {P : Type 0} (z : Sizes) (log : List Record) (old : Pooled P) (d : PendingUndo) (n : ℕ) (ws : List SlotWrite) where
   abbrev all_made : State → Type 0
   all_made = IsShownWithin log old d n ws (length ws)
 
@@ -277,26 +277,26 @@ get_there (x ∷ ws) zero w lt e = ap (λ y. Some y) (sym e)
 get_there (x ∷ ws) (suc i) w lt e = get_there ws i w (omega (arith, lt)) e
 
 -- a write leaves what is due, and the transactions that have no end
-pub write_rest : (log now : List Record) (f h : Findings) (t : Txn) (n : ℕ) (w : SlotWrite) → AreFindings f log → AreFindings h now → now ≡ page_op t n w ∷ log → (h.dues ≡ f.dues) × (h.history.working ≡ f.history.working)
+pub write_rest : (log now : List Record) (f h : Findings) (t : Txn) (n : ℕ) (w : SlotWrite) → AreFindings f log → AreFindings h now → now ≡ page_op t n w ∷ log → (h.dues ≡ f.dues) × (h.open_work.active ≡ f.open_work.active)
 write_rest log now f h t n w are then grown = (
   then.dues ∙ ap dues grown ∙ sym are.dues,
-  ap (λ (x : Analysis). x.working) (then.history ∙ ap analysis grown) ∙ ap (λ (x : Analysis). x.working) (sym are.history),
+  ap (λ (x : Analysis). x.active) (then.open_work ∙ ap analysis grown) ∙ ap (λ (x : Analysis). x.active) (sym are.open_work),
 )
 
 -- the end of an inverse takes off what was due first
-pub close_rest : (log now : List Record) (f h : Findings) (d : Due) (older : List Due) (n lsn : ℕ) → AreFindings f log → AreFindings h now → now ≡ comp_end d.txn n lsn ∷ log → f.dues ≡ d ∷ older → (h.dues ≡ older) × (h.history.working ≡ f.history.working)
+pub close_rest : (log now : List Record) (f h : Findings) (d : PendingUndo) (older : List PendingUndo) (n lsn : ℕ) → AreFindings f log → AreFindings h now → now ≡ comp_end d.txn n lsn ∷ log → f.dues ≡ d ∷ older → (h.dues ≡ older) × (h.open_work.active ≡ f.open_work.active)
 close_rest log now f h d older n lsn are then grown first = (
   then.dues ∙ ap dues grown ∙ rest_due log d older n lsn (sym are.dues ∙ first),
-  ap (λ (x : Analysis). x.working) (then.history ∙ ap analysis grown) ∙ ap (λ (x : Analysis). x.working) (sym are.history),
+  ap (λ (x : Analysis). x.active) (then.open_work ∙ ap analysis grown) ∙ ap (λ (x : Analysis). x.active) (sym are.open_work),
 )
 
 -- the end of a transaction with nothing due leaves what is due, and takes it off those that have no end
-pub end_rest : (log now : List Record) (f h : Findings) (t : Txn) → AreFindings f log → AreFindings h now → now ≡ records.AbortEnd t ∷ log → any_due t f.dues ≡ false → (h.dues ≡ f.dues) × (h.history.working ≡ without_txn t f.history.working)
+pub end_rest : (log now : List Record) (f h : Findings) (t : Txn) → AreFindings f log → AreFindings h now → now ≡ records.AbortEnd t ∷ log → any_due t f.dues ≡ false → (h.dues ≡ f.dues) × (h.open_work.active ≡ without_txn t f.open_work.active)
 end_rest log now f h t are then grown off = (
   then.dues ∙ ap dues grown ∙ ap (but_own t) (sym are.dues) ∙ own_stay t f.dues off,
-  ap (λ (x : Analysis). x.working) (then.history ∙ ap analysis grown) ∙ ap (λ (x : Analysis). without_txn t x.working) (sym are.history),
+  ap (λ (x : Analysis). x.active) (then.open_work ∙ ap analysis grown) ∙ ap (λ (x : Analysis). without_txn t x.active) (sym are.open_work),
 )
 
 -- where nothing is due, and nobody has an end left to be made, all have ended
-pub all_ended : (log : List Record) (f : Findings) → AreFindings f log → f.dues ≡ [] → least_free f.dues f.history.working ≡ None → IsEnded log
-all_ended log f are nothing none = ap (λ (x : Analysis). x.working) (sym are.history) ∙ nobody_left f.history.working (ap (λ ds. least_free ds f.history.working) (sym nothing) ∙ none)
+pub all_ended : (log : List Record) (f : Findings) → AreFindings f log → f.dues ≡ [] → least_free f.dues f.open_work.active ≡ None → IsEnded log
+all_ended log f are nothing none = ap (λ (x : Analysis). x.active) (sym are.open_work) ∙ nobody_left f.open_work.active (ap (λ ds. least_free ds f.open_work.active) (sym nothing) ∙ none)

@@ -6,19 +6,19 @@ use Rattle.rq_model.specs.declared.refusal.Refusal.{Refusal}
 use Rattle.rq_model.specs.declared.refusal.Refusal.TheVariants as why
 use Rattle.rq_model.specs.declared.refusal.Damage.TheVariants as damage
 use Rattle.rq_model.specs.declared.txn.Sub.{Sub}
-use Rattle.rq_model.specs.Words.{In}
+use Rattle.rq_model.specs.Vocabulary.{In}
 use Rattle.rq_page.specs.Sizes.{Sizes}
 use Rattle.rq_record.specs.Spelling.{IsInRange, IsSlotNumber, IsTxnInRange}
 use Rattle.rq_log.specs.Spelled.{AreSpelled}
 use Rattle.rq_views.specs.Items.{operation}
 use Rattle.rq_store.specs.Opening.{MayRedo, Redoes}
 use Rattle.rq_store.specs.Fitting.{told_by}
-use Rattle.rq_undone.specs.declared.history.Spot.{Spot}
-use Rattle.rq_undone.specs.Analysis.{Analysis, analysis}
-use Rattle.rq_undone.specs.Pages.{IsNextUndo, IsUndoing, work}
-use Rattle.rq_undone.specs.Pages.IsNextUndo.{Voids, Undoes}
-use Rattle.rq_undone.proofs.Lists.{in_newest, in_spots, in_with, in_without, sub_in}
-use Rattle.rq_undone.proofs.Undos.{undo_leaves_less, undoing_more}
+use Rattle.rq_page_undo.specs.declared.open_work.UndoableWrite.{UndoableWrite}
+use Rattle.rq_page_undo.specs.Analysis.{Analysis, analysis}
+use Rattle.rq_page_undo.specs.Pages.{IsNextUndo, IsUndoing, work}
+use Rattle.rq_page_undo.specs.Pages.IsNextUndo.{Voids, Undoes}
+use Rattle.rq_page_undo.proofs.Lists.{in_newest, in_undoable, in_with, in_without, sub_in}
+use Rattle.rq_page_undo.proofs.Undos.{undo_leaves_less, undoing_more}
 use Rattle.rq_rules.specs.Rules.{CanBeRead}
 use Rattle.rq_restart.specs.Found.{MayFollow}
 use Rattle.rq_restart.specs.Repeating.{AreCounted, Belongs, IsRepeated, Marks, Paged, Repeats}
@@ -43,22 +43,22 @@ noted_range (Commit t ∷ log) a o h = noted_range log a.1 o h
 noted_range (Restart i ∷ log) a o h = noted_range log a.1 o h
 noted_range (AbortEnd t ∷ log) a o h = noted_range log a.1 o h
 
-abbrev IsSpotInRange : Spot → Type 0
-IsSpotInRange p = IsOpInRange p.by × (0 < p.lsn) × IsSlotNumber p.slot
+abbrev IsUndoableInRange : UndoableWrite → Type 0
+IsUndoableInRange p = IsOpInRange p.by × (0 < p.lsn) × IsSlotNumber p.slot
 
-spot_range : (log : List Record) → AreSpelled log → (p : Spot) → In p (analysis log).spots → IsSpotInRange p
-spot_range [] a p h = absurd h
-spot_range (PageOp t n page slot before after ∷ log) a p h = elim h [
-  | inl e ↦ subst IsSpotInRange (sym e) ((a.0.0.0, a.0.0.1), omega arith, a.0.0.2)
-  | inr i ↦ spot_range log a.1 p i
+undoable_range : (log : List Record) → AreSpelled log → (p : UndoableWrite) → In p (analysis log).undoable → IsUndoableInRange p
+undoable_range [] a p h = absurd h
+undoable_range (PageOp t n page slot before after ∷ log) a p h = elim h [
+  | inl e ↦ subst IsUndoableInRange (sym e) ((a.0.0.0, a.0.0.1), omega arith, a.0.0.2)
+  | inr i ↦ undoable_range log a.1 p i
 ]
-spot_range (PageUndo t n undone page slot after ∷ log) a p h = spot_range log a.1 p (in_newest (operation t n) (analysis log).spots p h)
-spot_range (OpEnd t n level deed ∷ log) a p h = spot_range log a.1 p (in_spots (operation t n) (analysis log).spots p h).0
-spot_range (OpVoid t n ∷ log) a p h = spot_range log a.1 p (in_spots (operation t n) (analysis log).spots p h).0
-spot_range (CompEnd t n undone ∷ log) a p h = spot_range log a.1 p (in_spots (operation t n) (analysis log).spots p h).0
-spot_range (Commit t ∷ log) a p h = spot_range log a.1 p h
-spot_range (Restart i ∷ log) a p h = spot_range log a.1 p h
-spot_range (AbortEnd t ∷ log) a p h = spot_range log a.1 p h
+undoable_range (PageUndo t n undone page slot after ∷ log) a p h = undoable_range log a.1 p (in_newest (operation t n) (analysis log).undoable p h)
+undoable_range (OpEnd t n level deed ∷ log) a p h = undoable_range log a.1 p (in_undoable (operation t n) (analysis log).undoable p h).0
+undoable_range (OpVoid t n ∷ log) a p h = undoable_range log a.1 p (in_undoable (operation t n) (analysis log).undoable p h).0
+undoable_range (CompEnd t n undone ∷ log) a p h = undoable_range log a.1 p (in_undoable (operation t n) (analysis log).undoable p h).0
+undoable_range (Commit t ∷ log) a p h = undoable_range log a.1 p h
+undoable_range (Restart i ∷ log) a p h = undoable_range log a.1 p h
+undoable_range (AbortEnd t ∷ log) a p h = undoable_range log a.1 p h
 
 -- none of these records tells a deed
 pub undo_reads : (h : Analysis) (r : Record) → IsNextUndo h r → CanBeRead r
@@ -69,8 +69,8 @@ pub undo_range : (log : List Record) (h : Analysis) (r : Record) → h ≡ analy
 undo_range log h r e a next = by (subst (λ k. IsNextUndo k r) e next) where
   by : IsNextUndo (analysis log) r → IsInRange r
   by (Voids o s least is) = rw is (noted_range log a o (sub_in o (analysis log).unfinished s.unfinished))
-  by (Undoes p ps none spots is) =
-      let k = spot_range log a p (rw spots (inl refl)) in
+  by (Undoes p ps none undoable is) =
+      let k = undoable_range log a p (rw undoable (inl refl)) in
       rw is (k.0.0, k.0.1, k.1, k.2)
 
 -- one record more is repeated, or doesn't belong

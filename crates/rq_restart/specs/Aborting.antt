@@ -23,12 +23,12 @@ use Rattle.rq_sound.specs.Rows.{comp_end}
 use Rattle.rq_sound.specs.Sound.{IsSound}
 use Rattle.rq_sound.specs.Inverses.{InverseTakesLowest}
 use Rattle.rq_planner.specs.Backs.{CanBeTakenBack}
-use Rattle.rq_lost.specs.declared.dues.Due.{Due}
-use Rattle.rq_undone.specs.Analysis.{analysis}
-use Rattle.rq_lost.specs.Choices.{least_free}
-use Rattle.rq_lost.specs.Dues.{deed_due, dues}
-use Rattle.rq_lost.specs.Numbers.{number_of, numbers}
-use Rattle.rq_lost.specs.Walk.{IsBetween, IsWithin}
+use Rattle.rq_loser_undo.specs.declared.dues.PendingUndo.{PendingUndo}
+use Rattle.rq_page_undo.specs.Analysis.{analysis}
+use Rattle.rq_loser_undo.specs.Choices.{least_free}
+use Rattle.rq_loser_undo.specs.Dues.{deed_due, dues}
+use Rattle.rq_loser_undo.specs.Numbers.{number_of, numbers}
+use Rattle.rq_loser_undo.specs.Walk.{IsBetween, IsWithin}
 use Rattle.rq_restart.specs.Repeating.{AreCounted, Belongs, Paged, Repeats, paged, slots_on}
 
 -- the log with the records of these writes of an operation behind, the first of them the oldest
@@ -39,7 +39,7 @@ with_writes t n (w ∷ ws) log = with_writes t n ws (page_op t n w ∷ log)
 -- what is done in its turn: a transaction ends, or what is due is taken back by such an operation with these writes
 pub data Round : Type 0 where
   Ends : (txn : Txn) → Round
-  TakesBack : (due : Due) (number : ℕ) (writes : List SlotWrite) → Round
+  TakesBack : (due : PendingUndo) (number : ℕ) (writes : List SlotWrite) → Round
 
 -- the records of it, behind a log
 abbrev pub after_round : Round → List Record → List Record
@@ -53,16 +53,16 @@ after_rounds (r ∷ rs) log = after_round r (after_rounds rs log)
 
 -- Behind this log what is due first is to be taken back, by its transaction's next operation: nobody without an end has
 -- nothing due.
-pub record IsTakenNext (log : List Record) (d : Due) (n : ℕ) : Type 0 where
-  pub older : List Due
+pub record IsTakenNext (log : List Record) (d : PendingUndo) (n : ℕ) : Type 0 where
+  pub older : List PendingUndo
   pub first : dues log ≡ d ∷ older
-  pub nobody : least_free (dues log) (analysis log).working ≡ None
+  pub nobody : least_free (dues log) (analysis log).active ≡ None
   pub number : n ≡ number_of d.txn (numbers log) + 1
 
 -- Of those without an end that have nothing due the one of the least number ends next; where there is none, what is due
 -- first is taken back.
 abbrev pub IsNextRound : List Record → Round → Type 0
-IsNextRound log (Ends t) = least_free (dues log) (analysis log).working ≡ Some t
+IsNextRound log (Ends t) = least_free (dues log) (analysis log).active ≡ Some t
 IsNextRound log (TakesBack d n ws) = IsTakenNext log d n
 
 abbrev pub AreRounds : List Record → List Round → Type 0
@@ -77,7 +77,7 @@ pub record AbortsBehind (log now : List Record) : Type 0 where
 
 -- The writes are those that take back what is due, as its level plans them over these slots: its deed was done last at its
 -- end of its group there, and a message is put back into the lowest free cell.
-pub record IsPlannedBack (z : Sizes) (q : Slots) (due : Due) (ws : List SlotWrite) : Type 0 where
+pub record IsPlannedBack (z : Sizes) (q : Slots) (due : PendingUndo) (ws : List SlotWrite) : Type 0 where
   pub deed : Deed
   pub reads : deed_in due.deed ≡ Some deed
   pub can : CanBeTakenBack z q deed
@@ -86,7 +86,7 @@ pub record IsPlannedBack (z : Sizes) (q : Slots) (due : Due) (ws : List SlotWrit
   pub lowest : InverseTakesLowest z q [] deed ws
 
 -- they are so planned over some pages of which this is so
-pub record IsPlannedOn (z : Sizes) (on : Paged → Type 0) (due : Due) (ws : List SlotWrite) : Type 0 where
+pub record IsPlannedOn (z : Sizes) (on : Paged → Type 0) (due : PendingUndo) (ws : List SlotWrite) : Type 0 where
   pub pages : Paged
   pub on_pages : on pages
   pub plan : IsPlannedBack z (slots_on z pages) due ws
@@ -105,7 +105,7 @@ pub record AbortsOn (z : Sizes) (on : List Record → Paged → Type 0) (log now
 -- the same, and some writes of the next
 pub data IsAborting (z : Sizes) (on : List Record → Paged → Type 0) (log now : List Record) : Type 0 where
   Between : AbortsOn z on log now → IsAborting z on log now
-  Within : (older : List Record) (d : Due) (n : ℕ) (ws : List SlotWrite) (made : ℕ) → AbortsOn z on log older
+  Within : (older : List Record) (d : PendingUndo) (n : ℕ) (ws : List SlotWrite) (made : ℕ) → AbortsOn z on log older
       → IsTakenNext older d n → IsPlannedOn z (on older) d ws → with_writes d.txn n (take made ws) older ≡ now
       → IsAborting z on log now
 
@@ -138,7 +138,7 @@ abbrev pub IsShown : {P : Type 0} → List Record → Pooled P → State → Typ
 IsShown log pages base = IsBetween base pages.images log
 
 -- they show the store with what is due being taken back, by so many of these writes
-abbrev pub IsShownWithin : {P : Type 0} → List Record → Pooled P → Due → ℕ → List SlotWrite → ℕ → State → Type 0
+abbrev pub IsShownWithin : {P : Type 0} → List Record → Pooled P → PendingUndo → ℕ → List SlotWrite → ℕ → State → Type 0
 IsShownWithin log pages d n ws made base = IsWithin base pages.images log d.txn n d.lsn (deed_due d) ws made
 
 -- some pages and this log show the store on its way
@@ -164,12 +164,12 @@ pub record IsFull (z : Sizes) (behind : List Record → Type 0) (before : State 
   pub way : OfStore z before (λ base. IsOnItsWay base last)
 
 -- what is due is told by no deed, or by one that the slots of these pages do not show to be done last
-abbrev pub IsNotUndone : Sizes → List (List ℕ) → Due → Type 0
+abbrev pub IsNotUndone : Sizes → List (List ℕ) → PendingUndo → Type 0
 IsNotUndone z images due = (deed : Deed) → deed_in due.deed ≡ Some deed → CanBeTakenBack z (slots_in z images) deed → ⊥
 
 -- Behind the log that these pages are of, what is due cannot be taken back: the slots do not show that it was done last, or
 -- its transaction has had 2^64 - 1 operations.
-abbrev pub CannotBeTaken : Sizes → List (List ℕ) → List Record → Due → Type 0
+abbrev pub CannotBeTaken : Sizes → List (List ℕ) → List Record → PendingUndo → Type 0
 CannotBeTaken z images log due = IsNotUndone z images due ⊎ (2 ^ 64 ≤ number_of due.txn (numbers log) + 1)
 
 -- The next record that goes on so would stand here and doesn't belong there; or what is due first, told by the OpEnd with
@@ -177,8 +177,8 @@ CannotBeTaken z images log due = IsNotUndone z images due ⊎ (2 ^ 64 ≤ number
 pub data IsBadStep (z : Sizes) (behind : List Record → Type 0) (first : Paged) (last : List Record) (lsn : ℕ) : Type 0 where
   BadRecord : (newest : Record) (mid : Paged) → behind (newest ∷ last) → lsn ≡ length last + 1
       → Repeats z last first mid → (Belongs z last newest mid → ⊥) → IsBadStep z behind first last lsn
-  BadDue : (due : Due) (older : List Due) (images : List (List ℕ)) (mid : Paged) → dues last ≡ due ∷ older
-      → least_free (dues last) (analysis last).working ≡ None → lsn ≡ due.lsn → mid.image ≡ image_in images
+  BadDue : (due : PendingUndo) (older : List PendingUndo) (images : List (List ℕ)) (mid : Paged) → dues last ≡ due ∷ older
+      → least_free (dues last) (analysis last).active ≡ None → lsn ≡ due.lsn → mid.image ≡ image_in images
       → Repeats z last first mid → CannotBeTaken z images last due → IsBadStep z behind first last lsn
 
 -- Damage is told of this record where the next such record doesn't belong there, or what the OpEnd with this LSN tells
@@ -199,7 +199,7 @@ AbortStops z behind log old before (why.Damaged (damage.Record lsn)) = IsBadAbor
 AbortStops z behind log old before _ = ⊥
 
 -- why what is due was not planned to be taken back
-abbrev pub PlanStops : Sizes → List (List ℕ) → Due → Refusal → Type 0
+abbrev pub PlanStops : Sizes → List (List ℕ) → PendingUndo → Refusal → Type 0
 PlanStops z images due why.NoMemory = Unit {0}
 PlanStops z images due (why.Damaged (damage.Record lsn)) = (lsn ≡ due.lsn) × IsNotUndone z images due
 PlanStops z images due _ = ⊥

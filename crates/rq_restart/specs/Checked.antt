@@ -3,12 +3,12 @@ use Rattle.std.specs.Prelude.{◌≡◌, ℕ, false, List, [], length, replicate
 use Rattle.rq_model.specs.declared.record.Record.{Record}
 use Rattle.rq_page.specs.Sizes.{Sizes, page_count}
 use Rattle.rq_store.specs.Fitting.{image_in}
-use Rattle.rq_undone.specs.Analysis.{analysis}
+use Rattle.rq_page_undo.specs.Analysis.{analysis}
 use Rattle.rq_restart.specs.Repeating.{Paged, Repeats, AreCounted, IsFirstUncounted}
 
 -- every transaction in the log that finished an operation has its end
 abbrev pub IsEnded : List Record → Type 0
-IsEnded log = (analysis log).working ≡ []
+IsEnded log = (analysis log).active ≡ []
 
 -- The log was gone through on the pages: each record belonged where it stood and was repeated, and no number of a page
 -- is beyond the log, neither as the pages were read nor then.

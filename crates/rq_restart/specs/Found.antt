@@ -2,10 +2,10 @@
 use Rattle.std.specs.Prelude.{◌≡◌, ℕ, List}
 use Rattle.rq_model.specs.declared.record.Record.{Record}
 use Rattle.rq_model.specs.Incarnations.{InOrder, IsNext, incarnation_of}
-use Rattle.rq_undone.specs.Analysis.{analysis, analysis_after}
-use Rattle.rq_lost.specs.Dues.{dues, dues_after}
-use Rattle.rq_lost.specs.Numbers.{numbers, numbers_after}
-use Rattle.rq_rules.specs.Kept.{ended, ended_after}
+use Rattle.rq_page_undo.specs.Analysis.{analysis, analysis_after}
+use Rattle.rq_loser_undo.specs.Dues.{dues, dues_after}
+use Rattle.rq_loser_undo.specs.Numbers.{numbers, numbers_after}
+use Rattle.rq_rules.specs.ScanState.{ended, ended_after}
 use Rattle.rq_rules.specs.Rules.{FollowAll, FollowsRules}
 use Rattle.rq_restart.specs.declared.findings.Findings.{Findings}
 
@@ -16,7 +16,7 @@ pub record MayFollow (older : List Record) (r : Record) : Type 0 where
 
 -- what the records of the log come to, each of which might follow those before it
 pub record AreFindings (f : Findings) (log : List Record) : Type 0 where
-  pub history : f.history ≡ analysis log
+  pub open_work : f.open_work ≡ analysis log
   pub dues : f.dues ≡ dues log
   pub numbers : f.numbers ≡ numbers log
   pub ended : f.ended ≡ ended log
@@ -26,7 +26,7 @@ pub record AreFindings (f : Findings) (log : List Record) : Type 0 where
 -- and with one record more, which has this LSN
 abbrev pub findings_after : ℕ → Record → Findings → Findings
 findings_after lsn r f = record {
-  history = analysis_after lsn r f.history;
+  open_work = analysis_after lsn r f.open_work;
   dues = dues_after lsn r f.dues;
   numbers = numbers_after r f.numbers;
   ended = ended_after r f.ended;

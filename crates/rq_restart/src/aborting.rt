@@ -6,12 +6,12 @@ ghost use Rattle.rq_level.specs.Writes.{AreSlotWrites};
 ghost use Rattle.rq_sound.specs.Plans.{IsPlannedFrom};
 ghost use Rattle.rq_sound.specs.Inverses.{InverseTakesLowest};
 ghost use Rattle.rq_planner.specs.Answered.{KnowsCells};
-ghost use Rattle.rq_lost.specs.declared.dues.Due.{Due};
-ghost use Rattle.rq_lost.specs.Choices.{least_free};
-ghost use Rattle.rq_lost.specs.Dues.{deed_due};
+ghost use Rattle.rq_loser_undo.specs.declared.dues.PendingUndo.{PendingUndo};
+ghost use Rattle.rq_loser_undo.specs.Choices.{least_free};
+ghost use Rattle.rq_loser_undo.specs.Dues.{deed_due};
 ghost use Rattle.rq_record.specs.Spelling.{IsTxnInRange};
 ghost use Rattle.rq_store.specs.Steps.{page_op};
-ghost use Rattle.rq_model.specs.Words.{In};
+ghost use Rattle.rq_model.specs.Vocabulary.{In};
 ghost use Rattle.rq_restart.specs.Aborting.{AbortStops, AbortsFrom, HasGoneOn, IsAbortingFrom, IsMaking, IsPlannedBack, blamed_on, IsShown, IsShownWithin, PlanStops, with_writes};
 ghost use Rattle.rq_restart.specs.Checked.{IsEnded};
 ghost use Rattle.rq_restart.specs.Found.{AreFindings};
@@ -21,7 +21,7 @@ use crate::findings::Findings;
 use rq_disk::{LogDevice, PageDevice};
 use rq_level::{Level, SlotWrite};
 use rq_log::Log;
-use rq_lost::{Due, next_end};
+use rq_loser_undo::{PendingUndo, next_end};
 use rq_model::limits::LOG_LIMIT;
 use rq_model::record::Record;
 use rq_model::refusal::{Damage, Refusal};
@@ -63,11 +63,11 @@ pub(crate) fn abort_lost<P: PageDevice + Drop, L: LogDevice + Drop, B: Level>(
         × (log.new.failed ≡ false) × (log.new.settled ≡ log.old.settled) }
     ensures room { OnOk result (log.new.reserved ≡ log.old.reserved) }
 {
-    if findings.history.is_settled() {
+    if findings.open_work.is_settled() {
         return Ok(());
     }
     end_idle(pages, log, findings)?;
-    take_back_all(alloc, pages, log, findings, planner)?;
+    undo_all_due(alloc, pages, log, findings, planner)?;
     Ok(())
 }
 
@@ -83,7 +83,7 @@ fn end_idle<P: PageDevice + Drop, L: LogDevice + Drop>(
         log.old.records log.new.records pages.old pages.new (IsShown log.old.records pages.old)
         (IsShown log.new.records pages.new)) }
     ensures same { OnOk result (pages.new ≡ pages.old) }
-    ensures none { OnOk result (least_free findings.new.dues findings.new.history.working ≡ None) }
+    ensures none { OnOk result (least_free findings.new.dues findings.new.open_work.active ≡ None) }
     ensures found { OnOk result (AreFindings findings.new log.new.records) }
     ensures stops { IfErr result (λ e. AbortStops pages.old.sizes (IsAbortingFrom pages.old.sizes log.old.records pages.old)
         log.old.records pages.old (IsShown log.old.records pages.old) e) }
@@ -93,14 +93,14 @@ fn end_idle<P: PageDevice + Drop, L: LogDevice + Drop>(
         × (log.new.failed ≡ false) × (log.new.settled ≡ log.old.settled) }
     ensures room { OnOk result (log.new.reserved ≡ log.old.reserved) }
 {
-    while let Some(txn) = next_end(findings.history.working(), &findings.dues) {
+    while let Some(txn) = next_end(findings.open_work.active(), &findings.dues) {
         append(pages, log, findings, &Record::AbortEnd { txn })?;
     }
     Ok(())
 }
 
 // Takes back what transactions without an end did, the newest first, and ends each once all of it is taken back.
-fn take_back_all<P: PageDevice + Drop, L: LogDevice + Drop, B: Level>(
+fn undo_all_due<P: PageDevice + Drop, L: LogDevice + Drop, B: Level>(
     alloc: Global,
     pages: &mut Pages<P>,
     log: &mut Log<L>,
@@ -108,7 +108,7 @@ fn take_back_all<P: PageDevice + Drop, L: LogDevice + Drop, B: Level>(
     planner: &mut Planner<B>,
 ) -> Result<(), Refusal>
     requires found { AreFindings findings.old log.old.records }
-    requires none { least_free findings.old.dues findings.old.history.working ≡ None }
+    requires none { least_free findings.old.dues findings.old.open_work.active ≡ None }
     requires running { log.old.failed ≡ false }
     requires cells { KnowsCells pages.old.sizes pages.old.images planner.old }
     ensures gone_on { OnOk result (HasGoneOn pages.old.sizes (AbortsFrom pages.old.sizes log.old.records pages.old log.new.records)
@@ -126,7 +126,7 @@ fn take_back_all<P: PageDevice + Drop, L: LogDevice + Drop, B: Level>(
     ensures room { OnOk result (log.new.reserved ≡ log.old.reserved) }
 {
     while let Some(due) = findings.dues.newest() {
-        take_back(alloc, pages, log, findings, planner, &due)?;
+        undo_due(alloc, pages, log, findings, planner, &due)?;
         if !findings.dues.owes(due.txn) {
             append(pages, log, findings, &Record::AbortEnd { txn: due.txn })?;
         }
@@ -135,25 +135,25 @@ fn take_back_all<P: PageDevice + Drop, L: LogDevice + Drop, B: Level>(
 }
 
 // Takes back what is due first.
-fn take_back<P: PageDevice + Drop, L: LogDevice + Drop, B: Level>(
+fn undo_due<P: PageDevice + Drop, L: LogDevice + Drop, B: Level>(
     alloc: Global,
     pages: &mut Pages<P>,
     log: &mut Log<L>,
     findings: &mut Findings,
     planner: &mut Planner<B>,
-    due: &Due,
+    due: &PendingUndo,
 ) -> Result<(), Refusal>
     requires found { AreFindings findings.old log.old.records }
-    requires none { least_free findings.old.dues findings.old.history.working ≡ None }
-    requires first { (older : List Due) × (findings.old.dues ≡ due.now ∷ older) }
+    requires none { least_free findings.old.dues findings.old.open_work.active ≡ None }
+    requires first { (older : List PendingUndo) × (findings.old.dues ≡ due.now ∷ older) }
     requires running { log.old.failed ≡ false }
     requires cells { KnowsCells pages.old.sizes pages.old.images planner.old }
     ensures gone_on { OnOk result (HasGoneOn pages.old.sizes (AbortsFrom pages.old.sizes log.old.records pages.old log.new.records)
         log.old.records log.new.records pages.old pages.new (IsShown log.old.records pages.old)
         (IsShown log.new.records pages.new)) }
     ensures rest { OnOk result (findings.old.dues ≡ due.now ∷ findings.new.dues) }
-    ensures lost { OnOk result (In due.now.txn findings.old.history.working) }
-    ensures working { OnOk result (findings.new.history.working ≡ findings.old.history.working) }
+    ensures lost { OnOk result (In due.now.txn findings.old.open_work.active) }
+    ensures active { OnOk result (findings.new.open_work.active ≡ findings.old.open_work.active) }
     ensures found { OnOk result (AreFindings findings.new log.new.records) }
     ensures cells { OnOk result (KnowsCells pages.new.sizes pages.new.images planner.new) }
     ensures stops { IfErr result (λ e. AbortStops pages.old.sizes (IsAbortingFrom pages.old.sizes log.old.records pages.old)
@@ -188,7 +188,7 @@ fn make_all<P: PageDevice + Drop, L: LogDevice + Drop, B: Level>(
     log: &mut Log<L>,
     findings: &mut Findings,
     planner: &mut Planner<B>,
-    due: &Due,
+    due: &PendingUndo,
     operation: u64,
     writes: &[SlotWrite],
 ) -> Result<(), Refusal>
@@ -204,7 +204,7 @@ fn make_all<P: PageDevice + Drop, L: LogDevice + Drop, B: Level>(
         (IsShownWithin log.old.records pages.old due.now operation writes.now 0)
         (IsShownWithin log.new.records pages.new due.now operation writes.now (length writes.now))) }
     ensures rest { OnOk result ((findings.new.dues ≡ findings.old.dues)
-        × (findings.new.history.working ≡ findings.old.history.working)) }
+        × (findings.new.open_work.active ≡ findings.old.open_work.active)) }
     ensures found { OnOk result (AreFindings findings.new log.new.records) }
     ensures cells { OnOk result (KnowsCells pages.new.sizes pages.new.images planner.new) }
     ensures stops { IfErr result (λ e. AbortStops pages.old.sizes
@@ -226,7 +226,7 @@ fn make_all<P: PageDevice + Drop, L: LogDevice + Drop, B: Level>(
 }
 
 // The record of a write by which what is due is taken back.
-fn written(due: &Due, operation: u64, write: &SlotWrite) -> Record
+fn written(due: &PendingUndo, operation: u64, write: &SlotWrite) -> Record
     ensures { result ≡ page_op due.now.txn operation write.now }
 {
     Record::PageOp {
@@ -244,7 +244,7 @@ fn plan<P: PageDevice, B: Level>(
     alloc: Global,
     pages: &Pages<P>,
     planner: &mut Planner<B>,
-    due: &Due,
+    due: &PendingUndo,
 ) -> Result<Vec<SlotWrite>, Refusal>
     requires { KnowsCells pages.now.sizes pages.now.images planner.old }
     ensures cells { KnowsCells pages.now.sizes pages.now.images planner.new }
@@ -264,7 +264,7 @@ fn plan<P: PageDevice, B: Level>(
         level: due.level,
         deed: due.deed,
     };
-    match planner.take_back(alloc, pages, &told) {
+    match planner.plan_inverse_alone(alloc, pages, &told) {
         Ok(plan) => Ok(plan.writes),
         Err(refusal) => Err(blamed(due.lsn, refusal)),
     }

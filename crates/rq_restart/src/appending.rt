@@ -10,7 +10,7 @@ ghost use Rattle.rq_restart.specs.Repeating.{Belongs, IsRepeated, paged};
 ghost use Rattle.rq_restart.specs.Undoing.{StepStops};
 
 use crate::findings::Findings;
-use crate::redo::repeat;
+use crate::redo::redo_record;
 use rq_disk::{LogDevice, PageDevice};
 use rq_log::Log;
 use rq_model::limits::LOG_LIMIT;
@@ -57,7 +57,7 @@ pub(crate) fn append<P: PageDevice + Drop, L: LogDevice + Drop>(
     shows_fits(undo);
     log.reserve(spelled_len(undo))?;
     let is_next = findings.note(lsn, true, undo)?;
-    if !is_next || !repeat(pages, lsn, undo) {
+    if !is_next || !redo_record(pages, lsn, undo) {
         return Err(Refusal::Damaged(Damage::Record(lsn)));
     }
     log.append(undo);

@@ -4,25 +4,25 @@ ghost use Rattle.rq_model.specs.declared.record.Record.{Record as AnyRecord};
 ghost use Rattle.rq_rules.specs.Rules.{CanBeRead};
 ghost use Rattle.rq_restart.specs.Found.{AreFindings, MayFollow, findings_after};
 
-use rq_lost::{Dues, Numbers};
+use rq_loser_undo::{LastOperations, PendingUndos};
 use rq_model::record::Record;
 use rq_model::refusal::Refusal;
 use rq_model::txn::Lsn;
-use rq_rules::{Ended, follows};
-use rq_undone::History;
+use rq_page_undo::OpenWork;
+use rq_rules::{EndedTransactions, follows};
 use std::alloc::Global;
 
 /// What the records of a log come to, one after the other.
 #[derive(Drop)]
 pub(crate) struct Findings {
     /// Incarnations, and what has no end.
-    pub history: History,
+    pub open_work: OpenWork,
     /// What transactions without an end finished, and did not take back.
-    pub dues: Dues,
+    pub dues: PendingUndos,
     /// The numbers of their operations.
-    pub numbers: Numbers,
+    pub numbers: LastOperations,
     /// Which transactions of the running incarnation have ended.
-    pub ended: Ended,
+    pub ended: EndedTransactions,
 }
 
 impl Findings {
@@ -31,10 +31,10 @@ impl Findings {
         ensures { AreFindings result [] }
     {
         Findings {
-            history: History::new(alloc),
-            dues: Dues::new(alloc),
-            numbers: Numbers::new(alloc),
-            ended: Ended::new(alloc),
+            open_work: OpenWork::new(alloc),
+            dues: PendingUndos::new(alloc),
+            numbers: LastOperations::new(alloc),
+            ended: EndedTransactions::new(alloc),
         }
     }
 
@@ -50,7 +50,7 @@ impl Findings {
         ensures err { IfErr result (λ e. e ≡ Refusal.NoMemory) }
     {
         let follows = follows(
-            &self.history,
+            &self.open_work,
             &self.dues,
             &self.numbers,
             &self.ended,
@@ -60,7 +60,7 @@ impl Findings {
         self.dues.note(lsn, record)?;
         self.numbers.note(record)?;
         self.ended.note(record)?;
-        let is_next = self.history.note(lsn, record)?;
+        let is_next = self.open_work.note(lsn, record)?;
         Ok(is_next && follows)
     }
 }

@@ -9,5 +9,5 @@ pub mod laws;
 mod overwritten;
 mod redo;
 pub mod restart;
+mod tables;
 mod undoing;
-mod waiting;

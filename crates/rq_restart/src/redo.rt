@@ -92,7 +92,7 @@ pub(crate) fn check_numbers<P: PageDevice + Drop>(
 
 /// What going through a log gave.
 #[derive(Drop)]
-pub(crate) struct Gone {
+pub(crate) struct LogScan {
     pub findings: Findings,
     pub overwritten: Overwritten,
 }
@@ -107,13 +107,13 @@ pub(crate) fn repeat_history<P: PageDevice + Drop, L: LogDevice, B: Level>(
     pages: &mut Pages<P>,
     reader: &mut LogReader<L>,
     levels: &StoreLevels<B>,
-) -> Result<Gone, Refusal>
+) -> Result<LogScan, Refusal>
     requires none_read { reader.old.records ≡ [] }
     requires untouched { reader.old.device ≡ reader.old.first }
-    ensures found { IfOk result (λ gone. AreFindings gone.findings reader.new.records) }
+    ensures found { IfOk result (λ log_scan. AreFindings log_scan.findings reader.new.records) }
     ensures repeated { OnOk result (Repeats pages.old.sizes reader.new.records (paged pages.old) (paged pages.new)) }
-    ensures kept { IfOk result (λ gone. AreKept pages.old.sizes (length reader.new.records) (paged pages.old)
-        (paged pages.new) gone.overwritten.numbers.items) }
+    ensures kept { IfOk result (λ log_scan. AreKept pages.old.sizes (length reader.new.records) (paged pages.old)
+        (paged pages.new) log_scan.overwritten.numbers.items) }
     ensures whole { OnOk result (L.honest reader.new.device
         → L.seen reader.new.first ≡ spelled reader.new.records) }
     ensures cause { OnOk result (L.faults reader.new.device ≡ L.faults reader.new.first) }
@@ -123,50 +123,50 @@ pub(crate) fn repeat_history<P: PageDevice + Drop, L: LogDevice, B: Level>(
     ensures sizes { pages.new.sizes ≡ pages.old.sizes }
     ensures device { pages.new.device ≡ pages.old.device }
 {
-    let mut gone = Gone {
+    let mut log_scan = LogScan {
         findings: Findings::new(alloc),
         overwritten: Overwritten::new(alloc),
     };
     reader.shows_read();
     let mut record = Record::Restart { incarnation: 0 };
     while reader.next_into(&mut record)? {
-        match repeat_next(pages, &mut gone, levels, reader.last(), &record) {
+        match check_and_redo(pages, &mut log_scan, levels, reader.last(), &record) {
             Ok(()) => {}
             Err(refusal) => return Err(refusal),
         }
     }
-    Ok(gone)
+    Ok(log_scan)
 }
 
 // Checks the next record, which has this LSN, and makes what it writes where its page is older.
-fn repeat_next<P: PageDevice + Drop, B: Level>(
+fn check_and_redo<P: PageDevice + Drop, B: Level>(
     pages: &mut Pages<P>,
-    gone: &mut Gone,
+    log_scan: &mut LogScan,
     levels: &StoreLevels<B>,
     lsn: Lsn,
     record: &Record,
 ) -> Result<(), Refusal>
-    ensures found { OnOk result ((older : List AnyRecord) → lsn ≡ length older + 1 → AreFindings gone.old.findings older
-        → AreFindings gone.new.findings («record».now ∷ older)) }
+    ensures found { OnOk result ((older : List AnyRecord) → lsn ≡ length older + 1 → AreFindings log_scan.old.findings older
+        → AreFindings log_scan.new.findings («record».now ∷ older)) }
     ensures repeated { OnOk result ((older : List AnyRecord) → lsn ≡ length older + 1
-        → AreFindings gone.old.findings older
+        → AreFindings log_scan.old.findings older
         → IsRepeated pages.old.sizes older «record».now (paged pages.old) (paged pages.new)) }
     ensures kept { OnOk result ((first : Paged) (records : ℕ) → lsn ≡ records + 1
-        → AreKept pages.old.sizes records first (paged pages.old) gone.old.overwritten.numbers.items
-        → AreKept pages.old.sizes lsn first (paged pages.new) gone.new.overwritten.numbers.items) }
+        → AreKept pages.old.sizes records first (paged pages.old) log_scan.old.overwritten.numbers.items
+        → AreKept pages.old.sizes lsn first (paged pages.new) log_scan.new.overwritten.numbers.items) }
     ensures not { IfErr result (λ e. (older : List AnyRecord) → lsn ≡ length older + 1
-        → AreFindings gone.old.findings older → NotRepeated pages.old.sizes older «record».now (paged pages.old) e) }
+        → AreFindings log_scan.old.findings older → NotRepeated pages.old.sizes older «record».now (paged pages.old) e) }
     ensures sizes { pages.new.sizes ≡ pages.old.sizes }
     ensures device { pages.new.device ≡ pages.old.device }
 {
-    let is_next = gone
+    let is_next = log_scan
         .findings
         .note(lsn, can_be_read(levels, record), record)?;
-    if !is_next || !may_repeat(pages, lsn, record) {
+    if !is_next || !may_redo(pages, lsn, record) {
         return Err(Refusal::Damaged(Damage::Record(lsn)));
     }
-    gone.overwritten.note(pages, lsn, record)?;
-    make(pages, lsn, record);
+    log_scan.overwritten.note(pages, lsn, record)?;
+    apply(pages, lsn, record);
     Ok(())
 }
 
@@ -181,7 +181,11 @@ fn can_be_read<B: Level>(levels: &StoreLevels<B>, record: &Record) -> bool
 }
 
 /// Makes what a record writes, where its page is older. False where the record doesn't fit the store.
-pub(crate) fn repeat<P: PageDevice + Drop>(pages: &mut Pages<P>, lsn: Lsn, record: &Record) -> bool
+pub(crate) fn redo_record<P: PageDevice + Drop>(
+    pages: &mut Pages<P>,
+    lsn: Lsn,
+    record: &Record,
+) -> bool
     ensures redone { IsTrue result → Redoes (told_by «record».now) lsn (image_in pages.old.images)
         (image_in pages.new.images) }
     ensures marked { IsTrue result → Marks (told_by «record».now) lsn (paged pages.old) pages.new.changed }
@@ -191,15 +195,15 @@ pub(crate) fn repeat<P: PageDevice + Drop>(pages: &mut Pages<P>, lsn: Lsn, recor
     ensures sizes { pages.new.sizes ≡ pages.old.sizes }
     ensures device { pages.new.device ≡ pages.old.device }
 {
-    let may = may_repeat(pages, lsn, record);
+    let may = may_redo(pages, lsn, record);
     if may {
-        make(pages, lsn, record);
+        apply(pages, lsn, record);
     }
     may
 }
 
 // Whether a record fits the store: what it writes may stand there, over what stands there.
-fn may_repeat<P: PageDevice + Drop>(pages: &Pages<P>, lsn: Lsn, record: &Record) -> bool
+fn may_redo<P: PageDevice + Drop>(pages: &Pages<P>, lsn: Lsn, record: &Record) -> bool
     ensures { IsTrue result ↔ MayRedo pages.now.sizes (image_in pages.now.images) lsn «record».now }
 {
     match record {
@@ -224,7 +228,7 @@ fn may_repeat<P: PageDevice + Drop>(pages: &Pages<P>, lsn: Lsn, record: &Record)
 }
 
 // Makes what a record writes, where its page is older.
-fn make<P: PageDevice + Drop>(pages: &mut Pages<P>, lsn: Lsn, record: &Record)
+fn apply<P: PageDevice + Drop>(pages: &mut Pages<P>, lsn: Lsn, record: &Record)
     requires { MayRedo pages.old.sizes (image_in pages.old.images) lsn «record».now }
     ensures redone { Redoes (told_by «record».now) lsn (image_in pages.old.images) (image_in pages.new.images) }
     ensures marked { Marks (told_by «record».now) lsn (paged pages.old) pages.new.changed }
@@ -238,13 +242,13 @@ fn make<P: PageDevice + Drop>(pages: &mut Pages<P>, lsn: Lsn, record: &Record)
             slot,
             after,
             ..
-        } => redo(pages, lsn, *page, *slot, after),
+        } => redo_slot(pages, lsn, *page, *slot, after),
         Record::PageUndo {
             page,
             slot,
             after,
             ..
-        } => redo(pages, lsn, *page, *slot, after),
+        } => redo_slot(pages, lsn, *page, *slot, after),
         _ => {}
     }
 }
@@ -275,7 +279,13 @@ fn is_over<P: PageDevice + Drop>(
 }
 
 // Writes the slot, if the page is older. It is one that the store has.
-fn redo<P: PageDevice + Drop>(pages: &mut Pages<P>, lsn: Lsn, page: u32, slot: u8, after: &Slot)
+fn redo_slot<P: PageDevice + Drop>(
+    pages: &mut Pages<P>,
+    lsn: Lsn,
+    page: u32,
+    slot: u8,
+    after: &Slot,
+)
     requires { IsSlotOf pages.old.sizes page slot after.now }
     ensures redone { IsRedone (record { page = page; slot = slot; after = after.now }) lsn (image_in pages.old.images)
         (image_in pages.new.images) }

@@ -19,9 +19,9 @@ ghost use Rattle.rq_store.specs.Fitting.{AllFit, image_in};
 ghost use Rattle.rq_planner.specs.Answered.{KnowsCells};
 ghost use Rattle.rq_engine.specs.Crash.{AreFit};
 ghost use Rattle.rq_engine.specs.Opened.{pooled};
-ghost use Rattle.rq_links.specs.Links.{AreLinked};
+ghost use Rattle.rq_chain_check.specs.Links.{AreLinked};
 ghost use Rattle.rq_restart.specs.Repeating.{AreCounted, Paged, Repeats, paged, slots_on};
-ghost use Rattle.rq_lost.specs.Recovered.{IsRecovered};
+ghost use Rattle.rq_loser_undo.specs.Recovered.{IsRecovered};
 ghost use Rattle.rq_restart.specs.Restarting.{IsReadAs, IsLeftOn, IsReady, AreTold, IsBegun, IsOpenedOver, Reports, Stops, WasLeftOrBegun, WasLeftOrForced, BeginsAtMost, BeginsFrom, LogStops, IsRefusedFor, WasChecked};
 ghost use Rattle.rq_restart.specs.Refused.{BeginsNot, IsStoppedBehind, MayBeShut, WhyNotBegun, WhyShut};
 ghost use Rattle.rq_restart.specs.Overwritten.{AreKept};
@@ -34,13 +34,13 @@ ghost use Rattle.rq_restart.specs.Underway.{OfStores, IsLeftOrGoesOn, pages_left
 use crate::aborting::abort_lost;
 use crate::appending::shows_pool;
 use crate::findings::Findings;
-use crate::redo::{Gone, check_numbers, repeat_history};
+use crate::redo::{LogScan, check_numbers, repeat_history};
+use crate::tables::{Tables, planner_of, read_tables};
 use crate::undoing::undo_unfinished;
-use crate::waiting::{Told, planner_of, told_groups};
+use rq_chain_check::first_broken;
 use rq_disk::{LogDevice, PageDevice};
 use rq_engine::engine::Engine;
 use rq_level::Level;
-use rq_links::first_broken;
 use rq_log::{Log, LogReader};
 use rq_model::limits::LOG_LIMIT;
 use rq_model::record::Record;
@@ -71,7 +71,7 @@ struct Opened<P: PageDevice, L: LogDevice, B: Level> {
     log: Log<L>,
     // How many cells hold a message.
     cells: u32,
-    told: Told<B>,
+    tables: Tables<B>,
     report: Report,
 }
 
@@ -189,19 +189,19 @@ fn reopen<P: PageDevice + Drop, L: LogDevice + Drop, B: Level>(
         pages,
         log,
         cells,
-        told,
+        tables,
         report,
     } = open(alloc, pages, log, levels)?;
     let engine = Engine::open(
         alloc,
         pages,
         log,
-        told.waiting,
-        told.sent,
-        told.ends,
+        tables.waiting,
+        tables.sent,
+        tables.ends,
         report.incarnation,
         u64::from(cells),
-        told.planner,
+        tables.planner,
     );
     Ok((engine, report))
 }
@@ -224,8 +224,8 @@ fn open<P: PageDevice + Drop, L: LogDevice + Drop, B: Level>(
     ensures cells { IfOk result (λ opened. opened.cells
         ≡ count_used opened.pages.sizes (slots_in opened.pages.sizes opened.pages.images)) }
     ensures told { IfOk result (λ opened. AreTold opened.pages.sizes opened.pages.images
-        (length opened.log.records) opened.told.waiting opened.told.sent) }
-    ensures known { IfOk result (λ opened. KnowsCells opened.pages.sizes opened.pages.images opened.told.planner) }
+        (length opened.log.records) opened.tables.waiting opened.tables.sent) }
+    ensures known { IfOk result (λ opened. KnowsCells opened.pages.sizes opened.pages.images opened.tables.planner) }
     ensures sound { IfOk result (λ o. (older : List Record) → IsReadAs L.LogDevice log o.log.device older
         → IsLeftOn P.PageDevice o.pages.sizes pages o.pages.device older
         → IsSound (opened o.pages.sizes o.pages.images (drop 1 o.log.records))) }
@@ -254,7 +254,7 @@ fn open<P: PageDevice + Drop, L: LogDevice + Drop, B: Level>(
     match Pages::load(alloc, pages) {
         Ok(pages) => restart_log(alloc, pages, log, levels),
         Err(stopped) => {
-            let rq_pool::Stopped { refusal, device } = stopped;
+            let rq_pool::RefusedPages { refusal, device } = stopped;
             Err(Stopped {
                 refusal,
                 pages: device,
@@ -281,8 +281,8 @@ fn restart_log<P: PageDevice + Drop, L: LogDevice + Drop, B: Level>(
     ensures cells { IfOk result (λ opened. opened.cells
         ≡ count_used opened.pages.sizes (slots_in opened.pages.sizes opened.pages.images)) }
     ensures told { IfOk result (λ opened. AreTold opened.pages.sizes opened.pages.images
-        (length opened.log.records) opened.told.waiting opened.told.sent) }
-    ensures known { IfOk result (λ opened. KnowsCells opened.pages.sizes opened.pages.images opened.told.planner) }
+        (length opened.log.records) opened.tables.waiting opened.tables.sent) }
+    ensures known { IfOk result (λ opened. KnowsCells opened.pages.sizes opened.pages.images opened.tables.planner) }
     ensures sound { IfOk result (λ o. (older : List Record) → IsReadAs L.LogDevice log o.log.device older
         → IsLeft pages.sizes (image_in pages.images) older
         → IsSound (opened pages.sizes o.pages.images (drop 1 o.log.records))) }
@@ -308,26 +308,28 @@ fn restart_log<P: PageDevice + Drop, L: LogDevice + Drop, B: Level>(
         → MayBeShut (IsLeft pages.sizes (image_in pages.images) older) pages.sizes older stopped.refusal (L.faults log)
         (L.faults stopped.log)) }
 {
-    match go_through(alloc, &mut pages, log, &levels) {
-        Ok((mut log, mut gone)) => match go_on(alloc, &mut pages, &mut log, &mut gone, levels) {
-            Ok((told, report)) => {
-                let cells = pages.used_cells();
-                Ok(Opened {
-                    pages,
-                    log,
-                    cells,
-                    told,
-                    report,
-                })
+    match read_and_redo(alloc, &mut pages, log, &levels) {
+        Ok((mut log, mut log_scan)) => {
+            match finish_restart(alloc, &mut pages, &mut log, &mut log_scan, levels) {
+                Ok((tables, report)) => {
+                    let cells = pages.used_cells();
+                    Ok(Opened {
+                        pages,
+                        log,
+                        cells,
+                        tables,
+                        report,
+                    })
+                }
+                Err(refusal) => Err(Stopped {
+                    refusal,
+                    pages: pages.give_back(),
+                    log: log.give_back(),
+                }),
             }
-            Err(refusal) => Err(Stopped {
-                refusal,
-                pages: pages.give_back(),
-                log: log.give_back(),
-            }),
-        },
+        }
         Err(stopped) => {
-            let rq_log::Stopped { refusal, device } = stopped;
+            let rq_log::RefusedLog { refusal, device } = stopped;
             Err(Stopped {
                 refusal,
                 pages: pages.give_back(),
@@ -338,12 +340,12 @@ fn restart_log<P: PageDevice + Drop, L: LogDevice + Drop, B: Level>(
 }
 
 // Reads a log and repeats history on the pages, record by record.
-fn go_through<P: PageDevice + Drop, L: LogDevice + Drop, B: Level>(
+fn read_and_redo<P: PageDevice + Drop, L: LogDevice + Drop, B: Level>(
     alloc: Global,
     pages: &mut Pages<P>,
     log: L,
     levels: &StoreLevels<B>,
-) -> Result<(Log<L>, Gone), rq_log::Stopped<L>>
+) -> Result<(Log<L>, LogScan), rq_log::RefusedLog<L>>
     ensures log { IfOk result (λ read. (read.0.forced ≡ 0) × (read.0.pending ≡ 0) × (read.0.reserved ≡ 0)
         × (read.0.failed ≡ false) × (read.0.settled ≡ log)) }
     ensures spelled { IfOk result (λ read. AreSpelled read.0.records) }
@@ -362,11 +364,11 @@ fn go_through<P: PageDevice + Drop, L: LogDevice + Drop, B: Level>(
 {
     match LogReader::new(alloc, log) {
         Ok(mut reader) => match repeat_history(alloc, pages, &mut reader, levels) {
-            Ok(gone) => {
+            Ok(log_scan) => {
                 reader.shows_read();
-                Ok((reader.into_log(alloc), gone))
+                Ok((reader.into_log(alloc), log_scan))
             }
-            Err(refusal) => Err(rq_log::Stopped {
+            Err(refusal) => Err(rq_log::RefusedLog {
                 refusal,
                 device: reader.give_back(),
             }),
@@ -377,14 +379,14 @@ fn go_through<P: PageDevice + Drop, L: LogDevice + Drop, B: Level>(
 
 // Checks the numbers of the pages, undoes what has no end in the log, which was gone through, and begins the next
 // incarnation. The pages are as it says then. Gives what the directory tells, too.
-fn go_on<P: PageDevice + Drop, L: LogDevice + Drop, B: Level>(
+fn finish_restart<P: PageDevice + Drop, L: LogDevice + Drop, B: Level>(
     alloc: Global,
     pages: &mut Pages<P>,
     log: &mut Log<L>,
-    gone: &mut Gone,
+    log_scan: &mut LogScan,
     levels: StoreLevels<B>,
-) -> Result<(Told<B>, Report), Refusal>
-    requires found { AreFindings gone.old.findings log.old.records }
+) -> Result<(Tables<B>, Report), Refusal>
+    requires found { AreFindings log_scan.old.findings log.old.records }
     requires running { log.old.failed ≡ false }
     // What the log comes to.
     ensures begun { OnOk result (IsBegun log.old.records log.new) }
@@ -408,19 +410,19 @@ fn go_on<P: PageDevice + Drop, L: LogDevice + Drop, B: Level>(
         log.old.device log.old.records) }
     // What was checked, or why it was refused.
     ensures checked { OnOk result ((first : Paged) → Repeats pages.old.sizes log.old.records first (paged pages.old)
-        → AreKept pages.old.sizes (length log.old.records) first (paged pages.old) gone.old.overwritten.numbers.items
+        → AreKept pages.old.sizes (length log.old.records) first (paged pages.old) log_scan.old.overwritten.numbers.items
         → (mended : List Record) × IsMendedOn pages.old.sizes log.old.records mended first (paged pages.new)
         × (log.new.records ≡ next_restart mended ∷ mended)) }
     ensures shut { IfErr result (λ e. (first : Paged) → Repeats pages.old.sizes log.old.records first (paged pages.old)
-        → AreKept pages.old.sizes (length log.old.records) first (paged pages.old) gone.old.overwritten.numbers.items
+        → AreKept pages.old.sizes (length log.old.records) first (paged pages.old) log_scan.old.overwritten.numbers.items
         → WhyShut pages.old.sizes log.old.records first e (L.faults log.old.device) (L.faults log.new.device)
         (log.new.device ≡ log.old.device)) }
     // Room, failures, and what a refusal says of a store that was left so.
     ensures room { OnOk result (log.new.reserved ≡ log.old.reserved) }
     ensures cause { OnOk result (L.faults log.new.device ≡ L.faults log.old.device) }
 {
-    match check_numbers(pages, &gone.overwritten, log.last()) {
-        Ok(()) => match begin_next(alloc, pages, log, &mut gone.findings, levels) {
+    match check_numbers(pages, &log_scan.overwritten, log.last()) {
+        Ok(()) => match undo_and_begin(alloc, pages, log, &mut log_scan.findings, levels) {
             Ok(begun) => Ok(begun),
             Err(refusal) => Err(refusal),
         },
@@ -430,13 +432,13 @@ fn go_on<P: PageDevice + Drop, L: LogDevice + Drop, B: Level>(
 
 // Undoes what has no end in the log, of which these are the findings, and begins the next incarnation. Gives what the
 // directory tells, too.
-fn begin_next<P: PageDevice + Drop, L: LogDevice + Drop, B: Level>(
+fn undo_and_begin<P: PageDevice + Drop, L: LogDevice + Drop, B: Level>(
     alloc: Global,
     pages: &mut Pages<P>,
     log: &mut Log<L>,
     findings: &mut Findings,
     levels: StoreLevels<B>,
-) -> Result<(Told<B>, Report), Refusal>
+) -> Result<(Tables<B>, Report), Refusal>
     requires found { AreFindings findings.old log.old.records }
     requires running { log.old.failed ≡ false }
     requires counted { AreCounted pages.old.sizes (length log.old.records) (paged pages.old) }
@@ -467,18 +469,18 @@ fn begin_next<P: PageDevice + Drop, L: LogDevice + Drop, B: Level>(
         → WhyNotBegun pages.old.sizes log.old.records first e (L.faults log.old.device) (L.faults log.new.device)
         (log.new.device ≡ log.old.device)) }
 {
-    let unfinished = findings.history.unfinished();
-    let (lost, planner) = mend_whole(alloc, pages, log, findings, levels)?;
-    let told = told_groups(alloc, pages, planner)?;
-    match begin_incarnation(log, findings.history.incarnation(), unfinished, lost) {
-        Ok(report) => Ok((told, report)),
+    let unfinished = findings.open_work.unfinished();
+    let (lost, planner) = undo_all_checked(alloc, pages, log, findings, levels)?;
+    let tables = read_tables(alloc, pages, planner)?;
+    match begin_incarnation(log, findings.open_work.incarnation(), unfinished, lost) {
+        Ok(report) => Ok((tables, report)),
         Err(refusal) => Err(refusal),
     }
 }
 
 // Undoes what has no end in the log, of which these are the findings, and looks whether the senders' chains are whole then.
 // Gives how many transactions there were, and what plans operations, told of each cell.
-fn mend_whole<P: PageDevice + Drop, L: LogDevice + Drop, B: Level>(
+fn undo_all_checked<P: PageDevice + Drop, L: LogDevice + Drop, B: Level>(
     alloc: Global,
     pages: &mut Pages<P>,
     log: &mut Log<L>,
@@ -496,7 +498,7 @@ fn mend_whole<P: PageDevice + Drop, L: LogDevice + Drop, B: Level>(
         → IsLeft pages.old.sizes first.image log.old.records → IsRecovered pages.old.sizes log.old.records
         log.new.records) }
     ensures linked { OnOk result (AreLinked pages.old.sizes (slots_on pages.old.sizes (paged pages.new))) }
-    ensures lost { IfOk result (λ mended. mended.0 ≡ length findings.old.history.working) }
+    ensures lost { IfOk result (λ mended. mended.0 ≡ length findings.old.open_work.active) }
     ensures known { IfOk result (λ mended. KnowsCells pages.new.sizes pages.new.images mended.1) }
     ensures found { OnOk result (AreFindings findings.new log.new.records) }
     ensures stops { IfErr result (λ e. (first : Paged) → Repeats pages.old.sizes log.old.records first (paged pages.old)
@@ -507,7 +509,7 @@ fn mend_whole<P: PageDevice + Drop, L: LogDevice + Drop, B: Level>(
         × (log.new.failed ≡ false) × (log.new.settled ≡ log.old.settled) }
     ensures room { OnOk result (log.new.reserved ≡ log.old.reserved) }
 {
-    let mended = mend(alloc, pages, log, findings, levels)?;
+    let mended = undo_all(alloc, pages, log, findings, levels)?;
     check_links(alloc, pages)?;
     Ok(mended)
 }
@@ -527,7 +529,7 @@ fn check_links<P: PageDevice>(alloc: Global, pages: &Pages<P>) -> Result<(), Ref
 
 // Undoes what has no end in the log, of which these are the findings: operations, and then transactions. Gives how many
 // of the latter there were, and what plans operations, told of each cell.
-fn mend<P: PageDevice + Drop, L: LogDevice + Drop, B: Level>(
+fn undo_all<P: PageDevice + Drop, L: LogDevice + Drop, B: Level>(
     alloc: Global,
     pages: &mut Pages<P>,
     log: &mut Log<L>,
@@ -544,7 +546,7 @@ fn mend<P: PageDevice + Drop, L: LogDevice + Drop, B: Level>(
     ensures recovered { OnOk result ((first : Paged) → Repeats pages.old.sizes log.old.records first (paged pages.old)
         → IsLeft pages.old.sizes first.image log.old.records → IsRecovered pages.old.sizes log.old.records
         log.new.records) }
-    ensures lost { IfOk result (λ mended. mended.0 ≡ length findings.old.history.working) }
+    ensures lost { IfOk result (λ mended. mended.0 ≡ length findings.old.open_work.active) }
     ensures known { IfOk result (λ mended. KnowsCells pages.new.sizes pages.new.images mended.1) }
     ensures found { OnOk result (AreFindings findings.new log.new.records) }
     ensures stops { IfErr result (λ e. (first : Paged) → Repeats pages.old.sizes log.old.records first (paged pages.old)
@@ -557,7 +559,7 @@ fn mend<P: PageDevice + Drop, L: LogDevice + Drop, B: Level>(
 {
     undo_unfinished(pages, log, findings)?;
     let mut planner = planner_of(alloc, pages, levels);
-    let lost = findings.history.working().len() as u64;
+    let lost = findings.open_work.active().len() as u64;
     abort_lost(alloc, pages, log, findings, &mut planner)?;
     Ok((lost, planner))
 }

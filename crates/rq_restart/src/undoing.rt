@@ -1,7 +1,7 @@
 //! Undoing operations that have no end, slot by slot.
 ghost use Rattle.std.specs.Prelude.{◌≡◌, IfErr, OnOk, false, length};
 ghost use Rattle.rq_pool.specs.Pooled.{IsPool};
-ghost use Rattle.rq_undone.specs.Pages.{IsUndone};
+ghost use Rattle.rq_page_undo.specs.Pages.{IsUndone};
 ghost use Rattle.rq_restart.specs.Found.{AreFindings};
 ghost use Rattle.rq_restart.specs.Repeating.{AreCounted, Paged, Repeats, paged};
 ghost use Rattle.rq_restart.specs.Undoing.{UndoStops};
@@ -41,7 +41,7 @@ pub(crate) fn undo_unfinished<P: PageDevice + Drop, L: LogDevice + Drop>(
         × (log.new.failed ≡ false) × (log.new.settled ≡ log.old.settled) }
     ensures room { OnOk result (log.new.reserved ≡ log.old.reserved) }
 {
-    while let Some(undo) = findings.history.next_undo() {
+    while let Some(undo) = findings.open_work.next_undo() {
         append(pages, log, findings, &undo)?;
     }
     shows_pool(pages);

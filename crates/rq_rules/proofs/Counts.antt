@@ -3,9 +3,9 @@ use Rattle.std.proofs.Common.{◌≡◌, ℕ, ◌+◌, Bool, true, false, not, �
 use Rattle.std.proofs.lemmas.Bool.{cases_Bool, eqb-true}
 use Rattle.std.proofs.lemmas.Bool.Decides.{nat_tests}
 use Rattle.std.proofs.Math.Bool.{or_assoc}
-use Rattle.rq_model.specs.Words.{has_number}
+use Rattle.rq_model.specs.Vocabulary.{has_number}
 use Rattle.rq_model.proofs.Lists.{or_swap}
-use Rattle.rq_rules.specs.Kept.{Counts, has_count, joined, no_counts, with_count}
+use Rattle.rq_rules.specs.ScanState.{Counts, has_count, joined, no_counts, with_count}
 use Rattle.rq_rules.proofs.Keys.{has_more}
 
 neither : (b : Bool) → ((b && not b) || false) ≡ false

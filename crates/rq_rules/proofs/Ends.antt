@@ -7,9 +7,9 @@ use Rattle.rq_model.specs.declared.record.Record.{Record}
 use Rattle.rq_model.specs.declared.record.Record.TheVariants as records
 use Rattle.rq_model.specs.Content.{has_end}
 use Rattle.rq_model.specs.Incarnations.{InOrder, incarnation_of}
-use Rattle.rq_model.specs.Words.{same_txn}
+use Rattle.rq_model.specs.Vocabulary.{same_txn}
 use Rattle.rq_model.proofs.Lists.{same_is}
-use Rattle.rq_rules.specs.Kept.{ended, has_count}
+use Rattle.rq_rules.specs.ScanState.{ended, has_count}
 use Rattle.rq_rules.proofs.Counts.{counts_more, none_counted}
 
 one_before : (u t : Txn) (i : ℕ) → same_txn u t ≡ true → u.incarnation ≡ i → t.incarnation ≤ i

@@ -7,20 +7,20 @@ use Rattle.rq_model.specs.declared.record.Record.{Record}
 use Rattle.rq_model.specs.declared.record.Record.TheVariants as records
 use Rattle.rq_model.specs.Content.{has_end}
 use Rattle.rq_model.specs.Incarnations.{InOrder, incarnation_of}
-use Rattle.rq_model.specs.Words.{first}
+use Rattle.rq_model.specs.Vocabulary.{first}
 use Rattle.rq_views.specs.Items.{operation}
 use Rattle.rq_views.specs.Legal.{is_of}
-use Rattle.rq_undone.specs.Analysis.{Analysis, analysis, has_sub}
-use Rattle.rq_undone.proofs.Spots.{way_parts, way_from}
-use Rattle.rq_lost.specs.declared.dues.Due.{Due}
-use Rattle.rq_lost.specs.Dues.{dues}
-use Rattle.rq_lost.specs.Numbers.{numbers}
-use Rattle.rq_rules.specs.Kept.{Counts, IsKept, Passes, ended, has_count}
+use Rattle.rq_page_undo.specs.Analysis.{Analysis, analysis, has_sub}
+use Rattle.rq_page_undo.proofs.Undoable.{way_parts, way_from}
+use Rattle.rq_loser_undo.specs.declared.dues.PendingUndo.{PendingUndo}
+use Rattle.rq_loser_undo.specs.Dues.{dues}
+use Rattle.rq_loser_undo.specs.Numbers.{numbers}
+use Rattle.rq_rules.specs.ScanState.{Counts, IsScanStateOf, Passes, ended, has_count}
 use Rattle.rq_rules.specs.Rules.{CanBeRead, FollowAll, FollowsRules, ends_op, greatest_number, has_op, has_op_end, op_of}
 use Rattle.rq_rules.proofs.Ends.{ended_kept}
 use Rattle.rq_rules.proofs.Operations.{number_kept, unfinished_kept, within_greatest}
 use Rattle.rq_rules.proofs.Owed.{due_kept}
-use Rattle.rq_rules.proofs.Writes.{spots_kept}
+use Rattle.rq_rules.proofs.Writes.{undoable_kept}
 
 unbegun_going : (o : Sub) (log : List Record) → has_op o log ≡ false → has_op_end o log ≡ false
 unbegun_going o [] h = refl
@@ -79,8 +79,8 @@ module _ (log : List Record) (f : FollowAll log) where
       ],
     )
   judged (records.PageUndo t n undone page slot after) w can = (
-    λ p. let k = open_parts (operation t n) p.1 in record { running = runs t w.1 w.0.1 p.0; going = k.1; begun = k.0; numbered = tt; undoes = ap first (sym (spots_kept log f (operation t n) k.1)) ∙ p.2; takes_back = tt; reads = tt },
-    λ q. (running t w.1 w.0.1 q.running, open_from (operation t n) q.begun q.going, ap first (spots_kept log f (operation t n) q.going) ∙ q.undoes),
+    λ p. let k = open_parts (operation t n) p.1 in record { running = runs t w.1 w.0.1 p.0; going = k.1; begun = k.0; numbered = tt; undoes = ap first (sym (undoable_kept log f (operation t n) k.1)) ∙ p.2; takes_back = tt; reads = tt },
+    λ q. (running t w.1 w.0.1 q.running, open_from (operation t n) q.begun q.going, ap first (undoable_kept log f (operation t n) q.going) ∙ q.undoes),
   )
   judged (records.OpEnd t n level deed) w can = (
     λ p. let k = open_parts (operation t n) p.1 in record { running = runs t w.1 w.0.1 p.0; going = k.1; begun = k.0; numbered = tt; undoes = tt; takes_back = tt; reads = can },
@@ -107,9 +107,9 @@ module _ (log : List Record) (f : FollowAll log) where
     λ q. tt,
   )
 
-pub judged_by : (log : List Record) (r : Record) (h : Analysis) (ds : List Due) (os : List Sub) (ns : Counts) → IsKept log h ds os ns → FollowAll log → InOrder (r ∷ log) → CanBeRead r → Passes h ds os ns r ↔ FollowsRules log r
+pub judged_by : (log : List Record) (r : Record) (h : Analysis) (ds : List PendingUndo) (os : List Sub) (ns : Counts) → IsScanStateOf log h ds os ns → FollowAll log → InOrder (r ∷ log) → CanBeRead r → Passes h ds os ns r ↔ FollowsRules log r
 judged_by log r h ds os ns k f w can =
     let a : Passes (analysis log) (dues log) (numbers log) ns r ↔ FollowsRules log r = subst (λ (x : Counts). Passes (analysis log) (dues log) (numbers log) x r ↔ FollowsRules log r) (sym k.ended) (judged log f r w can) in
     let b : Passes (analysis log) (dues log) os ns r ↔ FollowsRules log r = subst (λ (x : List Sub). Passes (analysis log) (dues log) x ns r ↔ FollowsRules log r) (sym k.numbers) a in
-    let d : Passes (analysis log) ds os ns r ↔ FollowsRules log r = subst (λ (x : List Due). Passes (analysis log) x os ns r ↔ FollowsRules log r) (sym k.dues) b in
-    subst (λ (x : Analysis). Passes x ds os ns r ↔ FollowsRules log r) (sym k.history) d
+    let d : Passes (analysis log) ds os ns r ↔ FollowsRules log r = subst (λ (x : List PendingUndo). Passes (analysis log) x os ns r ↔ FollowsRules log r) (sym k.dues) b in
+    subst (λ (x : Analysis). Passes x ds os ns r ↔ FollowsRules log r) (sym k.open_work) d

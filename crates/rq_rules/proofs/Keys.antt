@@ -6,7 +6,7 @@ use Rattle.std.specs.BTreeMap.{is_at}
 use Rattle.std.specs.BTreeSet.{insert_key}
 use Rattle.std.proofs.lemmas.Bool.{cases_Bool, eq-eqb, eqb-true, false≢true, ne_eqb}
 use Rattle.std.proofs.lemmas.Bool.Decides.{nat_tests}
-use Rattle.rq_model.specs.Words.{has_number}
+use Rattle.rq_model.specs.Vocabulary.{has_number}
 use Rattle.rq_model.proofs.Lists.{or_swap}
 
 eq_turned : (n k : ℕ) → is_eq (nat_cmp n k) ≡ nat_eq k n

@@ -1,7 +1,7 @@
 -- Lists: filters, and what stands first.
 use Rattle.std.proofs.Common.{◌≡◌, List, [], ◌∷◌, Some, inl, sym}
 use Rattle.std.proofs.lemmas.Option.{same_Some}
-use Rattle.rq_model.specs.Words.{In, first}
+use Rattle.rq_model.specs.Vocabulary.{In, first}
 
 pub first_in : {X : Type 0} (xs : List X) (x : X) → first xs ≡ Some x → In x xs
 first_in [] x e = cc

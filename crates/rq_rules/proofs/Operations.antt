@@ -14,9 +14,9 @@ use Rattle.rq_views.specs.Legal.{began, is_end, is_of, of_op, over}
 use Rattle.rq_views.specs.Numbers.{greatest, number_in}
 use Rattle.rq_views.proofs.Overlay.{same_is as op_is}
 use Rattle.rq_views.proofs.Numbers.{began_within}
-use Rattle.rq_undone.specs.Analysis.{analysis, has_sub, with_sub, without_sub}
-use Rattle.rq_lost.specs.Numbers.{number_of, numbers}
-use Rattle.rq_lost.proofs.Numbering as numbering
+use Rattle.rq_page_undo.specs.Analysis.{analysis, has_sub, with_sub, without_sub}
+use Rattle.rq_loser_undo.specs.Numbers.{number_of, numbers}
+use Rattle.rq_loser_undo.proofs.Numbering as numbering
 use Rattle.rq_rules.specs.Rules.{FollowAll, ends_op, greatest_number, has_op, has_op_end, op_of}
 
 -- the same said of the items of a log

@@ -7,17 +7,17 @@ use Rattle.rq_model.specs.declared.record.Record.{Record}
 use Rattle.rq_model.specs.declared.record.Record.TheVariants as records
 use Rattle.rq_model.specs.Content.{has_end}
 use Rattle.rq_model.specs.Unended.{any_record}
-use Rattle.rq_model.specs.Words.{In, first, same_txn}
+use Rattle.rq_model.specs.Vocabulary.{In, first, same_txn}
 use Rattle.rq_model.proofs.Lists.{In-filter, same_is}
 use Rattle.rq_views.proofs.AllOpen.{tail}
-use Rattle.rq_lost.specs.declared.dues.Due.{Due}
-use Rattle.rq_lost.specs.Dues.{but_newest, but_own, due_of, dues}
-use Rattle.rq_undone.proofs.Noting.{filter_twice, filter_same}
-use Rattle.rq_rules.specs.Kept.{lsn_due}
+use Rattle.rq_loser_undo.specs.declared.dues.PendingUndo.{PendingUndo}
+use Rattle.rq_loser_undo.specs.Dues.{but_newest, but_own, due_of, dues}
+use Rattle.rq_page_undo.proofs.Noting.{filter_twice, filter_same}
+use Rattle.rq_rules.specs.ScanState.{lsn_due}
 use Rattle.rq_rules.specs.Rules.{FollowAll, ends_of, left_of, takes_back}
 use Rattle.rq_rules.proofs.Lists.{first_in, first_split}
 
-abbrev pub lsn_of : Due → ℕ
+abbrev pub lsn_of : PendingUndo → ℕ
 lsn_of d = d.lsn
 
 abbrev pub is_left : Txn → List Record → ℕ → Bool
@@ -102,31 +102,31 @@ but_first n ms m h e =
     ap (filter (λ q. not (nat_eq m q))) k.1 ∙ rw own (but m m k.0 (omega arith) b.1) ∙ ap tail (sym k.1)
 
 -- what is due of a transaction
-apart : (u t : Txn) → same_txn u t ≡ false → (d : Due) → due_of u d ≡ true → due_of t d ≡ false
+apart : (u t : Txn) → same_txn u t ≡ false → (d : PendingUndo) → due_of u d ≡ true → due_of t d ≡ false
 apart u t n d e = ap (λ v. same_txn v t) (same_is d.txn u e) ∙ n
 
-own_newest : (t : Txn) (ds : List Due) → filter (due_of t) (but_newest t ds) ≡ tail (filter (due_of t) ds)
+own_newest : (t : Txn) (ds : List PendingUndo) → filter (due_of t) (but_newest t ds) ≡ tail (filter (due_of t) ds)
 own_newest t [] = refl
 own_newest t (d ∷ ds) = elim (cases_Bool (due_of t d)) [
   | inl y ↦ rw y refl
   | inr n ↦ rw n (rw n (own_newest t ds))
 ]
 
-other_newest : (t u : Txn) (ds : List Due) → same_txn u t ≡ false → filter (due_of t) (but_newest u ds) ≡ filter (due_of t) ds
+other_newest : (t u : Txn) (ds : List PendingUndo) → same_txn u t ≡ false → filter (due_of t) (but_newest u ds) ≡ filter (due_of t) ds
 other_newest t u [] off = refl
 other_newest t u (d ∷ ds) off = elim (cases_Bool (due_of u d)) [
   | inl y ↦ (let other = apart u t off d y in rw (y, other) refl)
   | inr n ↦ elim (cases_Bool (due_of t d)) [ inl a ↦ rw (n, a) (ap (λ l. d ∷ l) (other_newest t u ds off)) | inr b ↦ rw (n, b) (other_newest t u ds off) ]
 ]
 
-other_own : (t u : Txn) (ds : List Due) → same_txn u t ≡ false → filter (due_of t) (but_own u ds) ≡ filter (due_of t) ds
+other_own : (t u : Txn) (ds : List PendingUndo) → same_txn u t ≡ false → filter (due_of t) (but_own u ds) ≡ filter (due_of t) ds
 other_own t u [] off = refl
 other_own t u (d ∷ ds) off = elim (cases_Bool (due_of u d)) [
   | inl y ↦ (let other = apart u t off d y in rw (y, other) (other_own t u ds off))
   | inr n ↦ elim (cases_Bool (due_of t d)) [ inl a ↦ rw (n, a) (ap (λ l. d ∷ l) (other_own t u ds off)) | inr b ↦ rw (n, b) (other_own t u ds off) ]
 ]
 
-map_rest : (ds : List Due) → map lsn_of (tail ds) ≡ tail (map lsn_of ds)
+map_rest : (ds : List PendingUndo) → map lsn_of (tail ds) ≡ tail (map lsn_of ds)
 map_rest [] = refl
 map_rest (d ∷ ds) = refl
 
@@ -168,7 +168,7 @@ dues_kept (records.PageUndo u n undone page slot after ∷ log) f t g = dues_kep
 dues_kept (records.OpVoid u n ∷ log) f t g = dues_kept log f.1 t g
 dues_kept (records.Restart i ∷ log) f t g = dues_kept log f.1 t g
 
-first_lsn : (ds : List Due) → lsn_due (first ds) ≡ first (map lsn_of ds)
+first_lsn : (ds : List PendingUndo) → lsn_due (first ds) ≡ first (map lsn_of ds)
 first_lsn [] = refl
 first_lsn (d ∷ ds) = refl
 

@@ -6,14 +6,14 @@ use Rattle.rq_model.specs.declared.txn.Sub.{Sub}
 use Rattle.rq_model.specs.declared.record.Record.{Record}
 use Rattle.rq_model.specs.declared.record.Record.TheVariants as records
 use Rattle.rq_model.specs.Unended.{any_record}
-use Rattle.rq_model.specs.Words.{In, first, same_txn}
+use Rattle.rq_model.specs.Vocabulary.{In, first, same_txn}
 use Rattle.rq_model.proofs.Lists.{In-filter, same_is, same_self}
 use Rattle.rq_views.specs.Log.{same_op}
 use Rattle.rq_views.specs.Items.{operation}
 use Rattle.rq_views.specs.Numbers.{number_in}
 use Rattle.rq_views.proofs.Overlay.{same_self as op_self}
-use Rattle.rq_undone.specs.declared.history.Spot.{Spot}
-use Rattle.rq_undone.specs.Analysis.{spot_at}
+use Rattle.rq_page_undo.specs.declared.open_work.UndoableWrite.{UndoableWrite}
+use Rattle.rq_page_undo.specs.Analysis.{undoable_at}
 use Rattle.rq_rules.specs.Rules.{FollowAll, FollowsRules, ends_of, greatest_number, has_op, left_of, standing, takes_back, undoes, writes_of}
 use Rattle.rq_rules.specs.Theorems.{IsEndOf, IsWriteOf, RulesTell, names_end, names_write, record_at}
 use Rattle.rq_rules.proofs.Lists.{first_in}
@@ -29,20 +29,20 @@ newest : (r : Record) (log : List Record) → record_at (length log + 1) (r ∷ 
 newest r log = let own : nat_eq (length log + 1) (length log + 1) ≡ true = eq-eqb (length log + 1) (length log + 1) refl in rw own refl
 
 -- a write of an operation is that of a record
-abbrev IsThere : List Record → Spot → Type 0
+abbrev IsThere : List Record → UndoableWrite → Type 0
 IsThere log p = (after : List ℕ) × (record_at p.lsn log ≡ Some (records.PageOp p.by.txn p.by.number p.page p.slot p.before after))
 
-older_there : (o : Sub) (r : Record) (log : List Record) (p : Spot) → In p (writes_of o log) → IsThere log p → IsThere (r ∷ log) p
+older_there : (o : Sub) (r : Record) (log : List Record) (p : UndoableWrite) → In p (writes_of o log) → IsThere log p → IsThere (r ∷ log) p
 older_there o r log p i h = (h.0, behind r log p.lsn (written.all_below (length log + 1) (writes_of o log) p (written.writes_below o log) i) ∙ h.1)
 
-newest_there : (o : Sub) (t : Txn) (n page slot : ℕ) (before after : List ℕ) (log : List Record) (p : Spot) → (In p (writes_of o log) → IsThere log p)
-    → In p (spot_at (length log + 1) (operation t n) page slot before ∷ writes_of o log) → IsThere (records.PageOp t n page slot before after ∷ log) p
+newest_there : (o : Sub) (t : Txn) (n page slot : ℕ) (before after : List ℕ) (log : List Record) (p : UndoableWrite) → (In p (writes_of o log) → IsThere log p)
+    → In p (undoable_at (length log + 1) (operation t n) page slot before ∷ writes_of o log) → IsThere (records.PageOp t n page slot before after ∷ log) p
 newest_there o t n page slot before after log p h i = elim i [
   | inl e ↦ subst (IsThere (records.PageOp t n page slot before after ∷ log)) (sym e) (after, newest (records.PageOp t n page slot before after) log)
   | inr k ↦ older_there o (records.PageOp t n page slot before after) log p k (h k)
 ]
 
-write_there : (o : Sub) (log : List Record) (p : Spot) → In p (writes_of o log) → IsThere log p
+write_there : (o : Sub) (log : List Record) (p : UndoableWrite) → In p (writes_of o log) → IsThere log p
 write_there o [] p i = absurd i
 write_there o (records.PageOp t n page slot before after ∷ log) p i = elim (cases_Bool (same_op (operation t n) o)) [
   | inl y ↦ newest_there o t n page slot before after log p (write_there o log p) (rw y at i)
@@ -57,10 +57,10 @@ write_there o (records.AbortEnd t ∷ log) p i = older_there o (records.AbortEnd
 write_there o (records.Restart j ∷ log) p i = older_there o (records.Restart j) log p i (write_there o log p i)
 
 -- that of the PageUndo that follows
-named_there : (log : List Record) (t : Txn) (n lsn page slot : ℕ) (after : List ℕ) → first (standing (operation t n) log) ≡ Some (spot_at lsn (operation t n) page slot after)
-    → IsThere log (spot_at lsn (operation t n) page slot after) × (any_record (undoes (operation t n) lsn) log ≡ false)
+named_there : (log : List Record) (t : Txn) (n lsn page slot : ℕ) (after : List ℕ) → first (standing (operation t n) log) ≡ Some (undoable_at lsn (operation t n) page slot after)
+    → IsThere log (undoable_at lsn (operation t n) page slot after) × (any_record (undoes (operation t n) lsn) log ≡ false)
 named_there log t n lsn page slot after e =
-    let p = spot_at lsn (operation t n) page slot after in
+    let p = undoable_at lsn (operation t n) page slot after in
     let i = In-filter (written.stands (operation t n) log) (writes_of (operation t n) log) p (first_in (standing (operation t n) log) p e) in
     (write_there (operation t n) log p i.0, not-true (any_record (undoes (operation t n) lsn) log) i.1)
 
@@ -71,7 +71,7 @@ same_writer t u n m p q s r a b x y e = let k : t ≡ u = cc in let l : n ≡ m 
 none_later : (log : List Record) (lsn : ℕ) → FollowAll log → length log < lsn → any_record (names_write lsn) log ≡ false
 none_later [] lsn f lt = refl
 none_later (records.PageUndo t n undone page slot after ∷ log) lsn f lt =
-    let a = written.names_older (operation t n) log (spot_at undone (operation t n) page slot after) f.0.undoes in
+    let a = written.names_older (operation t n) log (undoable_at undone (operation t n) page slot after) f.0.undoes in
     let other : nat_eq undone lsn ≡ false = ne_eqb undone lsn (λ e. absurd (omega (arith, a, e, lt))) in
     rw other (none_later log lsn f.1 (omega (arith, lt)))
 none_later (records.PageOp t n page slot before after ∷ log) lsn f lt = none_later log lsn f.1 (omega (arith, lt))

@@ -8,7 +8,7 @@ use Rattle.rq_model.specs.declared.record.Record.{Record}
 use Rattle.rq_model.specs.declared.record.Record.TheVariants as records
 use Rattle.rq_model.specs.Content.{has_end}
 use Rattle.rq_model.specs.Deeds.{deed_in}
-use Rattle.rq_model.specs.Words.{first, is_some, same_txn}
+use Rattle.rq_model.specs.Vocabulary.{first, is_some, same_txn}
 use Rattle.rq_model.proofs.Lists.{In-filter, same_is}
 use Rattle.rq_page.specs.Sizes.{Sizes, address}
 use Rattle.rq_page.specs.Slots.{Slot, IsSlotOf, held_in, slot_bytes}
@@ -27,19 +27,19 @@ use Rattle.rq_views.proofs.Numbers.{written_began, plan_some, undoes_some}
 use Rattle.rq_store.specs.Fitting.{left_by}
 use Rattle.rq_store.specs.Whole.{IsWhole}
 use Rattle.rq_store.proofs.Cutting.{whole_older}
-use Rattle.rq_undone.specs.declared.history.Spot.{Spot}
-use Rattle.rq_undone.specs.Analysis.{analysis, spot_at, spot_of}
-use Rattle.rq_undone.proofs.Spots.{Place, lsn_of, own_lsns, own_writes, spot_before, spot_place, write_place}
-use Rattle.rq_lost.specs.declared.dues.Due.{Due}
-use Rattle.rq_lost.specs.Dues.{due_of, dues}
-use Rattle.rq_lost.proofs.Owing.{own_dues, placed_due}
+use Rattle.rq_page_undo.specs.declared.open_work.UndoableWrite.{UndoableWrite}
+use Rattle.rq_page_undo.specs.Analysis.{analysis, undoable_at, undoable_by}
+use Rattle.rq_page_undo.proofs.Undoable.{Place, lsn_of, own_lsns, own_writes, undoable_before, undoable_place, write_place}
+use Rattle.rq_loser_undo.specs.declared.dues.PendingUndo.{PendingUndo}
+use Rattle.rq_loser_undo.specs.Dues.{due_of, dues}
+use Rattle.rq_loser_undo.proofs.Owing.{own_dues, placed_due}
 use Rattle.rq_rules.specs.Rules.{FollowAll, FollowsRules, left_of, standing}
 use Rattle.rq_rules.specs.Theorems.{WholeLogsFollow}
 use Rattle.rq_rules.proofs.Lists.{first_in}
 use Rattle.rq_rules.proofs.Operations.{greatest_same, has_op_end_same, has_op_same}
 use Rattle.rq_rules.proofs.Owed.{dues_kept}
 use Rattle.rq_rules.proofs.Owed as owed
-use Rattle.rq_rules.proofs.Writes.{spots_kept}
+use Rattle.rq_rules.proofs.Writes.{undoable_kept}
 
 -- the chain level reads its deeds
 chain_reads : (level : ℕ) (deed : List ℕ) → level ≡ 1 → is_some (deed_in deed) ≡ true → (meaning_of level).reads deed ≡ true
@@ -92,14 +92,14 @@ abbrev place : ℕ → Slot → Place
 place a x = (a, x)
 
 -- what a list of writes and their LSNs tells of the newest
-named : (z : Sizes) (qs : List Spot) (ns : List ℕ) (ws : List Write) (u at : ℕ) (x : Slot) → map lsn_of qs ≡ ns → map (spot_place z) qs ≡ map write_place ws → IsFirst u ns → IsNewest ws at x
-    → (p : Spot) × (first qs ≡ Some p) × (p.lsn ≡ u) × (spot_place z p ≡ place at x)
+named : (z : Sizes) (qs : List UndoableWrite) (ns : List ℕ) (ws : List Write) (u at : ℕ) (x : Slot) → map lsn_of qs ≡ ns → map (undoable_place z) qs ≡ map write_place ws → IsFirst u ns → IsNewest ws at x
+    → (p : UndoableWrite) × (first qs ≡ Some p) × (p.lsn ≡ u) × (undoable_place z p ≡ place at x)
 named z [] ns ws u at x a b c d = absurd (subst (IsFirst u) (sym a) c)
 named z (p ∷ qs) [] ws u at x a b c d = absurd c
 named z (p ∷ qs) (m ∷ ns) [] u at x a b c d = absurd d
 named z (p ∷ qs) (m ∷ ns) (w ∷ ws) u at x a b c d =
     let e : p.lsn ≡ m = cc in
-    let g : spot_place z p ≡ write_place w = cc in
+    let g : undoable_place z p ≡ write_place w = cc in
     (p, refl, e ∙ c, g ∙ both w.at at w.before x d.0 d.1)
   where
     both : (i j : ℕ) (y v : Slot) → i ≡ j → y ≡ v → place i y ≡ place j v
@@ -118,29 +118,29 @@ same_bytes z p q s r xs ys a b e h = sym (slot_is_spelling z p s xs a).1 ∙ ap 
 module _ (z : Sizes) (log : List Record) (w : IsWhole z log) (f : FollowAll log) where
   -- the newest write that stands
   undoes_newest : (o : Sub) (undone page slot : ℕ) (after : List ℕ) → IsSlotOf z page slot after → over o (items z log) ≡ false → IsFirst undone (lsns o (items z log))
-      → IsNewest ((left_by z log).writes o) (address page slot) (held_in z page after) → first (standing o log) ≡ Some (spot_at undone o page slot after)
+      → IsNewest ((left_by z log).writes o) (address page slot) (held_in z page after) → first (standing o log) ≡ Some (undoable_at undone o page slot after)
   undoes_newest o undone page slot after there going one newest =
-      let qs = filter (spot_of o) (analysis log).spots in
+      let qs = filter (undoable_by o) (analysis log).undoable in
       let k = named z qs (lsns o (items z log)) ((left_by z log).writes o) undone (address page slot) (held_in z page after) (own_lsns z o log going) (own_writes z o log) one newest in
       let p = k.0 in
-      let i = In-filter (spot_of o) (analysis log).spots p (first_in qs p k.1) in
-      let stood = spot_before z log w.befores p i.0 in
+      let i = In-filter (undoable_by o) (analysis log).undoable p (first_in qs p k.1) in
+      let stood = undoable_before z log w.befores p i.0 in
       let at : address p.page p.slot ≡ address page slot = ap (λ (x : Place). x.0) k.3 in
       let holds : held_in z p.page p.before ≡ held_in z page after = ap (λ (x : Place). x.1) k.3 in
       let a = place_page p.page page p.slot slot stood.high there.high at in
       let b = place_slot p.page page p.slot slot stood.high there.high at in
       let d = same_bytes z p.page page p.slot slot p.before after stood there a holds in
-      sym (ap first (spots_kept log f o (has_op_end_same z o log ∙ going))) ∙ k.1 ∙ ap Some (same_spot p undone o page slot after k.2 (op_is p.by o i.1) a b d)
+      sym (ap first (undoable_kept log f o (has_op_end_same z o log ∙ going))) ∙ k.1 ∙ ap Some (same_undoable p undone o page slot after k.2 (op_is p.by o i.1) a b d)
     where
-      same_spot : (p : Spot) (lsn : ℕ) (o : Sub) (page slot : ℕ) (bytes : List ℕ) → p.lsn ≡ lsn → p.by ≡ o → p.page ≡ page → p.slot ≡ slot → p.before ≡ bytes → p ≡ spot_at lsn o page slot bytes
-      same_spot p lsn o page slot bytes a b c d e = λ i. record { lsn = a i; by = b i; page = c i; slot = d i; before = e i }
+      same_undoable : (p : UndoableWrite) (lsn : ℕ) (o : Sub) (page slot : ℕ) (bytes : List ℕ) → p.lsn ≡ lsn → p.by ≡ o → p.page ≡ page → p.slot ≡ slot → p.before ≡ bytes → p ≡ undoable_at lsn o page slot bytes
+      same_undoable p lsn o page slot bytes a b c d e = λ i. record { lsn = a i; by = b i; page = c i; slot = d i; before = e i }
 
   -- the newest deed that is left
   takes_newest : (t : Txn) (undone : ℕ) (ws : List Write) → has_end log t ≡ false → Undoes (layout_of z) (open_deeds t (items z log)) undone ws → first (left_of t log) ≡ Some undone
   takes_newest t undone ws run h =
       sym (ap first (dues_kept log f t run)) ∙ told (filter (due_of t) (dues log)) (open_deeds t (items z log)) (own_dues z log t w.legal) h
     where
-      told : (ds : List Due) (ps : List Placed) → map placed_due ds ≡ ps → Undoes (layout_of z) ps undone ws → first (map owed.lsn_of ds) ≡ Some undone
+      told : (ds : List PendingUndo) (ps : List Placed) → map placed_due ds ≡ ps → Undoes (layout_of z) ps undone ws → first (map owed.lsn_of ds) ≡ Some undone
       told [] ps e k = absurd (subst (λ (x : List Placed). Undoes (layout_of z) x undone ws) (sym e) k)
       told (d ∷ ds) [] e k = absurd k
       told (d ∷ ds) (p ∷ ps) e k = let g : placed_due d ≡ p = cc in ap Some (ap (λ (x : Placed). x.lsn) g ∙ k.0)

@@ -1,3 +1,3 @@
 pub mod Rules
-pub mod Kept
+pub mod ScanState
 pub mod Theorems

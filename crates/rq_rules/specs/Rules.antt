@@ -5,7 +5,7 @@ use Rattle.rq_model.specs.declared.txn.Txn.{Txn}
 use Rattle.rq_model.specs.declared.txn.Sub.{Sub}
 use Rattle.rq_model.specs.declared.record.Record.{Record}
 use Rattle.rq_model.specs.declared.record.Record.TheVariants.{PageOp, PageUndo, OpEnd, OpVoid, CompEnd}
-use Rattle.rq_model.specs.Words.{first, same_txn}
+use Rattle.rq_model.specs.Vocabulary.{first, same_txn}
 use Rattle.rq_model.specs.Content.{has_end}
 use Rattle.rq_model.specs.Incarnations.{txn_of}
 use Rattle.rq_model.specs.Unended.{any_record}
@@ -14,8 +14,8 @@ use Rattle.rq_views.specs.Log.{same_op}
 use Rattle.rq_views.specs.Items.{operation}
 use Rattle.rq_views.specs.Legal.{is_of}
 use Rattle.rq_views.specs.Numbers.{number_in}
-use Rattle.rq_undone.specs.declared.history.Spot.{Spot}
-use Rattle.rq_undone.specs.Analysis.{spot_at}
+use Rattle.rq_page_undo.specs.declared.open_work.UndoableWrite.{UndoableWrite}
+use Rattle.rq_page_undo.specs.Analysis.{undoable_at}
 
 -- whose operation, if the record is of one
 abbrev pub op_of : Record → Option Sub
@@ -47,13 +47,13 @@ abbrev pub greatest_number : Txn → List Record → ℕ
 greatest_number t [] = 0
 greatest_number t (r ∷ log) = max (number_in t (op_of r)) (greatest_number t log)
 
-abbrev pub write_more : Sub → ℕ → Record → List Spot → List Spot
+abbrev pub write_more : Sub → ℕ → Record → List UndoableWrite → List UndoableWrite
 write_more o lsn (PageOp t n page slot before after) ps =
-    cond (same_op (operation t n) o) (spot_at lsn (operation t n) page slot before ∷ ps) ps
+    cond (same_op (operation t n) o) (undoable_at lsn (operation t n) page slot before ∷ ps) ps
 write_more o lsn _ ps = ps
 
 -- the slot writes of an operation, the newest first: their LSNs, places and before-images
-abbrev pub writes_of : Sub → List Record → List Spot
+abbrev pub writes_of : Sub → List Record → List UndoableWrite
 writes_of o [] = []
 writes_of o (r ∷ log) = write_more o (length log + 1) r (writes_of o log)
 
@@ -63,7 +63,7 @@ undoes o lsn (PageUndo t n undone page slot after) = same_op (operation t n) o &
 undoes o lsn _ = false
 
 -- those of its writes that none of its PageUndos names
-abbrev pub standing : Sub → List Record → List Spot
+abbrev pub standing : Sub → List Record → List UndoableWrite
 standing o log = filter (λ p. not (any_record (undoes o p.lsn) log)) (writes_of o log)
 
 abbrev pub end_more : Txn → ℕ → Record → List ℕ → List ℕ
@@ -105,7 +105,7 @@ HasItsNumber log _ = Unit {0}
 
 abbrev pub UndoesNewest : List Record → Record → Type 0
 UndoesNewest log (PageUndo t n undone page slot after) =
-    first (standing (operation t n) log) ≡ Some (spot_at undone (operation t n) page slot after)
+    first (standing (operation t n) log) ≡ Some (undoable_at undone (operation t n) page slot after)
 UndoesNewest log _ = Unit {0}
 
 abbrev pub TakesBackNewest : List Record → Record → Type 0

@@ -1,6 +1,6 @@
 //! Which transactions of the running incarnation have ended, as the records of a log tell it one after the other.
 ghost use Rattle.std.specs.Prelude.{◌≡◌, ◌&&◌, not, nat_lt, OnOk, OnErr, []};
-ghost use Rattle.rq_rules.specs.Kept.{comes_next, ended, ended_after, has_count, joined, with_count};
+ghost use Rattle.rq_rules.specs.ScanState.{comes_next, ended, ended_after, has_count, joined, with_count};
 
 use rq_model::record::Record;
 use rq_model::refusal::NoMemory;
@@ -13,25 +13,25 @@ use std::marker::Model;
 /// one all have ended, and those above that one. It keeps no more than these, so that it takes no memory where
 /// transactions end in the order in which they began.
 #[derive(Drop)]
-pub struct Ended {
+pub struct EndedTransactions {
     up_to: u64,
     others: BTreeSet<u64>,
 }
 
-impl Model for Ended {
-    ghost use Rattle.rq_rules.specs.Kept.{Counts};
+impl Model for EndedTransactions {
+    ghost use Rattle.rq_rules.specs.ScanState.{Counts};
 
     ghost Value = { Counts };
 
     ghost view = { λ e. record { up_to = e.up_to; others = e.others.keys } };
 }
 
-impl Ended {
+impl EndedTransactions {
     /// Of no record.
     pub fn new(alloc: Global) -> Self
         ensures { result ≡ ended [] }
     {
-        Ended {
+        EndedTransactions {
             up_to: 0,
             others: BTreeSet::new(alloc),
         }

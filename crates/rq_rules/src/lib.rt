@@ -9,7 +9,7 @@ mod ended;
 ghost use Rattle.rq_rules.specs.Theorems.{RulesTell, WholeLogsFollow};
 
 pub use checking::follows;
-pub use ended::Ended;
+pub use ended::EndedTransactions;
 
 /// The records of a whole log follow the rules: no sound store is refused for them.
 pub fn whole_logs_follow()

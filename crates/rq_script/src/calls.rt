@@ -1,6 +1,6 @@
 //! The calls that a command stands for, made of any store.
-use crate::command::{Command, Images, Keep, Post};
-use crate::told::Told;
+use crate::command::{Command, Images, Post, Survivors};
+use crate::command_result::CommandResult;
 use rq_disk::CallKind;
 use rq_engine::event::{CommitNo, Event, Outcome, Progress, Reply};
 use rq_model::refusal::Refusal;
@@ -24,10 +24,10 @@ pub trait Store {
     fn arm(&mut self, kind: CallKind);
 
     /// A crash.
-    fn crash(&mut self, keep: Keep, images: Images) -> Told;
+    fn crash(&mut self, keep: Survivors, images: Images) -> CommandResult;
 
     /// Opens the store after a crash, or stops in that once so many records are kept.
-    fn restart(&mut self, stop: Option<u64>) -> Told;
+    fn restart(&mut self, stop: Option<u64>) -> CommandResult;
 }
 
 /// Carries out a command; none where the line of this number is none.
@@ -36,18 +36,18 @@ pub fn carry_out<S: Store>(
     alloc: Global,
     number: u64,
     command: Option<Command<'_>>,
-) -> Told {
+) -> CommandResult {
     match command {
         Some(Command::Restart) => store.restart(None),
         Some(Command::StopInRestart(records)) => store.restart(Some(records)),
-        Some(_) if !store.is_open() => Told::refused(Refusal::Failed),
+        Some(_) if !store.is_open() => CommandResult::refused(Refusal::Failed),
         Some(Command::Crash(keep, images)) => store.crash(keep, images),
         Some(Command::Fail(kind)) => {
             store.arm(kind);
-            Told::Armed
+            CommandResult::Armed
         }
-        Some(command) => Told::Reply(call(store, alloc, command)),
-        None => Told::NoCommand(number),
+        Some(command) => CommandResult::Reply(call(store, alloc, command)),
+        None => CommandResult::NoCommand(number),
     }
 }
 
@@ -57,9 +57,11 @@ fn call<S: Store>(store: &mut S, alloc: Global, command: Command<'_>) -> Reply {
         Command::Begin => store.ask(Event::Begin),
         Command::Send(post) => send(store, alloc, post),
         Command::OpenSend(post) => open_send(store, alloc, post),
-        Command::Recv(txn) => whole(store, Event::StartReceive(txn)),
-        Command::RecvFrom(txn, sender) => whole(store, Event::StartReceiveFrom { txn, sender }),
-        Command::Close(txn, sender) => whole(store, Event::StartClose { txn, sender }),
+        Command::Recv(txn) => whole_operation(store, Event::StartReceive(txn)),
+        Command::RecvFrom(txn, sender) => {
+            whole_operation(store, Event::StartReceiveFrom { txn, sender })
+        }
+        Command::Close(txn, sender) => whole_operation(store, Event::StartClose { txn, sender }),
         Command::Step(sub) => store.ask(Event::Step(sub)),
         Command::Finish(sub) => store.ask(Event::Finish(sub)),
         Command::Commit(txn) => store.ask(Event::Commit(txn)),
@@ -87,21 +89,21 @@ fn open_send<S: Store>(store: &mut S, alloc: Global, post: Post<'_>) -> Reply {
 
 fn send<S: Store>(store: &mut S, alloc: Global, post: Post<'_>) -> Reply {
     match start_of(alloc, post) {
-        Ok(event) => whole(store, event),
+        Ok(event) => whole_operation(store, event),
         Err(_) => Reply::Refused(Refusal::NoMemory),
     }
 }
 
 // A start, all its steps, and its finish.
-fn whole<S: Store>(store: &mut S, start: Event) -> Reply {
+fn whole_operation<S: Store>(store: &mut S, start: Event) -> Reply {
     match store.ask(start) {
-        Reply::Started(sub) => carry_through(store, sub),
+        Reply::Started(sub) => finish_operation(store, sub),
         reply => reply,
     }
 }
 
 // Takes the steps that an operation has left, and ends it. What memory was wanting for is tried again.
-fn carry_through<S: Store>(store: &mut S, sub: Sub) -> Reply {
+fn finish_operation<S: Store>(store: &mut S, sub: Sub) -> Reply {
     let mut is_ready = false;
     for _ in 0..ATTEMPTS {
         let event = if is_ready {
@@ -130,7 +132,7 @@ fn abort<S: Store>(store: &mut S, txn: Txn) -> Reply {
 // Undoes what an aborting transaction did, the newest first, and ends it. What is undone before a refusal stays so.
 fn undo_all<S: Store>(store: &mut S, txn: Txn) -> Reply {
     for _ in 0..u64::MAX {
-        match whole(store, Event::UndoNext(txn)) {
+        match whole_operation(store, Event::UndoNext(txn)) {
             Reply::Finished(Outcome::Undone) => {}
             Reply::NothingLeft => return store.ask(Event::EndAbort(txn)),
             reply => return reply,

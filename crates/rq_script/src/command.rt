@@ -23,7 +23,7 @@ pub enum Command<'a> {
     Write(u32),
     Last(u32),
     Fail(CallKind),
-    Crash(Keep, Images),
+    Crash(Survivors, Images),
     /// One that goes to its end.
     Restart,
     /// One that the machine stops in, once so many of its records are kept.
@@ -42,7 +42,7 @@ pub struct Post<'a> {
 
 /// How many of the records that are not forced outlive a crash.
 #[derive(Clone, Copy)]
-pub enum Keep {
+pub enum Survivors {
     First(u64),
     All,
 }
@@ -214,10 +214,10 @@ fn crash(rest: &[u8]) -> Option<Command<'static>> {
     }
 }
 
-fn outliving(word: &[u8]) -> Option<Keep> {
+fn outliving(word: &[u8]) -> Option<Survivors> {
     match word {
-        b"all" => Some(Keep::All),
-        _ => Some(Keep::First(number(word)?)),
+        b"all" => Some(Survivors::All),
+        _ => Some(Survivors::First(number(word)?)),
     }
 }
 

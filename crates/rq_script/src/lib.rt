@@ -3,9 +3,9 @@
 
 mod calls;
 mod command;
+mod command_result;
 mod machine;
 mod script;
 mod store;
-mod told;
 
 pub use script::{run_script, sets_wanted};

@@ -1,7 +1,7 @@
 //! A store that is open, or as a crash left it, over whatever opens it. It knows no engine, so that its proofs speak of none.
 use crate::calls::Store;
-use crate::command::{Images, Keep};
-use crate::told::Told;
+use crate::command::{Images, Survivors};
+use crate::command_result::CommandResult;
 use rq_disk::{CallKind, Mishap, PageChoice, Switch};
 use rq_engine::event::{CommitNo, Event, Reply};
 use rq_model::refusal::Refusal;
@@ -142,23 +142,23 @@ impl<K: Drop, D: Drop, M: Medium<K, D>> Machine<K, D, M> {
     }
 
     /// Opens the store that the devices hold.
-    pub fn open(&mut self, devices: D) -> Told {
+    pub fn open(&mut self, devices: D) -> CommandResult {
         match self.medium.open(devices) {
             Ok((kept, report)) => self.run_on(kept, report),
-            Err((refusal, _)) => Told::Fault(refusal),
+            Err((refusal, _)) => CommandResult::Fault(refusal),
         }
     }
 
     // The store is open.
-    fn run_on(&mut self, kept: K, report: Report) -> Told {
+    fn run_on(&mut self, kept: K, report: Report) -> CommandResult {
         self.state = State::Open(kept);
         self.answered.clear();
-        Told::Restarted(report)
+        CommandResult::Restarted(report)
     }
 
     // Opens the store after a crash up to the append of its records, and leaves it as the machine does that stops once so
     // many of them are kept. Where there are no more than that, or where that append shall fail, the store is opened.
-    fn stop_in_restart(&mut self, devices: D, kept: u64) -> Told {
+    fn stop_in_restart(&mut self, devices: D, kept: u64) -> CommandResult {
         if self.medium.switch().is_armed(CallKind::Write) {
             return self.open(devices);
         }
@@ -169,19 +169,19 @@ impl<K: Drop, D: Drop, M: Medium<K, D>> Machine<K, D, M> {
         match opened {
             Ok((kept, report)) => self.run_on(kept, report),
             Err((_, devices)) if has_stopped => self.leave_with(devices, before, kept),
-            Err((refusal, _)) => Told::Fault(refusal),
+            Err((refusal, _)) => CommandResult::Fault(refusal),
         }
     }
 
     // Behind the records before stand all those of a restart. Keeps the first so many of these; where they are no more than
     // that, opens the store.
-    fn leave_with(&mut self, devices: D, before: u64, kept: u64) -> Told {
+    fn leave_with(&mut self, devices: D, before: u64, kept: u64) -> CommandResult {
         let made = self.medium.records(&devices).saturating_sub(before);
         if kept >= made {
             let (devices, _) = self.medium.crash(devices, PageChoice::Newest, 0);
             return self.open(devices);
         }
-        Told::Stopped(self.leave(devices, PageChoice::Newest, kept))
+        CommandResult::Stopped(self.leave(devices, PageChoice::Newest, kept))
     }
 
     // The devices as a crash leaves them; how many records are left.
@@ -218,21 +218,21 @@ impl<K: Drop, D: Drop, M: Medium<K, D>> Store for Machine<K, D, M> {
     }
 
     // Buffered records are handed over, and then the devices are left as a crash leaves them.
-    fn crash(&mut self, keep: Keep, images: Images) -> Told {
+    fn crash(&mut self, keep: Survivors, images: Images) -> CommandResult {
         let Some(kept) = self.state.take_open() else {
-            return Told::refused(Refusal::Failed);
+            return CommandResult::refused(Refusal::Failed);
         };
         let devices = self.medium.shut(kept);
         let choice = outliving_images(images);
-        Told::Crashed(self.leave(devices, choice, outliving_records(keep)))
+        CommandResult::Crashed(self.leave(devices, choice, outliving_records(keep)))
     }
 
-    fn restart(&mut self, stop: Option<u64>) -> Told {
+    fn restart(&mut self, stop: Option<u64>) -> CommandResult {
         if self.state.is_open() {
-            return Told::Running;
+            return CommandResult::Running;
         }
         let Some(devices) = self.state.take_crashed() else {
-            return Told::Fault(Refusal::Failed);
+            return CommandResult::Fault(Refusal::Failed);
         };
         match stop {
             None => self.open(devices),
@@ -248,10 +248,10 @@ fn has_stopped(switch: &Switch) -> bool {
     stopped
 }
 
-fn outliving_records(keep: Keep) -> u64 {
+fn outliving_records(keep: Survivors) -> u64 {
     match keep {
-        Keep::First(count) => count,
-        Keep::All => u64::MAX,
+        Survivors::First(count) => count,
+        Survivors::All => u64::MAX,
     }
 }
 

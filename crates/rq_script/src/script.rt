@@ -3,9 +3,9 @@ ghost use Rattle.std.specs.Prelude.{◌≤◌, IfOk};
 
 use crate::calls::{Store, carry_out};
 use crate::command::Command;
+use crate::command_result::{CommandResult, LINE_ROOM};
 use crate::machine::{Machine, Medium};
 use crate::store::Memory;
-use crate::told::{LINE_ROOM, Told};
 use rq_level::Level;
 use rq_page::layout::Layout;
 use rq_planner::StoreLevels;
@@ -69,7 +69,7 @@ fn run_lines<W: Write, B: Level>(
     match Memory::formatted(alloc, &layout, sets) {
         Ok((memory, devices)) => run_over(alloc, memory, devices, input, writer, &mut output),
         Err(refusal) => {
-            Told::Fault(refusal).print(&mut output);
+            CommandResult::Fault(refusal).print(&mut output);
             writer.write_all(&output)?;
             Ok(1)
         }

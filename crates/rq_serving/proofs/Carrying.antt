@@ -19,12 +19,12 @@ use Rattle.rq_session.specs.Rules.{after_told, ended, is_commit_of, next as next
 use Rattle.rq_session.specs.Stages.{own, txn_held}
 use Rattle.rq_session.specs.Laws.{AwaitsOwn, IsOwn, NamesOwn, awaited}
 use Rattle.rq_session.proofs.EachTurn.{each_reply}
-use Rattle.rq_serving.specs.Words.{asked, told_by, IsOwnCall}
+use Rattle.rq_serving.specs.Translation.{asked, told_by, IsOwnCall}
 use Rattle.rq_serving.specs.Asking.{Asks, Says, said_no}
 use Rattle.rq_serving.specs.Carried.{IsAsked, IsCome, IsTold, IsCall, IsMade, IsTurn, Round, Turns, IsGoing, IsCarried, AreOwn, AskedIsOwn, AwaitsNumber, CallsAreOwn, KeepsNumber, NumberAfter, has_stopped, is_again, may_call, said_in}
 use Rattle.rq_serving.specs.declared.asking.Asking.{Asking}
-use Rattle.rq_serving.specs.declared.serving.Came.{Came}
-use Rattle.rq_serving.specs.declared.serving.Came.TheVariants as came
+use Rattle.rq_serving.specs.declared.serving.Served.{Served}
+use Rattle.rq_serving.specs.declared.serving.Served.TheVariants as came
 use Rattle.rq_serving.proofs.Owning.{own_calls}
 
 -- where one of three is no
@@ -140,7 +140,7 @@ module _ {G S : Type 0} (answers_by : G → List (ℕ × Bool)) (made_by handed_
         );
       }
 
-  pub comes : (g h i : Asking G) (old mid mid_too : S) (b m m_too : Session) (first next : Action) (c : Came)
+  pub comes : (g h i : Asking G) (old mid mid_too : S) (b m m_too : Session) (first next : Action) (c : Served)
       → IsGoing answers_by made_by handed_to g h old mid b first m next → Asks answers_by h i (is_again next) 4
       → mid_too ≡ mid → m_too ≡ m → IsCome i.stopped next c
       → IsCarried answers_by made_by handed_to g i old mid_too b first m_too c

@@ -1,7 +1,7 @@
 -- What is asked for a transaction is called for it.
 use Rattle.rq_model.specs.History.Call.{Begin, Commit}
 use Rattle.rq_session.specs.declared.calls.Ask.TheVariants as asks
-use Rattle.rq_serving.specs.Words.{OwnCalls}
+use Rattle.rq_serving.specs.Translation.{OwnCalls}
 
 pub own_calls : OwnCalls
 own_calls own asks.Begin i = i

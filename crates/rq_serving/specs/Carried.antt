@@ -20,10 +20,10 @@ use Rattle.rq_session.specs.Laws.{NamesOwn, awaited}
 use Rattle.rq_wire.specs.declared.answers.Answer.{Answer as Answered_with}
 use Rattle.rq_wire.specs.declared.request.Request.{Request}
 use Rattle.rq_serving.specs.Asking.{Asks, IsAskedAt, Says, said_no}
-use Rattle.rq_serving.specs.Words.{asked, commit_told, told_by, IsOwnCall}
+use Rattle.rq_serving.specs.Translation.{asked, commit_told, told_by, IsOwnCall}
 use Rattle.rq_serving.specs.declared.asking.Asking.{Asking}
-use Rattle.rq_serving.specs.declared.serving.Came.{Came}
-use Rattle.rq_serving.specs.declared.serving.Came.TheVariants as came
+use Rattle.rq_serving.specs.declared.serving.Served.{Served}
+use Rattle.rq_serving.specs.declared.serving.Served.TheVariants as came
 
 -- the call is what is to be done
 abbrev pub IsAsked : Action → Ask → Type 0
@@ -32,7 +32,7 @@ IsAsked (Again ask) a = ask ≡ a
 IsAsked _ a = ⊥
 
 -- what came with this answer, or with none
-abbrev pub came_with : Option Answered_with → Came
+abbrev pub came_with : Option Answered_with → Served
 came_with (Some answer) = came.Answered answer
 came_with None = came.Ended
 
@@ -57,7 +57,7 @@ was_written (Some Written) = true
 was_written _ = false
 
 -- what comes where no call is to be made, or none more
-abbrev pub IsCome : Bool → Action → Came → Type 0
+abbrev pub IsCome : Bool → Action → Served → Type 0
 IsCome has_stopped (Do ask) c = (may_call has_stopped ask ≡ false) × (c ≡ came.Ended)
 IsCome has_stopped (Again ask) c = (may_call has_stopped ask ≡ false) × (c ≡ came.Ended)
 IsCome has_stopped (Await commit) c = c ≡ came.Waits commit.lsn
@@ -130,7 +130,7 @@ Turns lost stopped from first (r ∷ older) to next =
     × IsTurn lost (has_stopped older stopped) mid a r to next
 
 -- the last call was answered as none of a session is: it ends, and stands where it stood before that call
-abbrev pub IsStray : (lost stopped : Bool) → Stage → Action → List Round → Stage → Came → Type 0
+abbrev pub IsStray : (lost stopped : Bool) → Stage → Action → List Round → Stage → Served → Type 0
 IsStray lost stopped from first [] to c = ⊥
 IsStray lost stopped from first (r ∷ older) to c =
     (a : Action) × Turns lost stopped from first older to a × IsMade (has_stopped older stopped) a r
@@ -150,7 +150,7 @@ pub record IsGoing {G S : Type 0} (answers_by : G → List (ℕ × Bool)) (made_
 -- It was carried on so until this came. Where a call was to be made again, and the gate said no, it was asked once more
 -- than in these rounds.
 pub record IsCarried {G S : Type 0} (answers_by : G → List (ℕ × Bool)) (made_by handed_to : S → List Stamped)
-    (gate asked_gate : Asking G) (old new : S) (before : Session) (first : Action) (after : Session) (c : Came) : Type 0 where
+    (gate asked_gate : Asking G) (old new : S) (before : Session) (first : Action) (after : Session) (c : Served) : Type 0 where
   pub rounds : List Round
   pub last : List (ℕ × Bool)
   pub made : made_by new ≡ stamps_in rounds ++ made_by old
@@ -163,7 +163,7 @@ pub record IsCarried {G S : Type 0} (answers_by : G → List (ℕ × Bool)) (mad
 
 -- what came of a request: it was carried on with the call that it asks for, or had its answer with no call
 abbrev pub IsServed : {G S : Type 0} → (G → List (ℕ × Bool)) → (S → List Stamped) → (S → List Stamped) → Asking G
-    → Asking G → S → S → Session → Request → Session → Came → Type 0
+    → Asking G → S → S → Session → Request → Session → Served → Type 0
 IsServed answers_by made_by handed_to gate asked_gate old new before request after c =
     let n = taken before.stage request in
     ((ask : Ask) × (mid : Session) × (call_in n.action ≡ Some ask) × (mid.lost ≡ before.lost) × (mid.stage ≡ n.stage)
@@ -173,7 +173,7 @@ IsServed answers_by made_by handed_to gate asked_gate old new before request aft
 
 -- what came of a connection that was lost
 abbrev pub IsLost : {G S : Type 0} → (G → List (ℕ × Bool)) → (S → List Stamped) → (S → List Stamped) → Asking G
-    → Asking G → S → S → Session → Session → Came → Type 0
+    → Asking G → S → S → Session → Session → Served → Type 0
 IsLost answers_by made_by handed_to gate asked_gate old new before after c =
     let n = after_loss before.stage in
     (mid : Session) × (mid.lost ≡ true) × (mid.stage ≡ n.stage)
@@ -181,7 +181,7 @@ IsLost answers_by made_by handed_to gate asked_gate old new before after c =
 
 -- the session was carried on with what it is to do; where that is nothing, it ended
 abbrev pub CarriesOn : {G S : Type 0} → (G → List (ℕ × Bool)) → (S → List Stamped) → (S → List Stamped) → Asking G
-    → Asking G → S → S → Session → Option Action → Session → Came → Type 0
+    → Asking G → S → S → Session → Option Action → Session → Served → Type 0
 CarriesOn answers_by made_by handed_to gate asked_gate old new before (Some first) after c =
     IsCarried answers_by made_by handed_to gate asked_gate old new before first after c
 CarriesOn answers_by made_by handed_to gate asked_gate old new before None after c =
@@ -190,7 +190,7 @@ CarriesOn answers_by made_by handed_to gate asked_gate old new before None after
 -- What came of asking for the receipt of a commit: it was asked for once, whatever the gate has said, and the session
 -- carried on with what that told.
 pub record IsAskedFor {G S : Type 0} (answers_by : G → List (ℕ × Bool)) (made_by handed_to : S → List Stamped)
-    (gate asked_gate : Asking G) (old new : S) (number : CommitNo) (before after : Session) (c : Came) : Type 0 where
+    (gate asked_gate : Asking G) (old new : S) (number : CommitNo) (before after : Session) (c : Served) : Type 0 where
   pub mid : S
   pub mid_gate : Asking G
   pub next : Option Action

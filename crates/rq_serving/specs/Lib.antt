@@ -1,3 +1,3 @@
 pub mod Asking
-pub mod Words
+pub mod Translation
 pub mod Carried

@@ -1,6 +1,6 @@
 //! Laws of sessions over a store, for proofs.
 ghost use Rattle.rq_serving.specs.Carried.{AskedIsOwn, CallsAreOwn};
-ghost use Rattle.rq_serving.specs.Words.{OwnCalls};
+ghost use Rattle.rq_serving.specs.Translation.{OwnCalls};
 
 /// What a session asks for its own transaction is a call for that one, and for no other; a begin comes only where there
 /// is none.

@@ -5,4 +5,4 @@
 pub mod asking;
 pub mod laws;
 pub mod serving;
-pub mod words;
+pub mod translation;

@@ -1,15 +1,15 @@
 //! A session that is served: its calls are made through a step interface, and a gate is asked where others may go on.
 ghost use Rattle.std.specs.Prelude.{◌≡◌, ◌∷◌, ◌||◌, IfOk, IfErr, IfSome, IfNone, None, true, false, not};
-ghost use Rattle.rq_session.specs.declared.stage.Held.TheVariants.{Free};
+ghost use Rattle.rq_session.specs.declared.stage.OwnTxn.TheVariants.{Free};
 ghost use Rattle.rq_session.specs.declared.stage.Stage.TheVariants.{Rest};
 ghost use Rattle.rq_session.specs.Laws.{awaited};
 ghost use Rattle.rq_serving.specs.Asking.{Asks};
 ghost use Rattle.rq_serving.specs.Carried.{IsAsked, IsAskedFor, IsCall, IsCarried, IsCome, IsForce, IsLost, IsServed, KeepsNumber, NumberAfter, is_again, may_call, was_written};
 ghost use Rattle.rq_engine.specs.Says.{gave};
-ghost use Rattle.rq_serving.specs.Words.{told_by};
+ghost use Rattle.rq_serving.specs.Translation.{told_by};
 
 use crate::asking::Asking;
-use crate::words::{event_of, told_of};
+use crate::translation::{event_of, told_of};
 use rq_engine::event::{CommitNo, Event, Reply};
 use rq_model::txn::Lsn;
 use rq_session::Session;
@@ -21,7 +21,7 @@ use std::sync::Wait;
 
 /// What came of serving a session.
 #[derive(Clone, Copy, PartialEq, Eq)]
-pub enum Came {
+pub enum Served {
     /// The answer to the request.
     Answered(Answer),
     /// The commit with this LSN waits for its receipt, and with it the request for its answer.
@@ -35,7 +35,7 @@ pub enum Came {
 /// operation, and before a call is made again. Once it has said no an operation under way is finished, and no other call
 /// is made for a request or a connection that is lost.
 #[derive(Drop)]
-pub struct Serving<G: Gate, S: Steps> {
+pub struct ServedSession<G: Gate, S: Steps> {
     gate: Asking<G>,
     steps: S,
     session: Session,
@@ -43,14 +43,14 @@ pub struct Serving<G: Gate, S: Steps> {
     number: Option<CommitNo>,
 }
 
-impl<G: Gate, S: Steps> Serving<G, S> {
+impl<G: Gate, S: Steps> ServedSession<G, S> {
     /// A new session.
     pub fn new(gate: G, steps: S) -> Self
         ensures given { (result.gate.gate ≡ gate) × (result.steps ≡ steps) × (result.number ≡ None) }
         ensures goes_on { result.gate.stopped ≡ false }
         ensures session { (result.session.stage ≡ Rest Free) × (result.session.lost ≡ false) }
     {
-        Serving {
+        ServedSession {
             gate: Asking::new(gate),
             steps,
             session: Session::new(),
@@ -67,7 +67,7 @@ impl<G: Gate, S: Steps> Serving<G, S> {
 
     /// Carries a request out: makes the calls that the session asks for, one after the other, until there is an answer,
     /// or a commit waits for its receipt, or the session ends, or the gate has said no and no operation is under way.
-    pub fn request<R: Wait>(&mut self, rt: &R, request: Request) -> Came
+    pub fn request<R: Wait>(&mut self, rt: &R, request: Request) -> Served
         ensures served { IsServed G.answers S.made S.told self.old.gate self.new.gate self.old.steps self.new.steps self.old.session request self.new.session result }
         ensures number { KeepsNumber self.old.session.stage self.old.number self.new.session.stage self.new.number }
     {
@@ -75,33 +75,33 @@ impl<G: Gate, S: Steps> Serving<G, S> {
             return self.carried(rt, Action::Do(ask));
         }
         match self.session.answer() {
-            Some(answer) => Came::Answered(answer),
-            None => Came::Ended,
+            Some(answer) => Served::Answered(answer),
+            None => Served::Ended,
         }
     }
 
     /// Asks whether the commit that waits is durable, also where the gate has said no. The caller waits before it asks
     /// again. Where none waits there is nothing to ask.
-    pub fn ask_receipt<R: Wait>(&mut self, rt: &R) -> Came
+    pub fn ask_receipt<R: Wait>(&mut self, rt: &R) -> Served
         ensures some { IfSome (awaited self.old.session.stage) (λ commit. IfSome self.old.number (λ number. IsAskedFor
             G.answers S.made S.told self.old.gate self.new.gate self.old.steps self.new.steps number self.old.session
             self.new.session result)) }
-        ensures none { IfNone (awaited self.old.session.stage) ((result ≡ Came.Ended) × (self.new.gate ≡ self.old.gate)
+        ensures none { IfNone (awaited self.old.session.stage) ((result ≡ Served.Ended) × (self.new.gate ≡ self.old.gate)
             × (self.new.steps ≡ self.old.steps) × (self.new.session ≡ self.old.session)) }
         ensures number { KeepsNumber self.old.session.stage self.old.number self.new.session.stage self.new.number }
     {
         if self.session.awaited().is_none() {
-            return Came::Ended;
+            return Served::Ended;
         }
         match self.number {
             Some(number) => self.asked_for(rt, number),
-            None => Came::Ended,
+            None => Served::Ended,
         }
     }
 
     /// Finishes the operation under way and aborts the transaction, once the connection has ended or was at fault. Where
     /// the gate has said no the transaction stays as it is then.
-    pub fn lose<R: Wait>(&mut self, rt: &R) -> Came
+    pub fn lose<R: Wait>(&mut self, rt: &R) -> Served
         ensures lost { IsLost G.answers S.made S.told self.old.gate self.new.gate self.old.steps self.new.steps self.old.session self.new.session result }
         ensures number { KeepsNumber self.old.session.stage self.old.number self.new.session.stage self.new.number }
     {
@@ -130,7 +130,7 @@ impl<G: Gate, S: Steps> Serving<G, S> {
     pub fn into_parts(self) -> (G, S)
         ensures { (result.0 ≡ self.gate.gate) × (result.1 ≡ self.steps) }
     {
-        let Serving {
+        let ServedSession {
             gate,
             steps,
             session: _,
@@ -140,18 +140,18 @@ impl<G: Gate, S: Steps> Serving<G, S> {
     }
 
     // Asks once for the receipt of a commit, and goes on with what that told.
-    fn asked_for<R: Wait>(&mut self, rt: &R, number: CommitNo) -> Came
+    fn asked_for<R: Wait>(&mut self, rt: &R, number: CommitNo) -> Served
         ensures asked { IsAskedFor G.answers S.made S.told self.old.gate self.new.gate self.old.steps self.new.steps number self.old.session self.new.session result }
         ensures number { KeepsNumber self.old.session.stage self.old.number self.new.session.stage self.new.number }
     {
         match self.called(Event::Acknowledged(number)) {
             Some(action) => self.carried(rt, action),
-            None => Came::Ended,
+            None => Served::Ended,
         }
     }
 
     // Does what is to be done, until the session asks for nothing more.
-    fn carried<R: Wait>(&mut self, rt: &R, first: Action) -> Came
+    fn carried<R: Wait>(&mut self, rt: &R, first: Action) -> Served
         ensures carried { IsCarried G.answers S.made S.told self.old.gate self.new.gate self.old.steps self.new.steps self.old.session first self.new.session result }
         ensures number { KeepsNumber self.old.session.stage self.old.number self.new.session.stage self.new.number }
     {
@@ -163,7 +163,7 @@ impl<G: Gate, S: Steps> Serving<G, S> {
             };
             action = match self.called(event_of(ask)) {
                 Some(action) => action,
-                None => return Came::Ended,
+                None => return Served::Ended,
             };
         }
         unreachable!()
@@ -171,7 +171,7 @@ impl<G: Gate, S: Steps> Serving<G, S> {
 
     // The call that is to be made, or what came where there is none, or it may not be made. Before one that is made again
     // the gate is asked.
-    fn asked(&mut self, action: Action) -> Result<Ask, Came>
+    fn asked(&mut self, action: Action) -> Result<Ask, Served>
         ensures asks { IfOk result (λ ask. IsAsked action ask × (may_call self.new.gate.stopped ask ≡ true)) }
         ensures came { IfErr result (λ came. IsCome self.new.gate.stopped action came) }
         ensures gate { Asks G.answers self.old.gate self.new.gate (is_again action) 4 }
@@ -201,7 +201,7 @@ impl<G: Gate, S: Steps> Serving<G, S> {
 
 // The call that is to be made, or what came where there is none. Where the gate has said no, none is made but one of an
 // operation that is under way.
-fn to_be_made(action: Action, has_stopped: bool) -> Result<Ask, Came>
+fn to_be_made(action: Action, has_stopped: bool) -> Result<Ask, Served>
     ensures asks { IfOk result (λ ask. IsAsked action ask × (may_call has_stopped ask ≡ true)) }
     ensures came { IfErr result (λ came. IsCome has_stopped action came) }
 {
@@ -210,19 +210,19 @@ fn to_be_made(action: Action, has_stopped: bool) -> Result<Ask, Came>
             if may_be_made(&ask, has_stopped) {
                 Ok(ask)
             } else {
-                Err(Came::Ended)
+                Err(Served::Ended)
             }
         }
         Action::Again(ask) => {
             if may_be_made(&ask, has_stopped) {
                 Ok(ask)
             } else {
-                Err(Came::Ended)
+                Err(Served::Ended)
             }
         }
-        Action::Await(commit) => Err(Came::Waits(commit.lsn)),
-        Action::Answer(answer) => Err(Came::Answered(answer)),
-        Action::End => Err(Came::Ended),
+        Action::Await(commit) => Err(Served::Waits(commit.lsn)),
+        Action::Answer(answer) => Err(Served::Answered(answer)),
+        Action::End => Err(Served::Ended),
     }
 }
 

@@ -3,7 +3,7 @@ use bytes::BytesMut;
 use rq_bytes::GhostList;
 use rq_model::refusal::NoMemory;
 use rq_model::txn::Lsn;
-use rq_serving::serving::{Came, Serving};
+use rq_serving::serving::{Served, ServedSession};
 use rq_wire::{Answer, Fed, Frames, Request, answer};
 use rq_workers::gate::Gate;
 use rq_workers::steps::Steps;
@@ -30,7 +30,7 @@ impl Gate for Open {
     ghost answers = { λ gate. gate.answers.value };
 
     fn pass(&mut self, point: u32) -> bool {
-        GhostList::note(&mut self.answers, &(point, true));
+        GhostList::push(&mut self.answers, &(point, true));
         true
     }
 }
@@ -39,7 +39,7 @@ impl Gate for Open {
 #[derive(Drop)]
 pub struct Connection<G: Gate, S: Steps> {
     frames: Frames,
-    serving: Serving<G, S>,
+    serving: ServedSession<G, S>,
     written: BytesMut,
     is_over: bool,
 }
@@ -48,7 +48,7 @@ pub struct Connection<G: Gate, S: Steps> {
 pub fn connected<G: Gate, S: Steps>(alloc: Global, gate: G, steps: S) -> Connection<G, S> {
     Connection {
         frames: Frames::new(alloc),
-        serving: Serving::new(gate, steps),
+        serving: ServedSession::new(gate, steps),
         written: BytesMut::new(alloc),
         is_over: false,
     }
@@ -66,46 +66,46 @@ fn write(one: &Answer, out: &mut BytesMut) -> Result<(), NoMemory> {
 
 fn request<G: Gate, S: Steps, R: Wait>(
     rt: &R,
-    serving: &mut Serving<G, S>,
+    serving: &mut ServedSession<G, S>,
     request: Request,
-) -> Came {
+) -> Served {
     serving.request(rt, request)
 }
 
-fn ask_receipt<G: Gate, S: Steps, R: Wait>(rt: &R, serving: &mut Serving<G, S>) -> Came {
+fn ask_receipt<G: Gate, S: Steps, R: Wait>(rt: &R, serving: &mut ServedSession<G, S>) -> Served {
     serving.ask_receipt(rt)
 }
 
 // Whether the session has ended once its connection is lost.
-fn lose<G: Gate, S: Steps, R: Wait>(rt: &R, serving: &mut Serving<G, S>) -> bool {
-    matches!(serving.lose(rt), Came::Ended)
+fn lose<G: Gate, S: Steps, R: Wait>(rt: &R, serving: &mut ServedSession<G, S>) -> bool {
+    matches!(serving.lose(rt), Served::Ended)
 }
 
 // A force, as a log writer makes one while a commit waits: whether it was made.
-fn force<G: Gate, S: Steps>(serving: &mut Serving<G, S>) -> bool {
+fn force<G: Gate, S: Steps>(serving: &mut ServedSession<G, S>) -> bool {
     serving.force()
 }
 
-fn goes_on<G: Gate, S: Steps>(serving: &Serving<G, S>) -> bool {
+fn goes_on<G: Gate, S: Steps>(serving: &ServedSession<G, S>) -> bool {
     serving.goes_on()
 }
 
-fn into_parts<G: Gate, S: Steps>(serving: Serving<G, S>) -> (G, S) {
+fn into_parts<G: Gate, S: Steps>(serving: ServedSession<G, S>) -> (G, S) {
     serving.into_parts()
 }
 
 // The commit that waits for its receipt.
-fn waiting(came: &Came) -> Option<Lsn> {
+fn waiting(came: &Served) -> Option<Lsn> {
     match came {
-        Came::Waits(lsn) => Some(*lsn),
+        Served::Waits(lsn) => Some(*lsn),
         _ => None,
     }
 }
 
 // The answer, where there is one.
-fn answered(came: Came) -> Option<Answer> {
+fn answered(came: Served) -> Option<Answer> {
     match came {
-        Came::Answered(one) => Some(one),
+        Served::Answered(one) => Some(one),
         _ => None,
     }
 }
@@ -113,7 +113,7 @@ fn answered(came: Came) -> Option<Answer> {
 // Serves a request until it is answered. A commit that waits is answered once it was not durable, and then was forced.
 fn served<G: Gate, S: Steps, R: Wait>(
     rt: &R,
-    serving: &mut Serving<G, S>,
+    serving: &mut ServedSession<G, S>,
     asked: Request,
 ) -> Result<Option<Answer>, &'static str> {
     let came = request(rt, serving, asked);

@@ -73,7 +73,7 @@ impl Gate for Twice {
     fn pass(&mut self, point: u32) -> bool {
         let passed = self.asked < 2;
         self.asked = self.asked.saturating_add(1);
-        GhostList::note(&mut self.answers, &(point, passed));
+        GhostList::push(&mut self.answers, &(point, passed));
         passed
     }
 }
@@ -228,7 +228,7 @@ impl<S: Steps, R: Wait> Gate for Behind<'_, S, R> {
             self.left = self.left.saturating_sub(1);
             self.asked = self.asked.saturating_add(1);
         }
-        GhostList::note(&mut self.answers, &(point, passed));
+        GhostList::push(&mut self.answers, &(point, passed));
         passed
     }
 }
@@ -343,10 +343,17 @@ fn shared_by<G: Sharing, R: Wait>(
     let other = shared.pass().ok_or("a pass")?;
     let (mark, mut seat) = Mark::new(alloc).map_err(|_| "a mark")?;
     let other_seat = mark.split(&mut seat);
-    let steps = SharedSteps::new(rt, shared.front(), pass, &mark, seat, DropStamps::new());
+    let steps = SharedSteps::new(
+        rt,
+        shared.engine_lock(),
+        pass,
+        &mark,
+        seat,
+        DropStamps::new(),
+    );
     let others = SharedSteps::new(
         rt,
-        shared.front(),
+        shared.engine_lock(),
         other,
         &mark,
         other_seat,

@@ -19,7 +19,7 @@ use rq_shared::kept::Stamped;
 use rq_shared::mark::{Mark, MarkPass};
 use rq_shared::shared::Shared;
 use rq_shared::sharing::Sharing;
-use rq_workers::acts::Ended;
+use rq_workers::acts::RunEnd;
 use rq_workers::gate::{BEFORE_AGAIN, BEFORE_FORCE, BEFORE_WRITE, Gate};
 use rq_workers::shared::SharedSteps;
 use rq_workers::steps::Steps;
@@ -59,7 +59,7 @@ impl Gate for Often<'_> {
         if passed {
             self.left.store(left - 1, Ordering::SeqCst);
         }
-        GhostList::note(&mut self.answers, &(point, passed));
+        GhostList::push(&mut self.answers, &(point, passed));
         passed
     }
 }
@@ -101,7 +101,7 @@ enum Task {
 }
 
 /// What came of the last operation, and whether the worker goes on.
-type Came = (Ended, bool);
+type Came = (RunEnd, bool);
 
 // The functions that follow, and those of `stores`, promise nothing, and most know of no store: so a test of many calls is
 // checked fast.
@@ -179,7 +179,7 @@ fn a_latched_start_is_tried_again(rt: HostRuntime) -> Result<(), Fail> {
     let left = AtomicU64::new(2);
     let (came, calls) = seen(&rt, rt.alloc(), Task::SendBeside, &left).ok_or("a store")?;
     let (ended, _) = came.ok_or("a send")?;
-    assert!(rt; ended == Ended::Refused(Refusal::Latched));
+    assert!(rt; ended == RunEnd::Refused(Refusal::Latched));
     assert!(rt; calls.len() == 6, "three times, and then the gate says no");
     assert!(rt;
         left.load(Ordering::SeqCst) == 0,
@@ -207,7 +207,7 @@ fn a_started_operation_is_gone_through(rt: HostRuntime) -> Result<(), Fail> {
     let (came, _) = seen(&rt, rt.alloc(), Task::SendStopped, &left).ok_or("a store")?;
     let (ended, goes_on) = came.ok_or("a send")?;
     assert!(rt;
-        ended == Ended::Finished(Outcome::Sent) && !goes_on,
+        ended == RunEnd::Finished(Outcome::Sent) && !goes_on,
         "though the gate said no between its steps"
     );
     Ok(())
@@ -218,7 +218,7 @@ fn turned<S: Steps>(
     alloc: Global,
     steps: &mut S,
     txn: Txn,
-    ended: &Ended,
+    ended: &RunEnd,
     is_beside: bool,
 ) -> Option<Event> {
     if !is_sent(ended) {
@@ -269,7 +269,7 @@ fn undo_twice<S: Steps, R: Wait>(
 }
 
 fn is_undone(came: &Option<Came>) -> bool {
-    matches!(came, Some((Ended::Finished(Outcome::Undone), _)))
+    matches!(came, Some((RunEnd::Finished(Outcome::Undone), _)))
 }
 
 // An inverse is gone through as any operation is: its start, two steps, a third that says that all are made, its finish.
@@ -278,7 +278,7 @@ fn an_inverse_is_gone_through(rt: HostRuntime) -> Result<(), Fail> {
     let left = AtomicU64::new(0);
     let (came, calls) = seen(&rt, rt.alloc(), Task::UndoTwice, &left).ok_or("an abort")?;
     let (ended, _) = came.ok_or("its send was undone")?;
-    assert!(rt; ended == Ended::NothingLeft);
+    assert!(rt; ended == RunEnd::NothingLeft);
     assert!(rt; calls.len() == 13);
     Ok(())
 }
@@ -301,7 +301,7 @@ fn a_latched_inverse_is_tried_again(rt: HostRuntime) -> Result<(), Fail> {
     let left = AtomicU64::new(2);
     let (came, calls) = seen(&rt, rt.alloc(), Task::UndoBeside, &left).ok_or("an abort")?;
     let (ended, _) = came.ok_or("an inverse")?;
-    assert!(rt; ended == Ended::Refused(Refusal::Latched));
+    assert!(rt; ended == RunEnd::Refused(Refusal::Latched));
     assert!(rt; calls.len() == 12, "three times, and then the gate says no");
     assert!(rt;
         left.load(Ordering::SeqCst) == 0,
@@ -349,7 +349,7 @@ fn what_is_no_start_is_not_called(rt: HostRuntime) -> Result<(), Fail> {
     let (came, calls) = seen(&rt, rt.alloc(), Task::Force, &left).ok_or("a store")?;
     let (ended, _) = came.ok_or("a force")?;
     assert!(rt;
-        ended == Ended::Other && calls.is_empty(),
+        ended == RunEnd::Other && calls.is_empty(),
         "a force is the log writer's"
     );
     Ok(())
@@ -382,7 +382,7 @@ fn marked<P: PageDevice + Drop, L: LogDevice + Drop, B: Level, G: Sharing, R: Wa
     let (mark, mut seat) = Mark::new(alloc).ok()?;
     let mut reader = mark.split(&mut seat);
     let stamps = KeepStamps::new(alloc);
-    let mut steps = SharedSteps::new(rt, shared.front(), writer, &mark, seat, stamps);
+    let mut steps = SharedSteps::new(rt, shared.engine_lock(), writer, &mark, seat, stamps);
     let done = commits_one(&mut steps);
     let before = told(&mark, &mut reader);
     let steps = written_once(rt, steps);

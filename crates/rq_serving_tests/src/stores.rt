@@ -10,10 +10,10 @@ use rq_page::layout::Layout;
 use rq_restart::format::format;
 use rq_restart::restart::restart;
 use rq_shared::kept::{AuditEntry, Kept, Stamped};
-use rq_workers::acts::Ended;
+use rq_workers::acts::RunEnd;
 use rq_workers::gate::Gate;
 use rq_workers::kept::KeptSteps;
-use rq_workers::shared::Keep;
+use rq_workers::shared::StampSink;
 use rq_workers::steps::Steps;
 use rq_workers::worker::Worker;
 use std::alloc::{AllocError, Global};
@@ -163,8 +163,8 @@ pub fn start_of_send<S: Steps>(
 }
 
 /// Whether a send came to its end.
-pub fn is_sent(ended: &Ended) -> bool {
-    matches!(ended, Ended::Finished(Outcome::Sent))
+pub fn is_sent(ended: &RunEnd) -> bool {
+    matches!(ended, RunEnd::Finished(Outcome::Sent))
 }
 
 /// Carries out the operation that this call starts, behind a gate: what came of it, and whether the worker goes on.
@@ -173,7 +173,7 @@ pub fn carried_out<G: Gate + Drop, S: Steps, R: Wait>(
     gate: G,
     steps: S,
     start: &Event,
-) -> (Ended, bool, S) {
+) -> (RunEnd, bool, S) {
     let mut worker = Worker::new(gate, steps);
     let ended = worker.run(rt, start);
     let goes_on = worker.goes_on();
@@ -204,11 +204,11 @@ impl KeepStamps {
     }
 }
 
-impl Keep for KeepStamps {
+impl StampSink for KeepStamps {
     ghost handed = { λ k. k.handed.value };
 
     fn keep(&mut self, stamped: Stamped) {
-        GhostList::note(&mut self.handed, &stamped);
+        GhostList::push(&mut self.handed, &stamped);
         let _ = self.stamps.push(stamped);
     }
 }

@@ -18,10 +18,10 @@ use rq_model::txn::Txn;
 use rq_shared::kept::{AuditEntry, Stamped};
 use rq_shared::mark::{Mark, MarkPass};
 use rq_shared::room::Pass;
-use rq_shared::shared::{Closed, Front, Shared};
+use rq_shared::shared::{Closed, EngineLock, Shared};
 use rq_shared::sharing::Sharing;
 use rq_shared::tied::tied;
-use rq_workers::acts::Ended;
+use rq_workers::acts::RunEnd;
 use rq_workers::gate::{BETWEEN_STEPS, Gate};
 use rq_workers::shared::SharedSteps;
 use rq_workers::steps::Steps;
@@ -62,7 +62,7 @@ impl Gate for HeldBetween<'_> {
 
     fn pass(&mut self, point: u32) -> bool {
         let passed = point != BETWEEN_STEPS || self.is_let_go();
-        GhostList::note(&mut self.answers, &(point, passed));
+        GhostList::push(&mut self.answers, &(point, passed));
         passed
     }
 }
@@ -102,7 +102,7 @@ fn run_and_commit<H: Gate + Drop, S: Steps, R: Wait>(
 }
 
 // The commit, where the send before it came to its end and the worker goes on.
-fn number_of(number: Option<CommitNo>, ended: &Ended, goes_on: bool) -> Option<CommitNo> {
+fn number_of(number: Option<CommitNo>, ended: &RunEnd, goes_on: bool) -> Option<CommitNo> {
     if goes_on && is_sent(ended) {
         number
     } else {
@@ -149,7 +149,7 @@ fn send_meanwhile<S: Steps, R: Wait>(
 fn work_first<P: PageDevice + Drop, L: LogDevice + Drop, B: Level, G: Sharing, R: Wait>(
     rt: &R,
     alloc: Global,
-    front: &Front<P, L, B, G>,
+    lock: &EngineLock<P, L, B, G>,
     own: Own<G>,
     common: &Common,
 ) -> Option<Worked<G>>
@@ -157,7 +157,7 @@ fn work_first<P: PageDevice + Drop, L: LogDevice + Drop, B: Level, G: Sharing, R
 {
     let Own { pass, seat } = own;
     let stamps = KeepStamps::new(alloc);
-    let steps = SharedSteps::new(rt, front, pass, &common.mark, seat, stamps);
+    let steps = SharedSteps::new(rt, lock, pass, &common.mark, seat, stamps);
     let (number, steps) = send_held(rt, alloc, steps, common);
     let (pass, _, kept) = steps.into_parts();
     worked(pass, kept.stamps, number)
@@ -167,7 +167,7 @@ fn work_first<P: PageDevice + Drop, L: LogDevice + Drop, B: Level, G: Sharing, R
 fn work_second<P: PageDevice + Drop, L: LogDevice + Drop, B: Level, G: Sharing, R: Wait>(
     rt: &R,
     alloc: Global,
-    front: &Front<P, L, B, G>,
+    lock: &EngineLock<P, L, B, G>,
     own: Own<G>,
     common: &Common,
 ) -> Option<Worked<G>>
@@ -175,7 +175,7 @@ fn work_second<P: PageDevice + Drop, L: LogDevice + Drop, B: Level, G: Sharing, 
 {
     let Own { pass, seat } = own;
     let stamps = KeepStamps::new(alloc);
-    let steps = SharedSteps::new(rt, front, pass, &common.mark, seat, stamps);
+    let steps = SharedSteps::new(rt, lock, pass, &common.mark, seat, stamps);
     let (number, steps) = send_meanwhile(rt, alloc, steps, common);
     common.second_has_committed.store(1, Ordering::SeqCst);
     let (pass, _, kept) = steps.into_parts();
@@ -259,7 +259,7 @@ fn both<
 >(
     rt: &R,
     alloc: Global,
-    front: &Front<P, L, B, G>,
+    lock: &EngineLock<P, L, B, G>,
     one: Own<G>,
     two: Own<G>,
     common: &Common,
@@ -270,10 +270,10 @@ fn both<
         rt,
         move || -> Option<Worked<G>>
             requires { one.seat.table ≡ common.now.mark }
-        { work_first(rt, alloc, front, one, common) },
+        { work_first(rt, alloc, lock, one, common) },
         move || -> Option<Worked<G>>
             requires { two.seat.table ≡ common.now.mark }
-        { work_second(rt, alloc, front, two, common) },
+        { work_second(rt, alloc, lock, two, common) },
     )
 }
 
@@ -281,14 +281,14 @@ fn both<
 fn receipts<P: PageDevice + Drop, L: LogDevice + Drop, B: Level, G: Sharing, R: Wait>(
     rt: &R,
     alloc: Global,
-    front: &Front<P, L, B, G>,
+    lock: &EngineLock<P, L, B, G>,
     pass: &mut Pass<G>,
     numbers: &[CommitNo],
 ) -> Result<Vec<Receipt>, AllocError> {
     let mut given = Vec::new(alloc);
-    drop(front.call(rt, pass, Event::Force));
+    drop(lock.call(rt, pass, Event::Force));
     for number in numbers {
-        let stamped = front.call(rt, pass, Event::Acknowledged(*number));
+        let stamped = lock.call(rt, pass, Event::Acknowledged(*number));
         if let Some(receipt) = receipt(&stamped) {
             given.push(receipt)?;
         }
@@ -352,12 +352,12 @@ fn share<
         pass: other,
         seat: other_seat,
     };
-    let (first, second) = both(rt, alloc, shared.front(), one, two, &common);
+    let (first, second) = both(rt, alloc, shared.engine_lock(), one, two, &common);
     let (one, stamps, number) = first?;
     let (two, others, other_number) = second?;
     let tie = tie_taken(rt, &shared, &mut three, take, stamps, others);
     let numbers = [number, other_number];
-    let given = receipts(rt, alloc, shared.front(), &mut three, &numbers).ok()?;
+    let given = receipts(rt, alloc, shared.engine_lock(), &mut three, &numbers).ok()?;
     let receipts = given.len();
     let closed = ended(alloc, shared, one, two, three, &given).ok()?;
     Some(Seen {

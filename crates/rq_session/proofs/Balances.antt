@@ -4,7 +4,7 @@ use Rattle.rq_wire.specs.declared.request.Request.{Request}
 use Rattle.rq_session.specs.declared.calls.Told.{Told}
 use Rattle.rq_session.specs.declared.stage.Stage.{Stage}
 use Rattle.rq_session.specs.declared.stage.Stage.TheVariants as stages
-use Rattle.rq_session.specs.declared.stage.Held.{Held}
+use Rattle.rq_session.specs.declared.stage.OwnTxn.{OwnTxn}
 use Rattle.rq_session.specs.declared.stage.Next.{Next}
 use Rattle.rq_session.specs.Rules.{ended, taken, after_request, after_told, after_loss}
 use Rattle.rq_session.specs.Laws.{Handed, asked, heard, gone, Balanced, IsAborting, owed, given, takes, standing}
@@ -28,7 +28,7 @@ same s lost r a (even e) = even (omega (arith, e))
 same s lost r a (silent l is m) = silent l is (omega (arith, m))
 same s lost r a (over e m) = over e (omega (arith, m))
 
-at_rest : (h : Held) (lost : Bool) (r a : ℕ) (request : Request) → Keeps (stages.Rest h) lost r a
+at_rest : (h : OwnTxn) (lost : Bool) (r a : ℕ) (request : Request) → Keeps (stages.Rest h) lost r a
     → Keeps (after_request h request).stage lost (r + 1) (a + given (after_request h request).action)
 at_rest h lost r a request (even e) = let once = (each_request h request).once in even (omega (arith, e, once))
 at_rest h lost r a request (silent l is m) = absurd is

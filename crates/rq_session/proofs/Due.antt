@@ -15,8 +15,8 @@ use Rattle.rq_session.specs.declared.calls.Commit.{Commit}
 use Rattle.rq_session.specs.declared.calls.Told.{Told}
 use Rattle.rq_session.specs.declared.calls.Told.TheVariants as told
 use Rattle.rq_session.specs.declared.calls.Action.TheVariants.{Do, Await, Answer as Answers, End}
-use Rattle.rq_session.specs.declared.stage.Held.{Held}
-use Rattle.rq_session.specs.declared.stage.Held.TheVariants.{Free, Open, Left, Aborting, Undoing}
+use Rattle.rq_session.specs.declared.stage.OwnTxn.{OwnTxn}
+use Rattle.rq_session.specs.declared.stage.OwnTxn.TheVariants.{Free, Open, Left, Aborting, Undoing}
 use Rattle.rq_session.specs.declared.stage.Purpose.{Purpose}
 use Rattle.rq_session.specs.declared.stage.Purpose.TheVariants as purposes
 use Rattle.rq_session.specs.declared.stage.Stage.{Stage}
@@ -125,7 +125,7 @@ each_ask lost s what ask = (λ e. subst (TellsAsk s what) e (says lost s what).a
 own_is : (o : Option Txn) (commit : Commit) → o ≡ Some commit.txn → is_commit_of o commit ≡ true
 own_is o commit e = rw e (same_self commit.txn)
 
-told_due : (lost : Bool) (h : Held) (commit : Commit) → txn_held h ≡ Some commit.txn
+told_due : (lost : Bool) (h : OwnTxn) (commit : Commit) → txn_held h ≡ Some commit.txn
     → (after_told lost (stages.Commit h) (told.Committed commit)).action ≡ Await commit
 told_due lost h commit e =
     ap (λ (n : Next). n.action) (chosen (is_commit_of (txn_held h) commit) _ _ (own_is (txn_held h) commit e))
@@ -148,7 +148,7 @@ each_wait lost s what commit = (λ e. subst (TellsWait s what) e (says lost s wh
 
 -- ---- the end
 
-unfit_start : (lost : Bool) (h : Held) (what : Told) → fits (stages.Start h) what ≡ false
+unfit_start : (lost : Bool) (h : OwnTxn) (what : Told) → fits (stages.Start h) what ≡ false
     → (after_told lost (stages.Start h) what).action ≡ End
 unfit_start lost Free (told.Started sub) e = refl
 unfit_start lost (Open txn) (told.Started sub) e = absurd (true≢false e)

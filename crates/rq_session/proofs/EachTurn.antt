@@ -16,8 +16,8 @@ use Rattle.rq_session.specs.declared.calls.Commit.{Commit}
 use Rattle.rq_session.specs.declared.calls.Told.{Told}
 use Rattle.rq_session.specs.declared.calls.Told.TheVariants as told
 use Rattle.rq_session.specs.declared.calls.Action.TheVariants.{Do, Again, Await, Answer as Answers}
-use Rattle.rq_session.specs.declared.stage.Held.{Held}
-use Rattle.rq_session.specs.declared.stage.Held.TheVariants.{Free, Open, Left, Aborting, Undoing}
+use Rattle.rq_session.specs.declared.stage.OwnTxn.{OwnTxn}
+use Rattle.rq_session.specs.declared.stage.OwnTxn.TheVariants.{Free, Open, Left, Aborting, Undoing}
 use Rattle.rq_session.specs.declared.stage.Purpose.{Purpose}
 use Rattle.rq_session.specs.declared.stage.Purpose.TheVariants as purposes
 use Rattle.rq_session.specs.declared.stage.Stage.{Stage}
@@ -45,7 +45,7 @@ ends s what = record {
 }
 
 -- an answer of the request under way, which keeps the transaction
-gives : (s : Stage) (what : Told) (answer : Answer) (h : Held) → txn_held h ≡ own s → owed s ≡ 1
+gives : (s : Stage) (what : Told) (answer : Answer) (h : OwnTxn) → txn_held h ≡ own s → owed s ≡ 1
     → CommitFits s what (Answers answer) → Turn s what (answered answer h)
 gives s what answer h same one fits = record {
   own_call = tt;
@@ -57,7 +57,7 @@ gives s what answer h same one fits = record {
   receipt = fits;
 }
 
-refuses : (s : Stage) (what : Told) (refusal : Refusal) (h : Held) → txn_held h ≡ own s → owed s ≡ 1
+refuses : (s : Stage) (what : Told) (refusal : Refusal) (h : OwnTxn) → txn_held h ≡ own s → owed s ≡ 1
     → Turn s what (answered (answers.Refused refusal) h)
 refuses s what refusal h same one = record {
   own_call = tt;
@@ -93,7 +93,7 @@ tries s what ask is may last none = record {
   receipt = tt;
 }
 
-aborts : (s : Stage) (what : Told) (h : Held) → txn_held h ≡ own s → owed s ≡ 1 → Turn s what (rules.abort h)
+aborts : (s : Stage) (what : Told) (h : OwnTxn) → txn_held h ≡ own s → owed s ≡ 1 → Turn s what (rules.abort h)
 aborts s what Free same one = ends s what
 aborts s what (Open txn) same one = calls s what (asks.StartAbort txn) (stages.StartAbort txn) refl same one refl tt
 aborts s what (Left sub) same one = calls s what (asks.Step sub)
@@ -102,7 +102,7 @@ aborts s what (Aborting txn) same one = calls s what (asks.UndoNext txn) (stages
 aborts s what (Undoing sub) same one = calls s what (asks.Step sub) (stages.Step sub purposes.Undoing) refl same one
     refl tt
 
-stops : (lost : Bool) (s : Stage) (what : Told) (refusal : Refusal) (h : Held) → txn_held h ≡ own s → owed s ≡ 1
+stops : (lost : Bool) (s : Stage) (what : Told) (refusal : Refusal) (h : OwnTxn) → txn_held h ≡ own s → owed s ≡ 1
     → Turn s what (rules.abort_refused lost refusal h)
 stops true s what refusal h same one = ends s what
 stops false s what refusal h same one = refuses s what refusal h same one
@@ -121,7 +121,7 @@ begins (told.Begun txn) = record {
 begins (told.Refused refusal) = refuses stages.Begin (told.Refused refusal) refusal Free refl refl
 begins what = ends stages.Begin what
 
-last_tags : (h : Held) (what : Told) → Turn (stages.LastTag h) what (rules.after_last_tag h what)
+last_tags : (h : OwnTxn) (what : Told) → Turn (stages.LastTag h) what (rules.after_last_tag h what)
 last_tags h (told.LastTag sent tag) = gives (stages.LastTag h) (told.LastTag sent tag) (answers.LastTag sent tag) h
     refl refl tt
 last_tags h (told.Refused refusal) = refuses (stages.LastTag h) (told.Refused refusal) refusal h refl refl
@@ -137,7 +137,7 @@ first_steps s what (Some txn) number purpose same one =
           number;
     }) purpose) refl same one refl tt
 
-starts : (h : Held) (what : Told) → Turn (stages.Start h) what (rules.after_start h what)
+starts : (h : OwnTxn) (what : Told) → Turn (stages.Start h) what (rules.after_start h what)
 starts h (told.Started sub) = first_steps (stages.Start h) (told.Started sub) (txn_held h) sub.number
     purposes.Request refl refl
 starts h told.Nothing = gives (stages.Start h) told.Nothing answers.NoMessage h refl refl tt
@@ -197,7 +197,7 @@ pub names_its : (o : Option Txn) (commit : Commit) → is_commit_of o commit ≡
 names_its None commit e = absurd (false≢true e)
 names_its (Some txn) commit e = ap Some (same_is txn commit.txn e)
 
-own_commits : (h : Held) (commit : Commit) (mine : Bool) → is_commit_of (txn_held h) commit ≡ mine
+own_commits : (h : OwnTxn) (commit : Commit) (mine : Bool) → is_commit_of (txn_held h) commit ≡ mine
     → Turn (stages.Commit h) (told.Committed commit) (cond mine (next (Await commit) (stages.Await commit)) ended)
 own_commits h commit true e = record {
   own_call = refl;
@@ -209,7 +209,7 @@ own_commits h commit true e = record {
 }
 own_commits h commit false e = ends (stages.Commit h) (told.Committed commit)
 
-commits : (h : Held) (what : Told) → Turn (stages.Commit h) what (rules.after_commit h what)
+commits : (h : OwnTxn) (what : Told) → Turn (stages.Commit h) what (rules.after_commit h what)
 commits h (told.Committed commit) = own_commits h commit (is_commit_of (txn_held h) commit) refl
 commits h (told.Refused refusal) = refuses (stages.Commit h) (told.Refused refusal) refusal h refl refl
 commits h what = ends (stages.Commit h) what
@@ -310,7 +310,7 @@ each_may_again lost _ _ may = absurd may
 
 -- ---- requests
 
-pub each_request : (h : Held) (request : Request) → Takes h request (rules.after_request h request)
+pub each_request : (h : OwnTxn) (request : Request) → Takes h request (rules.after_request h request)
 each_request Free requests.Begin = record {
   first = refl;
   stage = refl;
@@ -425,7 +425,7 @@ loses_none s none same txn = record {
   silent = refl;
 }
 
-lost_aborts : (s : Stage) (h : Held) → abort_call h ≡ loss_call (asked_last s) (held_in s) → h ≡ held_in s
+lost_aborts : (s : Stage) (h : OwnTxn) → abort_call h ≡ loss_call (asked_last s) (held_in s) → h ≡ held_in s
     → txn_held h ≡ own s
     → Lost s (rules.abort h)
 lost_aborts s Free call same txn = loses_none s call same txn

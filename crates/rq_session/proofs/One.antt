@@ -11,8 +11,8 @@ use Rattle.rq_session.specs.declared.calls.Ask.TheVariants as asks
 use Rattle.rq_session.specs.declared.calls.Told.{Told}
 use Rattle.rq_session.specs.declared.calls.Action.{Action}
 use Rattle.rq_session.specs.declared.calls.Action.TheVariants.{Do, Again, Await, Answer as Answers, End}
-use Rattle.rq_session.specs.declared.stage.Held.{Held}
-use Rattle.rq_session.specs.declared.stage.Held.TheVariants.{Free, Open, Left, Aborting, Undoing}
+use Rattle.rq_session.specs.declared.stage.OwnTxn.{OwnTxn}
+use Rattle.rq_session.specs.declared.stage.OwnTxn.TheVariants.{Free, Open, Left, Aborting, Undoing}
 use Rattle.rq_session.specs.declared.stage.Purpose.{Purpose}
 use Rattle.rq_session.specs.declared.stage.Purpose.TheVariants as purposes
 use Rattle.rq_session.specs.declared.stage.Stage.{Stage}
@@ -27,7 +27,7 @@ use Rattle.rq_session.proofs.Due.{each_answer, each_ask, each_end, each_stage, e
 
 -- ---- one stage
 
-abbrev is_left : Held → Bool
+abbrev is_left : OwnTxn → Bool
 is_left (Left sub) = true
 is_left _ = false
 
@@ -56,7 +56,7 @@ record Alike (x y : Stage) : Type 0 where
   held : held_in x ≡ held_in y
   undoing : owed x ≡ 1 → owed y ≡ 1 → is_undoing x ≡ is_undoing y
 
-of_held : (f : Held → Stage) (x y : Stage) (h k : Held) → ((l : Held) → held_in (f l) ≡ l) → x ≡ f h → y ≡ f k
+of_held : (f : OwnTxn → Stage) (x y : Stage) (h k : OwnTxn) → ((l : OwnTxn) → held_in (f l) ≡ l) → x ≡ f h → y ≡ f k
     → Alike x y → x ≡ y
 of_held f x y h k back e g a = e ∙ ap f (sym (back h) ∙ ap held_in (sym e) ∙ a.held ∙ ap held_in g ∙ back k) ∙ sym g
 
@@ -73,7 +73,7 @@ one_end x y sub p q e g a =
     let undoing = ap is_undoing (sym e) ∙ a.undoing (ap owed e) (ap owed g) ∙ ap is_undoing g in
     e ∙ ap (λ (r : Purpose). stages.Finish sub r) (one_finish sub p q held undoing) ∙ sym g
 
-starts_held : (h : Held) → held_in (stages.Start h) ≡ h
+starts_held : (h : OwnTxn) → held_in (stages.Start h) ≡ h
 starts_held h = refl
 
 one_ask : (ask : Ask) (x y : Stage) → IsStageOf ask x → IsStageOf ask y → Alike x y → x ≡ y
@@ -116,7 +116,7 @@ one_abort : (o : Option Ask) (a b : Action) → IsAbort o a → IsAbort o b → 
 one_abort None a b e g = e ∙ sym g
 one_abort (Some ask) a b e g = e ∙ sym g
 
-one_action : (h : Held) (request : Request) (a b : Action) → IsFirst h request a → IsFirst h request b → a ≡ b
+one_action : (h : OwnTxn) (request : Request) (a b : Action) → IsFirst h request a → IsFirst h request b → a ≡ b
 one_action h requests.Begin a b e g = one_begin (txn_held h) a b e g
 one_action h (requests.Send sender tag body) a b e g = one_for (txn_held h) _ a b e g
 one_action h requests.Receive a b e g = one_for (txn_held h) _ a b e g
@@ -207,7 +207,7 @@ one_reply lost s what n may k =
 
 -- ---- losses
 
-abbrev is_free : Held → Bool
+abbrev is_free : OwnTxn → Bool
 is_free Free = true
 is_free _ = false
 
@@ -248,7 +248,7 @@ abbrev is_call : Option Ask → Bool
 is_call None = false
 is_call (Some ask) = true
 
-free_of : (o : Option Ask) (h : Held) → loss_call o h ≡ None → h ≡ Free
+free_of : (o : Option Ask) (h : OwnTxn) → loss_call o h ≡ None → h ≡ Free
 free_of (Some ask) h e = let z = ap is_call e in absurd (true≢false z)
 free_of None Free e = refl
 free_of None (Open txn) e = let z = ap is_call e in absurd (true≢false z)

@@ -14,8 +14,8 @@ use Rattle.rq_session.specs.declared.calls.Told.{Told}
 use Rattle.rq_session.specs.declared.calls.Told.TheVariants as told
 use Rattle.rq_session.specs.declared.calls.Action.{Action}
 use Rattle.rq_session.specs.declared.calls.Action.TheVariants.{Do, Again, Await, Answer as Answers, End}
-use Rattle.rq_session.specs.declared.stage.Held.{Held}
-use Rattle.rq_session.specs.declared.stage.Held.TheVariants.{Free, Open, Left, Aborting, Undoing}
+use Rattle.rq_session.specs.declared.stage.OwnTxn.{OwnTxn}
+use Rattle.rq_session.specs.declared.stage.OwnTxn.TheVariants.{Free, Open, Left, Aborting, Undoing}
 use Rattle.rq_session.specs.declared.stage.Purpose.{Purpose}
 use Rattle.rq_session.specs.declared.stage.Purpose.TheVariants as purposes
 use Rattle.rq_session.specs.declared.stage.Stage.{Stage}
@@ -62,7 +62,7 @@ ends lost s what may = record {
   follows = record { stage = refl; txn = inl refl; abort = none_under_way };
 }
 
-gives : (lost : Bool) (s : Stage) (what : Told) (answer : Answer) (h : Held) → h ≡ held_after s what
+gives : (lost : Bool) (s : Stage) (what : Told) (answer : Answer) (h : OwnTxn) → h ≡ held_after s what
     → Tells s what answer
     → Says lost s what (answered answer h)
 gives lost s what answer h same tells = record {
@@ -104,11 +104,11 @@ waits lost s what commit same abort waited = record {
   follows = record { stage = refl; txn = inr same; abort = λ o. abort };
 }
 
-refuses : (lost : Bool) (s : Stage) (refusal : Refusal) (h : Held) → h ≡ held_in s → IsRefusal s refusal
+refuses : (lost : Bool) (s : Stage) (refusal : Refusal) (h : OwnTxn) → h ≡ held_in s → IsRefusal s refusal
     → Says lost s (told.Refused refusal) (answered (answers.Refused refusal) h)
 refuses lost s refusal h same is = gives lost s (told.Refused refusal) (answers.Refused refusal) h same (refl, is)
 
-stops : (lost : Bool) (s : Stage) (refusal : Refusal) (h : Held) → h ≡ held_in s → IsRefusal s refusal → IsAborting s
+stops : (lost : Bool) (s : Stage) (refusal : Refusal) (h : OwnTxn) → h ≡ held_in s → IsRefusal s refusal → IsAborting s
     → (MayAgain s refusal → ⊥) → Says lost s (told.Refused refusal) (rules.abort_refused lost refusal h)
 stops true s refusal h same is undoing not = ends true s (told.Refused refusal) (inr (refl, (undoing, not)))
 stops false s refusal h same is undoing not = refuses false s refusal h same is
@@ -121,13 +121,13 @@ begins lost (told.Begun txn) =
 begins lost (told.Refused refusal) = refuses lost stages.Begin refusal Free refl (refl, λ m. m)
 begins lost what = ends lost stages.Begin what (inl refl)
 
-last_tags : (lost : Bool) (h : Held) (what : Told) → Says lost (stages.LastTag h) what (rules.after_last_tag h what)
+last_tags : (lost : Bool) (h : OwnTxn) (what : Told) → Says lost (stages.LastTag h) what (rules.after_last_tag h what)
 last_tags lost h (told.LastTag sent tag) =
     gives lost (stages.LastTag h) (told.LastTag sent tag) (answers.LastTag sent tag) h refl ((h, refl), refl)
 last_tags lost h (told.Refused refusal) = refuses lost (stages.LastTag h) refusal h refl (refl, λ m. m)
 last_tags lost h what = ends lost (stages.LastTag h) what (inl refl)
 
-start_works : (lost : Bool) (h : Held) (sub : Sub) (txn : Txn) → txn_held h ≡ Some txn
+start_works : (lost : Bool) (h : OwnTxn) (sub : Sub) (txn : Txn) → txn_held h ≡ Some txn
     → Says lost (stages.Start h) (told.Started sub) (next (Do (asks.Step (numbered txn sub)))
     (stages.Step (numbered txn sub) purposes.Request))
 start_works lost h sub txn e =
@@ -136,7 +136,7 @@ start_works lost h sub txn e =
     (purposes.Request, refl) (rw e refl) refl
     (inl (record { before = h; txn = txn; known = sub; stage = refl; holds = e; reply = refl; same = refl }))
 
-starts : (lost : Bool) (h : Held) (what : Told) → Says lost (stages.Start h) what (rules.after_start h what)
+starts : (lost : Bool) (h : OwnTxn) (what : Told) → Says lost (stages.Start h) what (rules.after_start h what)
 starts lost Free (told.Started sub) = ends lost (stages.Start Free) (told.Started sub) (inl refl)
 starts lost (Open txn) (told.Started sub) = start_works lost (Open txn) sub txn refl
 starts lost (Left own) (told.Started sub) = start_works lost (Left own) sub own.txn refl
@@ -223,13 +223,13 @@ finishes lost sub purposes.Request what = ends lost (stages.Finish sub purposes.
 finishes lost sub purposes.Clearing what = ends lost (clearing sub) what (inl refl)
 finishes lost sub purposes.Undoing what = ends lost (stages.Finish sub purposes.Undoing) what (inl refl)
 
-own_commits : (lost : Bool) (h : Held) (commit : Commit) (mine : Bool) → is_commit_of (txn_held h) commit ≡ mine
+own_commits : (lost : Bool) (h : OwnTxn) (commit : Commit) (mine : Bool) → is_commit_of (txn_held h) commit ≡ mine
     → Says lost (stages.Commit h) (told.Committed commit) (cond mine (next (Await commit) (stages.Await commit)) ended)
 own_commits lost h commit true e = waits lost (stages.Commit h) (told.Committed commit) commit refl refl
     (inl (record { before = h; stage = refl; reply = refl; same = names_its (txn_held h) commit e }))
 own_commits lost h commit false e = ends lost (stages.Commit h) (told.Committed commit) (inl e)
 
-commits : (lost : Bool) (h : Held) (what : Told) → Says lost (stages.Commit h) what (rules.after_commit h what)
+commits : (lost : Bool) (h : OwnTxn) (what : Told) → Says lost (stages.Commit h) what (rules.after_commit h what)
 commits lost h (told.Committed commit) = own_commits lost h commit (is_commit_of (txn_held h) commit) refl
 commits lost h (told.Refused refusal) = refuses lost (stages.Commit h) refusal h refl (refl, λ m. m)
 commits lost h what = ends lost (stages.Commit h) what (inl refl)

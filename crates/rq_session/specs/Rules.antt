@@ -1,7 +1,7 @@
 -- What a session does next: for a request by the transaction that it has, for what it is told by the call that it
 -- asked for last.
 use Rattle.std.specs.Prelude.{ℕ, Bool, false, ◌==◌, ◌&&◌, if◌then◌else◌, Option, Some, None}
-use Rattle.rq_model.specs.Words.{same_txn}
+use Rattle.rq_model.specs.Vocabulary.{same_txn}
 use Rattle.rq_model.specs.declared.txn.Txn.{Txn}
 use Rattle.rq_model.specs.declared.txn.Sub.{Sub}
 use Rattle.rq_model.specs.declared.refusal.Refusal.{Refusal}
@@ -16,8 +16,8 @@ use Rattle.rq_session.specs.declared.calls.Told.{Told}
 use Rattle.rq_session.specs.declared.calls.Told.TheVariants as told
 use Rattle.rq_session.specs.declared.calls.Action.{Action}
 use Rattle.rq_session.specs.declared.calls.Action.TheVariants.{Do, Again, Await, Answer as Answers, End}
-use Rattle.rq_session.specs.declared.stage.Held.{Held}
-use Rattle.rq_session.specs.declared.stage.Held.TheVariants.{Free, Open, Left, Aborting, Undoing}
+use Rattle.rq_session.specs.declared.stage.OwnTxn.{OwnTxn}
+use Rattle.rq_session.specs.declared.stage.OwnTxn.TheVariants.{Free, Open, Left, Aborting, Undoing}
 use Rattle.rq_session.specs.declared.stage.Purpose.{Purpose}
 use Rattle.rq_session.specs.declared.stage.Purpose.TheVariants as purposes
 use Rattle.rq_session.specs.declared.stage.Stage.{Stage}
@@ -30,7 +30,7 @@ abbrev pub next : Action → Stage → Next
 next action stage = record { action = action; stage = stage }
 
 -- an answer, with this transaction kept
-abbrev pub answered : Answer → Held → Next
+abbrev pub answered : Answer → OwnTxn → Next
 answered answer h = next (Answers answer) (stages.Rest h)
 
 abbrev pub ended : Next
@@ -39,7 +39,7 @@ ended = next End stages.Ended
 -- ---- aborts
 
 -- how an abort begins, or goes on
-abbrev pub abort : Held → Next
+abbrev pub abort : OwnTxn → Next
 abort Free = ended
 abort (Open txn) = next (Do (asks.StartAbort txn)) (stages.StartAbort txn)
 abort (Left sub) = next (Do (asks.Step sub)) (stages.Step sub purposes.Clearing)
@@ -48,7 +48,7 @@ abort (Undoing sub) = next (Do (asks.Step sub)) (stages.Step sub purposes.Undoin
 
 -- an abort that was refused is answered so, and may go on at a further abort; where the connection is lost, the
 -- session ends
-abbrev pub abort_refused : Bool → Refusal → Held → Next
+abbrev pub abort_refused : Bool → Refusal → OwnTxn → Next
 abort_refused lost refusal h = if lost then ended else answered (answers.Refused refusal) h
 
 -- ---- what was told
@@ -58,7 +58,7 @@ after_begin (told.Begun txn) = answered (answers.Begun txn) (Open txn)
 after_begin (told.Refused refusal) = answered (answers.Refused refusal) Free
 after_begin _ = ended
 
-abbrev pub after_last_tag : Held → Told → Next
+abbrev pub after_last_tag : OwnTxn → Told → Next
 after_last_tag h (told.LastTag sent tag) = answered (answers.LastTag sent tag) h
 after_last_tag h (told.Refused refusal) = answered (answers.Refused refusal) h
 after_last_tag h _ = ended
@@ -70,7 +70,7 @@ started (Some txn) number purpose =
     let sub : Sub = record { txn = txn; number = number } in
     next (Do (asks.Step sub)) (stages.Step sub purpose)
 
-abbrev pub after_start : Held → Told → Next
+abbrev pub after_start : OwnTxn → Told → Next
 after_start h (told.Started sub) = started (txn_held h) sub.number purposes.Request
 after_start h told.Nothing = answered answers.NoMessage h
 after_start h (told.Refused refusal) = answered (answers.Refused refusal) h
@@ -115,7 +115,7 @@ is_commit_of None commit = false
 is_commit_of (Some txn) commit = same_txn txn commit.txn
 
 -- the session waits for the receipt of its own commit, and for no other
-abbrev pub after_commit : Held → Told → Next
+abbrev pub after_commit : OwnTxn → Told → Next
 after_commit h (told.Committed commit) = if is_commit_of (txn_held h) commit then next (Await commit) (stages.Await commit)
     else ended
 after_commit h (told.Refused refusal) = answered (answers.Refused refusal) h
@@ -198,23 +198,23 @@ after_loss stages.Ended = ended
 -- ---- requests
 
 -- what needs a transaction is refused without one
-abbrev pub start : Held → Option Txn → (Txn → Ask) → Next
+abbrev pub start : OwnTxn → Option Txn → (Txn → Ask) → Next
 start h None ask = answered (answers.Refused UnknownTransaction) h
 start h (Some txn) ask = next (Do (ask txn)) (stages.Start h)
 
-abbrev pub begin : Held → Next
+abbrev pub begin : OwnTxn → Next
 begin Free = next (Do asks.Begin) stages.Begin
 begin h = answered (answers.Refused TooManyTransactions) h
 
-abbrev pub commit : Held → Option Txn → Next
+abbrev pub commit : OwnTxn → Option Txn → Next
 commit h None = answered (answers.Refused UnknownTransaction) h
 commit h (Some txn) = next (Do (asks.Commit txn)) (stages.Commit h)
 
-abbrev pub abort_request : Held → Next
+abbrev pub abort_request : OwnTxn → Next
 abort_request Free = answered (answers.Refused UnknownTransaction) Free
 abort_request h = abort h
 
-abbrev pub after_request : Held → Request → Next
+abbrev pub after_request : OwnTxn → Request → Next
 after_request h requests.Begin = begin h
 after_request h (requests.Send sender tag body) = start h (txn_held h) (λ txn. asks.StartSend txn sender tag body)
 after_request h requests.Receive = start h (txn_held h) (λ txn. asks.StartReceive txn)

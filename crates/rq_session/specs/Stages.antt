@@ -1,8 +1,8 @@
 -- The transaction that a session has, and what each stage of a session is.
 use Rattle.std.specs.Prelude.{◌≡◌, Bool, true, false, Option, Some, None}
 use Rattle.rq_model.specs.declared.txn.Txn.{Txn}
-use Rattle.rq_session.specs.declared.stage.Held.{Held}
-use Rattle.rq_session.specs.declared.stage.Held.TheVariants as held
+use Rattle.rq_session.specs.declared.stage.OwnTxn.{OwnTxn}
+use Rattle.rq_session.specs.declared.stage.OwnTxn.TheVariants as held
 use Rattle.rq_session.specs.declared.calls.Ask.{Ask}
 use Rattle.rq_session.specs.declared.calls.Ask.TheVariants as asks
 use Rattle.rq_session.specs.declared.calls.Action.{Action}
@@ -12,7 +12,7 @@ use Rattle.rq_session.specs.declared.stage.Purpose.TheVariants as purposes
 use Rattle.rq_session.specs.declared.stage.Stage.{Stage}
 use Rattle.rq_session.specs.declared.stage.Stage.TheVariants as stages
 
-abbrev pub txn_held : Held → Option Txn
+abbrev pub txn_held : OwnTxn → Option Txn
 txn_held held.Free = None
 txn_held (held.Open txn) = Some txn
 txn_held (held.Left sub) = Some sub.txn
@@ -35,7 +35,7 @@ own (stages.EndAbort txn) = Some txn
 own stages.Ended = None
 
 -- how the session's transaction stands before the call that was asked for last
-abbrev pub held_in : Stage → Held
+abbrev pub held_in : Stage → OwnTxn
 held_in (stages.Rest h) = h
 held_in stages.Begin = held.Free
 held_in (stages.LastTag h) = h
@@ -66,7 +66,7 @@ is_undoing _ = false
 
 -- the stage waits for the reply to a start in this transaction
 abbrev pub IsStart : Txn → Stage → Type 0
-IsStart txn s = (h : Held) × (s ≡ stages.Start h) × (txn_held h ≡ Some txn)
+IsStart txn s = (h : OwnTxn) × (s ≡ stages.Start h) × (txn_held h ≡ Some txn)
 
 -- the stage waits for the reply to this call
 abbrev pub IsStageOf : Ask → Stage → Type 0
@@ -77,16 +77,16 @@ IsStageOf (asks.StartReceiveFrom txn sender) s = IsStart txn s
 IsStageOf (asks.StartClose txn sender) s = IsStart txn s
 IsStageOf (asks.Step sub) s = (purpose : Purpose) × (s ≡ stages.Step sub purpose)
 IsStageOf (asks.Finish sub) s = (purpose : Purpose) × (s ≡ stages.Finish sub purpose)
-IsStageOf (asks.Commit txn) s = (h : Held) × (s ≡ stages.Commit h) × (txn_held h ≡ Some txn)
+IsStageOf (asks.Commit txn) s = (h : OwnTxn) × (s ≡ stages.Commit h) × (txn_held h ≡ Some txn)
 IsStageOf (asks.StartAbort txn) s = s ≡ stages.StartAbort txn
 IsStageOf (asks.UndoNext txn) s = s ≡ stages.UndoNext txn
 IsStageOf (asks.EndAbort txn) s = s ≡ stages.EndAbort txn
-IsStageOf (asks.LastTag sender) s = (h : Held) × (s ≡ stages.LastTag h)
+IsStageOf (asks.LastTag sender) s = (h : OwnTxn) × (s ≡ stages.LastTag h)
 
 -- the stage is the one of what is to be done
 abbrev pub IsStageAt : Action → Stage → Type 0
 IsStageAt (Do ask) s = IsStageOf ask s
 IsStageAt (Again ask) s = IsStageOf ask s
 IsStageAt (Await commit) s = s ≡ stages.Await commit
-IsStageAt (Answers answer) s = (h : Held) × (s ≡ stages.Rest h)
+IsStageAt (Answers answer) s = (h : OwnTxn) × (s ≡ stages.Rest h)
 IsStageAt End s = s ≡ stages.Ended

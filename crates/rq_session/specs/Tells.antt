@@ -13,8 +13,8 @@ use Rattle.rq_session.specs.declared.calls.Told.{Told}
 use Rattle.rq_session.specs.declared.calls.Told.TheVariants as told
 use Rattle.rq_session.specs.declared.calls.Action.{Action}
 use Rattle.rq_session.specs.declared.calls.Action.TheVariants.{Do, Await, Answer as Answers, End}
-use Rattle.rq_session.specs.declared.stage.Held.{Held}
-use Rattle.rq_session.specs.declared.stage.Held.TheVariants as held
+use Rattle.rq_session.specs.declared.stage.OwnTxn.{OwnTxn}
+use Rattle.rq_session.specs.declared.stage.OwnTxn.TheVariants as held
 use Rattle.rq_session.specs.declared.stage.Purpose.{Purpose}
 use Rattle.rq_session.specs.declared.stage.Purpose.TheVariants as purposes
 use Rattle.rq_session.specs.declared.stage.Stage.{Stage}
@@ -41,11 +41,11 @@ abbrev pub Tells : Stage → Told → Answer → Type 0
 Tells s what (answers.Begun txn) = (s ≡ stages.Begin) × (what ≡ told.Begun txn)
 Tells s what answers.Sent = IsFinish s × (what ≡ told.Sent)
 Tells s what (answers.Message message) = IsFinish s × (what ≡ told.Message message)
-Tells s what answers.NoMessage = ((h : Held) × (s ≡ stages.Start h)) × (what ≡ told.Nothing)
+Tells s what answers.NoMessage = ((h : OwnTxn) × (s ≡ stages.Start h)) × (what ≡ told.Nothing)
 Tells s what answers.Closed = IsFinish s × (what ≡ told.Closed)
 Tells s what (answers.Committed lsn) = IsReceipt s what lsn
 Tells s what answers.Aborted = ((txn : Txn) × (s ≡ stages.EndAbort txn)) × (what ≡ told.Aborted)
-Tells s what (answers.LastTag sent tag) = ((h : Held) × (s ≡ stages.LastTag h)) × (what ≡ told.LastTag sent tag)
+Tells s what (answers.LastTag sent tag) = ((h : OwnTxn) × (s ≡ stages.LastTag h)) × (what ≡ told.LastTag sent tag)
 Tells s what (answers.Refused refusal) = (what ≡ told.Refused refusal) × IsRefusal s refusal
 
 -- it is answered exactly where it was told
@@ -63,7 +63,7 @@ numbered txn sub = record { txn = txn; number = sub.number }
 
 -- a request's operation was started
 pub record IsStarted (s : Stage) (what : Told) (sub : Sub) : Type 0 where
-  pub before : Held
+  pub before : OwnTxn
   pub txn : Txn
   pub known : Sub
   pub stage : s ≡ stages.Start before
@@ -132,7 +132,7 @@ IsNoReceipt commit _ = ⊥
 
 -- the commit of the session's own transaction was told
 pub record IsToldOwn (s : Stage) (what : Told) (commit : Commit) : Type 0 where
-  pub before : Held
+  pub before : OwnTxn
   pub stage : s ≡ stages.Commit before
   pub reply : what ≡ told.Committed commit
   pub same : txn_held before ≡ Some commit.txn
@@ -172,24 +172,24 @@ EachEnd = (lost : Bool) (s : Stage) (what : Told) → EndsAsTold lost s what (af
 
 -- ---- the transaction
 
-abbrev pub opened : Option Txn → Held
+abbrev pub opened : Option Txn → OwnTxn
 opened None = held.Free
 opened (Some txn) = held.Open txn
 
-abbrev pub aborting : Option Txn → Held
+abbrev pub aborting : Option Txn → OwnTxn
 aborting None = held.Free
 aborting (Some txn) = held.Aborting txn
 
-abbrev pub left : Option Txn → Sub → Held
+abbrev pub left : Option Txn → Sub → OwnTxn
 left None sub = held.Free
 left (Some txn) sub = held.Left (numbered txn sub)
 
-abbrev pub started_in : Stage → Sub → Held
+abbrev pub started_in : Stage → Sub → OwnTxn
 started_in (stages.UndoNext txn) sub = held.Undoing (numbered txn sub)
 started_in s sub = left (own s) sub
 
 -- how the session's transaction stands after what was told; a refusal leaves it as it is
-abbrev pub held_after : Stage → Told → Held
+abbrev pub held_after : Stage → Told → OwnTxn
 held_after s (told.Begun txn) = held.Open txn
 held_after s (told.Started sub) = started_in s sub
 held_after s told.Sent = opened (own s)
@@ -238,7 +238,7 @@ OneReply =
     → IsSame n (after_told lost s what)
 
 abbrev pub OneFirst : Type 0
-OneFirst = (h : Held) (request : Request) (n : Next) → Takes h request n → IsSame n (after_request h request)
+OneFirst = (h : OwnTxn) (request : Request) (n : Next) → Takes h request n → IsSame n (after_request h request)
 
 abbrev pub OneLoss : Type 0
 OneLoss = (s : Stage) (n : Next) → Lost s n → IsSame n (after_loss s)

@@ -3,7 +3,7 @@
 #![tactic(auto)]
 
 pub mod calls;
-mod held;
+mod first_calls;
 pub mod laws;
 mod session;
 mod stage;

@@ -4,8 +4,8 @@ ghost use Rattle.rq_session.specs.Laws.{awaited};
 ghost use Rattle.rq_session.specs.Rules.{taken, call_in, answer_in, after_told, after_loss};
 
 use crate::calls::{Action, Ask, Commit, Told};
-use crate::held::first;
-use crate::stage::{Held, Stage};
+use crate::first_calls::first;
+use crate::stage::{OwnTxn, Stage};
 use crate::turns::{turn, turn_at_loss};
 use rq_wire::{Answer, Request};
 
@@ -24,10 +24,10 @@ pub struct Session {
 impl Session {
     /// A session that has no transaction.
     pub fn new() -> Session
-        ensures { result ≡ record { stage = Stage.Rest Held.Free; lost = false; answer = None } }
+        ensures { result ≡ record { stage = Stage.Rest OwnTxn.Free; lost = false; answer = None } }
     {
         Session {
-            stage: Stage::Rest(Held::Free),
+            stage: Stage::Rest(OwnTxn::Free),
             lost: false,
             answer: None,
         }

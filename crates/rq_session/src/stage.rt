@@ -4,7 +4,7 @@ use rq_model::txn::{Sub, Txn};
 
 /// The transaction of a session between two requests.
 #[derive(Clone, Copy, PartialEq, Eq)]
-pub(crate) enum Held {
+pub(crate) enum OwnTxn {
     // none
     Free,
     // it is open, with no operation under way
@@ -32,14 +32,14 @@ pub(crate) enum Purpose {
 #[derive(Clone, Copy, PartialEq, Eq)]
 pub(crate) enum Stage {
     // none: it may be handed a request
-    Rest(Held),
+    Rest(OwnTxn),
     Begin,
-    LastTag(Held),
+    LastTag(OwnTxn),
     // the start of a send, a receive or a close
-    Start(Held),
+    Start(OwnTxn),
     Step(Sub, Purpose),
     Finish(Sub, Purpose),
-    Commit(Held),
+    Commit(OwnTxn),
     // none: it waits for the receipt of a commit
     Await(Commit),
     StartAbort(Txn),

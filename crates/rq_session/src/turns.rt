@@ -3,8 +3,8 @@ ghost use Rattle.std.specs.Prelude.{◌≡◌};
 ghost use Rattle.rq_session.specs.Rules.{after_begin, after_last_tag, after_start, work_refused, after_step, after_finish, after_commit, after_await, after_start_abort, after_undo_next, after_end_abort, after_told, after_loss, done, undone, is_commit, is_commit_of, started as first_step, cleared as cleared_purpose};
 
 use crate::calls::{Action, Ask, Commit, Told};
-use crate::held::{abort_on, answer_with, call, end, refuse, stop_abort, txn_of};
-use crate::stage::{Held, Next, Purpose, Stage};
+use crate::first_calls::{abort_on, answer_with, call, end, refuse, stop_abort, txn_of};
+use crate::stage::{Next, OwnTxn, Purpose, Stage};
 use rq_model::refusal::Refusal;
 use rq_model::txn::{Sub, Txn};
 use rq_wire::Answer;
@@ -32,13 +32,13 @@ fn begun(told: &Told) -> Next
     ensures { result ≡ after_begin told.now }
 {
     match told {
-        Told::Begun(txn) => answer_with(Answer::Begun(*txn), Held::Open(*txn)),
-        Told::Refused(refusal) => refuse(*refusal, Held::Free),
+        Told::Begun(txn) => answer_with(Answer::Begun(*txn), OwnTxn::Open(*txn)),
+        Told::Refused(refusal) => refuse(*refusal, OwnTxn::Free),
         _ => end(),
     }
 }
 
-fn last_tag_told(held: Held, told: &Told) -> Next
+fn last_tag_told(held: OwnTxn, told: &Told) -> Next
     ensures { result ≡ after_last_tag held told.now }
 {
     match told {
@@ -54,7 +54,7 @@ fn last_tag_told(held: Held, told: &Told) -> Next
     }
 }
 
-fn started(held: Held, told: &Told) -> Next
+fn started(held: OwnTxn, told: &Told) -> Next
     ensures { result ≡ after_start held told.now }
 {
     match (told, txn_of(held)) {
@@ -79,9 +79,9 @@ fn stop_work(lost: bool, sub: Sub, purpose: Purpose, refusal: Refusal, again: Ne
 {
     match (refusal, purpose) {
         (Refusal::NoMemory, _) => again,
-        (_, Purpose::Request) => refuse(refusal, Held::Left(sub)),
-        (_, Purpose::Clearing) => stop_abort(lost, refusal, Held::Left(sub)),
-        (_, Purpose::Undoing) => stop_abort(lost, refusal, Held::Undoing(sub)),
+        (_, Purpose::Request) => refuse(refusal, OwnTxn::Left(sub)),
+        (_, Purpose::Clearing) => stop_abort(lost, refusal, OwnTxn::Left(sub)),
+        (_, Purpose::Undoing) => stop_abort(lost, refusal, OwnTxn::Undoing(sub)),
     }
 }
 
@@ -114,8 +114,8 @@ fn request_done(sub: Sub, purpose: Purpose, answer: Answer) -> Next
     ensures { result ≡ done sub purpose answer }
 {
     match purpose {
-        Purpose::Request => answer_with(answer, Held::Open(sub.txn)),
-        Purpose::Clearing => abort_on(Held::Open(sub.txn)),
+        Purpose::Request => answer_with(answer, OwnTxn::Open(sub.txn)),
+        Purpose::Clearing => abort_on(OwnTxn::Open(sub.txn)),
         Purpose::Undoing => end(),
     }
 }
@@ -125,7 +125,7 @@ fn undo_done(sub: Sub, purpose: Purpose) -> Next
     ensures { result ≡ undone sub purpose }
 {
     match purpose {
-        Purpose::Undoing => abort_on(Held::Aborting(sub.txn)),
+        Purpose::Undoing => abort_on(OwnTxn::Aborting(sub.txn)),
         _ => end(),
     }
 }
@@ -156,7 +156,7 @@ fn wait_for(commit: Commit) -> Next
     }
 }
 
-fn committed(held: Held, told: &Told) -> Next
+fn committed(held: OwnTxn, told: &Told) -> Next
     ensures { result ≡ after_commit held told.now }
 {
     match told {
@@ -188,12 +188,12 @@ fn awaited(commit: Commit, told: &Told) -> Next
     match told {
         Told::Durable(other) => {
             if is_same(other, &commit) {
-                answer_with(Answer::Committed(commit.lsn), Held::Free)
+                answer_with(Answer::Committed(commit.lsn), OwnTxn::Free)
             } else {
                 wait_for(commit)
             }
         }
-        Told::Refused(Refusal::Failed) => refuse(Refusal::Failed, Held::Free),
+        Told::Refused(Refusal::Failed) => refuse(Refusal::Failed, OwnTxn::Free),
         Told::NotDurable | Told::Refused(_) => wait_for(commit),
         _ => end(),
     }
@@ -209,9 +209,9 @@ fn abort_started(lost: bool, txn: Txn, told: &Told) -> Next
     ensures { result ≡ after_start_abort lost txn told.now }
 {
     match told {
-        Told::Aborting => abort_on(Held::Aborting(txn)),
+        Told::Aborting => abort_on(OwnTxn::Aborting(txn)),
         Told::Refused(Refusal::NoMemory) => again(Ask::StartAbort(txn), Stage::StartAbort(txn)),
-        Told::Refused(refusal) => stop_abort(lost, *refusal, Held::Open(txn)),
+        Told::Refused(refusal) => stop_abort(lost, *refusal, OwnTxn::Open(txn)),
         _ => end(),
     }
 }
@@ -225,7 +225,7 @@ fn undo_started(lost: bool, txn: Txn, told: &Told) -> Next
         Told::Refused(Refusal::NoMemory | Refusal::Latched | Refusal::PoolFull) => {
             again(Ask::UndoNext(txn), Stage::UndoNext(txn))
         }
-        Told::Refused(refusal) => stop_abort(lost, *refusal, Held::Aborting(txn)),
+        Told::Refused(refusal) => stop_abort(lost, *refusal, OwnTxn::Aborting(txn)),
         _ => end(),
     }
 }
@@ -235,9 +235,9 @@ fn abort_ended(lost: bool, txn: Txn, told: &Told) -> Next
 {
     match told {
         Told::Aborted if lost => end(),
-        Told::Aborted => answer_with(Answer::Aborted, Held::Free),
+        Told::Aborted => answer_with(Answer::Aborted, OwnTxn::Free),
         Told::Refused(Refusal::NoMemory) => again(Ask::EndAbort(txn), Stage::EndAbort(txn)),
-        Told::Refused(refusal) => stop_abort(lost, *refusal, Held::Aborting(txn)),
+        Told::Refused(refusal) => stop_abort(lost, *refusal, OwnTxn::Aborting(txn)),
         _ => end(),
     }
 }

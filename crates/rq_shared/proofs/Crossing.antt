@@ -16,7 +16,7 @@ use Rattle.rq_shared.proofs.kept.AuditEntry.TheSendSync as entry
 use Rattle.rq_shared.specs.contracts.kept.Kept as Kept
 use Rattle.rq_shared.specs.declared.sharing.Sharing as sharing
 use Rattle.rq_shared.specs.contracts.room.Room as Room
-use Rattle.rq_shared.specs.contracts.shared.Front as Front
+use Rattle.rq_shared.specs.contracts.shared.EngineLock as EngineLock
 
 ends_send : IsSend Ends.the_row
 ends_send = search (crosses, ghost_list.crosses, sendable) depth 60 fits 20000
@@ -32,5 +32,5 @@ module _ (P L B : RattleType) (p : page_device.Ghosts P.Denot) (l : log_device.G
     room_send : IsSend (Room.the_row P L B G p l b h g)
     room_send = search (kept_send, book.the_send, crosses, sendable) depth 60 fits 20000
 
-    pub front_sync : IsSync (Front.the_row P L B G p l b h g)
-    front_sync = search (room_send, crosses, sendable) depth 60 fits 20000
+    pub lock_sync : IsSync (EngineLock.the_row P L B G p l b h g)
+    lock_sync = search (room_send, crosses, sendable) depth 60 fits 20000

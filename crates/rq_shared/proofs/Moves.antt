@@ -10,7 +10,7 @@ use Rattle.atomic_table.specs.Table.Act.{keeps}
 use Rattle.atomic_table.proofs.Lists.{at_set, at_snoc, at_longer, set_here, set_else, set_again}
 use Rattle.rq_shared.specs.declared.mark.View.{View}
 use Rattle.rq_shared.specs.Marks.{IsMark, IsPublished, Publishes, Reads, seat_view}
-use Rattle.rq_model.specs.Words.{In}
+use Rattle.rq_model.specs.Vocabulary.{In}
 use Rattle.rq_model.proofs.Lists.{In-left, In-last}
 
 at_below : (l : List View) (i : ℕ) (v : View) → get_elem? l i ≡ some v → i < length l

@@ -5,7 +5,7 @@ use Rattle.std.proofs.lemmas.Bool.Decides.{nat_tests}
 use Rattle.std.proofs.lemmas.List.{length-append, length-drop, take-append-drop}
 use Rattle.rq_model.specs.declared.record.Record.{Record}
 use Rattle.rq_model.specs.declared.record.Record.TheVariants.{Commit as Commit_record}
-use Rattle.rq_model.specs.Words.{In}
+use Rattle.rq_model.specs.Vocabulary.{In}
 use Rattle.rq_model.specs.History.{Entry, Call}
 use Rattle.rq_model.specs.History.Call.{Begin, Start_send, Start_receive, Start_receive_from, Start_close, Step, Finish, Commit, Acknowledge, Start_abort, Undo_next, End_abort, Hand_over, Force, Write_page, Last_tag, Show}
 use Rattle.rq_model.specs.History.Entry.{Acknowledged, Committed, Crash, Restarted}

@@ -5,7 +5,7 @@ use Rattle.rq_model.specs.Legal.{Legal}
 use Rattle.rq_model.specs.Replay.{Replays}
 use Rattle.rq_store.specs.State.{ledger_of, size_of}
 use Rattle.rq_sound.specs.Sound.{IsSound}
-use Rattle.rq_sound.specs.Steps.{Steps}
+use Rattle.rq_sound.specs.ModelSteps.{IsModelStep}
 use Rattle.rq_engine.specs.declared.event.Event.{Event}
 use Rattle.rq_engine.specs.declared.event.Reply.{Reply}
 use Rattle.rq_disk.specs.declared.device.LogDevice as log_device
@@ -19,7 +19,7 @@ answers_more : (audit : List Noted) (n : Noted) → answers (audit ++ n ∷ []) 
 answers_more audit n = ap reverse (map-append answer_of audit (n ∷ [])) ∙ reverse-append (map answer_of audit) (answer_of n ∷ [])
 
 module _ {P L : Type 0} (p : page_device.Ghosts P) (l : log_device.Ghosts L) where
-  pub goes_on : (base s t : OpenStore P L) (audit : List Noted) (n : Noted) → Follows p l base audit s → t.state.sizes ≡ s.state.sizes → (AreHonest p l t → AreHonest p l s) → (AreHonest p l t → IsSound s.state → Steps s.state n.call n.gave t.state) → Follows p l base (audit ++ n ∷ []) t
+  pub goes_on : (base s t : OpenStore P L) (audit : List Noted) (n : Noted) → Follows p l base audit s → t.state.sizes ≡ s.state.sizes → (AreHonest p l t → AreHonest p l s) → (AreHonest p l t → IsSound s.state → IsModelStep s.state n.call n.gave t.state) → Follows p l base (audit ++ n ∷ []) t
   goes_on base s t audit n f same falls step = record {
     sizes = same ∙ f.sizes;
     replays = λ h sound.
@@ -32,7 +32,7 @@ module _ {P L : Type 0} (p : page_device.Ghosts P) (l : log_device.Ghosts L) whe
   }
 
   pub one_noted : (base s t : OpenStore P L) (old new : List AuditEntry) (e : AuditEntry) (event : Event) (reply : Reply) → new ≡ old ++ e ∷ [] → call_of e.event ≡ call_of event → gave e.reply ≡ gave reply → Follows p l base (entries old) s → t.state.sizes ≡ s.state.sizes
-      → (AreHonest p l t → AreHonest p l s) → (AreHonest p l t → IsSound s.state → Steps s.state (call_of event) (gave reply) t.state) → Follows p l base (entries new) t
+      → (AreHonest p l t → AreHonest p l s) → (AreHonest p l t → IsSound s.state → IsModelStep s.state (call_of event) (gave reply) t.state) → Follows p l base (entries new) t
   one_noted base s t old new e event reply more asked given f same falls step =
       subst (λ a. Follows p l base a t) (sym (ap entries more ∙ map-append entry_of old (e ∷ [])))
-      (goes_on base s t (entries old) (entry_of e) f same falls (λ h sound. subst (λ c. Steps s.state c (gave e.reply) t.state) (sym asked) (subst (λ a. Steps s.state (call_of event) a t.state) (sym given) (step h sound))))
+      (goes_on base s t (entries old) (entry_of e) f same falls (λ h sound. subst (λ c. IsModelStep s.state c (gave e.reply) t.state) (sym asked) (subst (λ a. IsModelStep s.state (call_of event) a t.state) (sym given) (step h sound))))

@@ -1,7 +1,7 @@
 -- Receipts that an audit tells of, and what is so of the commits that they name.
 use Rattle.std.specs.Prelude.{◌≡◌, ℕ, List, drop, Some}
 use Rattle.rq_model.specs.declared.record.Record.{Record}
-use Rattle.rq_model.specs.Words.{In}
+use Rattle.rq_model.specs.Vocabulary.{In}
 use Rattle.rq_model.specs.Ledger.{Done}
 use Rattle.rq_model.specs.Commits.{committed_of}
 use Rattle.rq_model.specs.Replay.{Number, Reply as Gave}

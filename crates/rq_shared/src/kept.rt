@@ -173,7 +173,7 @@ impl<P: PageDevice + Drop, L: LogDevice + Drop, B: Level> Kept<P, L, B> {
             event: noted_event,
             reply: noted_reply,
         };
-        note(&mut self.audit, entry);
+        add_entry(&mut self.audit, entry);
         Stamped { pass, event, reply }
     }
 
@@ -283,7 +283,7 @@ fn room_for(audit: &mut Vec<AuditEntry>, event: &Event) -> Result<Event, AllocEr
 }
 
 // One entry more, where there is room for it.
-fn note(audit: &mut Vec<AuditEntry>, entry: AuditEntry)
+fn add_entry(audit: &mut Vec<AuditEntry>, entry: AuditEntry)
     requires { vec_len audit.old < vec_capacity audit.old }
     ensures { audit.new.items ≡ audit.old.items ++ entry ∷ [] }
 {

@@ -1,7 +1,7 @@
 //! The durable mark: one word, which threads publish to and read without waiting.
 
 ghost use Rattle.std.specs.Prelude.{◌≡◌, ◌≤◌, ℕ, [], ◌∷◌, ◌++◌, IfOk};
-ghost use Rattle.rq_model.specs.Words.{In};
+ghost use Rattle.rq_model.specs.Vocabulary.{In};
 
 use crate::kept::Kept;
 use atomic_table::{Play, Seat, Split, Table, TableRule};
@@ -82,7 +82,7 @@ pub struct MarkPass {
 impl Model for MarkPass {
     ghost use Rattle.std.specs.Prelude.{◌≤◌, ℕ};
     ghost use Rattle.rq_shared.specs.Marks.{MarkView, pass_code};
-    ghost use Rattle.rq_model.specs.Words.{In};
+    ghost use Rattle.rq_model.specs.Vocabulary.{In};
 
     ghost Value = { MarkView };
 

@@ -4,7 +4,7 @@ ghost use Rattle.rq_shared.specs.Calls.{CountsTaken, IsCalled, IsForced, IsTaken
 ghost use Rattle.rq_shared.specs.Begun.{BeginsFrom, begins_with};
 ghost use Rattle.rq_shared.specs.Entries.{BeginsSound, Follows, WasSound};
 ghost use Rattle.rq_shared.specs.Receipts.{IsReceiptOf, IsDurable};
-ghost use Rattle.rq_model.specs.Words.{In};
+ghost use Rattle.rq_model.specs.Vocabulary.{In};
 ghost use Rattle.rq_sound.specs.Sound.{IsSound};
 ghost use Rattle.rq_engine.specs.Opened.{AreHonest};
 ghost use Rattle.rq_engine.specs.Says.{commit_number};
@@ -30,7 +30,7 @@ pub const PASS_LIMIT: u64 = 1024;
 /// not given out stand beside the lock.
 #[derive(Drop)]
 pub struct Shared<P: PageDevice, L: LogDevice, B: Level, G: Sharing> {
-    front: Front<P, L, B, G>,
+    lock: EngineLock<P, L, B, G>,
     rest: Share<G>,
     rest_taken: Share<Taking<G>>,
     given: u64,
@@ -49,7 +49,7 @@ impl<P: PageDevice, L: LogDevice, B: Level, G: Sharing> Model for Shared<P, L, B
 
 /// The lock, which threads borrow.
 #[derive(Drop)]
-pub struct Front<P: PageDevice, L: LogDevice, B: Level, G: Sharing> {
+pub struct EngineLock<P: PageDevice, L: LogDevice, B: Level, G: Sharing> {
     room: Mutex<Room<P, L, B, G>>,
 }
 
@@ -72,7 +72,7 @@ impl<P: PageDevice + Drop, L: LogDevice + Drop, B: Level, G: Sharing> Shared<P, 
         let (calls, rest) = blank.open::<G>();
         let (taken, rest_taken) = taking.open::<Taking<G>>();
         Shared {
-            front: Front {
+            lock: EngineLock {
                 room: Mutex::new(Room::new(Kept::new(alloc, engine), calls, taken)),
             },
             rest,
@@ -98,8 +98,8 @@ impl<P: PageDevice + Drop, L: LogDevice + Drop, B: Level, G: Sharing> Shared<P, 
     }
 
     /// The lock, for threads to share.
-    pub fn front(&self) -> &Front<P, L, B, G> {
-        &self.front
+    pub fn engine_lock(&self) -> &EngineLock<P, L, B, G> {
+        &self.lock
     }
 
     /// Makes the call that the event stands for, once the lock is free, and answers its stamp. The pass counts it, but
@@ -107,7 +107,7 @@ impl<P: PageDevice + Drop, L: LogDevice + Drop, B: Level, G: Sharing> Shared<P, 
     pub fn call<R: Wait>(&self, rt: &R, pass: &mut Pass<G>, event: Event) -> Stamped
         ensures { IsCalled pass.old event result pass.new }
     {
-        self.front.call(rt, pass, event)
+        self.lock.call(rt, pass, event)
     }
 
     /// Forces, and under the same lock publishes how many records are forced.
@@ -121,7 +121,7 @@ impl<P: PageDevice + Drop, L: LogDevice + Drop, B: Level, G: Sharing> Shared<P, 
         requires { seat.old.table ≡ mark.now }
         ensures { IsForced pass.old seat.old result pass.new seat.new }
     {
-        self.front.force(rt, pass, mark, seat)
+        self.lock.force(rt, pass, mark, seat)
     }
 
     /// The entries since the audit was last taken, once the lock is free, as `Kept::take` answers them: they replay
@@ -131,7 +131,7 @@ impl<P: PageDevice + Drop, L: LogDevice + Drop, B: Level, G: Sharing> Shared<P, 
         ensures taken { IsTaken P.PageDevice L.LogDevice G.premise result }
         ensures counted { CountsTaken pass.old (length result.audit) pass.new }
     {
-        self.front.take_audit(rt, pass)
+        self.lock.take_audit(rt, pass)
     }
 
     /// Ends the sharing, once all passes are back: the audit, with the entries that were taken, has as many entries as
@@ -152,12 +152,12 @@ impl<P: PageDevice + Drop, L: LogDevice + Drop, B: Level, G: Sharing> Shared<P, 
             → IsDurable L.LogDevice result.kept.engine (commit_number r.number) }
     {
         let Shared {
-            front,
+            lock,
             rest,
             rest_taken,
             given: _,
         } = self;
-        let Front { room } = front;
+        let EngineLock { room } = lock;
         let (mut all, mut all_taken) = gather(rest, rest_taken, passes);
         let kept = room.into_inner().close(&mut all, &mut all_taken);
         kept.shows_kept();
@@ -165,7 +165,7 @@ impl<P: PageDevice + Drop, L: LogDevice + Drop, B: Level, G: Sharing> Shared<P, 
     }
 }
 
-impl<P: PageDevice + Drop, L: LogDevice + Drop, B: Level, G: Sharing> Front<P, L, B, G> {
+impl<P: PageDevice + Drop, L: LogDevice + Drop, B: Level, G: Sharing> EngineLock<P, L, B, G> {
     /// Makes the call that the event stands for, once the lock is free, and answers its stamp. The pass counts it, but
     /// where it is answered `NoMemory`.
     pub fn call<R: Wait>(&self, rt: &R, pass: &mut Pass<G>, event: Event) -> Stamped

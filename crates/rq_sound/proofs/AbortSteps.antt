@@ -11,7 +11,7 @@ use Rattle.rq_model.specs.Ledger.{Open, Ledger, change, found, fresh_one, runs, 
 use Rattle.rq_model.specs.Legal.{OnFound}
 use Rattle.rq_model.specs.Replay.{Reply}
 use Rattle.rq_model.specs.Tests.{NoneHolds, has_done, has_under, is_busy, log_full, newest, ready_tests, steps_left, turned, undo_cost}
-use Rattle.rq_model.specs.Words.{Op, is_some, first, last}
+use Rattle.rq_model.specs.Vocabulary.{Op, is_some, first, last}
 use Rattle.rq_txn.specs.declared.Finished.{Finished}
 use Rattle.rq_groups.specs.declared.Held.{Held}
 use Rattle.rq_groups.specs.Ends.{has_held, held_by}
@@ -31,7 +31,7 @@ use Rattle.rq_sound.specs.Standing.{IsAsPlanned}
 use Rattle.rq_sound.specs.Sound.{IsSound}
 use Rattle.rq_sound.specs.Starts.{MayUndo}
 use Rattle.rq_sound.specs.Calls.{next_txn, begun, started, stepped, undone, aborting, aborted, forced, IsIdle, IsNextWrite, IsReady}
-use Rattle.rq_sound.specs.Steps.{Steps}
+use Rattle.rq_sound.specs.ModelSteps.{IsModelStep}
 use Rattle.rq_sound.specs.Theorems.{AbortsAreSteps}
 use Rattle.rq_store.proofs.Opens.{found_open, open_found, busy_under}
 use Rattle.rq_sound.proofs.Ledgers.{opens_change, aborting_after, aborted_after}
@@ -64,7 +64,7 @@ module _ (s : State) (k : IsSound s) (running : s.failed ≡ false) where
         (ap (λ o. not (is_some o)) e, (ap (turned a) e ∙ open_one, (ap is_busy e ∙ busy_under r.under ∙ ap (λ (o : Option Under). is_some o) m.idle, tt))),
       )
 
-  start_abort : (r : Row) → IsIdle s r → r.aborting ≡ false → Steps s (Call.Start_abort r.txn) Reply.Gave_aborting (aborting s r)
+  start_abort : (r : Row) → IsIdle s r → r.aborting ≡ false → IsModelStep s (Call.Start_abort r.txn) Reply.Gave_aborting (aborting s r)
   start_abort r m open_one = record {
     entry = Entry.Aborting r.txn;
     says = refl;
@@ -85,7 +85,7 @@ module _ (s : State) (k : IsSound s) (running : s.failed ≡ false) where
       ∙ ap not (and_from (is_some (job_under r.under)) (nat_eq r.number u.number) (busy_under r.under ∙ ap (λ (o : Option Under). is_some o) under) (eq-eqb r.number u.number (number_is r u e under)))
 
   start_inverse : (r : Row) (u : Under) (rest : List Finished) (f : Finished) → MayUndo s r u rest f → log_full l (undo_cost (Some (op_done f))) ≡ false
-      → Steps s (Call.Undo_next r.txn) (Reply.Gave_sub r.txn (r.number + 1)) (started s r u s.ends)
+      → IsModelStep s (Call.Undo_next r.txn) (Reply.Gave_sub r.txn (r.number + 1)) (started s r u s.ends)
   start_inverse r u rest f m room =
       let at : IsIdle s r = record { at_row = m.planned.at_row; idle = m.planned.idle } in
       let h = is_ready r true at (ap not m.aborting) in
@@ -105,7 +105,7 @@ module _ (s : State) (k : IsSound s) (running : s.failed ≡ false) where
       }
 
   step : (r : Row) (u : Under) (w : SlotWrite) (images : List (List ℕ)) → IsNextWrite s r u w images
-      → Steps s (Call.Step r.txn u.number) (Reply.Gave_lsn (length s.records + 1)) (stepped s r u w images)
+      → IsModelStep s (Call.Step r.txn u.number) (Reply.Gave_lsn (length s.records + 1)) (stepped s r u w images)
   step r u w images m =
       let more = slice_get_within u.writes u.made w m.next in
       let opens = opens_change r.txn s.ends s.ends row_stepped open_stepped s.rows (λ q i e. open_after q) (λ q i n. refl) in
@@ -141,7 +141,7 @@ module _ (s : State) (k : IsSound s) (running : s.failed ≡ false) where
   pub none_to_make : (r : Row) (u : Under) → r.under ≡ Some u → u.made ≡ length u.writes → left_under r.under ≡ 0
   none_to_make r u under made = ap left_under under ∙ omega (arith, made)
 
-  all_made : (r : Row) (u : Under) (aim : Aim) → IsReady s r u aim → Steps s (Call.Step r.txn u.number) Reply.Gave_ready s
+  all_made : (r : Row) (u : Under) (aim : Aim) → IsReady s r u aim → IsModelStep s (Call.Step r.txn u.number) Reply.Gave_ready s
   all_made r u aim m = record {
     entry = Entry.Ready r.txn u.number;
     says = refl;
@@ -156,7 +156,7 @@ module _ (s : State) (k : IsSound s) (running : s.failed ≡ false) where
   }
 
   undo : (r : Row) (u : Under) (lsn : ℕ) (d : Deed) (ws : List ℕ) → IsReady s r u (aims.Undoing lsn d) → ((g : ℕ) → waits ws g ≡ waits s.waiting g + took g d)
-      → Steps s (Call.Finish r.txn u.number) Reply.Gave_undone (undone s r u lsn d ws)
+      → IsModelStep s (Call.Finish r.txn u.number) Reply.Gave_undone (undone s r u lsn d ws)
   undo r u lsn d ws m more =
       let e = at_open r m.at_row in
       record {
@@ -172,7 +172,7 @@ module _ (s : State) (k : IsSound s) (running : s.failed ≡ false) where
         stays_forced = omega arith;
       }
 
-  none_left : (r : Row) → IsIdle s r → r.aborting ≡ true → r.finished ≡ [] → Steps s (Call.Undo_next r.txn) Reply.Gave_nothing_left s
+  none_left : (r : Row) → IsIdle s r → r.aborting ≡ true → r.finished ≡ [] → IsModelStep s (Call.Undo_next r.txn) Reply.Gave_nothing_left s
   none_left r m aborts empty =
       let h = is_ready r true m (ap not aborts) in
       let done : last (map op_done r.finished) ≡ None = ap (λ (fs : List Finished). last (map op_done fs)) empty in
@@ -190,7 +190,7 @@ module _ (s : State) (k : IsSound s) (running : s.failed ≡ false) where
         stays_forced = omega arith;
       }
 
-  end_abort : (r : Row) → IsIdle s r → r.aborting ≡ true → r.finished ≡ [] → log_full l 1 ≡ false → Steps s (Call.End_abort r.txn) Reply.Gave_aborted (aborted s r)
+  end_abort : (r : Row) → IsIdle s r → r.aborting ≡ true → r.finished ≡ [] → log_full l 1 ≡ false → IsModelStep s (Call.End_abort r.txn) Reply.Gave_aborted (aborted s r)
   end_abort r m aborts empty room =
       let h = is_ready r true m (ap not aborts) in
       let e = at_open r m.at_row in
@@ -205,7 +205,7 @@ module _ (s : State) (k : IsSound s) (running : s.failed ≡ false) where
         stays_forced = omega arith;
       }
 
-  force : Steps s Call.Force (Reply.Gave_forced (length s.records)) (forced s)
+  force : IsModelStep s Call.Force (Reply.Gave_forced (length s.records)) (forced s)
   force = record {
     entry = Entry.Forced (length s.records);
     says = refl;
@@ -235,7 +235,7 @@ module _ (s : State) (k : IsSound s) (running : s.failed ≡ false) where
       ap (λ (g : List ℕ). record (fresh_one (next_txn s)) { sending = g; receiving = held_by (next_txn s) s.ends.receiving }) (no_end s.ends.sending k.standing.sending)
       ∙ ap (λ (g : List ℕ). record (fresh_one (next_txn s)) { receiving = g }) (no_end s.ends.receiving k.standing.receiving)
 
-  begin : (not (nat_lt (length s.rows) 4096) || nat_eq s.begins (2 ^ 64 - 1)) ≡ false → Steps s Call.Begin (Reply.Gave_txn (next_txn s)) (begun s)
+  begin : (not (nat_lt (length s.rows) 4096) || nat_eq s.begins (2 ^ 64 - 1)) ≡ false → IsModelStep s Call.Begin (Reply.Gave_txn (next_txn s)) (begun s)
   begin room = record {
     entry = Entry.Begun (next_txn s);
     says = refl;

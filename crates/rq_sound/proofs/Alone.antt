@@ -5,7 +5,7 @@ use Rattle.std.proofs.lemmas.Bool.{false≢true, and_parts, not-true, false_from
 use Rattle.std.proofs.lemmas.List.{length-drop}
 use Rattle.rq_model.specs.declared.txn.Txn.{Txn}
 use Rattle.rq_model.specs.declared.record.Record.{Record}
-use Rattle.rq_model.specs.Words.{In, same_txn, taken_from}
+use Rattle.rq_model.specs.Vocabulary.{In, same_txn, taken_from}
 use Rattle.rq_model.specs.History.{Group}
 use Rattle.rq_model.specs.Ledger.{rest_in, sent_in, taken_in, group_in}
 use Rattle.rq_model.specs.Content.{deeds, has_end, has_commit, removed, added, shape}

@@ -10,7 +10,7 @@ use Rattle.rq_model.specs.declared.txn.Txn.{Txn}
 use Rattle.rq_model.specs.declared.record.Deed.{Deed}
 use Rattle.rq_model.specs.declared.record.Deed.TheVariants.{Append, UnlinkHead, Close}
 use Rattle.rq_model.specs.declared.record.Record.{Record}
-use Rattle.rq_model.specs.Words.{In, same_txn}
+use Rattle.rq_model.specs.Vocabulary.{In, same_txn}
 use Rattle.rq_model.specs.Ledger.{rest_in, ended_in, any_ends}
 use Rattle.rq_model.specs.Tests.{pending, is_sending, has_closed}
 use Rattle.rq_model.specs.Content.{said, removed, removed_one, closed, deeds}

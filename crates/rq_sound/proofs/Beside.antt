@@ -5,7 +5,7 @@ use Rattle.rq_model.specs.declared.txn.Txn.{Txn}
 use Rattle.rq_model.specs.declared.record.Deed.{Deed}
 use Rattle.rq_model.specs.declared.record.Record.{Record}
 use Rattle.rq_model.specs.declared.record.Record.TheVariants.{Commit, AbortEnd}
-use Rattle.rq_model.specs.Words.{same_txn}
+use Rattle.rq_model.specs.Vocabulary.{same_txn}
 use Rattle.rq_model.specs.Deeds.{deed_in, spelled_deed}
 use Rattle.rq_model.specs.Content.{has_end, deeds, kept, ending_by}
 use Rattle.rq_model.specs.Rules.{any_use, uses_send, uses_receive}

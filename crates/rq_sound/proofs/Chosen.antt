@@ -8,7 +8,7 @@ use Rattle.rq_model.specs.declared.record.Deed.TheVariants.{Append, UnlinkHead, 
 use Rattle.rq_model.specs.declared.record.Record.{Record}
 use Rattle.rq_model.specs.declared.record.Record.TheVariants.{OpEnd}
 use Rattle.rq_model.specs.Deeds.{deed_in}
-use Rattle.rq_model.specs.Words.{has_number}
+use Rattle.rq_model.specs.Vocabulary.{has_number}
 use Rattle.rq_page.specs.declared.cell.Cell.{Cell}
 use Rattle.rq_page.specs.Sizes.{Sizes, IsCellAddress, cell_at, cell_count, place_of}
 use Rattle.rq_page.specs.Slots.{held_in}
@@ -24,7 +24,7 @@ use Rattle.rq_level.specs.ChainPlans.{PlansFor, Plans, Undoes, chain_undoes}
 use Rattle.rq_level.specs.declared.slots.Given.{Given}
 use Rattle.rq_level.specs.declared.writes.Plan.{Plan}
 use Rattle.rq_level.specs.declared.writes.SlotWrite.{SlotWrite}
-use Rattle.rq_level.specs.Kept.{Kept, flag_at, is_cell_address, is_free_slot, noted, noted_cell, noted_in, reserved_at}
+use Rattle.rq_level.specs.LevelState.{LevelState, flag_at, is_cell_address, is_free_slot, noted, noted_cell, noted_in, reserved_at}
 use Rattle.rq_level.specs.Ops.{Doing, doing_in}
 use Rattle.rq_level.specs.Ops.Doing.{Send, Receive, Close}
 use Rattle.rq_level.specs.Writes.{writes_of}
@@ -95,10 +95,10 @@ planned_new z us ws a is h = subst (λ l. has_number a l ≡ true) (ats-writes z
 -- ---- plans
 
 -- with more that may be chosen
-wider : (s : State) (k : Kept) (planned : List ℕ) → KeepsCells s k → KeepsBeside s k planned
+wider : (s : State) (k : LevelState) (planned : List ℕ) → KeepsCells s k → KeepsBeside s k planned
 wider s k planned h = record { sizes = h.sizes; free_count = h.free_count; chosen_count = h.chosen_count; free = h.free; chosen = λ i lt e. inl (h.chosen i lt e) }
 
-chosen_beside : (s : State) (k : Kept) (a : ℕ) (planned : List ℕ) → KeepsCells s k → has_number a planned ≡ true → IsCellAddress s.sizes a → KeepsBeside s (reserved_at s.sizes k a) planned
+chosen_beside : (s : State) (k : LevelState) (a : ℕ) (planned : List ℕ) → KeepsCells s k → has_number a planned ≡ true → IsCellAddress s.sizes a → KeepsBeside s (reserved_at s.sizes k a) planned
 chosen_beside s k a planned h has cell =
     let p = place_of s.sizes a in
     let place = places_are_cells s.sizes a cell in
@@ -114,61 +114,61 @@ chosen_beside s k a planned h has cell =
     }
 
 -- the sizes that the level was told are the store's
-of_sizes : (s : State) (k : Kept) (P : Option Sizes → Type 0) → KeepsCells s k → P k.sizes → P (Some s.sizes)
+of_sizes : (s : State) (k : LevelState) (P : Option Sizes → Type 0) → KeepsCells s k → P k.sizes → P (Some s.sizes)
 of_sizes s k P h p = subst P h.sizes p
 
-same_kept : (s : State) (k after : Kept) (planned : List ℕ) → KeepsCells s k → after ≡ k → KeepsBeside s after planned
-same_kept s k after planned h e = subst (λ (x : Kept). KeepsBeside s x planned) (sym e) (wider s k planned h)
+same_kept : (s : State) (k after : LevelState) (planned : List ℕ) → KeepsCells s k → after ≡ k → KeepsBeside s after planned
+same_kept s k after planned h e = subst (λ (x : LevelState). KeepsBeside s x planned) (sym e) (wider s k planned h)
 
 lowest_cell : (z : Sizes) (place a : ℕ) → place < cell_count z → a ≡ cell_at z place → IsCellAddress z a
 lowest_cell z place a lt e = subst (IsCellAddress z) (sym e) (cells_have_places z place lt).0
 
-module _ (s : State) (k : Kept) (h : KeepsCells s k) (given : List Given) (latched : List ℕ) where
-  does : (d : Option Doing) (p : Plan) (after : Kept) → Plans (Some s.sizes) d k given latched (Ok p) after → KeepsBeside s after (places_of p.writes.items)
+module _ (s : State) (k : LevelState) (h : KeepsCells s k) (given : List Given) (latched : List ℕ) where
+  does : (d : Option Doing) (p : Plan) (after : LevelState) → Plans (Some s.sizes) d k given latched (Ok p) after → KeepsBeside s after (places_of p.writes.items)
   does None p after m = absurd m
   does (Some (Send g tag body)) p after m =
-      subst (λ (x : Kept). KeepsBeside s x (places_of p.writes.items)) (sym m.kept)
+      subst (λ (x : LevelState). KeepsBeside s x (places_of p.writes.items)) (sym m.kept)
       (chosen_beside s k m.new (places_of p.writes.items) h (planned_new s.sizes p.writes.items _ m.new m.writes (sent_new (layout_of s.sizes) g m.can.directory m.new tag body m.can.old)) (lowest_cell s.sizes m.lowest.place m.new m.lowest.below m.lowest.at))
   does (Some (Receive g)) p after m = same_kept s k after _ h m.kept
   does (Some (Close g)) p after m = same_kept s k after _ h m.kept
 
-  does_not : (d : Option Doing) (r : Refusal) (after : Kept) → Plans (Some s.sizes) d k given latched (Err r) after → after ≡ k
+  does_not : (d : Option Doing) (r : Refusal) (after : LevelState) → Plans (Some s.sizes) d k given latched (Err r) after → after ≡ k
   does_not None r after m = m.1
   does_not (Some (Send g tag body)) r after m = m.1
   does_not (Some (Receive g)) r after m = m.1
   does_not (Some (Close g)) r after m = m.1
 
-  takes_back : (d : Option Deed) (p : Plan) (after : Kept) → Undoes (Some s.sizes) d k given latched (Ok p) after → KeepsBeside s after (places_of p.writes.items)
+  takes_back : (d : Option Deed) (p : Plan) (after : LevelState) → Undoes (Some s.sizes) d k given latched (Ok p) after → KeepsBeside s after (places_of p.writes.items)
   takes_back None p after m = absurd m
   takes_back (Some (Append g n tag previous body)) p after m = same_kept s k after _ h m.kept
   takes_back (Some (UnlinkHead g n tag body)) p after m =
-      subst (λ (x : Kept). KeepsBeside s x (places_of p.writes.items)) (sym m.kept)
+      subst (λ (x : LevelState). KeepsBeside s x (places_of p.writes.items)) (sym m.kept)
       (chosen_beside s k m.new (places_of p.writes.items) h (planned_new s.sizes p.writes.items _ m.new m.writes (returned_new (layout_of s.sizes) g m.can.directory m.new tag body m.can.old)) (lowest_cell s.sizes m.lowest.place m.new m.lowest.below m.lowest.at))
   takes_back (Some (Close_deed g)) p after m = same_kept s k after _ h m.kept
 
-  leaves : (d : Option Deed) (r : Refusal) (after : Kept) → Undoes (Some s.sizes) d k given latched (Err r) after → after ≡ k
+  leaves : (d : Option Deed) (r : Refusal) (after : LevelState) → Undoes (Some s.sizes) d k given latched (Err r) after → after ≡ k
   leaves None r after m = m.1
   leaves (Some (Append g n tag previous body)) r after m = m.1
   leaves (Some (UnlinkHead g n tag body)) r after m = m.1
   leaves (Some (Close_deed g)) r after m = m.1
 
-plans_for : (s : State) (k : Kept) (h : KeepsCells s k) (undo : Bool) (d : Option Doing) (given : List Given) (latched : List ℕ) (p : Plan) (after : Kept)
+plans_for : (s : State) (k : LevelState) (h : KeepsCells s k) (undo : Bool) (d : Option Doing) (given : List Given) (latched : List ℕ) (p : Plan) (after : LevelState)
     → PlansFor undo k.sizes d k given latched (Ok p) after → KeepsBeside s after (places_of p.writes.items)
 plans_for s k h true d given latched p after m = absurd m
 plans_for s k h false d given latched p after m = does s k h given latched d p after (of_sizes s k (λ o. Plans o d k given latched (Ok p) after) h m)
 
-refuses_for : (s : State) (k : Kept) (h : KeepsCells s k) (undo : Bool) (d : Option Doing) (given : List Given) (latched : List ℕ) (r : Refusal) (after : Kept)
+refuses_for : (s : State) (k : LevelState) (h : KeepsCells s k) (undo : Bool) (d : Option Doing) (given : List Given) (latched : List ℕ) (r : Refusal) (after : LevelState)
     → PlansFor undo k.sizes d k given latched (Err r) after → after ≡ k
 refuses_for s k h true d given latched r after m = m.1
 refuses_for s k h false d given latched r after m = does_not s k h given latched d r after (of_sizes s k (λ o. Plans o d k given latched (Err r) after) h m)
 
 -- a record that ends an operation is the one that tells a deed
-undone_by : (s : State) (k : Kept) (h : KeepsCells s k) (told : Record) (given : List Given) (latched : List ℕ) (p : Plan) (after : Kept)
+undone_by : (s : State) (k : LevelState) (h : KeepsCells s k) (told : Record) (given : List Given) (latched : List ℕ) (p : Plan) (after : LevelState)
     → chain_undoes k told given latched (Ok p) after → KeepsBeside s after (places_of p.writes.items)
 undone_by s k h (OpEnd t n level deed) given latched p after m = takes_back s k h given latched (deed_in deed) p after (of_sizes s k (λ o. Undoes o (deed_in deed) k given latched (Ok p) after) h m)
 undone_by s k h told given latched p after m = absurd m
 
-left_by_refusal : (s : State) (k : Kept) (h : KeepsCells s k) (told : Record) (given : List Given) (latched : List ℕ) (r : Refusal) (after : Kept)
+left_by_refusal : (s : State) (k : LevelState) (h : KeepsCells s k) (told : Record) (given : List Given) (latched : List ℕ) (r : Refusal) (after : LevelState)
     → chain_undoes k told given latched (Err r) after → after ≡ k
 left_by_refusal s k h (OpEnd t n level deed) given latched r after m = leaves s k h given latched (deed_in deed) r after (of_sizes s k (λ o. Undoes o (deed_in deed) k given latched (Err r) after) h m)
 left_by_refusal s k h told given latched r after m = m.1
@@ -179,7 +179,7 @@ left_by_refusal s k h told given latched r after m = m.1
 not_first : (z : Sizes) (a : ℕ) → IsStoreSlot z a → nat_eq a 1 ≡ false
 not_first z a store = false_from_ne_true (nat_eq a 1) (λ y. let e = eqb-true a 1 y in let low = store.page_low in omega (arith, e, low))
 
-noted_as : (z : Sizes) (k : Kept) (a : ℕ) (bytes : List ℕ) → k.sizes ≡ Some z → IsStoreSlot z a → noted k a bytes ≡ noted_in (Some z) k a bytes
+noted_as : (z : Sizes) (k : LevelState) (a : ℕ) (bytes : List ℕ) → k.sizes ≡ Some z → IsStoreSlot z a → noted k a bytes ≡ noted_in (Some z) k a bytes
 noted_as z k a bytes told store = (let n = not_first z a store in rw n refl) ∙ ap (λ (o : Option Sizes). noted_in o k a bytes) told
 
 other_place : (z : Sizes) (a i : ℕ) → is_cell_address z a ≡ false → i < cell_count z → cell_at z i ≢ a
@@ -191,7 +191,7 @@ dropped a b planned ne h = elim (or_cases (nat_eq a b) (has_number b planned) h)
 fewer : (x : Type 0) (a b : ℕ) (planned : List ℕ) → b ≢ a → x ⊎ (has_number b (a ∷ planned) ≡ true) → x ⊎ (has_number b planned ≡ true)
 fewer x a b planned ne h = elim h [ inl y ↦ inl y | inr m ↦ inr (dropped a b planned ne m) ]
 
-module _ (s : State) (k : Kept) (a : ℕ) (bytes : List ℕ) (planned : List ℕ) (store : IsStoreSlot s.sizes a) (now : slots_now s a ≡ held_in s.sizes (a / 16) bytes) (h : KeepsBeside s k (a ∷ planned)) where
+module _ (s : State) (k : LevelState) (a : ℕ) (bytes : List ℕ) (planned : List ℕ) (store : IsStoreSlot s.sizes a) (now : slots_now s a ≡ held_in s.sizes (a / 16) bytes) (h : KeepsBeside s k (a ∷ planned)) where
   abbrev p : ℕ
   p = place_of s.sizes a
 
@@ -231,12 +231,12 @@ module _ (s : State) (k : Kept) (a : ℕ) (bytes : List ℕ) (planned : List ℕ
       }
 
   noted_beside : KeepsBeside s (noted k a bytes) planned
-  noted_beside = subst (λ (x : Kept). KeepsBeside s x planned) (sym (noted_as s.sizes k a bytes h.sizes store)) (elim (cases_Bool (is_cell_address s.sizes a)) [
+  noted_beside = subst (λ (x : LevelState). KeepsBeside s x planned) (sym (noted_as s.sizes k a bytes h.sizes store)) (elim (cases_Bool (is_cell_address s.sizes a)) [
     | inl y ↦ rw y (of_cell y)
     | inr n ↦ rw n (of_no_cell n)
   ])
 
-nothing_beside : (s : State) (k : Kept) → KeepsBeside s k [] → KeepsCells s k
+nothing_beside : (s : State) (k : LevelState) → KeepsBeside s k [] → KeepsCells s k
 nothing_beside s k h = record {
   sizes = h.sizes;
   free_count = h.free_count;
@@ -246,7 +246,7 @@ nothing_beside s k h = record {
 }
 
 -- what it is to write is chosen where it starts
-started_beside : (s : State) (r : Row) (u : Under) (ends : HeldEnds) (k : Kept) → AreDistinct s.rows → IsIdle s r → u.made ≡ 0 → KeepsBeside s k (places_of u.writes) → KeepsCells (started s r u ends) k
+started_beside : (s : State) (r : Row) (u : Under) (ends : HeldEnds) (k : LevelState) → AreDistinct s.rows → IsIdle s r → u.made ≡ 0 → KeepsBeside s k (places_of u.writes) → KeepsCells (started s r u ends) k
 started_beside s r u ends k d m made h = record {
   sizes = h.sizes;
   free_count = h.free_count;
@@ -271,10 +271,10 @@ planned_kept = record {
 
 -- ---- an opening
 
-module _ (z : Sizes) (q : Slots) (k : Kept) (count a : ℕ) (bytes : List ℕ) (store : IsStoreSlot z a) (now : q a ≡ held_in z (a / 16) bytes) (h : KnowsFirst z q k count) where
+module _ (z : Sizes) (q : Slots) (k : LevelState) (count a : ℕ) (bytes : List ℕ) (store : IsStoreSlot z a) (now : q a ≡ held_in z (a / 16) bytes) (h : KnowsFirst z q k count) where
   -- how many are known then
   known_at : (n : ℕ) → ((i : ℕ) → i < n → i < cell_count z → cell_at z i ≢ a → i < count) → KnowsFirst z q (noted k a bytes) n
-  known_at n more = subst (λ (x : Kept). KnowsFirst z q x n) (sym (noted_as z k a bytes h.sizes store)) (elim (cases_Bool (is_cell_address z a)) [
+  known_at n more = subst (λ (x : LevelState). KnowsFirst z q x n) (sym (noted_as z k a bytes h.sizes store)) (elim (cases_Bool (is_cell_address z a)) [
     | inl y ↦ rw y (of_a_cell y)
     | inr off ↦ rw off (record {
       sizes = h.sizes;

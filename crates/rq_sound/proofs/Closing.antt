@@ -7,7 +7,7 @@ use Rattle.rq_model.specs.declared.record.Deed.TheVariants.{Append, UnlinkHead, 
 use Rattle.rq_model.specs.Commits.{committed_of, ops_told}
 use Rattle.rq_model.specs.Content.{closed, closed_one, said}
 use Rattle.rq_model.specs.Ledger.{any_ends, ended_in}
-use Rattle.rq_model.specs.Words.{In, same_txn}
+use Rattle.rq_model.specs.Vocabulary.{In, same_txn}
 use Rattle.rq_model.proofs.Lists.{same_is, not_same}
 use Rattle.rq_model.proofs.Told.{told_ends}
 use Rattle.rq_views.specs.Chain.{View}

@@ -8,8 +8,8 @@ use Rattle.rq_model.specs.declared.record.Deed.{Deed}
 use Rattle.rq_model.specs.declared.record.Deed.TheVariants.{Append, UnlinkHead, Close}
 use Rattle.rq_model.specs.declared.record.Record.{Record}
 use Rattle.rq_model.specs.declared.record.Record.TheVariants.{Commit as Commit_record}
-use Rattle.rq_model.specs.Words.{In, Op, same_txn, sent_for, taken_from}
-use Rattle.rq_model.specs.Words.Op.{Send, Take, End}
+use Rattle.rq_model.specs.Vocabulary.{In, Op, same_txn, sent_for, taken_from}
+use Rattle.rq_model.specs.Vocabulary.Op.{Send, Take, End}
 use Rattle.rq_model.specs.Counts.{AllBelow}
 use Rattle.rq_model.specs.Ledger.{Done, rest_in, group_in}
 use Rattle.rq_model.specs.Tests.{count_rest, below, is_sent}

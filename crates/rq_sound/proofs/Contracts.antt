@@ -5,7 +5,7 @@ use Rattle.rq_model.specs.declared.record.Deed.{Deed}
 use Rattle.rq_model.specs.declared.record.Deed.TheVariants.{Append, UnlinkHead, Close}
 use Rattle.rq_model.specs.Ledger.{after}
 use Rattle.rq_model.specs.History.{Entry, Job}
-use Rattle.rq_model.specs.Words.{In, front, is_some}
+use Rattle.rq_model.specs.Vocabulary.{In, front, is_some}
 use Rattle.rq_page.specs.Sizes.{IsCellAddress, cell_count, directory_at, sender_count}
 use Rattle.rq_page.specs.Slots.Slot.{Free}
 use Rattle.rq_views.specs.Claims.{takes_of, appends_of}

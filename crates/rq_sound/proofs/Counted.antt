@@ -11,7 +11,7 @@ use Rattle.rq_model.specs.declared.record.Deed.{Deed}
 use Rattle.rq_model.specs.declared.record.Deed.TheVariants.{Append, UnlinkHead, Close}
 use Rattle.rq_model.specs.declared.record.Record.{Record}
 use Rattle.rq_model.specs.declared.record.Record.TheVariants.{AbortEnd}
-use Rattle.rq_model.specs.Words.{In, Op, taken_from}
+use Rattle.rq_model.specs.Vocabulary.{In, Op, taken_from}
 use Rattle.rq_model.specs.Content.{said}
 use Rattle.rq_model.specs.Commits.{op_of}
 use Rattle.rq_model.specs.Deeds.{deed_in, spelled_deed}

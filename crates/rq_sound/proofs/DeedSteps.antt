@@ -16,7 +16,7 @@ use Rattle.rq_model.specs.Ledger.{Done, Open, Ledger, after, change, done_more, 
 use Rattle.rq_model.specs.Legal.{CanStart, IsDoneBy, OnFound, start_of}
 use Rattle.rq_model.specs.Replay.{Reply, Says}
 use Rattle.rq_model.specs.Tests.{Passes, holds_for, log_full, steps_left, free_to_receive}
-use Rattle.rq_model.specs.Words.{Op, In}
+use Rattle.rq_model.specs.Vocabulary.{Op, In}
 use Rattle.rq_model.proofs.Same.{other_same}
 use Rattle.rq_page.specs.Sizes.{directory_at, sender_count}
 use Rattle.rq_views.specs.Committed.{message_of}
@@ -50,7 +50,7 @@ use Rattle.rq_sound.specs.Counted.{CoversAim, IsCovered, takes_in}
 use Rattle.rq_sound.specs.Sound.{IsSound}
 use Rattle.rq_sound.specs.Starts.{MayDo, with_end}
 use Rattle.rq_sound.specs.Calls.{committed, finished, started, IsReady, MayCommit, IsIdle}
-use Rattle.rq_sound.specs.Steps.{Steps}
+use Rattle.rq_sound.specs.ModelSteps.{IsModelStep}
 use Rattle.rq_sound.specs.Theorems.{DeedsAreSteps}
 use Rattle.rq_store.proofs.Opens.{found_open, open_found}
 use Rattle.rq_sound.proofs.Ledgers.{opens_change, opens_without, open_other}
@@ -212,7 +212,7 @@ module _ (s : State) (k : IsSound s) where
     none : left_under r.under ≡ 0
     none = none_to_make s k running r u m.under m.made
 
-    finish : Steps s (Call.Finish r.txn u.number) (gave_done d) (finished s r u d ws)
+    finish : IsModelStep s (Call.Finish r.txn u.number) (gave_done d) (finished s r u d ws)
     finish =
         let e = at_open s k running r m.at_row in
         let opens = opens_change r.txn s.ends s.ends (row_finished f) (done_more (op_done f)) s.rows (λ q i same. done_open s.ends q f (ap (λ (y : Row). left_under y.under) (unique s.rows q r k.standing.distinct i at same) ∙ none)) (λ q i n. refl) in
@@ -253,7 +253,7 @@ module _ (s : State) (k : IsSound s) where
         ∙ ap (λ (n : ℕ). record (after (Entry.Committed r.txn (length s.records + 1)) (ledger_of s)) { records = n; durable = kept_in s.forced (committed_of s.records ++ done ∷ []) }) (one_longer (Commit_record r.txn) s.records)
         ∙ ap (λ (n : ℕ). record (after (Entry.Committed r.txn (length s.records + 1)) (ledger_of s)) { durable = n }) (kept_more s.forced (committed_of s.records) done (let f = k.forced in lt-ltb s.forced (length s.records + 1) (omega (arith, f))))
 
-    commit : Steps s (Call.Commit r.txn) (Reply.Gave_commit (record { txn = r.txn; lsn = length s.records + 1 })) new
+    commit : IsModelStep s (Call.Commit r.txn) (Reply.Gave_commit (record { txn = r.txn; lsn = length s.records + 1 })) new
     commit =
         let h = is_ready s k running r false m.idle m.forward in
         record {
@@ -276,7 +276,7 @@ module _ (s : State) (k : IsSound s) where
     found_now : found r.txn (open_ones_of s.ends s.rows) ≡ Some (open_of s.ends r)
     found_now = found_open s.ends r.txn s.rows ∙ ap (open_found s.ends) m.at_row
 
-    none_from_steps : (g : ℕ) → g < sender_count s.sizes → is_free_for r.txn g s.ends.receiving ≡ true → waits s.waiting g ≡ 0 → Passes (size_of s.sizes) (ledger_of s) (Call.Start_receive_from r.txn g) → Steps s (Call.Start_receive_from r.txn g) Reply.Gave_none s
+    none_from_steps : (g : ℕ) → g < sender_count s.sizes → is_free_for r.txn g s.ends.receiving ≡ true → waits s.waiting g ≡ 0 → Passes (size_of s.sizes) (ledger_of s) (Call.Start_receive_from r.txn g) → IsModelStep s (Call.Start_receive_from r.txn g) Reply.Gave_none s
     none_from_steps g below free none passes = record {
       entry = Entry.None_from r.txn g;
       says = refl;
@@ -287,7 +287,7 @@ module _ (s : State) (k : IsSound s) where
       stays_forced = omega arith;
     }
 
-    none_steps : ((g : ℕ) → g < sender_count s.sizes → is_free_for r.txn g s.ends.receiving ≡ true → waits s.waiting g ≡ 0) → Passes (size_of s.sizes) (ledger_of s) (Call.Start_receive r.txn) → Steps s (Call.Start_receive r.txn) Reply.Gave_none s
+    none_steps : ((g : ℕ) → g < sender_count s.sizes → is_free_for r.txn g s.ends.receiving ≡ true → waits s.waiting g ≡ 0) → Passes (size_of s.sizes) (ledger_of s) (Call.Start_receive r.txn) → IsModelStep s (Call.Start_receive r.txn) Reply.Gave_none s
     none_steps none passes = record {
       entry = Entry.None_free r.txn;
       says = refl;

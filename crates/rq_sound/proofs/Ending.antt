@@ -6,7 +6,7 @@ use Rattle.rq_model.specs.declared.txn.Txn.{Txn}
 use Rattle.rq_model.specs.declared.record.Deed.{Deed}
 use Rattle.rq_model.specs.declared.record.Deed.TheVariants.{Append, UnlinkHead, Close}
 use Rattle.rq_model.specs.declared.record.Record.{Record}
-use Rattle.rq_model.specs.Words.{In, same_txn}
+use Rattle.rq_model.specs.Vocabulary.{In, same_txn}
 use Rattle.rq_model.specs.Deeds.{deed_in, spelled_deed}
 use Rattle.rq_model.specs.Content.{said, deeds, kept, ending_by, removed, added, has_commit}
 use Rattle.rq_model.specs.Rules.{any_use, uses_send, uses_receive, MayEnd, EndingMay}

@@ -3,7 +3,7 @@ use Rattle.std.proofs.Common.{◌≡◌, ◌≢◌, ℕ, ◌&&◌, ◌||◌, Lis
 use Rattle.std.proofs.lemmas.Bool.{cases_Bool, false≢true, false_from_ne_true, and_from, or_left, or_right}
 use Rattle.std.proofs.Math.Bool.{and-false}
 use Rattle.rq_model.specs.declared.txn.Txn.{Txn}
-use Rattle.rq_model.specs.Words.{In, is_some, same_txn, has_number}
+use Rattle.rq_model.specs.Vocabulary.{In, is_some, same_txn, has_number}
 use Rattle.rq_model.specs.Ledger.{Open}
 use Rattle.rq_model.specs.Tests.{free_of, free_to_send, free_to_receive}
 use Rattle.rq_model.proofs.Lists.{same_is, not_same}

@@ -5,7 +5,7 @@ use Rattle.std.proofs.lemmas.Bool.{or_parts, or_from}
 use Rattle.std.proofs.lemmas.List.{length-map}
 use Rattle.std.proofs.lemmas.List.Sums.{sum_by-cons}
 use Rattle.rq_model.specs.Ledger.{Open, own_takes}
-use Rattle.rq_model.specs.Words.{is_some}
+use Rattle.rq_model.specs.Vocabulary.{is_some}
 use Rattle.rq_page.specs.declared.directory.Directory.{Directory}
 use Rattle.rq_page.specs.Sizes.{cell_count, directory_at, sender_count}
 use Rattle.rq_page.specs.Slots.Slot.{Sender}

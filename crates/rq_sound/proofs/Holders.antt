@@ -16,8 +16,8 @@ use Rattle.rq_model.specs.Commits.{committed_of, op_of, ops_told}
 use Rattle.rq_model.specs.Content.{Said, added, added_one, deeds, removed, removed_one, said}
 use Rattle.rq_model.specs.Ledger.{rest_in}
 use Rattle.rq_model.specs.Rules.{any_use, uses_send, uses_receive}
-use Rattle.rq_model.specs.Words.{In, Op, same_txn, sent_for, taken_from}
-use Rattle.rq_model.specs.Words.Op.{Take}
+use Rattle.rq_model.specs.Vocabulary.{In, Op, same_txn, sent_for, taken_from}
+use Rattle.rq_model.specs.Vocabulary.Op.{Take}
 use Rattle.rq_model.proofs.Lists.{same_self}
 use Rattle.rq_model.proofs.Told.{told_taken, told_sent}
 use Rattle.rq_page.specs.declared.cell.Cell.{Cell}

@@ -6,7 +6,7 @@ use Rattle.std.proofs.lemmas.List.{length-append}
 use Rattle.std.proofs.lemmas.List.Sums.{sum_by_push}
 use Rattle.rq_model.specs.declared.record.Deed.{Deed}
 use Rattle.rq_model.specs.declared.record.Deed.TheVariants.{Append, UnlinkHead, Close}
-use Rattle.rq_model.specs.Words.{In}
+use Rattle.rq_model.specs.Vocabulary.{In}
 use Rattle.rq_page.specs.Sizes.{cell_count, sender_count}
 use Rattle.rq_views.specs.Chain.{View}
 use Rattle.rq_views.specs.Claims.{takes_of}

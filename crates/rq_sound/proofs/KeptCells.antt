@@ -3,13 +3,13 @@ use Rattle.std.proofs.Common.{set, ◌≡◌, ◌≢◌, ℕ, ◌/◌, ◌%◌, 
 use Rattle.std.proofs.lemmas.Bool.{and_from, cases_Bool, lt-ltb, or_cases, or_left, or_right, true≢false}
 use Rattle.std.proofs.lemmas.List.{get_or-set_other, get_or-set_same}
 use Rattle.rq_model.specs.declared.txn.Txn.{Txn}
-use Rattle.rq_model.specs.Words.{In, same_txn}
+use Rattle.rq_model.specs.Vocabulary.{In, same_txn}
 use Rattle.rq_model.proofs.Lists.{same_is}
 use Rattle.rq_page.specs.Sizes.{Sizes, IsCellAddress, cell_at, cell_count, page_count, place_of}
 use Rattle.rq_page.specs.Slots.{held_for, held_in}
 use Rattle.rq_page.proofs.Addresses.{cells_have_places, kind_cells}
 use Rattle.rq_views.specs.Stored.{is_used}
-use Rattle.rq_level.specs.Kept.{Kept, flag_at, is_cell_address, is_free_slot}
+use Rattle.rq_level.specs.LevelState.{LevelState, flag_at, is_cell_address, is_free_slot}
 use Rattle.rq_groups.specs.Ends.{HeldEnds}
 use Rattle.rq_txn.specs.Rows.{AreDistinct, Row, Under, change_row, change_row_one, found_row, row_started}
 use Rattle.rq_store.specs.State.{State}
@@ -71,6 +71,6 @@ module _ (s : State) (k : AreDistinct s.rows) (r : Row) (m : IsIdle s r) (u : Un
     ]
 
 -- a chosen cell is given back: its slot is noted as it is
-module _ (s : State) (c : Kept) (a : ℕ) (present : List ℕ) (cell : IsCellAddress s.sizes a) (now : slots_now s a ≡ held_in s.sizes (a / 16) present) (h : KeepsCells s c) where
+module _ (s : State) (c : LevelState) (a : ℕ) (present : List ℕ) (cell : IsCellAddress s.sizes a) (now : slots_now s a ≡ held_in s.sizes (a / 16) present) (h : KeepsCells s c) where
   abbrev p : ℕ
   p = place_of s.sizes a

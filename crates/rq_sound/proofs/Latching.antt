@@ -10,7 +10,7 @@ use Rattle.rq_model.specs.History.Job.{Sending, Taking, Ending}
 use Rattle.rq_model.specs.Ledger.{Open, found}
 use Rattle.rq_model.specs.Legal.{OnFound}
 use Rattle.rq_model.specs.Tests.{Passes, any_gives, below, gives, is_busy, newest, starts}
-use Rattle.rq_model.specs.Words.{is_some, last, last_or}
+use Rattle.rq_model.specs.Vocabulary.{is_some, last, last_or}
 use Rattle.rq_page.specs.declared.cell.Cell.{Cell}
 use Rattle.rq_page.specs.declared.directory.Directory.{Directory}
 use Rattle.rq_page.specs.Sizes.{Sizes, IsCellAddress, cell_at, cell_count, directory_at, place_of, sender_count}

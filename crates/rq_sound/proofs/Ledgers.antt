@@ -5,7 +5,7 @@ use Rattle.std.proofs.lemmas.List.{map-append}
 use Rattle.rq_model.specs.declared.txn.Txn.{Txn}
 use Rattle.rq_model.specs.declared.record.Record.TheVariants.{AbortEnd}
 use Rattle.rq_model.proofs.Lists.{same_is, not_same}
-use Rattle.rq_model.specs.Words.{In, Op, same_txn, front}
+use Rattle.rq_model.specs.Vocabulary.{In, Op, same_txn, front}
 use Rattle.rq_model.specs.Ledger.{Open, change, without, after, undone}
 use Rattle.rq_model.specs.History.Entry.{Undid, Aborting, Aborted}
 use Rattle.rq_model.proofs.Same.{other_same}

@@ -5,7 +5,7 @@ use Rattle.std.proofs.lemmas.List.{reverse-append}
 use Rattle.rq_model.specs.declared.refusal.Refusal.{Refusal}
 use Rattle.rq_model.specs.declared.refusal.Refusal.TheVariants as why
 use Rattle.rq_model.specs.declared.record.Deed.TheVariants.{UnlinkHead}
-use Rattle.rq_model.specs.Words.{has_number}
+use Rattle.rq_model.specs.Vocabulary.{has_number}
 use Rattle.rq_page.specs.declared.cell.Cell.{Cell}
 use Rattle.rq_page.specs.Sizes.{IsCellAddress, cell_at, cell_count, directory_at, place_of}
 use Rattle.rq_page.specs.declared.cell.CellSlot.{CellSlot}
@@ -23,7 +23,7 @@ use Rattle.rq_level.specs.declared.writes.Plan.{Plan}
 use Rattle.rq_level.specs.declared.writes.SlotWrite.{SlotWrite}
 use Rattle.rq_level.specs.ChainPlans.{Beside, IsMarked, RefusesOther, RefusesTaking}
 use Rattle.rq_level.specs.Given.{has_page}
-use Rattle.rq_level.specs.Kept.{Kept, IsLowest, NoneToTake, SomeFree, flag_at}
+use Rattle.rq_level.specs.LevelState.{LevelState, IsLowest, NoneToTake, SomeFree, flag_at}
 use Rattle.rq_level.specs.Writes.{writes_of}
 use Rattle.rq_store.specs.Fitting.{left_by}
 use Rattle.rq_store.specs.Plans.{Stands_at}
@@ -73,7 +73,7 @@ cell_unused s a cell n =
     here ∙ unused_free (cell_slot_in (slot_at s.images a)) (ap is_used (sym here) ∙ n)
 
 -- the cell that the level takes is free, on a page that nobody has latched
-pub lowest_is : (s : State) (k : Kept) (latched : List ℕ) (a : ℕ) → KeepsCells s k → AreLatched s latched → IsLowest s.sizes k latched a → IsCellAddress s.sizes a × (slots_now s a ≡ Free) × (latched_in s.rows (a / 16) ≡ false)
+pub lowest_is : (s : State) (k : LevelState) (latched : List ℕ) (a : ℕ) → KeepsCells s k → AreLatched s latched → IsLowest s.sizes k latched a → IsCellAddress s.sizes a × (slots_now s a ≡ Free) × (latched_in s.rows (a / 16) ≡ false)
 lowest_is s k latched a c on h =
     let at = h.at in
     let one = and_parts (flag_at k.free h.place) (not (flag_at k.reserved h.place) && not (has_page (cell_at s.sizes h.place / 16) latched)) h.may in
@@ -108,7 +108,7 @@ writes_latched (r ∷ rows) a h = elim (or_cases (to_write_under r.under a) (to_
 ]
 
 -- where it finds none to take, each free cell is on a latched page
-pub none_takes : (s : State) (k : Kept) (latched : List ℕ) → KeepsCells s k → AreLatched s latched → NoneToTake s.sizes k latched → AllFreeLatched s
+pub none_takes : (s : State) (k : LevelState) (latched : List ℕ) → KeepsCells s k → AreLatched s latched → NoneToTake s.sizes k latched → AllFreeLatched s
 none_takes s k latched c on none a cell free =
     let i = places_are_cells s.sizes a cell in
     let place = place_of s.sizes a in
@@ -121,17 +121,17 @@ none_takes s k latched c on none a cell free =
       ]
     ]
 
-free_known : (s : State) (k : Kept) (a : ℕ) → IsSound s → KeepsCells s k → IsCellAddress s.sizes a → (left_by s.sizes s.records).slots a ≡ Free → SomeFree s.sizes k
+free_known : (s : State) (k : LevelState) (a : ℕ) → IsSound s → KeepsCells s k → IsCellAddress s.sizes a → (left_by s.sizes s.records).slots a ≡ Free → SomeFree s.sizes k
 free_known s k a sound c cell free =
     let i = places_are_cells s.sizes a cell in
     let here : slots_now s a ≡ Free = sound.pages a ∙ free in
     (place_of s.sizes a, i.0, c.free (place_of s.sizes a) i.0 ∙ ap (λ n. not (is_used (slots_now s n))) i.1 ∙ ap (λ x. not (is_used x)) here)
 
-some_known : (s : State) (k : Kept) → IsSound s → KeepsCells s k → s.cells_in_use < cell_count s.sizes → SomeFree s.sizes k
+some_known : (s : State) (k : LevelState) → IsSound s → KeepsCells s k → s.cells_in_use < cell_count s.sizes → SomeFree s.sizes k
 some_known s k sound c less = let a = planned.send_finds s sound less in free_known s k a.0 sound c a.1 a.2
 
 -- why a level refuses an operation that takes a cell, where the slots hold what it needs
-refuses_taking : (s : State) (k : Kept) (latched : List ℕ) (Can : Type 0) (r : Refusal) → KeepsCells s k → AreLatched s latched → SomeFree s.sizes k → Can → RefusesTaking s.sizes k latched Can r → IsForLatches s r
+refuses_taking : (s : State) (k : LevelState) (latched : List ℕ) (Can : Type 0) (r : Refusal) → KeepsCells s k → AreLatched s latched → SomeFree s.sizes k → Can → RefusesTaking s.sizes k latched Can r → IsForLatches s r
 refuses_taking s k latched Can why.NoMemory c on some can h = tt
 refuses_taking s k latched Can why.Latched c on some can h = none_takes s k latched c on h.0
 refuses_taking s k latched Can (why.Damaged d) c on some can h = true≢false (sym some.2 ∙ h can some.0 some.1)

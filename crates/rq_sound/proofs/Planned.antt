@@ -10,7 +10,7 @@ use Rattle.rq_model.specs.Deeds.{spelled_deed, deed_in}
 use Rattle.rq_model.specs.Ledger.{Open, ended_in, found}
 use Rattle.rq_model.specs.Legal.{start_of}
 use Rattle.rq_model.specs.Tests.{Passes, cells_in_use, has_closed, is_aborting}
-use Rattle.rq_model.specs.Words.{In}
+use Rattle.rq_model.specs.Vocabulary.{In}
 use Rattle.rq_page.specs.declared.directory.Directory.{Directory}
 use Rattle.rq_page.specs.Sizes.{Sizes, cell_count, directory_at, sender_count}
 use Rattle.rq_page.specs.Slots.Slot.{Free, Sender}

@@ -7,7 +7,7 @@ use Rattle.rq_model.specs.History.{Entry}
 use Rattle.rq_model.specs.Ledger.{Open, ended_in, found, runs}
 use Rattle.rq_model.specs.Commits.{committed_of}
 use Rattle.rq_model.specs.Tests.{has_closed, has_done, has_under, is_busy, newest}
-use Rattle.rq_model.specs.Words.{first, is_some, last, last_or}
+use Rattle.rq_model.specs.Vocabulary.{first, is_some, last, last_or}
 use Rattle.rq_page.specs.declared.directory.Directory.{Directory}
 use Rattle.rq_page.specs.Sizes.{directory_at, sender_count}
 use Rattle.rq_page.specs.Slots.Slot.{Sender}

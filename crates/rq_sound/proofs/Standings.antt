@@ -5,7 +5,7 @@ use Rattle.std.proofs.lemmas.Option.{same_Some}
 use Rattle.rq_model.specs.declared.txn.Txn.{Txn}
 use Rattle.rq_model.specs.declared.record.Deed.{Deed}
 use Rattle.rq_model.specs.declared.record.Record.{Record}
-use Rattle.rq_model.specs.Words.{In, same_txn, is_some}
+use Rattle.rq_model.specs.Vocabulary.{In, same_txn, is_some}
 use Rattle.rq_model.proofs.Lists.{same_is, not_same}
 use Rattle.rq_page.specs.Sizes.{Sizes, directory_at}
 use Rattle.rq_views.specs.Log.{Untouched}

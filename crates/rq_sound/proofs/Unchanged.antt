@@ -11,11 +11,11 @@ use Rattle.rq_page.specs.Sizes.{sender_count}
 use Rattle.rq_store.specs.State.{phase_of, size_of, State, ledger_of}
 use Rattle.rq_store.proofs.Opens.{busy_is}
 use Rattle.rq_sound.specs.Sound.{IsSound}
-use Rattle.rq_sound.specs.Steps.{Steps}
+use Rattle.rq_sound.specs.ModelSteps.{IsModelStep}
 use Rattle.rq_sound.specs.Unchanged.{UnchangedAreSteps}
 
 -- a call whose entry leaves the ledger
-stays : (s : State) (c : Call) (gave : Reply) (e : Entry) → IsSound s → Says c gave e → Legal (size_of s.sizes) (ledger_of s) e → ledger_of s ≡ after e (ledger_of s) → Steps s c gave s
+stays : (s : State) (c : Call) (gave : Reply) (e : Entry) → IsSound s → Says c gave e → Legal (size_of s.sizes) (ledger_of s) e → ledger_of s ≡ after e (ledger_of s) → IsModelStep s c gave s
 stays s c gave e k says legal same = record { entry = e; says = says; legal = legal; after = same; sound = k; goes_on = (0, refl); stays_forced = omega arith }
 
 runs_now : (s : State) → s.failed ≡ false → not (runs (phase_of s.failed)) ≡ false

@@ -7,7 +7,7 @@ use Rattle.std.proofs.lemmas.List.Sums.{sum_by-cons}
 use Rattle.rq_model.specs.declared.txn.Txn.{Txn}
 use Rattle.rq_model.specs.declared.record.Deed.{Deed}
 use Rattle.rq_model.specs.declared.record.Deed.TheVariants.{Append, UnlinkHead, Close}
-use Rattle.rq_model.specs.Words.{In, Op, same_txn, has_txn, sent_for, taken_from, last, last_or}
+use Rattle.rq_model.specs.Vocabulary.{In, Op, same_txn, has_txn, sent_for, taken_from, last, last_or}
 use Rattle.rq_model.specs.Ledger.{Open, Ledger, in_chain, own_sends, own_takes, undo_writes, started, writes, after, found, ops_of}
 use Rattle.rq_model.specs.Content.{said, added, removed}
 use Rattle.rq_model.specs.Commits.{op_of, ops_told}

@@ -4,7 +4,7 @@ use Rattle.std.proofs.lemmas.Bool.{cond-true, true≢false, false≢true, or_fro
 use Rattle.rq_model.specs.declared.txn.Txn.{Txn}
 use Rattle.rq_model.specs.declared.record.Deed.{Deed}
 use Rattle.rq_model.specs.declared.record.Record.{Record}
-use Rattle.rq_model.specs.Words.{In, same_txn}
+use Rattle.rq_model.specs.Vocabulary.{In, same_txn}
 use Rattle.rq_model.proofs.Lists.{same_self}
 use Rattle.rq_page.specs.Sizes.{Sizes}
 use Rattle.rq_views.specs.Items.{items, layout_of, operation}

@@ -1,7 +1,7 @@
 -- What no sound store has.
 use Rattle.std.proofs.Common.{◌≡◌, ◌++◌, List, [], ◌∷◌, refl, sym, ◌∙◌, ap, subst, Some, None, arith}
 use Rattle.std.proofs.lemmas.Bool.{true≢false}
-use Rattle.rq_model.specs.Words.{In}
+use Rattle.rq_model.specs.Vocabulary.{In}
 use Rattle.rq_model.proofs.Lists.{same_self}
 use Rattle.rq_views.specs.WorkedItems.{sizes, sends}
 use Rattle.rq_txn.specs.declared.Finished.{Finished}

@@ -5,7 +5,7 @@ use Rattle.rq_model.specs.declared.txn.Txn.{Txn}
 use Rattle.rq_model.specs.declared.message.Message.{Message}
 use Rattle.rq_model.specs.declared.record.Deed.{Deed}
 use Rattle.rq_model.specs.declared.record.Record.TheVariants.{Commit, AbortEnd}
-use Rattle.rq_model.specs.Words.{front, sent_for}
+use Rattle.rq_model.specs.Vocabulary.{front, sent_for}
 use Rattle.rq_model.specs.Content.{tag_after}
 use Rattle.rq_page.specs.Sizes.{page_count, sender_count}
 use Rattle.rq_page.specs.Slots.{IsSlotOf, held_in}

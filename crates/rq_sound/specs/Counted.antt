@@ -2,7 +2,7 @@
 use Rattle.std.specs.Prelude.{◌≡◌, ℕ, ◌+◌, ◌<◌, ◌≤◌, cond, List, [], length, map, take, Option, Some, None}
 use Rattle.std.specs.List.{sum_by, filter_map}
 use Rattle.rq_model.specs.declared.record.Record.{Record}
-use Rattle.rq_model.specs.Words.{In, sent_for, taken_from}
+use Rattle.rq_model.specs.Vocabulary.{In, sent_for, taken_from}
 use Rattle.rq_model.specs.Ledger.{rest_in}
 use Rattle.rq_model.specs.Commits.{committed_of}
 use Rattle.rq_model.specs.Tests.{count_rest, below}

@@ -6,7 +6,7 @@ use Rattle.rq_model.specs.declared.message.Message.{Message}
 use Rattle.rq_model.specs.declared.txn.Txn.{Txn}
 use Rattle.rq_model.specs.Commits.{committed_of}
 use Rattle.rq_model.specs.Ledger.{rest_in}
-use Rattle.rq_model.specs.Words.{In, Op, sent_for, taken_from}
+use Rattle.rq_model.specs.Vocabulary.{In, Op, sent_for, taken_from}
 use Rattle.rq_page.specs.declared.cell.Cell.{Cell}
 use Rattle.rq_page.specs.Sizes.{directory_at, sender_count}
 use Rattle.rq_page.specs.Slots.{Slot}

@@ -5,7 +5,7 @@ use Rattle.rq_model.specs.History.{Call}
 use Rattle.rq_model.specs.History.Job.{Sending, Taking, Ending}
 use Rattle.rq_model.specs.Legal.{OnFound}
 use Rattle.rq_model.specs.Tests.{Passes, starts}
-use Rattle.rq_model.specs.Words.{last}
+use Rattle.rq_model.specs.Vocabulary.{last}
 use Rattle.rq_page.specs.Sizes.{IsCellAddress, directory_at}
 use Rattle.rq_page.specs.Slots.{Slot}
 use Rattle.rq_page.specs.Slots.Slot.{Free, Used, Sender}

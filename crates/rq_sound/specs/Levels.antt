@@ -3,7 +3,7 @@ use Rattle.std.specs.Prelude.{◌++◌, Bool, ◌||◌, [], ◌∷◌, length, m
 use Rattle.rq_model.specs.declared.refusal.Refusal.{Refusal}
 use Rattle.rq_model.specs.declared.refusal.Refusal.TheVariants as why
 use Rattle.rq_model.specs.declared.record.Deed.TheVariants.{Append, UnlinkHead, Close}
-use Rattle.rq_model.specs.Words.{has_number}
+use Rattle.rq_model.specs.Vocabulary.{has_number}
 use Rattle.rq_page.specs.Sizes.{Sizes, IsCellAddress, cell_at, cell_count}
 use Rattle.rq_page.specs.Slots.{Slot}
 use Rattle.rq_page.specs.Slots.Slot.{Free}
@@ -14,7 +14,7 @@ use Rattle.rq_level.specs.declared.slots.Given.{Given}
 use Rattle.rq_level.specs.declared.writes.Plan.{Plan}
 use Rattle.rq_level.specs.ChainPlans.{CanMark, CanPutBack, CanReceive, CanSend, CanUnlinkTail, RefusesOther, RefusesTaking, IsSent, IsReceived, IsClosed, IsTailUnlinked, IsReturned, IsReopened}
 use Rattle.rq_level.specs.Given.{GivenHolds, has_page}
-use Rattle.rq_level.specs.Kept.{Kept, IsLowest, NoneToTake, SomeFree, flag_at}
+use Rattle.rq_level.specs.LevelState.{LevelState, IsLowest, NoneToTake, SomeFree, flag_at}
 use Rattle.rq_txn.specs.declared.Finished.{Finished}
 use Rattle.rq_txn.specs.Rows.{Row, Under, latched_in}
 use Rattle.rq_store.specs.State.{State}
@@ -40,7 +40,7 @@ to_write (r ∷ rows) a = to_write_under r.under a || to_write rows a
 
 -- the level knows a cell as free where its slot is, and those as chosen alone that an operation under way has yet to
 -- write; it has room for more cells than the store has
-pub record KeepsCells (s : State) (k : Kept) : Type 0 where
+pub record KeepsCells (s : State) (k : LevelState) : Type 0 where
   pub sizes : k.sizes ≡ Some s.sizes
   pub free_count : cell_count s.sizes ≤ length k.free
   pub chosen_count : cell_count s.sizes ≤ length k.reserved
@@ -61,29 +61,29 @@ MayFollow s p turn = IsPlannedFrom s.sizes (slots_now s) p.writes.items turn × 
 -- store is sound or not. Where it finds none to take each free cell is on a latched page; and where a sound store is not
 -- full it knows some cell as free.
 pub record LevelsPlanFromSlots : Type 0 where
-  pub lowest : (s : State) (k : Kept) (latched : List ℕ) (a : ℕ) → KeepsCells s k → AreLatched s latched
+  pub lowest : (s : State) (k : LevelState) (latched : List ℕ) (a : ℕ) → KeepsCells s k → AreLatched s latched
       → IsLowest s.sizes k latched a
       → IsCellAddress s.sizes a × (slots_now s a ≡ Free) × (latched_in s.rows (a / 16) ≡ false)
-  pub none_to_take : (s : State) (k : Kept) (latched : List ℕ) → KeepsCells s k → AreLatched s latched
+  pub none_to_take : (s : State) (k : LevelState) (latched : List ℕ) → KeepsCells s k → AreLatched s latched
       → NoneToTake s.sizes k latched → AllFreeLatched s
-  pub some_free : (s : State) (k : Kept) → IsSound s → KeepsCells s k → s.cells_in_use < cell_count s.sizes
+  pub some_free : (s : State) (k : LevelState) → IsSound s → KeepsCells s k → s.cells_in_use < cell_count s.sizes
       → SomeFree s.sizes k
-  pub sent : (s : State) (k : Kept) (given : List Given) (latched : List ℕ) (g tag : ℕ) (body : List ℕ) (p : Plan)
-      (after : Kept) → IsGathered s given → KeepsCells s k → AreLatched s latched
+  pub sent : (s : State) (k : LevelState) (given : List Given) (latched : List ℕ) (g tag : ℕ) (body : List ℕ) (p : Plan)
+      (after : LevelState) → IsGathered s given → KeepsCells s k → AreLatched s latched
       → (m : IsSent s.sizes k given latched g tag body p after)
       → MayFollow s p (Did (Append g (m.can.directory.sent + 1) tag m.can.directory.last_tag body))
-  pub received : (s : State) (k : Kept) (given : List Given) (g : ℕ) (p : Plan) (after : Kept)
+  pub received : (s : State) (k : LevelState) (given : List Given) (g : ℕ) (p : Plan) (after : LevelState)
       → IsGathered s given → (m : IsReceived s.sizes k given g p after)
       → MayFollow s p (Did (UnlinkHead g (m.can.directory.received + 1) m.can.cell.tag m.can.cell.body))
-  pub closed : (s : State) (k : Kept) (given : List Given) (g : ℕ) (p : Plan) (after : Kept)
+  pub closed : (s : State) (k : LevelState) (given : List Given) (g : ℕ) (p : Plan) (after : LevelState)
       → IsGathered s given → IsClosed s.sizes k given g p after → MayFollow s p (Did (Close g))
-  pub unsent : (s : State) (k : Kept) (given : List Given) (g n tag previous : ℕ) (body : List ℕ) (p : Plan)
-      (after : Kept) → IsGathered s given → IsTailUnlinked s.sizes k given g n previous p after
+  pub unsent : (s : State) (k : LevelState) (given : List Given) (g n tag previous : ℕ) (body : List ℕ) (p : Plan)
+      (after : LevelState) → IsGathered s given → IsTailUnlinked s.sizes k given g n previous p after
       → MayFollow s p (Undid (Append g n tag previous body))
-  pub returned : (s : State) (k : Kept) (given : List Given) (latched : List ℕ) (g n tag : ℕ) (body : List ℕ)
-      (p : Plan) (after : Kept) → IsGathered s given → KeepsCells s k → AreLatched s latched
+  pub returned : (s : State) (k : LevelState) (given : List Given) (latched : List ℕ) (g n tag : ℕ) (body : List ℕ)
+      (p : Plan) (after : LevelState) → IsGathered s given → KeepsCells s k → AreLatched s latched
       → IsReturned s.sizes k given latched g n tag body p after → MayFollow s p (Undid (UnlinkHead g n tag body))
-  pub reopened : (s : State) (k : Kept) (given : List Given) (g : ℕ) (p : Plan) (after : Kept)
+  pub reopened : (s : State) (k : LevelState) (given : List Given) (g : ℕ) (p : Plan) (after : LevelState)
       → IsGathered s given → IsReopened s.sizes k given g p after → MayFollow s p (Undid (Close g))
 
 -- want of memory; or each free cell is on a latched page
@@ -96,10 +96,10 @@ IsForLatches s _ = ⊥
 -- latched, where it takes a cell and each free one is on a latched page. A send finds a free cell where the store is
 -- not full, and the inverse of a receive always.
 pub record LevelsRefuseExactly : Type 0 where
-  pub sends : (s : State) (k : Kept) (given : List Given) (latched : List ℕ) (g : ℕ) (r : Refusal) → IsSound s
+  pub sends : (s : State) (k : LevelState) (given : List Given) (latched : List ℕ) (g : ℕ) (r : Refusal) → IsSound s
       → KeepsCells s k → AreLatched s latched → s.cells_in_use < cell_count s.sizes → CanSend s.sizes given g
       → RefusesTaking s.sizes k latched (CanSend s.sizes given g) r → IsForLatches s r
-  pub returns : (s : State) (k : Kept) (given : List Given) (latched : List ℕ) (row : Row) (rest : List Finished)
+  pub returns : (s : State) (k : LevelState) (given : List Given) (latched : List ℕ) (row : Row) (rest : List Finished)
       (lsn g n tag : ℕ) (body : List ℕ) (r : Refusal) → IsSound s → KeepsCells s k → AreLatched s latched
       → IsIdle s row → row.finished ≡ rest ++ record { lsn = lsn; deed = UnlinkHead g n tag body } ∷ []
       → CanPutBack s.sizes given g n → RefusesTaking s.sizes k latched (CanPutBack s.sizes given g n) r

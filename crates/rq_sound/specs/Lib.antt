@@ -4,7 +4,7 @@ pub mod Counted
 pub mod Sound
 pub mod Starts
 pub mod Calls
-pub mod Steps
+pub mod ModelSteps
 pub mod Theorems
 pub mod Course
 pub mod Worked

@@ -11,7 +11,7 @@ use Rattle.rq_model.specs.Ledger.{after, ended_in, found}
 use Rattle.rq_model.specs.Legal.{LegalRefusal}
 use Rattle.rq_model.specs.Replay.{Reply}
 use Rattle.rq_model.specs.Tests.{any_busy, has_closed, has_done, has_under, is_busy, newest, owed}
-use Rattle.rq_model.specs.Words.{first, is_some, last}
+use Rattle.rq_model.specs.Vocabulary.{first, is_some, last}
 use Rattle.rq_page.specs.declared.directory.Directory.{Directory}
 use Rattle.rq_page.specs.Sizes.{directory_at, sender_count}
 use Rattle.rq_page.specs.Slots.Slot.{Sender}
@@ -20,7 +20,7 @@ use Rattle.rq_store.specs.State.{size_of, op_done, State, ledger_of, open_of, ow
 use Rattle.rq_txn.specs.Rows.{Row, found_row, any_under}
 use Rattle.rq_store.specs.Rows.{is_under}
 use Rattle.rq_sound.specs.Sound.{IsSound}
-use Rattle.rq_sound.specs.Steps.{Steps}
+use Rattle.rq_sound.specs.ModelSteps.{IsModelStep}
 use Rattle.rq_sound.specs.Calls.{failed, IsIdle}
 use Rattle.rq_sound.specs.Groups.{slots_now}
 
@@ -28,9 +28,9 @@ use Rattle.rq_sound.specs.Groups.{slots_now}
 -- the store.
 pub record RefusalsAreSteps : Type 0 where
   pub refused : (s : State) (c : Call) (r : Refusal) → IsSound s → LegalRefusal (size_of s.sizes) (ledger_of s) c r
-      → after (Entry.Refused c r) (ledger_of s) ≡ ledger_of s → Steps s c (Reply.Gave_refusal r) s
+      → after (Entry.Refused c r) (ledger_of s) ≡ ledger_of s → IsModelStep s c (Reply.Gave_refusal r) s
   pub fails : (s : State) (c : Call) → IsSound s → s.failed ≡ false
-      → Steps s c (Reply.Gave_refusal DiskWrite) (failed s)
+      → IsModelStep s c (Reply.Gave_refusal DiskWrite) (failed s)
 
 -- what the model's tests read of a ledger, by the rows
 pub record TestsReadRows : Type 0 where

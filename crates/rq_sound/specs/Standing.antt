@@ -2,7 +2,7 @@
 use Rattle.std.specs.Prelude.{◌≡◌, ◌≢◌, ℕ, ◌+◌, ◌<◌, ◌≤◌, true, false, List, [], ◌∷◌, ◌++◌, length, take, drop, reverse, Option, Some, None}
 use Rattle.rq_model.specs.declared.txn.Txn.{Txn}
 use Rattle.rq_model.specs.declared.record.Record.{Record}
-use Rattle.rq_model.specs.Words.{In, same_txn}
+use Rattle.rq_model.specs.Vocabulary.{In, same_txn}
 use Rattle.rq_model.specs.Deeds.{spelled_deed, deed_in}
 use Rattle.rq_model.specs.Content.{has_end, deeds}
 use Rattle.rq_model.specs.Rules.{any_use, uses_send, uses_receive}

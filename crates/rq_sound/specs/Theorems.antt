@@ -14,7 +14,7 @@ use Rattle.rq_model.specs.Tests.{Passes, cells_in_use, has_closed, log_full, und
 use Rattle.rq_model.specs.Legal.{start_of}
 use Rattle.rq_model.specs.Replay.{Reply}
 use Rattle.rq_model.specs.Unended.{unfinished, lost}
-use Rattle.rq_model.specs.Words.{In}
+use Rattle.rq_model.specs.Vocabulary.{In}
 use Rattle.rq_page.specs.Sizes.{Sizes, IsInRange, IsCellAddress, cell_count, directory_at, sender_count}
 use Rattle.rq_page.specs.Slots.Slot.{Free}
 use Rattle.rq_views.specs.Claims.{takes_of, takes_placed}
@@ -40,7 +40,7 @@ use Rattle.rq_txn.specs.declared.Aim.TheVariants as aims
 use Rattle.rq_sound.specs.Counted.{takes_in}
 use Rattle.rq_sound.specs.Sound.{IsSound}
 use Rattle.rq_sound.specs.Starts.{MayDo, MayUndo, with_end}
-use Rattle.rq_sound.specs.Steps.{Steps}
+use Rattle.rq_sound.specs.ModelSteps.{IsModelStep}
 use Rattle.rq_sound.specs.Calls.{next_txn, begun, started, stepped, IsNextWrite, finished, undone, IsReady, IsIdle, committed, MayCommit, aborting, aborted, forced, failed}
 
 -- each call keeps a store sound
@@ -108,56 +108,56 @@ pub record TestsAreAnswered : Type 0 where
 pub record AbortsAreSteps : Type 0 where
   pub begins : (s : State) → IsSound s → s.failed ≡ false
       → (not (nat_lt (length s.rows) 4096) || nat_eq s.begins (2 ^ 64 - 1)) ≡ false
-      → Steps s Call.Begin (Reply.Gave_txn (next_txn s)) (begun s)
+      → IsModelStep s Call.Begin (Reply.Gave_txn (next_txn s)) (begun s)
   pub starts_abort : (s : State) (r : Row) → IsSound s → s.failed ≡ false → IsIdle s r → r.aborting ≡ false
-      → Steps s (Call.Start_abort r.txn) Reply.Gave_aborting (aborting s r)
+      → IsModelStep s (Call.Start_abort r.txn) Reply.Gave_aborting (aborting s r)
   pub starts_inverse : (s : State) (r : Row) (u : Under) (rest : List Finished) (f : Finished) → IsSound s
       → s.failed ≡ false → MayUndo s r u rest f
       → log_full (ledger_of s) (undo_cost (Some (op_done f))) ≡ false
-      → Steps s (Call.Undo_next r.txn) (Reply.Gave_sub r.txn (r.number + 1)) (started s r u s.ends)
+      → IsModelStep s (Call.Undo_next r.txn) (Reply.Gave_sub r.txn (r.number + 1)) (started s r u s.ends)
   pub steps : (s : State) (r : Row) (u : Under) (w : SlotWrite) (images : List (List ℕ)) → IsSound s
       → s.failed ≡ false → IsNextWrite s r u w images
-      → Steps s (Call.Step r.txn u.number) (Reply.Gave_lsn (length s.records + 1)) (stepped s r u w images)
+      → IsModelStep s (Call.Step r.txn u.number) (Reply.Gave_lsn (length s.records + 1)) (stepped s r u w images)
   pub all_made : (s : State) (r : Row) (u : Under) (aim : Aim) → IsSound s → s.failed ≡ false → IsReady s r u aim
-      → Steps s (Call.Step r.txn u.number) Reply.Gave_ready s
+      → IsModelStep s (Call.Step r.txn u.number) Reply.Gave_ready s
   pub undoes : (s : State) (r : Row) (u : Under) (lsn : ℕ) (d : Deed) (waiting : List ℕ) → IsSound s
       → s.failed ≡ false → IsReady s r u (aims.Undoing lsn d)
       → ((g : ℕ) → waits waiting g ≡ waits s.waiting g + took g d)
-      → Steps s (Call.Finish r.txn u.number) Reply.Gave_undone (undone s r u lsn d waiting)
+      → IsModelStep s (Call.Finish r.txn u.number) Reply.Gave_undone (undone s r u lsn d waiting)
   pub none_left : (s : State) (r : Row) → IsSound s → s.failed ≡ false → IsIdle s r → r.aborting ≡ true
-      → r.finished ≡ [] → Steps s (Call.Undo_next r.txn) Reply.Gave_nothing_left s
+      → r.finished ≡ [] → IsModelStep s (Call.Undo_next r.txn) Reply.Gave_nothing_left s
   pub ends_abort : (s : State) (r : Row) → IsSound s → s.failed ≡ false → IsIdle s r → r.aborting ≡ true
       → r.finished ≡ [] → log_full (ledger_of s) 1 ≡ false
-      → Steps s (Call.End_abort r.txn) Reply.Gave_aborted (aborted s r)
+      → IsModelStep s (Call.End_abort r.txn) Reply.Gave_aborted (aborted s r)
   pub forces : (s : State) → IsSound s → s.failed ≡ false
-      → Steps s Call.Force (Reply.Gave_forced (length s.records)) (forced s)
+      → IsModelStep s Call.Force (Reply.Gave_forced (length s.records)) (forced s)
 
 -- So are deeds and commits: the start of a send, a receive or a close that passes the model's tests, a receive from
 -- whichever sender included; that no message waits; its end; and a commit.
 pub record DeedsAreSteps : Type 0 where
   pub starts : (s : State) (r : Row) (u : Under) (d : Deed) → IsSound s → MayDo s r u d
       → Passes (size_of s.sizes) (ledger_of s) (start_of r.txn (job_of d))
-      → Steps s (start_of r.txn (job_of d)) (Reply.Gave_sub r.txn (r.number + 1))
+      → IsModelStep s (start_of r.txn (job_of d)) (Reply.Gave_sub r.txn (r.number + 1))
       (started s r u (with_end r.txn d s.ends))
   pub receives_any : (s : State) (r : Row) (u : Under) (g sequence tag : ℕ) (body : List ℕ) → IsSound s
       → MayDo s r u (UnlinkHead g sequence tag body)
       → Passes (size_of s.sizes) (ledger_of s) (Call.Start_receive_from r.txn g)
-      → Steps s (Call.Start_receive r.txn) (Reply.Gave_sub r.txn (r.number + 1))
+      → IsModelStep s (Call.Start_receive r.txn) (Reply.Gave_sub r.txn (r.number + 1))
       (started s r u (with_end r.txn (UnlinkHead g sequence tag body) s.ends))
   pub none_from : (s : State) (r : Row) (g : ℕ) → IsSound s → IsIdle s r → g < sender_count s.sizes
       → is_free_for r.txn g s.ends.receiving ≡ true → waits s.waiting g ≡ 0
       → Passes (size_of s.sizes) (ledger_of s) (Call.Start_receive_from r.txn g)
-      → Steps s (Call.Start_receive_from r.txn g) Reply.Gave_none s
+      → IsModelStep s (Call.Start_receive_from r.txn g) Reply.Gave_none s
   pub none : (s : State) (r : Row) → IsSound s → IsIdle s r
       → ((g : ℕ) → g < sender_count s.sizes → is_free_for r.txn g s.ends.receiving ≡ true → waits s.waiting g ≡ 0)
       → Passes (size_of s.sizes) (ledger_of s) (Call.Start_receive r.txn)
-      → Steps s (Call.Start_receive r.txn) Reply.Gave_none s
+      → IsModelStep s (Call.Start_receive r.txn) Reply.Gave_none s
   pub finishes : (s : State) (r : Row) (u : Under) (d : Deed) (waiting : List ℕ) → IsSound s → s.failed ≡ false
       → IsReady s r u (aims.Doing d) → ((g : ℕ) → waits waiting g ≡ waits s.waiting g - took g d)
-      → Steps s (Call.Finish r.txn u.number) (gave_done d) (finished s r u d waiting)
+      → IsModelStep s (Call.Finish r.txn u.number) (gave_done d) (finished s r u d waiting)
   pub commits : (s : State) (r : Row) (cells : ℕ) (waiting : List ℕ) (sent : SentBy) → IsSound s → s.failed ≡ false
       → MayCommit s r cells waiting sent → log_full (ledger_of s) 1 ≡ false
-      → Steps s (Call.Commit r.txn) (Reply.Gave_commit (record { txn = r.txn; lsn = length s.records + 1 }))
+      → IsModelStep s (Call.Commit r.txn) (Reply.Gave_commit (record { txn = r.txn; lsn = length s.records + 1 }))
       (committed s r cells waiting sent)
 
 -- so a store that opens over a log in which everything has ended is sound

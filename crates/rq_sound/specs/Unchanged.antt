@@ -10,20 +10,20 @@ use Rattle.rq_page.specs.Sizes.{sender_count}
 use Rattle.rq_store.specs.State.{State}
 use Rattle.rq_txn.specs.Rows.{any_under}
 use Rattle.rq_sound.specs.Sound.{IsSound}
-use Rattle.rq_sound.specs.Steps.{Steps}
+use Rattle.rq_sound.specs.ModelSteps.{IsModelStep}
 
 -- A hand-over, a page that is written, a receipt exactly for what is forced in this incarnation, what a sender's last
 -- committed send was, and the committed content, where nothing is under way.
 pub record UnchangedAreSteps : Type 0 where
-  pub hands_over : (s : State) → IsSound s → s.failed ≡ false → Steps s Call.Hand_over Reply.Gave_handed_over s
+  pub hands_over : (s : State) → IsSound s → s.failed ≡ false → IsModelStep s Call.Hand_over Reply.Gave_handed_over s
   pub writes : (s : State) (page : ℕ) (done : Bool) → IsSound s → s.failed ≡ false
-      → Steps s (Call.Write_page page) (Reply.Gave_written done) s
+      → IsModelStep s (Call.Write_page page) (Reply.Gave_written done) s
   pub acknowledges : (s : State) (t : Txn) (lsn : ℕ) (given : Bool) → IsSound s → s.failed ≡ false
       → given ≡ (nat_eq t.incarnation s.incarnation && not (nat_lt s.forced lsn))
-      → Steps s (Call.Acknowledge t lsn) (Reply.Gave_receipt (receipt given t lsn)) s
+      → IsModelStep s (Call.Acknowledge t lsn) (Reply.Gave_receipt (receipt given t lsn)) s
   pub tells : (s : State) (g : ℕ) → IsSound s → s.failed ≡ false → g < sender_count s.sizes
-      → Steps s (Call.Last_tag g)
+      → IsModelStep s (Call.Last_tag g)
       (Reply.Gave_tag (length (sent_in (committed_of s.records) g)) (tag_of (sent_in (committed_of s.records) g))) s
   pub shows : (s : State) (groups : List Group) → IsSound s → s.failed ≡ false → any_under s.rows ≡ false
       → groups ≡ map (group_in (committed_of s.records)) (below (sender_count s.sizes))
-      → Steps s Call.Show (Reply.Gave_content groups) s
+      → IsModelStep s Call.Show (Reply.Gave_content groups) s

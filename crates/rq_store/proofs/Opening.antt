@@ -11,7 +11,7 @@ use Rattle.rq_model.specs.declared.txn.Sub.{Sub}
 use Rattle.rq_model.specs.declared.record.Record.{Record}
 use Rattle.rq_model.specs.declared.record.Record.TheVariants as records
 use Rattle.rq_model.specs.declared.record.Deed.{Deed}
-use Rattle.rq_model.specs.Words.{same_txn, has_txn}
+use Rattle.rq_model.specs.Vocabulary.{same_txn, has_txn}
 use Rattle.rq_model.specs.Deeds.{deed_in}
 use Rattle.rq_model.specs.Ledger.{Done, Ledger, after, rest_in, kept_in, sent_in, tag_of}
 use Rattle.rq_model.specs.History.Entry.{Restarted}

@@ -4,7 +4,7 @@ use Rattle.std.specs.List.{sum_by}
 use Rattle.std.proofs.lemmas.Bool.{cases_Bool}
 use Rattle.std.proofs.lemmas.List.Sums.{sum_by-cons}
 use Rattle.rq_model.specs.declared.txn.Txn.{Txn}
-use Rattle.rq_model.specs.Words.{same_txn, is_some}
+use Rattle.rq_model.specs.Vocabulary.{same_txn, is_some}
 use Rattle.rq_model.specs.Ledger.{Open, found}
 use Rattle.rq_model.specs.Tests.{any_busy, owed}
 use Rattle.rq_txn.specs.Rows.{Row, Under, found_row, any_under}

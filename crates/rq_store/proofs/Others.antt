@@ -4,7 +4,7 @@ use Rattle.std.proofs.lemmas.Bool.{cases_Bool, eqb-true}
 use Rattle.std.proofs.Math.Bool.{and-false}
 use Rattle.rq_model.specs.declared.txn.Txn.{Txn}
 use Rattle.rq_model.proofs.Lists.{same_self}
-use Rattle.rq_model.specs.Words.{same_txn, is_some}
+use Rattle.rq_model.specs.Vocabulary.{same_txn, is_some}
 use Rattle.rq_views.specs.Log.{same_op}
 use Rattle.rq_views.specs.Items.{operation}
 use Rattle.rq_txn.specs.Rows.{Under}

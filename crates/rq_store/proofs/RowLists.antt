@@ -3,7 +3,7 @@ use Rattle.std.proofs.Common.{◌≡◌, ◌≢◌, List, [], ◌∷◌, refl, s
 use Rattle.std.proofs.lemmas.Bool.{cases_Bool, true≢false, false≢true, or_left}
 use Rattle.std.proofs.lemmas.Option.{same_Some}
 use Rattle.rq_model.specs.declared.txn.Txn.{Txn}
-use Rattle.rq_model.specs.Words.{In, same_txn, is_some}
+use Rattle.rq_model.specs.Vocabulary.{In, same_txn, is_some}
 use Rattle.rq_model.proofs.Lists.{In-map, In-filter, same_is, same_self, not_same}
 use Rattle.rq_model.proofs.Same.{other_same}
 use Rattle.rq_txn.specs.Rows.{Row, found_row, change_row, change_row_one, without_row, AreDistinct, any_under}

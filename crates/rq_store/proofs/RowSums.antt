@@ -5,7 +5,7 @@ use Rattle.std.proofs.lemmas.Bool.{cases_Bool}
 use Rattle.std.proofs.lemmas.List.Sums.{sum_by-cons}
 use Rattle.rq_model.specs.declared.txn.Txn.{Txn}
 use Rattle.rq_model.proofs.Lists.{same_is}
-use Rattle.rq_model.specs.Words.{In, same_txn}
+use Rattle.rq_model.specs.Vocabulary.{In, same_txn}
 use Rattle.rq_txn.specs.Rows.{Row, found_row, AreDistinct, change_row, change_row_one, without_row}
 use Rattle.rq_txn.proofs.Finding.{change_none}
 use Rattle.rq_txn.proofs.Placing.{without_none}

@@ -4,7 +4,7 @@ use Rattle.std.specs.List.{sum_by}
 use Rattle.rq_model.specs.declared.record.Deed.{Deed}
 use Rattle.rq_model.specs.declared.record.Deed.TheVariants.{Append, UnlinkHead, Close}
 use Rattle.rq_model.specs.declared.record.Record.{Record}
-use Rattle.rq_model.specs.Words.{Op}
+use Rattle.rq_model.specs.Vocabulary.{Op}
 use Rattle.rq_model.specs.History.{Job}
 use Rattle.rq_model.specs.History.Job.{Sending, Taking, Ending}
 use Rattle.rq_model.specs.Ledger.{Open, Ledger, Phase, kept_in}

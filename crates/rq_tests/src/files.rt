@@ -4,7 +4,8 @@ use crate::file_calls::{
     send_of,
 };
 use rq_disk::{
-    FileLog, FilePages, Held, LogDevice, MemLog, MemPages, PAGE, PageDevice, Switch, Unknown,
+    FileContents, FileLog, FilePages, LogDevice, MemLog, MemPages, PAGE, PageDevice, Switch,
+    Unknown,
 };
 use rq_engine::engine::Engine;
 use rq_engine::event::{Event, Outcome, Reply};
@@ -134,7 +135,7 @@ fn files(rt: &HostRuntime, folder: &str) -> Result<(Pages, Log), Fail> {
 }
 
 // The first message of the store in a folder, and its incarnation, whatever its files hold.
-fn found<S: Held>(rt: &HostRuntime, folder: &str, held: S) -> Result<(u64, Outcome), Fail> {
+fn found<S: FileContents>(rt: &HostRuntime, folder: &str, held: S) -> Result<(u64, Outcome), Fail> {
     let (pages, log) = open_folder(rt, folder, held)?;
     Ok(received(rt.alloc(), pages, log)?)
 }

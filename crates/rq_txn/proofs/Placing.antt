@@ -12,7 +12,7 @@ use Rattle.std.proofs.lemmas.Option.{same_Some}
 use Rattle.slab.specs.Slab.{Slab, get, slab_len, Updates, with_value, ContainsKey}
 use Rattle.slab.proofs.SlabLemmas.{ContainsKey-within, Updates-with_value}
 use Rattle.rq_model.specs.declared.txn.Txn.{Txn}
-use Rattle.rq_model.specs.Words.{In, same_txn, is_some}
+use Rattle.rq_model.specs.Vocabulary.{In, same_txn, is_some}
 use Rattle.rq_model.proofs.Lists.{same_is, In-to, In-reverse}
 use Rattle.rq_txn.specs.declared.Transaction.{Transaction}
 use Rattle.rq_txn.specs.declared.table.Place.{Place}

@@ -2,7 +2,7 @@
 use Rattle.std.specs.Prelude.{◌≡◌, ℕ, ◌+◌, ◌<◌, List, [], ◌∷◌, Option, Some, None, map, length, slice_index_or}
 use Rattle.slab.specs.Slab.{Slab, get, slab_len}
 use Rattle.rq_model.specs.declared.txn.Txn.{Txn}
-use Rattle.rq_model.specs.Words.{In, is_some}
+use Rattle.rq_model.specs.Vocabulary.{In, is_some}
 use Rattle.rq_txn.specs.declared.Transaction.{Transaction}
 use Rattle.rq_txn.specs.declared.table.Place.{Place}
 use Rattle.rq_txn.specs.declared.tally.Tally.{Tally}

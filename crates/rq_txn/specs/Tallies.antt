@@ -1,6 +1,6 @@
 -- What the operations under way come to: how many there are, and how many of them have latched each page.
 use Rattle.std.specs.Prelude.{◌≡◌, ℕ, ◌+◌, ◌/◌, ◌^◌, ◌<◌, ◌≤◌, Bool, cond, nat_eq, List, Option, map, length, slice_index_or, All}
-use Rattle.rq_model.specs.Words.{is_some}
+use Rattle.rq_model.specs.Vocabulary.{is_some}
 use Rattle.rq_level.specs.declared.writes.SlotWrite.{SlotWrite}
 use Rattle.rq_level.specs.Given.{has_page}
 use Rattle.rq_txn.specs.declared.tally.Tally.{Tally}

@@ -167,7 +167,7 @@ impl Model for Transactions {
 impl Transactions {
     ghost use Rattle.std.specs.Prelude.{◌≡◌, ℕ, ◌<◌, ◌≤◌, [], ◌∷◌, IfSome, IsSome, MatchOption, OnErr, OnOk, length, nat_lt, not, reverse, slice_index_or};
     ghost use Rattle.rq_level.specs.Given.{has_page};
-    ghost use Rattle.rq_model.specs.Words.{In, last};
+    ghost use Rattle.rq_model.specs.Vocabulary.{In, last};
     ghost use Rattle.rq_txn.specs.Rows.{AreDistinct, Row, any_under, change_row, finished_of, found_row, fresh_row, latched_in, row_aborting, row_finished, row_of, row_started, row_stepped, row_taken_back, under_of, without_row};
 
     /// No transaction.

@@ -9,7 +9,7 @@ use Rattle.rq_model.specs.declared.record.Deed.{Deed}
 use Rattle.rq_model.specs.declared.record.Deed.TheVariants.{Append, UnlinkHead, Close}
 use Rattle.rq_model.specs.declared.record.Record.{Record}
 use Rattle.rq_model.specs.declared.txn.Txn.{Txn}
-use Rattle.rq_model.specs.Words.{Op, same_txn, has_txn, sent_for, taken_from}
+use Rattle.rq_model.specs.Vocabulary.{Op, same_txn, has_txn, sent_for, taken_from}
 use Rattle.rq_model.specs.Ledger.{rest_in}
 use Rattle.rq_model.specs.Tests.{below, count_rest, is_sent}
 use Rattle.rq_model.specs.Content.{said, added, added_one, removed, removed_one}

@@ -1,7 +1,7 @@
 -- The slots are the whole operations' slots, written over by the operations under way on pages of their own.
 use Rattle.rq_model.specs.declared.txn.Sub.{Sub}
 use Rattle.rq_model.specs.declared.txn.Txn.{Txn}
-use Rattle.rq_model.specs.Words.{same_txn}
+use Rattle.rq_model.specs.Vocabulary.{same_txn}
 use Rattle.std.proofs.Common.{◌≡◌, ◌≢◌, ℕ, ◌⊎◌, ◌==◌, ◌&&◌, inl, inr, List, [], ◌∷◌, true, false, cond, if◌then◌else◌, refl, sym, ap, subst, ◌∙◌}
 use Rattle.std.proofs.lemmas.Bool.{cases_Bool, cases_eq, cond-true, cond-false, eq-eqb, eqb-true, and_parts, and_from, or_cases, or_parts, or_left, or_right, false≢true, true≢false}
 use Rattle.rq_page.specs.Slots.{Slot}

@@ -6,7 +6,7 @@ use Rattle.rq_model.specs.declared.record.Record.TheVariants as records
 use Rattle.std.proofs.Common.{◌≡◌, ℕ, ◌==◌, ◌||◌, List, [], ◌∷◌, false, cond, refl, sym, ap, ◌∙◌, Option, None, Some, nat_eq}
 use Rattle.std.proofs.lemmas.Bool.{or_parts, or_from, and_left}
 use Rattle.std.proofs.Math.Bool.{or-false}
-use Rattle.rq_model.specs.Words.{same_txn}
+use Rattle.rq_model.specs.Vocabulary.{same_txn}
 use Rattle.rq_model.specs.Deeds.{deed_in}
 use Rattle.rq_model.specs.Content.{Said, ending, ending_by, kept, deeds}
 use Rattle.rq_model.specs.Unended.{any_record}

@@ -3,7 +3,7 @@ use Rattle.std.proofs.Common.{◌≡◌, ℕ, ◌<◌, List, [], ◌∷◌, leng
 use Rattle.std.proofs.lemmas.Bool.{cases_Bool, false≢true, true≢false, eqb-true}
 use Rattle.rq_model.specs.declared.record.Deed.TheVariants.{Close}
 use Rattle.rq_model.specs.declared.txn.Txn.{Txn}
-use Rattle.rq_model.specs.Words.{same_txn}
+use Rattle.rq_model.specs.Vocabulary.{same_txn}
 use Rattle.rq_model.proofs.Lists.{same_self}
 use Rattle.rq_views.specs.Chain.{View, AreTaken, AreSent}
 use Rattle.rq_views.specs.Chain.Sending.{TailUnlinked}

@@ -3,7 +3,7 @@ use Rattle.std.specs.Prelude.{◌≡◌, ℕ, ◌/◌, ◌%◌, ◌<◌, ◌≤�
 use Rattle.rq_model.specs.declared.txn.Txn.{Txn}
 use Rattle.rq_model.specs.declared.record.Record.{Record}
 use Rattle.rq_model.specs.declared.record.Record.TheVariants as records
-use Rattle.rq_model.specs.Words.{same_txn}
+use Rattle.rq_model.specs.Vocabulary.{same_txn}
 use Rattle.rq_model.specs.Deeds.{deed_in}
 use Rattle.rq_model.specs.Unended.{any_record}
 use Rattle.rq_page.specs.Sizes.{Sizes, IsCellAddress, sender_count, sender_at}

@@ -2,7 +2,7 @@
 use Rattle.std.specs.Prelude.{◌≡◌, ℕ, ◌+◌, max, false, cond, List, [], ◌∷◌, Option, Some, None}
 use Rattle.rq_model.specs.declared.txn.Txn.{Txn}
 use Rattle.rq_model.specs.declared.txn.Sub.{Sub}
-use Rattle.rq_model.specs.Words.{same_txn}
+use Rattle.rq_model.specs.Vocabulary.{same_txn}
 use Rattle.rq_views.specs.Log.{Item}
 use Rattle.rq_views.specs.Log.Item.{PageOp}
 use Rattle.rq_views.specs.Legal.{of_op, began}

@@ -5,8 +5,8 @@ use Rattle.std.proofs.lemmas.Bool.Decides.{nat_tests}
 use Rattle.std.proofs.lemmas.Bool.{ltb-false, le-ltb}
 use Rattle.rq_bytes.specs.Number.{AreBytes}
 use Rattle.rq_wire.specs.declared.request.Request.{Request}
-use Rattle.rq_wire.specs.declared.look.Front.{Front}
-use Rattle.rq_wire.specs.declared.look.Front.TheVariants.{Frame, Fault, More}
+use Rattle.rq_wire.specs.declared.look.Prefix.{Prefix}
+use Rattle.rq_wire.specs.declared.look.Prefix.TheVariants.{Frame, Fault, More}
 use Rattle.rq_wire.specs.Looks.{pick, is_size, is_kind, whole_frame, request_in, looks}
 use Rattle.rq_wire.specs.Spelling.{spelled}
 use Rattle.rq_wire.specs.Faults.{HasBadLength, HasBadKind, HasBadFields, IsNoRequest, IsFault, FaultsAreTold, MoreIsAwaited}
@@ -16,7 +16,7 @@ use Rattle.rq_wire.proofs.Spells.{spelled_is_read, read_is_spelled}
 abbrev Causes : (s v b k c : Bool) → Type 0
 Causes s v b k c = ((s ≡ false) × (v ≡ false)) ⊎ (((b ≡ false) × (k ≡ false)) ⊎ ((s ≡ false) × (c ≡ false)))
 
-causes : (s v b k c : Bool) (f : Front) → pick s v b k c f ≡ Fault → Causes s v b k c
+causes : (s v b k c : Bool) (f : Prefix) → pick s v b k c f ≡ Fault → Causes s v b k c
 causes true v b k c f e = cc e
 causes false false b k c f e = inl (refl, refl)
 causes false true true k c f e = cc e
@@ -24,14 +24,14 @@ causes false true false false c f e = inr (inl (refl, refl))
 causes false true false true true f e = cc e
 causes false true false true false f e = inr (inr (refl, refl))
 
-by_length : (s v b k c : Bool) (f : Front) → s ≡ false → v ≡ false → pick s v b k c f ≡ Fault
+by_length : (s v b k c : Bool) (f : Prefix) → s ≡ false → v ≡ false → pick s v b k c f ≡ Fault
 by_length s v b k c f es ev = rw (es, ev) refl
 
-by_kind : (s v b k c : Bool) (f : Front) → s ≡ false → b ≡ false → k ≡ false → pick s v b k c f ≡ Fault
+by_kind : (s v b k c : Bool) (f : Prefix) → s ≡ false → b ≡ false → k ≡ false → pick s v b k c f ≡ Fault
 by_kind s true b k c f es eb ek = rw (es, eb, ek) refl
 by_kind s false b k c f es eb ek = rw es refl
 
-no_more : (s v b k c : Bool) (f : Front) → s ≡ false → (v ≡ true → b ≡ false) → c ≡ false → f ≢ More
+no_more : (s v b k c : Bool) (f : Prefix) → s ≡ false → (v ≡ true → b ≡ false) → c ≡ false → f ≢ More
     → pick s v b k c f ≢ More
 no_more true v b k c f es eb ec ef e = absurd (cc)
 no_more false false b k c f es eb ec ef e = absurd (cc)
@@ -76,7 +76,7 @@ module _ (bytes : List ℕ) where
   cut = nat_lt (length bytes) (2 + size bytes)
 
   -- where something else is told no request stands there
-  none_there : (f : Front) → looks bytes ≡ f → ((r : Request) (n : ℕ) → f ≢ Frame r n) → IsNoRequest bytes
+  none_there : (f : Prefix) → looks bytes ≡ f → ((r : Request) (n : ℕ) → f ≢ Frame r n) → IsNoRequest bytes
   none_there f e other r rest i same =
       other r (length (spelled r)) (sym e ∙ ap looks same ∙ spelled_is_read r rest i)
 
@@ -101,7 +101,7 @@ module _ (bytes : List ℕ) where
       (whole_is_no_more (request_in (slice_index bytes 2) (take (size bytes - 1) (drop 3 bytes))) (2 + size bytes))
 
   module _ (are : AreBytes bytes) where
-    neither : (f : Front) → looks bytes ≡ f → f ≢ More → IsNoRequest bytes → looks bytes ≡ Fault
+    neither : (f : Prefix) → looks bytes ≡ f → f ≢ More → IsNoRequest bytes → looks bytes ≡ Fault
     neither (Frame r n) e other none =
         let q = read_is_spelled bytes r n are e in absurd (none r (drop n bytes) q.0 q.1)
     neither Fault e other none = e
@@ -123,7 +123,7 @@ module _ (bytes : List ℕ) where
     waits : looks bytes ≡ More → (IsFault bytes → ⊥) × IsNoRequest bytes
     waits e = ((λ h. let q = sym e ∙ faulty h in absurd (cc)), none_there More e (λ r n q. absurd (cc)))
 
-    awaited : (f : Front) → looks bytes ≡ f → (IsFault bytes → ⊥) → IsNoRequest bytes → looks bytes ≡ More
+    awaited : (f : Prefix) → looks bytes ≡ f → (IsFault bytes → ⊥) → IsNoRequest bytes → looks bytes ≡ More
     awaited (Frame r n) e whole none =
         let q = read_is_spelled bytes r n are e in absurd (none r (drop n bytes) q.0 q.1)
     awaited Fault e whole none = absurd (whole (told e))

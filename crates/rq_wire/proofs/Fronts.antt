@@ -7,8 +7,8 @@ use Rattle.std.proofs.Math.Seq.{drop-append_seam}
 use Rattle.byteorder.specs.Numbers.{big_from-append}
 use Rattle.rq_bytes.specs.Number.{number_at}
 use Rattle.rq_wire.specs.declared.request.Request.{Request}
-use Rattle.rq_wire.specs.declared.look.Front.{Front}
-use Rattle.rq_wire.specs.declared.look.Front.TheVariants.{Frame, Fault}
+use Rattle.rq_wire.specs.declared.look.Prefix.{Prefix}
+use Rattle.rq_wire.specs.declared.look.Prefix.TheVariants.{Frame, Fault}
 use Rattle.rq_wire.specs.Looks.{pick, is_size, is_kind, whole_frame, request_in, looks}
 use Rattle.rq_wire.specs.Stream.{Begins, AreRequests, stop}
 use Rattle.rq_wire.specs.Notes.{Keeps}
@@ -18,7 +18,7 @@ pub added : (held : ℕ) (unread piece all : List ℕ) → held ≡ length unrea
     → drop held all ≡ piece
 added held unread piece all h e = ap (λ (n : ℕ). drop n all) h ∙ ap (drop (length unread)) e ∙ drop-append_seam unread piece
 
-pub record Picks (s v b k c : Bool) (f : Front) (r : Request) (n : ℕ) : Type 0 where
+pub record Picks (s v b k c : Bool) (f : Prefix) (r : Request) (n : ℕ) : Type 0 where
   pub short : s ≡ false
   pub sized : v ≡ true
   pub bare : b ≡ false
@@ -26,11 +26,11 @@ pub record Picks (s v b k c : Bool) (f : Front) (r : Request) (n : ℕ) : Type 0
   pub cut : c ≡ false
   pub front : f ≡ Frame r n
 
-pub picked : (s v b k c : Bool) (f g : Front) → s ≡ false → v ≡ true → b ≡ false → k ≡ true → c ≡ false → f ≡ g
+pub picked : (s v b k c : Bool) (f g : Prefix) → s ≡ false → v ≡ true → b ≡ false → k ≡ true → c ≡ false → f ≡ g
     → pick s v b k c f ≡ g
 picked s v b k c f g es ev eb ek ec ef = rw (es, ev, eb, ek, ec) ef
 
-picks : (short sized bare known cut : Bool) (front : Front) (r : Request) (n : ℕ)
+picks : (short sized bare known cut : Bool) (front : Prefix) (r : Request) (n : ℕ)
     → pick short sized bare known cut front ≡ Frame r n → Picks short sized bare known cut front r n
 picks true sized bare known cut front r n e = cc e
 picks false false bare known cut front r n e = cc e
@@ -50,7 +50,7 @@ picks false true false true false front r n e = record {
 abbrev pub size : List ℕ → ℕ
 size bytes = number_at 2 0 bytes
 
-abbrev pub behind : List ℕ → Front
+abbrev pub behind : List ℕ → Prefix
 behind bytes = whole_frame (request_in (slice_index bytes 2) (take (size bytes - 1) (drop 3 bytes))) (2 + size bytes)
 
 abbrev pub Told : List ℕ → Request → ℕ → Type 0
@@ -141,7 +141,7 @@ pub begins_one : (rs : List Request) (r : Request) (n : ℕ) (a rest : List ℕ)
     → looks rest ≡ Frame r n → Begins (rs ++ r ∷ []) a (drop n rest)
 begins_one rs r n a rest h e = begins_more rs (r ∷ []) a rest (drop n rest) h (n, e, refl)
 
-stay : (s v b k c : Bool) (f : Front) (s' v' b' k' c' : Bool) (f' : Front) → (s ≡ false → s' ≡ false) → (s ≡ false
+stay : (s v b k c : Bool) (f : Prefix) (s' v' b' k' c' : Bool) (f' : Prefix) → (s ≡ false → s' ≡ false) → (s ≡ false
     → v' ≡ v) → (b ≡ false → b' ≡ false) → (b ≡ false → k' ≡ k) → (s ≡ false → c ≡ false → c' ≡ false)
     → (s ≡ false → b ≡ false → c ≡ false → f' ≡ f) → pick s v b k c f ≡ Fault → pick s' v' b' k' c' f' ≡ Fault
 stay true v b k c f s' v' b' k' c' f' hs hv hb hk hc hf e = cc e

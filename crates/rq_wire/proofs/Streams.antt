@@ -2,7 +2,7 @@
 use Rattle.std.proofs.Common.{◌≡◌, ℕ, Bool, true, false, List, [], ◌∷◌, ◌++◌, length, drop, refl, sym, ap, ◌∙◌, subst, append_assoc}
 use Rattle.std.proofs.Math.Seq.{drop-append_seam}
 use Rattle.rq_wire.specs.declared.request.Request.{Request}
-use Rattle.rq_wire.specs.declared.look.Front.TheVariants.{Frame}
+use Rattle.rq_wire.specs.declared.look.Prefix.TheVariants.{Frame}
 use Rattle.rq_wire.specs.Looks.{looks}
 use Rattle.rq_wire.specs.Spelling.{AreRequested, spelled, spelled_all}
 use Rattle.rq_bytes.specs.Number.{AreBytes}

@@ -2,7 +2,7 @@
 use Rattle.std.specs.Prelude.{◌≡◌, ◌≢◌, ◌⊎◌, ◌↔◌, ℕ, ◌+◌, ◌<◌, ◌≤◌, List, ◌++◌, length, slice_index}
 use Rattle.rq_bytes.specs.Number.{AreBytes, number_at}
 use Rattle.rq_wire.specs.declared.request.Request.{Request}
-use Rattle.rq_wire.specs.declared.look.Front.TheVariants.{Fault, More}
+use Rattle.rq_wire.specs.declared.look.Prefix.TheVariants.{Fault, More}
 use Rattle.rq_wire.specs.Looks.{looks}
 use Rattle.rq_wire.specs.Spelling.{IsRequest, spelled}
 

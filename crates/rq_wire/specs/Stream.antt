@@ -2,8 +2,8 @@
 use Rattle.std.specs.Prelude.{◌≡◌, ◌≤◌, ◌+◌, ◌↔◌, ℕ, Bool, List, [], ◌∷◌, ◌++◌, length, drop, if◌then◌else◌}
 use Rattle.rq_bytes.specs.Number.{number_at, AreBytes}
 use Rattle.rq_wire.specs.declared.request.Request.{Request}
-use Rattle.rq_wire.specs.declared.look.Front.{Front}
-use Rattle.rq_wire.specs.declared.look.Front.TheVariants.{Frame, Fault, More}
+use Rattle.rq_wire.specs.declared.look.Prefix.{Prefix}
+use Rattle.rq_wire.specs.declared.look.Prefix.TheVariants.{Frame, Fault, More}
 use Rattle.rq_wire.specs.Looks.{looks}
 use Rattle.rq_wire.specs.Spelling.{IsRequest, AreRequested, frame, spelled, spelled_all}
 
@@ -12,7 +12,7 @@ abbrev pub Begins : List Request → List ℕ → List ℕ → Type 0
 Begins [] bytes rest = bytes ≡ rest
 Begins (r ∷ rs) bytes rest = (n : ℕ) × (looks bytes ≡ Frame r n) × Begins rs (drop n bytes) rest
 
-abbrev pub stop : Bool → Front
+abbrev pub stop : Bool → Prefix
 stop fault = if fault then Fault else More
 
 -- the requests of the longest list of whole good frames at the front, and whether a fault stands behind them

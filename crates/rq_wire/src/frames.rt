@@ -4,7 +4,7 @@ ghost use Rattle.rq_wire.specs.Stream.{Begins, AreRequests, stop};
 ghost use Rattle.rq_wire.specs.Notes.{fed_bytes, given};
 ghost use Rattle.rq_wire.specs.Looks.{looks};
 
-use crate::look::{Front, look};
+use crate::look::{Prefix, look};
 use crate::request::Request;
 use bytes::BytesMut;
 use rq_model::refusal::NoMemory;
@@ -160,12 +160,12 @@ fn requests_of(alloc: Global, bytes: &[u8]) -> Result<(Fed, usize), AllocError>
     let mut taken = 0;
     let fault = loop {
         match look(alloc, behind(bytes, taken))? {
-            Front::Frame(request, size) => {
+            Prefix::Frame(request, size) => {
                 requests.push(request)?;
                 taken += size;
             }
-            Front::Fault => break true,
-            Front::More => break false,
+            Prefix::Fault => break true,
+            Prefix::More => break false,
         }
     };
     Ok((Fed { requests, fault }, taken))

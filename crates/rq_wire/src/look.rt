@@ -10,7 +10,7 @@ use std::alloc::{AllocError, Global};
 
 /// What stands at the front of some bytes.
 #[derive(Drop)]
-pub(crate) enum Front {
+pub(crate) enum Prefix {
     // a whole good frame, and how many bytes it takes
     Frame(Request, usize),
     Fault,
@@ -18,36 +18,36 @@ pub(crate) enum Front {
     More,
 }
 
-pub(crate) fn look(alloc: Global, bytes: &[u8]) -> Result<Front, AllocError>
+pub(crate) fn look(alloc: Global, bytes: &[u8]) -> Result<Prefix, AllocError>
     ensures { IfOk result (λ found. found ≡ looks bytes.now) }
 {
     match Fields::take_u16(bytes, 0) {
-        None => Ok(Front::More),
+        None => Ok(Prefix::More),
         Some(count) => look_behind(alloc, count, bytes),
     }
 }
 
-fn look_behind(alloc: Global, count: u16, bytes: &[u8]) -> Result<Front, AllocError>
+fn look_behind(alloc: Global, count: u16, bytes: &[u8]) -> Result<Prefix, AllocError>
     requires { 2 ≤ length bytes.now }
     ensures { IfOk result (λ found. found ≡ looks_behind count bytes.now) }
 {
     if count == 0 || count > 512 {
-        return Ok(Front::Fault);
+        return Ok(Prefix::Fault);
     }
     if bytes.len() < 3 {
-        return Ok(Front::More);
+        return Ok(Prefix::More);
     }
     let kind = bytes[2];
     if kind == 0 || kind > 8 {
-        return Ok(Front::Fault);
+        return Ok(Prefix::Fault);
     }
     let size = 2 + count as usize;
     if bytes.len() < size {
-        return Ok(Front::More);
+        return Ok(Prefix::More);
     }
     match request_of(alloc, kind, fields_of(count, bytes))? {
-        Some(request) => Ok(Front::Frame(request, size)),
-        None => Ok(Front::Fault),
+        Some(request) => Ok(Prefix::Frame(request, size)),
+        None => Ok(Prefix::Fault),
     }
 }
 

@@ -14,7 +14,7 @@ use Rattle.rq_workers.specs.declared.acts.Heard.{Heard}
 use Rattle.rq_workers.specs.declared.acts.Heard.TheVariants as heard
 use Rattle.rq_workers.specs.declared.acts.Part.{Part}
 use Rattle.rq_workers.specs.declared.acts.Part.TheVariants as part
-use Rattle.rq_workers.specs.declared.acts.Turn.TheVariants as turn
+use Rattle.rq_workers.specs.declared.acts.AfterStep.TheVariants as turn
 use Rattle.rq_workers.specs.Hearing.{heard_of, may_try_again, wants_memory, operation_of, turn_of, part_event}
 use Rattle.rq_workers.specs.Acts.{Work, DidOne, IsCalled, may_call}
 use Rattle.rq_workers.specs.Operations.{Stage, Lead, LeadsOn, Carries, IsTried, after_start, after_asking, after_part, once_started, once_answered, started_stage}

@@ -9,14 +9,14 @@ use Rattle.rq_engine.specs.declared.event.Event.TheVariants as event
 use Rattle.rq_engine.specs.declared.event.Progress.TheVariants as progress
 use Rattle.rq_engine.specs.declared.event.Reply.{Reply}
 use Rattle.rq_engine.specs.declared.event.Reply.TheVariants as reply
-use Rattle.rq_workers.specs.declared.acts.Ended.{Ended}
-use Rattle.rq_workers.specs.declared.acts.Ended.TheVariants as end
+use Rattle.rq_workers.specs.declared.acts.RunEnd.{RunEnd}
+use Rattle.rq_workers.specs.declared.acts.RunEnd.TheVariants as end
 use Rattle.rq_workers.specs.declared.acts.Heard.{Heard}
 use Rattle.rq_workers.specs.declared.acts.Heard.TheVariants as heard
 use Rattle.rq_workers.specs.declared.acts.Part.{Part}
 use Rattle.rq_workers.specs.declared.acts.Part.TheVariants as part
-use Rattle.rq_workers.specs.declared.acts.Turn.{Turn}
-use Rattle.rq_workers.specs.declared.acts.Turn.TheVariants as turn
+use Rattle.rq_workers.specs.declared.acts.AfterStep.{AfterStep}
+use Rattle.rq_workers.specs.declared.acts.AfterStep.TheVariants as turn
 
 -- what a reply says to an operation
 abbrev pub heard_of : Reply → Heard
@@ -30,7 +30,7 @@ heard_of (reply.Refused refusal) = heard.Refused refusal
 heard_of _ = heard.Other
 
 -- what the last answer says of an operation
-abbrev pub ended_of : Heard → Ended
+abbrev pub ended_of : Heard → RunEnd
 ended_of (heard.Finished outcome) = end.Finished outcome
 ended_of heard.NoMessage = end.NoMessage
 ended_of heard.NothingLeft = end.NothingLeft
@@ -68,7 +68,7 @@ operation_of (heard.Started sub) = Ok sub
 operation_of h = Err h
 
 -- how an operation goes on once a step was answered so
-abbrev pub turn_of : Heard → Turn
+abbrev pub turn_of : Heard → AfterStep
 turn_of (heard.Done lsn) = turn.Again
 turn_of heard.Ready = turn.Ready
 turn_of h = turn.Last h

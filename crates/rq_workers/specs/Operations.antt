@@ -10,7 +10,7 @@ use Rattle.rq_workers.specs.declared.acts.Act.{Act}
 use Rattle.rq_workers.specs.declared.acts.Act.TheVariants.{Asked, Lacked, Made}
 use Rattle.rq_workers.specs.declared.acts.Heard.{Heard}
 use Rattle.rq_workers.specs.declared.acts.Heard.TheVariants as heard
-use Rattle.rq_workers.specs.declared.acts.Ended.{Ended}
+use Rattle.rq_workers.specs.declared.acts.RunEnd.{RunEnd}
 use Rattle.rq_workers.specs.declared.acts.Part.{Part}
 use Rattle.rq_workers.specs.declared.acts.Part.TheVariants as part
 use Rattle.rq_workers.specs.Hearing.{heard_of, ended_of, part_event}
@@ -97,5 +97,5 @@ IsTried c old h new =
     ⊎ (DidOne Lacked old new × (h ≡ heard.Refused NoMemory))
 
 -- It went through an operation, from its start to the last answer, which says what came of it.
-abbrev pub GoesThrough : {S : Type 0} → Call → Work S → Work S → Ended → Type 0
+abbrev pub GoesThrough : {S : Type 0} → Call → Work S → Work S → RunEnd → Type 0
 GoesThrough c old new end = (last : Heard) × (end ≡ ended_of last) × Carries c Starting old (Over last) new

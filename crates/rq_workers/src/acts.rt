@@ -44,7 +44,7 @@ pub enum Heard {
 
 /// What came of an operation.
 #[derive(Clone, Copy, PartialEq, Eq)]
-pub enum Ended {
+pub enum RunEnd {
     /// It was finished, and did this.
     Finished(Outcome),
     /// There is no message to receive: nothing was started.
@@ -83,18 +83,18 @@ pub(crate) fn heard_in(reply: &Reply) -> Heard
 }
 
 /// What the last answer says of an operation.
-pub(crate) fn end_by(last: Heard) -> Ended
+pub(crate) fn end_by(last: Heard) -> RunEnd
     ensures { result ≡ ended_of last }
 {
     match last {
-        Heard::Started(_) => Ended::Other,
-        Heard::NoMessage => Ended::NoMessage,
-        Heard::NothingLeft => Ended::NothingLeft,
-        Heard::Done(_) => Ended::Other,
-        Heard::Ready => Ended::Other,
-        Heard::Finished(outcome) => Ended::Finished(outcome),
-        Heard::Refused(refusal) => Ended::Refused(refusal),
-        Heard::Other => Ended::Other,
+        Heard::Started(_) => RunEnd::Other,
+        Heard::NoMessage => RunEnd::NoMessage,
+        Heard::NothingLeft => RunEnd::NothingLeft,
+        Heard::Done(_) => RunEnd::Other,
+        Heard::Ready => RunEnd::Other,
+        Heard::Finished(outcome) => RunEnd::Finished(outcome),
+        Heard::Refused(refusal) => RunEnd::Refused(refusal),
+        Heard::Other => RunEnd::Other,
     }
 }
 
@@ -118,7 +118,7 @@ impl Part {
 
 /// How the steps of an operation go on.
 #[derive(Clone, Copy, PartialEq, Eq)]
-pub(crate) enum Turn {
+pub(crate) enum AfterStep {
     /// There is another step.
     Again,
     /// All slots are written.

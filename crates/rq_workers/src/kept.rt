@@ -87,7 +87,7 @@ impl<P: PageDevice + Drop, L: LogDevice + Drop, B: Level> Steps for KeptSteps<P,
         ensures given { (self.new.pass ≡ self.old.pass) × (self.new.begun.value ≡ self.old.begun.value) }
     {
         let stamped = self.kept.step(self.pass, event);
-        GhostList::note(&mut self.made, &stamped);
+        GhostList::push(&mut self.made, &stamped);
         stamped
     }
 
@@ -103,7 +103,7 @@ impl<P: PageDevice + Drop, L: LogDevice + Drop, B: Level> Steps for KeptSteps<P,
         ensures given { (self.new.pass ≡ self.old.pass) × (self.new.begun.value ≡ self.old.begun.value) }
     {
         let stamped = self.call(Event::Force);
-        GhostList::note(&mut self.forced, &stamped);
+        GhostList::push(&mut self.forced, &stamped);
         stamped
     }
 
@@ -116,7 +116,7 @@ impl<P: PageDevice + Drop, L: LogDevice + Drop, B: Level> Steps for KeptSteps<P,
         ensures kept { (self.new.kept ≡ self.old.kept) × (self.new.pass ≡ self.old.pass)
             × (self.new.begun.value ≡ self.old.begun.value) }
     {
-        GhostList::note(&mut self.told, &stamped);
+        GhostList::push(&mut self.told, &stamped);
     }
 
     fn copy(&mut self, event: &Event) -> Option<Event>
@@ -132,7 +132,7 @@ impl<P: PageDevice + Drop, L: LogDevice + Drop, B: Level> Steps for KeptSteps<P,
     {
         let copy = event.clone().ok();
         if copy.is_none() {
-            GhostList::note(&mut self.lacked, &());
+            GhostList::push(&mut self.lacked, &());
         }
         copy
     }

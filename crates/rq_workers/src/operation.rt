@@ -7,7 +7,7 @@ ghost use Rattle.rq_workers.specs.Operations.{Carries, GoesThrough, IsTried, onc
 ghost use Rattle.rq_workers.specs.Operations.Stage.{Starting, Due, Over};
 ghost use Rattle.rq_workers.specs.declared.acts.Part.TheVariants.{Step as Step_part};
 
-use crate::acts::{Ended, Heard, Part, Turn, end_by};
+use crate::acts::{AfterStep, Heard, Part, RunEnd, end_by};
 use crate::gate::{BEFORE_AGAIN, BETWEEN_STEPS, Gate};
 use crate::steps::Steps;
 use crate::worker::Worker;
@@ -21,13 +21,13 @@ impl<G: Gate + Drop, S: Steps> Worker<G, S> {
     /// A start that is refused as Latched or NoMemory, and a step or a finish that is refused as NoMemory, is tried
     /// again. An operation that was started is gone through whatever the gate says, until it is finished or refused for
     /// something else. A call that starts no operation is not made.
-    pub fn run<R: Wait>(&mut self, rt: &R, start: &Event) -> Ended
+    pub fn run<R: Wait>(&mut self, rt: &R, start: &Event) -> RunEnd
         ensures starts { starts_one (call_of start.now) ≡ true
             → GoesThrough (call_of start.now) self.old self.new result }
-        ensures starts_none { starts_one (call_of start.now) ≡ false → (self.new ≡ self.old) × (result ≡ Ended.Other) }
+        ensures starts_none { starts_one (call_of start.now) ≡ false → (self.new ≡ self.old) × (result ≡ RunEnd.Other) }
     {
         if !is_start(start) {
-            return Ended::Other;
+            return RunEnd::Other;
         }
         match self.started(rt, start) {
             Ok(sub) => end_by(self.gone_through(rt, sub)),
@@ -78,10 +78,10 @@ impl<G: Gate + Drop, S: Steps> Worker<G, S> {
         ensures { (c : Call) → Carries c (Due Step_part sub) self.old (stepped_stage sub result) self.new }
     {
         for _ in rt.forever() {
-            match turn(self.answered(rt, Part::Step, sub)) {
-                Turn::Again => self.asks(BETWEEN_STEPS),
-                Turn::Ready => return None,
-                Turn::Last(last) => return Some(last),
+            match after_step(self.answered(rt, Part::Step, sub)) {
+                AfterStep::Again => self.asks(BETWEEN_STEPS),
+                AfterStep::Ready => return None,
+                AfterStep::Last(last) => return Some(last),
             };
         }
         unreachable!()
@@ -164,17 +164,17 @@ fn operation(heard: Heard) -> Result<Sub, Heard>
 }
 
 // How an operation goes on once a step was answered so.
-fn turn(heard: Heard) -> Turn
+fn after_step(heard: Heard) -> AfterStep
     ensures { result ≡ turn_of heard }
 {
     match heard {
-        Heard::Started(_) => Turn::Last(heard),
-        Heard::NoMessage => Turn::Last(heard),
-        Heard::NothingLeft => Turn::Last(heard),
-        Heard::Done(_) => Turn::Again,
-        Heard::Ready => Turn::Ready,
-        Heard::Finished(_) => Turn::Last(heard),
-        Heard::Refused(_) => Turn::Last(heard),
-        Heard::Other => Turn::Last(heard),
+        Heard::Started(_) => AfterStep::Last(heard),
+        Heard::NoMessage => AfterStep::Last(heard),
+        Heard::NothingLeft => AfterStep::Last(heard),
+        Heard::Done(_) => AfterStep::Again,
+        Heard::Ready => AfterStep::Ready,
+        Heard::Finished(_) => AfterStep::Last(heard),
+        Heard::Refused(_) => AfterStep::Last(heard),
+        Heard::Other => AfterStep::Last(heard),
     }
 }

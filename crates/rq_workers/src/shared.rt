@@ -13,13 +13,13 @@ use rq_level::Level;
 use rq_shared::kept::{Stamped, Taken};
 use rq_shared::mark::{Mark, MarkPass};
 use rq_shared::room::Pass;
-use rq_shared::shared::Front;
+use rq_shared::shared::EngineLock;
 use rq_shared::sharing::Sharing;
 use std::snapshot::Snapshot;
 use std::sync::Wait;
 
 /// Where the stamps of a thread's calls go, once they were read.
-pub trait Keep {
+pub trait StampSink {
     /// The stamps that it was handed, the newest first.
     ghost handed: { Self → List Stamp };
 
@@ -45,23 +45,31 @@ impl DropStamps {
     }
 }
 
-impl Keep for DropStamps {
+impl StampSink for DropStamps {
     ghost handed = { λ k. k.handed.value };
 
     fn keep(&mut self, stamped: Stamped) {
-        GhostList::note(&mut self.handed, &stamped);
+        GhostList::push(&mut self.handed, &stamped);
     }
 }
 
 /// Calls under a pass. A force also publishes to a mark.
 #[derive(Drop)]
-pub struct SharedSteps<'a, P: PageDevice, L: LogDevice, B: Level, G: Sharing, R: Wait, K: Keep> {
+pub struct SharedSteps<
+    'a,
+    P: PageDevice,
+    L: LogDevice,
+    B: Level,
+    G: Sharing,
+    R: Wait,
+    K: StampSink,
+> {
     rt: &'a R,
-    front: &'a Front<P, L, B, G>,
+    lock: &'a EngineLock<P, L, B, G>,
     pass: Pass<G>,
     mark: &'a Mark,
     seat: MarkPass,
-    keep: K,
+    sink: K,
     made: Snapshot<GhostList<Stamped>>,
     forced: Snapshot<GhostList<Stamped>>,
     lacked: Snapshot<GhostList<()>>,
@@ -75,35 +83,35 @@ impl<
     B: Level,
     G: Sharing,
     R: Wait,
-    K: Keep,
+    K: StampSink,
 > SharedSteps<'a, P, L, B, G, R, K> {
-    /// Calls under this pass, publishes by this seat of the mark, and hands stamps on to this keep. Nothing was called yet.
+    /// Calls under this pass, publishes by this seat of the mark, and hands stamps on to this sink. Nothing was called yet.
     pub fn new(
         rt: &'a R,
-        front: &'a Front<P, L, B, G>,
+        lock: &'a EngineLock<P, L, B, G>,
         pass: Pass<G>,
         mark: &'a Mark,
         seat: MarkPass,
-        keep: K,
+        sink: K,
     ) -> Self
         requires { seat.table ≡ mark.now }
-        ensures given { (result.pass ≡ pass) × (result.seat ≡ seat) × (result.keep ≡ keep) }
+        ensures given { (result.pass ≡ pass) × (result.seat ≡ seat) × (result.sink ≡ sink) }
         ensures none { (result.made.value ≡ []) × (result.forced.value ≡ []) × (result.lacked.value ≡ []) }
     {
         SharedSteps {
             rt,
-            front,
+            lock,
             pass,
             mark,
             seat,
-            keep,
+            sink,
             made: GhostList::empty(),
             forced: GhostList::empty(),
             lacked: GhostList::empty(),
         }
     }
 
-    /// The entries since the audit was last taken, those of other passes too, as `Front::take_audit` answers them. The pass
+    /// The entries since the audit was last taken, those of other passes too, as `EngineLock::take_audit` answers them. The pass
     /// counts them.
     pub fn take_audit(&mut self) -> Taken<P, L, B>
         ensures taken { IsTaken P.PageDevice L.LogDevice G.premise result }
@@ -111,37 +119,44 @@ impl<
         ensures calls { (self.new.made.value ≡ self.old.made.value) × (self.new.forced.value ≡ self.old.forced.value) }
         ensures lacked { self.new.lacked.value ≡ self.old.lacked.value }
         ensures seat { self.new.seat ≡ self.old.seat }
-        ensures told { K.handed self.new.keep ≡ K.handed self.old.keep }
+        ensures told { K.handed self.new.sink ≡ K.handed self.old.sink }
     {
-        self.front.take_audit(self.rt, &mut self.pass)
+        self.lock.take_audit(self.rt, &mut self.pass)
     }
 
     /// The pass, the seat and what keeps the stamps.
     pub fn into_parts(self) -> (Pass<G>, MarkPass, K)
-        ensures { (result.0 ≡ self.entry.pass) × (result.1 ≡ self.entry.seat) × (result.2 ≡ self.entry.keep) }
+        ensures { (result.0 ≡ self.entry.pass) × (result.1 ≡ self.entry.seat) × (result.2 ≡ self.entry.sink) }
     {
         let SharedSteps {
             rt: _,
-            front: _,
+            lock: _,
             pass,
             mark: _,
             seat,
-            keep,
+            sink,
             made: _,
             forced: _,
             lacked: _,
         } = self;
-        (pass, seat, keep)
+        (pass, seat, sink)
     }
 }
 
-impl<'a, P: PageDevice + Drop, L: LogDevice + Drop, B: Level, G: Sharing, R: Wait, K: Keep> Steps
-    for SharedSteps<'a, P, L, B, G, R, K> {
+impl<
+    'a,
+    P: PageDevice + Drop,
+    L: LogDevice + Drop,
+    B: Level,
+    G: Sharing,
+    R: Wait,
+    K: StampSink,
+> Steps for SharedSteps<'a, P, L, B, G, R, K> {
     ghost made = { λ s. s.made.value };
 
     ghost forced = { λ s. s.forced.value };
 
-    ghost told = { λ s. K.handed s.keep };
+    ghost told = { λ s. K.handed s.sink };
 
     ghost lacked = { λ s. length s.lacked.value };
 
@@ -151,14 +166,14 @@ impl<'a, P: PageDevice + Drop, L: LogDevice + Drop, B: Level, G: Sharing, R: Wai
         ensures event { result.event ≡ event }
         ensures made { self.new.made.value ≡ result ∷ self.old.made.value }
         ensures forced { self.new.forced.value ≡ self.old.forced.value }
-        ensures told { K.handed self.new.keep ≡ K.handed self.old.keep }
+        ensures told { K.handed self.new.sink ≡ K.handed self.old.sink }
         ensures lacked { length self.new.lacked.value ≡ length self.old.lacked.value }
         ensures shown { self.old.seat.saw ≤ self.new.seat.saw }
         ensures called { IsCalled self.old.pass event result self.new.pass }
         ensures seat { self.new.seat ≡ self.old.seat }
     {
-        let stamped = self.front.call(self.rt, &mut self.pass, event);
-        GhostList::note(&mut self.made, &stamped);
+        let stamped = self.lock.call(self.rt, &mut self.pass, event);
+        GhostList::push(&mut self.made, &stamped);
         stamped
     }
 
@@ -168,28 +183,28 @@ impl<'a, P: PageDevice + Drop, L: LogDevice + Drop, B: Level, G: Sharing, R: Wai
         ensures event { result.event ≡ Event.Force }
         ensures made { self.new.made.value ≡ result ∷ self.old.made.value }
         ensures forced { self.new.forced.value ≡ result ∷ self.old.forced.value }
-        ensures told { K.handed self.new.keep ≡ K.handed self.old.keep }
+        ensures told { K.handed self.new.sink ≡ K.handed self.old.sink }
         ensures lacked { length self.new.lacked.value ≡ length self.old.lacked.value }
         ensures shown { (self.old.seat.saw ≤ self.new.seat.saw) × (lsn_forced result.reply ≤ self.new.seat.saw) }
         ensures published { IsForced self.old.pass self.old.seat result self.new.pass self.new.seat }
     {
         let stamped = self
-            .front
+            .lock
             .force(self.rt, &mut self.pass, self.mark, &mut self.seat);
-        GhostList::note(&mut self.made, &stamped);
-        GhostList::note(&mut self.forced, &stamped);
+        GhostList::push(&mut self.made, &stamped);
+        GhostList::push(&mut self.forced, &stamped);
         stamped
     }
 
     fn seen(&mut self, stamped: Stamped)
         ensures made { self.new.made.value ≡ self.old.made.value }
         ensures forced { self.new.forced.value ≡ self.old.forced.value }
-        ensures told { K.handed self.new.keep ≡ stamped ∷ K.handed self.old.keep }
+        ensures told { K.handed self.new.sink ≡ stamped ∷ K.handed self.old.sink }
         ensures lacked { length self.new.lacked.value ≡ length self.old.lacked.value }
         ensures shown { self.old.seat.saw ≤ self.new.seat.saw }
         ensures pass { (self.new.pass ≡ self.old.pass) × (self.new.seat ≡ self.old.seat) }
     {
-        self.keep.keep(stamped);
+        self.sink.keep(stamped);
     }
 
     fn copy(&mut self, event: &Event) -> Option<Event>
@@ -198,13 +213,13 @@ impl<'a, P: PageDevice + Drop, L: LogDevice + Drop, B: Level, G: Sharing, R: Wai
         ensures lacked { IfNone result (length self.new.lacked.value ≡ length self.old.lacked.value + 1) }
         ensures made { self.new.made.value ≡ self.old.made.value }
         ensures forced { self.new.forced.value ≡ self.old.forced.value }
-        ensures told { K.handed self.new.keep ≡ K.handed self.old.keep }
+        ensures told { K.handed self.new.sink ≡ K.handed self.old.sink }
         ensures shown { self.old.seat.saw ≤ self.new.seat.saw }
         ensures pass { (self.new.pass ≡ self.old.pass) × (self.new.seat ≡ self.old.seat) }
     {
         let copy = event.clone().ok();
         if copy.is_none() {
-            GhostList::note(&mut self.lacked, &());
+            GhostList::push(&mut self.lacked, &());
         }
         copy
     }

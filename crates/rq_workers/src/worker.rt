@@ -68,7 +68,7 @@ impl<G: Gate + Drop, S: Steps> Worker<G, S> {
         if !passed {
             self.stopped = true;
         }
-        GhostList::note(&mut self.done, &Act::Asked(point, passed));
+        GhostList::push(&mut self.done, &Act::Asked(point, passed));
         passed
     }
 
@@ -79,7 +79,7 @@ impl<G: Gate + Drop, S: Steps> Worker<G, S> {
     {
         let copy = self.steps.copy(event);
         if copy.is_none() {
-            GhostList::note(&mut self.done, &Act::Lacked);
+            GhostList::push(&mut self.done, &Act::Lacked);
         }
         copy
     }
@@ -91,7 +91,7 @@ impl<G: Gate + Drop, S: Steps> Worker<G, S> {
     {
         let stamped = self.steps.call(event);
         let answer = heard_in(stamped.reply());
-        GhostList::note(&mut self.done, &Act::Made(Snapshot::of(&stamped)));
+        GhostList::push(&mut self.done, &Act::Made(Snapshot::of(&stamped)));
         self.steps.seen(stamped);
         answer
     }
@@ -103,7 +103,7 @@ impl<G: Gate + Drop, S: Steps> Worker<G, S> {
     {
         let stamped = self.steps.force();
         let answer = heard_in(stamped.reply());
-        GhostList::note(&mut self.done, &Act::Forced(Snapshot::of(&stamped)));
+        GhostList::push(&mut self.done, &Act::Forced(Snapshot::of(&stamped)));
         self.steps.seen(stamped);
         answer
     }

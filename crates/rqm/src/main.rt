@@ -1,8 +1,9 @@
 //! `rqm`, a recoverable queue manager.
 #![tactic(auto)]
 
-mod words;
+mod args;
 
+use args::Args;
 use rq_files::run_format;
 use rq_levels::sets_of_levels;
 use rq_page::layout::Layout;
@@ -11,7 +12,6 @@ use std::fs::File;
 use std::io::{self, Read, Write};
 use std::process::ExitCode;
 use std::rt::{Env, Files};
-use words::Words;
 
 fn main(rt: HostRuntime) -> ExitCode {
     match run(&rt) {
@@ -24,10 +24,10 @@ fn run<R: Print + Eprint + Input + AllocGlobal + Env + Files<File = File>>(
     rt: &R,
 ) -> io::Result<u8> {
     let mut writer = io::writer(rt);
-    Ok(match words::read(rt)? {
-        Words::Run(layout) => run_input(rt, &mut writer, layout)?,
-        Words::Format(folder, layout) => run_format(rt, &mut writer, folder.as_str(), &layout),
-        Words::Answered(status) => status,
+    Ok(match args::read(rt)? {
+        Args::Run(layout) => run_input(rt, &mut writer, layout)?,
+        Args::Format(folder, layout) => run_format(rt, &mut writer, folder.as_str(), &layout),
+        Args::Answered(status) => status,
     })
 }
 

@@ -13,9 +13,9 @@ use Rattle.rq_disk.specs.declared.device.PageDevice as page_device
 use Rattle.rq_levels.proofs.store_level.StoreLevel.TheSendSync as store_level
 use Rattle.rq_levels.specs.contracts.store_level.StoreLevel as StoreLevel
 use Rattle.rq_levels.specs.contracts.store_level.StoreLevelLevel.TheImpl as as_level
-use Rattle.rq_shared.specs.contracts.shared.Front as Front
+use Rattle.rq_shared.specs.contracts.shared.EngineLock as EngineLock
 use Rattle.rq_shared.specs.declared.sharing.Sharing as sharing
-use Rattle.rq_shared.proofs.Crossing.{front_sync}
+use Rattle.rq_shared.proofs.Crossing.{lock_sync}
 use Rattle.bench.proofs.threads.Common.TheSendSync as common
 use Rattle.bench.proofs.threads.Own.TheSendSync as own
 use Rattle.bench.proofs.threads.four.Lts as lts
@@ -23,7 +23,7 @@ use Rattle.bench.proofs.threads.four.Goals as goal
 
 -- what the first two threads are given may cross to them
 captures : (P L G R : RattleType) (LP : Laws P) (LL : Laws L) (LG : Laws G) (LR : Laws R) (p : page_device.Ghosts P.Denot) (pd : Dict) (l : log_device.Ghosts L.Denot) (ld : Dict) (n : sharing.Ghosts G.Denot) (nd : Dict) (h : ledger.Ghosts G.Denot) (hd : Dict) (r : threads.Ghosts R.Denot) (rd : Dict) (w : wait.Ghosts R.Denot) (wd dp dl : Dict) (κs : Lfts 12)
-    → IsSync (Front.the_row (param 0 P) (param 1 L) StoreLevel.the_row (param 2 G) p l as_level.ghosts n h) → IsSync (param 3 R) → IsSend (param 1 (lts.arg-0-1 P L G R LP LL LG LR p pd l ld n nd h hd r rd w wd dp dl κs))
+    → IsSync (EngineLock.the_row (param 0 P) (param 1 L) StoreLevel.the_row (param 2 G) p l as_level.ghosts n h) → IsSync (param 3 R) → IsSend (param 1 (lts.arg-0-1 P L G R LP LL LG LR p pd l ld n nd h hd r rd w wd dp dl κs))
 captures P L G R LP LL LG LR p pd l ld n nd h hd r rd w wd dp dl κs front rt =
     search (own.the_send, common.the_sync, crosses, sendable) depth 60 fits 20000
 
@@ -31,5 +31,5 @@ pub join-requires-send-F : goal.join-requires-send-F
 join-requires-send-F g c κs within =
     let t = c.type_bounds in
     captures g.row.P g.row.L g.row.G g.row.R g.P.laws g.L.laws g.G.laws g.R.laws g.P.PageDevice g.P.PageDevice-dict g.L.LogDevice g.L.LogDevice-dict g.G.Sharing g.G.Sharing-dict g.G.Ledger g.G.Ledger-dict g.R.Threads g.R.Threads-dict g.R.Wait g.R.Wait-dict g.P.Destruct-dict g.L.Destruct-dict κs
-    (front_sync (param 0 g.row.P) (param 1 g.row.L) StoreLevel.the_row g.P.PageDevice g.L.LogDevice as_level.ghosts t.send-P t.send-L store_level.the_send (param 2 g.row.G) g.G.Sharing g.G.Ledger)
+    (lock_sync (param 0 g.row.P) (param 1 g.row.L) StoreLevel.the_row g.P.PageDevice g.L.LogDevice as_level.ghosts t.send-P t.send-L store_level.the_send (param 2 g.row.G) g.G.Sharing g.G.Ledger)
     t.sync-R

@@ -5,28 +5,28 @@ use Rattle.rq_txn.specs.Rows.{latched_in}
 use Rattle.rq_store.specs.State.{State}
 use Rattle.rq_sound.specs.Groups.{slots_now}
 use Rattle.rq_planner.proofs.Options.{some_told}
-use Rattle.rq_planner.specs.Asked.{asked_by, needed_by, seen}
+use Rattle.rq_planner.specs.Asked.{asked_by, needed_by, known_from}
 use Rattle.rq_planner.proofs.Gathered.{asks_for, asks_none, fewer_left, one_more, wanted_for}
 use Rattle.rq_planner.proofs.Told.{slot_is}
 use Rattle.rq_planner.proofs.gathering.gather.Goals as goal
 
 pub returns-then-has_latched-clause-latched : goal.returns-then-has_latched-clause-latched
 returns-then-has_latched-clause-latched g c =
-    let s : State = seen c.args.pages.now c.args.transactions.now in
+    let s : State = known_from c.args.pages.now c.args.transactions.now in
     let w = wanted_for s c.loop-at.slots c.loop-at.invariant.from c.args.op.now c.requires.asked in
     let e = asks_for (g.B.Level.level c.args.level.now) c.args.op.now c.loop-at.slots c.want.result c.in-Slot.at c.requires.number c.want.ensures c.in-Slot.is in
     w.latched c.in-Slot.at e (ap (latched_in c.args.transactions.now) (sym c.page.ensures) ∙ sym c.has_latched.ensures ∙ c.if-has_latched.true)
 
 pub unwrap-requires : goal.unwrap-requires
 unwrap-requires g c =
-    let s : State = seen c.args.pages.now c.args.transactions.now in
+    let s : State = known_from c.args.pages.now c.args.transactions.now in
     let w = wanted_for s c.loop-at.slots c.loop-at.invariant.from c.args.op.now c.requires.asked in
     let e = asks_for (g.B.Level.level c.args.level.now) c.args.op.now c.loop-at.slots c.want.result c.in-Slot.at c.requires.number c.want.ensures c.in-Slot.is in
     c.slot.ensures.known.1 (w.of_store c.in-Slot.at e)
 
 pub loop-at-smaller : goal.loop-at-smaller
 loop-at-smaller g c =
-    let s : State = seen c.args.pages.now c.args.transactions.now in
+    let s : State = known_from c.args.pages.now c.args.transactions.now in
     let w = wanted_for s c.loop-at.slots c.loop-at.invariant.from c.args.op.now c.requires.asked in
     let e = asks_for (g.B.Level.level c.args.level.now) c.args.op.now c.loop-at.slots c.want.result c.in-Slot.at c.requires.number c.want.ensures c.in-Slot.is in
     fewer_left (needed_by (slots_now s) (asked_by c.args.op.now)) c.loop-at.slots c.add.new.self c.in-Slot.at c.unwrap.result.now c.in_ok-add.ensures.ok (w.one c.in-Slot.at e) (w.new c.in-Slot.at e)
@@ -35,7 +35,7 @@ pub loop-at-preserved : goal.loop-at-preserved
 loop-at-preserved g c =
     let z = c.args.pages.now.sizes in
     let images = c.args.pages.now.images in
-    let s : State = seen c.args.pages.now c.args.transactions.now in
+    let s : State = known_from c.args.pages.now c.args.transactions.now in
     let at : ℕ = c.in-Slot.at in
     let w = wanted_for s c.loop-at.slots c.loop-at.invariant.from c.args.op.now c.requires.asked in
     let e = asks_for (g.B.Level.level c.args.level.now) c.args.op.now c.loop-at.slots c.want.result at c.requires.number c.want.ensures c.in-Slot.is in
@@ -48,7 +48,7 @@ loop-at-preserved g c =
 
 pub returns-clause-all : goal.returns-clause-all
 returns-clause-all g c =
-    let s : State = seen c.args.pages.now c.args.transactions.now in
+    let s : State = known_from c.args.pages.now c.args.transactions.now in
     let w = wanted_for s c.loop-at.slots c.loop-at.invariant.from c.args.op.now c.requires.asked in
     record {
       has = c.loop-at.invariant;

@@ -2,7 +2,7 @@ use Rattle.std.proofs.Common.{List, ◌≡◌, ◌+◌, ◌++◌, ◌∷◌, [],
 use Rattle.std.proofs.lemmas.Grind.{common_steps}
 use Rattle.std.proofs.lemmas.List.{map-append}
 use Rattle.rq_reference.specs.declared.rows.CommittedTxn.{CommittedTxn}
-use Rattle.rq_model.specs.Words.{Op}
+use Rattle.rq_model.specs.Vocabulary.{Op}
 use Rattle.rq_model.specs.History.Entry.{Committed}
 use Rattle.rq_model.specs.Ledger.{Done, ops_of, found}
 use Rattle.rq_reference.specs.Plain.{open_of, done_of, op_of, Stand, next}

@@ -3,7 +3,7 @@ use Rattle.rq_reference.specs.declared.rows.Act.{Act}
 use Rattle.rq_model.specs.History.Entry.{Aborted}
 use Rattle.rq_model.specs.Ledger.{found}
 use Rattle.rq_model.specs.Tests.{has_done}
-use Rattle.rq_model.specs.Words.{first, is_some}
+use Rattle.rq_model.specs.Vocabulary.{first, is_some}
 use Rattle.rq_reference.specs.Plain.{open_of, done_of, op_of, Stand, next}
 use Rattle.rq_model.proofs.Rises.{rising_further}
 use Rattle.rq_reference.proofs.Plainly.{stands_found, without_stands, numbered_without}

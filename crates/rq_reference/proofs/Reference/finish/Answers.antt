@@ -2,7 +2,7 @@ use Rattle.std.proofs.Common.{rules, ◌≡◌, ℕ, ◌+◌, ◌<◌, ap, ◌�
 use Rattle.std.proofs.lemmas.Bool.Decides.{nat_tests}
 use Rattle.rq_reference.specs.declared.rows.Act.{Act}
 use Rattle.rq_reference.specs.declared.rows.OpenTxn.{OpenTxn}
-use Rattle.rq_model.specs.Words.{Op}
+use Rattle.rq_model.specs.Vocabulary.{Op}
 use Rattle.rq_model.specs.Ledger.{Open, Ledger, change}
 use Rattle.rq_reference.specs.Plain.{open_of, done_of, op_of, ops_with, job_of, Stand}
 use Rattle.rq_model.proofs.Rises.{rising_further}

@@ -1,6 +1,6 @@
 use Rattle.std.proofs.Common.{◌∙◌, ap, List, map}
 use Rattle.rq_reference.specs.declared.rows.Act.{Act}
-use Rattle.rq_model.specs.Words.{last}
+use Rattle.rq_model.specs.Vocabulary.{last}
 use Rattle.rq_reference.specs.Plain.{op_of, Stand}
 use Rattle.rq_reference.proofs.Plainly.{stands_found}
 use Rattle.rq_reference.proofs.Reference.newest.Goals as goal

@@ -1,6 +1,6 @@
 use Rattle.std.proofs.Common.{rules, ◌∙◌, ◌&&◌, ap, refl, List, ℕ}
 use Rattle.rq_model.specs.Tests.{log_full}
-use Rattle.rq_model.specs.Words.{first, is_some}
+use Rattle.rq_model.specs.Vocabulary.{first, is_some}
 use Rattle.rq_reference.proofs.Receives.{full_receive}
 use Rattle.rq_reference.proofs.Reference.receiving_place.Goals as goal
 

@@ -1,7 +1,7 @@
 use Rattle.std.proofs.Common.{◌∙◌, ap, sym, List, ℕ}
 use Rattle.rq_model.specs.Ledger.{fresh_one}
 use Rattle.rq_reference.specs.Plain.{pick}
-use Rattle.rq_model.specs.Words.{is_some}
+use Rattle.rq_model.specs.Vocabulary.{is_some}
 use Rattle.rq_reference.proofs.Receives.{none_picked, picked, may_take}
 use Rattle.rq_reference.proofs.Reference.start_receive.Goals as goal
 

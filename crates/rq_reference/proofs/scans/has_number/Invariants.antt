@@ -1,5 +1,5 @@
 use Rattle.std.proofs.Common.{◌≡◌, drop}
-use Rattle.rq_model.specs.Words.{has_number}
+use Rattle.rq_model.specs.Vocabulary.{has_number}
 use Rattle.rq_reference.proofs.scans.has_number.Given as goal
 
 -- the search of what is left is the search of all

@@ -1,7 +1,7 @@
 use Rattle.std.proofs.Common.{Vec, Global, [], ◌+◌, get_or, ap, sym, ◌∙◌, ◌≡◌, ◌++◌, map, take}
 use Rattle.std.specs.List.{filter_map, cons_option}
 use Rattle.rq_model.specs.declared.message.Message.{Message}
-use Rattle.rq_model.specs.Words.{sent_for}
+use Rattle.rq_model.specs.Vocabulary.{sent_for}
 use Rattle.rq_reference.specs.Plain.{op_of}
 use Rattle.rq_reference.proofs.Plainly.{filter_more, pushed, pushed_none}
 use Rattle.rq_reference.proofs.scans.push_sent.Goals as goal

@@ -1,6 +1,6 @@
 use Rattle.std.proofs.Common.{◌≡◌, ◌++◌, map, take}
 use Rattle.std.specs.List.{filter_map}
-use Rattle.rq_model.specs.Words.{sent_for}
+use Rattle.rq_model.specs.Vocabulary.{sent_for}
 use Rattle.rq_reference.specs.Plain.{op_of}
 use Rattle.rq_reference.proofs.scans.push_sent.Given as goal
 

@@ -1,6 +1,6 @@
 use Rattle.std.proofs.Common.{◌≡◌, ◌++◌, map, take}
 use Rattle.std.specs.List.{filter_map}
-use Rattle.rq_model.specs.Words.{taken_from}
+use Rattle.rq_model.specs.Vocabulary.{taken_from}
 use Rattle.rq_reference.specs.Plain.{op_of}
 use Rattle.rq_reference.proofs.scans.push_taken.Given as goal
 

@@ -2,21 +2,21 @@ use Rattle.std.proofs.Common.{◌≡◌, ◌∷◌, Some, rules, length, refl, �
 use Rattle.rq_model.specs.declared.record.Record.TheVariants as records
 use Rattle.rq_model.specs.declared.record.Record.{Record}
 use Rattle.rq_page.specs.Sizes.{Sizes}
-use Rattle.rq_lost.specs.Choices.{least_free}
+use Rattle.rq_loser_undo.specs.Choices.{least_free}
 use Rattle.rq_restart.specs.Aborting.{AbortStops, AbortsFrom, HasGoneOn, IsAbortingFrom, IsShown, RepeatedSince}
 use Rattle.rq_restart.specs.Aborting.IsAborting.{Between}
 use Rattle.rq_restart.specs.Repeating.{Belongs, IsRepeated, paged}
 use Rattle.rq_restart.specs.Undoing.{StepStops}
 use Rattle.rq_restart.proofs.Aborts.{aborting_join, aborting_none, aborts_end, aborts_join, ended_less, gone_join, nothing_gone, one_gone, one_stops, stops_join}
-use Rattle.rq_restart.proofs.DueLists.{working_range}
+use Rattle.rq_restart.proofs.DueLists.{active_range}
 use Rattle.rq_restart.proofs.Rounds.{end_belongs, end_shown, least_in, least_of, shown_way}
 use Rattle.rq_restart.proofs.aborting.end_idle.Goals as goal
 
 pub append-requires-clause-range : goal.append-requires-clause-range
 append-requires-clause-range g c = λ are.
     let kept = c.loop-txn.invariant in
-    let e : least_free c.loop-txn.findings.dues c.loop-txn.findings.history.working ≡ Some c.in-Some.txn = ap (least_free c.loop-txn.findings.dues) (sym c.working.ensures) ∙ sym c.in-Some.ensures in
-    working_range c.loop-txn.log.records are c.in-Some.txn (least_in c.loop-txn.log.records c.loop-txn.findings kept.found c.in-Some.txn e)
+    let e : least_free c.loop-txn.findings.dues c.loop-txn.findings.open_work.active ≡ Some c.in-Some.txn = ap (least_free c.loop-txn.findings.dues) (sym c.active.ensures) ∙ sym c.in-Some.ensures in
+    active_range c.loop-txn.log.records are c.in-Some.txn (least_in c.loop-txn.log.records c.loop-txn.findings kept.found c.in-Some.txn e)
 
 pub loop-txn-init : goal.loop-txn-init
 loop-txn-init g c = record {
@@ -32,7 +32,7 @@ loop-txn-init g c = record {
 pub loop-txn-smaller : goal.loop-txn-smaller
 loop-txn-smaller g c =
     let kept = c.loop-txn.invariant in
-    let e : least_free c.loop-txn.findings.dues c.loop-txn.findings.history.working ≡ Some c.in-Some.txn = ap (least_free c.loop-txn.findings.dues) (sym c.working.ensures) ∙ sym c.in-Some.ensures in
+    let e : least_free c.loop-txn.findings.dues c.loop-txn.findings.open_work.active ≡ Some c.in-Some.txn = ap (least_free c.loop-txn.findings.dues) (sym c.active.ensures) ∙ sym c.in-Some.ensures in
     ended_less c.loop-txn.log.records c.append.new.log.records c.loop-txn.findings c.append.new.findings c.in-Some.txn kept.found c.in_ok-append.ensures.found c.in_ok-append.ensures.records e
 
 pub loop-txn-preserved : goal.loop-txn-preserved
@@ -46,7 +46,7 @@ loop-txn-preserved g c =
     let r : Record = records.AbortEnd t in
     let old = c.loop-txn.pages in
     let new = c.append.new.pages in
-    let e : least_free c.loop-txn.findings.dues c.loop-txn.findings.history.working ≡ Some t = ap (least_free c.loop-txn.findings.dues) (sym c.working.ensures) ∙ sym c.in-Some.ensures in
+    let e : least_free c.loop-txn.findings.dues c.loop-txn.findings.open_work.active ≡ Some t = ap (least_free c.loop-txn.findings.dues) (sym c.active.ensures) ∙ sym c.in-Some.ensures in
     let one : IsRepeated z log r (paged old) (paged new) = subst (λ y. IsRepeated y log r (paged old) (paged new)) kept.sizes made.repeated in
     let ended : AbortsFrom z log old (r ∷ log) = aborts_end z (RepeatedSince z log (paged old)) log t (least_of log c.loop-txn.findings kept.found (Some t) e) in
     let next : HasGoneOn z (AbortsFrom z log old (r ∷ log)) log (r ∷ log) old new (IsShown log old) (IsShown (r ∷ log) new) =
@@ -71,7 +71,7 @@ returns-in_err-append-clause-stops g c =
     let t = c.in-Some.txn in
     let r : Record = records.AbortEnd t in
     let old = c.loop-txn.pages in
-    let e : least_free c.loop-txn.findings.dues c.loop-txn.findings.history.working ≡ Some t = ap (least_free c.loop-txn.findings.dues) (sym c.working.ensures) ∙ sym c.in-Some.ensures in
+    let e : least_free c.loop-txn.findings.dues c.loop-txn.findings.open_work.active ≡ Some t = ap (least_free c.loop-txn.findings.dues) (sym c.active.ensures) ∙ sym c.in-Some.ensures in
     let refusal = c.in_err-append.field-0.0 in
     let step : StepStops (length log) (Belongs z log r (paged old)) refusal = subst (λ y. StepStops (length log) (Belongs y log r (paged old)) refusal) kept.sizes c.in_err-append.ensures.stops in
     let ended : AbortsFrom z log old (r ∷ log) = aborts_end z (RepeatedSince z log (paged old)) log t (least_of log c.loop-txn.findings kept.found (Some t) e) in

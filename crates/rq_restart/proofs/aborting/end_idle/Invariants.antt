@@ -15,4 +15,4 @@ invariant-loop-txn g l = record {
 }
 
 abbrev pub decreases-loop-txn : goal.decreases-loop-txn
-decreases-loop-txn g l = length l.findings.history.working
+decreases-loop-txn g l = length l.findings.open_work.active

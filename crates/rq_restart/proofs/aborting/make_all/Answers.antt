@@ -55,7 +55,7 @@ loop-index-preserved g c =
       gone = subst (λ l. HasGoneOn z (with_writes d.txn n (take (i + 1) ws) first ≡ l) first l c.args.pages.now new before (IsShownWithin l new d n ws (i + 1))) (sym grown)
           (gone_join z (with_writes d.txn n (take i ws) first ≡ log) first log c.args.pages.now old before here kept.gone (Unit {0}) (with_writes d.txn n (take (i + 1) ws) first ≡ r ∷ log) (r ∷ log) new after (λ are u. making_more d.txn n ws i w first log next are) step);
       dues = rest.0 ∙ kept.dues;
-      working = rest.1 ∙ kept.working;
+      active = rest.1 ∙ kept.active;
       sizes = made.sizes ∙ kept.sizes;
       device = made.device ∙ kept.device;
       log = (made.log.0 ∙ kept.log.0, made.log.1 ∙ kept.log.1, made.log.2, made.log.3 ∙ kept.log.3);

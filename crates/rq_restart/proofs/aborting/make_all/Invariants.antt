@@ -9,7 +9,7 @@ invariant-loop-index g l = record {
   found : AreFindings l.findings l.log.records;
   gone : HasGoneOn l.fn.pages.sizes (with_writes l.due.txn l.operation (take l.index l.writes) l.fn.log.records ≡ l.log.records) l.fn.log.records l.log.records l.fn.pages l.pages (IsShownWithin l.fn.log.records l.fn.pages l.due l.operation l.writes 0) (IsShownWithin l.log.records l.pages l.due l.operation l.writes l.index);
   dues : l.findings.dues ≡ l.fn.findings.dues;
-  working : l.findings.history.working ≡ l.fn.findings.history.working;
+  active : l.findings.open_work.active ≡ l.fn.findings.open_work.active;
   sizes : l.pages.sizes ≡ l.fn.pages.sizes;
   device : l.pages.device ≡ l.fn.pages.device;
   log : (l.log.device ≡ l.fn.log.device) × (l.log.forced ≡ l.fn.log.forced) × (l.log.failed ≡ false) × (l.log.settled ≡ l.fn.log.settled);

@@ -10,38 +10,38 @@ use Rattle.rq_restart.specs.Repeating.{IsRepeated, Repeats, paged}
 use Rattle.rq_restart.proofs.Going.{stopped_next}
 use Rattle.rq_restart.proofs.redo.repeat_history.Goals as goal
 
-pub loop-gone-preserved : goal.loop-gone-preserved
-loop-gone-preserved g c =
+pub loop-log_scan-preserved : goal.loop-log_scan-preserved
+loop-log_scan-preserved g c =
     let z = c.args.pages.now.sizes in
-    let front = c.loop-gone.reader.records in
+    let front = c.loop-log_scan.reader.records in
     let r = c.next_into.new.into in
-    let so_far = c.loop-gone.invariant in
+    let so_far = c.loop-log_scan.invariant in
     let grown : c.next_into.new.self.records ≡ r ∷ front = rw c.if-branch.true at c.in_ok-next_into.ensures.some in
     let size : length c.next_into.new.self.records ≡ length front + 1 = (let e = ap length grown in omega (arith, e)) in
     let place : c.last.result ≡ length front + 1 = c.last.ensures ∙ size in
     let made = c.in-Ok.ensures in
-    let one : IsRepeated z front r (paged c.loop-gone.pages) (paged c.repeat_next.new.pages) = subst (λ (y : Sizes). IsRepeated y front r (paged c.loop-gone.pages) (paged c.repeat_next.new.pages)) so_far.sizes (made.repeated front place so_far.found) in
-    let kept : AreKept z c.last.result (paged c.args.pages.now) (paged c.repeat_next.new.pages) c.repeat_next.new.gone.overwritten.numbers.items =
-    subst (λ (y : Sizes). AreKept y c.last.result (paged c.args.pages.now) (paged c.repeat_next.new.pages) c.repeat_next.new.gone.overwritten.numbers.items) so_far.sizes
-    (made.kept (paged c.args.pages.now) (length front) place (subst (λ (y : Sizes). AreKept y (length front) (paged c.args.pages.now) (paged c.loop-gone.pages) c.loop-gone.gone.overwritten.numbers.items) (sym so_far.sizes) so_far.kept)) in
+    let one : IsRepeated z front r (paged c.loop-log_scan.pages) (paged c.check_and_redo.new.pages) = subst (λ (y : Sizes). IsRepeated y front r (paged c.loop-log_scan.pages) (paged c.check_and_redo.new.pages)) so_far.sizes (made.repeated front place so_far.found) in
+    let kept : AreKept z c.last.result (paged c.args.pages.now) (paged c.check_and_redo.new.pages) c.check_and_redo.new.log_scan.overwritten.numbers.items =
+    subst (λ (y : Sizes). AreKept y c.last.result (paged c.args.pages.now) (paged c.check_and_redo.new.pages) c.check_and_redo.new.log_scan.overwritten.numbers.items) so_far.sizes
+    (made.kept (paged c.args.pages.now) (length front) place (subst (λ (y : Sizes). AreKept y (length front) (paged c.args.pages.now) (paged c.loop-log_scan.pages) c.loop-log_scan.log_scan.overwritten.numbers.items) (sym so_far.sizes) so_far.kept)) in
     record {
-      found = subst (AreFindings c.repeat_next.new.gone.findings) (sym grown) (made.found front place so_far.found);
-      repeated = subst (λ (l : List Record). Repeats z l (paged c.args.pages.now) (paged c.repeat_next.new.pages)) (sym grown) (paged c.loop-gone.pages, so_far.repeated, one);
-      kept = subst (λ n. AreKept z n (paged c.args.pages.now) (paged c.repeat_next.new.pages) c.repeat_next.new.gone.overwritten.numbers.items) c.last.ensures kept;
+      found = subst (AreFindings c.check_and_redo.new.log_scan.findings) (sym grown) (made.found front place so_far.found);
+      repeated = subst (λ (l : List Record). Repeats z l (paged c.args.pages.now) (paged c.check_and_redo.new.pages)) (sym grown) (paged c.loop-log_scan.pages, so_far.repeated, one);
+      kept = subst (λ n. AreKept z n (paged c.args.pages.now) (paged c.check_and_redo.new.pages) c.check_and_redo.new.log_scan.overwritten.numbers.items) c.last.ensures kept;
       reading = c.next_into.ensures.reading;
       first = c.next_into.ensures.first ∙ so_far.first;
       counted = c.in_ok-next_into.ensures.cause ∙ so_far.counted;
-      sizes = c.repeat_next.ensures.sizes ∙ so_far.sizes;
-      device = c.repeat_next.ensures.device ∙ so_far.device;
+      sizes = c.check_and_redo.ensures.sizes ∙ so_far.sizes;
+      device = c.check_and_redo.ensures.device ∙ so_far.device;
     }
 
 pub returns-in-Err-clause-stopped : goal.returns-in-Err-clause-stopped
 returns-in-Err-clause-stopped g c =
     let l = g.L.LogDevice in
     let z = c.args.pages.now.sizes in
-    let front = c.loop-gone.reader.records in
+    let front = c.loop-log_scan.reader.records in
     let r = c.next_into.new.into in
-    let so_far = c.loop-gone.invariant in
+    let so_far = c.loop-log_scan.invariant in
     let grown : c.next_into.new.self.records ≡ r ∷ front = rw c.if-branch.true at c.in_ok-next_into.ensures.some in
     let size : length c.next_into.new.self.records ≡ length front + 1 = (let e = ap length grown in omega (arith, e)) in
     let place : c.last.result ≡ length front + 1 = c.last.ensures ∙ size in
@@ -49,5 +49,5 @@ returns-in-Err-clause-stopped g c =
     let first = c.next_into.new.self.first in
     let begins : l.honest c.next_into.new.self.device → BeginsWith (r ∷ front) (l.seen first) = λ h. subst (λ (rs : List Record). BeginsWith rs (l.seen first)) grown (now.begins h) in
     let counted : l.faults c.next_into.new.self.device ≡ l.faults first = c.in_ok-next_into.ensures.cause ∙ so_far.counted ∙ ap l.faults (sym (c.next_into.ensures.first ∙ so_far.first)) in
-    let not : NotRepeated z front r (paged c.loop-gone.pages) c.in-Err.refusal = subst (λ (y : Sizes). NotRepeated y front r (paged c.loop-gone.pages) c.in-Err.refusal) so_far.sizes (c.in-Err.ensures.not front place so_far.found) in
-    stopped_next l z (paged c.args.pages.now) first c.next_into.new.self.device front r (paged c.loop-gone.pages) c.in-Err.refusal (subst AreSpelled grown now.are_spelled) begins so_far.repeated now.read counted not
+    let not : NotRepeated z front r (paged c.loop-log_scan.pages) c.in-Err.refusal = subst (λ (y : Sizes). NotRepeated y front r (paged c.loop-log_scan.pages) c.in-Err.refusal) so_far.sizes (c.in-Err.ensures.not front place so_far.found) in
+    stopped_next l z (paged c.args.pages.now) first c.next_into.new.self.device front r (paged c.loop-log_scan.pages) c.in-Err.refusal (subst AreSpelled grown now.are_spelled) begins so_far.repeated now.read counted not

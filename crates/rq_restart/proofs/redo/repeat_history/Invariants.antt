@@ -5,11 +5,11 @@ use Rattle.rq_restart.specs.Overwritten.{AreKept}
 use Rattle.rq_restart.specs.Repeating.{paged, Repeats}
 use Rattle.rq_restart.proofs.redo.repeat_history.Given as goal
 
-abbrev pub invariant-loop-gone : goal.invariant-loop-gone
-invariant-loop-gone g l = record {
-  found : AreFindings l.gone.findings l.reader.records;
+abbrev pub invariant-loop-log_scan : goal.invariant-loop-log_scan
+invariant-loop-log_scan g l = record {
+  found : AreFindings l.log_scan.findings l.reader.records;
   repeated : Repeats l.fn.pages.sizes l.reader.records (paged l.fn.pages) (paged l.pages);
-  kept : AreKept l.fn.pages.sizes (length l.reader.records) (paged l.fn.pages) (paged l.pages) l.gone.overwritten.numbers.items;
+  kept : AreKept l.fn.pages.sizes (length l.reader.records) (paged l.fn.pages) (paged l.pages) l.log_scan.overwritten.numbers.items;
   reading : IsReading g.L.LogDevice l.reader;
   first : l.reader.first ≡ l.fn.reader.first;
   counted : g.L.LogDevice.faults l.reader.device ≡ g.L.LogDevice.faults l.fn.reader.first;
@@ -17,5 +17,5 @@ invariant-loop-gone g l = record {
   device : l.pages.device ≡ l.fn.pages.device;
 }
 
-abbrev pub decreases-loop-gone : goal.decreases-loop-gone
-decreases-loop-gone g l = 2 ^ 64 - length l.reader.records
+abbrev pub decreases-loop-log_scan : goal.decreases-loop-log_scan
+decreases-loop-log_scan g l = 2 ^ 64 - length l.reader.records

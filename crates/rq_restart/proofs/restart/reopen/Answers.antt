@@ -18,7 +18,7 @@ returns-clause-value g c =
     let opened = c.in_ok-pages in
     let o = opened.field-0 in
     rw c.open-engine.ensures
-    (λ older r. opened_over o.pages.sizes o.pages.images older o.log o.report.incarnation c.from.result o.told.waiting o.told.sent
+    (λ older r. opened_over o.pages.sizes o.pages.images older o.log o.report.incarnation c.from.result o.tables.waiting o.tables.sent
     (opened.ensures.begun older r) (opened.ensures.report older r).incarnation_is (c.from.ensures ∙ opened.ensures.cells) opened.ensures.told.told opened.ensures.told.told_sent)
 
 pub returns-clause-sound : goal.returns-clause-sound
@@ -26,7 +26,7 @@ returns-clause-sound g c =
     let opened = c.in_ok-pages in
     let o = opened.field-0 in
     rw c.open-engine.ensures
-    (λ older r on. subst IsSound (sym (opened_over o.pages.sizes o.pages.images older o.log o.report.incarnation c.from.result o.told.waiting o.told.sent
+    (λ older r on. subst IsSound (sym (opened_over o.pages.sizes o.pages.images older o.log o.report.incarnation c.from.result o.tables.waiting o.tables.sent
     (opened.ensures.begun older r) (opened.ensures.report older r).incarnation_is (c.from.ensures ∙ opened.ensures.cells) opened.ensures.told.told opened.ensures.told.told_sent).1)
     (opened.ensures.sound older r on))
 

@@ -16,127 +16,127 @@ use Rattle.rq_restart.proofs.Moments.{only_read, read_first}
 use Rattle.rq_restart.proofs.Parsing.{log_is, stopped_shut}
 use Rattle.rq_restart.proofs.restart.restart_log.Goals as goal
 
-pub returns-in-Ok-go_on-clause-begun : goal.returns-in-Ok-go_on-clause-begun
-returns-in-Ok-go_on-clause-begun g c = λ older r.
+pub returns-in-Ok-finish_restart-clause-begun : goal.returns-in-Ok-finish_restart-clause-begun
+returns-in-Ok-finish_restart-clause-begun g c = λ older r.
     let read = c.in-Ok.ensures in
-    let same : c.in-Ok.log.records ≡ older = log_is older c.in-Ok.log.records c.in-Ok.log.records _ r.are_spelled r.reads refl read.spelled (read.whole (c.go_on.ensures.honest r.honest)) in
-    subst (λ l. IsBegun l c.go_on.new.log) same c.in-Ok-go_on.ensures.begun
+    let same : c.in-Ok.log.records ≡ older = log_is older c.in-Ok.log.records c.in-Ok.log.records _ r.are_spelled r.reads refl read.spelled (read.whole (c.finish_restart.ensures.honest r.honest)) in
+    subst (λ l. IsBegun l c.finish_restart.new.log) same c.in-Ok-finish_restart.ensures.begun
 
-pub returns-in-Ok-go_on-clause-report : goal.returns-in-Ok-go_on-clause-report
-returns-in-Ok-go_on-clause-report g c = λ older r.
+pub returns-in-Ok-finish_restart-clause-report : goal.returns-in-Ok-finish_restart-clause-report
+returns-in-Ok-finish_restart-clause-report g c = λ older r.
     let read = c.in-Ok.ensures in
-    let same : c.in-Ok.log.records ≡ older = log_is older c.in-Ok.log.records c.in-Ok.log.records _ r.are_spelled r.reads refl read.spelled (read.whole (c.go_on.ensures.honest r.honest)) in
-    let t = c.in-Ok-go_on.report in
-    let z = c.go_on.new.pages.sizes in
-    let now = c.go_on.new.log.records in
-    subst (λ l. Reports z l now t.incarnation t.records t.unfinished t.lost) same (subst (λ (y : Sizes). Reports y c.in-Ok.log.records now t.incarnation t.records t.unfinished t.lost) (sym c.go_on.ensures.sizes) c.in-Ok-go_on.ensures.report)
+    let same : c.in-Ok.log.records ≡ older = log_is older c.in-Ok.log.records c.in-Ok.log.records _ r.are_spelled r.reads refl read.spelled (read.whole (c.finish_restart.ensures.honest r.honest)) in
+    let t = c.in-Ok-finish_restart.report in
+    let z = c.finish_restart.new.pages.sizes in
+    let now = c.finish_restart.new.log.records in
+    subst (λ l. Reports z l now t.incarnation t.records t.unfinished t.lost) same (subst (λ (y : Sizes). Reports y c.in-Ok.log.records now t.incarnation t.records t.unfinished t.lost) (sym c.finish_restart.ensures.sizes) c.in-Ok-finish_restart.ensures.report)
 
-pub returns-in-Ok-go_on-clause-sound : goal.returns-in-Ok-go_on-clause-sound
-returns-in-Ok-go_on-clause-sound g c = λ older r.
+pub returns-in-Ok-finish_restart-clause-sound : goal.returns-in-Ok-finish_restart-clause-sound
+returns-in-Ok-finish_restart-clause-sound g c = λ older r.
     let read = c.in-Ok.ensures in
-    let same : c.in-Ok.log.records ≡ older = log_is older c.in-Ok.log.records c.in-Ok.log.records _ r.are_spelled r.reads refl read.spelled (read.whole (c.go_on.ensures.honest r.honest)) in
-    let mid = c.go_through.new.pages in
+    let same : c.in-Ok.log.records ≡ older = log_is older c.in-Ok.log.records c.in-Ok.log.records _ r.are_spelled r.reads refl read.spelled (read.whole (c.finish_restart.ensures.honest r.honest)) in
+    let mid = c.read_and_redo.new.pages in
     let first = paged c.args.pages in
-    let sizes = c.go_through.ensures.sizes in
+    let sizes = c.read_and_redo.ensures.sizes in
     let repeated : Repeats mid.sizes c.in-Ok.log.records first (paged mid) = subst (λ (y : Sizes). Repeats y c.in-Ok.log.records first (paged mid)) (sym sizes) c.in-Ok.ensures.repeated in
-    let kept : AreKept mid.sizes (length c.in-Ok.log.records) first (paged mid) c.in-Ok.gone.overwritten.numbers.items = subst (λ (y : Sizes). AreKept y (length c.in-Ok.log.records) first (paged mid) c.in-Ok.gone.overwritten.numbers.items) (sym sizes) c.in-Ok.ensures.kept in
-    let now = drop 1 c.go_on.new.log.records in
-    let images = c.go_on.new.pages.images in
+    let kept : AreKept mid.sizes (length c.in-Ok.log.records) first (paged mid) c.in-Ok.log_scan.overwritten.numbers.items = subst (λ (y : Sizes). AreKept y (length c.in-Ok.log.records) first (paged mid) c.in-Ok.log_scan.overwritten.numbers.items) (sym sizes) c.in-Ok.ensures.kept in
+    let now = drop 1 c.finish_restart.new.log.records in
+    let images = c.finish_restart.new.pages.images in
     subst (λ l. IsLeft c.args.pages.sizes (image_in c.args.pages.images) l → IsSound (opened c.args.pages.sizes images now)) same
-    (subst (λ (y : Sizes). IsLeft y (image_in c.args.pages.images) c.in-Ok.log.records → IsSound (opened y images now)) sizes (c.in-Ok-go_on.ensures.sound first repeated))
+    (subst (λ (y : Sizes). IsLeft y (image_in c.args.pages.images) c.in-Ok.log.records → IsSound (opened y images now)) sizes (c.in-Ok-finish_restart.ensures.sound first repeated))
 
 pub returns-in-Ok-clause-err : goal.returns-in-Ok-clause-err
 returns-in-Ok-clause-err g c = λ older r.
     let read = c.in-Ok.ensures in
-    let same : c.in-Ok.log.records ≡ older = log_is older c.in-Ok.log.records c.in-Ok.log.records _ r.are_spelled r.reads refl read.spelled (read.whole (c.go_on.ensures.honest (subst g.L.LogDevice.honest c.give_back-in-Err-go_on.ensures r.honest))) in
-    let mid = c.go_through.new.pages in
+    let same : c.in-Ok.log.records ≡ older = log_is older c.in-Ok.log.records c.in-Ok.log.records _ r.are_spelled r.reads refl read.spelled (read.whole (c.finish_restart.ensures.honest (subst g.L.LogDevice.honest c.give_back-in-Err-finish_restart.ensures r.honest))) in
+    let mid = c.read_and_redo.new.pages in
     let first = paged c.args.pages in
-    let sizes = c.go_through.ensures.sizes in
+    let sizes = c.read_and_redo.ensures.sizes in
     let repeated : Repeats mid.sizes c.in-Ok.log.records first (paged mid) = subst (λ (y : Sizes). Repeats y c.in-Ok.log.records first (paged mid)) (sym sizes) c.in-Ok.ensures.repeated in
-    let kept : AreKept mid.sizes (length c.in-Ok.log.records) first (paged mid) c.in-Ok.gone.overwritten.numbers.items = subst (λ (y : Sizes). AreKept y (length c.in-Ok.log.records) first (paged mid) c.in-Ok.gone.overwritten.numbers.items) (sym sizes) c.in-Ok.ensures.kept in
+    let kept : AreKept mid.sizes (length c.in-Ok.log.records) first (paged mid) c.in-Ok.log_scan.overwritten.numbers.items = subst (λ (y : Sizes). AreKept y (length c.in-Ok.log.records) first (paged mid) c.in-Ok.log_scan.overwritten.numbers.items) (sym sizes) c.in-Ok.ensures.kept in
     let faults = g.L.LogDevice.faults in
     let image = image_in c.args.pages.images in
     let z = c.args.pages.sizes in
-    let e = c.in-Err-go_on.refusal in
+    let e = c.in-Err-finish_restart.refusal in
     let log = c.in-Ok.log in
     let was = log.device in
-    let now = c.go_on.new.log.device in
-    let last = c.give_back-in-Err-go_on.result in
-    let shut : WhyShut z log.records first e (faults was) (faults now) (now ≡ was) = subst (λ (y : Sizes). WhyShut y log.records first e (faults was) (faults now) (now ≡ was)) sizes (c.in-Err-go_on.ensures.shut first repeated kept) in
+    let now = c.finish_restart.new.log.device in
+    let last = c.give_back-in-Err-finish_restart.result in
+    let shut : WhyShut z log.records first e (faults was) (faults now) (now ≡ was) = subst (λ (y : Sizes). WhyShut y log.records first e (faults was) (faults now) (now ≡ was)) sizes (c.in-Err-finish_restart.ensures.shut first repeated kept) in
     subst (λ l. MayBeShut (IsLeft z image l) z l e (faults c.args.log) (faults last)) same
     (subst (λ n. MayBeShut (IsLeft z image log.records) z log.records e n (faults last)) read.cause
-    (subst (λ d. MayBeShut (IsLeft z image log.records) z log.records e (faults was) (faults d)) (sym c.give_back-in-Err-go_on.ensures) (shut_left z log.records first e (faults was) (faults now) (now ≡ was) shut)))
+    (subst (λ d. MayBeShut (IsLeft z image log.records) z log.records e (faults was) (faults d)) (sym c.give_back-in-Err-finish_restart.ensures) (shut_left z log.records first e (faults was) (faults now) (now ≡ was) shut)))
 
 pub returns-clause-err : goal.returns-clause-err
 returns-clause-err g c = λ older r. stopped_shut g.L.LogDevice c.args.pages.sizes older (paged c.args.pages) c.args.log c.in-Err.stopped.device c.in-Err.stopped.refusal r c.in-Err.ensures.stopped
 
-pub returns-in-Ok-go_on-clause-any_moment : goal.returns-in-Ok-go_on-clause-any_moment
-returns-in-Ok-go_on-clause-any_moment g c =
-    let mid = c.go_through.new.pages in
+pub returns-in-Ok-finish_restart-clause-any_moment : goal.returns-in-Ok-finish_restart-clause-any_moment
+returns-in-Ok-finish_restart-clause-any_moment g c =
+    let mid = c.read_and_redo.new.pages in
     let first = paged c.args.pages in
-    let sizes = c.go_through.ensures.sizes in
+    let sizes = c.read_and_redo.ensures.sizes in
     let repeated : Repeats mid.sizes c.in-Ok.log.records first (paged mid) = subst (λ (y : Sizes). Repeats y c.in-Ok.log.records first (paged mid)) (sym sizes) c.in-Ok.ensures.repeated in
-    let kept : AreKept mid.sizes (length c.in-Ok.log.records) first (paged mid) c.in-Ok.gone.overwritten.numbers.items = subst (λ (y : Sizes). AreKept y (length c.in-Ok.log.records) first (paged mid) c.in-Ok.gone.overwritten.numbers.items) (sym sizes) c.in-Ok.ensures.kept in
+    let kept : AreKept mid.sizes (length c.in-Ok.log.records) first (paged mid) c.in-Ok.log_scan.overwritten.numbers.items = subst (λ (y : Sizes). AreKept y (length c.in-Ok.log.records) first (paged mid) c.in-Ok.log_scan.overwritten.numbers.items) (sym sizes) c.in-Ok.ensures.kept in
     let read = c.in-Ok.ensures in
     let z = c.args.pages.sizes in
     let image = image_in c.args.pages.images in
     let log = c.in-Ok.log in
-    let moment : g.L.LogDevice.honest c.go_on.new.log.device → AreSpelled log.records → g.L.LogDevice.seen log.device ≡ spelled log.records
-    → LeavesOnly g.L.LogDevice log.device c.go_on.new.log.device (WasLeftOrBegun g.L.LogDevice z (IsLeft z image log.records) log.device log.records) = λ h are reads. subst (λ (y : Sizes). LeavesOnly g.L.LogDevice log.device c.go_on.new.log.device (WasLeftOrBegun g.L.LogDevice y (IsLeft y image log.records) log.device log.records)) sizes (c.go_on.ensures.any_moment first repeated h are reads) in
-    read_first g.L.LogDevice z image c.args.log log.device c.go_on.new.log.device log.records c.go_on.ensures.honest read.whole read.spelled read.read.same read.read.leaves read.read.moments moment
+    let moment : g.L.LogDevice.honest c.finish_restart.new.log.device → AreSpelled log.records → g.L.LogDevice.seen log.device ≡ spelled log.records
+    → LeavesOnly g.L.LogDevice log.device c.finish_restart.new.log.device (WasLeftOrBegun g.L.LogDevice z (IsLeft z image log.records) log.device log.records) = λ h are reads. subst (λ (y : Sizes). LeavesOnly g.L.LogDevice log.device c.finish_restart.new.log.device (WasLeftOrBegun g.L.LogDevice y (IsLeft y image log.records) log.device log.records)) sizes (c.finish_restart.ensures.any_moment first repeated h are reads) in
+    read_first g.L.LogDevice z image c.args.log log.device c.finish_restart.new.log.device log.records c.finish_restart.ensures.honest read.whole read.spelled read.read.same read.read.leaves read.read.moments moment
 
 pub returns-in-Ok-clause-any_moment_back : goal.returns-in-Ok-clause-any_moment_back
 returns-in-Ok-clause-any_moment_back g c =
-    let mid = c.go_through.new.pages in
+    let mid = c.read_and_redo.new.pages in
     let first = paged c.args.pages in
-    let sizes = c.go_through.ensures.sizes in
+    let sizes = c.read_and_redo.ensures.sizes in
     let repeated : Repeats mid.sizes c.in-Ok.log.records first (paged mid) = subst (λ (y : Sizes). Repeats y c.in-Ok.log.records first (paged mid)) (sym sizes) c.in-Ok.ensures.repeated in
-    let kept : AreKept mid.sizes (length c.in-Ok.log.records) first (paged mid) c.in-Ok.gone.overwritten.numbers.items = subst (λ (y : Sizes). AreKept y (length c.in-Ok.log.records) first (paged mid) c.in-Ok.gone.overwritten.numbers.items) (sym sizes) c.in-Ok.ensures.kept in
+    let kept : AreKept mid.sizes (length c.in-Ok.log.records) first (paged mid) c.in-Ok.log_scan.overwritten.numbers.items = subst (λ (y : Sizes). AreKept y (length c.in-Ok.log.records) first (paged mid) c.in-Ok.log_scan.overwritten.numbers.items) (sym sizes) c.in-Ok.ensures.kept in
     let read = c.in-Ok.ensures in
     let z = c.args.pages.sizes in
     let image = image_in c.args.pages.images in
     let log = c.in-Ok.log in
-    let moment : g.L.LogDevice.honest c.go_on.new.log.device → AreSpelled log.records → g.L.LogDevice.seen log.device ≡ spelled log.records
-    → LeavesOnly g.L.LogDevice log.device c.go_on.new.log.device (WasLeftOrBegun g.L.LogDevice z (IsLeft z image log.records) log.device log.records) = λ h are reads. subst (λ (y : Sizes). LeavesOnly g.L.LogDevice log.device c.go_on.new.log.device (WasLeftOrBegun g.L.LogDevice y (IsLeft y image log.records) log.device log.records)) sizes (c.go_on.ensures.any_moment first repeated h are reads) in
-    subst (λ new. BeginsAtMost g.L.LogDevice z image c.args.log new) (sym c.give_back-in-Err-go_on.ensures)
-    (read_first g.L.LogDevice z image c.args.log log.device c.go_on.new.log.device log.records c.go_on.ensures.honest read.whole read.spelled read.read.same read.read.leaves read.read.moments moment)
+    let moment : g.L.LogDevice.honest c.finish_restart.new.log.device → AreSpelled log.records → g.L.LogDevice.seen log.device ≡ spelled log.records
+    → LeavesOnly g.L.LogDevice log.device c.finish_restart.new.log.device (WasLeftOrBegun g.L.LogDevice z (IsLeft z image log.records) log.device log.records) = λ h are reads. subst (λ (y : Sizes). LeavesOnly g.L.LogDevice log.device c.finish_restart.new.log.device (WasLeftOrBegun g.L.LogDevice y (IsLeft y image log.records) log.device log.records)) sizes (c.finish_restart.ensures.any_moment first repeated h are reads) in
+    subst (λ new. BeginsAtMost g.L.LogDevice z image c.args.log new) (sym c.give_back-in-Err-finish_restart.ensures)
+    (read_first g.L.LogDevice z image c.args.log log.device c.finish_restart.new.log.device log.records c.finish_restart.ensures.honest read.whole read.spelled read.read.same read.read.leaves read.read.moments moment)
 
 pub returns-clause-any_moment_back : goal.returns-clause-any_moment_back
 returns-clause-any_moment_back g c = only_read g.L.LogDevice c.args.pages.sizes (image_in c.args.pages.images) c.args.log c.in-Err.stopped.device c.in-Err.ensures.stopped.read.moments
 
-pub returns-in-Ok-go_on-clause-checked : goal.returns-in-Ok-go_on-clause-checked
-returns-in-Ok-go_on-clause-checked g c =
-    let mid = c.go_through.new.pages in
+pub returns-in-Ok-finish_restart-clause-checked : goal.returns-in-Ok-finish_restart-clause-checked
+returns-in-Ok-finish_restart-clause-checked g c =
+    let mid = c.read_and_redo.new.pages in
     let first = paged c.args.pages in
-    let sizes = c.go_through.ensures.sizes in
+    let sizes = c.read_and_redo.ensures.sizes in
     let repeated : Repeats mid.sizes c.in-Ok.log.records first (paged mid) = subst (λ (y : Sizes). Repeats y c.in-Ok.log.records first (paged mid)) (sym sizes) c.in-Ok.ensures.repeated in
-    let kept : AreKept mid.sizes (length c.in-Ok.log.records) first (paged mid) c.in-Ok.gone.overwritten.numbers.items = subst (λ (y : Sizes). AreKept y (length c.in-Ok.log.records) first (paged mid) c.in-Ok.gone.overwritten.numbers.items) (sym sizes) c.in-Ok.ensures.kept in
+    let kept : AreKept mid.sizes (length c.in-Ok.log.records) first (paged mid) c.in-Ok.log_scan.overwritten.numbers.items = subst (λ (y : Sizes). AreKept y (length c.in-Ok.log.records) first (paged mid) c.in-Ok.log_scan.overwritten.numbers.items) (sym sizes) c.in-Ok.ensures.kept in
     let read = c.in-Ok.ensures in
-    let went = c.in-Ok-go_on.ensures in
+    let went = c.in-Ok-finish_restart.ensures in
     let checked = went.checked first repeated kept in
-    let on = subst (λ (y : Sizes). IsMendedOn y c.in-Ok.log.records checked.0 first (paged c.go_on.new.pages)) sizes checked.1 in
-    (c.in-Ok.log.records, read.spelled, (λ h. read.whole (c.go_on.ensures.honest h)), checked.0, on, checked.2, (let n = went.ready.count in let e = ap length checked.2 in omega (arith, n, e)))
+    let on = subst (λ (y : Sizes). IsMendedOn y c.in-Ok.log.records checked.0 first (paged c.finish_restart.new.pages)) sizes checked.1 in
+    (c.in-Ok.log.records, read.spelled, (λ h. read.whole (c.finish_restart.ensures.honest h)), checked.0, on, checked.2, (let n = went.ready.count in let e = ap length checked.2 in omega (arith, n, e)))
 
 pub returns-in-Ok-clause-refused : goal.returns-in-Ok-clause-refused
 returns-in-Ok-clause-refused g c =
-    let mid = c.go_through.new.pages in
+    let mid = c.read_and_redo.new.pages in
     let first = paged c.args.pages in
-    let sizes = c.go_through.ensures.sizes in
+    let sizes = c.read_and_redo.ensures.sizes in
     let repeated : Repeats mid.sizes c.in-Ok.log.records first (paged mid) = subst (λ (y : Sizes). Repeats y c.in-Ok.log.records first (paged mid)) (sym sizes) c.in-Ok.ensures.repeated in
-    let kept : AreKept mid.sizes (length c.in-Ok.log.records) first (paged mid) c.in-Ok.gone.overwritten.numbers.items = subst (λ (y : Sizes). AreKept y (length c.in-Ok.log.records) first (paged mid) c.in-Ok.gone.overwritten.numbers.items) (sym sizes) c.in-Ok.ensures.kept in
+    let kept : AreKept mid.sizes (length c.in-Ok.log.records) first (paged mid) c.in-Ok.log_scan.overwritten.numbers.items = subst (λ (y : Sizes). AreKept y (length c.in-Ok.log.records) first (paged mid) c.in-Ok.log_scan.overwritten.numbers.items) (sym sizes) c.in-Ok.ensures.kept in
     let l = g.L.LogDevice in
     let read = c.in-Ok.ensures in
-    let back = c.give_back-in-Err-go_on.ensures in
+    let back = c.give_back-in-Err-finish_restart.ensures in
     let z = c.args.pages.sizes in
-    let e = c.in-Err-go_on.refusal in
+    let e = c.in-Err-finish_restart.refusal in
     let log = c.in-Ok.log in
     let was = log.device in
-    let last = c.go_on.new.log.device in
-    let shut : WhyShut z log.records first e (l.faults was) (l.faults last) (last ≡ was) = subst (λ (y : Sizes). WhyShut y log.records first e (l.faults was) (l.faults last) (last ≡ was)) sizes (c.in-Err-go_on.ensures.shut first repeated kept) in
+    let last = c.finish_restart.new.log.device in
+    let shut : WhyShut z log.records first e (l.faults was) (l.faults last) (last ≡ was) = subst (λ (y : Sizes). WhyShut y log.records first e (l.faults was) (l.faults last) (last ≡ was)) sizes (c.in-Err-finish_restart.ensures.shut first repeated kept) in
     inr (
       log.records,
       read.spelled,
-      (λ h. read.whole (c.go_on.ensures.honest (subst l.honest back h))),
+      (λ h. read.whole (c.finish_restart.ensures.honest (subst l.honest back h))),
       subst (λ d. WhyShut z log.records first e (l.faults c.args.log) (l.faults d) (IsRead l c.args.log d)) (sym back)
           (subst (λ n. WhyShut z log.records first e n (l.faults last) (IsRead l c.args.log last)) read.cause
           (shut_by z log.records first e (l.faults was) (l.faults last) (λ same. subst (IsRead l c.args.log) (sym same) read.read) shut)),

@@ -1,5 +1,5 @@
 use Rattle.std.proofs.Common.{◌≡◌, false}
-use Rattle.rq_undone.specs.Pages.{work}
+use Rattle.rq_page_undo.specs.Pages.{work}
 use Rattle.rq_restart.specs.Found.{AreFindings}
 use Rattle.rq_restart.specs.Repeating.{paged}
 use Rattle.rq_restart.proofs.Undos.{IsGoingOn}
@@ -16,4 +16,4 @@ invariant-loop-undo g l = record {
 }
 
 abbrev pub decreases-loop-undo : goal.decreases-loop-undo
-decreases-loop-undo g l = work l.findings.history
+decreases-loop-undo g l = work l.findings.open_work

@@ -8,5 +8,5 @@ returns-then-not-reads c = λ log k f w is. (λ y. absurd (false≢true y), λ q
 
 pub returns : goal.returns
 returns c = λ log k f w is.
-    let j = judged_by log c.args.record.now c.args.history.now c.args.dues.now c.args.numbers.now c.args.ended.now k f w (is.0 c.if-not-reads.false) in
+    let j = judged_by log c.args.record.now c.args.open_work.now c.args.dues.now c.args.numbers.now c.args.ended.now k f w (is.0 c.if-not-reads.false) in
     (λ y. j.0 (c.passes.ensures.0 y), λ q. c.passes.ensures.1 (j.1 q))

@@ -1,5 +1,5 @@
 use Rattle.std.proofs.Common.{sym, ap, ◌∙◌}
-use Rattle.rq_model.specs.Words.{last}
+use Rattle.rq_model.specs.Vocabulary.{last}
 use Rattle.rq_txn.proofs.Standing.{last_get}
 use Rattle.rq_txn.proofs.Transactions.next_undo.Goals as goal
 

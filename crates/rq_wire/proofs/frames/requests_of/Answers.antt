@@ -1,7 +1,7 @@
 use Rattle.std.proofs.Common.{◌≡◌, ◌+◌, List, ◌++◌, ◌∷◌, [], drop, sym, subst, arith, rules}
 use Rattle.std.proofs.lemmas.List.{drop-drop, length-drop}
 use Rattle.rq_wire.specs.declared.request.Request.{Request}
-use Rattle.rq_wire.specs.declared.look.Front.TheVariants.{Frame}
+use Rattle.rq_wire.specs.declared.look.Prefix.TheVariants.{Frame}
 use Rattle.rq_wire.specs.Looks.{looks}
 use Rattle.rq_wire.specs.Stream.{Begins}
 use Rattle.rq_wire.proofs.Fronts.{frame_fits, begins_one}

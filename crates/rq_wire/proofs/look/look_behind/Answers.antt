@@ -1,7 +1,7 @@
 use Rattle.std.proofs.Common.{◌≡◌, ◌+◌, ◌-◌, true, false, length, take, drop, sym, refl, arith, rules}
 use Rattle.std.specs.Prelude.{nat_lt, slice_index, Some}
 use Rattle.std.proofs.lemmas.Bool.Decides.{nat_tests}
-use Rattle.rq_wire.specs.declared.look.Front.TheVariants.{Frame}
+use Rattle.rq_wire.specs.declared.look.Prefix.TheVariants.{Frame}
 use Rattle.rq_wire.specs.Looks.{is_size, is_kind, whole_frame, request_in}
 use Rattle.rq_wire.proofs.Fronts.{picked}
 use Rattle.rq_wire.proofs.look.look_behind.Goals as goal

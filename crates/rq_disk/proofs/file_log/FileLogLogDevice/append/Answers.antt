@@ -22,25 +22,25 @@ returns-then-is_err-clause-crash g c =
     let calls = g.F.Storage.calls c.args.self.now.file in
     let later = g.F.Storage.calls c.put.new.self in
     let is : later ≡ Tried c.args.self.now.end c.args.bytes.now ∷ calls = search rules in
-    tried_crash g.S.Held.bytes calls later c.args.self.now.end c.args.bytes.now is
+    tried_crash g.S.FileContents.bytes calls later c.args.self.now.end c.args.bytes.now is
 
 pub returns-then-is_err-clause-time : goal.returns-then-is_err-clause-time
 returns-then-is_err-clause-time g c =
     let calls = g.F.Storage.calls c.args.self.now.file in
     let later = g.F.Storage.calls c.put.new.self in
     let is : later ≡ Tried c.args.self.now.end c.args.bytes.now ∷ calls = search rules in
-    log_time g.S.Held.bytes calls later (Tried c.args.self.now.end c.args.bytes.now) is
+    log_time g.S.FileContents.bytes calls later (Tried c.args.self.now.end c.args.bytes.now) is
 
 pub returns-clause-crash : goal.returns-clause-crash
 returns-clause-crash g c =
     let calls = g.F.Storage.calls c.args.self.now.file in
     let later = g.F.Storage.calls c.put.new.self in
     let is : later ≡ Took c.args.self.now.end c.args.bytes.now ∷ calls = search rules in
-    took_crash g.S.Held.bytes calls later c.args.self.now.end c.args.bytes.now is
+    took_crash g.S.FileContents.bytes calls later c.args.self.now.end c.args.bytes.now is
 
 pub returns-clause-time : goal.returns-clause-time
 returns-clause-time g c =
     let calls = g.F.Storage.calls c.args.self.now.file in
     let later = g.F.Storage.calls c.put.new.self in
     let is : later ≡ Took c.args.self.now.end c.args.bytes.now ∷ calls = search rules in
-    log_time g.S.Held.bytes calls later (Took c.args.self.now.end c.args.bytes.now) is
+    log_time g.S.FileContents.bytes calls later (Took c.args.self.now.end c.args.bytes.now) is

@@ -9,23 +9,23 @@ returns-clause-durable g c =
     let calls = g.F.Storage.calls c.args.self.now.file in
     let is : g.F.Storage.calls c.sync.new.self ≡ Synced ∷ calls = search rules in
     let runs : has_failed calls ≡ false = search rules in
-    synced_only g.S.Held.bytes calls (g.F.Storage.calls c.sync.new.self) is runs
+    synced_only g.S.FileContents.bytes calls (g.F.Storage.calls c.sync.new.self) is runs
 
 pub returns-clause-crash : goal.returns-clause-crash
 returns-clause-crash g c =
     let calls = g.F.Storage.calls c.args.self.now.file in
     let is : g.F.Storage.calls c.sync.new.self ≡ Synced ∷ calls = search rules in
     let runs : has_failed calls ≡ false = search rules in
-    synced_crash g.S.Held.bytes calls (g.F.Storage.calls c.sync.new.self) is runs
+    synced_crash g.S.FileContents.bytes calls (g.F.Storage.calls c.sync.new.self) is runs
 
 pub returns-clause-time : goal.returns-clause-time
 returns-clause-time g c =
     let calls = g.F.Storage.calls c.args.self.now.file in
     let is : g.F.Storage.calls c.sync.new.self ≡ Synced ∷ calls = search rules in
-    log_time g.S.Held.bytes calls (g.F.Storage.calls c.sync.new.self) Synced is
+    log_time g.S.FileContents.bytes calls (g.F.Storage.calls c.sync.new.self) Synced is
 
 pub returns-then-is_err-clause-time : goal.returns-then-is_err-clause-time
 returns-then-is_err-clause-time g c =
     let calls = g.F.Storage.calls c.args.self.now.file in
     let is : g.F.Storage.calls c.sync.new.self ≡ Missed ∷ calls = search rules in
-    log_time g.S.Held.bytes calls (g.F.Storage.calls c.sync.new.self) Missed is
+    log_time g.S.FileContents.bytes calls (g.F.Storage.calls c.sync.new.self) Missed is

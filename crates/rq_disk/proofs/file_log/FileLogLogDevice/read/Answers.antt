@@ -9,11 +9,11 @@ returns-clause-count g c =
     let calls = g.F.Storage.calls m.file in
     let later = g.F.Storage.calls c.fill.new.self in
     let is : later ≡ Gave c.args.at c.fill.new.into ∷ calls = search rules in
-    λ agree. gave_count g.S.Held.bytes calls later c.args.at c.fill.new.into is m.first m.end c.bytes_between-count.result _ m.length c.bytes_between-count.ensures agree
+    λ agree. gave_count g.S.FileContents.bytes calls later c.args.at c.fill.new.into is m.first m.end c.bytes_between-count.result _ m.length c.bytes_between-count.ensures agree
 
 pub returns-clause-time : goal.returns-clause-time
 returns-clause-time g c =
     let calls = g.F.Storage.calls c.args.self.now.file in
     let later = g.F.Storage.calls c.fill.new.self in
     let is : later ≡ Gave c.args.at c.fill.new.into ∷ calls = search rules in
-    log_time g.S.Held.bytes calls later (Gave c.args.at c.fill.new.into) is
+    log_time g.S.FileContents.bytes calls later (Gave c.args.at c.fill.new.into) is

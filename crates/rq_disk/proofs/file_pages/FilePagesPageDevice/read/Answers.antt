@@ -8,4 +8,4 @@ returns-clause-time g c =
     let calls = g.F.Storage.calls c.args.self.now.file in
     let later = g.F.Storage.calls c.fill.new.self in
     let is : later ≡ Gave c.place_of.result c.fill.new.into ∷ calls = search rules in
-    page_time g.S.Held.pages calls later (Gave c.place_of.result c.fill.new.into) is
+    page_time g.S.FileContents.pages calls later (Gave c.place_of.result c.fill.new.into) is

@@ -8,11 +8,11 @@ returns-then-is_err-clause-time g c =
     let calls = g.F.Storage.calls c.args.self.now.file in
     let later = g.F.Storage.calls c.put.new.self in
     let is : later ≡ Tried c.place_of.result c.args.image.now ∷ calls = search rules in
-    page_time g.S.Held.pages calls later (Tried c.place_of.result c.args.image.now) is
+    page_time g.S.FileContents.pages calls later (Tried c.place_of.result c.args.image.now) is
 
 pub returns-clause-time : goal.returns-clause-time
 returns-clause-time g c =
     let calls = g.F.Storage.calls c.args.self.now.file in
     let later = g.F.Storage.calls c.put.new.self in
     let is : later ≡ Took c.place_of.result c.args.image.now ∷ calls = search rules in
-    page_time g.S.Held.pages calls later (Took c.place_of.result c.args.image.now) is
+    page_time g.S.FileContents.pages calls later (Took c.place_of.result c.args.image.now) is

@@ -4,7 +4,7 @@ use Rattle.rq_model.specs.declared.txn.Txn.{Txn}
 use Rattle.rq_model.specs.History.Call.{Begin}
 use Rattle.rq_model.specs.Replay.Reply.{Gave_txn}
 use Rattle.rq_txn.specs.Rows.{fresh_row}
-use Rattle.rq_sound.specs.Steps.{Steps}
+use Rattle.rq_sound.specs.ModelSteps.{IsModelStep}
 use Rattle.rq_sound.specs.Calls.{next_txn}
 use Rattle.rq_sound.proofs.AbortSteps.{abort_steps}
 use Rattle.rq_engine.proofs.Keeping.{next_rises, kept_begun}
@@ -25,7 +25,7 @@ returns-clause-answered g c h k =
     let full : not (nat_lt (length c.args.self.now.state.rows) 4096) ≡ false = ap (λ (s : State). not (nat_lt (length s.rows) 4096)) (sym (state_is c.self.view_is)) ∙ sym c.if-is_full.ensures in
     let max : c.args.self.now.state.begins ≢ 18446744073709551615 = λ e. c.if-self.false (ap (λ (s : State). s.begins) (state_is c.self.view_is) ∙ e) in
     rw (c.in_ok-begin.ensures.ok)
-    (subst (λ (s : State). Steps c.args.self.now.state Begin (Gave_txn (next s)) (record s { rows = fresh_row (next s) ∷ s.rows; begins = s.begins + 1 })) (sym (state_is c.self.view_is))
+    (subst (λ (s : State). IsModelStep c.args.self.now.state Begin (Gave_txn (next s)) (record s { rows = fresh_row (next s) ∷ s.rows; begins = s.begins + 1 })) (sym (state_is c.self.view_is))
     (abort_steps.begins c.args.self.now.state k c.in_ok-check_running.ensures.running (few c.args.self.now.state 18446744073709551615 full max)))
 
 pub invariant_of-self-2 : goal.invariant_of-self-2

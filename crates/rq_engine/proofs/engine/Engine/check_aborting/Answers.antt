@@ -1,10 +1,10 @@
 use Rattle.std.proofs.Common.{Option, refl, sym, ap, ◌∙◌, arith, subst}
-use Rattle.rq_model.specs.Words.{In, last}
+use Rattle.rq_model.specs.Vocabulary.{In, last}
 use Rattle.rq_txn.specs.declared.Finished.{Finished}
 use Rattle.rq_store.specs.State.{State}
 use Rattle.rq_txn.specs.Rows.{Row, finished_of, found_row}
 use Rattle.rq_engine.proofs.Keeping.{kept_at}
-use Rattle.rq_engine.specs.Kept.{IsDoneKept}
+use Rattle.rq_engine.specs.Invariant.{IsDoneConsistent}
 use Rattle.rq_engine.proofs.AbortCalls.{last_kept, turned_back, back_unknown, not_aborting, back_unfinished, back_ready}
 use Rattle.rq_engine.proofs.Refusals.{some_way, no_way}
 use Rattle.rq_engine.proofs.Opened.{state_is}
@@ -41,4 +41,4 @@ returns-clause-ready g c =
 pub returns-clause-kept : goal.returns-clause-kept
 returns-clause-kept g c =
     let row = kept_at _ _ _ _ c.args.txn _ c.self.invariant.kept c.in-Some.ensures.found in
-    last_kept (λ f. IsDoneKept c.args.self.now.state.sizes f) c.in-Some.row.now.finished.items c.next_undo.result (sym (c.next_undo.ensures ∙ ap (λ (o : Option Row). last (finished_of o)) c.in-Some.ensures.found)) (subst (λ (s : State). (f : Finished) → In f c.in-Some.row.now.finished.items → IsDoneKept s.sizes f) (state_is c.self.view_is) row.done)
+    last_kept (λ f. IsDoneConsistent c.args.self.now.state.sizes f) c.in-Some.row.now.finished.items c.next_undo.result (sym (c.next_undo.ensures ∙ ap (λ (o : Option Row). last (finished_of o)) c.in-Some.ensures.found)) (subst (λ (s : State). (f : Finished) → In f c.in-Some.row.now.finished.items → IsDoneConsistent s.sizes f) (state_is c.self.view_is) row.done)

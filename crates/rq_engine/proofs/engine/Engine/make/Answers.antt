@@ -59,7 +59,7 @@ invariant_of-self g c =
       kept = rw (c.step.ensures, c.set_slot.ensures.sizes, c.append-lsn.ensures.records, c.append-lsn.ensures.forced, sym failed)
           (next_kept _ _ _ _ c.self.invariant.kept c.args.sub c.args.write.now h _ c.set_slot.new.self.images c.append-lsn.new.self.reserved room);
       durable = rw (c.append-lsn.ensures.settled) c.self.invariant.durable;
-      cells = rw (c.note.ensures, c.set_slot.ensures.sizes)
+      cells = rw (c.noted.ensures, c.set_slot.ensures.sizes)
           (knows_written c.self.inside.pages.sizes c.self.inside.pages.images c.set_slot.new.self.images c.self.inside.planner c.args.write.now.at c.args.write.now.after
           (next_slot _ _ _ _ c.self.invariant.kept c.args.sub c.args.write.now h).place c.set_slot.ensures.slots c.self.invariant.cells);
     }

@@ -6,7 +6,7 @@ use Rattle.rq_sound.specs.Plans.{AreUnlatched}
 use Rattle.rq_planner.specs.Answered.{IsHeldUp}
 use Rattle.rq_planner.specs.Asked.{asked_by}
 use Rattle.rq_planner.specs.Asked.Asked.{Do}
-use Rattle.rq_engine.specs.Plans.{IsDeedPlan, bare}
+use Rattle.rq_engine.specs.Plans.{IsDeedPlan, known_part}
 use Rattle.rq_engine.specs.Closes.{IsClosePlan, close_latched}
 use Rattle.rq_engine.specs.Sends.{FitsPlan, under_plan}
 use Rattle.rq_engine.proofs.Leveled.{chain_asked, close_free, close_held, close_one, close_plan, on_none, on_plan}
@@ -50,14 +50,14 @@ pub returns-clause-unlatched : goal.returns-clause-unlatched
 returns-clause-unlatched g c =
     let s = c.args.self.now.state in
     let asked : asked_by c.in-Ok.op ≡ Some (Do (Close c.args.sender)) = chain_asked c.in-Ok.op (Close c.args.sender) c.in-Ok.ensures.op c.in-Ok.ensures.told in
-    on_plan (λ p. (d : Doing) → asked_by c.in-Ok.op ≡ Some (Do d) → IsHeldUp (bare s) (Do d) → ⊥) (λ _. close_latched s c.args.sender ≡ false) c.plan_deed.result
+    on_plan (λ p. (d : Doing) → asked_by c.in-Ok.op ≡ Some (Do d) → IsHeldUp (known_part s) (Do d) → ⊥) (λ _. close_latched s c.args.sender ≡ false) c.plan_deed.result
     (λ p h. close_free s c.args.sender (h (Close c.args.sender) asked)) c.plan_deed.ensures.unlatched
 
 pub returns-clause-latched : goal.returns-clause-latched
 returns-clause-latched g c =
     let s = c.args.self.now.state in
     let asked : asked_by c.in-Ok.op ≡ Some (Do (Close c.args.sender)) = chain_asked c.in-Ok.op (Close c.args.sender) c.in-Ok.ensures.op c.in-Ok.ensures.told in
-    on_none ((d : Doing) → asked_by c.in-Ok.op ≡ Some (Do d) → IsHeldUp (bare s) (Do d)) (close_latched s c.args.sender ≡ true) c.plan_deed.result
+    on_none ((d : Doing) → asked_by c.in-Ok.op ≡ Some (Do d) → IsHeldUp (known_part s) (Do d)) (close_latched s c.args.sender ≡ true) c.plan_deed.result
     (λ h. close_held s c.args.sender (h (Close c.args.sender) asked)) c.plan_deed.ensures.latched
 
 pub returns-clause-refused : goal.returns-clause-refused

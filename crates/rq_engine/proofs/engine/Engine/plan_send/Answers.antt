@@ -6,10 +6,10 @@ use Rattle.rq_sound.specs.Plans.{AreUnlatched}
 use Rattle.rq_planner.specs.Answered.{IsHeldUp}
 use Rattle.rq_planner.specs.Asked.{asked_by}
 use Rattle.rq_planner.specs.Asked.Asked.{Do}
-use Rattle.rq_engine.specs.Plans.{IsDeedPlan, bare}
+use Rattle.rq_engine.specs.Plans.{IsDeedPlan, known_part}
 use Rattle.rq_store.specs.Plans.{IsSendPlan}
 use Rattle.rq_store.specs.State.{State}
-use Rattle.rq_engine.specs.Kept.{total_of}
+use Rattle.rq_engine.specs.Invariant.{total_of}
 use Rattle.rq_engine.specs.Sends.{FitsPlan, SendIsLatched, TakesLowest, under_plan}
 use Rattle.rq_engine.proofs.Leveled.{on_none, on_plan, send_asked, send_plan}
 use Rattle.rq_engine.proofs.Opened.{state_is}
@@ -60,7 +60,7 @@ returns-clause-unlatched g c =
     let s = c.args.self.now.state in
     let short : length c.args.body ≤ 216 = c.as_slice.ensures.within in
     let asked : asked_by c.in-Ok.op ≡ Some (Do (Send c.args.sender c.args.tag c.args.body)) = send_asked c.in-Ok.op c.args.sender c.args.tag c.as_slice.result.now c.args.body c.as_slice.ensures.bytes short c.in-Ok.ensures.op c.in-Ok.ensures.told in
-    on_plan (λ p. (d : Doing) → asked_by c.in-Ok.op ≡ Some (Do d) → IsHeldUp (bare s) (Do d) → ⊥) (λ _. SendIsLatched s c.args.sender → ⊥) c.plan_deed.result
+    on_plan (λ p. (d : Doing) → asked_by c.in-Ok.op ≡ Some (Do d) → IsHeldUp (known_part s) (Do d) → ⊥) (λ _. SendIsLatched s c.args.sender → ⊥) c.plan_deed.result
     (λ p h. (h (Send c.args.sender c.args.tag c.args.body) asked)) c.plan_deed.ensures.unlatched
 
 pub returns-clause-latched : goal.returns-clause-latched
@@ -68,7 +68,7 @@ returns-clause-latched g c =
     let s = c.args.self.now.state in
     let short : length c.args.body ≤ 216 = c.as_slice.ensures.within in
     let asked : asked_by c.in-Ok.op ≡ Some (Do (Send c.args.sender c.args.tag c.args.body)) = send_asked c.in-Ok.op c.args.sender c.args.tag c.as_slice.result.now c.args.body c.as_slice.ensures.bytes short c.in-Ok.ensures.op c.in-Ok.ensures.told in
-    on_none ((d : Doing) → asked_by c.in-Ok.op ≡ Some (Do d) → IsHeldUp (bare s) (Do d)) (SendIsLatched s c.args.sender) c.plan_deed.result
+    on_none ((d : Doing) → asked_by c.in-Ok.op ≡ Some (Do d) → IsHeldUp (known_part s) (Do d)) (SendIsLatched s c.args.sender) c.plan_deed.result
     (λ h. (h (Send c.args.sender c.args.tag c.args.body) asked)) c.plan_deed.ensures.latched
 
 pub returns-clause-refused : goal.returns-clause-refused

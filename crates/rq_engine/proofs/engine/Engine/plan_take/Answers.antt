@@ -7,7 +7,7 @@ use Rattle.rq_sound.specs.Plans.{AreUnlatched}
 use Rattle.rq_planner.specs.Answered.{IsHeldUp}
 use Rattle.rq_planner.specs.Asked.{asked_by}
 use Rattle.rq_planner.specs.Asked.Asked.{Do}
-use Rattle.rq_engine.specs.Plans.{IsDeedPlan, bare}
+use Rattle.rq_engine.specs.Plans.{IsDeedPlan, known_part}
 use Rattle.rq_engine.specs.Sends.{FitsPlan, take_latched, under_plan}
 use Rattle.rq_engine.proofs.Leveled.{chain_asked, on_none, on_plan, take_free, take_plan}
 use Rattle.rq_engine.proofs.engine.Engine.plan_take.Goals as goal
@@ -43,14 +43,14 @@ pub returns-clause-unlatched : goal.returns-clause-unlatched
 returns-clause-unlatched g c =
     let s = c.args.self.now.state in
     let asked : asked_by c.in-Ok.op ≡ Some (Do (Receive c.args.sender)) = chain_asked c.in-Ok.op (Receive c.args.sender) c.in-Ok.ensures.op c.in-Ok.ensures.told in
-    on_plan (λ p. (d : Doing) → asked_by c.in-Ok.op ≡ Some (Do d) → IsHeldUp (bare s) (Do d) → ⊥) (λ _. take_latched s c.args.sender ≡ false) c.plan_deed.result
+    on_plan (λ p. (d : Doing) → asked_by c.in-Ok.op ≡ Some (Do d) → IsHeldUp (known_part s) (Do d) → ⊥) (λ _. take_latched s c.args.sender ≡ false) c.plan_deed.result
     (λ p h. take_free s c.args.sender (h (Receive c.args.sender) asked)) c.plan_deed.ensures.unlatched
 
 pub returns-clause-latched : goal.returns-clause-latched
 returns-clause-latched g c =
     let s = c.args.self.now.state in
     let asked : asked_by c.in-Ok.op ≡ Some (Do (Receive c.args.sender)) = chain_asked c.in-Ok.op (Receive c.args.sender) c.in-Ok.ensures.op c.in-Ok.ensures.told in
-    on_none ((d : Doing) → asked_by c.in-Ok.op ≡ Some (Do d) → IsHeldUp (bare s) (Do d)) (take_latched s c.args.sender ≡ true) c.plan_deed.result
+    on_none ((d : Doing) → asked_by c.in-Ok.op ≡ Some (Do d) → IsHeldUp (known_part s) (Do d)) (take_latched s c.args.sender ≡ true) c.plan_deed.result
     (λ h. (h (Receive c.args.sender) asked)) c.plan_deed.ensures.latched
 
 pub returns-clause-refused : goal.returns-clause-refused

@@ -11,7 +11,7 @@ use Rattle.rq_model.specs.Replay.Reply.{Gave_refusal}
 use Rattle.rq_txn.specs.Rows.{any_under}
 use Rattle.rq_store.specs.State.{State}
 use Rattle.rq_sound.specs.Sound.{IsSound}
-use Rattle.rq_sound.specs.Steps.{Steps}
+use Rattle.rq_sound.specs.ModelSteps.{IsModelStep}
 use Rattle.rq_planner.proofs.Options.{some_told}
 use Rattle.rq_engine.proofs.engine.Engine.start_receive.Goals as goal
 
@@ -57,5 +57,5 @@ returns-in-Ok-clause-latched g c k =
 pub returns-in-Err-start_take-clause-answered : goal.returns-in-Err-start_take-clause-answered
 returns-in-Err-start_take-clause-answered g c h k =
     let same = state_is c.in-Ok-Some.ensures.same in
-    subst (λ (x : State). Steps x (Start_receive c.args.txn) (Gave_refusal c.in-Err-start_take.refusal) c.start_take.new.self.state × HasCause (any_under x.rows) (Start_receive c.args.txn) c.in-Err-start_take.refusal) same
+    subst (λ (x : State). IsModelStep x (Start_receive c.args.txn) (Gave_refusal c.in-Err-start_take.refusal) c.start_take.new.self.state × HasCause (any_under x.rows) (Start_receive c.args.txn) c.in-Err-start_take.refusal) same
     (c.in-Err-start_take.ensures.answered (Start_receive c.args.txn) (inl refl) h (subst (λ (x : State). IsSound x) (sym same) k))

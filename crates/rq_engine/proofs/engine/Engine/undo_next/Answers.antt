@@ -14,8 +14,8 @@ use Rattle.rq_txn.specs.Rows.{Under, any_under, change_row, row_started}
 use Rattle.rq_store.specs.State.{State, ledger_of, op_done}
 use Rattle.rq_sound.specs.Latching.{IsLatched}
 use Rattle.rq_sound.specs.Plans.{AreUnlatched, IsPlannedFrom}
-use Rattle.rq_sound.specs.Steps.{Steps}
-use Rattle.rq_engine.specs.Kept.{IsDoneKept}
+use Rattle.rq_sound.specs.ModelSteps.{IsModelStep}
+use Rattle.rq_engine.specs.Invariant.{IsDoneConsistent}
 use Rattle.rq_engine.specs.Sends.{HasRoom}
 use Rattle.rq_level.specs.Writes.{AreSlotWrites}
 use Rattle.rq_planner.proofs.Options.{some_told}
@@ -123,7 +123,7 @@ returns-in-Err-clause-answered g c h k =
     let f = c.in-Some.done in
     let back : IsTurnedBack s c.args.txn c.in_ok-number.number (Some f) = subst (λ (o : Option Finished). IsTurnedBack s c.args.txn c.in_ok-number.number o) c.in-Some.is c.in_ok-number.ensures.ready in
     let e = c.in-Err.ensures.refused k (is_newest s c.args.txn c.in_ok-number.number f c.in_ok-number.ensures.passes back) in
-    rw (c.in-Err.ensures.same) (subst (λ (r : Refusal). Steps s (Undo_next c.args.txn) (Gave_refusal r) s × HasCause (any_under s.rows) (Undo_next c.args.txn) r) (sym e) (no_memory s (Undo_next c.args.txn) refl c.in_ok-number.ensures.running k))
+    rw (c.in-Err.ensures.same) (subst (λ (r : Refusal). IsModelStep s (Undo_next c.args.txn) (Gave_refusal r) s × HasCause (any_under s.rows) (Undo_next c.args.txn) r) (sym e) (no_memory s (Undo_next c.args.txn) refl c.in_ok-number.ensures.running k))
 
 pub returns-in-Err-clause-latched : goal.returns-in-Err-clause-latched
 returns-in-Err-clause-latched g c k =
@@ -144,8 +144,8 @@ start_undo-requires-clause-slots g c =
 
 pub start_undo-requires-clause-kept : goal.start_undo-requires-clause-kept
 start_undo-requires-clause-kept g c =
-    subst (λ (x : State). IsDoneKept x.sizes c.in-Some.done) (sym (state_is c.in-Ok-Some.ensures.same))
-    (some_told (λ (f : Finished). IsDoneKept c.args.self.now.state.sizes f) c.in_ok-number.newest _ c.in-Some.is c.in_ok-number.ensures.kept)
+    subst (λ (x : State). IsDoneConsistent x.sizes c.in-Some.done) (sym (state_is c.in-Ok-Some.ensures.same))
+    (some_told (λ (f : Finished). IsDoneConsistent c.args.self.now.state.sizes f) c.in_ok-number.newest _ c.in-Some.is c.in_ok-number.ensures.kept)
 
 pub plan_undo-requires : goal.plan_undo-requires
-plan_undo-requires g c = some_told (λ (f : Finished). IsDoneKept c.args.self.now.state.sizes f) c.in_ok-number.newest _ c.in-Some.is c.in_ok-number.ensures.kept
+plan_undo-requires g c = some_told (λ (f : Finished). IsDoneConsistent c.args.self.now.state.sizes f) c.in_ok-number.newest _ c.in-Some.is c.in_ok-number.ensures.kept

@@ -52,4 +52,4 @@ invariant_of-self-2 g c =
     let was = c.self.inside in
     let k : KeepsRead g.L.LogDevice was.past.value s was.first.value was.last = filled g.L.LogDevice was.past.value was.first.value was.last was.stream s c.self.invariant f.left f.place f.read in
     let front : IsFront c.decode_into.new.into c.in-Record.used s.unread = subst (λ (b : List ℕ). IsFront c.decode_into.new.into c.in-Record.used b) c.unread.ensures c.in-Record.ensures.front in
-    subst (λ (rs : List Record). KeepsRead g.L.LogDevice rs c.skip.new.self was.first.value (was.last + 1)) (sym c.note.ensures) (taken g.L.LogDevice was.past.value was.first.value was.last s c.skip.new.self c.decode_into.new.into c.in-Record.used k front c.skip.ensures)
+    subst (λ (rs : List Record). KeepsRead g.L.LogDevice rs c.skip.new.self was.first.value (was.last + 1)) (sym c.push.ensures) (taken g.L.LogDevice was.past.value was.first.value was.last s c.skip.new.self c.decode_into.new.into c.in-Record.used k front c.skip.ensures)

@@ -1,5 +1,5 @@
 use Rattle.std.proofs.Common.{ℕ, List, Bool, false, sym, ◌∙◌, subst}
-use Rattle.rq_level.specs.Kept.{nothing_kept}
+use Rattle.rq_level.specs.LevelState.{nothing_kept}
 use Rattle.rq_level.specs.Meaning.{meaning_of}
 use Rattle.rq_level.specs.Ops.{overwrite_in}
 use Rattle.rq_level.specs.PagePlans.{PlansWrite, WritesFor}

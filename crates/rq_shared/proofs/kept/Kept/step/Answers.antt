@@ -7,5 +7,5 @@ invariant_of-self-2 g c =
     let before = c.self.inside in
     let told = c.apply-reply.ensures.applied in
     let entry : AuditEntry = record { pass = c.args.pass; event = c.in-Ok.noted_event; reply = c.in-Ok-copy_of.noted_reply } in
-    one_noted g.P.PageDevice g.L.LogDevice before.base.value before.engine c.apply-reply.new.self before.audit.items c.note.new.audit.items entry c.args.event c.apply-reply.result
-    (rw c.in-Ok.ensures.audit at c.note.ensures) c.in-Ok.ensures.copy c.in-Ok-copy_of.ensures.same c.self.invariant told.sizes told.honest told.steps
+    one_noted g.P.PageDevice g.L.LogDevice before.base.value before.engine c.apply-reply.new.self before.audit.items c.add_entry.new.audit.items entry c.args.event c.apply-reply.result
+    (rw c.in-Ok.ensures.audit at c.add_entry.ensures) c.in-Ok.ensures.copy c.in-Ok-copy_of.ensures.same c.self.invariant told.sizes told.honest told.steps

@@ -1,0 +1,20 @@
+use Rattle.std.proofs.Common.{◌≡◌, ◌%◌, ◌/◌, ◌*◌, ◌^◌, ℕ, bit_and, slice_set, get_or, subst, sym, arith, w64}
+use Rattle.std.specs.Int.{bit_not}
+use Rattle.std.proofs.lemmas.List.{get_or_read}
+use Rattle.rq_bitset.specs.Flags.{flag_at, OthersStay}
+use Rattle.rq_bitset.proofs.Flagged.{flag_at-clear_same, flag_at-clear_other}
+use Rattle.rq_bitset.proofs.clear_flag.Goals as goal
+
+pub returns-clause-clear : goal.returns-clause-clear
+returns-clause-clear c =
+    let ws = c.args.words.now.items in
+    let p = c.args.place in
+    let read : c.index-word.result.now ≡ get_or ws (p / 64) 0 = get_or_read ws (p / 64) c.index-word.result.now (omega arith) c.index-word.ensures 0 in
+    subst (λ (n : ℕ). flag_at (slice_set ws (p / 64) (bit_and n (bit_not w64 (1 * 2 ^ (p % 64) % 2 ^ 64)))) p ≡ 0) (sym read) (flag_at-clear_same ws p c.requires)
+
+pub returns-clause-others : goal.returns-clause-others
+returns-clause-others c =
+    let ws = c.args.words.now.items in
+    let p = c.args.place in
+    let read : c.index-word.result.now ≡ get_or ws (p / 64) 0 = get_or_read ws (p / 64) c.index-word.result.now (omega arith) c.index-word.ensures 0 in
+    subst (λ (n : ℕ). OthersStay p ws (slice_set ws (p / 64) (bit_and n (bit_not w64 (1 * 2 ^ (p % 64) % 2 ^ 64))))) (sym read) (flag_at-clear_other ws p c.requires)

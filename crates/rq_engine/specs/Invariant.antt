@@ -1,0 +1,101 @@
+-- What is so of the fields of every engine, whatever log it was opened over.
+use Rattle.std.specs.Prelude.{◌≡◌, ℕ, ◌+◌, ◌-◌, ◌*◌, ◌^◌, ◌<◌, ◌≤◌, Bool, false, length, Option, Some, None}
+use Rattle.std.specs.List.{sum_by}
+use Rattle.rq_model.specs.Vocabulary.{In}
+use Rattle.rq_model.specs.Deeds.{deed_in, spelled_deed}
+use Rattle.rq_disk.specs.declared.device.LogDevice as log_device
+use Rattle.rq_log.specs.Logged.{Logged, WasDurable}
+use Rattle.rq_page.specs.Sizes.{Sizes, sender_count}
+use Rattle.rq_views.specs.Plans.{deed_sender}
+use Rattle.rq_level.specs.LevelState.{LevelState}
+use Rattle.rq_level.specs.Writes.{AreSlotWrites}
+use Rattle.rq_txn.specs.declared.Aim.{Aim}
+use Rattle.rq_txn.specs.declared.Aim.TheVariants.{Doing, Undoing}
+use Rattle.rq_txn.specs.declared.Finished.{Finished}
+use Rattle.rq_txn.specs.Rows.{Row, Under, AreDistinct, deed_of}
+use Rattle.rq_groups.specs.Sent.{SentBy, sent_count}
+use Rattle.rq_groups.specs.Waiting.{waits}
+use Rattle.rq_store.specs.State.{State, owed_by}
+use Rattle.rq_planner.specs.Answered.{KnowsCells}
+
+-- the bytes of the record that ends an operation
+abbrev pub end_bytes : Aim → ℕ
+end_bytes (Doing d) = 30 + length (spelled_deed d)
+end_bytes (Undoing lsn d) = 37
+
+-- the bytes of the records that an operation under way has yet to log
+abbrev pub room_of : Option Under → ℕ
+room_of None = 0
+room_of (Some u) = 546 * (length u.writes - u.made) + end_bytes u.aim
+
+abbrev pub room_one : Row → ℕ
+room_one r = room_of r.under
+
+-- what its record will say is in range, and a deed's bytes tell the deed
+abbrev pub EndFits : Aim → Type 0
+EndFits (Doing d) = (1 ≤ length (spelled_deed d)) × (length (spelled_deed d) ≤ 256) × (deed_in (spelled_deed d) ≡ Some d)
+EndFits (Undoing lsn d) = 1 ≤ lsn
+
+-- what is so of an operation under way
+pub record IsUnderConsistent (z : Sizes) (u : Under) : Type 0 where
+  pub number : 1 ≤ u.number
+  pub made : u.made ≤ length u.writes
+  pub slots : AreSlotWrites z u.writes
+  pub sender : deed_sender (deed_of u.aim) < sender_count z
+  pub fits : EndFits u.aim
+
+abbrev pub UnderConsistent : Sizes → Option Under → Type 0
+UnderConsistent z None = Unit {0}
+UnderConsistent z (Some u) = IsUnderConsistent z u
+
+-- what is so of a finished operation
+pub record IsDoneConsistent (z : Sizes) (f : Finished) : Type 0 where
+  pub lsn : 1 ≤ f.lsn
+  pub sender : deed_sender f.deed < sender_count z
+  pub reads : deed_in (spelled_deed f.deed) ≡ Some f.deed
+
+-- what is so of a transaction that has not ended, where no more than so many records are logged or owed
+pub record IsRowConsistent (z : Sizes) (incarnation begins total : ℕ) (r : Row) : Type 0 where
+  pub mine : r.txn.incarnation ≡ incarnation
+  pub low : 1 ≤ r.txn.count
+  pub high : r.txn.count ≤ begins
+  pub number : r.number ≤ total
+  pub done : (f : Finished) → In f r.finished → IsDoneConsistent z f
+  pub under : UnderConsistent z r.under
+
+-- the records that are logged or owed
+abbrev pub total_of : State → ℕ
+total_of s = length s.records + owed_by s.rows
+
+-- how many of its operations are finished
+abbrev pub done_one : Row → ℕ
+done_one r = length r.finished
+
+-- A number and a tag is kept of each sender; no sender has more committed messages, with those that open transactions may
+-- have sent, than there are records.
+pub record AreSendsConsistent (z : Sizes) (records done : ℕ) (sent : SentBy) : Type 0 where
+  pub counts : length sent.counts ≡ sender_count z
+  pub tags : length sent.tags ≡ sender_count z
+  pub few : (g : ℕ) → sent_count sent g + done ≤ records
+
+-- The room in the log for what operations under way have yet to log is reserved, and no more, and with it the log is
+-- not over its greatest length. No more messages wait, with those that open transactions may have sent, than there are
+-- records.
+pub record IsConsistent (s : State) (failed : Bool) (owed reserved : ℕ) : Type 0 where
+  pub incarnation : 1 ≤ s.incarnation
+  pub fails : s.failed ≡ false → failed ≡ false
+  pub owes : owed ≡ owed_by s.rows
+  pub room : sum_by room_one s.rows ≡ reserved
+  pub count : total_of s ≤ 2 ^ 50
+  pub distinct : AreDistinct s.rows
+  pub rows : (r : Row) → In r s.rows → IsRowConsistent s.sizes s.incarnation s.begins (total_of s) r
+  pub senders : length s.waiting ≡ sender_count s.sizes
+  pub few : (g : ℕ) → waits s.waiting g + sum_by done_one s.rows ≤ length s.records
+  pub sent : AreSendsConsistent s.sizes (length s.records) (sum_by done_one s.rows) s.sent
+
+-- And when its log was last forced, a crash would have left that log alone; and its level knows the cells.
+pub record IsEngine {L : Type 0} (g : log_device.Ghosts L) (s : State) (log : Logged L) (owed : ℕ) (known : LevelState)
+    : Type 0 where
+  pub kept : IsConsistent s log.failed owed log.reserved
+  pub durable : WasDurable g log
+  pub cells : KnowsCells s.sizes s.images known

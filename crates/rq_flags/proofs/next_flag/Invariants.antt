@@ -1,7 +1,0 @@
-use Rattle.std.proofs.Common.{◌≡◌, ◌<◌, ◌≤◌, ◌/◌, ℕ}
-use Rattle.rq_flags.specs.Flags.{flag_at}
-use Rattle.rq_flags.proofs.next_flag.Given as goal
-
--- no flag of the words so far is set
-abbrev pub invariant-loop-word : goal.invariant-loop-word
-invariant-loop-word l = (k : ℕ) → l.from ≤ k → k / 64 < l.word → flag_at l.words k ≡ 0

@@ -1,5 +1,0 @@
-use Rattle.rq_links.proofs.Faults.{faults_exact}
-use Rattle.rq_links.proofs.faults_are_exact.Goals as goal
-
-pub returns : goal.returns
-returns c = faults_exact

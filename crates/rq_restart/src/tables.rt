@@ -1,0 +1,72 @@
+//! What the slots of a store in which nothing is open tell: of each sender what waits and what it sent, and which cells are
+//! free.
+ghost use Rattle.std.specs.Prelude.{◌≡◌, [], IfOk};
+ghost use Rattle.rq_pool.specs.Pooled.{IsPool};
+ghost use Rattle.rq_store.specs.Opening.{sent_in_slots, waiting_in};
+ghost use Rattle.rq_planner.specs.Answered.{KnowsCells};
+
+use rq_disk::PageDevice;
+use rq_groups::{Ends, LastTag, Sent, Waiting};
+use rq_level::Level;
+use rq_model::refusal::NoMemory;
+use rq_planner::{Planner, StoreLevels};
+use rq_pool::Pages;
+use std::alloc::Global;
+
+/// By sender, how many messages wait, and what its sends come to; the ends, of which none is held; and what plans
+/// operations, told of each cell.
+#[derive(Drop)]
+pub(crate) struct Tables<B: Level> {
+    pub waiting: Waiting,
+    pub sent: Sent,
+    pub ends: Ends,
+    pub planner: Planner<B>,
+    ghost free: { ends ≡ record { sending = []; receiving = [] } },
+}
+
+/// What the directory tells: of each sender those messages wait that were sent and not received.
+pub(crate) fn read_tables<P: PageDevice + Drop, B: Level>(
+    alloc: Global,
+    pages: &Pages<P>,
+    planner: Planner<B>,
+) -> Result<Tables<B>, NoMemory>
+    requires { KnowsCells pages.now.sizes pages.now.images planner }
+    ensures waiting { IfOk result (λ tables. tables.waiting ≡ waiting_in pages.now.sizes pages.now.images) }
+    ensures sent { IfOk result (λ tables. tables.sent ≡ sent_in_slots pages.now.sizes pages.now.images) }
+    ensures known { IfOk result (λ tables. KnowsCells pages.now.sizes pages.now.images tables.planner) }
+    ensures pool { IsPool pages.now.sizes pages.now.images }
+{
+    let senders = pages.layout().senders();
+    let mut waiting = Waiting::new(alloc, senders)?;
+    let mut sent = Sent::new(alloc, senders)?;
+    for sender in 0..senders {
+        let group = pages.group(sender);
+        waiting.add(sender, group.sent.saturating_sub(group.received));
+        let last = LastTag {
+            sent: group.sent,
+            tag: group.last_tag,
+        };
+        sent.set(sender, last);
+    }
+    let ends = Ends::new(alloc, senders)?;
+    Ok(Tables {
+        waiting,
+        sent,
+        ends,
+        planner,
+    })
+}
+
+/// What plans operations, told of each cell.
+pub(crate) fn planner_of<P: PageDevice + Drop, B: Level>(
+    alloc: Global,
+    pages: &Pages<P>,
+    levels: StoreLevels<B>,
+) -> Planner<B>
+    ensures { KnowsCells pages.now.sizes pages.now.images result }
+{
+    pages.shows_kept();
+    let mut planner = Planner::new(alloc, levels);
+    planner.tell(pages);
+    planner
+}

@@ -1,0 +1,106 @@
+//! What an abort and a request ask first, by the transaction that the session has.
+ghost use Rattle.std.specs.Prelude.{◌≡◌};
+ghost use Rattle.rq_session.specs.Stages.{txn_held};
+ghost use Rattle.rq_session.specs.Rules.{abort, abort_refused, commit, after_request, answered, ended};
+
+use crate::calls::{Action, Ask};
+use crate::stage::{Next, OwnTxn, Purpose, Stage};
+use rq_model::refusal::Refusal;
+use rq_model::txn::Txn;
+use rq_wire::{Answer, Request};
+
+// The transaction.
+pub(crate) fn txn_of(held: OwnTxn) -> Option<Txn>
+    ensures { result ≡ txn_held held }
+{
+    match held {
+        OwnTxn::Free => None,
+        OwnTxn::Open(txn) | OwnTxn::Aborting(txn) => Some(txn),
+        OwnTxn::Left(sub) | OwnTxn::Undoing(sub) => Some(sub.txn),
+    }
+}
+
+// The answer to the request under way, with this transaction kept.
+pub(crate) fn answer_with(answer: Answer, held: OwnTxn) -> Next
+    ensures { result ≡ answered answer held }
+{
+    Next {
+        action: Action::Answer(answer),
+        stage: Stage::Rest(held),
+    }
+}
+
+pub(crate) fn refuse(refusal: Refusal, held: OwnTxn) -> Next
+    ensures { result ≡ answered (Answer.Refused refusal) held }
+{
+    answer_with(Answer::Refused(refusal), held)
+}
+
+pub(crate) fn end() -> Next
+    ensures { result ≡ ended }
+{
+    Next {
+        action: Action::End,
+        stage: Stage::Ended,
+    }
+}
+
+// A call, with the stage that waits for its reply.
+pub(crate) fn call(ask: Ask, stage: Stage) -> Next
+    ensures { result ≡ record { action = Action.Do ask; stage = stage } }
+{
+    Next {
+        action: Action::Do(ask),
+        stage,
+    }
+}
+
+// How an abort begins, or goes on.
+pub(crate) fn abort_on(held: OwnTxn) -> Next
+    ensures { result ≡ abort held }
+{
+    match held {
+        OwnTxn::Free => end(),
+        OwnTxn::Open(txn) => call(Ask::StartAbort(txn), Stage::StartAbort(txn)),
+        OwnTxn::Left(sub) => call(Ask::Step(sub), Stage::Step(sub, Purpose::Clearing)),
+        OwnTxn::Aborting(txn) => call(Ask::UndoNext(txn), Stage::UndoNext(txn)),
+        OwnTxn::Undoing(sub) => call(Ask::Step(sub), Stage::Step(sub, Purpose::Undoing)),
+    }
+}
+
+// An abort that was refused: the answer, or the end of a session that is lost.
+pub(crate) fn stop_abort(lost: bool, refusal: Refusal, held: OwnTxn) -> Next
+    ensures { result ≡ abort_refused lost refusal held }
+{
+    if lost { end() } else { refuse(refusal, held) }
+}
+
+// What a request asks first.
+pub(crate) fn first(held: OwnTxn, request: Request) -> Next
+    ensures { result ≡ after_request held request }
+{
+    match (request, txn_of(held)) {
+        (Request::Begin, None) => call(Ask::Begin, Stage::Begin),
+        (Request::Begin, Some(_)) => refuse(Refusal::TooManyTransactions, held),
+        (Request::LastTag(sender), _) => call(Ask::LastTag(sender), Stage::LastTag(held)),
+        (_, None) => refuse(Refusal::UnknownTransaction, held),
+        (Request::Send { sender, tag, body }, Some(txn)) => call(
+            Ask::StartSend {
+                txn,
+                sender,
+                tag,
+                body,
+            },
+            Stage::Start(held),
+        ),
+        (Request::Receive, Some(txn)) => call(Ask::StartReceive(txn), Stage::Start(held)),
+        (Request::ReceiveFrom(sender), Some(txn)) => {
+            call(Ask::StartReceiveFrom { txn, sender }, Stage::Start(held))
+        }
+        (Request::Close(sender), Some(txn)) => {
+            call(Ask::StartClose { txn, sender }, Stage::Start(held))
+        }
+        (Request::Commit, Some(txn)) => call(Ask::Commit(txn), Stage::Commit(held)),
+        (Request::Abort, Some(_)) => abort_on(held),
+    }
+}

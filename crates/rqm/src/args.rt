@@ -1,0 +1,128 @@
+//! The words of the command line.
+use clap::{Arg, ArgAction, ArgMatches, Command, Error};
+use rq_page::layout::{CELLS_LIMIT, DIRECTORY_LIMIT, Layout};
+use std::alloc::{AllocError, Global};
+use std::io::ErrorKind;
+use std::rt::Env;
+use std::{env, io};
+
+/// The fewest and the most frames that a pool may have. For now the pool holds all pages.
+const FEWEST_FRAMES: i64 = 8;
+
+const MOST_FRAMES: i64 = 66_561;
+
+/// What the words ask for.
+#[derive(Drop)]
+pub enum Args {
+    /// A script over a store of this layout, in memory.
+    Run(Layout),
+    /// A new store of this layout, in this folder.
+    Format(String, Layout),
+    /// Nothing more: the words were answered, with this status.
+    Answered(u8),
+}
+
+/// Reads the words of the process. Words that are not accepted, one that is not UTF-8 among them, and those that ask for
+/// help, are answered here.
+pub fn read<R: Env + Print + Eprint + AllocGlobal>(rt: &R) -> io::Result<Args> {
+    let alloc = rt.alloc();
+    let mut words = Vec::new(alloc);
+    let args = match env::args(rt) {
+        Err(error) if error.kind() == ErrorKind::InvalidData => return not_text(rt),
+        args => args?,
+    };
+    for word in args {
+        words.push(word)?;
+    }
+    match parse(alloc, &words) {
+        Ok(Some(asked)) => Ok(asked),
+        Ok(None) => Ok(Args::Answered(2)),
+        Err(error) => {
+            error.print(rt)?;
+            Ok(Args::Answered(if error.use_stderr() { 2 } else { 0 }))
+        }
+    }
+}
+
+// Answers a word that is not UTF-8, as other words that are not accepted.
+fn not_text<R: Eprint>(rt: &R) -> io::Result<Args> {
+    eprintln!(rt; "error: a word is not UTF-8\n\nFor more information, try '--help'.")?;
+    Ok(Args::Answered(2))
+}
+
+fn parse(alloc: Global, words: &[String]) -> Result<Option<Args>, Error> {
+    let matches = command(alloc)?.try_get_matches_from(words)?;
+    match matches.subcommand() {
+        Some(("run", run)) => Ok(layout(run).map(Args::Run)),
+        Some(("format", format)) => Ok(store(alloc, format)?),
+        _ => Ok(None),
+    }
+}
+
+fn store(alloc: Global, format: &ArgMatches<'_>) -> Result<Option<Args>, AllocError> {
+    let (Some(folder), Some(layout)) = (format.get_str("folder"), layout(format)) else {
+        return Ok(None);
+    };
+    let folder = String::from_str(alloc, folder)?;
+    Ok(Some(Args::Format(folder, layout)))
+}
+
+fn layout(matches: &ArgMatches<'_>) -> Option<Layout> {
+    let directory = matches.get_one::<u32>("directory")?;
+    let cells = matches.get_one::<u32>("cells")?;
+    Layout::new(directory, cells)
+}
+
+fn command<'a>(alloc: Global) -> Result<Command<'a>, AllocError> {
+    Command::new(alloc, "rqm")
+        .bin_name("rqm")?
+        .about("A recoverable queue manager")
+        .subcommand_required(true)
+        .subcommand(run_command(alloc)?)?
+        .subcommand(format_command(alloc)?)
+}
+
+fn run_command<'a>(alloc: Global) -> Result<Command<'a>, AllocError> {
+    Command::new(alloc, "run")
+        .about("Runs a script from standard input over a store in memory")
+        .arg(directory(alloc))?
+        .arg(cells(alloc))?
+        .arg(number(
+            alloc,
+            "frames",
+            "Pages that are kept in memory",
+            FEWEST_FRAMES,
+            MOST_FRAMES,
+        ))
+}
+
+fn format_command<'a>(alloc: Global) -> Result<Command<'a>, AllocError> {
+    Command::new(alloc, "format")
+        .about("Makes the files of an empty store in a folder that is there")
+        .arg(
+            Arg::new(alloc, "folder")
+                .value_name("FOLDER")
+                .help("Where the files are made")
+                .required(true),
+        )?
+        .arg(directory(alloc))?
+        .arg(cells(alloc))
+}
+
+fn directory<'a>(alloc: Global) -> Arg<'a> {
+    let help = "Directory pages, of 15 senders each";
+    number(alloc, "directory", help, 1, i64::from(DIRECTORY_LIMIT)).required(true)
+}
+
+fn cells<'a>(alloc: Global) -> Arg<'a> {
+    let help = "Cell pages, of 15 messages each";
+    number(alloc, "cells", help, 1, i64::from(CELLS_LIMIT)).required(true)
+}
+
+fn number<'a>(alloc: Global, name: &'a str, help: &'a str, least: i64, most: i64) -> Arg<'a> {
+    Arg::new(alloc, name)
+        .long(name)
+        .help(help)
+        .action(ArgAction::Set)
+        .value_parser(clap::value_parser!(u32).range(least..=most))
+}
