@@ -50,19 +50,19 @@ use Rattle.rq_engine.specs.declared.event.Reply.TheVariants as reply
 use Rattle.rq_engine.proofs.Crashing.{fit_kept, runs_through_cuts}
 use Rattle.rq_engine.proofs.Refusals.{refuse, refuse_full}
 use Rattle.rq_engine.proofs.Standing.{close_steps, start_steps}
-use Rattle.rq_page_undo.specs.Analysis.{analysis}
-use Rattle.rq_page_undo.proofs.Undos.{nothing_undone, undoing_none}
+use Rattle.rq_analysis.specs.Analysis.{analysis}
+use Rattle.rq_analysis.proofs.Undos.{nothing_undone, undoing_none}
 use Rattle.rq_restart.specs.Aborting.{RepeatedFrom}
 use Rattle.rq_restart.specs.Checked.{IsEnded, IsGoneThrough}
 use Rattle.rq_chain_check.specs.Links.{AreLinked}
 use Rattle.rq_chain_check.proofs.Sound.{sound_linked}
 use Rattle.rq_restart.specs.Repeating.{Paged, Repeats, slots_on}
-use Rattle.rq_page_undo.specs.Pages.{IsUndone}
+use Rattle.rq_analysis.specs.Pages.{IsUndone}
 use Rattle.rq_restart.specs.Mended.{IsMended}
 use Rattle.rq_restart.specs.Restarting.{LogStops}
 use Rattle.rq_restart.proofs.Aborts.{aborting_none, behind_none, active_lost}
-use Rattle.rq_loser_undo.specs.Recovered.IsRecovered.{NoneLost}
-use Rattle.rq_loser_undo.specs.Recovered.IsRecovering.{Undoing}
+use Rattle.rq_analysis.specs.Recovered.IsRecovered.{NoneLost}
+use Rattle.rq_analysis.specs.Recovered.IsRecovering.{Undoing}
 use Rattle.rq_restart.proofs.Parsing.{one_log}
 use Rattle.rq_core.specs.Devices.{mem_log, mem_pages}
 use Rattle.rq_core.specs.Worked.{hello}

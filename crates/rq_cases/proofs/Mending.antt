@@ -13,10 +13,10 @@ use Rattle.rq_store.specs.Opening.{IsLeft}
 use Rattle.rq_store.specs.Steps.{page_op}
 use Rattle.rq_store.proofs.Cutting.{fits_log_longer, whole_dropped}
 use Rattle.rq_store.proofs.Formatting.{formatted_fits}
-use Rattle.rq_page_undo.specs.Pages.{IsUndone}
-use Rattle.rq_page_undo.proofs.Undos.{nothing_undone, undoing_none}
-use Rattle.rq_loser_undo.specs.Worked.{log_two, sent_due, took_due}
-use Rattle.rq_loser_undo.specs.WorkedMoves.{Pages, cell_is_back, ended, group_is_back, put_back, unlink}
+use Rattle.rq_analysis.specs.Pages.{IsUndone}
+use Rattle.rq_analysis.proofs.Undos.{nothing_undone, undoing_none}
+use Rattle.rq_analysis.specs.Worked.{log_two, sent_due, took_due}
+use Rattle.rq_analysis.specs.WorkedMoves.{Pages, cell_is_back, ended, group_is_back, put_back, unlink}
 use Rattle.rq_restart.specs.Aborting.{AbortsBehind, AreRounds, IsAborting, IsTakenNext, RepeatedFrom, Round, after_round, after_rounds, with_writes}
 use Rattle.rq_restart.specs.Aborting.IsAborting.{Between, Within}
 use Rattle.rq_restart.specs.Aborting.Round.{Ends, TakesBack}

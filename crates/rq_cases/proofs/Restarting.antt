@@ -21,13 +21,13 @@ use Rattle.rq_store.proofs.Formatting.{formatted_fits}
 use Rattle.rq_restart.specs.Repeating.{AreCounted, Paged, Repeats}
 use Rattle.rq_restart.specs.Restarting.{IsBegunOn, IsLeftOn}
 use Rattle.rq_restart.proofs.Begun.{mended_incarnation}
-use Rattle.rq_loser_undo.proofs.Recovering.{recovered_from}
+use Rattle.rq_analysis.proofs.Recovering.{recovered_from}
 use Rattle.rq_restart.proofs.Paths.{kept, kept_extends, kept_spelled, older_spelled}
 use Rattle.rq_model.specs.Commits.{committed_of}
 use Rattle.rq_model.specs.Incarnations.{InOrder, incarnation_of}
 use Rattle.rq_model.specs.declared.refusal.Refusal.TheVariants as why
 use Rattle.rq_model.proofs.Cuts.{extends_commits, incarnation_grows}
-use Rattle.rq_page_undo.proofs.Undos.{nothing_undone}
+use Rattle.rq_analysis.proofs.Undos.{nothing_undone}
 use Rattle.rq_restart.specs.Checked.{IsEnded}
 use Rattle.rq_restart.proofs.Parsing.{one_log}
 use Rattle.rq_core.specs.Devices.{mem_pages}

@@ -3,8 +3,8 @@ use Rattle.std.specs.Prelude.{ℕ, ◌∷◌}
 use Rattle.rq_model.specs.declared.record.Record.TheVariants.{AbortEnd, Commit}
 use Rattle.rq_views.specs.WorkedItems as items
 use Rattle.rq_store.specs.Opening.{opened}
-use Rattle.rq_loser_undo.specs.Worked.{log_two, took_due}
-use Rattle.rq_loser_undo.specs.WorkedMoves.{Pages, cell_is_back, ended, group_is_back, put_back, unlinked}
+use Rattle.rq_analysis.specs.Worked.{log_two, took_due}
+use Rattle.rq_analysis.specs.WorkedMoves.{Pages, cell_is_back, ended, group_is_back, put_back, unlinked}
 use Rattle.rq_restart.specs.Aborting.{AbortsBehind, IsAborting, IsPlannedOn, RepeatedFrom}
 use Rattle.rq_restart.specs.Mended.{HasRepeated, IsBadMend, IsMended}
 use Rattle.rq_restart.specs.Repeating.{Paged}

@@ -30,7 +30,7 @@ use Rattle.rq_sound.specs.Sound.{IsSound}
 use Rattle.rq_store.specs.Fitting.{AllFit}
 use Rattle.rq_engine.specs.Devices.{EachPair}
 use Rattle.rq_restart.specs.Once.{OneLogEach, OneSizeEach}
-use Rattle.rq_loser_undo.specs.Recovered.{IsRecovered}
+use Rattle.rq_analysis.specs.Recovered.{IsRecovered}
 use Rattle.rq_restart.specs.Restarting.{IsReadAs, IsLeftOn, IsOpenedOver, IsRefusedFor, Reports, Stops}
 use Rattle.rq_restart.specs.Underway.{IsLeftOrGoesOn, OfStores, pages_left, log_left}
 use Rattle.rq_restart.specs.declared.restart.Report.{Report as Restart_report}

@@ -45,8 +45,8 @@ use Rattle.rq_engine.specs.declared.event.Progress.TheVariants as progress
 use Rattle.rq_engine.specs.declared.event.Reply.{Reply}
 use Rattle.rq_engine.specs.declared.event.Reply.TheVariants as reply
 use Rattle.rq_restart.specs.Restarting.{IsReadAs, IsLeftOn, IsOpenedOver, Reports}
-use Rattle.rq_loser_undo.specs.Recovered.{IsRecovered, IsRecoveredFrom}
-use Rattle.rq_loser_undo.proofs.Recovering.{recovered_from}
+use Rattle.rq_analysis.specs.Recovered.{IsRecovered, IsRecoveredFrom}
+use Rattle.rq_analysis.proofs.Recovering.{recovered_from}
 use Rattle.rq_restart.proofs.Begun.{mended_incarnation}
 use Rattle.rq_restart.specs.Underway.{IsStore, IsSomeStore, IsLeftOrGoesOn}
 use Rattle.rq_restart.specs.Once.{OneLogEach, AsManyAsTheLog, OneSizeEach}

@@ -18,7 +18,7 @@ use Rattle.rq_pool.specs.Reading.{IsSuperblock}
 use Rattle.rq_store.specs.Fitting.{AllFit}
 use Rattle.rq_store.specs.State.{ledger_of}
 use Rattle.rq_sound.specs.Sound.{IsSound}
-use Rattle.rq_loser_undo.specs.Recovered.{IsRecovered}
+use Rattle.rq_analysis.specs.Recovered.{IsRecovered}
 use Rattle.rq_engine.specs.declared.event.Event.{Event}
 use Rattle.rq_engine.specs.declared.event.Event.TheVariants as event
 use Rattle.rq_engine.specs.declared.event.Reply.{Reply}

@@ -13,11 +13,11 @@ use Rattle.rq_record.specs.declared.step.Step.{Step}
 use Rattle.rq_record.specs.declared.step.Step.TheVariants as steps
 use Rattle.rq_record.specs.Decoding.{IfRecord, IsFront}
 use Rattle.rq_record.specs.Spelling.{BeginsRecord, HoldsRecord, IsRecord, spelling}
-use Rattle.rq_page_undo.specs.declared.open_work.UndoableWrite.{UndoableWrite}
-use Rattle.rq_page_undo.specs.Analysis.{Analysis, has_sub}
-use Rattle.rq_page_undo.specs.Pages.{IsNextUndo, op_less, undo_of, void_of}
-use Rattle.rq_page_undo.specs.Pages.IsNextUndo.{Voids, Undoes}
-use Rattle.rq_page_undo.proofs.Next.{op_turn}
+use Rattle.rq_analysis.specs.declared.open_work.UndoableWrite.{UndoableWrite}
+use Rattle.rq_analysis.specs.Analysis.{Analysis, has_sub}
+use Rattle.rq_analysis.specs.Pages.{IsNextUndo, op_less, undo_of, void_of}
+use Rattle.rq_analysis.specs.Pages.IsNextUndo.{Voids, Undoes}
+use Rattle.rq_analysis.proofs.Next.{op_turn}
 use Rattle.rq_laws.specs.Alike.{PagesAlike}
 
 -- ---- pages

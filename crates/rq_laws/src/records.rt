@@ -3,11 +3,11 @@ ghost use Rattle.std.specs.Prelude.{◌≡◌, [], IfOk};
 
 use rq_disk::LogDevice;
 use rq_log::Log;
-use rq_loser_undo::PendingUndos;
+use rq_analysis::PendingUndos;
 use rq_model::record::Record;
 use rq_model::refusal::{NoMemory, Refusal};
 use rq_model::txn::Lsn;
-use rq_page_undo::OpenWork;
+use rq_analysis::OpenWork;
 use rq_record::{Step, decode};
 
 /// The same bytes are read as the same record, or as a beginning of one, or as none. Excludes a reader that takes a

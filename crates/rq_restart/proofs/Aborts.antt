@@ -19,15 +19,15 @@ use Rattle.rq_store.specs.State.{State}
 use Rattle.rq_store.specs.Steps.{page_op}
 use Rattle.rq_sound.specs.Rows.{comp_end}
 use Rattle.rq_store.specs.Whole.{IsWhole}
-use Rattle.rq_page_undo.specs.Analysis.{Analysis, analysis, without_txn}
-use Rattle.rq_page_undo.proofs.Lists.{filter_less}
-use Rattle.rq_loser_undo.specs.Choices.{least_free}
-use Rattle.rq_loser_undo.proofs.Choosing.{least_there}
+use Rattle.rq_analysis.specs.Analysis.{Analysis, analysis, without_txn}
+use Rattle.rq_analysis.proofs.PageUndoLists.{filter_less}
+use Rattle.rq_analysis.specs.Choices.{least_free}
+use Rattle.rq_analysis.proofs.Choosing.{least_there}
 use Rattle.rq_model.proofs.Lists.{same_self}
-use Rattle.rq_page_undo.proofs.Noting.{noted_active}
+use Rattle.rq_analysis.proofs.Noting.{noted_active}
 use Rattle.rq_restart.specs.declared.findings.Findings.{Findings}
 use Rattle.rq_restart.specs.Found.{AreFindings}
-use Rattle.rq_loser_undo.specs.declared.dues.PendingUndo.{PendingUndo}
+use Rattle.rq_analysis.specs.declared.dues.PendingUndo.{PendingUndo}
 use Rattle.rq_restart.specs.Aborting.{AbortStops, AbortsBehind, AbortsFrom, AbortsOn, ArePlanned, AreRounds, HasGoneOn, IsAborting, IsBadStep, IsNextRound, IsMaking, IsOnItsWay, IsPlannedBack, IsPlannedOn, IsTakenNext, OfStore, RepeatedSince, Round, after_round, after_rounds, with_writes}
 use Rattle.rq_restart.specs.Aborting.Round.{Ends, TakesBack}
 use Rattle.rq_restart.specs.Aborting.IsAborting.{Between, Within}

@@ -24,15 +24,15 @@ use Rattle.rq_store.specs.Whole.{IsWhole}
 use Rattle.rq_store.proofs.Bounds.{may_redo}
 use Rattle.rq_store.proofs.Cutting.{fits_log_longer}
 use Rattle.rq_store.proofs.Redoing.{redone_slots}
-use Rattle.rq_page_undo.specs.Analysis.{Analysis, analysis}
-use Rattle.rq_page_undo.specs.Pages.{IsNextUndo, IsUndoing, UndoesBehind}
-use Rattle.rq_page_undo.specs.Pages.IsNextUndo.{Voids, Undoes}
-use Rattle.rq_page_undo.proofs.Noting.{few_incarnations, noted_incarnation, noted_unfinished, noted_active, pair_of}
-use Rattle.rq_page_undo.proofs.Undos.{undo_keeps_whole, undoing_extends}
-use Rattle.rq_loser_undo.specs.Recovered.{IsRecovered, IsRecoveredFrom}
-use Rattle.rq_loser_undo.proofs.Recovering.{recovered_from}
+use Rattle.rq_analysis.specs.Analysis.{Analysis, analysis}
+use Rattle.rq_analysis.specs.Pages.{IsNextUndo, IsUndoing, UndoesBehind}
+use Rattle.rq_analysis.specs.Pages.IsNextUndo.{Voids, Undoes}
+use Rattle.rq_analysis.proofs.Noting.{few_incarnations, noted_incarnation, noted_unfinished, noted_active, pair_of}
+use Rattle.rq_analysis.proofs.Undos.{undo_keeps_whole, undoing_extends}
+use Rattle.rq_analysis.specs.Recovered.{IsRecovered, IsRecoveredFrom}
+use Rattle.rq_analysis.proofs.Recovering.{recovered_from}
 use Rattle.rq_engine.proofs.Crashing.{spelled_dropped}
-use Rattle.rq_rules.proofs.Whole.{whole_logs}
+use Rattle.rq_analysis.proofs.Whole.{whole_logs}
 use Rattle.rq_restart.specs.Aborting.IsAborting.{Between}
 use Rattle.rq_restart.specs.Mended.{ArePlannedFrom, IsMended}
 use Rattle.rq_restart.specs.Refused.{BeginsNot, WhyNotBegun}

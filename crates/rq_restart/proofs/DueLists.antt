@@ -9,11 +9,11 @@ use Rattle.rq_model.specs.Vocabulary.{In, has_txn, same_txn}
 use Rattle.rq_model.proofs.Lists.{In-filter, same_is, same_self}
 use Rattle.rq_record.specs.Spelling.{IsTxnInRange}
 use Rattle.rq_log.specs.Spelled.{AreSpelled}
-use Rattle.rq_page_undo.specs.Analysis.{analysis, with_txn, without_txn}
-use Rattle.rq_loser_undo.specs.declared.dues.PendingUndo.{PendingUndo}
-use Rattle.rq_loser_undo.specs.Choices.{least_free, lesser_in}
-use Rattle.rq_loser_undo.specs.Dues.{any_due, but_own, due_of, dues}
-use Rattle.rq_loser_undo.proofs.Planning.{in_newest}
+use Rattle.rq_analysis.specs.Analysis.{analysis, with_txn, without_txn}
+use Rattle.rq_analysis.specs.declared.dues.PendingUndo.{PendingUndo}
+use Rattle.rq_analysis.specs.Choices.{least_free, lesser_in}
+use Rattle.rq_analysis.specs.Dues.{any_due, but_own, due_of, dues}
+use Rattle.rq_analysis.proofs.Planning.{in_newest}
 
 own_in : (t : Txn) (ds : List PendingUndo) (d : PendingUndo) → In d (but_own t ds) → In d ds
 own_in t ds d i = (In-filter (λ (x : PendingUndo). not (due_of t x)) ds d i).0

@@ -3,10 +3,10 @@ use Rattle.std.proofs.Common.{◌≡◌, ◌↔◌, Bool, true, false, IsTrue, L
 use Rattle.std.proofs.lemmas.Bool.{false≢true}
 use Rattle.rq_model.specs.declared.record.Record.{Record}
 use Rattle.rq_model.specs.Incarnations.{InOrder, IsNext, incarnation_of}
-use Rattle.rq_page_undo.specs.Analysis.{Analysis}
-use Rattle.rq_page_undo.proofs.Noting.{noted_incarnation}
-use Rattle.rq_rules.specs.ScanState.{IsScanStateOf}
-use Rattle.rq_rules.specs.Rules.{CanBeRead, FollowAll, FollowsRules}
+use Rattle.rq_analysis.specs.Analysis.{Analysis}
+use Rattle.rq_analysis.proofs.Noting.{noted_incarnation}
+use Rattle.rq_analysis.specs.ScanState.{IsScanStateOf}
+use Rattle.rq_analysis.specs.Rules.{CanBeRead, FollowAll, FollowsRules}
 use Rattle.rq_restart.specs.declared.findings.Findings.{Findings}
 use Rattle.rq_restart.specs.Found.{AreFindings, MayFollow}
 

@@ -15,11 +15,11 @@ use Rattle.rq_store.specs.Fitting.{oldest}
 use Rattle.rq_store.specs.Whole.{IsWhole}
 use Rattle.rq_store.proofs.Cutting.{whole_dropped}
 use Rattle.rq_store.proofs.Bounds.{may_redo}
-use Rattle.rq_page_undo.specs.Analysis.{analysis, analysis_after}
-use Rattle.rq_loser_undo.specs.Dues.{dues, dues_after}
-use Rattle.rq_loser_undo.specs.Numbers.{numbers_after}
-use Rattle.rq_rules.specs.ScanState.{ended_after}
-use Rattle.rq_rules.proofs.Whole.{whole_logs}
+use Rattle.rq_analysis.specs.Analysis.{analysis, analysis_after}
+use Rattle.rq_analysis.specs.Dues.{dues, dues_after}
+use Rattle.rq_analysis.specs.Numbers.{numbers_after}
+use Rattle.rq_analysis.specs.ScanState.{ended_after}
+use Rattle.rq_analysis.proofs.Whole.{whole_logs}
 use Rattle.rq_restart.specs.declared.findings.Findings.{Findings}
 use Rattle.rq_restart.specs.Found.{AreFindings, MayFollow, findings_after}
 use Rattle.rq_restart.specs.Refused.{IsBadNext, IsStoppedBehind, NotRepeated}

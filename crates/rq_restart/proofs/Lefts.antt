@@ -7,8 +7,8 @@ use Rattle.rq_store.specs.Opening.{IsLeft}
 use Rattle.rq_store.specs.Steps.{Continues}
 use Rattle.rq_store.specs.Whole.{IsWhole}
 use Rattle.rq_store.proofs.Cutting.{fits_log_longer}
-use Rattle.rq_page_undo.specs.Pages.{IsUndoing}
-use Rattle.rq_page_undo.proofs.Undos.{undoing_whole}
+use Rattle.rq_analysis.specs.Pages.{IsUndoing}
+use Rattle.rq_analysis.proofs.Undos.{undoing_whole}
 
 pub front_continues : (log now front : List Record) → front ++ log ≡ now → Continues log now
 front_continues log now front are = (length front, ap (drop (length front)) (sym are) ∙ drop_at front log (length front) refl)

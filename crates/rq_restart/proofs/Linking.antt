@@ -8,7 +8,7 @@ use Rattle.rq_page.specs.Sizes.{Sizes}
 use Rattle.rq_pool.specs.Pooled.{IsPool, Pooled}
 use Rattle.rq_views.specs.Stored.{slots_in}
 use Rattle.rq_store.specs.Opening.{IsLeft}
-use Rattle.rq_loser_undo.specs.Recovered.{IsRecovered}
+use Rattle.rq_analysis.specs.Recovered.{IsRecovered}
 use Rattle.rq_chain_check.specs.Links.{AreLinked}
 use Rattle.rq_chain_check.proofs.Faults.{faults_exact}
 use Rattle.rq_chain_check.proofs.Sound.{sound_linked}

@@ -16,24 +16,24 @@ use Rattle.rq_store.specs.State.{State}
 use Rattle.rq_store.proofs.Fitting.{oldest_all}
 use Rattle.rq_store.proofs.Redoing.{redone_slots}
 use Rattle.rq_sound.specs.Sound.{IsSound}
-use Rattle.rq_page_undo.specs.Analysis.{analysis}
-use Rattle.rq_page_undo.specs.Pages.{IsNextUndo, IsUndone, UndoesBehind}
-use Rattle.rq_page_undo.specs.Pages.IsNextUndo.{Voids, Undoes}
-use Rattle.rq_page_undo.specs.Theorems.{IsUndoneFrom}
-use Rattle.rq_page_undo.proofs.Undos.{undone_from}
-use Rattle.rq_loser_undo.specs.declared.dues.PendingUndo.{PendingUndo}
-use Rattle.rq_loser_undo.specs.Choices.{least_free}
-use Rattle.rq_loser_undo.specs.Dues.{dues}
-use Rattle.rq_loser_undo.specs.Lost.{IsRepeated, lost_store}
-use Rattle.rq_loser_undo.specs.Moves.{newest_store}
-use Rattle.rq_loser_undo.specs.Recovered.{IsRecovered, IsRecovering}
-use Rattle.rq_loser_undo.specs.Recovered.IsRecovered.{AllAborted, NoneLost}
-use Rattle.rq_loser_undo.specs.Recovered.IsRecovering.{Aborting, Undoing}
-use Rattle.rq_loser_undo.specs.Walk.{IsBetween}
-use Rattle.rq_loser_undo.proofs.Owing.{first_due}
-use Rattle.rq_loser_undo.proofs.Logging.{come_sound}
-use Rattle.rq_loser_undo.proofs.Store.{lost_sound, some_incarnation}
-use Rattle.rq_loser_undo.proofs.Walking.{aborts_come}
+use Rattle.rq_analysis.specs.Analysis.{analysis}
+use Rattle.rq_analysis.specs.Pages.{IsNextUndo, IsUndone, UndoesBehind}
+use Rattle.rq_analysis.specs.Pages.IsNextUndo.{Voids, Undoes}
+use Rattle.rq_analysis.specs.PageUndoTheorems.{IsUndoneFrom}
+use Rattle.rq_analysis.proofs.Undos.{undone_from}
+use Rattle.rq_analysis.specs.declared.dues.PendingUndo.{PendingUndo}
+use Rattle.rq_analysis.specs.Choices.{least_free}
+use Rattle.rq_analysis.specs.Dues.{dues}
+use Rattle.rq_analysis.specs.Lost.{IsRepeated, lost_store}
+use Rattle.rq_analysis.specs.Moves.{newest_store}
+use Rattle.rq_analysis.specs.Recovered.{IsRecovered, IsRecovering}
+use Rattle.rq_analysis.specs.Recovered.IsRecovered.{AllAborted, NoneLost}
+use Rattle.rq_analysis.specs.Recovered.IsRecovering.{Aborting, Undoing}
+use Rattle.rq_analysis.specs.Walk.{IsBetween}
+use Rattle.rq_analysis.proofs.Owing.{first_due}
+use Rattle.rq_analysis.proofs.Logging.{come_sound}
+use Rattle.rq_analysis.proofs.Store.{lost_sound, some_incarnation}
+use Rattle.rq_analysis.proofs.Walking.{aborts_come}
 use Rattle.rq_restart.specs.Aborting.{AbortStops, AbortsFrom, AbortsOn, HasGoneOn, IsAborting, IsAbortingFrom, IsFull, IsOnItsWay, IsShown, RepeatedFrom, RepeatedSince}
 use Rattle.rq_restart.specs.Aborting.IsOnItsWay.{Between, Within}
 use Rattle.rq_restart.specs.Checked.{IsEnded}

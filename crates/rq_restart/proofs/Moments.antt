@@ -15,7 +15,7 @@ use Rattle.rq_restart.specs.Repeating.{Paged}
 use Rattle.rq_restart.specs.Restarting.{IsBegunOn, WasLeftOrBegun, WasLeftOrForced, BeginsAtMost}
 use Rattle.rq_disk.specs.Device.{Images}
 use Rattle.rq_page.specs.Sizes.{Sizes}
-use Rattle.rq_loser_undo.specs.Recovered.{IsRecovered}
+use Rattle.rq_analysis.specs.Recovered.{IsRecovered}
 use Rattle.rq_restart.specs.Mended.{IsMended}
 use Rattle.rq_restart.proofs.Begun.{begun_behind}
 

@@ -23,9 +23,9 @@ use Rattle.rq_engine.specs.Opened.{OpenStore, pooled}
 use Rattle.rq_engine.specs.Devices.{EachPair, Path}
 use Rattle.rq_engine.specs.Devices.Path.{Start, Pages, Log}
 use Rattle.rq_engine.proofs.Crashing.{spelled_dropped}
-use Rattle.rq_loser_undo.specs.Recovered.{IsRecovered}
-use Rattle.rq_loser_undo.proofs.Recovering.{recovered_from}
-use Rattle.rq_loser_undo.proofs.Stopping.{plain_drop}
+use Rattle.rq_analysis.specs.Recovered.{IsRecovered}
+use Rattle.rq_analysis.proofs.Recovering.{recovered_from}
+use Rattle.rq_analysis.proofs.Stopping.{plain_drop}
 use Rattle.rq_restart.specs.declared.restart.Report.{Report}
 use Rattle.rq_restart.specs.declared.restart.Stopped.{Stopped}
 use Rattle.rq_restart.specs.Restarting.{BeginsFrom, IsBegunBehind, IsBegunFrom, IsBegunOn, IsLeftOn, IsOpenedOver, IsReadAs, Reports, WasChecked}

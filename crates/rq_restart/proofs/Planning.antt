@@ -31,9 +31,9 @@ use Rattle.rq_planner.specs.Asked.{to_undo}
 use Rattle.rq_planner.specs.Asked.Asked.{Undo}
 use Rattle.rq_planner.specs.Backs.{CanBeTakenBack, IsRefusedBack, IsTakingBack}
 use Rattle.rq_chain_check.proofs.Chains.{sender_same}
-use Rattle.rq_loser_undo.specs.declared.dues.PendingUndo.{PendingUndo}
-use Rattle.rq_loser_undo.specs.Dues.{deed_due}
-use Rattle.rq_loser_undo.specs.Walk.{ShowsUndone, StandsLast}
+use Rattle.rq_analysis.specs.declared.dues.PendingUndo.{PendingUndo}
+use Rattle.rq_analysis.specs.Dues.{deed_due}
+use Rattle.rq_analysis.specs.Walk.{ShowsUndone, StandsLast}
 use Rattle.rq_restart.specs.Aborting.{IsPlannedBack, PlanStops, blamed_on}
 
 -- ---- what a sound store shows to be done last, with nothing under way, can be taken back

@@ -30,22 +30,22 @@ use Rattle.rq_store.specs.Whole.{IsWhole}
 use Rattle.rq_sound.specs.Plans.{IsPlannedFrom}
 use Rattle.rq_sound.specs.Rows.{comp_end}
 use Rattle.rq_sound.specs.Sound.{IsSound}
-use Rattle.rq_page_undo.specs.Analysis.{Analysis, analysis, without_txn}
+use Rattle.rq_analysis.specs.Analysis.{Analysis, analysis, without_txn}
 use Rattle.rq_sound.specs.Inverses.{InverseTakesLowest}
-use Rattle.rq_loser_undo.specs.declared.dues.PendingUndo.{PendingUndo}
-use Rattle.rq_loser_undo.specs.Choices.{least_free}
-use Rattle.rq_loser_undo.specs.Dues.{any_due, but_own, deed_due, dues}
-use Rattle.rq_loser_undo.specs.Moves.{newest_store}
-use Rattle.rq_loser_undo.specs.Numbers.{number_of, numbers}
-use Rattle.rq_loser_undo.specs.Walk.{IsBetween, IsWithin, ShowsUndone}
-use Rattle.rq_loser_undo.proofs.Choosing.{chosen_back, least_there}
-use Rattle.rq_loser_undo.proofs.Logging.{write_whole}
-use Rattle.rq_loser_undo.proofs.Moving.{moves_sound}
-use Rattle.rq_loser_undo.proofs.Numbering.{kept}
-use Rattle.rq_loser_undo.proofs.Owing.{rest_due}
-use Rattle.rq_loser_undo.proofs.Planning.{due_may, due_reads}
-use Rattle.rq_loser_undo.proofs.Recovering.{behind}
-use Rattle.rq_loser_undo.proofs.Walking.{aborts_go_on}
+use Rattle.rq_analysis.specs.declared.dues.PendingUndo.{PendingUndo}
+use Rattle.rq_analysis.specs.Choices.{least_free}
+use Rattle.rq_analysis.specs.Dues.{any_due, but_own, deed_due, dues}
+use Rattle.rq_analysis.specs.Moves.{newest_store}
+use Rattle.rq_analysis.specs.Numbers.{number_of, numbers}
+use Rattle.rq_analysis.specs.Walk.{IsBetween, IsWithin, ShowsUndone}
+use Rattle.rq_analysis.proofs.Choosing.{chosen_back, least_there}
+use Rattle.rq_analysis.proofs.Logging.{write_whole}
+use Rattle.rq_analysis.proofs.Moving.{moves_sound}
+use Rattle.rq_analysis.proofs.Numbering.{kept}
+use Rattle.rq_analysis.proofs.Owing.{rest_due}
+use Rattle.rq_analysis.proofs.Planning.{due_may, due_reads}
+use Rattle.rq_analysis.proofs.Recovering.{behind}
+use Rattle.rq_analysis.proofs.Walking.{aborts_go_on}
 use Rattle.rq_restart.specs.declared.findings.Findings.{Findings}
 use Rattle.rq_restart.specs.Aborting.{AbortStops, CannotBeTaken, IsAbortingFrom, IsBadStep, IsNotUndone, IsOnItsWay, IsShown, IsShownWithin, IsTakenNext, OfStore, PlanStops, RepeatedSince}
 use Rattle.rq_restart.specs.Aborting.IsBadStep.{BadDue}

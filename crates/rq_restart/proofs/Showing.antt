@@ -22,12 +22,12 @@ use Rattle.rq_store.proofs.Redoing.{redo_one, redone_slots}
 use Rattle.rq_store.proofs.Owing.{address_is}
 use Rattle.rq_sound.specs.Calls.{IsPutIn}
 use Rattle.rq_sound.specs.Sound.{IsSound}
-use Rattle.rq_loser_undo.specs.Moves.{newest_store}
-use Rattle.rq_loser_undo.specs.Walk.{IsBetween, IsCome, IsWithin, showing}
-use Rattle.rq_loser_undo.proofs.Moving.{moves_sound}
-use Rattle.rq_loser_undo.proofs.Recovering.{behind}
-use Rattle.rq_loser_undo.proofs.Stopping.{moves_sizes}
-use Rattle.rq_rules.proofs.Whole.{whole_logs}
+use Rattle.rq_analysis.specs.Moves.{newest_store}
+use Rattle.rq_analysis.specs.Walk.{IsBetween, IsCome, IsWithin, showing}
+use Rattle.rq_analysis.proofs.Moving.{moves_sound}
+use Rattle.rq_analysis.proofs.Recovering.{behind}
+use Rattle.rq_analysis.proofs.Stopping.{moves_sizes}
+use Rattle.rq_analysis.proofs.Whole.{whole_logs}
 use Rattle.rq_restart.specs.Repeating.{Belongs}
 
 -- pages that fit a whole log, and hold what it leaves

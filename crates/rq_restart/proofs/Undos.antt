@@ -13,13 +13,13 @@ use Rattle.rq_log.specs.Spelled.{AreSpelled}
 use Rattle.rq_views.specs.Items.{operation}
 use Rattle.rq_store.specs.Opening.{MayRedo, Redoes}
 use Rattle.rq_store.specs.Fitting.{told_by}
-use Rattle.rq_page_undo.specs.declared.open_work.UndoableWrite.{UndoableWrite}
-use Rattle.rq_page_undo.specs.Analysis.{Analysis, analysis}
-use Rattle.rq_page_undo.specs.Pages.{IsNextUndo, IsUndoing, work}
-use Rattle.rq_page_undo.specs.Pages.IsNextUndo.{Voids, Undoes}
-use Rattle.rq_page_undo.proofs.Lists.{in_newest, in_undoable, in_with, in_without, sub_in}
-use Rattle.rq_page_undo.proofs.Undos.{undo_leaves_less, undoing_more}
-use Rattle.rq_rules.specs.Rules.{CanBeRead}
+use Rattle.rq_analysis.specs.declared.open_work.UndoableWrite.{UndoableWrite}
+use Rattle.rq_analysis.specs.Analysis.{Analysis, analysis}
+use Rattle.rq_analysis.specs.Pages.{IsNextUndo, IsUndoing, work}
+use Rattle.rq_analysis.specs.Pages.IsNextUndo.{Voids, Undoes}
+use Rattle.rq_analysis.proofs.PageUndoLists.{in_newest, in_undoable, in_with, in_without, sub_in}
+use Rattle.rq_analysis.proofs.Undos.{undo_leaves_less, undoing_more}
+use Rattle.rq_analysis.specs.Rules.{CanBeRead}
 use Rattle.rq_restart.specs.Found.{MayFollow}
 use Rattle.rq_restart.specs.Repeating.{AreCounted, Belongs, IsRepeated, Marks, Paged, Repeats}
 use Rattle.rq_restart.specs.Undoing.{StepStops, UndoStops}

@@ -23,12 +23,12 @@ use Rattle.rq_sound.specs.Rows.{comp_end}
 use Rattle.rq_sound.specs.Sound.{IsSound}
 use Rattle.rq_sound.specs.Inverses.{InverseTakesLowest}
 use Rattle.rq_planner.specs.Backs.{CanBeTakenBack}
-use Rattle.rq_loser_undo.specs.declared.dues.PendingUndo.{PendingUndo}
-use Rattle.rq_page_undo.specs.Analysis.{analysis}
-use Rattle.rq_loser_undo.specs.Choices.{least_free}
-use Rattle.rq_loser_undo.specs.Dues.{deed_due, dues}
-use Rattle.rq_loser_undo.specs.Numbers.{number_of, numbers}
-use Rattle.rq_loser_undo.specs.Walk.{IsBetween, IsWithin}
+use Rattle.rq_analysis.specs.declared.dues.PendingUndo.{PendingUndo}
+use Rattle.rq_analysis.specs.Analysis.{analysis}
+use Rattle.rq_analysis.specs.Choices.{least_free}
+use Rattle.rq_analysis.specs.Dues.{deed_due, dues}
+use Rattle.rq_analysis.specs.Numbers.{number_of, numbers}
+use Rattle.rq_analysis.specs.Walk.{IsBetween, IsWithin}
 use Rattle.rq_restart.specs.Repeating.{AreCounted, Belongs, Paged, Repeats, paged, slots_on}
 
 -- the log with the records of these writes of an operation behind, the first of them the oldest

@@ -3,7 +3,7 @@ use Rattle.std.specs.Prelude.{◌≡◌, ℕ, false, List, [], length, replicate
 use Rattle.rq_model.specs.declared.record.Record.{Record}
 use Rattle.rq_page.specs.Sizes.{Sizes, page_count}
 use Rattle.rq_store.specs.Fitting.{image_in}
-use Rattle.rq_page_undo.specs.Analysis.{analysis}
+use Rattle.rq_analysis.specs.Analysis.{analysis}
 use Rattle.rq_restart.specs.Repeating.{Paged, Repeats, AreCounted, IsFirstUncounted}
 
 -- every transaction in the log that finished an operation has its end

@@ -2,11 +2,11 @@
 use Rattle.std.specs.Prelude.{◌≡◌, ℕ, List}
 use Rattle.rq_model.specs.declared.record.Record.{Record}
 use Rattle.rq_model.specs.Incarnations.{InOrder, IsNext, incarnation_of}
-use Rattle.rq_page_undo.specs.Analysis.{analysis, analysis_after}
-use Rattle.rq_loser_undo.specs.Dues.{dues, dues_after}
-use Rattle.rq_loser_undo.specs.Numbers.{numbers, numbers_after}
-use Rattle.rq_rules.specs.ScanState.{ended, ended_after}
-use Rattle.rq_rules.specs.Rules.{FollowAll, FollowsRules}
+use Rattle.rq_analysis.specs.Analysis.{analysis, analysis_after}
+use Rattle.rq_analysis.specs.Dues.{dues, dues_after}
+use Rattle.rq_analysis.specs.Numbers.{numbers, numbers_after}
+use Rattle.rq_analysis.specs.ScanState.{ended, ended_after}
+use Rattle.rq_analysis.specs.Rules.{FollowAll, FollowsRules}
 use Rattle.rq_restart.specs.declared.findings.Findings.{Findings}
 
 -- the record may come behind these: it is the next of its incarnation, and follows the rules of a log

@@ -6,8 +6,8 @@ use Rattle.rq_model.specs.declared.refusal.Refusal.TheVariants as why
 use Rattle.rq_model.specs.declared.refusal.Damage.TheVariants as damage
 use Rattle.rq_page.specs.Sizes.{Sizes}
 use Rattle.rq_store.specs.Opening.{IsLeft, next_restart}
-use Rattle.rq_page_undo.specs.Pages.{IsUndoing, IsUndone}
-use Rattle.rq_loser_undo.specs.Recovered.{IsRecovered, IsRecovering}
+use Rattle.rq_analysis.specs.Pages.{IsUndoing, IsUndone}
+use Rattle.rq_analysis.specs.Recovered.{IsRecovered, IsRecovering}
 use Rattle.rq_restart.specs.Aborting.{AbortsBehind, ArePlanned, IsAborting, IsBadStep, RepeatedFrom}
 use Rattle.rq_restart.specs.Checked.{IsEnded, WasGoneThrough}
 use Rattle.rq_chain_check.specs.Links.{AreLinked, IsFault}

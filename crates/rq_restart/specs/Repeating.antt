@@ -9,7 +9,7 @@ use Rattle.rq_page.specs.Slots.Slot.{Free}
 use Rattle.rq_pool.specs.Pooled.{Pooled}
 use Rattle.rq_views.specs.Log.{Slots}
 use Rattle.rq_model.specs.Incarnations.{IsNext, incarnation_of}
-use Rattle.rq_rules.specs.Rules.{FollowsRules}
+use Rattle.rq_analysis.specs.Rules.{FollowsRules}
 use Rattle.rq_store.specs.Opening.{MayRedo, Redoes, IsCounted}
 use Rattle.rq_store.specs.Fitting.{ToldWrite, told_by, image_in}
 

@@ -21,7 +21,7 @@ use Rattle.rq_store.specs.Opening.{IsLeft, next_restart, opened, sent_in_slots, 
 use Rattle.rq_store.specs.State.{State}
 use Rattle.rq_store.specs.Whole.{IsWhole}
 use Rattle.rq_store.specs.Fitting.{image_in}
-use Rattle.rq_loser_undo.specs.Recovered.{IsRecovered}
+use Rattle.rq_analysis.specs.Recovered.{IsRecovered}
 use Rattle.rq_restart.specs.Mended.{IsAtBound, IsMended, IsMendedOn}
 use Rattle.rq_restart.specs.Repeating.{Paged}
 use Rattle.rq_restart.specs.Checked.{as_read}

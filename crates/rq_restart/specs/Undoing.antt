@@ -5,8 +5,8 @@ use Rattle.rq_model.specs.declared.refusal.Refusal.{Refusal}
 use Rattle.rq_model.specs.declared.refusal.Refusal.TheVariants as why
 use Rattle.rq_model.specs.declared.refusal.Damage.TheVariants as damage
 use Rattle.rq_page.specs.Sizes.{Sizes}
-use Rattle.rq_page_undo.specs.Analysis.{analysis}
-use Rattle.rq_page_undo.specs.Pages.{IsNextUndo, IsUndoing}
+use Rattle.rq_analysis.specs.Analysis.{analysis}
+use Rattle.rq_analysis.specs.Pages.{IsNextUndo, IsUndoing}
 use Rattle.rq_restart.specs.Repeating.{Paged, Belongs, Repeats}
 
 -- the log, with the records behind that undo operations of it, is at its greatest length

@@ -4,7 +4,7 @@ ghost use Rattle.rq_log.specs.Spelled.{AreSpelled};
 ghost use Rattle.rq_pool.specs.Pooled.{IsPool};
 ghost use Rattle.rq_record.specs.Spelling.{IsInRange};
 ghost use Rattle.rq_store.specs.Fitting.{told_by};
-ghost use Rattle.rq_rules.specs.Rules.{CanBeRead};
+ghost use Rattle.rq_analysis.specs.Rules.{CanBeRead};
 ghost use Rattle.rq_restart.specs.Found.{AreFindings};
 ghost use Rattle.rq_restart.specs.Repeating.{Belongs, IsRepeated, paged};
 ghost use Rattle.rq_restart.specs.Undoing.{StepStops};

@@ -8,7 +8,7 @@ ghost use Rattle.rq_page.specs.Slots.{IsSlotOf};
 ghost use Rattle.rq_pool.specs.Pooled.{IsPool};
 ghost use Rattle.rq_store.specs.Opening.{IsRedone, Redoes, IsSoundTold, MayRedo, IsCounted};
 ghost use Rattle.rq_store.specs.Fitting.{told_by, image_in};
-ghost use Rattle.rq_rules.specs.Rules.{CanBeRead};
+ghost use Rattle.rq_analysis.specs.Rules.{CanBeRead};
 ghost use Rattle.rq_restart.specs.Found.{AreFindings};
 ghost use Rattle.rq_restart.specs.Overwritten.{AreKept, NamesFirst};
 ghost use Rattle.rq_restart.specs.Repeating.{AreCounted, IsMarked, IsRepeated, Marks, Paged, Repeats, paged};

@@ -21,7 +21,7 @@ ghost use Rattle.rq_engine.specs.Crash.{AreFit};
 ghost use Rattle.rq_engine.specs.Opened.{pooled};
 ghost use Rattle.rq_chain_check.specs.Links.{AreLinked};
 ghost use Rattle.rq_restart.specs.Repeating.{AreCounted, Paged, Repeats, paged, slots_on};
-ghost use Rattle.rq_loser_undo.specs.Recovered.{IsRecovered};
+ghost use Rattle.rq_analysis.specs.Recovered.{IsRecovered};
 ghost use Rattle.rq_restart.specs.Restarting.{IsReadAs, IsLeftOn, IsReady, AreTold, IsBegun, IsOpenedOver, Reports, Stops, WasLeftOrBegun, WasLeftOrForced, BeginsAtMost, BeginsFrom, LogStops, IsRefusedFor, WasChecked};
 ghost use Rattle.rq_restart.specs.Refused.{BeginsNot, IsStoppedBehind, MayBeShut, WhyNotBegun, WhyShut};
 ghost use Rattle.rq_restart.specs.Overwritten.{AreKept};

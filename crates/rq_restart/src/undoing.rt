@@ -1,7 +1,7 @@
 //! Undoing operations that have no end, slot by slot.
 ghost use Rattle.std.specs.Prelude.{◌≡◌, IfErr, OnOk, false, length};
 ghost use Rattle.rq_pool.specs.Pooled.{IsPool};
-ghost use Rattle.rq_page_undo.specs.Pages.{IsUndone};
+ghost use Rattle.rq_analysis.specs.Pages.{IsUndone};
 ghost use Rattle.rq_restart.specs.Found.{AreFindings};
 ghost use Rattle.rq_restart.specs.Repeating.{AreCounted, Paged, Repeats, paged};
 ghost use Rattle.rq_restart.specs.Undoing.{UndoStops};

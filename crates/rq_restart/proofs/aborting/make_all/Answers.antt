@@ -9,7 +9,7 @@ use Rattle.rq_views.specs.Stored.{IsStoreSlot}
 use Rattle.rq_planner.specs.Answered.{KnowsCells}
 use Rattle.rq_level.specs.Writes.{IsSlotWrite}
 use Rattle.rq_level.specs.declared.writes.SlotWrite.{SlotWrite}
-use Rattle.rq_rules.specs.Rules.{CanBeRead}
+use Rattle.rq_analysis.specs.Rules.{CanBeRead}
 use Rattle.rq_restart.specs.Aborting.{AbortStops, HasGoneOn, IsMaking, IsShownWithin, with_writes}
 use Rattle.rq_restart.specs.Repeating.{Belongs, IsRepeated, paged}
 use Rattle.rq_restart.specs.Undoing.{StepStops}

@@ -4,9 +4,9 @@ use Rattle.rq_model.specs.declared.record.Record.TheVariants as records
 use Rattle.rq_model.specs.Vocabulary.{In}
 use Rattle.rq_page.specs.Sizes.{Sizes}
 use Rattle.rq_log.specs.Spelled.{AreSpelled}
-use Rattle.rq_page_undo.specs.Analysis.{without_txn}
-use Rattle.rq_loser_undo.specs.Choices.{least_free}
-use Rattle.rq_loser_undo.specs.Dues.{any_due, dues}
+use Rattle.rq_analysis.specs.Analysis.{without_txn}
+use Rattle.rq_analysis.specs.Choices.{least_free}
+use Rattle.rq_analysis.specs.Dues.{any_due, dues}
 use Rattle.rq_restart.specs.Aborting.{AbortStops, AbortsFrom, HasGoneOn, IsAbortingFrom, IsShown, RepeatedSince}
 use Rattle.rq_restart.specs.Aborting.IsAborting.{Between}
 use Rattle.rq_restart.specs.Repeating.{Belongs, IsRepeated, paged}

@@ -1,5 +1,5 @@
 use Rattle.std.proofs.Common.{◌≡◌, None, false, length}
-use Rattle.rq_loser_undo.specs.Choices.{least_free}
+use Rattle.rq_analysis.specs.Choices.{least_free}
 use Rattle.rq_restart.specs.Aborting.{AbortsFrom, HasGoneOn, IsShown}
 use Rattle.rq_restart.specs.Found.{AreFindings}
 use Rattle.rq_planner.specs.Answered.{KnowsCells}

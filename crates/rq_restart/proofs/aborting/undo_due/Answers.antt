@@ -10,9 +10,9 @@ use Rattle.rq_sound.specs.Plans.{IsPlannedFrom}
 use Rattle.rq_sound.specs.Rows.{comp_end}
 use Rattle.rq_sound.specs.Inverses.{InverseTakesLowest}
 use Rattle.rq_restart.proofs.Renewing.{cells_same}
-use Rattle.rq_loser_undo.specs.Dues.{deed_due, dues}
-use Rattle.rq_loser_undo.specs.Numbers.{number_of, numbers}
-use Rattle.rq_page_undo.specs.Analysis.{Analysis, analysis}
+use Rattle.rq_analysis.specs.Dues.{deed_due, dues}
+use Rattle.rq_analysis.specs.Numbers.{number_of, numbers}
+use Rattle.rq_analysis.specs.Analysis.{Analysis, analysis}
 use Rattle.rq_restart.specs.Aborting.{AbortStops, AbortsFrom, HasGoneOn, IsAbortingFrom, IsMaking, IsPlannedBack, IsPlannedOn, IsShown, IsShownWithin, IsTakenNext, RepeatedSince, with_writes}
 use Rattle.rq_restart.specs.Aborting.IsAborting.{Between}
 use Rattle.rq_restart.specs.Repeating.{Belongs, IsRepeated, paged}

@@ -1,5 +1,5 @@
 use Rattle.std.proofs.Common.{rules, subst, ap, sym, ◌∙◌, length}
-use Rattle.rq_page_undo.specs.Analysis.{Analysis}
+use Rattle.rq_analysis.specs.Analysis.{Analysis}
 use Rattle.rq_pool.specs.Pooled.{IsPool}
 use Rattle.rq_restart.specs.Aborting.{AbortStops, AbortsFrom, HasGoneOn, IsAbortingFrom, IsShown}
 use Rattle.rq_restart.specs.Mended.{MendStops}

@@ -1,7 +1,7 @@
 use Rattle.std.proofs.Common.{◌≡◌, ◌+◌, ◌∷◌, ℕ, length, ap, sym, ◌∙◌, subst, arith}
 use Rattle.rq_model.specs.declared.record.Record.TheVariants as records
 use Rattle.rq_store.specs.Opening.{IsLeft, next_restart}
-use Rattle.rq_page_undo.specs.Analysis.{Analysis}
+use Rattle.rq_analysis.specs.Analysis.{Analysis}
 use Rattle.rq_restart.specs.Refused.{WhyNotBegun}
 use Rattle.rq_restart.specs.Repeating.{AreCounted, paged}
 use Rattle.rq_restart.specs.Restarting.{AreTold}

@@ -1,5 +1,5 @@
 use Rattle.std.proofs.Common.{◌≡◌, false}
-use Rattle.rq_page_undo.specs.Pages.{work}
+use Rattle.rq_analysis.specs.Pages.{work}
 use Rattle.rq_restart.specs.Found.{AreFindings}
 use Rattle.rq_restart.specs.Repeating.{paged}
 use Rattle.rq_restart.proofs.Undos.{IsGoingOn}

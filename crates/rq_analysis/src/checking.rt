@@ -1,0 +1,142 @@
+//! Whether the next record follows the rules, by what is kept of those before it.
+ghost use Rattle.std.specs.Prelude.{◌≡◌, ◌↔◌, ◌+◌, List, IsTrue, ◌∷◌, Some};
+ghost use Rattle.std.specs.List.{filter};
+ghost use Rattle.rq_model.specs.declared.record.Record.{Record as AnyRecord};
+ghost use Rattle.rq_model.specs.Incarnations.{InOrder};
+ghost use Rattle.rq_model.specs.Vocabulary.{first};
+ghost use Rattle.rq_analysis.specs.Analysis.{undoable_at, undoable_by};
+ghost use Rattle.rq_analysis.specs.Dues.{due_of};
+ghost use Rattle.rq_analysis.specs.Numbers.{number_of};
+ghost use Rattle.rq_analysis.specs.ScanState.{IsScanStateOf, Passes, lsn_due};
+ghost use Rattle.rq_analysis.specs.Rules.{CanBeRead, FollowAll, FollowsRules};
+
+use crate::ended::EndedTransactions;
+use rq_analysis::{LastOperations, PendingUndos};
+use rq_model::record::{Record, Slot};
+use rq_model::txn::{Lsn, Sub, Txn};
+use rq_analysis::OpenWork;
+
+/// Whether the record may stand behind the log of which these are kept, whose records followed the rules. It is the next
+/// of its incarnation, and it is told whether the deed in it, if there is one, is read by its level.
+pub fn follows(
+    open_work: &OpenWork,
+    dues: &PendingUndos,
+    numbers: &LastOperations,
+    ended: &EndedTransactions,
+    reads: bool,
+    record: &Record,
+) -> bool
+    ensures { (log : List AnyRecord) → IsScanStateOf log open_work.now dues.now numbers.now ended.now → FollowAll log
+        → InOrder («record».now ∷ log) → (IsTrue reads ↔ CanBeRead «record».now)
+        → (IsTrue result ↔ FollowsRules log «record».now) }
+{
+    if !reads {
+        return false;
+    }
+    passes(open_work, dues, numbers, ended, record)
+}
+
+// By what is kept alone, but for its deed.
+fn passes(
+    open_work: &OpenWork,
+    dues: &PendingUndos,
+    numbers: &LastOperations,
+    ended: &EndedTransactions,
+    record: &Record,
+) -> bool
+    ensures { IsTrue result ↔ Passes open_work.now dues.now numbers.now ended.now «record».now }
+{
+    match record {
+        Record::PageOp { txn, operation, .. } => {
+            !ended.has(*txn)
+                && (open_work.is_unfinished(sub(txn, *operation))
+                    || is_new(numbers, txn, *operation))
+        }
+        Record::PageUndo {
+            txn,
+            operation,
+            undone,
+            page,
+            slot,
+            after,
+        } => {
+            !ended.has(*txn)
+                && open_work.is_unfinished(sub(txn, *operation))
+                && undoes_newest(
+                    open_work,
+                    sub(txn, *operation),
+                    *undone,
+                    *page,
+                    *slot,
+                    after,
+                )
+        }
+        Record::OpEnd { txn, operation, .. } => !ended.has(*txn)
+            && open_work.is_unfinished(sub(txn, *operation)),
+        Record::OpVoid { txn, operation } => !ended.has(*txn)
+            && open_work.is_unfinished(sub(txn, *operation)),
+        Record::CompEnd {
+            txn,
+            operation,
+            undone,
+        } => {
+            !ended.has(*txn)
+                && open_work.is_unfinished(sub(txn, *operation))
+                && takes_back_newest(dues, *txn, *undone)
+        }
+        Record::Commit { txn } => !ended.has(*txn),
+        Record::AbortEnd { txn } => !ended.has(*txn),
+        Record::Restart { .. } => true,
+    }
+}
+
+// The number of a transaction's operation.
+fn sub(txn: &Txn, operation: u64) -> Sub
+    ensures { result ≡ record { txn = txn.now; number = operation } }
+{
+    Sub {
+        txn: *txn,
+        number: operation,
+    }
+}
+
+// Whether the operation is the next of its transaction.
+fn is_new(numbers: &LastOperations, txn: &Txn, operation: u64) -> bool
+    ensures { IsTrue result ↔ (operation ≡ number_of txn.now numbers.now + 1) }
+{
+    operation > 0 && numbers.greatest(*txn) == operation - 1
+}
+
+// Whether the operation's newest write that stands has this LSN and place, and these bytes before it.
+fn undoes_newest(
+    open_work: &OpenWork,
+    sub: Sub,
+    undone: Lsn,
+    page: u32,
+    slot: u8,
+    after: &Slot,
+) -> bool
+    ensures { IsTrue result ↔ (first (filter (undoable_by sub) open_work.now.undoable)
+        ≡ Some (undoable_at undone sub page slot after.now)) }
+{
+    match open_work.newest_undoable(sub) {
+        Some(write) => {
+            write.by == sub
+                && write.lsn == undone
+                && write.page == page
+                && write.slot == slot
+                && write.before == *after
+        }
+        None => false,
+    }
+}
+
+// Whether the newest of the transaction's dues has this LSN.
+fn takes_back_newest(dues: &PendingUndos, txn: Txn, undone: Lsn) -> bool
+    ensures { IsTrue result ↔ (lsn_due (first (filter (due_of txn) dues.now)) ≡ Some undone) }
+{
+    match dues.next_of(txn) {
+        Some(due) => due.lsn == undone,
+        None => false,
+    }
+}

@@ -1,0 +1,345 @@
+//! What the records of a log leave open: operations and transactions without an end.
+ghost use Rattle.std.specs.Prelude.{◌≡◌, ◌↔◌, ◌<◌, ◌+◌, IsTrue, IfOk, IfErr, IfSome, IfNone, OnOk, [], ◌∷◌, Some, true, false, drop, length, reverse, slice_index_or};
+ghost use Rattle.std.specs.List.{filter};
+ghost use Rattle.rq_model.specs.Incarnations.{IsNext, IsOf};
+ghost use Rattle.rq_model.specs.Vocabulary.{first};
+ghost use Rattle.rq_analysis.specs.Analysis.{analysis, analysis_after, has_sub, undoable_by, with_sub, without_newest, without_undoable, without_sub, with_txn, without_txn};
+ghost use Rattle.rq_analysis.specs.Pages.{IsNextUndo, any_undoable, op_less, undo_of, void_of};
+ghost use Rattle.rq_analysis.specs.Least.{least_in, lesser_in};
+
+use rq_model::record::{Record, Slot};
+use rq_model::refusal::Refusal;
+use rq_model::txn::{Lsn, Sub, Txn};
+use std::alloc::Global;
+use std::marker::Model;
+
+/// A slot write that may have to be undone.
+#[derive(Clone, Copy)]
+pub struct UndoableWrite {
+    /// The LSN of its record.
+    pub lsn: Lsn,
+    /// Whose it is.
+    pub by: Sub,
+    pub page: u32,
+    pub slot: u8,
+    /// What stood in the slot before.
+    pub before: Slot,
+}
+
+/// What the records of a log leave open, one after the other: the last incarnation, the operations that wrote a slot and
+/// have no end, with their writes that are not undone, and the transactions that finished an operation and have no end.
+#[derive(Drop)]
+pub struct OpenWork {
+    incarnation: u64,
+    unfinished: Vec<Sub>,
+    /// In the order of their records.
+    undoable: Vec<UndoableWrite>,
+    active: Vec<Txn>,
+}
+
+impl Model for OpenWork {
+    ghost use Rattle.std.specs.Prelude.{reverse};
+    ghost use Rattle.rq_analysis.specs.Analysis.{Analysis};
+
+    ghost Value = { Analysis };
+
+    ghost view = { λ h. record {
+      incarnation = h.incarnation;
+      unfinished = h.unfinished.items;
+      undoable = reverse h.undoable.items;
+      active = h.active.items;
+    } };
+}
+
+impl OpenWork {
+    /// No record.
+    pub fn new(alloc: Global) -> Self
+        ensures { result ≡ analysis [] }
+    {
+        OpenWork {
+            incarnation: 0,
+            unfinished: Vec::new(alloc),
+            undoable: Vec::new(alloc),
+            active: Vec::new(alloc),
+        }
+    }
+
+    /// The last incarnation, 0 where there is none.
+    pub fn incarnation(&self) -> u64
+        ensures { result ≡ self.now.incarnation }
+    {
+        self.incarnation
+    }
+
+    /// Whether every transaction that finished an operation has its end.
+    pub fn is_settled(&self) -> bool
+        ensures { IsTrue result ↔ (self.now.active ≡ []) }
+    {
+        self.active.is_empty()
+    }
+
+    /// The transactions that finished an operation and have no end.
+    pub fn active(&self) -> &[Txn]
+        ensures { result.now ≡ self.now.active }
+    {
+        &self.active
+    }
+
+    /// How many operations have no end.
+    pub fn unfinished(&self) -> u64
+        ensures { result ≡ length self.now.unfinished }
+    {
+        self.unfinished.len() as u64
+    }
+
+    /// Whether the operation wrote a slot and has no end.
+    pub fn is_unfinished(&self, sub: Sub) -> bool
+        ensures { result ≡ has_sub sub self.now.unfinished }
+    {
+        self.unfinished.contains(&sub)
+    }
+
+    /// The newest write of the operation that is not undone.
+    pub fn newest_undoable(&self, sub: Sub) -> Option<UndoableWrite>
+        ensures { result ≡ first (filter (undoable_by sub) self.now.undoable) }
+    {
+        match newest_of(&self.undoable, sub) {
+            Some(place) => Some(self.undoable[place]),
+            None => None,
+        }
+    }
+
+    /// Takes the next record, which has this LSN. False where it doesn't belong to the running incarnation, or isn't the
+    /// next.
+    ///
+    /// # Errors
+    /// `NoMemory`.
+    pub fn note(&mut self, lsn: Lsn, record: &Record) -> Result<bool, Refusal>
+        ensures next { IfOk result (λ is_next. IsTrue is_next ↔ IsNext self.old.incarnation «record».now) }
+        ensures noted { OnOk result (self.new ≡ analysis_after lsn «record».now self.old) }
+        ensures err { IfErr result (λ e. e ≡ Refusal.NoMemory) }
+    {
+        match record {
+            Record::Restart { incarnation } => {
+                let is_next = self.incarnation < u64::MAX && *incarnation == self.incarnation + 1;
+                self.incarnation = *incarnation;
+                Ok(is_next)
+            }
+            Record::PageOp {
+                txn,
+                operation,
+                page,
+                slot,
+                before,
+                ..
+            } => {
+                let by = sub(txn, *operation);
+                self.begin_operation(by)?;
+                self.add_undoable(UndoableWrite {
+                    lsn,
+                    by,
+                    page: *page,
+                    slot: *slot,
+                    before: *before,
+                })?;
+                Ok(self.is_ours(txn))
+            }
+            Record::PageUndo { txn, operation, .. } => {
+                self.drop_newest(sub(txn, *operation));
+                Ok(self.is_ours(txn))
+            }
+            Record::OpEnd { txn, operation, .. } => {
+                self.end_operation(sub(txn, *operation));
+                self.begin_transaction(*txn)?;
+                Ok(self.is_ours(txn))
+            }
+            Record::OpVoid { txn, operation } => {
+                self.end_operation(sub(txn, *operation));
+                Ok(self.is_ours(txn))
+            }
+            Record::CompEnd { txn, operation, .. } => {
+                self.end_operation(sub(txn, *operation));
+                Ok(self.is_ours(txn))
+            }
+            Record::Commit { txn } | Record::AbortEnd { txn } => {
+                self.end_transaction(*txn);
+                Ok(self.is_ours(txn))
+            }
+        }
+    }
+
+    /// The next record by which operations without an end are undone; none where all have their end.
+    pub fn next_undo(&self) -> Option<Record>
+        ensures some { IfSome result (λ r. IsNextUndo self.now r) }
+        ensures none { IfNone result (self.now.unfinished ≡ []) }
+    {
+        match least_spent(&self.unfinished, &self.undoable) {
+            Some(spent) => Some(void_record(spent)),
+            None => match self.undoable.last() {
+                Some(newest) => Some(undo_record(newest)),
+                None => None,
+            },
+        }
+    }
+
+    fn is_ours(&self, txn: &Txn) -> bool
+        ensures { IsTrue result ↔ IsOf self.now.incarnation (Some txn.now) }
+    {
+        self.incarnation > 0 && txn.incarnation == self.incarnation
+    }
+
+    fn begin_operation(&mut self, begun: Sub) -> Result<(), Refusal>
+        ensures ok { OnOk result (self.new ≡ record self.old { unfinished = with_sub begun self.old.unfinished }) }
+        ensures err { IfErr result (λ e. e ≡ Refusal.NoMemory) }
+    {
+        if self.unfinished.contains(&begun) {
+            return Ok(());
+        }
+        match self.unfinished.push(begun) {
+            Ok(()) => Ok(()),
+            Err(_) => Err(Refusal::NoMemory),
+        }
+    }
+
+    fn add_undoable(&mut self, write: UndoableWrite) -> Result<(), Refusal>
+        ensures ok { OnOk result (self.new ≡ record self.old { undoable = write ∷ self.old.undoable }) }
+        ensures err { IfErr result (λ e. e ≡ Refusal.NoMemory) }
+    {
+        match self.undoable.push(write) {
+            Ok(()) => Ok(()),
+            Err(_) => Err(Refusal::NoMemory),
+        }
+    }
+
+    // The newest write of the operation is undone.
+    fn drop_newest(&mut self, undone: Sub)
+        ensures { self.new ≡ record self.old { undoable = without_newest undone self.old.undoable } }
+    {
+        if let Some(place) = newest_of(&self.undoable, undone) {
+            self.undoable.remove(place);
+        }
+    }
+
+    fn end_operation(&mut self, ended: Sub)
+        ensures { self.new ≡ record self.old {
+          unfinished = without_sub ended self.old.unfinished;
+          undoable = without_undoable ended self.old.undoable;
+        } }
+    {
+        self.unfinished.retain(|sub| ended != *sub);
+        self.undoable.retain(|write| write.by != ended);
+    }
+
+    fn begin_transaction(&mut self, txn: Txn) -> Result<(), Refusal>
+        ensures ok { OnOk result (self.new ≡ record self.old { active = with_txn txn self.old.active }) }
+        ensures err { IfErr result (λ e. e ≡ Refusal.NoMemory) }
+    {
+        if self.active.contains(&txn) {
+            return Ok(());
+        }
+        match self.active.push(txn) {
+            Ok(()) => Ok(()),
+            Err(_) => Err(Refusal::NoMemory),
+        }
+    }
+
+    fn end_transaction(&mut self, txn: Txn)
+        ensures { self.new ≡ record self.old { active = without_txn txn self.old.active } }
+    {
+        self.active.retain(|open| txn != *open);
+    }
+}
+
+// The number of a transaction's operation.
+fn sub(txn: &Txn, operation: u64) -> Sub
+    ensures { result ≡ record { txn = txn.now; number = operation } }
+{
+    Sub {
+        txn: *txn,
+        number: operation,
+    }
+}
+
+fn void_record(sub: Sub) -> Record
+    ensures { result ≡ void_of sub }
+{
+    Record::OpVoid {
+        txn: sub.txn,
+        operation: sub.number,
+    }
+}
+
+fn undo_record(write: &UndoableWrite) -> Record
+    ensures { result ≡ undo_of write.now }
+{
+    Record::PageUndo {
+        txn: write.by.txn,
+        operation: write.by.number,
+        undone: write.lsn,
+        page: write.page,
+        slot: write.slot,
+        after: write.before,
+    }
+}
+
+// The place of the newest of these writes that is the operation's.
+fn newest_of(undoable: &[UndoableWrite], sub: Sub) -> Option<usize>
+    ensures place { IfSome result (λ i. i < length undoable.now) }
+    ensures own { IfSome result (λ i. (d : UndoableWrite) → undoable_by sub (slice_index_or undoable.now i d) ≡ true) }
+    ensures newest { IfSome result (λ i. any_undoable sub (drop (i + 1) undoable.now) ≡ false) }
+    ensures none { IfNone result (any_undoable sub undoable.now ≡ false) }
+{
+    let mut place = undoable.len();
+    while place > 0 {
+        place -= 1;
+        if undoable[place].by == sub {
+            return Some(place);
+        }
+    }
+    None
+}
+
+// Whether one of these writes is the operation's.
+fn has_undoable(undoable: &[UndoableWrite], sub: Sub) -> bool
+    ensures { result ≡ any_undoable sub undoable.now }
+{
+    for write in undoable {
+        if write.by == sub {
+            return true;
+        }
+    }
+    false
+}
+
+// Of these operations the least of which none of these writes is.
+fn least_spent(unfinished: &[Sub], undoable: &[UndoableWrite]) -> Option<Sub>
+    ensures { result ≡ least_in undoable.now unfinished.now }
+{
+    let mut place = unfinished.len();
+    let mut least = None;
+    while place > 0 {
+        place -= 1;
+        let sub = unfinished[place];
+        if !has_undoable(undoable, sub) {
+            least = Some(lesser(sub, least));
+        }
+    }
+    least
+}
+
+fn lesser(sub: Sub, least: Option<Sub>) -> Sub
+    ensures { result ≡ lesser_in sub least }
+{
+    match least {
+        None => sub,
+        Some(other) => { if is_less(other, sub) { other } else { sub } }
+    }
+}
+
+fn is_less(a: Sub, b: Sub) -> bool
+    ensures { result ≡ op_less a b }
+{
+    a.txn.incarnation < b.txn.incarnation
+        || (a.txn.incarnation == b.txn.incarnation && a.txn.count < b.txn.count)
+        || (a.txn == b.txn && a.number < b.number)
+}

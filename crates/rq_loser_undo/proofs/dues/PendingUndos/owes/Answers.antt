@@ -1,7 +1,0 @@
-use Rattle.std.proofs.Common.{ap, sym, ◌∙◌}
-use Rattle.rq_loser_undo.specs.Dues.{any_due}
-use Rattle.rq_loser_undo.proofs.Stack.{any_reverse}
-use Rattle.rq_loser_undo.proofs.dues.PendingUndos.owes.Goals as goal
-
-pub returns : goal.returns
-returns c = c.has_due.ensures ∙ ap (any_due c.args.txn) c.deref.ensures.value ∙ sym (any_reverse c.args.txn c.self.inside.dues.items) ∙ ap (any_due c.args.txn) c.self.view_is

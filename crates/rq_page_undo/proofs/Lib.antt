@@ -1,6 +1,0 @@
-pub mod Noting
-pub mod Lists
-pub mod Undoable
-pub mod Undos
-pub mod Places
-pub mod Next

@@ -1,4 +1,0 @@
-pub mod Analysis
-pub mod Pages
-pub mod Least
-pub mod Theorems

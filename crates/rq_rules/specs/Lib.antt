@@ -1,3 +1,0 @@
-pub mod Rules
-pub mod ScanState
-pub mod Theorems
