@@ -11,10 +11,9 @@ ghost use Rattle.rq_analysis.specs.ScanState.{IsScanStateOf, Passes, lsn_due};
 ghost use Rattle.rq_analysis.specs.Rules.{CanBeRead, FollowAll, FollowsRules};
 
 use crate::ended::EndedTransactions;
-use rq_analysis::{LastOperations, PendingUndos};
+use rq_analysis::{LastOperations, OpenWork, PendingUndos};
 use rq_model::record::{Record, Slot};
 use rq_model::txn::{Lsn, Sub, Txn};
-use rq_analysis::OpenWork;
 
 /// Whether the record may stand behind the log of which these are kept, whose records followed the rules. It is the next
 /// of its incarnation, and it is told whether the deed in it, if there is one, is read by its level.

@@ -1,13 +1,12 @@
 //! Records of the log, and what they come to as a restart goes through them.
 ghost use Rattle.std.specs.Prelude.{◌≡◌, [], IfOk};
 
+use rq_analysis::{OpenWork, PendingUndos};
 use rq_disk::LogDevice;
 use rq_log::Log;
-use rq_analysis::PendingUndos;
 use rq_model::record::Record;
 use rq_model::refusal::{NoMemory, Refusal};
 use rq_model::txn::Lsn;
-use rq_analysis::OpenWork;
 use rq_record::{Step, decode};
 
 /// The same bytes are read as the same record, or as a beginning of one, or as none. Excludes a reader that takes a

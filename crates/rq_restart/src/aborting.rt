@@ -18,10 +18,10 @@ ghost use Rattle.rq_restart.specs.Found.{AreFindings};
 
 use crate::appending::append;
 use crate::findings::Findings;
+use rq_analysis::{PendingUndo, next_end};
 use rq_disk::{LogDevice, PageDevice};
 use rq_level::{Level, SlotWrite};
 use rq_log::Log;
-use rq_analysis::{PendingUndo, next_end};
 use rq_model::limits::LOG_LIMIT;
 use rq_model::record::Record;
 use rq_model::refusal::{Damage, Refusal};

@@ -4,12 +4,10 @@ ghost use Rattle.rq_model.specs.declared.record.Record.{Record as AnyRecord};
 ghost use Rattle.rq_analysis.specs.Rules.{CanBeRead};
 ghost use Rattle.rq_restart.specs.Found.{AreFindings, MayFollow, findings_after};
 
-use rq_analysis::{LastOperations, PendingUndos};
+use rq_analysis::{EndedTransactions, LastOperations, OpenWork, PendingUndos, follows};
 use rq_model::record::Record;
 use rq_model::refusal::Refusal;
 use rq_model::txn::Lsn;
-use rq_analysis::OpenWork;
-use rq_analysis::{EndedTransactions, follows};
 use std::alloc::Global;
 
 /// What the records of a log come to, one after the other.
