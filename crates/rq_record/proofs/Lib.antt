@@ -1,7 +1,7 @@
 pub mod Readers
 pub mod Records
 pub mod Whole
-pub mod Decoded
+pub mod Fronts
 pub mod Spelled
 pub mod DeedParts
 pub mod Placed

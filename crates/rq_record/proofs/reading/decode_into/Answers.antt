@@ -1,6 +1,6 @@
 use Rattle.std.proofs.Common.{arith}
 use Rattle.rq_record.specs.Decoding.{step_with}
-use Rattle.rq_record.proofs.Decoded.{decoded_front, decoded_found, decoded_short, decoded_bad}
+use Rattle.rq_record.proofs.Fronts.{decoded_front, decoded_found, decoded_short, decoded_bad}
 use Rattle.rq_record.proofs.reading.decode_into.Goals as goal
 
 pub returns-clause-front : goal.returns-clause-front

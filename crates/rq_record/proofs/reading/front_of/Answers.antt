@@ -1,5 +1,5 @@
 use Rattle.std.proofs.Common.{arith}
-use Rattle.rq_record.proofs.Decoded.{rest_within}
+use Rattle.rq_record.proofs.Fronts.{rest_within}
 use Rattle.rq_record.proofs.reading.front_of.Goals as goal
 
 pub overflow_sub-result : goal.overflow_sub-result
