@@ -1,5 +1,5 @@
 pub mod Noting
-pub mod PageUndoLists
+pub mod Lists
 pub mod Undoable
 pub mod Undos
 pub mod Places
@@ -26,7 +26,6 @@ pub mod Keys
 pub mod RuleCounts
 pub mod RuleEnds
 pub mod Operations
-pub mod RuleLists
 pub mod Writes
 pub mod Owed
 pub mod Judging

@@ -11,7 +11,7 @@ use Rattle.rq_model.specs.Vocabulary.{first}
 use Rattle.rq_analysis.specs.declared.open_work.UndoableWrite.{UndoableWrite}
 use Rattle.rq_analysis.specs.Analysis.{Analysis, undoable_by, without_newest}
 use Rattle.rq_analysis.specs.Pages.{any_undoable}
-use Rattle.rq_analysis.proofs.PageUndoLists.{none_own}
+use Rattle.rq_analysis.proofs.Lists.{none_own}
 
 pub with_nothing : {X : Type 0} (ys : List X) → ys ≡ ys ++ []
 with_nothing [] = refl

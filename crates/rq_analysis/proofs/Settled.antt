@@ -18,7 +18,7 @@ use Rattle.rq_store.specs.State.{State}
 use Rattle.rq_store.specs.Settled.{IsSettled}
 use Rattle.rq_store.proofs.Opening.{over_same}
 use Rattle.rq_sound.specs.Sound.{IsSound}
-use Rattle.rq_analysis.proofs.PageUndoLists.{nothing_in}
+use Rattle.rq_analysis.proofs.Lists.{nothing_in}
 
 worker_one : (t : Txn) (x : Option Ending) (ts : List Txn) (ds : List Said) → (In t ts → ds ≡ [] → ⊥) → In t (add_txn x ts) → kept (λ u. same_txn u t) x ds ≡ [] → ⊥
 worker_one t None ts ds ih i e = ih i e

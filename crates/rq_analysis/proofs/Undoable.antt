@@ -19,7 +19,7 @@ use Rattle.rq_store.specs.Fitting.{left_by}
 use Rattle.rq_store.specs.Whole.{BeforesAreSlots}
 use Rattle.rq_analysis.specs.declared.open_work.UndoableWrite.{UndoableWrite}
 use Rattle.rq_analysis.specs.Analysis.{undoable_by, without_newest, without_undoable, analysis}
-use Rattle.rq_analysis.proofs.PageUndoLists.{own_newest, own_none, other_newest, other_none, in_newest, in_undoable, in_with, with_in, in_without, without_in, op_other}
+use Rattle.rq_analysis.proofs.Lists.{own_newest, own_none, other_newest, other_none, in_newest, in_undoable, in_with, with_in, in_without, without_in, op_other}
 
 abbrev pub IsLegal : Sizes → List Record → Type 0
 IsLegal z log = IsLegalLog (layout_of z) (items z log)

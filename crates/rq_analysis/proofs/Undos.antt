@@ -25,7 +25,7 @@ use Rattle.rq_analysis.specs.Analysis.{Analysis, analysis, has_sub, undoable_by,
 use Rattle.rq_analysis.specs.Pages.{IsSpent, IsNextUndo, UndoesBehind, IsUndoing, IsUndone, void_of, undo_of, work}
 use Rattle.rq_analysis.specs.Pages.IsNextUndo.{Voids, Undoes}
 use Rattle.rq_analysis.specs.PageUndoTheorems.{IsUndoneFrom}
-use Rattle.rq_analysis.proofs.PageUndoLists.{sub_in, none_own, filter_le, filter_less}
+use Rattle.rq_analysis.proofs.Lists.{sub_in, none_own, filter_le, filter_less}
 use Rattle.rq_analysis.proofs.Noting.{noted_unfinished, noted_active, pairs_of}
 use Rattle.rq_analysis.proofs.Undoable.{Place, undoable_place, write_place, lsn_of, own_writes, own_lsns, noted_way, under_began, under_open, undoable_noted, undoable_before, noted_order}
 

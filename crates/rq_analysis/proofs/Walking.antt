@@ -52,7 +52,7 @@ use Rattle.rq_analysis.proofs.Numbering.{row_number}
 use Rattle.rq_analysis.proofs.Recovering.{behind}
 use Rattle.rq_analysis.proofs.Stopping.{moves_sizes}
 use Rattle.rq_analysis.proofs.Turning.{lost_aborting, lost_idle, still_aborting}
-use Rattle.rq_analysis.proofs.PageUndoLists.{filter_le, filter_less}
+use Rattle.rq_analysis.proofs.Lists.{filter_le, filter_less}
 
 -- who else has something under way
 none_without : (t : Txn) (rows : List Row) → any_under rows ≡ false → any_under (without_row t rows) ≡ false

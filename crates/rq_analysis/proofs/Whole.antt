@@ -35,7 +35,7 @@ use Rattle.rq_analysis.specs.Dues.{due_of, dues}
 use Rattle.rq_analysis.proofs.Owing.{own_dues, placed_due}
 use Rattle.rq_analysis.specs.Rules.{FollowAll, FollowsRules, left_of, standing}
 use Rattle.rq_analysis.specs.RuleTheorems.{WholeLogsFollow}
-use Rattle.rq_analysis.proofs.RuleLists.{first_in}
+use Rattle.rq_analysis.proofs.Lists.{first_in}
 use Rattle.rq_analysis.proofs.Operations.{greatest_same, has_op_end_same, has_op_same}
 use Rattle.rq_analysis.proofs.Owed.{dues_kept}
 use Rattle.rq_analysis.proofs.Owed as owed

@@ -14,11 +14,11 @@ use Rattle.rq_views.proofs.Overlay.{same_is as op_is}
 use Rattle.rq_views.proofs.AllOpen.{tail}
 use Rattle.rq_analysis.specs.declared.open_work.UndoableWrite.{UndoableWrite}
 use Rattle.rq_analysis.specs.Analysis.{analysis, undoable_at, undoable_by, without_newest, without_undoable}
-use Rattle.rq_analysis.proofs.PageUndoLists as undone
+use Rattle.rq_analysis.proofs.Lists as undone
 use Rattle.rq_analysis.proofs.Noting.{filter_twice, filter_same}
 use Rattle.rq_analysis.proofs.Undoable.{apart, undoable}
 use Rattle.rq_analysis.specs.Rules.{FollowAll, has_op_end, standing, undoes, writes_of}
-use Rattle.rq_analysis.proofs.RuleLists.{first_in, first_split}
+use Rattle.rq_analysis.proofs.Lists.{first_in, first_split}
 
 abbrev pub stands : Sub → List Record → UndoableWrite → Bool
 stands o log p = not (any_record (undoes o p.lsn) log)

@@ -20,7 +20,7 @@ use Rattle.rq_store.specs.Steps.{page_op}
 use Rattle.rq_sound.specs.Rows.{comp_end}
 use Rattle.rq_store.specs.Whole.{IsWhole}
 use Rattle.rq_analysis.specs.Analysis.{Analysis, analysis, without_txn}
-use Rattle.rq_analysis.proofs.PageUndoLists.{filter_less}
+use Rattle.rq_analysis.proofs.Lists.{filter_less}
 use Rattle.rq_analysis.specs.Choices.{least_free}
 use Rattle.rq_analysis.proofs.Choosing.{least_there}
 use Rattle.rq_model.proofs.Lists.{same_self}

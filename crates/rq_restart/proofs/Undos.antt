@@ -17,7 +17,7 @@ use Rattle.rq_analysis.specs.declared.open_work.UndoableWrite.{UndoableWrite}
 use Rattle.rq_analysis.specs.Analysis.{Analysis, analysis}
 use Rattle.rq_analysis.specs.Pages.{IsNextUndo, IsUndoing, work}
 use Rattle.rq_analysis.specs.Pages.IsNextUndo.{Voids, Undoes}
-use Rattle.rq_analysis.proofs.PageUndoLists.{in_newest, in_undoable, in_with, in_without, sub_in}
+use Rattle.rq_analysis.proofs.Lists.{in_newest, in_undoable, in_with, in_without, sub_in}
 use Rattle.rq_analysis.proofs.Undos.{undo_leaves_less, undoing_more}
 use Rattle.rq_analysis.specs.Rules.{CanBeRead}
 use Rattle.rq_restart.specs.Found.{MayFollow}

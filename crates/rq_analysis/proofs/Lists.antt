@@ -1,9 +1,10 @@
--- Lists: what is left out, and what is put in.
-use Rattle.std.proofs.Common.{◌≡◌, ◌<◌, ◌≤◌, Bool, true, false, not, List, [], ◌∷◌, ◌++◌, length, ◌⊎◌, ◌||◌, inl, inr, refl, sym, ◌∙◌, ap, subst, arith}
+-- Lists: what is left out, what is put in, and what stands first.
+use Rattle.std.proofs.Common.{◌≡◌, ◌<◌, ◌≤◌, Bool, true, false, not, List, [], ◌∷◌, ◌++◌, length, ◌⊎◌, ◌||◌, Some, inl, inr, refl, sym, ◌∙◌, ap, subst, arith}
 use Rattle.std.specs.List.{filter}
 use Rattle.std.proofs.lemmas.Bool.{cases_Bool, true≢false, false≢true, false_from_ne_true, or_cases, or_left, not-true}
+use Rattle.std.proofs.lemmas.Option.{same_Some}
 use Rattle.rq_model.specs.declared.txn.Sub.{Sub}
-use Rattle.rq_model.specs.Vocabulary.{In}
+use Rattle.rq_model.specs.Vocabulary.{In, first}
 use Rattle.rq_model.proofs.Lists.{In-filter}
 use Rattle.rq_views.specs.Log.{same_op}
 use Rattle.rq_views.proofs.Overlay.{same_is, same_self}
@@ -11,6 +12,14 @@ use Rattle.rq_views.proofs.AllOpen.{filter_in, tail}
 use Rattle.rq_analysis.specs.declared.open_work.UndoableWrite.{UndoableWrite}
 use Rattle.rq_analysis.specs.Analysis.{undoable_by, has_sub, with_sub, without_sub, without_newest, without_undoable}
 use Rattle.rq_analysis.specs.Pages.{any_undoable}
+
+pub first_in : {X : Type 0} (xs : List X) (x : X) → first xs ≡ Some x → In x xs
+first_in [] x e = cc
+first_in (y ∷ xs) x e = inl (sym (same_Some y x e))
+
+pub first_split : {X : Type 0} (xs : List X) (x : X) → first xs ≡ Some x → (rest : List X) × (xs ≡ x ∷ rest)
+first_split [] x e = cc
+first_split (y ∷ xs) x e = (xs, cc)
 
 pub op_other : (a b : Sub) → same_op a b ≡ false → same_op b a ≡ false
 op_other a b n = false_from_ne_true (same_op b a) (λ e. false≢true (sym n ∙ ap (λ x. same_op a x) (same_is b a e) ∙ same_self a))
