@@ -11,7 +11,7 @@ ghost use Rattle.rq_analysis.specs.ScanState.{IsScanStateOf, Passes, lsn_due};
 ghost use Rattle.rq_analysis.specs.Rules.{CanBeRead, FollowAll, FollowsRules};
 
 use crate::ended::EndedTransactions;
-use rq_analysis::{LastOperations, OpenWork, PendingUndos};
+use crate::{LastOperations, OpenWork, PendingUndos};
 use rq_model::record::{Record, Slot};
 use rq_model::txn::{Lsn, Sub, Txn};
 
