@@ -81,13 +81,12 @@ module _ {G S : Type 0} (answers_by : G → List (ℕ × Bool)) (made_by handed_
     turns = (refl, refl);
   }
 
-  -- the step interface and the session are the same
-  stays : (g h : Asking G) (old mid new : S) (b : Session) (first : Action) (m after : Session) (a : Action)
-      → IsGoing answers_by made_by handed_to g h old mid b first m a → new ≡ mid → after ≡ m
-      → IsGoing answers_by made_by handed_to g h old new b first after a
-  stays g h old mid new b first m after a going same is =
-      subst (λ (s : S). IsGoing answers_by made_by handed_to g h old s b first after a) (sym same)
-      (subst (λ (s : Session). IsGoing answers_by made_by handed_to g h old mid b first s a) (sym is) going)
+  -- the session is the same
+  stays : (g h : Asking G) (old mid : S) (b : Session) (first : Action) (m after : Session) (a : Action)
+      → IsGoing answers_by made_by handed_to g h old mid b first m a → after ≡ m
+      → IsGoing answers_by made_by handed_to g h old mid b first after a
+  stays g h old mid b first m after a going is =
+      subst (λ (s : Session). IsGoing answers_by made_by handed_to g h old mid b first s a) (sym is) going
 
   -- the round of a call, behind these rounds
   abbrev round : (a : Action) (s : Stamped) (asked_before : List (ℕ × Bool)) (asked_behind : List (ℕ × Bool)) → Round
@@ -117,17 +116,17 @@ module _ {G S : Type 0} (answers_by : G → List (ℕ × Bool)) (made_by handed_
       says_more g i k (before.said ++ said_in going.rounds) c.asks.said
       (says_more g h i (said_in going.rounds) before.said going.says before.says) c.asks.says
 
-  pub one_more : (g h i k : Asking G) (old mid mid_too new : S) (b m m_too after : Session) (first a next : Action) (ask : Ask) (e : Event)
+  pub one_more : (g h i k : Asking G) (old mid new : S) (b m m_too after : Session) (first a next : Action) (ask : Ask) (e : Event)
       → IsGoing answers_by made_by handed_to g h old mid b first m a → Asks answers_by h i (is_again a) 4
-      → mid_too ≡ mid → m_too ≡ m → IsAsked a ask × (may_call i.stopped ask ≡ true) → call_of e ≡ asked ask
-      → IsCall answers_by made_by handed_to i k mid_too new e m_too (Some next) after
+      → m_too ≡ m → IsAsked a ask × (may_call i.stopped ask ≡ true) → call_of e ≡ asked ask
+      → IsCall answers_by made_by handed_to i k mid new e m_too (Some next) after
       → IsGoing answers_by made_by handed_to g k old new b first after next
-  one_more g h i k old mid mid_too new b m m_too after first a next ask e was before same is may calls c =
-      let going = stays g h old mid mid_too b first m m_too a was same is in record {
+  one_more g h i k old mid new b m m_too after first a next ask e was before is may calls c =
+      let going = stays g h old mid b first m m_too a was is in record {
         rounds = round a c.stamp before.said c.asks.said ∷ going.rounds;
         made = c.made ∙ ap (λ l. c.stamp ∷ l) going.made;
         handed = c.handed ∙ ap (λ l. c.stamp ∷ l) going.handed;
-        says = all_said g h i k old mid_too new b m_too after first a (Some next) e going before c;
+        says = all_said g h i k old mid new b m_too after first a (Some next) e going before c;
         lost = still_lost m_too (told_by (gave c.stamp.reply)) (Some next) after c.tells ∙ going.lost;
         turns = (
           m_too.stage,
@@ -135,17 +134,17 @@ module _ {G S : Type 0} (answers_by : G → List (ℕ × Bool)) (made_by handed_
           going.turns,
           turn b.lost (has_stopped going.rounds g.stopped) m_too a (round a c.stamp before.said c.asks.said)
               (told_by (gave c.stamp.reply)) next after
-              (is_made g h i k old mid_too new b m_too after first a (Some next) ask e going before may.0 may.1 calls c) refl c.tells
+              (is_made g h i k old mid new b m_too after first a (Some next) ask e going before may.0 may.1 calls c) refl c.tells
               going.lost,
         );
       }
 
-  pub comes : (g h i : Asking G) (old mid mid_too : S) (b m m_too : Session) (first next : Action) (c : Served)
+  pub comes : (g h i : Asking G) (old mid : S) (b m m_too : Session) (first next : Action) (c : Served)
       → IsGoing answers_by made_by handed_to g h old mid b first m next → Asks answers_by h i (is_again next) 4
-      → mid_too ≡ mid → m_too ≡ m → IsCome i.stopped next c
-      → IsCarried answers_by made_by handed_to g i old mid_too b first m_too c
-  comes g h i old mid mid_too b m m_too first next c was last same is come =
-      let going = stays g h old mid mid_too b first m m_too next was same is in record {
+      → m_too ≡ m → IsCome i.stopped next c
+      → IsCarried answers_by made_by handed_to g i old mid b first m_too c
+  comes g h i old mid b m m_too first next c was last is come =
+      let going = stays g h old mid b first m m_too next was is in record {
         rounds = going.rounds;
         last = last.said;
         made = going.made;
@@ -155,27 +154,27 @@ module _ {G S : Type 0} (answers_by : G → List (ℕ × Bool)) (made_by handed_
         goes = inl (next, going.turns, last.at, come);
       }
 
-  pub strays : (g h i k : Asking G) (old mid mid_too new : S) (b m m_too after : Session) (first a : Action) (ask : Ask) (e : Event)
+  pub strays : (g h i k : Asking G) (old mid new : S) (b m m_too after : Session) (first a : Action) (ask : Ask) (e : Event)
       → IsGoing answers_by made_by handed_to g h old mid b first m a → Asks answers_by h i (is_again a) 4
-      → mid_too ≡ mid → m_too ≡ m → IsAsked a ask × (may_call i.stopped ask ≡ true) → call_of e ≡ asked ask
-      → IsCall answers_by made_by handed_to i k mid_too new e m_too None after
+      → m_too ≡ m → IsAsked a ask × (may_call i.stopped ask ≡ true) → call_of e ≡ asked ask
+      → IsCall answers_by made_by handed_to i k mid new e m_too None after
       → IsCarried answers_by made_by handed_to g k old new b first after came.Ended
-  strays g h i k old mid mid_too new b m m_too after first a ask e was before same is may calls c =
-      let going = stays g h old mid mid_too b first m m_too a was same is in
+  strays g h i k old mid new b m m_too after first a ask e was before is may calls c =
+      let going = stays g h old mid b first m m_too a was is in
       let none = told_nothing m_too (told_by (gave c.stamp.reply)) after c.tells in
       let at = ap (λ (x : Session). x.stage) none.1 in record {
         rounds = round a c.stamp before.said c.asks.said ∷ going.rounds;
         last = [];
         made = c.made ∙ ap (λ l. c.stamp ∷ l) going.made;
         handed = c.handed ∙ ap (λ l. c.stamp ∷ l) going.handed;
-        says = all_said g h i k old mid_too new b m_too after first a None e going before c;
+        says = all_said g h i k old mid new b m_too after first a None e going before c;
         lost = still_lost m_too (told_by (gave c.stamp.reply)) None after c.tells ∙ going.lost;
         goes = inr (
           refl,
           (
             a,
             subst (λ (t : Stage). Turns b.lost g.stopped b.stage first going.rounds t a) (sym at) going.turns,
-            is_made g h i k old mid_too new b m_too after first a None ask e going before may.0 may.1 calls c,
+            is_made g h i k old mid new b m_too after first a None ask e going before may.0 may.1 calls c,
             none.0,
             refl,
           ),

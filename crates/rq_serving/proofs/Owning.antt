@@ -1,5 +1,4 @@
 -- What is asked for a transaction is called for it.
-use Rattle.rq_model.specs.History.Call.{Begin, Commit}
 use Rattle.rq_session.specs.declared.calls.Ask.TheVariants as asks
 use Rattle.rq_serving.specs.Translation.{OwnCalls}
 

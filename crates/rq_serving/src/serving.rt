@@ -31,28 +31,26 @@ pub enum Served {
     Ended,
 }
 
-/// A session with the gate and the step interface through which it is served. The gate is asked between two steps of an
-/// operation, and before a call is made again. Once it has said no an operation under way is finished, and no other call
-/// is made for a request or a connection that is lost.
+/// A session with the gate through which it is served. The step interface is lent to each call, so that many sessions have one.
+/// The gate is asked between two steps of an operation, and before a call is made again. Once it has said no an operation
+/// under way is finished, and no other call is made for a request or a connection that is lost.
 #[derive(Drop)]
-pub struct ServedSession<G: Gate, S: Steps> {
+pub struct ServedSession<G: Gate> {
     gate: Asking<G>,
-    steps: S,
     session: Session,
     // the commit that was answered last
     number: Option<CommitNo>,
 }
 
-impl<G: Gate, S: Steps> ServedSession<G, S> {
+impl<G: Gate> ServedSession<G> {
     /// A new session.
-    pub fn new(gate: G, steps: S) -> Self
-        ensures given { (result.gate.gate ≡ gate) × (result.steps ≡ steps) × (result.number ≡ None) }
+    pub fn new(gate: G) -> Self
+        ensures given { (result.gate.gate ≡ gate) × (result.number ≡ None) }
         ensures goes_on { result.gate.stopped ≡ false }
         ensures session { (result.session.stage ≡ Rest Free) × (result.session.lost ≡ false) }
     {
         ServedSession {
             gate: Asking::new(gate),
-            steps,
             session: Session::new(),
             number: None,
         }
@@ -67,12 +65,12 @@ impl<G: Gate, S: Steps> ServedSession<G, S> {
 
     /// Carries a request out: makes the calls that the session asks for, one after the other, until there is an answer,
     /// or a commit waits for its receipt, or the session ends, or the gate has said no and no operation is under way.
-    pub fn request<R: Wait>(&mut self, rt: &R, request: Request) -> Served
-        ensures served { IsServed G.answers S.made S.told self.old.gate self.new.gate self.old.steps self.new.steps self.old.session request self.new.session result }
+    pub fn request<S: Steps, R: Wait>(&mut self, rt: &R, steps: &mut S, request: Request) -> Served
+        ensures served { IsServed G.answers S.made S.told self.old.gate self.new.gate steps.old steps.new self.old.session request self.new.session result }
         ensures number { KeepsNumber self.old.session.stage self.old.number self.new.session.stage self.new.number }
     {
         if let Some(ask) = self.session.input(request) {
-            return self.carried(rt, Action::Do(ask));
+            return self.carried(rt, steps, Action::Do(ask));
         }
         match self.session.answer() {
             Some(answer) => Served::Answered(answer),
@@ -82,77 +80,76 @@ impl<G: Gate, S: Steps> ServedSession<G, S> {
 
     /// Asks whether the commit that waits is durable, also where the gate has said no. The caller waits before it asks
     /// again. Where none waits there is nothing to ask.
-    pub fn ask_receipt<R: Wait>(&mut self, rt: &R) -> Served
+    pub fn ask_receipt<S: Steps, R: Wait>(&mut self, rt: &R, steps: &mut S) -> Served
         ensures some { IfSome (awaited self.old.session.stage) (λ commit. IfSome self.old.number (λ number. IsAskedFor
-            G.answers S.made S.told self.old.gate self.new.gate self.old.steps self.new.steps number self.old.session
+            G.answers S.made S.told self.old.gate self.new.gate steps.old steps.new number self.old.session
             self.new.session result)) }
         ensures none { IfNone (awaited self.old.session.stage) ((result ≡ Served.Ended) × (self.new.gate ≡ self.old.gate)
-            × (self.new.steps ≡ self.old.steps) × (self.new.session ≡ self.old.session)) }
+            × (steps.new ≡ steps.old) × (self.new.session ≡ self.old.session)) }
         ensures number { KeepsNumber self.old.session.stage self.old.number self.new.session.stage self.new.number }
     {
         if self.session.awaited().is_none() {
             return Served::Ended;
         }
         match self.number {
-            Some(number) => self.asked_for(rt, number),
+            Some(number) => self.asked_for(rt, steps, number),
             None => Served::Ended,
         }
     }
 
     /// Finishes the operation under way and aborts the transaction, once the connection has ended or was at fault. Where
     /// the gate has said no the transaction stays as it is then.
-    pub fn lose<R: Wait>(&mut self, rt: &R) -> Served
-        ensures lost { IsLost G.answers S.made S.told self.old.gate self.new.gate self.old.steps self.new.steps self.old.session self.new.session result }
+    pub fn lose<S: Steps, R: Wait>(&mut self, rt: &R, steps: &mut S) -> Served
+        ensures lost { IsLost G.answers S.made S.told self.old.gate self.new.gate steps.old steps.new self.old.session self.new.session result }
         ensures number { KeepsNumber self.old.session.stage self.old.number self.new.session.stage self.new.number }
     {
         let action = self.session.lost();
-        self.carried(rt, action)
+        self.carried(rt, steps, action)
     }
 
     /// Forces where the gate lets it through, and hands the stamp on: whether it did. That is no call of the session's, which
     /// is as before.
-    pub fn force(&mut self) -> bool
+    pub fn force<S: Steps>(&mut self, steps: &mut S) -> bool
         ensures asked { G.answers self.new.gate.gate ≡ (1, result) ∷ G.answers self.old.gate.gate }
         ensures stopped { self.new.gate.stopped ≡ (not result || self.old.gate.stopped) }
-        ensures force { result ≡ true → IsForce S.made S.forced S.told self.old.steps self.new.steps }
-        ensures none { result ≡ false → self.new.steps ≡ self.old.steps }
+        ensures force { result ≡ true → IsForce S.made S.forced S.told steps.old steps.new }
+        ensures none { result ≡ false → steps.new ≡ steps.old }
         ensures same { (self.new.session ≡ self.old.session) × (self.new.number ≡ self.old.number) }
     {
         if !self.gate.asks(BEFORE_FORCE) {
             return false;
         }
-        let stamped = self.steps.force();
-        self.steps.seen(stamped);
+        let stamped = steps.force();
+        steps.seen(stamped);
         true
     }
 
-    /// The gate and the step interface.
-    pub fn into_parts(self) -> (G, S)
-        ensures { (result.0 ≡ self.gate.gate) × (result.1 ≡ self.steps) }
+    /// The gate.
+    pub fn into_gate(self) -> G
+        ensures { result ≡ self.gate.gate }
     {
         let ServedSession {
             gate,
-            steps,
             session: _,
             number: _,
         } = self;
-        (gate.into_gate(), steps)
+        gate.into_gate()
     }
 
     // Asks once for the receipt of a commit, and goes on with what that told.
-    fn asked_for<R: Wait>(&mut self, rt: &R, number: CommitNo) -> Served
-        ensures asked { IsAskedFor G.answers S.made S.told self.old.gate self.new.gate self.old.steps self.new.steps number self.old.session self.new.session result }
+    fn asked_for<S: Steps, R: Wait>(&mut self, rt: &R, steps: &mut S, number: CommitNo) -> Served
+        ensures asked { IsAskedFor G.answers S.made S.told self.old.gate self.new.gate steps.old steps.new number self.old.session self.new.session result }
         ensures number { KeepsNumber self.old.session.stage self.old.number self.new.session.stage self.new.number }
     {
-        match self.called(Event::Acknowledged(number)) {
-            Some(action) => self.carried(rt, action),
+        match self.called(steps, Event::Acknowledged(number)) {
+            Some(action) => self.carried(rt, steps, action),
             None => Served::Ended,
         }
     }
 
     // Does what is to be done, until the session asks for nothing more.
-    fn carried<R: Wait>(&mut self, rt: &R, first: Action) -> Served
-        ensures carried { IsCarried G.answers S.made S.told self.old.gate self.new.gate self.old.steps self.new.steps self.old.session first self.new.session result }
+    fn carried<S: Steps, R: Wait>(&mut self, rt: &R, steps: &mut S, first: Action) -> Served
+        ensures carried { IsCarried G.answers S.made S.told self.old.gate self.new.gate steps.old steps.new self.old.session first self.new.session result }
         ensures number { KeepsNumber self.old.session.stage self.old.number self.new.session.stage self.new.number }
     {
         let mut action = first;
@@ -161,7 +158,7 @@ impl<G: Gate, S: Steps> ServedSession<G, S> {
                 Ok(ask) => ask,
                 Err(came) => return came,
             };
-            action = match self.called(event_of(ask)) {
+            action = match self.called(steps, event_of(ask)) {
                 Some(action) => action,
                 None => return Served::Ended,
             };
@@ -175,8 +172,7 @@ impl<G: Gate, S: Steps> ServedSession<G, S> {
         ensures asks { IfOk result (λ ask. IsAsked action ask × (may_call self.new.gate.stopped ask ≡ true)) }
         ensures came { IfErr result (λ came. IsCome self.new.gate.stopped action came) }
         ensures gate { Asks G.answers self.old.gate self.new.gate (is_again action) 4 }
-        ensures same { (self.new.steps ≡ self.old.steps) × (self.new.session ≡ self.old.session)
-            × (self.new.number ≡ self.old.number) }
+        ensures same { (self.new.session ≡ self.old.session) × (self.new.number ≡ self.old.number) }
     {
         self.gate.asks_where(is_to_be_again(&action), BEFORE_AGAIN);
         to_be_made(action, self.gate.has_stopped())
@@ -184,15 +180,15 @@ impl<G: Gate, S: Steps> ServedSession<G, S> {
 
     // Makes a call, and tells the session what came of it: what is to be done next. None where no call of a session is
     // answered so. Behind a slot that was written the gate is asked.
-    fn called(&mut self, event: Event) -> Option<Action>
-        ensures call { IsCall G.answers S.made S.told self.old.gate self.new.gate self.old.steps self.new.steps event
+    fn called<S: Steps>(&mut self, steps: &mut S, event: Event) -> Option<Action>
+        ensures call { IsCall G.answers S.made S.told self.old.gate self.new.gate steps.old steps.new event
             self.old.session result self.new.session }
         ensures number { KeepsNumber self.old.session.stage self.old.number self.new.session.stage self.new.number }
     {
-        let stamped = self.steps.call(event);
+        let stamped = steps.call(event);
         let told = told_of(stamped.reply());
         self.number = number_after(self.number, stamped.reply());
-        self.steps.seen(stamped);
+        steps.seen(stamped);
         self.gate.asks_where(is_written(&told), BETWEEN_STEPS);
         let told = told?;
         Some(self.session.reply(&told))

@@ -39,7 +39,8 @@ impl Gate for Open {
 #[derive(Drop)]
 pub struct Connection<G: Gate, S: Steps> {
     frames: Frames,
-    serving: ServedSession<G, S>,
+    serving: ServedSession<G>,
+    steps: S,
     written: BytesMut,
     is_over: bool,
 }
@@ -48,7 +49,8 @@ pub struct Connection<G: Gate, S: Steps> {
 pub fn connected<G: Gate, S: Steps>(alloc: Global, gate: G, steps: S) -> Connection<G, S> {
     Connection {
         frames: Frames::new(alloc),
-        serving: ServedSession::new(gate, steps),
+        serving: ServedSession::new(gate),
+        steps,
         written: BytesMut::new(alloc),
         is_over: false,
     }
@@ -66,32 +68,37 @@ fn write(one: &Answer, out: &mut BytesMut) -> Result<(), NoMemory> {
 
 fn request<G: Gate, S: Steps, R: Wait>(
     rt: &R,
-    serving: &mut ServedSession<G, S>,
+    serving: &mut ServedSession<G>,
+    steps: &mut S,
     request: Request,
 ) -> Served {
-    serving.request(rt, request)
+    serving.request(rt, steps, request)
 }
 
-fn ask_receipt<G: Gate, S: Steps, R: Wait>(rt: &R, serving: &mut ServedSession<G, S>) -> Served {
-    serving.ask_receipt(rt)
+fn ask_receipt<G: Gate, S: Steps, R: Wait>(
+    rt: &R,
+    serving: &mut ServedSession<G>,
+    steps: &mut S,
+) -> Served {
+    serving.ask_receipt(rt, steps)
 }
 
 // Whether the session has ended once its connection is lost.
-fn lose<G: Gate, S: Steps, R: Wait>(rt: &R, serving: &mut ServedSession<G, S>) -> bool {
-    matches!(serving.lose(rt), Served::Ended)
+fn lose<G: Gate, S: Steps, R: Wait>(rt: &R, serving: &mut ServedSession<G>, steps: &mut S) -> bool {
+    matches!(serving.lose(rt, steps), Served::Ended)
 }
 
 // A force, as a log writer makes one while a commit waits: whether it was made.
-fn force<G: Gate, S: Steps>(serving: &mut ServedSession<G, S>) -> bool {
-    serving.force()
+fn force<G: Gate, S: Steps>(serving: &mut ServedSession<G>, steps: &mut S) -> bool {
+    serving.force(steps)
 }
 
-fn goes_on<G: Gate, S: Steps>(serving: &ServedSession<G, S>) -> bool {
+fn goes_on<G: Gate>(serving: &ServedSession<G>) -> bool {
     serving.goes_on()
 }
 
-fn into_parts<G: Gate, S: Steps>(serving: ServedSession<G, S>) -> (G, S) {
-    serving.into_parts()
+fn into_gate<G: Gate>(serving: ServedSession<G>) -> G {
+    serving.into_gate()
 }
 
 // The commit that waits for its receipt.
@@ -113,21 +120,22 @@ fn answered(came: Served) -> Option<Answer> {
 // Serves a request until it is answered. A commit that waits is answered once it was not durable, and then was forced.
 fn served<G: Gate, S: Steps, R: Wait>(
     rt: &R,
-    serving: &mut ServedSession<G, S>,
+    serving: &mut ServedSession<G>,
+    steps: &mut S,
     asked: Request,
 ) -> Result<Option<Answer>, &'static str> {
-    let came = request(rt, serving, asked);
+    let came = request(rt, serving, steps, asked);
     let lsn = waiting(&came);
     if lsn.is_none() {
         return Ok(answered(came));
     }
-    if waiting(&ask_receipt(rt, serving)) != lsn {
+    if waiting(&ask_receipt(rt, serving, steps)) != lsn {
         return Err("answered before its force");
     }
-    if !force(serving) {
+    if !force(serving, steps) {
         return Err("not forced");
     }
-    Ok(answered(ask_receipt(rt, serving)))
+    Ok(answered(ask_receipt(rt, serving, steps)))
 }
 
 impl<G: Gate, S: Steps> Connection<G, S> {
@@ -168,7 +176,7 @@ impl<G: Gate, S: Steps> Connection<G, S> {
 
     // Serves a request, and writes its answer.
     fn serve<R: Wait>(&mut self, rt: &R, asked: Request) -> Result<(), Fail> {
-        match served(rt, &mut self.serving, asked)? {
+        match served(rt, &mut self.serving, &mut self.steps, asked)? {
             Some(one) => write(&one, &mut self.written)?,
             None => self.is_over = true,
         }
@@ -177,7 +185,7 @@ impl<G: Gate, S: Steps> Connection<G, S> {
 
     // The connection has ended, or was at fault.
     fn end<R: Wait>(&mut self, rt: &R) {
-        self.is_over = lose(rt, &mut self.serving);
+        self.is_over = lose(rt, &mut self.serving, &mut self.steps);
     }
 
     /// Whether the gate has not said no so far.
@@ -190,10 +198,10 @@ impl<G: Gate, S: Steps> Connection<G, S> {
         let Connection {
             frames: _,
             serving,
+            steps,
             written,
             is_over,
         } = self;
-        let (gate, steps) = into_parts(serving);
-        (written, is_over, gate, steps)
+        (written, is_over, into_gate(serving), steps)
     }
 }

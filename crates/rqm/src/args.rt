@@ -11,6 +11,11 @@ const FEWEST_FRAMES: i64 = 8;
 
 const MOST_FRAMES: i64 = 66_561;
 
+/// How many threads serve connections where the words don't say it, and at most.
+const WORKERS: u32 = 4;
+
+const MOST_WORKERS: i64 = 64;
+
 /// What the words ask for.
 #[derive(Drop)]
 pub enum Args {
@@ -18,8 +23,23 @@ pub enum Args {
     Run(Layout),
     /// A new store of this layout, in this folder.
     Format(String, Layout),
+    /// A server over the store in a folder.
+    Serve(Serve),
     /// Nothing more: the words were answered, with this status.
     Answered(u8),
+}
+
+/// A server over the store in a folder.
+#[derive(Drop)]
+pub struct Serve {
+    /// The folder.
+    pub folder: String,
+    /// The port on 127.0.0.1; 0 for any that is free.
+    pub port: u16,
+    /// How many threads serve connections.
+    pub workers: u32,
+    /// After how many sessions it ends; 0 for no end.
+    pub sessions: u64,
 }
 
 /// Reads the words of the process. Words that are not accepted, one that is not UTF-8 among them, and those that ask for
@@ -55,6 +75,7 @@ fn parse(alloc: Global, words: &[String]) -> Result<Option<Args>, Error> {
     match matches.subcommand() {
         Some(("run", run)) => Ok(layout(run).map(Args::Run)),
         Some(("format", format)) => Ok(store(alloc, format)?),
+        Some(("serve", serve)) => Ok(server(alloc, serve)?),
         _ => Ok(None),
     }
 }
@@ -65,6 +86,20 @@ fn store(alloc: Global, format: &ArgMatches<'_>) -> Result<Option<Args>, AllocEr
     };
     let folder = String::from_str(alloc, folder)?;
     Ok(Some(Args::Format(folder, layout)))
+}
+
+fn server(alloc: Global, matches: &ArgMatches<'_>) -> Result<Option<Args>, AllocError> {
+    let (Some(folder), Some(port)) = (matches.get_str("folder"), matches.get_one::<u16>("port"))
+    else {
+        return Ok(None);
+    };
+    let folder = String::from_str(alloc, folder)?;
+    Ok(Some(Args::Serve(Serve {
+        folder,
+        port,
+        workers: matches.get_one::<u32>("workers").unwrap_or(WORKERS),
+        sessions: matches.get_one::<u64>("sessions").unwrap_or(0),
+    })))
 }
 
 fn layout(matches: &ArgMatches<'_>) -> Option<Layout> {
@@ -79,7 +114,8 @@ fn command<'a>(alloc: Global) -> Result<Command<'a>, AllocError> {
         .about("A recoverable queue manager")
         .subcommand_required(true)
         .subcommand(run_command(alloc)?)?
-        .subcommand(format_command(alloc)?)
+        .subcommand(format_command(alloc)?)?
+        .subcommand(serve_command(alloc)?)
 }
 
 fn run_command<'a>(alloc: Global) -> Result<Command<'a>, AllocError> {
@@ -87,26 +123,55 @@ fn run_command<'a>(alloc: Global) -> Result<Command<'a>, AllocError> {
         .about("Runs a script from standard input over a store in memory")
         .arg(directory(alloc))?
         .arg(cells(alloc))?
-        .arg(number(
-            alloc,
-            "frames",
-            "Pages that are kept in memory",
-            FEWEST_FRAMES,
-            MOST_FRAMES,
-        ))
+        .arg(frames(alloc))
 }
 
 fn format_command<'a>(alloc: Global) -> Result<Command<'a>, AllocError> {
     Command::new(alloc, "format")
         .about("Makes the files of an empty store in a folder that is there")
-        .arg(
-            Arg::new(alloc, "folder")
-                .value_name("FOLDER")
-                .help("Where the files are made")
-                .required(true),
-        )?
+        .arg(folder(alloc, "Where the files are made"))?
         .arg(directory(alloc))?
         .arg(cells(alloc))
+}
+
+fn serve_command<'a>(alloc: Global) -> Result<Command<'a>, AllocError> {
+    let workers = "Threads that serve connections";
+    Command::new(alloc, "serve")
+        .about("Serves the store in a folder over TCP, to this machine alone")
+        .arg(folder(alloc, "Where the files are"))?
+        .arg(port(alloc))?
+        .arg(number(alloc, "workers", workers, 1, MOST_WORKERS))?
+        .arg(sessions(alloc))?
+        .arg(frames(alloc))
+}
+
+fn folder<'a>(alloc: Global, help: &'a str) -> Arg<'a> {
+    Arg::new(alloc, "folder")
+        .value_name("FOLDER")
+        .help(help)
+        .required(true)
+}
+
+fn port<'a>(alloc: Global) -> Arg<'a> {
+    Arg::new(alloc, "port")
+        .long("port")
+        .help("The port on 127.0.0.1; 0 for any that is free")
+        .action(ArgAction::Set)
+        .value_parser(clap::value_parser!(u16))
+        .required(true)
+}
+
+fn sessions<'a>(alloc: Global) -> Arg<'a> {
+    Arg::new(alloc, "sessions")
+        .long("sessions")
+        .help("After how many sessions it ends; 0 for no end")
+        .action(ArgAction::Set)
+        .value_parser(clap::value_parser!(u64))
+}
+
+fn frames<'a>(alloc: Global) -> Arg<'a> {
+    let help = "Pages that are kept in memory";
+    number(alloc, "frames", help, FEWEST_FRAMES, MOST_FRAMES)
 }
 
 fn directory<'a>(alloc: Global) -> Arg<'a> {

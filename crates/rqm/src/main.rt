@@ -2,16 +2,22 @@
 #![tactic(auto)]
 
 mod args;
+mod serving;
 
 use args::Args;
 use rq_files::run_format;
 use rq_levels::sets_of_levels;
 use rq_page::layout::Layout;
 use rq_script::{run_script, sets_wanted};
+use serving::run_serve;
 use std::fs::File;
 use std::io::{self, Read, Write};
+use std::net::{Net, TcpListener, TcpStream};
 use std::process::ExitCode;
 use std::rt::{Env, Files};
+use std::sync::Wait;
+use std::thread::Threads;
+use std::time::Clock;
 
 fn main(rt: HostRuntime) -> ExitCode {
     match run(&rt) {
@@ -20,13 +26,24 @@ fn main(rt: HostRuntime) -> ExitCode {
     }
 }
 
-fn run<R: Print + Eprint + Input + AllocGlobal + Env + Files<File = File>>(
-    rt: &R,
-) -> io::Result<u8> {
+fn run<
+    R: Print
+        + Eprint
+        + Input
+        + AllocGlobal
+        + Env
+        + Files<File = File>
+        + Net<Listener = TcpListener, Stream = TcpStream>
+        + Wait
+        + Threads
+        + Clock
+        + Sync,
+>(rt: &R) -> io::Result<u8> {
     let mut writer = io::writer(rt);
     Ok(match args::read(rt)? {
         Args::Run(layout) => run_input(rt, &mut writer, layout)?,
         Args::Format(folder, layout) => run_format(rt, &mut writer, folder.as_str(), &layout),
+        Args::Serve(asked) => run_serve(rt, &mut writer, &asked)?,
         Args::Answered(status) => status,
     })
 }

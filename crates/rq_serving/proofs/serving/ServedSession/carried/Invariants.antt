@@ -4,6 +4,6 @@ use Rattle.rq_serving.proofs.serving.ServedSession.carried.Given as goal
 -- so far the session was carried on to what is to be done next, and its commit's number is kept
 abbrev pub invariant-loop : goal.invariant-loop
 invariant-loop g l =
-    IsGoing g.G.Gate.answers g.S.Steps.made g.S.Steps.told l.fn.self.gate l.self.gate l.fn.self.steps l.self.steps
+    IsGoing g.G.Gate.answers g.S.Steps.made g.S.Steps.told l.fn.self.gate l.self.gate l.fn.steps l.steps
     l.fn.self.session l.fn.first l.self.session l.action
     × KeepsNumber l.fn.self.session.stage l.fn.self.number l.self.session.stage l.self.number

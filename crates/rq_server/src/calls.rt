@@ -1,0 +1,73 @@
+//! What a worker calls the store by.
+ghost use Rattle.std.specs.Prelude.{◌≡◌};
+
+use crate::notices::Notices;
+use rq_model::txn::Lsn;
+use rq_shared::mark::{Mark, MarkPass};
+use rq_workers::steps::Steps;
+use std::sync::{Mutex, Wait};
+
+/// Where a worker reads how far the log is forced.
+#[derive(Drop)]
+pub(crate) struct MarkReader<'a> {
+    mark: &'a Mark,
+    seat: MarkPass,
+    ghost of_mark: { seat.table ≡ mark.now },
+}
+
+impl<'a> MarkReader<'a> {
+    pub(crate) fn new(mark: &'a Mark, seat: MarkPass) -> Self
+        requires { seat.table ≡ mark.now }
+    {
+        MarkReader { mark, seat }
+    }
+
+    fn read(&mut self) -> Lsn {
+        self.mark.read(&mut self.seat)
+    }
+}
+
+/// What a worker calls the store by: its steps, the mark, and what it tells the other threads.
+#[derive(Drop)]
+pub(crate) struct Calls<'a, S: Steps> {
+    pub(crate) steps: S,
+    reader: MarkReader<'a>,
+    forcing: &'a Mutex<()>,
+    notices: &'a Notices,
+}
+
+impl<'a, S: Steps> Calls<'a, S> {
+    pub(crate) fn new(
+        steps: S,
+        reader: MarkReader<'a>,
+        forcing: &'a Mutex<()>,
+        notices: &'a Notices,
+    ) -> Self {
+        Calls {
+            steps,
+            reader,
+            forcing,
+            notices,
+        }
+    }
+
+    /// Forces, where the log is not forced as far as this. One worker forces at a time, so that others need not do it again.
+    pub(crate) fn force_up_to<R: Wait>(&mut self, rt: &R, lsn: Lsn) {
+        let forcing = self.forcing;
+        let _turn = forcing.lock(rt);
+        if self.reader.read() < lsn {
+            let stamped = self.steps.force();
+            self.steps.seen(stamped);
+        }
+    }
+
+    /// The system has no room for a connection.
+    pub(crate) fn tell_no_room<R: Eprint>(&self, rt: &R) {
+        self.notices.tell_no_room(rt);
+    }
+
+    /// A round was made.
+    pub(crate) fn note_round(&self) {
+        self.notices.note_round();
+    }
+}

@@ -1,0 +1,197 @@
+//! One connection with its session.
+use crate::gates::Yielding;
+use bytes::BytesMut;
+use mio::net::TcpStream;
+use rq_model::txn::Lsn;
+use rq_serving::serving::{Served, ServedSession};
+use rq_wire::{Fed, Frames, Request, answer};
+use rq_workers::steps::Steps;
+use std::alloc::Global;
+use std::collections::VecDeque;
+use std::io::{ErrorKind, Read, Write};
+use std::sync::Wait;
+
+/// How many bytes are read at once, at most.
+const PIECE: usize = 4096;
+
+/// How many pieces are read in one round, at most, so that nobody else waits for a connection that says much.
+const PIECES_A_ROUND: u32 = 4;
+
+/// How many requests are carried out in one round, at most.
+const REQUESTS_A_ROUND: u32 = 64;
+
+/// A connection: what was asked and not yet carried out, and answers that the system has not taken yet.
+#[derive(Drop)]
+pub(crate) struct Connection {
+    pub(crate) stream: TcpStream,
+    frames: Frames,
+    serving: ServedSession<Yielding>,
+    line: Line,
+    asked: VecDeque<Request>,
+    awaited: Option<Lsn>,
+    answers: BytesMut,
+    // nothing more is carried out
+    session_is_over: bool,
+}
+
+// How far a connection was read.
+#[derive(Clone, Copy)]
+enum Line {
+    // all that was said so far: more is reported
+    Quiet,
+    // more may have been said, and is not reported again
+    Unread,
+    // nothing more is read: it has ended or is at fault
+    Ended,
+}
+
+impl Connection {
+    /// A connection with a new session.
+    pub(crate) fn new(alloc: Global, stream: TcpStream) -> Self {
+        Connection {
+            stream,
+            frames: Frames::new(alloc),
+            serving: ServedSession::new(Yielding::new()),
+            line: Line::Quiet,
+            asked: VecDeque::new(alloc),
+            awaited: None,
+            answers: BytesMut::new(alloc),
+            session_is_over: false,
+        }
+    }
+
+    /// The commit that waits for its receipt.
+    pub(crate) fn awaited(&self) -> Option<Lsn> {
+        self.awaited
+    }
+
+    /// Whether nothing is left to be read, carried out or written.
+    pub(crate) fn is_over(&self) -> bool {
+        self.session_is_over && !self.is_held_up()
+    }
+
+    /// Whether something is left to be read or carried out that the system does not report again.
+    pub(crate) fn is_behind(&self) -> bool {
+        let is_read = !matches!(self.line, Line::Unread) && self.asked.is_empty();
+        !self.is_held_up() && (!is_read || self.awaited.is_some())
+    }
+
+    // Whether the system took no more answers. It reports when it does.
+    fn is_held_up(&self) -> bool {
+        !self.answers.is_empty()
+    }
+
+    /// Reads what was said, a few pieces at most. A client that does not read is not heard, nor one that has asked more than was
+    /// carried out.
+    pub(crate) fn hear(&mut self) {
+        if matches!(self.line, Line::Quiet) {
+            self.line = Line::Unread;
+        }
+        if self.is_held_up() || !self.asked.is_empty() {
+            return;
+        }
+        for _ in 0..PIECES_A_ROUND {
+            if !matches!(self.line, Line::Unread) {
+                return;
+            }
+            self.line = self.read_piece();
+        }
+    }
+
+    fn read_piece(&mut self) -> Line {
+        let mut piece = [0u8; PIECE];
+        match self.stream.read(&mut piece) {
+            Ok(0) => Line::Ended,
+            Ok(count) => self.take(&piece[..count]),
+            Err(error) if error.kind() == ErrorKind::WouldBlock => Line::Quiet,
+            Err(_) => Line::Ended,
+        }
+    }
+
+    // Takes down what these bytes ask. After a fault, or where memory is wanting, that is all.
+    fn take(&mut self, piece: &[u8]) -> Line {
+        let Ok(Fed { requests, fault }) = self.frames.feed(piece) else {
+            return Line::Ended;
+        };
+        for request in requests {
+            if self.asked.push_back(request).is_err() {
+                return Line::Ended;
+            }
+        }
+        if fault { Line::Ended } else { Line::Unread }
+    }
+
+    /// Carries out what was asked, up to a commit that waits for its receipt, and as much as a round takes.
+    pub(crate) fn carry_out<S: Steps, R: Wait>(&mut self, rt: &R, steps: &mut S) {
+        if self.is_held_up() {
+            return;
+        }
+        for _ in 0..REQUESTS_A_ROUND {
+            if self.session_is_over || self.awaited.is_some() {
+                return;
+            }
+            let Some(request) = self.asked.pop_front() else {
+                break;
+            };
+            let came = self.serving.request(rt, steps, request);
+            self.take_down(came);
+        }
+        self.lose_if_ended(rt, steps);
+    }
+
+    /// Asks for the receipt of the commit that waits for it.
+    pub(crate) fn ask_receipt<S: Steps, R: Wait>(&mut self, rt: &R, steps: &mut S) {
+        if self.awaited.is_none() {
+            return;
+        }
+        let came = self.serving.ask_receipt(rt, steps);
+        self.take_down(came);
+        self.lose_if_ended(rt, steps);
+    }
+
+    // Puts what came of a request behind the other answers. An answer that there is no memory for is the last.
+    fn take_down(&mut self, came: Served) {
+        self.awaited = None;
+        match came {
+            Served::Answered(one) => {
+                if answer(&one, &mut self.answers).is_err() {
+                    self.line = Line::Ended;
+                    self.asked.clear();
+                }
+            }
+            Served::Waits(lsn) => self.awaited = Some(lsn),
+            Served::Ended => self.session_is_over = true,
+        }
+    }
+
+    // Where all is carried out, and nothing more will be asked, the session is lost.
+    fn lose_if_ended<S: Steps, R: Wait>(&mut self, rt: &R, steps: &mut S) {
+        let is_ended = matches!(self.line, Line::Ended);
+        if is_ended && self.asked.is_empty() && self.awaited.is_none() {
+            self.lose(rt, steps);
+        }
+    }
+
+    /// Ends the session: its transaction is aborted.
+    pub(crate) fn lose<S: Steps, R: Wait>(&mut self, rt: &R, steps: &mut S) {
+        if !self.session_is_over {
+            self.serving.lose(rt, steps);
+            self.session_is_over = true;
+        }
+    }
+
+    /// Writes as many of the answers as the system takes. False where nobody reads them any more.
+    pub(crate) fn write_answers<R: Wait>(&mut self, rt: &R) -> bool {
+        for _ in rt.forever() {
+            if self.answers.is_empty() {
+                break;
+            }
+            match self.stream.write(&self.answers) {
+                Ok(0) => return false,
+                Ok(count) => self.answers.advance(count),
+                Err(error) => return error.kind() == ErrorKind::WouldBlock,
+            }
+        }
+        true
+    }
+}

@@ -1,0 +1,255 @@
+//! Rounds: a worker waits until some of its connections have said something, carries that out, forces the log once for the
+//! commits among it, and answers.
+use crate::calls::Calls;
+use crate::connection::Connection;
+use crate::door::{Door, Entered};
+use mio::net::{TcpListener, TcpStream};
+use mio::{Events, Interest, Poll, Token};
+use rq_model::txn::Lsn;
+use rq_workers::steps::Steps;
+use slab::Slab;
+use std::alloc::{AllocError, Global};
+use std::io;
+use std::net::Net;
+use std::sync::{Mutex, Wait};
+use std::time::Duration;
+
+/// How many connections are reported at once, at most.
+const REPORTS: usize = 256;
+
+/// The token of the listener.
+const DOOR: usize = 0xFFFF_FFFF;
+
+/// How many milliseconds pass before a connection that the system had no room for is tried again.
+const AGAIN_MILLIS: u64 = 10;
+
+/// How many milliseconds a worker sleeps at most, where there is an end to the sessions that another may come to.
+const LIMITED_MILLIS: u64 = 100;
+
+/// Where a worker waits: for connections at this listener, and for what its own ones say.
+pub(crate) fn poll_at<R: Net>(rt: &R, listener: &mut TcpListener) -> io::Result<Poll> {
+    let poll = Poll::new(rt)?;
+    poll.registry()
+        .register(listener, Token(DOOR), Interest::READABLE)?;
+    Ok(poll)
+}
+
+// Who stands at the door.
+#[derive(Clone, Copy)]
+enum Queue {
+    // nobody: the next one is reported
+    Empty,
+    // maybe somebody, who is not reported again
+    Waiting,
+    // somebody whom the system has no room for
+    Stuck,
+}
+
+/// The connections of a worker, by token.
+#[derive(Drop)]
+pub(crate) struct Connections {
+    connections: Slab<Connection>,
+    // the tokens of the round
+    active: Vec<usize>,
+    queue: Queue,
+    // there is an end to the sessions
+    is_limited: bool,
+    served: u64,
+}
+
+impl Connections {
+    /// None yet.
+    pub(crate) fn new(alloc: Global, is_limited: bool) -> Result<Self, AllocError> {
+        Ok(Connections {
+            connections: Slab::new(alloc),
+            active: Vec::with_capacity(alloc, REPORTS)?,
+            queue: Queue::Waiting,
+            is_limited,
+            served: 0,
+        })
+    }
+
+    /// Serves connections until no session may begin any more and all have ended. How many it served.
+    ///
+    /// # Errors
+    /// Where the system reports nothing any more, or there is no memory for what it reports.
+    pub(crate) fn serve<S: Steps, R: Wait + Eprint>(
+        &mut self,
+        rt: &R,
+        alloc: Global,
+        poll: Poll,
+        door: &Mutex<Door>,
+        calls: &mut Calls<'_, S>,
+    ) -> io::Result<u64> {
+        let mut poll = poll;
+        let mut events = Events::with_capacity(alloc, REPORTS)?;
+        for _ in rt.forever() {
+            poll.poll(&mut events, self.patience())?;
+            self.note(&events);
+            self.round(rt, &poll, calls);
+            self.let_in(rt, alloc, &poll, door, calls);
+            if self.is_limited && self.connections.is_empty() && door.lock(rt).is_closed() {
+                return Ok(self.served);
+            }
+        }
+        unreachable!()
+    }
+
+    // How long to sleep at most, where nothing is reported; None where until something is.
+    fn patience(&self) -> Option<Duration> {
+        match self.queue {
+            Queue::Waiting => Some(Duration::from_millis(0)),
+            Queue::Stuck => Some(Duration::from_millis(AGAIN_MILLIS)),
+            Queue::Empty if self.is_limited => Some(Duration::from_millis(LIMITED_MILLIS)),
+            Queue::Empty => None,
+        }
+    }
+
+    // Notes what is reported.
+    fn note(&mut self, events: &Events) {
+        self.active.clear();
+        for event in events.iter() {
+            let Token(token) = event.token();
+            if token == DOOR {
+                self.queue = Queue::Waiting;
+            } else {
+                let _ = self.active.push(token);
+            }
+        }
+    }
+
+    fn round<S: Steps, R: Wait>(&mut self, rt: &R, poll: &Poll, calls: &mut Calls<'_, S>) {
+        if self.active.is_empty() {
+            return;
+        }
+        self.carry_out(rt, calls);
+        if let Some(lsn) = self.last_awaited() {
+            calls.force_up_to(rt, lsn);
+            self.ask_receipts(rt, calls);
+        }
+        self.answer(rt, poll, calls);
+        calls.note_round();
+    }
+
+    // Reads what was said, and carries it out up to commits that wait.
+    fn carry_out<S: Steps, R: Wait>(&mut self, rt: &R, calls: &mut Calls<'_, S>) {
+        for at in 0..self.active.len() {
+            let token = self.active.get(at).copied().unwrap_or(DOOR);
+            if let Some(connection) = self.connections.get_mut(token) {
+                connection.hear();
+                connection.carry_out(rt, &mut calls.steps);
+            }
+        }
+    }
+
+    // The last of the commits that wait.
+    fn last_awaited(&self) -> Option<Lsn> {
+        let mut last = None;
+        for token in &self.active {
+            if let Some(connection) = self.connections.get(*token) {
+                last = later(last, connection.awaited());
+            }
+        }
+        last
+    }
+
+    fn ask_receipts<S: Steps, R: Wait>(&mut self, rt: &R, calls: &mut Calls<'_, S>) {
+        for at in 0..self.active.len() {
+            let token = self.active.get(at).copied().unwrap_or(DOOR);
+            if let Some(connection) = self.connections.get_mut(token) {
+                connection.ask_receipt(rt, &mut calls.steps);
+            }
+        }
+    }
+
+    // Writes the answers, and ends the connections that are over.
+    fn answer<S: Steps, R: Wait>(&mut self, rt: &R, poll: &Poll, calls: &mut Calls<'_, S>) {
+        for at in 0..self.active.len() {
+            let token = self.active.get(at).copied().unwrap_or(DOOR);
+            if let Some(connection) = self.connections.get_mut(token) {
+                if is_over(rt, connection, calls) {
+                    self.end(token);
+                } else if connection.is_behind() {
+                    report_again(poll, connection, token);
+                }
+            }
+        }
+    }
+
+    fn end(&mut self, token: usize) {
+        drop(self.connections.try_remove(token));
+        self.served = self.served.saturating_add(1);
+    }
+
+    // Takes one of the connections that stand at the door.
+    fn let_in<S: Steps, R: Wait + Eprint>(
+        &mut self,
+        rt: &R,
+        alloc: Global,
+        poll: &Poll,
+        door: &Mutex<Door>,
+        calls: &Calls<'_, S>,
+    ) {
+        if matches!(self.queue, Queue::Empty) {
+            return;
+        }
+        let entered = door.lock(rt).next();
+        self.queue = match entered {
+            Entered::Connection(stream) => self.take_in(alloc, poll, stream),
+            Entered::Lost => Queue::Waiting,
+            Entered::Nobody | Entered::Closed => Queue::Empty,
+            Entered::NoRoom => {
+                calls.tell_no_room(rt);
+                Queue::Stuck
+            }
+        };
+    }
+
+    // Serves a connection from now on. Where the system has no room for that, or there is no memory, it has ended.
+    fn take_in(&mut self, alloc: Global, poll: &Poll, stream: TcpStream) -> Queue {
+        let mut stream = stream;
+        let token = self.connections.vacant_key();
+        let is_registered = stream.set_nodelay(true).is_ok()
+            && register(poll, &mut stream, token).is_ok();
+        let connection = Connection::new(alloc, stream);
+        if !is_registered || self.connections.insert(connection).is_err() {
+            self.served = self.served.saturating_add(1);
+        }
+        Queue::Waiting
+    }
+}
+
+// The later of two, where there are any.
+fn later(one: Option<Lsn>, other: Option<Lsn>) -> Option<Lsn> {
+    match (one, other) {
+        (Some(one), Some(other)) => Some(one.max(other)),
+        (None, other) => other,
+        (one, None) => one,
+    }
+}
+
+// Writes the answers of a connection. Whether it is over.
+fn is_over<S: Steps, R: Wait>(
+    rt: &R,
+    connection: &mut Connection,
+    calls: &mut Calls<'_, S>,
+) -> bool {
+    if !connection.write_answers(rt) {
+        connection.lose(rt, &mut calls.steps);
+        return true;
+    }
+    connection.is_over()
+}
+
+fn register(poll: &Poll, stream: &mut TcpStream, token: usize) -> io::Result<()> {
+    let interest = Interest::READABLE | Interest::WRITABLE;
+    poll.registry().register(stream, Token(token), interest)
+}
+
+// Has a connection reported again.
+fn report_again(poll: &Poll, connection: &mut Connection, token: usize) {
+    let interest = Interest::READABLE | Interest::WRITABLE;
+    let _ = poll
+        .registry()
+        .reregister(&mut connection.stream, Token(token), interest);
+}

@@ -1,0 +1,28 @@
+-- A store that is opened from what files held is sound.
+use Rattle.std.proofs.Common.{◌≡◌, ℕ, List, sym, ◌∙◌, subst}
+use Rattle.rq_disk.specs.declared.device.LogDevice as log_device
+use Rattle.rq_disk.specs.declared.device.PageDevice as page_device
+use Rattle.rq_engine.specs.Opened.{OpenStore}
+use Rattle.rq_model.specs.declared.record.Record.{Record}
+use Rattle.rq_pool.specs.Reading.{IsSuperblock}
+use Rattle.rq_restart.specs.Restarting.{IsReadAs, IsLeftOn}
+use Rattle.rq_shared.specs.Entries.{WasSound}
+use Rattle.rq_sound.specs.Sound.{IsSound}
+use Rattle.rq_store.specs.Opening.{IsLeft}
+use Rattle.rqm.specs.Holding.{HoldStore}
+
+pub was_sound : {P L : Type 0} (p : page_device.Ghosts P) (l : log_device.Ghosts L) (pages : P) (log : L)
+    (images : ℕ → List ℕ) (bytes : List ℕ) (e : OpenStore P L)
+    → p.seen pages ≡ images → l.seen log ≡ bytes
+    → (p.honest e.pages → IsSuperblock e.state.sizes (p.seen pages 0))
+    → ((older : List Record) → IsReadAs l log e.log older → IsLeftOn p e.state.sizes pages e.pages older → IsSound e.state)
+    → WasSound p l (HoldStore images bytes) e
+was_sound p l pages log images bytes e seen read shown sound held honest =
+    let z = e.state.sizes in
+    let first = subst (λ (i : ℕ → List ℕ). IsSuperblock z (i 0)) seen (shown honest.0) in
+    sound held.records
+    record { honest = honest.1; are_spelled = held.are_spelled; reads = read ∙ held.reads }
+    record {
+      honest = honest.0;
+      left = subst (λ (i : ℕ → List ℕ). IsLeft z i held.records) (sym seen) (held.left z first);
+    }

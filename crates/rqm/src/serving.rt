@@ -1,0 +1,216 @@
+//! The server over a store of files.
+ghost use Rattle.std.specs.Prelude.{◌≡◌, IfOk};
+ghost use Rattle.rq_shared.specs.Begun.{begins_with};
+ghost use Rattle.rq_shared.specs.Entries.{WasSound};
+ghost use Rattle.rqm.specs.Holding.{HoldStore};
+
+use crate::args::Serve;
+use rq_disk::{FileContents, FileLog, FilePages, LogDevice, PAGE, PageDevice, Unknown};
+use rq_engine::engine::Engine;
+use rq_files::{Fault, open_folder};
+use rq_levels::{StoreLevel, levels_of_store};
+use rq_model::refusal::{NoMemory, Refusal};
+use rq_restart::restart::{Report, restart};
+use rq_server::{Plan, serve};
+use rq_shared::shared::Shared;
+use rq_shared::sharing::Sharing;
+use std::alloc::Global;
+use std::fs::{File, Files};
+use std::io::Write;
+use std::marker::Brand;
+use std::net::{Ipv4Addr, Net, SocketAddr, TcpListener, TcpStream};
+use std::path::Path;
+use std::sync::Wait;
+use std::sync::ledger::Blank;
+use std::thread::Threads;
+use std::time::{Clock, Instant};
+use std::{fs, io};
+
+/// A store in files that held `S` as they were opened.
+type Store<S> = Engine<FilePages<S>, FileLog<S>, StoreLevel>;
+
+/// Opens the store of a folder and serves it, and prints where and how many sessions there were, or why not. Answers the exit
+/// status: 0, or 1 after a fault.
+///
+/// # Errors
+/// Where the writer refuses a line.
+pub fn run_serve<
+    R: AllocGlobal
+        + Eprint
+        + Clock
+        + Files<File = File>
+        + Net<Listener = TcpListener, Stream = TcpStream>
+        + Wait
+        + Threads
+        + Sync,
+    W: Write,
+>(rt: &R, writer: &mut W, asked: &Serve) -> io::Result<u8> {
+    match opened_and_bound(rt, asked, Unknown) {
+        Ok((engine, listener, plan)) => served(rt, writer, engine, listener, plan),
+        Err(fault) => {
+            writeln!(writer, "fault {fault}")?;
+            Ok(1)
+        }
+    }
+}
+
+// The faults come in this order: those of the folder and its files, of the restart, of the port.
+fn opened_and_bound<
+    S: FileContents,
+    R: AllocGlobal
+        + Eprint
+        + Clock
+        + Files<File = File>
+        + Net<Listener = TcpListener, Stream = TcpStream>,
+>(rt: &R, asked: &Serve, held: S) -> Result<(Store<S>, TcpListener, Plan), Fault>
+    ensures { IfOk result (λ o. WasSound ⟦<FilePages<S> as PageDevice>⟧ ⟦<FileLog<S> as LogDevice>⟧
+        (HoldStore S.pages S.bytes) o.0) }
+{
+    let folder = asked.folder.as_str();
+    let began = Instant::now(rt);
+    let (engine, report) = opened(rt, folder, held)?;
+    tell_opened(rt, &report, millis_since(rt, began));
+    let plan = Plan {
+        workers: asked.workers,
+        sessions: asked.sessions,
+        pages: pages_in(rt, folder)?,
+    };
+    let listener = bound(rt, asked.port)?;
+    Ok((engine, listener, plan))
+}
+
+fn opened<S: FileContents, R: AllocGlobal + Files<File = File>>(
+    rt: &R,
+    folder: &str,
+    held: S,
+) -> Result<(Store<S>, Report), Fault>
+    ensures { IfOk result (λ o. WasSound ⟦<FilePages<S> as PageDevice>⟧ ⟦<FileLog<S> as LogDevice>⟧
+        (HoldStore S.pages S.bytes) o.0) }
+{
+    let Ok((pages, log)) = open_folder(rt, folder, held) else {
+        return Err(Fault::Open);
+    };
+    let Ok(levels) = levels_of_store(rt.alloc()) else {
+        return Err(Fault::Refused(Refusal::NoMemory));
+    };
+    match restart(rt.alloc(), pages, log, levels) {
+        Ok(opened) => Ok(opened),
+        Err(stopped) => Err(Fault::Refused(stopped.refusal)),
+    }
+}
+
+// 0 where the clock does not say.
+fn millis_since<R: Clock>(rt: &R, began: io::Result<Instant>) -> u128 {
+    match began.and_then(|began| began.elapsed(rt)) {
+        Ok(passed) => passed.as_millis(),
+        Err(_) => 0,
+    }
+}
+
+// Tells who runs the server what the restart found.
+fn tell_opened<R: Eprint>(rt: &R, report: &Report, millis: u128) {
+    let Report {
+        incarnation,
+        unfinished,
+        lost,
+        records,
+    } = *report;
+    let _ = eprintln!(rt;
+        "opened in {millis} ms: incarnation {incarnation}, unfinished {unfinished}, lost {lost}, records {records}"
+    );
+}
+
+fn bound<R: Net<Listener = TcpListener, Stream = TcpStream>>(
+    rt: &R,
+    port: u16,
+) -> Result<TcpListener, Fault> {
+    match TcpListener::bind(rt, SocketAddr::from((Ipv4Addr::LOCALHOST, port))) {
+        Ok(listener) => Ok(listener),
+        Err(_) => Err(Fault::Open),
+    }
+}
+
+// How many pages the file of a store has, those behind its last page too: asking for one of these does nothing.
+fn pages_in<R: AllocGlobal + Files<File = File>>(rt: &R, folder: &str) -> Result<u32, Fault> {
+    let Ok(path) = Path::new(folder).join(rt.alloc(), "pages") else {
+        return Err(Fault::Refused(Refusal::NoMemory));
+    };
+    match fs::metadata(rt, &path) {
+        Ok(known) => Ok(u32::try_from(known.len() / PAGE as u64).unwrap_or(u32::MAX)),
+        Err(_) => Err(Fault::Open),
+    }
+}
+
+// Serves an engine, and prints where and how many sessions there were.
+fn served<
+    S: FileContents,
+    R: AllocGlobal
+        + Eprint
+        + Net<Listener = TcpListener, Stream = TcpStream>
+        + Wait
+        + Threads
+        + Sync,
+    W: Write,
+>(rt: &R, writer: &mut W, engine: Store<S>, listener: TcpListener, plan: Plan) -> io::Result<u8>
+    requires { WasSound ⟦<FilePages<S> as PageDevice>⟧ ⟦<FileLog<S> as LogDevice>⟧ (HoldStore S.pages S.bytes) engine }
+{
+    let address = listener.local_addr()?;
+    writeln!(writer, "listening {address}")?;
+    writer.flush()?;
+    match shared_by_brand(rt, rt.alloc(), engine, listener, plan) {
+        Ok(sessions) => {
+            writeln!(writer, "served {sessions}")?;
+            Ok(0)
+        }
+        Err(NoMemory) => {
+            writeln!(writer, "fault 1 NoMemory")?;
+            Ok(1)
+        }
+    }
+}
+
+// Shares an engine under a name of its own.
+fn shared_by_brand<S: FileContents, R: Wait + Threads + Net + Eprint + Sync>(
+    rt: &R,
+    alloc: Global,
+    engine: Store<S>,
+    listener: TcpListener,
+    plan: Plan,
+) -> Result<u64, NoMemory>
+    requires { WasSound ⟦<FilePages<S> as PageDevice>⟧ ⟦<FileLog<S> as LogDevice>⟧ (HoldStore S.pages S.bytes) engine }
+{
+    let taking = Blank::new(1024);
+    share::<FilePages<S>, FileLog<S>, Brand, R>(
+        rt,
+        alloc,
+        engine,
+        Blank::new(1024),
+        taking,
+        listener,
+        plan,
+    )
+}
+
+// Shares an engine among the threads of a server.
+fn share<
+    P: PageDevice + Drop + Send,
+    L: LogDevice + Drop + Send,
+    G: Sharing + Send + Sync,
+    R: Wait + Threads + Net + Eprint + Sync,
+>(
+    rt: &R,
+    alloc: Global,
+    engine: Engine<P, L, StoreLevel>,
+    blank: Blank,
+    taking: Blank,
+    listener: TcpListener,
+    plan: Plan,
+) -> Result<u64, NoMemory>
+    requires name { (blank.name ≡ G.name) × (taking.name ≡ G.taking) }
+    requires parts { (blank.parts ≡ G.parts) × (blank.parts ≡ 1024) × (taking.parts ≡ 1024) }
+    requires sound { WasSound P.PageDevice L.LogDevice G.premise engine }
+    requires begins { begins_with engine ≡ G.begins }
+{
+    let shared = Shared::<P, L, StoreLevel, G>::new(alloc, engine, blank, taking);
+    serve(rt, alloc, listener, shared, plan)
+}

@@ -1,0 +1,173 @@
+#!/usr/bin/env python3
+"""Kills `rqm serve` by SIGKILL in the midst of load, again and again, on one store in a temporary folder, and looks each time what
+the store holds once it is open again: nothing that was acknowledged is lost, nothing comes twice, and each group is in order.
+
+    python3 tests/kill.py [--program PROGRAM] [--seed N] [--rounds N]
+
+A write that the system cuts off leaves a part of a record at the log's end, with which no server starts. It is cut here, and said
+how often. It was acknowledged to nobody.
+"""
+import argparse
+import random
+import subprocess
+import sys
+import time
+from concurrent.futures import ThreadPoolExecutor
+from contextlib import contextmanager
+
+from cases import built
+from server import NotStarted, Server, cut_torn_end, everything, store
+
+sys.dont_write_bytecode = True
+from rqm import Full  # noqa: E402, where `server` finds it
+
+GROUPS = 4
+
+DAMAGED = b"fault 16 Damaged\n"
+
+
+class Load:
+    """Of each group: one sender whose messages come in order, tagged 1 and on, and a mover that receives them and sends them again
+    for another group, in one transaction."""
+
+    def __init__(self):
+        # the last tag of each sender that is known to be committed, and the next that has to come out of each group
+        self.sent = [0] * GROUPS
+        self.next_out = [1] * GROUPS
+
+    def send(self, server, group):
+        with server.connect() as connection:
+            while True:
+                tag = self.sent[group] + 1
+                try:
+                    with connection.transaction() as transaction:
+                        transaction.send(group, tag, body_of(group, tag))
+                    self.sent[group] = tag
+                except Full:
+                    time.sleep(0.001)
+
+    def move(self, server, group):
+        with server.connect() as connection:
+            while True:
+                try:
+                    with connection.transaction() as transaction:
+                        message = transaction.receive_from(group)
+                        if message:
+                            transaction.send(GROUPS + group, message.tag, message.body)
+                except Full:
+                    message = None
+                if not message:
+                    time.sleep(0.001)
+
+    def until_killed(self, work, *words):
+        try:
+            work(*words)
+        except ConnectionError:
+            pass
+
+    def round(self, server, seconds):
+        """Runs until the server is killed, after so many seconds."""
+        works = [(work, server, group) for group in range(GROUPS) for work in (self.send, self.move)]
+        with ThreadPoolExecutor(len(works)) as pool:
+            running = [pool.submit(self.until_killed, *work) for work in works]
+            time.sleep(seconds)
+            server.kill()
+            for done in running:
+                done.result()
+
+    def look(self, server, is_last=False):
+        """Looks what the store holds: nothing acknowledged is missing, and the one commit of each sender that was not answered is there
+        or not. What was moved comes out in order and once; at last, all does."""
+        with server.connect() as connection:
+            for group in range(GROUPS):
+                last = connection.last_tag(group)
+                assert last.tag == last.sent and last.tag in (self.sent[group], self.sent[group] + 1), (last, self.sent)
+                self.sent[group] = last.tag
+                self.drain(connection, GROUPS + group, group)
+                if is_last:
+                    self.drain(connection, group, group)
+                    assert self.next_out[group] == last.tag + 1, (self.next_out[group], last)
+            if is_last:
+                assert everything(connection) == {}
+
+    def drain(self, connection, sender, group):
+        while True:
+            with connection.transaction() as transaction:
+                for _ in range(100):
+                    message = transaction.receive_from(sender)
+                    if message is None:
+                        return
+                    tag = self.next_out[group]
+                    assert message == (sender, tag, body_of(group, tag)), (message, tag)
+                    self.next_out[group] += 1
+
+
+def body_of(group, tag):
+    return b"%d of %d" % (tag, group)
+
+
+class Kills:
+    """A store, and how often a server on it was killed."""
+
+    def __init__(self, program, folder, seed):
+        self.program, self.folder = program, folder
+        self.random = random.Random(seed)
+        self.load = Load()
+        self.kills = self.torn = 0
+
+    @contextmanager
+    def running(self):
+        server = self.started()
+        try:
+            yield server
+        finally:
+            server.kill()
+
+    def started(self):
+        try:
+            return Server(self.program, self.folder)
+        except NotStarted as refused:
+            assert refused.line == DAMAGED and cut_torn_end(self.folder), refused
+            self.torn += 1
+            return Server(self.program, self.folder)
+
+    def round(self):
+        if self.random.random() < 0.2:
+            self.kill_at_start()
+        with self.running() as server:
+            self.load.look(server)
+            self.load.round(server, self.random.uniform(0.02, 0.3))
+        self.kills += 1
+
+    def kill_at_start(self):
+        """Kills a server that has hardly begun to open the store."""
+        command = [self.program, "serve", str(self.folder), "--port", "0"]
+        opening = subprocess.Popen(command, stdout=subprocess.DEVNULL, stderr=subprocess.DEVNULL)
+        time.sleep(self.random.uniform(0, 0.05))
+        opening.kill()
+        opening.wait()
+        self.kills += 1
+
+
+def main():
+    words = argparse.ArgumentParser(description="Kills `rqm serve` in the midst of load, and looks what its store then holds.")
+    words.add_argument("--program", help="a program that was built elsewhere")
+    words.add_argument("--seed", type=int, default=0, help="from which the moments are drawn")
+    words.add_argument("--rounds", type=int, default=20, help="how often the server is killed")
+    chosen = words.parse_args()
+    program = built(chosen.program, "rqm")
+    before = time.monotonic()
+    with store(program, 1, 400) as folder:
+        kills = Kills(program, folder, chosen.seed)
+        for _ in range(chosen.rounds):
+            kills.round()
+        with kills.running() as server:
+            kills.load.look(server, is_last=True)
+    sent = sum(kills.load.sent)
+    assert sent > 10 * chosen.rounds, sent
+    seconds = time.monotonic() - before
+    print(f"killed {kills.kills} times among {sent} sends, {kills.torn} torn ends cut: {seconds:.0f} s")
+
+
+if __name__ == "__main__":
+    main()

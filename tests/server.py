@@ -1,0 +1,590 @@
+#!/usr/bin/env python3
+"""Runs `rqm serve` on stores of its own, in a temporary folder, and talks to it over 127.0.0.1.
+
+    python3 tests/server.py [--program PROGRAM] [--seed N] [NAME..]
+
+A name is one of the tests below, as `session`; without one all are run. `tests/kill.py` kills the server in the midst of load.
+"""
+import argparse
+import pathlib
+import random
+import re
+import resource
+import shutil
+import signal
+import socket
+import struct
+import subprocess
+import sys
+import tempfile
+import time
+from concurrent.futures import ThreadPoolExecutor
+from contextlib import contextmanager
+
+from cases import TOP, built
+
+sys.dont_write_bytecode = True
+sys.path.insert(0, str(TOP / "clients" / "python"))
+from rqm import (  # noqa: E402
+    Connection, DiskWrite, Failed, Full, Latched, Passing, ReceiverBusy, SenderBusy, TooManyTransactions, UnknownSender,
+    UnknownTransaction,
+)  # fmt: skip
+
+# How many bytes the length at the head of a record has.
+LENGTH = 4
+
+# How many seconds an answer may take, and a server to start or to end.
+LONGEST = 10
+
+# The worked session of docs/PROTOCOL.md, on a fresh store of one directory page and one cell page: each request with its answer.
+SESSION = [
+    ("0001 01", "0011 81 0000000000000001 0000000000000001"),
+    ("0012 02 00000000 0000000000000007 68656c6c6f", "0001 82"),
+    ("0001 03", "0001 84"),
+    ("0001 01", "0002 ff 11"),
+    ("0001 06", "0009 86 0000000000000005"),
+    ("0001 06", "0002 ff 04"),
+    ("0005 08 00000000", "0011 88 0000000000000001 0000000000000007"),
+    ("0001 01", "0011 81 0000000000000001 0000000000000002"),
+    ("0005 04 00000000", "0012 83 00000000 0000000000000007 68656c6c6f"),
+    ("0005 05 0000000f", "0002 ff 07"),
+    ("0001 07", "0001 87"),
+]
+
+# A begin and a send, and what each answers; a count stands behind the incarnation.
+BEGIN = bytes.fromhex("0001 01")
+BEGIN_AND_SEND = BEGIN + bytes.fromhex("0012 02 00000000 0000000000000007 68656c6c6f")
+BEGUN = bytes.fromhex("0011 81 0000000000000001")
+SENT = bytes.fromhex("0001 82")
+
+# What is a fault as soon as it is there: lengths, kinds, and fields of a wrong length.
+FAULTS = [
+    "0201", "0000", "ffff", "0001 00", "0001 09", "0001 81", "0009 ff", "0002 01 00", "0002 03 00", "0002 06 00", "0002 07 00",
+    "0001 04", "0004 04 000000", "0006 04 00000000 00", "0001 05", "0001 08", "000c 02 00000000 00000000000000",
+]  # fmt: skip
+
+COMMIT = bytes.fromhex("0001 06")
+
+# What a client asks that does not read, and the answer.
+LAST_TAG = bytes.fromhex("0005 08 00000000")
+NO_TAG = bytes.fromhex("0011 88 0000000000000000 0000000000000000")
+
+
+class Server:
+    """`rqm serve` on a folder. It may open so many files, and make none longer than so many bytes."""
+
+    def __init__(self, program, folder, *words, files=None, longest=None):
+        def limit():
+            if files:
+                resource.setrlimit(resource.RLIMIT_NOFILE, (files, files))
+            if longest:
+                signal.signal(signal.SIGXFSZ, signal.SIG_IGN)  # a write that goes past it is refused
+                resource.setrlimit(resource.RLIMIT_FSIZE, (longest, longest))
+
+        command = [program, "serve", str(folder), "--port", "0", *map(str, words)]
+        self.told = tempfile.TemporaryFile()  # on standard error
+        self.process = subprocess.Popen(command, stdout=subprocess.PIPE, stderr=self.told, preexec_fn=limit)
+        line = self.process.stdout.readline()
+        listening = re.fullmatch(rb"listening 127\.0\.0\.1:([0-9]+)\n", line)
+        if not listening:
+            self.kill()
+            raise NotStarted(line)
+        self.port = int(listening[1])
+
+    def connect(self):
+        return Connection(self.port, timeout=LONGEST)
+
+    def raw(self):
+        stream = socket.create_connection(("127.0.0.1", self.port), LONGEST)
+        stream.setsockopt(socket.IPPROTO_TCP, socket.TCP_NODELAY, 1)
+        return stream
+
+    def ended(self):
+        """The exit status, and what was printed behind the first line, once the server has ended by itself."""
+        printed, _ = self.process.communicate(timeout=LONGEST)
+        return self.process.returncode, printed
+
+    def tells(self):
+        """What stands on standard error so far, line by line."""
+        self.told.seek(0)
+        return self.told.read().splitlines()
+
+    def kill(self):
+        self.process.kill()
+        self.process.wait()
+        self.process.stdout.close()
+
+
+class NotStarted(Exception):
+    """The server printed this in place of where it listens."""
+
+    def __init__(self, line):
+        super().__init__(line)
+        self.line = line
+
+
+@contextmanager
+def serving(program, folder, *words, **limits):
+    server = Server(program, folder, *words, **limits)
+    try:
+        yield server
+    finally:
+        server.kill()
+
+
+@contextmanager
+def store(program, directory=1, cells=1):
+    """A folder with a store of this size."""
+    folder = pathlib.Path(tempfile.mkdtemp(prefix="rqm-server-"))
+    try:
+        words = ["format", str(folder), "--directory", str(directory), "--cells", str(cells)]
+        subprocess.run([program, *words], check=True, stdout=subprocess.DEVNULL)
+        yield folder
+    finally:
+        shutil.rmtree(folder)
+
+
+def cut_torn_end(folder):
+    """Cuts the log behind its last whole record, where a write was cut off; how many bytes went."""
+    log = (folder / "log").read_bytes()
+    end = 0
+    while end + LENGTH <= len(log):
+        (length,) = struct.unpack(">I", log[end : end + LENGTH])
+        if end + LENGTH + length > len(log):
+            break
+        end += LENGTH + length
+    with open(folder / "log", "r+b") as file:
+        file.truncate(end)
+    return len(log) - end
+
+
+def read_to_end(stream):
+    """All that comes until the server ends the connection, which may be by a reset."""
+    taken = b""
+    while True:
+        try:
+            piece = stream.recv(65536)
+        except ConnectionResetError:
+            return taken
+        if not piece:
+            return taken
+        taken += piece
+
+
+def read_bytes(stream, size):
+    taken = b""
+    while len(taken) < size:
+        piece = stream.recv(min(65536, size - len(taken)))
+        assert piece, f"ended behind {taken.hex()}"
+        taken += piece
+    return taken
+
+
+def send_cut(stream, sent, cut):
+    """Sends bytes in two pieces."""
+    stream.sendall(sent[:cut])
+    if 0 < cut < len(sent):
+        time.sleep(0.003)
+    stream.sendall(sent[cut:])
+
+
+def everything(connection):
+    """What the store holds, received until there is none, by sender; bodies with their tags."""
+    held = {}
+    while True:
+        with connection.transaction() as transaction:
+            for _ in range(50):
+                message = transaction.receive()
+                if message is None:
+                    return held
+                held.setdefault(message.sender, []).append((message.tag, message.body))
+
+
+def session_at(program, cut):
+    asked = b"".join(bytes.fromhex(request) for request, _ in SESSION)
+    wanted = b"".join(bytes.fromhex(answer) for _, answer in SESSION)
+    with store(program) as folder, serving(program, folder, "--sessions", 1) as server:
+        with server.raw() as stream:
+            if cut is None:
+                for at in range(len(asked)):
+                    stream.sendall(asked[at : at + 1])
+                    time.sleep(0.001)
+            else:
+                send_cut(stream, asked, cut)
+            answered = read_bytes(stream, len(wanted))
+            stream.shutdown(socket.SHUT_WR)
+            answered += read_to_end(stream)
+        assert answered == wanted, f"cut at {cut}: {answered.hex()}"
+        status, printed = server.ended()
+        assert (status, printed) == (0, b"served 1\n"), (cut, status, printed)
+
+
+def session(program, _):
+    """The worked session, byte for byte: whole, cut at every byte, and a byte at a time."""
+    length = sum(len(bytes.fromhex(request)) for request, _ in SESSION)
+    with ThreadPoolExecutor(4) as pool:
+        list(pool.map(lambda cut: session_at(program, cut), [*range(length), None]))
+
+
+def faults(program, _):
+    """Behind a fault nothing is answered, the connection ends, and its transaction is aborted; cut at every byte."""
+    begun = 0
+    with store(program) as folder, serving(program, folder) as server:
+        for fault in map(bytes.fromhex, FAULTS):
+            sent = BEGIN_AND_SEND + fault
+            for cut in range(0, len(sent)) if fault == bytes.fromhex(FAULTS[0]) else (0, len(BEGIN_AND_SEND)):
+                begun += 1
+                with server.raw() as stream:
+                    send_cut(stream, sent, cut)
+                    answered = read_to_end(stream)
+                assert answered == BEGUN + struct.pack(">Q", begun) + SENT, (fault.hex(), cut, answered.hex())
+        with server.connect() as connection:
+            assert connection.last_tag(0) == (0, 0)
+            assert everything(connection) == {}
+
+
+def lost_connections(program, _):
+    """A connection that ends at any byte behind its send, or is reset, leaves nothing of its transaction."""
+    with store(program) as folder, serving(program, folder) as server:
+        for trial in range(12):
+            stream = server.raw()
+            stream.sendall(BEGIN_AND_SEND + COMMIT[: trial % 3])
+            read_bytes(stream, len(BEGUN) + 8 + len(SENT))
+            if trial % 2:  # a reset in place of an end
+                stream.setsockopt(socket.SOL_SOCKET, socket.SO_LINGER, struct.pack("ii", 1, 0))
+            stream.close()
+            with server.connect() as connection:
+                send_when_free(connection, 0, trial + 1, b"after")
+                assert everything(connection) == {0: [(trial + 1, b"after")]}, trial
+                assert connection.last_tag(0) == (trial + 1, trial + 1), trial
+
+
+def send_when_free(connection, sender, tag, body):
+    until = time.monotonic() + LONGEST
+    while True:
+        try:
+            with connection.transaction() as transaction:
+                transaction.send(sender, tag, body)
+            return
+        except SenderBusy:
+            assert time.monotonic() < until, "a lost transaction does not end"
+            time.sleep(0.001)
+
+
+def served(program, _):
+    """The server ends after so many sessions, whoever takes them, with its store open again for the next."""
+    for workers, sessions in ((1, 1), (4, 7), (64, 20)):
+        with store(program) as folder:
+            with serving(program, folder, "--workers", workers, "--sessions", sessions, "--frames", 8) as server:
+                opened = [server.connect() for _ in range(sessions)]
+                with opened[-1].transaction() as transaction:
+                    transaction.send(3, 1, b"kept")
+                for connection in opened:
+                    connection.close()
+                assert server.ended() == (0, b"served %d\n" % sessions), (workers, sessions)
+                assert re.fullmatch(rb"opened in [0-9]+ ms: incarnation 1, unfinished 0, lost 0, records 1", *server.tells())
+            with serving(program, folder) as server, server.connect() as connection:
+                assert everything(connection) == {3: [(1, b"kept")]}
+
+
+def starts(program, _):
+    """Words that are not accepted, and faults in their order: folder and files, restart, port."""
+
+    def said(*words):
+        ended = subprocess.run([program, "serve", *map(str, words)], capture_output=True, timeout=LONGEST)
+        return ended.returncode, ended.stdout
+
+    with store(program) as folder, socket.create_server(("127.0.0.1", 0)) as taken:
+        port = taken.getsockname()[1]
+        for words in (
+            [], [folder], ["--port", 0], [folder, "--port", 65536], [folder, "--port", -1], [folder, "--port", 0, "--workers", 0],
+            [folder, "--port", 0, "--workers", 65], [folder, "--port", 0, "--frames", 7],
+            [folder, "--port", 0, "--frames", 66562], [folder, "--port", 0, "--sessions", "x"], [folder, "--port", 0, "more"],
+        ):  # fmt: skip
+            assert said(*words) == (2, b""), words
+        assert said(folder, "--port", port) == (1, b"fault open\n")
+        assert said(folder / "missing", "--port", port) == (1, b"fault open\n")
+        with serving(program, folder):
+            assert said(folder, "--port", 0) == (1, b"fault open\n"), "a store in use"
+        (folder / "log").write_bytes(b"\0")
+        assert said(folder, "--port", port) == (1, b"fault 16 Damaged\n")
+        (folder / "log").unlink()
+        assert said(folder, "--port", port) == (1, b"fault open\n")
+
+
+def silent_reader(program, _):
+    """Nobody waits for a client that asks much and does not read; once it reads it has all its answers."""
+    with store(program) as folder, serving(program, folder, "--workers", 1) as server:
+        with server.raw() as greedy, server.connect() as other:
+            greedy.setblocking(False)
+            asked = waited = 0
+            until = time.monotonic() + LONGEST
+            while waited < 20:
+                assert time.monotonic() < until, "the server reads without an end"
+                try:
+                    asked += greedy.send((LAST_TAG * 2000)[asked % len(LAST_TAG) :])
+                    waited = 0
+                except BlockingIOError:
+                    waited += 1
+                    before = time.monotonic()
+                    assert other.last_tag(0) == (0, 0)
+                    assert time.monotonic() - before < 1, "another connection waits for one that does not read"
+                    time.sleep(0.01)
+            greedy.setblocking(True)
+            greedy.settimeout(LONGEST)
+            frames = asked // len(LAST_TAG)
+            assert read_bytes(greedy, frames * len(NO_TAG)) == NO_TAG * frames
+
+
+def few_descriptors(program, _):
+    """Where the system has no more descriptors, connections wait, those that are served go on, and those that wait are served once
+    others have ended."""
+    with store(program) as folder, serving(program, folder, "--workers", 1, files=12) as server:
+        waiting = [server.raw() for _ in range(30)]
+        for stream in waiting:
+            stream.sendall(BEGIN)
+        for stream in waiting:  # each is answered at last, as those before it end
+            assert read_bytes(stream, len(BEGUN) + 8).startswith(BEGUN)
+            stream.close()
+        assert server.tells()[1:] == [b"no more files may be opened: connections wait until others end"]
+
+
+def many_connections(program, _):
+    """4,000 connections, or as many as this process may open, each with a transaction."""
+    _, most = resource.getrlimit(resource.RLIMIT_NOFILE)
+    resource.setrlimit(resource.RLIMIT_NOFILE, (most, most))
+    with store(program) as folder, serving(program, folder) as server:
+        opened = [server.raw() for _ in range(min(4000, most - 100))]
+        for stream in opened:
+            stream.sendall(BEGIN)
+        begun = {read_bytes(stream, len(BEGUN) + 8)[len(BEGUN) :] for stream in opened}
+        assert len(begun) == len(opened)
+        for stream in opened:
+            stream.close()
+        with server.connect() as connection:
+            send_when_free(connection, 0, 1, b"after")
+
+
+def full_disk(program, _):
+    """Where the disk takes no more, no commit is acknowledged that is not there later; the store answers that it has failed. What
+    was acknowledged is there once there is room."""
+    with store(program) as folder:
+        size = (folder / "pages").stat().st_size
+        with serving(program, folder, longest=size + 2_000) as server:
+            acknowledged = send_until_failed(server)
+            with server.connect() as connection:
+                raises(Failed, connection.transaction)
+            assert server.tells()[1:] == [b"the store has failed: it refuses all calls until it is opened again"]
+        cut_torn_end(folder)
+        with serving(program, folder) as server, server.connect() as connection:
+            held = everything(connection).get(0, [])
+            assert held[: len(acknowledged)] == acknowledged and len(held) <= len(acknowledged) + 1, (held, acknowledged)
+
+
+def send_until_failed(server):
+    """The messages that were acknowledged, of one sender."""
+    acknowledged = []
+    with server.connect() as connection:
+        for tag in range(1, 16):
+            try:
+                with connection.transaction() as transaction:
+                    transaction.send(0, tag, b"x")
+                acknowledged.append((tag, b"x"))
+            except (Failed, DiskWrite):
+                return acknowledged
+    raise AssertionError("the disk took everything")
+
+
+class Client:
+    """One of the clients of `sessions`: it sends for a sender of its own, in every transaction that may be committed, and receives
+    of any. Kept are its sends that are committed, in order, and what it received, each transaction's with the place of its
+    commit, or None where that was not told."""
+
+    def __init__(self, server, number, seed):
+        self.server, self.number, self.random = server, number, random.Random(f"{seed}.{number}")
+        self.tag = 0
+        self.sent, self.taken = [], []
+        self.connection = server.connect()
+        self.broken = 0
+
+    def run(self, transactions):
+        for _ in range(transactions):
+            self.one(self.random.random() < 0.5)
+        self.connection.close()
+
+    def one(self, breaks_off):
+        """One transaction, whose connection may break off in its midst."""
+        self.tag += 1
+        body = self.random.randbytes(self.random.randrange(217))
+        transaction = self.connection.transaction()
+        # the send comes first: while the transaction is not ended nobody else can send for its sender
+        steps = ["send"] + ["receive"] * self.random.randrange(3)
+        stop = self.random.randrange(1, len(steps) + 2) if breaks_off else None
+        taken = []
+        for at, step in enumerate(steps):
+            if at == stop:
+                self.break_off(b"")
+                return
+            if not self.step(transaction, step, body, taken):
+                transaction.abort()
+                return
+        if stop is not None:
+            self.break_off(COMMIT if stop > len(steps) else b"")
+            if stop > len(steps) and self.connection.was_committed(self.number, self.tag):
+                self.keep(body, taken, None)
+        elif self.random.random() < 0.2:
+            transaction.abort()
+        else:
+            self.keep(body, taken, transaction.commit())
+
+    def step(self, transaction, step, body, taken):
+        """Whether the transaction can go on."""
+        try:
+            if step == "send":
+                transaction.send(self.number, self.tag, body)
+            else:
+                message = transaction.receive()
+                if message:
+                    taken.append(message)
+            return True
+        except Full:
+            return False
+        except (Latched, ReceiverBusy):
+            return step == "receive"
+
+    def break_off(self, last):
+        """Ends the connection behind these bytes, without reading, and makes a new one, once the transaction has ended."""
+        self.broken += 1
+        self.connection.socket.sendall(last)
+        if self.random.random() < 0.5:
+            self.connection.socket.setsockopt(socket.SOL_SOCKET, socket.SO_LINGER, struct.pack("ii", 1, 0))
+        self.connection.close()
+        self.connection = self.server.connect()
+        self.wait_for_end()
+
+    def wait_for_end(self):
+        """Until the sender is free again."""
+        until = time.monotonic() + LONGEST
+        while time.monotonic() < until:
+            transaction = self.connection.transaction()
+            try:
+                transaction.send(self.number, self.tag, b"")
+                transaction.abort()
+                return
+            except Full:
+                transaction.abort()
+                return
+            except Passing:
+                transaction.abort()
+                time.sleep(0.001)
+        raise AssertionError("a lost transaction does not end")
+
+    def keep(self, body, taken, lsn):
+        self.sent.append((self.tag, body))
+        self.taken.append((lsn, taken))
+
+
+def in_threads(works):
+    """Runs these at the same time, and raises what one of them raised."""
+    with ThreadPoolExecutor(len(works)) as pool:
+        for done in [pool.submit(work) for work in works]:
+            done.result()
+
+
+def sessions(program, chosen):
+    """Random sessions of 64 connections, half of whose transactions break off: what the store then holds, with what was received
+    and committed, is what was sent and committed, each sender's in order and once."""
+    with store(program, 5, 20) as folder, serving(program, folder) as server:
+        clients = [Client(server, number, chosen.seed) for number in range(64)]
+        in_threads([lambda client=client: client.run(20) for client in clients])
+        with server.connect() as connection:
+            tags = [connection.last_tag(client.number) for client in clients]
+            held = everything(connection)
+        assert sum(client.broken for client in clients) > 200
+        compare(clients, tags, held)
+
+
+def compare(clients, tags, held):
+    taken = sorted_by_commit(clients)
+    for client, tag in zip(clients, tags):
+        sent = client.sent
+        assert tag == (len(sent), sent[-1][0] if sent else 0), (client.number, tag, len(sent))
+        left = held.get(client.number, [])
+        known, unplaced = taken.get(client.number, ([], []))
+        assert known == sorted(known), (client.number, "received out of order")
+        assert sorted(known + unplaced) == sent[: len(sent) - len(left)], (client.number, "received")
+        assert left == sent[len(sent) - len(left) :], (client.number, "left")
+    assert set(held) <= {client.number for client in clients}
+
+
+def sorted_by_commit(clients):
+    """Of each sender: what was received, by the place of the commit, and what was received by commits whose place was not told."""
+    taken = {}
+    done = [each for client in clients for each in client.taken]
+    for lsn, messages in sorted(done, key=lambda each: each[0] or 0):
+        for message in messages:
+            known, unplaced = taken.setdefault(message.sender, ([], []))
+            (known if lsn else unplaced).append((message.tag, message.body))
+    return taken
+
+
+def client(program, _):
+    """The client's exceptions, its context manager, and its command."""
+    command = [sys.executable, "-B", str(TOP / "clients" / "python" / "rqm.py")]
+
+    def said(*words, given=None):
+        ended = subprocess.run([*command, *map(str, words)], input=given, capture_output=True, timeout=LONGEST)
+        return ended.returncode, ended.stdout
+
+    with store(program) as folder, serving(program, folder) as server, server.connect() as connection:
+        port = ["--port", server.port]
+        try:
+            with connection.transaction() as transaction:
+                transaction.send(0, 1, b"undone")
+                raise KeyError
+        except KeyError:
+            pass
+        assert said("last", *port, 0) == (0, b"0 0\n")
+        assert said("send", *port, 0, 7, "hello")[0] == 0
+        assert said("send", *port, 0, 8, given=b"from input")[0] == 0
+        assert said("last", *port, 0) == (0, b"2 8\n")
+        assert said("receive", *port) == (0, b"0 7 hello\n")
+        assert said("receive", *port, "--sender", 1) == (1, b"none\n")
+        assert said("receive", *port, "--sender", 15) == (1, b"")
+        assert said("receive", *port, "--sender", 0) == (0, b"0 8 from input\n")
+        with connection.transaction():
+            raises(TooManyTransactions, connection.transaction)
+        raises(UnknownSender, lambda: connection.last_tag(15))
+        raises(UnknownTransaction, transaction.receive)
+        assert connection.was_committed(0, 8) and not connection.was_committed(0, 9)
+
+
+def raises(kind, call):
+    try:
+        call()
+    except kind:
+        return
+    raise AssertionError(f"no {kind.__name__}")
+
+
+TESTS = [
+    starts, session, faults, lost_connections, served, silent_reader, few_descriptors, many_connections, full_disk, client, sessions,
+]  # fmt: skip
+
+
+def main():
+    words = argparse.ArgumentParser(description="Runs `rqm serve`, and talks to it.")
+    words.add_argument("--program", help="a program that was built elsewhere")
+    words.add_argument("--seed", type=int, default=0, help="from which random sessions are drawn")
+    words.add_argument("names", nargs="*", metavar="NAME", help="these tests alone")
+    chosen = words.parse_args()
+    program = built(chosen.program, "rqm")
+    known = {test.__name__: test for test in TESTS}
+    for name in chosen.names or known:
+        before = time.monotonic()
+        known[name](program, chosen)
+        print(f"{name}: {time.monotonic() - before:.1f} s", flush=True)
+
+
+if __name__ == "__main__":
+    main()
