@@ -1,9 +1,9 @@
 //! The gates of the server's threads.
 ghost use Rattle.std.specs.Prelude.{◌≡◌};
 
+use rq_bytes::GhostList;
 use crate::notices::Notices;
 use rq_workers::gate::{BEFORE_AGAIN, Gate};
-use rq_workers::trail::Trail;
 use std::snapshot::Snapshot;
 use std::sync::Wait;
 use std::thread;
@@ -20,13 +20,13 @@ const PART_MILLIS: u64 = 10;
 /// Lets a session through. Before a call is made again other threads run.
 #[derive(Drop)]
 pub(crate) struct Yielding {
-    answers: Snapshot<Trail<(u32, bool)>>,
+    answers: Snapshot<GhostList<(u32, bool)>>,
 }
 
 impl Yielding {
     pub(crate) fn new() -> Self {
         Yielding {
-            answers: Trail::empty(),
+            answers: GhostList::empty(),
         }
     }
 }
@@ -38,7 +38,7 @@ impl Gate for Yielding {
         if point == BEFORE_AGAIN {
             thread::yield_now();
         }
-        Trail::push(&mut self.answers, &(point, true));
+        GhostList::push(&mut self.answers, &(point, true));
         true
     }
 }
@@ -51,7 +51,7 @@ pub(crate) struct LogPace<'a, R: Wait> {
     notices: &'a Notices,
     // how many rounds were made before the last force
     seen: u64,
-    answers: Snapshot<Trail<(u32, bool)>>,
+    answers: Snapshot<GhostList<(u32, bool)>>,
 }
 
 impl<'a, R: Wait> LogPace<'a, R> {
@@ -60,7 +60,7 @@ impl<'a, R: Wait> LogPace<'a, R> {
             rt,
             notices,
             seen: 0,
-            answers: Trail::empty(),
+            answers: GhostList::empty(),
         }
     }
 
@@ -83,7 +83,7 @@ impl<R: Wait> Gate for LogPace<'_, R> {
         self.rest();
         self.seen = self.notices.rounds();
         let passed = !self.notices.has_ended();
-        Trail::push(&mut self.answers, &(point, passed));
+        GhostList::push(&mut self.answers, &(point, passed));
         passed
     }
 }
@@ -100,7 +100,7 @@ pub(crate) struct PagePace<'a, R: Wait> {
     left_in_part: u32,
     // how many forces were made before the round; None before the first
     seen: Option<u64>,
-    answers: Snapshot<Trail<(u32, bool)>>,
+    answers: Snapshot<GhostList<(u32, bool)>>,
 }
 
 impl<'a, R: Wait> PagePace<'a, R> {
@@ -113,7 +113,7 @@ impl<'a, R: Wait> PagePace<'a, R> {
             left: 0,
             left_in_part: 0,
             seen: None,
-            answers: Trail::empty(),
+            answers: GhostList::empty(),
         }
     }
 
@@ -152,7 +152,7 @@ impl<R: Wait> Gate for PagePace<'_, R> {
     fn pass(&mut self, point: u32) -> bool {
         self.hold();
         let passed = !self.notices.has_ended();
-        Trail::push(&mut self.answers, &(point, passed));
+        GhostList::push(&mut self.answers, &(point, passed));
         passed
     }
 }

@@ -6,6 +6,9 @@ use std::io::ErrorKind;
 use std::rt::Env;
 use std::{env, io};
 
+/// What `rqm --version` prints.
+const VERSION: &str = "0.1.0";
+
 /// The fewest and the most frames that a pool may have. For now the pool holds all pages.
 const FEWEST_FRAMES: i64 = 8;
 
@@ -25,6 +28,8 @@ pub enum Args {
     Format(String, Layout),
     /// A server over the store in a folder.
     Serve(Serve),
+    /// What the log of the store in this folder holds.
+    Inspect(String),
     /// Nothing more: the words were answered, with this status.
     Answered(u8),
 }
@@ -76,30 +81,36 @@ fn parse(alloc: Global, words: &[String]) -> Result<Option<Args>, Error> {
         Some(("run", run)) => Ok(layout(run).map(Args::Run)),
         Some(("format", format)) => Ok(store(alloc, format)?),
         Some(("serve", serve)) => Ok(server(alloc, serve)?),
+        Some(("inspect", inspect)) => Ok(folder(alloc, inspect)?.map(Args::Inspect)),
         _ => Ok(None),
     }
 }
 
 fn store(alloc: Global, format: &ArgMatches<'_>) -> Result<Option<Args>, AllocError> {
-    let (Some(folder), Some(layout)) = (format.get_str("folder"), layout(format)) else {
+    let (Some(folder), Some(layout)) = (folder(alloc, format)?, layout(format)) else {
         return Ok(None);
     };
-    let folder = String::from_str(alloc, folder)?;
     Ok(Some(Args::Format(folder, layout)))
 }
 
 fn server(alloc: Global, matches: &ArgMatches<'_>) -> Result<Option<Args>, AllocError> {
-    let (Some(folder), Some(port)) = (matches.get_str("folder"), matches.get_one::<u16>("port"))
+    let (Some(folder), Some(port)) = (folder(alloc, matches)?, matches.get_one::<u16>("port"))
     else {
         return Ok(None);
     };
-    let folder = String::from_str(alloc, folder)?;
     Ok(Some(Args::Serve(Serve {
         folder,
         port,
         workers: matches.get_one::<u32>("workers").unwrap_or(WORKERS),
         sessions: matches.get_one::<u64>("sessions").unwrap_or(0),
     })))
+}
+
+fn folder(alloc: Global, matches: &ArgMatches<'_>) -> Result<Option<String>, AllocError> {
+    match matches.get_str("folder") {
+        Some(folder) => Ok(Some(String::from_str(alloc, folder)?)),
+        None => Ok(None),
+    }
 }
 
 fn layout(matches: &ArgMatches<'_>) -> Option<Layout> {
@@ -112,10 +123,12 @@ fn command<'a>(alloc: Global) -> Result<Command<'a>, AllocError> {
     Command::new(alloc, "rqm")
         .bin_name("rqm")?
         .about("A recoverable queue manager")
+        .version(VERSION)
         .subcommand_required(true)
         .subcommand(run_command(alloc)?)?
         .subcommand(format_command(alloc)?)?
-        .subcommand(serve_command(alloc)?)
+        .subcommand(serve_command(alloc)?)?
+        .subcommand(inspect_command(alloc)?)
 }
 
 fn run_command<'a>(alloc: Global) -> Result<Command<'a>, AllocError> {
@@ -129,7 +142,7 @@ fn run_command<'a>(alloc: Global) -> Result<Command<'a>, AllocError> {
 fn format_command<'a>(alloc: Global) -> Result<Command<'a>, AllocError> {
     Command::new(alloc, "format")
         .about("Makes the files of an empty store in a folder that is there")
-        .arg(folder(alloc, "Where the files are made"))?
+        .arg(named_folder(alloc, "Where the files are made"))?
         .arg(directory(alloc))?
         .arg(cells(alloc))
 }
@@ -138,14 +151,22 @@ fn serve_command<'a>(alloc: Global) -> Result<Command<'a>, AllocError> {
     let workers = "Threads that serve connections";
     Command::new(alloc, "serve")
         .about("Serves the store in a folder over TCP, to this machine alone")
-        .arg(folder(alloc, "Where the files are"))?
+        .arg(named_folder(alloc, "Where the files are"))?
         .arg(port(alloc))?
         .arg(number(alloc, "workers", workers, 1, MOST_WORKERS))?
         .arg(sessions(alloc))?
         .arg(frames(alloc))
 }
 
-fn folder<'a>(alloc: Global, help: &'a str) -> Arg<'a> {
+fn inspect_command<'a>(alloc: Global) -> Result<Command<'a>, AllocError> {
+    Command::new(alloc, "inspect")
+        .about(
+            "Prints what the log of a store in files holds, record by record, and changes nothing",
+        )
+        .arg(named_folder(alloc, "Where the store is"))
+}
+
+fn named_folder<'a>(alloc: Global, help: &'a str) -> Arg<'a> {
     Arg::new(alloc, "folder")
         .value_name("FOLDER")
         .help(help)

@@ -2,9 +2,11 @@
 #![tactic(auto)]
 
 mod args;
+mod inspect;
 mod serving;
 
 use args::Args;
+use inspect::run_inspect;
 use rq_files::run_format;
 use rq_levels::sets_of_levels;
 use rq_page::layout::Layout;
@@ -44,6 +46,7 @@ fn run<
         Args::Run(layout) => run_input(rt, &mut writer, layout)?,
         Args::Format(folder, layout) => run_format(rt, &mut writer, folder.as_str(), &layout),
         Args::Serve(asked) => run_serve(rt, &mut writer, &asked)?,
+        Args::Inspect(folder) => run_inspect(rt, &mut writer, folder.as_str())?,
         Args::Answered(status) => status,
     })
 }
