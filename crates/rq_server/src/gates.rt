@@ -1,8 +1,8 @@
 //! The gates of the server's threads.
 ghost use Rattle.std.specs.Prelude.{◌≡◌};
 
-use rq_bytes::GhostList;
 use crate::notices::Notices;
+use rq_bytes::GhostList;
 use rq_workers::gate::{BEFORE_AGAIN, Gate};
 use std::snapshot::Snapshot;
 use std::sync::Wait;
