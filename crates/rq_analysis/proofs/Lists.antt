@@ -70,7 +70,7 @@ in_without o os x h = let k = In-filter (λ u. not (same_op o u)) os x h in (k.0
 pub without_in : (o : Sub) (os : List Sub) (x : Sub) → In x os → same_op o x ≡ false → In x (without_sub o os)
 without_in o os x h e = filter_in (λ u. not (same_op o u)) os x h (ap not e)
 
--- spots
+-- undoable writes
 pub in_newest : (o : Sub) (ps : List UndoableWrite) (x : UndoableWrite) → In x (without_newest o ps) → In x ps
 in_newest o [] x h = h
 in_newest o (p ∷ ps) x h = elim (cases_Bool (undoable_by o p)) [

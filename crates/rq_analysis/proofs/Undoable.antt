@@ -153,7 +153,7 @@ noted_way z (Commit t ∷ log) g o h = noted_way z log g.1 o h
 noted_way z (Restart i ∷ log) g o h = noted_way z log g.1 o h
 noted_way z (AbortEnd t ∷ log) g o h = noted_way z log g.1 o h
 
--- a spot is of an operation that is noted as unfinished
+-- an undoable write is of an operation that is noted as unfinished
 pub undoable_noted : (log : List Record) (p : UndoableWrite) → In p (analysis log).undoable → In p.by (analysis log).unfinished
 undoable_noted [] p h = absurd h
 undoable_noted (PageOp t n page slot before after ∷ log) p h = elim h [

@@ -47,7 +47,7 @@ without_newest o (p ∷ ps) = cond (undoable_by o p) ps (p ∷ without_newest o 
 abbrev pub without_undoable : Sub → List UndoableWrite → List UndoableWrite
 without_undoable o ps = filter (λ p. not (undoable_by o p)) ps
 
--- the spot that the record with this LSN makes
+-- the undoable write that the record with this LSN makes
 abbrev pub undoable_at : ℕ → Sub → ℕ → ℕ → List ℕ → UndoableWrite
 undoable_at lsn o page slot before = record { lsn = lsn; by = o; page = page; slot = slot; before = before }
 

@@ -1,7 +1,7 @@
 //! The analysis pass: what a log leaves to undo, and whether a record may stand behind it.
 //!
-//! Tables are kept record by record: of operations without an end, of what lost transactions did last, of their next
-//! numbers, of transactions that have ended. A record is judged by them. The definitions stand in specs/.
+//! Tables are kept record by record: of operations without an end, of what transactions without an end finished
+//! and did not take back, of the greatest number of their operations, of transactions that have ended. A record is judged by them. The definitions stand in specs/.
 #![tactic(auto)]
 
 mod checking;

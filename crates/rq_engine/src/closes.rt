@@ -19,7 +19,7 @@ ghost use Rattle.rq_engine.specs.Closes.{IsClosePlan, close_latched};
 ghost use Rattle.rq_engine.specs.Sends.{under_plan, FitsPlan};
 
 use crate::engine::Engine;
-use crate::starts::CLOSE_OPERATION;
+use crate::starts::CLOSE_RECORDS;
 use rq_chain::ChainPlan;
 use rq_disk::{LogDevice, PageDevice};
 use rq_groups::End;
@@ -84,7 +84,7 @@ impl<P: PageDevice, L: LogDevice, B: Level> Engine<P, L, B> {
         if self.pages.group(sender).closed {
             return Err(Refusal::Closed);
         }
-        if self.is_log_full(CLOSE_OPERATION) {
+        if self.is_log_full(CLOSE_RECORDS) {
             return Err(Refusal::LogFull);
         }
         Ok(())

@@ -1,4 +1,4 @@
-//! The engine's calls, but those of operations.
+//! The engine: how it begins, commits, forces and hands over.
 ghost use Rattle.std.specs.Prelude.{◌≡◌, ◌&&◌, nat_eq, nat_lt, not, ◌+◌, ◌<◌, ◌≤◌, ◌^◌, ◌↔◌, IfOk, IfErr, OnOk, OnErr, IfSome, Err, ℕ, List, true, false, length, ◌∷◌, []};
 ghost use Rattle.rq_model.specs.History.Call.{Begin, Commit, Acknowledge, Hand_over, Force};
 ghost use Rattle.rq_model.specs.Replay.{receipt};
@@ -246,7 +246,7 @@ impl<P: PageDevice, L: LogDevice, B: Level> Engine<P, L, B> {
         Ok(txn)
     }
 
-    /// Commits a transaction: writes its Commit record, releases its ends and ends it. What it sent waits from then on,
+    /// Commits a transaction: writes its Commit record, releases its locks and ends it. What it sent waits from then on,
     /// and counts as sent, and the cells of what it took are free. The commit is durable once that record is forced.
     ///
     /// # Errors

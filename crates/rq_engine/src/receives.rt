@@ -19,7 +19,7 @@ ghost use Rattle.rq_engine.specs.Receives.{IsTakeCall, started_of};
 ghost use Rattle.rq_engine.specs.Sends.{under_plan, FitsPlan, take_latched};
 
 use crate::engine::Engine;
-use crate::starts::CHAIN_OPERATION;
+use crate::starts::CHAIN_RECORDS;
 use rq_chain::ChainPlan;
 use rq_disk::{LogDevice, PageDevice};
 use rq_groups::End;
@@ -51,7 +51,7 @@ impl<P: PageDevice, L: LogDevice, B: Level> Engine<P, L, B> {
         let Some(first) = self.first_waiting(txn) else {
             return Ok(None);
         };
-        if self.is_log_full(CHAIN_OPERATION) {
+        if self.is_log_full(CHAIN_RECORDS) {
             return Err(Refusal::LogFull);
         }
         match self.plan_any_take(txn, first) {
@@ -95,7 +95,7 @@ impl<P: PageDevice, L: LogDevice, B: Level> Engine<P, L, B> {
         if self.waiting.count(sender) == 0 {
             return Ok(None);
         }
-        if self.is_log_full(CHAIN_OPERATION) {
+        if self.is_log_full(CHAIN_RECORDS) {
             return Err(Refusal::LogFull);
         }
         match self.plan_take(sender) {

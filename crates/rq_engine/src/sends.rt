@@ -18,7 +18,7 @@ ghost use Rattle.rq_engine.specs.Lists.{IsSendStarted};
 ghost use Rattle.rq_engine.specs.Sends.{under_plan, FitsPlan, SendIsLatched, TakesLowest};
 
 use crate::engine::Engine;
-use crate::starts::CHAIN_OPERATION;
+use crate::starts::CHAIN_RECORDS;
 use rq_chain::ChainPlan;
 use rq_disk::{LogDevice, PageDevice};
 use rq_groups::End;
@@ -101,7 +101,7 @@ impl<P: PageDevice, L: LogDevice, B: Level> Engine<P, L, B> {
         if self.cells_in_use >= u64::from(self.pages.layout().cell_slots()) {
             return Err(Refusal::Full);
         }
-        if self.is_log_full(CHAIN_OPERATION) {
+        if self.is_log_full(CHAIN_RECORDS) {
             return Err(Refusal::LogFull);
         }
         Ok(body)

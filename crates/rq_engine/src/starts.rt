@@ -19,10 +19,10 @@ use rq_record::{OP_END_BYTES, PAGE_OP_BYTES, encode_deed};
 use rq_txn::{Aim, Operation};
 
 /// What a send, a receive or the inverse of one is counted as where it starts: three slots and an end.
-pub(crate) const CHAIN_OPERATION: u64 = 4;
+pub(crate) const CHAIN_RECORDS: u64 = 4;
 
 /// What a close, or the inverse of one, is counted as where it starts: one slot and an end.
-pub(crate) const CLOSE_OPERATION: u64 = 2;
+pub(crate) const CLOSE_RECORDS: u64 = 2;
 
 /// How many bytes the records of a planned operation take in the log.
 pub(crate) fn room_of(plan: &ChainPlan) -> usize
@@ -37,7 +37,7 @@ pub(crate) fn room_of(plan: &ChainPlan) -> usize
 }
 
 impl<P: PageDevice, L: LogDevice, B: Level> Engine<P, L, B> {
-    // Takes the room of an operation, and then lets it begin.
+    // Takes the lock and the room of an operation, and lets it begin; where that is refused, the lock is given back.
     pub(crate) fn start(
         &mut self,
         txn: Txn,

@@ -21,7 +21,7 @@ ghost use Rattle.rq_engine.specs.Aborts.{IsTurnedBack, UndoIsLatched, UndoSays, 
 
 use crate::engine::Engine;
 use crate::operations::CHAIN_LEVEL;
-use crate::starts::{CHAIN_OPERATION, CLOSE_OPERATION};
+use crate::starts::{CHAIN_RECORDS, CLOSE_RECORDS};
 use rq_disk::{LogDevice, PageDevice};
 use rq_level::{Level, SlotWrite};
 use rq_model::record::{Deed, Record};
@@ -35,9 +35,9 @@ fn undo_records(deed: &Deed) -> u64
     ensures { result ≡ undo_cost (Some (op_of (said deed.now))) }
 {
     match deed {
-        Deed::Append { .. } => CHAIN_OPERATION,
-        Deed::UnlinkHead { .. } => CHAIN_OPERATION,
-        Deed::Close { .. } => CLOSE_OPERATION,
+        Deed::Append { .. } => CHAIN_RECORDS,
+        Deed::UnlinkHead { .. } => CHAIN_RECORDS,
+        Deed::Close { .. } => CLOSE_RECORDS,
     }
 }
 

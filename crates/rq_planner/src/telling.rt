@@ -19,7 +19,7 @@ use rq_page::cell::CellSlot;
 use rq_page::layout::Layout;
 use rq_pool::Pages;
 
-/// Gives back a plan that doesn't start: tells the level of each of its slots as it is. The cell that the plan chose may be
+/// Gives back the cell of a plan: tells the level of each of its slots as it is. The cell that the plan chose may be
 /// chosen again.
 pub fn unreserve<P: PageDevice, B: Level>(pages: &Pages<P>, level: &mut B, writes: &[SlotWrite])
     requires number { B.level level.old ≡ 1 }

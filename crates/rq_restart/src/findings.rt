@@ -17,7 +17,7 @@ pub(crate) struct Findings {
     pub open_work: OpenWork,
     /// What transactions without an end finished, and did not take back.
     pub dues: PendingUndos,
-    /// The numbers of their operations.
+    /// The greatest number of their operations.
     pub numbers: LastOperations,
     /// Which transactions of the running incarnation have ended.
     pub ended: EndedTransactions,

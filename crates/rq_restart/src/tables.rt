@@ -13,7 +13,7 @@ use rq_planner::{Planner, StoreLevels};
 use rq_pool::Pages;
 use std::alloc::Global;
 
-/// By sender, how many messages wait, and what its sends come to; the ends, of which none is held; and what plans
+/// By sender, how many messages wait, and what its sends come to; the locks, of which none is held; and what plans
 /// operations, told of each cell.
 #[derive(Drop)]
 pub(crate) struct Tables<B: Level> {

@@ -131,9 +131,9 @@ fn run_line<S: Store>(
     line: &[u8],
     output: &mut Vec<u8>,
 ) -> bool {
-    let told = carry_out(store, alloc, number, Command::parse(line));
-    told.print(output);
-    !told.is_fault()
+    let result = carry_out(store, alloc, number, Command::parse(line));
+    result.print(output);
+    !result.is_fault()
 }
 
 // What stands before the first newline, and what stands behind it.
