@@ -1,5 +1,5 @@
 -- What the records of a log come to, and the report that says so. A log is its records, the newest first.
-use Rattle.std.specs.Prelude.{◌≡◌, ℕ, Bool, true, false, not, ◌&&◌, ◌||◌, nat_eq, List, [], ◌∷◌, ◌++◌, codes, decimal, flat_map, length, map}
+use Rattle.std.specs.Prelude.{◌≡◌, ℕ, Bool, false, not, ◌&&◌, ◌||◌, nat_eq, List, [], ◌∷◌, ◌++◌, codes, decimal, flat_map, length, map}
 use Rattle.std.specs.List.Sorted.{IsStrictlySortedBy}
 use Rattle.rq_model.specs.declared.txn.Txn.{Txn}
 use Rattle.rq_model.specs.declared.record.Record.{Record}
@@ -75,7 +75,7 @@ report_text r =
 
 -- ---- how it is come to, record by record
 
--- the record is one of the second kind, or neither it nor ...
+-- some record begins it, and none from there on ends it
 abbrev pub stands : (Record → Bool) → (Record → Bool) → List Record → Bool
 stands begins ends [] = false
 stands begins ends (r ∷ log) = not (ends r) && (begins r || stands begins ends log)

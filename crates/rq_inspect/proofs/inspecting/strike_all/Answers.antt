@@ -1,4 +1,4 @@
-use Rattle.std.proofs.Common.{◌≡◌, ◌∷◌, List, [], ◌∙◌, ap, sym, subst}
+use Rattle.std.proofs.Common.{◌≡◌, ◌∷◌, List, ◌∙◌, ap, sym, subst}
 use Rattle.rq_model.specs.declared.record.Record.{Record}
 use Rattle.rq_inspect.specs.Reports.{Tells}
 use Rattle.rq_inspect.proofs.Parsed.{undamaged}
