@@ -45,38 +45,19 @@ pub fn run_serve<
         + Sync,
     W: Write,
 >(rt: &R, writer: &mut W, asked: &Serve) -> io::Result<u8> {
-    match opened_and_bound(rt, asked, Unknown) {
-        Ok((engine, listener, plan)) => served(rt, writer, engine, listener, plan),
-        Err(fault) => {
-            writeln!(writer, "fault {fault}")?;
-            Ok(1)
+    let began = Instant::now(rt);
+    match opened(rt, asked.folder.as_str(), Unknown) {
+        Ok((engine, report)) => {
+            tell_opened(rt, &report, millis_since(rt, began));
+            served(rt, writer, asked, engine)
         }
+        Err(fault) => faulted(writer, &fault),
     }
 }
 
-// The faults come in this order: those of the folder and its files, of the restart, of the port.
-fn opened_and_bound<
-    S: FileContents,
-    R: AllocGlobal
-        + Eprint
-        + Clock
-        + Files<File = File>
-        + Net<Listener = TcpListener, Stream = TcpStream>,
->(rt: &R, asked: &Serve, held: S) -> Result<(Store<S>, TcpListener, Plan), Fault>
-    ensures { IfOk result (λ o. WasSound ⟦<FilePages<S> as PageDevice>⟧ ⟦<FileLog<S> as LogDevice>⟧
-        (HoldStore S.pages S.bytes) o.0) }
-{
-    let folder = asked.folder.as_str();
-    let began = Instant::now(rt);
-    let (engine, report) = opened(rt, folder, held)?;
-    tell_opened(rt, &report, millis_since(rt, began));
-    let plan = Plan {
-        workers: asked.workers,
-        sessions: asked.sessions,
-        pages: pages_in(rt, folder)?,
-    };
-    let listener = bound(rt, asked.port)?;
-    Ok((engine, listener, plan))
+fn faulted<W: Write>(writer: &mut W, fault: &Fault) -> io::Result<u8> {
+    writeln!(writer, "fault {fault}")?;
+    Ok(1)
 }
 
 fn opened<S: FileContents, R: AllocGlobal + Files<File = File>>(
@@ -87,11 +68,11 @@ fn opened<S: FileContents, R: AllocGlobal + Files<File = File>>(
     ensures { IfOk result (λ o. WasSound ⟦<FilePages<S> as PageDevice>⟧ ⟦<FileLog<S> as LogDevice>⟧
         (HoldStore S.pages S.bytes) o.0) }
 {
-    let Ok((pages, log)) = open_folder(rt, folder, held) else {
-        return Err(Fault::Open);
-    };
     let Ok(levels) = levels_of_store(rt.alloc()) else {
         return Err(Fault::Refused(Refusal::NoMemory));
+    };
+    let Ok((pages, log)) = open_folder(rt, folder, held) else {
+        return Err(Fault::Open);
     };
     match restart(rt.alloc(), pages, log, levels) {
         Ok(opened) => Ok(opened),
@@ -143,34 +124,68 @@ fn pages_in<R: AllocGlobal + Files<File = File>>(rt: &R, folder: &str) -> Result
 
 // Serves an engine, and prints where and how many sessions there were.
 fn served<
-    S: FileContents,
+    S: FileContents + Send,
     R: AllocGlobal
         + Eprint
+        + Files<File = File>
         + Net<Listener = TcpListener, Stream = TcpStream>
         + Wait
         + Threads
         + Sync,
     W: Write,
->(rt: &R, writer: &mut W, engine: Store<S>, listener: TcpListener, plan: Plan) -> io::Result<u8>
+>(rt: &R, writer: &mut W, asked: &Serve, engine: Store<S>) -> io::Result<u8>
     requires { WasSound ⟦<FilePages<S> as PageDevice>⟧ ⟦<FileLog<S> as LogDevice>⟧ (HoldStore S.pages S.bytes) engine }
 {
-    let address = listener.local_addr()?;
-    writeln!(writer, "listening {address}")?;
-    writer.flush()?;
-    match shared_by_brand(rt, rt.alloc(), engine, listener, plan) {
+    match listening(rt, writer, asked) {
+        Ok(Ok((listener, plan))) => {
+            let sessions = shared_by_brand(rt, rt.alloc(), engine, listener, plan);
+            ended(writer, sessions)
+        }
+        Ok(Err(fault)) => faulted(writer, &fault),
+        Err(error) => Err(error),
+    }
+}
+
+// Takes the port, and prints that clients can connect; or the fault of the port.
+fn listening<
+    R: AllocGlobal + Files<File = File> + Net<Listener = TcpListener, Stream = TcpStream>,
+    W: Write,
+>(rt: &R, writer: &mut W, asked: &Serve) -> io::Result<Result<(TcpListener, Plan), Fault>> {
+    match planned(rt, asked) {
+        Ok((listener, plan)) => {
+            let address = listener.local_addr()?;
+            writeln!(writer, "listening {address}")?;
+            writer.flush()?;
+            Ok(Ok((listener, plan)))
+        }
+        Err(fault) => Ok(Err(fault)),
+    }
+}
+
+fn planned<R: AllocGlobal + Files<File = File> + Net<Listener = TcpListener, Stream = TcpStream>>(
+    rt: &R,
+    asked: &Serve,
+) -> Result<(TcpListener, Plan), Fault> {
+    let plan = Plan {
+        workers: asked.workers,
+        sessions: asked.sessions,
+        pages: pages_in(rt, asked.folder.as_str())?,
+    };
+    Ok((bound(rt, asked.port)?, plan))
+}
+
+fn ended<W: Write>(writer: &mut W, sessions: Result<u64, NoMemory>) -> io::Result<u8> {
+    match sessions {
         Ok(sessions) => {
             writeln!(writer, "served {sessions}")?;
             Ok(0)
         }
-        Err(NoMemory) => {
-            writeln!(writer, "fault 1 NoMemory")?;
-            Ok(1)
-        }
+        Err(NoMemory) => faulted(writer, &Fault::Refused(Refusal::NoMemory)),
     }
 }
 
 // Shares an engine under a name of its own.
-fn shared_by_brand<S: FileContents, R: Wait + Threads + Net + Eprint + Sync>(
+fn shared_by_brand<S: FileContents + Send, R: Wait + Threads + Net + Eprint + Sync>(
     rt: &R,
     alloc: Global,
     engine: Store<S>,
