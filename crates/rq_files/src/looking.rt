@@ -6,7 +6,6 @@ use std::fs::{File, Files};
 use std::io;
 use std::io::ErrorKind;
 use std::os::unix::fs::FileExt;
-use std::snapshot::Snapshot;
 
 /// A file of the system that is read alone, as far as it went when it was opened. It is not locked: another opening may have
 /// it, and write behind that.
@@ -15,27 +14,27 @@ pub struct ReadFile {
     file: File,
     // its length when it was opened
     len: u64,
-    calls: Snapshot<Calls>,
+    calls: Calls,
 }
 
 impl Storage for ReadFile {
-    ghost calls = { λ f. f.calls.value };
+    ghost calls = { λ f. f.calls };
 
     ghost opened = { λ f. f.len };
 
     fn fill(&mut self, into: &mut [u8], at: u64) -> io::Result<()> {
         self.file.read_exact_at(into, at)?;
-        Calls::gave(&mut self.calls, at, into);
+        self.calls.gave(at, into);
         Ok(())
     }
 
     fn put(&mut self, bytes: &[u8], at: u64) -> io::Result<()> {
-        Calls::tried(&mut self.calls, at, bytes);
+        self.calls.tried(at, bytes);
         Err(ErrorKind::PermissionDenied.into())
     }
 
     fn sync(&mut self) -> io::Result<()> {
-        Calls::missed(&mut self.calls);
+        self.calls.missed();
         Err(ErrorKind::PermissionDenied.into())
     }
 }
