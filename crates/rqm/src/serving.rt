@@ -68,11 +68,11 @@ fn opened<S: FileContents, R: AllocGlobal + Files<File = File>>(
     ensures { IfOk result (λ o. WasSound ⟦<FilePages<S> as PageDevice>⟧ ⟦<FileLog<S> as LogDevice>⟧
         (HoldStore S.pages S.bytes) o.0) }
 {
-    let Ok(levels) = levels_of_store(rt.alloc()) else {
-        return Err(Fault::Refused(Refusal::NoMemory));
-    };
     let Ok((pages, log)) = open_folder(rt, folder, held) else {
         return Err(Fault::Open);
+    };
+    let Ok(levels) = levels_of_store(rt.alloc()) else {
+        return Err(Fault::Refused(Refusal::NoMemory));
     };
     match restart(rt.alloc(), pages, log, levels) {
         Ok(opened) => Ok(opened),
