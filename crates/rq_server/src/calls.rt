@@ -5,7 +5,7 @@ use crate::notices::Notices;
 use rq_model::txn::Lsn;
 use rq_shared::mark::{Mark, MarkPass};
 use rq_workers::steps::Steps;
-use std::sync::{Mutex, Wait};
+use std::sync::Mutex;
 
 /// Where a worker reads how far the log is forced.
 #[derive(Drop)]
@@ -27,12 +27,13 @@ impl<'a> MarkReader<'a> {
     }
 }
 
-/// What a worker calls the store by: its steps, the mark, and what it tells the other threads.
+/// What a worker calls the store by: its steps, the mark, and what it tells the other threads. Workers take turns: one that has
+/// its turn meets no operation of another under way.
 #[derive(Drop)]
 pub(crate) struct Calls<'a, S: Steps> {
     pub(crate) steps: S,
     reader: MarkReader<'a>,
-    forcing: &'a Mutex<()>,
+    pub(crate) turns: &'a Mutex<()>,
     notices: &'a Notices,
 }
 
@@ -40,21 +41,19 @@ impl<'a, S: Steps> Calls<'a, S> {
     pub(crate) fn new(
         steps: S,
         reader: MarkReader<'a>,
-        forcing: &'a Mutex<()>,
+        turns: &'a Mutex<()>,
         notices: &'a Notices,
     ) -> Self {
         Calls {
             steps,
             reader,
-            forcing,
+            turns,
             notices,
         }
     }
 
-    /// Forces, where the log is not forced as far as this. One worker forces at a time, so that others need not do it again.
-    pub(crate) fn force_up_to<R: Wait>(&mut self, rt: &R, lsn: Lsn) {
-        let forcing = self.forcing;
-        let _turn = forcing.lock(rt);
+    /// Forces, where the log is not forced as far as this.
+    pub(crate) fn force_up_to(&mut self, lsn: Lsn) {
         if self.reader.read() < lsn {
             let stamped = self.steps.force();
             self.steps.seen(stamped);

@@ -122,21 +122,36 @@ impl Connections {
         if self.active.is_empty() {
             return;
         }
-        self.carry_out(rt, calls);
-        if let Some(lsn) = self.last_awaited() {
-            calls.force_up_to(rt, lsn);
-            self.ask_receipts(rt, calls);
-        }
+        self.hear();
+        self.take_turn(rt, calls);
         self.answer(rt, poll, calls);
         calls.note_round();
     }
 
-    // Reads what was said, and carries it out up to commits that wait.
-    fn carry_out<S: Steps, R: Wait>(&mut self, rt: &R, calls: &mut Calls<'_, S>) {
+    fn hear(&mut self) {
         for at in 0..self.active.len() {
             let token = self.active.get(at).copied().unwrap_or(DOOR);
             if let Some(connection) = self.connections.get_mut(token) {
                 connection.hear();
+            }
+        }
+    }
+
+    // Carries out what was asked, up to commits that wait, and forces once for all of these.
+    fn take_turn<S: Steps, R: Wait>(&mut self, rt: &R, calls: &mut Calls<'_, S>) {
+        let turns = calls.turns;
+        let _turn = turns.lock(rt);
+        self.carry_out(rt, calls);
+        if let Some(lsn) = self.last_awaited() {
+            calls.force_up_to(lsn);
+            self.ask_receipts(rt, calls);
+        }
+    }
+
+    fn carry_out<S: Steps, R: Wait>(&mut self, rt: &R, calls: &mut Calls<'_, S>) {
+        for at in 0..self.active.len() {
+            let token = self.active.get(at).copied().unwrap_or(DOOR);
+            if let Some(connection) = self.connections.get_mut(token) {
                 connection.carry_out(rt, &mut calls.steps);
             }
         }
@@ -234,11 +249,13 @@ fn is_over<S: Steps, R: Wait>(
     connection: &mut Connection,
     calls: &mut Calls<'_, S>,
 ) -> bool {
-    if !connection.write_answers(rt) {
-        connection.lose(rt, &mut calls.steps);
-        return true;
+    if connection.write_answers(rt) {
+        return connection.is_over();
     }
-    connection.is_over()
+    let turns = calls.turns;
+    let _turn = turns.lock(rt);
+    connection.lose(rt, &mut calls.steps);
+    true
 }
 
 fn register(poll: &Poll, stream: &mut TcpStream, token: usize) -> io::Result<()> {

@@ -1,5 +1,5 @@
 //! The threads of a server.
-ghost use Rattle.std.specs.Prelude.{◌≡◌};
+ghost use Rattle.std.specs.Prelude.{◌≡◌, IfOk};
 ghost use Rattle.std.specs.Thread.{IsSend, IsSync};
 
 use crate::calls::{Calls, MarkReader};
@@ -41,8 +41,8 @@ pub struct Plan {
 #[derive(Drop)]
 struct Common {
     mark: Mark,
-    // held by the worker that forces
-    forcing: Mutex<()>,
+    // held by the worker that has its turn
+    turns: Mutex<()>,
     notices: Notices,
     door: Mutex<Door>,
     plan: Plan,
@@ -92,21 +92,8 @@ pub fn serve<
     plan: Plan,
 ) -> Result<u64, NoMemory> {
     let mut shared = shared;
-    let Ok((mark, mut seat)) = Mark::new(alloc) else {
-        return Err(NoMemory);
-    };
-    if listener.set_nonblocking(true).is_err() {
-        return Err(NoMemory);
-    }
-    let mut listener = Listener::from_std(listener);
-    let polls = polls_at(rt, alloc, &mut listener, plan.workers)?;
-    let common = Common {
-        mark,
-        forcing: Mutex::new(()),
-        notices: Notices::new(),
-        door: Mutex::new(Door::new(listener, plan.sessions)),
-        plan,
-    };
+    let (common, seat, polls) = common_of(rt, alloc, listener, plan)?;
+    let mut seat = seat;
     let posts = posts_of(alloc, &mut shared, &common, &mut seat, polls)?;
     let last = shared.pass();
     let served = run(rt, alloc, shared.engine_lock(), &common, posts);
@@ -115,6 +102,33 @@ pub fn serve<
         drop(shared.call(rt, &mut pass, Event::Force));
     }
     served.ok_or(NoMemory)
+}
+
+// What all threads share, with a seat of its mark, and where each worker waits.
+fn common_of<R: Net>(
+    rt: &R,
+    alloc: Global,
+    listener: TcpListener,
+    plan: Plan,
+) -> Result<(Common, MarkPass, Vec<Poll>), NoMemory>
+    ensures { IfOk result (λ c. c.1.table ≡ c.0.mark) }
+{
+    if listener.set_nonblocking(true).is_err() {
+        return Err(NoMemory);
+    }
+    let mut listener = Listener::from_std(listener);
+    let polls = polls_at(rt, alloc, &mut listener, plan.workers)?;
+    let Ok((mark, seat)) = Mark::new(alloc) else {
+        return Err(NoMemory);
+    };
+    let common = Common {
+        mark,
+        turns: Mutex::new(()),
+        notices: Notices::new(),
+        door: Mutex::new(Door::new(listener, plan.sessions)),
+        plan,
+    };
+    Ok((common, seat, polls))
 }
 
 // Where each worker waits.
@@ -147,6 +161,22 @@ fn posts_of<'a, P: PageDevice + Drop, L: LogDevice + Drop, B: Level, G: Sharing>
 {
     let log_writer = caller_of(shared, common, seat)?;
     let page_writer = caller_of(shared, common, seat)?;
+    Ok(Posts {
+        log_writer,
+        page_writer,
+        workers: workers_of(alloc, shared, common, seat, polls)?,
+    })
+}
+
+fn workers_of<'a, P: PageDevice + Drop, L: LogDevice + Drop, B: Level, G: Sharing>(
+    alloc: Global,
+    shared: &mut Shared<P, L, B, G>,
+    common: &'a Common,
+    seat: &mut MarkPass,
+    polls: Vec<Poll>,
+) -> Result<Vec<Post<'a, G>>, NoMemory>
+    requires { seat.old.table ≡ common.now.mark }
+{
     let mut workers = Vec::new(alloc);
     for poll in polls {
         let reader = MarkReader::new(&common.mark, common.mark.split(seat));
@@ -160,11 +190,7 @@ fn posts_of<'a, P: PageDevice + Drop, L: LogDevice + Drop, B: Level, G: Sharing>
             return Err(NoMemory);
         }
     }
-    Ok(Posts {
-        log_writer,
-        page_writer,
-        workers,
-    })
+    Ok(workers)
 }
 
 fn caller_of<'a, P: PageDevice + Drop, L: LogDevice + Drop, B: Level, G: Sharing>(
@@ -294,7 +320,7 @@ fn work<'a, P: PageDevice + Drop, L: LogDevice + Drop, B: Level, G: Sharing, R: 
     } = post;
     let common = caller.common;
     let steps = steps_of(rt, lock, caller);
-    let mut calls = Calls::new(steps, reader, &common.forcing, &common.notices);
+    let mut calls = Calls::new(steps, reader, &common.turns, &common.notices);
     let mut connections = Connections::new(alloc, common.plan.sessions != 0).ok()?;
     let served = connections.serve(rt, alloc, poll, &common.door, &mut calls);
     served.ok()

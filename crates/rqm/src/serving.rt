@@ -45,19 +45,40 @@ pub fn run_serve<
         + Sync,
     W: Write,
 >(rt: &R, writer: &mut W, asked: &Serve) -> io::Result<u8> {
-    let began = Instant::now(rt);
-    match opened(rt, asked.folder.as_str(), Unknown) {
-        Ok((engine, report)) => {
-            tell_opened(rt, &report, millis_since(rt, began));
-            served(rt, writer, asked, engine)
+    match opened_and_bound(rt, asked, Unknown) {
+        Ok((engine, listener, plan)) => served(rt, writer, engine, listener, plan),
+        Err(fault) => {
+            writeln!(writer, "fault {fault}")?;
+            Ok(1)
         }
-        Err(fault) => faulted(writer, &fault),
     }
 }
 
-fn faulted<W: Write>(writer: &mut W, fault: &Fault) -> io::Result<u8> {
-    writeln!(writer, "fault {fault}")?;
-    Ok(1)
+// The faults come in this order: those of the folder and its files, of the restart, of the port.
+fn opened_and_bound<
+    S: FileContents,
+    R: AllocGlobal
+        + Eprint
+        + Clock
+        + Files<File = File>
+        + Net<Listener = TcpListener, Stream = TcpStream>,
+>(rt: &R, asked: &Serve, held: S) -> Result<(Store<S>, TcpListener, Plan), Fault>
+    ensures { IfOk result (λ o. WasSound ⟦<FilePages<S> as PageDevice>⟧ ⟦<FileLog<S> as LogDevice>⟧
+        (HoldStore S.pages S.bytes) o.0) }
+{
+    let folder = asked.folder.as_str();
+    let plan = Plan {
+        workers: asked.workers,
+        sessions: asked.sessions,
+        pages: pages_in(rt, folder)?,
+    };
+    let began = Instant::now(rt);
+    let (engine, report) = opened(rt, folder, held)?;
+    tell_opened(rt, &report, millis_since(rt, began));
+    match bound(rt, asked.port) {
+        Ok(listener) => Ok((engine, listener, plan)),
+        Err(fault) => Err(fault),
+    }
 }
 
 fn opened<S: FileContents, R: AllocGlobal + Files<File = File>>(
@@ -111,7 +132,8 @@ fn bound<R: Net<Listener = TcpListener, Stream = TcpStream>>(
     }
 }
 
-// How many pages the file of a store has, those behind its last page too: asking for one of these does nothing.
+// How many pages the file of a store has, those behind its last page too: asking for one of these does nothing. Where it is not
+// there, it cannot be opened either.
 fn pages_in<R: AllocGlobal + Files<File = File>>(rt: &R, folder: &str) -> Result<u32, Fault> {
     let Ok(path) = Path::new(folder).join(rt.alloc(), "pages") else {
         return Err(Fault::Refused(Refusal::NoMemory));
@@ -127,60 +149,38 @@ fn served<
     S: FileContents + Send,
     R: AllocGlobal
         + Eprint
-        + Files<File = File>
         + Net<Listener = TcpListener, Stream = TcpStream>
         + Wait
         + Threads
         + Sync,
     W: Write,
->(rt: &R, writer: &mut W, asked: &Serve, engine: Store<S>) -> io::Result<u8>
+>(rt: &R, writer: &mut W, engine: Store<S>, listener: TcpListener, plan: Plan) -> io::Result<u8>
     requires { WasSound ⟦<FilePages<S> as PageDevice>⟧ ⟦<FileLog<S> as LogDevice>⟧ (HoldStore S.pages S.bytes) engine }
 {
-    match listening(rt, writer, asked) {
-        Ok(Ok((listener, plan))) => {
-            let sessions = shared_by_brand(rt, rt.alloc(), engine, listener, plan);
-            ended(writer, sessions)
-        }
-        Ok(Err(fault)) => faulted(writer, &fault),
-        Err(error) => Err(error),
+    if let Err(error) = print_listening(writer, &listener) {
+        return Err(error);
     }
+    let served = shared_by_brand(rt, rt.alloc(), engine, listener, plan);
+    print_served(writer, served)
 }
 
-// Takes the port, and prints that clients can connect; or the fault of the port.
-fn listening<
-    R: AllocGlobal + Files<File = File> + Net<Listener = TcpListener, Stream = TcpStream>,
-    W: Write,
->(rt: &R, writer: &mut W, asked: &Serve) -> io::Result<Result<(TcpListener, Plan), Fault>> {
-    match planned(rt, asked) {
-        Ok((listener, plan)) => {
-            let address = listener.local_addr()?;
-            writeln!(writer, "listening {address}")?;
-            writer.flush()?;
-            Ok(Ok((listener, plan)))
-        }
-        Err(fault) => Ok(Err(fault)),
-    }
+fn print_listening<W: Write>(writer: &mut W, listener: &TcpListener) -> io::Result<()> {
+    let address = listener.local_addr()?;
+    writeln!(writer, "listening {address}")?;
+    writer.flush()
 }
 
-fn planned<R: AllocGlobal + Files<File = File> + Net<Listener = TcpListener, Stream = TcpStream>>(
-    rt: &R,
-    asked: &Serve,
-) -> Result<(TcpListener, Plan), Fault> {
-    let plan = Plan {
-        workers: asked.workers,
-        sessions: asked.sessions,
-        pages: pages_in(rt, asked.folder.as_str())?,
-    };
-    Ok((bound(rt, asked.port)?, plan))
-}
-
-fn ended<W: Write>(writer: &mut W, sessions: Result<u64, NoMemory>) -> io::Result<u8> {
-    match sessions {
+// Prints how many sessions there were, or why not. The exit status.
+fn print_served<W: Write>(writer: &mut W, served: Result<u64, NoMemory>) -> io::Result<u8> {
+    match served {
         Ok(sessions) => {
             writeln!(writer, "served {sessions}")?;
             Ok(0)
         }
-        Err(NoMemory) => faulted(writer, &Fault::Refused(Refusal::NoMemory)),
+        Err(NoMemory) => {
+            writeln!(writer, "fault 1 NoMemory")?;
+            Ok(1)
+        }
     }
 }
 
