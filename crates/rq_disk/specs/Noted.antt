@@ -11,6 +11,7 @@ content_of (Some c) = c.0.value ∷ c.1.value
 
 abbrev pub call_of : Note → FileCall
 call_of (notes.Gave at bytes) = FileCall.Gave at bytes.value
+call_of (notes.Denied at) = FileCall.Denied at
 call_of (notes.Took at bytes) = FileCall.Took at bytes.value
 call_of (notes.Tried at bytes) = FileCall.Tried at bytes.value
 call_of notes.Synced = FileCall.Synced

@@ -1,6 +1,6 @@
 //! The calls of a file, as contracts alone see them: they have no bytes.
 ghost use Rattle.std.specs.Prelude.{◌≡◌, ◌≤◌, [], ◌∷◌, length, drop};
-ghost use Rattle.rq_disk.specs.FileCalls.FileCall.{Gave, Took, Tried, Synced, Missed};
+ghost use Rattle.rq_disk.specs.FileCalls.FileCall.{Gave, Denied, Took, Tried, Synced, Missed};
 
 use std::marker::Model;
 use std::snapshot::Snapshot;
@@ -58,11 +58,12 @@ impl Content {
     }
 }
 
-/// A call of a file: what it gave, wrote, or was to write when it failed, from a place on; or a sync, which was made or
-/// failed.
+/// A call of a file: what it gave or wrote, from a place on; a read or a write there that failed, with what was to be
+/// written; or a sync, which was made or failed.
 #[derive(Drop)]
 pub(crate) enum Note {
     Gave(u64, Snapshot<Content>),
+    Denied(u64),
     Took(u64, Snapshot<Content>),
     Tried(u64, Snapshot<Content>),
     Synced,
@@ -124,6 +125,13 @@ impl Calls {
         ensures { calls.new.value ≡ Gave at bytes.now ∷ calls.old.value }
     {
         Calls::note(calls, &Note::Gave(at, Content::of(bytes)));
+    }
+
+    /// It failed to give the bytes from a place on.
+    pub fn denied(calls: &mut Snapshot<Calls>, at: u64)
+        ensures { calls.new.value ≡ Denied at ∷ calls.old.value }
+    {
+        Calls::note(calls, &Note::Denied(at));
     }
 
     /// It wrote these bytes to a place and what follows it.

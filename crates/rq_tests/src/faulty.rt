@@ -96,10 +96,10 @@ impl Storage for Faulty {
     ghost opened = { λ f. f.len };
 
     fn fill(&mut self, into: &mut [u8], at: u64) -> io::Result<()> {
-        if self.countdown.fails() {
+        if self.countdown.fails() || self.file.read_exact_at(into, at).is_err() {
+            Calls::denied(&mut self.calls, at);
             return Err(failure());
         }
-        self.file.read_exact_at(into, at)?;
         Calls::gave(&mut self.calls, at, into);
         Ok(())
     }
