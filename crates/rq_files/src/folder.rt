@@ -104,6 +104,11 @@ pub fn open_folder<S: Held, R: Files<File = File> + AllocGlobal>(
     Ok((FilePages::open(pages)?, FileLog::open(log)?))
 }
 
+/// Where the log of the store in a folder is.
+pub(crate) fn log_path<R: AllocGlobal>(rt: &R, folder: &str) -> Result<PathBuf, Fault> {
+    path_of(rt, folder, LOG)
+}
+
 fn path_of<R: AllocGlobal>(rt: &R, folder: &str, name: &str) -> Result<PathBuf, Fault> {
     match Path::new(folder).join(rt.alloc(), name) {
         Ok(path) => Ok(path),

@@ -1,8 +1,10 @@
 //! `rqm`, a recoverable queue manager.
 #![tactic(auto)]
 
+mod inspect;
 mod words;
 
+use inspect::run_inspect;
 use rq_files::run_format;
 use rq_levels::sets_of_levels;
 use rq_page::layout::Layout;
@@ -27,6 +29,7 @@ fn run<R: Print + Eprint + Input + AllocGlobal + Env + Files<File = File>>(
     Ok(match words::read(rt)? {
         Words::Run(layout) => run_input(rt, &mut writer, layout)?,
         Words::Format(folder, layout) => run_format(rt, &mut writer, folder.as_str(), &layout),
+        Words::Inspect(folder) => run_inspect(rt, &mut writer, folder.as_str())?,
         Words::Answered(status) => status,
     })
 }

@@ -6,6 +6,9 @@ use std::io::ErrorKind;
 use std::rt::Env;
 use std::{env, io};
 
+/// What `rqm --version` prints.
+const VERSION: &str = "0.1.0";
+
 /// The fewest and the most frames that a pool may have. For now the pool holds all pages.
 const FEWEST_FRAMES: i64 = 8;
 
@@ -18,6 +21,8 @@ pub enum Words {
     Run(Layout),
     /// A new store of this layout, in this folder.
     Format(String, Layout),
+    /// What the log of the store in this folder holds.
+    Inspect(String),
     /// Nothing more: the words were answered, with this status.
     Answered(u8),
 }
@@ -55,16 +60,23 @@ fn parse(alloc: Global, words: &[String]) -> Result<Option<Words>, Error> {
     match matches.subcommand() {
         Some(("run", run)) => Ok(layout(run).map(Words::Run)),
         Some(("format", format)) => Ok(store(alloc, format)?),
+        Some(("inspect", inspect)) => Ok(folder(alloc, inspect)?.map(Words::Inspect)),
         _ => Ok(None),
     }
 }
 
 fn store(alloc: Global, format: &ArgMatches<'_>) -> Result<Option<Words>, AllocError> {
-    let (Some(folder), Some(layout)) = (format.get_str("folder"), layout(format)) else {
+    let (Some(folder), Some(layout)) = (folder(alloc, format)?, layout(format)) else {
         return Ok(None);
     };
-    let folder = String::from_str(alloc, folder)?;
     Ok(Some(Words::Format(folder, layout)))
+}
+
+fn folder(alloc: Global, matches: &ArgMatches<'_>) -> Result<Option<String>, AllocError> {
+    match matches.get_str("folder") {
+        Some(folder) => Ok(Some(String::from_str(alloc, folder)?)),
+        None => Ok(None),
+    }
 }
 
 fn layout(matches: &ArgMatches<'_>) -> Option<Layout> {
@@ -77,9 +89,11 @@ fn command<'a>(alloc: Global) -> Result<Command<'a>, AllocError> {
     Command::new(alloc, "rqm")
         .bin_name("rqm")?
         .about("A recoverable queue manager")
+        .version(VERSION)
         .subcommand_required(true)
         .subcommand(run_command(alloc)?)?
-        .subcommand(format_command(alloc)?)
+        .subcommand(format_command(alloc)?)?
+        .subcommand(inspect_command(alloc)?)
 }
 
 fn run_command<'a>(alloc: Global) -> Result<Command<'a>, AllocError> {
@@ -99,14 +113,22 @@ fn run_command<'a>(alloc: Global) -> Result<Command<'a>, AllocError> {
 fn format_command<'a>(alloc: Global) -> Result<Command<'a>, AllocError> {
     Command::new(alloc, "format")
         .about("Makes the files of an empty store in a folder that is there")
-        .arg(
-            Arg::new(alloc, "folder")
-                .value_name("FOLDER")
-                .help("Where the files are made")
-                .required(true),
-        )?
+        .arg(named_folder(alloc, "Where the files are made"))?
         .arg(directory(alloc))?
         .arg(cells(alloc))
+}
+
+fn inspect_command<'a>(alloc: Global) -> Result<Command<'a>, AllocError> {
+    Command::new(alloc, "inspect")
+        .about("Prints what the log of a store in files holds, record by record, and changes nothing")
+        .arg(named_folder(alloc, "Where the store is"))
+}
+
+fn named_folder<'a>(alloc: Global, help: &'a str) -> Arg<'a> {
+    Arg::new(alloc, "folder")
+        .value_name("FOLDER")
+        .help(help)
+        .required(true)
 }
 
 fn directory<'a>(alloc: Global) -> Arg<'a> {

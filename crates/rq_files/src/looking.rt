@@ -1,0 +1,67 @@
+//! The log of a store that is looked at, and not opened.
+use crate::fault::Fault;
+use crate::folder::log_path;
+use rq_disk::{Calls, FileLog, Held, Storage};
+use std::fs::{File, Files};
+use std::io;
+use std::io::ErrorKind;
+use std::os::unix::fs::FileExt;
+use std::snapshot::Snapshot;
+
+/// A file of the system that is read alone, as far as it went when it was opened. It is not locked: another opening may have
+/// it, and write behind that.
+#[derive(Drop)]
+pub struct ReadFile {
+    file: File,
+    // its length when it was opened
+    len: u64,
+    calls: Snapshot<Calls>,
+}
+
+impl Storage for ReadFile {
+    ghost calls = { λ f. f.calls.value };
+
+    ghost opened = { λ f. f.len };
+
+    fn fill(&mut self, into: &mut [u8], at: u64) -> io::Result<()> {
+        self.file.read_exact_at(into, at)?;
+        Calls::gave(&mut self.calls, at, into);
+        Ok(())
+    }
+
+    fn put(&mut self, bytes: &[u8], at: u64) -> io::Result<()> {
+        Calls::tried(&mut self.calls, at, bytes);
+        Err(ErrorKind::PermissionDenied.into())
+    }
+
+    fn sync(&mut self) -> io::Result<()> {
+        Calls::missed(&mut self.calls);
+        Err(ErrorKind::PermissionDenied.into())
+    }
+}
+
+/// Opens the log of the store in a folder, and nothing else there, to be read alone. `S` stands for what it holds, as in
+/// `open_folder`.
+///
+/// # Errors
+/// `Open` where it is no file that can be read; `Refused` with `NoMemory` where its path cannot be made.
+pub fn look_at_log<S: Held, R: Files<File = File> + AllocGlobal>(
+    rt: &R,
+    folder: &str,
+    _held: S,
+) -> Result<FileLog<S, ReadFile>, Fault> {
+    let path = log_path(rt, folder)?;
+    let Ok(file) = File::open(rt, &path) else {
+        return Err(Fault::Open);
+    };
+    match file.metadata() {
+        Ok(metadata) if metadata.is_file() => Ok(log_in(file, metadata.len())),
+        _ => Err(Fault::Open),
+    }
+}
+
+// The log in a file that is so long.
+fn log_in<S: Held>(file: File, len: u64) -> FileLog<S, ReadFile> {
+    let calls = Calls::none();
+    FileLog::new(ReadFile { file, len, calls }, len)
+}

@@ -1,0 +1,5 @@
+pub mod Keyed
+pub mod Parsed
+pub mod Texts
+pub mod Told
+pub mod Written

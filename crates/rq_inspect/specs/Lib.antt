@@ -1,0 +1,4 @@
+pub mod Inspections
+pub mod Keys
+pub mod Lines
+pub mod Reports
