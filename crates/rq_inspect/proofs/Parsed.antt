@@ -1,10 +1,16 @@
--- Bytes are the spelling of one log at most.
-use Rattle.std.proofs.Common.{◌≡◌, ℕ, List, [], ◌∷◌, ◌++◌, length, reverse, refl, sym, ◌∙◌, ap, subst, arith, append_assoc, length-append}
+-- Bytes are the spelling of one log at most, and where they are there is no damage behind its first records.
+use Rattle.std.proofs.Common.{◌≡◌, ◌≢◌, ℕ, List, [], ◌∷◌, ◌++◌, length, reverse, refl, sym, ◌∙◌, ap, subst, arith, append_assoc, length-append}
 use Rattle.std.proofs.lemmas.List.{append-nil, reverse-append, reverse-reverse}
 use Rattle.rq_model.specs.declared.record.Record.{Record}
-use Rattle.rq_record.specs.Spelling.{IsRecord, spelling}
+use Rattle.rq_record.specs.Spelling.{HoldsRecord, IsRecord, spelling}
 use Rattle.rq_record.proofs.Whole.{long_spelling, one_spelling}
+use Rattle.rq_model.specs.declared.refusal.Refusal.{Refusal}
+use Rattle.rq_model.specs.declared.refusal.Refusal.TheVariants as why
+use Rattle.rq_model.specs.declared.refusal.Damage.TheVariants as damage
+use Rattle.rq_disk.specs.declared.device.LogDevice.{Ghosts}
+use Rattle.rq_log.specs.Reading.{IsDamagedBehind, StopsFor}
 use Rattle.rq_log.specs.Spelled.{AreSpelled, spelled}
+use Rattle.rq_inspect.specs.Inspections.{IsNoDamage}
 
 -- the spellings, the first record's first
 abbrev in_row : List Record → List ℕ
@@ -49,3 +55,25 @@ one_log a b h k e =
     sym (reverse-reverse a)
     ∙ ap reverse (one_row (reverse a) (reverse b) (AreSpelled-reverse a h) (AreSpelled-reverse b k) (sym (spelled_row a) ∙ e ∙ spelled_row b))
     ∙ reverse-reverse b
+
+no_row : (xs ys : List Record) (rest : List ℕ) → AreSpelled xs → AreSpelled ys → in_row xs ≡ in_row ys ++ rest → rest ≢ [] → (HoldsRecord rest → ⊥) → ⊥
+no_row [] [] rest h k e some bad = some (sym e)
+no_row (a ∷ xs) [] rest h k e some bad = bad (a, in_row xs, h.0, sym e)
+no_row [] (b ∷ ys) rest h k e some bad = no_bytes b (in_row ys ++ rest) k.0 (e ∙ append_assoc (spelling b) (in_row ys) rest)
+no_row (a ∷ xs) (b ∷ ys) rest h k e some bad =
+    let p = one_spelling a b (in_row xs) (in_row ys ++ rest) h.0 k.0 (e ∙ append_assoc (spelling b) (in_row ys) rest) in
+    no_row xs ys rest h.1 k.1 p.1 some bad
+
+pub no_damage : (a b : List Record) → AreSpelled a → AreSpelled b → IsDamagedBehind b (spelled a) → ⊥
+no_damage a b h k d =
+    no_row (reverse a) (reverse b) d.rest (AreSpelled-reverse a h) (AreSpelled-reverse b k)
+    (sym (spelled_row a) ∙ d.is ∙ ap (λ l. l ++ d.rest) (spelled_row b)) d.some d.bad
+
+-- a log that was read is not damaged when it is read again
+pub undamaged : {L : Type 0} (g : Ghosts L) (e : Refusal) (records older : List Record) (old new : L) → AreSpelled records → AreSpelled older
+    → g.seen old ≡ spelled older → g.honest new → StopsFor g e records old new → IsNoDamage e
+undamaged g why.NoMemory records older old new are are_older is honest s = tt
+undamaged g why.DiskRead records older old new are are_older is honest s = tt
+undamaged g (why.Damaged (damage.Record lsn)) records older old new are are_older is honest s =
+    no_damage older records are_older are (subst (IsDamagedBehind records) is (s.1 honest))
+undamaged g _ records older old new are are_older is honest s = absurd s

@@ -1,5 +1,5 @@
 -- What a report tells, record by record, and what it is in the end.
-use Rattle.std.proofs.Common.{◌≡◌, ℕ, ◌+◌, Bool, true, false, not, ◌&&◌, ◌||◌, List, [], ◌∷◌, ◌++◌, length, map, refl, sym, ◌∙◌, ap, subst}
+use Rattle.std.proofs.Common.{◌≡◌, ℕ, ◌+◌, Bool, true, false, not, ◌&&◌, ◌||◌, List, [], ◌∷◌, ◌++◌, length, map, refl, sym, ◌∙◌, ap, subst, arith}
 use Rattle.std.proofs.lemmas.List.{append-nil, map-append}
 use Rattle.std.specs.List.Sorted.{IsStrictlySortedBy}
 use Rattle.rq_model.specs.declared.txn.Txn.{Txn}
@@ -57,7 +57,7 @@ next b e o h k m = m ∙ ap (λ x. not e && x) (k ∙ ap (λ x. b || x) (h ∙ a
 pub told_next : (lsn : ℕ) (r : Record) (log : List Record) (a b c new : Reported) → lsn ≡ length log + 1 → new ≡ record c { records = lsn }
     → Tells log [] a → Begins r a b → Ends r b c → Tells (r ∷ log) [] new
 told_next lsn r log a b c new at is h k m = subst (Tells (r ∷ log) []) (sym is) (record {
-  records = at;
+  records = at ∙ (let e : length log + 1 ≡ length (r ∷ log) = omega arith in e);
   unfinished = λ t n. next (writes t n r) (operation_ended t n r) (stands (writes t n) (operation_ended t n) log) (h.unfinished t n) (k.unfinished t n) (m.unfinished t n);
   lost = λ t. next (finishes t r) (ends_txn t r) (stands (finishes t) (ends_txn t) log) (h.lost t) (k.lost t) (m.lost t);
   committed = m.committed ∙ k.committed ∙ ap (λ ts. ts ++ committed_by r) h.committed ∙ sym (commits_more r log);

@@ -2,6 +2,7 @@
 use Rattle.std.specs.Prelude.{◌≡◌, ℕ, ◌+◌, List, [], ◌∷◌, ◌++◌, Option, length}
 use Rattle.std.specs.Io.KnownBytes.{Appends}
 use Rattle.rq_model.specs.declared.record.Record.{Record}
+use Rattle.rq_model.specs.declared.refusal.Refusal.{Refusal}
 use Rattle.rq_model.specs.declared.refusal.Refusal.TheVariants as why
 use Rattle.rq_model.specs.declared.refusal.Damage.TheVariants as damage
 use Rattle.rq_log.specs.Reading.{IsDamagedBehind}
@@ -37,6 +38,11 @@ abbrev pub IfDamaged : Stop → (ℕ → Type 0) → Type 0
 IfDamaged (stops.Refused (why.Damaged (damage.Record lsn))) P = P lsn
 IfDamaged _ P = Unit {0}
 
+-- it is no damage
+abbrev pub IsNoDamage : Refusal → Type 0
+IsNoDamage (why.Damaged d) = ⊥
+IsNoDamage _ = Unit {0}
+
 -- ---- on the way
 
 -- the lines are written, and the report tells the log, read once
@@ -46,6 +52,12 @@ pub record IsListed (bytes : List ℕ) (old new : Option (List ℕ)) (report : R
   pub is : bytes ≡ spelled log
   pub told : Tells log [] report
   pub written : Appends old new (lines log)
+
+-- the report of the log is written
+pub record IsReported (log : List Record) (old new : Option (List ℕ)) : Type 0 where
+  pub report : Reported
+  pub told : IsReport log report
+  pub written : Appends old new (report_text report)
 
 -- a text is written but for its end, which a piece holds
 abbrev pub IsWrittenBut : Option (List ℕ) → Option (List ℕ) → List ℕ → List ℕ → Type 0

@@ -52,9 +52,13 @@ pub record IsReport (log : List Record) (r : Reported) : Type 0 where
   pub lost_rise : IsStrictlySortedBy txn_order r.lost
   pub committed : r.committed ≡ commits log
 
--- how many there are, and each behind a blank
-abbrev pub listed : {X : Type 0} → (X → List ℕ) → List X → List ℕ
-listed text xs = decimal (length xs) ++ flat_map (λ x. codes " " ++ text x) xs ++ codes "\n"
+-- each behind a blank
+abbrev pub each : {X : Type 0} → (X → List ℕ) → List X → List ℕ
+each text xs = flat_map (λ x. codes " " ++ text x) xs
+
+-- a word, how many there are, and each behind a blank
+abbrev pub named : {X : Type 0} → List ℕ → (X → List ℕ) → List X → List ℕ
+named word text xs = word ++ (codes " " ++ (decimal (length xs) ++ (each text xs ++ codes "\n")))
 
 abbrev pub operation_key_text : OperationKey → List ℕ
 operation_key_text k = operation_text (txn_of k.txn) k.number
@@ -65,8 +69,9 @@ txn_key_text k = txn_text (txn_of k)
 -- the lines of a report
 abbrev pub report_text : Reported → List ℕ
 report_text r =
-    codes "records " ++ decimal r.records ++ codes "\n" ++ codes "unfinished " ++ listed operation_key_text r.unfinished
-    ++ codes "lost " ++ listed txn_key_text r.lost ++ codes "committed " ++ listed txn_text r.committed
+    (codes "records " ++ (decimal r.records ++ codes "\n"))
+    ++ (named (codes "unfinished") operation_key_text r.unfinished
+    ++ (named (codes "lost") txn_key_text r.lost ++ named (codes "committed") txn_text r.committed))
 
 -- ---- how it is come to, record by record
 

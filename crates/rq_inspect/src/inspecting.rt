@@ -4,7 +4,7 @@ ghost use Rattle.std.specs.Io.KnownBytes.{Appends};
 ghost use Rattle.rq_model.specs.declared.record.Record.{Record};
 ghost use Rattle.rq_log.specs.Reading.{IsDamagedBehind};
 ghost use Rattle.rq_log.specs.Spelled.{AreSpelled, spelled};
-ghost use Rattle.rq_inspect.specs.Inspections.{IfDamaged, IsCutShort, IsInspected, IsListed, IsWrittenBut, lines};
+ghost use Rattle.rq_inspect.specs.Inspections.{IfDamaged, IsCutShort, IsInspected, IsListed, IsNoDamage, IsReported, IsWrittenBut, lines};
 ghost use Rattle.rq_inspect.specs.Lines.{line_of};
 ghost use Rattle.rq_inspect.specs.Reports.{Tells, report_text};
 
@@ -50,13 +50,9 @@ pub fn inspect<L: LogDevice + Drop, W: Write>(
 {
     let mut report = Report::new(alloc);
     let (log, listed) = list(alloc, log, &mut report, writer);
-    if listed.is_err() {
-        return (log, listed);
-    }
-    let (log, struck) = strike_out(alloc, log, &mut report);
-    match struck {
-        Ok(()) => (log, write_report(alloc, report, writer)),
-        Err(refusal) => (log, Err(Stop::Refused(refusal))),
+    match listed {
+        Ok(()) => report_on(alloc, log, report, writer),
+        Err(stop) => (log, Err(stop)),
     }
 }
 
@@ -78,9 +74,35 @@ fn list<L: LogDevice + Drop, W: Write>(
     match LogReader::new(alloc, log) {
         Ok(mut reader) => {
             let listed = write_lines(alloc, &mut reader, report, writer);
+            reader.shows_read();
             (reader.give_back(), listed)
         }
         Err(stopped) => (stopped.device, Err(Stop::Refused(stopped.refusal))),
+    }
+}
+
+// Writes the report of a log that was read once.
+fn report_on<L: LogDevice + Drop, W: Write>(
+    alloc: Global,
+    log: L,
+    report: Report,
+    writer: &mut W,
+) -> (L, Result<(), Stop>)
+    ensures whole { OnOk result.1 (L.honest result.0 → (older : List Record) → AreSpelled older
+        → L.seen log ≡ spelled older → Tells older [] report
+        → IsReported older (W.contents writer.old) (W.contents writer.new)) }
+    ensures undamaged { IfErr result.1 (λ stop. IfDamaged stop (λ _. L.honest result.0 → (older : List Record)
+        → AreSpelled older → L.seen log ≡ spelled older → ⊥)) }
+    ensures honest { L.honest result.0 → L.honest log }
+{
+    let mut report = report;
+    let (log, struck) = strike_out(alloc, log, &mut report);
+    match struck {
+        Ok(()) => {
+            report.shows_told();
+            (log, write_report(alloc, report, writer))
+        }
+        Err(refusal) => (log, Err(Stop::Refused(refusal))),
     }
 }
 
@@ -92,6 +114,8 @@ fn strike_out<L: LogDevice + Drop>(
 ) -> (L, Result<(), Refusal>)
     ensures whole { OnOk result.1 (L.honest result.0 → (older : List Record) → AreSpelled older
         → L.seen log ≡ spelled older → Tells older [] report.old → Tells older older report.new) }
+    ensures undamaged { IfErr result.1 (λ e. L.honest result.0 → (older : List Record) → AreSpelled older
+        → L.seen log ≡ spelled older → IsNoDamage e) }
     ensures honest { L.honest result.0 → L.honest log }
 {
     if !report.names_any() {
@@ -100,6 +124,7 @@ fn strike_out<L: LogDevice + Drop>(
     match LogReader::new(alloc, log) {
         Ok(mut reader) => {
             let struck = strike_all(&mut reader, report);
+            reader.shows_read();
             (reader.give_back(), struck)
         }
         Err(stopped) => (stopped.device, Err(stopped.refusal)),
@@ -113,13 +138,19 @@ fn strike_all<L: LogDevice>(reader: &mut LogReader<L>, report: &mut Report) -> R
         → Tells older reader.new.records report.new) }
     ensures whole { OnOk result (L.honest reader.new.device
         → L.seen reader.new.first ≡ spelled reader.new.records) }
+    ensures undamaged { IfErr result (λ e. L.honest reader.new.device → (older : List Record) → AreSpelled older
+        → L.seen reader.new.first ≡ spelled older → IsNoDamage e) }
     ensures first { reader.new.first ≡ reader.old.first }
 {
+    reader.shows_read();
     let mut record = Record::Restart { incarnation: 0 };
-    while reader.next_into(&mut record)? {
-        report.strike(&record);
+    loop {
+        match reader.next_into(&mut record) {
+            Ok(true) => report.strike(&record),
+            Ok(false) => return Ok(()),
+            Err(refusal) => return Err(refusal),
+        }
     }
-    Ok(())
 }
 
 // Writes the line of each record that a reader has, and notes the record, to the end of the log. Where it stops before that,
@@ -169,6 +200,7 @@ fn go_through<L: LogDevice, W: Write>(
     ensures spelled { AreSpelled reader.new.records }
     ensures first { reader.new.first ≡ reader.old.first }
 {
+    reader.shows_read();
     let mut record = Record::Restart { incarnation: 0 };
     loop {
         match reader.next_into(&mut record) {
@@ -215,7 +247,8 @@ fn write_full<W: Write>(writer: &mut W, piece: &mut Vec<u8>) -> io::Result<()>
 
 // Writes the report.
 fn write_report<W: Write>(alloc: Global, report: Report, writer: &mut W) -> Result<(), Stop>
-    ensures { OnOk result (Appends (W.contents writer.old) (W.contents writer.new) (report_text report)) }
+    ensures told { OnOk result (Appends (W.contents writer.old) (W.contents writer.new) (report_text report)) }
+    ensures undamaged { IfErr result (λ stop. IfDamaged stop (λ _. ⊥)) }
 {
     let mut text = Vec::new(alloc);
     if report.write(&mut text).is_err() {

@@ -1,6 +1,6 @@
 //! The line of a record.
 ghost use Rattle.std.specs.Prelude.{◌≡◌, ◌++◌, OnOk};
-ghost use Rattle.rq_inspect.specs.Lines.{line_of};
+ghost use Rattle.rq_inspect.specs.Lines.{line_of, record_text};
 
 use crate::keys::{OperationKey, TxnKey};
 use rq_model::record::Record;
@@ -27,6 +27,16 @@ pub fn line(out: &mut Vec<u8>, lsn: Lsn, record: &Record) -> Result<(), NoMemory
 fn write_line(out: &mut Vec<u8>, lsn: Lsn, record: &Record) -> io::Result<()>
     ensures { OnOk result (out.new.items ≡ out.old.items ++ line_of lsn «record».now) }
 {
+    write!(out, "{lsn} ")?;
+    write_record(out, record)?;
+    writeln!(out)
+}
+
+// What the line says of the record.
+#[tactic(auto, using(crate::proofs::Texts::texts))]
+fn write_record(out: &mut Vec<u8>, record: &Record) -> io::Result<()>
+    ensures { OnOk result (out.new.items ≡ out.old.items ++ record_text «record».now) }
+{
     match record {
         Record::PageOp {
             txn,
@@ -36,7 +46,7 @@ fn write_line(out: &mut Vec<u8>, lsn: Lsn, record: &Record) -> io::Result<()>
             ..
         } => {
             let by = OperationKey::of(*txn, *operation);
-            writeln!(out, "{lsn} page-op {by} {page}:{slot}")
+            write!(out, "page-op {by} {page}:{slot}")
         }
         Record::PageUndo {
             txn,
@@ -47,7 +57,7 @@ fn write_line(out: &mut Vec<u8>, lsn: Lsn, record: &Record) -> io::Result<()>
             ..
         } => {
             let by = OperationKey::of(*txn, *operation);
-            writeln!(out, "{lsn} page-undo {by} {page}:{slot} of {undone}")
+            write!(out, "page-undo {by} {page}:{slot} of {undone}")
         }
         Record::OpEnd {
             txn,
@@ -57,11 +67,11 @@ fn write_line(out: &mut Vec<u8>, lsn: Lsn, record: &Record) -> io::Result<()>
         } => {
             let by = OperationKey::of(*txn, *operation);
             let bytes = deed.as_slice().len();
-            writeln!(out, "{lsn} op-end {by} level {level} deed {bytes} bytes")
+            write!(out, "op-end {by} level {level} deed {bytes} bytes")
         }
         Record::OpVoid { txn, operation } => {
             let by = OperationKey::of(*txn, *operation);
-            writeln!(out, "{lsn} op-void {by}")
+            write!(out, "op-void {by}")
         }
         Record::CompEnd {
             txn,
@@ -69,16 +79,16 @@ fn write_line(out: &mut Vec<u8>, lsn: Lsn, record: &Record) -> io::Result<()>
             undone,
         } => {
             let by = OperationKey::of(*txn, *operation);
-            writeln!(out, "{lsn} comp-end {by} of {undone}")
+            write!(out, "comp-end {by} of {undone}")
         }
         Record::Commit { txn } => {
             let txn = TxnKey::of(*txn);
-            writeln!(out, "{lsn} commit {txn}")
+            write!(out, "commit {txn}")
         }
-        Record::Restart { incarnation } => writeln!(out, "{lsn} restart {incarnation}"),
+        Record::Restart { incarnation } => write!(out, "restart {incarnation}"),
         Record::AbortEnd { txn } => {
             let txn = TxnKey::of(*txn);
-            writeln!(out, "{lsn} abort-end {txn}")
+            write!(out, "abort-end {txn}")
         }
     }
 }

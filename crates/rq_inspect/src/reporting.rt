@@ -1,12 +1,12 @@
 //! What the records of a log come to.
-ghost use Rattle.std.specs.Prelude.{◌≡◌, ◌+◌, ◌++◌, ◌||◌, ◌&&◌, not, false, ℕ, List, [], ◌∷◌, OnOk, OnErr, codes, flat_map, length};
+ghost use Rattle.std.specs.Prelude.{◌≡◌, ◌+◌, ◌++◌, ◌||◌, ◌&&◌, not, false, ℕ, List, [], ◌∷◌, OnOk, OnErr, codes, length};
 ghost use Rattle.std.specs.List.Sorted.{IsStrictlySortedBy};
 ghost use Rattle.rq_model.specs.declared.txn.Txn.{Txn};
 ghost use Rattle.rq_model.specs.declared.record.Record.{Record};
 ghost use Rattle.rq_model.specs.Words.{same_txn};
 ghost use Rattle.rq_inspect.specs.Keys.{is_operation, names_operation, names_txn, operation_order, txn_of, txn_order};
 ghost use Rattle.rq_inspect.specs.Lines.{txn_text};
-ghost use Rattle.rq_inspect.specs.Reports.{Begins, Ends, IsReport, Tells, listed, operation_key_text, report_text, txn_key_text};
+ghost use Rattle.rq_inspect.specs.Reports.{Begins, Ends, IsReport, Tells, each, named, operation_key_text, report_text, txn_key_text};
 
 use crate::keys::{OperationKey, TxnKey};
 use rq_model::record::Record;
@@ -108,7 +108,6 @@ impl Report {
         }
     }
 
-    #[tactic(auto, using(crate::proofs::Texts::texts))]
     fn print(self, out: &mut Vec<u8>) -> io::Result<()>
         ensures { OnOk result (out.new.items ≡ out.old.items ++ report_text self) }
     {
@@ -205,42 +204,62 @@ fn remove_txn(txns: &mut BTreeSet<TxnKey>, removed: TxnKey)
 
 // The lines of a report but the first.
 
-#[tactic(auto, using(crate::proofs::Texts::texts))]
 fn print_unfinished(out: &mut Vec<u8>, operations: BTreeSet<OperationKey>) -> io::Result<()>
     ensures { OnOk result (out.new.items
-        ≡ out.old.items ++ (codes "unfinished " ++ listed operation_key_text operations.keys)) }
+        ≡ out.old.items ++ named (codes "unfinished") operation_key_text operations.keys) }
 {
     let count = operations.len();
     write!(out, "unfinished {count}")?;
+    print_operations(out, operations)?;
+    writeln!(out)
+}
+
+fn print_lost(out: &mut Vec<u8>, txns: BTreeSet<TxnKey>) -> io::Result<()>
+    ensures { OnOk result (out.new.items ≡ out.old.items ++ named (codes "lost") txn_key_text txns.keys) }
+{
+    let count = txns.len();
+    write!(out, "lost {count}")?;
+    print_txn_keys(out, txns)?;
+    writeln!(out)
+}
+
+fn print_committed(out: &mut Vec<u8>, txns: &[Txn]) -> io::Result<()>
+    ensures { OnOk result (out.new.items ≡ out.old.items ++ named (codes "committed") txn_text txns.now) }
+{
+    let count = txns.len();
+    write!(out, "committed {count}")?;
+    print_txns(out, txns)?;
+    writeln!(out)
+}
+
+// Each behind a blank.
+
+fn print_operations(out: &mut Vec<u8>, operations: BTreeSet<OperationKey>) -> io::Result<()>
+    ensures { OnOk result (out.new.items ≡ out.old.items ++ each operation_key_text operations.keys) }
+{
     let mut left = operations;
     while let Some(operation) = left.pop_first() {
         write!(out, " {operation}")?;
     }
-    writeln!(out)
+    Ok(())
 }
 
-#[tactic(auto, using(crate::proofs::Texts::texts))]
-fn print_lost(out: &mut Vec<u8>, txns: BTreeSet<TxnKey>) -> io::Result<()>
-    ensures { OnOk result (out.new.items ≡ out.old.items ++ (codes "lost " ++ listed txn_key_text txns.keys)) }
+fn print_txn_keys(out: &mut Vec<u8>, txns: BTreeSet<TxnKey>) -> io::Result<()>
+    ensures { OnOk result (out.new.items ≡ out.old.items ++ each txn_key_text txns.keys) }
 {
-    let count = txns.len();
-    write!(out, "lost {count}")?;
     let mut left = txns;
     while let Some(txn) = left.pop_first() {
         write!(out, " {txn}")?;
     }
-    writeln!(out)
+    Ok(())
 }
 
-#[tactic(auto, using(crate::proofs::Texts::texts))]
-fn print_committed(out: &mut Vec<u8>, txns: &[Txn]) -> io::Result<()>
-    ensures { OnOk result (out.new.items ≡ out.old.items ++ (codes "committed " ++ listed txn_text txns.now)) }
+fn print_txns(out: &mut Vec<u8>, txns: &[Txn]) -> io::Result<()>
+    ensures { OnOk result (out.new.items ≡ out.old.items ++ each txn_text txns.now) }
 {
-    let count = txns.len();
-    write!(out, "committed {count}")?;
     for txn in txns {
         let txn = TxnKey::of(*txn);
         write!(out, " {txn}")?;
     }
-    writeln!(out)
+    Ok(())
 }

@@ -120,7 +120,9 @@ fn format_command<'a>(alloc: Global) -> Result<Command<'a>, AllocError> {
 
 fn inspect_command<'a>(alloc: Global) -> Result<Command<'a>, AllocError> {
     Command::new(alloc, "inspect")
-        .about("Prints what the log of a store in files holds, record by record, and changes nothing")
+        .about(
+            "Prints what the log of a store in files holds, record by record, and changes nothing",
+        )
         .arg(named_folder(alloc, "Where the store is"))
 }
 
