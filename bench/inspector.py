@@ -1,7 +1,7 @@
 #!/usr/bin/env python3
 """Times `rqm inspect` of a log of 64 MB into a file against `cat` of the same log into a file. Both run by turns, with the log in
-memory; the aim is a fifth of the speed of `cat`, in the middle of the runs. Two logs: one of a store that ended well, which is read
-once, and the same cut before its last commits, which is read twice.
+memory; the aim is a fifth of the speed of `cat`, in the middle of the runs. Two logs: one whose transactions have all ended, which
+is read once, and the same without its last record, a Commit, which is read twice.
 
     python3 bench/inspector.py [--program PROGRAM] [--inspector PROGRAM] [--folder FOLDER] [--runs 11]
 """
@@ -17,7 +17,6 @@ from program import TOP, built, parser
 AIM = 5.0
 # directory pages, cell pages, messages
 STORE = (4, 64, 24_600)
-CUT = 1000  # so many bytes of the log are cut away, for the second
 
 
 def seconds_of(command, output, status=0):
@@ -57,8 +56,8 @@ def main():
         with open(os.path.join(whole, "log"), "rb") as file:
             log = file.read()
         with open(os.path.join(cut, "log"), "wb") as file:
-            file.write(log[: whole_records(log, len(log) - CUT)])
-        for name, folder in (("ended well", whole), ("cut", cut)):
+            file.write(log[: whole_records(log, len(log) - 1)])
+        for name, folder in (("all ended", whole), ("one lost", cut)):
             path, output = os.path.join(folder, "log"), os.path.join(top, "output")
             mine, cat = [], []
             for _ in range(words.runs):
