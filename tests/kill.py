@@ -124,12 +124,13 @@ class Kills:
             server.kill()
 
     def started(self):
+        words = "--workers", self.random.choice((1, 3))
         try:
-            return Server(self.program, self.folder)
+            return Server(self.program, self.folder, *words)
         except NotStarted as refused:
             assert refused.line == DAMAGED and cut_torn_end(self.folder), refused
             self.torn += 1
-            return Server(self.program, self.folder)
+            return Server(self.program, self.folder, *words)
 
     def round(self):
         if self.random.random() < 0.2:

@@ -494,14 +494,15 @@ def in_threads(works):
 def sessions(program, chosen):
     """Random sessions of 64 connections, half of whose transactions break off: what the store then holds, with what was received
     and committed, is what was sent and committed, each sender's in order and once."""
-    with store(program, 5, 20) as folder, serving(program, folder) as server:
-        clients = [Client(server, number, chosen.seed) for number in range(64)]
-        in_threads([lambda client=client: client.run(20) for client in clients])
-        with server.connect() as connection:
-            tags = [connection.last_tag(client.number) for client in clients]
-            held = everything(connection)
-        assert sum(client.broken for client in clients) > 200
-        compare(clients, tags, held)
+    for workers in (1, 4):
+        with store(program, 5, 20) as folder, serving(program, folder, "--workers", workers) as server:
+            clients = [Client(server, number, chosen.seed) for number in range(64)]
+            in_threads([lambda client=client: client.run(20) for client in clients])
+            with server.connect() as connection:
+                tags = [connection.last_tag(client.number) for client in clients]
+                held = everything(connection)
+            assert sum(client.broken for client in clients) > 200
+            compare(clients, tags, held)
 
 
 def compare(clients, tags, held):
