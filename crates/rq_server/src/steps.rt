@@ -53,7 +53,7 @@ impl<'a, P: PageDevice + Drop, L: LogDevice + Drop, B: Level, G: Sharing, R: Wai
 
     ghost forced = { λ s. s.inner.forced.value };
 
-    ghost told = { λ s. s.inner.keep.handed.value };
+    ghost told = { λ s. s.inner.sink.handed.value };
 
     ghost lacked = { λ s. length s.inner.lacked.value };
 
