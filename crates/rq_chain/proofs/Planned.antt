@@ -153,6 +153,6 @@ no_tail z given s n at d at_is h none can =
     none can.cell (subst (λ (a : ℕ). GivenHolds z given a (Used can.cell)) (sym (at_is ∙ ap (λ (y : Directory). y.tail) f)) can.tail_is)
 
 pub close_undone : (z : Sizes) (k : LevelState) (given : List Given) (latched : List ℕ) (s : ℕ) (r : Result Plan Refusal) → IfOk r (λ p. (k : LevelState) → IsReopened z k given s p k)
-    → IfErr r (λ e. RefusesOther (CanMark z given s false) e) → Undoes (Some z) (Some (Close s)) k given latched r k
+    → IfErr r (λ e. RefusesOther s (CanMark z given s false) e) → Undoes (Some z) (Some (Close s)) k given latched r k
 close_undone z k given latched s (Ok p) ok err = ok k
 close_undone z k given latched s (Err e) ok err = (err, refl)

@@ -152,10 +152,10 @@ impl ChainLevel {
     ) -> Result<Plan, Refusal>
         requires { AreGiven layout.now given.now }
         ensures ok { IfOk result (λ p. IsSent layout.now self.old given.now latched.now.pages sender tag body p self.new) }
-        ensures err { IfErr result (λ r. RefusesTaking layout.now self.old latched.now.pages (CanSend layout.now given.now sender) r) }
+        ensures err { IfErr result (λ r. RefusesTaking layout.now self.old latched.now.pages sender (CanSend layout.now given.now sender) r) }
         ensures kept { OnErr result (self.new ≡ self.old) }
     {
-        let damaged = Refusal::Damaged(Damage::Page(1));
+        let damaged = Refusal::Damaged(Damage::Page(1 + sender / SLOTS));
         if sender >= layout.senders() {
             return Err(damaged);
         }
@@ -169,7 +169,7 @@ impl ChainLevel {
             return Err(damaged);
         };
         let Some(free) = self.lowest(layout, latched) else {
-            return Err(self.no_cell(layout));
+            return Err(self.no_cell(layout, sender));
         };
         let Ok(ChainPlan { writes, deed }) = append(alloc, layout, &group, tail, free, tag, body)
         else {
@@ -193,9 +193,9 @@ impl ChainLevel {
     ) -> Result<Plan, Refusal>
         requires { AreGiven layout.now given.now }
         ensures ok { IfOk result (λ p. IsReceived layout.now self.now given.now sender p self.now) }
-        ensures err { IfErr result (λ r. RefusesOther (CanReceive layout.now given.now sender) r) }
+        ensures err { IfErr result (λ r. RefusesOther sender (CanReceive layout.now given.now sender) r) }
     {
-        let damaged = Refusal::Damaged(Damage::Page(1));
+        let damaged = Refusal::Damaged(Damage::Page(1 + sender / SLOTS));
         if sender >= layout.senders() {
             return Err(damaged);
         }
@@ -231,7 +231,7 @@ impl ChainLevel {
     ) -> Result<Plan, Refusal>
         requires { AreGiven layout.now given.now }
         ensures ok { IfOk result (λ p. IsClosed layout.now self.now given.now sender p self.now) }
-        ensures err { IfErr result (λ r. RefusesOther (CanMark layout.now given.now sender true) r) }
+        ensures err { IfErr result (λ r. RefusesOther sender (CanMark layout.now given.now sender true) r) }
     {
         let writes = closed_writes(alloc, layout, given, sender, true)?;
         Ok(Plan {
@@ -287,11 +287,11 @@ impl ChainLevel {
         requires { AreGiven layout.now given.now }
         ensures ok { IfOk result (λ p. IsReturned layout.now self.old given.now latched.now.pages sender sequence tag
             body p self.new) }
-        ensures err { IfErr result (λ r. RefusesTaking layout.now self.old latched.now.pages
+        ensures err { IfErr result (λ r. RefusesTaking layout.now self.old latched.now.pages sender
             (CanPutBack layout.now given.now sender sequence) r) }
         ensures kept { OnErr result (self.new ≡ self.old) }
     {
-        let damaged = Refusal::Damaged(Damage::Page(1));
+        let damaged = Refusal::Damaged(Damage::Page(1 + sender / SLOTS));
         if sender >= layout.senders() {
             return Err(damaged);
         }
@@ -305,7 +305,7 @@ impl ChainLevel {
             return Err(damaged);
         };
         let Some(free) = self.lowest(layout, latched) else {
-            return Err(self.no_cell(layout));
+            return Err(self.no_cell(layout, sender));
         };
         let Ok(writes) = put_back(alloc, layout, &group, head, free, tag, body) else {
             return Err(Refusal::NoMemory);
@@ -314,14 +314,14 @@ impl ChainLevel {
         Ok(inverse(writes))
     }
 
-    // Why no cell may be taken, where none may.
-    fn no_cell(&self, layout: &Layout) -> Refusal
-        ensures { NoCell layout.now self.now result }
+    // Why no cell may be taken for a sender, where none may.
+    fn no_cell(&self, layout: &Layout, sender: u32) -> Refusal
+        ensures { NoCell layout.now self.now sender result }
     {
         if self.has_free(layout) {
             Refusal::Latched
         } else {
-            Refusal::Damaged(Damage::Page(1))
+            Refusal::Damaged(Damage::Page(1 + sender / SLOTS))
         }
     }
 }
@@ -408,9 +408,9 @@ fn closed_writes(
 ) -> Result<Vec<SlotWrite>, Refusal>
     requires { AreGiven layout.now given.now }
     ensures ok { IfOk result (λ writes. (p : Plan) → p.writes ≡ writes → IsMarked layout.now given.now sender closed p) }
-    ensures err { IfErr result (λ r. RefusesOther (CanMark layout.now given.now sender closed) r) }
+    ensures err { IfErr result (λ r. RefusesOther sender (CanMark layout.now given.now sender closed) r) }
 {
-    let damaged = Refusal::Damaged(Damage::Page(1));
+    let damaged = Refusal::Damaged(Damage::Page(1 + sender / SLOTS));
     if sender >= layout.senders() {
         return Err(damaged);
     }
@@ -430,7 +430,7 @@ fn closed_writes(
 fn reopened(alloc: Global, layout: &Layout, given: &Slots, sender: u32) -> Result<Plan, Refusal>
     requires { AreGiven layout.now given.now }
     ensures ok { IfOk result (λ p. (k : LevelState) → IsReopened layout.now k given.now sender p k) }
-    ensures err { IfErr result (λ r. RefusesOther (CanMark layout.now given.now sender false) r) }
+    ensures err { IfErr result (λ r. RefusesOther sender (CanMark layout.now given.now sender false) r) }
 {
     let writes = closed_writes(alloc, layout, given, sender, false)?;
     Ok(inverse(writes))
@@ -447,9 +447,9 @@ fn unlinked_tail(
 ) -> Result<Plan, Refusal>
     requires { AreGiven layout.now given.now }
     ensures ok { IfOk result (λ p. (k : LevelState) → IsTailUnlinked layout.now k given.now sender sequence previous p k) }
-    ensures err { IfErr result (λ r. RefusesOther (CanUnlinkTail layout.now given.now sender sequence) r) }
+    ensures err { IfErr result (λ r. RefusesOther sender (CanUnlinkTail layout.now given.now sender sequence) r) }
 {
-    let damaged = Refusal::Damaged(Damage::Page(1));
+    let damaged = Refusal::Damaged(Damage::Page(1 + sender / SLOTS));
     if sender >= layout.senders() {
         return Err(damaged);
     }

@@ -1,18 +1,20 @@
 -- The slots that a whole log leaves, with nothing under way, have whole chains.
-use Rattle.std.proofs.Common.{◌≡◌, ℕ, ◌<◌, ◌≤◌, ◌⊎◌, inl, inr, List, [], length, true, false, sym, ◌∙◌, ap, subst, arith}
+use Rattle.std.proofs.Common.{◌≡◌, ℕ, ◌<◌, ◌≤◌, ◌⊎◌, inl, inr, List, [], length, true, false, refl, sym, ◌∙◌, ap, subst, Option, Some, None, arith}
 use Rattle.std.specs.List.{sum_by}
-use Rattle.std.proofs.lemmas.Bool.{cases_lt, false≢true}
+use Rattle.std.proofs.lemmas.Bool.{cases_lt, false≢true, true≢false}
 use Rattle.std.proofs.lemmas.List.{length-map}
 use Rattle.rq_model.specs.declared.record.Record.{Record}
 use Rattle.rq_model.specs.declared.txn.Sub.{Sub}
+use Rattle.rq_model.specs.declared.txn.Txn.{Txn}
 use Rattle.rq_model.specs.Tests.{below}
+use Rattle.rq_model.specs.Vocabulary.{In, is_some}
 use Rattle.rq_model.proofs.Counts.{sum_same}
 use Rattle.rq_page.specs.Sizes.{Sizes, IsCellAddress, sender_count}
 use Rattle.rq_page.specs.Slots.{Slot}
 use Rattle.rq_page.specs.Slots.Slot.{Free, Used, Sender}
 use Rattle.rq_views.specs.Chain.{View, Node, message}
 use Rattle.rq_views.specs.InStore.{InStore, IsInPlace}
-use Rattle.rq_views.specs.Items.{items, layout_of}
+use Rattle.rq_views.specs.Items.{items, layout_of, operation}
 use Rattle.rq_views.specs.Legal.{IsLegalLog, under_way, view}
 use Rattle.rq_views.specs.Log.{Slots}
 use Rattle.rq_views.specs.Plans.{ShowsAt, Spares}
@@ -21,8 +23,13 @@ use Rattle.rq_views.proofs.Counting.{quiet_counts}
 use Rattle.rq_views.proofs.Idle.{idle_quiet, idle_writes}
 use Rattle.rq_views.proofs.Stands.{slots_stand, store_is_layout}
 use Rattle.rq_views.proofs.Views.{views}
+use Rattle.rq_txn.specs.Rows.{Row, Under, any_under, found_row}
 use Rattle.rq_store.specs.Fitting.{left_by}
+use Rattle.rq_store.specs.Rows.{is_under}
+use Rattle.rq_store.specs.State.{State}
 use Rattle.rq_store.proofs.Opening.{idle_log}
+use Rattle.rq_store.proofs.RowLists.{found_in, none_under}
+use Rattle.rq_sound.specs.Sound.{IsSound}
 use Rattle.rq_chain_check.specs.Links.{AreLinked, IsChain}
 use Rattle.rq_chain_check.specs.Theorems.{SoundStoresAreLinked}
 use Rattle.rq_chain_check.proofs.Chains.{chains_of}
@@ -89,8 +96,26 @@ module _ (z : Sizes) (log : List Record) (legal : IsLegalLog (layout_of z) (item
   pub idle_linked : (q : Slots) → ((a : ℕ) → q a ≡ slots a) → AreLinked z q
   idle_linked q same = let e : q ≡ slots = λ i. λ a. same a i in subst (AreLinked z) (sym e) slots_linked
 
+not_under : (n : ℕ) (u : Option Under) → is_some u ≡ false → is_under n u ≡ false
+not_under n None e = refl
+not_under n (Some u) e = absurd (true≢false e)
+
+-- in the log of a sound store no operation is under way that no row has
+module _ (s : State) (k : IsSound s) (none : any_under s.rows ≡ false) where
+  of_row : (o : Sub) (r : Row) → In r s.rows → r.txn ≡ o.txn → under_way o (items s.sizes s.records) ≡ false
+  of_row o r i e =
+      ap (λ (t : Txn). under_way (operation t o.number) (items s.sizes s.records)) (sym e)
+      ∙ (k.standing.each r i).idle o.number (not_under o.number r.under (none_under s.rows r none i))
+
+  rows_idle : (o : Sub) → under_way o (items s.sizes s.records) ≡ false
+  rows_idle o = at (found_row o.txn s.rows) refl where
+    at : (w : Option Row) → found_row o.txn s.rows ≡ w → under_way o (items s.sizes s.records) ≡ false
+    at None f = (k.standing.others o.txn f).idle o.number
+    at (Some r) f = let i = found_in o.txn s.rows r f in of_row o r i.0 i.1
+
 pub sound_linked : SoundStoresAreLinked
 sound_linked = record {
   left = λ z q log w none same. idle_linked z log w.legal w.in_store (idle_log z log w.legal none) q same;
   open_store = λ z images log s. idle_linked z log s.log.legal.1 s.log.in_store.1 s.log.legal.0.idle (slots_in z images) s.pages;
+  idle = λ s k none. idle_linked s.sizes s.records k.log.legal k.log.in_store (rows_idle s k none) (slots_in s.sizes s.images) k.pages;
 }

@@ -210,7 +210,7 @@ pub fn faults_are_exact()
     ensures { FaultsAreExact }
 {}
 
-/// The chains of a sound store are whole.
+/// The chains of a sound store are whole while no operation is under way.
 pub fn sound_stores_are_linked()
     ensures { SoundStoresAreLinked }
 {}

@@ -1,9 +1,9 @@
 -- One call more of a file of a log.
 use Rattle.std.proofs.Common.{◌≡◌, ℕ, ◌+◌, ◌-◌, ◌==◌, ◌&&◌, Bool, true, false, min, List, [], ◌∷◌, length, sym, ◌∙◌, ap, subst, arith, length-append}
 use Rattle.std.proofs.lemmas.Bool.Decides.{nat_tests}
-use Rattle.rq_disk.specs.Device.{Appended, Elapses}
+use Rattle.rq_disk.specs.Device.{Appended, Elapses, Stays}
 use Rattle.rq_disk.specs.FileCalls.{FileCall, has_failed, after_sync}
-use Rattle.rq_disk.specs.FileCalls.FileCall.{Gave, Took, Tried, Synced, Missed}
+use Rattle.rq_disk.specs.FileCalls.FileCall.{Gave, Denied, Took, Tried, Synced, Missed}
 use Rattle.rq_disk.specs.LogFile.{log_bytes, log_may_leave, grown, writes_at_end, LogAgrees, LogLeftSince, log_all}
 use Rattle.rq_disk.proofs.SinceCalls.{goes_on}
 
@@ -11,6 +11,7 @@ use Rattle.rq_disk.proofs.SinceCalls.{goes_on}
 was_so_long : (held : List ℕ) (first : ℕ) (calls : List FileCall) → LogAgrees held first calls → length held ≡ first
 was_so_long held first [] agree = agree
 was_so_long held first (Gave at bytes ∷ calls) agree = was_so_long held first calls agree.1
+was_so_long held first (Denied at ∷ calls) agree = was_so_long held first calls agree
 was_so_long held first (Took at bytes ∷ calls) agree = was_so_long held first calls agree
 was_so_long held first (Tried at bytes ∷ calls) agree = was_so_long held first calls agree
 was_so_long held first (Synced ∷ calls) agree = was_so_long held first calls agree
@@ -20,6 +21,7 @@ was_so_long held first (Missed ∷ calls) agree = was_so_long held first calls a
 has_grown : (held : List ℕ) (calls : List FileCall) → length (log_bytes held calls) ≡ length held + grown calls
 has_grown held [] = omega arith
 has_grown held (Gave at bytes ∷ calls) = has_grown held calls
+has_grown held (Denied at ∷ calls) = has_grown held calls
 has_grown held (Took at bytes ∷ calls) = omega (arith, length-append (log_bytes held calls) bytes, has_grown held calls)
 has_grown held (Tried at bytes ∷ calls) = has_grown held calls
 has_grown held (Synced ∷ calls) = has_grown held calls
@@ -37,6 +39,15 @@ module _ (calls later : List FileCall) (at : ℕ) (bytes : List ℕ) where
 module _ (held : List ℕ) (calls later : List FileCall) where
   pub log_time : (call : FileCall) → later ≡ call ∷ calls → Elapses (length calls) (length later) (LogLeftSince held calls) (LogLeftSince held later) (log_may_leave held later)
   log_time call is = goes_on (log_may_leave held) calls later call is
+
+  -- a read that failed changes nothing
+  pub denied_stays : (at : ℕ) → later ≡ Denied at ∷ calls
+      → Stays (log_bytes held calls) (log_bytes held later) (log_may_leave held calls) (log_may_leave held later)
+  denied_stays at is = record {
+    reads = ap (log_bytes held) is;
+    left = λ c may. subst (λ (cs : List FileCall). log_may_leave held cs c) is may;
+    still_left = λ c may. subst (λ (cs : List FileCall). log_may_leave held cs c) (sym is) may;
+  }
 
   module _ (at : ℕ) (bytes : List ℕ) where
     -- as many as there were

@@ -1,9 +1,11 @@
 -- The calls of a file.
-use Rattle.std.specs.Prelude.{ℕ, List, [], ◌∷◌, Bool, true, false}
+use Rattle.std.specs.Prelude.{◌≡◌, ◌⊎◌, ℕ, List, [], ◌∷◌, Bool, true, false}
 
 pub data FileCall : Type 0 where
   -- it gave these bytes from a place on
   Gave : (at : ℕ) (bytes : List ℕ) → FileCall
+  -- it was to give bytes from there on, and failed
+  Denied : (at : ℕ) → FileCall
   -- it wrote these bytes to a place and what follows it
   Took : (at : ℕ) (bytes : List ℕ) → FileCall
   -- it was to write these bytes there, and failed: any of them may have been written
@@ -17,10 +19,16 @@ pub data FileCall : Type 0 where
 abbrev pub has_failed : List FileCall → Bool
 has_failed [] = false
 has_failed (FileCall.Gave at bytes ∷ calls) = has_failed calls
+has_failed (FileCall.Denied at ∷ calls) = has_failed calls
 has_failed (FileCall.Took at bytes ∷ calls) = has_failed calls
 has_failed (FileCall.Tried at bytes ∷ calls) = true
 has_failed (FileCall.Synced ∷ calls) = has_failed calls
 has_failed (FileCall.Missed ∷ calls) = true
+
+-- Why a device that made these calls of a file may err: a write or a sync has failed, or the newest call is a read that
+-- did.
+abbrev pub HasErred : (old new : List FileCall) → Type 0
+HasErred old new = (has_failed new ≡ true) ⊎ ((at : ℕ) × (new ≡ FileCall.Denied at ∷ old))
 
 -- A sync leaves what is there now and nothing else; not so where a write or a sync had failed before it: what was to be
 -- written may be lost then, though this one was made, and all may be left that might have been.

@@ -2,13 +2,14 @@
 use Rattle.std.specs.Prelude.{◌≡◌, ◌⊎◌, ℕ, ◌+◌, ◌≤◌, ◌==◌, List, [], ◌∷◌, ◌++◌, length, take, drop, refl, Bool, true, ◌&&◌}
 use Rattle.std.proofs.Common.{inl, inr, sym, ap, arith}
 use Rattle.rq_disk.specs.FileCalls.{FileCall, has_failed, after_sync, after_sync_now}
-use Rattle.rq_disk.specs.FileCalls.FileCall.{Gave, Took, Tried, Synced, Missed}
+use Rattle.rq_disk.specs.FileCalls.FileCall.{Gave, Denied, Took, Tried, Synced, Missed}
 use Rattle.rq_disk.specs.Records.{first_records, front_all}
 
 -- what it held at first, and what was appended
 abbrev pub log_bytes : List ℕ → List FileCall → List ℕ
 log_bytes held [] = held
 log_bytes held (Gave at bytes ∷ calls) = log_bytes held calls
+log_bytes held (Denied at ∷ calls) = log_bytes held calls
 log_bytes held (Took at bytes ∷ calls) = log_bytes held calls ++ bytes
 log_bytes held (Tried at bytes ∷ calls) = log_bytes held calls
 log_bytes held (Synced ∷ calls) = log_bytes held calls
@@ -19,6 +20,7 @@ log_bytes held (Missed ∷ calls) = log_bytes held calls
 abbrev pub log_may_leave : List ℕ → List FileCall → List ℕ → Type 0
 log_may_leave held [] c = c ≡ held
 log_may_leave held (Gave at bytes ∷ calls) c = log_may_leave held calls c
+log_may_leave held (Denied at ∷ calls) c = log_may_leave held calls c
 log_may_leave held (Took at bytes ∷ calls) c =
     log_may_leave held calls c ⊎ ((k : ℕ) × (c ≡ log_bytes held calls ++ first_records k bytes))
 log_may_leave held (Tried at bytes ∷ calls) c =
@@ -31,6 +33,7 @@ log_may_leave held (Missed ∷ calls) c = log_may_leave held calls c
 abbrev pub grown : List FileCall → ℕ
 grown [] = 0
 grown (Gave at bytes ∷ calls) = grown calls
+grown (Denied at ∷ calls) = grown calls
 grown (Took at bytes ∷ calls) = grown calls + length bytes
 grown (Tried at bytes ∷ calls) = grown calls
 grown (Synced ∷ calls) = grown calls
@@ -40,6 +43,7 @@ grown (Missed ∷ calls) = grown calls
 abbrev pub writes_at_end : ℕ → List FileCall → Bool
 writes_at_end first [] = true
 writes_at_end first (Gave at bytes ∷ calls) = writes_at_end first calls
+writes_at_end first (Denied at ∷ calls) = writes_at_end first calls
 writes_at_end first (Took at bytes ∷ calls) = (at == first + grown calls) && writes_at_end first calls
 writes_at_end first (Tried at bytes ∷ calls) = (at == first + grown calls) && writes_at_end first calls
 writes_at_end first (Synced ∷ calls) = writes_at_end first calls
@@ -50,6 +54,7 @@ abbrev pub LogAgrees : List ℕ → ℕ → List FileCall → Type 0
 LogAgrees held first [] = length held ≡ first
 LogAgrees held first (Gave at bytes ∷ calls) =
     (bytes ≡ take (length bytes) (drop at (log_bytes held calls))) × LogAgrees held first calls
+LogAgrees held first (Denied at ∷ calls) = LogAgrees held first calls
 LogAgrees held first (Took at bytes ∷ calls) = LogAgrees held first calls
 LogAgrees held first (Tried at bytes ∷ calls) = LogAgrees held first calls
 LogAgrees held first (Synced ∷ calls) = LogAgrees held first calls
@@ -63,6 +68,7 @@ LogLeftSince held calls t c = (k : ℕ) × (k + t ≤ length calls) × log_may_l
 pub log_all : (held : List ℕ) (calls : List FileCall) → log_may_leave held calls (log_bytes held calls)
 log_all held [] = refl
 log_all held (Gave at bytes ∷ calls) = log_all held calls
+log_all held (Denied at ∷ calls) = log_all held calls
 log_all held (Took at bytes ∷ calls) =
     let whole = front_all (length bytes) bytes (omega arith) in
     inr (length bytes, ap (λ (l : List ℕ). log_bytes held calls ++ l) (sym whole))

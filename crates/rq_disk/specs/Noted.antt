@@ -5,6 +5,7 @@ use Rattle.rq_disk.specs.declared.noted.Note.TheVariants as notes
 
 abbrev pub call_of : Note → FileCall
 call_of (notes.Gave at bytes) = FileCall.Gave at bytes.value
+call_of (notes.Denied at) = FileCall.Denied at
 call_of (notes.Took at bytes) = FileCall.Took at bytes.value
 call_of (notes.Tried at bytes) = FileCall.Tried at bytes.value
 call_of notes.Synced = FileCall.Synced

@@ -4,7 +4,7 @@ use Rattle.std.proofs.Common.{inl, inr, sym, subst}
 use Rattle.std.proofs.lemmas.Bool.{cases_eq}
 use Rattle.rq_disk.specs.Device.{Images, Leaves}
 use Rattle.rq_disk.specs.FileCalls.{FileCall, has_failed, after_sync, after_sync_now}
-use Rattle.rq_disk.specs.FileCalls.FileCall.{Gave, Took, Tried, Synced, Missed}
+use Rattle.rq_disk.specs.FileCalls.FileCall.{Gave, Denied, Took, Tried, Synced, Missed}
 use Rattle.rq_disk.specs.Memory.{if_yes, if_no}
 
 -- The page that begins at a place. A place where none begins counts as a page that no device has.
@@ -15,10 +15,11 @@ page_at at = if at % 4096 == 0 then at / 4096 else 2 ^ 64
 abbrev pub is_page : ℕ → List ℕ → Bool
 is_page at bytes = (at % 4096 == 0) && (length bytes == 4096)
 
--- each read and each write was of one page, a write that failed too
+-- each read and each write was of one page, one that failed too
 abbrev pub are_whole : List FileCall → Bool
 are_whole [] = true
 are_whole (Gave at bytes ∷ calls) = is_page at bytes && are_whole calls
+are_whole (Denied at ∷ calls) = (at % 4096 == 0) && are_whole calls
 are_whole (Took at bytes ∷ calls) = is_page at bytes && are_whole calls
 are_whole (Tried at bytes ∷ calls) = is_page at bytes && are_whole calls
 are_whole (Synced ∷ calls) = are_whole calls
@@ -28,6 +29,7 @@ are_whole (Missed ∷ calls) = are_whole calls
 abbrev pub images_now : Images → List FileCall → Images
 images_now held [] = held
 images_now held (Gave at bytes ∷ calls) = images_now held calls
+images_now held (Denied at ∷ calls) = images_now held calls
 images_now held (Took at bytes ∷ calls) = λ p. if p == page_at at then bytes else images_now held calls p
 images_now held (Tried at bytes ∷ calls) = images_now held calls
 images_now held (Synced ∷ calls) = images_now held calls
@@ -38,6 +40,7 @@ images_now held (Missed ∷ calls) = images_now held calls
 abbrev pub page_may_be : Images → List FileCall → ℕ → List ℕ → Type 0
 page_may_be held [] p c = c ≡ held p
 page_may_be held (Gave at bytes ∷ calls) p c = page_may_be held calls p c
+page_may_be held (Denied at ∷ calls) p c = page_may_be held calls p c
 page_may_be held (Took at bytes ∷ calls) p c = page_may_be held calls p c ⊎ ((p ≡ page_at at) × (c ≡ bytes))
 page_may_be held (Tried at bytes ∷ calls) p c = page_may_be held calls p c ⊎ ((p ≡ page_at at) × (c ≡ bytes))
 page_may_be held (Synced ∷ calls) p c =
@@ -48,6 +51,7 @@ page_may_be held (Missed ∷ calls) p c = page_may_be held calls p c
 abbrev pub before_sync : List FileCall → List FileCall
 before_sync [] = []
 before_sync (Gave at bytes ∷ calls) = before_sync calls
+before_sync (Denied at ∷ calls) = before_sync calls
 before_sync (Took at bytes ∷ calls) = before_sync calls
 before_sync (Tried at bytes ∷ calls) = before_sync calls
 before_sync (Synced ∷ calls) = if has_failed calls then before_sync calls else calls
@@ -57,6 +61,7 @@ before_sync (Missed ∷ calls) = before_sync calls
 abbrev pub WasWrittenSince : List FileCall → ℕ → List ℕ → Type 0
 WasWrittenSince [] p c = ⊥
 WasWrittenSince (Gave at bytes ∷ calls) p c = WasWrittenSince calls p c
+WasWrittenSince (Denied at ∷ calls) p c = WasWrittenSince calls p c
 WasWrittenSince (Took at bytes ∷ calls) p c = ((p ≡ page_at at) × (c ≡ bytes)) ⊎ WasWrittenSince calls p c
 WasWrittenSince (Tried at bytes ∷ calls) p c = ((p ≡ page_at at) × (c ≡ bytes)) ⊎ WasWrittenSince calls p c
 WasWrittenSince (Synced ∷ calls) p c = after_sync (has_failed calls) (WasWrittenSince calls p c) ⊥
@@ -73,6 +78,7 @@ PageFilesLeave =
 abbrev pub PagesAgree : Images → List FileCall → Type 0
 PagesAgree held [] = ⊤
 PagesAgree held (Gave at bytes ∷ calls) = (bytes ≡ images_now held calls (page_at at)) × PagesAgree held calls
+PagesAgree held (Denied at ∷ calls) = PagesAgree held calls
 PagesAgree held (Took at bytes ∷ calls) = PagesAgree held calls
 PagesAgree held (Tried at bytes ∷ calls) = PagesAgree held calls
 PagesAgree held (Synced ∷ calls) = PagesAgree held calls
@@ -86,6 +92,7 @@ PagesLeftSince held calls t c = (k : ℕ) × (k + t ≤ length calls) × Leaves 
 pub page_seen : (held : Images) (calls : List FileCall) (p : ℕ) → page_may_be held calls p (images_now held calls p)
 page_seen held [] p = refl
 page_seen held (Gave at bytes ∷ calls) p = page_seen held calls p
+page_seen held (Denied at ∷ calls) p = page_seen held calls p
 page_seen held (Took at bytes ∷ calls) p = elim (cases_eq p (page_at at)) [
   | inl same ↦ inr (same, if_yes p (page_at at) bytes (images_now held calls p) same)
   | inr other ↦

@@ -1,8 +1,8 @@
 -- Worked calls of files: those of an honest one, and those of none; what a crash may leave, and what it may not.
 use Rattle.std.specs.Prelude.{◌≡◌, ℕ, List, [], ◌∷◌, length, true, false}
 use Rattle.rq_disk.specs.Device.{Images}
-use Rattle.rq_disk.specs.FileCalls.{has_failed}
-use Rattle.rq_disk.specs.FileCalls.FileCall.{Gave, Took, Tried, Synced, Missed}
+use Rattle.rq_disk.specs.FileCalls.{has_failed, HasErred}
+use Rattle.rq_disk.specs.FileCalls.FileCall.{Gave, Denied, Took, Tried, Synced, Missed}
 use Rattle.rq_disk.specs.LogFile.{LogAgrees, log_may_leave}
 use Rattle.rq_disk.specs.PageFile.{are_whole, PagesAgree, page_may_be}
 
@@ -55,4 +55,9 @@ pub record FilesAreJudged : Type 0 where
   pub log_of_nobody : log_may_leave (9 ∷ []) (Synced ∷ Missed ∷ Took 1 empty ∷ []) [] → ⊥
   -- which calls end a device
   pub ends : has_failed (Gave 0 seven ∷ Missed ∷ Took 0 seven ∷ []) ≡ true
-  pub goes_on : has_failed (Synced ∷ Gave 0 seven ∷ Took 0 seven ∷ []) ≡ false
+  pub goes_on : has_failed (Synced ∷ Gave 0 seven ∷ Denied 0 ∷ Took 0 seven ∷ []) ≡ false
+  -- a call errs behind a write or a sync that failed, or in a read that fails, and not for an earlier one
+  pub erred_behind : HasErred (Missed ∷ []) (Missed ∷ [])
+  pub erred_in_it : HasErred (Took 0 seven ∷ []) (Denied 4096 ∷ Took 0 seven ∷ [])
+  pub erred_for_nothing : HasErred (Took 0 seven ∷ []) (Took 0 seven ∷ []) → ⊥
+  pub erred_for_an_earlier_one : HasErred (Denied 4096 ∷ []) (Denied 4096 ∷ []) → ⊥

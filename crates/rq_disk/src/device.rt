@@ -41,6 +41,13 @@ pub trait PageDevice {
     /// How often a call has failed, modulo 2^64.
     ghost faults: { Self → ℕ };
 
+    /// What excuses a call that has erred, by the device before and after it. An implementation that leaves this out may
+    /// err for no reason.
+    ghost excuse: { Self → Self → Type 0 } = { λ _ _. Unit {0} };
+
+    /// It has no such page.
+    ghost outside: { Self → ℕ → Type 0 } = { λ _ _. Unit {0} };
+
     /// How often a call has failed, modulo 2^64. Only a call that errs counts, and it counts one.
     fn failures(&self) -> u64
         ensures { result ≡ faults self.now };
@@ -58,7 +65,8 @@ pub trait PageDevice {
             (Leaves (may_be self.new))) }
         ensures still { honest self.new → stopped self.old → IsErr result × stopped self.new ×
             Stays (seen self.old) (seen self.new) (Leaves (may_be self.old)) (Leaves (may_be self.new)) }
-        ensures cause { FailureIsCounted (faults self.old) (faults self.new) result };
+        ensures cause { FailureIsCounted (faults self.old) (faults self.new) result }
+        ensures excused { OnErr result (excuse self.old self.new ⊎ outside self.old page) };
 
     /// Writes a page. The image is durable only after a sync.
     fn write(&mut self, page: u32, image: &[u8; PAGE]) -> Result<(), DeviceFailed>
@@ -73,7 +81,8 @@ pub trait PageDevice {
             (Leaves (may_be self.new))) }
         ensures still { honest self.new → stopped self.old → IsErr result × stopped self.new ×
             Stays (seen self.old) (seen self.new) (Leaves (may_be self.old)) (Leaves (may_be self.new)) }
-        ensures cause { FailureIsCounted (faults self.old) (faults self.new) result };
+        ensures cause { FailureIsCounted (faults self.old) (faults self.new) result }
+        ensures excused { OnErr result (excuse self.old self.new ⊎ outside self.old page) };
 
     /// Makes everything written so far durable.
     fn sync(&mut self) -> Result<(), DeviceFailed>
@@ -88,7 +97,8 @@ pub trait PageDevice {
             (Leaves (may_be self.new))) }
         ensures still { honest self.new → stopped self.old → IsErr result × stopped self.new ×
             Stays (seen self.old) (seen self.new) (Leaves (may_be self.old)) (Leaves (may_be self.new)) }
-        ensures cause { FailureIsCounted (faults self.old) (faults self.new) result };
+        ensures cause { FailureIsCounted (faults self.old) (faults self.new) result }
+        ensures excused { OnErr result (excuse self.old self.new) };
 
     /// A crash may leave what reads give.
     ghost seen_may_be: { (d : Self) (p : ℕ) → may_be d p (seen d p) };
@@ -124,6 +134,13 @@ pub trait LogDevice {
     /// How often a call has failed, modulo 2^64.
     ghost faults: { Self → ℕ };
 
+    /// What excuses a call that has erred, by the device before and after it. An implementation that leaves this out may
+    /// err for no reason.
+    ghost excuse: { Self → Self → Type 0 } = { λ _ _. Unit {0} };
+
+    /// So many bytes more would end beyond its last place.
+    ghost outside: { Self → ℕ → Type 0 } = { λ _ _. Unit {0} };
+
     /// How often a call has failed, modulo 2^64. Only a call that errs counts, and it counts one.
     fn failures(&self) -> u64
         ensures { result ≡ faults self.now };
@@ -143,7 +160,8 @@ pub trait LogDevice {
             (stopped self.new ⊎ Stays (seen self.old) (seen self.new) (may_leave self.old) (may_leave self.new)) }
         ensures still { honest self.new → stopped self.old → IsErr result × stopped self.new ×
             Stays (seen self.old) (seen self.new) (may_leave self.old) (may_leave self.new) }
-        ensures cause { FailureIsCounted (faults self.old) (faults self.new) result };
+        ensures cause { FailureIsCounted (faults self.old) (faults self.new) result }
+        ensures excused { OnErr result (excuse self.old self.new) };
 
     /// Appends whole records. They are durable only after a force; a crash before it leaves the first few.
     fn append(&mut self, bytes: &[u8]) -> Result<(), DeviceFailed>
@@ -157,7 +175,8 @@ pub trait LogDevice {
             (stopped self.new ⊎ Stays (seen self.old) (seen self.new) (may_leave self.old) (may_leave self.new)) }
         ensures still { honest self.new → stopped self.old → IsErr result × stopped self.new ×
             Stays (seen self.old) (seen self.new) (may_leave self.old) (may_leave self.new) }
-        ensures cause { FailureIsCounted (faults self.old) (faults self.new) result };
+        ensures cause { FailureIsCounted (faults self.old) (faults self.new) result }
+        ensures excused { OnErr result (excuse self.old self.new ⊎ outside self.old (length bytes.now)) };
 
     /// Makes everything appended so far durable.
     fn force(&mut self) -> Result<(), DeviceFailed>
@@ -171,7 +190,8 @@ pub trait LogDevice {
             (stopped self.new ⊎ Stays (seen self.old) (seen self.new) (may_leave self.old) (may_leave self.new)) }
         ensures still { honest self.new → stopped self.old → IsErr result × stopped self.new ×
             Stays (seen self.old) (seen self.new) (may_leave self.old) (may_leave self.new) }
-        ensures cause { FailureIsCounted (faults self.old) (faults self.new) result };
+        ensures cause { FailureIsCounted (faults self.old) (faults self.new) result }
+        ensures excused { OnErr result (excuse self.old self.new) };
 
     /// A crash may leave what reads give.
     ghost seen_may_be_left: { (d : Self) → may_leave d (seen d) };

@@ -30,7 +30,8 @@ pub struct FileLog<S: FileContents, F: Storage = NotedFile> {
 }
 
 impl<S: FileContents, F: Storage> LogDevice for FileLog<S, F> {
-    ghost use Rattle.std.specs.Prelude.{true, length};
+    ghost use Rattle.std.specs.Prelude.{◌≤◌, ◌^◌, true, length};
+    ghost use Rattle.rq_disk.specs.FileCalls.{HasErred};
     ghost use Rattle.rq_disk.specs.LogFile.{log_bytes, log_may_leave, LogAgrees, LogLeftSince, log_all};
     ghost use Rattle.rq_disk.specs.Since.{since_counts_now, since_only_now};
 
@@ -48,6 +49,10 @@ impl<S: FileContents, F: Storage> LogDevice for FileLog<S, F> {
 
     ghost faults = { λ d. d.failures };
 
+    ghost excuse = { λ old new. HasErred (F.calls old.file) (F.calls new.file) };
+
+    ghost outside = { λ d count. 2 ^ 64 ≤ d.end + count };
+
     ghost seen_may_be_left = { λ d. log_all S.bytes (F.calls d.file) };
 
     ghost counts_now = { λ d. since_counts_now (log_may_leave S.bytes) (F.calls d.file) };
@@ -60,7 +65,11 @@ impl<S: FileContents, F: Storage> LogDevice for FileLog<S, F> {
 
     fn read(&mut self, at: u64, into: &mut [u8]) -> Result<usize, DeviceFailed> {
         let count = bytes_between(at, self.end, into.len());
-        if self.broken || self.file.fill(&mut into[..count], at).is_err() {
+        if self.broken {
+            self.failures = self.failures.wrapping_add(1);
+            return Err(DeviceFailed);
+        }
+        if self.file.fill(&mut into[..count], at).is_err() {
             self.failures = self.failures.wrapping_add(1);
             return Err(DeviceFailed);
         }

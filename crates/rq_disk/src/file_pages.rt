@@ -29,6 +29,7 @@ pub struct FilePages<S: FileContents, F: Storage = NotedFile> {
 impl<S: FileContents, F: Storage> PageDevice for FilePages<S, F> {
     ghost use Rattle.std.specs.Prelude.{true, length};
     ghost use Rattle.rq_disk.specs.Device.{Leaves};
+    ghost use Rattle.rq_disk.specs.FileCalls.{HasErred};
     ghost use Rattle.rq_disk.specs.PageFile.{images_now, page_may_be, PagesAgree, PagesLeftSince, page_seen};
     ghost use Rattle.rq_disk.specs.Since.{since_counts_now, since_only_now};
 
@@ -46,6 +47,10 @@ impl<S: FileContents, F: Storage> PageDevice for FilePages<S, F> {
 
     ghost faults = { λ d. d.failures };
 
+    ghost excuse = { λ old new. HasErred (F.calls old.file) (F.calls new.file) };
+
+    ghost outside = { λ d page. d.count ≤ page };
+
     ghost seen_may_be = { λ d. page_seen S.pages (F.calls d.file) };
 
     ghost counts_now = { λ d. since_counts_now (λ calls. Leaves (page_may_be S.pages calls)) (F.calls d.file) };
@@ -57,7 +62,11 @@ impl<S: FileContents, F: Storage> PageDevice for FilePages<S, F> {
     }
 
     fn read(&mut self, page: u32, into: &mut [u8; PAGE]) -> Result<(), DeviceFailed> {
-        if self.broken || page >= self.count || self.file.fill(into, place_of(page)).is_err() {
+        if self.broken || page >= self.count {
+            self.failures = self.failures.wrapping_add(1);
+            return Err(DeviceFailed);
+        }
+        if self.file.fill(into, place_of(page)).is_err() {
             self.failures = self.failures.wrapping_add(1);
             return Err(DeviceFailed);
         }
@@ -99,6 +108,8 @@ fn place_of(page: u32) -> u64
 }
 
 impl<S: FileContents, F: Storage> FilePages<S, F> {
+    ghost use Rattle.rq_disk.specs.Stored.{file_page_count};
+
     /// The first `count` pages of a file of which nothing was asked so far, and which held what `S` says.
     pub fn new(file: F, count: u32) -> FilePages<S, F>
         requires unasked { F.calls file ≡ [] }
@@ -109,6 +120,8 @@ impl<S: FileContents, F: Storage> FilePages<S, F> {
         ensures runs { ⟦<FilePages<S, F> as PageDevice>⟧.stopped result → ⊥ }
         ensures moment { ⟦<FilePages<S, F> as PageDevice>⟧.moment result ≡ 0 }
         ensures failures { ⟦<FilePages<S, F> as PageDevice>⟧.faults result ≡ 0 }
+        ensures count { file_page_count result ≡ count }
+        ensures opened { F.opened result.file ≡ F.opened file }
     {
         FilePages {
             file,
@@ -121,6 +134,9 @@ impl<S: FileContents, F: Storage> FilePages<S, F> {
 }
 
 impl<S: FileContents> FilePages<S> {
+    ghost use Rattle.std.specs.Prelude.{◌-◌, ◌^◌, min};
+    ghost use Rattle.rq_disk.specs.Stored.{file_page_count, opened_len};
+
     /// The pages in a file, which is locked and synced first. Bytes behind the last whole page are left out.
     ///
     /// # Errors
@@ -132,9 +148,10 @@ impl<S: FileContents> FilePages<S> {
         ensures runs { IfOk result (λ d. ⟦<FilePages<S> as PageDevice>⟧.stopped d → ⊥) }
         ensures moment { IfOk result (λ d. ⟦<FilePages<S> as PageDevice>⟧.moment d ≡ 0) }
         ensures failures { IfOk result (λ d. ⟦<FilePages<S> as PageDevice>⟧.faults d ≡ 0) }
+        ensures count { IfOk result (λ d. file_page_count d ≡ min (opened_len d.file / 4096) (2 ^ 32 - 1)) }
     {
         let (file, len) = NotedFile::open(file)?;
-        let count = u32::try_from(len / PAGE as u64).unwrap_or(u32::MAX);
+        let count = std::cmp::min(len / PAGE as u64, u64::from(u32::MAX)) as u32;
         Ok(FilePages::new(file, count))
     }
 }

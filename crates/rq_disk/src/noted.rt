@@ -1,16 +1,17 @@
 //! The calls of a file, as contracts alone see them: they have no bytes.
 ghost use Rattle.std.specs.Prelude.{◌≡◌, [], ◌∷◌};
-ghost use Rattle.rq_disk.specs.FileCalls.FileCall.{Gave, Took, Tried, Synced, Missed};
+ghost use Rattle.rq_disk.specs.FileCalls.FileCall.{Gave, Denied, Took, Tried, Synced, Missed};
 
 use rq_bytes::GhostList;
 use std::marker::Model;
 use std::snapshot::Snapshot;
 
-/// A call of a file: what it gave, wrote, or was to write when it failed, from a place on; or a sync, which was made or
-/// failed.
+/// A call of a file: what it gave or wrote, from a place on; a read or a write there that failed, with what was to be
+/// written; or a sync, which was made or failed.
 #[derive(Drop)]
 pub(crate) enum Note {
     Gave(u64, Snapshot<GhostList<u8>>),
+    Denied(u64),
     Took(u64, Snapshot<GhostList<u8>>),
     Tried(u64, Snapshot<GhostList<u8>>),
     Synced,
@@ -49,6 +50,13 @@ impl Calls {
         ensures { self.new ≡ Gave at bytes.now ∷ self.old }
     {
         GhostList::push(&mut self.notes, &Note::Gave(at, listed(bytes)));
+    }
+
+    /// It failed to give the bytes from a place on.
+    pub fn denied(&mut self, at: u64)
+        ensures { self.new ≡ Denied at ∷ self.old }
+    {
+        GhostList::push(&mut self.notes, &Note::Denied(at));
     }
 
     /// It wrote these bytes to a place and what follows it.

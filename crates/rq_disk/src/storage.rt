@@ -2,7 +2,7 @@
 //! see the notes.
 ghost use Rattle.std.specs.Prelude.{◌≡◌, [], ◌∷◌, ℕ, List, IfOk, OnOk, OnErr};
 ghost use Rattle.rq_disk.specs.FileCalls.{FileCall};
-ghost use Rattle.rq_disk.specs.FileCalls.FileCall.{Gave, Took, Tried, Synced, Missed};
+ghost use Rattle.rq_disk.specs.FileCalls.FileCall.{Gave, Denied, Took, Tried, Synced, Missed};
 
 use crate::noted::Calls;
 use std::fs::File;
@@ -11,8 +11,7 @@ use std::os::unix::fs::FileExt;
 
 /// A file that is read and written by places.
 pub trait Storage {
-    /// Its calls so far, the newest first: each that is noted was made, and each that was made is noted, but a read that
-    /// failed.
+    /// Its calls so far, the newest first: each that is noted was made, and each that was made is noted.
     ghost calls: { Self → List FileCall };
 
     /// How many bytes it was told to have when it was opened.
@@ -21,7 +20,7 @@ pub trait Storage {
     /// Fills `into` with the bytes from the place `at` on. It errs where there are fewer.
     fn fill(&mut self, into: &mut [u8], at: u64) -> io::Result<()>
         ensures gave { OnOk result (calls self.new ≡ Gave at into.new ∷ calls self.old) }
-        ensures err { OnErr result (calls self.new ≡ calls self.old) }
+        ensures denied { OnErr result (calls self.new ≡ Denied at ∷ calls self.old) }
         ensures opened { opened self.new ≡ opened self.old };
 
     /// Writes all of `bytes`, from the place `at` on. Where it errs, any of them may have been written.
@@ -52,9 +51,12 @@ impl Storage for NotedFile {
     ghost opened = { λ f. f.len };
 
     fn fill(&mut self, into: &mut [u8], at: u64) -> io::Result<()> {
-        self.file.read_exact_at(into, at)?;
-        self.calls.gave(at, into);
-        Ok(())
+        let done = self.file.read_exact_at(into, at);
+        match done {
+            Ok(()) => self.calls.gave(at, into),
+            Err(_) => self.calls.denied(at),
+        }
+        done
     }
 
     fn put(&mut self, bytes: &[u8], at: u64) -> io::Result<()> {

@@ -23,7 +23,10 @@ impl Storage for ReadFile {
     ghost opened = { λ f. f.len };
 
     fn fill(&mut self, into: &mut [u8], at: u64) -> io::Result<()> {
-        self.file.read_exact_at(into, at)?;
+        if let Err(error) = self.file.read_exact_at(into, at) {
+            self.calls.denied(at);
+            return Err(error);
+        }
         self.calls.gave(at, into);
         Ok(())
     }

@@ -1,5 +1,5 @@
 //! The ends of one side: all senders' sending ends, or all their receiving ends.
-ghost use Rattle.std.specs.Prelude.{◌≡◌, ◌∷◌, [], ℕ, List, true, cond, IfOk, OnErr, drop, take, not};
+ghost use Rattle.std.specs.Prelude.{◌≡◌, ◌∷◌, [], ℕ, List, true, false, cond, IfOk, OnErr, drop, take, not};
 ghost use Rattle.rq_groups.specs.Changes.{held_after};
 ghost use Rattle.rq_groups.specs.Chains.{AreEmptied, IsChain};
 ghost use Rattle.rq_groups.specs.Ends.{AreApart, IsTail, first_of, has_held, held_by, is_free_for, is_held, released, with_held};
@@ -87,12 +87,13 @@ impl EndTable {
     /// Gives the sender's end to the transaction, and answers whether it did not hold it before.
     ///
     /// # Errors
-    /// `NoMemory`: nothing changed. So for a sender that there is no place for.
+    /// `NoMemory`: nothing changed, and the transaction does not hold it. So for a sender that there is no place for.
     pub(crate) fn take(&mut self, txn: Txn, sender: u32) -> Result<bool, NoMemory>
         requires { is_free_for txn sender self.old ≡ true }
         ensures taken { IfOk result (λ _. self.new ≡ with_held txn sender self.old) }
         ensures newly { IfOk result (λ new. new ≡ not (has_held txn sender self.old)) }
         ensures same { OnErr result (self.new ≡ self.old) }
+        ensures own { OnErr result (has_held txn sender self.old ≡ false) }
     {
         if self.holders.of(sender).is_some() {
             return Ok(false);

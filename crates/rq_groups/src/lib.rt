@@ -1,7 +1,7 @@
 //! Who holds which ends of groups, how many messages of each wait, and what each sender has sent.
 #![tactic(auto)]
 
-ghost use Rattle.std.specs.Prelude.{◌≡◌, [], ◌∷◌, ℕ, List, not, true, IfOk, OnErr};
+ghost use Rattle.std.specs.Prelude.{◌≡◌, [], ◌∷◌, ℕ, List, not, true, false, IfOk, OnErr};
 ghost use Rattle.rq_groups.specs.Ends.{AreApart, IsTail, first_of, has_held, held_by, is_free_for, released, with_held};
 ghost use Rattle.rq_groups.specs.Sides.{IsNewest, holds_end, is_free_end, with_end, without_newest};
 
@@ -112,6 +112,7 @@ impl Ends {
             { sending = with_held txn sender self.old.sending }) }
         ensures newly { IfOk result (λ new. new ≡ not (has_held txn sender self.old.sending)) }
         ensures same { OnErr result (self.new ≡ self.old) }
+        ensures own { OnErr result (has_held txn sender self.old.sending ≡ false) }
     {
         self.sending.take(txn, sender)
     }
@@ -127,6 +128,7 @@ impl Ends {
             { receiving = with_held txn sender self.old.receiving }) }
         ensures newly { IfOk result (λ new. new ≡ not (has_held txn sender self.old.receiving)) }
         ensures same { OnErr result (self.new ≡ self.old) }
+        ensures own { OnErr result (has_held txn sender self.old.receiving ≡ false) }
     {
         self.receiving.take(txn, sender)
     }
@@ -134,13 +136,14 @@ impl Ends {
     /// Gives an end that no other transaction holds to this one, and answers whether it did not hold it before.
     ///
     /// # Errors
-    /// `NoMemory`: nothing changed. So where the sender is none of those that there is room for, or more transactions
-    /// hold ends than a store may have.
+    /// `NoMemory`: nothing changed, and the transaction does not hold the end. So where the sender is none of those that there
+    /// is room for, or more transactions hold ends than a store may have.
     pub fn take(&mut self, txn: Txn, end: End) -> Result<bool, NoMemory>
         requires free { is_free_end txn end self.old ≡ true }
         ensures taken { IfOk result (λ _. self.new ≡ with_end txn end self.old) }
         ensures newly { IfOk result (λ new. new ≡ not (holds_end txn end self.old)) }
         ensures same { OnErr result (self.new ≡ self.old) }
+        ensures own { OnErr result (holds_end txn end self.old ≡ false) }
     {
         match end {
             End::Sending(sender) => self.take_send(txn, sender),

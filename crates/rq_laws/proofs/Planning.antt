@@ -135,16 +135,16 @@ module _ (z : Sizes) (k : LevelState) (given : List Given) (all : AreGiven z giv
 
 -- ---- where one is planned, the other is refused for want of memory alone
 
-taking_wants : (z : Sizes) (k : LevelState) (latched : List ℕ) (Can : Type 0) (a : ℕ) (r : Refusal) → Can → IsLowest z k latched a → RefusesTaking z k latched Can r → IsMemory r
-taking_wants z k latched Can a why.NoMemory can f h = tt
-taking_wants z k latched Can a why.Latched can f h = true≢false (sym f.may ∙ h.0 f.place f.below)
-taking_wants z k latched Can a (why.Damaged d) can f h = true≢false (sym (and_parts _ _ f.may).0 ∙ h can f.place f.below)
-taking_wants z k latched Can a _ can f h = absurd h
+taking_wants : (z : Sizes) (k : LevelState) (latched : List ℕ) (s : ℕ) (Can : Type 0) (a : ℕ) (r : Refusal) → Can → IsLowest z k latched a → RefusesTaking z k latched s Can r → IsMemory r
+taking_wants z k latched s Can a why.NoMemory can f h = tt
+taking_wants z k latched s Can a why.Latched can f h = true≢false (sym f.may ∙ h.0 f.place f.below)
+taking_wants z k latched s Can a (why.Damaged d) can f h = true≢false (sym (and_parts _ _ f.may).0 ∙ h.1 can f.place f.below)
+taking_wants z k latched s Can a _ can f h = absurd h
 
-other_wants : (Can : Type 0) (r : Refusal) → Can → RefusesOther Can r → IsMemory r
-other_wants Can why.NoMemory can h = tt
-other_wants Can (why.Damaged d) can h = h can
-other_wants Can _ can h = absurd h
+other_wants : (s : ℕ) (Can : Type 0) (r : Refusal) → Can → RefusesOther s Can r → IsMemory r
+other_wants s Can why.NoMemory can h = tt
+other_wants s Can (why.Damaged d) can h = h.1 can
+other_wants s Can _ can h = absurd h
 
 -- ---- what is asked
 
@@ -163,16 +163,16 @@ unread_alike None k (Err r) (Err s) x y f h = (tt, tt)
 plans_alike : (zs : Option Sizes) (d : Option Doing) (k : LevelState) (given : List Given) (latched : List ℕ) (p q : Result Plan Refusal) (x y : LevelState) → AreOf zs given
     → Plans zs d k given latched p x → Plans zs d k given latched q y → Alike zs p q x y
 plans_alike (Some z) (Some (Send s tag body)) k given latched (Ok a) (Ok b) x y all f h = sent_alike z k given all latched s tag body a b x y f h
-plans_alike (Some z) (Some (Send s tag body)) k given latched (Ok a) (Err r) x y all f h = (taking_wants z k latched (CanSend z given s) f.new r f.can f.lowest h.0, tt)
-plans_alike (Some z) (Some (Send s tag body)) k given latched (Err r) (Ok b) x y all f h = (taking_wants z k latched (CanSend z given s) h.new r h.can h.lowest f.0, tt)
+plans_alike (Some z) (Some (Send s tag body)) k given latched (Ok a) (Err r) x y all f h = (taking_wants z k latched s (CanSend z given s) f.new r f.can f.lowest h.0, tt)
+plans_alike (Some z) (Some (Send s tag body)) k given latched (Err r) (Ok b) x y all f h = (taking_wants z k latched s (CanSend z given s) h.new r h.can h.lowest f.0, tt)
 plans_alike (Some z) (Some (Send s tag body)) k given latched (Err r) (Err v) x y all f h = (tt, tt)
 plans_alike (Some z) (Some (Receive s)) k given latched (Ok a) (Ok b) x y all f h = received_alike z k given all s a b x y f h
-plans_alike (Some z) (Some (Receive s)) k given latched (Ok a) (Err r) x y all f h = (other_wants (CanReceive z given s) r f.can h.0, tt)
-plans_alike (Some z) (Some (Receive s)) k given latched (Err r) (Ok b) x y all f h = (other_wants (CanReceive z given s) r h.can f.0, tt)
+plans_alike (Some z) (Some (Receive s)) k given latched (Ok a) (Err r) x y all f h = (other_wants s (CanReceive z given s) r f.can h.0, tt)
+plans_alike (Some z) (Some (Receive s)) k given latched (Err r) (Ok b) x y all f h = (other_wants s (CanReceive z given s) r h.can f.0, tt)
 plans_alike (Some z) (Some (Receive s)) k given latched (Err r) (Err v) x y all f h = (tt, tt)
 plans_alike (Some z) (Some (Close s)) k given latched (Ok a) (Ok b) x y all f h = closed_alike z k given all s a b x y f h
-plans_alike (Some z) (Some (Close s)) k given latched (Ok a) (Err r) x y all f h = (other_wants (CanMark z given s true) r f.marked.can h.0, tt)
-plans_alike (Some z) (Some (Close s)) k given latched (Err r) (Ok b) x y all f h = (other_wants (CanMark z given s true) r h.marked.can f.0, tt)
+plans_alike (Some z) (Some (Close s)) k given latched (Ok a) (Err r) x y all f h = (other_wants s (CanMark z given s true) r f.marked.can h.0, tt)
+plans_alike (Some z) (Some (Close s)) k given latched (Err r) (Ok b) x y all f h = (other_wants s (CanMark z given s true) r h.marked.can f.0, tt)
 plans_alike (Some z) (Some (Close s)) k given latched (Err r) (Err v) x y all f h = (tt, tt)
 plans_alike (Some z) None k given latched p q x y all f h = unread_alike (Some z) k p q x y f h
 plans_alike None (Some d) k given latched p q x y all f h = unread_alike None k p q x y f h
@@ -186,16 +186,16 @@ for_alike false zs d k given latched p q x y all f h = plans_alike zs d k given 
 undoes_alike : (zs : Option Sizes) (d : Option Deed) (k : LevelState) (given : List Given) (latched : List ℕ) (p q : Result Plan Refusal) (x y : LevelState) → AreOf zs given
     → Undoes zs d k given latched p x → Undoes zs d k given latched q y → Alike zs p q x y
 undoes_alike (Some z) (Some (Append s n tag previous body)) k given latched (Ok a) (Ok b) x y all f h = unlinked_alike z k given all s n previous a b x y f h
-undoes_alike (Some z) (Some (Append s n tag previous body)) k given latched (Ok a) (Err r) x y all f h = (other_wants (CanUnlinkTail z given s n) r f.can h.0, tt)
-undoes_alike (Some z) (Some (Append s n tag previous body)) k given latched (Err r) (Ok b) x y all f h = (other_wants (CanUnlinkTail z given s n) r h.can f.0, tt)
+undoes_alike (Some z) (Some (Append s n tag previous body)) k given latched (Ok a) (Err r) x y all f h = (other_wants s (CanUnlinkTail z given s n) r f.can h.0, tt)
+undoes_alike (Some z) (Some (Append s n tag previous body)) k given latched (Err r) (Ok b) x y all f h = (other_wants s (CanUnlinkTail z given s n) r h.can f.0, tt)
 undoes_alike (Some z) (Some (Append s n tag previous body)) k given latched (Err r) (Err v) x y all f h = (tt, tt)
 undoes_alike (Some z) (Some (UnlinkHead s n tag body)) k given latched (Ok a) (Ok b) x y all f h = returned_alike z k given all latched s n tag body a b x y f h
-undoes_alike (Some z) (Some (UnlinkHead s n tag body)) k given latched (Ok a) (Err r) x y all f h = (taking_wants z k latched (CanPutBack z given s n) f.new r f.can f.lowest h.0, tt)
-undoes_alike (Some z) (Some (UnlinkHead s n tag body)) k given latched (Err r) (Ok b) x y all f h = (taking_wants z k latched (CanPutBack z given s n) h.new r h.can h.lowest f.0, tt)
+undoes_alike (Some z) (Some (UnlinkHead s n tag body)) k given latched (Ok a) (Err r) x y all f h = (taking_wants z k latched s (CanPutBack z given s n) f.new r f.can f.lowest h.0, tt)
+undoes_alike (Some z) (Some (UnlinkHead s n tag body)) k given latched (Err r) (Ok b) x y all f h = (taking_wants z k latched s (CanPutBack z given s n) h.new r h.can h.lowest f.0, tt)
 undoes_alike (Some z) (Some (UnlinkHead s n tag body)) k given latched (Err r) (Err v) x y all f h = (tt, tt)
 undoes_alike (Some z) (Some (Close_deed s)) k given latched (Ok a) (Ok b) x y all f h = reopened_alike z k given all s a b x y f h
-undoes_alike (Some z) (Some (Close_deed s)) k given latched (Ok a) (Err r) x y all f h = (other_wants (CanMark z given s false) r f.marked.can h.0, tt)
-undoes_alike (Some z) (Some (Close_deed s)) k given latched (Err r) (Ok b) x y all f h = (other_wants (CanMark z given s false) r h.marked.can f.0, tt)
+undoes_alike (Some z) (Some (Close_deed s)) k given latched (Ok a) (Err r) x y all f h = (other_wants s (CanMark z given s false) r f.marked.can h.0, tt)
+undoes_alike (Some z) (Some (Close_deed s)) k given latched (Err r) (Ok b) x y all f h = (other_wants s (CanMark z given s false) r h.marked.can f.0, tt)
 undoes_alike (Some z) (Some (Close_deed s)) k given latched (Err r) (Err v) x y all f h = (tt, tt)
 undoes_alike (Some z) None k given latched p q x y all f h = unread_alike (Some z) k p q x y f h
 undoes_alike None (Some d) k given latched p q x y all f h = unread_alike None k p q x y f h

@@ -126,32 +126,32 @@ may_damage k why.NoMemory after h = absurd h.0
 may_damage k why.Latched after h = absurd h.0
 may_damage k _ after h = absurd h.0
 
-may_take_none : (z : Sizes) (k : LevelState) (latched : List ℕ) (Can : Type 0) (r : Refusal) → RefusesTaking z k latched Can r → MayHaveNoPlan r
-may_take_none z k latched Can why.NoMemory h = tt
-may_take_none z k latched Can why.Latched h = tt
-may_take_none z k latched Can (why.Damaged d) h = tt
-may_take_none z k latched Can _ h = absurd h
+may_take_none : (z : Sizes) (k : LevelState) (latched : List ℕ) (s : ℕ) (Can : Type 0) (r : Refusal) → RefusesTaking z k latched s Can r → MayHaveNoPlan r
+may_take_none z k latched s Can why.NoMemory h = tt
+may_take_none z k latched s Can why.Latched h = tt
+may_take_none z k latched s Can (why.Damaged d) h = tt
+may_take_none z k latched s Can _ h = absurd h
 
-may_other : (Can : Type 0) (r : Refusal) → RefusesOther Can r → MayHaveNoPlan r
-may_other Can why.NoMemory h = tt
-may_other Can (why.Damaged d) h = tt
-may_other Can why.Latched h = absurd h
-may_other Can _ h = absurd h
+may_other : (s : ℕ) (Can : Type 0) (r : Refusal) → RefusesOther s Can r → MayHaveNoPlan r
+may_other s Can why.NoMemory h = tt
+may_other s Can (why.Damaged d) h = tt
+may_other s Can why.Latched h = absurd h
+may_other s Can _ h = absurd h
 
 refuses_one : (z : Option Sizes) (d : Option Doing) (k : LevelState) (given : List Given) (latched : List ℕ) (r : Refusal) (after : LevelState)
     → Plans z d k given latched (Err r) after → MayHaveNoPlan r × (after ≡ k)
-refuses_one (Some z) (Some (Send s tag body)) k given latched r after h = (may_take_none z k latched (CanSend z given s) r h.0, h.1)
-refuses_one (Some z) (Some (Receive s)) k given latched r after h = (may_other (CanReceive z given s) r h.0, h.1)
-refuses_one (Some z) (Some (Close s)) k given latched r after h = (may_other (CanMark z given s true) r h.0, h.1)
+refuses_one (Some z) (Some (Send s tag body)) k given latched r after h = (may_take_none z k latched s (CanSend z given s) r h.0, h.1)
+refuses_one (Some z) (Some (Receive s)) k given latched r after h = (may_other s (CanReceive z given s) r h.0, h.1)
+refuses_one (Some z) (Some (Close s)) k given latched r after h = (may_other s (CanMark z given s true) r h.0, h.1)
 refuses_one (Some z) None k given latched r after h = may_damage k r after h
 refuses_one None (Some d) k given latched r after h = may_damage k r after h
 refuses_one None None k given latched r after h = may_damage k r after h
 
 refuses_back : (z : Option Sizes) (d : Option Deed) (k : LevelState) (given : List Given) (latched : List ℕ) (r : Refusal) (after : LevelState)
     → Undoes z d k given latched (Err r) after → MayHaveNoPlan r × (after ≡ k)
-refuses_back (Some z) (Some (Append s n tag previous body)) k given latched r after h = (may_other (CanUnlinkTail z given s n) r h.0, h.1)
-refuses_back (Some z) (Some (UnlinkHead s n tag body)) k given latched r after h = (may_take_none z k latched (CanPutBack z given s n) r h.0, h.1)
-refuses_back (Some z) (Some (Close_deed s)) k given latched r after h = (may_other (CanMark z given s false) r h.0, h.1)
+refuses_back (Some z) (Some (Append s n tag previous body)) k given latched r after h = (may_other s (CanUnlinkTail z given s n) r h.0, h.1)
+refuses_back (Some z) (Some (UnlinkHead s n tag body)) k given latched r after h = (may_take_none z k latched s (CanPutBack z given s n) r h.0, h.1)
+refuses_back (Some z) (Some (Close_deed s)) k given latched r after h = (may_other s (CanMark z given s false) r h.0, h.1)
 refuses_back (Some z) None k given latched r after h = may_damage k r after h
 refuses_back None (Some d) k given latched r after h = may_damage k r after h
 refuses_back None None k given latched r after h = may_damage k r after h

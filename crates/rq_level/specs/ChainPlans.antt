@@ -1,10 +1,11 @@
 -- What the level of chains answers to an operation that is to be planned, from the slots that it was given.
-use Rattle.std.specs.Prelude.{◌≡◌, ℕ, ◌+◌, ◌<◌, ◌≤◌, ◌^◌, Bool, true, false, not, cond, nat_eq, List, [], ◌∷◌, reverse, Option, None, Some, Result, Ok, Err}
-use Rattle.rq_model.specs.declared.message.Message.{Message}
+use Rattle.std.specs.Prelude.{◌≡◌, ℕ, ◌+◌, ◌/◌, ◌<◌, ◌≤◌, ◌^◌, Bool, true, false, not, cond, nat_eq, List, [], ◌∷◌, reverse, Option, None, Some, Result, Ok, Err}
 use Rattle.rq_model.specs.declared.record.Deed.{Deed}
 use Rattle.rq_model.specs.declared.record.Deed.TheVariants.{Append, UnlinkHead, Close as Close_deed}
 use Rattle.rq_model.specs.declared.record.Record.{Record}
 use Rattle.rq_model.specs.declared.record.Record.TheVariants.{OpEnd}
+use Rattle.rq_model.specs.declared.refusal.Damage.{Damage}
+use Rattle.rq_model.specs.declared.refusal.Damage.TheVariants as damage
 use Rattle.rq_model.specs.declared.refusal.Refusal.{Refusal}
 use Rattle.rq_model.specs.declared.refusal.Refusal.TheVariants as why
 use Rattle.rq_model.specs.Deeds.{spelled_deed, deed_in}
@@ -15,7 +16,7 @@ use Rattle.rq_page.specs.declared.directory.Directory.{Directory}
 use Rattle.rq_page.specs.Cells.{cell_slot_in}
 use Rattle.rq_page.specs.Directories.{directory_in}
 use Rattle.rq_page.specs.Sizes.{Sizes, directory_at, sender_count}
-use Rattle.rq_page.specs.Slots.Slot.{Free, Used, Sender}
+use Rattle.rq_page.specs.Slots.Slot.{Used, Sender}
 use Rattle.rq_views.specs.Plans.{append_writes, unlink_head_writes, unlink_tail_writes, put_back_writes, directory_write}
 use Rattle.rq_views.specs.Items.{layout_of}
 use Rattle.rq_level.specs.LevelState.{LevelState, IsLowest, NoneToTake, NoneFree, SomeFree, reserved_at}
@@ -26,6 +27,10 @@ use Rattle.rq_level.specs.Writes.{writes_of, AreSlotWrites}
 use Rattle.rq_level.specs.declared.slots.Given.{Given}
 use Rattle.rq_level.specs.declared.writes.Plan.{Plan}
 use Rattle.rq_level.specs.declared.writes.PlannedReply.TheVariants as gives
+
+-- the page where a sender's directory slot stands
+abbrev pub directory_page : ℕ → ℕ
+directory_page s = 1 + s / 15
 
 -- the cell that a link names was given: none where it is 0
 abbrev pub Beside : Sizes → List Given → ℕ → Option Cell → Type 0
@@ -154,18 +159,22 @@ pub record IsReopened (z : Sizes) (k : LevelState) (given : List Given) (s : ℕ
   pub inverse : IsInverse p
   pub kept : after ≡ k
 
--- why an operation that takes a free cell has no plan, where the slots hold what it needs if Can
-abbrev pub RefusesTaking : Sizes → LevelState → List ℕ → Type 0 → Refusal → Type 0
-RefusesTaking z k latched Can why.NoMemory = Unit {0}
-RefusesTaking z k latched Can why.Latched = NoneToTake z k latched × SomeFree z k
-RefusesTaking z k latched Can (why.Damaged d) = Can → NoneFree z k
-RefusesTaking z k latched Can _ = ⊥
+-- the damage is of the page where the sender's directory slot stands
+abbrev pub IsOfSender : ℕ → Damage → Type 0
+IsOfSender s d = d ≡ damage.Page (directory_page s)
+
+-- why a sender's operation that takes a free cell has no plan, where the slots hold what it needs if Can
+abbrev pub RefusesTaking : Sizes → LevelState → List ℕ → ℕ → Type 0 → Refusal → Type 0
+RefusesTaking z k latched s Can why.NoMemory = Unit {0}
+RefusesTaking z k latched s Can why.Latched = NoneToTake z k latched × SomeFree z k
+RefusesTaking z k latched s Can (why.Damaged d) = IsOfSender s d × (Can → NoneFree z k)
+RefusesTaking z k latched s Can _ = ⊥
 
 -- why one that takes none has none
-abbrev pub RefusesOther : Type 0 → Refusal → Type 0
-RefusesOther Can why.NoMemory = Unit {0}
-RefusesOther Can (why.Damaged d) = Can → ⊥
-RefusesOther Can _ = ⊥
+abbrev pub RefusesOther : ℕ → Type 0 → Refusal → Type 0
+RefusesOther s Can why.NoMemory = Unit {0}
+RefusesOther s Can (why.Damaged d) = IsOfSender s d × (Can → ⊥)
+RefusesOther s Can _ = ⊥
 
 -- it is told as damage
 abbrev pub TellsDamage : Refusal → Type 0
@@ -181,11 +190,11 @@ RefusesUnread k (Err r) after = TellsDamage r × (after ≡ k)
 abbrev pub Plans : Option Sizes → Option Doing → LevelState → List Given → List ℕ → Result Plan Refusal → LevelState → Type 0
 Plans (Some z) (Some (Send s tag body)) k given latched (Ok p) after = IsSent z k given latched s tag body p after
 Plans (Some z) (Some (Send s tag body)) k given latched (Err r) after =
-    RefusesTaking z k latched (CanSend z given s) r × (after ≡ k)
+    RefusesTaking z k latched s (CanSend z given s) r × (after ≡ k)
 Plans (Some z) (Some (Receive s)) k given latched (Ok p) after = IsReceived z k given s p after
-Plans (Some z) (Some (Receive s)) k given latched (Err r) after = RefusesOther (CanReceive z given s) r × (after ≡ k)
+Plans (Some z) (Some (Receive s)) k given latched (Err r) after = RefusesOther s (CanReceive z given s) r × (after ≡ k)
 Plans (Some z) (Some (Close s)) k given latched (Ok p) after = IsClosed z k given s p after
-Plans (Some z) (Some (Close s)) k given latched (Err r) after = RefusesOther (CanMark z given s true) r × (after ≡ k)
+Plans (Some z) (Some (Close s)) k given latched (Err r) after = RefusesOther s (CanMark z given s true) r × (after ≡ k)
 Plans _ _ k given latched answer after = RefusesUnread k answer after
 
 -- what is to be taken back is not planned as something to do
@@ -203,14 +212,14 @@ abbrev pub Undoes : Option Sizes → Option Deed → LevelState → List Given �
 Undoes (Some z) (Some (Append s n tag previous body)) k given latched (Ok p) after =
     IsTailUnlinked z k given s n previous p after
 Undoes (Some z) (Some (Append s n tag previous body)) k given latched (Err r) after =
-    RefusesOther (CanUnlinkTail z given s n) r × (after ≡ k)
+    RefusesOther s (CanUnlinkTail z given s n) r × (after ≡ k)
 Undoes (Some z) (Some (UnlinkHead s n tag body)) k given latched (Ok p) after =
     IsReturned z k given latched s n tag body p after
 Undoes (Some z) (Some (UnlinkHead s n tag body)) k given latched (Err r) after =
-    RefusesTaking z k latched (CanPutBack z given s n) r × (after ≡ k)
+    RefusesTaking z k latched s (CanPutBack z given s n) r × (after ≡ k)
 Undoes (Some z) (Some (Close_deed s)) k given latched (Ok p) after = IsReopened z k given s p after
 Undoes (Some z) (Some (Close_deed s)) k given latched (Err r) after =
-    RefusesOther (CanMark z given s false) r × (after ≡ k)
+    RefusesOther s (CanMark z given s false) r × (after ≡ k)
 Undoes _ _ k given latched answer after = RefusesUnread k answer after
 
 -- a record that ends an operation tells its deed

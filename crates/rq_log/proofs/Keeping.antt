@@ -8,15 +8,15 @@ use Rattle.rq_record.specs.declared.step.Decoded.TheVariants as fronts
 use Rattle.rq_record.specs.declared.step.Step.TheVariants as steps
 use Rattle.rq_record.specs.Decoding.{IsFront, step_with}
 use Rattle.rq_record.specs.Spelling.{HoldsRecord, spelling}
-use Rattle.rq_record.proofs.Whole.{long_spelling, short_spelling}
-use Rattle.rq_log.specs.Reading.{HasMost, IsDamagedBehind, IsRead, IsReading, KeepsRead, Streamed, left_of}
+use Rattle.rq_record.proofs.Whole.{short_spelling}
+use Rattle.rq_log.specs.Reading.{HasMoreBehind, HasMost, HasRoomToRead, IsDamagedBehind, IsRead, IsReading, KeepsRead, Streamed, left_of}
 use Rattle.rq_log.specs.Spelled.{spelled, AreSpelled}
 use Rattle.rq_log.proofs.Moments.{joined, weaker}
 
--- each record has some bytes
-pub few_records : (rs : List Record) → AreSpelled rs → 13 * length rs ≤ length (spelled rs)
-few_records [] are = omega arith
-few_records (r ∷ rs) are = let a = few_records rs are.1 in let b = long_spelling r are.0 in let c = length-append (spelled rs) (spelling r) in omega (arith, a, b, c)
+-- no record has many bytes
+few_bytes : (rs : List Record) → AreSpelled rs → length (spelled rs) ≤ 546 * length rs
+few_bytes [] are = omega arith
+few_bytes (r ∷ rs) are = let a = few_bytes rs are.1 in let b = short_spelling r are.0 in let c = length-append (spelled rs) (spelling r) in omega (arith, a, b, c)
 
 -- what is read twice is only read
 pub read_twice : {L : Type 0} (g : Ghosts L) (old mid new : L) → IsRead g old mid → IsRead g mid new → IsRead g old new
@@ -58,9 +58,8 @@ none_empty [] rest some e = some refl
 none_empty (b ∷ unread) rest some e = let n = ap length e in omega (arith, n)
 
 module _ {L : Type 0} (g : Ghosts L) (records : List Record) (first : L) (last : ℕ) where
-  -- the number of the next record
-  pub next_fits : (s : Streamed L) → KeepsRead g records s first last → s.at < 2 ^ 64 → last + 1 < 2 ^ 64
-  next_fits s k fits = let a = few_records records k.are_spelled in let b = k.place in let c = k.count in omega (arith, a, b, c, fits)
+  pub room_to_read : (s : Streamed L) → KeepsRead g records s first last → HasRoomToRead s
+  room_to_read s k = let a = few_bytes records k.are_spelled in let b = k.place in let c = k.count in let d = k.few in omega (arith, a, b, c, d)
 
   pub is_reading : (s : Streamed L) → KeepsRead g records s first last → IsReading g (record { records = records; device = s.device; first = first })
   is_reading s k = record {
@@ -74,16 +73,18 @@ module _ {L : Type 0} (g : Ghosts L) (records : List Record) (first : L) (last :
   filled old s k left place read = record {
     are_spelled = k.are_spelled;
     count = k.count;
+    few = k.few;
     place = (let p = k.place in omega (arith, p, place));
     front = λ h. k.front (read.honest h) ∙ ap (λ l. spelled records ++ l) (sym (left h));
     read = read_twice g first old.device s.device k.read read;
   }
 
   -- the next record is taken
-  pub taken : (s new : Streamed L) (r : Record) (used : ℕ) → KeepsRead g records s first last → IsFront r used s.unread → new ≡ record s { unread = drop used s.unread } → KeepsRead g (r ∷ records) new first (last + 1)
-  taken s new r used k is same = subst (λ (x : Streamed L). KeepsRead g (r ∷ records) x first (last + 1)) (sym same) (record {
+  pub taken : (s new : Streamed L) (r : Record) (used : ℕ) → KeepsRead g records s first last → last < 2 ^ 50 → IsFront r used s.unread → new ≡ record s { unread = drop used s.unread } → KeepsRead g (r ∷ records) new first (last + 1)
+  taken s new r used k low is same = subst (λ (x : Streamed L). KeepsRead g (r ∷ records) x first (last + 1)) (sym same) (record {
     are_spelled = (is.0, k.are_spelled);
     count = (let c = k.count in omega (arith, c));
+    few = omega (arith, low);
     place = (
         let p = k.place in
         let a = length-append (spelled records) (spelling r) in
@@ -100,7 +101,11 @@ module _ {L : Type 0} (g : Ghosts L) (records : List Record) (first : L) (last :
     read = k.read;
   })
 
-  -- what is left is no record
+  -- what is left is some bytes
+  pub more : (s : Streamed L) → KeepsRead g records s first last → s.unread ≢ [] → g.honest s.device → HasMoreBehind records (g.seen first)
+  more s k some h = (left_of g s, none_empty s.unread (drop s.at (g.seen s.device)) some, k.front h)
+
+  -- and no record
   pub damaged : (s : Streamed L) → KeepsRead g records s first last → HasMost g 546 s → (HoldsRecord s.unread → ⊥) → s.unread ≢ [] → g.honest s.device → IsDamagedBehind records (g.seen first)
   damaged s k most none some h = record {
     rest = left_of g s;

@@ -21,6 +21,10 @@ pub record LogRead (L : Type 0) : Type 0 where
 abbrev pub BeginsWith : List Record → List ℕ → Type 0
 BeginsWith records bytes = (rest : List ℕ) × (bytes ≡ spelled records ++ rest)
 
+-- behind these records there are bytes
+abbrev pub HasMoreBehind : List Record → List ℕ → Type 0
+HasMoreBehind records bytes = (rest : List ℕ) × (rest ≢ []) × (bytes ≡ spelled records ++ rest)
+
 -- behind these records there are bytes, and no record stands at their front
 pub record IsDamagedBehind (records : List Record) (bytes : List ℕ) : Type 0 where
   pub rest : List ℕ
@@ -36,11 +40,9 @@ pub record Streamed (L : Type 0) : Type 0 where
   pub ended : Bool
   pub device : L
 
--- why no more was read, with the failures of the device before and after it
-abbrev pub Fails : Refusal → ℕ → ℕ → Type 0
-Fails why.NoMemory before now = now ≡ before
-Fails why.DiskRead before now = now ≡ (before + 1) % 2 ^ 64
-Fails _ before now = ⊥
+-- so few bytes were taken that a number of 64 bits counts those of one window more
+abbrev pub HasRoomToRead : {L : Type 0} → Streamed L → Type 0
+HasRoomToRead s = s.at ≤ 2 ^ 63 + length s.unread
 
 module _ {L : Type 0} (g : Ghosts L) where
   -- the device of a log was only read
@@ -52,7 +54,8 @@ module _ {L : Type 0} (g : Ghosts L) where
 
   -- why reading a device stopped behind these records
   abbrev pub StopsFor : Refusal → List Record → L → L → Type 0
-  StopsFor why.NoMemory records old new = g.faults new ≡ g.faults old
+  StopsFor why.LogFull records old new = (2 ^ 50 ≤ length records)
+      × (g.honest new → HasMoreBehind records (g.seen old)) × (g.faults new ≡ g.faults old)
   StopsFor why.DiskRead records old new = g.faults new ≡ (g.faults old + 1) % 2 ^ 64
   StopsFor (why.Damaged (damage.Record lsn)) records old new = (lsn ≡ length records + 1)
       × (g.honest new → IsDamagedBehind records (g.seen old)) × (g.faults new ≡ g.faults old)
@@ -83,6 +86,7 @@ module _ {L : Type 0} (g : Ghosts L) where
   pub record KeepsRead (records : List Record) (s : Streamed L) (first : L) (last : ℕ) : Type 0 where
     pub are_spelled : AreSpelled records
     pub count : last ≡ length records
+    pub few : last ≤ 2 ^ 50
     pub place : s.at ≡ length (spelled records) + length s.unread
     pub front : g.honest s.device → g.seen first ≡ spelled records ++ left_of s
     pub read : IsRead first s.device

@@ -8,6 +8,7 @@ use crate::stream::Stream;
 use crate::{Log, RefusedLog};
 use rq_bytes::GhostList;
 use rq_disk::LogDevice;
+use rq_model::limits::LOG_LIMIT;
 use rq_model::record::Record;
 use rq_model::refusal::{Damage, Refusal};
 use rq_model::txn::Lsn;
@@ -145,7 +146,7 @@ impl<L: LogDevice> LogReader<L> {
     ///
     /// # Errors
     /// `Damaged` with the LSN of the next record, where bytes are left and no whole record stands at their front;
-    /// `DiskRead`; `NoMemory` where a number of 64 bits can't count the bytes.
+    /// `DiskRead`; `LogFull` where bytes are left behind as many records as a log may have.
     pub fn next_into(&mut self, into: &mut Record) -> Result<bool, Refusal>
         // What is read then.
         ensures some { IfOk result (λ found. OnTrue found (self.new.records ≡ into.new ∷ self.old.records)) }
@@ -179,11 +180,13 @@ impl<L: LogDevice> LogReader<L> {
         ensures first { self.new.first ≡ self.old.first }
     {
         self.stream.fill()?;
-        self.stream.shows_at();
+        if self.stream.unread().is_empty() {
+            return Ok(false);
+        }
+        if self.last >= LOG_LIMIT {
+            return Err(Refusal::LogFull);
+        }
         let Decoded::Record(used) = decode_into(self.stream.unread(), into) else {
-            if self.stream.unread().is_empty() {
-                return Ok(false);
-            }
             return Err(Refusal::Damaged(Damage::Record(self.last + 1)));
         };
         self.stream.skip(used);

@@ -1,7 +1,7 @@
 //! Bytes of a device, from its front on, a window at a time.
 ghost use Rattle.std.specs.Prelude.{◌≡◌, ◌+◌, ◌-◌, ◌^◌, ◌<◌, ◌≤◌, ◌++◌, IfOk, IfErr, OnOk, OnErr, length, take, drop, min};
 ghost use Rattle.rq_disk.specs.Device.{FailureIsCounted};
-ghost use Rattle.rq_log.specs.Reading.{Fails, HasMost, IsRead, left_of};
+ghost use Rattle.rq_log.specs.Reading.{HasMost, HasRoomToRead, IsRead, left_of};
 
 use crate::RefusedLog;
 use rq_disk::LogDevice;
@@ -89,13 +89,6 @@ impl<L: LogDevice + Drop> Stream<L> {
 }
 
 impl<L: LogDevice> Stream<L> {
-    /// How many bytes were read, for proofs: a number of 64 bits.
-    pub(crate) fn shows_at(&self)
-        ensures { self.now.at < 2 ^ 64 }
-    {
-        let _at = self.at;
-    }
-
     /// The bytes that were read and are not taken.
     pub(crate) fn unread(&self) -> &[u8]
         ensures { result.now ≡ self.now.unread }
@@ -114,14 +107,15 @@ impl<L: LogDevice> Stream<L> {
     /// Reads on where fewer bytes than the longest record has are left of what was read.
     ///
     /// # Errors
-    /// `DiskRead`; `NoMemory` where a number of 64 bits can't count the bytes.
+    /// `DiskRead`.
     pub(crate) fn fill(&mut self) -> Result<(), Refusal>
+        requires { HasRoomToRead self.old }
         ensures most { OnOk result (HasMost L.LogDevice 546 self.new) }
         ensures left { OnOk result (L.honest self.new.device → left_of L.LogDevice self.new ≡ left_of L.LogDevice self.old) }
         ensures place { self.new.at + length self.old.unread ≡ self.old.at + length self.new.unread }
         ensures err { OnErr result ((self.new.unread ≡ self.old.unread) × (self.new.at ≡ self.old.at)) }
-        ensures why { IfErr result (λ e. Fails e (L.faults self.old.device) (L.faults self.new.device)) }
-        ensures cause { OnOk result (L.faults self.new.device ≡ L.faults self.old.device) }
+        ensures why { IfErr result (λ e. e ≡ Refusal.DiskRead) }
+        ensures cause { FailureIsCounted (L.faults self.old.device) (L.faults self.new.device) result }
         ensures read { IsRead L.LogDevice self.old.device self.new.device }
     {
         if self.ended || self.end - self.start >= PAGE_OP_BYTES {
@@ -131,10 +125,7 @@ impl<L: LogDevice> Stream<L> {
         self.end -= self.start;
         self.start = 0;
         let count = read_behind(&mut self.device, self.at, &mut self.window, self.end)?;
-        let Some(at) = self.at.checked_add(count as u64) else {
-            return Err(Refusal::NoMemory);
-        };
-        self.at = at;
+        self.at += count as u64;
         self.end += count;
         self.ended = self.end < WINDOW;
         Ok(())

@@ -143,14 +143,14 @@ module _ (s : State) (k : LevelState) (given : List Given) (latched : List ℕ) 
   -- and what can be is refused for memory alone, or for latches
   judged : (d : Deed) (r : Refusal) → AreGivenOf s given (needed (slots_now s) (Undid d)) → Undoes (Some s.sizes) (Some d) k given latched (Err r) after → CanBeTakenBack s.sizes (slots_now s) d → IfErr (unless_latched (Err r)) (λ x. x ≡ why.NoMemory)
   judged (Append g n tag previous body) why.NoMemory h m can = refl
-  judged (Append g n tag previous body) (why.Damaged x) h m can = absurd (m.0 (can_unlink s given g n can h))
+  judged (Append g n tag previous body) (why.Damaged x) h m can = absurd (m.0.1 (can_unlink s given g n can h))
   judged (Append g n tag previous body) r h m can = absurd m.0
   judged (UnlinkHead g n tag body) why.NoMemory h m can = refl
   judged (UnlinkHead g n tag body) why.Latched h m can = tt
-  judged (UnlinkHead g n tag body) (why.Damaged x) h m can = absurd (not_full s k can.cell keeps can.is_cell can.free (m.0 (can_return s given g n can h)))
+  judged (UnlinkHead g n tag body) (why.Damaged x) h m can = absurd (not_full s k can.cell keeps can.is_cell can.free (m.0.1 (can_return s given g n can h)))
   judged (UnlinkHead g n tag body) r h m can = absurd m.0
   judged (Close g) why.NoMemory h m can = refl
-  judged (Close g) (why.Damaged x) h m can = absurd (m.0 (can_open s given g can h))
+  judged (Close g) (why.Damaged x) h m can = absurd (m.0.1 (can_open s given g can h))
   judged (Close g) r h m can = absurd m.0
 
   deed_is : (o : Option Deed) (d : Deed) → to_undo o ≡ Some (Undo d) → o ≡ Some d

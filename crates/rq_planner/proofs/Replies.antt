@@ -276,21 +276,21 @@ module _ (whole : State) (sound : IsSound whole) where
         levels_refuse.sends whole k given latched g (why.Damaged x) sound (same_keeps k keeps) on may.0
         (levels_find.sends whole given g sound inside (h.has.gathered.unlatched (directory_at g) (slots_now whole (directory_at g)) h.all.0) may.1 (same_given given (needed_by (slots_now bare) (Some (Do (Send g tag body)))) h.all)) m.0
     no_doing (Receive g) h inside m may =
-        m.0 (levels_find.receives whole given g sound inside (h.has.gathered.unlatched (directory_at g) (slots_now whole (directory_at g)) h.all.0) may (same_given given (needed_by (slots_now bare) (Some (Do (Receive g)))) h.all))
+        m.0.1 (levels_find.receives whole given g sound inside (h.has.gathered.unlatched (directory_at g) (slots_now whole (directory_at g)) h.all.0) may (same_given given (needed_by (slots_now bare) (Some (Do (Receive g)))) h.all))
     no_doing (Close g) h inside m may =
-        m.0 (levels_find.closes whole given g sound inside (h.has.gathered.unlatched (directory_at g) (slots_now whole (directory_at g)) h.all.0) may (same_given given (needed_by (slots_now bare) (Some (Do (Close g)))) h.all))
+        m.0.1 (levels_find.closes whole given g sound inside (h.has.gathered.unlatched (directory_at g) (slots_now whole (directory_at g)) h.all.0) may (same_given given (needed_by (slots_now bare) (Some (Do (Close g)))) h.all))
 
     finds : (d : Deed) → IsNewestDeed whole d → latched_in whole.rows (directory_at (deed_sender d) / 16) ≡ false → AreGivenOf bare given (needed (slots_now whole) (Undid d)) → CanUndo whole.sizes given d
     finds d may off all = levels_find.undoes whole given may.row may.older (record { lsn = may.lsn; deed = d }) sound may.idle may.last off (same_given given (needed (slots_now whole) (Undid d)) all)
 
     no_undoing : (d : Deed) → HasGatheredFor bare given (Some (Undo d)) → Undoes (Some whole.sizes) (Some d) k given latched (Err (why.Damaged x)) after → MayBeAsked whole (Undo d) → ⊥
     no_undoing (Append g n tag previous body) h m may =
-        m.0 (finds (Append g n tag previous body) may (h.has.gathered.unlatched (directory_at g) (slots_now whole (directory_at g)) h.all.0) h.all)
+        m.0.1 (finds (Append g n tag previous body) may (h.has.gathered.unlatched (directory_at g) (slots_now whole (directory_at g)) h.all.0) h.all)
     no_undoing (UnlinkHead g n tag body) h m may =
         levels_refuse.returns whole k given latched may.row may.older may.lsn g n tag body (why.Damaged x) sound (same_keeps k keeps) on may.idle may.last
         (finds (UnlinkHead g n tag body) may (h.has.gathered.unlatched (directory_at g) (slots_now whole (directory_at g)) h.all.0) h.all) m.0
     no_undoing (Close_deed g) h m may =
-        m.0 (finds (Close_deed g) may (h.has.gathered.unlatched (directory_at g) (slots_now whole (directory_at g)) h.all.0) h.all)
+        m.0.1 (finds (Close_deed g) may (h.has.gathered.unlatched (directory_at g) (slots_now whole (directory_at g)) h.all.0) h.all)
 
 -- ---- what is answered
 

@@ -131,26 +131,26 @@ some_known : (s : State) (k : LevelState) → IsSound s → KeepsCells s k → s
 some_known s k sound c less = let a = planned.send_finds s sound less in free_known s k a.0 sound c a.1 a.2
 
 -- why a level refuses an operation that takes a cell, where the slots hold what it needs
-refuses_taking : (s : State) (k : LevelState) (latched : List ℕ) (Can : Type 0) (r : Refusal) → KeepsCells s k → AreLatched s latched → SomeFree s.sizes k → Can → RefusesTaking s.sizes k latched Can r → IsForLatches s r
-refuses_taking s k latched Can why.NoMemory c on some can h = tt
-refuses_taking s k latched Can why.Latched c on some can h = none_takes s k latched c on h.0
-refuses_taking s k latched Can (why.Damaged d) c on some can h = true≢false (sym some.2 ∙ h can some.0 some.1)
-refuses_taking s k latched Can r c on some can h = absurd h
+refuses_taking : (s : State) (k : LevelState) (latched : List ℕ) (g : ℕ) (Can : Type 0) (r : Refusal) → KeepsCells s k → AreLatched s latched → SomeFree s.sizes k → Can → RefusesTaking s.sizes k latched g Can r → IsForLatches s r
+refuses_taking s k latched g Can why.NoMemory c on some can h = tt
+refuses_taking s k latched g Can why.Latched c on some can h = none_takes s k latched c on h.0
+refuses_taking s k latched g Can (why.Damaged d) c on some can h = true≢false (sym some.2 ∙ h.1 can some.0 some.1)
+refuses_taking s k latched g Can r c on some can h = absurd h
 
-refuses_other : (Can : Type 0) (r : Refusal) → Can → RefusesOther Can r → r ≡ why.NoMemory
-refuses_other Can why.NoMemory can h = refl
-refuses_other Can (why.Damaged d) can h = absurd (h can)
-refuses_other Can r can h = absurd h
+refuses_other : (g : ℕ) (Can : Type 0) (r : Refusal) → Can → RefusesOther g Can r → r ≡ why.NoMemory
+refuses_other g Can why.NoMemory can h = refl
+refuses_other g Can (why.Damaged d) can h = absurd (h.1 can)
+refuses_other g Can r can h = absurd h
 
 pub levels_refuse : LevelsRefuseExactly
 levels_refuse = record {
-  sends = λ s k given latched g r sound c on less can h. refuses_taking s k latched _ r c on (some_known s k sound c less) can h;
+  sends = λ s k given latched g r sound c on less can h. refuses_taking s k latched g _ r c on (some_known s k sound c less) can h;
   returns = λ s k given latched row rest lsn g n tag body r sound c on m newest can h.
       let a = planned.put_back_finds s row rest (record { lsn = lsn; deed = UnlinkHead g n tag body }) sound m newest refl in
-      refuses_taking s k latched _ r c on (free_known s k a.0 sound c a.1 a.2) can h;
-  receives = λ z given g r can h. refuses_other _ r can h;
-  marks = λ z given g closed r can h. refuses_other _ r can h;
-  unsends = λ z given g n r can h. refuses_other _ r can h;
+      refuses_taking s k latched g _ r c on (free_known s k a.0 sound c a.1 a.2) can h;
+  receives = λ z given g r can h. refuses_other g _ r can h;
+  marks = λ z given g closed r can h. refuses_other g _ r can h;
+  unsends = λ z given g n r can h. refuses_other g _ r can h;
 }
 
 module _ (s : State) (given : List Given) (h : IsGathered s given) where

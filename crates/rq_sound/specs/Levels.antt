@@ -98,15 +98,15 @@ IsForLatches s _ = ⊥
 pub record LevelsRefuseExactly : Type 0 where
   pub sends : (s : State) (k : LevelState) (given : List Given) (latched : List ℕ) (g : ℕ) (r : Refusal) → IsSound s
       → KeepsCells s k → AreLatched s latched → s.cells_in_use < cell_count s.sizes → CanSend s.sizes given g
-      → RefusesTaking s.sizes k latched (CanSend s.sizes given g) r → IsForLatches s r
+      → RefusesTaking s.sizes k latched g (CanSend s.sizes given g) r → IsForLatches s r
   pub returns : (s : State) (k : LevelState) (given : List Given) (latched : List ℕ) (row : Row) (rest : List Finished)
       (lsn g n tag : ℕ) (body : List ℕ) (r : Refusal) → IsSound s → KeepsCells s k → AreLatched s latched
       → IsIdle s row → row.finished ≡ rest ++ record { lsn = lsn; deed = UnlinkHead g n tag body } ∷ []
-      → CanPutBack s.sizes given g n → RefusesTaking s.sizes k latched (CanPutBack s.sizes given g n) r
+      → CanPutBack s.sizes given g n → RefusesTaking s.sizes k latched g (CanPutBack s.sizes given g n) r
       → IsForLatches s r
   pub receives : (z : Sizes) (given : List Given) (g : ℕ) (r : Refusal) → CanReceive z given g
-      → RefusesOther (CanReceive z given g) r → r ≡ why.NoMemory
+      → RefusesOther g (CanReceive z given g) r → r ≡ why.NoMemory
   pub marks : (z : Sizes) (given : List Given) (g : ℕ) (closed : Bool) (r : Refusal) → CanMark z given g closed
-      → RefusesOther (CanMark z given g closed) r → r ≡ why.NoMemory
+      → RefusesOther g (CanMark z given g closed) r → r ≡ why.NoMemory
   pub unsends : (z : Sizes) (given : List Given) (g n : ℕ) (r : Refusal) → CanUnlinkTail z given g n
-      → RefusesOther (CanUnlinkTail z given g n) r → r ≡ why.NoMemory
+      → RefusesOther g (CanUnlinkTail z given g n) r → r ≡ why.NoMemory

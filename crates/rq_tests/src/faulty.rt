@@ -95,10 +95,10 @@ impl Storage for Faulty {
     ghost opened = { λ f. f.len };
 
     fn fill(&mut self, into: &mut [u8], at: u64) -> io::Result<()> {
-        if self.countdown.fails() {
+        if self.countdown.fails() || self.file.read_exact_at(into, at).is_err() {
+            self.calls.denied(at);
             return Err(failure());
         }
-        self.file.read_exact_at(into, at)?;
         self.calls.gave(at, into);
         Ok(())
     }

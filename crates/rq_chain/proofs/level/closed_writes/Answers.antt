@@ -1,4 +1,4 @@
-use Rattle.std.proofs.Common.{arith, false}
+use Rattle.std.proofs.Common.{arith}
 use Rattle.rq_chain.proofs.Planned.{is_marked, differs}
 use Rattle.rq_chain.proofs.level.closed_writes.Goals as goal
 

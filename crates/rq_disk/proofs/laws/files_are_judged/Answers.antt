@@ -38,4 +38,8 @@ returns c = record {
   ];
   ends = refl;
   goes_on = refl;
+  erred_behind = inl refl;
+  erred_in_it = inr (4096, refl);
+  erred_for_nothing = λ a. elim a [ inl failed ↦ cc failed | inr read ↦ (let e : 1 ≡ 2 = ap length read.1 in omega (arith, e)) ];
+  erred_for_an_earlier_one = λ a. elim a [ inl failed ↦ cc failed | inr read ↦ (let e : 1 ≡ 2 = ap length read.1 in omega (arith, e)) ];
 }

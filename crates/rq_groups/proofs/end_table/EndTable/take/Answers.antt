@@ -1,4 +1,4 @@
-use Rattle.std.proofs.Common.{◌≡◌, ◌∷◌, true, not, sym, ap, ◌∙◌, subst, set, Some, None, Option, ℕ, arith}
+use Rattle.std.proofs.Common.{rules, ◌≡◌, ◌∷◌, true, false, not, sym, ap, ◌∙◌, subst, set, Some, None, Option, ℕ, arith}
 use Rattle.std.specs.Option.{is_some}
 use Rattle.rq_groups.specs.declared.Held.{Held}
 use Rattle.rq_groups.specs.declared.places.Holding.{Holding}
@@ -62,3 +62,21 @@ returns-clause-newly c =
     let s = c.args.sender in
     let none : held_at i.holders s ≡ None = none_of (held_at i.holders s) (ap is_some (sym c.of.ensures) ∙ sym c.is_some.ensures ∙ c.if-is_some.false) in
     sym (ap not (ap (has_held t s) (sym c.self.view_is) ∙ not_held i.holders i.heads.items (held_after i.changes.value) c.self.invariant s none t))
+
+pub returns-then-sender-len-clause-own : goal.returns-then-sender-len-clause-own
+returns-then-sender-len-clause-own c =
+    let i = c.self.inside in
+    let t = c.args.txn in
+    let s = c.args.sender in
+    let none : held_at i.holders s ≡ None = none_of (held_at i.holders s) (ap is_some (sym c.of.ensures) ∙ sym c.is_some.ensures ∙ c.if-is_some.false) in
+    let own : has_held t s c.args.self.now ≡ false = ap (has_held t s) (sym c.self.view_is) ∙ not_held i.holders i.heads.items (held_after i.changes.value) c.self.invariant s none t in
+    own
+
+pub returns-in_err-next-clause-own : goal.returns-in_err-next-clause-own
+returns-in_err-next-clause-own c =
+    let i = c.self.inside in
+    let t = c.args.txn in
+    let s = c.args.sender in
+    let none : held_at i.holders s ≡ None = none_of (held_at i.holders s) (ap is_some (sym c.of.ensures) ∙ sym c.is_some.ensures ∙ c.if-is_some.false) in
+    let own : has_held t s c.args.self.now ≡ false = ap (has_held t s) (sym c.self.view_is) ∙ not_held i.holders i.heads.items (held_after i.changes.value) c.self.invariant s none t in
+    search (rules, own)

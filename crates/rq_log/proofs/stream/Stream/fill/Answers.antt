@@ -1,4 +1,4 @@
-use Rattle.std.proofs.Common.{rules, ◌≡◌, ◌+◌, ◌-◌, ◌++◌, length, take, drop, ap, sym, ◌∙◌, arith}
+use Rattle.std.proofs.Common.{rules, ◌≡◌, ◌+◌, ◌-◌, ◌++◌, length, take, drop, ap, refl, sym, ◌∙◌, arith}
 use Rattle.std.proofs.lemmas.List.{length-drop}
 use Rattle.rq_log.specs.Reading.{left_of}
 use Rattle.rq_log.proofs.Streams.{filled_window, has_most, left_same, pasted}
@@ -16,9 +16,8 @@ returns-clause-most g c =
     let len : c.copy_within.new.self.len ≡ 65536 = search (rules, c.copy_within.ensures.len, c.self.invariant.wide) in
     let items : take c.copy_within.new.self.len (c.read_behind.new.window ++ drop (length c.read_behind.new.window) c.copy_within.new.self.items) ≡ c.read_behind.new.window = filled_window c.copy_within.new.self.len c.read_behind.new.window (drop (length c.read_behind.new.window) c.copy_within.new.self.items) (len ∙ sym wide) in
     let within = c.in_ok-count.ensures.within in
-    let goes = (c.in-Some.ensures).1 in
     has_most c.read_behind.new.window (l.seen s.device) (e + n - 0) s.at e n (ap (take (e + n - 0)) items) (omega arith) wide (omega (arith, within, window))
-    (λ h. let r = c.in_ok-count.ensures.count h in omega (arith, r, window)) goes c.in_ok-count.ensures.read.same
+    (λ h. let r = c.in_ok-count.ensures.count h in omega (arith, r, window)) refl c.in_ok-count.ensures.read.same
 
 pub returns-clause-left : goal.returns-clause-left
 returns-clause-left g c = λ h.
@@ -26,7 +25,6 @@ returns-clause-left g c = λ h.
     let s = c.self.inside in
     let e = s.end - s.start in
     let n = c.in_ok-count.count in
-    let goes = (c.in-Some.ensures).1 in
     let order = c.self.invariant.order in
     let within = c.self.invariant.within in
     let size = length-drop s.start s.window.items in
@@ -38,5 +36,5 @@ returns-clause-left g c = λ h.
     let len : c.copy_within.new.self.len ≡ 65536 = search (rules, c.copy_within.ensures.len, c.self.invariant.wide) in
     let items : take c.copy_within.new.self.len (c.read_behind.new.window ++ drop (length c.read_behind.new.window) c.copy_within.new.self.items) ≡ c.read_behind.new.window = filled_window c.copy_within.new.self.len c.read_behind.new.window (drop (length c.read_behind.new.window) c.copy_within.new.self.items) (len ∙ sym wide) in
     left_same (take e (drop s.start s.window.items)) (l.seen s.device) s.at n
-    (ap (take (e + n - 0)) items ∙ ap (λ k. take k c.read_behind.new.window) count ∙ c.in_ok-count.ensures.bytes h ∙ ap (λ u. u ++ take n (drop s.at (l.seen s.device))) moved) goes c.in_ok-count.ensures.read.same
+    (ap (take (e + n - 0)) items ∙ ap (λ k. take k c.read_behind.new.window) count ∙ c.in_ok-count.ensures.bytes h ∙ ap (λ u. u ++ take n (drop s.at (l.seen s.device))) moved) refl c.in_ok-count.ensures.read.same
     ∙ ap (λ v. left_of l v) c.self.view_is
