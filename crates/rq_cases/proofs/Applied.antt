@@ -7,7 +7,7 @@ use Rattle.rq_disk.specs.declared.mem_log.MemLog.{MemLog}
 use Rattle.rq_disk.specs.declared.mem_pages.MemPages.{MemPages}
 use Rattle.rq_log.specs.Spelled.{spelled}
 use Rattle.rq_page.specs.Pages.{lsn_of}
-use Rattle.rq_restart.proofs.Parsing.{one_log}
+use Rattle.rq_log.proofs.Parsing.{one_log}
 use Rattle.rq_store.specs.State.{State}
 use Rattle.rq_engine.specs.declared.event.Event.TheVariants as event
 use Rattle.rq_engine.specs.declared.event.Reply.TheVariants as reply

@@ -63,7 +63,7 @@ use Rattle.rq_restart.specs.Restarting.{LogStops}
 use Rattle.rq_restart.proofs.Aborts.{aborting_none, behind_none, active_lost}
 use Rattle.rq_analysis.specs.Recovered.IsRecovered.{NoneLost}
 use Rattle.rq_analysis.specs.Recovered.IsRecovering.{Undoing}
-use Rattle.rq_restart.proofs.Parsing.{one_log}
+use Rattle.rq_log.proofs.Parsing.{one_log}
 use Rattle.rq_core.specs.Devices.{mem_log, mem_pages}
 use Rattle.rq_core.specs.Worked.{hello}
 use Rattle.rq_cases.specs.Aborts.{close_turned, turned, undone}

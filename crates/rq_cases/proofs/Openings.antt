@@ -23,7 +23,7 @@ use Rattle.rq_restart.specs.Checked.{as_read}
 use Rattle.rq_restart.proofs.Begun.{rolled_back_extends}
 use Rattle.rq_restart.specs.Repeating.{Paged, Repeats}
 use Rattle.rq_restart.specs.Restarting.{IsBegunOn, LogStops}
-use Rattle.rq_restart.proofs.Parsing.{one_log}
+use Rattle.rq_log.proofs.Parsing.{one_log}
 use Rattle.rq_restart.specs.Underway.{OfStores}
 use Rattle.rq_core.specs.Devices.{mem_log, mem_pages}
 use Rattle.rq_core.proofs.Arms.{refused_stays}

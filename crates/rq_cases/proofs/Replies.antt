@@ -10,7 +10,7 @@ use Rattle.rq_disk.specs.declared.mem_log.MemLog.{MemLog}
 use Rattle.rq_disk.specs.declared.mem_pages.MemPages.{MemPages}
 use Rattle.rq_log.specs.Spelled.{spelled}
 use Rattle.rq_views.specs.WorkedItems.{t1}
-use Rattle.rq_restart.proofs.Parsing.{one_log}
+use Rattle.rq_log.proofs.Parsing.{one_log}
 use Rattle.rq_sound.specs.Sound.{IsSound}
 use Rattle.rq_engine.specs.Opened.{OpenStore}
 use Rattle.rq_engine.proofs.Crashing.{spelled_dropped}

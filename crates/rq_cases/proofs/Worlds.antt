@@ -32,7 +32,7 @@ use Rattle.rq_engine.specs.Crash.{IsCut, LeavesCut}
 use Rattle.rq_engine.specs.Devices.{EachPair}
 use Rattle.rq_engine.proofs.Crashing.{commits_of_cut, leaves_cut}
 use Rattle.rq_restart.specs.Underway.{IsStore}
-use Rattle.rq_restart.proofs.Parsing.{one_log}
+use Rattle.rq_log.proofs.Parsing.{one_log}
 use Rattle.rq_core.specs.Devices.{mem_log, mem_pages}
 use Rattle.rq_core.specs.Happenings.{Course, Tells}
 use Rattle.rq_core.specs.Headline.{LeavesStores}

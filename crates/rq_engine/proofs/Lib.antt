@@ -1,3 +1,4 @@
+pub mod Told
 pub mod Opened
 pub mod Waits
 pub mod Tags

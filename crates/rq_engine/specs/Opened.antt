@@ -2,8 +2,10 @@
 use Rattle.std.specs.Prelude.{◌≡◌, ℕ, ◌+◌, ◌%◌, ◌^◌, Bool, true, false, List, Result, Ok, Err}
 use Rattle.rq_model.specs.declared.refusal.Refusal.{Refusal}
 use Rattle.rq_model.specs.declared.refusal.Refusal.TheVariants as why
+use Rattle.rq_model.specs.declared.refusal.Damage.TheVariants as damage
 use Rattle.rq_disk.specs.declared.device.LogDevice as log_device
 use Rattle.rq_disk.specs.declared.device.PageDevice as page_device
+use Rattle.rq_log.specs.Places.{IsPlace}
 use Rattle.rq_pool.specs.declared.Written.{Written}
 use Rattle.rq_pool.specs.Pooled.{Pooled}
 use Rattle.rq_pool.specs.Writing.{AnswersWhen}
@@ -36,6 +38,15 @@ abbrev pub NotWritten : {P L : Type 0} → log_device.Ghosts L → OpenStore P L
 NotWritten g old new why.Failed = (old.state.failed ≡ true) × (new ≡ old)
 NotWritten g old new why.DiskWrite = (old.state.failed ≡ false) × (g.faults new.log ≡ (g.faults old.log + 1) % 2 ^ 64)
 NotWritten g old new _ = ⊥
+
+-- Why no record was told of a place of the log: the store had failed, and nothing changes; or the log's device failed now, or
+-- gave other bytes than it was handed; or the place is none of the log's. Damage has no number.
+abbrev pub NotTold : {P L : Type 0} → log_device.Ghosts L → OpenStore P L → ℕ → OpenStore P L → Refusal → Type 0
+NotTold g old place new why.Failed = (old.state.failed ≡ true) × (new ≡ old)
+NotTold g old place new why.DiskRead = (old.state.failed ≡ false) × (g.faults new.log ≡ (g.faults old.log + 1) % 2 ^ 64)
+NotTold g old place new (why.Damaged (damage.Record lsn)) = (old.state.failed ≡ false) × (lsn ≡ 0)
+    × (g.faults new.log ≡ g.faults old.log) × (g.honest new.log → IsPlace old.state.records place → ⊥)
+NotTold g old place new _ = ⊥
 
 -- When a page that is to be written out is answered so. The store had failed before; or the page has no change that was
 -- not written; or it has one, and the record of its last change is forced, or is not.

@@ -7,6 +7,7 @@ mod closes;
 pub mod engine;
 pub mod event;
 mod last;
+mod looking;
 mod moves;
 mod operations;
 mod pages;

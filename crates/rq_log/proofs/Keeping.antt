@@ -18,6 +18,11 @@ few_bytes : (rs : List Record) → AreSpelled rs → length (spelled rs) ≤ 546
 few_bytes [] are = omega arith
 few_bytes (r ∷ rs) are = let a = few_bytes rs are.1 in let b = short_spelling r are.0 in let c = length-append (spelled rs) (spelling r) in omega (arith, a, b, c)
 
+-- and not many
+pub few_bytes : (rs : List Record) → AreSpelled rs → length (spelled rs) ≤ 546 * length rs
+few_bytes [] are = omega arith
+few_bytes (r ∷ rs) are = let a = few_bytes rs are.1 in let b = short_spelling r are.0 in let c = length-append (spelled rs) (spelling r) in omega (arith, a, b, c)
+
 -- what is read twice is only read
 pub read_twice : {L : Type 0} (g : Ghosts L) (old mid new : L) → IsRead g old mid → IsRead g mid new → IsRead g old new
 read_twice g old mid new a b = record {

@@ -1,5 +1,7 @@
 pub mod Keeping
 pub mod Kept
 pub mod Moments
+pub mod Parsing
+pub mod Places
 pub mod Runs
 pub mod Streams

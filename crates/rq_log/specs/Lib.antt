@@ -1,4 +1,5 @@
 pub mod Crash
 pub mod Logged
+pub mod Places
 pub mod Reading
 pub mod Spelled

@@ -1,5 +1,5 @@
 -- What contracts see of a log.
-use Rattle.std.specs.Prelude.{◌≡◌, ◌⊎◌, ℕ, ◌+◌, ◌≤◌, Bool, false, List, length, drop, take}
+use Rattle.std.specs.Prelude.{◌≡◌, ◌⊎◌, ℕ, ◌+◌, ◌^◌, ◌<◌, ◌≤◌, Bool, false, List, length, drop, take}
 use Rattle.rq_model.specs.declared.record.Record.{Record}
 use Rattle.rq_disk.specs.Device.{Only}
 use Rattle.rq_disk.specs.declared.device.LogDevice.{Ghosts}
@@ -47,8 +47,9 @@ module _ {L : Type 0} (g : Ghosts L) where
       × (buffer ≡ spelled (take count log.records))
 
   -- what is so of its fields
-  pub record Keeps (log : Logged L) (last : ℕ) (buffer : List ℕ) (capacity : ℕ) : Type 0 where
+  pub record Keeps (log : Logged L) (last size : ℕ) (buffer : List ℕ) (capacity : ℕ) : Type 0 where
     pub is_log : IsLog log
     pub count : last ≡ length log.records
+    pub total : length (spelled log.records) < 2 ^ 64 → size ≡ length (spelled log.records)
     pub room : length buffer + log.reserved ≤ capacity
     pub buffered : log.failed ≡ false → IsBuffered log buffer

@@ -8,6 +8,7 @@ ghost use Rattle.rq_log.specs.Crash.{LeavesOnly};
 ghost use Rattle.rq_log.specs.Logged.{IsLog, WasDurable, WasLeftOrGoesOn};
 ghost use Rattle.rq_log.specs.Spelled.{spelled, AreSpelled, IsBeginning};
 
+mod looking;
 mod reading;
 mod stream;
 
@@ -32,6 +33,8 @@ pub struct Log<L: LogDevice> {
     buffer: Vec<u8>,
     reserved: usize,
     last: Lsn,
+    // how many bytes its records take, where a number of 64 bits counts them
+    size: u64,
     forced: Lsn,
     failed: bool,
 }
@@ -60,7 +63,7 @@ impl<L: LogDevice> Model for Log<L> {
       failed = l.failed;
       device = l.device;
       settled = l.settled.value;
-    }) l.last l.buffer.items (vec_capacity l.buffer) };
+    }) l.last l.size l.buffer.items (vec_capacity l.buffer) };
 }
 
 /// A log that could not be read: why, and its device.
@@ -81,9 +84,11 @@ impl<L: LogDevice + Drop> Log<L> {
         settled: Snapshot<L>,
         past: Snapshot<GhostList<Record>>,
         last: Lsn,
+        size: u64,
     ) -> Log<L>
         requires spelled { AreSpelled past.value }
         requires count { last ≡ length past.value }
+        requires size { size ≡ length (spelled past.value) }
         requires read { IsRead L.LogDevice settled.value device }
         requires whole { L.honest device → L.seen settled.value ≡ spelled past.value }
         ensures { result ≡ record {
@@ -103,6 +108,7 @@ impl<L: LogDevice + Drop> Log<L> {
             buffer: Vec::new(alloc),
             reserved: 0,
             last,
+            size,
             forced: 0,
             failed: false,
         }
@@ -119,6 +125,7 @@ impl<L: LogDevice + Drop> Log<L> {
             buffer: _,
             reserved: _,
             last: _,
+            size: _,
             forced: _,
             failed: _,
         } = self;
@@ -195,7 +202,9 @@ impl<L: LogDevice> Log<L> {
         ensures settled { self.new.settled ≡ self.old.settled }
     {
         shows_fits(added);
-        self.reserved -= spelled_len(added);
+        let spelled = spelled_len(added);
+        self.reserved -= spelled;
+        self.size = self.size.saturating_add(spelled as u64);
         encode(added, &mut self.buffer).unwrap();
         GhostList::push(&mut self.past, added);
         self.last += 1;

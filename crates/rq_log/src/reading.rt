@@ -82,7 +82,8 @@ impl<L: LogDevice + Drop> LogReader<L> {
             past,
             last,
         } = self;
-        Log::of_records(alloc, stream.give_back(), first, past, last)
+        let size = stream.taken();
+        Log::of_records(alloc, stream.give_back(), first, past, last, size)
     }
 
     /// The device, as it is.

@@ -96,6 +96,14 @@ impl<L: LogDevice> Stream<L> {
         &self.window[self.start..self.end]
     }
 
+    /// How many bytes were taken.
+    pub(crate) fn taken(&self) -> u64
+        requires { length self.now.unread ≤ self.now.at }
+        ensures { result ≡ self.now.at - length self.now.unread }
+    {
+        self.at - (self.end - self.start) as u64
+    }
+
     /// Takes the first so many of them.
     pub(crate) fn skip(&mut self, count: usize)
         requires { count ≤ length self.old.unread }

@@ -42,7 +42,7 @@ use Rattle.rq_restart.specs.Undoing.{IsBadUndo}
 use Rattle.rq_restart.proofs.Aborts.{aborting_extends, aborting_incarnation}
 use Rattle.rq_restart.proofs.Lefts.{front_continues, left_longer, left_undoing}
 use Rattle.rq_restart.proofs.RollingBack.{recovered_on}
-use Rattle.rq_restart.proofs.Parsing.{one_log}
+use Rattle.rq_log.proofs.Parsing.{one_log}
 use Rattle.rq_restart.proofs.Repeated.{all_up_to, repeated_order, up_to}
 
 -- it extends the log, and is of its incarnation

@@ -34,7 +34,7 @@ use Rattle.rq_restart.specs.Underway.{IsSomeStore, IsLeftOrGoesOn, pages_left, l
 use Rattle.rq_restart.proofs.Begun.{rolled_back_extends, rolled_back_incarnation}
 use Rattle.rq_restart.proofs.Lefts.{front_continues, left_longer}
 use Rattle.rq_restart.proofs.Loading.{one_size}
-use Rattle.rq_restart.proofs.Parsing.{one_log}
+use Rattle.rq_log.proofs.Parsing.{one_log}
 use Rattle.rq_restart.proofs.Restarts.{left_read, told_on}
 
 -- the front of a log with another behind

@@ -1,4 +1,4 @@
-use Rattle.rq_restart.proofs.Parsing.{one_log}
+use Rattle.rq_log.proofs.Parsing.{one_log}
 use Rattle.rq_restart.proofs.laws.one_log.Goals as goal
 
 pub returns : goal.returns

@@ -1,0 +1,189 @@
+-- What stands at a place of a log, and that a record stands whole where it is handed over or buffered.
+use Rattle.std.proofs.Common.{◌≡◌, ◌≢◌, ⊎_elim, ℕ, zero, suc, ◌+◌, ◌-◌, ◌^◌, ◌<◌, ◌≤◌, min, false, List, [], ◌∷◌, ◌++◌, Some, None, length, take, drop, refl, sym, ◌∙◌, ap, subst, arith, append_assoc, length-append}
+use Rattle.std.proofs.Math.Seq.{drop-append_seam, drop-append-add, take-append-add, take-append_seam}
+use Rattle.std.proofs.lemmas.List.{drop-append-le, take-append-drop, take-append-le, length-take-le, length-drop}
+use Rattle.rq_model.specs.declared.record.Record.{Record}
+use Rattle.rq_record.specs.Decoding.{IsFront}
+use Rattle.rq_record.specs.Spelling.{HoldsRecord, IsRecord, spelling}
+use Rattle.rq_record.proofs.Whole.{long_spelling, one_spelling, short_spelling}
+use Rattle.rq_log.specs.Places.{IsPlace, NoneReadFor, NotToldFor, StandsAt}
+use Rattle.rq_model.specs.declared.refusal.Refusal.{Refusal}
+use Rattle.rq_model.specs.declared.refusal.Refusal.TheVariants as why
+use Rattle.rq_model.specs.declared.refusal.Damage.TheVariants as damage
+use Rattle.rq_disk.specs.declared.device.LogDevice.{Ghosts}
+use Rattle.rq_log.specs.Spelled.{spelled, AreSpelled}
+use Rattle.rq_log.specs.Logged.{Logged, Keeps}
+use Rattle.rq_log.proofs.Kept.{reads_all}
+use Rattle.rq_log.proofs.Runs.{spelled-append}
+use Rattle.std.proofs.lemmas.Bool.{cases_lt}
+
+-- one record stands at the front of bytes at most
+one_front : (r s : Record) (used : ℕ) (bytes rest : List ℕ) → IsFront r used bytes → IsRecord s → bytes ≡ spelling s ++ rest → (r ≡ s) × (used ≡ length (spelling s))
+one_front r s used bytes rest front is e =
+    let whole : spelling r ++ drop used bytes ≡ spelling s ++ rest = ap (λ l. l ++ drop used bytes) (sym front.2) ∙ take-append-drop used bytes ∙ e in
+    let same = (one_spelling r s (drop used bytes) rest front.0 is whole).0 in
+    let size : used ≡ length (spelling s) = sym (length-take-le used bytes front.1) ∙ ap length front.2 ∙ ap (λ x. length (spelling x)) same in
+    (same, size)
+
+front_longer : (r : Record) (used : ℕ) (a b : List ℕ) → IsFront r used a → IsFront r used (a ++ b)
+front_longer r used a b front =
+    let size = length-append a b in
+    let within = front.1 in
+    (front.0, omega (arith, size, within), take-append-le used a b within ∙ front.2)
+
+AreSpelled-behind : (newer older : List Record) → AreSpelled (newer ++ older) → AreSpelled older
+AreSpelled-behind [] older are = are
+AreSpelled-behind (r ∷ newer) older are = AreSpelled-behind newer older are.1
+
+-- the next record stands at the place where the older ones end
+next_stands : (newer older : List Record) (r : Record) → drop (length (spelled older)) (spelled (newer ++ (r ∷ older))) ≡ spelling r ++ spelled newer
+next_stands newer older r =
+    ap (drop (length (spelled older))) (spelled-append newer (r ∷ older) ∙ append_assoc (spelled older) (spelling r) (spelled newer))
+    ∙ drop-append_seam (spelled older) (spelling r ++ spelled newer)
+
+next_longer : (newer older : List Record) (r : Record) → length (spelled (r ∷ older)) ≤ length (spelled (newer ++ (r ∷ older)))
+next_longer newer older r = let a = ap length (spelled-append newer (r ∷ older)) in let b = length-append (spelled (r ∷ older)) (spelled newer) in omega (arith, a, b)
+
+older_shorter : (count : ℕ) (rs : List Record) → length (spelled (drop count rs)) ≤ length (spelled rs)
+older_shorter zero rs = omega arith
+older_shorter (suc count) [] = omega arith
+older_shorter (suc count) (r ∷ rs) = let a = older_shorter count rs in let b = length-append (spelled rs) (spelling r) in omega (arith, a, b)
+
+-- of those that are handed over it stands there whole
+next_handed : (count : ℕ) (newer older : List Record) (r : Record) → length (spelled older) < length (spelled (drop count (newer ++ (r ∷ older))))
+    → (rest : List ℕ) × (drop (length (spelled older)) (spelled (drop count (newer ++ (r ∷ older)))) ≡ spelling r ++ rest)
+next_handed zero newer older r less = (spelled newer, next_stands newer older r)
+next_handed (suc count) [] older r less = let a = older_shorter count older in absurd (omega (arith, a, less))
+next_handed (suc count) (n ∷ newer) older r less = next_handed count newer older r less
+
+-- what some records end with is one of them
+last_of : (a : Record) (newer older : List Record) → (rest : List Record) × (r : Record) × ((a ∷ newer) ++ older ≡ rest ++ (r ∷ older))
+last_of a [] older = ([], a, refl)
+last_of a (b ∷ newer) older = let p = last_of b newer older in (a ∷ p.0, p.1, ap (λ l. a ∷ l) p.2)
+
+-- behind a place that is not the end a record stands
+next_at : (records : List Record) (place : ℕ) → IsPlace records place → place ≢ length (spelled records)
+    → (newer : List Record) × (older : List Record) × (r : Record) × (records ≡ newer ++ (r ∷ older)) × (place ≡ length (spelled older))
+next_at records place ([], older, e, at) behind = absurd (behind (at ∙ ap (λ l. length (spelled l)) (sym e)))
+next_at records place (a ∷ newer, older, e, at) behind =
+    let p = last_of a newer older in
+    (p.0, older, p.1, e ∙ p.2, at)
+
+-- at the end there is none
+pub stands_none : (records : List Record) (place : ℕ) → AreSpelled records → place ≡ length (spelled records) → StandsAt records place None
+stands_none records place are at = record {
+  next = λ newer older r is from. absurd (
+      let a = long_spelling r (AreSpelled-behind newer (r ∷ older) (subst AreSpelled is are)).0 in
+      let b = next_longer newer older r in
+      let c = ap (λ l. length (spelled l)) is in
+      let d = length-append (spelled older) (spelling r) in
+      omega (arith, a, b, c, d, at, from)
+      );
+  none = (λ _. at, λ _. refl);
+}
+
+-- elsewhere it is what stands in front of the bytes from there on
+stands_some : (records : List Record) (place : ℕ) (r : Record) (used : ℕ) → AreSpelled records → place ≢ length (spelled records) → IsFront r used (drop place (spelled records))
+    → StandsAt records place (Some (r, place + used))
+stands_some records place r used are behind front = record {
+  next = λ newer older s is from.
+      let fit = (AreSpelled-behind newer (s ∷ older) (subst AreSpelled is are)).0 in
+      let same = one_front r s used (drop place (spelled records)) (spelled newer) front fit
+      (ap (λ n. drop n (spelled records)) from ∙ ap (λ l. drop (length (spelled older)) (spelled l)) is ∙ next_stands newer older s) in
+      let size = length-append (spelled older) (spelling s) in
+      let behind : place + used ≡ length (spelled older ++ spelling s) = omega (arith, size, from, same.1) in
+      ap (λ x. Some (x, place + used)) same.0 ∙ ap (λ n. Some (s, n)) behind;
+  none = (λ e. absurd cc, λ at. absurd (behind at));
+}
+
+behind_seen : (seen buffer : List ℕ) (place : ℕ) → length seen ≤ place → drop (place - length seen) buffer ≡ drop place (seen ++ buffer)
+behind_seen seen buffer place le =
+    let n : place ≡ length seen + (place - length seen) = omega (arith, le) in
+    sym (ap (λ k. drop k (seen ++ buffer)) n ∙ drop-append-add seen buffer (place - length seen))
+
+-- where none stands there, it is no place
+pub no_place_handed : (records : List Record) (count place : ℕ) → AreSpelled records → place < length (spelled (drop count records)) → place ≢ length (spelled records)
+    → (HoldsRecord (drop place (spelled (drop count records))) → ⊥) → IsPlace records place → ⊥
+no_place_handed records count place are less behind none is =
+    let p = next_at records place is behind in
+    let fit = (AreSpelled-behind p.0 (p.2 ∷ p.1) (subst AreSpelled p.3 are)).0 in
+    let n = next_handed count p.0 p.1 p.2 (subst (λ l. length (spelled p.1) < length (spelled (drop count l))) p.3 (subst (λ k. k < length (spelled (drop count records))) p.4 less)) in
+    none (p.2, n.0, fit, ap (λ k. drop k (spelled (drop count records))) p.4 ∙ ap (λ l. drop (length (spelled p.1)) (spelled (drop count l))) p.3 ∙ n.1)
+
+pub no_place_buffered : (records : List Record) (seen buffer : List ℕ) (place : ℕ) → AreSpelled records → seen ++ buffer ≡ spelled records → length seen ≤ place → place ≢ length (spelled records)
+    → (HoldsRecord (drop (place - length seen) buffer) → ⊥) → IsPlace records place → ⊥
+no_place_buffered records seen buffer place are whole le behind none is =
+    let p = next_at records place is behind in
+    let fit = (AreSpelled-behind p.0 (p.2 ∷ p.1) (subst AreSpelled p.3 are)).0 in
+    none (
+      p.2,
+      spelled p.0,
+      fit,
+      behind_seen seen buffer place le ∙ ap (drop place) whole
+          ∙ ap (λ k. drop k (spelled records)) p.4 ∙ ap (λ l. drop (length (spelled p.1)) (spelled l)) p.3 ∙ next_stands p.0 p.1 p.2,
+    )
+
+-- what stands at the front of bytes stands at the front of the first 546 of them
+holds_most : (count : ℕ) (bytes : List ℕ) → count ≡ min 546 (length bytes) → HoldsRecord bytes → HoldsRecord (take count bytes)
+holds_most count bytes is h =
+    let most = short_spelling h.0 h.2 in
+    let size = ap length h.3 ∙ length-append (spelling h.0) h.1 in
+    let n : count ≡ length (spelling h.0) + (count - length (spelling h.0)) = omega (arith, is, most, size) in
+    (h.0, take (count - length (spelling h.0)) h.1, h.2, ap (take count) h.3 ∙ ap (λ k. take k (spelling h.0 ++ h.1)) n ∙ take-append-add (spelling h.0) h.1 (count - length (spelling h.0)))
+
+-- in bytes that were read of a device no record stands, and neither does one on the device
+pub none_on_device : (count place : ℕ) (seen read more : List ℕ) → count ≡ min 546 (length seen - place) → read ≡ take count (drop place seen) ++ more → (HoldsRecord (take count read) → ⊥) → HoldsRecord (drop place seen) → ⊥
+none_on_device count place seen read more is reads none h =
+    let left = length-drop place seen in
+    let n : count ≡ min 546 (length (drop place seen)) = omega (arith, is, left) in
+    let size = length-take-le count (drop place seen) (omega (arith, n)) in
+    none (subst HoldsRecord (sym (ap (take count) reads ∙ ap (λ k. take k (take count (drop place seen) ++ more)) (sym size) ∙ take-append_seam (take count (drop place seen)) more)) (holds_most count (drop place seen) n h))
+
+module _ {L : Type 0} (g : Ghosts L) where
+  pub none_read : (e : Refusal) (bytes : List ℕ) (old new : L) → e ≡ why.Damaged (damage.Record 0) → g.faults new ≡ g.faults old → (g.honest new → HoldsRecord bytes → ⊥) → NoneReadFor g e bytes old new
+  none_read e bytes old new is same none = subst (λ r. NoneReadFor g r bytes old new) (sym is) (refl, same, none)
+
+  -- where it stands at no place
+  pub not_told : (e : Refusal) (records : List Record) (place : ℕ) (bytes : List ℕ) (old new : L) → (g.honest new → length (spelled records) < 2 ^ 64 → (HoldsRecord bytes → ⊥) → IsPlace records place → ⊥)
+      → NoneReadFor g e bytes old new → NotToldFor g e records place old new
+  not_told why.DiskRead records place bytes old new f n = n
+  not_told (why.Damaged (damage.Record lsn)) records place bytes old new f n = (n.0, n.1, λ h few. f h few (n.2 h))
+  not_told _ records place bytes old new f n = absurd n
+
+  -- of a log: what stands in front of the bytes from a place on, on its device or in its buffer, stands at that place
+  pub told : {total : ℕ} (log : Logged L) (last : ℕ) (buffer : List ℕ) (capacity : ℕ) → Keeps g log last total buffer capacity → log.failed ≡ false → (handed place next : ℕ) → handed ≡ total - length buffer → place ≢ total
+      → place < 2 ^ 64 → (r : Record) (used : ℕ) → (place < handed → IsFront r used (drop place (g.seen log.device))) → (handed ≤ place → IsFront r used (drop (place - handed) buffer)) → next ≡ min (place + used) (2 ^ 64 - 1)
+      → g.honest log.device → length (spelled log.records) < 2 ^ 64 → StandsAt log.records place (Some (r, next))
+  told {total} log last buffer capacity k running handed place next is behind fits r used on_device buffered goes h few =
+      let whole = reads_all g log last buffer capacity k running h in
+      let size = k.total few in
+      let sum = length-append (g.seen log.device) buffer in
+      let seen : handed ≡ length (g.seen log.device) = (let e = ap length whole in omega (arith, is, size, sum, e)) in
+      let not_end : place ≢ length (spelled log.records) = λ e. behind (e ∙ sym size) in
+      let front : IsFront r used (drop place (spelled log.records)) = ⊎_elim
+      (λ less. subst (IsFront r used) (sym (drop-append-le place (g.seen log.device) buffer (omega (arith, less, seen))) ∙ ap (drop place) whole) (front_longer r used (drop place (g.seen log.device)) buffer (on_device less)))
+      (λ le. subst (IsFront r used) (ap (λ n. drop (place - n) buffer) seen ∙ behind_seen (g.seen log.device) buffer place (omega (arith, le, seen)) ∙ ap (drop place) whole) (buffered le))
+      (cases_lt place handed) in
+      let left = length-drop place (spelled log.records) in
+      let within = front.1 in
+      let exact : next ≡ place + used = omega (arith, goes, left, within, few, fits) in
+      subst (λ n. StandsAt log.records place (Some (r, n))) (sym exact) (stands_some log.records place r used k.is_log.spelled not_end front)
+
+  -- and where none does, the place is none of the log's
+  pub why_not_told : {total : ℕ} (log : Logged L) (last : ℕ) (buffer : List ℕ) (capacity : ℕ) → Keeps g log last total buffer capacity → log.failed ≡ false → (handed place : ℕ) → handed ≡ total - length buffer → place ≢ total
+      → (e : Refusal) (new : L) → (g.honest new → g.honest log.device) → (place < handed → NoneReadFor g e (drop place (g.seen log.device)) log.device new) → (handed ≤ place → NoneReadFor g e (drop (place - handed) buffer) log.device new)
+      → NotToldFor g e log.records place log.device new
+  why_not_told {total} log last buffer capacity k running handed place is behind e new falls on_device buffered =
+      let whole : g.honest new → g.seen log.device ++ buffer ≡ spelled log.records = λ h. reads_all g log last buffer capacity k running (falls h) in
+      let b = k.buffered running in
+      let seen : g.honest new → length (spelled log.records) < 2 ^ 64 → handed ≡ length (g.seen log.device) =
+      (λ h few. let size = k.total few in let sum = length-append (g.seen log.device) buffer in let n = ap length (whole h) in omega (arith, is, size, sum, n)) in
+      let not_end : length (spelled log.records) < 2 ^ 64 → place ≢ length (spelled log.records) = λ few at. behind (at ∙ sym (k.total few)) in
+      ⊎_elim
+      (λ less. not_told e log.records place (drop place (g.seen log.device)) log.device new
+      (λ h few none. let n = seen h few in no_place_handed log.records b.0 place k.is_log.spelled (subst (λ l. place < length l) (b.2 (falls h)) (omega (arith, less, n))) (not_end few) (subst (λ l. HoldsRecord (drop place l) → ⊥) (b.2 (falls h)) none))
+      (on_device less))
+      (λ le. not_told e log.records place (drop (place - handed) buffer) log.device new
+      (λ h few none. let n = seen h few in no_place_buffered log.records (g.seen log.device) buffer place k.is_log.spelled (whole h) (omega (arith, le, n)) (not_end few) (subst (λ m. HoldsRecord (drop (place - m) buffer) → ⊥) n none))
+      (buffered le))
+      (cases_lt place handed)

@@ -1,0 +1,37 @@
+-- Places of a log: a place is how many bytes stand before it.
+use Rattle.std.specs.Prelude.{◌≡◌, ◌↔◌, ℕ, ◌+◌, ◌%◌, ◌^◌, ◌<◌, List, ◌∷◌, ◌++◌, length, Option, Some, None}
+use Rattle.rq_model.specs.declared.record.Record.{Record}
+use Rattle.rq_model.specs.declared.refusal.Refusal.{Refusal}
+use Rattle.rq_model.specs.declared.refusal.Refusal.TheVariants as why
+use Rattle.rq_model.specs.declared.refusal.Damage.TheVariants as damage
+use Rattle.rq_disk.specs.declared.device.LogDevice.{Ghosts}
+use Rattle.rq_record.specs.Spelling.{HoldsRecord}
+use Rattle.rq_log.specs.Spelled.{spelled}
+
+-- the first of these records end there
+abbrev pub IsPlace : List Record → ℕ → Type 0
+IsPlace records place = (newer : List Record) × (older : List Record) × (records ≡ newer ++ older)
+    × (place ≡ length (spelled older))
+
+-- It is what stands at a place: behind the records that end there the next one, with the place where that ends; none
+-- exactly at the end of all.
+pub record StandsAt (records : List Record) (place : ℕ) (found : Option (Record × ℕ)) : Type 0 where
+  pub next : (newer older : List Record) (r : Record) → records ≡ newer ++ (r ∷ older) → place ≡ length (spelled older)
+      → found ≡ Some (r, length (spelled (r ∷ older)))
+  pub none : (found ≡ None) ↔ (place ≡ length (spelled records))
+
+module _ {L : Type 0} (g : Ghosts L) where
+  -- why no record was read at the front of bytes
+  abbrev pub NoneReadFor : Refusal → List ℕ → L → L → Type 0
+  NoneReadFor why.DiskRead bytes old new = g.faults new ≡ (g.faults old + 1) % 2 ^ 64
+  NoneReadFor (why.Damaged (damage.Record lsn)) bytes old new = (lsn ≡ 0) × (g.faults new ≡ g.faults old)
+      × (g.honest new → HoldsRecord bytes → ⊥)
+  NoneReadFor _ bytes old new = ⊥
+
+  -- Why it was not told what stands at a place: the device failed, or gave other bytes than it was handed, or the place is none
+  -- of the log's. Damage has no number.
+  abbrev pub NotToldFor : Refusal → List Record → ℕ → L → L → Type 0
+  NotToldFor why.DiskRead records place old new = g.faults new ≡ (g.faults old + 1) % 2 ^ 64
+  NotToldFor (why.Damaged (damage.Record lsn)) records place old new = (lsn ≡ 0) × (g.faults new ≡ g.faults old)
+      × (g.honest new → length (spelled records) < 2 ^ 64 → IsPlace records place → ⊥)
+  NotToldFor _ records place old new = ⊥
