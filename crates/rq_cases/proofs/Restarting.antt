@@ -18,7 +18,7 @@ use Rattle.rq_store.specs.Opening.{IsLeft, next_restart}
 use Rattle.rq_store.specs.Whole.{IsWhole}
 use Rattle.rq_store.proofs.Cutting.{whole_dropped, fits_log_longer}
 use Rattle.rq_store.proofs.Formatting.{formatted_fits}
-use Rattle.rq_restart.specs.Repeating.{AreCounted, Paged, Repeats}
+use Rattle.rq_restart.specs.Repeating.{ArePagesCounted, Paged, Repeats}
 use Rattle.rq_restart.specs.Restarting.{IsBegunOn, IsLeftOn}
 use Rattle.rq_restart.proofs.Begun.{rolled_back_incarnation}
 use Rattle.rq_analysis.proofs.Recovering.{recovered_from}
@@ -96,7 +96,7 @@ new_count n low high = sent_number (record { sender = sender_at 1 n; directory =
 
 -- no number is beyond a log of three records
 module _ (count : ℕ) where
-  pub counted_read : AreCounted sizes count read_pages
+  pub counted_read : ArePagesCounted sizes count read_pages
   counted_read zero low high = absurd (omega (arith, low))
   counted_read (suc zero) low high = record {
     lsn = (let e = no_group_lsn in omega (arith, e));

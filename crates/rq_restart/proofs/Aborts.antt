@@ -32,7 +32,7 @@ use Rattle.rq_restart.specs.Aborting.{AbortStops, AbortsBehind, AbortsFrom, Abor
 use Rattle.rq_restart.specs.Aborting.Round.{Ends, TakesBack}
 use Rattle.rq_restart.specs.Aborting.IsAborting.{Between, Within}
 use Rattle.rq_restart.specs.Aborting.IsBadStep.{BadDue, BadRecord}
-use Rattle.rq_restart.specs.Repeating.{AreCounted, Belongs, IsRepeated, Paged, paged, slots_on}
+use Rattle.rq_restart.specs.Repeating.{ArePagesCounted, Belongs, IsRecordRedone, Paged, paged, slots_on}
 use Rattle.rq_restart.specs.Undoing.{StepStops}
 use Rattle.rq_log.specs.Spelled.{AreSpelled}
 use Rattle.rq_engine.proofs.Crashing.{spelled_dropped}
@@ -191,11 +191,11 @@ aborting_incarnation log now a = ap incarnation_of (sym a.are) ∙ same_rounds a
 -- ---- a record more
 
 module _ {P : Type 0} (z : Sizes) (behind : Type 0) (log : List Record) (r : Record) (old new : Pooled P) (before after : State → Type 0) (is : behind) where
-  pub one_gone : IsRepeated z log r (paged old) (paged new) → OfStore z before after → HasGoneOn z behind log (r ∷ log) old new before after
+  pub one_gone : IsRecordRedone z log r (paged old) (paged new) → OfStore z before after → HasGoneOn z behind log (r ∷ log) old new before after
   one_gone one shown = record {
     aborting = is;
     repeated = λ first h. (paged old, h, one);
-    counted = λ h. subst (λ n. AreCounted z n (paged new)) (let e : length log + 1 ≡ length (r ∷ log) = omega arith in e) (counted_more z log r (paged old) (paged new) one h);
+    counted = λ h. subst (λ n. ArePagesCounted z n (paged new)) (let e : length log + 1 ≡ length (r ∷ log) = omega arith in e) (counted_more z log r (paged old) (paged new) one h);
     shown = shown;
   }
 

@@ -9,7 +9,7 @@ use Rattle.rq_store.specs.Fitting.{ToldWrite}
 use Rattle.rq_store.proofs.Bounds.{page_of_slot}
 use Rattle.rq_restart.specs.declared.overwritten.WrittenOver.{WrittenOver}
 use Rattle.rq_restart.specs.Overwritten.{AreKept, AreOfPages, AreWithin, WritesOver, least_beyond, lesser, number_under}
-use Rattle.rq_restart.specs.Repeating.{AreCounted, IsFirstUncounted, Paged}
+use Rattle.rq_restart.specs.Repeating.{ArePagesCounted, IsFirstUncounted, Paged}
 
 within_add : (count p : ℕ) (xs : List WrittenOver) (w : WrittenOver) → AreWithin count p xs → (w.page ≡ p → w.number ≤ count) → AreWithin count p (xs ++ w ∷ [])
 within_add count p [] w are one = (one, tt)
@@ -147,10 +147,10 @@ least_is z records (w ∷ numbers) of = least_more z records w numbers of.0 of.1
 
 -- the first page with a number beyond the log on the pages
 abbrev pub IsUncountedAt : Sizes → ℕ → Paged → Option ℕ → Type 0
-IsUncountedAt z records pages None = AreCounted z records pages
+IsUncountedAt z records pages None = ArePagesCounted z records pages
 IsUncountedAt z records pages (Some p) = IsFirstUncounted z records pages p
 
-pub uncounted_is : (z : Sizes) (records : ℕ) (pages : Paged) (m : Option ℕ) → IfNone m (AreCounted z records pages) → IfSome m (λ p. 1 ≤ p) → IfSome m (λ p. p < page_count z) → IfSome m (λ p. IsCounted z records p (pages.image p) → ⊥)
+pub uncounted_is : (z : Sizes) (records : ℕ) (pages : Paged) (m : Option ℕ) → IfNone m (ArePagesCounted z records pages) → IfSome m (λ p. 1 ≤ p) → IfSome m (λ p. p < page_count z) → IfSome m (λ p. IsCounted z records p (pages.image p) → ⊥)
     → IfSome m (λ p. (q : ℕ) → 1 ≤ q → q < p → IsCounted z records q (pages.image q)) → IsUncountedAt z records pages m
 uncounted_is z records pages None none low high bad first = none
 uncounted_is z records pages (Some p) none low high bad first = record { low = low; high = high; bad = bad; first = first }

@@ -12,7 +12,7 @@ use Rattle.rq_store.specs.Opening.{FitsUpTo, IsCounted, IsLeft, IsSoundWrite, Re
 use Rattle.rq_store.specs.Fitting.{ToldWrite, oldest, told_by}
 use Rattle.rq_store.proofs.Fitting.{oldest_all}
 use Rattle.rq_store.proofs.Redoing.{oldest_store, redo_none, redo_one}
-use Rattle.rq_restart.specs.Repeating.{AreCounted, IsRepeated, Paged, Repeats}
+use Rattle.rq_restart.specs.Repeating.{ArePagesCounted, IsRecordRedone, Paged, Repeats}
 
 -- the next of a log's first records
 oldest_step : (n : ℕ) (log : List Record) → n < length log → (r : Record) × (drop n log ≡ r ∷ drop (suc n) log)
@@ -52,7 +52,7 @@ module _ (z : Sizes) (log : List Record) (first : Paged) (left : IsLeft z first.
   all_up_to last h = up_to (length log) (omega arith) last (subst (λ l. Repeats z l first last) (sym (oldest_all log)) h)
 
 -- no number of the pages is beyond the log, once one record more is repeated
-pub counted_more : (z : Sizes) (log : List Record) (r : Record) (old new : Paged) → IsRepeated z log r old new → AreCounted z (length log) old → AreCounted z (length log + 1) new
+pub counted_more : (z : Sizes) (log : List Record) (r : Record) (old new : Paged) → IsRecordRedone z log r old new → ArePagesCounted z (length log) old → ArePagesCounted z (length log + 1) new
 counted_more z log r old new one all p low high = by (told_by r) one.redone one.belongs.may.write where
   n : ℕ
   n = length log

@@ -52,7 +52,7 @@ use Rattle.rq_restart.specs.Aborting.IsBadStep.{BadDue}
 use Rattle.rq_restart.specs.Aborting.IsOnItsWay.{Between, Within}
 use Rattle.rq_restart.specs.Checked.{IsEnded}
 use Rattle.rq_restart.specs.Found.{IsAnalysisOf}
-use Rattle.rq_restart.specs.Repeating.{Belongs, IsRepeated, Paged, Repeats, paged}
+use Rattle.rq_restart.specs.Repeating.{Belongs, IsRecordRedone, Paged, Repeats, paged}
 use Rattle.rq_restart.proofs.Aborts.{aborting_none, active_lost}
 use Rattle.rq_restart.proofs.DueLists.{nobody_left, one_next, own_stay}
 use Rattle.rq_restart.proofs.Planning.{shows_can}
@@ -244,7 +244,7 @@ module _ {P : Type 0} (z : Sizes) (log : List Record) (old : Pooled P) (d : Pend
         let h = within_holds base old.images log d.txn n d.lsn (deed_due d) ws made k i in
         subst (λ y. Belongs y log (page_op d.txn n w) (paged old)) same (belongs_next base.sizes old.images log (page_op d.txn n w) h (whole base k same i) old.changed)
 
-    pub write_shown : (new : Pooled P) → IsPool z new.images → IsRepeated z log (page_op d.txn n w) (paged old) (paged new) → OfStore z within (IsShownWithin (page_op d.txn n w ∷ log) new d n ws (made + 1))
+    pub write_shown : (new : Pooled P) → IsPool z new.images → IsRecordRedone z log (page_op d.txn n w) (paged old) (paged new) → OfStore z within (IsShownWithin (page_op d.txn n w ∷ log) new d n ws (made + 1))
     write_shown new pool one base k same i =
         let s : IsSlotWrite base.sizes w = subst (λ y. IsSlotWrite y w) (sym same) is_slot in
         let h = within_holds base old.images log d.txn n d.lsn (deed_due d) ws made k i in

@@ -21,7 +21,7 @@ use Rattle.rq_analysis.proofs.Lists.{in_newest, in_undoable, in_with, in_without
 use Rattle.rq_analysis.proofs.Undos.{undo_leaves_less, undoing_more}
 use Rattle.rq_analysis.specs.Rules.{CanBeRead}
 use Rattle.rq_restart.specs.Found.{MayComeNext}
-use Rattle.rq_restart.specs.Repeating.{AreCounted, Belongs, IsRepeated, Marks, Paged, Repeats}
+use Rattle.rq_restart.specs.Repeating.{ArePagesCounted, Belongs, IsRecordRedone, Marks, Paged, Repeats}
 use Rattle.rq_restart.specs.Undoing.{StepStops, UndoStops}
 use Rattle.rq_restart.proofs.Repeated.{counted_more}
 
@@ -75,7 +75,7 @@ undo_range log h r e a next = by (subst (λ k. IsNextUndo k r) e next) where
 
 -- one record more is repeated, or doesn't belong
 module _ (z y : Sizes) (log : List Record) (r : Record) (sizes : y ≡ z) (count : ℕ) (all : count ≡ length log + 1) where
-  pub one_repeated : (old new : Paged) → MayComeNext log r → MayRedo y old.image count r → Redoes (told_by r) count old.image new.image → Marks (told_by r) count old new.changed → IsRepeated z log r old new
+  pub one_repeated : (old new : Paged) → MayComeNext log r → MayRedo y old.image count r → Redoes (told_by r) count old.image new.image → Marks (told_by r) count old new.changed → IsRecordRedone z log r old new
   one_repeated old new next may redone marked = record {
     belongs = record { next = next.next; follows = next.follows; may = subst (λ x. MayRedo x old.image (length log + 1) r) sizes (subst (λ n. MayRedo y old.image n r) all may) };
     redone = subst (λ n. Redoes (told_by r) n old.image new.image) all redone;
@@ -92,14 +92,14 @@ module _ (z y : Sizes) (log : List Record) (r : Record) (sizes : y ≡ z) (count
 pub record IsGoingOn (z : Sizes) (log last : List Record) (first now : Paged) : Type 0 where
   pub undoing : IsUndoing log last
   pub repeated : (start : Paged) → Repeats z log start first → Repeats z last start now
-  pub counted : AreCounted z (length log) first → AreCounted z (length last) now
+  pub counted : ArePagesCounted z (length log) first → ArePagesCounted z (length last) now
 
 module _ (z y : Sizes) (log last : List Record) (first now : Paged) (sizes : y ≡ z) (k : IsGoingOn z log last first now) where
-  pub going_more : (r : Record) (h : OpenWorkView) (grown : List Record) (after : Paged) → h ≡ open_work_of last → IsNextUndo h r → grown ≡ r ∷ last → IsRepeated y last r now after → IsGoingOn z log grown first after
+  pub going_more : (r : Record) (h : OpenWorkView) (grown : List Record) (after : Paged) → h ≡ open_work_of last → IsNextUndo h r → grown ≡ r ∷ last → IsRecordRedone y last r now after → IsGoingOn z log grown first after
   going_more r h grown after is next more one = subst (λ l. IsGoingOn z log l first after) (sym more) (record {
     undoing = undoing_more log last r k.undoing (subst (λ j. IsNextUndo j r) is next);
-    repeated = λ start before. (now, k.repeated start before, subst (λ x. IsRepeated x last r now after) sizes one);
-    counted = λ before. subst (λ n. AreCounted z n after) (let e : length last + 1 ≡ length (r ∷ last) = omega arith in e) (counted_more z last r now after (subst (λ x. IsRepeated x last r now after) sizes one) (k.counted before));
+    repeated = λ start before. (now, k.repeated start before, subst (λ x. IsRecordRedone x last r now after) sizes one);
+    counted = λ before. subst (λ n. ArePagesCounted z n after) (let e : length last + 1 ≡ length (r ∷ last) = omega arith in e) (counted_more z last r now after (subst (λ x. IsRecordRedone x last r now after) sizes one) (k.counted before));
   })
 
   pub going_less : (r : Record) (h after : OpenWorkView) (grown : List Record) → h ≡ open_work_of last → IsNextUndo h r → grown ≡ r ∷ last → after ≡ open_work_of grown → work after < work h

@@ -29,7 +29,7 @@ use Rattle.rq_analysis.specs.Choices.{least_free}
 use Rattle.rq_analysis.specs.Dues.{deed_due, dues}
 use Rattle.rq_analysis.specs.Numbers.{number_of, numbers}
 use Rattle.rq_analysis.specs.Walk.{IsBetween, IsWithin}
-use Rattle.rq_restart.specs.Repeating.{AreCounted, Belongs, Paged, Repeats, paged, slots_on}
+use Rattle.rq_restart.specs.Repeating.{ArePagesCounted, Belongs, Paged, Repeats, paged, slots_on}
 
 -- the log with the records of these writes of an operation behind, the first of them the oldest
 abbrev pub with_writes : Txn → ℕ → List SlotWrite → List Record → List Record
@@ -153,7 +153,7 @@ pub record HasGoneOn {P : Type 0} (z : Sizes) (behind : Type 0) (log now : List 
     (before after : State → Type 0) : Type 0 where
   pub aborting : behind
   pub repeated : (first : Paged) → Repeats z log first (paged old) → Repeats z now first (paged new)
-  pub counted : AreCounted z (length log) (paged old) → AreCounted z (length now) (paged new)
+  pub counted : ArePagesCounted z (length log) (paged old) → ArePagesCounted z (length now) (paged new)
   pub shown : OfStore z before after
 
 -- the log with records behind, of which this is so, is at its greatest length, and shows such a store on its way

@@ -4,7 +4,7 @@ use Rattle.rq_model.specs.declared.record.Record.{Record}
 use Rattle.rq_page.specs.Sizes.{Sizes, page_count}
 use Rattle.rq_store.specs.Fitting.{image_in}
 use Rattle.rq_analysis.specs.OpenWorkView.{open_work_of}
-use Rattle.rq_restart.specs.Repeating.{Paged, Repeats, AreCounted, IsFirstUncounted}
+use Rattle.rq_restart.specs.Repeating.{Paged, Repeats, ArePagesCounted, IsFirstUncounted}
 
 -- every transaction in the log that finished an operation has its end
 abbrev pub IsEnded : List Record → Type 0
@@ -14,8 +14,8 @@ IsEnded log = (open_work_of log).active ≡ []
 -- is beyond the log, neither as the pages were read nor then.
 pub record IsReadAndRedone (z : Sizes) (log : List Record) (first last : Paged) : Type 0 where
   pub repeated : Repeats z log first last
-  pub counted_read : AreCounted z (length log) first
-  pub counted : AreCounted z (length log) last
+  pub counted_read : ArePagesCounted z (length log) first
+  pub counted : ArePagesCounted z (length log) last
 
 abbrev pub WasReadAndRedone : Sizes → List Record → Paged → Type 0
 WasReadAndRedone z log first = (last : Paged) × IsReadAndRedone z log first last

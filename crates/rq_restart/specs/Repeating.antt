@@ -42,7 +42,7 @@ pub record Belongs (z : Sizes) (older : List Record) (r : Record) (old : Paged) 
   pub may : MayRedo z old.image (length older + 1) r
 
 -- it was checked, and its write was made where its page is older
-pub record IsRepeated (z : Sizes) (older : List Record) (r : Record) (old new : Paged) : Type 0 where
+pub record IsRecordRedone (z : Sizes) (older : List Record) (r : Record) (old new : Paged) : Type 0 where
   pub belongs : Belongs z older r old
   pub redone : Redoes (told_by r) (length older + 1) old.image new.image
   pub marked : Marks (told_by r) (length older + 1) old new.changed
@@ -50,11 +50,11 @@ pub record IsRepeated (z : Sizes) (older : List Record) (r : Record) (old new : 
 -- each record was, the oldest first
 abbrev pub Repeats : Sizes → List Record → Paged → Paged → Type 0
 Repeats z [] first last = last ≡ first
-Repeats z (r ∷ older) first last = (mid : Paged) × Repeats z older first mid × IsRepeated z older r mid last
+Repeats z (r ∷ older) first last = (mid : Paged) × Repeats z older first mid × IsRecordRedone z older r mid last
 
 -- no number of a directory or cell page is beyond a log of so many records
-abbrev pub AreCounted : Sizes → ℕ → Paged → Type 0
-AreCounted z count pages = (p : ℕ) → 1 ≤ p → p < page_count z → IsCounted z count p (pages.image p)
+abbrev pub ArePagesCounted : Sizes → ℕ → Paged → Type 0
+ArePagesCounted z count pages = (p : ℕ) → 1 ≤ p → p < page_count z → IsCounted z count p (pages.image p)
 
 -- a number of this page is, and none of a page before it
 pub record IsFirstUncounted (z : Sizes) (count : ℕ) (pages : Paged) (page : ℕ) : Type 0 where

@@ -6,7 +6,7 @@ ghost use Rattle.rq_record.specs.Spelling.{IsInRange};
 ghost use Rattle.rq_store.specs.Fitting.{told_by};
 ghost use Rattle.rq_analysis.specs.Rules.{CanBeRead};
 ghost use Rattle.rq_restart.specs.Found.{IsAnalysisOf};
-ghost use Rattle.rq_restart.specs.Repeating.{Belongs, IsRepeated, paged};
+ghost use Rattle.rq_restart.specs.Repeating.{Belongs, IsRecordRedone, paged};
 ghost use Rattle.rq_restart.specs.Undoing.{StepStops};
 
 use crate::analysis::Analysis;
@@ -37,7 +37,7 @@ pub(crate) fn append<P: PageDevice + Drop, L: LogDevice + Drop>(
     requires readable { CanBeRead undo.now }
     ensures records { OnOk result (log.new.records ≡ undo.now ∷ log.old.records) }
     ensures found { OnOk result (IsAnalysisOf analysis.new log.new.records) }
-    ensures repeated { OnOk result (IsRepeated pages.old.sizes log.old.records undo.now (paged pages.old)
+    ensures repeated { OnOk result (IsRecordRedone pages.old.sizes log.old.records undo.now (paged pages.old)
         (paged pages.new)) }
     ensures pool { OnOk result (IsPool pages.new.sizes pages.new.images) }
     ensures same { OnOk result (told_by undo.now ≡ None → pages.new ≡ pages.old) }

@@ -11,7 +11,7 @@ ghost use Rattle.rq_store.specs.Fitting.{told_by, image_in};
 ghost use Rattle.rq_analysis.specs.Rules.{CanBeRead};
 ghost use Rattle.rq_restart.specs.Found.{IsAnalysisOf};
 ghost use Rattle.rq_restart.specs.Overwritten.{AreKept, NamesFirst};
-ghost use Rattle.rq_restart.specs.Repeating.{AreCounted, IsMarked, IsRepeated, Marks, Paged, Repeats, paged};
+ghost use Rattle.rq_restart.specs.Repeating.{ArePagesCounted, IsMarked, IsRecordRedone, Marks, Paged, Repeats, paged};
 ghost use Rattle.rq_restart.specs.Refused.{IsStoppedBehind, NotRepeated};
 
 use crate::analysis::Analysis;
@@ -73,10 +73,10 @@ pub(crate) fn check_page_numbers<P: PageDevice + Drop>(
     overwritten: &Overwritten,
     records: u64,
 ) -> Result<(), Refusal>
-    ensures counted { OnOk result (AreCounted pages.now.sizes records (paged pages.now)) }
+    ensures counted { OnOk result (ArePagesCounted pages.now.sizes records (paged pages.now)) }
     ensures read { OnOk result ((first : Paged)
         → AreKept pages.now.sizes records first (paged pages.now) overwritten.now.numbers.items
-        → AreCounted pages.now.sizes records first) }
+        → ArePagesCounted pages.now.sizes records first) }
     ensures names { IfErr result (λ e. (first : Paged)
         → AreKept pages.now.sizes records first (paged pages.now) overwritten.now.numbers.items
         → NamesFirst pages.now.sizes records first e) }
@@ -150,7 +150,7 @@ fn check_and_redo<P: PageDevice + Drop, B: Level>(
         → IsAnalysisOf log_scan.new.analysis («record».now ∷ older)) }
     ensures repeated { OnOk result ((older : List AnyRecord) → lsn ≡ length older + 1
         → IsAnalysisOf log_scan.old.analysis older
-        → IsRepeated pages.old.sizes older «record».now (paged pages.old) (paged pages.new)) }
+        → IsRecordRedone pages.old.sizes older «record».now (paged pages.old) (paged pages.new)) }
     ensures kept { OnOk result ((first : Paged) (records : ℕ) → lsn ≡ records + 1
         → AreKept pages.old.sizes records first (paged pages.old) log_scan.old.overwritten.numbers.items
         → AreKept pages.old.sizes lsn first (paged pages.new) log_scan.new.overwritten.numbers.items) }

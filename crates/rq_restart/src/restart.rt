@@ -20,7 +20,7 @@ ghost use Rattle.rq_planner.specs.Answered.{KnowsCells};
 ghost use Rattle.rq_engine.specs.Crash.{AreFit};
 ghost use Rattle.rq_engine.specs.Opened.{pooled};
 ghost use Rattle.rq_chain_check.specs.Links.{AreLinked};
-ghost use Rattle.rq_restart.specs.Repeating.{AreCounted, Paged, Repeats, paged, slots_on};
+ghost use Rattle.rq_restart.specs.Repeating.{ArePagesCounted, Paged, Repeats, paged, slots_on};
 ghost use Rattle.rq_analysis.specs.Recovered.{IsRecovered};
 ghost use Rattle.rq_restart.specs.Restarting.{IsReadAs, IsLeftOn, IsReady, AreTold, IsBegun, IsOpenedOver, Reports, Stops, WasLeftOrBegun, WasLeftOrForced, BeginsAtMost, BeginsFrom, LogStops, IsRefusedFor, WasChecked};
 ghost use Rattle.rq_restart.specs.Refused.{BeginsNot, IsStoppedBehind, MayBeShut, WhyNotBegun, WhyShut};
@@ -441,7 +441,7 @@ fn undo_and_begin<P: PageDevice + Drop, L: LogDevice + Drop, B: Level>(
 ) -> Result<(EngineTables<B>, Report), Refusal>
     requires found { IsAnalysisOf analysis.old log.old.records }
     requires running { log.old.failed ≡ false }
-    requires counted { AreCounted pages.old.sizes (length log.old.records) (paged pages.old) }
+    requires counted { ArePagesCounted pages.old.sizes (length log.old.records) (paged pages.old) }
     // What the log and the pages come to.
     ensures begun { OnOk result (IsBegun log.old.records log.new) }
     ensures repeated { OnOk result (HasRepeated pages.old.sizes log.old.records log.new.records (paged pages.old)
@@ -492,8 +492,8 @@ fn undo_all_checked<P: PageDevice + Drop, L: LogDevice + Drop, B: Level>(
     ensures rolls_back { OnOk result (IsRolledBackSince pages.old.sizes log.old.records log.new.records (paged pages.old)) }
     ensures repeated { OnOk result ((first : Paged) → Repeats pages.old.sizes log.old.records first (paged pages.old)
         → Repeats pages.old.sizes log.new.records first (paged pages.new)) }
-    ensures counted { OnOk result (AreCounted pages.old.sizes (length log.old.records) (paged pages.old)
-        → AreCounted pages.old.sizes (length log.new.records) (paged pages.new)) }
+    ensures counted { OnOk result (ArePagesCounted pages.old.sizes (length log.old.records) (paged pages.old)
+        → ArePagesCounted pages.old.sizes (length log.new.records) (paged pages.new)) }
     ensures recovered { OnOk result ((first : Paged) → Repeats pages.old.sizes log.old.records first (paged pages.old)
         → IsLeft pages.old.sizes first.image log.old.records → IsRecovered pages.old.sizes log.old.records
         log.new.records) }
@@ -541,8 +541,8 @@ fn undo_all<P: PageDevice + Drop, L: LogDevice + Drop, B: Level>(
     ensures rolls_back { OnOk result (IsRolledBackSince pages.old.sizes log.old.records log.new.records (paged pages.old)) }
     ensures repeated { OnOk result ((first : Paged) → Repeats pages.old.sizes log.old.records first (paged pages.old)
         → Repeats pages.old.sizes log.new.records first (paged pages.new)) }
-    ensures counted { OnOk result (AreCounted pages.old.sizes (length log.old.records) (paged pages.old)
-        → AreCounted pages.old.sizes (length log.new.records) (paged pages.new)) }
+    ensures counted { OnOk result (ArePagesCounted pages.old.sizes (length log.old.records) (paged pages.old)
+        → ArePagesCounted pages.old.sizes (length log.new.records) (paged pages.new)) }
     ensures recovered { OnOk result ((first : Paged) → Repeats pages.old.sizes log.old.records first (paged pages.old)
         → IsLeft pages.old.sizes first.image log.old.records → IsRecovered pages.old.sizes log.old.records
         log.new.records) }

@@ -3,7 +3,7 @@ ghost use Rattle.std.specs.Prelude.{◌≡◌, IfErr, OnOk, false, length};
 ghost use Rattle.rq_pool.specs.Pooled.{IsPool};
 ghost use Rattle.rq_analysis.specs.Pages.{IsUndone};
 ghost use Rattle.rq_restart.specs.Found.{IsAnalysisOf};
-ghost use Rattle.rq_restart.specs.Repeating.{AreCounted, Paged, Repeats, paged};
+ghost use Rattle.rq_restart.specs.Repeating.{ArePagesCounted, Paged, Repeats, paged};
 ghost use Rattle.rq_restart.specs.Undoing.{UndoStops};
 
 use crate::analysis::Analysis;
@@ -30,8 +30,8 @@ pub(crate) fn undo_unfinished<P: PageDevice + Drop, L: LogDevice + Drop>(
     ensures found { OnOk result (IsAnalysisOf analysis.new log.new.records) }
     ensures repeated { OnOk result ((first : Paged) → Repeats pages.old.sizes log.old.records first (paged pages.old)
         → Repeats pages.old.sizes log.new.records first (paged pages.new)) }
-    ensures counted { OnOk result (AreCounted pages.old.sizes (length log.old.records) (paged pages.old)
-        → AreCounted pages.old.sizes (length log.new.records) (paged pages.new)) }
+    ensures counted { OnOk result (ArePagesCounted pages.old.sizes (length log.old.records) (paged pages.old)
+        → ArePagesCounted pages.old.sizes (length log.new.records) (paged pages.new)) }
     ensures pool { OnOk result (IsPool pages.new.sizes pages.new.images) }
     ensures stops { IfErr result (λ e. (first : Paged) → Repeats pages.old.sizes log.old.records first (paged pages.old)
         → UndoStops pages.old.sizes log.old.records first e) }

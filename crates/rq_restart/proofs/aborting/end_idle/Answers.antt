@@ -5,7 +5,7 @@ use Rattle.rq_page.specs.Sizes.{Sizes}
 use Rattle.rq_analysis.specs.Choices.{least_free}
 use Rattle.rq_restart.specs.Aborting.{AbortStops, AbortsFrom, HasGoneOn, IsAbortingFrom, IsShown, RepeatedSince}
 use Rattle.rq_restart.specs.Aborting.IsAborting.{Between}
-use Rattle.rq_restart.specs.Repeating.{Belongs, IsRepeated, paged}
+use Rattle.rq_restart.specs.Repeating.{Belongs, IsRecordRedone, paged}
 use Rattle.rq_restart.specs.Undoing.{StepStops}
 use Rattle.rq_restart.proofs.Aborts.{aborting_join, aborting_none, aborts_end, aborts_join, ended_less, gone_join, nothing_gone, one_gone, one_stops, stops_join}
 use Rattle.rq_restart.proofs.DueLists.{active_range}
@@ -47,7 +47,7 @@ loop-txn-preserved g c =
     let old = c.loop-txn.pages in
     let new = c.append.new.pages in
     let e : least_free c.loop-txn.analysis.dues c.loop-txn.analysis.open_work.active ≡ Some t = ap (least_free c.loop-txn.analysis.dues) (sym c.active.ensures) ∙ sym c.in-Some.ensures in
-    let one : IsRepeated z log r (paged old) (paged new) = subst (λ y. IsRepeated y log r (paged old) (paged new)) kept.sizes made.repeated in
+    let one : IsRecordRedone z log r (paged old) (paged new) = subst (λ y. IsRecordRedone y log r (paged old) (paged new)) kept.sizes made.repeated in
     let ended : AbortsFrom z log old (r ∷ log) = aborts_end z (RepeatedSince z log (paged old)) log t (least_of log c.loop-txn.analysis kept.found (Some t) e) in
     let next : HasGoneOn z (AbortsFrom z log old (r ∷ log)) log (r ∷ log) old new (IsShown log old) (IsShown (r ∷ log) new) =
     one_gone z (AbortsFrom z log old (r ∷ log)) log r old new (IsShown log old) (IsShown (r ∷ log) new) ended one (end_shown z log old c.loop-txn.analysis kept.found t e new (made.same refl)) in

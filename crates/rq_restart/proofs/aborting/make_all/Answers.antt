@@ -11,7 +11,7 @@ use Rattle.rq_level.specs.Writes.{IsSlotWrite}
 use Rattle.rq_level.specs.declared.writes.SlotWrite.{SlotWrite}
 use Rattle.rq_analysis.specs.Rules.{CanBeRead}
 use Rattle.rq_restart.specs.Aborting.{AbortStops, HasGoneOn, IsMaking, IsShownWithin, with_writes}
-use Rattle.rq_restart.specs.Repeating.{Belongs, IsRepeated, paged}
+use Rattle.rq_restart.specs.Repeating.{Belongs, IsRecordRedone, paged}
 use Rattle.rq_restart.specs.Undoing.{StepStops}
 use Rattle.rq_restart.proofs.Aborts.{gone_join, making_more, one_gone, one_stops, stops_join}
 use Rattle.rq_restart.proofs.Renewing.{write_elsewhere}
@@ -40,7 +40,7 @@ loop-index-preserved g c =
     let old = c.loop-index.pages in
     let new = c.append.new.pages in
     let next : slice_get ws i ≡ Some w = get_there ws i w c.loop-index-test.true c.index-writes-index.is in
-    let one : IsRepeated z log r (paged old) (paged new) = subst (λ y. IsRepeated y log r (paged old) (paged new)) kept.sizes (subst (λ q. IsRepeated old.sizes log q (paged old) (paged new)) is made.repeated) in
+    let one : IsRecordRedone z log r (paged old) (paged new) = subst (λ y. IsRecordRedone y log r (paged old) (paged new)) kept.sizes (subst (λ q. IsRecordRedone old.sizes log q (paged old) (paged new)) is made.repeated) in
     let pool : IsPool z new.images = subst (λ y. IsPool y new.images) (made.sizes ∙ kept.sizes) made.pool in
     let slot : IsSlotWrite z w = subst (IsSlotWrite z) (sym c.index-writes-index.is) (c.requires.slots i w c.loop-index-test.true) in
     let shown = write_shown z log old d n ws i w next slot new pool one in

@@ -9,7 +9,7 @@ use Rattle.rq_analysis.specs.Choices.{least_free}
 use Rattle.rq_analysis.specs.Dues.{any_due, dues}
 use Rattle.rq_restart.specs.Aborting.{AbortStops, AbortsFrom, HasGoneOn, IsAbortingFrom, IsShown, RepeatedSince}
 use Rattle.rq_restart.specs.Aborting.IsAborting.{Between}
-use Rattle.rq_restart.specs.Repeating.{Belongs, IsRepeated, paged}
+use Rattle.rq_restart.specs.Repeating.{Belongs, IsRecordRedone, paged}
 use Rattle.rq_restart.proofs.Renewing.{cells_same}
 use Rattle.rq_restart.specs.Undoing.{StepStops}
 use Rattle.rq_restart.proofs.Aborts.{aborting_join, aborting_none, aborts_end, aborts_join, gone_join, gone_keeping, nothing_gone, one_gone, one_stops, spelled_before, stops_join}
@@ -106,7 +106,7 @@ loop-due-preserved-in-Continue-branch-2 g c =
     let step : HasGoneOn z (AbortsFrom z log old mid) log mid old now here (IsShown mid now) = subst (λ y. HasGoneOn y (AbortsFrom y log old mid) log mid old now here (IsShown mid now)) kept.sizes made.gone_on in
     let off : any_due d.txn h.dues ≡ false = sym c.if-not-owes.ensures in
     let none : least_free (d ∷ h.dues) f.open_work.active ≡ None = ap (λ ds. least_free ds f.open_work.active) (sym made.rest) ∙ kept.none in
-    let one : IsRepeated z mid r (paged now) (paged new) = subst (λ y. IsRepeated y mid r (paged now) (paged new)) same_sizes last.repeated in
+    let one : IsRecordRedone z mid r (paged now) (paged new) = subst (λ y. IsRecordRedone y mid r (paged now) (paged new)) same_sizes last.repeated in
     let ended : AbortsFrom z mid now (r ∷ mid) = aborts_end z (RepeatedSince z mid (paged now)) mid d.txn (ends_next mid f h made.found d (ap (λ ds. least_free ds f.open_work.active) (sym made.rest) ∙ kept.none) made.active off made.lost) in
     let ends : HasGoneOn z (AbortsFrom z mid now (r ∷ mid)) mid (r ∷ mid) now new here (IsShown (r ∷ mid) new) =
     one_gone z (AbortsFrom z mid now (r ∷ mid)) mid r now new here (IsShown (r ∷ mid) new) ended one (next_shown z log mid old now f h kept.found made.found d made.rest kept.none made.active off step.shown new (last.same refl)) in

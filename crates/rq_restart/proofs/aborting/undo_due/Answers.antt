@@ -15,7 +15,7 @@ use Rattle.rq_analysis.specs.Numbers.{number_of, numbers}
 use Rattle.rq_analysis.specs.OpenWorkView.{OpenWorkView, open_work_of}
 use Rattle.rq_restart.specs.Aborting.{AbortStops, AbortsFrom, HasGoneOn, IsAbortingFrom, IsMaking, IsPlannedBack, IsPlannedOn, IsShown, IsShownWithin, IsTakenNext, RepeatedSince, with_writes}
 use Rattle.rq_restart.specs.Aborting.IsAborting.{Between}
-use Rattle.rq_restart.specs.Repeating.{Belongs, IsRepeated, paged}
+use Rattle.rq_restart.specs.Repeating.{Belongs, IsRecordRedone, paged}
 use Rattle.rq_restart.specs.Undoing.{StepStops}
 use Rattle.rq_restart.proofs.Aborts.{aborting_none, all_made, closing_aborts, gone_join, making_aborts, none_gone, one_gone, one_stops, planned_here, stops_before, stops_join}
 use Rattle.rq_restart.proofs.DueLists.{due_range, due_active}
@@ -140,7 +140,7 @@ returns-clause-gone_on g c =
     let begun = begin_shown z log old c.args.analysis.now c.requires.found d first.0 first.1 c.requires.none ws n plan low number in
     let before = IsShownWithin log old d n ws 0 in
     let all = IsShownWithin mid pages d n ws (length ws) in
-    let one : IsRepeated z mid r (paged pages) (paged new) = subst (λ y. IsRepeated y mid r (paged pages) (paged new)) made.sizes last.repeated in
+    let one : IsRecordRedone z mid r (paged pages) (paged new) = subst (λ y. IsRecordRedone y mid r (paged pages) (paged new)) made.sizes last.repeated in
     let back : IsPlannedBack z (slots_in z old.images) d ws = subst (λ (l : List SlotWrite). IsPlannedBack z (slots_in z old.images) d l) (sym c.deref.ensures.value) c.in_ok-writes.ensures.back in
     let planned : IsPlannedOn z (RepeatedSince z log (paged old) log) d ws = planned_here z log (paged old) d ws back in
     let next : IsTakenNext log d n = taken_next z log old c.args.analysis.now c.requires.found d first.0 first.1 c.requires.none n number in

@@ -6,7 +6,7 @@ use Rattle.rq_log.specs.Spelled.{AreSpelled}
 use Rattle.rq_restart.specs.Found.{IsAnalysisOf}
 use Rattle.rq_restart.specs.Overwritten.{AreKept}
 use Rattle.rq_restart.specs.Refused.{NotRepeated}
-use Rattle.rq_restart.specs.Repeating.{IsRepeated, Repeats, paged}
+use Rattle.rq_restart.specs.Repeating.{IsRecordRedone, Repeats, paged}
 use Rattle.rq_restart.proofs.Going.{stopped_next}
 use Rattle.rq_restart.proofs.redo.repeat_history.Goals as goal
 
@@ -20,7 +20,7 @@ loop-log_scan-preserved g c =
     let size : length c.next_into.new.self.records ≡ length front + 1 = (let e = ap length grown in omega (arith, e)) in
     let place : c.last.result ≡ length front + 1 = c.last.ensures ∙ size in
     let made = c.in-Ok.ensures in
-    let one : IsRepeated z front r (paged c.loop-log_scan.pages) (paged c.check_and_redo.new.pages) = subst (λ (y : Sizes). IsRepeated y front r (paged c.loop-log_scan.pages) (paged c.check_and_redo.new.pages)) so_far.sizes (made.repeated front place so_far.found) in
+    let one : IsRecordRedone z front r (paged c.loop-log_scan.pages) (paged c.check_and_redo.new.pages) = subst (λ (y : Sizes). IsRecordRedone y front r (paged c.loop-log_scan.pages) (paged c.check_and_redo.new.pages)) so_far.sizes (made.repeated front place so_far.found) in
     let kept : AreKept z c.last.result (paged c.args.pages.now) (paged c.check_and_redo.new.pages) c.check_and_redo.new.log_scan.overwritten.numbers.items =
     subst (λ (y : Sizes). AreKept y c.last.result (paged c.args.pages.now) (paged c.check_and_redo.new.pages) c.check_and_redo.new.log_scan.overwritten.numbers.items) so_far.sizes
     (made.kept (paged c.args.pages.now) (length front) place (subst (λ (y : Sizes). AreKept y (length front) (paged c.args.pages.now) (paged c.loop-log_scan.pages) c.loop-log_scan.log_scan.overwritten.numbers.items) (sym so_far.sizes) so_far.kept)) in

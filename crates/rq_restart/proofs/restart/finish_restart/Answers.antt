@@ -4,7 +4,7 @@ use Rattle.rq_pool.specs.Pooled.{IsPool}
 use Rattle.rq_sound.specs.Sound.{IsSound}
 use Rattle.rq_store.specs.Opening.{opened}
 use Rattle.rq_restart.specs.Overwritten.{AreKept, NamesFirst}
-use Rattle.rq_restart.specs.Repeating.{AreCounted, paged}
+use Rattle.rq_restart.specs.Repeating.{ArePagesCounted, paged}
 use Rattle.rq_restart.proofs.Begun.{begun_sound}
 use Rattle.rq_restart.proofs.Restarts.{beyond_shut}
 use Rattle.rq_restart.proofs.restart.finish_restart.Goals as goal
@@ -31,8 +31,8 @@ returns-in-Ok-undo_and_begin-clause-checked g c = λ first before k.
           paged c.args.pages.now,
           record {
             repeated = before;
-            counted_read = subst (λ m. AreCounted z m first) n (c.in-Ok.ensures.read first (subst (λ m. AreKept z m first (paged c.args.pages.now) c.args.log_scan.now.overwritten.numbers.items) (sym n) k));
-            counted = subst (λ m. AreCounted z m (paged c.args.pages.now)) n c.in-Ok.ensures.counted;
+            counted_read = subst (λ m. ArePagesCounted z m first) n (c.in-Ok.ensures.read first (subst (λ m. AreKept z m first (paged c.args.pages.now) c.args.log_scan.now.overwritten.numbers.items) (sym n) k));
+            counted = subst (λ m. ArePagesCounted z m (paged c.args.pages.now)) n c.in-Ok.ensures.counted;
           },
         );
         rolls_back = all.rolls_back.is;

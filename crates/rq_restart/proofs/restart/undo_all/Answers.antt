@@ -3,7 +3,7 @@ use Rattle.rq_analysis.specs.OpenWorkView.{OpenWorkView}
 use Rattle.rq_pool.specs.Pooled.{IsPool}
 use Rattle.rq_restart.specs.Aborting.{AbortStops, AbortsFrom, HasGoneOn, IsAbortingFrom, IsShown}
 use Rattle.rq_restart.specs.RolledBack.{RollbackStops}
-use Rattle.rq_restart.specs.Repeating.{AreCounted, Paged, Repeats, paged}
+use Rattle.rq_restart.specs.Repeating.{ArePagesCounted, Paged, Repeats, paged}
 use Rattle.rq_restart.proofs.RollingBack.{abort_rolls_nothing_back, rolled_back_since, recovered_is, undo_rolls_nothing_back, undone_active}
 use Rattle.rq_restart.proofs.restart.undo_all.Goals as goal
 
@@ -30,8 +30,8 @@ pub returns-clause-counted : goal.returns-clause-counted
 returns-clause-counted g c = λ before.
     let undo = c.in_ok-undo_unfinished.ensures in
     let abort = c.in_ok-abort_lost.ensures in
-    subst (λ y. AreCounted y (length c.abort_lost.new.log.records) (paged c.abort_lost.new.pages)) undo.sizes
-    (abort.gone_on.counted (subst (λ y. AreCounted y (length c.undo_unfinished.new.log.records) (paged c.undo_unfinished.new.pages)) (sym undo.sizes) (undo.counted before)))
+    subst (λ y. ArePagesCounted y (length c.abort_lost.new.log.records) (paged c.abort_lost.new.pages)) undo.sizes
+    (abort.gone_on.counted (subst (λ y. ArePagesCounted y (length c.undo_unfinished.new.log.records) (paged c.undo_unfinished.new.pages)) (sym undo.sizes) (undo.counted before)))
 
 pub returns-clause-recovered : goal.returns-clause-recovered
 returns-clause-recovered g c = λ first before left.

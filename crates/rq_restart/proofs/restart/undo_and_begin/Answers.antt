@@ -3,7 +3,7 @@ use Rattle.rq_model.specs.declared.record.Record.TheVariants as records
 use Rattle.rq_store.specs.Opening.{IsLeft, next_restart}
 use Rattle.rq_analysis.specs.OpenWorkView.{OpenWorkView}
 use Rattle.rq_restart.specs.Refused.{WhyNotBegun}
-use Rattle.rq_restart.specs.Repeating.{AreCounted, paged}
+use Rattle.rq_restart.specs.Repeating.{ArePagesCounted, paged}
 use Rattle.rq_restart.specs.Restarting.{AreTold}
 use Rattle.rq_restart.proofs.Begun.{begins, begun_is, last_is, not_begun, reports}
 use Rattle.rq_restart.proofs.Counting.{are_told}
@@ -42,7 +42,7 @@ returns-in-Ok-clause-told g c =
     let z = c.undo_all_checked.new.pages.sizes in
     let images = c.undo_all_checked.new.pages.images in
     let count : ℕ = length c.undo_all_checked.new.log.records in
-    let counted : AreCounted z count (paged c.undo_all_checked.new.pages) = subst (λ y. AreCounted y count (paged c.undo_all_checked.new.pages)) (sym rollback.sizes) (rollback.counted c.requires.counted) in
+    let counted : ArePagesCounted z count (paged c.undo_all_checked.new.pages) = subst (λ y. ArePagesCounted y count (paged c.undo_all_checked.new.pages)) (sym rollback.sizes) (rollback.counted c.requires.counted) in
     let longer : count + 1 ≡ length c.begin_incarnation.new.log.records = (let e : length c.begin_incarnation.new.log.records ≡ length (records.Restart (c.incarnation.result + 1) ∷ c.undo_all_checked.new.log.records) = ap length c.in-Ok.ensures.records in omega (arith, e)) in
     subst (λ n. AreTold z images n c.in_ok-tables.tables.waiting c.in_ok-tables.tables.sent) longer (are_told z images count c.in_ok-tables.tables.waiting c.in_ok-tables.tables.sent c.in_ok-tables.ensures.waiting c.in_ok-tables.ensures.sent counted)
 
