@@ -1,5 +1,5 @@
 pub mod Keyed
-pub mod Parsed
+pub mod Stopped
 pub mod Texts
 pub mod Told
 pub mod Written

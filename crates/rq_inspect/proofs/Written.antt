@@ -1,29 +1,15 @@
 -- A text that is written piece by piece.
-use Rattle.std.proofs.Common.{◌≡◌, ℕ, List, [], ◌++◌, Option, Some, None, Result, Ok, Err, IfErr, OnOk, sym, ◌∙◌, ap, subst, append_assoc}
+use Rattle.std.proofs.Common.{◌≡◌, ℕ, List, [], ◌++◌, Option, Some, None, Result, Ok, Err, OnOk, sym, ◌∙◌, ap, subst, append_assoc}
 use Rattle.std.proofs.lemmas.List.{append-nil}
 use Rattle.std.specs.Io.KnownBytes.{Appends}
-use Rattle.rq_model.specs.declared.refusal.Refusal.TheVariants as why
-use Rattle.rq_model.specs.declared.refusal.Damage.TheVariants as damage
-use Rattle.rq_inspect.specs.declared.inspecting.Stop.{Stop}
-use Rattle.rq_inspect.specs.declared.inspecting.Stop.TheVariants as stops
-use Rattle.rq_inspect.specs.Inspections.{IfDamaged, IsWrittenBut}
+use Rattle.rq_inspect.specs.Inspections.{IsWrittenBut}
 
 -- what follows of two facts, where it is Ok
 pub on_ok_both : {T E P Q R : Type 0} (r : Result T E) → (P → Q → R) → OnOk r P → OnOk r Q → OnOk r R
 on_ok_both (Ok x) f p q = f p q
 on_ok_both (Err e) f p q = tt
 
--- what follows of damage
-damaged_weaker : (stop : Stop) (P Q : ℕ → Type 0) → ((lsn : ℕ) → P lsn → Q lsn) → IfDamaged stop P → IfDamaged stop Q
-damaged_weaker (stops.Refused (why.Damaged (damage.Record lsn))) P Q f h = f lsn h
-damaged_weaker _ P Q f h = tt
-
-pub on_damage : {T : Type 0} (r : Result T Stop) (P Q : ℕ → Type 0) → ((lsn : ℕ) → P lsn → Q lsn)
-    → IfErr r (λ stop. IfDamaged stop P) → IfErr r (λ stop. IfDamaged stop Q)
-on_damage (Ok x) P Q f h = tt
-on_damage (Err stop) P Q f h = damaged_weaker stop P Q f h
-
-appends_nothing : (a : Option (List ℕ)) → Appends a a []
+pub appends_nothing : (a : Option (List ℕ)) → Appends a a []
 appends_nothing None = tt
 appends_nothing (Some xs) = sym (append-nil xs)
 

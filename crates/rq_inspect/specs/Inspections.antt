@@ -1,11 +1,12 @@
 -- What is written of a log. A log is its records, the newest first.
-use Rattle.std.specs.Prelude.{◌≡◌, ℕ, ◌+◌, List, [], ◌∷◌, ◌++◌, Option, length}
+use Rattle.std.specs.Prelude.{◌≡◌, ℕ, ◌+◌, ◌%◌, ◌^◌, List, [], ◌∷◌, ◌++◌, Option, length}
 use Rattle.std.specs.Io.KnownBytes.{Appends}
 use Rattle.rq_model.specs.declared.record.Record.{Record}
 use Rattle.rq_model.specs.declared.refusal.Refusal.{Refusal}
 use Rattle.rq_model.specs.declared.refusal.Refusal.TheVariants as why
 use Rattle.rq_model.specs.declared.refusal.Damage.TheVariants as damage
-use Rattle.rq_log.specs.Reading.{IsDamagedBehind}
+use Rattle.rq_disk.specs.declared.device.LogDevice.{Ghosts}
+use Rattle.rq_log.specs.Reading.{BeginsWith, IsDamagedBehind}
 use Rattle.rq_log.specs.Spelled.{AreSpelled, spelled}
 use Rattle.rq_inspect.specs.declared.inspecting.Stop.{Stop}
 use Rattle.rq_inspect.specs.declared.inspecting.Stop.TheVariants as stops
@@ -20,30 +21,60 @@ lines (r ∷ log) = lines log ++ line_of (length log + 1) r
 -- The bytes are a log's, and what a writer holds grew by the line of each record and then the log's report.
 pub record IsInspected (bytes : List ℕ) (old new : Option (List ℕ)) : Type 0 where
   pub log : List Record
+  pub are_spelled : AreSpelled log
   pub is : bytes ≡ spelled log
   pub report : Reported
   pub told : IsReport log report
   pub written : Appends old new (lines log ++ report_text report)
 
--- Behind some records the bytes go on with what is none, the record with this number; what a writer holds grew by the line of
--- each of those before it.
-pub record IsCutShort (bytes : List ℕ) (old new : Option (List ℕ)) (lsn : ℕ) : Type 0 where
+-- The bytes begin with these records, and the line of each is written, and nothing else.
+pub record IsBegun (bytes : List ℕ) (Written : List ℕ → Type 0) : Type 0 where
   pub log : List Record
+  pub are_spelled : AreSpelled log
+  pub begins : BeginsWith log bytes
+  pub written : Written (lines log)
+
+-- Behind these records the bytes go on with what is none, the record with this number; the line of each of those before it
+-- is written, and nothing else.
+pub record IsCutShort (bytes : List ℕ) (Written : List ℕ → Type 0) (lsn : ℕ) : Type 0 where
+  pub log : List Record
+  pub are_spelled : AreSpelled log
   pub next : lsn ≡ length log + 1
   pub damaged : IsDamagedBehind log bytes
-  pub written : Appends old new (lines log)
+  pub written : Written (lines log)
 
--- where it stopped at bytes that are no record, P holds of the number of that record
-abbrev pub IfDamaged : Stop → (ℕ → Type 0) → Type 0
-IfDamaged (stops.Refused (why.Damaged (damage.Record lsn))) P = P lsn
-IfDamaged _ P = Unit {0}
-
--- it is no damage
-abbrev pub IsNoDamage : Refusal → Type 0
-IsNoDamage (why.Damaged d) = ⊥
-IsNoDamage _ = Unit {0}
+module _ {L : Type 0} (g : Ghosts L) where
+  -- Why an inspection stopped, and what of the log's text was written by then. Of a writer that failed nothing is known.
+  abbrev pub IsStopped : Stop → L → L → (List ℕ → Type 0) → Type 0
+  IsStopped (stops.Refused why.NoMemory) log back Written = (g.faults back ≡ g.faults log)
+      × (g.honest back → IsBegun (g.seen log) Written)
+  IsStopped (stops.Refused why.DiskRead) log back Written = (g.faults back ≡ (g.faults log + 1) % 2 ^ 64)
+      × (g.honest back → IsBegun (g.seen log) Written)
+  IsStopped (stops.Refused (why.Damaged (damage.Record lsn))) log back Written = (g.faults back ≡ g.faults log)
+      × (g.honest back → IsCutShort (g.seen log) Written lsn)
+  IsStopped (stops.Refused _) log back Written = ⊥
+  IsStopped (stops.Output e) log back Written = Unit {0}
 
 -- ---- on the way
+
+-- why a report was not written: no part of it was, unless the writer failed
+abbrev pub IsUnprinted : Stop → Option (List ℕ) → Option (List ℕ) → Type 0
+IsUnprinted (stops.Refused e) old new = (e ≡ why.NoMemory) × (new ≡ old)
+IsUnprinted (stops.Output e) old new = Unit {0}
+
+module _ {L : Type 0} (g : Ghosts L) where
+  -- why a second reading stopped: because of no byte, if they are a log's
+  abbrev pub IsUnread : Refusal → L → L → Type 0
+  IsUnread why.NoMemory log back = g.faults back ≡ g.faults log
+  IsUnread why.DiskRead log back = g.faults back ≡ (g.faults log + 1) % 2 ^ 64
+  IsUnread (why.Damaged (damage.Record lsn)) log back = (g.faults back ≡ g.faults log)
+      × (g.honest back → (older : List Record) → AreSpelled older → g.seen log ≡ spelled older → ⊥)
+  IsUnread _ log back = ⊥
+
+  -- why a log was not read again, or its report not written
+  abbrev pub IsUnreported : Stop → L → L → Option (List ℕ) → Option (List ℕ) → Type 0
+  IsUnreported (stops.Refused e) log back old new = IsUnread e log back × (new ≡ old)
+  IsUnreported (stops.Output e) log back old new = Unit {0}
 
 -- the lines are written, and the report tells the log, read once
 pub record IsListed (bytes : List ℕ) (old new : Option (List ℕ)) (report : Reported) : Type 0 where

@@ -1,10 +1,10 @@
 //! A log as it is read: its lines, and then its report.
-ghost use Rattle.std.specs.Prelude.{◌≡◌, ◌+◌, ◌++◌, [], ◌∷◌, OnOk, IfErr, List, ℕ, Option, length};
+ghost use Rattle.std.specs.Prelude.{◌≡◌, ◌+◌, ◌++◌, [], ◌∷◌, OnOk, OnErr, IfErr, List, ℕ, Option, length};
 ghost use Rattle.std.specs.Io.KnownBytes.{Appends};
 ghost use Rattle.rq_model.specs.declared.record.Record.{Record};
-ghost use Rattle.rq_log.specs.Reading.{IsDamagedBehind};
+ghost use Rattle.rq_log.specs.Reading.{IsRead};
 ghost use Rattle.rq_log.specs.Spelled.{AreSpelled, spelled};
-ghost use Rattle.rq_inspect.specs.Inspections.{IfDamaged, IsCutShort, IsInspected, IsListed, IsNoDamage, IsReported, IsWrittenBut, lines};
+ghost use Rattle.rq_inspect.specs.Inspections.{IsInspected, IsListed, IsReported, IsStopped, IsUnprinted, IsUnread, IsUnreported, IsWrittenBut, lines};
 ghost use Rattle.rq_inspect.specs.Lines.{line_of};
 ghost use Rattle.rq_inspect.specs.Reports.{Tells, report_text};
 
@@ -43,10 +43,14 @@ pub fn inspect<L: LogDevice + Drop, W: Write>(
     log: L,
     writer: &mut W,
 ) -> (L, Result<(), Stop>)
+    // What is written, or why it is not all.
     ensures whole { OnOk result.1 (L.honest result.0
         → IsInspected (L.seen log) (W.contents writer.old) (W.contents writer.new)) }
-    ensures damaged { IfErr result.1 (λ stop. IfDamaged stop (λ lsn. L.honest result.0
-        → IsCutShort (L.seen log) (W.contents writer.old) (W.contents writer.new) lsn)) }
+    ensures stopped { IfErr result.1 (λ stop. IsStopped L.LogDevice stop log result.0
+        (Appends (W.contents writer.old) (W.contents writer.new))) }
+    // The log.
+    ensures cause { OnOk result.1 (L.faults result.0 ≡ L.faults log) }
+    ensures read { IsRead L.LogDevice log result.0 }
 {
     let mut report = Report::new(alloc);
     let (log, listed) = list(alloc, log, &mut report, writer);
@@ -66,10 +70,10 @@ fn list<L: LogDevice + Drop, W: Write>(
     requires none_told { Tells [] [] report.old }
     ensures whole { OnOk result.1 (L.honest result.0
         → IsListed (L.seen log) (W.contents writer.old) (W.contents writer.new) report.new) }
-    ensures damaged { IfErr result.1 (λ stop. IfDamaged stop (λ lsn. L.honest result.0
-        → IsCutShort (L.seen log) (W.contents writer.old) (W.contents writer.new) lsn)) }
-    ensures seen { L.seen result.0 ≡ L.seen log }
-    ensures honest { L.honest result.0 → L.honest log }
+    ensures stopped { IfErr result.1 (λ stop. IsStopped L.LogDevice stop log result.0
+        (Appends (W.contents writer.old) (W.contents writer.new))) }
+    ensures cause { OnOk result.1 (L.faults result.0 ≡ L.faults log) }
+    ensures read { IsRead L.LogDevice log result.0 }
 {
     match LogReader::new(alloc, log) {
         Ok(mut reader) => {
@@ -91,9 +95,10 @@ fn report_on<L: LogDevice + Drop, W: Write>(
     ensures whole { OnOk result.1 (L.honest result.0 → (older : List Record) → AreSpelled older
         → L.seen log ≡ spelled older → Tells older [] report
         → IsReported older (W.contents writer.old) (W.contents writer.new)) }
-    ensures undamaged { IfErr result.1 (λ stop. IfDamaged stop (λ _. L.honest result.0 → (older : List Record)
-        → AreSpelled older → L.seen log ≡ spelled older → ⊥)) }
-    ensures honest { L.honest result.0 → L.honest log }
+    ensures unreported { IfErr result.1 (λ stop. IsUnreported L.LogDevice stop log result.0
+        (W.contents writer.old) (W.contents writer.new)) }
+    ensures cause { OnOk result.1 (L.faults result.0 ≡ L.faults log) }
+    ensures read { IsRead L.LogDevice log result.0 }
 {
     let mut report = report;
     let (log, struck) = strike_out(alloc, log, &mut report);
@@ -114,9 +119,9 @@ fn strike_out<L: LogDevice + Drop>(
 ) -> (L, Result<(), Refusal>)
     ensures whole { OnOk result.1 (L.honest result.0 → (older : List Record) → AreSpelled older
         → L.seen log ≡ spelled older → Tells older [] report.old → Tells older older report.new) }
-    ensures undamaged { IfErr result.1 (λ e. L.honest result.0 → (older : List Record) → AreSpelled older
-        → L.seen log ≡ spelled older → IsNoDamage e) }
-    ensures honest { L.honest result.0 → L.honest log }
+    ensures unread { IfErr result.1 (λ e. IsUnread L.LogDevice e log result.0) }
+    ensures cause { OnOk result.1 (L.faults result.0 ≡ L.faults log) }
+    ensures read { IsRead L.LogDevice log result.0 }
 {
     if !report.names_any() {
         return (log, Ok(()));
@@ -134,12 +139,13 @@ fn strike_out<L: LogDevice + Drop>(
 // The second reading.
 fn strike_all<L: LogDevice>(reader: &mut LogReader<L>, report: &mut Report) -> Result<(), Refusal>
     requires none_read { reader.old.records ≡ [] }
+    requires fresh { reader.old.device ≡ reader.old.first }
     ensures struck { OnOk result ((older : List Record) → Tells older [] report.old
         → Tells older reader.new.records report.new) }
     ensures whole { OnOk result (L.honest reader.new.device
         → L.seen reader.new.first ≡ spelled reader.new.records) }
-    ensures undamaged { IfErr result (λ e. L.honest reader.new.device → (older : List Record) → AreSpelled older
-        → L.seen reader.new.first ≡ spelled older → IsNoDamage e) }
+    ensures unread { IfErr result (λ e. IsUnread L.LogDevice e reader.old.first reader.new.device) }
+    ensures cause { OnOk result (L.faults reader.new.device ≡ L.faults reader.old.first) }
     ensures first { reader.new.first ≡ reader.old.first }
 {
     reader.shows_read();
@@ -162,17 +168,19 @@ fn write_lines<L: LogDevice, W: Write>(
     writer: &mut W,
 ) -> Result<(), Stop>
     requires none_read { reader.old.records ≡ [] }
+    requires fresh { reader.old.device ≡ reader.old.first }
     requires none_told { Tells [] [] report.old }
     ensures whole { OnOk result (L.honest reader.new.device
         → IsListed (L.seen reader.new.first) (W.contents writer.old) (W.contents writer.new) report.new) }
-    ensures damaged { IfErr result (λ stop. IfDamaged stop (λ lsn. L.honest reader.new.device
-        → IsCutShort (L.seen reader.new.first) (W.contents writer.old) (W.contents writer.new) lsn)) }
+    ensures stopped { IfErr result (λ stop. IsStopped L.LogDevice stop reader.old.first reader.new.device
+        (Appends (W.contents writer.old) (W.contents writer.new))) }
+    ensures cause { OnOk result (L.faults reader.new.device ≡ L.faults reader.old.first) }
     ensures first { reader.new.first ≡ reader.old.first }
 {
     let Ok(mut piece) = Vec::with_capacity(alloc, PIECE) else {
         return Err(Stop::Refused(Refusal::NoMemory));
     };
-    let listed = go_through(reader, report, &mut piece, writer);
+    let listed = go_through(alloc, reader, report, &mut piece, writer);
     match writer.write_all(&piece) {
         Ok(()) => listed,
         Err(error) => Err(Stop::Output(error)),
@@ -181,12 +189,14 @@ fn write_lines<L: LogDevice, W: Write>(
 
 // The same, but that the last lines are left in a piece, which is not written.
 fn go_through<L: LogDevice, W: Write>(
+    alloc: Global,
     reader: &mut LogReader<L>,
     report: &mut Report,
     piece: &mut Vec<u8>,
     writer: &mut W,
 ) -> Result<(), Stop>
     requires none_read { reader.old.records ≡ [] }
+    requires fresh { reader.old.device ≡ reader.old.first }
     requires none_told { Tells [] [] report.old }
     requires empty { piece.old.items ≡ [] }
     ensures told { OnOk result (Tells reader.new.records [] report.new) }
@@ -194,9 +204,9 @@ fn go_through<L: LogDevice, W: Write>(
         (lines reader.new.records)) }
     ensures whole { OnOk result (L.honest reader.new.device
         → L.seen reader.new.first ≡ spelled reader.new.records) }
-    ensures damaged { IfErr result (λ stop. IfDamaged stop (λ lsn. (lsn ≡ length reader.new.records + 1)
-        × (L.honest reader.new.device → IsDamagedBehind reader.new.records (L.seen reader.new.first))
-        × IsWrittenBut (W.contents writer.old) (W.contents writer.new) piece.new.items (lines reader.new.records))) }
+    ensures stopped { IfErr result (λ stop. IsStopped L.LogDevice stop reader.old.first reader.new.device
+        (λ text. IsWrittenBut (W.contents writer.old) (W.contents writer.new) piece.new.items text)) }
+    ensures cause { OnOk result (L.faults reader.new.device ≡ L.faults reader.old.first) }
     ensures spelled { AreSpelled reader.new.records }
     ensures first { reader.new.first ≡ reader.old.first }
 {
@@ -208,7 +218,7 @@ fn go_through<L: LogDevice, W: Write>(
             Ok(false) => return Ok(()),
             Err(refusal) => return Err(Stop::Refused(refusal)),
         }
-        if take_in(report, piece, reader.last(), &record).is_err() {
+        if take_in(alloc, report, piece, reader.last(), &record).is_err() {
             return Err(Stop::Refused(Refusal::NoMemory));
         }
         if let Err(error) = write_full(writer, piece) {
@@ -219,6 +229,7 @@ fn go_through<L: LogDevice, W: Write>(
 
 // Adds the line of a record to a piece, and notes the record.
 fn take_in(
+    alloc: Global,
     report: &mut Report,
     piece: &mut Vec<u8>,
     lsn: Lsn,
@@ -227,9 +238,10 @@ fn take_in(
     ensures told { OnOk result ((log : List Record) → lsn ≡ length log + 1 → Tells log [] report.old
         → Tells («record».now ∷ log) [] report.new) }
     ensures text { OnOk result (piece.new.items ≡ piece.old.items ++ line_of lsn «record».now) }
+    ensures err { OnErr result (piece.new.items ≡ piece.old.items) }
 {
-    line(piece, lsn, record)?;
-    report.note(lsn, record)
+    report.note(lsn, record)?;
+    line(alloc, piece, lsn, record)
 }
 
 // Writes a piece that is full.
@@ -248,7 +260,7 @@ fn write_full<W: Write>(writer: &mut W, piece: &mut Vec<u8>) -> io::Result<()>
 // Writes the report.
 fn write_report<W: Write>(alloc: Global, report: Report, writer: &mut W) -> Result<(), Stop>
     ensures told { OnOk result (Appends (W.contents writer.old) (W.contents writer.new) (report_text report)) }
-    ensures undamaged { IfErr result (λ stop. IfDamaged stop (λ _. ⊥)) }
+    ensures unprinted { IfErr result (λ stop. IsUnprinted stop (W.contents writer.old) (W.contents writer.new)) }
 {
     let mut text = Vec::new(alloc);
     if report.write(&mut text).is_err() {

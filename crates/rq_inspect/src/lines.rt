@@ -1,25 +1,43 @@
 //! The line of a record.
-ghost use Rattle.std.specs.Prelude.{◌≡◌, ◌++◌, OnOk};
+ghost use Rattle.std.specs.Prelude.{◌≡◌, ◌++◌, IfOk, OnOk, OnErr};
 ghost use Rattle.rq_inspect.specs.Lines.{line_of, record_text};
 
 use crate::keys::{OperationKey, TxnKey};
 use rq_model::record::Record;
 use rq_model::refusal::NoMemory;
 use rq_model::txn::Lsn;
+use std::alloc::Global;
 use std::io;
 use std::io::Write;
 
-/// Adds the line of the record with this LSN to a text, or nothing where memory is wanting.
-pub fn line(out: &mut Vec<u8>, lsn: Lsn, record: &Record) -> Result<(), NoMemory>
-    ensures { OnOk result (out.new.items ≡ out.old.items ++ line_of lsn «record».now) }
+/// Room for a line, in bytes.
+const LINE_ROOM: usize = 160;
+
+/// Adds the line of the record with this LSN to a text.
+///
+/// # Errors
+/// `NoMemory`: the text is as it was.
+pub fn line(alloc: Global, out: &mut Vec<u8>, lsn: Lsn, record: &Record) -> Result<(), NoMemory>
+    ensures ok { OnOk result (out.new.items ≡ out.old.items ++ line_of lsn «record».now) }
+    ensures err { OnErr result (out.new.items ≡ out.old.items) }
 {
-    let whole = out.len();
-    match write_line(out, lsn, record) {
+    let text = text_of(alloc, lsn, record)?;
+    match out.extend_from_slice(&text) {
         Ok(()) => Ok(()),
-        Err(_) => {
-            out.truncate(whole);
-            Err(NoMemory)
-        }
+        Err(_) => Err(NoMemory),
+    }
+}
+
+// The line of the record with this LSN.
+fn text_of(alloc: Global, lsn: Lsn, record: &Record) -> Result<Vec<u8>, NoMemory>
+    ensures { IfOk result (λ text. text.items ≡ line_of lsn «record».now) }
+{
+    let Ok(mut text) = Vec::with_capacity(alloc, LINE_ROOM) else {
+        return Err(NoMemory);
+    };
+    match write_line(&mut text, lsn, record) {
+        Ok(()) => Ok(text),
+        Err(_) => Err(NoMemory),
     }
 }
 

@@ -26,6 +26,9 @@ pub trait Store {
     /// A crash.
     fn crash(&mut self, keep: Survivors, images: Images) -> CommandResult;
 
+    /// The text of the log of a store that is open, or as a crash left it.
+    fn log(&mut self, alloc: Global) -> CommandResult;
+
     /// Opens the store after a crash, or stops in that once so many records are kept.
     fn restart(&mut self, stop: Option<u64>) -> CommandResult;
 }
@@ -40,6 +43,7 @@ pub fn carry_out<S: Store>(
     match command {
         Some(Command::Restart) => store.restart(None),
         Some(Command::StopInRestart(records)) => store.restart(Some(records)),
+        Some(Command::Log) => store.log(alloc),
         Some(_) if !store.is_open() => CommandResult::refused(Refusal::Failed),
         Some(Command::Crash(keep, images)) => store.crash(keep, images),
         Some(Command::Fail(kind)) => {
@@ -74,9 +78,11 @@ fn call<S: Store>(store: &mut S, alloc: Global, command: Command<'_>) -> Reply {
         Command::Write(page) => store.ask(Event::WritePage(page)),
         Command::Last(sender) => store.ask(Event::LastTag(sender)),
         Command::Dump => store.ask(Event::Content),
-        Command::Fail(_) | Command::Crash(..) | Command::Restart | Command::StopInRestart(_) => {
-            Reply::Refused(Refusal::Failed)
-        }
+        Command::Fail(_)
+        | Command::Crash(..)
+        | Command::Restart
+        | Command::StopInRestart(_)
+        | Command::Log => Reply::Refused(Refusal::Failed),
     }
 }
 

@@ -29,6 +29,7 @@ pub enum Command<'a> {
     /// One that the machine stops in, once so many of its records are kept.
     StopInRestart(u64),
     Dump,
+    Log,
 }
 
 /// A message that a transaction is to send.
@@ -74,6 +75,7 @@ fn plain(name: &[u8]) -> Option<Command<'static>> {
         b"force" => Some(Command::Force),
         b"restart" => Some(Command::Restart),
         b"dump" => Some(Command::Dump),
+        b"log" => Some(Command::Log),
         _ => None,
     }
 }

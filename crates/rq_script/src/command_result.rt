@@ -7,7 +7,7 @@ use rq_restart::restart::Report;
 use std::io;
 use std::io::Write;
 
-/// Room for each line but a content's, in bytes.
+/// Room for each line but those of a content and a log, in bytes.
 pub const LINE_ROOM: usize = 512;
 
 /// What a command came to.
@@ -25,6 +25,8 @@ pub enum CommandResult {
     Restarted(Report),
     /// The machine stopped in a restart, after which this many records are left.
     Stopped(u64),
+    /// The text of the log.
+    Log(Vec<u8>),
     /// The store could not be opened. The script ends.
     Fault(Refusal),
     /// The line of this number is no command. The script ends.
@@ -45,7 +47,8 @@ impl CommandResult {
         }
     }
 
-    /// Prints it, in the place of what the output held. A content that memory is wanting for is printed as refused.
+    /// Prints it, in the place of what the output held. A content or a log that memory is wanting for is printed
+    /// as refused.
     pub fn print(&self, output: &mut Vec<u8>) {
         output.clear();
         if self.print_whole(output).is_err() {
@@ -62,6 +65,7 @@ impl CommandResult {
             CommandResult::Running => print_word(output, "running"),
             CommandResult::Restarted(report) => print_report(output, *report),
             CommandResult::Stopped(records) => print_number(output, "stopped", *records),
+            CommandResult::Log(text) => print_text(output, text),
             CommandResult::Fault(refusal) => print_fault(output, *refusal),
             CommandResult::NoCommand(number) => print_number(output, "fault line", *number),
         }
@@ -90,6 +94,11 @@ fn print_reply(output: &mut Vec<u8>, reply: &Reply) -> io::Result<()> {
         Reply::Content(groups) => print_content(output, groups),
         Reply::Refused(refusal) => print_refusal(output, *refusal),
     }
+}
+
+fn print_text(output: &mut Vec<u8>, text: &[u8]) -> io::Result<()> {
+    output.extend_from_slice(text)?;
+    Ok(())
 }
 
 fn print_word(output: &mut Vec<u8>, word: &str) -> io::Result<()> {

@@ -4,6 +4,7 @@
 mod calls;
 mod command;
 mod command_result;
+mod log;
 mod machine;
 mod script;
 mod store;

@@ -2,8 +2,10 @@
 use crate::calls::Store;
 use crate::command::{Images, Survivors};
 use crate::command_result::CommandResult;
+use crate::log::text_of_open;
 use rq_disk::{CallKind, Mishap, PageChoice, Switch};
 use rq_engine::event::{CommitNo, Event, Reply};
+use rq_model::record::Record;
 use rq_model::refusal::Refusal;
 use rq_model::txn::Txn;
 use rq_restart::restart::Report;
@@ -17,6 +19,12 @@ pub trait Medium<K, D> {
 
     /// Makes a call.
     fn ask(&mut self, kept: &mut K, event: Event) -> Reply;
+
+    /// What stands at a place of the log, and the place behind it.
+    fn record_at(&mut self, kept: &mut K, place: u64) -> Result<Option<(Record, u64)>, Refusal>;
+
+    /// The text of the log that the devices hold. They are as they were.
+    fn text_of_log(&mut self, devices: D) -> (D, Result<Vec<u8>, Refusal>);
 
     /// The devices of a store whose buffered records are handed over, which no failure meets.
     fn shut(&mut self, kept: K) -> D;
@@ -184,6 +192,19 @@ impl<K: Drop, D: Drop, M: Medium<K, D>> Machine<K, D, M> {
         CommandResult::Stopped(self.leave(devices, PageChoice::Newest, kept))
     }
 
+    // The text of the log of a store that is open, or as a crash left it.
+    fn text_of_log(&mut self, alloc: Global) -> Result<Vec<u8>, Refusal> {
+        if let State::Open(kept) = &mut self.state {
+            return text_of_open(alloc, &mut self.medium, kept);
+        }
+        let Some(devices) = self.state.take_crashed() else {
+            return Err(Refusal::Failed);
+        };
+        let (devices, text) = self.medium.text_of_log(devices);
+        self.state = State::Crashed(devices);
+        text
+    }
+
     // The devices as a crash leaves them; how many records are left.
     fn leave(&mut self, devices: D, choice: PageChoice, keep: u64) -> u64 {
         let (devices, records) = self.medium.crash(devices, choice, keep);
@@ -225,6 +246,13 @@ impl<K: Drop, D: Drop, M: Medium<K, D>> Store for Machine<K, D, M> {
         let devices = self.medium.shut(kept);
         let choice = outliving_images(images);
         CommandResult::Crashed(self.leave(devices, choice, outliving_records(keep)))
+    }
+
+    fn log(&mut self, alloc: Global) -> CommandResult {
+        match self.text_of_log(alloc) {
+            Ok(text) => CommandResult::Log(text),
+            Err(refusal) => CommandResult::refused(refusal),
+        }
     }
 
     fn restart(&mut self, stop: Option<u64>) -> CommandResult {

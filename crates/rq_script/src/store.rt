@@ -1,8 +1,10 @@
 //! Stores over devices in memory. What is here promises nothing, so that the proofs above speak of no engine.
+use crate::log::text_of_device;
 use crate::machine::Medium;
 use rq_disk::{LogDevice, MemLog, MemPages, PageChoice, PageDevice, Switch};
 use rq_engine::event::{Event, Reply};
 use rq_level::Level;
+use rq_model::record::Record;
 use rq_model::refusal::Refusal;
 use rq_page::layout::Layout;
 use rq_planner::StoreLevels;
@@ -57,6 +59,23 @@ impl<B: Level> Medium<Kept<MemPages, MemLog, B>, (MemPages, MemLog)> for Memory<
 
     fn ask(&mut self, kept: &mut Kept<MemPages, MemLog, B>, event: Event) -> Reply {
         reply_of(kept, event)
+    }
+
+    fn record_at(
+        &mut self,
+        kept: &mut Kept<MemPages, MemLog, B>,
+        place: u64,
+    ) -> Result<Option<(Record, u64)>, Refusal> {
+        record_of(kept, place)
+    }
+
+    fn text_of_log(
+        &mut self,
+        devices: (MemPages, MemLog),
+    ) -> ((MemPages, MemLog), Result<Vec<u8>, Refusal>) {
+        let (pages, log) = devices;
+        let (log, text) = text_of_device(self.alloc, log);
+        ((pages, log), text)
     }
 
     fn shut(&mut self, kept: Kept<MemPages, MemLog, B>) -> (MemPages, MemLog) {
@@ -120,6 +139,13 @@ fn reply_of<P: PageDevice + Drop, L: LogDevice + Drop, B: Level>(
     event: Event,
 ) -> Reply {
     kept.step(PASS, event).into_reply()
+}
+
+fn record_of<P: PageDevice + Drop, L: LogDevice + Drop, B: Level>(
+    kept: &mut Kept<P, L, B>,
+    place: u64,
+) -> Result<Option<(Record, u64)>, Refusal> {
+    kept.record_at(place)
 }
 
 // The devices of a store whose buffered records are handed over, which no failure meets.

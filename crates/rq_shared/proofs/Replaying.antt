@@ -31,6 +31,16 @@ module _ {P L : Type 0} (p : page_device.Ghosts P) (l : log_device.Ghosts L) whe
         );
   }
 
+  -- the device of the log was read
+  pub only_read : (base s t : OpenStore P L) (audit : List Noted) → Follows p l base audit s → t ≡ record s { log = t.log } → (l.honest t.log → l.honest s.log) → Follows p l base audit t
+  only_read base s t audit f same falls =
+      let state = ap (λ (x : OpenStore P L). x.state) same in
+      let pages = ap (λ (x : OpenStore P L). x.pages) same in
+      record {
+        sizes = ap (λ z. z.sizes) state ∙ f.sizes;
+        replays = λ h sound. subst (λ z. IsSound z × Replays (size_of base.state.sizes) (ledger_of base.state) (answers audit) (ledger_of z)) (sym state) (f.replays (subst p.honest pages h.0, falls h.1) sound);
+      }
+
   pub one_noted : (base s t : OpenStore P L) (old new : List AuditEntry) (e : AuditEntry) (event : Event) (reply : Reply) → new ≡ old ++ e ∷ [] → call_of e.event ≡ call_of event → gave e.reply ≡ gave reply → Follows p l base (entries old) s → t.state.sizes ≡ s.state.sizes
       → (AreHonest p l t → AreHonest p l s) → (AreHonest p l t → IsSound s.state → IsModelStep s.state (call_of event) (gave reply) t.state) → Follows p l base (entries new) t
   one_noted base s t old new e event reply more asked given f same falls step =

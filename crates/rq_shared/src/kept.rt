@@ -1,9 +1,11 @@
 //! The kept engine: each call leaves one entry, and answers a stamp that says the same.
-ghost use Rattle.std.specs.Prelude.{◌≡◌, ◌≢◌, ℕ, List, ◌+◌, ◌<◌, [], ◌∷◌, ◌++◌, ◌↔◌, IfOk, OnOk, OnErr, IsTrue, map, length, vec_len, vec_capacity};
+ghost use Rattle.std.specs.Prelude.{◌≡◌, ◌≢◌, ℕ, List, ◌+◌, ◌<◌, [], ◌∷◌, ◌++◌, ◌↔◌, IfErr, IfOk, OnOk, OnErr, IsTrue, map, length, vec_len, vec_capacity};
+ghost use Rattle.rq_log.specs.Places.{StandsAt};
+ghost use Rattle.rq_log.specs.Reading.{IsRead};
 ghost use Rattle.rq_log.specs.Spelled.{IsBeginning};
 ghost use Rattle.rq_content.specs.Read.{group_of};
 ghost use Rattle.rq_engine.specs.Applied.{Applied};
-ghost use Rattle.rq_engine.specs.Opened.{AreHonest};
+ghost use Rattle.rq_engine.specs.Opened.{AreHonest, NotTold};
 ghost use Rattle.rq_engine.specs.Says.{call_of, gave, IsContent};
 
 use crate::count::{Count, same_and_more, zero};
@@ -12,6 +14,7 @@ use rq_disk::{LogDevice, PageDevice};
 use rq_engine::engine::Engine;
 use rq_engine::event::{Event, Reply};
 use rq_level::Level;
+use rq_model::record::Record;
 use rq_model::refusal::Refusal;
 use rq_model::txn::Lsn;
 use std::alloc::{AllocError, Global};
@@ -175,6 +178,22 @@ impl<P: PageDevice + Drop, L: LogDevice + Drop, B: Level> Kept<P, L, B> {
         };
         add_entry(&mut self.audit, entry);
         Stamped { pass, event, reply }
+    }
+
+    /// The record that stands at a place of the engine's log, and the place behind it (`Engine::record_at`). It leaves no entry.
+    ///
+    /// # Errors
+    /// `Failed`, `DiskRead`, `Damaged`.
+    pub fn record_at(&mut self, place: u64) -> Result<Option<(Record, u64)>, Refusal>
+        ensures found { IfOk result (λ found. L.honest self.new.engine.log
+            → StandsAt self.old.engine.state.records place found) }
+        ensures refusal { IfErr result (λ r. NotTold L.LogDevice self.old.engine place self.new.engine r) }
+        ensures cause { OnOk result (L.faults self.new.engine.log ≡ L.faults self.old.engine.log) }
+        // The device of the log was read, and nothing else happened.
+        ensures same { self.new ≡ record self.old { engine = record self.old.engine { log = self.new.engine.log } } }
+        ensures read { IsRead L.LogDevice self.old.engine.log self.new.engine.log }
+    {
+        self.engine.record_at(place)
     }
 
     /// The engine as it was when the audit was last taken, with the number of entries taken before, and the entries

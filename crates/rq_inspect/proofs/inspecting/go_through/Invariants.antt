@@ -9,6 +9,7 @@ invariant-loop-refusal g l = record {
   told : Tells l.reader.records [] l.report;
   text : IsWrittenBut (g.W.Write.contents l.fn.writer) (g.W.Write.contents l.writer) l.piece.items (lines l.reader.records);
   reading : IsReading g.L.LogDevice l.reader;
+  count : g.L.LogDevice.faults l.reader.device ≡ g.L.LogDevice.faults l.fn.reader.first;
   first : l.reader.first ≡ l.fn.reader.first;
 }
 

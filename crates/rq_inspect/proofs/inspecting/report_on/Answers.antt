@@ -1,5 +1,5 @@
-use Rattle.std.proofs.lemmas.Result.{on_ok_weaker}
-use Rattle.rq_inspect.proofs.Written.{on_damage}
+use Rattle.std.proofs.lemmas.Result.{IfErr-weaker, on_ok_weaker}
+use Rattle.rq_inspect.proofs.Stopped.{unprinted}
 use Rattle.rq_inspect.proofs.inspecting.report_on.Goals as goal
 
 pub returns-in-Ok-clause-whole : goal.returns-in-Ok-clause-whole
@@ -11,5 +11,7 @@ returns-in-Ok-clause-whole g c =
       written = written;
     }) c.write_report.ensures.told
 
-pub returns-in-Ok-clause-undamaged : goal.returns-in-Ok-clause-undamaged
-returns-in-Ok-clause-undamaged g c = on_damage c.write_report.result _ _ (λ lsn never. absurd never) c.write_report.ensures.undamaged
+pub returns-in-Ok-clause-unreported : goal.returns-in-Ok-clause-unreported
+returns-in-Ok-clause-unreported g c =
+    let count = rw c.in-Ok.is at c.strike_out-log.ensures.cause in
+    IfErr-weaker c.write_report.result _ _ (λ stop why. unprinted g.L.LogDevice stop c.args.log c.strike_out-log.result.0 _ _ count why) c.write_report.ensures.unprinted

@@ -1,7 +1,7 @@
 use Rattle.std.proofs.Common.{◌≡◌, ◌∷◌, List, ◌∙◌, ap, sym, subst}
 use Rattle.rq_model.specs.declared.record.Record.{Record}
 use Rattle.rq_inspect.specs.Reports.{Tells}
-use Rattle.rq_inspect.proofs.Parsed.{undamaged}
+use Rattle.rq_inspect.proofs.Stopped.{unread}
 use Rattle.rq_inspect.proofs.inspecting.strike_all.Goals as goal
 
 pub loop-report-preserved : goal.loop-report-preserved
@@ -12,11 +12,13 @@ loop-report-preserved g c =
     record {
       struck = λ older h. subst (λ (rs : List Record). Tells older rs c.strike.new.self) (sym grown) (c.strike.ensures older front (c.loop-report.invariant.struck older h));
       reading = c.next_into.ensures.reading;
+      count = c.in-Ok-true.ensures.cause ∙ c.loop-report.invariant.count;
       first = c.next_into.ensures.first ∙ c.loop-report.invariant.first;
     }
 
-pub returns-in-Err-clause-undamaged : goal.returns-in-Err-clause-undamaged
-returns-in-Err-clause-undamaged g c = λ honest older are is.
-    let reading = c.loop-report.invariant.reading in
-    undamaged g.L.LogDevice c.in-Err.refusal c.loop-report.reader.records older c.loop-report.reader.device c.next_into.new.self.device
-    reading.are_spelled are (reading.read.same ∙ ap g.L.LogDevice.seen (sym c.next_into.ensures.first) ∙ is) honest c.in-Err.ensures.err
+pub returns-in-Err-clause-unread : goal.returns-in-Err-clause-unread
+returns-in-Err-clause-unread g c =
+    let l = g.L.LogDevice in
+    let was = c.loop-report.invariant in
+    unread l c.in-Err.refusal c.loop-report.reader.records c.args.reader.now.first c.loop-report.reader.device c.next_into.new.self.device
+    was.reading.are_spelled was.count (was.reading.read.same ∙ ap l.seen was.first) c.in-Err.ensures.err

@@ -8,6 +8,7 @@ abbrev pub invariant-loop-report : goal.invariant-loop-report
 invariant-loop-report g l = record {
   struck : (older : List Record) → Tells older [] l.fn.report → Tells older l.reader.records l.report;
   reading : IsReading g.L.LogDevice l.reader;
+  count : g.L.LogDevice.faults l.reader.device ≡ g.L.LogDevice.faults l.fn.reader.first;
   first : l.reader.first ≡ l.fn.reader.first;
 }
 

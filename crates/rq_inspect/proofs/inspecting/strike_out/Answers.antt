@@ -1,7 +1,7 @@
 use Rattle.std.proofs.Common.{◌≡◌, List, ap, sym, subst, ◌∙◌}
 use Rattle.rq_model.specs.declared.record.Record.{Record}
 use Rattle.rq_inspect.specs.Reports.{Tells}
-use Rattle.rq_inspect.proofs.Parsed.{one_log}
+use Rattle.rq_log.proofs.Parsing.{one_log}
 use Rattle.rq_inspect.proofs.Written.{on_ok_both}
 use Rattle.rq_inspect.proofs.inspecting.strike_out.Goals as goal
 

@@ -1,6 +1,4 @@
-use Rattle.std.proofs.Common.{◌^◌, ◌<◌, length}
 use Rattle.std.proofs.lemmas.Result.{IfErr-weaker, IfOk-weaker}
-use Rattle.rq_log.specs.Spelled.{spelled}
 use Rattle.rq_store.specs.State.{owed_by}
 use Rattle.rq_engine.proofs.Told.{log_fits, not_told}
 use Rattle.rq_engine.proofs.engine.Engine.record_at.Goals as goal
