@@ -6,6 +6,7 @@
 A name is one of the tests below, as `session`; without one all are run. `tests/kill.py` kills the server in the midst of load.
 """
 import argparse
+import os
 import pathlib
 import random
 import re
@@ -71,9 +72,10 @@ NO_TAG = bytes.fromhex("0011 88 0000000000000000 0000000000000000")
 
 
 class Server:
-    """`rqm serve` on a folder. It may open so many files, and make none longer than so many bytes."""
+    """`rqm serve` on a folder. It may open so many files, and make none longer than so many bytes; and its environment has more
+    words."""
 
-    def __init__(self, program, folder, *words, files=None, longest=None):
+    def __init__(self, program, folder, *words, files=None, longest=None, environment=None):
         def limit():
             if files:
                 resource.setrlimit(resource.RLIMIT_NOFILE, (files, files))
@@ -83,7 +85,8 @@ class Server:
 
         command = [program, "serve", str(folder), "--port", "0", *map(str, words)]
         self.told = tempfile.TemporaryFile()  # on standard error
-        self.process = subprocess.Popen(command, stdout=subprocess.PIPE, stderr=self.told, preexec_fn=limit)
+        words = dict(os.environ, **(environment or {}))
+        self.process = subprocess.Popen(command, stdout=subprocess.PIPE, stderr=self.told, preexec_fn=limit, env=words)
         line = self.process.stdout.readline()
         listening = re.fullmatch(rb"listening 127\.0\.0\.1:([0-9]+)\n", line)
         if not listening:
