@@ -10,12 +10,12 @@ use Rattle.rq_model.specs.Incarnations.{InOrder, incarnation_of}
 use Rattle.rq_model.specs.Vocabulary.{first}
 use Rattle.rq_views.specs.Items.{operation}
 use Rattle.rq_views.specs.Legal.{is_of}
-use Rattle.rq_analysis.specs.Analysis.{Analysis, analysis, has_sub}
+use Rattle.rq_analysis.specs.OpenWorkView.{OpenWorkView, open_work_of, has_sub}
 use Rattle.rq_analysis.proofs.Undoable.{way_parts, way_from}
 use Rattle.rq_analysis.specs.declared.dues.PendingUndo.{PendingUndo}
 use Rattle.rq_analysis.specs.Dues.{dues}
 use Rattle.rq_analysis.specs.Numbers.{numbers}
-use Rattle.rq_analysis.specs.ScanState.{Counts, IsScanStateOf, Passes, ended, has_count}
+use Rattle.rq_analysis.specs.LogTables.{Counts, AreTablesOf, Passes, ended, has_count}
 use Rattle.rq_analysis.specs.Rules.{CanBeRead, FollowAll, FollowsRules, ends_op, greatest_number, has_op, has_op_end, op_of}
 use Rattle.rq_analysis.proofs.RuleEnds.{ended_kept}
 use Rattle.rq_analysis.proofs.Operations.{number_kept, unfinished_kept, within_greatest}
@@ -34,10 +34,10 @@ unbegun_going o (r ∷ log) h =
 
 module _ (log : List Record) (f : FollowAll log) where
   module _ (o : Sub) where
-    open_parts : has_sub o (analysis log).unfinished ≡ true → (has_op o log ≡ true) × (has_op_end o log ≡ false)
+    open_parts : has_sub o (open_work_of log).unfinished ≡ true → (has_op o log ≡ true) × (has_op_end o log ≡ false)
     open_parts e = way_parts (has_op o log) (has_op_end o log) (sym (unfinished_kept log f o) ∙ e)
 
-    open_from : has_op o log ≡ true → has_op_end o log ≡ false → has_sub o (analysis log).unfinished ≡ true
+    open_from : has_op o log ≡ true → has_op_end o log ≡ false → has_sub o (open_work_of log).unfinished ≡ true
     open_from b g = unfinished_kept log f o ∙ way_from (has_op o log) (has_op_end o log) b g
 
   -- a transaction of the running incarnation
@@ -54,11 +54,11 @@ module _ (log : List Record) (f : FollowAll log) where
 
   -- by the log itself
   abbrev pub IsJudged : Record → Type 0
-  IsJudged r = InOrder (r ∷ log) → CanBeRead r → Passes (analysis log) (dues log) (numbers log) (ended log) r ↔ FollowsRules log r
+  IsJudged r = InOrder (r ∷ log) → CanBeRead r → Passes (open_work_of log) (dues log) (numbers log) (ended log) r ↔ FollowsRules log r
 
   judged : (r : Record) → IsJudged r
   judged (records.PageOp t n page slot before after) w can = (to, from) where
-    to : Passes (analysis log) (dues log) (numbers log) (ended log) (records.PageOp t n page slot before after) → FollowsRules log (records.PageOp t n page slot before after)
+    to : Passes (open_work_of log) (dues log) (numbers log) (ended log) (records.PageOp t n page slot before after) → FollowsRules log (records.PageOp t n page slot before after)
     to p =
         let run = runs t w.1 w.0.1 p.0 in
         elim p.1 [
@@ -70,7 +70,7 @@ module _ (log : List Record) (f : FollowAll log) where
               record { running = run; going = unbegun_going (operation t n) log (next_unbegun t n new); begun = tt; numbered = λ off. new; undoes = tt; takes_back = tt; reads = tt }
         ]
 
-    from : FollowsRules log (records.PageOp t n page slot before after) → Passes (analysis log) (dues log) (numbers log) (ended log) (records.PageOp t n page slot before after)
+    from : FollowsRules log (records.PageOp t n page slot before after) → Passes (open_work_of log) (dues log) (numbers log) (ended log) (records.PageOp t n page slot before after)
     from q = (
       running t w.1 w.0.1 q.running,
       elim (cases_Bool (has_op (operation t n) log)) [
@@ -107,9 +107,9 @@ module _ (log : List Record) (f : FollowAll log) where
     λ q. tt,
   )
 
-pub judged_by : (log : List Record) (r : Record) (h : Analysis) (ds : List PendingUndo) (os : List Sub) (ns : Counts) → IsScanStateOf log h ds os ns → FollowAll log → InOrder (r ∷ log) → CanBeRead r → Passes h ds os ns r ↔ FollowsRules log r
+pub judged_by : (log : List Record) (r : Record) (h : OpenWorkView) (ds : List PendingUndo) (os : List Sub) (ns : Counts) → AreTablesOf log h ds os ns → FollowAll log → InOrder (r ∷ log) → CanBeRead r → Passes h ds os ns r ↔ FollowsRules log r
 judged_by log r h ds os ns k f w can =
-    let a : Passes (analysis log) (dues log) (numbers log) ns r ↔ FollowsRules log r = subst (λ (x : Counts). Passes (analysis log) (dues log) (numbers log) x r ↔ FollowsRules log r) (sym k.ended) (judged log f r w can) in
-    let b : Passes (analysis log) (dues log) os ns r ↔ FollowsRules log r = subst (λ (x : List Sub). Passes (analysis log) (dues log) x ns r ↔ FollowsRules log r) (sym k.numbers) a in
-    let d : Passes (analysis log) ds os ns r ↔ FollowsRules log r = subst (λ (x : List PendingUndo). Passes (analysis log) x os ns r ↔ FollowsRules log r) (sym k.dues) b in
-    subst (λ (x : Analysis). Passes x ds os ns r ↔ FollowsRules log r) (sym k.open_work) d
+    let a : Passes (open_work_of log) (dues log) (numbers log) ns r ↔ FollowsRules log r = subst (λ (x : Counts). Passes (open_work_of log) (dues log) (numbers log) x r ↔ FollowsRules log r) (sym k.ended) (judged log f r w can) in
+    let b : Passes (open_work_of log) (dues log) os ns r ↔ FollowsRules log r = subst (λ (x : List Sub). Passes (open_work_of log) (dues log) x ns r ↔ FollowsRules log r) (sym k.numbers) a in
+    let d : Passes (open_work_of log) ds os ns r ↔ FollowsRules log r = subst (λ (x : List PendingUndo). Passes (open_work_of log) x os ns r ↔ FollowsRules log r) (sym k.dues) b in
+    subst (λ (x : OpenWorkView). Passes x ds os ns r ↔ FollowsRules log r) (sym k.open_work) d

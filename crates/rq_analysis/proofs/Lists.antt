@@ -10,7 +10,7 @@ use Rattle.rq_views.specs.Log.{same_op}
 use Rattle.rq_views.proofs.Overlay.{same_is, same_self}
 use Rattle.rq_views.proofs.AllOpen.{filter_in, tail}
 use Rattle.rq_analysis.specs.declared.open_work.UndoableWrite.{UndoableWrite}
-use Rattle.rq_analysis.specs.Analysis.{undoable_by, has_sub, with_sub, without_sub, without_newest, without_undoable}
+use Rattle.rq_analysis.specs.OpenWorkView.{undoable_by, has_sub, with_sub, without_sub, without_newest, without_undoable}
 use Rattle.rq_analysis.specs.Pages.{any_undoable}
 
 pub first_in : {X : Type 0} (xs : List X) (x : X) → first xs ≡ Some x → In x xs

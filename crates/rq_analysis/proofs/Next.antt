@@ -13,7 +13,7 @@ use Rattle.rq_model.proofs.Lists.{same_is}
 use Rattle.rq_views.specs.Log.{same_op}
 use Rattle.rq_views.proofs.Overlay.{same_is as op_is, same_self as op_self}
 use Rattle.rq_analysis.specs.declared.open_work.UndoableWrite.{UndoableWrite}
-use Rattle.rq_analysis.specs.Analysis.{Analysis, has_sub}
+use Rattle.rq_analysis.specs.OpenWorkView.{OpenWorkView, has_sub}
 use Rattle.rq_analysis.specs.Pages.{NoneIsSpent, IsNextUndo, any_undoable, op_less, txn_less, undo_of, void_of}
 use Rattle.rq_analysis.specs.Pages.IsNextUndo.{Voids, Undoes}
 use Rattle.rq_analysis.specs.Least.{least_in, lesser_in}
@@ -132,7 +132,7 @@ none_of (p ∷ ps) e = absurd (let k : slice_get (p ∷ ps) (length (p ∷ ps) -
   some_not_none : {x : UndoableWrite} → ◌≡◌ {A = Option UndoableWrite} (Some x) None → ⊥
   some_not_none e = cc
 
-module _ (h : Analysis) (ps : List UndoableWrite) (os : List Sub) (undoable : h.undoable ≡ reverse ps) (unfinished : h.unfinished ≡ os) where
+module _ (h : OpenWorkView) (ps : List UndoableWrite) (os : List Sub) (undoable : h.undoable ≡ reverse ps) (unfinished : h.unfinished ≡ os) where
   any_same : (o : Sub) → any_undoable o h.undoable ≡ any_undoable o ps
   any_same o = ap (any_undoable o) undoable ∙ any_reverse o ps
 

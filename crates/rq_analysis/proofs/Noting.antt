@@ -21,9 +21,9 @@ use Rattle.rq_views.specs.Items.{items, layout_of, operation, ReadsItsDeeds}
 use Rattle.rq_views.proofs.Strangers.{has_end_same}
 use Rattle.rq_model.specs.Incarnations.{InOrder, incarnation_of}
 use Rattle.rq_store.proofs.Opening.{over_same}
-use Rattle.rq_analysis.specs.Analysis.{Analysis, analysis, has_sub, with_sub, without_sub, with_txn, without_txn}
+use Rattle.rq_analysis.specs.OpenWorkView.{OpenWorkView, open_work_of, has_sub, with_sub, without_sub, with_txn, without_txn}
 
-pub noted_incarnation : (log : List Record) → (analysis log).incarnation ≡ incarnation_of log
+pub noted_incarnation : (log : List Record) → (open_work_of log).incarnation ≡ incarnation_of log
 noted_incarnation [] = refl
 noted_incarnation (records.Restart i ∷ log) = refl
 noted_incarnation (records.PageOp t n page slot before after ∷ log) = noted_incarnation log
@@ -112,17 +112,17 @@ ended_more t n os log h =
     ∙ sym (filter_twice (λ p. same_txn t p.0 && nat_eq n p.1) (λ p. any_record (operation_ended p.0 p.1) log) (operations log))
 
 -- the operations noted are those that have no end
-pub noted_unfinished : (z : Sizes) (log : List Record) → IsLegalLog (layout_of z) (items z log) → pairs_of (analysis log).unfinished ≡ unfinished log
+pub noted_unfinished : (z : Sizes) (log : List Record) → IsLegalLog (layout_of z) (items z log) → pairs_of (open_work_of log).unfinished ≡ unfinished log
 noted_unfinished z [] k = refl
 noted_unfinished z (records.PageOp t n page slot before after ∷ log) k =
     let e : any_record (operation_ended t n) log ≡ false = sym (over_same z t n log) ∙ k.0.going in
-    pairs_with t n (analysis log).unfinished
+    pairs_with t n (open_work_of log).unfinished
     ∙ ap (add_pair (Some (t, n))) (noted_unfinished z log k.1)
     ∙ sym (pair_more (λ p. not (any_record (operation_ended p.0 p.1) log)) (operations log) t n (ap not e))
 noted_unfinished z (records.PageUndo t n undone page slot after ∷ log) k = noted_unfinished z log k.1
-noted_unfinished z (records.OpEnd t n level deed ∷ log) k = ended_more t n (analysis log).unfinished log (noted_unfinished z log k.1)
-noted_unfinished z (records.OpVoid t n ∷ log) k = ended_more t n (analysis log).unfinished log (noted_unfinished z log k.1)
-noted_unfinished z (records.CompEnd t n undone ∷ log) k = ended_more t n (analysis log).unfinished log (noted_unfinished z log k.1)
+noted_unfinished z (records.OpEnd t n level deed ∷ log) k = ended_more t n (open_work_of log).unfinished log (noted_unfinished z log k.1)
+noted_unfinished z (records.OpVoid t n ∷ log) k = ended_more t n (open_work_of log).unfinished log (noted_unfinished z log k.1)
+noted_unfinished z (records.CompEnd t n undone ∷ log) k = ended_more t n (open_work_of log).unfinished log (noted_unfinished z log k.1)
 noted_unfinished z (records.Commit t ∷ log) k = noted_unfinished z log k.1
 noted_unfinished z (records.AbortEnd t ∷ log) k = noted_unfinished z log k.1
 noted_unfinished z (records.Restart i ∷ log) k = noted_unfinished z log k.1
@@ -131,7 +131,7 @@ pub filter_same : {X : Type 0} (f g : X → Bool) (xs : List X) → ((x : X) →
 filter_same f g xs h = let e : f ≡ g = λ i. λ x. h x i in ap (λ k. filter k xs) e
 
 -- and the transactions those that are lost
-pub noted_active : (z : Sizes) (log : List Record) → IsLegalLog (layout_of z) (items z log) → ReadsItsDeeds log → (analysis log).active ≡ lost log
+pub noted_active : (z : Sizes) (log : List Record) → IsLegalLog (layout_of z) (items z log) → ReadsItsDeeds log → (open_work_of log).active ≡ lost log
 noted_active z [] k r = refl
 noted_active z (records.PageOp t n page slot before after ∷ log) k r = noted_active z log k.1 r.1
 noted_active z (records.PageUndo t n undone page slot after ∷ log) k r = noted_active z log k.1 r.1
@@ -172,8 +172,8 @@ any_txn t [] = refl
 any_txn t (u ∷ ts) = ap (λ b. same_txn u t || b) (any_txn t ts)
 
 -- what is there stays as it is
-pub sub_there : (h : Analysis) (o : Sub) → has_sub o h.unfinished ≡ true → h ≡ record h { unfinished = with_sub o h.unfinished }
+pub sub_there : (h : OpenWorkView) (o : Sub) → has_sub o h.unfinished ≡ true → h ≡ record h { unfinished = with_sub o h.unfinished }
 sub_there h o e = rw e refl
 
-pub txn_there : (h : Analysis) (t : Txn) → has_txn t h.active ≡ true → h ≡ record h { active = with_txn t h.active }
+pub txn_there : (h : OpenWorkView) (t : Txn) → has_txn t h.active ≡ true → h ≡ record h { active = with_txn t h.active }
 txn_there h t e = rw e refl

@@ -14,7 +14,7 @@ use Rattle.rq_views.specs.Legal.{began, is_end, is_of, of_op, over}
 use Rattle.rq_views.specs.Numbers.{greatest, number_in}
 use Rattle.rq_views.proofs.Overlay.{same_is as op_is}
 use Rattle.rq_views.proofs.Numbers.{began_within}
-use Rattle.rq_analysis.specs.Analysis.{analysis, has_sub, with_sub, without_sub}
+use Rattle.rq_analysis.specs.OpenWorkView.{open_work_of, has_sub, with_sub, without_sub}
 use Rattle.rq_analysis.specs.Numbers.{number_of, numbers}
 use Rattle.rq_analysis.proofs.Numbering as numbering
 use Rattle.rq_analysis.specs.Rules.{FollowAll, ends_op, greatest_number, has_op, has_op_end, op_of}
@@ -104,18 +104,18 @@ same_begun u o log h = elim (cases_Bool (same_op u o)) [
   | inr off ↦ rw off refl
 ]
 
-ended_one : (u o : Sub) (log : List Record) → has_sub o (analysis log).unfinished ≡ (has_op o log && not (has_op_end o log)) → has_op u log ≡ true
-    → has_sub o (without_sub u (analysis log).unfinished) ≡ ((same_op u o || has_op o log) && not (same_op u o || has_op_end o log))
-ended_one u o log ih h = without_one o u (analysis log).unfinished ∙ ap (λ b. not (same_op u o) && b) ih ∙ elim (cases_Bool (same_op u o)) [
+ended_one : (u o : Sub) (log : List Record) → has_sub o (open_work_of log).unfinished ≡ (has_op o log && not (has_op_end o log)) → has_op u log ≡ true
+    → has_sub o (without_sub u (open_work_of log).unfinished) ≡ ((same_op u o || has_op o log) && not (same_op u o || has_op_end o log))
+ended_one u o log ih h = without_one o u (open_work_of log).unfinished ∙ ap (λ b. not (same_op u o) && b) ih ∙ elim (cases_Bool (same_op u o)) [
   | inl own ↦ rw own refl
   | inr off ↦ rw off refl
 ]
 
 -- an operation is kept as unfinished where it has begun and has no end
-pub unfinished_kept : (log : List Record) → FollowAll log → (o : Sub) → has_sub o (analysis log).unfinished ≡ (has_op o log && not (has_op_end o log))
+pub unfinished_kept : (log : List Record) → FollowAll log → (o : Sub) → has_sub o (open_work_of log).unfinished ≡ (has_op o log && not (has_op_end o log))
 unfinished_kept [] f o = refl
 unfinished_kept (records.PageOp t n page slot before after ∷ log) f o =
-    with_one o (operation t n) (analysis log).unfinished ∙ ap (λ b. same_op (operation t n) o || b) (unfinished_kept log f.1 o) ∙ elim (cases_Bool (same_op (operation t n) o)) [
+    with_one o (operation t n) (open_work_of log).unfinished ∙ ap (λ b. same_op (operation t n) o || b) (unfinished_kept log f.1 o) ∙ elim (cases_Bool (same_op (operation t n) o)) [
       | inl own ↦
           let going : has_op_end o log ≡ false = ap (λ (v : Sub). has_op_end v log) (sym (op_is (operation t n) o own)) ∙ f.0.going in
           rw (own, going) refl

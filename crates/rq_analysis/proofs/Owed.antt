@@ -13,7 +13,7 @@ use Rattle.rq_views.proofs.AllOpen.{tail}
 use Rattle.rq_analysis.specs.declared.dues.PendingUndo.{PendingUndo}
 use Rattle.rq_analysis.specs.Dues.{but_newest, but_own, due_of, dues}
 use Rattle.rq_analysis.proofs.Noting.{filter_twice, filter_same}
-use Rattle.rq_analysis.specs.ScanState.{lsn_due}
+use Rattle.rq_analysis.specs.LogTables.{lsn_due}
 use Rattle.rq_analysis.specs.Rules.{FollowAll, ends_of, left_of, takes_back}
 use Rattle.rq_analysis.proofs.Lists.{first_in, first_split}
 

@@ -9,7 +9,7 @@ use Rattle.std.proofs.Math.Bool.{or-false, or_comm}
 use Rattle.rq_model.specs.declared.txn.Sub.{Sub}
 use Rattle.rq_model.specs.Vocabulary.{first}
 use Rattle.rq_analysis.specs.declared.open_work.UndoableWrite.{UndoableWrite}
-use Rattle.rq_analysis.specs.Analysis.{Analysis, undoable_by, without_newest}
+use Rattle.rq_analysis.specs.OpenWorkView.{OpenWorkView, undoable_by, without_newest}
 use Rattle.rq_analysis.specs.Pages.{any_undoable}
 use Rattle.rq_analysis.proofs.Lists.{none_own}
 
@@ -72,7 +72,7 @@ pub taken_in : (o : Sub) (now ps : List UndoableWrite) (i : ℕ) (d : UndoableWr
     → reverse (take i ps ++ drop (i + 1) ps) ≡ without_newest o (reverse ps)
 taken_in o now ps i d same lt own none = ap (λ l. reverse (take i l ++ drop (i + 1) l)) (sym same) ∙ taken_back o now i d lt own none ∙ ap (λ l. without_newest o (reverse l)) same
 
-pub none_taken : (o : Sub) (h : Analysis) → any_undoable o h.undoable ≡ false → h ≡ record h { undoable = without_newest o h.undoable }
+pub none_taken : (o : Sub) (h : OpenWorkView) → any_undoable o h.undoable ≡ false → h ≡ record h { undoable = without_newest o h.undoable }
 none_taken o h none = ap (λ (l : List UndoableWrite). record h { undoable = l }) (sym (none_newest o h.undoable none))
 
 -- the first of the operation's, where none before it is one

@@ -5,7 +5,7 @@ use Rattle.std.proofs.lemmas.Bool.Decides.{nat_tests}
 use Rattle.std.proofs.Math.Bool.{or_assoc}
 use Rattle.rq_model.specs.Vocabulary.{has_number}
 use Rattle.rq_model.proofs.Lists.{or_swap}
-use Rattle.rq_analysis.specs.ScanState.{Counts, has_count, joined, no_counts, with_count}
+use Rattle.rq_analysis.specs.LogTables.{Counts, has_count, joined, no_counts, with_count}
 use Rattle.rq_analysis.proofs.Keys.{has_more}
 
 neither : (b : Bool) → ((b && not b) || false) ≡ false

@@ -9,7 +9,7 @@ use Rattle.rq_model.specs.Content.{has_end}
 use Rattle.rq_model.specs.Incarnations.{InOrder, incarnation_of}
 use Rattle.rq_model.specs.Vocabulary.{same_txn}
 use Rattle.rq_model.proofs.Lists.{same_is}
-use Rattle.rq_analysis.specs.ScanState.{ended, has_count}
+use Rattle.rq_analysis.specs.LogTables.{ended, has_count}
 use Rattle.rq_analysis.proofs.RuleCounts.{counts_more, none_counted}
 
 one_before : (u t : Txn) (i : ℕ) → same_txn u t ≡ true → u.incarnation ≡ i → t.incarnation ≤ i

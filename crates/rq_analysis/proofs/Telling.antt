@@ -13,7 +13,7 @@ use Rattle.rq_views.specs.Items.{operation}
 use Rattle.rq_views.specs.Numbers.{number_in}
 use Rattle.rq_views.proofs.Overlay.{same_self as op_self}
 use Rattle.rq_analysis.specs.declared.open_work.UndoableWrite.{UndoableWrite}
-use Rattle.rq_analysis.specs.Analysis.{undoable_at}
+use Rattle.rq_analysis.specs.OpenWorkView.{undoable_at}
 use Rattle.rq_analysis.specs.Rules.{FollowAll, FollowsRules, ends_of, greatest_number, has_op, left_of, standing, takes_back, undoes, writes_of}
 use Rattle.rq_analysis.specs.RuleTheorems.{IsEndOf, IsWriteOf, RulesTell, names_end, names_write, record_at}
 use Rattle.rq_analysis.proofs.Lists.{first_in}

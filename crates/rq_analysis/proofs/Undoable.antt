@@ -18,17 +18,17 @@ use Rattle.rq_views.proofs.AllOpen.{tail}
 use Rattle.rq_store.specs.Fitting.{left_by}
 use Rattle.rq_store.specs.Whole.{BeforesAreSlots}
 use Rattle.rq_analysis.specs.declared.open_work.UndoableWrite.{UndoableWrite}
-use Rattle.rq_analysis.specs.Analysis.{undoable_by, without_newest, without_undoable, analysis}
+use Rattle.rq_analysis.specs.OpenWorkView.{undoable_by, without_newest, without_undoable, open_work_of}
 use Rattle.rq_analysis.proofs.Lists.{own_newest, own_none, other_newest, other_none, in_newest, in_undoable, in_with, with_in, in_without, without_in, op_other}
 
 abbrev pub IsLegal : Sizes → List Record → Type 0
 IsLegal z log = IsLegalLog (layout_of z) (items z log)
 
 abbrev pub undoable : List Record → List UndoableWrite
-undoable log = (analysis log).undoable
+undoable log = (open_work_of log).undoable
 
 abbrev unfinished : List Record → List Sub
-unfinished log = (analysis log).unfinished
+unfinished log = (open_work_of log).unfinished
 
 abbrev pub lsn_of : UndoableWrite → ℕ
 lsn_of p = p.lsn
@@ -82,7 +82,7 @@ ended_writes z o p log ih = elim (cases_Bool (same_op p o)) [
 ]
 
 -- of each operation, its writes not undone
-pub own_writes : (z : Sizes) (o : Sub) (log : List Record) → map (undoable_place z) (filter (undoable_by o) (analysis log).undoable) ≡ map write_place ((left_by z log).writes o)
+pub own_writes : (z : Sizes) (o : Sub) (log : List Record) → map (undoable_place z) (filter (undoable_by o) (open_work_of log).undoable) ≡ map write_place ((left_by z log).writes o)
 own_writes z o [] = refl
 own_writes z o (PageOp t n page slot before after ∷ log) = elim (cases_Bool (same_op (operation t n) o)) [
   | inl y ↦ rw y (ap (λ l. (address page slot, held_in z page before) ∷ l) (own_writes z o log))
@@ -103,7 +103,7 @@ other_end : (o p : Sub) (log : List Record) (ns : List ℕ) → same_op p o ≡ 
 other_end o p log ns n ih = ap (map lsn_of) (other_none (undoable_by o) p (undoable log) (apart p o n)) ∙ ih
 
 -- and their LSNs, where it has no end
-pub own_lsns : (z : Sizes) (o : Sub) (log : List Record) → over o (items z log) ≡ false → map lsn_of (filter (undoable_by o) (analysis log).undoable) ≡ lsns o (items z log)
+pub own_lsns : (z : Sizes) (o : Sub) (log : List Record) → over o (items z log) ≡ false → map lsn_of (filter (undoable_by o) (open_work_of log).undoable) ≡ lsns o (items z log)
 own_lsns z o [] g = refl
 own_lsns z o (PageOp t n page slot before after ∷ log) g = elim (cases_Bool (same_op (operation t n) o)) [
   | inl y ↦ rw y (ap (λ (k : ℕ). (k + 1) ∷ map lsn_of (filter (undoable_by o) (undoable log))) (sym (length-map log (item_of z))) ∙ ap (λ l. (length (items z log) + 1) ∷ l) (own_lsns z o log g))
@@ -139,7 +139,7 @@ still : (z : Sizes) (o p : Sub) (log : List Record) → same_op p o ≡ false �
 still z o p log n h = rw n h
 
 -- what is noted as unfinished is under way
-pub noted_way : (z : Sizes) (log : List Record) → IsLegal z log → (o : Sub) → In o (analysis log).unfinished → under_way o (items z log) ≡ true
+pub noted_way : (z : Sizes) (log : List Record) → IsLegal z log → (o : Sub) → In o (open_work_of log).unfinished → under_way o (items z log) ≡ true
 noted_way z [] g o h = absurd h
 noted_way z (PageOp t n page slot before after ∷ log) g o h = elim (in_with (operation t n) (unfinished log) o h) [
   | inl e ↦ way_from (same_op (operation t n) o || began o (items z log)) (over o (items z log)) (or_left (same_op (operation t n) o) (began o (items z log)) (ap (same_op (operation t n)) e ∙ op_self (operation t n))) (ap (λ p. over p (items z log)) e ∙ g.0.going)
@@ -154,7 +154,7 @@ noted_way z (Restart i ∷ log) g o h = noted_way z log g.1 o h
 noted_way z (AbortEnd t ∷ log) g o h = noted_way z log g.1 o h
 
 -- an undoable write is of an operation that is noted as unfinished
-pub undoable_noted : (log : List Record) (p : UndoableWrite) → In p (analysis log).undoable → In p.by (analysis log).unfinished
+pub undoable_noted : (log : List Record) (p : UndoableWrite) → In p (open_work_of log).undoable → In p.by (open_work_of log).unfinished
 undoable_noted [] p h = absurd h
 undoable_noted (PageOp t n page slot before after ∷ log) p h = elim h [
   | inl e ↦ with_in (operation t n) (unfinished log) p.by (inl (ap (λ (q : UndoableWrite). q.by) e))
@@ -169,7 +169,7 @@ undoable_noted (Restart i ∷ log) p h = undoable_noted log p h
 undoable_noted (AbortEnd t ∷ log) p h = undoable_noted log p h
 
 -- what stood there before it is a slot of the store
-pub undoable_before : (z : Sizes) (log : List Record) → BeforesAreSlots z log → (p : UndoableWrite) → In p (analysis log).undoable → IsSlotOf z p.page p.slot p.before
+pub undoable_before : (z : Sizes) (log : List Record) → BeforesAreSlots z log → (p : UndoableWrite) → In p (open_work_of log).undoable → IsSlotOf z p.page p.slot p.before
 undoable_before z [] b p h = absurd h
 undoable_before z (PageOp t n page slot before after ∷ log) b p h = elim h [
   | inl e ↦ subst (λ (q : UndoableWrite). IsSlotOf z q.page q.slot q.before) (sym e) b.0
@@ -184,7 +184,7 @@ undoable_before z (Restart i ∷ log) b p h = undoable_before z log b.1 p h
 undoable_before z (AbortEnd t ∷ log) b p h = undoable_before z log b.1 p h
 
 -- what is noted as unfinished is of the running incarnation
-pub noted_order : (z : Sizes) (log : List Record) → IsLegal z log → InOrder log → (o : Sub) → In o (analysis log).unfinished → IsOf (incarnation_of log) (Some o.txn)
+pub noted_order : (z : Sizes) (log : List Record) → IsLegal z log → InOrder log → (o : Sub) → In o (open_work_of log).unfinished → IsOf (incarnation_of log) (Some o.txn)
 noted_order z [] g r o h = absurd h
 noted_order z (PageOp t n page slot before after ∷ log) g r o h = elim (in_with (operation t n) (unfinished log) o h) [
   | inl e ↦ subst (λ (p : Sub). IsOf (incarnation_of log) (Some p.txn)) (sym e) r.0

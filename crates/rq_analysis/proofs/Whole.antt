@@ -28,7 +28,7 @@ use Rattle.rq_store.specs.Fitting.{left_by}
 use Rattle.rq_store.specs.Whole.{IsWhole}
 use Rattle.rq_store.proofs.Cutting.{whole_older}
 use Rattle.rq_analysis.specs.declared.open_work.UndoableWrite.{UndoableWrite}
-use Rattle.rq_analysis.specs.Analysis.{analysis, undoable_at, undoable_by}
+use Rattle.rq_analysis.specs.OpenWorkView.{open_work_of, undoable_at, undoable_by}
 use Rattle.rq_analysis.proofs.Undoable.{Place, lsn_of, own_lsns, own_writes, undoable_before, undoable_place, write_place}
 use Rattle.rq_analysis.specs.declared.dues.PendingUndo.{PendingUndo}
 use Rattle.rq_analysis.specs.Dues.{due_of, dues}
@@ -120,10 +120,10 @@ module _ (z : Sizes) (log : List Record) (w : IsWhole z log) (f : FollowAll log)
   undoes_newest : (o : Sub) (undone page slot : ℕ) (after : List ℕ) → IsSlotOf z page slot after → over o (items z log) ≡ false → IsFirst undone (lsns o (items z log))
       → IsNewest ((left_by z log).writes o) (address page slot) (held_in z page after) → first (standing o log) ≡ Some (undoable_at undone o page slot after)
   undoes_newest o undone page slot after there going one newest =
-      let qs = filter (undoable_by o) (analysis log).undoable in
+      let qs = filter (undoable_by o) (open_work_of log).undoable in
       let k = named z qs (lsns o (items z log)) ((left_by z log).writes o) undone (address page slot) (held_in z page after) (own_lsns z o log going) (own_writes z o log) one newest in
       let p = k.0 in
-      let i = In-filter (undoable_by o) (analysis log).undoable p (first_in qs p k.1) in
+      let i = In-filter (undoable_by o) (open_work_of log).undoable p (first_in qs p k.1) in
       let stood = undoable_before z log w.befores p i.0 in
       let at : address p.page p.slot ≡ address page slot = ap (λ (x : Place). x.0) k.3 in
       let holds : held_in z p.page p.before ≡ held_in z page after = ap (λ (x : Place). x.1) k.3 in

@@ -13,7 +13,7 @@ use Rattle.rq_views.specs.Items.{operation}
 use Rattle.rq_views.proofs.Overlay.{same_is as op_is}
 use Rattle.rq_views.proofs.AllOpen.{tail}
 use Rattle.rq_analysis.specs.declared.open_work.UndoableWrite.{UndoableWrite}
-use Rattle.rq_analysis.specs.Analysis.{analysis, undoable_at, undoable_by, without_newest, without_undoable}
+use Rattle.rq_analysis.specs.OpenWorkView.{open_work_of, undoable_at, undoable_by, without_newest, without_undoable}
 use Rattle.rq_analysis.proofs.Lists as undone
 use Rattle.rq_analysis.proofs.Noting.{filter_twice, filter_same}
 use Rattle.rq_analysis.proofs.Undoable.{apart, undoable}
@@ -119,7 +119,7 @@ undone_own u o lsn log y =
     ∙ filter_same (λ p. not (nat_eq lsn p.lsn || any_record (undoes o p.lsn) log)) (λ p. not ((same_op u o && nat_eq lsn p.lsn) || any_record (undoes o p.lsn) log)) (writes_of o log) (λ p. rw y refl)
 
 -- of an operation without an end those writes are kept that no PageUndo names
-pub undoable_kept : (log : List Record) → FollowAll log → (o : Sub) → has_op_end o log ≡ false → filter (undoable_by o) (analysis log).undoable ≡ standing o log
+pub undoable_kept : (log : List Record) → FollowAll log → (o : Sub) → has_op_end o log ≡ false → filter (undoable_by o) (open_work_of log).undoable ≡ standing o log
 undoable_kept [] f o g = refl
 undoable_kept (records.PageOp t n page slot before after ∷ log) f o g = elim (cases_Bool (same_op (operation t n) o)) [
   | inl y ↦

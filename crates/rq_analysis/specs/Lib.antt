@@ -1,4 +1,4 @@
-pub mod Analysis
+pub mod OpenWorkView
 pub mod Pages
 pub mod Least
 pub mod PageUndoTheorems
@@ -16,5 +16,5 @@ pub mod Recovered
 pub mod Walk
 pub mod Laws
 pub mod Rules
-pub mod ScanState
+pub mod LogTables
 pub mod RuleTheorems

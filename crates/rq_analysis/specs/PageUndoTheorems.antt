@@ -8,16 +8,16 @@ use Rattle.rq_model.specs.Unended.{unfinished, lost}
 use Rattle.rq_page.specs.Sizes.{Sizes}
 use Rattle.rq_store.specs.Whole.{IsWhole}
 use Rattle.rq_store.specs.Fitting.{left_by}
-use Rattle.rq_analysis.specs.Analysis.{analysis}
+use Rattle.rq_analysis.specs.OpenWorkView.{open_work_of}
 use Rattle.rq_analysis.specs.Pages.{IsNextUndo, IsUndone, work}
 
 -- Behind a whole log the next such record leaves a whole log, with less to do. It is no Commit and no OpEnd.
 pub record UndosKeepLogsWhole : Type 0 where
-  pub whole : (z : Sizes) (log : List Record) (r : Record) → IsWhole z log → IsNextUndo (analysis log) r
+  pub whole : (z : Sizes) (log : List Record) (r : Record) → IsWhole z log → IsNextUndo (open_work_of log) r
       → IsWhole z (r ∷ log)
-  pub less : (log : List Record) (r : Record) → IsNextUndo (analysis log) r
-      → work (analysis (r ∷ log)) < work (analysis log)
-  pub plain : (log : List Record) (r : Record) → IsNextUndo (analysis log) r → is_plain r ≡ true
+  pub less : (log : List Record) (r : Record) → IsNextUndo (open_work_of log) r
+      → work (open_work_of (r ∷ log)) < work (open_work_of log)
+  pub plain : (log : List Record) (r : Record) → IsNextUndo (open_work_of log) r → is_plain r ≡ true
 
 -- What a log is once all of them are undone: whole, where it was; with the content that it had; with no operation
 -- unfinished, the transactions lost that were, and the slots that whole operations had written.
@@ -36,5 +36,5 @@ UndoneLogsAreWhole = (z : Sizes) (log now : List Record) → IsWhole z log → I
 -- what is counted is what has no end
 pub record UnendedAreCounted : Type 0 where
   pub unfinished : (z : Sizes) (log : List Record) → IsWhole z log
-      → length (analysis log).unfinished ≡ length (unfinished log)
-  pub lost : (z : Sizes) (log : List Record) → IsWhole z log → (analysis log).active ≡ lost log
+      → length (open_work_of log).unfinished ≡ length (unfinished log)
+  pub lost : (z : Sizes) (log : List Record) → IsWhole z log → (open_work_of log).active ≡ lost log

@@ -6,7 +6,7 @@ use Rattle.rq_model.specs.declared.record.Record.{Record}
 use Rattle.rq_model.specs.declared.record.Record.TheVariants.{PageUndo, OpVoid}
 use Rattle.rq_model.specs.Vocabulary.{same_txn}
 use Rattle.rq_analysis.specs.declared.open_work.UndoableWrite.{UndoableWrite}
-use Rattle.rq_analysis.specs.Analysis.{Analysis, analysis, has_sub, undoable_by}
+use Rattle.rq_analysis.specs.OpenWorkView.{OpenWorkView, open_work_of, has_sub, undoable_by}
 
 -- rising number: by incarnation, then count, then operation
 abbrev pub txn_less : Txn → Txn → Bool
@@ -20,12 +20,12 @@ any_undoable o [] = false
 any_undoable o (p ∷ ps) = undoable_by o p || any_undoable o ps
 
 -- the operation has no end, and all its writes are undone
-pub record IsSpent (h : Analysis) (o : Sub) : Type 0 where
+pub record IsSpent (h : OpenWorkView) (o : Sub) : Type 0 where
   pub unfinished : has_sub o h.unfinished ≡ true
   pub none : any_undoable o h.undoable ≡ false
 
 -- each operation without an end has a write that is not undone
-abbrev pub NoneIsSpent : Analysis → Type 0
+abbrev pub NoneIsSpent : OpenWorkView → Type 0
 NoneIsSpent h = (o : Sub) → has_sub o h.unfinished ≡ true → any_undoable o h.undoable ≡ true
 
 abbrev pub void_of : Sub → Record
@@ -36,14 +36,14 @@ undo_of p = PageUndo p.by.txn p.by.number p.lsn p.page p.slot p.before
 
 -- What the next record is where operations without an end are undone by slots: of those whose writes are all undone the
 -- one of the least number is voided first; where there is none, the newest write of all is undone.
-pub data IsNextUndo (h : Analysis) (r : Record) : Type 0 where
+pub data IsNextUndo (h : OpenWorkView) (r : Record) : Type 0 where
   Voids : (o : Sub) → IsSpent h o → ((p : Sub) → IsSpent h p → op_less p o ≡ false) → r ≡ void_of o → IsNextUndo h r
   Undoes : (p : UndoableWrite) → (ps : List UndoableWrite) → NoneIsSpent h → h.undoable ≡ p ∷ ps → r ≡ undo_of p → IsNextUndo h r
 
 -- each of these records, the newest first, is the next one behind the log
 abbrev pub UndoesBehind : List Record → List Record → Type 0
 UndoesBehind log [] = Unit {0}
-UndoesBehind log (r ∷ front) = IsNextUndo (analysis (front ++ log)) r × UndoesBehind log front
+UndoesBehind log (r ∷ front) = IsNextUndo (open_work_of (front ++ log)) r × UndoesBehind log front
 
 -- the log with such records behind
 pub record IsUndoing (log now : List Record) : Type 0 where
@@ -54,8 +54,8 @@ pub record IsUndoing (log now : List Record) : Type 0 where
 -- and with all by which operations without an end are undone
 pub record IsUndone (log now : List Record) : Type 0 where
   pub undoing : IsUndoing log now
-  pub none : (analysis now).unfinished ≡ []
+  pub none : (open_work_of now).unfinished ≡ []
 
 -- what is left to do
-abbrev pub work : Analysis → ℕ
+abbrev pub work : OpenWorkView → ℕ
 work h = length h.unfinished + length h.undoable

@@ -15,7 +15,7 @@ use Rattle.rq_views.specs.Items.{operation}
 use Rattle.rq_views.specs.Legal.{is_of}
 use Rattle.rq_views.specs.Numbers.{number_in}
 use Rattle.rq_analysis.specs.declared.open_work.UndoableWrite.{UndoableWrite}
-use Rattle.rq_analysis.specs.Analysis.{undoable_at}
+use Rattle.rq_analysis.specs.OpenWorkView.{undoable_at}
 
 -- whose operation, if the record is of one
 abbrev pub op_of : Record → Option Sub

@@ -4,10 +4,10 @@ ghost use Rattle.std.specs.List.{filter};
 ghost use Rattle.rq_model.specs.declared.record.Record.{Record as AnyRecord};
 ghost use Rattle.rq_model.specs.Incarnations.{InOrder};
 ghost use Rattle.rq_model.specs.Vocabulary.{first};
-ghost use Rattle.rq_analysis.specs.Analysis.{undoable_at, undoable_by};
+ghost use Rattle.rq_analysis.specs.OpenWorkView.{undoable_at, undoable_by};
 ghost use Rattle.rq_analysis.specs.Dues.{due_of};
 ghost use Rattle.rq_analysis.specs.Numbers.{number_of};
-ghost use Rattle.rq_analysis.specs.ScanState.{IsScanStateOf, Passes, lsn_due};
+ghost use Rattle.rq_analysis.specs.LogTables.{AreTablesOf, Passes, lsn_due};
 ghost use Rattle.rq_analysis.specs.Rules.{CanBeRead, FollowAll, FollowsRules};
 
 use crate::ended::EndedTransactions;
@@ -25,7 +25,7 @@ pub fn follows(
     reads: bool,
     record: &Record,
 ) -> bool
-    ensures { (log : List AnyRecord) → IsScanStateOf log open_work.now dues.now numbers.now ended.now → FollowAll log
+    ensures { (log : List AnyRecord) → AreTablesOf log open_work.now dues.now numbers.now ended.now → FollowAll log
         → InOrder («record».now ∷ log) → (IsTrue reads ↔ CanBeRead «record».now)
         → (IsTrue result ↔ FollowsRules log «record».now) }
 {

@@ -1,6 +1,6 @@
 //! Which transactions of the running incarnation have ended, as the records of a log tell it one after the other.
 ghost use Rattle.std.specs.Prelude.{◌≡◌, ◌&&◌, not, nat_lt, OnOk, OnErr, []};
-ghost use Rattle.rq_analysis.specs.ScanState.{comes_next, ended, ended_after, has_count, joined, with_count};
+ghost use Rattle.rq_analysis.specs.LogTables.{comes_next, ended, ended_after, has_count, joined, with_count};
 
 use rq_model::record::Record;
 use rq_model::refusal::NoMemory;
@@ -19,7 +19,7 @@ pub struct EndedTransactions {
 }
 
 impl Model for EndedTransactions {
-    ghost use Rattle.rq_analysis.specs.ScanState.{Counts};
+    ghost use Rattle.rq_analysis.specs.LogTables.{Counts};
 
     ghost Value = { Counts };
 

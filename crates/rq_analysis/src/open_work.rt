@@ -3,7 +3,7 @@ ghost use Rattle.std.specs.Prelude.{◌≡◌, ◌↔◌, ◌<◌, ◌+◌, IsTr
 ghost use Rattle.std.specs.List.{filter};
 ghost use Rattle.rq_model.specs.Incarnations.{IsNext, IsOf};
 ghost use Rattle.rq_model.specs.Vocabulary.{first};
-ghost use Rattle.rq_analysis.specs.Analysis.{analysis, analysis_after, has_sub, undoable_by, with_sub, without_newest, without_undoable, without_sub, with_txn, without_txn};
+ghost use Rattle.rq_analysis.specs.OpenWorkView.{open_work_of, open_work_after, has_sub, undoable_by, with_sub, without_newest, without_undoable, without_sub, with_txn, without_txn};
 ghost use Rattle.rq_analysis.specs.Pages.{IsNextUndo, any_undoable, op_less, undo_of, void_of};
 ghost use Rattle.rq_analysis.specs.Least.{least_in, lesser_in};
 
@@ -39,9 +39,9 @@ pub struct OpenWork {
 
 impl Model for OpenWork {
     ghost use Rattle.std.specs.Prelude.{reverse};
-    ghost use Rattle.rq_analysis.specs.Analysis.{Analysis};
+    ghost use Rattle.rq_analysis.specs.OpenWorkView.{OpenWorkView};
 
-    ghost Value = { Analysis };
+    ghost Value = { OpenWorkView };
 
     ghost view = { λ h. record {
       incarnation = h.incarnation;
@@ -54,7 +54,7 @@ impl Model for OpenWork {
 impl OpenWork {
     /// No record.
     pub fn new(alloc: Global) -> Self
-        ensures { result ≡ analysis [] }
+        ensures { result ≡ open_work_of [] }
     {
         OpenWork {
             incarnation: 0,
@@ -72,7 +72,7 @@ impl OpenWork {
     }
 
     /// Whether every transaction that finished an operation has its end.
-    pub fn is_settled(&self) -> bool
+    pub fn all_ended(&self) -> bool
         ensures { IsTrue result ↔ (self.now.active ≡ []) }
     {
         self.active.is_empty()
@@ -116,7 +116,7 @@ impl OpenWork {
     /// `NoMemory`.
     pub fn note(&mut self, lsn: Lsn, record: &Record) -> Result<bool, Refusal>
         ensures next { IfOk result (λ is_next. IsTrue is_next ↔ IsNext self.old.incarnation «record».now) }
-        ensures noted { OnOk result (self.new ≡ analysis_after lsn «record».now self.old) }
+        ensures noted { OnOk result (self.new ≡ open_work_after lsn «record».now self.old) }
         ensures err { IfErr result (λ e. e ≡ Refusal.NoMemory) }
     {
         match record {

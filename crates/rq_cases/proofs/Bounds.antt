@@ -50,15 +50,15 @@ use Rattle.rq_engine.specs.declared.event.Reply.TheVariants as reply
 use Rattle.rq_engine.proofs.Crashing.{fit_kept, runs_through_cuts}
 use Rattle.rq_engine.proofs.Refusals.{refuse, refuse_full}
 use Rattle.rq_engine.proofs.Standing.{close_steps, start_steps}
-use Rattle.rq_analysis.specs.Analysis.{analysis}
+use Rattle.rq_analysis.specs.OpenWorkView.{open_work_of}
 use Rattle.rq_analysis.proofs.Undos.{nothing_undone, undoing_none}
 use Rattle.rq_restart.specs.Aborting.{RepeatedFrom}
-use Rattle.rq_restart.specs.Checked.{IsEnded, IsGoneThrough}
+use Rattle.rq_restart.specs.Checked.{IsEnded, IsReadAndRedone}
 use Rattle.rq_chain_check.specs.Links.{AreLinked}
 use Rattle.rq_chain_check.proofs.Sound.{sound_linked}
 use Rattle.rq_restart.specs.Repeating.{Paged, Repeats, slots_on}
 use Rattle.rq_analysis.specs.Pages.{IsUndone}
-use Rattle.rq_restart.specs.Mended.{IsMended}
+use Rattle.rq_restart.specs.RolledBack.{IsRolledBack}
 use Rattle.rq_restart.specs.Restarting.{LogStops}
 use Rattle.rq_restart.proofs.Aborts.{aborting_none, behind_none, active_lost}
 use Rattle.rq_analysis.specs.Recovered.IsRecovered.{NoneLost}
@@ -341,15 +341,15 @@ ended : (n : ℕ) → IsEnded (restarts n)
 ended zero = refl
 ended (suc n) = ended n
 
-no_operation : (n : ℕ) → (analysis (restarts n)).unfinished ≡ []
+no_operation : (n : ℕ) → (open_work_of (restarts n)).unfinished ≡ []
 no_operation zero = refl
 no_operation (suc n) = no_operation n
 
-none_undoable : (n : ℕ) → (analysis (restarts n)).undoable ≡ []
+none_undoable : (n : ℕ) → (open_work_of (restarts n)).undoable ≡ []
 none_undoable zero = refl
 none_undoable (suc n) = none_undoable n
 
-gone : (n : ℕ) → IsGoneThrough sizes (restarts n) read_pages read_pages
+gone : (n : ℕ) → IsReadAndRedone sizes (restarts n) read_pages read_pages
 gone n = record {
   repeated = repeats n;
   counted_read = counted_read (length (restarts n));
@@ -359,8 +359,8 @@ gone n = record {
 undoes : (n : ℕ) → IsUndone (restarts n) (restarts n)
 undoes n = record { undoing = undoing_none (restarts n); none = no_operation n }
 
-abbrev mends : (n : ℕ) → IsMended (restarts n) (restarts n)
-mends n = record { undone = restarts n; undoes = undoes n; aborting = behind_none (restarts n); ended = ended n; none_lost = λ e. refl }
+abbrev rolls_back : (n : ℕ) → IsRolledBack (restarts n) (restarts n)
+rolls_back n = record { undone = restarts n; undoes = undoes n; aborting = behind_none (restarts n); ended = ended n; none_lost = λ e. refl }
 
 linked : (n : ℕ) → AreLinked sizes (slots_on sizes read_pages)
 linked n = sound_linked.left sizes (slots_on sizes read_pages) (restarts n) (whole n) (none_unfinished n) (λ a. first_sound.pages a ∙ sym (same_slots n a))
@@ -377,8 +377,8 @@ module _ (n : ℕ) (pages : MemPages) (log : MemLog) (h : Hold pages formatted_p
     older = restarts n;
     are_spelled = are_spelled n (omega (arith, low));
     reads = λ honest. log_seen log (restarts n) h.1;
-    mended = restarts n;
-    mended_on = record { gone_through = (read_pages, gone n); mends = mends n; planned = tt; repeated = repeats n; linked = linked n; recovered = λ left. NoneLost (undoes n) (lost_none n left.whole) };
+    rolled_back = restarts n;
+    rolled_back_on = record { read_and_redone = (read_pages, gone n); rolls_back = rolls_back n; planned = tt; repeated = repeats n; linked = linked n; recovered = λ left. NoneLost (undoes n) (lost_none n left.whole) };
     begun = refl;
     room = (let e = length_is n in omega (arith, e, low));
   }
@@ -420,7 +420,7 @@ module _ (n : ℕ) (pages : MemPages) (log : MemLog) (h : Hold pages formatted_p
       let e = length_is n in
       let d : length (restarts n) ≡ length r.0 = ap (λ (x : List Record). length x) same in
       let b = r.3.0 in
-      let undone : b.undone ≡ r.0 = nothing_undone r.0 b.undone (subst (λ l. (analysis l).unfinished ≡ []) same (no_operation n)) (subst (λ l. (analysis l).undoable ≡ []) same (none_undoable n)) b.undoing in
+      let undone : b.undone ≡ r.0 = nothing_undone r.0 b.undone (subst (λ l. (open_work_of l).unfinished ≡ []) same (no_operation n)) (subst (λ l. (open_work_of l).undoable ≡ []) same (none_undoable n)) b.undoing in
       let f : length b.now ≡ length r.0 = ap (λ (x : List Record). length x) (b.none_lost (subst IsEnded same (ended n)) ∙ undone) in
       let long = b.full in
       omega (arith, low, e, d, f, long)

@@ -12,7 +12,7 @@ mod Formatting
 pub mod Restarting
 mod Audits
 mod Openings
-mod Mending
+mod RollingBack
 mod Bounds
 mod Crashes
 mod Closes

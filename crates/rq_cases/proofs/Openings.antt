@@ -20,7 +20,7 @@ use Rattle.rq_store.specs.Fitting.{image_in}
 use Rattle.rq_store.specs.Opening.{IsLeft, next_restart}
 use Rattle.rq_store.specs.State.{ledger_of, size_of}
 use Rattle.rq_restart.specs.Checked.{as_read}
-use Rattle.rq_restart.proofs.Begun.{mended_extends}
+use Rattle.rq_restart.proofs.Begun.{rolled_back_extends}
 use Rattle.rq_restart.specs.Repeating.{Paged, Repeats}
 use Rattle.rq_restart.specs.Restarting.{IsBegunOn, LogStops}
 use Rattle.rq_restart.proofs.Parsing.{one_log}
@@ -67,7 +67,7 @@ none_seen pages n = ap (λ (seen : Images). seen 2) (pages_seen_are pages no_cel
 
 -- the log that was read
 module _ (pages : MemPages) (log new : MemLog) (last : Paged) (records : List Record) (k : Checked pages log new last records) where
-  read_is : (r : Record) (older : List Record) → records ≡ r ∷ older → older ≡ k.mended
+  read_is : (r : Record) (older : List Record) → records ≡ r ∷ older → older ≡ k.rolled_back
   read_is r older e = ap rest_of (sym e ∙ k.begun)
 
   none_missing : AreNewPages pages no_cells → ⊥
@@ -78,31 +78,31 @@ module _ (pages : MemPages) (log new : MemLog) (last : Paged) (records : List Re
 -- it was not gone through on pages that stayed
 stayed : (pages : MemPages) (log new : MemLog) → AreNewPages pages formatted_pages → Checked pages log new read_pages log_next → ⊥
 stayed pages log new n k =
-    let same : log_5 ≡ k.mended = read_is pages log new read_pages log_next k (Restart 2) log_5 refl in
+    let same : log_5 ≡ k.rolled_back = read_is pages log new read_pages log_next k (Restart 2) log_5 refl in
     let seen = k.seen tt 2 (omega arith) ∙ ap (λ (seen : Images). seen 2) (pages_seen_are pages formatted_pages n) in
     made_there (as_read sizes k.images) read_pages (ap lsn_of seen ∙ no_cell_lsn) no_cell_lsn
-    (subst (λ (l : List Record). Repeats sizes l (as_read sizes k.images) read_pages) (sym same) k.mended_on.repeated)
+    (subst (λ (l : List Record). Repeats sizes l (as_read sizes k.images) read_pages) (sym same) k.rolled_back_on.repeated)
 
 pub checks : ChecksAreJudged
 checks = record {
   not_repeated = λ pages log new l n k. stayed pages log new n k;
   no_record = λ pages log new last k. (let f : 0 ≡ 1 = ap is_restart k.begun in omega (arith, f));
   another_incarnation = λ pages log new last k.
-      (let same : log_5 ≡ k.mended = read_is pages log new last (Restart 3 ∷ log_5) k (Restart 3) log_5 refl in
-      let one : 1 ≡ incarnation_of k.mended = ap incarnation_of same in
-      let f : 3 ≡ incarnation_of k.mended + 1 = ap begins k.begun in
+      (let same : log_5 ≡ k.rolled_back = read_is pages log new last (Restart 3 ∷ log_5) k (Restart 3) log_5 refl in
+      let one : 1 ≡ incarnation_of k.rolled_back = ap incarnation_of same in
+      let f : 3 ≡ incarnation_of k.rolled_back + 1 = ap begins k.begun in
       omega (arith, one, f));
   one_open = λ pages log new last k.
-      open_4 (same_log k.mended log_4 k.mended_on.mends.ended (sym (read_is pages log new last (Restart 2 ∷ log_4) k (Restart 2) log_4 refl)));
+      open_4 (same_log k.rolled_back log_4 k.rolled_back_on.rolls_back.ended (sym (read_is pages log new last (Restart 2 ∷ log_4) k (Restart 2) log_4 refl)));
   another_log = λ pages log new last n k.
-      (let same : log_5 ≡ k.mended = read_is pages log new last log_next k (Restart 2) log_5 refl in
+      (let same : log_5 ≡ k.rolled_back = read_is pages log new last log_next k (Restart 2) log_5 refl in
       let older : log_1 ≡ k.older = one_log log_1 k.older first_spelled k.are_spelled (sym (log_seen log log_1 n) ∙ k.reads tt) in
-      let c : committed_of log_5 ≡ committed_of log_1 = ap committed_of same ∙ extends_commits k.older k.mended (mended_extends k.older k.mended k.mended_on.mends) ∙ ap committed_of (sym older) in
+      let c : committed_of log_5 ≡ committed_of log_1 = ap committed_of same ∙ extends_commits k.older k.rolled_back (rolled_back_extends k.older k.rolled_back k.rolled_back_on.rolls_back) ∙ ap committed_of (sym older) in
       let f : 1 ≡ 0 = ap (λ (l : List Done). length l) c in
       omega (arith, f));
   page_of_none = λ pages log new last records n k. none_missing pages log new last records k n;
   no_room = λ pages log new last r records long k.
-      (let e : length (r ∷ records) ≡ length (next_restart k.mended ∷ k.mended) = ap (λ (l : List Record). length l) k.begun in
+      (let e : length (r ∷ records) ≡ length (next_restart k.rolled_back ∷ k.rolled_back) = ap (λ (l : List Record). length l) k.begun in
       let room = k.room in
       omega (arith, e, room, long));
 }
@@ -181,9 +181,9 @@ pub beginnings : BeginningsAreJudged
 beginnings = record {
   begun_without_a_record = λ d b. (let f : 0 ≡ 1 = ap is_restart b.records in omega (arith, f));
   begun_the_same = λ d b.
-      (let same : log_5 ≡ b.mended = ap rest_of b.records in
-      let one : 1 ≡ incarnation_of b.mended = ap incarnation_of same in
-      let f : 1 ≡ incarnation_of b.mended + 1 = ap begins b.records in
+      (let same : log_5 ≡ b.rolled_back = ap rest_of b.records in
+      let one : 1 ≡ incarnation_of b.rolled_back = ap incarnation_of same in
+      let f : 1 ≡ incarnation_of b.rolled_back + 1 = ap begins b.records in
       omega (arith, one, f));
   begun_and_not_forced = λ d b. (let f : 5 ≡ 6 = b.forced in omega (arith, f));
   begun_and_failed = λ d b. (let f = b.running in cc f);

@@ -20,7 +20,7 @@ use Rattle.rq_store.proofs.Cutting.{whole_dropped, fits_log_longer}
 use Rattle.rq_store.proofs.Formatting.{formatted_fits}
 use Rattle.rq_restart.specs.Repeating.{AreCounted, Paged, Repeats}
 use Rattle.rq_restart.specs.Restarting.{IsBegunOn, IsLeftOn}
-use Rattle.rq_restart.proofs.Begun.{mended_incarnation}
+use Rattle.rq_restart.proofs.Begun.{rolled_back_incarnation}
 use Rattle.rq_analysis.proofs.Recovering.{recovered_from}
 use Rattle.rq_restart.proofs.Paths.{kept, kept_extends, kept_spelled, older_spelled}
 use Rattle.rq_model.specs.Commits.{committed_of}
@@ -146,16 +146,16 @@ begun_open b =
     let now : Restart 2 ∷ log_4 ≡ kept sizes left b.older bytes b.begun =
     one_log (Restart 2 ∷ log_4) (kept sizes left b.older bytes b.begun) ((omega arith, omega arith), records_spelled.1) (kept_spelled sizes left b.older bytes b.begun) b.begun.is in
     let here : left = subst (IsLeft sizes (image_in formatted_pages)) older (record { whole = whole_4; fits = formatted_fit_4 }) in
-    let from = recovered_from sizes b.older b.begun.mended here.whole (b.begun.recovered here) in
-    let one : incarnation_of b.begun.mended ≡ 1 = mended_incarnation b.older b.begun.mended b.begun.mends ∙ ap incarnation_of (sym older) in
-    at b.begun.mended b.begun.lacks now b.begun.mends.ended one from.whole.order where
-      at : (mended : List Record) (n : ℕ) → Restart 2 ∷ log_4 ≡ drop n (next_restart mended ∷ mended) → IsEnded mended → incarnation_of mended ≡ 1 → InOrder mended → ⊥
-      at mended zero e ended one order = open_4 (same_log mended log_4 ended (sym (ap rest_of e)))
-      at mended (suc n) e ended one order =
-          let whole : take n mended ++ drop n mended ≡ mended = take-append-drop n mended in
-          let grows = incarnation_grows (take n mended) (drop n mended) (subst InOrder (sym whole) order) in
-          let two : 2 ≡ incarnation_of (drop n mended) = ap incarnation_of e in
-          let all : incarnation_of (take n mended ++ drop n mended) ≡ incarnation_of mended = ap incarnation_of whole in
+    let from = recovered_from sizes b.older b.begun.rolled_back here.whole (b.begun.recovered here) in
+    let one : incarnation_of b.begun.rolled_back ≡ 1 = rolled_back_incarnation b.older b.begun.rolled_back b.begun.rolls_back ∙ ap incarnation_of (sym older) in
+    at b.begun.rolled_back b.begun.lacks now b.begun.rolls_back.ended one from.whole.order where
+      at : (rolled_back : List Record) (n : ℕ) → Restart 2 ∷ log_4 ≡ drop n (next_restart rolled_back ∷ rolled_back) → IsEnded rolled_back → incarnation_of rolled_back ≡ 1 → InOrder rolled_back → ⊥
+      at rolled_back zero e ended one order = open_4 (same_log rolled_back log_4 ended (sym (ap rest_of e)))
+      at rolled_back (suc n) e ended one order =
+          let whole : take n rolled_back ++ drop n rolled_back ≡ rolled_back = take-append-drop n rolled_back in
+          let grows = incarnation_grows (take n rolled_back) (drop n rolled_back) (subst InOrder (sym whole) order) in
+          let two : 2 ≡ incarnation_of (drop n rolled_back) = ap incarnation_of e in
+          let all : incarnation_of (take n rolled_back ++ drop n rolled_back) ≡ incarnation_of rolled_back = ap incarnation_of whole in
           omega (arith, grows, two, all, one)
 
 pub begun_commit : IsBegunOn sizes (image_in formatted_pages) (spelled log_1) (spelled (Commit t1 ∷ log_1)) → ⊥

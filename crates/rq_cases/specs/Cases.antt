@@ -5,7 +5,7 @@ use Rattle.rq_cases.specs.Bounds.{BoundsAreJudged}
 use Rattle.rq_cases.specs.Courses.{CausesAreJudged, StopsAreJudged}
 use Rattle.rq_cases.specs.Crashes.{RunsAreJudged}
 use Rattle.rq_cases.specs.Formatting.{FormatsAreJudged}
-use Rattle.rq_cases.specs.Mending.{MendsAreJudged}
+use Rattle.rq_cases.specs.RollingBack.{MendsAreJudged}
 use Rattle.rq_cases.specs.Openings.{BeginningsAreJudged, ChecksAreJudged, RefusalsAreJudged}
 use Rattle.rq_cases.specs.Replies.{ReceiptsAreJudged}
 use Rattle.rq_cases.specs.Restarting.{RestartsAreJudged}
@@ -36,7 +36,7 @@ pub record Cases : Type 0 where
   -- What a restart has not checked, of pages, log and history.
   pub checks_are_judged : ChecksAreJudged
   -- What undoes what has no end in a log: a lost transaction, in its turn, and operations; and what does not.
-  pub mends_are_judged : MendsAreJudged
+  pub rollbacks_are_judged : MendsAreJudged
   -- Refusals of a restart without their reason.
   pub refusals_are_judged : RefusalsAreJudged
   -- What a restart does not add to a log, at each moment, and what does not stay of a store that it doesn't open.

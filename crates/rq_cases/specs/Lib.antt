@@ -13,7 +13,7 @@ pub mod Formatting
 pub mod Restarting
 pub mod Audits
 pub mod Openings
-pub mod Mending
+pub mod RollingBack
 pub mod Bounds
 pub mod Crashes
 pub mod Closes

@@ -13,9 +13,9 @@ use Rattle.rq_store.specs.Fitting.{image_in}
 use Rattle.rq_store.specs.Opening.{IsLeft}
 use Rattle.rq_restart.specs.Repeating.{Paged}
 use Rattle.rq_restart.specs.Restarting.{IsBegunOn, IsLeftOn, IsReadAs, Reports, Stops}
-use Rattle.rq_restart.specs.Mended.{IsUnlinked}
+use Rattle.rq_restart.specs.RolledBack.{IsUnlinked}
 use Rattle.rq_restart.specs.Refused.{WhyShut}
-use Rattle.rq_restart.specs.Checked.{IsEnded, IsGoneThrough, as_read}
+use Rattle.rq_restart.specs.Checked.{IsEnded, IsReadAndRedone, as_read}
 use Rattle.rq_core.specs.Devices.{mem_log, mem_pages}
 use Rattle.rq_cases.specs.Opened.{AreNewPages, IsNewLog}
 use Rattle.rq_cases.specs.Run.{log_1, log_4, log_5}
@@ -46,7 +46,7 @@ pub record RestartsAreJudged : Type 0 where
       (spelled (Restart 2 ∷ log_4)) → ⊥
   pub begun_by_a_commit : IsBegunOn sizes (image_in formatted_pages) (spelled log_1) (spelled (Commit t1 ∷ log_1)) → ⊥
   -- the log is gone through, and history repeated where a page is older
-  pub not_repeated : IsGoneThrough sizes log_5 read_pages read_pages → ⊥
+  pub not_repeated : IsReadAndRedone sizes log_5 read_pages read_pages → ⊥
   -- why it is refused
   pub unfinished : Shuts log_4 why.Unfinished (Unit {0}) → ⊥
   pub log_full_of_five : Shuts log_5 why.LogFull (Unit {0}) → ⊥

@@ -1,4 +1,4 @@
-pub mod Neighbours
+pub mod CellEntries
 pub mod Doings
 pub mod Refusing
 pub mod Cells

@@ -3,12 +3,12 @@ ghost use Rattle.std.specs.Prelude.{◌≡◌, ◌<◌, IfSome, IfNone, None, So
 ghost use Rattle.rq_page.specs.Sizes.{IsCellAddress, IsLink, directory_at, sender_count};
 ghost use Rattle.rq_page.specs.Cells.{cell_bytes, free_bytes, IsCell};
 ghost use Rattle.rq_page.specs.Slots.{Used, Sender};
-ghost use Rattle.rq_chain.specs.Neighbours.{used_of, cell_beside, IsNeighbour, IsNeighbourAt, IsGroupOf};
+ghost use Rattle.rq_chain.specs.CellEntries.{used_of, cell_beside, IsCellEntry, IsCellEntryAt, IsGroupOf};
 ghost use Rattle.rq_page.specs.declared.cell.Cell.{Cell};
 ghost use Rattle.rq_level.specs.Given.{given_at, AreGiven, GivenHolds};
 ghost use Rattle.rq_level.specs.ChainPlans.{Beside};
 
-use crate::{DirectoryEntry, Neighbour};
+use crate::{CellEntry, DirectoryEntry};
 use rq_level::Slots;
 use rq_model::record::Slot;
 use rq_page::addr::Addr;
@@ -38,16 +38,16 @@ pub(crate) fn group_given(layout: &Layout, given: &Slots, sender: u32) -> Option
 }
 
 /// The cell at an address of a cell page, where its slot was given and is used.
-pub(crate) fn cell_given(layout: &Layout, given: &Slots, at: Addr) -> Option<Neighbour>
+pub(crate) fn cell_given(layout: &Layout, given: &Slots, at: Addr) -> Option<CellEntry>
     requires at { IsCellAddress layout.now at }
     requires given { AreGiven layout.now given.now }
-    ensures cell { IfSome result (λ n. IsNeighbourAt layout.now at n) }
+    ensures cell { IfSome result (λ n. IsCellEntryAt layout.now at n) }
     ensures holds { IfSome result (λ n. GivenHolds layout.now given.now at (Used n.cell)) }
     ensures none { IfNone result ((c : Cell) → GivenHolds layout.now given.now at (Used c) → ⊥) }
 {
     let bytes = given.get(at)?;
     let cell = used_in(bytes)?;
-    Some(Neighbour { at, cell })
+    Some(CellEntry { at, cell })
 }
 
 // The cell that these bytes are; none where they are a free cell's.
@@ -72,10 +72,10 @@ fn used(held: &CellSlot) -> Option<Cell>
 }
 
 /// The cell that a link names: none where it names none. Not there where its slot was not given or is free.
-pub(crate) fn beside_given(layout: &Layout, given: &Slots, at: Addr) -> Option<Option<Neighbour>>
+pub(crate) fn beside_given(layout: &Layout, given: &Slots, at: Addr) -> Option<Option<CellEntry>>
     requires at { IsLink layout.now at }
     requires given { AreGiven layout.now given.now }
-    ensures neighbour { IfSome result (λ b. IsNeighbour layout.now at b) }
+    ensures neighbour { IfSome result (λ b. IsCellEntry layout.now at b) }
     ensures beside { IfSome result (λ b. Beside layout.now given.now at (cell_beside b)) }
     ensures none { IfNone result ((c : Option Cell) → Beside layout.now given.now at c → ⊥) }
 {

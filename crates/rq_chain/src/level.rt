@@ -14,7 +14,7 @@ use crate::doing::{Doing, read_doing};
 use crate::given::{SENT_LIMIT, beside_given, cell_given, group_given, head_of, tail_of};
 use crate::plans::{append, put_back, set_closed, unlink_head, unlink_tail};
 use crate::wants::{undo_wanted, wanted};
-use crate::{ChainPlan, Neighbour};
+use crate::{CellEntry, ChainPlan};
 use byteorder::{BigEndian, ByteOrder};
 use rq_level::{Level, Op, PageSet, Plan, PlannedReply, SlotWrite, Slots, Want, redo_page};
 use rq_model::message::{Body, Message};
@@ -491,14 +491,14 @@ fn inverse(writes: Vec<SlotWrite>) -> Plan
 }
 
 // The cell before the one beside.
-fn front_of(tail: &Neighbour) -> Addr
+fn front_of(tail: &CellEntry) -> Addr
     ensures { result ≡ tail.now.cell.prev }
 {
     tail.cell.prev
 }
 
 // What the end of a receive answers.
-fn message_of(sender: u32, head: &Neighbour) -> PlannedReply
+fn message_of(sender: u32, head: &CellEntry) -> PlannedReply
     ensures { result ≡ PlannedReply.Message (record { sender = sender; tag = head.now.cell.tag; body = head.now.cell.body }) }
 {
     PlannedReply::Message(Message {
@@ -509,7 +509,7 @@ fn message_of(sender: u32, head: &Neighbour) -> PlannedReply
 }
 
 // The cell behind the one beside.
-fn next_of(head: &Neighbour) -> Addr
+fn next_of(head: &CellEntry) -> Addr
     ensures { result ≡ head.now.cell.next }
 {
     head.cell.next

@@ -29,7 +29,7 @@ pub struct ChainPlan {
 
 /// The cell beside the one that an operation writes: where it stands, and what it holds.
 #[derive(Clone, Copy)]
-pub struct Neighbour {
+pub struct CellEntry {
     pub at: Addr,
     pub cell: Cell,
 }

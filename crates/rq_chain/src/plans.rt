@@ -6,10 +6,10 @@ ghost use Rattle.rq_views.specs.Chain.{directory_appended};
 ghost use Rattle.rq_views.specs.Items.{layout_of};
 ghost use Rattle.rq_views.specs.Plans.{append_writes, unlink_head_writes, unlink_tail_writes, put_back_writes, directory_write, directory_head_unlinked, directory_tail_unlinked, directory_put_back, with_next, with_prev};
 ghost use Rattle.rq_level.specs.Writes.{write_of, writes_of, IsSlotWrite, AreSlotWrites, IsFirstAt};
-ghost use Rattle.rq_chain.specs.Neighbours.{cell_beside, IsNeighbour, IsNeighbourAt, IsGroupOf};
+ghost use Rattle.rq_chain.specs.CellEntries.{cell_beside, IsCellEntry, IsCellEntryAt, IsGroupOf};
 
 use crate::writes::{cell_write, group_write, listed};
-use crate::{ChainPlan, DirectoryEntry, Neighbour};
+use crate::{CellEntry, ChainPlan, DirectoryEntry};
 use rq_level::SlotWrite;
 use rq_model::message::{BODY_LIMIT, Body};
 use rq_model::record::Deed;
@@ -25,14 +25,14 @@ pub fn append(
     alloc: Global,
     layout: &Layout,
     group: &DirectoryEntry,
-    tail: Option<Neighbour>,
+    tail: Option<CellEntry>,
     free: Addr,
     tag: u64,
     body: Body,
 ) -> Result<ChainPlan, NoMemory>
     requires room { group.now.directory.sent < 2 ^ 64 - 1 }
     requires group { IsGroupOf layout.now group.now }
-    requires tail { IsNeighbour layout.now group.now.directory.tail tail }
+    requires tail { IsCellEntry layout.now group.now.directory.tail tail }
     requires free { IsCellAddress layout.now free }
     ensures writes { IfOk result (λ plan. reverse (writes_of layout.now plan.writes.items)
         ≡ append_writes (layout_of layout.now) group.now.sender group.now.directory free tag body (cell_beside tail)) }
@@ -65,13 +65,13 @@ pub fn unlink_head(
     alloc: Global,
     layout: &Layout,
     group: &DirectoryEntry,
-    head: &Neighbour,
-    next: Option<Neighbour>,
+    head: &CellEntry,
+    next: Option<CellEntry>,
 ) -> Result<ChainPlan, NoMemory>
     requires some { group.now.directory.received < group.now.directory.sent }
     requires group { IsGroupOf layout.now group.now }
-    requires head { IsNeighbourAt layout.now group.now.directory.head head.now }
-    requires next { IsNeighbour layout.now head.now.cell.next next }
+    requires head { IsCellEntryAt layout.now group.now.directory.head head.now }
+    requires next { IsCellEntry layout.now head.now.cell.next next }
     ensures writes { IfOk result (λ plan. reverse (writes_of layout.now plan.writes.items)
         ≡ unlink_head_writes (layout_of layout.now) group.now.sender group.now.directory head.now.cell
         (cell_beside next)) }
@@ -101,14 +101,14 @@ pub fn unlink_tail(
     alloc: Global,
     layout: &Layout,
     group: &DirectoryEntry,
-    tail: &Neighbour,
-    front: Option<Neighbour>,
+    tail: &CellEntry,
+    front: Option<CellEntry>,
     previous: u64,
 ) -> Result<Vec<SlotWrite>, NoMemory>
     requires some { group.now.directory.received < group.now.directory.sent }
     requires group { IsGroupOf layout.now group.now }
-    requires tail { IsNeighbourAt layout.now group.now.directory.tail tail.now }
-    requires front { IsNeighbour layout.now tail.now.cell.prev front }
+    requires tail { IsCellEntryAt layout.now group.now.directory.tail tail.now }
+    requires front { IsCellEntry layout.now tail.now.cell.prev front }
     ensures writes { IfOk result (λ writes. reverse (writes_of layout.now writes.items)
         ≡ unlink_tail_writes (layout_of layout.now) group.now.sender group.now.directory tail.now.cell previous
         (cell_beside front)) }
@@ -129,14 +129,14 @@ pub fn put_back(
     alloc: Global,
     layout: &Layout,
     group: &DirectoryEntry,
-    head: Option<Neighbour>,
+    head: Option<CellEntry>,
     free: Addr,
     tag: u64,
     body: Body,
 ) -> Result<Vec<SlotWrite>, NoMemory>
     requires some { 0 < group.now.directory.received }
     requires group { IsGroupOf layout.now group.now }
-    requires head { IsNeighbour layout.now group.now.directory.head head }
+    requires head { IsCellEntry layout.now group.now.directory.head head }
     requires free { IsCellAddress layout.now free }
     ensures writes { IfOk result (λ writes. reverse (writes_of layout.now writes.items)
         ≡ put_back_writes (layout_of layout.now) group.now.sender group.now.directory free tag body (cell_beside head)) }
@@ -328,8 +328,8 @@ fn with_closed(layout: &Layout, group: &DirectoryEntry, closed: bool) -> Directo
 }
 
 // The write that has a cell followed by another one.
-fn link_write(layout: &Layout, before: &Neighbour, next: Addr) -> SlotWrite
-    requires before { IsNeighbourAt layout.now before.now.at before.now }
+fn link_write(layout: &Layout, before: &CellEntry, next: Addr) -> SlotWrite
+    requires before { IsCellEntryAt layout.now before.now.at before.now }
     requires next { IsCellAddress layout.now next }
     ensures write { write_of layout.now result ≡ record {
       at = before.now.at;
@@ -344,8 +344,8 @@ fn link_write(layout: &Layout, before: &Neighbour, next: Addr) -> SlotWrite
 }
 
 // The write that has no cell before a cell.
-fn unlink_write(layout: &Layout, after: &Neighbour) -> SlotWrite
-    requires after { IsNeighbourAt layout.now after.now.at after.now }
+fn unlink_write(layout: &Layout, after: &CellEntry) -> SlotWrite
+    requires after { IsCellEntryAt layout.now after.now.at after.now }
     ensures write { write_of layout.now result ≡ record {
       at = after.now.at;
       before = Used after.now.cell;
@@ -358,8 +358,8 @@ fn unlink_write(layout: &Layout, after: &Neighbour) -> SlotWrite
 }
 
 // The write that has no cell behind a cell.
-fn cut_write(layout: &Layout, before: &Neighbour) -> SlotWrite
-    requires before { IsNeighbourAt layout.now before.now.at before.now }
+fn cut_write(layout: &Layout, before: &CellEntry) -> SlotWrite
+    requires before { IsCellEntryAt layout.now before.now.at before.now }
     ensures write { write_of layout.now result ≡ record {
       at = before.now.at;
       before = Used before.now.cell;
@@ -372,8 +372,8 @@ fn cut_write(layout: &Layout, before: &Neighbour) -> SlotWrite
 }
 
 // The write that has another cell before a cell.
-fn lead_write(layout: &Layout, after: &Neighbour, first: Addr) -> SlotWrite
-    requires after { IsNeighbourAt layout.now after.now.at after.now }
+fn lead_write(layout: &Layout, after: &CellEntry, first: Addr) -> SlotWrite
+    requires after { IsCellEntryAt layout.now after.now.at after.now }
     requires first { IsCellAddress layout.now first }
     ensures write { write_of layout.now result ≡ record {
       at = after.now.at;

@@ -5,7 +5,7 @@ ghost use Rattle.rq_page.specs.Slots.{MayStand, IsDirectoryOf, of_cell_slot};
 ghost use Rattle.rq_views.specs.Items.{layout_of};
 ghost use Rattle.rq_views.specs.Plans.{directory_write};
 ghost use Rattle.rq_level.specs.Writes.{write_of, IsSlotWrite};
-ghost use Rattle.rq_chain.specs.Neighbours.{IsGroupOf};
+ghost use Rattle.rq_chain.specs.CellEntries.{IsGroupOf};
 
 use crate::DirectoryEntry;
 use rq_level::SlotWrite;

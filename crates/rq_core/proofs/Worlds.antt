@@ -47,7 +47,7 @@ use Rattle.rq_engine.specs.declared.event.Reply.TheVariants as reply
 use Rattle.rq_restart.specs.Restarting.{IsReadAs, IsLeftOn, IsOpenedOver, Reports}
 use Rattle.rq_analysis.specs.Recovered.{IsRecovered, IsRecoveredFrom}
 use Rattle.rq_analysis.proofs.Recovering.{recovered_from}
-use Rattle.rq_restart.proofs.Begun.{mended_incarnation}
+use Rattle.rq_restart.proofs.Begun.{rolled_back_incarnation}
 use Rattle.rq_restart.specs.Underway.{IsStore, IsSomeStore, IsLeftOrGoesOn}
 use Rattle.rq_restart.specs.Once.{OneLogEach, AsManyAsTheLog, OneSizeEach}
 use Rattle.rq_core.specs.Happenings.{Happening, Report, Course, Tells, AddsCall, called, is_of_device}
@@ -290,13 +290,13 @@ module _ {P L : Type 0} (p : page_device.Ghosts P) (l : log_device.Ghosts L) (ho
         let on : IsLeftOn p new.state.sizes pages new.pages now = record { honest = honest_p new.pages; left = subst (λ y. IsLeft y (p.seen pages) now) (sym is) store.left } in
         let told = reports now read in
         let opened = value now read in
-        let mended = drop 1 new.state.records in
-        let from : IsRecoveredFrom z now mended = recovered_from z now mended store.left.whole (subst (λ y. IsRecovered y now mended) is (recovered now read on)) in
-        let law = goes h s.older mended legal s.phase s.ties (extends_join s.older now mended x.1 from.extends) from.whole.order in
-        let all : report.records ≡ length (next_restart mended ∷ mended) = told.records_are ∙ ap (λ (y : State). length y.records) opened.1 in
-        let begun : report.incarnation ≡ incarnation_of mended + 1 = told.incarnation_is ∙ ap (λ n. n + 1) (sym (mended_incarnation now mended opened.0)) in
-        let e : Restarted_entry (incarnation_of mended + 1) (length (next_restart mended ∷ mended)) ≡ Restarted_entry report.incarnation report.records =
-        ap (λ n. Restarted_entry n (length (next_restart mended ∷ mended))) (sym begun) ∙ ap (Restarted_entry report.incarnation) (sym all) in
+        let rolled_back = drop 1 new.state.records in
+        let from : IsRecoveredFrom z now rolled_back = recovered_from z now rolled_back store.left.whole (subst (λ y. IsRecovered y now rolled_back) is (recovered now read on)) in
+        let law = goes h s.older rolled_back legal s.phase s.ties (extends_join s.older now rolled_back x.1 from.extends) from.whole.order in
+        let all : report.records ≡ length (next_restart rolled_back ∷ rolled_back) = told.records_are ∙ ap (λ (y : State). length y.records) opened.1 in
+        let begun : report.incarnation ≡ incarnation_of rolled_back + 1 = told.incarnation_is ∙ ap (λ n. n + 1) (sym (rolled_back_incarnation now rolled_back opened.0)) in
+        let e : Restarted_entry (incarnation_of rolled_back + 1) (length (next_restart rolled_back ∷ rolled_back)) ≡ Restarted_entry report.incarnation report.records =
+        ap (λ n. Restarted_entry n (length (next_restart rolled_back ∷ rolled_back))) (sym begun) ∙ ap (Restarted_entry report.incarnation) (sym all) in
         let content : (ledger h).committed ≡ committed_of now = ap (λ (k : Ledger). k.committed) (sym law.ledger) ∙ from.committed in
         record {
           legal = subst (λ entry. IsLegal (size_of z) (entry ∷ h)) e law.legal;

@@ -98,9 +98,9 @@ impl<P: PageDevice, L: LogDevice, B: Level> Engine<P, L, B> {
                 Ok(sub) => Reply::Started(sub),
                 Err(refusal) => Reply::Refused(refusal),
             },
-            Event::StartReceive(txn) => begun(self.start_receive(*txn)),
+            Event::StartReceive(txn) => receive_reply(self.start_receive(*txn)),
             Event::StartReceiveFrom { txn, sender } => {
-                begun(self.start_receive_from(*txn, *sender))
+                receive_reply(self.start_receive_from(*txn, *sender))
             }
             Event::StartClose { txn, sender } => match self.start_close(*txn, *sender) {
                 Ok(sub) => Reply::Started(sub),
@@ -167,7 +167,7 @@ fn undoing(started: Result<Option<Sub>, Refusal>) -> Reply
 }
 
 // The reply to the start of a receive.
-fn begun(started: Result<Option<Sub>, Refusal>) -> Reply
+fn receive_reply(started: Result<Option<Sub>, Refusal>) -> Reply
     ensures { result ≡ begun_reply started }
 {
     match started {

@@ -14,7 +14,7 @@ use Rattle.rq_record.specs.declared.step.Step.TheVariants as steps
 use Rattle.rq_record.specs.Decoding.{IfRecord, IsFront}
 use Rattle.rq_record.specs.Spelling.{BeginsRecord, HoldsRecord, IsRecord, spelling}
 use Rattle.rq_analysis.specs.declared.open_work.UndoableWrite.{UndoableWrite}
-use Rattle.rq_analysis.specs.Analysis.{Analysis, has_sub}
+use Rattle.rq_analysis.specs.OpenWorkView.{OpenWorkView, has_sub}
 use Rattle.rq_analysis.specs.Pages.{IsNextUndo, op_less, undo_of, void_of}
 use Rattle.rq_analysis.specs.Pages.IsNextUndo.{Voids, Undoes}
 use Rattle.rq_analysis.proofs.Next.{op_turn}
@@ -85,22 +85,22 @@ first_one p q ps qs e = cc
 none_undoable : (p : UndoableWrite) (ps : List UndoableWrite) → [] ≡ p ∷ ps → ⊥
 none_undoable p ps e = cc
 
-undo_one : (h : Analysis) (r s : Record) → IsNextUndo h r → IsNextUndo h s → r ≡ s
+undo_one : (h : OpenWorkView) (r s : Record) → IsNextUndo h r → IsNextUndo h s → r ≡ s
 undo_one h r s (Voids o spent least is) (Voids q other lowest are) = is ∙ ap void_of (least_one o q (lowest o spent) (least q other)) ∙ sym are
 undo_one h r s (Voids o spent least is) (Undoes p ps none undoable are) = absurd (true≢false (sym (none o spent.unfinished) ∙ spent.none))
 undo_one h r s (Undoes p ps none undoable is) (Voids o spent least are) = absurd (true≢false (sym (none o spent.unfinished) ∙ spent.none))
 undo_one h r s (Undoes p ps none undoable is) (Undoes q qs void others are) = is ∙ ap undo_of (first_one p q ps qs (sym undoable ∙ others)) ∙ sym are
 
-none_next : (h : Analysis) (r : Record) → (h.unfinished ≡ [] → h.undoable ≡ []) → h.unfinished ≡ [] → IsNextUndo h r → ⊥
+none_next : (h : OpenWorkView) (r : Record) → (h.unfinished ≡ [] → h.undoable ≡ []) → h.unfinished ≡ [] → IsNextUndo h r → ⊥
 none_next h r own e (Voids o spent least is) = true≢false (sym spent.unfinished ∙ ap (has_sub o) e)
 none_next h r own e (Undoes p ps none undoable is) = none_undoable p ps (sym (own e) ∙ undoable)
 
-undo_here : (h : Analysis) (p q : Option Record) → (h.unfinished ≡ [] → h.undoable ≡ []) → IfSome p (IsNextUndo h) → IfNone p (h.unfinished ≡ []) → IfSome q (IsNextUndo h) → IfNone q (h.unfinished ≡ []) → p ≡ q
+undo_here : (h : OpenWorkView) (p q : Option Record) → (h.unfinished ≡ [] → h.undoable ≡ []) → IfSome p (IsNextUndo h) → IfNone p (h.unfinished ≡ []) → IfSome q (IsNextUndo h) → IfNone q (h.unfinished ≡ []) → p ≡ q
 undo_here h None None own f n g m = refl
 undo_here h None (Some s) own f n g m = absurd (none_next h s own n g)
 undo_here h (Some r) None own f n g m = absurd (none_next h r own m f)
 undo_here h (Some r) (Some s) own f n g m = ap Some (undo_one h r s f g)
 
 -- the record by which operations without an end are undone next is one
-pub undo_same : (h k : Analysis) (p q : Option Record) → h ≡ k → (h.unfinished ≡ [] → h.undoable ≡ []) → IfSome p (IsNextUndo h) → IfNone p (h.unfinished ≡ []) → IfSome q (IsNextUndo k) → IfNone q (k.unfinished ≡ []) → p ≡ q
-undo_same h k p q is own f n = subst (λ (j : Analysis). IfSome q (IsNextUndo j) → IfNone q (j.unfinished ≡ []) → p ≡ q) is (undo_here h p q own f n)
+pub undo_same : (h k : OpenWorkView) (p q : Option Record) → h ≡ k → (h.unfinished ≡ [] → h.undoable ≡ []) → IfSome p (IsNextUndo h) → IfNone p (h.unfinished ≡ []) → IfSome q (IsNextUndo k) → IfNone q (k.unfinished ≡ []) → p ≡ q
+undo_same h k p q is own f n = subst (λ (j : OpenWorkView). IfSome q (IsNextUndo j) → IfNone q (j.unfinished ≡ []) → p ≡ q) is (undo_here h p q own f n)

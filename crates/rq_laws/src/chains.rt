@@ -2,9 +2,9 @@
 ghost use Rattle.std.specs.Prelude.{◌≡◌, ◌-◌, ◌<◌, ◌^◌, IfOk, reverse};
 ghost use Rattle.rq_page.specs.Sizes.{IsCellAddress};
 ghost use Rattle.rq_level.specs.Writes.{writes_of};
-ghost use Rattle.rq_chain.specs.Neighbours.{IsGroupOf, IsNeighbour, IsNeighbourAt};
+ghost use Rattle.rq_chain.specs.CellEntries.{IsGroupOf, IsCellEntry, IsCellEntryAt};
 
-use rq_chain::{ChainPlan, DirectoryEntry, Neighbour, append, put_back, unlink_head};
+use rq_chain::{CellEntry, ChainPlan, DirectoryEntry, append, put_back, unlink_head};
 use rq_level::SlotWrite;
 use rq_model::message::Body;
 use rq_model::refusal::NoMemory;
@@ -18,8 +18,8 @@ pub fn sends(
     alloc: Global,
     layout: &Layout,
     group: &DirectoryEntry,
-    tail: Option<Neighbour>,
-    tail_again: Option<Neighbour>,
+    tail: Option<CellEntry>,
+    tail_again: Option<CellEntry>,
     free: Addr,
     tag: u64,
     body: Body,
@@ -27,7 +27,7 @@ pub fn sends(
 ) -> (Result<ChainPlan, NoMemory>, Result<ChainPlan, NoMemory>)
     requires room { group.now.directory.sent < 2 ^ 64 - 1 }
     requires group { IsGroupOf layout.now group.now }
-    requires tail { IsNeighbour layout.now group.now.directory.tail tail }
+    requires tail { IsCellEntry layout.now group.now.directory.tail tail }
     requires again { tail_again ≡ tail }
     requires body { body_again ≡ body }
     requires free { IsCellAddress layout.now free }
@@ -46,14 +46,14 @@ pub fn takes(
     alloc: Global,
     layout: &Layout,
     group: &DirectoryEntry,
-    head: &Neighbour,
-    next: Option<Neighbour>,
-    next_again: Option<Neighbour>,
+    head: &CellEntry,
+    next: Option<CellEntry>,
+    next_again: Option<CellEntry>,
 ) -> (Result<ChainPlan, NoMemory>, Result<ChainPlan, NoMemory>)
     requires some { group.now.directory.received < group.now.directory.sent }
     requires group { IsGroupOf layout.now group.now }
-    requires head { IsNeighbourAt layout.now group.now.directory.head head.now }
-    requires next { IsNeighbour layout.now head.now.cell.next next }
+    requires head { IsCellEntryAt layout.now group.now.directory.head head.now }
+    requires next { IsCellEntry layout.now head.now.cell.next next }
     requires again { next_again ≡ next }
     ensures { IfOk result.0 (λ a. IfOk result.1 (λ b. (a.deed ≡ b.deed)
         × (reverse (writes_of layout.now a.writes.items) ≡ reverse (writes_of layout.now b.writes.items)))) }
@@ -69,8 +69,8 @@ pub fn puts_back(
     alloc: Global,
     layout: &Layout,
     group: &DirectoryEntry,
-    head: Option<Neighbour>,
-    head_again: Option<Neighbour>,
+    head: Option<CellEntry>,
+    head_again: Option<CellEntry>,
     free: Addr,
     tag: u64,
     body: Body,
@@ -81,7 +81,7 @@ pub fn puts_back(
 )
     requires some { 0 < group.now.directory.received }
     requires group { IsGroupOf layout.now group.now }
-    requires head { IsNeighbour layout.now group.now.directory.head head }
+    requires head { IsCellEntry layout.now group.now.directory.head head }
     requires again { head_again ≡ head }
     requires body { body_again ≡ body }
     requires free { IsCellAddress layout.now free }

@@ -1,6 +1,6 @@
 //! The plan of a send to a group that is empty and to one that has a message, and of a receive of the first message of two and
 //! of the only one.
-use rq_chain::{ChainPlan, DirectoryEntry, Neighbour, append, unlink_head};
+use rq_chain::{CellEntry, ChainPlan, DirectoryEntry, append, unlink_head};
 use rq_model::message::Body;
 use rq_model::record::{Deed, Slot};
 use rq_page::addr::Addr;
@@ -85,7 +85,7 @@ fn next_append(alloc: Global) -> Result<ChainPlan, Fail> {
             tail: last,
         },
     };
-    let tail = Neighbour {
+    let tail = CellEntry {
         at: last,
         cell: Cell {
             sender: 3,
@@ -125,7 +125,7 @@ fn only_unlink(alloc: Global) -> Result<ChainPlan, Fail> {
         prev: Addr::NONE,
         body,
     };
-    Ok(unlink_head(alloc, &layout, &group, &Neighbour { at, cell }, None)?)
+    Ok(unlink_head(alloc, &layout, &group, &CellEntry { at, cell }, None)?)
 }
 
 // The plan of a receive of the first message of two.
@@ -146,7 +146,7 @@ fn first_unlink(alloc: Global) -> Result<ChainPlan, Fail> {
             tail: second,
         },
     };
-    let head = Neighbour {
+    let head = CellEntry {
         at: first,
         cell: Cell {
             sender: 3,
@@ -157,7 +157,7 @@ fn first_unlink(alloc: Global) -> Result<ChainPlan, Fail> {
             body,
         },
     };
-    let next = Neighbour {
+    let next = CellEntry {
         at: second,
         cell: Cell {
             sender: 3,

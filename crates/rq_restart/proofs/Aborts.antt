@@ -19,14 +19,14 @@ use Rattle.rq_store.specs.State.{State}
 use Rattle.rq_store.specs.Steps.{page_op}
 use Rattle.rq_sound.specs.Rows.{comp_end}
 use Rattle.rq_store.specs.Whole.{IsWhole}
-use Rattle.rq_analysis.specs.Analysis.{Analysis, analysis, without_txn}
+use Rattle.rq_analysis.specs.OpenWorkView.{OpenWorkView, open_work_of, without_txn}
 use Rattle.rq_analysis.proofs.Lists.{filter_less}
 use Rattle.rq_analysis.specs.Choices.{least_free}
 use Rattle.rq_analysis.proofs.Choosing.{least_there}
 use Rattle.rq_model.proofs.Lists.{same_self}
 use Rattle.rq_analysis.proofs.Noting.{noted_active}
-use Rattle.rq_restart.specs.declared.findings.Findings.{Findings}
-use Rattle.rq_restart.specs.Found.{AreFindings}
+use Rattle.rq_restart.specs.declared.analysis.Analysis.{Analysis}
+use Rattle.rq_restart.specs.Found.{IsAnalysisOf}
 use Rattle.rq_analysis.specs.declared.dues.PendingUndo.{PendingUndo}
 use Rattle.rq_restart.specs.Aborting.{AbortStops, AbortsBehind, AbortsFrom, AbortsOn, ArePlanned, AreRounds, HasGoneOn, IsAborting, IsBadStep, IsNextRound, IsMaking, IsOnItsWay, IsPlannedBack, IsPlannedOn, IsTakenNext, OfStore, RepeatedSince, Round, after_round, after_rounds, with_writes}
 use Rattle.rq_restart.specs.Aborting.Round.{Ends, TakesBack}
@@ -260,15 +260,15 @@ pub stops_before : {P : Type 0} (z : Sizes) (one other : List Record → Type 0)
 stops_before z one other log old before here e j f s = stops_join z (Unit {0}) log log old old before here (none_gone z log old before here f) one other (λ u. j) e s
 
 -- of a whole log those that are noted are lost
-pub active_lost : (z : Sizes) (log : List Record) → IsWhole z log → (analysis log).active ≡ lost log
+pub active_lost : (z : Sizes) (log : List Record) → IsWhole z log → (open_work_of log).active ≡ lost log
 active_lost z log w = noted_active z log w.legal w.reads
 
 -- the next of those that have no end is one of them, and fewer are left once it has its end
-pub ended_less : (log now : List Record) (f g : Findings) (t : Txn) → AreFindings f log → AreFindings g now → now ≡ records.AbortEnd t ∷ log → least_free f.dues f.open_work.active ≡ Some t → length g.open_work.active < length f.open_work.active
+pub ended_less : (log now : List Record) (f g : Analysis) (t : Txn) → IsAnalysisOf f log → IsAnalysisOf g now → now ≡ records.AbortEnd t ∷ log → least_free f.dues f.open_work.active ≡ Some t → length g.open_work.active < length f.open_work.active
 ended_less log now f g t are then grown e =
     let there : In t f.open_work.active = least_there f.dues f.open_work.active t e in
     let off : not (same_txn t t) ≡ false = ap not (same_self t) in
     let less = filter_less (λ (u : Txn). not (same_txn t u)) f.open_work.active t there off in
-    let same : g.open_work.active ≡ without_txn t f.open_work.active = ap (λ (h : Analysis). h.active) (then.open_work ∙ ap analysis grown) ∙ ap (λ (h : Analysis). without_txn t h.active) (sym are.open_work) in
+    let same : g.open_work.active ≡ without_txn t f.open_work.active = ap (λ (h : OpenWorkView). h.active) (then.open_work ∙ ap open_work_of grown) ∙ ap (λ (h : OpenWorkView). without_txn t h.active) (sym are.open_work) in
     let n : length g.open_work.active ≡ length (without_txn t f.open_work.active) = ap length same in
     omega (arith, less, n)

@@ -24,7 +24,7 @@ use Rattle.rq_store.specs.Whole.{IsWhole}
 use Rattle.rq_store.proofs.Bounds.{may_redo}
 use Rattle.rq_store.proofs.Cutting.{fits_log_longer}
 use Rattle.rq_store.proofs.Redoing.{redone_slots}
-use Rattle.rq_analysis.specs.Analysis.{Analysis, analysis}
+use Rattle.rq_analysis.specs.OpenWorkView.{OpenWorkView, open_work_of}
 use Rattle.rq_analysis.specs.Pages.{IsNextUndo, IsUndoing, UndoesBehind}
 use Rattle.rq_analysis.specs.Pages.IsNextUndo.{Voids, Undoes}
 use Rattle.rq_analysis.proofs.Noting.{few_incarnations, noted_incarnation, noted_unfinished, noted_active, pair_of}
@@ -34,29 +34,29 @@ use Rattle.rq_analysis.proofs.Recovering.{recovered_from}
 use Rattle.rq_engine.proofs.Crashing.{spelled_dropped}
 use Rattle.rq_analysis.proofs.Whole.{whole_logs}
 use Rattle.rq_restart.specs.Aborting.IsAborting.{Between}
-use Rattle.rq_restart.specs.Mended.{ArePlannedFrom, IsMended}
+use Rattle.rq_restart.specs.RolledBack.{ArePlannedFrom, IsRolledBack}
 use Rattle.rq_restart.specs.Refused.{BeginsNot, WhyNotBegun}
 use Rattle.rq_restart.specs.Restarting.{IsBegun, IsBegunBehind, IsOpenedOver, Reports}
 use Rattle.rq_restart.specs.Repeating.{Paged, Repeats}
 use Rattle.rq_restart.specs.Undoing.{IsBadUndo}
 use Rattle.rq_restart.proofs.Aborts.{aborting_extends, aborting_incarnation}
 use Rattle.rq_restart.proofs.Lefts.{front_continues, left_longer, left_undoing}
-use Rattle.rq_restart.proofs.Mending.{recovered_on}
+use Rattle.rq_restart.proofs.RollingBack.{recovered_on}
 use Rattle.rq_restart.proofs.Parsing.{one_log}
 use Rattle.rq_restart.proofs.Repeated.{all_up_to, repeated_order, up_to}
 
 -- it extends the log, and is of its incarnation
-pub mended_extends : (log mended : List Record) → IsMended log mended → Extends log mended
-mended_extends log mended m = extends_join log m.undone mended (undoing_extends log m.undone m.undoes.undoing) (aborting_extends m.undone mended m.aborting)
+pub rolled_back_extends : (log rolled_back : List Record) → IsRolledBack log rolled_back → Extends log rolled_back
+rolled_back_extends log rolled_back m = extends_join log m.undone rolled_back (undoing_extends log m.undone m.undoes.undoing) (aborting_extends m.undone rolled_back m.aborting)
 
 -- the log with the records that mend it, and one more, goes on from it
-pub mended_continues : (log mended : List Record) → IsMended log mended → Continues log mended
-mended_continues log mended m =
-    let e = mended_extends log mended m in
-    front_continues log mended e.0 e.1
+pub rolled_back_continues : (log rolled_back : List Record) → IsRolledBack log rolled_back → Continues log rolled_back
+rolled_back_continues log rolled_back m =
+    let e = rolled_back_extends log rolled_back m in
+    front_continues log rolled_back e.0 e.1
 
-pub one_continues : (log mended : List Record) (r : Record) → Continues log mended → Continues log (r ∷ mended)
-one_continues log mended r c = (suc c.0, c.1)
+pub one_continues : (log rolled_back : List Record) (r : Record) → Continues log rolled_back → Continues log (r ∷ rolled_back)
+one_continues log rolled_back r c = (suc c.0, c.1)
 
 -- of a store that was left so, each record that undoes something belongs where it stands
 pub no_bad_undo : (z : Sizes) (log : List Record) (first : Paged) (lsn : ℕ) → IsLeft z first.image log → IsBadUndo z log first lsn → ⊥
@@ -73,18 +73,18 @@ no_bad_undo z log first lsn left b =
     b.bad (record { next = w.order.0; follows = whole_logs.one z b.undone b.newest w; may = may })
 
 -- once it is recovered, the store that opens over the log is sound
-pub begun_sound : (z : Sizes) (first last : Paged) (images : List (List ℕ)) (log mended : List Record) → last.image ≡ image_in images → IsPool z images → IsMended log mended → IsRecovered z log mended → Repeats z mended first last → IsLeft z first.image log → IsSound (opened z images mended)
-begun_sound z first last images log mended are pool m recovered repeated left =
-    let from : IsRecoveredFrom z log mended = recovered_from z log mended left.whole recovered in
-    let there = left_longer z first.image log mended left from.whole (mended_continues log mended m) in
-    let fits : FitsUpTo z (image_in images) mended (length mended) = subst (λ f. FitsUpTo z f mended (length mended)) are (all_up_to z mended first there last repeated) in
-    let slots = redone_slots z mended images from.whole.in_store fits in
-    opened_sound z images mended pool.range from.whole from.none_unfinished from.none_lost slots
+pub begun_sound : (z : Sizes) (first last : Paged) (images : List (List ℕ)) (log rolled_back : List Record) → last.image ≡ image_in images → IsPool z images → IsRolledBack log rolled_back → IsRecovered z log rolled_back → Repeats z rolled_back first last → IsLeft z first.image log → IsSound (opened z images rolled_back)
+begun_sound z first last images log rolled_back are pool m recovered repeated left =
+    let from : IsRecoveredFrom z log rolled_back = recovered_from z log rolled_back left.whole recovered in
+    let there = left_longer z first.image log rolled_back left from.whole (rolled_back_continues log rolled_back m) in
+    let fits : FitsUpTo z (image_in images) rolled_back (length rolled_back) = subst (λ f. FitsUpTo z f rolled_back (length rolled_back)) are (all_up_to z rolled_back first there last repeated) in
+    let slots = redone_slots z rolled_back images from.whole.in_store fits in
+    opened_sound z images rolled_back pool.range from.whole from.none_unfinished from.none_lost slots
     (record { superblock = pool.superblock; headers = pool.headers; pages = λ p low high. (fits p low high).fits })
 
 -- ---- what is begun
 
-same_incarnation : (log : List Record) (r : Record) → IsNextUndo (analysis log) r → incarnation_of (r ∷ log) ≡ incarnation_of log
+same_incarnation : (log : List Record) (r : Record) → IsNextUndo (open_work_of log) r → incarnation_of (r ∷ log) ≡ incarnation_of log
 same_incarnation log r (Voids o s least e) = rw e refl
 same_incarnation log r (Undoes p ps none f e) = rw e refl
 
@@ -95,59 +95,59 @@ behind_incarnation log (r ∷ front) h = same_incarnation (front ++ log) r h.0 �
 pub undoing_incarnation : (log undone : List Record) → IsUndoing log undone → incarnation_of undone ≡ incarnation_of log
 undoing_incarnation log undone u = ap incarnation_of (sym u.are) ∙ behind_incarnation log u.front u.undoes
 
-pub mended_incarnation : (log mended : List Record) → IsMended log mended → incarnation_of mended ≡ incarnation_of log
-mended_incarnation log mended m = aborting_incarnation m.undone mended m.aborting ∙ undoing_incarnation log m.undone m.undoes.undoing
+pub rolled_back_incarnation : (log rolled_back : List Record) → IsRolledBack log rolled_back → incarnation_of rolled_back ≡ incarnation_of log
+rolled_back_incarnation log rolled_back m = aborting_incarnation m.undone rolled_back m.aborting ∙ undoing_incarnation log m.undone m.undoes.undoing
 
-module _ (log mended : List Record) (m : IsMended log mended) (h : Analysis) (noted : h ≡ analysis mended) (last : ℕ) (is : last ≡ h.incarnation) where
-  pub last_is : last ≡ incarnation_of mended
-  last_is = is ∙ ap (λ (n : Analysis). n.incarnation) noted ∙ noted_incarnation mended
+module _ (log rolled_back : List Record) (m : IsRolledBack log rolled_back) (h : OpenWorkView) (noted : h ≡ open_work_of rolled_back) (last : ℕ) (is : last ≡ h.incarnation) where
+  pub last_is : last ≡ incarnation_of rolled_back
+  last_is = is ∙ ap (λ (n : OpenWorkView). n.incarnation) noted ∙ noted_incarnation rolled_back
 
-  pub begins : (now : List Record) → now ≡ records.Restart (last + 1) ∷ mended → now ≡ next_restart mended ∷ mended
-  begins now e = e ∙ ap (λ n. records.Restart (n + 1) ∷ mended) last_is
+  pub begins : (now : List Record) → now ≡ records.Restart (last + 1) ∷ rolled_back → now ≡ next_restart rolled_back ∷ rolled_back
+  begins now e = e ∙ ap (λ n. records.Restart (n + 1) ∷ rolled_back) last_is
 
-  pub begun_is : {L : Type 0} (new : Logged L) → new.records ≡ records.Restart (last + 1) ∷ mended → (new.forced ≡ length new.records) × (new.failed ≡ false) → IsBegun log new
-  begun_is new e f = record { mended = mended; mends = m; records = begins new.records e; forced = f.0; running = f.1 }
+  pub begun_is : {L : Type 0} (new : Logged L) → new.records ≡ records.Restart (last + 1) ∷ rolled_back → (new.forced ≡ length new.records) × (new.failed ≡ false) → IsBegun log new
+  begun_is new e f = record { rolled_back = rolled_back; rolls_back = m; records = begins new.records e; forced = f.0; running = f.1 }
 
   pub reports : (z : Sizes) (now : List Record) (incarnation count unfinished_count gone : ℕ)
-      → (incarnation ≡ last + 1) × (count ≡ length now) × (unfinished_count ≡ length (analysis log).unfinished) × (gone ≡ length (analysis log).active) → Reports z log now incarnation count unfinished_count gone
+      → (incarnation ≡ last + 1) × (count ≡ length now) × (unfinished_count ≡ length (open_work_of log).unfinished) × (gone ≡ length (open_work_of log).active) → Reports z log now incarnation count unfinished_count gone
   reports z now incarnation count unfinished_count gone told = record {
-    incarnation_is = told.0 ∙ ap (λ n. n + 1) (last_is ∙ mended_incarnation log mended m);
+    incarnation_is = told.0 ∙ ap (λ n. n + 1) (last_is ∙ rolled_back_incarnation log rolled_back m);
     records_are = told.1;
-    unfinished_are = λ w. told.2 ∙ sym (length-map (analysis log).unfinished pair_of) ∙ ap length (noted_unfinished z log w.legal);
+    unfinished_are = λ w. told.2 ∙ sym (length-map (open_work_of log).unfinished pair_of) ∙ ap length (noted_unfinished z log w.legal);
     lost_are = λ w. told.3 ∙ ap length (noted_active z log w.legal w.reads);
   }
 
   -- why the incarnation was not begun
-  pub not_begun : (z : Sizes) (first now_paged : Paged) (e : Refusal) (before now : ℕ) (untouched : Type 0) → Repeats z mended first now_paged → ArePlannedFrom z first log mended m → (IsLeft z first.image log → IsRecovered z log mended)
-      → BeginsNot e (length mended) last before now untouched → WhyNotBegun z log first e before now untouched
+  pub not_begun : (z : Sizes) (first now_paged : Paged) (e : Refusal) (before now : ℕ) (untouched : Type 0) → Repeats z rolled_back first now_paged → ArePlannedFrom z first log rolled_back m → (IsLeft z first.image log → IsRecovered z log rolled_back)
+      → BeginsNot e (length rolled_back) last before now untouched → WhyNotBegun z log first e before now untouched
   not_begun z first now_paged why.NoMemory before now untouched repeated planned recovered b = b
   not_begun z first now_paged why.DiskWrite before now untouched repeated planned recovered b = b
-  not_begun z first now_paged why.LogFull before now untouched repeated planned recovered b = (record { undone = m.undone; undoing = m.undoes.undoing; now = mended; aborting = Between (record { behind = m.aborting; planned = planned }); turn = inr m.undoes; none_lost = m.none_lost; full = full; recovering = λ left. recovered_on z log mended (recovered left) }, b.1) where
-    full : 2 ^ 50 ≤ length mended
+  not_begun z first now_paged why.LogFull before now untouched repeated planned recovered b = (record { undone = m.undone; undoing = m.undoes.undoing; now = rolled_back; aborting = Between (record { behind = m.aborting; planned = planned }); turn = inr m.undoes; none_lost = m.none_lost; full = full; recovering = λ left. recovered_on z log rolled_back (recovered left) }, b.1) where
+    full : 2 ^ 50 ≤ length rolled_back
     full = elim b.0 [
       | inl is_full ↦ is_full
-      | inr many ↦ let few = few_incarnations mended (repeated_order z mended first now_paged repeated) in let e = last_is in omega (arith, few, e, many)
+      | inr many ↦ let few = few_incarnations rolled_back (repeated_order z rolled_back first now_paged repeated) in let e = last_is in omega (arith, few, e, many)
     ]
   not_begun z first now_paged _ before now untouched repeated planned recovered b = absurd b
 
 -- the records behind, as they were forced
-pub begun_behind : (z : Sizes) (left : Type 0) (log mended : List Record) (r : Record) (kept : ℕ) (seen bytes : List ℕ) → IsMended log mended → (left → IsRecovered z log mended) → r ≡ next_restart mended → AreSpelled log → seen ≡ spelled log → AreSpelled (r ∷ mended)
-    → GoesOn (r ∷ mended) kept seen bytes → IsBegunBehind z left log bytes
-begun_behind z left log mended r kept seen bytes m recovered is are read now on =
-    let n : ℕ = length (drop on.behind (r ∷ mended)) in
-    let same : drop on.behind (r ∷ mended) ≡ log = one_log (drop on.behind (r ∷ mended)) log (spelled_dropped on.behind (r ∷ mended) now) are (sym on.reads ∙ read) in
+pub begun_behind : (z : Sizes) (left : Type 0) (log rolled_back : List Record) (r : Record) (kept : ℕ) (seen bytes : List ℕ) → IsRolledBack log rolled_back → (left → IsRecovered z log rolled_back) → r ≡ next_restart rolled_back → AreSpelled log → seen ≡ spelled log → AreSpelled (r ∷ rolled_back)
+    → GoesOn (r ∷ rolled_back) kept seen bytes → IsBegunBehind z left log bytes
+begun_behind z left log rolled_back r kept seen bytes m recovered is are read now on =
+    let n : ℕ = length (drop on.behind (r ∷ rolled_back)) in
+    let same : drop on.behind (r ∷ rolled_back) ≡ log = one_log (drop on.behind (r ∷ rolled_back)) log (spelled_dropped on.behind (r ∷ rolled_back) now) are (sym on.reads ∙ read) in
     let a : n ≡ length log = ap length same in
-    let b : n ≡ length (r ∷ mended) - on.behind = length-drop on.behind (r ∷ mended) in
+    let b : n ≡ length (r ∷ rolled_back) - on.behind = length-drop on.behind (r ∷ rolled_back) in
     let c = on.within in
     let d = on.some in
     record {
-      mended = mended;
-      mends = m;
+      rolled_back = rolled_back;
+      rolls_back = m;
       recovered = recovered;
-      are_spelled = subst (λ q. AreSpelled (q ∷ mended)) is now;
+      are_spelled = subst (λ q. AreSpelled (q ∷ rolled_back)) is now;
       lacks = on.lost;
       some = omega (arith, a, b, c, d);
-      is = on.is ∙ ap (λ q. spelled (drop on.lost (q ∷ mended))) is;
+      is = on.is ∙ ap (λ q. spelled (drop on.lost (q ∷ rolled_back))) is;
     }
 
 -- ---- what is opened
@@ -172,20 +172,20 @@ engine_over z images rs forced incarnation cells waiting sent = record {
 pub opened_over : {L : Type 0} (z : Sizes) (images : List (List ℕ)) (log : List Record) (new : Logged L) (incarnation cells : ℕ) (waiting : List ℕ) (sent : SentBy) → IsBegun log new → incarnation ≡ incarnation_of log + 1 → cells ≡ count_used z (slots_in z images) → waiting ≡ waiting_in z images → sent ≡ sent_in_slots z images
     → IsOpenedOver log (engine_over z images new.records new.forced incarnation cells waiting sent)
 opened_over z images log new incarnation cells waiting sent b number used waits told =
-    let mended = b.mended in
-    let all : List Record = next_restart mended ∷ mended in
-    let last : drop 1 new.records ≡ mended = ap (drop 1) b.records in
+    let rolled_back = b.rolled_back in
+    let all : List Record = next_restart rolled_back ∷ rolled_back in
+    let last : drop 1 new.records ≡ rolled_back = ap (drop 1) b.records in
     let forced : new.forced ≡ length all = b.forced ∙ ap length b.records in
-    let i : incarnation ≡ incarnation_of mended + 1 = number ∙ ap (λ n. n + 1) (sym (mended_incarnation log mended b.mends)) in (
-      subst (IsMended log) (sym last) b.mends,
+    let i : incarnation ≡ incarnation_of rolled_back + 1 = number ∙ ap (λ n. n + 1) (sym (rolled_back_incarnation log rolled_back b.rolls_back)) in (
+      subst (IsRolledBack log) (sym last) b.rolls_back,
       ap (λ rs. engine_over z images rs new.forced incarnation cells waiting sent) b.records
           ∙ ap (λ n. engine_over z images all n incarnation cells waiting sent) forced
           ∙ ap (λ n. engine_over z images all (length all) n cells waiting sent) i
-          ∙ ap (λ n. engine_over z images all (length all) (incarnation_of mended + 1) n waiting sent) used
-          ∙ ap (λ w. engine_over z images all (length all) (incarnation_of mended + 1) (count_used z (slots_in z images)) w sent) waits
-          ∙ ap (λ x. engine_over z images all (length all) (incarnation_of mended + 1) (count_used z (slots_in z images)) (waiting_in z images) x) told
+          ∙ ap (λ n. engine_over z images all (length all) (incarnation_of rolled_back + 1) n waiting sent) used
+          ∙ ap (λ w. engine_over z images all (length all) (incarnation_of rolled_back + 1) (count_used z (slots_in z images)) w sent) waits
+          ∙ ap (λ x. engine_over z images all (length all) (incarnation_of rolled_back + 1) (count_used z (slots_in z images)) (waiting_in z images) x) told
           ∙ ap (opened z images) (sym last),
     )
 
 pub begun_commits : {L : Type 0} (log : List Record) (new : Logged L) → IsBegun log new → committed_of new.records ≡ committed_of log
-begun_commits log new b = ap committed_of b.records ∙ extends_commits log b.mended (mended_extends log b.mended b.mends)
+begun_commits log new b = ap committed_of b.records ∙ extends_commits log b.rolled_back (rolled_back_extends log b.rolled_back b.rolls_back)

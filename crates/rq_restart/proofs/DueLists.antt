@@ -9,7 +9,7 @@ use Rattle.rq_model.specs.Vocabulary.{In, has_txn, same_txn}
 use Rattle.rq_model.proofs.Lists.{In-filter, same_is, same_self}
 use Rattle.rq_record.specs.Spelling.{IsTxnInRange}
 use Rattle.rq_log.specs.Spelled.{AreSpelled}
-use Rattle.rq_analysis.specs.Analysis.{analysis, with_txn, without_txn}
+use Rattle.rq_analysis.specs.OpenWorkView.{open_work_of, with_txn, without_txn}
 use Rattle.rq_analysis.specs.declared.dues.PendingUndo.{PendingUndo}
 use Rattle.rq_analysis.specs.Choices.{least_free, lesser_in}
 use Rattle.rq_analysis.specs.Dues.{any_due, but_own, due_of, dues}
@@ -56,14 +56,14 @@ with_in t ts x i = elim (cases_Bool (has_txn t ts)) [
   by [] j = elim j [ inl e ↦ inl e | inr k ↦ absurd k ]
   by (u ∷ us) j = elim j [ inl e ↦ inr (inl e) | inr k ↦ elim (by us k) [ inl e ↦ inl e | inr m ↦ inr (inr m) ] ]
 
-pub active_range : (log : List Record) → AreSpelled log → (t : Txn) → In t (analysis log).active → IsTxnInRange t
+pub active_range : (log : List Record) → AreSpelled log → (t : Txn) → In t (open_work_of log).active → IsTxnInRange t
 active_range [] a t i = absurd i
-active_range (OpEnd u n level deed ∷ log) a t i = elim (with_in u (analysis log).active t i) [
+active_range (OpEnd u n level deed ∷ log) a t i = elim (with_in u (open_work_of log).active t i) [
   | inl e ↦ subst IsTxnInRange (sym e) a.0.0.0
   | inr j ↦ active_range log a.1 t j
 ]
-active_range (Commit u ∷ log) a t i = active_range log a.1 t (In-filter (λ (x : Txn). not (same_txn u x)) (analysis log).active t i).0
-active_range (AbortEnd u ∷ log) a t i = active_range log a.1 t (In-filter (λ (x : Txn). not (same_txn u x)) (analysis log).active t i).0
+active_range (Commit u ∷ log) a t i = active_range log a.1 t (In-filter (λ (x : Txn). not (same_txn u x)) (open_work_of log).active t i).0
+active_range (AbortEnd u ∷ log) a t i = active_range log a.1 t (In-filter (λ (x : Txn). not (same_txn u x)) (open_work_of log).active t i).0
 active_range (PageOp u n page slot before after ∷ log) a t i = active_range log a.1 t i
 active_range (PageUndo u n undone page slot after ∷ log) a t i = active_range log a.1 t i
 active_range (OpVoid u n ∷ log) a t i = active_range log a.1 t i
@@ -187,18 +187,18 @@ other_in t x (u ∷ ts) off i = elim i [
   | inr j ↦ elim (cases_Bool (same_txn t u)) [ inl y ↦ rw y (other_in t x ts off j) | inr n ↦ rw n (inr (other_in t x ts off j)) ]
 ]
 
-pub due_active : (log : List Record) (d : PendingUndo) → In d (dues log) → has_end log d.txn ≡ false → In d.txn (analysis log).active
+pub due_active : (log : List Record) (d : PendingUndo) → In d (dues log) → has_end log d.txn ≡ false → In d.txn (open_work_of log).active
 due_active [] d i e = absurd i
 due_active (OpEnd u n level deed ∷ log) d i e = elim i [
-  | inl is ↦ subst (λ t. In t (with_txn u (analysis log).active)) (sym (ap (λ (x : PendingUndo). x.txn) is)) (comes_in u (analysis log).active)
-  | inr j ↦ stays_in u (analysis log).active d.txn (due_active log d j e)
+  | inl is ↦ subst (λ t. In t (with_txn u (open_work_of log).active)) (sym (ap (λ (x : PendingUndo). x.txn) is)) (comes_in u (open_work_of log).active)
+  | inr j ↦ stays_in u (open_work_of log).active d.txn (due_active log d j e)
 ]
 due_active (Commit u ∷ log) d i e =
     let k = or_parts (ends_txn d.txn (Commit u)) (has_end log d.txn) e in
-    other_in u d.txn (analysis log).active (or_parts (commits_txn d.txn (Commit u)) false k.0).0 (due_active log d (own_in u (dues log) d i) k.1)
+    other_in u d.txn (open_work_of log).active (or_parts (commits_txn d.txn (Commit u)) false k.0).0 (due_active log d (own_in u (dues log) d i) k.1)
 due_active (AbortEnd u ∷ log) d i e =
     let k = or_parts (ends_txn d.txn (AbortEnd u)) (has_end log d.txn) e in
-    other_in u d.txn (analysis log).active k.0 (due_active log d (own_in u (dues log) d i) k.1)
+    other_in u d.txn (open_work_of log).active k.0 (due_active log d (own_in u (dues log) d i) k.1)
 due_active (CompEnd u n undone ∷ log) d i e = due_active log d (in_newest u (dues log) d i) e
 due_active (PageOp u n page slot before after ∷ log) d i e = due_active log d i e
 due_active (PageUndo u n undone page slot after ∷ log) d i e = due_active log d i e

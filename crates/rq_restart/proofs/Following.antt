@@ -3,28 +3,28 @@ use Rattle.std.proofs.Common.{◌≡◌, ◌↔◌, Bool, true, false, IsTrue, L
 use Rattle.std.proofs.lemmas.Bool.{false≢true}
 use Rattle.rq_model.specs.declared.record.Record.{Record}
 use Rattle.rq_model.specs.Incarnations.{InOrder, IsNext, incarnation_of}
-use Rattle.rq_analysis.specs.Analysis.{Analysis}
+use Rattle.rq_analysis.specs.OpenWorkView.{OpenWorkView}
 use Rattle.rq_analysis.proofs.Noting.{noted_incarnation}
-use Rattle.rq_analysis.specs.ScanState.{IsScanStateOf}
+use Rattle.rq_analysis.specs.LogTables.{AreTablesOf}
 use Rattle.rq_analysis.specs.Rules.{CanBeRead, FollowAll, FollowsRules}
-use Rattle.rq_restart.specs.declared.findings.Findings.{Findings}
-use Rattle.rq_restart.specs.Found.{AreFindings, MayFollow}
+use Rattle.rq_restart.specs.declared.analysis.Analysis.{Analysis}
+use Rattle.rq_restart.specs.Found.{IsAnalysisOf, MayComeNext}
 
-module _ (f : Findings) (log : List Record) (r : Record) (are : AreFindings f log) (is_next : Bool) where
+module _ (f : Analysis) (log : List Record) (r : Record) (are : IsAnalysisOf f log) (is_next : Bool) where
   same : incarnation_of log ≡ f.open_work.incarnation
-  same = sym (ap (λ (h : Analysis). h.incarnation) are.open_work ∙ noted_incarnation log)
+  same = sym (ap (λ (h : OpenWorkView). h.incarnation) are.open_work ∙ noted_incarnation log)
 
-  kept : IsScanStateOf log f.open_work f.dues f.numbers f.ended
+  kept : AreTablesOf log f.open_work f.dues f.numbers f.ended
   kept = record { open_work = are.open_work; dues = are.dues; numbers = are.numbers; ended = are.ended }
 
   -- it is the next of its incarnation, so the rules tell
-  pub may_follow : (follows reads : Bool) → (IsTrue is_next ↔ IsNext f.open_work.incarnation r) → ((l : List Record) → IsScanStateOf l f.open_work f.dues f.numbers f.ended → FollowAll l → InOrder (r ∷ l) → (IsTrue reads ↔ CanBeRead r) → IsTrue follows ↔ FollowsRules l r)
-      → (IsTrue reads ↔ CanBeRead r) → is_next ≡ true → IsTrue follows ↔ MayFollow log r
+  pub may_follow : (follows reads : Bool) → (IsTrue is_next ↔ IsNext f.open_work.incarnation r) → ((l : List Record) → AreTablesOf l f.open_work f.dues f.numbers f.ended → FollowAll l → InOrder (r ∷ l) → (IsTrue reads ↔ CanBeRead r) → IsTrue follows ↔ FollowsRules l r)
+      → (IsTrue reads ↔ CanBeRead r) → is_next ≡ true → IsTrue follows ↔ MayComeNext log r
   may_follow follows reads next tell can is =
       let first : IsNext (incarnation_of log) r = subst (λ n. IsNext n r) (sym same) (next.0 is) in
       let tells : IsTrue follows ↔ FollowsRules log r = tell log kept are.follow (first, are.order) can in
       (λ y. record { next = first; follows = tells.0 y }, λ m. tells.1 m.follows)
 
   -- it is not
-  pub not_next : (IsTrue is_next ↔ IsNext f.open_work.incarnation r) → is_next ≡ false → IsTrue is_next ↔ MayFollow log r
+  pub not_next : (IsTrue is_next ↔ IsNext f.open_work.incarnation r) → is_next ≡ false → IsTrue is_next ↔ MayComeNext log r
   not_next next off = (λ y. absurd (false≢true (sym off ∙ y)), λ m. next.1 (subst (λ n. IsNext n r) same m.next))

@@ -15,24 +15,24 @@ use Rattle.rq_store.specs.Fitting.{oldest}
 use Rattle.rq_store.specs.Whole.{IsWhole}
 use Rattle.rq_store.proofs.Cutting.{whole_dropped}
 use Rattle.rq_store.proofs.Bounds.{may_redo}
-use Rattle.rq_analysis.specs.Analysis.{analysis, analysis_after}
+use Rattle.rq_analysis.specs.OpenWorkView.{open_work_of, open_work_after}
 use Rattle.rq_analysis.specs.Dues.{dues, dues_after}
 use Rattle.rq_analysis.specs.Numbers.{numbers_after}
-use Rattle.rq_analysis.specs.ScanState.{ended_after}
+use Rattle.rq_analysis.specs.LogTables.{ended_after}
 use Rattle.rq_analysis.proofs.Whole.{whole_logs}
-use Rattle.rq_restart.specs.declared.findings.Findings.{Findings}
-use Rattle.rq_restart.specs.Found.{AreFindings, MayFollow, findings_after}
+use Rattle.rq_restart.specs.declared.analysis.Analysis.{Analysis}
+use Rattle.rq_restart.specs.Found.{IsAnalysisOf, MayComeNext, analysis_after}
 use Rattle.rq_restart.specs.Refused.{IsBadNext, IsStoppedBehind, NotRepeated}
 use Rattle.rq_restart.specs.Repeating.{Belongs, Paged, Repeats}
 use Rattle.rq_restart.proofs.Repeated.{up_to}
 
 -- what is found with one record more
-pub found_next : (f k : Findings) (log : List Record) (r : Record) (lsn : ℕ) → lsn ≡ length log + 1 → AreFindings f log → MayFollow log r → k ≡ findings_after lsn r f → AreFindings k (r ∷ log)
+pub found_next : (f k : Analysis) (log : List Record) (r : Record) (lsn : ℕ) → lsn ≡ length log + 1 → IsAnalysisOf f log → MayComeNext log r → k ≡ analysis_after lsn r f → IsAnalysisOf k (r ∷ log)
 found_next f k log r lsn place are may e = record {
-  open_work = ap (λ (x : Findings). x.open_work) e ∙ ap (analysis_after lsn r) are.open_work ∙ ap (λ n. analysis_after n r (analysis log)) place;
-  dues = ap (λ (x : Findings). x.dues) e ∙ ap (dues_after lsn r) are.dues ∙ ap (λ n. dues_after n r (dues log)) place;
-  numbers = ap (λ (x : Findings). x.numbers) e ∙ ap (numbers_after r) are.numbers;
-  ended = ap (λ (x : Findings). x.ended) e ∙ ap (ended_after r) are.ended;
+  open_work = ap (λ (x : Analysis). x.open_work) e ∙ ap (open_work_after lsn r) are.open_work ∙ ap (λ n. open_work_after n r (open_work_of log)) place;
+  dues = ap (λ (x : Analysis). x.dues) e ∙ ap (dues_after lsn r) are.dues ∙ ap (λ n. dues_after n r (dues log)) place;
+  numbers = ap (λ (x : Analysis). x.numbers) e ∙ ap (numbers_after r) are.numbers;
+  ended = ap (λ (x : Analysis). x.ended) e ∙ ap (ended_after r) are.ended;
   order = (may.next, are.order);
   follow = (may.follows, are.follow);
 }

@@ -10,7 +10,7 @@ pub mod Tallying
 pub mod Undos
 pub mod Begun
 pub mod Lefts
-pub mod Mending
+pub mod RollingBack
 pub mod Showing
 pub mod Repeated
 pub mod DueLists

@@ -10,7 +10,7 @@ use Rattle.rq_disk.specs.declared.device.PageDevice.{Ghosts}
 use Rattle.rq_pool.specs.Reading.{IsSuperblock, IsDamaged, StopsFor}
 use Rattle.rq_store.specs.Opening.{IsLeft}
 use Rattle.rq_restart.specs.Restarting.{IsLeftOn, Stops}
-use Rattle.rq_restart.specs.Mended.{IsAtBound}
+use Rattle.rq_restart.specs.RolledBack.{IsAtBound}
 use Rattle.rq_restart.specs.Refused.{MayBeShut}
 
 -- a superblock tells one size

@@ -16,7 +16,7 @@ use Rattle.rq_restart.specs.Restarting.{IsBegunOn, WasLeftOrBegun, WasLeftOrForc
 use Rattle.rq_disk.specs.Device.{Images}
 use Rattle.rq_page.specs.Sizes.{Sizes}
 use Rattle.rq_analysis.specs.Recovered.{IsRecovered}
-use Rattle.rq_restart.specs.Mended.{IsMended}
+use Rattle.rq_restart.specs.RolledBack.{IsRolledBack}
 use Rattle.rq_restart.proofs.Begun.{begun_behind}
 
 module _ {L : Type 0} (g : Ghosts L) (only_now : (d : L) (c : List ℕ) → g.left_since d (g.moment d) c → g.may_leave d c) where
@@ -45,11 +45,11 @@ forced_behind g old new log kept records same grown forced are run =
           (subst (λ rs. LeavesOnly g old new (λ c. g.may_leave old c ⊎ GoesOn rs log.forced (g.seen old) c)) grown (subst (λ d. LeavesOnly g d new (λ c. g.may_leave d c ⊎ GoesOn log.records log.forced (g.seen d) c)) same run))
 
 -- they undo what has no end, and begin the next incarnation
-pub begun_moment : {L : Type 0} (g : Ghosts L) (z : Sizes) (left : Type 0) (older mended : List Record) (r : Record) (kept : ℕ) (old mid new : L) → mid ≡ old → IsMended older mended → (left → IsRecovered z older mended) → r ≡ next_restart mended → AreSpelled older → g.seen old ≡ spelled older
-    → LeavesOnly g mid new (WasLeftOrForced g mid (r ∷ mended) kept) → LeavesOnly g old new (WasLeftOrBegun g z left old older)
-begun_moment g z left older mended r kept old mid new same m recovered is are read run =
-    weaker g old new (WasLeftOrForced g old (r ∷ mended) kept) (WasLeftOrBegun g z left old older) (subst (λ d. LeavesOnly g d new (WasLeftOrForced g d (r ∷ mended) kept)) same run)
-    (λ c. ⊎_elim (λ was. inl was) (λ on. inr (begun_behind z left older mended r kept (g.seen old) c m recovered is are read on.0 on.1)))
+pub begun_moment : {L : Type 0} (g : Ghosts L) (z : Sizes) (left : Type 0) (older rolled_back : List Record) (r : Record) (kept : ℕ) (old mid new : L) → mid ≡ old → IsRolledBack older rolled_back → (left → IsRecovered z older rolled_back) → r ≡ next_restart rolled_back → AreSpelled older → g.seen old ≡ spelled older
+    → LeavesOnly g mid new (WasLeftOrForced g mid (r ∷ rolled_back) kept) → LeavesOnly g old new (WasLeftOrBegun g z left old older)
+begun_moment g z left older rolled_back r kept old mid new same m recovered is are read run =
+    weaker g old new (WasLeftOrForced g old (r ∷ rolled_back) kept) (WasLeftOrBegun g z left old older) (subst (λ d. LeavesOnly g d new (WasLeftOrForced g d (r ∷ rolled_back) kept)) same run)
+    (λ c. ⊎_elim (λ was. inl was) (λ on. inr (begun_behind z left older rolled_back r kept (g.seen old) c m recovered is are read on.0 on.1)))
 
 -- beside these pages
 module _ {L : Type 0} (g : Ghosts L) (z : Sizes) (images : Images) where

@@ -31,7 +31,7 @@ use Rattle.rq_restart.specs.declared.restart.Stopped.{Stopped}
 use Rattle.rq_restart.specs.Restarting.{BeginsFrom, IsBegunBehind, IsBegunFrom, IsBegunOn, IsLeftOn, IsOpenedOver, IsReadAs, Reports, WasChecked}
 use Rattle.rq_restart.specs.Repeating.{paged}
 use Rattle.rq_restart.specs.Underway.{IsSomeStore, IsLeftOrGoesOn, pages_left, log_left}
-use Rattle.rq_restart.proofs.Begun.{mended_extends, mended_incarnation}
+use Rattle.rq_restart.proofs.Begun.{rolled_back_extends, rolled_back_incarnation}
 use Rattle.rq_restart.proofs.Lefts.{front_continues, left_longer}
 use Rattle.rq_restart.proofs.Loading.{one_size}
 use Rattle.rq_restart.proofs.Parsing.{one_log}
@@ -45,17 +45,17 @@ drop_front (suc n) (x ∷ xs) ys le = drop_front n xs ys (omega (arith, le))
 
 -- the first of the records behind a log, that begin an incarnation over it
 module _ (z : Sizes) (left : Type 0) (older : List Record) (bytes : List ℕ) (b : IsBegunBehind z left older bytes) where
-  more : Extends older b.mended
-  more = mended_extends older b.mended b.mends
+  more : Extends older b.rolled_back
+  more = rolled_back_extends older b.rolled_back b.rolls_back
 
   abbrev behind : List Record
-  behind = next_restart b.mended ∷ more.0
+  behind = next_restart b.rolled_back ∷ more.0
 
   abbrev pub kept : List Record
-  kept = drop b.lacks (next_restart b.mended ∷ b.mended)
+  kept = drop b.lacks (next_restart b.rolled_back ∷ b.rolled_back)
 
-  all : behind ++ older ≡ next_restart b.mended ∷ b.mended
-  all = ap (λ l. next_restart b.mended ∷ l) more.1
+  all : behind ++ older ≡ next_restart b.rolled_back ∷ b.rolled_back
+  all = ap (λ l. next_restart b.rolled_back ∷ l) more.1
 
   few : b.lacks ≤ length behind
   few = let n = ap length all in let m = length-append behind older in let s = b.some in omega (arith, n, m, s)
@@ -70,12 +70,12 @@ module _ (z : Sizes) (left : Type 0) (older : List Record) (bytes : List ℕ) (b
   older_spelled = subst AreSpelled (drop_at behind older (length behind) refl) (spelled_dropped (length behind) (behind ++ older) (subst AreSpelled (sym all) b.are_spelled))
 
   pub kept_spelled : AreSpelled kept
-  kept_spelled = spelled_dropped b.lacks (next_restart b.mended ∷ b.mended) b.are_spelled
+  kept_spelled = spelled_dropped b.lacks (next_restart b.rolled_back ∷ b.rolled_back) b.are_spelled
 
   pub kept_left : (images : Images) → IsLeft z images older → left → IsLeft z images kept
   kept_left images there l =
-      let from = recovered_from z older b.mended there.whole (b.recovered l) in
-      left_longer z images older kept there (whole_dropped z b.lacks (next_restart b.mended ∷ b.mended) from.restarts) (front_continues older kept (drop b.lacks behind) is_kept)
+      let from = recovered_from z older b.rolled_back there.whole (b.recovered l) in
+      left_longer z images older kept there (whole_dropped z b.lacks (next_restart b.rolled_back ∷ b.rolled_back) from.restarts) (front_continues older kept (drop b.lacks behind) is_kept)
 
 module _ {P L : Type 0} (p : page_device.Ghosts P) (l : log_device.Ghosts L) (pages_now : (d : P) (c : Images) → p.left_since d (p.moment d) c → Leaves (p.may_be d) c) (pages_some : (d : P) (q : ℕ) → p.may_be d q (p.seen d q)) (log_some : (d : L) → l.may_leave d (l.seen d))
     (pages new_pages : P) (log new_log : L) (only : OnlyRead p pages new_pages) (begins : BeginsFrom p l pages log new_pages new_log)
@@ -148,7 +148,7 @@ module _ {P L : Type 0} (p : page_device.Ghosts P) (l : log_device.Ghosts L) (pa
       let z = o.0.state.sizes in
       let same : checked.older ≡ older = one_log checked.older older checked.are_spelled read.are_spelled (sym (checked.reads read.honest) ∙ read.reads) in
       let left : IsLeft z (image_in checked.images) checked.older = left_read z (p.seen pages) checked.images checked.older (checked.seen on.honest) (subst (IsLeft z (p.seen pages)) (sym same) on.left) in
-      subst (IsRecovered z older) (sym (ap (drop 1) checked.begun)) (subst (λ l. IsRecovered z l checked.mended) same (checked.mended_on.recovered left))
+      subst (IsRecovered z older) (sym (ap (drop 1) checked.begun)) (subst (λ l. IsRecovered z l checked.rolled_back) same (checked.rolled_back_on.recovered left))
 
   opened_entry : (o : OpenStore P L × Report) (older : List Record) → IsReadAs l log o.0.log older → IsLeftOn p o.0.state.sizes pages o.0.pages older
       → Reports o.0.state.sizes older o.0.state.records o.1.incarnation o.1.records o.1.unfinished o.1.lost → IsOpenedOver older o.0.state → IsSound o.0.state
@@ -157,14 +157,14 @@ module _ {P L : Type 0} (p : page_device.Ghosts P) (l : log_device.Ghosts L) (pa
   opened_entry o older read on reports value sound checked ledger content =
       let z = o.0.state.sizes in
       let images = o.0.state.images in
-      let mended = drop 1 o.0.state.records in
-      let from = recovered_from z older mended on.left.whole (opened_recovered o older read on checked) in
-      let there : IsSound (opened z images mended) = subst IsSound value.1 sound in
-      let all : length o.0.state.records ≡ length (next_restart mended ∷ mended) = ap (λ (s : State). length s.records) value.1 in
+      let rolled_back = drop 1 o.0.state.records in
+      let from = recovered_from z older rolled_back on.left.whole (opened_recovered o older read on checked) in
+      let there : IsSound (opened z images rolled_back) = subst IsSound value.1 sound in
+      let all : length o.0.state.records ≡ length (next_restart rolled_back ∷ rolled_back) = ap (λ (s : State). length s.records) value.1 in
       ap ledger_of value.1
-      ∙ opened_after z images mended there.range from.whole from.none_unfinished from.none_lost there.pages ledger (content ∙ sym from.committed)
-      ∙ ap (λ (i : ℕ). after (Restarted (i + 1) (length (next_restart mended ∷ mended))) ledger) (mended_incarnation older mended value.0)
-      ∙ ap (λ (i : ℕ). after (Restarted i (length (next_restart mended ∷ mended))) ledger) (sym reports.incarnation_is)
+      ∙ opened_after z images rolled_back there.range from.whole from.none_unfinished from.none_lost there.pages ledger (content ∙ sym from.committed)
+      ∙ ap (λ (i : ℕ). after (Restarted (i + 1) (length (next_restart rolled_back ∷ rolled_back))) ledger) (rolled_back_incarnation older rolled_back value.0)
+      ∙ ap (λ (i : ℕ). after (Restarted i (length (next_restart rolled_back ∷ rolled_back))) ledger) (sym reports.incarnation_is)
       ∙ ap (λ (n : ℕ). after (Restarted o.1.incarnation n) ledger) (sym (reports.records_are ∙ all))
 
   pub answer_recovered : (r : Result (OpenStore P L × Report) (Stopped P L))

@@ -23,9 +23,9 @@ use Rattle.rq_restart.specs.Restarting.{BeginsAtMost, BeginsFrom, IsBegun, IsBeg
 use Rattle.rq_restart.specs.Refused.{MayBeShut, WhyShut}
 use Rattle.rq_restart.specs.Overwritten.{NamesFirst}
 use Rattle.rq_restart.specs.Checked.{as_read}
-use Rattle.rq_restart.specs.Mended.{IsMendedOn}
+use Rattle.rq_restart.specs.RolledBack.{IsRolledBackOn}
 use Rattle.rq_restart.specs.Repeating.{Paged, paged, Repeats}
-use Rattle.rq_restart.proofs.Begun.{mended_continues, no_bad_undo, one_continues}
+use Rattle.rq_restart.proofs.Begun.{rolled_back_continues, no_bad_undo, one_continues}
 
 -- of a device that was left alone, what follows from that
 pub shut_by : {U V : Type 0} (z : Sizes) (log : List Record) (first : Paged) (e : Refusal) (before now : ℕ) → (U → V) → WhyShut z log first e before now U → WhyShut z log first e before now V
@@ -43,7 +43,7 @@ module _ {P L : Type 0} (p : Ghosts P) (l : log_device.Ghosts L) (pages : P) (lo
   first_is = ap (λ (f : List Bool). record { image = image_in loaded.images; changed = f }) unchanged
 
   pub was_checked : (now : Pooled P) (records : List Record) (new : L) → now.sizes ≡ loaded.sizes → now.device ≡ loaded.device
-      → ((older : List Record) × AreSpelled older × (l.honest new → l.seen log ≡ spelled older) × (mended : List Record) × IsMendedOn loaded.sizes older mended (paged loaded) (paged now) × (records ≡ next_restart mended ∷ mended) × (length mended < 2 ^ 50))
+      → ((older : List Record) × AreSpelled older × (l.honest new → l.seen log ≡ spelled older) × (rolled_back : List Record) × IsRolledBackOn loaded.sizes older rolled_back (paged loaded) (paged now) × (records ≡ next_restart rolled_back ∷ rolled_back) × (length rolled_back < 2 ^ 50))
       → WasChecked p l pages log now.sizes (paged now) records now.device new
   was_checked now records new same device h =
       subst (λ d. WasChecked p l pages log now.sizes (paged now) records d new) (sym device)
@@ -54,8 +54,8 @@ module _ {P L : Type 0} (p : Ghosts P) (l : log_device.Ghosts L) (pages : P) (lo
         older = h.0;
         are_spelled = h.1;
         reads = h.2;
-        mended = h.3;
-        mended_on = subst (λ first. IsMendedOn loaded.sizes h.0 h.3 first (paged now)) first_is h.4;
+        rolled_back = h.3;
+        rolled_back_on = subst (λ first. IsRolledBackOn loaded.sizes h.0 h.3 first (paged now)) first_is h.4;
         begun = h.5;
         room = h.6;
       }))
@@ -98,7 +98,7 @@ shut_left z older first why.LogFull before now untouched h = λ left. record { n
 shut_left z older first why.DiskWrite before now untouched h = h.0
 shut_left z older first (why.Damaged (damage.Record lsn)) before now untouched h = λ left. elim h.0 [
   | inl undo ↦ no_bad_undo z older first lsn left undo
-  | inr mend ↦ mend.none left
+  | inr rollback ↦ rollback.none left
 ]
 shut_left z older first (why.Damaged (damage.Page page)) before now untouched h = λ left. elim h.0 [
   | inl beyond ↦ beyond.beyond.bad (counted_left z first.image older page left beyond.beyond.low beyond.beyond.high)
@@ -125,7 +125,7 @@ told_on z seen images are read = subst (λ b. IsSuperblock z b) (read 0 (omega a
 pub fit_begun : {P L : Type 0} (g : Ghosts P) (old new : P) (z : Sizes) (older : List Record) (log : Logged L)
     → IsBegun older log → OnlyRead g old new → AllFit (g.may_be old) z older → AllFit (g.may_be new) z (oldest log.forced log.records)
 fit_begun g old new z older log begun read f =
-    let now : List Record = next_restart begun.mended ∷ begun.mended in
+    let now : List Record = next_restart begun.rolled_back ∷ begun.rolled_back in
     let all : oldest log.forced log.records ≡ now = ap (λ n. oldest n log.records) begun.forced ∙ oldest_all log.records ∙ begun.records in
-    let goes : Continues older now = one_continues older begun.mended (next_restart begun.mended) (mended_continues older begun.mended begun.mends) in
+    let goes : Continues older now = one_continues older begun.rolled_back (next_restart begun.rolled_back) (rolled_back_continues older begun.rolled_back begun.rolls_back) in
     subst (λ l. AllFit (g.may_be new) z l) (sym all) (all_fit_longer (g.may_be new) z older now goes (no_more_fit (g.may_be old) (g.may_be new) z older read.crash f))

@@ -30,7 +30,7 @@ use Rattle.rq_store.specs.Whole.{IsWhole}
 use Rattle.rq_sound.specs.Plans.{IsPlannedFrom}
 use Rattle.rq_sound.specs.Rows.{comp_end}
 use Rattle.rq_sound.specs.Sound.{IsSound}
-use Rattle.rq_analysis.specs.Analysis.{Analysis, analysis, without_txn}
+use Rattle.rq_analysis.specs.OpenWorkView.{OpenWorkView, open_work_of, without_txn}
 use Rattle.rq_sound.specs.Inverses.{InverseTakesLowest}
 use Rattle.rq_analysis.specs.declared.dues.PendingUndo.{PendingUndo}
 use Rattle.rq_analysis.specs.Choices.{least_free}
@@ -46,12 +46,12 @@ use Rattle.rq_analysis.proofs.Owing.{rest_due}
 use Rattle.rq_analysis.proofs.Planning.{due_may, due_reads}
 use Rattle.rq_analysis.proofs.Recovering.{behind}
 use Rattle.rq_analysis.proofs.Walking.{aborts_go_on}
-use Rattle.rq_restart.specs.declared.findings.Findings.{Findings}
+use Rattle.rq_restart.specs.declared.analysis.Analysis.{Analysis}
 use Rattle.rq_restart.specs.Aborting.{AbortStops, CannotBeTaken, IsAbortingFrom, IsBadStep, IsNotUndone, IsOnItsWay, IsShown, IsShownWithin, IsTakenNext, OfStore, PlanStops, RepeatedSince}
 use Rattle.rq_restart.specs.Aborting.IsBadStep.{BadDue}
 use Rattle.rq_restart.specs.Aborting.IsOnItsWay.{Between, Within}
 use Rattle.rq_restart.specs.Checked.{IsEnded}
-use Rattle.rq_restart.specs.Found.{AreFindings}
+use Rattle.rq_restart.specs.Found.{IsAnalysisOf}
 use Rattle.rq_restart.specs.Repeating.{Belongs, IsRepeated, Paged, Repeats, paged}
 use Rattle.rq_restart.proofs.Aborts.{aborting_none, active_lost}
 use Rattle.rq_restart.proofs.DueLists.{nobody_left, one_next, own_stay}
@@ -84,16 +84,16 @@ few_numbers l t [] g h = omega arith
 few_numbers l t (r ∷ log) g h = (let a = rises l t r log g h in let b = few_numbers l t log g.1 h.1 in omega (arith, a, b))
 
 -- the next that is found is one of those that have no end
-pub least_in : (log : List Record) (f : Findings) → AreFindings f log → (t : Txn) → least_free f.dues f.open_work.active ≡ Some t → In t (analysis log).active
+pub least_in : (log : List Record) (f : Analysis) → IsAnalysisOf f log → (t : Txn) → least_free f.dues f.open_work.active ≡ Some t → In t (open_work_of log).active
 least_in log f are t e = subst (In t) (ap (λ h. h.active) are.open_work) (least_there f.dues f.open_work.active t e)
 
 -- who is next by what is found is next by the log
-pub least_of : (log : List Record) (f : Findings) → AreFindings f log → (o : Option Txn) → least_free f.dues f.open_work.active ≡ o → least_free (dues log) (analysis log).active ≡ o
-least_of log f are o e = ap (λ (h : Analysis). least_free (dues log) h.active) (sym are.open_work) ∙ ap (λ l. least_free l f.open_work.active) (sym are.dues) ∙ e
+pub least_of : (log : List Record) (f : Analysis) → IsAnalysisOf f log → (o : Option Txn) → least_free f.dues f.open_work.active ≡ o → least_free (dues log) (open_work_of log).active ≡ o
+least_of log f are o e = ap (λ (h : OpenWorkView). least_free (dues log) h.active) (sym are.open_work) ∙ ap (λ l. least_free l f.open_work.active) (sym are.dues) ∙ e
 
 -- ---- a store that is shown
 
-module _ {P : Type 0} (z : Sizes) (log : List Record) (old : Pooled P) (f : Findings) (are : AreFindings f log) where
+module _ {P : Type 0} (z : Sizes) (log : List Record) (old : Pooled P) (f : Analysis) (are : IsAnalysisOf f log) where
   abbrev shown : State → Type 0
   shown = IsShown log old
 
@@ -165,7 +165,7 @@ module _ {P : Type 0} (z : Sizes) (log : List Record) (old : Pooled P) (f : Find
         bad (deed_due d) read.0 (shows_can z old.images log (deed_due d) read.1 (subst (λ y. ShowsUndone y old.images log (deed_due d)) same may))
 
     -- nobody without an end has nothing due
-    nobody_is : least_free (dues log) (analysis log).active ≡ None
+    nobody_is : least_free (dues log) (open_work_of log).active ≡ None
     nobody_is = least_of log f are None none
 
     pub taken_next : (n : ℕ) → n ≡ number_of d.txn f.numbers + 1 → IsTakenNext log d n
@@ -202,12 +202,12 @@ module _ {P : Type 0} (z : Sizes) (log : List Record) (old : Pooled P) (f : Find
         omega (arith, many, few, e, low, count, all, same_number)
 
 -- once what was due first is taken back, its transaction, which has nothing more due and no end, ends next
-pub ends_next : (mid : List Record) (f h : Findings) → AreFindings h mid → (d : PendingUndo) → least_free (d ∷ h.dues) f.open_work.active ≡ None → h.open_work.active ≡ f.open_work.active → any_due d.txn h.dues ≡ false → In d.txn f.open_work.active
-    → least_free (dues mid) (analysis mid).active ≡ Some d.txn
+pub ends_next : (mid : List Record) (f h : Analysis) → IsAnalysisOf h mid → (d : PendingUndo) → least_free (d ∷ h.dues) f.open_work.active ≡ None → h.open_work.active ≡ f.open_work.active → any_due d.txn h.dues ≡ false → In d.txn f.open_work.active
+    → least_free (dues mid) (open_work_of mid).active ≡ Some d.txn
 ends_next mid f h then d none active off there = least_of mid h then (Some d.txn) (ap (least_free h.dues) active ∙ one_next d h.dues f.open_work.active off none there)
 
 -- what is due first is taken back, and its transaction has nothing more
-module _ {P : Type 0} (z : Sizes) (log mid : List Record) (old now : Pooled P) (f h : Findings) (are : AreFindings f log) (then : AreFindings h mid) (d : PendingUndo) (first : f.dues ≡ d ∷ h.dues) (none : least_free f.dues f.open_work.active ≡ None)
+module _ {P : Type 0} (z : Sizes) (log mid : List Record) (old now : Pooled P) (f h : Analysis) (are : IsAnalysisOf f log) (then : IsAnalysisOf h mid) (d : PendingUndo) (first : f.dues ≡ d ∷ h.dues) (none : least_free f.dues f.open_work.active ≡ None)
     (active : h.open_work.active ≡ f.open_work.active) (off : any_due d.txn h.dues ≡ false) (shown_then : OfStore z (IsShown log old) (IsShown mid now)) where
   next_is : (base : State) → IsSound base → base.sizes ≡ z → IsShown log old base → least_free h.dues h.open_work.active ≡ Some d.txn
   next_is base k same b =
@@ -277,26 +277,26 @@ get_there (x ∷ ws) zero w lt e = ap (λ y. Some y) (sym e)
 get_there (x ∷ ws) (suc i) w lt e = get_there ws i w (omega (arith, lt)) e
 
 -- a write leaves what is due, and the transactions that have no end
-pub write_rest : (log now : List Record) (f h : Findings) (t : Txn) (n : ℕ) (w : SlotWrite) → AreFindings f log → AreFindings h now → now ≡ page_op t n w ∷ log → (h.dues ≡ f.dues) × (h.open_work.active ≡ f.open_work.active)
+pub write_rest : (log now : List Record) (f h : Analysis) (t : Txn) (n : ℕ) (w : SlotWrite) → IsAnalysisOf f log → IsAnalysisOf h now → now ≡ page_op t n w ∷ log → (h.dues ≡ f.dues) × (h.open_work.active ≡ f.open_work.active)
 write_rest log now f h t n w are then grown = (
   then.dues ∙ ap dues grown ∙ sym are.dues,
-  ap (λ (x : Analysis). x.active) (then.open_work ∙ ap analysis grown) ∙ ap (λ (x : Analysis). x.active) (sym are.open_work),
+  ap (λ (x : OpenWorkView). x.active) (then.open_work ∙ ap open_work_of grown) ∙ ap (λ (x : OpenWorkView). x.active) (sym are.open_work),
 )
 
 -- the end of an inverse takes off what was due first
-pub close_rest : (log now : List Record) (f h : Findings) (d : PendingUndo) (older : List PendingUndo) (n lsn : ℕ) → AreFindings f log → AreFindings h now → now ≡ comp_end d.txn n lsn ∷ log → f.dues ≡ d ∷ older → (h.dues ≡ older) × (h.open_work.active ≡ f.open_work.active)
+pub close_rest : (log now : List Record) (f h : Analysis) (d : PendingUndo) (older : List PendingUndo) (n lsn : ℕ) → IsAnalysisOf f log → IsAnalysisOf h now → now ≡ comp_end d.txn n lsn ∷ log → f.dues ≡ d ∷ older → (h.dues ≡ older) × (h.open_work.active ≡ f.open_work.active)
 close_rest log now f h d older n lsn are then grown first = (
   then.dues ∙ ap dues grown ∙ rest_due log d older n lsn (sym are.dues ∙ first),
-  ap (λ (x : Analysis). x.active) (then.open_work ∙ ap analysis grown) ∙ ap (λ (x : Analysis). x.active) (sym are.open_work),
+  ap (λ (x : OpenWorkView). x.active) (then.open_work ∙ ap open_work_of grown) ∙ ap (λ (x : OpenWorkView). x.active) (sym are.open_work),
 )
 
 -- the end of a transaction with nothing due leaves what is due, and takes it off those that have no end
-pub end_rest : (log now : List Record) (f h : Findings) (t : Txn) → AreFindings f log → AreFindings h now → now ≡ records.AbortEnd t ∷ log → any_due t f.dues ≡ false → (h.dues ≡ f.dues) × (h.open_work.active ≡ without_txn t f.open_work.active)
+pub end_rest : (log now : List Record) (f h : Analysis) (t : Txn) → IsAnalysisOf f log → IsAnalysisOf h now → now ≡ records.AbortEnd t ∷ log → any_due t f.dues ≡ false → (h.dues ≡ f.dues) × (h.open_work.active ≡ without_txn t f.open_work.active)
 end_rest log now f h t are then grown off = (
   then.dues ∙ ap dues grown ∙ ap (but_own t) (sym are.dues) ∙ own_stay t f.dues off,
-  ap (λ (x : Analysis). x.active) (then.open_work ∙ ap analysis grown) ∙ ap (λ (x : Analysis). without_txn t x.active) (sym are.open_work),
+  ap (λ (x : OpenWorkView). x.active) (then.open_work ∙ ap open_work_of grown) ∙ ap (λ (x : OpenWorkView). without_txn t x.active) (sym are.open_work),
 )
 
 -- where nothing is due, and nobody has an end left to be made, all have ended
-pub all_ended : (log : List Record) (f : Findings) → AreFindings f log → f.dues ≡ [] → least_free f.dues f.open_work.active ≡ None → IsEnded log
-all_ended log f are nothing none = ap (λ (x : Analysis). x.active) (sym are.open_work) ∙ nobody_left f.open_work.active (ap (λ ds. least_free ds f.open_work.active) (sym nothing) ∙ none)
+pub all_ended : (log : List Record) (f : Analysis) → IsAnalysisOf f log → f.dues ≡ [] → least_free f.dues f.open_work.active ≡ None → IsEnded log
+all_ended log f are nothing none = ap (λ (x : OpenWorkView). x.active) (sym are.open_work) ∙ nobody_left f.open_work.active (ap (λ ds. least_free ds f.open_work.active) (sym nothing) ∙ none)

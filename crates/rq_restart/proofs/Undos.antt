@@ -14,13 +14,13 @@ use Rattle.rq_views.specs.Items.{operation}
 use Rattle.rq_store.specs.Opening.{MayRedo, Redoes}
 use Rattle.rq_store.specs.Fitting.{told_by}
 use Rattle.rq_analysis.specs.declared.open_work.UndoableWrite.{UndoableWrite}
-use Rattle.rq_analysis.specs.Analysis.{Analysis, analysis}
+use Rattle.rq_analysis.specs.OpenWorkView.{OpenWorkView, open_work_of}
 use Rattle.rq_analysis.specs.Pages.{IsNextUndo, IsUndoing, work}
 use Rattle.rq_analysis.specs.Pages.IsNextUndo.{Voids, Undoes}
 use Rattle.rq_analysis.proofs.Lists.{in_newest, in_undoable, in_with, in_without, sub_in}
 use Rattle.rq_analysis.proofs.Undos.{undo_leaves_less, undoing_more}
 use Rattle.rq_analysis.specs.Rules.{CanBeRead}
-use Rattle.rq_restart.specs.Found.{MayFollow}
+use Rattle.rq_restart.specs.Found.{MayComeNext}
 use Rattle.rq_restart.specs.Repeating.{AreCounted, Belongs, IsRepeated, Marks, Paged, Repeats}
 use Rattle.rq_restart.specs.Undoing.{StepStops, UndoStops}
 use Rattle.rq_restart.proofs.Repeated.{counted_more}
@@ -29,16 +29,16 @@ use Rattle.rq_restart.proofs.Repeated.{counted_more}
 abbrev IsOpInRange : Sub → Type 0
 IsOpInRange o = IsTxnInRange o.txn × (0 < o.number)
 
-noted_range : (log : List Record) → AreSpelled log → (o : Sub) → In o (analysis log).unfinished → IsOpInRange o
+noted_range : (log : List Record) → AreSpelled log → (o : Sub) → In o (open_work_of log).unfinished → IsOpInRange o
 noted_range [] a o h = absurd h
-noted_range (PageOp t n page slot before after ∷ log) a o h = elim (in_with (operation t n) (analysis log).unfinished o h) [
+noted_range (PageOp t n page slot before after ∷ log) a o h = elim (in_with (operation t n) (open_work_of log).unfinished o h) [
   | inl e ↦ subst IsOpInRange (sym e) (a.0.0.0, a.0.0.1)
   | inr i ↦ noted_range log a.1 o i
 ]
 noted_range (PageUndo t n undone page slot after ∷ log) a o h = noted_range log a.1 o h
-noted_range (OpEnd t n level deed ∷ log) a o h = noted_range log a.1 o (in_without (operation t n) (analysis log).unfinished o h).0
-noted_range (OpVoid t n ∷ log) a o h = noted_range log a.1 o (in_without (operation t n) (analysis log).unfinished o h).0
-noted_range (CompEnd t n undone ∷ log) a o h = noted_range log a.1 o (in_without (operation t n) (analysis log).unfinished o h).0
+noted_range (OpEnd t n level deed ∷ log) a o h = noted_range log a.1 o (in_without (operation t n) (open_work_of log).unfinished o h).0
+noted_range (OpVoid t n ∷ log) a o h = noted_range log a.1 o (in_without (operation t n) (open_work_of log).unfinished o h).0
+noted_range (CompEnd t n undone ∷ log) a o h = noted_range log a.1 o (in_without (operation t n) (open_work_of log).unfinished o h).0
 noted_range (Commit t ∷ log) a o h = noted_range log a.1 o h
 noted_range (Restart i ∷ log) a o h = noted_range log a.1 o h
 noted_range (AbortEnd t ∷ log) a o h = noted_range log a.1 o h
@@ -46,43 +46,43 @@ noted_range (AbortEnd t ∷ log) a o h = noted_range log a.1 o h
 abbrev IsUndoableInRange : UndoableWrite → Type 0
 IsUndoableInRange p = IsOpInRange p.by × (0 < p.lsn) × IsSlotNumber p.slot
 
-undoable_range : (log : List Record) → AreSpelled log → (p : UndoableWrite) → In p (analysis log).undoable → IsUndoableInRange p
+undoable_range : (log : List Record) → AreSpelled log → (p : UndoableWrite) → In p (open_work_of log).undoable → IsUndoableInRange p
 undoable_range [] a p h = absurd h
 undoable_range (PageOp t n page slot before after ∷ log) a p h = elim h [
   | inl e ↦ subst IsUndoableInRange (sym e) ((a.0.0.0, a.0.0.1), omega arith, a.0.0.2)
   | inr i ↦ undoable_range log a.1 p i
 ]
-undoable_range (PageUndo t n undone page slot after ∷ log) a p h = undoable_range log a.1 p (in_newest (operation t n) (analysis log).undoable p h)
-undoable_range (OpEnd t n level deed ∷ log) a p h = undoable_range log a.1 p (in_undoable (operation t n) (analysis log).undoable p h).0
-undoable_range (OpVoid t n ∷ log) a p h = undoable_range log a.1 p (in_undoable (operation t n) (analysis log).undoable p h).0
-undoable_range (CompEnd t n undone ∷ log) a p h = undoable_range log a.1 p (in_undoable (operation t n) (analysis log).undoable p h).0
+undoable_range (PageUndo t n undone page slot after ∷ log) a p h = undoable_range log a.1 p (in_newest (operation t n) (open_work_of log).undoable p h)
+undoable_range (OpEnd t n level deed ∷ log) a p h = undoable_range log a.1 p (in_undoable (operation t n) (open_work_of log).undoable p h).0
+undoable_range (OpVoid t n ∷ log) a p h = undoable_range log a.1 p (in_undoable (operation t n) (open_work_of log).undoable p h).0
+undoable_range (CompEnd t n undone ∷ log) a p h = undoable_range log a.1 p (in_undoable (operation t n) (open_work_of log).undoable p h).0
 undoable_range (Commit t ∷ log) a p h = undoable_range log a.1 p h
 undoable_range (Restart i ∷ log) a p h = undoable_range log a.1 p h
 undoable_range (AbortEnd t ∷ log) a p h = undoable_range log a.1 p h
 
 -- none of these records tells a deed
-pub undo_reads : (h : Analysis) (r : Record) → IsNextUndo h r → CanBeRead r
+pub undo_reads : (h : OpenWorkView) (r : Record) → IsNextUndo h r → CanBeRead r
 undo_reads h r (Voids o spent least e) = subst CanBeRead (sym e) tt
 undo_reads h r (Undoes p ps none first e) = subst CanBeRead (sym e) tt
 
-pub undo_range : (log : List Record) (h : Analysis) (r : Record) → h ≡ analysis log → AreSpelled log → IsNextUndo h r → IsInRange r
+pub undo_range : (log : List Record) (h : OpenWorkView) (r : Record) → h ≡ open_work_of log → AreSpelled log → IsNextUndo h r → IsInRange r
 undo_range log h r e a next = by (subst (λ k. IsNextUndo k r) e next) where
-  by : IsNextUndo (analysis log) r → IsInRange r
-  by (Voids o s least is) = rw is (noted_range log a o (sub_in o (analysis log).unfinished s.unfinished))
+  by : IsNextUndo (open_work_of log) r → IsInRange r
+  by (Voids o s least is) = rw is (noted_range log a o (sub_in o (open_work_of log).unfinished s.unfinished))
   by (Undoes p ps none undoable is) =
       let k = undoable_range log a p (rw undoable (inl refl)) in
       rw is (k.0.0, k.0.1, k.1, k.2)
 
 -- one record more is repeated, or doesn't belong
 module _ (z y : Sizes) (log : List Record) (r : Record) (sizes : y ≡ z) (count : ℕ) (all : count ≡ length log + 1) where
-  pub one_repeated : (old new : Paged) → MayFollow log r → MayRedo y old.image count r → Redoes (told_by r) count old.image new.image → Marks (told_by r) count old new.changed → IsRepeated z log r old new
+  pub one_repeated : (old new : Paged) → MayComeNext log r → MayRedo y old.image count r → Redoes (told_by r) count old.image new.image → Marks (told_by r) count old new.changed → IsRepeated z log r old new
   one_repeated old new next may redone marked = record {
     belongs = record { next = next.next; follows = next.follows; may = subst (λ x. MayRedo x old.image (length log + 1) r) sizes (subst (λ n. MayRedo y old.image n r) all may) };
     redone = subst (λ n. Redoes (told_by r) n old.image new.image) all redone;
     marked = subst (λ n. Marks (told_by r) n old new.changed) all marked;
   }
 
-  pub belongs_then : (old : Paged) → Belongs z log r old → MayFollow log r × MayRedo y old.image count r
+  pub belongs_then : (old : Paged) → Belongs z log r old → MayComeNext log r × MayRedo y old.image count r
   belongs_then old b = (
     record { next = b.next; follows = b.follows },
     subst (λ n. MayRedo y old.image n r) (sym all) (subst (λ x. MayRedo x old.image (length log + 1) r) (sym sizes) b.may),
@@ -95,21 +95,21 @@ pub record IsGoingOn (z : Sizes) (log last : List Record) (first now : Paged) : 
   pub counted : AreCounted z (length log) first → AreCounted z (length last) now
 
 module _ (z y : Sizes) (log last : List Record) (first now : Paged) (sizes : y ≡ z) (k : IsGoingOn z log last first now) where
-  pub going_more : (r : Record) (h : Analysis) (grown : List Record) (after : Paged) → h ≡ analysis last → IsNextUndo h r → grown ≡ r ∷ last → IsRepeated y last r now after → IsGoingOn z log grown first after
+  pub going_more : (r : Record) (h : OpenWorkView) (grown : List Record) (after : Paged) → h ≡ open_work_of last → IsNextUndo h r → grown ≡ r ∷ last → IsRepeated y last r now after → IsGoingOn z log grown first after
   going_more r h grown after is next more one = subst (λ l. IsGoingOn z log l first after) (sym more) (record {
     undoing = undoing_more log last r k.undoing (subst (λ j. IsNextUndo j r) is next);
     repeated = λ start before. (now, k.repeated start before, subst (λ x. IsRepeated x last r now after) sizes one);
     counted = λ before. subst (λ n. AreCounted z n after) (let e : length last + 1 ≡ length (r ∷ last) = omega arith in e) (counted_more z last r now after (subst (λ x. IsRepeated x last r now after) sizes one) (k.counted before));
   })
 
-  pub going_less : (r : Record) (h after : Analysis) (grown : List Record) → h ≡ analysis last → IsNextUndo h r → grown ≡ r ∷ last → after ≡ analysis grown → work after < work h
+  pub going_less : (r : Record) (h after : OpenWorkView) (grown : List Record) → h ≡ open_work_of last → IsNextUndo h r → grown ≡ r ∷ last → after ≡ open_work_of grown → work after < work h
   going_less r h after grown is next more noted =
-      let less : work (analysis (r ∷ last)) < work (analysis last) = undo_leaves_less last r (subst (λ j. IsNextUndo j r) is next) in
-      let a : work after ≡ work (analysis (r ∷ last)) = ap work (noted ∙ ap analysis more) in
-      let b : work h ≡ work (analysis last) = ap work is in
+      let less : work (open_work_of (r ∷ last)) < work (open_work_of last) = undo_leaves_less last r (subst (λ j. IsNextUndo j r) is next) in
+      let a : work after ≡ work (open_work_of (r ∷ last)) = ap work (noted ∙ ap open_work_of more) in
+      let b : work h ≡ work (open_work_of last) = ap work is in
       omega (arith, less, a, b)
 
-  pub going_stops : (r : Record) (h : Analysis) (e : Refusal) → h ≡ analysis last → IsNextUndo h r → StepStops (length last) (Belongs y last r now) e → (start : Paged) → Repeats z log start first → UndoStops z log start e
+  pub going_stops : (r : Record) (h : OpenWorkView) (e : Refusal) → h ≡ open_work_of last → IsNextUndo h r → StepStops (length last) (Belongs y last r now) e → (start : Paged) → Repeats z log start first → UndoStops z log start e
   going_stops r h why.NoMemory is next s start before = tt
   going_stops r h why.LogFull is next s start before = record { undone = last; undoing = k.undoing; full = s }
   going_stops r h (why.Damaged (damage.Record lsn)) is next s start before = record {

@@ -24,7 +24,7 @@ use Rattle.rq_sound.specs.Sound.{IsSound}
 use Rattle.rq_sound.specs.Inverses.{InverseTakesLowest}
 use Rattle.rq_planner.specs.Backs.{CanBeTakenBack}
 use Rattle.rq_analysis.specs.declared.dues.PendingUndo.{PendingUndo}
-use Rattle.rq_analysis.specs.Analysis.{analysis}
+use Rattle.rq_analysis.specs.OpenWorkView.{open_work_of}
 use Rattle.rq_analysis.specs.Choices.{least_free}
 use Rattle.rq_analysis.specs.Dues.{deed_due, dues}
 use Rattle.rq_analysis.specs.Numbers.{number_of, numbers}
@@ -56,13 +56,13 @@ after_rounds (r ∷ rs) log = after_round r (after_rounds rs log)
 pub record IsTakenNext (log : List Record) (d : PendingUndo) (n : ℕ) : Type 0 where
   pub older : List PendingUndo
   pub first : dues log ≡ d ∷ older
-  pub nobody : least_free (dues log) (analysis log).active ≡ None
+  pub nobody : least_free (dues log) (open_work_of log).active ≡ None
   pub number : n ≡ number_of d.txn (numbers log) + 1
 
 -- Of those without an end that have nothing due the one of the least number ends next; where there is none, what is due
 -- first is taken back.
 abbrev pub IsNextRound : List Record → Round → Type 0
-IsNextRound log (Ends t) = least_free (dues log) (analysis log).active ≡ Some t
+IsNextRound log (Ends t) = least_free (dues log) (open_work_of log).active ≡ Some t
 IsNextRound log (TakesBack d n ws) = IsTakenNext log d n
 
 abbrev pub AreRounds : List Record → List Round → Type 0
@@ -178,7 +178,7 @@ pub data IsBadStep (z : Sizes) (behind : List Record → Type 0) (first : Paged)
   BadRecord : (newest : Record) (mid : Paged) → behind (newest ∷ last) → lsn ≡ length last + 1
       → Repeats z last first mid → (Belongs z last newest mid → ⊥) → IsBadStep z behind first last lsn
   BadDue : (due : PendingUndo) (older : List PendingUndo) (images : List (List ℕ)) (mid : Paged) → dues last ≡ due ∷ older
-      → least_free (dues last) (analysis last).active ≡ None → lsn ≡ due.lsn → mid.image ≡ image_in images
+      → least_free (dues last) (open_work_of last).active ≡ None → lsn ≡ due.lsn → mid.image ≡ image_in images
       → Repeats z last first mid → CannotBeTaken z images last due → IsBadStep z behind first last lsn
 
 -- Damage is told of this record where the next such record doesn't belong there, or what the OpEnd with this LSN tells

@@ -2,21 +2,21 @@
 use Rattle.std.specs.Prelude.{◌≡◌, ℕ, List}
 use Rattle.rq_model.specs.declared.record.Record.{Record}
 use Rattle.rq_model.specs.Incarnations.{InOrder, IsNext, incarnation_of}
-use Rattle.rq_analysis.specs.Analysis.{analysis, analysis_after}
+use Rattle.rq_analysis.specs.OpenWorkView.{open_work_of, open_work_after}
 use Rattle.rq_analysis.specs.Dues.{dues, dues_after}
 use Rattle.rq_analysis.specs.Numbers.{numbers, numbers_after}
-use Rattle.rq_analysis.specs.ScanState.{ended, ended_after}
+use Rattle.rq_analysis.specs.LogTables.{ended, ended_after}
 use Rattle.rq_analysis.specs.Rules.{FollowAll, FollowsRules}
-use Rattle.rq_restart.specs.declared.findings.Findings.{Findings}
+use Rattle.rq_restart.specs.declared.analysis.Analysis.{Analysis}
 
 -- the record may come behind these: it is the next of its incarnation, and follows the rules of a log
-pub record MayFollow (older : List Record) (r : Record) : Type 0 where
+pub record MayComeNext (older : List Record) (r : Record) : Type 0 where
   pub next : IsNext (incarnation_of older) r
   pub follows : FollowsRules older r
 
 -- what the records of the log come to, each of which might follow those before it
-pub record AreFindings (f : Findings) (log : List Record) : Type 0 where
-  pub open_work : f.open_work ≡ analysis log
+pub record IsAnalysisOf (f : Analysis) (log : List Record) : Type 0 where
+  pub open_work : f.open_work ≡ open_work_of log
   pub dues : f.dues ≡ dues log
   pub numbers : f.numbers ≡ numbers log
   pub ended : f.ended ≡ ended log
@@ -24,9 +24,9 @@ pub record AreFindings (f : Findings) (log : List Record) : Type 0 where
   pub follow : FollowAll log
 
 -- and with one record more, which has this LSN
-abbrev pub findings_after : ℕ → Record → Findings → Findings
-findings_after lsn r f = record {
-  open_work = analysis_after lsn r f.open_work;
+abbrev pub analysis_after : ℕ → Record → Analysis → Analysis
+analysis_after lsn r f = record {
+  open_work = open_work_after lsn r f.open_work;
   dues = dues_after lsn r f.dues;
   numbers = numbers_after r f.numbers;
   ended = ended_after r f.ended;

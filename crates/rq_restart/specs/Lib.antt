@@ -9,5 +9,5 @@ pub mod Refused
 pub mod Undoing
 pub mod Found
 pub mod Aborting
-pub mod Mended
+pub mod RolledBack
 pub mod Overwritten

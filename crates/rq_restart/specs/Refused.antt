@@ -10,8 +10,8 @@ use Rattle.rq_record.specs.Spelling.{IsRecord}
 use Rattle.rq_log.specs.Reading.{BeginsWith, IsRead, StopsFor}
 use Rattle.rq_log.specs.Spelled.{AreSpelled}
 use Rattle.rq_restart.specs.Repeating.{Belongs, Paged, Repeats}
-use Rattle.rq_restart.specs.Checked.{WasGoneThrough, IsBeyond}
-use Rattle.rq_restart.specs.Mended.{HasNoRoom, IsAtBound, IsBadMend, IsUnlinked}
+use Rattle.rq_restart.specs.Checked.{WasReadAndRedone, IsBeyond}
+use Rattle.rq_restart.specs.RolledBack.{HasNoRoom, IsAtBound, IsBadRollback, IsUnlinked}
 use Rattle.rq_restart.specs.Undoing.{IsBadUndo}
 
 -- why a record that was read behind these was not repeated, in its place: memory is wanting, or it doesn't belong there
@@ -56,7 +56,7 @@ WhyNotBegun z log first why.NoMemory before now untouched = (now ≡ before) × 
 WhyNotBegun z log first why.LogFull before now untouched = HasNoRoom z first log × untouched
 WhyNotBegun z log first why.DiskWrite before now untouched = now ≡ (before + 1) % 2 ^ 64
 WhyNotBegun z log first (why.Damaged (damage.Record lsn)) before now untouched =
-    (IsBadUndo z log first lsn ⊎ IsBadMend z log first lsn) × untouched
+    (IsBadUndo z log first lsn ⊎ IsBadRollback z log first lsn) × untouched
 WhyNotBegun z log first (why.Damaged (damage.Page page)) before now untouched = IsUnlinked z log first page × untouched
 WhyNotBegun z log first _ before now untouched = ⊥
 
@@ -65,12 +65,12 @@ WhyNotBegun z log first _ before now untouched = ⊥
 abbrev pub WhyShut : Sizes → List Record → Paged → Refusal → ℕ → ℕ → Type 0 → Type 0
 WhyShut z log first why.NoMemory before now untouched = (now ≡ before) × untouched
 WhyShut z log first why.LogFull before now untouched = HasNoRoom z first log
-    × WasGoneThrough z log first × untouched
-WhyShut z log first why.DiskWrite before now untouched = (now ≡ (before + 1) % 2 ^ 64) × WasGoneThrough z log first
+    × WasReadAndRedone z log first × untouched
+WhyShut z log first why.DiskWrite before now untouched = (now ≡ (before + 1) % 2 ^ 64) × WasReadAndRedone z log first
 WhyShut z log first (why.Damaged (damage.Record lsn)) before now untouched =
-    (IsBadUndo z log first lsn ⊎ IsBadMend z log first lsn) × WasGoneThrough z log first × untouched
+    (IsBadUndo z log first lsn ⊎ IsBadRollback z log first lsn) × WasReadAndRedone z log first × untouched
 WhyShut z log first (why.Damaged (damage.Page page)) before now untouched =
-    (IsBeyond z log first page ⊎ (IsUnlinked z log first page × WasGoneThrough z log first)) × untouched
+    (IsBeyond z log first page ⊎ (IsUnlinked z log first page × WasReadAndRedone z log first)) × untouched
 WhyShut z log first _ before now untouched = ⊥
 
 -- why a store over this log was not opened, with the failures of the log's device before and after it

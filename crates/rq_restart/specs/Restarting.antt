@@ -22,7 +22,7 @@ use Rattle.rq_store.specs.State.{State}
 use Rattle.rq_store.specs.Whole.{IsWhole}
 use Rattle.rq_store.specs.Fitting.{image_in}
 use Rattle.rq_analysis.specs.Recovered.{IsRecovered}
-use Rattle.rq_restart.specs.Mended.{IsAtBound, IsMended, IsMendedOn}
+use Rattle.rq_restart.specs.RolledBack.{IsAtBound, IsRolledBack, IsRolledBackOn}
 use Rattle.rq_restart.specs.Repeating.{Paged}
 use Rattle.rq_restart.specs.Checked.{as_read}
 use Rattle.rq_restart.specs.Refused.{IsStoppedBehind, WhyShut}
@@ -30,23 +30,23 @@ use Rattle.rq_restart.specs.Refused.{IsStoppedBehind, WhyShut}
 -- Behind the log that was read stand the records by which what has no end is undone, and then one that begins the
 -- incarnation after the last. All are forced.
 pub record IsBegun {L : Type 0} (older : List Record) (log : Logged L) : Type 0 where
-  pub mended : List Record
-  pub mends : IsMended older mended
-  pub records : log.records ≡ next_restart mended ∷ mended
+  pub rolled_back : List Record
+  pub rolls_back : IsRolledBack older rolled_back
+  pub records : log.records ≡ next_restart rolled_back ∷ rolled_back
   pub forced : log.forced ≡ length log.records
   pub running : log.failed ≡ false
 
 -- what was opened: over the log that was read with the records behind by which what has no end is undone
 abbrev pub IsOpenedOver : List Record → State → Type 0
-IsOpenedOver older s = IsMended older (drop 1 s.records) × (s ≡ opened s.sizes s.images (drop 1 s.records))
+IsOpenedOver older s = IsRolledBack older (drop 1 s.records) × (s ≡ opened s.sizes s.images (drop 1 s.records))
 
 -- What is reported: the next incarnation, how many records are in the log, and of a whole log how many operations were
 -- unfinished in it, and how many transactions lost.
-pub record Reports (z : Sizes) (older records : List Record) (incarnation count undone gone : ℕ) : Type 0 where
+pub record Reports (z : Sizes) (older records : List Record) (incarnation count unfinished_count lost_count : ℕ) : Type 0 where
   pub incarnation_is : incarnation ≡ incarnation_of older + 1
   pub records_are : count ≡ length records
-  pub unfinished_are : IsWhole z older → undone ≡ length (unfinished older)
-  pub lost_are : IsWhole z older → gone ≡ length (lost older)
+  pub unfinished_are : IsWhole z older → unfinished_count ≡ length (unfinished older)
+  pub lost_are : IsWhole z older → lost_count ≡ length (lost older)
 
 -- why a restart was refused, with the failures of the pages' device before and after it, and those of the log's
 abbrev pub Stops : Type 0 → Sizes → List Record → Refusal → ℕ → ℕ → ℕ → ℕ → Type 0
@@ -92,14 +92,14 @@ pub record AreTold (z : Sizes) (images : List (List ℕ)) (count : ℕ) (waiting
 -- Bytes of a log with the first of the records behind it by which what has no end is undone and the next incarnation is
 -- begun; of a store that was left so, these recover the log.
 pub record IsBegunBehind (z : Sizes) (left : Type 0) (older : List Record) (bytes : List ℕ) : Type 0 where
-  pub mended : List Record
-  pub mends : IsMended older mended
-  pub recovered : left → IsRecovered z older mended
-  pub are_spelled : AreSpelled (next_restart mended ∷ mended)
+  pub rolled_back : List Record
+  pub rolls_back : IsRolledBack older rolled_back
+  pub recovered : left → IsRecovered z older rolled_back
+  pub are_spelled : AreSpelled (next_restart rolled_back ∷ rolled_back)
   -- so many of the newest lack
   pub lacks : ℕ
-  pub some : lacks + length older ≤ length mended + 1
-  pub is : bytes ≡ spelled (drop lacks (next_restart mended ∷ mended))
+  pub some : lacks + length older ≤ length rolled_back + 1
+  pub is : bytes ≡ spelled (drop lacks (next_restart rolled_back ∷ rolled_back))
 
 -- those of the log that was read, beside these pages
 pub record IsBegunOn (z : Sizes) (images : Images) (read bytes : List ℕ) : Type 0 where
@@ -166,7 +166,7 @@ module _ {P L : Type 0} (p : page_device.Ghosts P) (l : log_device.Ghosts L) (pa
     pub older : List Record
     pub are_spelled : AreSpelled older
     pub reads : l.honest new_log → l.seen log ≡ spelled older
-    pub mended : List Record
-    pub mended_on : IsMendedOn z older mended (as_read z images) last
-    pub begun : records ≡ next_restart mended ∷ mended
-    pub room : length mended < 2 ^ 50
+    pub rolled_back : List Record
+    pub rolled_back_on : IsRolledBackOn z older rolled_back (as_read z images) last
+    pub begun : records ≡ next_restart rolled_back ∷ rolled_back
+    pub room : length rolled_back < 2 ^ 50

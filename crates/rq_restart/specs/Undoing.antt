@@ -5,7 +5,7 @@ use Rattle.rq_model.specs.declared.refusal.Refusal.{Refusal}
 use Rattle.rq_model.specs.declared.refusal.Refusal.TheVariants as why
 use Rattle.rq_model.specs.declared.refusal.Damage.TheVariants as damage
 use Rattle.rq_page.specs.Sizes.{Sizes}
-use Rattle.rq_analysis.specs.Analysis.{analysis}
+use Rattle.rq_analysis.specs.OpenWorkView.{open_work_of}
 use Rattle.rq_analysis.specs.Pages.{IsNextUndo, IsUndoing}
 use Rattle.rq_restart.specs.Repeating.{Paged, Belongs, Repeats}
 
@@ -20,7 +20,7 @@ pub record IsBadUndo (z : Sizes) (log : List Record) (first : Paged) (lsn : ℕ)
   pub undone : List Record
   pub undoing : IsUndoing log undone
   pub newest : Record
-  pub next : IsNextUndo (analysis undone) newest
+  pub next : IsNextUndo (open_work_of undone) newest
   pub place : lsn ≡ length undone + 1
   pub mid : Paged
   pub repeated : Repeats z undone first mid

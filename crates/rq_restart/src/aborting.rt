@@ -14,10 +14,10 @@ ghost use Rattle.rq_store.specs.Steps.{page_op};
 ghost use Rattle.rq_model.specs.Vocabulary.{In};
 ghost use Rattle.rq_restart.specs.Aborting.{AbortStops, AbortsFrom, HasGoneOn, IsAbortingFrom, IsMaking, IsPlannedBack, blamed_on, IsShown, IsShownWithin, PlanStops, with_writes};
 ghost use Rattle.rq_restart.specs.Checked.{IsEnded};
-ghost use Rattle.rq_restart.specs.Found.{AreFindings};
+ghost use Rattle.rq_restart.specs.Found.{IsAnalysisOf};
 
+use crate::analysis::Analysis;
 use crate::appending::append;
-use crate::findings::Findings;
 use rq_analysis::{PendingUndo, next_end};
 use rq_disk::{LogDevice, PageDevice};
 use rq_level::{Level, SlotWrite};
@@ -41,10 +41,10 @@ pub(crate) fn abort_lost<P: PageDevice + Drop, L: LogDevice + Drop, B: Level>(
     alloc: Global,
     pages: &mut Pages<P>,
     log: &mut Log<L>,
-    findings: &mut Findings,
+    analysis: &mut Analysis,
     planner: &mut Planner<B>,
 ) -> Result<(), Refusal>
-    requires found { AreFindings findings.old log.old.records }
+    requires found { IsAnalysisOf analysis.old log.old.records }
     requires running { log.old.failed ≡ false }
     requires cells { KnowsCells pages.old.sizes pages.old.images planner.old }
     ensures gone_on { OnOk result (HasGoneOn pages.old.sizes (AbortsFrom pages.old.sizes log.old.records pages.old log.new.records)
@@ -52,7 +52,7 @@ pub(crate) fn abort_lost<P: PageDevice + Drop, L: LogDevice + Drop, B: Level>(
         (IsShown log.new.records pages.new)) }
     ensures ended { OnOk result (IsEnded log.new.records) }
     ensures none { OnOk result (IsEnded log.old.records → (log.new.records ≡ log.old.records) × (pages.new ≡ pages.old)) }
-    ensures found { OnOk result (AreFindings findings.new log.new.records) }
+    ensures found { OnOk result (IsAnalysisOf analysis.new log.new.records) }
     ensures cells { OnOk result (KnowsCells pages.new.sizes pages.new.images planner.new) }
     ensures stops { IfErr result (λ e. AbortStops pages.old.sizes (IsAbortingFrom pages.old.sizes log.old.records pages.old)
         log.old.records pages.old (IsShown log.old.records pages.old) e) }
@@ -63,11 +63,11 @@ pub(crate) fn abort_lost<P: PageDevice + Drop, L: LogDevice + Drop, B: Level>(
         × (log.new.failed ≡ false) × (log.new.settled ≡ log.old.settled) }
     ensures room { OnOk result (log.new.reserved ≡ log.old.reserved) }
 {
-    if findings.open_work.is_settled() {
+    if analysis.open_work.all_ended() {
         return Ok(());
     }
-    end_idle(pages, log, findings)?;
-    undo_all_due(alloc, pages, log, findings, planner)?;
+    end_idle(pages, log, analysis)?;
+    undo_all_due(alloc, pages, log, analysis, planner)?;
     Ok(())
 }
 
@@ -75,16 +75,16 @@ pub(crate) fn abort_lost<P: PageDevice + Drop, L: LogDevice + Drop, B: Level>(
 fn end_idle<P: PageDevice + Drop, L: LogDevice + Drop>(
     pages: &mut Pages<P>,
     log: &mut Log<L>,
-    findings: &mut Findings,
+    analysis: &mut Analysis,
 ) -> Result<(), Refusal>
-    requires found { AreFindings findings.old log.old.records }
+    requires found { IsAnalysisOf analysis.old log.old.records }
     requires running { log.old.failed ≡ false }
     ensures gone_on { OnOk result (HasGoneOn pages.old.sizes (AbortsFrom pages.old.sizes log.old.records pages.old log.new.records)
         log.old.records log.new.records pages.old pages.new (IsShown log.old.records pages.old)
         (IsShown log.new.records pages.new)) }
     ensures same { OnOk result (pages.new ≡ pages.old) }
-    ensures none { OnOk result (least_free findings.new.dues findings.new.open_work.active ≡ None) }
-    ensures found { OnOk result (AreFindings findings.new log.new.records) }
+    ensures none { OnOk result (least_free analysis.new.dues analysis.new.open_work.active ≡ None) }
+    ensures found { OnOk result (IsAnalysisOf analysis.new log.new.records) }
     ensures stops { IfErr result (λ e. AbortStops pages.old.sizes (IsAbortingFrom pages.old.sizes log.old.records pages.old)
         log.old.records pages.old (IsShown log.old.records pages.old) e) }
     ensures sizes { pages.new.sizes ≡ pages.old.sizes }
@@ -93,8 +93,8 @@ fn end_idle<P: PageDevice + Drop, L: LogDevice + Drop>(
         × (log.new.failed ≡ false) × (log.new.settled ≡ log.old.settled) }
     ensures room { OnOk result (log.new.reserved ≡ log.old.reserved) }
 {
-    while let Some(txn) = next_end(findings.open_work.active(), &findings.dues) {
-        append(pages, log, findings, &Record::AbortEnd { txn })?;
+    while let Some(txn) = next_end(analysis.open_work.active(), &analysis.dues) {
+        append(pages, log, analysis, &Record::AbortEnd { txn })?;
     }
     Ok(())
 }
@@ -104,18 +104,18 @@ fn undo_all_due<P: PageDevice + Drop, L: LogDevice + Drop, B: Level>(
     alloc: Global,
     pages: &mut Pages<P>,
     log: &mut Log<L>,
-    findings: &mut Findings,
+    analysis: &mut Analysis,
     planner: &mut Planner<B>,
 ) -> Result<(), Refusal>
-    requires found { AreFindings findings.old log.old.records }
-    requires none { least_free findings.old.dues findings.old.open_work.active ≡ None }
+    requires found { IsAnalysisOf analysis.old log.old.records }
+    requires none { least_free analysis.old.dues analysis.old.open_work.active ≡ None }
     requires running { log.old.failed ≡ false }
     requires cells { KnowsCells pages.old.sizes pages.old.images planner.old }
     ensures gone_on { OnOk result (HasGoneOn pages.old.sizes (AbortsFrom pages.old.sizes log.old.records pages.old log.new.records)
         log.old.records log.new.records pages.old pages.new (IsShown log.old.records pages.old)
         (IsShown log.new.records pages.new)) }
     ensures ended { OnOk result (IsEnded log.new.records) }
-    ensures found { OnOk result (AreFindings findings.new log.new.records) }
+    ensures found { OnOk result (IsAnalysisOf analysis.new log.new.records) }
     ensures cells { OnOk result (KnowsCells pages.new.sizes pages.new.images planner.new) }
     ensures stops { IfErr result (λ e. AbortStops pages.old.sizes (IsAbortingFrom pages.old.sizes log.old.records pages.old)
         log.old.records pages.old (IsShown log.old.records pages.old) e) }
@@ -125,10 +125,10 @@ fn undo_all_due<P: PageDevice + Drop, L: LogDevice + Drop, B: Level>(
         × (log.new.failed ≡ false) × (log.new.settled ≡ log.old.settled) }
     ensures room { OnOk result (log.new.reserved ≡ log.old.reserved) }
 {
-    while let Some(due) = findings.dues.newest() {
-        undo_due(alloc, pages, log, findings, planner, &due)?;
-        if !findings.dues.owes(due.txn) {
-            append(pages, log, findings, &Record::AbortEnd { txn: due.txn })?;
+    while let Some(due) = analysis.dues.newest() {
+        undo_due(alloc, pages, log, analysis, planner, &due)?;
+        if !analysis.dues.owes(due.txn) {
+            append(pages, log, analysis, &Record::AbortEnd { txn: due.txn })?;
         }
     }
     Ok(())
@@ -139,22 +139,22 @@ fn undo_due<P: PageDevice + Drop, L: LogDevice + Drop, B: Level>(
     alloc: Global,
     pages: &mut Pages<P>,
     log: &mut Log<L>,
-    findings: &mut Findings,
+    analysis: &mut Analysis,
     planner: &mut Planner<B>,
     due: &PendingUndo,
 ) -> Result<(), Refusal>
-    requires found { AreFindings findings.old log.old.records }
-    requires none { least_free findings.old.dues findings.old.open_work.active ≡ None }
-    requires first { (older : List PendingUndo) × (findings.old.dues ≡ due.now ∷ older) }
+    requires found { IsAnalysisOf analysis.old log.old.records }
+    requires none { least_free analysis.old.dues analysis.old.open_work.active ≡ None }
+    requires first { (older : List PendingUndo) × (analysis.old.dues ≡ due.now ∷ older) }
     requires running { log.old.failed ≡ false }
     requires cells { KnowsCells pages.old.sizes pages.old.images planner.old }
     ensures gone_on { OnOk result (HasGoneOn pages.old.sizes (AbortsFrom pages.old.sizes log.old.records pages.old log.new.records)
         log.old.records log.new.records pages.old pages.new (IsShown log.old.records pages.old)
         (IsShown log.new.records pages.new)) }
-    ensures rest { OnOk result (findings.old.dues ≡ due.now ∷ findings.new.dues) }
-    ensures lost { OnOk result (In due.now.txn findings.old.open_work.active) }
-    ensures active { OnOk result (findings.new.open_work.active ≡ findings.old.open_work.active) }
-    ensures found { OnOk result (AreFindings findings.new log.new.records) }
+    ensures rest { OnOk result (analysis.old.dues ≡ due.now ∷ analysis.new.dues) }
+    ensures lost { OnOk result (In due.now.txn analysis.old.open_work.active) }
+    ensures active { OnOk result (analysis.new.open_work.active ≡ analysis.old.open_work.active) }
+    ensures found { OnOk result (IsAnalysisOf analysis.new log.new.records) }
     ensures cells { OnOk result (KnowsCells pages.new.sizes pages.new.images planner.new) }
     ensures stops { IfErr result (λ e. AbortStops pages.old.sizes (IsAbortingFrom pages.old.sizes log.old.records pages.old)
         log.old.records pages.old (IsShown log.old.records pages.old) e) }
@@ -169,16 +169,16 @@ fn undo_due<P: PageDevice + Drop, L: LogDevice + Drop, B: Level>(
         return Err(Refusal::LogFull);
     }
     let writes = plan(alloc, pages, planner, due)?;
-    let Some(operation) = findings.numbers.greatest(due.txn).checked_add(1) else {
+    let Some(operation) = analysis.numbers.greatest(due.txn).checked_add(1) else {
         return Err(Refusal::Damaged(Damage::Record(due.lsn)));
     };
-    make_all(pages, log, findings, planner, due, operation, &writes)?;
+    make_all(pages, log, analysis, planner, due, operation, &writes)?;
     let end = Record::CompEnd {
         txn: due.txn,
         operation,
         undone: due.lsn,
     };
-    append(pages, log, findings, &end)?;
+    append(pages, log, analysis, &end)?;
     Ok(())
 }
 
@@ -186,13 +186,13 @@ fn undo_due<P: PageDevice + Drop, L: LogDevice + Drop, B: Level>(
 fn make_all<P: PageDevice + Drop, L: LogDevice + Drop, B: Level>(
     pages: &mut Pages<P>,
     log: &mut Log<L>,
-    findings: &mut Findings,
+    analysis: &mut Analysis,
     planner: &mut Planner<B>,
     due: &PendingUndo,
     operation: u64,
     writes: &[SlotWrite],
 ) -> Result<(), Refusal>
-    requires found { AreFindings findings.old log.old.records }
+    requires found { IsAnalysisOf analysis.old log.old.records }
     requires txn { IsTxnInRange due.now.txn }
     requires number { 0 < operation }
     requires slots { AreSlotWrites pages.old.sizes writes.now }
@@ -203,9 +203,9 @@ fn make_all<P: PageDevice + Drop, L: LogDevice + Drop, B: Level>(
         log.old.records log.new.records pages.old pages.new
         (IsShownWithin log.old.records pages.old due.now operation writes.now 0)
         (IsShownWithin log.new.records pages.new due.now operation writes.now (length writes.now))) }
-    ensures rest { OnOk result ((findings.new.dues ≡ findings.old.dues)
-        × (findings.new.open_work.active ≡ findings.old.open_work.active)) }
-    ensures found { OnOk result (AreFindings findings.new log.new.records) }
+    ensures rest { OnOk result ((analysis.new.dues ≡ analysis.old.dues)
+        × (analysis.new.open_work.active ≡ analysis.old.open_work.active)) }
+    ensures found { OnOk result (IsAnalysisOf analysis.new log.new.records) }
     ensures cells { OnOk result (KnowsCells pages.new.sizes pages.new.images planner.new) }
     ensures stops { IfErr result (λ e. AbortStops pages.old.sizes
         (IsMaking due.now.txn operation writes.now log.old.records) log.old.records pages.old
@@ -219,7 +219,7 @@ fn make_all<P: PageDevice + Drop, L: LogDevice + Drop, B: Level>(
     for index in 0..writes.len() {
         let write = &writes[index];
         let undo = written(due, operation, write);
-        append(pages, log, findings, &undo)?;
+        append(pages, log, analysis, &undo)?;
         planner.renew(pages, write.at);
     }
     Ok(())

@@ -5,11 +5,11 @@ ghost use Rattle.rq_pool.specs.Pooled.{IsPool};
 ghost use Rattle.rq_record.specs.Spelling.{IsInRange};
 ghost use Rattle.rq_store.specs.Fitting.{told_by};
 ghost use Rattle.rq_analysis.specs.Rules.{CanBeRead};
-ghost use Rattle.rq_restart.specs.Found.{AreFindings};
+ghost use Rattle.rq_restart.specs.Found.{IsAnalysisOf};
 ghost use Rattle.rq_restart.specs.Repeating.{Belongs, IsRepeated, paged};
 ghost use Rattle.rq_restart.specs.Undoing.{StepStops};
 
-use crate::findings::Findings;
+use crate::analysis::Analysis;
 use crate::redo::redo_record;
 use rq_disk::{LogDevice, PageDevice};
 use rq_log::Log;
@@ -28,15 +28,15 @@ use rq_record::{shows_fits, spelled_len};
 pub(crate) fn append<P: PageDevice + Drop, L: LogDevice + Drop>(
     pages: &mut Pages<P>,
     log: &mut Log<L>,
-    findings: &mut Findings,
+    analysis: &mut Analysis,
     undo: &Record,
 ) -> Result<(), Refusal>
-    requires found { AreFindings findings.old log.old.records }
+    requires found { IsAnalysisOf analysis.old log.old.records }
     requires running { log.old.failed ≡ false }
     requires range { AreSpelled log.old.records → IsInRange undo.now }
     requires readable { CanBeRead undo.now }
     ensures records { OnOk result (log.new.records ≡ undo.now ∷ log.old.records) }
-    ensures found { OnOk result (AreFindings findings.new log.new.records) }
+    ensures found { OnOk result (IsAnalysisOf analysis.new log.new.records) }
     ensures repeated { OnOk result (IsRepeated pages.old.sizes log.old.records undo.now (paged pages.old)
         (paged pages.new)) }
     ensures pool { OnOk result (IsPool pages.new.sizes pages.new.images) }
@@ -56,7 +56,7 @@ pub(crate) fn append<P: PageDevice + Drop, L: LogDevice + Drop>(
     let lsn = log.last() + 1;
     shows_fits(undo);
     log.reserve(spelled_len(undo))?;
-    let is_next = findings.note(lsn, true, undo)?;
+    let is_next = analysis.note(lsn, true, undo)?;
     if !is_next || !redo_record(pages, lsn, undo) {
         return Err(Refusal::Damaged(Damage::Record(lsn)));
     }

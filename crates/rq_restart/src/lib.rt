@@ -2,8 +2,8 @@
 #![tactic(auto)]
 
 mod aborting;
+mod analysis;
 mod appending;
-mod findings;
 pub mod format;
 pub mod laws;
 mod overwritten;

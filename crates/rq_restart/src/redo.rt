@@ -9,12 +9,12 @@ ghost use Rattle.rq_pool.specs.Pooled.{IsPool};
 ghost use Rattle.rq_store.specs.Opening.{IsRedone, Redoes, IsSoundTold, MayRedo, IsCounted};
 ghost use Rattle.rq_store.specs.Fitting.{told_by, image_in};
 ghost use Rattle.rq_analysis.specs.Rules.{CanBeRead};
-ghost use Rattle.rq_restart.specs.Found.{AreFindings};
+ghost use Rattle.rq_restart.specs.Found.{IsAnalysisOf};
 ghost use Rattle.rq_restart.specs.Overwritten.{AreKept, NamesFirst};
 ghost use Rattle.rq_restart.specs.Repeating.{AreCounted, IsMarked, IsRepeated, Marks, Paged, Repeats, paged};
 ghost use Rattle.rq_restart.specs.Refused.{IsStoppedBehind, NotRepeated};
 
-use crate::findings::Findings;
+use crate::analysis::Analysis;
 use crate::overwritten::{Overwritten, lesser_page};
 use rq_bytes::equal::are_equal;
 use rq_disk::{LogDevice, PageDevice};
@@ -68,7 +68,7 @@ fn is_counted(layout: &Layout, records: u64, number: u32, page: &Page) -> bool
 
 /// That no number of a page is beyond so many records, neither now nor where it was written over; else it is refused with
 /// the first page of which one is.
-pub(crate) fn check_numbers<P: PageDevice + Drop>(
+pub(crate) fn check_page_numbers<P: PageDevice + Drop>(
     pages: &Pages<P>,
     overwritten: &Overwritten,
     records: u64,
@@ -93,7 +93,7 @@ pub(crate) fn check_numbers<P: PageDevice + Drop>(
 /// What going through a log gave.
 #[derive(Drop)]
 pub(crate) struct LogScan {
-    pub findings: Findings,
+    pub analysis: Analysis,
     pub overwritten: Overwritten,
 }
 
@@ -110,7 +110,7 @@ pub(crate) fn repeat_history<P: PageDevice + Drop, L: LogDevice, B: Level>(
 ) -> Result<LogScan, Refusal>
     requires none_read { reader.old.records ≡ [] }
     requires untouched { reader.old.device ≡ reader.old.first }
-    ensures found { IfOk result (λ log_scan. AreFindings log_scan.findings reader.new.records) }
+    ensures found { IfOk result (λ log_scan. IsAnalysisOf log_scan.analysis reader.new.records) }
     ensures repeated { OnOk result (Repeats pages.old.sizes reader.new.records (paged pages.old) (paged pages.new)) }
     ensures kept { IfOk result (λ log_scan. AreKept pages.old.sizes (length reader.new.records) (paged pages.old)
         (paged pages.new) log_scan.overwritten.numbers.items) }
@@ -124,7 +124,7 @@ pub(crate) fn repeat_history<P: PageDevice + Drop, L: LogDevice, B: Level>(
     ensures device { pages.new.device ≡ pages.old.device }
 {
     let mut log_scan = LogScan {
-        findings: Findings::new(alloc),
+        analysis: Analysis::new(alloc),
         overwritten: Overwritten::new(alloc),
     };
     reader.shows_read();
@@ -146,21 +146,21 @@ fn check_and_redo<P: PageDevice + Drop, B: Level>(
     lsn: Lsn,
     record: &Record,
 ) -> Result<(), Refusal>
-    ensures found { OnOk result ((older : List AnyRecord) → lsn ≡ length older + 1 → AreFindings log_scan.old.findings older
-        → AreFindings log_scan.new.findings («record».now ∷ older)) }
+    ensures found { OnOk result ((older : List AnyRecord) → lsn ≡ length older + 1 → IsAnalysisOf log_scan.old.analysis older
+        → IsAnalysisOf log_scan.new.analysis («record».now ∷ older)) }
     ensures repeated { OnOk result ((older : List AnyRecord) → lsn ≡ length older + 1
-        → AreFindings log_scan.old.findings older
+        → IsAnalysisOf log_scan.old.analysis older
         → IsRepeated pages.old.sizes older «record».now (paged pages.old) (paged pages.new)) }
     ensures kept { OnOk result ((first : Paged) (records : ℕ) → lsn ≡ records + 1
         → AreKept pages.old.sizes records first (paged pages.old) log_scan.old.overwritten.numbers.items
         → AreKept pages.old.sizes lsn first (paged pages.new) log_scan.new.overwritten.numbers.items) }
     ensures not { IfErr result (λ e. (older : List AnyRecord) → lsn ≡ length older + 1
-        → AreFindings log_scan.old.findings older → NotRepeated pages.old.sizes older «record».now (paged pages.old) e) }
+        → IsAnalysisOf log_scan.old.analysis older → NotRepeated pages.old.sizes older «record».now (paged pages.old) e) }
     ensures sizes { pages.new.sizes ≡ pages.old.sizes }
     ensures device { pages.new.device ≡ pages.old.device }
 {
     let is_next = log_scan
-        .findings
+        .analysis
         .note(lsn, can_be_read(levels, record), record)?;
     if !is_next || !may_redo(pages, lsn, record) {
         return Err(Refusal::Damaged(Damage::Record(lsn)));

@@ -26,16 +26,16 @@ ghost use Rattle.rq_restart.specs.Restarting.{IsReadAs, IsLeftOn, IsReady, AreTo
 ghost use Rattle.rq_restart.specs.Refused.{BeginsNot, IsStoppedBehind, MayBeShut, WhyNotBegun, WhyShut};
 ghost use Rattle.rq_restart.specs.Overwritten.{AreKept};
 ghost use Rattle.rq_log.specs.Reading.{IsRead};
-ghost use Rattle.rq_restart.specs.Found.{AreFindings};
-ghost use Rattle.rq_restart.specs.Mended.{HasRepeated, IsMendedOn, IsMendedSince, LinkStops, MendStops};
+ghost use Rattle.rq_restart.specs.Found.{IsAnalysisOf};
+ghost use Rattle.rq_restart.specs.RolledBack.{HasRepeated, IsRolledBackOn, IsRolledBackSince, LinkStops, RollbackStops};
 ghost use Rattle.rq_engine.specs.Devices.{Path, EachPair};
 ghost use Rattle.rq_restart.specs.Underway.{OfStores, IsLeftOrGoesOn, pages_left, log_left};
 
 use crate::aborting::abort_lost;
+use crate::analysis::Analysis;
 use crate::appending::shows_pool;
-use crate::findings::Findings;
-use crate::redo::{LogScan, check_numbers, repeat_history};
-use crate::tables::{Tables, planner_of, read_tables};
+use crate::redo::{LogScan, check_page_numbers, repeat_history};
+use crate::tables::{EngineTables, planner_of, read_directory};
 use crate::undoing::undo_unfinished;
 use rq_chain_check::first_broken;
 use rq_disk::{LogDevice, PageDevice};
@@ -71,7 +71,7 @@ struct Opened<P: PageDevice, L: LogDevice, B: Level> {
     log: Log<L>,
     // How many cells hold a message.
     cells: u32,
-    tables: Tables<B>,
+    tables: EngineTables<B>,
     report: Report,
 }
 
@@ -296,9 +296,9 @@ fn restart_log<P: PageDevice + Drop, L: LogDevice + Drop, B: Level>(
         stopped.log) }
     // What was checked, or why it was refused.
     ensures checked { IfOk result (λ o. (older : List Record) × AreSpelled older × (L.honest o.log.device →
-        L.seen log ≡ spelled older) × (mended : List Record)
-        × IsMendedOn pages.sizes older mended (paged pages) (paged o.pages)
-        × (o.log.records ≡ next_restart mended ∷ mended) × (length mended < 2 ^ 50)) }
+        L.seen log ≡ spelled older) × (rolled_back : List Record)
+        × IsRolledBackOn pages.sizes older rolled_back (paged pages) (paged o.pages)
+        × (o.log.records ≡ next_restart rolled_back ∷ rolled_back) × (length rolled_back < 2 ^ 50)) }
     ensures refused { IfErr result (λ stopped. LogStops L.LogDevice pages.sizes
         (paged pages) stopped.refusal log stopped.log) }
     ensures room { IfOk result (λ o. o.log.reserved ≡ 0) }
@@ -350,7 +350,7 @@ fn read_and_redo<P: PageDevice + Drop, L: LogDevice + Drop, B: Level>(
         × (read.0.failed ≡ false) × (read.0.settled ≡ log)) }
     ensures spelled { IfOk result (λ read. AreSpelled read.0.records) }
     ensures whole { IfOk result (λ read. L.honest read.0.device → L.seen log ≡ spelled read.0.records) }
-    ensures found { IfOk result (λ read. AreFindings read.1.findings read.0.records) }
+    ensures found { IfOk result (λ read. IsAnalysisOf read.1.analysis read.0.records) }
     ensures repeated { IfOk result (λ read. Repeats pages.old.sizes read.0.records (paged pages.old)
         (paged pages.new)) }
     ensures kept { IfOk result (λ read. AreKept pages.old.sizes (length read.0.records) (paged pages.old)
@@ -385,8 +385,8 @@ fn finish_restart<P: PageDevice + Drop, L: LogDevice + Drop, B: Level>(
     log: &mut Log<L>,
     log_scan: &mut LogScan,
     levels: StoreLevels<B>,
-) -> Result<(Tables<B>, Report), Refusal>
-    requires found { AreFindings log_scan.old.findings log.old.records }
+) -> Result<(EngineTables<B>, Report), Refusal>
+    requires found { IsAnalysisOf log_scan.old.analysis log.old.records }
     requires running { log.old.failed ≡ false }
     // What the log comes to.
     ensures begun { OnOk result (IsBegun log.old.records log.new) }
@@ -411,8 +411,8 @@ fn finish_restart<P: PageDevice + Drop, L: LogDevice + Drop, B: Level>(
     // What was checked, or why it was refused.
     ensures checked { OnOk result ((first : Paged) → Repeats pages.old.sizes log.old.records first (paged pages.old)
         → AreKept pages.old.sizes (length log.old.records) first (paged pages.old) log_scan.old.overwritten.numbers.items
-        → (mended : List Record) × IsMendedOn pages.old.sizes log.old.records mended first (paged pages.new)
-        × (log.new.records ≡ next_restart mended ∷ mended)) }
+        → (rolled_back : List Record) × IsRolledBackOn pages.old.sizes log.old.records rolled_back first (paged pages.new)
+        × (log.new.records ≡ next_restart rolled_back ∷ rolled_back)) }
     ensures shut { IfErr result (λ e. (first : Paged) → Repeats pages.old.sizes log.old.records first (paged pages.old)
         → AreKept pages.old.sizes (length log.old.records) first (paged pages.old) log_scan.old.overwritten.numbers.items
         → WhyShut pages.old.sizes log.old.records first e (L.faults log.old.device) (L.faults log.new.device)
@@ -421,8 +421,8 @@ fn finish_restart<P: PageDevice + Drop, L: LogDevice + Drop, B: Level>(
     ensures room { OnOk result (log.new.reserved ≡ log.old.reserved) }
     ensures cause { OnOk result (L.faults log.new.device ≡ L.faults log.old.device) }
 {
-    match check_numbers(pages, &log_scan.overwritten, log.last()) {
-        Ok(()) => match undo_and_begin(alloc, pages, log, &mut log_scan.findings, levels) {
+    match check_page_numbers(pages, &log_scan.overwritten, log.last()) {
+        Ok(()) => match undo_and_begin(alloc, pages, log, &mut log_scan.analysis, levels) {
             Ok(begun) => Ok(begun),
             Err(refusal) => Err(refusal),
         },
@@ -436,10 +436,10 @@ fn undo_and_begin<P: PageDevice + Drop, L: LogDevice + Drop, B: Level>(
     alloc: Global,
     pages: &mut Pages<P>,
     log: &mut Log<L>,
-    findings: &mut Findings,
+    analysis: &mut Analysis,
     levels: StoreLevels<B>,
-) -> Result<(Tables<B>, Report), Refusal>
-    requires found { AreFindings findings.old log.old.records }
+) -> Result<(EngineTables<B>, Report), Refusal>
+    requires found { IsAnalysisOf analysis.old log.old.records }
     requires running { log.old.failed ≡ false }
     requires counted { AreCounted pages.old.sizes (length log.old.records) (paged pages.old) }
     // What the log and the pages come to.
@@ -469,10 +469,10 @@ fn undo_and_begin<P: PageDevice + Drop, L: LogDevice + Drop, B: Level>(
         → WhyNotBegun pages.old.sizes log.old.records first e (L.faults log.old.device) (L.faults log.new.device)
         (log.new.device ≡ log.old.device)) }
 {
-    let unfinished = findings.open_work.unfinished();
-    let (lost, planner) = undo_all_checked(alloc, pages, log, findings, levels)?;
-    let tables = read_tables(alloc, pages, planner)?;
-    match begin_incarnation(log, findings.open_work.incarnation(), unfinished, lost) {
+    let unfinished = analysis.open_work.unfinished();
+    let (lost, planner) = undo_all_checked(alloc, pages, log, analysis, levels)?;
+    let tables = read_directory(alloc, pages, planner)?;
+    match begin_incarnation(log, analysis.open_work.incarnation(), unfinished, lost) {
         Ok(report) => Ok((tables, report)),
         Err(refusal) => Err(refusal),
     }
@@ -484,12 +484,12 @@ fn undo_all_checked<P: PageDevice + Drop, L: LogDevice + Drop, B: Level>(
     alloc: Global,
     pages: &mut Pages<P>,
     log: &mut Log<L>,
-    findings: &mut Findings,
+    analysis: &mut Analysis,
     levels: StoreLevels<B>,
 ) -> Result<(u64, Planner<B>), Refusal>
-    requires found { AreFindings findings.old log.old.records }
+    requires found { IsAnalysisOf analysis.old log.old.records }
     requires running { log.old.failed ≡ false }
-    ensures mends { OnOk result (IsMendedSince pages.old.sizes log.old.records log.new.records (paged pages.old)) }
+    ensures rolls_back { OnOk result (IsRolledBackSince pages.old.sizes log.old.records log.new.records (paged pages.old)) }
     ensures repeated { OnOk result ((first : Paged) → Repeats pages.old.sizes log.old.records first (paged pages.old)
         → Repeats pages.old.sizes log.new.records first (paged pages.new)) }
     ensures counted { OnOk result (AreCounted pages.old.sizes (length log.old.records) (paged pages.old)
@@ -498,20 +498,20 @@ fn undo_all_checked<P: PageDevice + Drop, L: LogDevice + Drop, B: Level>(
         → IsLeft pages.old.sizes first.image log.old.records → IsRecovered pages.old.sizes log.old.records
         log.new.records) }
     ensures linked { OnOk result (AreLinked pages.old.sizes (slots_on pages.old.sizes (paged pages.new))) }
-    ensures lost { IfOk result (λ mended. mended.0 ≡ length findings.old.open_work.active) }
-    ensures known { IfOk result (λ mended. KnowsCells pages.new.sizes pages.new.images mended.1) }
-    ensures found { OnOk result (AreFindings findings.new log.new.records) }
+    ensures lost { IfOk result (λ rolled_back. rolled_back.0 ≡ length analysis.old.open_work.active) }
+    ensures known { IfOk result (λ rolled_back. KnowsCells pages.new.sizes pages.new.images rolled_back.1) }
+    ensures found { OnOk result (IsAnalysisOf analysis.new log.new.records) }
     ensures stops { IfErr result (λ e. (first : Paged) → Repeats pages.old.sizes log.old.records first (paged pages.old)
-        → MendStops pages.old.sizes log.old.records first e) }
+        → RollbackStops pages.old.sizes log.old.records first e) }
     ensures sizes { pages.new.sizes ≡ pages.old.sizes }
     ensures device { pages.new.device ≡ pages.old.device }
     ensures log { (log.new.device ≡ log.old.device) × (log.new.forced ≡ log.old.forced)
         × (log.new.failed ≡ false) × (log.new.settled ≡ log.old.settled) }
     ensures room { OnOk result (log.new.reserved ≡ log.old.reserved) }
 {
-    let mended = undo_all(alloc, pages, log, findings, levels)?;
+    let rolled_back = undo_all(alloc, pages, log, analysis, levels)?;
     check_links(alloc, pages)?;
-    Ok(mended)
+    Ok(rolled_back)
 }
 
 // That the senders' chains are whole; else it is refused with the page to be named.
@@ -533,12 +533,12 @@ fn undo_all<P: PageDevice + Drop, L: LogDevice + Drop, B: Level>(
     alloc: Global,
     pages: &mut Pages<P>,
     log: &mut Log<L>,
-    findings: &mut Findings,
+    analysis: &mut Analysis,
     levels: StoreLevels<B>,
 ) -> Result<(u64, Planner<B>), Refusal>
-    requires found { AreFindings findings.old log.old.records }
+    requires found { IsAnalysisOf analysis.old log.old.records }
     requires running { log.old.failed ≡ false }
-    ensures mends { OnOk result (IsMendedSince pages.old.sizes log.old.records log.new.records (paged pages.old)) }
+    ensures rolls_back { OnOk result (IsRolledBackSince pages.old.sizes log.old.records log.new.records (paged pages.old)) }
     ensures repeated { OnOk result ((first : Paged) → Repeats pages.old.sizes log.old.records first (paged pages.old)
         → Repeats pages.old.sizes log.new.records first (paged pages.new)) }
     ensures counted { OnOk result (AreCounted pages.old.sizes (length log.old.records) (paged pages.old)
@@ -546,21 +546,21 @@ fn undo_all<P: PageDevice + Drop, L: LogDevice + Drop, B: Level>(
     ensures recovered { OnOk result ((first : Paged) → Repeats pages.old.sizes log.old.records first (paged pages.old)
         → IsLeft pages.old.sizes first.image log.old.records → IsRecovered pages.old.sizes log.old.records
         log.new.records) }
-    ensures lost { IfOk result (λ mended. mended.0 ≡ length findings.old.open_work.active) }
-    ensures known { IfOk result (λ mended. KnowsCells pages.new.sizes pages.new.images mended.1) }
-    ensures found { OnOk result (AreFindings findings.new log.new.records) }
+    ensures lost { IfOk result (λ rolled_back. rolled_back.0 ≡ length analysis.old.open_work.active) }
+    ensures known { IfOk result (λ rolled_back. KnowsCells pages.new.sizes pages.new.images rolled_back.1) }
+    ensures found { OnOk result (IsAnalysisOf analysis.new log.new.records) }
     ensures stops { IfErr result (λ e. (first : Paged) → Repeats pages.old.sizes log.old.records first (paged pages.old)
-        → MendStops pages.old.sizes log.old.records first e) }
+        → RollbackStops pages.old.sizes log.old.records first e) }
     ensures sizes { pages.new.sizes ≡ pages.old.sizes }
     ensures device { pages.new.device ≡ pages.old.device }
     ensures log { (log.new.device ≡ log.old.device) × (log.new.forced ≡ log.old.forced)
         × (log.new.failed ≡ false) × (log.new.settled ≡ log.old.settled) }
     ensures room { OnOk result (log.new.reserved ≡ log.old.reserved) }
 {
-    undo_unfinished(pages, log, findings)?;
+    undo_unfinished(pages, log, analysis)?;
     let mut planner = planner_of(alloc, pages, levels);
-    let lost = findings.open_work.active().len() as u64;
-    abort_lost(alloc, pages, log, findings, &mut planner)?;
+    let lost = analysis.open_work.active().len() as u64;
+    abort_lost(alloc, pages, log, analysis, &mut planner)?;
     Ok((lost, planner))
 }
 

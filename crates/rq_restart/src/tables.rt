@@ -16,7 +16,7 @@ use std::alloc::Global;
 /// By sender, how many messages wait, and what its sends come to; the locks, of which none is held; and what plans
 /// operations, told of each cell.
 #[derive(Drop)]
-pub(crate) struct Tables<B: Level> {
+pub(crate) struct EngineTables<B: Level> {
     pub waiting: Waiting,
     pub sent: Sent,
     pub ends: Ends,
@@ -25,11 +25,11 @@ pub(crate) struct Tables<B: Level> {
 }
 
 /// What the directory tells: of each sender those messages wait that were sent and not received.
-pub(crate) fn read_tables<P: PageDevice + Drop, B: Level>(
+pub(crate) fn read_directory<P: PageDevice + Drop, B: Level>(
     alloc: Global,
     pages: &Pages<P>,
     planner: Planner<B>,
-) -> Result<Tables<B>, NoMemory>
+) -> Result<EngineTables<B>, NoMemory>
     requires { KnowsCells pages.now.sizes pages.now.images planner }
     ensures waiting { IfOk result (λ tables. tables.waiting ≡ waiting_in pages.now.sizes pages.now.images) }
     ensures sent { IfOk result (λ tables. tables.sent ≡ sent_in_slots pages.now.sizes pages.now.images) }
@@ -49,7 +49,7 @@ pub(crate) fn read_tables<P: PageDevice + Drop, B: Level>(
         sent.set(sender, last);
     }
     let ends = Ends::new(alloc, senders)?;
-    Ok(Tables {
+    Ok(EngineTables {
         waiting,
         sent,
         ends,

@@ -2,12 +2,12 @@
 ghost use Rattle.std.specs.Prelude.{◌≡◌, IfErr, OnOk, false, length};
 ghost use Rattle.rq_pool.specs.Pooled.{IsPool};
 ghost use Rattle.rq_analysis.specs.Pages.{IsUndone};
-ghost use Rattle.rq_restart.specs.Found.{AreFindings};
+ghost use Rattle.rq_restart.specs.Found.{IsAnalysisOf};
 ghost use Rattle.rq_restart.specs.Repeating.{AreCounted, Paged, Repeats, paged};
 ghost use Rattle.rq_restart.specs.Undoing.{UndoStops};
 
+use crate::analysis::Analysis;
 use crate::appending::{append, shows_pool};
-use crate::findings::Findings;
 use rq_disk::{LogDevice, PageDevice};
 use rq_log::Log;
 use rq_model::refusal::Refusal;
@@ -22,12 +22,12 @@ use rq_pool::Pages;
 pub(crate) fn undo_unfinished<P: PageDevice + Drop, L: LogDevice + Drop>(
     pages: &mut Pages<P>,
     log: &mut Log<L>,
-    findings: &mut Findings,
+    analysis: &mut Analysis,
 ) -> Result<(), Refusal>
-    requires found { AreFindings findings.old log.old.records }
+    requires found { IsAnalysisOf analysis.old log.old.records }
     requires running { log.old.failed ≡ false }
     ensures undone { OnOk result (IsUndone log.old.records log.new.records) }
-    ensures found { OnOk result (AreFindings findings.new log.new.records) }
+    ensures found { OnOk result (IsAnalysisOf analysis.new log.new.records) }
     ensures repeated { OnOk result ((first : Paged) → Repeats pages.old.sizes log.old.records first (paged pages.old)
         → Repeats pages.old.sizes log.new.records first (paged pages.new)) }
     ensures counted { OnOk result (AreCounted pages.old.sizes (length log.old.records) (paged pages.old)
@@ -41,8 +41,8 @@ pub(crate) fn undo_unfinished<P: PageDevice + Drop, L: LogDevice + Drop>(
         × (log.new.failed ≡ false) × (log.new.settled ≡ log.old.settled) }
     ensures room { OnOk result (log.new.reserved ≡ log.old.reserved) }
 {
-    while let Some(undo) = findings.open_work.next_undo() {
-        append(pages, log, findings, &undo)?;
+    while let Some(undo) = analysis.open_work.next_undo() {
+        append(pages, log, analysis, &undo)?;
     }
     shows_pool(pages);
     Ok(())

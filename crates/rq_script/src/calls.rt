@@ -124,13 +124,13 @@ fn finish_operation<S: Store>(store: &mut S, sub: Sub) -> Reply {
 // Undoes all that a transaction did, and ends it. One that is aborting already goes on with that.
 fn abort<S: Store>(store: &mut S, txn: Txn) -> Reply {
     match store.ask(Event::StartAbort(txn)) {
-        Reply::Aborting | Reply::Refused(Refusal::NotOpen) => undo_all(store, txn),
+        Reply::Aborting | Reply::Refused(Refusal::NotOpen) => undo_each(store, txn),
         reply => reply,
     }
 }
 
 // Undoes what an aborting transaction did, the newest first, and ends it. What is undone before a refusal stays so.
-fn undo_all<S: Store>(store: &mut S, txn: Txn) -> Reply {
+fn undo_each<S: Store>(store: &mut S, txn: Txn) -> Reply {
     for _ in 0..u64::MAX {
         match whole_operation(store, Event::UndoNext(txn)) {
             Reply::Finished(Outcome::Undone) => {}

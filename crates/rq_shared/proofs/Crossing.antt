@@ -15,7 +15,7 @@ use Rattle.rq_txn.proofs.Transactions.TheSendSync as transactions
 use Rattle.rq_shared.proofs.kept.AuditEntry.TheSendSync as entry
 use Rattle.rq_shared.specs.contracts.kept.Kept as Kept
 use Rattle.rq_shared.specs.declared.sharing.Sharing as sharing
-use Rattle.rq_shared.specs.contracts.room.Room as Room
+use Rattle.rq_shared.specs.contracts.guarded.Guarded as Guarded
 use Rattle.rq_shared.specs.contracts.shared.EngineLock as EngineLock
 
 ends_send : IsSend Ends.the_row
@@ -29,8 +29,8 @@ module _ (P L B : RattleType) (p : page_device.Ghosts P.Denot) (l : log_device.G
   kept_send = search (engine_send, entry.the_send, crosses, count.crosses, sendable) depth 60 fits 20000
 
   module _ (G : RattleType) (h : sharing.Ghosts G.Denot) (g : ledger.Ghosts G.Denot) where
-    room_send : IsSend (Room.the_row P L B G p l b h g)
-    room_send = search (kept_send, book.the_send, crosses, sendable) depth 60 fits 20000
+    guarded_send : IsSend (Guarded.the_row P L B G p l b h g)
+    guarded_send = search (kept_send, book.the_send, crosses, sendable) depth 60 fits 20000
 
     pub lock_sync : IsSync (EngineLock.the_row P L B G p l b h g)
-    lock_sync = search (room_send, crosses, sendable) depth 60 fits 20000
+    lock_sync = search (guarded_send, crosses, sendable) depth 60 fits 20000

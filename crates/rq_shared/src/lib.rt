@@ -2,9 +2,9 @@
 #![tactic(auto)]
 
 mod count;
+pub mod guarded;
 pub mod kept;
 pub mod mark;
-pub mod room;
 mod same;
 pub mod shared;
 pub mod sharing;

@@ -10,9 +10,9 @@ ghost use Rattle.rq_engine.specs.Opened.{AreHonest};
 ghost use Rattle.rq_engine.specs.Says.{commit_number};
 ghost use Rattle.rq_engine.specs.declared.event.Receipt.{Receipt as GivenReceipt};
 
+use crate::guarded::{Guarded, Pass, gather, give_pass};
 use crate::kept::{Kept, Stamped, Taken};
 use crate::mark::{Mark, MarkPass};
-use crate::room::{Pass, Room, gather, give_pass};
 use crate::sharing::{Sharing, Taking};
 use rq_disk::{LogDevice, PageDevice};
 use rq_engine::engine::Engine;
@@ -50,7 +50,7 @@ impl<P: PageDevice, L: LogDevice, B: Level, G: Sharing> Model for Shared<P, L, B
 /// The lock, which threads borrow.
 #[derive(Drop)]
 pub struct EngineLock<P: PageDevice, L: LogDevice, B: Level, G: Sharing> {
-    room: Mutex<Room<P, L, B, G>>,
+    guarded: Mutex<Guarded<P, L, B, G>>,
 }
 
 /// What is left once all passes are back.
@@ -73,7 +73,7 @@ impl<P: PageDevice + Drop, L: LogDevice + Drop, B: Level, G: Sharing> Shared<P, 
         let (taken, rest_taken) = taking.open::<Taking<G>>();
         Shared {
             lock: EngineLock {
-                room: Mutex::new(Room::new(Kept::new(alloc, engine), calls, taken)),
+                guarded: Mutex::new(Guarded::new(Kept::new(alloc, engine), calls, taken)),
             },
             rest,
             rest_taken,
@@ -157,9 +157,9 @@ impl<P: PageDevice + Drop, L: LogDevice + Drop, B: Level, G: Sharing> Shared<P, 
             rest_taken,
             given: _,
         } = self;
-        let EngineLock { room } = lock;
+        let EngineLock { guarded } = lock;
         let (mut all, mut all_taken) = gather(rest, rest_taken, passes);
-        let kept = room.into_inner().close(&mut all, &mut all_taken);
+        let kept = guarded.into_inner().close(&mut all, &mut all_taken);
         kept.shows_kept();
         Closed { kept }
     }
@@ -171,7 +171,7 @@ impl<P: PageDevice + Drop, L: LogDevice + Drop, B: Level, G: Sharing> EngineLock
     pub fn call<R: Wait>(&self, rt: &R, pass: &mut Pass<G>, event: Event) -> Stamped
         ensures { IsCalled pass.old event result pass.new }
     {
-        self.room.lock(rt).call(pass, event)
+        self.guarded.lock(rt).call(pass, event)
     }
 
     /// Forces, and under the same lock publishes how many records are forced.
@@ -185,7 +185,7 @@ impl<P: PageDevice + Drop, L: LogDevice + Drop, B: Level, G: Sharing> EngineLock
         requires { seat.old.table ≡ mark.now }
         ensures { IsForced pass.old seat.old result pass.new seat.new }
     {
-        self.room.lock(rt).force(pass, mark, seat)
+        self.guarded.lock(rt).force(pass, mark, seat)
     }
 
     /// The entries since the audit was last taken, once the lock is free, as `Kept::take` answers them: they replay
@@ -195,6 +195,6 @@ impl<P: PageDevice + Drop, L: LogDevice + Drop, B: Level, G: Sharing> EngineLock
         ensures taken { IsTaken P.PageDevice L.LogDevice G.premise result }
         ensures counted { CountsTaken pass.old (length result.audit) pass.new }
     {
-        self.room.lock(rt).take(pass)
+        self.guarded.lock(rt).take(pass)
     }
 }

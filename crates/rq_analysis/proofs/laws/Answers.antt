@@ -1,5 +1,5 @@
 use Rattle.rq_analysis.proofs.Undos.{undo_keeps_whole, undo_leaves_less, undo_is_plain, undone_from}
-use Rattle.rq_analysis.specs.Analysis.{analysis}
+use Rattle.rq_analysis.specs.OpenWorkView.{open_work_of}
 use Rattle.std.proofs.Common.{ap, sym, ◌∙◌, length, subst}
 use Rattle.std.proofs.lemmas.List.{length-map}
 use Rattle.rq_analysis.proofs.Noting.{noted_unfinished, noted_active, pair_of}
@@ -83,11 +83,11 @@ returns c = record {
   undos_keep_logs_whole = record {
     whole = undo_keeps_whole;
     less = undo_leaves_less;
-    plain = λ log r h. undo_is_plain (analysis log) r h;
+    plain = λ log r h. undo_is_plain (open_work_of log) r h;
   };
   undone_logs_are_whole = undone_from;
   unended_are_counted = record {
-    unfinished = λ z log w. sym (length-map (analysis log).unfinished pair_of) ∙ ap length (noted_unfinished z log w.legal);
+    unfinished = λ z log w. sym (length-map (open_work_of log).unfinished pair_of) ∙ ap length (noted_unfinished z log w.legal);
     lost = λ z log w. noted_active z log w.legal w.reads;
   };
   whole_logs_follow = whole_logs;

@@ -4,7 +4,7 @@ use Rattle.rq_cases.proofs.Bounds.{bounds}
 use Rattle.rq_cases.proofs.Courses.{causes, stops}
 use Rattle.rq_cases.proofs.Crashes.{runs}
 use Rattle.rq_cases.proofs.Formatting.{formats}
-use Rattle.rq_cases.proofs.Mending.{mends}
+use Rattle.rq_cases.proofs.RollingBack.{rolls_back}
 use Rattle.rq_cases.proofs.Openings.{beginnings, checks, refusals}
 use Rattle.rq_cases.proofs.Replies.{receipts}
 use Rattle.rq_cases.proofs.Restarting.{restarts}
@@ -24,7 +24,7 @@ returns c = record {
   restarts_are_judged = restarts;
   audits_are_judged = audits;
   checks_are_judged = checks;
-  mends_are_judged = mends;
+  rollbacks_are_judged = rolls_back;
   refusals_are_judged = refusals;
   beginnings_are_judged = beginnings;
   bounds_are_judged = bounds;

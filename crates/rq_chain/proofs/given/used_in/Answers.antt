@@ -1,6 +1,6 @@
 use Rattle.std.proofs.Common.{◌≡◌, Some, None, sym, ap, ◌∙◌}
 use Rattle.rq_page.specs.declared.cell.CellSlot.TheVariants as cells
-use Rattle.rq_chain.specs.Neighbours.{used_of}
+use Rattle.rq_chain.specs.CellEntries.{used_of}
 use Rattle.rq_chain.proofs.given.used_in.Goals as goal
 
 pub returns-in-Some-clause-used : goal.returns-in-Some-clause-used

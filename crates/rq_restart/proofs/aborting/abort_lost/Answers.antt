@@ -34,5 +34,5 @@ returns-clause-gone_on g c =
 pub undo_all_due-requires-clause-cells : goal.undo_all_due-requires-clause-cells
 undo_all_due-requires-clause-cells g c = cells_same c.args.pages.now c.end_idle.new.pages c.args.planner.now c.in_ok-end_idle.ensures.same c.requires.cells
 
-pub returns-then-is_settled-clause-gone_on : goal.returns-then-is_settled-clause-gone_on
-returns-then-is_settled-clause-gone_on g c = nothing_gone c.args.pages.now.sizes c.args.log.now.records c.args.pages.now (IsShown c.args.log.now.records c.args.pages.now)
+pub returns-then-all_ended-clause-gone_on : goal.returns-then-all_ended-clause-gone_on
+returns-then-all_ended-clause-gone_on g c = nothing_gone c.args.pages.now.sizes c.args.log.now.records c.args.pages.now (IsShown c.args.log.now.records c.args.pages.now)

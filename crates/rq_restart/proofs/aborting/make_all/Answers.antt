@@ -49,7 +49,7 @@ loop-index-preserved g c =
     let after = IsShownWithin (r ∷ log) new d n ws (i + 1) in
     let step : HasGoneOn z (Unit {0}) log (r ∷ log) old new here after = one_gone z (Unit {0}) log r old new here after tt one shown in
     let grown : c.append.new.log.records ≡ r ∷ log = made.records ∙ ap (λ q. q ∷ log) is in
-    let rest = write_rest log c.append.new.log.records c.loop-index.findings c.append.new.findings d.txn n w kept.found made.found grown in
+    let rest = write_rest log c.append.new.log.records c.loop-index.analysis c.append.new.analysis d.txn n w kept.found made.found grown in
     record {
       found = made.found;
       gone = subst (λ l. HasGoneOn z (with_writes d.txn n (take (i + 1) ws) first ≡ l) first l c.args.pages.now new before (IsShownWithin l new d n ws (i + 1))) (sym grown)

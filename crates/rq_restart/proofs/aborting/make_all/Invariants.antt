@@ -1,15 +1,15 @@
 use Rattle.std.proofs.Common.{◌≡◌, false, take}
 use Rattle.rq_restart.specs.Aborting.{HasGoneOn, IsShownWithin, with_writes}
-use Rattle.rq_restart.specs.Found.{AreFindings}
+use Rattle.rq_restart.specs.Found.{IsAnalysisOf}
 use Rattle.rq_planner.specs.Answered.{KnowsCells}
 use Rattle.rq_restart.proofs.aborting.make_all.Given as goal
 
 abbrev pub invariant-loop-index : goal.invariant-loop-index
 invariant-loop-index g l = record {
-  found : AreFindings l.findings l.log.records;
+  found : IsAnalysisOf l.analysis l.log.records;
   gone : HasGoneOn l.fn.pages.sizes (with_writes l.due.txn l.operation (take l.index l.writes) l.fn.log.records ≡ l.log.records) l.fn.log.records l.log.records l.fn.pages l.pages (IsShownWithin l.fn.log.records l.fn.pages l.due l.operation l.writes 0) (IsShownWithin l.log.records l.pages l.due l.operation l.writes l.index);
-  dues : l.findings.dues ≡ l.fn.findings.dues;
-  active : l.findings.open_work.active ≡ l.fn.findings.open_work.active;
+  dues : l.analysis.dues ≡ l.fn.analysis.dues;
+  active : l.analysis.open_work.active ≡ l.fn.analysis.open_work.active;
   sizes : l.pages.sizes ≡ l.fn.pages.sizes;
   device : l.pages.device ≡ l.fn.pages.device;
   log : (l.log.device ≡ l.fn.log.device) × (l.log.forced ≡ l.fn.log.forced) × (l.log.failed ≡ false) × (l.log.settled ≡ l.fn.log.settled);

@@ -4,7 +4,7 @@ use Rattle.rq_model.specs.declared.record.Record.TheVariants as records
 use Rattle.rq_model.specs.Vocabulary.{In}
 use Rattle.rq_page.specs.Sizes.{Sizes}
 use Rattle.rq_log.specs.Spelled.{AreSpelled}
-use Rattle.rq_analysis.specs.Analysis.{without_txn}
+use Rattle.rq_analysis.specs.OpenWorkView.{without_txn}
 use Rattle.rq_analysis.specs.Choices.{least_free}
 use Rattle.rq_analysis.specs.Dues.{any_due, dues}
 use Rattle.rq_restart.specs.Aborting.{AbortStops, AbortsFrom, HasGoneOn, IsAbortingFrom, IsShown, RepeatedSince}
@@ -56,8 +56,8 @@ loop-due-preserved g c =
     let mid = c.undo_due.new.log.records in
     let new = c.undo_due.new.pages in
     let d = c.in-Some.due in
-    let f = c.loop-due.findings in
-    let h = c.undo_due.new.findings in
+    let f = c.loop-due.analysis in
+    let h = c.undo_due.new.analysis in
     let step : HasGoneOn z (AbortsFrom z log old mid) log mid old new (IsShown log old) (IsShown mid new) = subst (λ y. HasGoneOn y (AbortsFrom y log old mid) log mid old new (IsShown log old) (IsShown mid new)) kept.sizes made.gone_on in
     let none : least_free (d ∷ h.dues) f.open_work.active ≡ None = ap (λ ds. least_free ds f.open_work.active) (sym made.rest) ∙ kept.none in
     record {
@@ -98,8 +98,8 @@ loop-due-preserved-in-Continue-branch-2 g c =
     let now = c.undo_due.new.pages in
     let new = c.append.new.pages in
     let d = c.in-Some.due in
-    let f = c.loop-due.findings in
-    let h = c.undo_due.new.findings in
+    let f = c.loop-due.analysis in
+    let h = c.undo_due.new.analysis in
     let r : Record = records.AbortEnd d.txn in
     let here = IsShown log old in
     let same_sizes : now.sizes ≡ z = made.sizes ∙ kept.sizes in
@@ -110,10 +110,10 @@ loop-due-preserved-in-Continue-branch-2 g c =
     let ended : AbortsFrom z mid now (r ∷ mid) = aborts_end z (RepeatedSince z mid (paged now)) mid d.txn (ends_next mid f h made.found d (ap (λ ds. least_free ds f.open_work.active) (sym made.rest) ∙ kept.none) made.active off made.lost) in
     let ends : HasGoneOn z (AbortsFrom z mid now (r ∷ mid)) mid (r ∷ mid) now new here (IsShown (r ∷ mid) new) =
     one_gone z (AbortsFrom z mid now (r ∷ mid)) mid r now new here (IsShown (r ∷ mid) new) ended one (next_shown z log mid old now f h kept.found made.found d made.rest kept.none made.active off step.shown new (last.same refl)) in
-    let rest = end_rest mid c.append.new.log.records h c.append.new.findings d.txn made.found last.found last.records off in
+    let rest = end_rest mid c.append.new.log.records h c.append.new.analysis d.txn made.found last.found last.records off in
     record {
       found = last.found;
-      none = ap (λ ds. least_free ds c.append.new.findings.open_work.active) rest.0 ∙ ap (least_free h.dues) (rest.1 ∙ ap (without_txn d.txn) made.active) ∙ none_behind d h.dues f.open_work.active none;
+      none = ap (λ ds. least_free ds c.append.new.analysis.open_work.active) rest.0 ∙ ap (least_free h.dues) (rest.1 ∙ ap (without_txn d.txn) made.active) ∙ none_behind d h.dues f.open_work.active none;
       gone = subst (λ l. HasGoneOn z (AbortsFrom z first start l) first l start new (IsShown first start) (IsShown l new)) (sym last.records)
           (gone_join z (AbortsFrom z first start log) first log start old (IsShown first start) here kept.gone (AbortsFrom z log old (r ∷ mid)) (AbortsFrom z first start (r ∷ mid)) (r ∷ mid) new (IsShown (r ∷ mid) new) (aborts_join z first log (paged start) (paged old) kept.gone.repeated (r ∷ mid))
           (gone_join z (AbortsFrom z log old mid) log mid old now here here (gone_keeping z (AbortsFrom z log old mid) log mid old now here (IsShown mid now) step) (AbortsFrom z mid now (r ∷ mid)) (AbortsFrom z log old (r ∷ mid)) (r ∷ mid) new (IsShown (r ∷ mid) new)
@@ -137,8 +137,8 @@ returns-in_err-append-clause-stops g c =
     let mid = c.undo_due.new.log.records in
     let now = c.undo_due.new.pages in
     let d = c.in-Some.due in
-    let f = c.loop-due.findings in
-    let h = c.undo_due.new.findings in
+    let f = c.loop-due.analysis in
+    let h = c.undo_due.new.analysis in
     let r : Record = records.AbortEnd d.txn in
     let here = IsShown log old in
     let e = c.in_err-append.field-0.0 in
@@ -154,14 +154,14 @@ returns-in_err-append-clause-stops g c =
     search (rules, k)
 
 pub returns-clause-ended : goal.returns-clause-ended
-returns-clause-ended g c = all_ended c.loop-due.log.records c.loop-due.findings c.loop-due.invariant.found c.in_default.ensures c.loop-due.invariant.none
+returns-clause-ended g c = all_ended c.loop-due.log.records c.loop-due.analysis c.loop-due.invariant.found c.in_default.ensures c.loop-due.invariant.none
 
 pub loop-due-smaller-in-Continue-branch-2 : goal.loop-due-smaller-in-Continue-branch-2
 loop-due-smaller-in-Continue-branch-2 g c =
     let made = c.in_ok-undo_due.ensures in
     let last = c.in_ok-append.ensures in
-    let h = c.undo_due.new.findings in
-    let rest = end_rest c.undo_due.new.log.records c.append.new.log.records h c.append.new.findings c.in-Some.due.txn made.found last.found last.records (sym c.if-not-owes.ensures) in
+    let h = c.undo_due.new.analysis in
+    let rest = end_rest c.undo_due.new.log.records c.append.new.log.records h c.append.new.analysis c.in-Some.due.txn made.found last.found last.records (sym c.if-not-owes.ensures) in
     let before = ap length made.rest in
     let behind = ap length rest.0 in
     omega (arith, before, behind)

@@ -12,7 +12,7 @@ use Rattle.rq_sound.specs.Inverses.{InverseTakesLowest}
 use Rattle.rq_restart.proofs.Renewing.{cells_same}
 use Rattle.rq_analysis.specs.Dues.{deed_due, dues}
 use Rattle.rq_analysis.specs.Numbers.{number_of, numbers}
-use Rattle.rq_analysis.specs.Analysis.{Analysis, analysis}
+use Rattle.rq_analysis.specs.OpenWorkView.{OpenWorkView, open_work_of}
 use Rattle.rq_restart.specs.Aborting.{AbortStops, AbortsFrom, HasGoneOn, IsAbortingFrom, IsMaking, IsPlannedBack, IsPlannedOn, IsShown, IsShownWithin, IsTakenNext, RepeatedSince, with_writes}
 use Rattle.rq_restart.specs.Aborting.IsAborting.{Between}
 use Rattle.rq_restart.specs.Repeating.{Belongs, IsRepeated, paged}
@@ -29,7 +29,7 @@ returns-in_err-writes-clause-stops g c =
     let old = c.args.pages.now in
     let refusal = c.in_err-writes.field-0.0 in
     let h : AbortStops z (IsAbortingFrom z log old) log old (IsShown log old) refusal =
-    plan_stops z log old c.args.findings.now c.requires.found c.args.due.now c.requires.first.0 c.requires.first.1 c.requires.none refusal c.in_err-writes.ensures.stops in
+    plan_stops z log old c.args.analysis.now c.requires.found c.args.due.now c.requires.first.0 c.requires.first.1 c.requires.none refusal c.in_err-writes.ensures.stops in
     search (rules, h)
 
 pub returns-in_default-clause-stops : goal.returns-in_default-clause-stops
@@ -38,7 +38,7 @@ returns-in_default-clause-stops g c =
     let log = c.args.log.now.records in
     let old = c.args.pages.now in
     let d = c.args.due.now in
-    let f = c.args.findings.now in
+    let f = c.args.analysis.now in
     let first = c.requires.first in
     let many : 2 ^ 64 ≤ number_of d.txn f.numbers + 1 = (let e = c.greatest.ensures in elim (cases_lt (c.greatest.result + 1) (2 ^ 64)) [ inl low ↦ absurd (c.in_default.ensures low) | inr high ↦ omega (arith, e, high) ]) in
     let none = few_operations z log old f c.requires.found d first.0 first.1 c.requires.none many (let k = c.last.ensures in let low = c.if-last-ge-LOG_LIMIT.false in omega (arith, k, low)) in
@@ -63,11 +63,11 @@ returns-in_err-make_all-clause-stops g c =
     let low : InverseTakesLowest z (slots_in z old.images) [] (deed_due d) ws = subst (InverseTakesLowest z (slots_in z old.images) [] (deed_due d)) (sym c.deref.ensures.value) c.in_ok-writes.ensures.lowest in
     let first = c.requires.first in
     let refusal = c.in_err-make_all.field-0.0 in
-    let number : n ≡ number_of d.txn c.args.findings.now.numbers + 1 = (let e : c.in-Some.operation ≡ c.greatest.result + 1 = search rules in e ∙ ap (λ (m : ℕ). m + 1) c.greatest.ensures) in
-    let begun = begin_shown z log old c.args.findings.now c.requires.found d first.0 first.1 c.requires.none ws n plan low number in
+    let number : n ≡ number_of d.txn c.args.analysis.now.numbers + 1 = (let e : c.in-Some.operation ≡ c.greatest.result + 1 = search rules in e ∙ ap (λ (m : ℕ). m + 1) c.greatest.ensures) in
+    let begun = begin_shown z log old c.args.analysis.now c.requires.found d first.0 first.1 c.requires.none ws n plan low number in
     let back : IsPlannedBack z (slots_in z old.images) d ws = subst (λ (l : List SlotWrite). IsPlannedBack z (slots_in z old.images) d l) (sym c.deref.ensures.value) c.in_ok-writes.ensures.back in
     let planned : IsPlannedOn z (RepeatedSince z log (paged old) log) d ws = planned_here z log (paged old) d ws back in
-    let next : IsTakenNext log d n = taken_next z log old c.args.findings.now c.requires.found d first.0 first.1 c.requires.none n number in
+    let next : IsTakenNext log d n = taken_next z log old c.args.analysis.now c.requires.found d first.0 first.1 c.requires.none n number in
     let h : AbortStops z (IsAbortingFrom z log old) log old (IsShown log old) refusal =
     stops_before z (IsMaking d.txn n ws log) (IsAbortingFrom z log old) log old (IsShown log old) (IsShownWithin log old d n ws 0) refusal (λ l. making_aborts z (RepeatedSince z log (paged old)) log l d n ws next planned) begun c.in_err-make_all.ensures.stops in
     search (rules, h)
@@ -88,7 +88,7 @@ returns-then-last-ge-LOG_LIMIT-clause-stops g c =
       last = log;
       aborting = aborting_none z (RepeatedSince z log (paged old)) log;
       full = (let k = c.last.ensures in let high = c.if-last-ge-LOG_LIMIT.true in omega (arith, k, high));
-      way = shown_way z log old c.args.findings.now c.requires.found;
+      way = shown_way z log old c.args.analysis.now c.requires.found;
     }
 
 pub returns-in_err-append-clause-stops : goal.returns-in_err-append-clause-stops
@@ -107,13 +107,13 @@ returns-in_err-append-clause-stops g c =
     let pages = c.make_all.new.pages in
     let r : Record = comp_end d.txn n d.lsn in
     let refusal = c.in_err-append.field-0.0 in
-    let number : n ≡ number_of d.txn c.args.findings.now.numbers + 1 = (let e : c.in-Some.operation ≡ c.greatest.result + 1 = search rules in e ∙ ap (λ (m : ℕ). m + 1) c.greatest.ensures) in
-    let begun = begin_shown z log old c.args.findings.now c.requires.found d first.0 first.1 c.requires.none ws n plan low number in
+    let number : n ≡ number_of d.txn c.args.analysis.now.numbers + 1 = (let e : c.in-Some.operation ≡ c.greatest.result + 1 = search rules in e ∙ ap (λ (m : ℕ). m + 1) c.greatest.ensures) in
+    let begun = begin_shown z log old c.args.analysis.now c.requires.found d first.0 first.1 c.requires.none ws n plan low number in
     let all = IsShownWithin mid pages d n ws (length ws) in
     let step : StepStops (length mid) (Belongs z mid r (paged pages)) refusal = subst (λ y. StepStops (length mid) (Belongs y mid r (paged pages)) refusal) made.sizes c.in_err-append.ensures.stops in
     let back : IsPlannedBack z (slots_in z old.images) d ws = subst (λ (l : List SlotWrite). IsPlannedBack z (slots_in z old.images) d l) (sym c.deref.ensures.value) c.in_ok-writes.ensures.back in
     let planned : IsPlannedOn z (RepeatedSince z log (paged old) log) d ws = planned_here z log (paged old) d ws back in
-    let next : IsTakenNext log d n = taken_next z log old c.args.findings.now c.requires.found d first.0 first.1 c.requires.none n number in
+    let next : IsTakenNext log d n = taken_next z log old c.args.analysis.now c.requires.found d first.0 first.1 c.requires.none n number in
     let here : AbortStops z (IsAbortingFrom z log old) mid pages all refusal = one_stops z (IsAbortingFrom z log old) mid r pages all (making_aborts z (RepeatedSince z log (paged old)) log mid d n ws next planned (record { made = length ws; are = made.gone_on.aborting })) (Between (closing_aborts z (RepeatedSince z log (paged old)) log mid d n ws next planned (all_made d.txn n ws log mid made.gone_on.aborting))) refusal step (within_way z mid pages d n ws (length ws)) (close_belongs z mid pages d n ws) in
     let then : AbortStops z (IsAbortingFrom z log old) log old (IsShownWithin log old d n ws 0) refusal = stops_join z (with_writes d.txn n (take (length ws) ws) log ≡ mid) log mid old pages (IsShownWithin log old d n ws 0) all made.gone_on (IsAbortingFrom z log old) (IsAbortingFrom z log old) (λ m l k. k) refusal here in
     let h : AbortStops z (IsAbortingFrom z log old) log old (IsShown log old) refusal = stops_before z (IsAbortingFrom z log old) (IsAbortingFrom z log old) log old (IsShown log old) (IsShownWithin log old d n ws 0) refusal (λ l k. k) begun then in
@@ -136,14 +136,14 @@ returns-clause-gone_on g c =
     let new = c.append.new.pages in
     let last = c.in_ok-append.ensures in
     let r : Record = comp_end d.txn n d.lsn in
-    let number : n ≡ number_of d.txn c.args.findings.now.numbers + 1 = (let e : c.in-Some.operation ≡ c.greatest.result + 1 = search rules in e ∙ ap (λ (m : ℕ). m + 1) c.greatest.ensures) in
-    let begun = begin_shown z log old c.args.findings.now c.requires.found d first.0 first.1 c.requires.none ws n plan low number in
+    let number : n ≡ number_of d.txn c.args.analysis.now.numbers + 1 = (let e : c.in-Some.operation ≡ c.greatest.result + 1 = search rules in e ∙ ap (λ (m : ℕ). m + 1) c.greatest.ensures) in
+    let begun = begin_shown z log old c.args.analysis.now c.requires.found d first.0 first.1 c.requires.none ws n plan low number in
     let before = IsShownWithin log old d n ws 0 in
     let all = IsShownWithin mid pages d n ws (length ws) in
     let one : IsRepeated z mid r (paged pages) (paged new) = subst (λ y. IsRepeated y mid r (paged pages) (paged new)) made.sizes last.repeated in
     let back : IsPlannedBack z (slots_in z old.images) d ws = subst (λ (l : List SlotWrite). IsPlannedBack z (slots_in z old.images) d l) (sym c.deref.ensures.value) c.in_ok-writes.ensures.back in
     let planned : IsPlannedOn z (RepeatedSince z log (paged old) log) d ws = planned_here z log (paged old) d ws back in
-    let next : IsTakenNext log d n = taken_next z log old c.args.findings.now c.requires.found d first.0 first.1 c.requires.none n number in
+    let next : IsTakenNext log d n = taken_next z log old c.args.analysis.now c.requires.found d first.0 first.1 c.requires.none n number in
     let taken : AbortsFrom z log old (r ∷ mid) = closing_aborts z (RepeatedSince z log (paged old)) log mid d n ws next planned (all_made d.txn n ws log mid made.gone_on.aborting) in
     let end : HasGoneOn z (AbortsFrom z log old (r ∷ mid)) mid (r ∷ mid) pages new all (IsShown (r ∷ mid) new) = one_gone z (AbortsFrom z log old (r ∷ mid)) mid r pages new all (IsShown (r ∷ mid) new) taken one (close_shown z mid pages d n ws new (last.same refl)) in
     let start : HasGoneOn z (Unit {0}) log log old old (IsShown log old) before = none_gone z log old (IsShown log old) before begun in
@@ -157,7 +157,7 @@ returns-clause-rest g c =
     let first = c.requires.first in
     let made = c.in_ok-make_all.ensures in
     let d = c.args.due.now in
-    let k = close_rest c.make_all.new.log.records c.append.new.log.records c.make_all.new.findings c.append.new.findings d first.0 c.in-Some.operation d.lsn made.found c.in_ok-append.ensures.found c.in_ok-append.ensures.records (made.rest.0 ∙ first.1) in
+    let k = close_rest c.make_all.new.log.records c.append.new.log.records c.make_all.new.analysis c.append.new.analysis d first.0 c.in-Some.operation d.lsn made.found c.in_ok-append.ensures.found c.in_ok-append.ensures.records (made.rest.0 ∙ first.1) in
     first.1 ∙ ap (λ l. d ∷ l) (sym k.0)
 
 -- its CompEnd followed the rules, so it had not ended
@@ -168,15 +168,15 @@ returns-clause-lost g c =
     let d = c.args.due.now in
     let mid = c.make_all.new.log.records in
     let there : In d (dues mid) = subst (In d) (sym first.1 ∙ sym made.rest.0 ∙ made.found.dues) (inl refl) in
-    let active : In d.txn (analysis mid).active = due_active mid d there c.in_ok-append.ensures.repeated.belongs.follows.running in
-    subst (In d.txn) (ap (λ (h : Analysis). h.active) (sym made.found.open_work) ∙ made.rest.1) active
+    let active : In d.txn (open_work_of mid).active = due_active mid d there c.in_ok-append.ensures.repeated.belongs.follows.running in
+    subst (In d.txn) (ap (λ (h : OpenWorkView). h.active) (sym made.found.open_work) ∙ made.rest.1) active
 
 pub returns-clause-active : goal.returns-clause-active
 returns-clause-active g c =
     let first = c.requires.first in
     let made = c.in_ok-make_all.ensures in
     let d = c.args.due.now in
-    (close_rest c.make_all.new.log.records c.append.new.log.records c.make_all.new.findings c.append.new.findings d first.0 c.in-Some.operation d.lsn made.found c.in_ok-append.ensures.found c.in_ok-append.ensures.records (made.rest.0 ∙ first.1)).1 ∙ made.rest.1
+    (close_rest c.make_all.new.log.records c.append.new.log.records c.make_all.new.analysis c.append.new.analysis d first.0 c.in-Some.operation d.lsn made.found c.in_ok-append.ensures.found c.in_ok-append.ensures.records (made.rest.0 ∙ first.1)).1 ∙ made.rest.1
 
 pub returns-clause-cells : goal.returns-clause-cells
 returns-clause-cells g c = cells_same c.make_all.new.pages c.append.new.pages c.make_all.new.planner (c.in_ok-append.ensures.same refl) c.in_ok-make_all.ensures.cells

@@ -1,6 +1,6 @@
 use Rattle.std.proofs.Common.{◌≡◌, ◌∷◌, ◌+◌, rules, ap, refl, subst, sym}
 use Rattle.std.proofs.lemmas.Bool.{false≢true}
-use Rattle.rq_restart.specs.Found.{AreFindings}
+use Rattle.rq_restart.specs.Found.{IsAnalysisOf}
 use Rattle.rq_restart.specs.Repeating.{paged}
 use Rattle.rq_restart.proofs.Going.{found_next}
 use Rattle.rq_restart.proofs.Undos.{belongs_then, one_repeated}
@@ -36,4 +36,4 @@ returns-clause-found g c =
     let place = ap (λ n. n + 1) c.last-lsn.ensures in
     let next = (c.in_ok-is_next.ensures.next log c.requires.found (λ y. c.requires.readable, λ q. refl)).0 c.if-not-is_next.false in
     let grown : c.append.new.self.records ≡ c.args.undo.now ∷ log = search rules in
-    subst (AreFindings c.note.new.self) (sym grown) (found_next c.args.findings.now c.note.new.self log c.args.undo.now (c.last-lsn.result + 1) place c.requires.found next c.in_ok-is_next.ensures.noted)
+    subst (IsAnalysisOf c.note.new.self) (sym grown) (found_next c.args.analysis.now c.note.new.self log c.args.undo.now (c.last-lsn.result + 1) place c.requires.found next c.in_ok-is_next.ensures.noted)

@@ -3,7 +3,7 @@ use Rattle.rq_model.specs.declared.record.Record.{Record}
 use Rattle.rq_page.specs.Sizes.{Sizes}
 use Rattle.rq_log.specs.Reading.{BeginsWith}
 use Rattle.rq_log.specs.Spelled.{AreSpelled}
-use Rattle.rq_restart.specs.Found.{AreFindings}
+use Rattle.rq_restart.specs.Found.{IsAnalysisOf}
 use Rattle.rq_restart.specs.Overwritten.{AreKept}
 use Rattle.rq_restart.specs.Refused.{NotRepeated}
 use Rattle.rq_restart.specs.Repeating.{IsRepeated, Repeats, paged}
@@ -25,7 +25,7 @@ loop-log_scan-preserved g c =
     subst (λ (y : Sizes). AreKept y c.last.result (paged c.args.pages.now) (paged c.check_and_redo.new.pages) c.check_and_redo.new.log_scan.overwritten.numbers.items) so_far.sizes
     (made.kept (paged c.args.pages.now) (length front) place (subst (λ (y : Sizes). AreKept y (length front) (paged c.args.pages.now) (paged c.loop-log_scan.pages) c.loop-log_scan.log_scan.overwritten.numbers.items) (sym so_far.sizes) so_far.kept)) in
     record {
-      found = subst (AreFindings c.check_and_redo.new.log_scan.findings) (sym grown) (made.found front place so_far.found);
+      found = subst (IsAnalysisOf c.check_and_redo.new.log_scan.analysis) (sym grown) (made.found front place so_far.found);
       repeated = subst (λ (l : List Record). Repeats z l (paged c.args.pages.now) (paged c.check_and_redo.new.pages)) (sym grown) (paged c.loop-log_scan.pages, so_far.repeated, one);
       kept = subst (λ n. AreKept z n (paged c.args.pages.now) (paged c.check_and_redo.new.pages) c.check_and_redo.new.log_scan.overwritten.numbers.items) c.last.ensures kept;
       reading = c.next_into.ensures.reading;

@@ -18,16 +18,16 @@ returns-in-Ok-undo_and_begin-clause-sound g c = λ first before left.
     let all = made.repeated in
     let pool : IsPool z new.images = subst (λ (y : Sizes). IsPool y new.images) made.sizes made.pool in
     subst (λ l. IsSound (opened z new.images l)) (ap (drop 1) (sym all.begun))
-    (begun_sound z first (paged new) new.images older all.mended refl pool all.mends.is (all.recovered first before left) (all.repeated first before) left)
+    (begun_sound z first (paged new) new.images older all.rolled_back refl pool all.rolls_back.is (all.recovered first before left) (all.repeated first before) left)
 
 pub returns-in-Ok-undo_and_begin-clause-checked : goal.returns-in-Ok-undo_and_begin-clause-checked
 returns-in-Ok-undo_and_begin-clause-checked g c = λ first before k.
     let z = c.args.pages.now.sizes in
     let n = c.last.ensures in
     let all = c.in-Ok-undo_and_begin.ensures.repeated in (
-      all.mended,
+      all.rolled_back,
       record {
-        gone_through = (
+        read_and_redone = (
           paged c.args.pages.now,
           record {
             repeated = before;
@@ -35,8 +35,8 @@ returns-in-Ok-undo_and_begin-clause-checked g c = λ first before k.
             counted = subst (λ m. AreCounted z m (paged c.args.pages.now)) n c.in-Ok.ensures.counted;
           },
         );
-        mends = all.mends.is;
-        planned = all.mends.planned first before;
+        rolls_back = all.rolls_back.is;
+        planned = all.rolls_back.planned first before;
         repeated = all.repeated first before;
         linked = all.linked;
         recovered = all.recovered first before;

@@ -1,7 +1,7 @@
 use Rattle.std.proofs.Common.{◌≡◌, drop, length, refl, sym, ap, subst, inl, inr, arith}
 use Rattle.rq_page.specs.Sizes.{Sizes}
 use Rattle.rq_log.specs.Crash.{LeavesOnly}
-use Rattle.rq_restart.specs.Mended.{IsMendedOn}
+use Rattle.rq_restart.specs.RolledBack.{IsRolledBackOn}
 use Rattle.rq_sound.specs.Sound.{IsSound}
 use Rattle.rq_store.specs.Opening.{opened, IsLeft}
 use Rattle.rq_store.specs.Fitting.{image_in}
@@ -114,7 +114,7 @@ returns-in-Ok-finish_restart-clause-checked g c =
     let read = c.in-Ok.ensures in
     let went = c.in-Ok-finish_restart.ensures in
     let checked = went.checked first repeated kept in
-    let on = subst (λ (y : Sizes). IsMendedOn y c.in-Ok.log.records checked.0 first (paged c.finish_restart.new.pages)) sizes checked.1 in
+    let on = subst (λ (y : Sizes). IsRolledBackOn y c.in-Ok.log.records checked.0 first (paged c.finish_restart.new.pages)) sizes checked.1 in
     (c.in-Ok.log.records, read.spelled, (λ h. read.whole (c.finish_restart.ensures.honest h)), checked.0, on, checked.2, (let n = went.ready.count in let e = ap length checked.2 in omega (arith, n, e)))
 
 pub returns-in-Ok-clause-refused : goal.returns-in-Ok-clause-refused

@@ -1,7 +1,7 @@
 use Rattle.std.proofs.Common.{◌≡◌, ◌+◌, ◌∷◌, ℕ, length, ap, sym, ◌∙◌, subst, arith}
 use Rattle.rq_model.specs.declared.record.Record.TheVariants as records
 use Rattle.rq_store.specs.Opening.{IsLeft, next_restart}
-use Rattle.rq_analysis.specs.Analysis.{Analysis}
+use Rattle.rq_analysis.specs.OpenWorkView.{OpenWorkView}
 use Rattle.rq_restart.specs.Refused.{WhyNotBegun}
 use Rattle.rq_restart.specs.Repeating.{AreCounted, paged}
 use Rattle.rq_restart.specs.Restarting.{AreTold}
@@ -12,67 +12,67 @@ use Rattle.rq_restart.proofs.restart.undo_and_begin.Goals as goal
 
 pub returns-in-Ok-clause-begun : goal.returns-in-Ok-clause-begun
 returns-in-Ok-clause-begun g c =
-    let mend = c.in_ok-lost.ensures in
-    begun_is c.args.log.now.records c.undo_all_checked.new.log.records mend.mends.is c.undo_all_checked.new.findings.open_work mend.found.open_work c.incarnation.result c.incarnation.ensures c.begin_incarnation.new.log c.in-Ok.ensures.records c.in-Ok.ensures.forced
+    let rollback = c.in_ok-lost.ensures in
+    begun_is c.args.log.now.records c.undo_all_checked.new.log.records rollback.rolls_back.is c.undo_all_checked.new.analysis.open_work rollback.found.open_work c.incarnation.result c.incarnation.ensures c.begin_incarnation.new.log c.in-Ok.ensures.records c.in-Ok.ensures.forced
 
 pub returns-in-Ok-clause-repeated : goal.returns-in-Ok-clause-repeated
 returns-in-Ok-clause-repeated g c =
-    let mend = c.in_ok-lost.ensures in
+    let rollback = c.in_ok-lost.ensures in
     record {
-      mended = c.undo_all_checked.new.log.records;
-      mends = mend.mends;
-      begun = begins c.args.log.now.records c.undo_all_checked.new.log.records mend.mends.is c.undo_all_checked.new.findings.open_work mend.found.open_work c.incarnation.result c.incarnation.ensures c.begin_incarnation.new.log.records c.in-Ok.ensures.records;
-      repeated = mend.repeated;
-      linked = mend.linked;
-      recovered = mend.recovered;
+      rolled_back = c.undo_all_checked.new.log.records;
+      rolls_back = rollback.rolls_back;
+      begun = begins c.args.log.now.records c.undo_all_checked.new.log.records rollback.rolls_back.is c.undo_all_checked.new.analysis.open_work rollback.found.open_work c.incarnation.result c.incarnation.ensures c.begin_incarnation.new.log.records c.in-Ok.ensures.records;
+      repeated = rollback.repeated;
+      linked = rollback.linked;
+      recovered = rollback.recovered;
     }
 
 pub returns-in-Ok-clause-report : goal.returns-in-Ok-clause-report
 returns-in-Ok-clause-report g c =
-    let mend = c.in_ok-lost.ensures in
+    let rollback = c.in_ok-lost.ensures in
     let told = c.in-Ok.ensures.report in
     let found = c.requires.found.open_work in
-    reports c.args.log.now.records c.undo_all_checked.new.log.records mend.mends.is c.undo_all_checked.new.findings.open_work mend.found.open_work c.incarnation.result c.incarnation.ensures c.args.pages.now.sizes c.begin_incarnation.new.log.records
+    reports c.args.log.now.records c.undo_all_checked.new.log.records rollback.rolls_back.is c.undo_all_checked.new.analysis.open_work rollback.found.open_work c.incarnation.result c.incarnation.ensures c.args.pages.now.sizes c.begin_incarnation.new.log.records
     c.in-Ok.report.incarnation c.in-Ok.report.records c.in-Ok.report.unfinished c.in-Ok.report.lost
-    (told.0, told.1, told.2 ∙ c.unfinished-unfinished.ensures ∙ ap (λ (h : Analysis). length h.unfinished) found, told.3 ∙ mend.lost ∙ ap (λ (h : Analysis). length h.active) found)
+    (told.0, told.1, told.2 ∙ c.unfinished-unfinished.ensures ∙ ap (λ (h : OpenWorkView). length h.unfinished) found, told.3 ∙ rollback.lost ∙ ap (λ (h : OpenWorkView). length h.active) found)
 
 pub returns-in-Ok-clause-told : goal.returns-in-Ok-clause-told
 returns-in-Ok-clause-told g c =
-    let mend = c.in_ok-lost.ensures in
+    let rollback = c.in_ok-lost.ensures in
     let z = c.undo_all_checked.new.pages.sizes in
     let images = c.undo_all_checked.new.pages.images in
     let count : ℕ = length c.undo_all_checked.new.log.records in
-    let counted : AreCounted z count (paged c.undo_all_checked.new.pages) = subst (λ y. AreCounted y count (paged c.undo_all_checked.new.pages)) (sym mend.sizes) (mend.counted c.requires.counted) in
+    let counted : AreCounted z count (paged c.undo_all_checked.new.pages) = subst (λ y. AreCounted y count (paged c.undo_all_checked.new.pages)) (sym rollback.sizes) (rollback.counted c.requires.counted) in
     let longer : count + 1 ≡ length c.begin_incarnation.new.log.records = (let e : length c.begin_incarnation.new.log.records ≡ length (records.Restart (c.incarnation.result + 1) ∷ c.undo_all_checked.new.log.records) = ap length c.in-Ok.ensures.records in omega (arith, e)) in
     subst (λ n. AreTold z images n c.in_ok-tables.tables.waiting c.in_ok-tables.tables.sent) longer (are_told z images count c.in_ok-tables.tables.waiting c.in_ok-tables.tables.sent c.in_ok-tables.ensures.waiting c.in_ok-tables.ensures.sent counted)
 
 pub returns-in-Ok-clause-any_moment : goal.returns-in-Ok-clause-any_moment
 returns-in-Ok-clause-any_moment g c = λ first before h are read.
-    let mend = c.in_ok-lost.ensures in
+    let rollback = c.in_ok-lost.ensures in
     let z = c.args.pages.now.sizes in
     let older = c.args.log.now.records in
-    let mended = c.undo_all_checked.new.log.records in
-    let restart : records.Restart (c.incarnation.result + 1) ≡ next_restart mended = ap (λ n. records.Restart (n + 1)) (last_is older mended mend.mends.is c.undo_all_checked.new.findings.open_work mend.found.open_work c.incarnation.result c.incarnation.ensures) in
-    begun_moment g.L.LogDevice z (IsLeft z first.image older) older mended (records.Restart (c.incarnation.result + 1)) c.undo_all_checked.new.log.forced c.args.log.now.device c.undo_all_checked.new.log.device c.begin_incarnation.new.log.device mend.log.0 mend.mends.is (mend.recovered first before)
+    let rolled_back = c.undo_all_checked.new.log.records in
+    let restart : records.Restart (c.incarnation.result + 1) ≡ next_restart rolled_back = ap (λ n. records.Restart (n + 1)) (last_is older rolled_back rollback.rolls_back.is c.undo_all_checked.new.analysis.open_work rollback.found.open_work c.incarnation.result c.incarnation.ensures) in
+    begun_moment g.L.LogDevice z (IsLeft z first.image older) older rolled_back (records.Restart (c.incarnation.result + 1)) c.undo_all_checked.new.log.forced c.args.log.now.device c.undo_all_checked.new.log.device c.begin_incarnation.new.log.device rollback.log.0 rollback.rolls_back.is (rollback.recovered first before)
     restart are read (c.begin_incarnation.ensures.any_moment h)
 
 pub returns-in-Err-clause-any_moment : goal.returns-in-Err-clause-any_moment
 returns-in-Err-clause-any_moment g c = λ first before h are read.
-    let mend = c.in_ok-lost.ensures in
+    let rollback = c.in_ok-lost.ensures in
     let z = c.args.pages.now.sizes in
     let older = c.args.log.now.records in
-    let mended = c.undo_all_checked.new.log.records in
-    let restart : records.Restart (c.incarnation.result + 1) ≡ next_restart mended = ap (λ n. records.Restart (n + 1)) (last_is older mended mend.mends.is c.undo_all_checked.new.findings.open_work mend.found.open_work c.incarnation.result c.incarnation.ensures) in
-    begun_moment g.L.LogDevice z (IsLeft z first.image older) older mended (records.Restart (c.incarnation.result + 1)) c.undo_all_checked.new.log.forced c.args.log.now.device c.undo_all_checked.new.log.device c.begin_incarnation.new.log.device mend.log.0 mend.mends.is (mend.recovered first before)
+    let rolled_back = c.undo_all_checked.new.log.records in
+    let restart : records.Restart (c.incarnation.result + 1) ≡ next_restart rolled_back = ap (λ n. records.Restart (n + 1)) (last_is older rolled_back rollback.rolls_back.is c.undo_all_checked.new.analysis.open_work rollback.found.open_work c.incarnation.result c.incarnation.ensures) in
+    begun_moment g.L.LogDevice z (IsLeft z first.image older) older rolled_back (records.Restart (c.incarnation.result + 1)) c.undo_all_checked.new.log.forced c.args.log.now.device c.undo_all_checked.new.log.device c.begin_incarnation.new.log.device rollback.log.0 rollback.rolls_back.is (rollback.recovered first before)
     restart are read (c.begin_incarnation.ensures.any_moment h)
 
 pub returns-in-Err-clause-stops : goal.returns-in-Err-clause-stops
 returns-in-Err-clause-stops g c = λ first before.
-    let mend = c.in_ok-lost.ensures in
+    let rollback = c.in_ok-lost.ensures in
     let z = c.args.pages.now.sizes in
     let older = c.args.log.now.records in
     let faults = g.L.LogDevice.faults in
     let new = c.begin_incarnation.new.log.device in
     let mid = c.undo_all_checked.new.log.device in
-    subst (λ d. WhyNotBegun z older first c.in-Err.refusal (faults d) (faults new) (new ≡ d)) mend.log.0
-    (not_begun older c.undo_all_checked.new.log.records mend.mends.is c.undo_all_checked.new.findings.open_work mend.found.open_work c.incarnation.result c.incarnation.ensures z first (paged c.undo_all_checked.new.pages) c.in-Err.refusal (faults mid) (faults new) (new ≡ mid) (mend.repeated first before) (mend.mends.planned first before) (mend.recovered first before) c.in-Err.ensures.err)
+    subst (λ d. WhyNotBegun z older first c.in-Err.refusal (faults d) (faults new) (new ≡ d)) rollback.log.0
+    (not_begun older c.undo_all_checked.new.log.records rollback.rolls_back.is c.undo_all_checked.new.analysis.open_work rollback.found.open_work c.incarnation.result c.incarnation.ensures z first (paged c.undo_all_checked.new.pages) c.in-Err.refusal (faults mid) (faults new) (new ≡ mid) (rollback.repeated first before) (rollback.rolls_back.planned first before) (rollback.recovered first before) c.in-Err.ensures.err)

@@ -1,6 +1,6 @@
 use Rattle.std.proofs.Common.{ap, sym, ◌∙◌}
 use Rattle.rq_model.specs.Vocabulary.{has_number}
-use Rattle.rq_analysis.specs.ScanState.{Counts}
+use Rattle.rq_analysis.specs.LogTables.{Counts}
 use Rattle.rq_analysis.proofs.RuleCounts.{else_other}
 use Rattle.rq_analysis.proofs.Keys.{has_key}
 use Rattle.rq_analysis.proofs.ended.EndedTransactions.has.Goals as goal

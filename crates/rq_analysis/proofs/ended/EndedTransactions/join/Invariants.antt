@@ -1,5 +1,5 @@
 use Rattle.std.proofs.Common.{◌≡◌, length}
-use Rattle.rq_analysis.specs.ScanState.{joined}
+use Rattle.rq_analysis.specs.LogTables.{joined}
 use Rattle.rq_analysis.proofs.ended.EndedTransactions.join.Given as goal
 
 abbrev pub invariant-loop-self : goal.invariant-loop-self

@@ -1,7 +1,7 @@
 use Rattle.std.proofs.Common.{Some, ap, sym, ◌∙◌}
 use Rattle.std.specs.List.{filter}
 use Rattle.rq_model.specs.Vocabulary.{first}
-use Rattle.rq_analysis.specs.Analysis.{Analysis, undoable_by}
+use Rattle.rq_analysis.specs.OpenWorkView.{OpenWorkView, undoable_by}
 use Rattle.rq_analysis.specs.Pages.{any_undoable}
 use Rattle.rq_analysis.proofs.Places.{newest_there, none_there}
 use Rattle.rq_analysis.proofs.open_work.OpenWork.newest_undoable.Goals as goal
@@ -12,9 +12,9 @@ returns-in-Some c =
     let found = c.in-Some.ensures in
     ap Some c.index.ensures
     ∙ newest_there c.args.sub c.deref.result.now items c.in-Some.place c.index.result.now c.deref.ensures.value found.place (found.own c.index.result.now) found.newest
-    ∙ ap (λ (h : Analysis). first (filter (undoable_by c.args.sub) h.undoable)) c.self.view_is
+    ∙ ap (λ (h : OpenWorkView). first (filter (undoable_by c.args.sub) h.undoable)) c.self.view_is
 
 pub returns-in-None : goal.returns-in-None
 returns-in-None c =
     none_there c.args.sub c.self.inside.undoable.items (ap (any_undoable c.args.sub) (sym c.deref.ensures.value) ∙ c.in-None.ensures.none)
-    ∙ ap (λ (h : Analysis). first (filter (undoable_by c.args.sub) h.undoable)) c.self.view_is
+    ∙ ap (λ (h : OpenWorkView). first (filter (undoable_by c.args.sub) h.undoable)) c.self.view_is

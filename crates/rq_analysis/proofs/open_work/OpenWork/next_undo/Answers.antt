@@ -1,7 +1,7 @@
 use Rattle.std.proofs.Common.{◌≡◌, ap, subst, sym, ◌∙◌, Some, None, length, ◌-◌}
 use Rattle.std.specs.List.{slice_get}
 use Rattle.std.specs.Option.{option_copied}
-use Rattle.rq_analysis.specs.Analysis.{Analysis}
+use Rattle.rq_analysis.specs.OpenWorkView.{OpenWorkView}
 use Rattle.rq_analysis.specs.Least.{least_in}
 use Rattle.rq_analysis.specs.Pages.{IsNextUndo}
 use Rattle.rq_analysis.proofs.Next.{voids_next, undoes_next, nothing_next}
@@ -13,7 +13,7 @@ returns-in-Some-clause-some c =
     let found : least_in inside.undoable.items inside.unfinished.items ≡ Some c.in-Some.spent =
     ap (λ ps. least_in ps inside.unfinished.items) (sym c.deref-2.ensures.value) ∙ ap (least_in c.deref-2.result.now) (sym c.deref.ensures.value) ∙ sym c.least_spent.ensures ∙ c.in-Some.is in
     subst (IsNextUndo c.args.self.now) (sym c.void_record.ensures)
-    (voids_next c.args.self.now inside.undoable.items inside.unfinished.items (ap (λ (h : Analysis). h.undoable) (sym c.self.view_is)) (ap (λ (h : Analysis). h.unfinished) (sym c.self.view_is)) c.in-Some.spent found)
+    (voids_next c.args.self.now inside.undoable.items inside.unfinished.items (ap (λ (h : OpenWorkView). h.undoable) (sym c.self.view_is)) (ap (λ (h : OpenWorkView). h.unfinished) (sym c.self.view_is)) c.in-Some.spent found)
 
 pub returns-in-Some-last-clause-some : goal.returns-in-Some-last-clause-some
 returns-in-Some-last-clause-some c =
@@ -23,7 +23,7 @@ returns-in-Some-last-clause-some c =
     let last : slice_get inside.undoable.items (length inside.undoable.items - 1) ≡ Some c.in-Some-last.newest.now =
     ap (λ ps. slice_get ps (length ps - 1)) (sym c.deref-in-None.ensures.value) ∙ sym c.last.ensures.value ∙ ap option_copied c.in-Some-last.is in
     subst (IsNextUndo c.args.self.now) (sym c.undo_record.ensures)
-    (undoes_next c.args.self.now inside.undoable.items inside.unfinished.items (ap (λ (h : Analysis). h.undoable) (sym c.self.view_is)) (ap (λ (h : Analysis). h.unfinished) (sym c.self.view_is)) c.in-Some-last.newest.now none last)
+    (undoes_next c.args.self.now inside.undoable.items inside.unfinished.items (ap (λ (h : OpenWorkView). h.undoable) (sym c.self.view_is)) (ap (λ (h : OpenWorkView). h.unfinished) (sym c.self.view_is)) c.in-Some-last.newest.now none last)
 
 pub returns-in-None-last-clause-none : goal.returns-in-None-last-clause-none
 returns-in-None-last-clause-none c =
@@ -32,4 +32,4 @@ returns-in-None-last-clause-none c =
     ap (λ ps. least_in ps inside.unfinished.items) (sym c.deref-2.ensures.value) ∙ ap (least_in c.deref-2.result.now) (sym c.deref.ensures.value) ∙ sym c.least_spent.ensures ∙ c.in-None.is in
     let last : slice_get inside.undoable.items (length inside.undoable.items - 1) ≡ None =
     ap (λ ps. slice_get ps (length ps - 1)) (sym c.deref-in-None.ensures.value) ∙ sym c.last.ensures.value ∙ ap option_copied c.in-None-last.is in
-    nothing_next c.args.self.now inside.undoable.items inside.unfinished.items (ap (λ (h : Analysis). h.undoable) (sym c.self.view_is)) (ap (λ (h : Analysis). h.unfinished) (sym c.self.view_is)) none last
+    nothing_next c.args.self.now inside.undoable.items inside.unfinished.items (ap (λ (h : OpenWorkView). h.undoable) (sym c.self.view_is)) (ap (λ (h : OpenWorkView). h.unfinished) (sym c.self.view_is)) none last

@@ -2,7 +2,7 @@
 ghost use Rattle.std.specs.Prelude.{◌≡◌, ◌↔◌, List, IsTrue, IfOk, IfErr, OnOk, []};
 ghost use Rattle.rq_model.specs.declared.record.Record.{Record as AnyRecord};
 ghost use Rattle.rq_analysis.specs.Rules.{CanBeRead};
-ghost use Rattle.rq_restart.specs.Found.{AreFindings, MayFollow, findings_after};
+ghost use Rattle.rq_restart.specs.Found.{IsAnalysisOf, MayComeNext, analysis_after};
 
 use rq_analysis::{EndedTransactions, LastOperations, OpenWork, PendingUndos, follows};
 use rq_model::record::Record;
@@ -12,7 +12,7 @@ use std::alloc::Global;
 
 /// What the records of a log come to, one after the other.
 #[derive(Drop)]
-pub(crate) struct Findings {
+pub(crate) struct Analysis {
     /// Incarnations, and what has no end.
     pub open_work: OpenWork,
     /// What transactions without an end finished, and did not take back.
@@ -23,12 +23,12 @@ pub(crate) struct Findings {
     pub ended: EndedTransactions,
 }
 
-impl Findings {
+impl Analysis {
     /// Of no record.
     pub(crate) fn new(alloc: Global) -> Self
-        ensures { AreFindings result [] }
+        ensures { IsAnalysisOf result [] }
     {
-        Findings {
+        Analysis {
             open_work: OpenWork::new(alloc),
             dues: PendingUndos::new(alloc),
             numbers: LastOperations::new(alloc),
@@ -42,9 +42,9 @@ impl Findings {
     /// # Errors
     /// `NoMemory`.
     pub(crate) fn note(&mut self, lsn: Lsn, reads: bool, record: &Record) -> Result<bool, Refusal>
-        ensures next { IfOk result (λ is_next. (log : List AnyRecord) → AreFindings self.old log
-            → (IsTrue reads ↔ CanBeRead «record».now) → (IsTrue is_next ↔ MayFollow log «record».now)) }
-        ensures noted { OnOk result (self.new ≡ findings_after lsn «record».now self.old) }
+        ensures next { IfOk result (λ is_next. (log : List AnyRecord) → IsAnalysisOf self.old log
+            → (IsTrue reads ↔ CanBeRead «record».now) → (IsTrue is_next ↔ MayComeNext log «record».now)) }
+        ensures noted { OnOk result (self.new ≡ analysis_after lsn «record».now self.old) }
         ensures err { IfErr result (λ e. e ≡ Refusal.NoMemory) }
     {
         let follows = follows(

@@ -2,7 +2,7 @@ use Rattle.std.proofs.Common.{rules, ◌≡◌, ◌+◌, ap, length, sym, ◌∙
 use Rattle.std.proofs.lemmas.List.{length-map}
 use Rattle.rq_shared.specs.Entries.{Follows, entry_of}
 use Rattle.rq_shared.proofs.Leading.{begins_anew}
-use Rattle.rq_shared.proofs.room.Room.take.Goals as goal
+use Rattle.rq_shared.proofs.guarded.Guarded.take.Goals as goal
 
 -- the audit that is taken leads on from its base to the engine, with which the next begins
 pub invariant_of-self : goal.invariant_of-self

@@ -13,7 +13,7 @@ use Rattle.rq_analysis.specs.declared.open_work.UndoableWrite.{UndoableWrite}
 
 -- the incarnation, the operations that wrote a slot and have no end, their writes that are not undone, the newest first,
 -- and the transactions that finished an operation and have no end
-pub record Analysis : Type 0 where
+pub record OpenWorkView : Type 0 where
   pub incarnation : ℕ
   pub unfinished : List Sub
   pub undoable : List UndoableWrite
@@ -72,14 +72,14 @@ active_after (Commit t) ts = without_txn t ts
 active_after (AbortEnd t) ts = without_txn t ts
 active_after _ ts = ts
 
-abbrev pub analysis_after : ℕ → Record → Analysis → Analysis
-analysis_after lsn r h = record {
+abbrev pub open_work_after : ℕ → Record → OpenWorkView → OpenWorkView
+open_work_after lsn r h = record {
   incarnation = incarnation_one r h.incarnation;
   unfinished = unfinished_after r h.unfinished;
   undoable = undoable_after lsn r h.undoable;
   active = active_after r h.active;
 }
 
-abbrev pub analysis : List Record → Analysis
-analysis [] = record { incarnation = 0; unfinished = []; undoable = []; active = [] }
-analysis (r ∷ log) = analysis_after (length log + 1) r (analysis log)
+abbrev pub open_work_of : List Record → OpenWorkView
+open_work_of [] = record { incarnation = 0; unfinished = []; undoable = []; active = [] }
+open_work_of (r ∷ log) = open_work_after (length log + 1) r (open_work_of log)

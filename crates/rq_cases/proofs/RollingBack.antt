@@ -20,11 +20,11 @@ use Rattle.rq_analysis.specs.WorkedMoves.{Pages, cell_is_back, ended, group_is_b
 use Rattle.rq_restart.specs.Aborting.{AbortsBehind, AreRounds, IsAborting, IsTakenNext, RepeatedFrom, Round, after_round, after_rounds, with_writes}
 use Rattle.rq_restart.specs.Aborting.IsAborting.{Between, Within}
 use Rattle.rq_restart.specs.Aborting.Round.{Ends, TakesBack}
-use Rattle.rq_restart.specs.Mended.{IsMended}
+use Rattle.rq_restart.specs.RolledBack.{IsRolledBack}
 use Rattle.rq_restart.specs.Repeating.{Paged}
 use Rattle.rq_restart.proofs.Aborts.{aborts_none}
 use Rattle.rq_restart.proofs.Begun as begun
-use Rattle.rq_cases.specs.Mending.{MendsAreJudged}
+use Rattle.rq_cases.specs.RollingBack.{MendsAreJudged}
 use Rattle.rq_cases.specs.Restarting.{read_pages}
 use Rattle.rq_cases.specs.Run.{log_2, log_5}
 use Rattle.rq_cases.specs.Store.{formatted_pages, sizes}
@@ -46,8 +46,8 @@ back_twice v = record {
   are = refl;
 }
 
-mended : (v : Pages) → IsMended log_two (ended v).records
-mended v = record { undone = log_two; undoes = none_unfinished; aborting = back_twice v; ended = refl; none_lost = λ e. absurd (cc e) }
+rolled_back : (v : Pages) → IsRolledBack log_two (ended v).records
+rolled_back v = record { undone = log_two; undoes = none_unfinished; aborting = back_twice v; ended = refl; none_lost = λ e. absurd (cc e) }
 
 -- writes make a log no shorter, and rounds make it longer
 writes_longer : (t : Txn) (n : ℕ) (ws : List SlotWrite) (log : List Record) → length log ≤ length (with_writes t n ws log)
@@ -141,10 +141,10 @@ half_back v a =
 left_2 : IsLeft sizes (image_in formatted_pages) log_2
 left_2 = record { whole = whole_dropped sizes 3 log_5 whole_5; fits = fits_log_longer sizes (image_in formatted_pages) [] log_2 (2, refl) (formatted_fits sizes (image_in formatted_pages) range are_formatted) }
 
-pub mends : MendsAreJudged
-mends = record {
-  taken_back = mended;
-  opened_over = λ v. (mended v, refl);
+pub rolls_back : MendsAreJudged
+rolls_back = record {
+  taken_back = rolled_back;
+  opened_over = λ v. (rolled_back v, refl);
   one_taken_back = half_back;
   half_taken_back = λ v first plan. Within log_two took_due 3 put_back.writes 1 (aborts_none items.sizes (RepeatedFrom items.sizes first) log_two) took_next plan refl;
   not_planned = not_planned;
@@ -153,7 +153,7 @@ mends = record {
   ends_early = none_ends t2;
   another_ends = λ first. not_aborting (RepeatedFrom items.sizes first) (AbortEnd t1) refl (none_ends t1);
   commits = λ first. not_aborting (RepeatedFrom items.sizes first) (Commit t2) refl no_commit;
-  no_bad_mend = λ lsn b. b.none left_4;
+  no_bad_rollback = λ lsn b. b.none left_4;
   no_bad_undo = λ lsn b. begun.no_bad_undo sizes log_2 read_pages lsn left_2 b;
   not_full = λ b.
       (let e : length b.undone ≡ 5 = ap length (nothing_undone log_5 b.undone refl refl b.undoing) in

@@ -9,7 +9,7 @@ use Rattle.rq_store.specs.Opening.{IsLeft, next_restart}
 use Rattle.rq_analysis.specs.Pages.{IsUndoing, IsUndone}
 use Rattle.rq_analysis.specs.Recovered.{IsRecovered, IsRecovering}
 use Rattle.rq_restart.specs.Aborting.{AbortsBehind, ArePlanned, IsAborting, IsBadStep, RepeatedFrom}
-use Rattle.rq_restart.specs.Checked.{IsEnded, WasGoneThrough}
+use Rattle.rq_restart.specs.Checked.{IsEnded, WasReadAndRedone}
 use Rattle.rq_chain_check.specs.Links.{AreLinked, IsFault}
 use Rattle.rq_views.specs.Log.{Slots}
 use Rattle.rq_restart.specs.Repeating.{Paged, Repeats, slots_on}
@@ -17,42 +17,42 @@ use Rattle.rq_restart.specs.Undoing.{IsBadUndo}
 
 -- Behind the log stand the records by which operations without an end are undone, and then those by which lost
 -- transactions are, each in its turn, none where every transaction had its end. All have it then.
-pub record IsMended (log mended : List Record) : Type 0 where
+pub record IsRolledBack (log rolled_back : List Record) : Type 0 where
   pub undone : List Record
   pub undoes : IsUndone log undone
-  pub aborting : AbortsBehind undone mended
-  pub ended : IsEnded mended
-  pub none_lost : IsEnded log → mended ≡ undone
+  pub aborting : AbortsBehind undone rolled_back
+  pub ended : IsEnded rolled_back
+  pub none_lost : IsEnded log → rolled_back ≡ undone
 
 -- what is taken back in the rounds of it is planned over the pages that the log before was repeated on
-abbrev pub ArePlannedFrom : Sizes → Paged → (log mended : List Record) → IsMended log mended → Type 0
-ArePlannedFrom z first log mended m = ArePlanned z (RepeatedFrom z first) m.undone m.aborting.rounds
+abbrev pub ArePlannedFrom : Sizes → Paged → (log rolled_back : List Record) → IsRolledBack log rolled_back → Type 0
+ArePlannedFrom z first log rolled_back m = ArePlanned z (RepeatedFrom z first) m.undone m.aborting.rounds
 
 -- the same, wherever the log was repeated to these pages
-pub record IsMendedSince (z : Sizes) (log mended : List Record) (old : Paged) : Type 0 where
-  pub is : IsMended log mended
-  pub planned : (first : Paged) → Repeats z log first old → ArePlannedFrom z first log mended is
+pub record IsRolledBackSince (z : Sizes) (log rolled_back : List Record) (old : Paged) : Type 0 where
+  pub is : IsRolledBack log rolled_back
+  pub planned : (first : Paged) → Repeats z log first old → ArePlannedFrom z first log rolled_back is
 
 -- The pages went through the log, and the records that mend it were repeated on them too, each operation of them planned
 -- from the slots as they were. The senders' chains are whole then. Of a store that was left so, the records recover it.
-pub record IsMendedOn (z : Sizes) (log mended : List Record) (first last : Paged) : Type 0 where
-  pub gone_through : WasGoneThrough z log first
-  pub mends : IsMended log mended
-  pub planned : ArePlannedFrom z first log mended mends
-  pub repeated : Repeats z mended first last
+pub record IsRolledBackOn (z : Sizes) (log rolled_back : List Record) (first last : Paged) : Type 0 where
+  pub read_and_redone : WasReadAndRedone z log first
+  pub rolls_back : IsRolledBack log rolled_back
+  pub planned : ArePlannedFrom z first log rolled_back rolls_back
+  pub repeated : Repeats z rolled_back first last
   pub linked : AreLinked z (slots_on z last)
-  pub recovered : IsLeft z first.image log → IsRecovered z log mended
+  pub recovered : IsLeft z first.image log → IsRecovered z log rolled_back
 
 -- From pages that history was repeated on: behind the log stand the records that mend it, and the one that begins the
 -- next incarnation, and the first of these were repeated on the pages too. The senders' chains are whole then. Of a store
 -- that was left so, they recover it.
 pub record HasRepeated (z : Sizes) (log now : List Record) (old new : Paged) : Type 0 where
-  pub mended : List Record
-  pub mends : IsMendedSince z log mended old
-  pub begun : now ≡ next_restart mended ∷ mended
-  pub repeated : (first : Paged) → Repeats z log first old → Repeats z mended first new
+  pub rolled_back : List Record
+  pub rolls_back : IsRolledBackSince z log rolled_back old
+  pub begun : now ≡ next_restart rolled_back ∷ rolled_back
+  pub repeated : (first : Paged) → Repeats z log first old → Repeats z rolled_back first new
   pub linked : AreLinked z (slots_on z new)
-  pub recovered : (first : Paged) → Repeats z log first old → IsLeft z first.image log → IsRecovered z log mended
+  pub recovered : (first : Paged) → Repeats z log first old → IsLeft z first.image log → IsRecovered z log rolled_back
 
 -- the log, with the records behind that recover some of it, is at its greatest length
 pub record IsAtBound (z : Sizes) (log : List Record) : Type 0 where
@@ -74,7 +74,7 @@ pub record HasNoRoom (z : Sizes) (first : Paged) (log : List Record) : Type 0 wh
 
 -- What would undo the next lost transaction doesn't belong there, or what it did, told by the OpEnd with this LSN, cannot
 -- be taken back. So it is of no store that was left so.
-pub record IsBadMend (z : Sizes) (log : List Record) (first : Paged) (lsn : ℕ) : Type 0 where
+pub record IsBadRollback (z : Sizes) (log : List Record) (first : Paged) (lsn : ℕ) : Type 0 where
   pub undone : List Record
   pub undoes : IsUndone log undone
   pub last : List Record
@@ -85,11 +85,11 @@ pub record IsBadMend (z : Sizes) (log : List Record) (first : Paged) (lsn : ℕ)
 -- Once the log was mended, on the pages too, the senders' chains are not whole, and this is the page to be named. So it is
 -- of no store that was left so.
 pub record IsUnlinked (z : Sizes) (log : List Record) (first : Paged) (page : ℕ) : Type 0 where
-  pub mended : List Record
-  pub mends : IsMended log mended
-  pub planned : ArePlannedFrom z first log mended mends
+  pub rolled_back : List Record
+  pub rolls_back : IsRolledBack log rolled_back
+  pub planned : ArePlannedFrom z first log rolled_back rolls_back
   pub last : Paged
-  pub repeated : Repeats z mended first last
+  pub repeated : Repeats z rolled_back first last
   pub fault : IsFault z (slots_on z last) page
   pub none : IsLeft z first.image log → ⊥
 
@@ -100,9 +100,9 @@ LinkStops z q (why.Damaged (damage.Page page)) = IsFault z q page
 LinkStops z q _ = ⊥
 
 -- why the log was not mended, or the chains are not whole once it is
-abbrev pub MendStops : Sizes → List Record → Paged → Refusal → Type 0
-MendStops z log first why.NoMemory = Unit {0}
-MendStops z log first why.LogFull = HasNoRoom z first log
-MendStops z log first (why.Damaged (damage.Record lsn)) = IsBadUndo z log first lsn ⊎ IsBadMend z log first lsn
-MendStops z log first (why.Damaged (damage.Page page)) = IsUnlinked z log first page
-MendStops z log first _ = ⊥
+abbrev pub RollbackStops : Sizes → List Record → Paged → Refusal → Type 0
+RollbackStops z log first why.NoMemory = Unit {0}
+RollbackStops z log first why.LogFull = HasNoRoom z first log
+RollbackStops z log first (why.Damaged (damage.Record lsn)) = IsBadUndo z log first lsn ⊎ IsBadRollback z log first lsn
+RollbackStops z log first (why.Damaged (damage.Page page)) = IsUnlinked z log first page
+RollbackStops z log first _ = ⊥

@@ -1,7 +1,7 @@
 use Rattle.std.proofs.Common.{◌≡◌, ◌+◌, length}
 use Rattle.std.specs.Prelude.{sum_by}
 use Rattle.rq_shared.specs.Passes.{PassView}
-use Rattle.rq_shared.proofs.room.gather.Given as goal
+use Rattle.rq_shared.proofs.guarded.gather.Given as goal
 
 -- the shares of the passes so far are in
 abbrev pub invariant-loop-pass : goal.invariant-loop-pass

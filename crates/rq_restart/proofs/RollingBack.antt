@@ -16,7 +16,7 @@ use Rattle.rq_store.specs.State.{State}
 use Rattle.rq_store.proofs.Fitting.{oldest_all}
 use Rattle.rq_store.proofs.Redoing.{redone_slots}
 use Rattle.rq_sound.specs.Sound.{IsSound}
-use Rattle.rq_analysis.specs.Analysis.{analysis}
+use Rattle.rq_analysis.specs.OpenWorkView.{open_work_of}
 use Rattle.rq_analysis.specs.Pages.{IsNextUndo, IsUndone, UndoesBehind}
 use Rattle.rq_analysis.specs.Pages.IsNextUndo.{Voids, Undoes}
 use Rattle.rq_analysis.specs.PageUndoTheorems.{IsUndoneFrom}
@@ -37,7 +37,7 @@ use Rattle.rq_analysis.proofs.Walking.{aborts_come}
 use Rattle.rq_restart.specs.Aborting.{AbortStops, AbortsFrom, AbortsOn, HasGoneOn, IsAborting, IsAbortingFrom, IsFull, IsOnItsWay, IsShown, RepeatedFrom, RepeatedSince}
 use Rattle.rq_restart.specs.Aborting.IsOnItsWay.{Between, Within}
 use Rattle.rq_restart.specs.Checked.{IsEnded}
-use Rattle.rq_restart.specs.Mended.{IsMendedSince, MendStops}
+use Rattle.rq_restart.specs.RolledBack.{IsRolledBackSince, RollbackStops}
 use Rattle.rq_restart.specs.Repeating.{Paged, Repeats, paged}
 use Rattle.rq_restart.specs.Undoing.{UndoStops}
 use Rattle.rq_restart.proofs.Aborts.{aborting_none, aborting_weaker, bad_weaker, planned_weaker, active_lost}
@@ -46,16 +46,16 @@ use Rattle.rq_restart.proofs.Repeated.{all_up_to}
 use Rattle.rq_restart.proofs.Showing.{between_holds}
 
 -- undoing by pages leaves the transactions that have no end
-same_one : (log : List Record) (r : Record) → IsNextUndo (analysis log) r → (analysis (r ∷ log)).active ≡ (analysis log).active
+same_one : (log : List Record) (r : Record) → IsNextUndo (open_work_of log) r → (open_work_of (r ∷ log)).active ≡ (open_work_of log).active
 same_one log r (Voids o s least e) = rw e refl
 same_one log r (Undoes p ps none f e) = rw e refl
 
-same_behind : (log front : List Record) → UndoesBehind log front → (analysis (front ++ log)).active ≡ (analysis log).active
+same_behind : (log front : List Record) → UndoesBehind log front → (open_work_of (front ++ log)).active ≡ (open_work_of log).active
 same_behind log [] h = refl
 same_behind log (r ∷ front) h = same_one (front ++ log) r h.0 ∙ same_behind log front h.1
 
-pub undone_active : (log undone : List Record) → IsUndone log undone → (analysis undone).active ≡ (analysis log).active
-undone_active log undone u = ap (λ l. (analysis l).active) (sym u.undoing.are) ∙ same_behind log u.undoing.front u.undoing.undoes
+pub undone_active : (log undone : List Record) → IsUndone log undone → (open_work_of undone).active ≡ (open_work_of log).active
+undone_active log undone u = ap (λ l. (open_work_of l).active) (sym u.undoing.are) ∙ same_behind log u.undoing.front u.undoing.undoes
 
 -- at its end a restart has been on its way
 pub recovered_on : (z : Sizes) (log now : List Record) → IsRecovered z log now → IsRecovering z log now
@@ -135,21 +135,21 @@ module _ {P : Type 0} (z : Sizes) (log undone : List Record) (mid : Pooled P) (u
 
   -- so the log is recovered
   pub recovered_is : (now : List Record) (new : Pooled P) → HasGoneOn z (AbortsFrom z undone mid now) undone now mid new (IsShown undone mid) (IsShown now new) → IsEnded now → (IsEnded undone → now ≡ undone) → IsRecovered z log now
-  recovered_is now new g ended none = by (analysis undone).active refl where
-    by : (ts : List Txn) → (analysis undone).active ≡ ts → IsRecovered z log now
+  recovered_is now new g ended none = by (open_work_of undone).active refl where
+    by : (ts : List Txn) → (open_work_of undone).active ≡ ts → IsRecovered z log now
     by [] e = subst (IsRecovered z log) (sym (none e)) (NoneLost u (sym (active_lost z undone from.whole) ∙ e))
     by (t ∷ ts) e = all_recovered (λ bad. (let k : t ∷ ts ≡ [] = sym e ∙ bad in cc k)) now new g ended
 
 -- why operations were not undone, or then transactions, is why the log was not mended
-pub undo_mends_not : (z : Sizes) (log : List Record) (first : Paged) (e : Refusal) → UndoStops z log first e → MendStops z log first e
-undo_mends_not z log first why.NoMemory s = tt
-undo_mends_not z log first why.LogFull s = record { undone = s.undone; undoing = s.undoing; now = s.undone; aborting = aborting_none z (RepeatedFrom z first) s.undone; turn = inl refl; none_lost = λ e. refl; full = s.full; recovering = λ left. Undoing s.undoing }
-undo_mends_not z log first (why.Damaged (damage.Record lsn)) s = inl s
-undo_mends_not z log first _ s = absurd s
+pub undo_rolls_nothing_back : (z : Sizes) (log : List Record) (first : Paged) (e : Refusal) → UndoStops z log first e → RollbackStops z log first e
+undo_rolls_nothing_back z log first why.NoMemory s = tt
+undo_rolls_nothing_back z log first why.LogFull s = record { undone = s.undone; undoing = s.undoing; now = s.undone; aborting = aborting_none z (RepeatedFrom z first) s.undone; turn = inl refl; none_lost = λ e. refl; full = s.full; recovering = λ left. Undoing s.undoing }
+undo_rolls_nothing_back z log first (why.Damaged (damage.Record lsn)) s = inl s
+undo_rolls_nothing_back z log first _ s = absurd s
 
-pub abort_mends_not : {P : Type 0} (z : Sizes) (log undone : List Record) (mid : Pooled P) → IsUndone log undone → IsPool z mid.images → (IsEnded undone → ⊥) → (first : Paged) → Repeats z undone first (paged mid) → (e : Refusal) → AbortStops z (IsAbortingFrom z undone mid) undone mid (IsShown undone mid) e → MendStops z log first e
-abort_mends_not z log undone mid u pool some first repeated why.NoMemory s = tt
-abort_mends_not z log undone mid u pool some first repeated why.LogFull s = record {
+pub abort_rolls_nothing_back : {P : Type 0} (z : Sizes) (log undone : List Record) (mid : Pooled P) → IsUndone log undone → IsPool z mid.images → (IsEnded undone → ⊥) → (first : Paged) → Repeats z undone first (paged mid) → (e : Refusal) → AbortStops z (IsAbortingFrom z undone mid) undone mid (IsShown undone mid) e → RollbackStops z log first e
+abort_rolls_nothing_back z log undone mid u pool some first repeated why.NoMemory s = tt
+abort_rolls_nothing_back z log undone mid u pool some first repeated why.LogFull s = record {
   undone = undone;
   undoing = u.undoing;
   now = s.last;
@@ -159,7 +159,7 @@ abort_mends_not z log undone mid u pool some first repeated why.LogFull s = reco
   full = s.full;
   recovering = λ left. full_recovering z log undone mid u pool first left repeated some s;
 }
-abort_mends_not z log undone mid u pool some first repeated (why.Damaged (damage.Record lsn)) s = inr (record {
+abort_rolls_nothing_back z log undone mid u pool some first repeated (why.Damaged (damage.Record lsn)) s = inr (record {
   undone = undone;
   undoes = u;
   last = s.last;
@@ -167,12 +167,12 @@ abort_mends_not z log undone mid u pool some first repeated (why.Damaged (damage
   bad = bad_weaker z (IsAbortingFrom z undone mid) (IsAborting z (RepeatedFrom z first) undone) (aborting_weaker z (RepeatedSince z undone (paged mid)) (RepeatedFrom z first) (λ l p h. h first repeated) undone) first s.last lsn (s.bad first repeated);
   none = λ left. none_bad z log undone mid u pool first left repeated some s.none;
 })
-abort_mends_not z log undone mid u pool some first repeated _ s = absurd s
+abort_rolls_nothing_back z log undone mid u pool some first repeated _ s = absurd s
 
 -- what mends it from there, wherever the log was repeated so
-pub mended_since : (z : Sizes) (log undone now : List Record) (old mid : Paged) → IsUndone log undone → AbortsOn z (RepeatedSince z undone mid) undone now → IsEnded now → (IsEnded log → now ≡ undone) → ((first : Paged) → Repeats z log first old → Repeats z undone first mid)
-    → IsMendedSince z log now old
-mended_since z log undone now old mid u a ended none repeated = record {
+pub rolled_back_since : (z : Sizes) (log undone now : List Record) (old mid : Paged) → IsUndone log undone → AbortsOn z (RepeatedSince z undone mid) undone now → IsEnded now → (IsEnded log → now ≡ undone) → ((first : Paged) → Repeats z log first old → Repeats z undone first mid)
+    → IsRolledBackSince z log now old
+rolled_back_since z log undone now old mid u a ended none repeated = record {
   is = record { undone = undone; undoes = u; aborting = a.behind; ended = ended; none_lost = none };
   planned = λ first before. planned_weaker z (RepeatedSince z undone mid) (RepeatedFrom z first) (λ l p h. h first (repeated first before)) undone a.behind.rounds a.planned;
 }

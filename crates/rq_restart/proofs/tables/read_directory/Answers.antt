@@ -2,7 +2,7 @@ use Rattle.std.proofs.Common.{◌≡◌, ap, sym, ◌∙◌, subst, arith}
 use Rattle.rq_page.specs.Sizes.{sender_count}
 use Rattle.rq_restart.proofs.Counting.{AreToldTo, all_waiting, all_sent, one_more_told}
 use Rattle.rq_store.specs.Opening.{messages_told, sent_told, tag_told}
-use Rattle.rq_restart.proofs.tables.read_tables.Goals as goal
+use Rattle.rq_restart.proofs.tables.read_directory.Goals as goal
 
 pub loop-sender-preserved : goal.loop-sender-preserved
 loop-sender-preserved g c =

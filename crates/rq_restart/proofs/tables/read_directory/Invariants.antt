@@ -1,5 +1,5 @@
 use Rattle.rq_restart.proofs.Counting.{AreToldTo}
-use Rattle.rq_restart.proofs.tables.read_tables.Given as goal
+use Rattle.rq_restart.proofs.tables.read_directory.Given as goal
 
 -- the senders so far are told of
 abbrev pub invariant-loop-sender : goal.invariant-loop-sender

@@ -47,13 +47,13 @@ impl<G: Sharing> Pass<G> {
 /// What lies under the lock: the kept engine, how many calls left an entry, those whose entries were taken included, and
 /// how many entries passes took. Contracts see the kept engine.
 #[derive(Drop)]
-pub(crate) struct Room<P: PageDevice, L: LogDevice, B: Level, G: Sharing> {
+pub(crate) struct Guarded<P: PageDevice, L: LogDevice, B: Level, G: Sharing> {
     kept: Kept<P, L, B>,
     calls: Book<G>,
     taken: Book<Taking<G>>,
 }
 
-impl<P: PageDevice, L: LogDevice, B: Level, G: Sharing> Model for Room<P, L, B, G> {
+impl<P: PageDevice, L: LogDevice, B: Level, G: Sharing> Model for Guarded<P, L, B, G> {
     ghost use Rattle.std.specs.Prelude.{◌≡◌, ◌+◌, length};
     ghost use Rattle.rq_shared.specs.Begun.{BeginsFrom};
     ghost use Rattle.rq_shared.specs.Entries.{Audited, BeginsSound};
@@ -67,7 +67,7 @@ impl<P: PageDevice, L: LogDevice, B: Level, G: Sharing> Model for Room<P, L, B, 
         × BeginsFrom P.PageDevice L.LogDevice G.premise G.begins r.kept };
 }
 
-impl<P: PageDevice + Drop, L: LogDevice + Drop, B: Level, G: Sharing> Room<P, L, B, G> {
+impl<P: PageDevice + Drop, L: LogDevice + Drop, B: Level, G: Sharing> Guarded<P, L, B, G> {
     pub(crate) fn new(kept: Kept<P, L, B>, calls: Book<G>, taken: Book<Taking<G>>) -> Self
         requires counted { kept.taken + length kept.audit ≡ calls.total }
         requires taken { kept.taken ≡ taken.total }
@@ -75,7 +75,7 @@ impl<P: PageDevice + Drop, L: LogDevice + Drop, B: Level, G: Sharing> Room<P, L,
         requires begun { BeginsFrom P.PageDevice L.LogDevice G.premise G.begins kept }
         ensures { result ≡ kept }
     {
-        Room { kept, calls, taken }
+        Guarded { kept, calls, taken }
     }
 
     /// The kept engine. Who has all shares knows how many calls left an entry, and how many entries were taken.
@@ -88,7 +88,7 @@ impl<P: PageDevice + Drop, L: LogDevice + Drop, B: Level, G: Sharing> Room<P, L,
         ensures sound { BeginsSound P.PageDevice L.LogDevice G.premise result }
         ensures begun { BeginsFrom P.PageDevice L.LogDevice G.premise G.begins result }
     {
-        let Room {
+        let Guarded {
             kept,
             mut calls,
             mut taken,

@@ -6,7 +6,7 @@ use Rattle.rq_store.specs.Opening.{opened}
 use Rattle.rq_analysis.specs.Worked.{log_two, took_due}
 use Rattle.rq_analysis.specs.WorkedMoves.{Pages, cell_is_back, ended, group_is_back, put_back, unlinked}
 use Rattle.rq_restart.specs.Aborting.{AbortsBehind, IsAborting, IsPlannedOn, RepeatedFrom}
-use Rattle.rq_restart.specs.Mended.{HasRepeated, IsBadMend, IsMended}
+use Rattle.rq_restart.specs.RolledBack.{HasRepeated, IsBadRollback, IsRolledBack}
 use Rattle.rq_restart.specs.Repeating.{Paged}
 use Rattle.rq_restart.specs.Restarting.{IsOpenedOver}
 use Rattle.rq_restart.specs.Undoing.{IsBadUndo, IsFullUndo}
@@ -17,7 +17,7 @@ use Rattle.rq_views.specs.WorkedItems.{t1, t2}
 
 pub record MendsAreJudged : Type 0 where
   -- what the lost transaction did is taken back in its turn, the newest first, and then it ends
-  pub taken_back : (v : Pages) → IsMended log_two (ended v).records
+  pub taken_back : (v : Pages) → IsRolledBack log_two (ended v).records
   pub opened_over : (v : Pages) → IsOpenedOver log_two (opened items.sizes v.fourth (ended v).records)
   pub one_taken_back : (v : Pages) → AbortsBehind log_two (group_is_back v).records → ⊥
   pub half_taken_back : (v : Pages) (first : Paged)
@@ -25,8 +25,8 @@ pub record MendsAreJudged : Type 0 where
       → IsAborting items.sizes (RepeatedFrom items.sizes first) log_two (cell_is_back v).records
   -- by no writes that are not planned
   pub not_planned : (v : Pages) → IsAborting items.sizes (λ l pages. ⊥) log_two (cell_is_back v).records → ⊥
-  pub nothing_taken_back : IsMended log_two log_two → ⊥
-  pub not_ended : (v : Pages) → IsMended log_two (unlinked v).records → ⊥
+  pub nothing_taken_back : IsRolledBack log_two log_two → ⊥
+  pub not_ended : (v : Pages) → IsRolledBack log_two (unlinked v).records → ⊥
   -- it doesn't end before that, nor in another's place
   pub ends_early : AbortsBehind log_two (AbortEnd t2 ∷ log_two) → ⊥
   pub another_ends : (first : Paged)
@@ -34,7 +34,7 @@ pub record MendsAreJudged : Type 0 where
   pub commits : (first : Paged)
       → IsAborting items.sizes (RepeatedFrom items.sizes first) log_two (Commit t2 ∷ log_two) → ⊥
   -- of a store that was left so what it did can be taken back
-  pub no_bad_mend : (lsn : ℕ) → IsBadMend sizes log_4 read_pages lsn → ⊥
+  pub no_bad_rollback : (lsn : ℕ) → IsBadRollback sizes log_4 read_pages lsn → ⊥
   -- an operation that is open is undone
   pub no_bad_undo : (lsn : ℕ) → IsBadUndo sizes log_2 read_pages lsn → ⊥
   -- five records are no full log

@@ -5,11 +5,11 @@ use Rattle.rq_page.specs.declared.cell.CellSlot.{CellSlot}
 use Rattle.rq_page.specs.declared.cell.CellSlot.TheVariants as cells
 use Rattle.rq_page.specs.Sizes.{Sizes, IsCellAddress, directory_at, sender_count}
 use Rattle.rq_page.specs.Slots.{IsCellOf, IsDirectoryOf}
-use Rattle.rq_chain.specs.declared.Neighbour.{Neighbour}
+use Rattle.rq_chain.specs.declared.CellEntry.{CellEntry}
 use Rattle.rq_chain.specs.declared.DirectoryEntry.{DirectoryEntry}
 
 -- the cell beside, if there is one
-abbrev pub cell_beside : Option Neighbour → Option Cell
+abbrev pub cell_beside : Option CellEntry → Option Cell
 cell_beside None = None
 cell_beside (Some n) = Some n.cell
 
@@ -19,15 +19,15 @@ used_of cells.Free = None
 used_of (cells.Used c) = Some c
 
 -- the neighbour stands at this address, which is a cell's, and is a cell of the store
-pub record IsNeighbourAt (z : Sizes) (a : ℕ) (n : Neighbour) : Type 0 where
+pub record IsCellEntryAt (z : Sizes) (a : ℕ) (n : CellEntry) : Type 0 where
   pub at : n.at ≡ a
   pub address : IsCellAddress z a
   pub cell : IsCellOf z n.cell
 
 -- the neighbour that a link names: none where it is 0
-abbrev pub IsNeighbour : Sizes → ℕ → Option Neighbour → Type 0
-IsNeighbour z a None = a ≡ 0
-IsNeighbour z a (Some n) = IsNeighbourAt z a n
+abbrev pub IsCellEntry : Sizes → ℕ → Option CellEntry → Type 0
+IsCellEntry z a None = a ≡ 0
+IsCellEntry z a (Some n) = IsCellEntryAt z a n
 
 -- the group stands where its sender's directory slot is, and may stand there
 pub record IsGroupOf (z : Sizes) (g : DirectoryEntry) : Type 0 where

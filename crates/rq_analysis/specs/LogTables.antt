@@ -8,7 +8,7 @@ use Rattle.rq_model.specs.declared.record.Record.{Record}
 use Rattle.rq_model.specs.declared.record.Record.TheVariants.{PageOp, PageUndo, OpEnd, OpVoid, CompEnd, Commit, AbortEnd, Restart}
 use Rattle.rq_model.specs.Vocabulary.{first, has_number}
 use Rattle.rq_views.specs.Items.{operation}
-use Rattle.rq_analysis.specs.Analysis.{Analysis, analysis, has_sub, undoable_at, undoable_by}
+use Rattle.rq_analysis.specs.OpenWorkView.{OpenWorkView, open_work_of, has_sub, undoable_at, undoable_by}
 use Rattle.rq_analysis.specs.declared.dues.PendingUndo.{PendingUndo}
 use Rattle.rq_analysis.specs.Dues.{due_of, dues}
 use Rattle.rq_analysis.specs.Numbers.{number_of, numbers}
@@ -52,8 +52,8 @@ ended [] = no_counts
 ended (r ∷ log) = ended_after r (ended log)
 
 -- these are what is kept of the log
-pub record IsScanStateOf (log : List Record) (h : Analysis) (ds : List PendingUndo) (os : List Sub) (c : Counts) : Type 0 where
-  pub open_work : h ≡ analysis log
+pub record AreTablesOf (log : List Record) (h : OpenWorkView) (ds : List PendingUndo) (os : List Sub) (c : Counts) : Type 0 where
+  pub open_work : h ≡ open_work_of log
   pub dues : ds ≡ dues log
   pub numbers : os ≡ numbers log
   pub ended : c ≡ ended log
@@ -63,7 +63,7 @@ lsn_due None = None
 lsn_due (Some d) = Some d.lsn
 
 -- what is asked of a record by what is kept, but that its deed is read
-abbrev pub Passes : Analysis → List PendingUndo → List Sub → Counts → Record → Type 0
+abbrev pub Passes : OpenWorkView → List PendingUndo → List Sub → Counts → Record → Type 0
 Passes h ds os c (PageOp t n page slot before after) =
     (has_count t.count c ≡ false)
     × ((has_sub (operation t n) h.unfinished ≡ true) ⊎ (n ≡ number_of t os + 1))

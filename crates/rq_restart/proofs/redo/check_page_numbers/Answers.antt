@@ -2,7 +2,7 @@ use Rattle.std.proofs.Common.{◌≡◌, ◌∙◌, None, Some, ap, sym, subst}
 use Rattle.rq_restart.specs.Overwritten.{least_beyond, lesser}
 use Rattle.rq_restart.specs.Repeating.{paged}
 use Rattle.rq_restart.proofs.Numbers.{IsUncountedAt, first_of, least_is, uncounted_is}
-use Rattle.rq_restart.proofs.redo.check_numbers.Goals as goal
+use Rattle.rq_restart.proofs.redo.check_page_numbers.Goals as goal
 
 pub returns-in-Some-clause-names : goal.returns-in-Some-clause-names
 returns-in-Some-clause-names g c = λ first k.
