@@ -90,8 +90,8 @@ def back(operation, undone, txn=1):
 COMMIT, ABORT_END = record(6, [1, 1]), record(8, [1, 1])
 
 
-def sent(sender, sequence):
-    return numbers_of((1, 1), (sender, 4), (sequence, 8), (7, 8), (0, 8)) + b"hello"
+def sent(sender, sequence, previous=0):
+    return numbers_of((1, 1), (sender, 4), (sequence, 8), (7, 8), (previous, 8)) + b"hello"
 
 
 def received(sender, sequence):
@@ -337,6 +337,31 @@ LOGS = [
 ]  # fmt: skip
 
 
+# ---- what a restart adds to a log, record by record: the log, and what it is then
+
+
+def restarts():
+    yield [], [BEGUN]
+    yield ONE_COMMITTED, [restart(2)]
+    # slot writes of operations without an end
+    yield [BEGUN, FILL], [undo(1, 2, 2, 1, FREE), void(1), restart(2)]
+    yield [BEGUN, FILL, COUNT], [undo(1, 3, 1, 1, group()), undo(1, 2, 2, 1, FREE), void(1), restart(2)]
+    yield [BEGUN, FILL, FILL_UNDONE], [void(1), restart(2)]
+    yield [*SENDS, FILL_BACK], [undo(2, 5, 2, 1, MESSAGE), void(2), *again(3), ABORT_END, restart(2)]
+    # what was done and not committed: a send, a close, and a receive by another transaction
+    yield SENDS, [*again(2), ABORT_END, restart(2)]
+    yield [*SENDS, *again(2)], [ABORT_END, restart(2)]
+    shut = made(closed(), closing(0))
+    yield shut, [write(2, 1, 1, closed(), group()), back(2, 3), ABORT_END, restart(2)]
+    put_back = [write(2, 2, 1, FREE, MESSAGE, txn=2), write(2, 1, 1, ONE_TAKEN, ONE_SENT, txn=2), back(2, 8, txn=2)]
+    yield [*ONE_COMMITTED, *TAKE, received_by_another(0, 1)], [*put_back, record(8, [1, 2]), restart(2)]
+
+
+def again(number):
+    """The inverse of the send, by an operation of this number: the cell first, and then its group."""
+    return [write(number, 2, 1, MESSAGE, FREE), write(number, 1, 1, ONE_SENT, group()), back(number, 4)]
+
+
 # ---- pages
 
 
@@ -442,19 +467,34 @@ def chains():
         (TWO, cell(3, 0, 34), FIFTH, at_page(1)), (TWO, FOURTH, cell(4, 33, 0), at_page(1)),
         (TWO, cell(4, 34, 34), FIFTH, at_page(1)), (TWO, FOURTH, cell(5, 0, 0), at_page(1)),
         (TWO, cell(4, 0, 0), FIFTH, at_page(1)), (TWO, FOURTH, cell(5, 33, 33), at_page(1)),
+        (TWO, FOURTH, cell(6, before=33), at_page(1)),
         # another head or tail, and others than two that wait
         (group(5, 3, 34, 34), FOURTH, FIFTH, at_page(1)), (group(5, 3, 33, 33), FOURTH, FIFTH, at_page(1)),
         (group(5, 3, 0, 0), FOURTH, FIFTH, at_page(1)), (group(4, 3, 33, 34), FOURTH, FIFTH, at_page(1)),
+        (group(5, 3, 35, 34), FOURTH, FIFTH, at_page(1)),
         (group(6, 3, 33, 34), FOURTH, FIFTH, at_page(1)), (group(3, 3, 33, 34), FOURTH, FIFTH, at_page(1)),
         # cells in no chain, behind a chain that is broken
-        (group(3, 3), FREE, FREE, OPENED), (group(3, 3), MESSAGE, FREE, at_page(2)),
+        (group(3, 3), FREE, FREE, OPENED), (group(3, 3), MESSAGE, FREE, at_page(2)), (group(), FOURTH, FIFTH, at_page(2)),
         (group(3, 3), FREE, cell(6, sender=14), at_page(2)), (TWO, cell(4, sender=7), FREE, at_page(1)),
     ):  # fmt: skip
-        pages = formatted()
-        put(pages, 1, 1, slot)
-        put(pages, 2, 1, first)
-        put(pages, 2, 2, second)
-        yield pages, SIX, said
+        yield small(slot, first, second), SIX, said
+
+
+def small(slot, *cells):
+    """Pages with this slot of sender 0, and these first cells."""
+    pages = formatted()
+    put(pages, 1, 1, slot)
+    for at, held in enumerate(cells, 1):
+        put(pages, 2, at, held)
+    return pages
+
+
+def chains_beside_a_whole_one():
+    """A cell in no chain, and then a group of a higher number with the same chain."""
+    pages = small(TWO, FOURTH, FIFTH, cell(4, sender=7))
+    yield bytes(pages), SIX, at_page(2)
+    put(pages, 1, 3, group(5, 3, 33, 34, sender=2))
+    yield pages, SIX, at_page(1)
 
 
 def chains_on_two_pages():
@@ -509,7 +549,7 @@ def other_lengths():
 
 PAGES = [
     pages_that_were_written, superblocks, headers, slots, more_sent_than_there_are_records, before_images, no_cell_is_free, chains,
-    chains_on_two_pages, several_faults, other_lengths,
+    chains_beside_a_whole_one, chains_on_two_pages, several_faults, other_lengths,
 ]  # fmt: skip
 
 
@@ -542,13 +582,26 @@ def fault(program, name, pages, log, wanted):
     return None
 
 
+def odd_restart(program, at, before, added):
+    """What is wrong with the log that a restart leaves; None where nothing is."""
+    with tempfile.TemporaryDirectory() as top:
+        folder = pathlib.Path(top)
+        (folder / "pages").write_bytes(formatted())
+        (folder / "log").write_bytes(b"".join(before))
+        subprocess.run([program, "open", top], stdout=subprocess.DEVNULL, timeout=MOST_SECONDS)
+        left = (folder / "log").read_bytes()
+    return None if left == b"".join([*before, *added]) else f"restarts, {at}: the log is {left.hex()}"
+
+
 def run(program):
     """Opens all by a program; whether each comes to what it should."""
-    stores = list(rows())
+    stores, logs = list(rows()), list(restarts())
     with ThreadPoolExecutor(os.cpu_count()) as pool:
-        faults = [told for told in pool.map(lambda row: fault(program, *row), stores) if told]
-    print("".join(f"{told}\n" for told in faults), end="")
-    print(f"{len(stores) - len(faults)} of {len(stores)} stores are opened or refused as they should ({os.path.basename(program)})")
+        told = [*pool.map(lambda row: fault(program, *row), stores)]
+        told += pool.map(lambda at: odd_restart(program, at, *logs[at]), range(len(logs)))
+    faults = [each for each in told if each]
+    print("".join(f"{each}\n" for each in faults), end="")
+    print(f"{len(told) - len(faults)} of {len(told)} stores are opened or refused as they should ({os.path.basename(program)})")
     return not faults
 
 

@@ -16,7 +16,10 @@ import time
 from contextlib import contextmanager
 
 from cases import built
-from damaged import ONE_COMMITTED, PAGE, formatted, written
+from damaged import (
+    FREE, MESSAGE, ONE_COMMITTED, ONE_SENT, PAGE, cell, end, formatted, group, received, sent, small, write,
+)  # fmt: skip
+from inspector import record
 from server import LONGEST, DiskWrite, Failed, NotStarted, Server, cut_torn_end, everything, raises
 
 SHIM = """#define _GNU_SOURCE
@@ -129,20 +132,58 @@ def open_once(program):
             server.kill()
 
 
-def hello(program):
-    """The files once a message is committed and each changed page is written; and the message, when the store is opened again."""
-    wanted = {"pages": bytes(written()), "log": b"".join(ONE_COMMITTED)}
+# two sends of `hello` and two receives, each by a transaction of its own, record by record
+FIRST, SECOND = cell(1, behind=34), cell(2, before=33)
+MESSAGES = [
+    *ONE_COMMITTED,
+    write(1, 2, 2, FREE, SECOND, txn=2), write(1, 2, 1, MESSAGE, FIRST, txn=2),
+    write(1, 1, 1, ONE_SENT, group(2, 0, 33, 34), txn=2), end(1, sent(0, 2, 7), txn=2), record(6, [1, 2]),
+    write(1, 2, 1, FIRST, FREE, txn=3), write(1, 2, 2, SECOND, cell(2), txn=3),
+    write(1, 1, 1, group(2, 0, 33, 34), group(2, 1, 34, 34), txn=3), end(1, received(0, 1), txn=3), record(6, [1, 3]),
+    write(1, 2, 2, cell(2), FREE, txn=4), write(1, 1, 1, group(2, 1, 34, 34), group(2, 2), txn=4),
+    end(1, received(0, 2), txn=4), record(6, [1, 4]),
+]  # fmt: skip
+
+
+def messages(program):
+    """The files behind each transaction, once each changed page is written: page 2 by the record of this LSN, with these cells, and
+    page 1 by the next one, with this slot of the sender; and what is received when the store is opened again."""
+    left = [(5, 3, ONE_SENT, [MESSAGE]), (10, 8, group(2, 0, 33, 34), [FIRST, SECOND]), (15, 13, group(2, 1, 34, 34), [FREE, cell(2)])]
+    for sends, (records, lsn, slot, cells) in enumerate(left, 1):
+        with folder_of(pages=formatted(), log=b"") as folder:
+            server = Server(program, folder)
+            with server.connect() as connection:
+                for _ in range(min(sends, 2)):
+                    with connection.transaction() as transaction:
+                        transaction.send(0, 7, b"hello")
+                if sends > 2:
+                    with connection.transaction() as transaction:
+                        assert transaction.receive() == (0, 7, b"hello")
+            assert transaction.lsn == records
+            pages = small(slot, *cells)
+            pages[PAGE : PAGE + 8], pages[2 * PAGE : 2 * PAGE + 8] = lsn.to_bytes(8, "big"), (lsn - 1).to_bytes(8, "big")
+            wanted = {"pages": bytes(pages), "log": b"".join(MESSAGES[:records])}
+            wait_until(lambda: files_of(folder) == wanted)
+            server.kill()
+            server = Server(program, folder)
+            with server.connect() as connection:
+                assert everything(connection) == {0: [(7, b"hello")] * (2 if sends == 2 else 1)}
+            server.kill()
+
+
+def log_of_all(program):
+    """The log of all four transactions, and behind it that of a receive that finds nothing."""
     with folder_of(pages=formatted(), log=b"") as folder:
         server = Server(program, folder)
-        with server.connect() as connection, connection.transaction() as transaction:
-            transaction.send(0, 7, b"hello")
-        assert transaction.lsn == len(ONE_COMMITTED)
-        wait_until(lambda: files_of(folder) == wanted)
+        with server.connect() as connection:
+            for _ in range(2):
+                with connection.transaction() as transaction:
+                    transaction.send(0, 7, b"hello")
+            for wanted in ((0, 7, b"hello"), (0, 7, b"hello"), None):
+                with connection.transaction() as transaction:
+                    assert transaction.receive() == wanted
         server.kill()
-        server = Server(program, folder)
-        with server.connect() as connection, connection.transaction() as transaction:
-            assert transaction.receive() == (0, 7, b"hello")
-        server.kill()
+        assert (folder / "log").read_bytes() == b"".join([*MESSAGES, record(6, [1, 5])])
 
 
 # ---- calls that fail
@@ -258,7 +299,7 @@ def is_failed(server):
     return False
 
 
-TESTS = [made, there, no_folder, open_once, hello, formats, courses]
+TESTS = [made, there, no_folder, open_once, messages, log_of_all, formats, courses]
 
 
 def main():
