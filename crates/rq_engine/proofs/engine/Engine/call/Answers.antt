@@ -25,23 +25,23 @@ pub returns-in-Err-content-clause-refused : goal.returns-in-Err-content-clause-r
 returns-in-Err-content-clause-refused g c = plain_leaves c.args.self.now c.args.self.now c.args.event.now _ (ap (λ (e : Event). writes_out (call_of e)) c.in-Content.is) refl
 
 pub returns-in-StartReceive-clause-refused : goal.returns-in-StartReceive-clause-refused
-returns-in-StartReceive-clause-refused g c = begun_leaves c.args.self.now c.start_receive.new.self c.args.event.now c.start_receive.result _ (ap (λ (e : Event). writes_out (call_of e)) c.in-StartReceive.is) c.start_receive.ensures.refused c.begun.ensures
+returns-in-StartReceive-clause-refused g c = begun_leaves c.args.self.now c.start_receive.new.self c.args.event.now c.start_receive.result _ (ap (λ (e : Event). writes_out (call_of e)) c.in-StartReceive.is) c.start_receive.ensures.refused c.receive_reply.ensures
 
 pub returns-in-StartReceiveFrom-clause-refused : goal.returns-in-StartReceiveFrom-clause-refused
-returns-in-StartReceiveFrom-clause-refused g c = begun_leaves c.args.self.now c.start_receive_from.new.self c.args.event.now c.start_receive_from.result _ (ap (λ (e : Event). writes_out (call_of e)) c.in-StartReceiveFrom.is) c.start_receive_from.ensures.refused c.begun-in-StartReceiveFrom.ensures
+returns-in-StartReceiveFrom-clause-refused g c = begun_leaves c.args.self.now c.start_receive_from.new.self c.args.event.now c.start_receive_from.result _ (ap (λ (e : Event). writes_out (call_of e)) c.in-StartReceiveFrom.is) c.start_receive_from.ensures.refused c.receive_reply-in-StartReceiveFrom.ensures
 
 pub returns-in-StartReceive-clause-lists : goal.returns-in-StartReceive-clause-lists
-returns-in-StartReceive-clause-lists g c = take_lists c.args.self.now.state _ c.start_receive.result _ c.args.event.now c.start_receive.new.self.state c.in-StartReceive.is c.start_receive.ensures.lists c.begun.ensures
+returns-in-StartReceive-clause-lists g c = take_lists c.args.self.now.state _ c.start_receive.result _ c.args.event.now c.start_receive.new.self.state c.in-StartReceive.is c.start_receive.ensures.lists c.receive_reply.ensures
 
 pub returns-in-StartReceiveFrom-clause-lists : goal.returns-in-StartReceiveFrom-clause-lists
-returns-in-StartReceiveFrom-clause-lists g c = take_from_lists c.args.self.now.state _ _ c.start_receive_from.result _ c.args.event.now c.start_receive_from.new.self.state c.in-StartReceiveFrom.is c.start_receive_from.ensures.lists c.begun-in-StartReceiveFrom.ensures
+returns-in-StartReceiveFrom-clause-lists g c = take_from_lists c.args.self.now.state _ _ c.start_receive_from.result _ c.args.event.now c.start_receive_from.new.self.state c.in-StartReceiveFrom.is c.start_receive_from.ensures.lists c.receive_reply-in-StartReceiveFrom.ensures
 
 pub returns-in-Ok-start_send-clause-any_moment : goal.returns-in-Ok-start_send-clause-any_moment
 returns-in-Ok-start_send-clause-any_moment g c =
     log_left g.L.LogDevice c.args.self.now.log c.start_send.new.self.log _ c.start_send.ensures.devices.1 g.met.L.LogDevice.only_now c.shows_kept.ensures.leaves
 
 pub returns-in-StartReceive-clause-answered : goal.returns-in-StartReceive-clause-answered
-returns-in-StartReceive-clause-answered g c = begun_answered g.P.PageDevice g.L.LogDevice c.args.self.now _ c.start_receive.result _ c.args.event.now c.start_receive.new.self (ap call_of c.in-StartReceive.is) c.start_receive.ensures.answered c.begun.ensures
+returns-in-StartReceive-clause-answered g c = begun_answered g.P.PageDevice g.L.LogDevice c.args.self.now _ c.start_receive.result _ c.args.event.now c.start_receive.new.self (ap call_of c.in-StartReceive.is) c.start_receive.ensures.answered c.receive_reply.ensures
 
 pub returns-in-Err-start_abort-clause-refused : goal.returns-in-Err-start_abort-clause-refused
 returns-in-Err-start_abort-clause-refused g c = plain_leaves c.args.self.now c.start_abort.new.self c.args.event.now _ (ap (λ (e : Event). writes_out (call_of e)) c.in-StartAbort.is) c.in-Err-start_abort.ensures.refused
