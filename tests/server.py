@@ -246,6 +246,37 @@ def faults(program, _):
             assert everything(connection) == {}
 
 
+def bodies(program, _):
+    """Bodies of 0 bytes to 499, for senders that the store has and that it has not, cut anywhere: what is too long is refused."""
+    asked, wanted = BEGIN, BEGUN + struct.pack(">Q", 1)
+    for sender, size in ((14, 0), (14, 216), (14, 217), (14, 499), (15, 217), (15, 1)):
+        asked += struct.pack(">HBIQ", 13 + size, 2, sender, 7) + b"x" * size
+        wanted += bytes.fromhex("0002 ff 07" if sender == 15 else "0002 ff 08" if size > 216 else "0001 82")
+    for cut in range(0, len(asked), 101):
+        with store(program) as folder, serving(program, folder) as server, server.raw() as stream:
+            send_cut(stream, asked, cut)
+            assert read_bytes(stream, len(wanted)) == wanted, cut
+
+
+def pieces(program, chosen):
+    """Sends, in random pieces: their answers are the same, and what is then in the store is what was sent."""
+    for seed in range(chosen.seed, chosen.seed + 4):
+        draw = random.Random(seed)
+        sent = [(draw.getrandbits(64), draw.randbytes(draw.choice([0, 1, draw.randrange(217), 216]))) for _ in range(40)]
+        frames = [struct.pack(">HBIQ", 13 + len(body), 2, 3, tag) + body for tag, body in sent]
+        rest = BEGIN + b"".join(frames) + COMMIT
+        with store(program, 1, 3) as folder, serving(program, folder) as server:
+            with server.raw() as stream:
+                while rest:
+                    size = draw.choice([1, 2, draw.randrange(1, 30), draw.randrange(1, 1500)])
+                    stream.sendall(rest[:size])
+                    rest = rest[size:]
+                wanted = BEGUN + struct.pack(">Q", 1) + SENT * 40 + bytes.fromhex("0009 86")
+                assert read_bytes(stream, len(wanted)) == wanted, seed
+            with server.connect() as connection:
+                assert everything(connection) == {3: sent}, seed
+
+
 def lost_connections(program, _):
     """A connection that ends at any byte behind its send, or is reset, leaves nothing of its transaction."""
     with store(program) as folder, serving(program, folder) as server:
@@ -572,7 +603,8 @@ def raises(kind, call):
 
 
 TESTS = [
-    starts, session, faults, lost_connections, served, silent_reader, few_descriptors, many_connections, full_disk, client, sessions,
+    starts, session, faults, bodies, pieces, lost_connections, served, silent_reader, few_descriptors, many_connections, full_disk,
+    client, sessions,
 ]  # fmt: skip
 
 
