@@ -40,6 +40,10 @@ class Door:
         """What lines print by the reference, and the exit status, where the program told this: where it may choose, it chose."""
         raise NotImplementedError
 
+    def runs_more(self, program):
+        """Runs what is neither a case nor drawn; whether all of it prints what it should."""
+        return True
+
 
 def run(door, program, lines, sizes):
     """The lines that the program prints, and its exit status. What stands behind the last newline is a line too, which the
@@ -160,6 +164,7 @@ def main(door, description):
     is_right = agrees(door)
     if door.runs_cases:
         is_right = door.cases.run(program) and is_right
+    is_right = door.runs_more(program) and is_right
     if chosen.keep:
         chosen.keep.mkdir(parents=True, exist_ok=True)
     jobs = [(door, program, seed, chosen.keep) for seed in range(chosen.first, chosen.first + chosen.courses)]

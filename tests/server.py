@@ -6,6 +6,7 @@
 A name is one of the tests below, as `session`; without one all are run. `tests/kill.py` kills the server in the midst of load.
 """
 import argparse
+import os
 import pathlib
 import random
 import re
@@ -71,9 +72,10 @@ NO_TAG = bytes.fromhex("0011 88 0000000000000000 0000000000000000")
 
 
 class Server:
-    """`rqm serve` on a folder. It may open so many files, and make none longer than so many bytes."""
+    """`rqm serve` on a folder. It may open so many files, and make none longer than so many bytes; and its environment has more
+    words."""
 
-    def __init__(self, program, folder, *words, files=None, longest=None):
+    def __init__(self, program, folder, *words, files=None, longest=None, environment=None):
         def limit():
             if files:
                 resource.setrlimit(resource.RLIMIT_NOFILE, (files, files))
@@ -83,7 +85,8 @@ class Server:
 
         command = [program, "serve", str(folder), "--port", "0", *map(str, words)]
         self.told = tempfile.TemporaryFile()  # on standard error
-        self.process = subprocess.Popen(command, stdout=subprocess.PIPE, stderr=self.told, preexec_fn=limit)
+        words = dict(os.environ, **(environment or {}))
+        self.process = subprocess.Popen(command, stdout=subprocess.PIPE, stderr=self.told, preexec_fn=limit, env=words)
         line = self.process.stdout.readline()
         listening = re.fullmatch(rb"listening 127\.0\.0\.1:([0-9]+)\n", line)
         if not listening:
@@ -241,6 +244,37 @@ def faults(program, _):
         with server.connect() as connection:
             assert connection.last_tag(0) == (0, 0)
             assert everything(connection) == {}
+
+
+def bodies(program, _):
+    """Bodies of 0 bytes to 499, for senders that the store has and that it has not, cut anywhere: what is too long is refused."""
+    asked, wanted = BEGIN, BEGUN + struct.pack(">Q", 1)
+    for sender, size in ((14, 0), (14, 216), (14, 217), (14, 499), (15, 217), (15, 1)):
+        asked += struct.pack(">HBIQ", 13 + size, 2, sender, 7) + b"x" * size
+        wanted += bytes.fromhex("0002 ff 07" if sender == 15 else "0002 ff 08" if size > 216 else "0001 82")
+    for cut in range(0, len(asked), 101):
+        with store(program) as folder, serving(program, folder) as server, server.raw() as stream:
+            send_cut(stream, asked, cut)
+            assert read_bytes(stream, len(wanted)) == wanted, cut
+
+
+def pieces(program, chosen):
+    """Sends, in random pieces: their answers are the same, and what is then in the store is what was sent."""
+    for seed in range(chosen.seed, chosen.seed + 4):
+        draw = random.Random(seed)
+        sent = [(draw.getrandbits(64), draw.randbytes(draw.choice([0, 1, draw.randrange(217), 216]))) for _ in range(40)]
+        frames = [struct.pack(">HBIQ", 13 + len(body), 2, 3, tag) + body for tag, body in sent]
+        rest = BEGIN + b"".join(frames) + COMMIT
+        with store(program, 1, 3) as folder, serving(program, folder) as server:
+            with server.raw() as stream:
+                while rest:
+                    size = draw.choice([1, 2, draw.randrange(1, 30), draw.randrange(1, 1500)])
+                    stream.sendall(rest[:size])
+                    rest = rest[size:]
+                wanted = BEGUN + struct.pack(">Q", 1) + SENT * 40 + bytes.fromhex("0009 86")
+                assert read_bytes(stream, len(wanted)) == wanted, seed
+            with server.connect() as connection:
+                assert everything(connection) == {3: sent}, seed
 
 
 def lost_connections(program, _):
@@ -569,7 +603,8 @@ def raises(kind, call):
 
 
 TESTS = [
-    starts, session, faults, lost_connections, served, silent_reader, few_descriptors, many_connections, full_disk, client, sessions,
+    starts, session, faults, bodies, pieces, lost_connections, served, silent_reader, few_descriptors, many_connections, full_disk,
+    client, sessions,
 ]  # fmt: skip
 
 

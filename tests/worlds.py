@@ -1,19 +1,23 @@
 #!/usr/bin/env python3
 """Lets anything happen to a store: draws happenings from seeds, runs them by the proved program, and compares each entry with the
-reference. The happenings of tests/worlds come first: each NAME.happenings comes to what stands in NAME.expected.
+reference. The happenings of tests/worlds come first: each NAME.happenings comes to what stands in NAME.expected; and then those of
+them in which each device call fails in turn.
 
     python3 tests/worlds.py [--program PROGRAM] [--first SEED] [--courses N] [--keep FOLDER] [--counts]
 
 Happenings that go wrong are cut down to the fewest that still do, and shown so that they can be run again by hand. Among the usual
 ones, those of the seeds from 0, each kind of thing that may happen has to be met as often as `WANTED` says.
 """
+import itertools
+import multiprocessing
+import os
 import random
 
 import courses
 import drawn
 from cases import Cases
 from reference import ALL
-from world_reference import World, printed_by, shown
+from world_reference import World, picked_at, printed_by, shown
 
 # What has to be met, the usual lists taken together, and how often at least.
 WANTED = {
@@ -246,6 +250,48 @@ def renumbered(line, at, end):
     return b"ack %d" % (int(line[4:]) - (end - at))
 
 
+# ---- lists of tests/worlds in which each device call fails in turn
+
+
+IMAGES = b"-", b"0,0,0,0,0,0"
+
+
+def is_plain(lines):
+    """Whether nothing fails or stops, and the store is shown at last behind a crash."""
+    names = [line.split(b" ")[0] for line in lines]
+    return names[-1:] == [b"content"] and b"crash" in names and not {b"fail", b"stop-in", b"restart-stop"} & set(names)
+
+
+def failing(lines, n, images):
+    """The lines where the nth device call fails, and of each page this image is left by a crash. What is not opened is opened at the
+    second try."""
+    made, places = [b"fail %d" % n], {}
+    for number, line in enumerate(lines, 1):
+        name, *words = line.split(b" ")
+        if name == b"ack":
+            line = b"ack %d" % places[int(words[0])]
+        if name == b"crash":
+            line = b" ".join([name, words[0], images])
+        made += [line, line] if name == b"restart" else [line]
+        places[number] = len(made)
+    return made
+
+
+def comes_wrong(job):
+    """How many device calls a list makes, and the first n whose failure comes to something else; 0 where none does."""
+    door, program, name, images = job
+    lines, sizes = door.cases.lines_of(name)[0], [int(word) for word in door.cases.words_of(name)]
+    for n in itertools.count(1):
+        made, world = failing(lines, n, images), World(*sizes)
+        told = drawn.run(door, program, made, sizes)
+        for at, line in enumerate(made):
+            world.happen(line, picked_at(made, told[0], at))
+        if told != (world.printed, 0):
+            return name, n, n
+        if world.store.devices.calls < n:
+            return name, n - 1, 0
+
+
 class Worlds(drawn.Door):
     cases, runs_cases = Cases("worlds", "happenings", [], ["1", "1"]), True
     name, crate, courses, wanted = "happenings", "happenings", 1500, WANTED
@@ -264,6 +310,19 @@ class Worlds(drawn.Door):
 
     def replay(self, lines, sizes, told):
         return printed_by(lines, *sizes, told), 0
+
+    def runs_more(self, program):
+        """Each device call of each list fails in turn, whichever images a crash leaves."""
+        names = [name for name in self.cases.names() if is_plain(self.cases.lines_of(name)[0])]
+        jobs = [(self, program, name, images) for name in names for images in IMAGES]
+        with multiprocessing.Pool(os.cpu_count()) as pool:
+            came = pool.map(comes_wrong, jobs, chunksize=1)
+        for name, _, wrong in came:
+            if wrong:
+                print(f"{name}: where device call {wrong} fails it comes to something else")
+        right = sum(not wrong for _, _, wrong in came)
+        print(f"{right} of {len(came)} lists come to what they should where each of {sum(n for _, n, _ in came)} device calls fails")
+        return right == len(came) and len(came) > 20
 
 
 if __name__ == "__main__":

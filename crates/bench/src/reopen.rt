@@ -5,6 +5,7 @@ use rq_disk::{FileLog, FilePages, LogDevice, PageDevice, Unknown};
 use rq_engine::engine::Engine;
 use rq_files::{format_folder, open_folder};
 use rq_levels::{StoreLevel, levels_of_store};
+use rq_model::refusal::{Damage, Refusal};
 use rq_page::layout::Layout;
 use rq_restart::restart::{Report, restart};
 use std::fs::File;
@@ -48,11 +49,11 @@ fn filled<R: AllocGlobal + Files<File = File>>(
     layout: &Layout,
     messages: u32,
 ) -> Option<()> {
-    let (mut engine, _) = opened(rt, folder).ok()?;
+    let (mut engine, _) = opened(rt, folder).ok()?.ok()?;
     exchange(&mut engine, layout.senders(), messages)
 }
 
-/// Opens the store, and prints what came of it.
+/// Opens the store, and prints what came of it: a report, or why not.
 pub fn open<R: Print + AllocGlobal + Files<File = File>>(
     rt: &R,
     words: &[String],
@@ -60,29 +61,47 @@ pub fn open<R: Print + AllocGlobal + Files<File = File>>(
     let Some(folder) = words.get(1) else {
         return Err(io::ErrorKind::InvalidInput.into());
     };
-    let report = report_of(rt, folder.as_str())?;
     let mut writer = io::writer(rt);
-    writeln!(
-        writer,
-        "restarted {}, {} records",
-        report.incarnation, report.records
-    )
+    match report_of(rt, folder.as_str())? {
+        Ok(report) => writeln!(
+            writer,
+            "restarted {}, {} records",
+            report.incarnation, report.records
+        ),
+        Err(refusal) => {
+            print_refusal(&mut writer, refusal)?;
+            Err(io::ErrorKind::InvalidData.into())
+        }
+    }
 }
 
-fn report_of<R: AllocGlobal + Files<File = File>>(rt: &R, folder: &str) -> io::Result<Report> {
-    let (_, report) = opened(rt, folder)?;
-    Ok(report)
+fn print_refusal<W: Write>(writer: &mut W, refusal: Refusal) -> io::Result<()> {
+    match refusal {
+        Refusal::Damaged(Damage::Record(lsn)) => writeln!(writer, "damaged record {lsn}"),
+        Refusal::Damaged(Damage::Page(number)) => writeln!(writer, "damaged page {number}"),
+        _ => writeln!(writer, "refused {} {}", refusal.number(), refusal.name()),
+    }
+}
+
+fn report_of<R: AllocGlobal + Files<File = File>>(
+    rt: &R,
+    folder: &str,
+) -> io::Result<Result<Report, Refusal>> {
+    match opened(rt, folder)? {
+        Ok((_, report)) => Ok(Ok(report)),
+        Err(refusal) => Ok(Err(refusal)),
+    }
 }
 
 fn opened<R: AllocGlobal + Files<File = File>>(
     rt: &R,
     folder: &str,
-) -> io::Result<(Store, Report)> {
+) -> io::Result<Result<(Store, Report), Refusal>> {
     let (pages, log) = open_folder(rt, folder, Unknown)?;
     let levels = levels_of_store(rt.alloc()).map_err(|_| io::ErrorKind::OutOfMemory)?;
     match restart(rt.alloc(), pages, log, levels) {
-        Ok(opened) => Ok(opened),
-        Err(_) => Err(io::ErrorKind::Other.into()),
+        Ok(opened) => Ok(Ok(opened)),
+        Err(stopped) => Ok(Err(stopped.refusal)),
     }
 }
 

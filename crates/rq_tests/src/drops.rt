@@ -92,15 +92,10 @@ fn store(alloc: Global, is_formatted: bool) -> Result<(MemPages, MemLog), AllocE
 }
 
 #[test]
-fn a_store_that_is_given_back_drops_each_level_once(rt: HostRuntime) -> Result<(), Fail> {
-    let dropped = count_drops(rt.alloc(), true).map_err(|_| "memory")?;
-    assert!(rt; matches!(&dropped, Dropped::GivenBack { open: 0, closed: 2 }));
-    Ok(())
-}
-
-#[test]
-fn a_restart_that_is_refused_drops_each_level_once(rt: HostRuntime) -> Result<(), Fail> {
-    let dropped = count_drops(rt.alloc(), false).map_err(|_| "memory")?;
-    assert!(rt; matches!(&dropped, Dropped::Refused { closed: 2 }));
+fn each_level_is_dropped_once(rt: HostRuntime) -> Result<(), Fail> {
+    let given_back = count_drops(rt.alloc(), true).map_err(|_| "memory")?;
+    assert!(rt; matches!(&given_back, Dropped::GivenBack { open: 0, closed: 2 }));
+    let refused = count_drops(rt.alloc(), false).map_err(|_| "memory")?;
+    assert!(rt; matches!(&refused, Dropped::Refused { closed: 2 }));
     Ok(())
 }

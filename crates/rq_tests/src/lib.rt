@@ -1,45 +1,22 @@
-//! Tests over stores: the worked scripts, the queue as plain lists beside an engine, calls of devices and of files that fail, the
-//! audit, the content, what a restart says of damaged logs and pages, stores in files, and levels in boxes. What scripts and
-//! happenings can show stands in tests/, as data.
+//! Tests over stores of what no script and no list of happenings shows: workers, threads that share a store, sessions with the
+//! bytes that a connection brings, and levels in boxes.
 #![tactic(auto)]
 
 #[cfg(test)]
-mod bytes;
-#[cfg(test)]
-mod calls;
-#[cfg(test)]
-mod content;
+mod connection;
 #[cfg(test)]
 #[tactic(auto, unfolding(rq_level::specs::Meaning::meaning_of))]
 mod counted;
 #[cfg(test)]
-mod damaged;
-#[cfg(test)]
 #[tactic(auto, unfolding(rq_level::specs::Meaning::meaning_of))]
 mod drops;
 #[cfg(test)]
-mod failing;
+mod gates;
 #[cfg(test)]
-mod faulty;
-#[cfg(test)]
-mod file_calls;
-#[cfg(test)]
-mod file_store;
-#[cfg(test)]
-mod files;
-#[cfg(test)]
-mod folders;
-#[cfg(test)]
-mod logs;
-#[cfg(test)]
-mod pages;
-#[cfg(test)]
-mod reference;
-#[cfg(test)]
-mod scripts;
+mod mark;
 #[cfg(test)]
 mod stores;
 #[cfg(test)]
-mod taken;
+mod stream;
 #[cfg(test)]
-mod undoing;
+mod threads;

@@ -1,177 +1,269 @@
-//! Stores that tests drive. What makes many calls knows a store by a trait alone, so that it is checked fast.
-use crate::calls::{answered, crashed, devices, formatted, handed_over, opened};
-use rq_disk::{MemLog, MemPages, Mishap, PageChoice, Switch};
-use rq_engine::event::{Event, Reply};
-use rq_levels::StoreLevel;
-use rq_model::refusal::Refusal;
+//! Stores and calls for tests. They promise nothing, so that what makes many of them is checked fast.
+use rq_bytes::GhostList;
+use rq_disk::{CallKind, LogDevice, MemLog, MemPages, Mishap, PageChoice, PageDevice, Switch};
+use rq_engine::engine::Engine;
+use rq_engine::event::{CommitNo, Event, Outcome, Receipt, Reply};
+use rq_level::Level;
+use rq_levels::{StoreLevel, levels_of_store};
+use rq_model::txn::{Sub, Txn};
 use rq_page::layout::Layout;
-use rq_restart::restart::{Report, Stopped};
-use rq_shared::kept::Kept;
+use rq_restart::format::format;
+use rq_restart::restart::restart;
+use rq_shared::kept::{AuditEntry, Kept, Stamped};
+use rq_workers::acts::RunEnd;
+use rq_workers::gate::Gate;
+use rq_workers::kept::KeptSteps;
+use rq_workers::shared::StampSink;
+use rq_workers::steps::Steps;
+use rq_workers::worker::Worker;
 use std::alloc::{AllocError, Global};
+use std::snapshot::Snapshot;
+use std::sync::Wait;
 
-/// A store that is open, or whose devices were left shut.
-pub trait Store {
-    /// Makes a call.
-    fn ask(&mut self, event: Event) -> Reply;
+type Small = Engine<MemPages, MemLog, StoreLevel>;
 
-    /// Buffered records are handed over, which no failure meets, and the devices are left as a crash leaves them: of each
-    /// page this image, and so many of the unforced records.
-    fn crash(&mut self, choice: PageChoice, keep: u64);
-
-    /// Writes the pages of an empty store.
-    fn format(&mut self, layout: &Layout) -> Result<(), Refusal>;
-
-    /// Opens the store. Where that is refused, its devices are left for another try.
-    fn restart(&mut self) -> Result<Report, Refusal>;
-
-    /// Has the device call of this number fail, counted from 1.
-    fn fail(&mut self, n: u64);
-
-    /// Whether that call was made.
-    fn has_failed(&self, n: u64) -> bool;
+/// A store of one directory and one cell page over devices in memory, formatted and opened.
+pub fn small_engine(alloc: Global) -> Result<Small, &'static str> {
+    let layout = Layout::new(1, 1).ok_or("a small store")?;
+    engine_over(alloc, layout, Switch::new(alloc).map_err(|_| "memory")?)
 }
 
-/// How a store is opened, asked and shut. Shut, it is its devices.
-pub trait Medium<K, D> {
-    fn format(&mut self, devices: &mut D, layout: &Layout) -> Result<(), Refusal>;
-
-    /// Opens the store that the devices hold. Where that is refused, they are left.
-    fn open(&mut self, devices: D) -> Result<(K, Report), (Refusal, D)>;
-
-    fn ask(&mut self, kept: &mut K, event: Event) -> Reply;
-
-    /// The devices as a crash leaves them, once buffered records are handed over.
-    fn crash(&mut self, kept: K, choice: PageChoice, keep: u64) -> D;
-
-    /// Has the device call of this number fail, counted from 1.
-    fn fail(&mut self, n: u64);
-
-    /// Whether that call was made.
-    fn has_failed(&self, n: u64) -> bool;
+/// One of two directory and two cell pages.
+pub fn wide_engine(alloc: Global) -> Result<Small, &'static str> {
+    let layout = Layout::new(2, 2).ok_or("a wide store")?;
+    engine_over(alloc, layout, Switch::new(alloc).map_err(|_| "memory")?)
 }
 
-/// A store, and what opens it. It knows no engine.
-#[derive(Drop)]
-pub struct Machine<K, D, M> {
-    medium: M,
-    open: Option<K>,
-    shut: Option<D>,
+// A small store whose next force fails.
+fn failing_engine(alloc: Global) -> Result<Small, &'static str> {
+    let layout = Layout::new(1, 1).ok_or("a small store")?;
+    let switch = Switch::new(alloc).map_err(|_| "memory")?;
+    let Ok(for_store) = switch.share() else {
+        return Err("memory");
+    };
+    let engine = engine_over(alloc, layout, for_store)?;
+    switch.arm_kind(CallKind::Force, Mishap::Fail);
+    Ok(engine)
 }
 
-impl<K: Drop, D: Drop, M: Medium<K, D>> Machine<K, D, M> {
-    /// These devices, shut.
-    pub fn new(medium: M, devices: D) -> Self {
-        Machine {
-            medium,
-            open: None,
-            shut: Some(devices),
-        }
+fn engine_over(alloc: Global, layout: Layout, switch: Switch) -> Result<Small, &'static str> {
+    let Ok(for_log) = switch.share() else {
+        return Err("memory");
+    };
+    let Ok(mut pages) = MemPages::zeroed(alloc, layout.pages(), switch) else {
+        return Err("memory");
+    };
+    if format(&mut pages, &layout).is_err() {
+        return Err("format");
     }
+    opened(alloc, pages, MemLog::new(alloc, Vec::new(alloc), for_log))
 }
 
-impl<K: Drop, D: Drop, M: Medium<K, D>> Store for Machine<K, D, M> {
-    fn ask(&mut self, event: Event) -> Reply {
-        match &mut self.open {
-            Some(kept) => self.medium.ask(kept, event),
-            None => Reply::Refused(Refusal::Failed),
-        }
-    }
-
-    fn crash(&mut self, choice: PageChoice, keep: u64) {
-        if let Some(kept) = self.open.take() {
-            self.shut = Some(self.medium.crash(kept, choice, keep));
-        }
-    }
-
-    fn format(&mut self, layout: &Layout) -> Result<(), Refusal> {
-        match &mut self.shut {
-            Some(devices) => self.medium.format(devices, layout),
-            None => Err(Refusal::Failed),
-        }
-    }
-
-    fn restart(&mut self) -> Result<Report, Refusal> {
-        let Some(devices) = self.shut.take() else {
-            return Err(Refusal::Failed);
-        };
-        match self.medium.open(devices) {
-            Ok((kept, report)) => {
-                self.open = Some(kept);
-                Ok(report)
-            }
-            Err((refusal, devices)) => {
-                self.shut = Some(devices);
-                Err(refusal)
-            }
-        }
-    }
-
-    fn fail(&mut self, n: u64) {
-        self.medium.fail(n);
-    }
-
-    fn has_failed(&self, n: u64) -> bool {
-        self.medium.has_failed(n)
-    }
-}
-
-/// Devices in memory of which nothing is written.
-pub type Blank = (Memory, (MemPages, MemLog));
-
-/// What opens a store over devices in memory.
-#[derive(Drop)]
-pub struct Memory {
+/// What the devices hold, opened.
+pub fn opened<P: PageDevice + Drop, L: LogDevice + Drop>(
     alloc: Global,
-    switch: Switch,
-}
-
-/// Devices in memory for a store of this layout.
-pub fn blank(alloc: Global, layout: &Layout) -> Result<Blank, AllocError> {
-    let (switch, pages, log) = devices(alloc, layout)?;
-    Ok((Memory { alloc, switch }, (pages, log)))
-}
-
-impl Medium<Kept<MemPages, MemLog, StoreLevel>, (MemPages, MemLog)> for Memory {
-    fn format(&mut self, devices: &mut (MemPages, MemLog), layout: &Layout) -> Result<(), Refusal> {
-        formatted(&mut devices.0, layout)
+    pages: P,
+    log: L,
+) -> Result<Engine<P, L, StoreLevel>, &'static str> {
+    let Ok(levels) = levels_of_store(alloc) else {
+        return Err("memory");
+    };
+    match restart(alloc, pages, log, levels) {
+        Ok((engine, _)) => Ok(engine),
+        Err(_) => Err("restart"),
     }
+}
 
-    fn open(
-        &mut self,
-        devices: (MemPages, MemLog),
-    ) -> Result<(Kept<MemPages, MemLog, StoreLevel>, Report), (Refusal, (MemPages, MemLog))> {
-        let (pages, log) = devices;
-        match opened(self.alloc, pages, log) {
-            Ok(opened) => Ok(opened),
-            Err(
-                Stopped {
-                    refusal,
-                    pages,
-                    log,
-                },
-            ) => Err((refusal, (pages, log))),
+/// The calls of a small store, under its audit; its next force may fail.
+pub fn small_steps(
+    alloc: Global,
+    fails: bool,
+) -> Result<KeptSteps<MemPages, MemLog, StoreLevel>, &'static str> {
+    let engine = if fails {
+        failing_engine(alloc)?
+    } else {
+        small_engine(alloc)?
+    };
+    Ok(KeptSteps::new(Kept::new(alloc, engine), 1))
+}
+
+/// The devices of a kept engine, as a crash leaves them that takes what was not synced or forced.
+pub fn crashed<B: Level>(kept: Kept<MemPages, MemLog, B>) -> (MemPages, MemLog) {
+    let (pages, log) = devices_of(kept);
+    (pages.crash(PageChoice::Synced), log.crash(0))
+}
+
+fn devices_of<P: PageDevice + Drop, L: LogDevice + Drop, B: Level>(kept: Kept<P, L, B>) -> (P, L) {
+    kept.give_back().give_back()
+}
+
+/// The start of a send of this byte.
+pub fn send_of(alloc: Global, txn: Txn, sender: u32, byte: u8) -> Result<Event, AllocError> {
+    let mut body = Vec::new(alloc);
+    body.push(byte)?;
+    Ok(Event::StartSend {
+        txn,
+        sender,
+        tag: 1,
+        body,
+    })
+}
+
+/// The stamp of a call.
+pub fn called<S: Steps>(steps: &mut S, event: Event) -> Stamped {
+    steps.call(event)
+}
+
+/// Begins a transaction.
+pub fn begun<S: Steps>(steps: &mut S) -> Option<Txn> {
+    let stamped = steps.call(Event::Begin);
+    let txn = match stamped.reply() {
+        Reply::Begun(txn) => Some(*txn),
+        _ => None,
+    };
+    steps.seen(stamped);
+    txn
+}
+
+/// The operation that the stamp says is started.
+pub fn started(stamped: &Stamped) -> Option<Sub> {
+    match stamped.reply() {
+        Reply::Started(sub) => Some(*sub),
+        _ => None,
+    }
+}
+
+/// Commits a transaction.
+pub fn committed<S: Steps>(steps: &mut S, txn: Txn) -> Option<CommitNo> {
+    let stamped = steps.call(Event::Commit(txn));
+    let number = match stamped.reply() {
+        Reply::Committed(number) => Some(*number),
+        _ => None,
+    };
+    steps.seen(stamped);
+    number
+}
+
+/// Begins a transaction: it, and the start of its send of this byte.
+pub fn start_of_send<S: Steps>(
+    alloc: Global,
+    steps: &mut S,
+    sender: u32,
+    byte: u8,
+) -> Option<(Txn, Event)> {
+    let txn = begun(steps)?;
+    let start = send_of(alloc, txn, sender, byte).ok()?;
+    Some((txn, start))
+}
+
+/// Whether a send came to its end.
+pub fn is_sent(ended: &RunEnd) -> bool {
+    matches!(ended, RunEnd::Finished(Outcome::Sent))
+}
+
+/// Carries out the operation that this call starts, behind a gate: what came of it, and whether the worker goes on.
+pub fn carried_out<G: Gate + Drop, S: Steps, R: Wait>(
+    rt: &R,
+    gate: G,
+    steps: S,
+    start: &Event,
+) -> (RunEnd, bool, S) {
+    let mut worker = Worker::new(gate, steps);
+    let ended = worker.run(rt, start);
+    let goes_on = worker.goes_on();
+    (ended, goes_on, worker.into_steps())
+}
+
+/// The receipt that the stamp gives.
+pub fn receipt(stamped: &Stamped) -> Option<Receipt> {
+    match stamped.reply() {
+        Reply::Acknowledged(given) => *given,
+        _ => None,
+    }
+}
+
+/// Stamps are kept, where there is memory for them.
+#[derive(Drop)]
+pub struct KeepStamps {
+    pub stamps: Vec<Stamped>,
+    handed: Snapshot<GhostList<Stamped>>,
+}
+
+impl KeepStamps {
+    pub fn new(alloc: Global) -> Self {
+        KeepStamps {
+            stamps: Vec::new(alloc),
+            handed: GhostList::empty(),
         }
     }
+}
 
-    fn ask(&mut self, kept: &mut Kept<MemPages, MemLog, StoreLevel>, event: Event) -> Reply {
-        answered(kept, 1, event)
+impl StampSink for KeepStamps {
+    ghost handed = { λ k. k.handed.value };
+
+    fn keep(&mut self, stamped: Stamped) {
+        GhostList::push(&mut self.handed, &stamped);
+        let _ = self.stamps.push(stamped);
     }
+}
 
-    fn crash(
-        &mut self,
-        kept: Kept<MemPages, MemLog, StoreLevel>,
-        choice: PageChoice,
-        keep: u64,
-    ) -> (MemPages, MemLog) {
-        let (pages, log) = handed_over(kept, &self.switch);
-        crashed(pages, log, choice, keep)
+/// Whether this sender has sent one message, and what waits of it is one of this byte.
+pub fn has_sent<P: PageDevice + Drop, L: LogDevice + Drop>(
+    engine: &Engine<P, L, StoreLevel>,
+    sender: usize,
+    byte: u8,
+) -> Result<bool, &'static str> {
+    let Ok(groups) = engine.content() else {
+        return Err("content");
+    };
+    let group = groups.get(sender).ok_or("a sender")?;
+    let waiting = group.rest.first().ok_or("a message")?;
+    Ok(group.sent == 1 && group.rest.len() == 1 && waiting.body.as_slice() == [byte].as_slice())
+}
+
+/// What a store holds behind its calls: how many were made, where that is told; whether the last one ended an abort; and how many
+/// messages of the first sender are committed, how many were received, and whether no other sender has any.
+#[derive(Clone, Copy)]
+pub struct Held {
+    pub calls: Option<usize>,
+    pub has_aborted: bool,
+    pub told: Option<(u64, u64, bool)>,
+}
+
+/// Whether the store of these calls holds that.
+pub fn held_by<P: PageDevice + Drop, L: LogDevice + Drop, B: Level>(
+    steps: KeptSteps<P, L, B>,
+    held: &Held,
+) -> bool {
+    let kept = steps.into_kept();
+    let is_called = are_called(kept.entries(), held);
+    told(&kept.give_back()) == held.told && is_called
+}
+
+fn are_called(audit: &[AuditEntry], held: &Held) -> bool {
+    let is_counted = match held.calls {
+        Some(calls) => audit.len() == calls,
+        None => true,
+    };
+    is_counted && has_aborted(audit) == held.has_aborted
+}
+
+fn told<P: PageDevice + Drop, L: LogDevice + Drop, B: Level>(
+    engine: &Engine<P, L, B>,
+) -> Option<(u64, u64, bool)> {
+    let groups = engine.content().ok()?;
+    let mut others = 0u64;
+    for group in &groups {
+        others |= group.sent;
     }
+    let first = groups.first()?;
+    Some((first.sent, first.received, others == first.sent))
+}
 
-    fn fail(&mut self, n: u64) {
-        self.switch.arm_call(n, Mishap::Fail);
-    }
-
-    fn has_failed(&self, n: u64) -> bool {
-        self.switch.calls() >= n
+/// Whether the last of these calls ended an abort.
+pub fn has_aborted(audit: &[AuditEntry]) -> bool {
+    match audit.last() {
+        Some(entry) => matches!(entry.reply(), Reply::Aborted),
+        None => false,
     }
 }

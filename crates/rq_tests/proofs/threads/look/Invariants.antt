@@ -1,0 +1,16 @@
+use Rattle.rq_sound.specs.Sound.{IsSound}
+use Rattle.rq_shared.specs.Begun.{begins_with}
+use Rattle.rq_tests.proofs.threads.look.Given as goal
+
+-- the ledger is that of the blank
+abbrev pub ghosts-share-G-Ledger : goal.ghosts-share-G-Ledger
+ghosts-share-G-Ledger g a = record { name = a.blank.name; parts = a.blank.parts }
+
+-- the premise is that the engine which is shared is sound, the ledger of what is taken is that of the second blank, and the
+-- sharing begins with that engine
+abbrev pub ghosts-share-G-Sharing : goal.ghosts-share-G-Sharing
+ghosts-share-G-Sharing g a = record {
+  premise = IsSound a.engine.state;
+  taking = a.taking.name;
+  begins = begins_with a.engine;
+}

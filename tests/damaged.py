@@ -1,0 +1,616 @@
+#!/usr/bin/env python3
+"""Has `bench open` open stores whose pages or log are damaged, and compares what it says with what docs/FORMATS.md does. Where
+`rt ci` left the program as Rattle's own compiler builds it too, that one opens them as well.
+
+    python3 tests/damaged.py [--program PROGRAM]
+"""
+import argparse
+import os
+import pathlib
+import subprocess
+import sys
+import tempfile
+from concurrent.futures import ThreadPoolExecutor
+
+from cases import MOST_SECONDS, built_twice
+from inspector import record
+
+PAGE, SLOT = 4096, 256
+OPENED, UNREAD = "opened", "refused 3 DiskRead"
+
+
+def at_record(lsn):
+    return f"damaged record {lsn}"
+
+
+def at_page(number):
+    return f"damaged page {number}"
+
+
+# ---- slots: of sender 0, whose messages are `hello` of tag 7, unless another is named
+
+
+FREE = bytes(SLOT)
+
+
+def numbers_of(*fields):
+    """Numbers with their widths, one behind the other."""
+    return b"".join(number.to_bytes(width, "big") for number, width in fields)
+
+
+def group(sent=0, received=0, head=0, tail=0, sender=0, state=1):
+    last_tag = 7 if sent else 0
+    slot = numbers_of((state, 1), (0, 3), (sender, 4), (sent, 8), (received, 8), (last_tag, 8), (head, 8), (tail, 8))
+    return slot.ljust(SLOT, b"\0")
+
+
+def closed(*numbers):
+    return group(*numbers, state=2)
+
+
+def cell(sequence, before=0, behind=0, sender=0):
+    """A message, and the addresses of the cells before it and behind it."""
+    slot = numbers_of((1, 1), (0, 1), (5, 2), (sender, 4), (sequence, 8), (7, 8), (behind, 8), (before, 8)) + b"hello"
+    return slot.ljust(SLOT, b"\0")
+
+
+# the first message of sender 0 in the first cell of a small store, whose address is 33, and the slot of its group then
+MESSAGE, ONE_SENT = cell(1), group(1, 0, 33, 33)
+# what was sent has been received
+ONE_TAKEN = group(1, 1)
+
+
+# ---- records: of the transaction 1.1, unless another is named
+
+
+def restart(incarnation):
+    return record(7, [incarnation])
+
+
+def write(operation, page, slot, before, after, txn=1):
+    return record(1, [1, txn, operation, page, slot], before + after)
+
+
+def undo(operation, undone, page, slot, after, txn=1):
+    return record(2, [1, txn, operation, undone, page, slot], after)
+
+
+def end(operation, deed, level=1, txn=1):
+    return record(3, [1, txn, operation, level], deed)
+
+
+def void(operation):
+    return record(4, [1, 1, operation])
+
+
+def back(operation, undone, txn=1):
+    return record(5, [1, txn, operation, undone])
+
+
+COMMIT, ABORT_END = record(6, [1, 1]), record(8, [1, 1])
+
+
+def sent(sender, sequence, previous=0):
+    return numbers_of((1, 1), (sender, 4), (sequence, 8), (7, 8), (previous, 8)) + b"hello"
+
+
+def received(sender, sequence):
+    return numbers_of((2, 1), (sender, 4), (sequence, 8), (7, 8)) + b"hello"
+
+
+def closing(sender):
+    return numbers_of((3, 1), (sender, 4))
+
+
+BEGUN = restart(1)
+# a message is written into the first cell, its group counts it, and that ends
+FILL, COUNT = write(1, 2, 1, FREE, MESSAGE), write(1, 1, 1, group(), ONE_SENT)
+SENT = end(1, sent(0, 1))
+SENDS = [BEGUN, FILL, COUNT, SENT]
+ONE_COMMITTED = [*SENDS, COMMIT]
+# the same is taken back, slot by slot, and that ends
+COUNT_BACK, FILL_BACK, TAKEN_BACK = write(2, 1, 1, ONE_SENT, group()), write(2, 2, 1, MESSAGE, FREE), back(2, 4)
+FILL_UNDONE = undo(1, 2, 2, 1, FREE)
+
+
+# ---- logs over pages as they are formatted: what each test holds, with what is said of it
+
+
+def whole_logs():
+    for records in range(6):
+        yield ONE_COMMITTED[:records], OPENED
+
+
+def changed_bytes():
+    """Records of 13 bytes, 546, 546, 64 and 21: the place of a byte, the byte, and what is said."""
+    for place, byte, said in (
+        (4, 8, at_record(1)), (12, 2, at_record(1)),  # another kind than the length says, another incarnation
+        (45, 9, at_record(2)), (47, 1, at_record(2)), (1134, 9, at_record(4)),  # another slot, before-image, deed
+        (1181, 2, at_record(5)),  # another transaction
+    ):  # fmt: skip
+        log = bytearray(b"".join(ONE_COMMITTED))
+        log[place] = byte
+        yield [bytes(log)], said
+
+
+def cut_logs():
+    for length, said in ((1190, OPENED), (1189, at_record(5)), (1170, at_record(5)), (1, at_record(1))):
+        yield [b"".join(ONE_COMMITTED)[:length]], said
+
+
+def bytes_that_are_no_record():
+    """An operation of no number, slots of no page, a write undone that none is, and a level that is none."""
+    yield [BEGUN, write(0, 2, 1, FREE, MESSAGE)], at_record(2)
+    yield [BEGUN, write(1, 2, 0, FREE, MESSAGE)], at_record(2)
+    yield [BEGUN, write(1, 2, 16, FREE, MESSAGE)], at_record(2)
+    yield [BEGUN, FILL, undo(1, 0, 2, 1, FREE)], at_record(3)
+    yield [BEGUN, FILL, COUNT, end(1, sent(0, 1), level=0)], at_record(4)
+
+
+def incarnations_out_of_order():
+    yield [restart(2)], at_record(1)
+    yield [COMMIT], at_record(1)
+    yield [BEGUN, BEGUN], at_record(2)
+    yield [BEGUN, restart(3)], at_record(2)
+    yield [BEGUN, restart(2)], OPENED
+    # transactions of another incarnation
+    yield [BEGUN, restart(2), COMMIT], at_record(3)
+    yield [BEGUN, restart(2), FILL], at_record(3)
+
+
+def records_behind_the_end_of_their_transaction():
+    yield [*ONE_COMMITTED, write(2, 2, 2, FREE, MESSAGE)], at_record(6)
+    yield [*ONE_COMMITTED, COMMIT], at_record(6)
+    yield [*ONE_COMMITTED, ABORT_END], at_record(6)
+    yield [BEGUN, ABORT_END, FILL], at_record(3)
+    yield [BEGUN, ABORT_END, COMMIT], at_record(3)
+
+
+def records_behind_the_end_of_their_operation():
+    yield [*SENDS, write(1, 2, 2, FREE, MESSAGE)], at_record(5)
+    yield [*SENDS, SENT], at_record(5)
+    yield [*SENDS, void(1)], at_record(5)
+    yield [BEGUN, FILL, FILL_UNDONE, void(1)], OPENED
+    yield [BEGUN, FILL, FILL_UNDONE, void(1), FILL], at_record(5)
+    yield [BEGUN, FILL, FILL_UNDONE, void(1), void(1)], at_record(5)
+
+
+def records_behind_the_end_of_an_inverse():
+    inverse = [*SENDS, COUNT_BACK, FILL_BACK, TAKEN_BACK]
+    yield inverse, OPENED
+    yield [*inverse, ABORT_END], OPENED
+    yield [*inverse, write(2, 2, 1, FREE, MESSAGE)], at_record(8)
+    yield [*inverse, void(2)], at_record(8)
+
+
+def writes_that_are_no_slots_of_the_store():
+    # the superblock, a page past the last
+    yield [BEGUN, write(1, 0, 1, FREE, FREE)], at_record(2)
+    yield [BEGUN, write(1, 3, 1, FREE, MESSAGE)], at_record(2)
+    # a group among the cells
+    yield [BEGUN, write(1, 2, 1, FREE, ONE_SENT)], at_record(2)
+    for slot, said in (
+        (MESSAGE, at_record(2)), (group(sender=1), at_record(2)),  # a cell in the directory, and another sender's group
+        (group(3, 3), at_record(2)), (group(2, 2), OPENED),  # more sent than there are records
+        (group(1, 2), at_record(2)),  # more received than sent
+    ):  # fmt: skip
+        yield [BEGUN, write(1, 1, 1, group(), slot)], said
+
+
+def writes_that_are_undone_wrongly():
+    yield [BEGUN, FILL, FILL_UNDONE], OPENED
+    # no write, one that comes later, another place, another page, another transaction, other bytes
+    for wrong in (
+        undo(1, 1, 2, 1, FREE), undo(1, 3, 2, 1, FREE), undo(1, 2, 2, 2, FREE), undo(1, 2, 1, 1, group()),
+        undo(1, 2, 2, 1, FREE, txn=2), undo(1, 2, 2, 1, MESSAGE),
+    ):  # fmt: skip
+        yield [BEGUN, FILL, wrong], at_record(3)
+    # one that is undone
+    yield [BEGUN, FILL, FILL_UNDONE, FILL_UNDONE], at_record(4)
+
+
+def inverses_of_what_is_not_there():
+    inverse = [*SENDS, COUNT_BACK, FILL_BACK]
+    other = write(1, 2, 2, FREE, MESSAGE, txn=2)
+    yield [*inverse, back(2, 3)], at_record(7)
+    yield [*inverse, back(2, 7)], at_record(7)
+    # a third operation, which takes back what is taken back
+    yield [*inverse, TAKEN_BACK, write(3, 2, 2, FREE, MESSAGE), back(3, 4)], at_record(9)
+    # another transaction's
+    yield [*SENDS, other, back(1, 4, txn=2)], at_record(6)
+
+
+def deeds_that_cannot_be_read():
+    cut_sent, cut_received = sent(0, 1)[:28], received(0, 1)[:20]
+    for level, deed, said in (
+        (2, sent(0, 1), at_record(4)), (1, b"\4", at_record(4)), (1, cut_sent, at_record(4)), (1, sent(0, 0), at_record(4)),
+        (1, cut_received, at_record(4)), (1, closing(0) + b"\0", at_record(4)),
+        (1, sent(15, 1), OPENED),  # of a sender that the store has not it can be read
+    ):  # fmt: skip
+        yield [BEGUN, FILL, COUNT, end(1, deed, level), COMMIT], said
+
+
+def numbers_of_operations_with_gaps():
+    yield [BEGUN, write(2, 2, 1, FREE, MESSAGE)], at_record(2)
+    yield [*SENDS, write(3, 2, 2, FREE, MESSAGE)], at_record(5)
+    yield [*SENDS, write(2, 2, 2, FREE, MESSAGE)], OPENED
+    # another transaction counts from 1
+    yield [*SENDS, write(2, 2, 2, FREE, MESSAGE, txn=2)], at_record(5)
+    yield [*SENDS, write(1, 2, 2, FREE, MESSAGE, txn=2)], OPENED
+
+
+def ends_of_what_did_not_begin():
+    yield [BEGUN, SENT], at_record(2)
+    yield [BEGUN, void(1)], at_record(2)
+    yield [*SENDS, TAKEN_BACK], at_record(5)
+
+
+def what_is_undone_before_what_is_newer():
+    behind = closed(1, 0, 33, 33)
+    both = [*SENDS, write(2, 1, 1, ONE_SENT, behind), end(2, closing(0)), write(3, 1, 1, behind, ONE_SENT)]
+    yield [BEGUN, FILL, COUNT, FILL_UNDONE], at_record(4)
+    yield [*both, back(3, 6)], OPENED
+    yield [*both, back(3, 4)], at_record(8)
+
+
+def a_commit_amid_an_operation():
+    """The record that would undo it does not belong."""
+    yield [BEGUN, FILL, COMMIT], at_record(4)
+
+
+# ---- logs of which a restart cannot take back what a transaction without an end did
+
+
+def made(after, deed):
+    """A transaction writes its sender's directory slot, and nothing else, and its operation ends so."""
+    return [BEGUN, write(1, 1, 1, group(), after), end(1, deed)]
+
+
+# another transaction tells of the next sender that one message was sent and received
+OTHER_TAKEN = write(1, 1, 2, group(sender=1), group(1, 1, sender=1), txn=2)
+# it receives the message of the first, slot by slot
+TAKE = [write(1, 1, 1, ONE_SENT, ONE_TAKEN, txn=2), write(1, 2, 1, MESSAGE, FREE, txn=2)]
+
+
+def received_by_another(sender, sequence):
+    return end(1, received(sender, sequence), txn=2)
+
+
+def what_can_be_taken_back():
+    yield SENDS, OPENED
+    yield made(closed(), closing(0)), OPENED
+    # what was sent and committed is received by a transaction that is lost
+    yield [*ONE_COMMITTED, *TAKE, received_by_another(0, 1)], OPENED
+
+
+def deeds_of_senders_that_the_store_has_not():
+    for deed in (sent(15, 1), received(15, 1), closing(15)):
+        yield [BEGUN, FILL, COUNT, end(1, deed)], at_record(4)
+
+
+def sends_that_do_not_stand_last():
+    # another number than was sent
+    yield [BEGUN, FILL, COUNT, end(1, sent(0, 2))], at_record(4)
+    # no tail, a tail that is free, and one with another number
+    yield made(group(1), sent(0, 1)), at_record(3)
+    yield made(ONE_SENT, sent(0, 1)), at_record(3)
+    yield [BEGUN, write(1, 2, 1, FREE, cell(2)), COUNT, SENT], at_record(4)
+    # the cell before it is free
+    two = write(1, 1, 1, group(), group(2, 0, 34, 33))
+    yield [BEGUN, write(1, 2, 1, FREE, cell(2, before=34)), two, end(1, sent(0, 2))], at_record(4)
+
+
+def receives_that_cannot_be_put_back():
+    yield made(ONE_TAKEN, received(0, 1)), OPENED
+    # another number than was received last, and a head that is free
+    yield made(ONE_TAKEN, received(0, 2)), at_record(3)
+    yield made(group(2, 1, 34, 34), received(0, 1)), at_record(3)
+
+
+def closes_that_are_open():
+    yield made(ONE_TAKEN, closing(0)), at_record(3)
+
+
+def the_newest_is_named():
+    """It comes first, so it is the first to be named."""
+    for sequence, said in ((2, at_record(6)), (1, at_record(4))):
+        yield [BEGUN, FILL, COUNT, end(1, sent(0, 2)), OTHER_TAKEN, received_by_another(1, sequence)], said
+
+
+def what_an_abort_left():
+    """It stays done, and its end is the last record that it may have. What is lost beside it is taken back, or named."""
+    left = [FILL, COUNT, SENT, ABORT_END]
+    yield [BEGUN, *left], OPENED
+    yield [BEGUN, *left, *TAKE, received_by_another(0, 1)], OPENED
+    yield [BEGUN, *left, *TAKE, received_by_another(0, 2)], at_record(8)
+    yield [BEGUN, OTHER_TAKEN, received_by_another(1, 1), *left], OPENED
+    yield [BEGUN, OTHER_TAKEN, received_by_another(1, 2), *left], at_record(3)
+
+
+LOGS = [
+    whole_logs, changed_bytes, cut_logs, bytes_that_are_no_record, incarnations_out_of_order,
+    records_behind_the_end_of_their_transaction, records_behind_the_end_of_their_operation, records_behind_the_end_of_an_inverse,
+    writes_that_are_no_slots_of_the_store, writes_that_are_undone_wrongly, inverses_of_what_is_not_there,
+    deeds_that_cannot_be_read, numbers_of_operations_with_gaps, ends_of_what_did_not_begin, what_is_undone_before_what_is_newer,
+    a_commit_amid_an_operation, what_can_be_taken_back, deeds_of_senders_that_the_store_has_not, sends_that_do_not_stand_last,
+    receives_that_cannot_be_put_back, closes_that_are_open, the_newest_is_named, what_an_abort_left,
+]  # fmt: skip
+
+
+# ---- what a restart adds to a log, record by record: the log, and what it is then
+
+
+def restarts():
+    yield [], [BEGUN]
+    yield ONE_COMMITTED, [restart(2)]
+    # slot writes of operations without an end
+    yield [BEGUN, FILL], [undo(1, 2, 2, 1, FREE), void(1), restart(2)]
+    yield [BEGUN, FILL, COUNT], [undo(1, 3, 1, 1, group()), undo(1, 2, 2, 1, FREE), void(1), restart(2)]
+    yield [BEGUN, FILL, FILL_UNDONE], [void(1), restart(2)]
+    yield [*SENDS, FILL_BACK], [undo(2, 5, 2, 1, MESSAGE), void(2), *again(3), ABORT_END, restart(2)]
+    # what was done and not committed: a send, a close, and a receive by another transaction
+    yield SENDS, [*again(2), ABORT_END, restart(2)]
+    yield [*SENDS, *again(2)], [ABORT_END, restart(2)]
+    shut = made(closed(), closing(0))
+    yield shut, [write(2, 1, 1, closed(), group()), back(2, 3), ABORT_END, restart(2)]
+    put_back = [write(2, 2, 1, FREE, MESSAGE, txn=2), write(2, 1, 1, ONE_TAKEN, ONE_SENT, txn=2), back(2, 8, txn=2)]
+    yield [*ONE_COMMITTED, *TAKE, received_by_another(0, 1)], [*put_back, record(8, [1, 2]), restart(2)]
+
+
+def again(number):
+    """The inverse of the send, by an operation of this number: the cell first, and then its group."""
+    return [write(number, 2, 1, MESSAGE, FREE), write(number, 1, 1, ONE_SENT, group()), back(number, 4)]
+
+
+# ---- pages
+
+
+def formatted(directory=1, cells=1):
+    """The pages of a store as it is formatted, one behind the other."""
+    pages = bytearray((1 + directory + cells) * PAGE)
+    pages[SLOT : SLOT + 20] = b"RQMSTORE" + numbers_of((1, 4), (directory, 4), (cells, 4))
+    for number in range(1, 1 + directory + cells):
+        pages[number * PAGE + 8 : number * PAGE + 13] = numbers_of((number, 4), (1 if number <= directory else 2, 1))
+    for sender in range(15 * directory):
+        put(pages, 1 + sender // 15, 1 + sender % 15, group(sender=sender), 0)
+    return pages
+
+
+def put(pages, number, slot, bytes_of_slot, lsn=1):
+    """Writes a slot, and the LSN of its page."""
+    at = number * PAGE
+    pages[at : at + 8] = lsn.to_bytes(8, "big")
+    pages[at + slot * SLOT : at + (slot + 1) * SLOT] = bytes_of_slot
+
+
+def written(*changes):
+    """The pages of a small store with one message, each of them written; then these bytes, by page and place, are others."""
+    pages = formatted()
+    put(pages, 1, 1, ONE_SENT, 3)
+    put(pages, 2, 1, MESSAGE, 2)
+    for number, place, byte in changes:
+        pages[number * PAGE + place] = byte
+    return pages
+
+
+# records that write nothing
+SIX = [restart(incarnation) for incarnation in range(1, 7)]
+
+
+def pages_that_were_written():
+    yield written(), ONE_COMMITTED, OPENED
+    yield written(), [BEGUN, FILL, COUNT], OPENED
+
+
+def superblocks():
+    """The mark; its LSN, number and kind, the zeros of its header and slots, the version and the sizes."""
+    for place, byte in (
+        (256, 0), (7, 1), (11, 1), (12, 1), (13, 1), (276, 1), (4095, 1), (267, 2), (271, 0), (275, 0), (273, 2),
+    ):  # fmt: skip
+        yield written((0, place, byte)), ONE_COMMITTED, at_page(0)
+
+
+def headers():
+    for number, place, byte in ((1, 12, 2), (1, 11, 2), (1, 255, 1), (2, 12, 1), (2, 8, 1), (2, 13, 1)):
+        yield written((number, place, byte)), ONE_COMMITTED, at_page(number)
+    # numbers beyond the log
+    yield written((1, 7, 9)), ONE_COMMITTED, at_page(1)
+    yield written((2, 7, 6)), ONE_COMMITTED, at_page(2)
+    yield written((2, 7, 5)), ONE_COMMITTED, OPENED
+
+
+def slots():
+    # of a cell its state, a zero, its length, its sender and number, its links, and the zeros behind its body
+    for place, byte in ((256, 2), (256, 0), (257, 1), (259, 217), (263, 15), (271, 0), (287, 31), (295, 32), (301, 1)):
+        yield written((2, place, byte)), ONE_COMMITTED, at_page(2)
+    # of a group its state, its zeros, its sender, what is received and its links
+    for place, byte in ((256, 0), (256, 3), (257, 1), (263, 1), (279, 2), (295, 48), (303, 17), (304, 1)):
+        yield written((1, place, byte)), ONE_COMMITTED, at_page(1)
+    # a cell of another sender is a broken chain
+    yield written((2, 263, 1)), ONE_COMMITTED, at_page(1)
+
+
+def more_sent_than_there_are_records():
+    for messages, said in ((2, at_page(1)), (1, OPENED)):
+        pages = formatted()
+        put(pages, 1, 15, group(messages, messages, sender=14))
+        yield pages, [BEGUN], said
+
+
+def before_images():
+    """Something else stands there; where the page is newer nothing is compared."""
+    odd = write(1, 2, 1, MESSAGE, FREE)
+    yield formatted(), [BEGUN, odd], at_record(2)
+    newer = formatted()
+    put(newer, 2, 1, FREE, 2)
+    yield newer, [BEGUN, odd, undo(1, 2, 2, 1, MESSAGE)], at_page(2)
+
+
+def no_cell_is_free():
+    full = formatted()
+    for slot in range(1, 16):
+        put(full, 2, slot, MESSAGE, 0)
+    yield full, made(ONE_TAKEN, received(0, 1)), at_record(3)
+
+
+# sender 0 has sent five messages, of which three were received: the others stand in the first two cells
+TWO, FOURTH, FIFTH = group(5, 3, 33, 34), cell(4, behind=34), cell(5, before=33)
+
+
+def chains():
+    """The slot of sender 0, the first two cells, and what is said."""
+    of_another = cell(5, before=33, sender=1)
+    for slot, first, second, said in (
+        (TWO, FOURTH, FIFTH, OPENED),
+        # a cell that is free, of another sender, with another number, or that names another before it or behind
+        (TWO, FREE, FIFTH, at_page(1)), (TWO, FOURTH, FREE, at_page(1)), (TWO, FOURTH, of_another, at_page(1)),
+        (TWO, cell(3, 0, 34), FIFTH, at_page(1)), (TWO, FOURTH, cell(4, 33, 0), at_page(1)),
+        (TWO, cell(4, 34, 34), FIFTH, at_page(1)), (TWO, FOURTH, cell(5, 0, 0), at_page(1)),
+        (TWO, cell(4, 0, 0), FIFTH, at_page(1)), (TWO, FOURTH, cell(5, 33, 33), at_page(1)),
+        (TWO, FOURTH, cell(6, before=33), at_page(1)),
+        # another head or tail, and others than two that wait
+        (group(5, 3, 34, 34), FOURTH, FIFTH, at_page(1)), (group(5, 3, 33, 33), FOURTH, FIFTH, at_page(1)),
+        (group(5, 3, 0, 0), FOURTH, FIFTH, at_page(1)), (group(4, 3, 33, 34), FOURTH, FIFTH, at_page(1)),
+        (group(5, 3, 35, 34), FOURTH, FIFTH, at_page(1)),
+        (group(6, 3, 33, 34), FOURTH, FIFTH, at_page(1)), (group(3, 3, 33, 34), FOURTH, FIFTH, at_page(1)),
+        # cells in no chain, behind a chain that is broken
+        (group(3, 3), FREE, FREE, OPENED), (group(3, 3), MESSAGE, FREE, at_page(2)), (group(), FOURTH, FIFTH, at_page(2)),
+        (group(3, 3), FREE, cell(6, sender=14), at_page(2)), (TWO, cell(4, sender=7), FREE, at_page(1)),
+    ):  # fmt: skip
+        yield small(slot, first, second), SIX, said
+
+
+def small(slot, *cells):
+    """Pages with this slot of sender 0, and these first cells."""
+    pages = formatted()
+    put(pages, 1, 1, slot)
+    for at, held in enumerate(cells, 1):
+        put(pages, 2, at, held)
+    return pages
+
+
+def chains_beside_a_whole_one():
+    """A cell in no chain, and then a group of a higher number with the same chain."""
+    pages = small(TWO, FOURTH, FIFTH, cell(4, sender=7))
+    yield bytes(pages), SIX, at_page(2)
+    put(pages, 1, 3, group(5, 3, 33, 34, sender=2))
+    yield pages, SIX, at_page(1)
+
+
+def chains_on_two_pages():
+    """Two directory and two cell pages, whose first cells are 49 and 65. The slots of senders 14 and 15, these cells, and what is
+    said: the lower sender is named, then the lower page of a cell in no chain."""
+    lower, upper = group(6, 5, 65, 65, sender=14), group(6, 5, 49, 49, sender=15)
+    of_lower, of_upper = cell(6, sender=14), cell(6, sender=15)
+    no_lower, no_upper = group(6, 6, sender=14), group(6, 6, sender=15)
+    both_cells, last = group(6, 4, 65, 49, sender=15), cell(6, before=65, sender=15)
+    for on_first, on_second, third, fourth, said in (
+        (lower, upper, of_upper, of_lower, OPENED), (lower, upper, FREE, FREE, at_page(1)),
+        (lower, upper, of_lower, of_upper, at_page(1)), (lower, upper, of_upper, FREE, at_page(1)),
+        (lower, upper, FREE, of_lower, at_page(2)),
+        (no_lower, no_upper, FREE, FREE, OPENED), (no_lower, no_upper, of_lower, of_upper, at_page(3)),
+        (no_lower, no_upper, of_upper, of_lower, at_page(3)), (no_lower, no_upper, FREE, of_lower, at_page(4)),
+        (group(6, 5, 49, 49, sender=14), no_upper, of_lower, of_upper, at_page(4)),
+        (no_lower, group(6, 5, sender=15), of_lower, of_upper, at_page(2)),
+        # one chain goes over both cell pages: where it ends before its last cell, its sender's page is named
+        (group(sender=14), both_cells, last, cell(5, behind=49, sender=15), OPENED),
+        (group(sender=14), both_cells, last, cell(5, sender=15), at_page(2)),
+    ):  # fmt: skip
+        pages = formatted(2, 2)
+        for number, slot, held in ((1, 15, on_first), (2, 1, on_second), (3, 1, third), (4, 1, fourth)):
+            put(pages, number, slot, held)
+        yield pages, SIX, said
+
+
+def several_faults():
+    """The superblock, then pages by number, then the log; numbers beyond it, what cannot be taken back, then chains."""
+    odd_send = [BEGUN, FILL, COUNT, end(1, sent(0, 2))]
+    yield written((0, 256, 0), (1, 12, 2)), [BEGUN, BEGUN], at_page(0)
+    yield written((1, 256, 3), (2, 12, 1)), [BEGUN, BEGUN], at_page(1)
+    yield written((2, 12, 1)), [BEGUN, BEGUN], at_page(2)
+    yield written((1, 7, 9)), [BEGUN, BEGUN], at_record(2)
+    yield written((1, 7, 9)), odd_send, at_page(1)
+    yield written((2, 263, 1)), odd_send, at_record(4)
+    yield written((2, 263, 1)), ONE_COMMITTED, at_page(1)
+    # a record whose before-image doesn't stand there comes before bytes that are no record, and these before a number beyond the log
+    yield formatted(), [BEGUN, write(1, 2, 1, MESSAGE, FREE), b"\0"], at_record(2)
+    beyond = formatted()
+    beyond[PAGE + 7] = 9
+    yield beyond, [BEGUN, b"\0"], at_record(2)
+
+
+def other_lengths():
+    """Pages behind those of the store, and one that is missing."""
+    yield formatted() + bytes([7] * PAGE), [], OPENED
+    lacking = formatted()
+    lacking[275] = 2
+    yield lacking, [], UNREAD
+
+
+PAGES = [
+    pages_that_were_written, superblocks, headers, slots, more_sent_than_there_are_records, before_images, no_cell_is_free, chains,
+    chains_beside_a_whole_one, chains_on_two_pages, several_faults, other_lengths,
+]  # fmt: skip
+
+
+# ---- runs
+
+
+def rows():
+    """All of them: a name, pages, a log, and what is said."""
+    for test in LOGS:
+        for at, (records, said) in enumerate(test()):
+            yield f"{test.__name__}, {at}", formatted(), b"".join(records), said
+    for test in PAGES:
+        for at, (pages, records, said) in enumerate(test()):
+            yield f"{test.__name__}, {at}", pages, b"".join(records), said
+
+
+def fault(program, name, pages, log, wanted):
+    """What is wrong with what is said of a store; None where nothing is. A store that is not opened stays as it is."""
+    with tempfile.TemporaryDirectory() as top:
+        folder = pathlib.Path(top)
+        (folder / "pages").write_bytes(pages)
+        (folder / "log").write_bytes(log)
+        ran = subprocess.run([program, "open", top], capture_output=True, timeout=MOST_SECONDS)
+        said = ran.stdout.decode(errors="backslashreplace")
+        is_opened = said.startswith("restarted ")
+        if ("opened\n" if is_opened else said) != f"{wanted}\n" or ran.returncode != (0 if is_opened else 1):
+            return f"{name}: {said!r} and {ran.returncode}, and not {wanted!r}"
+        if not is_opened and ((folder / "pages").read_bytes(), (folder / "log").read_bytes()) != (pages, log):
+            return f"{name}: its files have changed"
+    return None
+
+
+def odd_restart(program, at, before, added):
+    """What is wrong with the log that a restart leaves; None where nothing is."""
+    with tempfile.TemporaryDirectory() as top:
+        folder = pathlib.Path(top)
+        (folder / "pages").write_bytes(formatted())
+        (folder / "log").write_bytes(b"".join(before))
+        subprocess.run([program, "open", top], stdout=subprocess.DEVNULL, timeout=MOST_SECONDS)
+        left = (folder / "log").read_bytes()
+    return None if left == b"".join([*before, *added]) else f"restarts, {at}: the log is {left.hex()}"
+
+
+def run(program):
+    """Opens all by a program; whether each comes to what it should."""
+    stores, logs = list(rows()), list(restarts())
+    with ThreadPoolExecutor(os.cpu_count()) as pool:
+        told = [*pool.map(lambda row: fault(program, *row), stores)]
+        told += pool.map(lambda at: odd_restart(program, at, *logs[at]), range(len(logs)))
+    faults = [each for each in told if each]
+    print("".join(f"{each}\n" for each in faults), end="")
+    print(f"{len(told) - len(faults)} of {len(told)} stores are opened or refused as they should ({os.path.basename(program)})")
+    return not faults
+
+
+def main():
+    words = argparse.ArgumentParser(description="Has bench open stores that are damaged.")
+    words.add_argument("--program", help="a program that was built elsewhere")
+    ran = [run(program) for program in built_twice(words.parse_args().program, "bench")]
+    sys.exit(0 if all(ran) else 1)
+
+
+if __name__ == "__main__":
+    main()

@@ -1,0 +1,319 @@
+#!/usr/bin/env python3
+"""Has `rqm` make and serve stores in folders, and looks at their files: what a format and a message leave there, byte for byte,
+where no store is made, and what is left where each call on the files fails in turn.
+
+    python3 tests/files.py [--program PROGRAM] [NAME..]
+
+A name is one of the tests below, as `made`; without one all are run. A library that the loader puts in front of the C library's
+has a call fail; it is built with `cc`.
+"""
+import argparse
+import os
+import pathlib
+import subprocess
+import tempfile
+import time
+from contextlib import contextmanager
+
+from cases import built
+from damaged import (
+    FREE, MESSAGE, ONE_COMMITTED, ONE_SENT, PAGE, cell, end, formatted, group, received, sent, small, write,
+)  # fmt: skip
+from inspector import record
+from server import LONGEST, DiskWrite, Failed, NotStarted, Server, cut_torn_end, everything, raises
+
+SHIM = """#define _GNU_SOURCE
+#include <dlfcn.h>
+#include <errno.h>
+#include <fcntl.h>
+#include <stdatomic.h>
+#include <stdlib.h>
+#include <unistd.h>
+
+/* Has the call on a file fail whose number is FAIL_AT, from 1, and makes the file FAILED then. */
+static int fails(void) {
+    static atomic_long made;
+    const char *at = getenv("FAIL_AT"), *told = getenv("FAILED");
+    if (!at || ++made != atol(at)) return 0;
+    close(open(told, O_WRONLY | O_CREAT, 0666));
+    errno = EIO;
+    return 1;
+}
+
+#define NEXT(name) ((__typeof__(&name)) dlsym(RTLD_NEXT, #name))
+
+/* A write that fails was made, or a part of it. */
+#define WRITE(name, offset) ssize_t name(int file, const void *bytes, size_t size, offset at) { \\
+    if (!fails()) return NEXT(name)(file, bytes, size, at); \\
+    NEXT(name)(file, bytes, getenv("IN_PART") ? size / 2 : size, at); \\
+    errno = EIO; \\
+    return -1; \\
+}
+#define READ(name, offset) ssize_t name(int file, void *bytes, size_t size, offset at) { \\
+    return fails() ? -1 : NEXT(name)(file, bytes, size, at); \\
+}
+#define SYNC(name) int name(int file) { return fails() ? -1 : NEXT(name)(file); }
+
+WRITE(pwrite, off_t)
+WRITE(pwrite64, off64_t)
+READ(pread, off_t)
+READ(pread64, off64_t)
+SYNC(fsync)
+SYNC(fdatasync)
+"""
+
+
+@contextmanager
+def folder_of(**files):
+    """A folder with these files."""
+    with tempfile.TemporaryDirectory(prefix="rqm-files-") as top:
+        for name, held in files.items():
+            (pathlib.Path(top) / name).write_bytes(held)
+        yield pathlib.Path(top)
+
+
+def files_of(folder):
+    return {file.name: file.read_bytes() for file in folder.iterdir()}
+
+
+def format_store(program, folder, directory=1, cells=2, **words):
+    """What is printed, and the exit status."""
+    command = [program, "format", str(folder), "--directory", str(directory), "--cells", str(cells)]
+    ended = subprocess.run(command, stdout=subprocess.PIPE, timeout=LONGEST, env=dict(os.environ, **words))
+    return ended.stdout, ended.returncode
+
+
+def wait_until(comes):
+    until = time.monotonic() + LONGEST
+    while not comes():
+        assert time.monotonic() < until, "it does not come"
+        time.sleep(0.01)
+
+
+def made(program):
+    """A store as it is formatted."""
+    for directory, cells in ((1, 2), (3, 1), (2, 20)):
+        with folder_of() as folder:
+            assert format_store(program, folder, directory, cells) == (b"formatted %d %d\n" % (directory, cells), 0)
+            assert files_of(folder) == {"pages": bytes(formatted(directory, cells)), "log": b""}, (directory, cells)
+
+
+def there(program):
+    """A store that is there stays, and so does half of one."""
+    for name in ("pages", "log"):
+        with folder_of(**{name: b"kept"}) as folder:
+            assert format_store(program, folder) == (b"fault exists\n", 1)
+            assert files_of(folder) == {name: b"kept"}
+    with folder_of() as folder:
+        assert format_store(program, folder)[1] == 0
+        before = files_of(folder)
+        assert format_store(program, folder, 1, 1) == (b"fault exists\n", 1)
+        assert files_of(folder) == before
+
+
+def no_folder(program):
+    """No folder is made."""
+    with folder_of(file=b"") as folder:
+        for where in (folder / "none", folder / "file"):
+            assert format_store(program, where) == (b"fault open\n", 1)
+        assert files_of(folder) == {"file": b""}
+    command = [program, "format", "", "--directory", "1", "--cells", "1"]
+    with folder_of() as folder:
+        assert subprocess.run(command, cwd=folder, stdout=subprocess.PIPE).stdout == b"fault open\n"
+        assert files_of(folder) == {}
+
+
+def open_once(program):
+    """Nobody else opens a store that is open; then it is opened again."""
+    with folder_of(pages=formatted(), log=b"") as folder:
+        for _ in range(2):
+            server = Server(program, folder)
+            raises(NotStarted, lambda: Server(program, folder))
+            server.kill()
+
+
+# two sends of `hello` and two receives, each by a transaction of its own, record by record
+FIRST, SECOND = cell(1, behind=34), cell(2, before=33)
+MESSAGES = [
+    *ONE_COMMITTED,
+    write(1, 2, 2, FREE, SECOND, txn=2), write(1, 2, 1, MESSAGE, FIRST, txn=2),
+    write(1, 1, 1, ONE_SENT, group(2, 0, 33, 34), txn=2), end(1, sent(0, 2, 7), txn=2), record(6, [1, 2]),
+    write(1, 2, 1, FIRST, FREE, txn=3), write(1, 2, 2, SECOND, cell(2), txn=3),
+    write(1, 1, 1, group(2, 0, 33, 34), group(2, 1, 34, 34), txn=3), end(1, received(0, 1), txn=3), record(6, [1, 3]),
+    write(1, 2, 2, cell(2), FREE, txn=4), write(1, 1, 1, group(2, 1, 34, 34), group(2, 2), txn=4),
+    end(1, received(0, 2), txn=4), record(6, [1, 4]),
+]  # fmt: skip
+
+
+def messages(program):
+    """The files behind each transaction, once each changed page is written: page 2 by the record of this LSN, with these cells, and
+    page 1 by the next one, with this slot of the sender; and what is received when the store is opened again."""
+    left = [(5, 3, ONE_SENT, [MESSAGE]), (10, 8, group(2, 0, 33, 34), [FIRST, SECOND]), (15, 13, group(2, 1, 34, 34), [FREE, cell(2)])]
+    for sends, (records, lsn, slot, cells) in enumerate(left, 1):
+        with folder_of(pages=formatted(), log=b"") as folder:
+            server = Server(program, folder)
+            with server.connect() as connection:
+                for _ in range(min(sends, 2)):
+                    with connection.transaction() as transaction:
+                        transaction.send(0, 7, b"hello")
+                if sends > 2:
+                    with connection.transaction() as transaction:
+                        assert transaction.receive() == (0, 7, b"hello")
+            assert transaction.lsn == records
+            pages = small(slot, *cells)
+            pages[PAGE : PAGE + 8], pages[2 * PAGE : 2 * PAGE + 8] = lsn.to_bytes(8, "big"), (lsn - 1).to_bytes(8, "big")
+            wanted = {"pages": bytes(pages), "log": b"".join(MESSAGES[:records])}
+            wait_until(lambda: files_of(folder) == wanted)
+            server.kill()
+            server = Server(program, folder)
+            with server.connect() as connection:
+                assert everything(connection) == {0: [(7, b"hello")] * (2 if sends == 2 else 1)}
+            server.kill()
+
+
+def log_of_all(program):
+    """The log of all four transactions, and behind it that of a receive that finds nothing."""
+    with folder_of(pages=formatted(), log=b"") as folder:
+        server = Server(program, folder)
+        with server.connect() as connection:
+            for _ in range(2):
+                with connection.transaction() as transaction:
+                    transaction.send(0, 7, b"hello")
+            for wanted in ((0, 7, b"hello"), (0, 7, b"hello"), None):
+                with connection.transaction() as transaction:
+                    assert transaction.receive() == wanted
+        server.kill()
+        assert (folder / "log").read_bytes() == b"".join([*MESSAGES, record(6, [1, 5])])
+
+
+# ---- calls that fail
+
+
+class Course:
+    """Transactions of one connection. `left` has what the store holds behind each commit, and `done` counts those that were
+    acknowledged."""
+
+    left = [{}, {0: [(7, b"hello")]}, {}, {0: [(8, b"a")]}, {0: [(8, b"a"), (9, b"b")]}]
+
+    def __init__(self):
+        self.done, self.last, self.has_failed = 0, 0, False
+
+    def run(self, server):
+        with server.connect() as connection:
+            try:
+                self.transactions(connection)
+            except (Failed, DiskWrite):
+                self.has_failed = True
+
+    def transactions(self, connection):
+        self.commit(connection, lambda transaction: transaction.send(0, 7, b"hello"))
+        self.commit(connection, lambda transaction: transaction.receive())
+        self.commit(connection, lambda transaction: transaction.send(0, 8, b"a"))
+        taken_back = connection.transaction()
+        taken_back.receive()
+        taken_back.send(1, 1, b"c")
+        taken_back.abort()
+        self.commit(connection, lambda transaction: transaction.send(0, 9, b"b"))
+
+    def commit(self, connection, work):
+        transaction = connection.transaction()
+        work(transaction)
+        self.last = transaction.commit()
+        self.done += 1
+
+    def has_written(self, folder):
+        """Whether the directory page is written, whose last change stands before the last commit and the end of its send."""
+        return (folder / "pages").read_bytes()[PAGE : PAGE + 8] == (self.last - 2).to_bytes(8, "big")
+
+    def may_leave(self):
+        """What was acknowledged, and with it the commit that was not answered."""
+        return self.left[self.done : self.done + 2]
+
+
+@contextmanager
+def failing():
+    """The words by which the nth call fails, and the file that tells it."""
+    with tempfile.TemporaryDirectory() as top:
+        source, library, told = (os.path.join(top, name) for name in ("shim.c", "shim.so", "failed"))
+        pathlib.Path(source).write_text(SHIM)
+        subprocess.run(["cc", "-O2", "-shared", "-fPIC", "-o", library, source, "-ldl"], check=True)
+        yield {"LD_PRELOAD": library, "FAILED": told}, pathlib.Path(told)
+
+
+def each_call(least):
+    """The numbers of the calls up to one that is not made, with the words for each; there have to be so many."""
+    with failing() as (words, told):
+        for in_part in ({}, {"IN_PART": "1"}):
+            number = 0
+            while number == 0 or told.exists():
+                told.unlink(missing_ok=True)
+                number += 1
+                yield {**words, **in_part, "FAIL_AT": str(number)}, told
+            assert number > least, f"only {number - 1} calls"
+
+
+def formats(program):
+    """A format one of whose calls fails tells it, and leaves files that are there."""
+    for words, told in each_call(8):
+        with folder_of() as folder:
+            came = format_store(program, folder, **words)
+            if told.exists():
+                assert came in ((b"fault 15 DiskWrite\n", 1), (b"fault open\n", 1)), (words, came)
+                assert format_store(program, folder) == (b"fault exists\n", 1)
+            else:
+                assert came == (b"formatted 1 2\n", 0)
+
+
+def courses(program):
+    """Where a call of an opening fails it is refused, and another one opens the store. Where one fails behind it, it is told, and the
+    store does nothing more. What was acknowledged is there once it is opened again, and of the rest at most one commit."""
+    for words, told in each_call(16):
+        course = Course()
+        with folder_of(pages=formatted(), log=b"") as folder:
+            try:
+                server = Server(program, folder, environment=words)
+            except NotStarted as refused:
+                assert told.exists() and refused.line in (b"fault 3 DiskRead\n", b"fault 15 DiskWrite\n", b"fault open\n"), refused
+            else:
+                course.run(server)
+                wait_until(lambda: told.exists() or course.has_written(folder))
+                if told.exists():
+                    wait_until(lambda: is_failed(server))
+                assert told.exists() or not course.has_failed
+                server.kill()
+            cut_torn_end(folder)
+            server = Server(program, folder)
+            with server.connect() as connection:
+                held = everything(connection)
+            server.kill()
+            assert held in course.may_leave(), (words, held, course.done)
+
+
+def is_failed(server):
+    """Every call is refused as of a failed store, at the latest once the writer whose call failed has said so."""
+    with server.connect() as connection:
+        try:
+            connection.transaction().abort()
+        except Failed:
+            return True
+    return False
+
+
+TESTS = [made, there, no_folder, open_once, messages, log_of_all, formats, courses]
+
+
+def main():
+    words = argparse.ArgumentParser(description="Has rqm make and serve stores in folders.")
+    words.add_argument("--program", help="a program that was built elsewhere")
+    words.add_argument("names", nargs="*", metavar="NAME", help="these tests alone")
+    chosen = words.parse_args()
+    program = built(chosen.program, "rqm")
+    known = {test.__name__: test for test in TESTS}
+    for name in chosen.names or known:
+        before = time.monotonic()
+        known[name](program)
+        print(f"{name}: {time.monotonic() - before:.1f} s", flush=True)
+
+
+if __name__ == "__main__":
+    main()
