@@ -14,11 +14,6 @@ use Rattle.rq_log.specs.Spelled.{spelled, AreSpelled}
 use Rattle.rq_log.proofs.Moments.{joined, weaker}
 
 -- no record has many bytes
-few_bytes : (rs : List Record) → AreSpelled rs → length (spelled rs) ≤ 546 * length rs
-few_bytes [] are = omega arith
-few_bytes (r ∷ rs) are = let a = few_bytes rs are.1 in let b = short_spelling r are.0 in let c = length-append (spelled rs) (spelling r) in omega (arith, a, b, c)
-
--- and not many
 pub few_bytes : (rs : List Record) → AreSpelled rs → length (spelled rs) ≤ 546 * length rs
 few_bytes [] are = omega arith
 few_bytes (r ∷ rs) are = let a = few_bytes rs are.1 in let b = short_spelling r are.0 in let c = length-append (spelled rs) (spelling r) in omega (arith, a, b, c)
