@@ -176,9 +176,9 @@ module _ {P L : Type 0} (p : page_device.Ghosts P) (l : log_device.Ghosts L) (on
       → (new.state.forced ≡ s.state.forced) ⊎ (new.state.forced ≡ length s.state.records) → (l.honest new.log → l.honest s.log)
       → (l.honest new.log → LeavesOnly l s.log new.log (IsBeginning s.state.records s.state.forced)) → KeepsFit p l old new) (sym same)
       (λ pages sizes records forced honest run h k fit.
-          let few = k.forced in
-          stays_fit p l only_pages old new k fit sizes records told (leaves (honest h.1)) (stays p l only_pages old new k fit pages)
-          (⊎_elim (λ e. omega (arith, e)) (λ e. omega (arith, e, few)) forced) (⊎_elim (λ e. omega (arith, e, few)) (λ e. omega (arith, e)) forced) (run h.1))
+      let few = k.forced in
+      stays_fit p l only_pages old new k fit sizes records told (leaves (honest h.1)) (stays p l only_pages old new k fit pages)
+      (⊎_elim (λ e. omega (arith, e)) (λ e. omega (arith, e, few)) forced) (⊎_elim (λ e. omega (arith, e, few)) (λ e. omega (arith, e)) forced) (run h.1))
 
   -- one of the pages' device
   pub page_fit : (page : ℕ) (r : Result Written Refusal) → WritesWhen old page r → DeviceAfter p page (image_at old.state.images page) old.pages new.pages r
