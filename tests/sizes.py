@@ -147,8 +147,8 @@ def by_sender(messages):
 
 
 def long_log():
-    """Messages go through a small store, for some 20,000 calls. A restart reads the log by fifty windows and undoes a transaction that
-    was open. The next one goes on from there."""
+    """Messages go through a small store, for some 20,000 calls. A restart reads the log by fifty windows and undoes a transaction
+    that was open. The next one goes on from there."""
     run = Run("a log of many windows", 2, 2)
     groups = {sender: (0, 0, []) for sender in range(2 * SLOTS)}
     for number in range(1500):

@@ -1,6 +1,7 @@
 mod Images
 pub mod Pages
 mod Running
+mod Linking
 mod Sound
 mod Bytes
 mod Held

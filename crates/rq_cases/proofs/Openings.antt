@@ -113,12 +113,12 @@ only_read d = record { same = refl; honest = λ h. h; leaves = λ c may. may; mo
 
 -- no log is refused so for these
 never_stops : (z : Sizes) (first : Paged) (old new : MemLog) → LogStops mem_log z first why.Full old new → ⊥
-never_stops z first old new (inl l) = ⊎_elim (λ s. s) (λ b. (let e = b.told in cc e)) l.why
+never_stops z first old new (inl l) = ⊎_elim (λ s. s) (⊎_elim (λ w. (let e = w.0 in cc e)) (λ b. (let e = b.told in cc e))) l.why
 never_stops z first old new (inr r) = r.3
 
 -- nor as unfinished
 never_unfinished : (z : Sizes) (first : Paged) (old new : MemLog) → LogStops mem_log z first why.Unfinished old new → ⊥
-never_unfinished z first old new (inl l) = ⊎_elim (λ s. s) (λ b. (let e = b.told in cc e)) l.why
+never_unfinished z first old new (inl l) = ⊎_elim (λ s. s) (⊎_elim (λ w. (let e = w.0 in cc e)) (λ b. (let e = b.told in cc e))) l.why
 never_unfinished z first old new (inr r) = r.3
 
 -- where there is no room the log was only read

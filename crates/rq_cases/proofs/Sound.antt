@@ -1,6 +1,7 @@
 -- What is so of the worked run, and what is not so of its transactions.
 use Rattle.rq_cases.specs.Sound.{RunIsSound}
 use Rattle.rq_cases.proofs.Bytes.{are_images}
+use Rattle.rq_cases.proofs.Linking.{linked, half_way}
 use Rattle.rq_cases.proofs.Pages.{are_formatted}
 use Rattle.rq_cases.proofs.Running as running
 
@@ -22,4 +23,6 @@ run = record {
   take_counted = running.step_taken;
   taken = running.finish_take;
   all_committed = running.commit_take;
+  linked = linked;
+  half_way = half_way;
 }

@@ -3,10 +3,12 @@ use Rattle.std.specs.Prelude.{◌≡◌, ℕ, ◌<◌, List, length}
 use Rattle.rq_bytes.specs.Number.{AreBytes}
 use Rattle.rq_model.specs.History.Call.{Begin, Commit, Finish, Force, Start_receive, Start_send, Step}
 use Rattle.rq_model.specs.Replay.Reply.{Gave_commit, Gave_forced, Gave_lsn, Gave_message, Gave_sent, Gave_sub, Gave_txn}
+use Rattle.rq_views.specs.Stored.{slots_in}
 use Rattle.rq_views.specs.WorkedItems.{t1, t2}
 use Rattle.rq_store.specs.Fitting.{image_in}
 use Rattle.rq_sound.specs.Sound.{IsSound}
 use Rattle.rq_sound.specs.ModelSteps.{IsModelStep}
+use Rattle.rq_chain_check.specs.Links.{AreLinked}
 use Rattle.rq_store.specs.Worked.{AreFormatted}
 use Rattle.rq_core.specs.Worked.{hello}
 use Rattle.rq_cases.specs.Store.{sizes, formatted_pages}
@@ -33,3 +35,6 @@ pub record RunIsSound : Type 0 where
   pub take_counted : IsModelStep run.cell_freed (Step t2 1) (Gave_lsn 7) run.take_counted
   pub taken : IsModelStep run.take_counted (Finish t2 1) (Gave_message hello) run.taken
   pub all_committed : IsModelStep run.taken (Commit t2) (Gave_commit (record { txn = t2; lsn = 9 })) run.all_committed
+  -- chains are whole between operations, and not half way through one
+  pub linked : AreLinked sizes (slots_in sizes run.sent.images)
+  pub half_way : AreLinked sizes (slots_in sizes run.cell_filled.images) → ⊥

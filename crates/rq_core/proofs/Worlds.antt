@@ -37,6 +37,7 @@ use Rattle.rq_engine.specs.Crash.{AreFit, IsCut, LeavesCut}
 use Rattle.rq_engine.specs.Devices.{EachPair}
 use Rattle.rq_engine.specs.Opened.{OpenStore}
 use Rattle.rq_engine.specs.Says.{RefusedForCause, call_of, gave}
+use Rattle.rq_engine.proofs.Causes.{has_cause}
 use Rattle.rq_model.specs.Causes.{HasCause, IsCaused, writes_out}
 use Rattle.rq_engine.specs.declared.event.Event.{Event}
 use Rattle.rq_engine.specs.declared.event.Event.TheVariants as event
@@ -83,7 +84,7 @@ failed_at : (h : List Entry) (old new : State) → new ≡ record old { failed =
 failed_at h old new e s = subst (StandsAt h) (sym e) (record { committed = s.committed; records = s.records; forced = s.forced; incarnation = s.incarnation; runs = s.runs })
 
 pub caused : (e : Event) (r : Reply) (s : State) → RefusedForCause s e r → IsCaused (any_busy (ledger_of s).open_ones) (call_of e) (gave r)
-caused e (reply.Refused r) s h = subst (λ b. HasCause b (call_of e) r) (sym (busy_is s.ends s.rows)) h
+caused e (reply.Refused r) s h = subst (λ b. HasCause b (call_of e) r) (sym (busy_is s.ends s.rows)) (has_cause s (call_of e) r h)
 caused e (reply.Stepped progress.Ready) s h = tt
 caused e (reply.Stepped (progress.Done lsn)) s h = tt
 caused e (reply.Finished outcome.Sent) s h = tt

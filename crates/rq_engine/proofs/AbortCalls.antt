@@ -43,7 +43,7 @@ use Rattle.rq_engine.proofs.Calls.{AllMade, going_of}
 use Rattle.rq_engine.proofs.Latches.{undo_busy}
 use Rattle.rq_engine.specs.Invariant.{IsConsistent}
 use Rattle.rq_engine.proofs.Keeping.{kept_aborted, kept_aborting}
-use Rattle.rq_engine.proofs.Refusals.{found_none, found_of, found_some, not_full, refuse}
+use Rattle.rq_engine.proofs.Refusals.{found_none, found_of, found_some, no_memory, not_full, refuse}
 use Rattle.rq_engine.proofs.Standing.{at_own, going_at, refused_steps}
 use Rattle.rq_engine.proofs.Waits.{waits-with_taken}
 
@@ -139,13 +139,21 @@ end_unfinished s t n f running h back k =
     not_empty [] e = cc e
     not_empty (g ∷ fs) e = refl
 
-pub end_full : (s : State) (t : Txn) (n : ℕ) → NoneHolds (ready_tests (ledger_of s) t true) → IsTurnedBack s t n None → log_full (ledger_of s) 1 ≡ true → Refuses s (End_abort t) why.LogFull
-end_full s t n h back full k =
-    let r = turned_row s t n None back in
-    let none : has_done (found t (ledger_of s).open_ones) ≡ false =
-    at_own s t r.0 (λ q. has_done (found q (ledger_of s).open_ones) ≡ false) r.1 (λ e. tests_read.done_is s r.0 e ∙ ap (λ fs. is_some (first fs)) (last_none r.0.finished r.2.3)) in
-    let done : (is_busy (found t (ledger_of s).open_ones) || has_done (found t (ledger_of s).open_ones)) ≡ false = rw (h.1.1.1.0, none) refl in
-    refuse s (End_abort t) why.LogFull refl tt (rw (h.0, h.1.0, h.1.1.0, done, full) refl) k
+-- all is undone
+module _ (s : State) (t : Txn) (n : ℕ) (h : NoneHolds (ready_tests (ledger_of s) t true)) (back : IsTurnedBack s t n None) where
+  all_undone : (is_busy (found t (ledger_of s).open_ones) || has_done (found t (ledger_of s).open_ones)) ≡ false
+  all_undone =
+      let r = turned_row s t n None back in
+      let none : has_done (found t (ledger_of s).open_ones) ≡ false =
+      at_own s t r.0 (λ q. has_done (found q (ledger_of s).open_ones) ≡ false) r.1 (λ e. tests_read.done_is s r.0 e ∙ ap (λ fs. is_some (first fs)) (last_none r.0.finished r.2.3)) in
+      rw (h.1.1.1.0, none) refl
+
+  pub end_full : log_full (ledger_of s) 1 ≡ true → Refuses s (End_abort t) why.LogFull
+  end_full full k = refuse s (End_abort t) why.LogFull refl tt (rw (h.0, h.1.0, h.1.1.0, all_undone, full) refl) k
+
+  -- memory is wanting
+  pub end_memory : s.failed ≡ false → log_full (ledger_of s) 1 ≡ false → Refuses s (End_abort t) why.NoMemory
+  end_memory running room = no_memory s (End_abort t) running (λ _. (h.0, (h.1.0, (h.1.1.0, (all_undone, (room, tt)))))) (λ _. refl)
 
 pub aborted_kept : (s : State) (f : Bool) (o res n : ℕ) (t : Txn) (x : Record) (ends : HeldEnds) → IsConsistent s f o res → HasNothingUnderWay s t n → log_full (ledger_of s) 1 ≡ false
     → IsConsistent (record s { rows = without_row t s.rows; ends = ends; records = x ∷ s.records }) f o res
@@ -186,6 +194,10 @@ module _ (s : State) (t : Txn) (n : ℕ) (f : Finished) (h : NoneHolds (ready_te
       let test : (is_some (newest (found t (ledger_of s).open_ones)) && log_full (ledger_of s) (undo_cost (newest (found t (ledger_of s).open_ones)))) ≡ false =
       rw (some_left) (ap (log_full (ledger_of s)) cost_found ∙ room) in
       (h.0, (h.1.0, (h.1.1.0, (h.1.1.1.0, (test, tt)))))
+
+  -- an inverse that memory is wanting for
+  pub undo_memory : s.failed ≡ false → log_full (ledger_of s) (undo_cost (Some (op_done f))) ≡ false → Refuses s (Undo_next t) why.NoMemory
+  undo_memory running room = no_memory s (Undo_next t) running (λ _. undo_passes room) (λ _. some_left)
 
   -- it is the newest deed of a transaction with nothing under way
   pub is_newest : IsNewestDeed s f.deed

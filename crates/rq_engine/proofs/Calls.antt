@@ -19,7 +19,7 @@ use Rattle.rq_model.specs.History.Call.{Commit, Step, Finish, Show, Last_tag}
 use Rattle.rq_model.specs.History.Entry.{Ready, Shown}
 use Rattle.rq_model.specs.Ledger.{Open, found, runs, group_in}
 use Rattle.rq_model.specs.Legal.{OnFound}
-use Rattle.rq_model.specs.Tests.{has_under, is_aborting, steps_left, log_full, tests, first_of, NoneHolds, ready_tests, any_busy, below}
+use Rattle.rq_model.specs.Tests.{has_under, is_aborting, steps_left, log_full, tests, first_of, NoneHolds, Passes, ready_tests, any_busy, below}
 use Rattle.rq_model.specs.Replay.{Reply as Gave}
 use Rattle.rq_model.specs.Replay.Reply.{Gave_lsn, Gave_commit, Gave_ready, Gave_content, Gave_tag}
 use Rattle.rq_page.specs.Sizes.{Sizes, sender_count}
@@ -340,11 +340,14 @@ pub tag_told : (s : State) (g sent tag : ℕ) → s.failed ≡ false → g < sen
 tag_told s g sent tag running below counted tagged k = rw (counted ∙ k.sent.counts g below, tagged ∙ k.sent.tags g below) (unchanged.tells s g k running below)
 
 -- the content
+pub content_passes : (s : State) → s.failed ≡ false → any_under s.rows ≡ false → Passes (size_of s.sizes) (ledger_of s) Show
+content_passes s running idle = (ap (λ b. not (runs (phase_of b))) running, (busy_is s.ends s.rows ∙ idle, tt))
+
 pub content_done : (s : State) (groups : List Group) → s.failed ≡ false → any_under s.rows ≡ false → groups ≡ map (group_in (committed_of s.records)) (below (sender_count s.sizes)) → IsSound s → IsModelStep s Show (Gave_content groups) s
 content_done s groups running idle e k = record {
   entry = Shown groups;
   says = refl;
-  legal = ((ap (λ b. not (runs (phase_of b))) running, (busy_is s.ends s.rows ∙ idle, tt)), e);
+  legal = (content_passes s running idle, e);
   after = refl;
   sound = k;
   goes_on = (0, refl);

@@ -1,5 +1,5 @@
 -- Pages that a crash leaves fit the log that it leaves.
-use Rattle.std.proofs.Common.{◌≡◌, ℕ, zero, suc, [], ◌∷◌, ◌<◌, ◌≤◌, List, drop, sym, subst, Result, Ok, Err, ⊎_elim, arith, length, take, ap, ◌∙◌, ◌≡◌}
+use Rattle.std.proofs.Common.{◌≡◌, ℕ, zero, suc, [], ◌∷◌, ◌<◌, ◌≤◌, List, drop, refl, sym, subst, Result, Ok, Err, ◌⊎◌, ⊎_elim, inl, inr, arith, length, take, ap, ◌∙◌, ◌≡◌}
 use Rattle.std.proofs.lemmas.List.{length-drop, take-append-drop}
 use Rattle.rq_model.specs.Commits.{committed_of}
 use Rattle.rq_model.specs.Ledger.{group_in, kept_in}
@@ -32,11 +32,11 @@ use Rattle.rq_store.proofs.Cutting.{whole_dropped, longer_continues, oldest_cont
 use Rattle.rq_engine.specs.declared.event.Event.{Event}
 use Rattle.rq_engine.specs.declared.event.Event.TheVariants as event
 use Rattle.rq_engine.specs.declared.event.Reply.{Reply}
-use Rattle.rq_engine.specs.Opened.{OpenStore, WritesWhen}
+use Rattle.rq_engine.specs.Opened.{OpenStore, WritesWhen, state_after}
 use Rattle.rq_engine.specs.Says.{PagesSay, WritesSay, written_by}
-use Rattle.rq_engine.specs.Crash.{AreFit, IsCut, LeavesCut, RunsThroughCuts, commits_left}
+use Rattle.rq_engine.specs.Crash.{AreFit, IsCut, KeepsFit, LeavesCut, RunsThroughCuts, StaysFit, commits_left}
 use Rattle.rq_engine.specs.Devices.Path.{Start, Pages, Log}
-use Rattle.rq_log.proofs.Moments.{weaker}
+use Rattle.rq_log.proofs.Moments.{started, weaker}
 
 pub spelled_dropped : (n : ℕ) (log : List Record) → AreSpelled log → AreSpelled (drop n log)
 spelled_dropped zero log h = h
@@ -125,14 +125,75 @@ module _ {P L : Type 0} (p : page_device.Ghosts P) (l : log_device.Ghosts L) (on
         (goes e r when say).now)
 
     -- at each moment a crash leaves a cut of the older records, whichever device the call changes
-    pub runs_through_cuts : (e : Event) (r : Reply) → AreSpelled old.state.records → WritesSay old e r → PagesSay p old new e r
-        → ((c : List ℕ) → l.may_leave old.log c → IsBeginning old.state.records old.state.forced c)
+    through : Goes → AreSpelled old.state.records → ((c : List ℕ) → l.may_leave old.log c → IsBeginning old.state.records old.state.forced c)
         → LeavesOnly l old.log new.log (IsBeginning old.state.records old.state.forced) → RunsThroughCuts p l old new
-    runs_through_cuts e r told when say log run =
-        let g = goes e r when say in
+    through g told log run =
         let cut_of : (images : Images) (bytes : List ℕ) → FitsLog z images kept → IsBeginning old.state.records old.state.forced bytes → IsCut old.state images bytes =
         (λ images bytes fits b. cut old.state k told images bytes fits b) in
         Log (Pages (Start (λ images bytes a b. cut_of images bytes (fits_log (p.may_be old.pages) z kept images fit a) (log bytes b)))
         (record { later = g.later; each = λ images since bytes b. cut_of images bytes (g.each images since) (log bytes b) }))
         (weaker l old.log new.log (IsBeginning old.state.records old.state.forced) (λ bytes. (images : Images) → Leaves (p.may_be new.pages) images → IsCut old.state images bytes) run
         (λ bytes b images a. cut_of images bytes (fits_log (p.may_be new.pages) z kept images g.now a) b))
+
+    pub runs_through_cuts : (e : Event) (r : Reply) → AreSpelled old.state.records → WritesSay old e r → PagesSay p old new e r
+        → ((c : List ℕ) → l.may_leave old.log c → IsBeginning old.state.records old.state.forced c)
+        → LeavesOnly l old.log new.log (IsBeginning old.state.records old.state.forced) → RunsThroughCuts p l old new
+    runs_through_cuts e r told when say log run = through (goes e r when say) told log run
+
+    -- a call that writes no record
+    module _ (sizes : new.state.sizes ≡ z) (records : new.state.records ≡ old.state.records) (told : AreSpelled old.state.records)
+        (log : (c : List ℕ) → l.may_leave old.log c → IsBeginning old.state.records old.state.forced c) where
+      stays_fit : Goes → old.state.forced ≤ new.state.forced → new.state.forced ≤ length old.state.records
+          → LeavesOnly l old.log new.log (IsBeginning old.state.records old.state.forced) → StaysFit p l old new
+      stays_fit g more within run = record {
+        fit = subst (λ (y : Sizes). AllFit (p.may_be new.pages) y (oldest new.state.forced new.state.records)) (sym sizes)
+            (subst (λ (rs : List Record). AllFit (p.may_be new.pages) z (oldest new.state.forced rs)) (sym records)
+            (all_fit_longer (p.may_be new.pages) z kept (oldest new.state.forced old.state.records)
+            (oldest_continues old.state.forced new.state.forced old.state.records old.state.records (0, refl) k.forced more within) g.now));
+        crash = through g told log run;
+      }
+
+-- a page that is written, or is not, leaves these
+lists_stay : (s : State) (r : Result Written Refusal) → ((state_after s r).sizes ≡ s.sizes) × ((state_after s r).records ≡ s.records) × ((state_after s r).forced ≡ s.forced)
+lists_stay s (Ok w) = (refl, refl, refl)
+lists_stay s (Err why.DiskWrite) = (refl, refl, refl)
+lists_stay s (Err e) = (refl, refl, refl)
+
+-- calls that write no record, of devices whose crashes leave nothing else while no call is made
+module _ {P L : Type 0} (p : page_device.Ghosts P) (l : log_device.Ghosts L) (only_pages : (d : P) (c : Images) → p.left_since d (p.moment d) c → Leaves (p.may_be d) c)
+    (only_log : (d : L) (c : List ℕ) → l.left_since d (l.moment d) c → l.may_leave d c) (old new : OpenStore P L) (told : AreSpelled old.state.records)
+    (leaves : l.honest old.log → (c : List ℕ) → l.may_leave old.log c → IsBeginning old.state.records old.state.forced c) where
+  -- no call of the log's device is made
+  log_still : l.honest old.log → new.log ≡ old.log → LeavesOnly l old.log new.log (IsBeginning old.state.records old.state.forced)
+  log_still h same = subst (λ (d : L). LeavesOnly l old.log d (IsBeginning old.state.records old.state.forced)) (sym same)
+      (started l old.log (IsBeginning old.state.records old.state.forced) (λ c left. leaves h c (only_log old.log c left)))
+
+  -- one of the log's device, from a store that is the older one
+  pub log_fit : (met : OpenStore P L) → met ≡ old → new.pages ≡ met.pages → new.state.sizes ≡ met.state.sizes → new.state.records ≡ met.state.records
+      → (new.state.forced ≡ met.state.forced) ⊎ (new.state.forced ≡ length met.state.records) → (l.honest new.log → l.honest met.log)
+      → (l.honest new.log → LeavesOnly l met.log new.log (IsBeginning met.state.records met.state.forced)) → KeepsFit p l old new
+  log_fit met same = subst (λ (s : OpenStore P L). new.pages ≡ s.pages → new.state.sizes ≡ s.state.sizes → new.state.records ≡ s.state.records
+      → (new.state.forced ≡ s.state.forced) ⊎ (new.state.forced ≡ length s.state.records) → (l.honest new.log → l.honest s.log)
+      → (l.honest new.log → LeavesOnly l s.log new.log (IsBeginning s.state.records s.state.forced)) → KeepsFit p l old new) (sym same)
+      (λ pages sizes records forced honest run h k fit.
+      let few = k.forced in
+      stays_fit p l only_pages old new k fit sizes records told (leaves (honest h.1)) (stays p l only_pages old new k fit pages)
+      (⊎_elim (λ e. omega (arith, e)) (λ e. omega (arith, e, few)) forced) (⊎_elim (λ e. omega (arith, e, few)) (λ e. omega (arith, e)) forced) (run h.1))
+
+  -- one of the pages' device
+  pub page_fit : (page : ℕ) (r : Result Written Refusal) → WritesWhen old page r → DeviceAfter p page (image_at old.state.images page) old.pages new.pages r
+      → new.state ≡ state_after old.state r → new.log ≡ old.log → KeepsFit p l old new
+  page_fit page r when after state log h k fit =
+      let same = lists_stay old.state r in
+      let honest : l.honest old.log = subst (λ (d : L). l.honest d) log h.1 in
+      let forced : new.state.forced ≡ old.state.forced = ap (λ (s : State). s.forced) state ∙ same.2 in
+      let few = k.forced in
+      stays_fit p l only_pages old new k fit (ap (λ (s : State). s.sizes) state ∙ same.0) (ap (λ (s : State). s.records) state ∙ same.1) told (leaves honest)
+      (goes_out p l only_pages old new k fit page r when after) (omega (arith, forced)) (omega (arith, forced, few)) (log_still honest log)
+
+-- no call is made
+pub none_fit : {P L : Type 0} (p : page_device.Ghosts P) (l : log_device.Ghosts L) (only_pages : (d : P) (c : Images) → p.left_since d (p.moment d) c → Leaves (p.may_be d) c)
+    (only_log : (d : L) (c : List ℕ) → l.left_since d (l.moment d) c → l.may_leave d c) (s : OpenStore P L) → AreSpelled s.state.records
+    → (l.honest s.log → (c : List ℕ) → l.may_leave s.log c → IsBeginning s.state.records s.state.forced c) → KeepsFit p l s s
+none_fit p l only_pages only_log s told leaves =
+    log_fit p l only_pages only_log s s told leaves s refl refl refl refl (inl refl) (λ h. h) (λ h. log_still p l only_pages only_log s s told leaves h refl)

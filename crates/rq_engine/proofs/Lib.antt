@@ -14,6 +14,7 @@ pub mod SendCalls
 pub mod TakeCalls
 pub mod CloseCalls
 pub mod AbortCalls
+pub mod Causes
 pub mod Crashing
 pub mod Leaving
 pub mod Listing

@@ -10,7 +10,7 @@ use Rattle.rq_model.specs.History.Call.{Begin, Commit, Start_send, Step, Finish,
 use Rattle.rq_model.specs.History.Entry.{Refused}
 use Rattle.rq_model.specs.Ledger.{Ledger, runs, after, found}
 use Rattle.rq_model.specs.Legal.{LegalRefusal, OnFound}
-use Rattle.rq_model.specs.Tests.{Size, tests, first_of, NoneHolds, is_aborting, is_busy, log_full, ready_tests, without_pages, IsUnready}
+use Rattle.rq_model.specs.Tests.{Size, tests, first_of, NoneHolds, Passes, is_aborting, is_busy, log_full, ready_tests, without_pages, IsUnready}
 use Rattle.std.specs.Option.{is_some as option_is_some}
 use Rattle.rq_txn.specs.declared.Operation.{Operation}
 use Rattle.rq_txn.specs.Rows.{Row, Under, found_row, under_way_of, any_under}
@@ -19,8 +19,8 @@ use Rattle.rq_store.proofs.Opens.{found_open, open_found, owed_is}
 use Rattle.rq_engine.proofs.Standing.{refused_steps}
 use Rattle.rq_page.specs.Sizes.{Sizes}
 use Rattle.rq_content.specs.Read.{StopsFor, IsBroken, damaged_for}
-use Rattle.rq_engine.specs.Answers.{Refuses}
-use Rattle.rq_model.specs.Causes.{HasCause, takes_memory}
+use Rattle.rq_sound.specs.Sound.{IsSound}
+use Rattle.rq_engine.specs.Answers.{IsCausedIn, Refuses, needs_memory}
 
 failed_first : (z : Size) (l : Ledger) (c : Call) → runs l.phase ≡ false → first_of (tests z l c) ≡ Some why.Failed
 failed_first z l Begin e = rw e refl
@@ -90,12 +90,12 @@ same_after l c why.LogFull p = refl
 same_after l c why.UnknownOperation p = refl
 
 -- the first test that holds is the refusal
-pub refuse : (s : State) (c : Call) (r : Refusal) → IsTrue (without_pages r) → HasCause (any_under s.rows) c r → first_of (tests (size_of s.sizes) (ledger_of s) c) ≡ Some r → Refuses s c r
+pub refuse : (s : State) (c : Call) (r : Refusal) → IsTrue (without_pages r) → IsCausedIn s c r → first_of (tests (size_of s.sizes) (ledger_of s) c) ≡ Some r → Refuses s c r
 refuse s c r p cause e k = (refused_steps s k c r (legal_first (size_of s.sizes) (ledger_of s) c r p e) (same_after (ledger_of s) c r p), cause)
 
--- want of memory may come wherever the store runs
-pub no_memory : (s : State) (c : Call) → takes_memory c ≡ true → s.failed ≡ false → Refuses s c why.NoMemory
-no_memory s c takes running k = (refused_steps s k c why.NoMemory (ap (λ b. runs (phase_of b)) running) refl, takes)
+-- want of memory may come wherever the store runs, the tests are passed and memory is needed
+pub no_memory : (s : State) (c : Call) → s.failed ≡ false → (IsSound s → Passes (size_of s.sizes) (ledger_of s) c) → (IsSound s → needs_memory (size_of s.sizes) (ledger_of s) c ≡ true) → Refuses s c why.NoMemory
+no_memory s c running may needs k = (refused_steps s k c why.NoMemory (ap (λ b. runs (phase_of b)) running) refl, (may k, needs k))
 
 -- a store that has failed refuses every call
 pub refuse_failed : (s : State) (c : Call) → s.failed ≡ true → Refuses s c why.Failed

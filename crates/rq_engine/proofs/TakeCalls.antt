@@ -24,8 +24,7 @@ use Rattle.rq_sound.specs.Plans.{AreUnlatched}
 use Rattle.rq_engine.proofs.Latches.{any_busy}
 use Rattle.rq_engine.proofs.Standing.{refused_steps, take_steps, take_from_steps, gives_one, gives_none, some_gives, none_gives, none_steps, none_from_steps}
 use Rattle.rq_chain.specs.declared.ChainPlan.{ChainPlan as Plan}
-use Rattle.rq_engine.specs.Answers.{Refuses, HasNothingUnderWay}
-use Rattle.rq_model.specs.Causes.{HasCause}
+use Rattle.rq_engine.specs.Answers.{IsCausedIn, Refuses, HasNothingUnderWay}
 use Rattle.rq_engine.specs.Receives.{IsTakeCall}
 use Rattle.rq_engine.specs.Sends.{under_plan, take_latched}
 use Rattle.rq_engine.proofs.Refusals.{refuse, found_of, no_memory}
@@ -48,13 +47,6 @@ module _ (s : State) (t : Txn) (h : NoneHolds (ready_tests (ledger_of s) t false
     phase : (b : Bool) → not (runs (phase_of b)) ≡ false → b ≡ false
     phase true e = absurd (true≢false e)
     phase false e = refl
-
-  -- a start may be refused for want of memory
-  pub take_memory : (e : ℕ) (call : Call) → IsTakeCall t e call → Refuses s call why.NoMemory
-  take_memory e call is k = elim is [
-    | inl x ↦ subst (λ (y : Call). IsModelStep s y (Gave_refusal why.NoMemory) s × HasCause (any_under s.rows) y why.NoMemory) (sym x) (no_memory s (Start_receive t) refl running k)
-    | inr x ↦ subst (λ (y : Call). IsModelStep s y (Gave_refusal why.NoMemory) s × HasCause (any_under s.rows) y why.NoMemory) (sym x) (no_memory s (Start_receive_from t e) refl running k)
-  ]
 
   module _ (e : ℕ) where
     pub receiver_busy : e < sender_count s.sizes → is_free_for t e s.ends.receiving ≡ false → Refuses s (Start_receive_from t e) why.ReceiverBusy
@@ -81,8 +73,8 @@ module _ (s : State) (t : Txn) (h : NoneHolds (ready_tests (ledger_of s) t false
 
       pub log_is_full : log_full (ledger_of s) 4 ≡ true → (call : Call) → IsTakeCall t e call → Refuses s call why.LogFull
       log_is_full c call is k = elim is [
-        | inl x ↦ subst (λ (y : Call). IsModelStep s y (Gave_refusal why.LogFull) s × HasCause (any_under s.rows) y why.LogFull) (sym x) (refuse s (Start_receive t) why.LogFull refl tt (rw (h.0, h.1.0, h.1.1.0, h.1.1.1.0, some k, c) refl) k)
-        | inr x ↦ subst (λ (y : Call). IsModelStep s y (Gave_refusal why.LogFull) s × HasCause (any_under s.rows) y why.LogFull) (sym x) (refuse s (Start_receive_from t e) why.LogFull refl tt (rw (h.0, h.1.0, h.1.1.0, h.1.1.1.0, known, is_free k, one k, c) refl) k)
+        | inl x ↦ subst (λ (y : Call). IsModelStep s y (Gave_refusal why.LogFull) s × IsCausedIn s y why.LogFull) (sym x) (refuse s (Start_receive t) why.LogFull refl tt (rw (h.0, h.1.0, h.1.1.0, h.1.1.1.0, some k, c) refl) k)
+        | inr x ↦ subst (λ (y : Call). IsModelStep s y (Gave_refusal why.LogFull) s × IsCausedIn s y why.LogFull) (sym x) (refuse s (Start_receive_from t e) why.LogFull refl tt (rw (h.0, h.1.0, h.1.1.0, h.1.1.1.0, known, is_free k, one k, c) refl) k)
       ]
 
       module _ (room : log_full (ledger_of s) 4 ≡ false) where
@@ -91,6 +83,13 @@ module _ (s : State) (t : Txn) (h : NoneHolds (ready_tests (ledger_of s) t false
 
         pub passes_from : (k : IsSound s) → Passes (size_of s.sizes) (ledger_of s) (Start_receive_from t e)
         passes_from k = (h.0, (h.1.0, (h.1.1.0, (h.1.1.1.0, (known, (is_free k, (and_right _ _ room, tt)))))))
+
+        -- a receive that memory is wanting for
+        pub take_memory : (call : Call) → IsTakeCall t e call → Refuses s call why.NoMemory
+        take_memory call is k = elim is [
+          | inl x ↦ subst (λ (y : Call). IsModelStep s y (Gave_refusal why.NoMemory) s × IsCausedIn s y why.NoMemory) (sym x) (no_memory s (Start_receive t) running passes some k)
+          | inr x ↦ subst (λ (y : Call). IsModelStep s y (Gave_refusal why.NoMemory) s × IsCausedIn s y why.NoMemory) (sym x) (no_memory s (Start_receive_from t e) running passes_from one k)
+        ]
 
         -- a receive that meets a latched page
         pub any_refused : ((g : ℕ) → WaitsFor s t g → take_latched s g ≡ true) → Refuses s (Start_receive t) why.Latched

@@ -1,20 +1,23 @@
 -- What a call answers, and what it finds of the operation that it names.
-use Rattle.rq_model.specs.Causes.{HasCause}
-use Rattle.std.specs.Prelude.{◌≡◌, ◌≢◌, ℕ, ◌+◌, ◌/◌, ◌%◌, ◌<◌, length, true, false, ◌∷◌, Option, Some, None, Result, Ok, Err}
+use Rattle.std.specs.Prelude.{◌≡◌, ◌≢◌, ℕ, ◌+◌, ◌/◌, ◌%◌, ◌<◌, length, Bool, true, false, ◌∷◌, Option, Some, None, Result, Ok, Err}
 use Rattle.rq_model.specs.declared.txn.Sub.{Sub}
 use Rattle.rq_model.specs.declared.txn.Txn.{Txn}
 use Rattle.rq_model.specs.declared.refusal.Refusal.{Refusal}
 use Rattle.rq_model.specs.declared.refusal.Refusal.TheVariants as why
 use Rattle.rq_model.specs.History.{Call}
+use Rattle.rq_model.specs.History.Call.{Start_receive, Start_receive_from, Undo_next}
 use Rattle.rq_model.specs.Replay.{Reply as Gave}
 use Rattle.rq_model.specs.Replay.Reply.{Gave_refusal}
+use Rattle.rq_model.specs.Causes.{HasCause, takes_memory}
+use Rattle.rq_model.specs.Ledger.{Ledger}
 use Rattle.rq_model.specs.Legal.{OnFound}
+use Rattle.rq_model.specs.Tests.{Passes, Size, starts}
 use Rattle.rq_page.specs.Slots.{held_in, IsSlotOf}
 use Rattle.rq_views.specs.Log.{put}
 use Rattle.rq_views.specs.Stored.{slots_in}
 use Rattle.rq_level.specs.declared.writes.SlotWrite.{SlotWrite}
 use Rattle.rq_txn.specs.Rows.{Row, Under, found_row, change_row, row_stepped, any_under}
-use Rattle.rq_store.specs.State.{State}
+use Rattle.rq_store.specs.State.{State, ledger_of, size_of}
 use Rattle.rq_sound.specs.Sound.{IsSound}
 use Rattle.rq_store.specs.Steps.{IsPutIn, page_op}
 use Rattle.rq_sound.specs.ModelSteps.{IsModelStep}
@@ -22,9 +25,22 @@ use Rattle.rq_disk.specs.declared.device.LogDevice as log_device
 use Rattle.rq_disk.specs.declared.device.PageDevice as page_device
 use Rattle.rq_engine.specs.Opened.{OpenStore, AreHonest}
 
+-- the call needs memory: what starts an operation, where there is one to start
+abbrev pub needs_memory : Size → Ledger → Call → Bool
+needs_memory z l (Start_receive t) = starts z l (Start_receive t)
+needs_memory z l (Start_receive_from t s) = starts z l (Start_receive_from t s)
+needs_memory z l (Undo_next t) = starts z l (Undo_next t)
+needs_memory z l c = takes_memory c
+
+-- a refusal has its cause in the store: where memory was wanting, the call has passed its tests and needs some
+abbrev pub IsCausedIn : State → Call → Refusal → Type 0
+IsCausedIn s c why.NoMemory = Passes (size_of s.sizes) (ledger_of s) c
+    × (needs_memory (size_of s.sizes) (ledger_of s) c ≡ true)
+IsCausedIn s c r = HasCause (any_under s.rows) c r
+
 -- the call may be refused so, and that changes nothing
 abbrev pub Refuses : State → Call → Refusal → Type 0
-Refuses s call r = IsSound s → IsModelStep s call (Gave_refusal r) s × HasCause (any_under s.rows) call r
+Refuses s call r = IsSound s → IsModelStep s call (Gave_refusal r) s × IsCausedIn s call r
 
 -- The call with its answer is an entry that may come next where the store goes back to a legal log and both devices
 -- have been honest up to its end, and the store after it is what that entry makes of it.
@@ -33,7 +49,7 @@ abbrev pub AnswersLegally : {P L X : Type 0} → page_device.Ghosts P → log_de
 AnswersLegally p l old call gave (Ok x) new = AreHonest p l new → IsSound old.state
     → IsModelStep old.state call (gave x) new.state
 AnswersLegally p l old call gave (Err r) new = AreHonest p l new → IsSound old.state
-    → IsModelStep old.state call (Gave_refusal r) new.state × HasCause (any_under old.state.rows) call r
+    → IsModelStep old.state call (Gave_refusal r) new.state × IsCausedIn old.state call r
 
 -- what is so of a transaction's operation under way, if it has this number
 abbrev pub OnUnder : ℕ → (Row → Under → Type 0) → Row → Option Under → Type 0

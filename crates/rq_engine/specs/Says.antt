@@ -1,6 +1,5 @@
 -- Events and replies as the model's words: calls, and what they gave.
-use Rattle.rq_txn.specs.Rows.{any_under}
-use Rattle.rq_model.specs.Causes.{HasCause}
+use Rattle.rq_engine.specs.Answers.{IsCausedIn}
 use Rattle.rq_store.specs.State.{State}
 use Rattle.std.specs.Prelude.{◌≡◌, Bool, true, false, map, Option, Some, None, Result, Ok, Err}
 use Rattle.rq_model.specs.declared.refusal.Refusal.{Refusal}
@@ -100,7 +99,7 @@ IsContent _ = ⊥
 
 -- a refusal comes with its cause
 abbrev pub RefusedForCause : State → Event → Reply → Type 0
-RefusedForCause s e (reply.Refused r) = HasCause (any_under s.rows) (call_of e) r
+RefusedForCause s e (reply.Refused r) = IsCausedIn s (call_of e) r
 RefusedForCause s e _ = Unit {0}
 
 -- All records are with the log's device, and it has not failed.

@@ -30,6 +30,7 @@ impl<P: PageDevice, L: LogDevice, B: Level> Engine<P, L, B> {
         ensures sizes { self.new.state.sizes ≡ self.old.state.sizes }
         ensures lists { OnOk result (IsAborting self.old.state txn self.new.state) }
         ensures devices { LeavesDevices self.old self.new }
+        ensures refusal { IfErr result (λ r. IsUnready (ledger_of self.old.state) txn false r) }
         ensures refused { OnErr result (self.new ≡ self.old) }
         ensures failed { (result ≡ Err Refusal.Failed) ↔ (self.old.state.failed ≡ true) }
     {

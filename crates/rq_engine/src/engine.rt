@@ -14,7 +14,7 @@ ghost use Rattle.rq_groups.specs.Waiting.{waits};
 ghost use Rattle.rq_sound.specs.Sound.{IsSound};
 ghost use Rattle.rq_planner.specs.Answered.{KnowsCells};
 ghost use Rattle.rq_engine.specs.Opened.{LeavesDevices, NotWritten};
-ghost use Rattle.rq_engine.specs.Crash.{AreFit, LeavesCut};
+ghost use Rattle.rq_engine.specs.Crash.{AreFit, KeepsFit, LeavesCut};
 ghost use Rattle.rq_engine.specs.Answers.{AnswersLegally, HasNothingUnderWay};
 ghost use Rattle.rq_engine.specs.Lists.{IsBegun, IsCommitted};
 ghost use Rattle.rq_engine.specs.Says.{commit_number, receipt_of};
@@ -324,6 +324,7 @@ impl<P: PageDevice, L: LogDevice, B: Level> Engine<P, L, B> {
         ensures honest { L.honest self.new.log → L.honest self.old.log }
         ensures any_moment { L.honest self.new.log → LeavesOnly L.LogDevice self.old.log self.new.log
             (IsBeginning self.old.state.records self.old.state.forced) }
+        ensures fit { KeepsFit P.PageDevice L.LogDevice self.old self.new }
     {
         self.shows_kept();
         self.check_running()?;
@@ -363,6 +364,7 @@ impl<P: PageDevice, L: LogDevice, B: Level> Engine<P, L, B> {
         ensures honest { L.honest self.new.log → L.honest self.old.log }
         ensures any_moment { L.honest self.new.log → LeavesOnly L.LogDevice self.old.log self.new.log
             (IsBeginning self.old.state.records self.old.state.forced) }
+        ensures fit { KeepsFit P.PageDevice L.LogDevice self.old self.new }
     {
         self.shows_kept();
         self.check_running()?;

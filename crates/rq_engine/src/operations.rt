@@ -43,6 +43,7 @@ impl<P: PageDevice, L: LogDevice, B: Level> Engine<P, L, B> {
         ensures failed { (result ≡ Err Refusal.Failed) ↔ (self.old.state.failed ≡ true) }
         ensures changed { IfOk result (λ progress. StepChanges self.old progress self.new) }
         ensures lists { IfOk result (λ progress. StepSays self.old.state sub progress self.new.state) }
+        ensures refusal { IfErr result (λ r. Idle self.old.state sub r) }
     {
         match self.next_write(sub) {
             Ok(Some(write)) => Ok(Progress::Done(self.make(sub, &write))),
@@ -61,6 +62,7 @@ impl<P: PageDevice, L: LogDevice, B: Level> Engine<P, L, B> {
         ensures sizes { self.new.state.sizes ≡ self.old.state.sizes }
         ensures lists { IfOk result (λ outcome. FinishSays self.old.state sub outcome self.new.state) }
         ensures devices { LeavesDevices self.old self.new }
+        ensures refusal { IfErr result (λ r. CannotFinish self.old.state sub r) }
         ensures refused { OnErr result (self.new ≡ self.old) }
         ensures failed { (result ≡ Err Refusal.Failed) ↔ (self.old.state.failed ≡ true) }
     {

@@ -5,6 +5,7 @@ ghost use Rattle.rq_model.specs.Replay.Reply.{Gave_written};
 ghost use Rattle.rq_pool.specs.Pooled.{image_at};
 ghost use Rattle.rq_pool.specs.Writing.{DeviceAfter, changed_after};
 ghost use Rattle.rq_engine.specs.Answers.{AnswersLegally};
+ghost use Rattle.rq_engine.specs.Crash.{KeepsFit};
 ghost use Rattle.rq_engine.specs.Opened.{WritesWhen, state_after};
 ghost use Rattle.rq_engine.specs.Says.{is_done};
 
@@ -37,7 +38,10 @@ impl<P: PageDevice, L: LogDevice, B: Level> Engine<P, L, B> {
         ensures log { self.new.log ≡ self.old.log }
         ensures refused { IfErr result (λ r. r ≢ Refusal.DiskWrite → self.new ≡ self.old) }
         ensures failed { (result ≡ Err Refusal.Failed) ↔ (self.old.state.failed ≡ true) }
+        // What a crash at any moment leaves.
+        ensures fit { KeepsFit P.PageDevice L.LogDevice self.old self.new }
     {
+        self.shows_kept();
         self.check_running()?;
         match self.pages.write_back(page, self.log.forced()) {
             Ok(written) => Ok(written),

@@ -7,12 +7,12 @@ use Rattle.rq_model.specs.declared.refusal.Refusal.{Refusal}
 use Rattle.rq_model.specs.declared.refusal.Refusal.TheVariants as why
 use Rattle.rq_model.specs.declared.refusal.Damage.TheVariants as damage
 use Rattle.rq_disk.specs.declared.device.LogDevice.{Ghosts}
-use Rattle.rq_log.specs.Reading.{BeginsWith, IsDamagedBehind, StopsFor}
+use Rattle.rq_log.specs.Reading.{BeginsWith, HasMoreBehind, IsDamagedBehind, StopsFor}
 use Rattle.rq_log.specs.Spelled.{AreSpelled, spelled}
 use Rattle.rq_log.proofs.Parsing.{no_damage}
 use Rattle.rq_inspect.specs.declared.inspecting.Stop.{Stop}
 use Rattle.rq_inspect.specs.declared.inspecting.Stop.TheVariants as stops
-use Rattle.rq_inspect.specs.Inspections.{IsBegun, IsCutShort, IsListed, IsStopped, IsUnprinted, IsUnread, IsUnreported, lines}
+use Rattle.rq_inspect.specs.Inspections.{IsBegun, IsCutShort, IsListed, IsOverfull, IsStopped, IsUnprinted, IsUnread, IsUnreported, lines}
 use Rattle.rq_inspect.specs.Reports.{Reported}
 
 begun_weaker : (bytes : List ℕ) (W V : List ℕ → Type 0) → ((text : List ℕ) → W text → V text) → IsBegun bytes W → IsBegun bytes V
@@ -26,6 +26,7 @@ module _ {L : Type 0} (g : Ghosts L) where
   pub stopped_weaker : (stop : Stop) (log back : L) (W V : List ℕ → Type 0) → ((text : List ℕ) → W text → V text) → IsStopped g stop log back W → IsStopped g stop log back V
   stopped_weaker (stops.Refused why.NoMemory) log back W V f s = (s.0, λ h. begun_weaker (g.seen log) W V f (s.1 h))
   stopped_weaker (stops.Refused why.DiskRead) log back W V f s = (s.0, λ h. begun_weaker (g.seen log) W V f (s.1 h))
+  stopped_weaker (stops.Refused why.LogFull) log back W V f s = (s.0, λ h. (begun_weaker (g.seen log) W V f (s.1 h).0, (s.1 h).1))
   stopped_weaker (stops.Refused (why.Damaged (damage.Record lsn))) log back W V f s = (s.0, λ h. cut_weaker (g.seen log) W V lsn f (s.1 h))
   stopped_weaker (stops.Refused _) log back W V f s = absurd s
   stopped_weaker (stops.Output e) log back W V f s = tt
@@ -33,7 +34,9 @@ module _ {L : Type 0} (g : Ghosts L) where
   -- it could not be read on behind these records
   pub stopped_reading : (e : Refusal) (records : List Record) (first old new : L) (W : List ℕ → Type 0) → AreSpelled records → g.faults old ≡ g.faults first → g.seen old ≡ g.seen first
       → (g.honest new → BeginsWith records (g.seen first)) → W (lines records) → StopsFor g e records old new → IsStopped g (stops.Refused e) first new W
-  stopped_reading why.NoMemory records first old new W are count same begins written s = (s ∙ count, λ h. record { log = records; are_spelled = are; begins = begins h; written = written })
+  stopped_reading why.LogFull records first old new W are count same begins written s = (s.2 ∙ count, λ h. (
+      record { log = records; are_spelled = are; begins = begins h; written = written },
+      record { log = records; are_spelled = are; full = s.0; more = subst (HasMoreBehind records) same (s.1 h) }))
   stopped_reading why.DiskRead records first old new W are count same begins written s =
       (s ∙ ap (λ n. (n + 1) % 2 ^ 64) count, λ h. record { log = records; are_spelled = are; begins = begins h; written = written })
   stopped_reading (why.Damaged (damage.Record lsn)) records first old new W are count same begins written s =
@@ -42,7 +45,8 @@ module _ {L : Type 0} (g : Ghosts L) where
 
   -- a log that was read whole is not damaged when it is read again
   pub unread : (e : Refusal) (records : List Record) (first old new : L) → AreSpelled records → g.faults old ≡ g.faults first → g.seen old ≡ g.seen first → StopsFor g e records old new → IsUnread g e first new
-  unread why.NoMemory records first old new are count same s = s ∙ count
+  unread why.LogFull records first old new are count same s =
+      (s.2 ∙ count, λ h. record { log = records; are_spelled = are; full = s.0; more = subst (HasMoreBehind records) same (s.1 h) })
   unread why.DiskRead records first old new are count same s = s ∙ ap (λ n. (n + 1) % 2 ^ 64) count
   unread (why.Damaged (damage.Record lsn)) records first old new are count same s =
       (s.2 ∙ count, λ h older are_older is. no_damage older records are_older are (subst (IsDamagedBehind records) (same ∙ is) (s.1 h)))
@@ -59,6 +63,8 @@ module _ {L : Type 0} (g : Ghosts L) where
       (s.0 ∙ count, λ h. let l = list h in record { log = l.log; are_spelled = l.are_spelled; begins = ([], l.is ∙ sym (append-nil (spelled l.log))); written = subst (λ w. Appends old w (lines l.log)) (sym s.1) l.written })
   listed_stopped (stops.Refused why.DiskRead) log mid back old listed new report count same list s =
       (s.0 ∙ ap (λ n. (n + 1) % 2 ^ 64) count, λ h. let l = list h in record { log = l.log; are_spelled = l.are_spelled; begins = ([], l.is ∙ sym (append-nil (spelled l.log))); written = subst (λ w. Appends old w (lines l.log)) (sym s.1) l.written })
+  listed_stopped (stops.Refused why.LogFull) log mid back old listed new report count same list s =
+      (s.0.0 ∙ count, λ h. (let l = list h in record { log = l.log; are_spelled = l.are_spelled; begins = ([], l.is ∙ sym (append-nil (spelled l.log))); written = subst (λ w. Appends old w (lines l.log)) (sym s.1) l.written }, subst IsOverfull same (s.0.1 h)))
   listed_stopped (stops.Refused (why.Damaged (damage.Record lsn))) log mid back old listed new report count same list s =
       (s.0.0 ∙ count, λ h. let l = list h in absurd (s.0.1 h l.log l.are_spelled (same ∙ l.is)))
   listed_stopped (stops.Refused _) log mid back old listed new report count same list s = absurd s.0

@@ -1,12 +1,12 @@
 -- What is written of a log. A log is its records, the newest first.
-use Rattle.std.specs.Prelude.{◌≡◌, ℕ, ◌+◌, ◌%◌, ◌^◌, List, [], ◌∷◌, ◌++◌, Option, length}
+use Rattle.std.specs.Prelude.{◌≡◌, ℕ, ◌+◌, ◌%◌, ◌^◌, ◌≤◌, List, [], ◌∷◌, ◌++◌, Option, length}
 use Rattle.std.specs.Io.KnownBytes.{Appends}
 use Rattle.rq_model.specs.declared.record.Record.{Record}
 use Rattle.rq_model.specs.declared.refusal.Refusal.{Refusal}
 use Rattle.rq_model.specs.declared.refusal.Refusal.TheVariants as why
 use Rattle.rq_model.specs.declared.refusal.Damage.TheVariants as damage
 use Rattle.rq_disk.specs.declared.device.LogDevice.{Ghosts}
-use Rattle.rq_log.specs.Reading.{BeginsWith, IsDamagedBehind}
+use Rattle.rq_log.specs.Reading.{BeginsWith, HasMoreBehind, IsDamagedBehind}
 use Rattle.rq_log.specs.Spelled.{AreSpelled, spelled}
 use Rattle.rq_inspect.specs.declared.inspecting.Stop.{Stop}
 use Rattle.rq_inspect.specs.declared.inspecting.Stop.TheVariants as stops
@@ -43,6 +43,13 @@ pub record IsCutShort (bytes : List ℕ) (Written : List ℕ → Type 0) (lsn : 
   pub damaged : IsDamagedBehind log bytes
   pub written : Written (lines log)
 
+-- The bytes go on behind as many records as a log may have.
+pub record IsOverfull (bytes : List ℕ) : Type 0 where
+  pub log : List Record
+  pub are_spelled : AreSpelled log
+  pub full : 2 ^ 50 ≤ length log
+  pub more : HasMoreBehind log bytes
+
 module _ {L : Type 0} (g : Ghosts L) where
   -- Why an inspection stopped, and what of the log's text was written by then. Of a writer that failed nothing is known.
   abbrev pub IsStopped : Stop → L → L → (List ℕ → Type 0) → Type 0
@@ -50,6 +57,8 @@ module _ {L : Type 0} (g : Ghosts L) where
       × (g.honest back → IsBegun (g.seen log) Written)
   IsStopped (stops.Refused why.DiskRead) log back Written = (g.faults back ≡ (g.faults log + 1) % 2 ^ 64)
       × (g.honest back → IsBegun (g.seen log) Written)
+  IsStopped (stops.Refused why.LogFull) log back Written = (g.faults back ≡ g.faults log)
+      × (g.honest back → IsBegun (g.seen log) Written × IsOverfull (g.seen log))
   IsStopped (stops.Refused (why.Damaged (damage.Record lsn))) log back Written = (g.faults back ≡ g.faults log)
       × (g.honest back → IsCutShort (g.seen log) Written lsn)
   IsStopped (stops.Refused _) log back Written = ⊥
@@ -67,6 +76,7 @@ module _ {L : Type 0} (g : Ghosts L) where
   abbrev pub IsUnread : Refusal → L → L → Type 0
   IsUnread why.NoMemory log back = g.faults back ≡ g.faults log
   IsUnread why.DiskRead log back = g.faults back ≡ (g.faults log + 1) % 2 ^ 64
+  IsUnread why.LogFull log back = (g.faults back ≡ g.faults log) × (g.honest back → IsOverfull (g.seen log))
   IsUnread (why.Damaged (damage.Record lsn)) log back = (g.faults back ≡ g.faults log)
       × (g.honest back → (older : List Record) → AreSpelled older → g.seen log ≡ spelled older → ⊥)
   IsUnread _ log back = ⊥

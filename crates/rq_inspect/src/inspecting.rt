@@ -36,7 +36,8 @@ pub enum Stop {
 /// ends.
 ///
 /// # Errors
-/// `Refused` with `Damaged` and the LSN of the first record that is none, behind the lines of those before it; with `DiskRead`
+/// `Refused` with `Damaged` and the LSN of the first record that is none, behind the lines of those before it; with `LogFull`
+/// where more than 2^50 records are there; with `DiskRead`
 /// or `NoMemory`. `Output` where the writer failed.
 pub fn inspect<L: LogDevice + Drop, W: Write>(
     alloc: Global,

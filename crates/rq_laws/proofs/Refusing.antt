@@ -32,6 +32,7 @@ use Rattle.rq_engine.specs.declared.event.Progress.{Progress}
 use Rattle.rq_engine.specs.declared.event.Progress.TheVariants as progress
 use Rattle.rq_engine.specs.declared.event.CommitNo.{CommitNo}
 use Rattle.rq_engine.specs.Answers.{AnswersLegally}
+use Rattle.rq_engine.proofs.Causes.{has_cause}
 use Rattle.rq_engine.specs.Applied.{OnLatched, StartsUnlatched, TakesUnlatched}
 use Rattle.rq_engine.specs.Opened.{OpenStore, AreHonest}
 use Rattle.rq_engine.specs.Receives.{started_of, undoing_of}
@@ -102,7 +103,7 @@ module _ {P L X : Type 0} (p : page_device.Ghosts P) (l : log_device.Ghosts L) (
   SaysPassed = (old new : State) (a : X) → IsModelStep old c (gave a) new → Passes (size_of old.sizes) (ledger_of old) c
 
   why_refused : (old new : OpenStore P L) (r : Refusal) → writes_out c ≡ false → AnswersLegally p l old c gave (Err r) new → AreHonest p l new → IsSound old.state → Why (size_of old.state.sizes) (ledger_of old.state) c r
-  why_refused old new r w a h k = let s = a h k in legal_why (any_under old.state.rows) (size_of old.state.sizes) (ledger_of old.state) c r w (refusal_legal old.state c r new.state s.0) s.1
+  why_refused old new r w a h k = let s = a h k in legal_why (any_under old.state.rows) (size_of old.state.sizes) (ledger_of old.state) c r w (refusal_legal old.state c r new.state s.0) (has_cause old.state c r s.1)
 
   refuse_one : (old x y : OpenStore P L) (r s : Result X Refusal) → SaysPassed → writes_out c ≡ false → LatchedApart r s → AnswersLegally p l old c gave r x → AnswersLegally p l old c gave s y → AreHonest p l x → AreHonest p l y → IsSound old.state → RefuseAlike r s
   refuse_one old x y (Ok a) (Ok b) says w apart f g hx hy k = tt

@@ -1,9 +1,9 @@
 -- The messages in a group's chain are the committed ones, less what its receiving holder took, and then what its sending
 -- holder sent.
-use Rattle.std.proofs.Common.{◌≡◌, ℕ, zero, suc, ◌+◌, ◌-◌, ◌/◌, ◌<◌, ◌++◌, List, [], ◌∷◌, drop, take, length, map, reverse, refl, sym, ◌∙◌, ap, subst, Bool, true, false, nat_eq, ◌&&◌, Option, Some, None, inl, inr, arith}
+use Rattle.std.proofs.Common.{◌≡◌, ℕ, zero, suc, ◌+◌, ◌-◌, ◌/◌, ◌<◌, ◌++◌, List, [], ◌∷◌, drop, take, length, map, reverse, refl, sym, ◌∙◌, ap, subst, Bool, true, false, nat_eq, ◌&&◌, ◌||◌, Option, Some, None, inl, inr, arith}
 use Rattle.std.specs.List.{filter_map}
 use Rattle.std.proofs.lemmas.Bool.{cases_Bool, eqb-true, false≢true, false_from_ne_true, true≢false, and_from, or_from, or_left, or_parts, or_right}
-use Rattle.std.proofs.lemmas.List.{append-nil, reverse-append, take-append-drop, map-append, drop-map, take-map}
+use Rattle.std.proofs.lemmas.List.{append-nil, reverse-append, take-append-drop, length-append, length-drop, length-map, map-append, drop-map, take-map}
 use Rattle.std.proofs.lemmas.List.Elements.{filter_map-append}
 use Rattle.std.proofs.lemmas.Option.{same_Some}
 use Rattle.std.proofs.Math.Bool.{and-false}
@@ -13,17 +13,18 @@ use Rattle.rq_model.specs.declared.record.Deed.TheVariants.{Append, UnlinkHead, 
 use Rattle.rq_model.specs.declared.txn.Sub.{Sub}
 use Rattle.rq_model.specs.declared.txn.Txn.{Txn}
 use Rattle.rq_model.specs.Commits.{committed_of, op_of, ops_told}
-use Rattle.rq_model.specs.Content.{Said, added, added_one, deeds, removed, removed_one, said}
-use Rattle.rq_model.specs.Ledger.{rest_in}
+use Rattle.rq_model.specs.Content.{Said, added, added_one, closed, deeds, removed, removed_one, said, tag_after}
+use Rattle.rq_model.specs.History.{Group}
+use Rattle.rq_model.specs.Ledger.{any_ends, rest_in}
 use Rattle.rq_model.specs.Rules.{any_use, uses_send, uses_receive}
 use Rattle.rq_model.specs.Vocabulary.{In, Op, same_txn, sent_for, taken_from}
 use Rattle.rq_model.specs.Vocabulary.Op.{Take}
 use Rattle.rq_model.proofs.Lists.{same_self}
-use Rattle.rq_model.proofs.Told.{told_taken, told_sent}
+use Rattle.rq_model.proofs.Told.{told_ends, told_taken, told_sent}
 use Rattle.rq_page.specs.declared.cell.Cell.{Cell}
 use Rattle.rq_page.specs.Sizes.{Sizes, directory_at, sender_count}
 use Rattle.rq_views.specs.Chain.{Cells, Linked, Node, View, first, message}
-use Rattle.rq_views.specs.Committed.{message_of}
+use Rattle.rq_views.specs.Committed.{IsViewOf, message_of}
 use Rattle.rq_views.specs.Groups.{Alone, KeepsGroups, TellsView, committed, on_receiving_end, on_sending_end, side, with_all}
 use Rattle.rq_views.specs.Items.{items, layout_of, operation}
 use Rattle.rq_views.specs.Legal.{Placed, no_view, open_deeds, under_way, view}
@@ -32,7 +33,7 @@ use Rattle.rq_views.specs.Plans.{ShowsAt, Spares}
 use Rattle.rq_views.proofs.Committed.{say, takes_form}
 use Rattle.rq_views.proofs.Deeds.{Sound}
 use Rattle.rq_views.proofs.GroupRule.{held}
-use Rattle.rq_views.proofs.Holding.{committed_is_group, tag_and_body, view_holds}
+use Rattle.rq_views.proofs.Holding.{committed_is_group, tag_and_body, taken_there, view_holds}
 use Rattle.rq_views.proofs.Idle.{idle_writes}
 use Rattle.rq_views.proofs.Stands.{store_is_layout}
 use Rattle.rq_views.proofs.Views.{plan_spares, quiet_views, views}
@@ -48,7 +49,7 @@ use Rattle.rq_store.proofs.Grouping.{groups_of}
 use Rattle.rq_store.proofs.Placed.{told_placed}
 use Rattle.rq_store.proofs.RowLists.{found_in}
 use Rattle.rq_sound.specs.Groups.{slots_now}
-use Rattle.rq_sound.specs.Holders.{NoneIsOn, ViewsAreOfHolders, chain_from, chain_in, chain_of, done_by, done_in, holder_of, holder_sends, holder_takes, link_of, of_holders, told_by}
+use Rattle.rq_sound.specs.Holders.{NoneIsOn, ShowsGroup, ViewsAreOfHolders, chain_from, chain_in, chain_of, done_by, done_in, group_of_holders, holder_of, holder_sends, holder_takes, link_of, of_holders, told_by}
 use Rattle.rq_sound.specs.Rows.{turn_of}
 use Rattle.rq_sound.specs.Sound.{IsSound}
 use Rattle.rq_sound.specs.Standing.{FollowsPlan, IsAsPlanned}
@@ -73,6 +74,9 @@ chain_shown z q g v h =
     ∙ ap (chain_from (cells_of q) (length k.nodes)) k.head
     ∙ cells_told (cells_of q) g 0 (d.received + 1) k.nodes k.linked
     ∙ ap (map (message_of g)) (sym k.messages)
+
+group_chain : (z : Sizes) (q : Slots) (g : ℕ) (group : Group) → ShowsGroup z q g group → chain_in q g ≡ group.rest
+group_chain z q g group h = chain_shown z q g h.view h.shown ∙ sym h.is.rest
 
 take_next : {X : Type 0} (k : ℕ) (xs : List X) (x : X) (rest : List X) → drop k xs ≡ x ∷ rest → take (suc k) xs ≡ take k xs ++ x ∷ []
 take_next zero [] x rest e = cc
@@ -311,6 +315,40 @@ module _ (s : State) (k : IsSound s) where
         ∙ ap (λ l. map (message_of g) (drop n rest) ++ l) (back g (say (deeds_of sender)) ∙ sends_are)
         ∙ ap (λ l. l ++ holder_sends s g) (sym (drop-map (message_of g) n rest) ∙ ap (λ i. drop i (map (message_of g) rest)) count_is ∙ ap (drop (length (holder_takes s g))) (sym rest_is))
 
+    abbrev now : View
+    now = view (items s.sizes s.records) g
+
+    group_is : IsViewOf g (group_of_holders s g) now
+    group_is =
+        let n = removed g (say (deeds_of taker)) in
+        let ms = added g (say (deeds_of sender)) in
+        let held_so = view_holds g (items s.sizes s.records) sender taker groups sender_alone taker_alone in
+        let c = committed_is_group s.sizes g s.records k.log.rules k.log.reads in
+        let sends : ms ≡ holder_sends s g = sends_are in
+        let closes : closed g (say (deeds_of sender)) ≡ any_ends g (done_by (holder_of g s.ends.sending) s.rows) = sym (told_ends g (say (deeds_of sender))) ∙ ap (any_ends g) sender_did in
+        let count = ap length held_so.messages ∙ length-append (drop n rest) (map tag_and_body ms) in
+        let dropped = length-drop n rest in
+        let mapped : length (map tag_and_body ms) ≡ length (holder_sends s g) = length-map ms tag_and_body ∙ ap length sends in
+        let there = taken_there g (items s.sizes s.records) taker groups in
+        let received = held_so.received in
+        let was = c.received in
+        let sent = c.sent in
+        let took = count_is in
+        record {
+          closed = held_so.closed ∙ ap (λ b. b || (committed (items s.sizes s.records) g).closed) closes ∙ ap (λ b. any_ends g (done_by (holder_of g s.ends.sending) s.rows) || b) c.closed;
+          received = omega (arith, received, was, took);
+          sent = omega (arith, sent, received, was, took, count, dropped, mapped, there);
+          last_tag = held_so.last_tag ∙ ap (λ l. tag_after (committed (items s.sizes s.records) g).last_tag l) sends ∙ ap (λ t. tag_after t (holder_sends s g)) c.last_tag;
+          rest = sym messages_are;
+        }
+
+    pub shown_whole : g < sender_count s.sizes → ShowsGroup s.sizes (left_by s.sizes s.records).quiet g (group_of_holders s g)
+    shown_whole below = record {
+      view = now;
+      shown = quiet_views (layout_of s.sizes) (items s.sizes s.records) g (store_is_layout s.sizes) k.log.legal below;
+      is = group_is;
+    }
+
     pub taken_first : holder_takes s g ≡ take (length (holder_takes s g)) (rest_in (committed_of s.records) g)
     taken_first =
         let sound = (held g (items s.sizes s.records) groups).takes taker in
@@ -319,11 +357,6 @@ module _ (s : State) (k : IsSound s) where
         ∙ sym (take-map (message_of g) (removed g (say (deeds_of taker))) rest)
         ∙ ap (λ i. take i (map (message_of g) rest)) count_is
         ∙ ap (take (length (holder_takes s g))) (sym rest_is)
-
-    pub whole_chain : g < sender_count s.sizes → chain_in (left_by s.sizes s.records).quiet g ≡ of_holders s g
-    whole_chain below =
-        chain_shown s.sizes (left_by s.sizes s.records).quiet g (view (items s.sizes s.records) g) (quiet_views (layout_of s.sizes) (items s.sizes s.records) g (store_is_layout s.sizes) k.log.legal below)
-        ∙ messages_are
 
     pub others_took_none : (r : Row) → In r s.rows → has_held r.txn g s.ends.receiving ≡ false → filter_map (taken_from g) (map op_done r.finished) ≡ []
     others_took_none r i n =
@@ -370,12 +403,10 @@ module _ (s : State) (k : IsSound s) where
         at None f = quiet o ((k.standing.others o.txn f).idle o.number)
         at (Some q) f = let i = found_in o.txn s.rows q f in of_row o q i.0 i.1 q.under refl
 
-      pub chain_now : g < sender_count s.sizes → chain_in (slots_now s) g ≡ of_holders s g
-      chain_now below =
-          let v = view (items s.sizes s.records) g in
+      pub shown_now : g < sender_count s.sizes → ShowsGroup s.sizes (slots_now s) g (group_of_holders s g)
+      shown_now below =
           let shown = views (layout_of s.sizes) (items s.sizes s.records) g (store_is_layout s.sizes) k.log.legal below all_leave in
-          chain_shown s.sizes (slots_now s) g v (subst (λ (q : Slots). ShowsAt (layout_of s.sizes) q g v) (sym (slots_are s k)) shown)
-          ∙ messages_are
+          record { view = now; shown = subst (λ (q : Slots). ShowsAt (layout_of s.sizes) q g now) (sym (slots_are s k)) shown; is = group_is }
 
     pub none_is_on : latched_in s.rows (directory_at g / 16) ≡ false → NoneIsOn g s.rows
     none_is_on off r u i e same =
@@ -386,8 +417,10 @@ module _ (s : State) (k : IsSound s) where
 
 pub views_held : ViewsAreOfHolders
 views_held = record {
-  whole = λ s g k below. whole_chain s k g below;
-  now = λ s g k below off. chain_now s k g off below;
+  shown_whole = λ s g k below. shown_whole s k g below;
+  shown_now = λ s g k below off. shown_now s k g off below;
+  whole = λ s g k below. group_chain s.sizes (left_by s.sizes s.records).quiet g (group_of_holders s g) (shown_whole s k g below);
+  now = λ s g k below off. group_chain s.sizes (slots_now s) g (group_of_holders s g) (shown_now s k g off below);
   unlatched = λ s g k off. none_is_on s k g off;
   taken = λ s g k. taken_first s k g;
   no_other_takes = λ s g r k i n. others_took_none s k g r i n;

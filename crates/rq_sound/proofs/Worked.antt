@@ -3,7 +3,6 @@ use Rattle.std.proofs.Common.{◌≡◌, ◌++◌, List, [], ◌∷◌, refl, sy
 use Rattle.std.proofs.lemmas.Bool.{true≢false}
 use Rattle.rq_model.specs.Vocabulary.{In}
 use Rattle.rq_model.proofs.Lists.{same_self}
-use Rattle.rq_views.specs.WorkedItems.{sizes, sends}
 use Rattle.rq_txn.specs.declared.Finished.{Finished}
 use Rattle.rq_txn.specs.declared.Aim.{Aim}
 use Rattle.rq_txn.specs.Rows.{Under, Row, AreDistinct, found_row}

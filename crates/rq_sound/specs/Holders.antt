@@ -1,19 +1,23 @@
 -- What stands in a group's chain while transactions are open: the committed messages, less those that the holder of the
 -- receiving end took, and then those that the holder of the sending end sent.
-use Rattle.std.specs.Prelude.{◌≡◌, ◌≢◌, ℕ, zero, suc, ◌-◌, ◌/◌, ◌<◌, ◌++◌, true, false, cond, nat_eq, List, [], ◌∷◌, Option, None, Some, drop, take, length, map}
+use Rattle.std.specs.Prelude.{◌≡◌, ◌≢◌, ℕ, zero, suc, ◌+◌, ◌-◌, ◌/◌, ◌<◌, ◌||◌, ◌++◌, true, false, cond, nat_eq, List, [], ◌∷◌, Option, None, Some, drop, take, length, map}
 use Rattle.std.specs.List.{filter_map}
 use Rattle.rq_model.specs.declared.message.Message.{Message}
 use Rattle.rq_model.specs.declared.txn.Txn.{Txn}
 use Rattle.rq_model.specs.Commits.{committed_of}
-use Rattle.rq_model.specs.Ledger.{rest_in}
+use Rattle.rq_model.specs.Content.{tag_after}
+use Rattle.rq_model.specs.History.{Group}
+use Rattle.rq_model.specs.Ledger.{any_ends, group_in, rest_in}
 use Rattle.rq_model.specs.Vocabulary.{In, Op, sent_for, taken_from}
 use Rattle.rq_page.specs.declared.cell.Cell.{Cell}
-use Rattle.rq_page.specs.Sizes.{directory_at, sender_count}
+use Rattle.rq_page.specs.Sizes.{Sizes, directory_at, sender_count}
 use Rattle.rq_page.specs.Slots.{Slot}
 use Rattle.rq_page.specs.Slots.Slot.{Free, Used, Sender}
-use Rattle.rq_views.specs.Chain.{Cells}
+use Rattle.rq_views.specs.Chain.{Cells, View}
+use Rattle.rq_views.specs.Committed.{IsViewOf}
+use Rattle.rq_views.specs.Items.{layout_of}
 use Rattle.rq_views.specs.Log.{Slots, cells_of}
-use Rattle.rq_views.specs.Plans.{deed_sender}
+use Rattle.rq_views.specs.Plans.{ShowsAt, deed_sender}
 use Rattle.rq_groups.specs.declared.Held.{Held}
 use Rattle.rq_groups.specs.Ends.{has_held}
 use Rattle.rq_store.specs.Fitting.{left_by}
@@ -73,15 +77,38 @@ holder_sends s g = filter_map (sent_for g) (done_by (holder_of g s.ends.sending)
 abbrev pub of_holders : State → ℕ → List Message
 of_holders s g = drop (length (holder_takes s g)) (rest_in (committed_of s.records) g) ++ holder_sends s g
 
+-- The group as its holders have it: as many more are received, and sent, as they took and sent; the last tag is that of
+-- the last send; it is closed where a commit or its sending holder closed it.
+abbrev pub group_of_holders : State → ℕ → Group
+group_of_holders s g =
+    let c = group_in (committed_of s.records) g in
+    record {
+      sent = c.sent + length (holder_sends s g);
+      last_tag = tag_after c.last_tag (holder_sends s g);
+      received = c.received + length (holder_takes s g);
+      closed = any_ends g (done_by (holder_of g s.ends.sending) s.rows) || c.closed;
+      rest = of_holders s g;
+    }
+
+-- a directory slot and its chain, met from head by next up to the tail, show this group
+pub record ShowsGroup (z : Sizes) (q : Slots) (g : ℕ) (group : Group) : Type 0 where
+  pub view : View
+  pub shown : ShowsAt (layout_of z) q g view
+  pub is : IsViewOf g group view
+
 -- no operation under way is of the group
 abbrev pub NoneIsOn : ℕ → List Row → Type 0
 NoneIsOn g rows = (r : Row) (u : Under) → In r rows → r.under ≡ Some u → deed_sender (deed_of u.aim) ≢ g
 
--- The messages in a group's chain are those of its holders: by whole operations, whatever is under way; and as the slots
--- are, where no operation under way is of the group, as there is none where nobody has latched the page of its directory
--- slot. What the receiving holder took are the first of the committed messages, in their order; and nobody else has taken
+-- A group's directory slot and its chain show what its holders made of it: by whole operations, whatever is under way; and
+-- as the slots are, where no operation under way is of the group, as there is none where nobody has latched the page of
+-- its directory slot. So the messages in its chain are those of its holders. What the receiving holder took are the first of the committed messages, in their order; and nobody else has taken
 -- or sent any. Who is said to hold an end is its one holder.
 pub record ViewsAreOfHolders : Type 0 where
+  pub shown_whole : (s : State) (g : ℕ) → IsSound s → g < sender_count s.sizes
+      → ShowsGroup s.sizes (left_by s.sizes s.records).quiet g (group_of_holders s g)
+  pub shown_now : (s : State) (g : ℕ) → IsSound s → g < sender_count s.sizes → NoneIsOn g s.rows
+      → ShowsGroup s.sizes (slots_now s) g (group_of_holders s g)
   pub whole : (s : State) (g : ℕ) → IsSound s → g < sender_count s.sizes
       → chain_in (left_by s.sizes s.records).quiet g ≡ of_holders s g
   pub now : (s : State) (g : ℕ) → IsSound s → g < sender_count s.sizes → NoneIsOn g s.rows

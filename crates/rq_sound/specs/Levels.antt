@@ -18,7 +18,7 @@ use Rattle.rq_level.specs.LevelState.{LevelState, IsLowest, NoneToTake, SomeFree
 use Rattle.rq_txn.specs.declared.Finished.{Finished}
 use Rattle.rq_txn.specs.Rows.{Row, Under, latched_in}
 use Rattle.rq_store.specs.State.{State}
-use Rattle.rq_sound.specs.Calls.{IsIdle, finished}
+use Rattle.rq_sound.specs.Calls.{IsIdle}
 use Rattle.rq_sound.specs.Sound.{IsSound}
 use Rattle.rq_sound.specs.Groups.{slots_now}
 use Rattle.rq_sound.specs.Plans.{AreUnlatched, IsPlannedFrom}

@@ -1,7 +1,7 @@
 use Rattle.std.proofs.Common.{refl, sym, ap, ◌∙◌}
 use Rattle.rq_txn.specs.Rows.{any_under}
 use Rattle.rq_store.specs.State.{State}
-use Rattle.rq_engine.proofs.Calls.{content_done, content_busy}
+use Rattle.rq_engine.proofs.Calls.{content_done, content_busy, content_passes}
 use Rattle.rq_engine.proofs.Refusals.{no_memory, stops_plainly}
 use Rattle.rq_engine.proofs.Opened.{state_is}
 use Rattle.rq_engine.proofs.engine.Engine.content.Goals as goal
@@ -19,7 +19,7 @@ pub returns-in-Err-clause-answered : goal.returns-in-Err-clause-answered
 returns-in-Err-clause-answered g c h k =
     let idle = ap (λ (s : State). any_under s.rows) (sym (state_is c.self.view_is)) ∙ sym c.if-any_under_way.ensures in
     let why = c.in-Err.ensures.sound c.args.self.now.state k (ap (λ (s : State). s.sizes) (sym (state_is c.self.view_is))) (ap (λ (s : State). s.images) (sym (state_is c.self.view_is))) (ap (λ (s : State). s.rows) (sym (state_is c.self.view_is))) idle in
-    rw why (no_memory c.args.self.now.state _ refl c.in_ok-check_running.ensures.running k)
+    rw why (no_memory c.args.self.now.state _ c.in_ok-check_running.ensures.running (λ _. content_passes c.args.self.now.state c.in_ok-check_running.ensures.running idle) (λ k. refl) k)
 
 pub returns-in-Err-clause-failed : goal.returns-in-Err-clause-failed
 returns-in-Err-clause-failed g c = stops_plainly _ _ _ c.args.self.now.state _ c.in-Err.ensures.refused c.in_ok-check_running.ensures.running

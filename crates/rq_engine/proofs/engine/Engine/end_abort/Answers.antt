@@ -1,9 +1,9 @@
-use Rattle.std.proofs.Common.{◌≡◌, sym, ap, ◌∙◌, subst, arith, None}
+use Rattle.std.proofs.Common.{rules, ◌≡◌, sym, ap, ◌∙◌, subst, arith, None}
 use Rattle.rq_model.specs.Tests.{log_full}
 use Rattle.rq_store.specs.State.{State, ledger_of}
 use Rattle.rq_engine.specs.Aborts.{IsTurnedBack}
 use Rattle.rq_engine.specs.Answers.{HasNothingUnderWay}
-use Rattle.rq_engine.proofs.AbortCalls.{aborted_done, aborted_kept, end_full, turned_idle}
+use Rattle.rq_engine.proofs.AbortCalls.{aborted_done, aborted_kept, end_full, end_memory, turned_idle}
 use Rattle.rq_engine.proofs.Calls.{commit_range, from_inside}
 use Rattle.rq_engine.proofs.Opened.{state_is}
 use Rattle.rq_engine.proofs.engine.Engine.end_abort.Goals as goal
@@ -42,3 +42,9 @@ returns-clause-answered g c h =
     let full = ap (λ (s : State). log_full (ledger_of s) 1) (state_is c.self.view_is) ∙ sym c.if-is_log_full.ensures in
     let running = ap (λ (s : State). s.failed) (state_is c.self.view_is) ∙ c.in_ok-check_undone.ensures.running in
     from_inside (state_is c.self.view_is) (λ k. rw (c.end.ensures, c.release.ensures, c.append.ensures.records, c.append.ensures.forced, c.in_ok-reserve.ensures.ok) (aborted_done _ c.args.txn back.0 running inside full k))
+
+pub returns-in_err-reserve-clause-answered : goal.returns-in_err-reserve-clause-answered
+returns-in_err-reserve-clause-answered g c =
+    let s = c.args.self.now.state in
+    let back = c.in_ok-check_undone.ensures.ready in
+    search (rules, end_memory s c.args.txn back.0 c.in_ok-check_undone.ensures.passes back.1 c.in_ok-check_undone.ensures.running (sym c.if-is_log_full.ensures))

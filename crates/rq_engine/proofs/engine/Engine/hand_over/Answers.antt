@@ -1,9 +1,10 @@
-use Rattle.std.proofs.Common.{ap, ◌∙◌, refl, true}
+use Rattle.std.proofs.Common.{ap, ◌∙◌, refl, true, inl}
 use Rattle.std.proofs.lemmas.Bool.{true≢false}
 use Rattle.rq_store.specs.State.{State}
 use Rattle.rq_engine.proofs.Standing.{hand_over_steps, failed_steps}
 use Rattle.rq_engine.proofs.Keeping.{kept_device}
 use Rattle.rq_engine.proofs.Calls.{from_inside}
+use Rattle.rq_engine.proofs.Crashing.{log_fit, none_fit}
 use Rattle.rq_engine.proofs.Opened.{state_is}
 use Rattle.rq_engine.proofs.engine.Engine.hand_over.Goals as goal
 
@@ -28,3 +29,17 @@ returns-in-Err-clause-answered g c h k =
     let still = ap (λ (s : State). s.failed) (state_is c.self.view_is) ∙ c.in_ok-check_running.ensures.running in
     let why = (c.in-Err.ensures.err running).0 in
     (rw why (from_inside (state_is c.self.view_is) (λ k. rw (c.in-Err.ensures.records, c.in-Err.ensures.forced) (failed_steps _ k still _)) k), rw why refl)
+
+pub returns-in_err-check_running-clause-fit : goal.returns-in_err-check_running-clause-fit
+returns-in_err-check_running-clause-fit g c =
+    none_fit g.P.PageDevice g.L.LogDevice g.met.P.PageDevice.only_now g.met.L.LogDevice.only_now c.args.self.now c.shows_kept.ensures.spelled c.shows_kept.ensures.leaves
+
+pub returns-in-Ok-clause-fit : goal.returns-in-Ok-clause-fit
+returns-in-Ok-clause-fit g c =
+    log_fit g.P.PageDevice g.L.LogDevice g.met.P.PageDevice.only_now g.met.L.LogDevice.only_now c.args.self.now _ c.shows_kept.ensures.spelled c.shows_kept.ensures.leaves
+    _ c.self.view_is refl refl c.in-Ok.ensures.records (inl c.in-Ok.ensures.forced) c.in-Ok.ensures.honest (λ h. c.in-Ok.ensures.any_moment h c.self.invariant.durable)
+
+pub returns-in-Err-clause-fit : goal.returns-in-Err-clause-fit
+returns-in-Err-clause-fit g c =
+    log_fit g.P.PageDevice g.L.LogDevice g.met.P.PageDevice.only_now g.met.L.LogDevice.only_now c.args.self.now _ c.shows_kept.ensures.spelled c.shows_kept.ensures.leaves
+    _ c.self.view_is refl refl c.in-Err.ensures.records (inl c.in-Err.ensures.forced) c.in-Err.ensures.honest (λ h. c.in-Err.ensures.any_moment h c.self.invariant.durable)

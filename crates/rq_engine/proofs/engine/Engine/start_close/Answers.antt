@@ -33,7 +33,7 @@ returns-in-Ok-clause-answered g c h =
 
 pub returns-in-Err-start-clause-answered : goal.returns-in-Err-start-clause-answered
 returns-in-Err-start-clause-answered g c h k =
-    rw (c.in-Err-start.ensures.refusal, c.in-Err-start.ensures.refused, c.in-Ok-Some.ensures.same) (no_memory c.args.self.now.state _ refl c.in_ok-number.ensures.running k)
+    rw (c.in-Err-start.ensures.refusal, c.in-Err-start.ensures.refused, c.in-Ok-Some.ensures.same) (no_memory c.args.self.now.state _ c.in_ok-number.ensures.running (λ k. c.in_ok-check_close.ensures.passes k c.in_ok-number.ensures.passes) (λ k. refl) k)
 
 pub returns-in-Ok-None-clause-answered : goal.returns-in-Ok-None-clause-answered
 returns-in-Ok-None-clause-answered g c h =
@@ -80,4 +80,4 @@ pub returns-in-Err-clause-answered : goal.returns-in-Err-clause-answered
 returns-in-Err-clause-answered g c h k =
     let s = c.args.self.now.state in
     let e = c.in-Err.ensures.refused k (c.in_ok-check_close.ensures.unclosed k c.in_ok-number.ensures.passes) in
-    rw (e, c.in-Err.ensures.same) (no_memory s _ refl c.in_ok-number.ensures.running k)
+    rw (e, c.in-Err.ensures.same) (no_memory s _ c.in_ok-number.ensures.running (λ k. c.in_ok-check_close.ensures.passes k c.in_ok-number.ensures.passes) (λ k. refl) k)

@@ -4,11 +4,10 @@ use Rattle.rq_store.specs.Plans.{NoneWaits, WaitsFor}
 use Rattle.rq_engine.specs.Sends.{take_latched}
 use Rattle.rq_engine.proofs.Free.{left_none}
 use Rattle.rq_engine.proofs.Latches.{any_latches, any_unlatched}
-use Rattle.rq_engine.proofs.TakeCalls.{any_refused, log_is_full, none_done}
+use Rattle.rq_engine.proofs.TakeCalls.{any_refused, log_is_full, none_done, take_memory}
 use Rattle.rq_engine.proofs.Opened.{none_told, state_is}
-use Rattle.rq_model.specs.Causes.{HasCause}
+use Rattle.rq_engine.specs.Answers.{IsCausedIn}
 use Rattle.rq_model.specs.Replay.Reply.{Gave_refusal}
-use Rattle.rq_txn.specs.Rows.{any_under}
 use Rattle.rq_store.specs.State.{State}
 use Rattle.rq_sound.specs.Sound.{IsSound}
 use Rattle.rq_sound.specs.ModelSteps.{IsModelStep}
@@ -57,5 +56,12 @@ returns-in-Ok-clause-latched g c k =
 pub returns-in-Err-start_take-clause-answered : goal.returns-in-Err-start_take-clause-answered
 returns-in-Err-start_take-clause-answered g c h k =
     let same = state_is c.in-Ok-Some.ensures.same in
-    subst (λ (x : State). IsModelStep x (Start_receive c.args.txn) (Gave_refusal c.in-Err-start_take.refusal) c.start_take.new.self.state × HasCause (any_under x.rows) (Start_receive c.args.txn) c.in-Err-start_take.refusal) same
+    subst (λ (x : State). IsModelStep x (Start_receive c.args.txn) (Gave_refusal c.in-Err-start_take.refusal) c.start_take.new.self.state × IsCausedIn x (Start_receive c.args.txn) c.in-Err-start_take.refusal) same
     (c.in-Err-start_take.ensures.answered (Start_receive c.args.txn) (inl refl) h (subst (λ (x : State). IsSound x) (sym same) k))
+
+pub returns-in-Err-clause-answered : goal.returns-in-Err-clause-answered
+returns-in-Err-clause-answered g c h k =
+    let s = c.args.self.now.state in
+    let w : WaitsFor s c.args.txn c.in-Some.first = c.in-Some.ensures.waits in
+    rw (c.in-Err.ensures.refused k, c.in-Err.ensures.same)
+    (take_memory s c.args.txn c.in_ok-number.ensures.passes c.in-Some.first w.0 w.1 w.2 (sym c.if-is_log_full.ensures) (Start_receive c.args.txn) (inl refl) k)

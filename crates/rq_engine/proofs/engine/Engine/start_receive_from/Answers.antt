@@ -6,11 +6,10 @@ use Rattle.rq_groups.specs.Waiting.{waits}
 use Rattle.rq_store.specs.State.{State}
 use Rattle.rq_engine.specs.Sends.{take_latched}
 use Rattle.rq_engine.proofs.Latches.{from_latched, from_unlatched}
-use Rattle.rq_engine.proofs.TakeCalls.{from_refused, log_is_full, receiver_busy, none_from_done}
+use Rattle.rq_engine.proofs.TakeCalls.{from_refused, log_is_full, receiver_busy, none_from_done, take_memory}
 use Rattle.rq_engine.proofs.Opened.{none_told, state_is}
-use Rattle.rq_model.specs.Causes.{HasCause}
+use Rattle.rq_engine.specs.Answers.{IsCausedIn}
 use Rattle.rq_model.specs.Replay.Reply.{Gave_sub, Gave_refusal}
-use Rattle.rq_txn.specs.Rows.{any_under}
 use Rattle.rq_sound.specs.Sound.{IsSound}
 use Rattle.rq_sound.specs.ModelSteps.{IsModelStep}
 use Rattle.rq_planner.proofs.Options.{some_told}
@@ -80,7 +79,7 @@ returns-in-Ok-clause-latched g c k =
 pub returns-in-Err-start_take-clause-answered : goal.returns-in-Err-start_take-clause-answered
 returns-in-Err-start_take-clause-answered g c h k =
     let same = state_is c.in-Ok-Some.ensures.same in
-    subst (λ (x : State). IsModelStep x (Start_receive_from c.args.txn c.args.sender) (Gave_refusal c.in-Err-start_take.refusal) c.start_take.new.self.state × HasCause (any_under x.rows) (Start_receive_from c.args.txn c.args.sender) c.in-Err-start_take.refusal) same
+    subst (λ (x : State). IsModelStep x (Start_receive_from c.args.txn c.args.sender) (Gave_refusal c.in-Err-start_take.refusal) c.start_take.new.self.state × IsCausedIn x (Start_receive_from c.args.txn c.args.sender) c.in-Err-start_take.refusal) same
     (c.in-Err-start_take.ensures.answered (Start_receive_from c.args.txn c.args.sender) (inr refl) h (subst (λ (x : State). IsSound x) (sym same) k))
 
 pub returns-in-Ok-clause-answered : goal.returns-in-Ok-clause-answered
@@ -88,3 +87,16 @@ returns-in-Ok-clause-answered g c h k =
     let same = state_is c.in-Ok-Some.ensures.same in
     subst (λ (x : State). IsModelStep x (Start_receive_from c.args.txn c.args.sender) (Gave_sub c.in-Ok.sub.txn c.in-Ok.sub.number) c.start_take.new.self.state) same
     (c.in-Ok.ensures.answered (Start_receive_from c.args.txn c.args.sender) (inr refl) h (subst (λ (x : State). IsSound x) (sym same) k))
+
+pub returns-in-Err-clause-answered : goal.returns-in-Err-clause-answered
+returns-in-Err-clause-answered g c h k =
+    let s = c.args.self.now.state in
+    let n : c.senders.result ≡ sender_count s.sizes = c.senders.ensures.number ∙ ap sender_count (c.layout.ensures.sizes ∙ ap (λ (x : State). x.sizes) (state_is c.self.view_is)) in
+    let lt = c.if-sender-senders.false in
+    let below : c.args.sender < sender_count s.sizes = omega (arith, n, lt) in
+    let free : is_free_for c.args.txn c.args.sender s.ends.receiving ≡ true = ap (λ (x : State). is_free_for c.args.txn c.args.sender x.ends.receiving) (sym (state_is c.self.view_is)) ∙ sym c.if-not-may_receive.ensures in
+    let count : waits s.waiting c.args.sender ≡ c.count.result = ap (λ (x : State). waits x.waiting c.args.sender) (sym (state_is c.self.view_is)) ∙ sym c.count.ensures in
+    let some = c.if-count-eq0.false in
+    let wait : 1 ≤ waits s.waiting c.args.sender = omega (arith, count, some) in
+    rw (c.in-Err.ensures.refused k wait, c.in-Err.ensures.same)
+    (take_memory s c.args.txn c.in_ok-number.ensures.passes c.args.sender below free wait (sym c.if-is_log_full.ensures) (Start_receive_from c.args.txn c.args.sender) (inr refl) k)

@@ -27,7 +27,7 @@ returns-in-Ok-clause-answered g c h =
 
 pub returns-in-Err-clause-answered : goal.returns-in-Err-clause-answered
 returns-in-Err-clause-answered g c h k =
-    rw (c.in-Err.ensures.refusal, c.in-Err.ensures.refused, c.in_ok-plan_send.ensures.same) (no_memory c.args.self.now.state _ refl c.in_ok-number.ensures.running k)
+    rw (c.in-Err.ensures.refusal, c.in-Err.ensures.refused, c.in_ok-plan_send.ensures.same) (no_memory c.args.self.now.state _ c.in_ok-number.ensures.running (λ k. c.in_ok-body.ensures.passes k c.in_ok-number.ensures.passes) (λ k. refl) k)
 
 pub returns-in-None-clause-answered : goal.returns-in-None-clause-answered
 returns-in-None-clause-answered g c h =

@@ -6,7 +6,7 @@ use Rattle.rq_engine.proofs.engine.Engine.start_take.Goals as goal
 
 pub returns-in-Err-clause-answered : goal.returns-in-Err-clause-answered
 returns-in-Err-clause-answered g c call is h k =
-    rw (c.in-Err.ensures.refusal, c.in-Err.ensures.refused) (take_memory c.args.self.now.state c.args.txn c.requires.passes c.args.sender call is k)
+    rw (c.in-Err.ensures.refusal, c.in-Err.ensures.refused) (take_memory c.args.self.now.state c.args.txn c.requires.passes c.args.sender c.requires.waits.0 c.requires.waits.1 c.requires.waits.2 c.requires.log call is k)
 
 pub returns-in-Ok-clause-answered : goal.returns-in-Ok-clause-answered
 returns-in-Ok-clause-answered g c call is h =

@@ -1,7 +1,7 @@
 use Rattle.std.proofs.Common.{◌≡◌, Option, Some, false, refl, sym, ap, ◌∙◌, subst, arith}
 use Rattle.std.specs.Global.{Vec}
 use Rattle.rq_model.specs.declared.refusal.Refusal.{Refusal}
-use Rattle.rq_model.specs.Causes.{HasCause}
+use Rattle.rq_engine.specs.Answers.{IsCausedIn}
 use Rattle.rq_model.specs.History.Call.{Undo_next}
 use Rattle.rq_model.specs.Replay.Reply.{Gave_refusal}
 use Rattle.rq_model.specs.Tests.{log_full, undo_cost}
@@ -10,7 +10,7 @@ use Rattle.rq_views.specs.Stored.{slots_in}
 use Rattle.rq_level.specs.declared.writes.SlotWrite.{SlotWrite}
 use Rattle.rq_txn.specs.declared.Aim.TheVariants.{Undoing}
 use Rattle.rq_txn.specs.declared.Finished.{Finished}
-use Rattle.rq_txn.specs.Rows.{Under, any_under, change_row, row_started}
+use Rattle.rq_txn.specs.Rows.{Under, change_row, row_started}
 use Rattle.rq_store.specs.State.{State, ledger_of, op_done}
 use Rattle.rq_sound.specs.Latching.{IsLatched}
 use Rattle.rq_sound.specs.Plans.{AreUnlatched, IsPlannedFrom}
@@ -20,11 +20,10 @@ use Rattle.rq_engine.specs.Sends.{HasRoom}
 use Rattle.rq_level.specs.Writes.{AreSlotWrites}
 use Rattle.rq_planner.proofs.Options.{some_told}
 use Rattle.rq_engine.specs.Aborts.{IsTurnedBack, UndoIsLatched, UndoTakesLowest}
-use Rattle.rq_engine.proofs.AbortCalls.{is_newest, may_be_undone, none_done, turned_newest, undo_done, undo_full, undo_refused}
+use Rattle.rq_engine.proofs.AbortCalls.{is_newest, may_be_undone, none_done, turned_newest, undo_done, undo_full, undo_memory, undo_refused}
 use Rattle.rq_engine.proofs.Inverses.{cost_is, few_writes}
 use Rattle.rq_engine.proofs.Latches.{memory_latched, undo_latched, undo_unlatched}
 use Rattle.rq_engine.proofs.Opened.{none_told, state_is}
-use Rattle.rq_engine.proofs.Refusals.{no_memory}
 use Rattle.rq_engine.proofs.SendCalls.{has_room}
 use Rattle.rq_engine.proofs.engine.Engine.undo_next.Goals as goal
 
@@ -115,7 +114,11 @@ returns-in-Ok-clause-lists g c =
 
 pub returns-in-Err-start_undo-clause-answered : goal.returns-in-Err-start_undo-clause-answered
 returns-in-Err-start_undo-clause-answered g c h k =
-    rw (c.in-Err-start_undo.ensures.refusal, c.in-Err-start_undo.ensures.refused, c.in-Ok-Some.ensures.same) (no_memory c.args.self.now.state _ refl c.in_ok-number.ensures.running k)
+    let s = c.args.self.now.state in
+    let f = c.in-Some.done in
+    let back : IsTurnedBack s c.args.txn c.in_ok-number.number (Some f) = subst (λ (o : Option Finished). IsTurnedBack s c.args.txn c.in_ok-number.number o) c.in-Some.is c.in_ok-number.ensures.ready in
+    let room : log_full (ledger_of s) (undo_cost (Some (op_done f))) ≡ false = ap (log_full (ledger_of s)) (sym c.undo_records.ensures) ∙ sym c.if-is_log_full.ensures in
+    rw (c.in-Err-start_undo.ensures.refusal, c.in-Err-start_undo.ensures.refused, c.in-Ok-Some.ensures.same) (undo_memory s c.args.txn c.in_ok-number.number f c.in_ok-number.ensures.passes back c.in_ok-number.ensures.running room k)
 
 pub returns-in-Err-clause-answered : goal.returns-in-Err-clause-answered
 returns-in-Err-clause-answered g c h k =
@@ -123,7 +126,8 @@ returns-in-Err-clause-answered g c h k =
     let f = c.in-Some.done in
     let back : IsTurnedBack s c.args.txn c.in_ok-number.number (Some f) = subst (λ (o : Option Finished). IsTurnedBack s c.args.txn c.in_ok-number.number o) c.in-Some.is c.in_ok-number.ensures.ready in
     let e = c.in-Err.ensures.refused k (is_newest s c.args.txn c.in_ok-number.number f c.in_ok-number.ensures.passes back) in
-    rw (c.in-Err.ensures.same) (subst (λ (r : Refusal). IsModelStep s (Undo_next c.args.txn) (Gave_refusal r) s × HasCause (any_under s.rows) (Undo_next c.args.txn) r) (sym e) (no_memory s (Undo_next c.args.txn) refl c.in_ok-number.ensures.running k))
+    let room : log_full (ledger_of s) (undo_cost (Some (op_done f))) ≡ false = ap (log_full (ledger_of s)) (sym c.undo_records.ensures) ∙ sym c.if-is_log_full.ensures in
+    rw (c.in-Err.ensures.same) (subst (λ (r : Refusal). IsModelStep s (Undo_next c.args.txn) (Gave_refusal r) s × IsCausedIn s (Undo_next c.args.txn) r) (sym e) (undo_memory s c.args.txn c.in_ok-number.number f c.in_ok-number.ensures.passes back c.in_ok-number.ensures.running room k))
 
 pub returns-in-Err-clause-latched : goal.returns-in-Err-clause-latched
 returns-in-Err-clause-latched g c k =
