@@ -417,11 +417,11 @@ module _ (n : ℕ) (pages : MemPages) (log : MemLog) (h : Hold pages formatted_p
   fits_restart : (z : Sizes) (first : Paged) (new : MemLog) → n < 2 ^ 50 → LogStops mem_log z first why.LogFull log new → ⊥
   fits_restart z first new low (inl l) = ⊎_elim
       (λ s.
-          let more = s.1 tt in
-          let f = are_first (restarts n) l.front more.0 (are_spelled n (omega (arith, low))) l.are_spelled (sym (log_seen log (restarts n) h.1) ∙ more.2) in
-          let e = length_is n in
-          let many = s.0 in
-          omega (arith, f.1, e, many, low))
+      let more = s.1 tt in
+      let f = are_first (restarts n) l.front more.0 (are_spelled n (omega (arith, low))) l.are_spelled (sym (log_seen log (restarts n) h.1) ∙ more.2) in
+      let e = length_is n in
+      let many = s.0 in
+      omega (arith, f.1, e, many, low))
       (⊎_elim (λ w. (let e = w.0 in cc e)) (λ b. (let e = b.told in cc e))) l.why
   fits_restart z first new low (inr r) =
       let same : restarts n ≡ r.0 = one_log (restarts n) r.0 (are_spelled n (omega (arith, low))) r.1 (sym (log_seen log (restarts n) h.1) ∙ r.2 tt) in

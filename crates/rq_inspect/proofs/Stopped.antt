@@ -34,9 +34,13 @@ module _ {L : Type 0} (g : Ghosts L) where
   -- it could not be read on behind these records
   pub stopped_reading : (e : Refusal) (records : List Record) (first old new : L) (W : List ℕ → Type 0) → AreSpelled records → g.faults old ≡ g.faults first → g.seen old ≡ g.seen first
       → (g.honest new → BeginsWith records (g.seen first)) → W (lines records) → StopsFor g e records old new → IsStopped g (stops.Refused e) first new W
-  stopped_reading why.LogFull records first old new W are count same begins written s = (s.2 ∙ count, λ h. (
+  stopped_reading why.LogFull records first old new W are count same begins written s = (
+    s.2 ∙ count,
+    λ h. (
       record { log = records; are_spelled = are; begins = begins h; written = written },
-      record { log = records; are_spelled = are; full = s.0; more = subst (HasMoreBehind records) same (s.1 h) }))
+      record { log = records; are_spelled = are; full = s.0; more = subst (HasMoreBehind records) same (s.1 h) },
+    ),
+  )
   stopped_reading why.DiskRead records first old new W are count same begins written s =
       (s ∙ ap (λ n. (n + 1) % 2 ^ 64) count, λ h. record { log = records; are_spelled = are; begins = begins h; written = written })
   stopped_reading (why.Damaged (damage.Record lsn)) records first old new W are count same begins written s =
