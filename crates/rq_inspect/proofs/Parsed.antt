@@ -72,7 +72,7 @@ no_damage a b h k d =
 -- a log that was read is not damaged when it is read again
 pub undamaged : {L : Type 0} (g : Ghosts L) (e : Refusal) (records older : List Record) (old new : L) → AreSpelled records → AreSpelled older
     → g.seen old ≡ spelled older → g.honest new → StopsFor g e records old new → IsNoDamage e
-undamaged g why.NoMemory records older old new are are_older is honest s = tt
+undamaged g why.LogFull records older old new are are_older is honest s = tt
 undamaged g why.DiskRead records older old new are are_older is honest s = tt
 undamaged g (why.Damaged (damage.Record lsn)) records older old new are are_older is honest s =
     no_damage older records are_older are (subst (IsDamagedBehind records) is (s.1 honest))
