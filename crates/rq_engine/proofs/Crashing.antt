@@ -1,5 +1,5 @@
 -- Pages that a crash leaves fit the log that it leaves.
-use Rattle.std.proofs.Common.{◌≡◌, ℕ, zero, suc, [], ◌∷◌, ◌<◌, ◌≤◌, List, drop, refl, sym, subst, Result, Ok, Err, ◌⊎◌, ⊎_elim, inl, inr, arith, length, take, ap, ◌∙◌, ◌≡◌}
+use Rattle.std.proofs.Common.{◌≡◌, ℕ, zero, suc, [], ◌∷◌, ◌<◌, ◌≤◌, List, drop, refl, sym, subst, Result, Ok, Err, ◌⊎◌, ⊎_elim, inl, arith, length, take, ap, ◌∙◌, ◌≡◌}
 use Rattle.std.proofs.lemmas.List.{length-drop, take-append-drop}
 use Rattle.rq_model.specs.Commits.{committed_of}
 use Rattle.rq_model.specs.Ledger.{group_in, kept_in}

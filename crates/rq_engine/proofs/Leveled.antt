@@ -77,10 +77,6 @@ module _ (s : State) (d : Doing) (p : Plan) (h : IsPlanOf (known_part s) d p) wh
   pub plan_few : length p.writes.items ≤ 3
   plan_few = few_of s.sizes (slots_now s) p.writes.items h.deed h.follows.0
 
-  -- its bytes tell no other deed
-  pub plan_told : deed_in p.deed ≡ None → ⊥
-  plan_told none = let e : Some h.deed ≡ None = sym h.reads ∙ none in cc
-
   -- with its deed, and its room
   pub deed_plan : (plan : ChainPlan) (room : ℕ) → plan.writes ≡ p.writes → deed_in p.deed ≡ Some plan.deed → doing_sender d < sender_count s.sizes
       → room ≡ length plan.writes.items * 546 + (30 + length (spelled_deed plan.deed)) → 1 ≤ length (spelled_deed plan.deed) → length (spelled_deed plan.deed) ≤ 256

@@ -13,7 +13,7 @@ use Rattle.rq_model.specs.Legal.{LegalRefusal, OnFound}
 use Rattle.rq_model.specs.Tests.{Size, tests, first_of, NoneHolds, Passes, is_aborting, is_busy, log_full, ready_tests, without_pages, IsUnready}
 use Rattle.std.specs.Option.{is_some as option_is_some}
 use Rattle.rq_txn.specs.declared.Operation.{Operation}
-use Rattle.rq_txn.specs.Rows.{Row, Under, found_row, under_way_of, any_under}
+use Rattle.rq_txn.specs.Rows.{Row, Under, found_row, under_way_of}
 use Rattle.rq_store.specs.State.{State, owed_by, ledger_of, size_of, open_of, job_under, phase_of}
 use Rattle.rq_store.proofs.Opens.{found_open, open_found, owed_is}
 use Rattle.rq_engine.proofs.Standing.{refused_steps}

@@ -10,7 +10,7 @@ use Rattle.rq_model.specs.Tests.{Passes, NoneHolds, below, any_gives, gives, fre
 use Rattle.rq_model.specs.Replay.Reply.{Gave_sub, Gave_none, Gave_refusal}
 use Rattle.rq_page.specs.Sizes.{sender_count}
 use Rattle.rq_views.specs.Stored.{slots_in}
-use Rattle.rq_txn.specs.Rows.{Row, found_row, any_under, change_row, row_started}
+use Rattle.rq_txn.specs.Rows.{Row, found_row, change_row, row_started}
 use Rattle.rq_groups.specs.Ends.{is_free_for, with_held}
 use Rattle.rq_groups.specs.Waiting.{waits}
 use Rattle.rq_store.specs.State.{State, ledger_of, phase_of, size_of}

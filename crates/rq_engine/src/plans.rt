@@ -1,5 +1,5 @@
 //! Plans of operations, by the level.
-ghost use Rattle.std.specs.Prelude.{◌≡◌, ◌≢◌, IfOk, IfErr, IfSome, IfNone, MatchOption, None, Some, false};
+ghost use Rattle.std.specs.Prelude.{◌≡◌, ◌≢◌, IfOk, IfErr, IfSome, IfNone, IsSome, None, Some, false};
 ghost use Rattle.rq_model.specs.Deeds.{deed_in};
 ghost use Rattle.rq_level.specs.Ops.{Doing};
 ghost use Rattle.rq_sound.specs.Sound.{IsSound};
@@ -13,7 +13,7 @@ use rq_chain::ChainPlan;
 use rq_disk::{LogDevice, PageDevice};
 use rq_level::{Level, Op, Plan};
 use rq_model::record::Record;
-use rq_model::refusal::{Damage, Refusal};
+use rq_model::refusal::Refusal;
 use rq_record::decode_deed;
 
 impl<P: PageDevice, L: LogDevice, B: Level> Engine<P, L, B> {
@@ -36,13 +36,11 @@ impl<P: PageDevice, L: LogDevice, B: Level> Engine<P, L, B> {
             → MayBeAsked self.old.state (Do d) → IfErr result (λ r. r ≡ Refusal.NoMemory) }
     {
         match self.plan_op(op) {
-            Ok(Some(plan)) => match with_deed(plan) {
-                Some(plan) => {
-                    let room = room_of(&plan);
-                    Ok(Some((plan, room)))
-                }
-                None => Err(Refusal::Damaged(Damage::Page(0))),
-            },
+            Ok(Some(plan)) => {
+                let plan = with_deed(plan);
+                let room = room_of(&plan);
+                Ok(Some((plan, room)))
+            }
             Ok(None) => Ok(None),
             Err(refusal) => Err(refusal),
         }
@@ -70,18 +68,17 @@ impl<P: PageDevice, L: LogDevice, B: Level> Engine<P, L, B> {
     }
 }
 
-// A plan with the deed that its bytes tell; none where they tell none.
-fn with_deed(plan: Plan) -> Option<ChainPlan>
-    ensures { MatchOption result (deed_in plan.deed ≡ None)
-        (λ p. (p.writes ≡ plan.writes) × (deed_in plan.deed ≡ Some p.deed)) }
+// A plan with the deed that its bytes tell.
+fn with_deed(plan: Plan) -> ChainPlan
+    requires { IsSome (deed_in plan.deed) }
+    ensures writes { result.writes ≡ plan.writes }
+    ensures deed { deed_in plan.deed ≡ Some result.deed }
 {
     let Plan {
         writes,
         deed,
         reply: _,
     } = plan;
-    let Some(deed) = decode_deed(deed.as_slice()) else {
-        return None;
-    };
-    Some(ChainPlan { writes, deed })
+    let deed = decode_deed(deed.as_slice()).unwrap();
+    ChainPlan { writes, deed }
 }

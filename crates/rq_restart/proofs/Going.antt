@@ -1,12 +1,12 @@
 -- Going through a log, one record after the other.
-use Rattle.std.proofs.Common.{◌≡◌, ◌⊎◌, inl, inr, ℕ, ◌+◌, ◌-◌, ◌≤◌, List, ◌∷◌, ◌++◌, length, drop, sym, ◌∙◌, ap, subst, arith, append_assoc}
+use Rattle.std.proofs.Common.{◌≡◌, ◌⊎◌, inl, inr, ℕ, ◌+◌, ◌-◌, ◌%◌, ◌^◌, ◌≤◌, List, ◌∷◌, ◌++◌, length, drop, refl, sym, ◌∙◌, ap, subst, arith, append_assoc}
 use Rattle.std.proofs.lemmas.List.{drop-drop}
 use Rattle.rq_model.specs.declared.refusal.Refusal.{Refusal}
 use Rattle.rq_model.specs.declared.refusal.Refusal.TheVariants as why
 use Rattle.rq_model.specs.declared.refusal.Damage.TheVariants as damage
 use Rattle.rq_disk.specs.declared.device.LogDevice.{Ghosts}
 use Rattle.rq_record.specs.Spelling.{spelling}
-use Rattle.rq_log.specs.Reading.{BeginsWith, IsRead, StopsFor}
+use Rattle.rq_log.specs.Reading.{BeginsWith, HasMoreBehind, IsDamagedBehind, IsRead, StopsFor}
 use Rattle.rq_log.specs.Spelled.{spelled, AreSpelled}
 use Rattle.rq_model.specs.declared.record.Record.{Record}
 use Rattle.rq_page.specs.Sizes.{Sizes}
@@ -22,7 +22,7 @@ use Rattle.rq_analysis.specs.LogTables.{ended_after}
 use Rattle.rq_analysis.proofs.Whole.{whole_logs}
 use Rattle.rq_restart.specs.declared.analysis.Analysis.{Analysis}
 use Rattle.rq_restart.specs.Found.{IsAnalysisOf, MayComeNext, analysis_after}
-use Rattle.rq_restart.specs.Refused.{IsBadNext, IsStoppedBehind, NotRepeated}
+use Rattle.rq_restart.specs.Refused.{IsBadNext, IsStoppedBehind, IsWanting, NotRepeated}
 use Rattle.rq_restart.specs.Repeating.{Belongs, Paged, Repeats}
 use Rattle.rq_restart.proofs.Repeated.{up_to}
 
@@ -41,7 +41,27 @@ found_next f k log r lsn place are may e = record {
 begins_before : (r : Record) (front : List Record) (bytes : List ℕ) → BeginsWith (r ∷ front) bytes → BeginsWith front bytes
 begins_before r front bytes h = (spelling r ++ h.0, h.1 ∙ append_assoc (spelled front) (spelling r) h.0)
 
+-- why no more was read of a device that was only read before
+stops_from : {L : Type 0} (g : Ghosts L) (old met new : L) (front : List Record) → g.seen met ≡ g.seen old → g.faults met ≡ g.faults old → (e : Refusal) → StopsFor g e front met new → StopsFor g e front old new
+stops_from g old met new front same counted why.LogFull h = (h.0, λ k. subst (HasMoreBehind front) same (h.1 k), h.2 ∙ counted)
+stops_from g old met new front same counted why.DiskRead h = h ∙ ap (λ n. (n + 1) % 2 ^ 64) counted
+stops_from g old met new front same counted (why.Damaged (damage.Record lsn)) h = (h.0, λ k. subst (IsDamagedBehind front) same (h.1 k), h.2 ∙ counted)
+stops_from g old met new front same counted _ h = absurd h
+
 module _ {L : Type 0} (g : Ghosts L) (z : Sizes) (first : Paged) (old new : L) where
+  -- no more was read
+  pub stopped_here : (front : List Record) (mid : Paged) (e : Refusal) (met : L) → AreSpelled front → (g.honest new → BeginsWith front (g.seen old)) → Repeats z front first mid → IsRead g old new
+      → g.seen met ≡ g.seen old → g.faults met ≡ g.faults old → StopsFor g e front met new → IsStoppedBehind g z first e old new
+  stopped_here front mid e met are begins repeated read same counted stops = record {
+    front = front;
+    are_spelled = are;
+    begins = begins;
+    mid = mid;
+    repeated = repeated;
+    why = inl (stops_from g old met new front same counted e stops);
+    read = read;
+  }
+
   -- the record that was read was not repeated
   pub stopped_next : (front : List Record) (r : Record) (mid : Paged) (e : Refusal) → AreSpelled (r ∷ front) → (g.honest new → BeginsWith (r ∷ front) (g.seen old)) → Repeats z front first mid → IsRead g old new → g.faults new ≡ g.faults old
       → NotRepeated z front r mid e → IsStoppedBehind g z first e old new
@@ -54,16 +74,16 @@ module _ {L : Type 0} (g : Ghosts L) (z : Sizes) (first : Paged) (old new : L) w
     why = by e not;
     read = read;
   } where
-    by : (x : Refusal) → NotRepeated z front r mid x → StopsFor g x front old new ⊎ IsBadNext g z front mid x old new
-    by why.NoMemory h = inl counted
-    by (why.Damaged (damage.Record lsn)) h = inr (record {
+    by : (x : Refusal) → NotRepeated z front r mid x → StopsFor g x front old new ⊎ (IsWanting g x old new ⊎ IsBadNext g z front mid x old new)
+    by why.NoMemory h = inr (inl (refl, counted))
+    by (why.Damaged (damage.Record lsn)) h = inr (inr (record {
       newest = r;
       is_record = are.0;
       begins = begins;
       told = ap (λ n. why.Damaged (damage.Record n)) h.0;
       bad = h.1;
       counted = counted;
-    })
+    }))
     by _ h = absurd h
 
 -- of a store that was left so, a record of its log belongs behind those before it

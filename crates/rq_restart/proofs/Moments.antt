@@ -7,7 +7,7 @@ use Rattle.rq_log.specs.Logged.{Logged, WasLeftOrGoesOn}
 use Rattle.rq_log.specs.Spelled.{spelled, AreSpelled, GoesOn}
 use Rattle.rq_log.proofs.Moments.{started, weaker, joined}
 use Rattle.rq_store.specs.Opening.{next_restart, IsLeft}
-use Rattle.rq_log.specs.Reading.{IsRead, StopsFor}
+use Rattle.rq_log.specs.Reading.{IsRead}
 use Rattle.rq_model.specs.declared.refusal.Refusal.{Refusal}
 use Rattle.rq_model.specs.declared.refusal.Refusal.TheVariants as why
 use Rattle.rq_restart.specs.Refused.{IsStoppedBehind}
@@ -31,7 +31,7 @@ stopped_at_once g only_now z first e old new is same = record {
   begins = λ h. (g.seen old, refl);
   mid = first;
   repeated = refl;
-  why = inl (subst (λ x. StopsFor g x [] old new) (sym is) (ap g.faults same));
+  why = inr (inl (is, ap g.faults same));
   read = subst (λ d. IsRead g old d) (sym same) (still g only_now old);
 }
 

@@ -12,6 +12,8 @@ use Rattle.rq_model.specs.declared.refusal.Damage.TheVariants as damage
 use Rattle.rq_page.specs.Sizes.{Sizes}
 use Rattle.rq_restart.specs.Repeating.{Paged}
 use Rattle.rq_restart.specs.Restarting.{IsReadAs}
+use Rattle.rq_analysis.specs.Recovered.IsRecovering.{Undoing}
+use Rattle.rq_analysis.proofs.Undos.{undoing_none}
 use Rattle.rq_restart.specs.Refused.{IsStoppedBehind, MayBeShut}
 use Rattle.rq_store.specs.Opening.{IsLeft}
 use Rattle.rq_store.specs.Fitting.{oldest}
@@ -35,14 +37,18 @@ are_first log front rest h k e =
 pub stopped_shut : {L : Type 0} (g : Ghosts L) (z : Sizes) (older : List Record) (first : Paged) (old new : L) (e : Refusal) → IsReadAs g old new older → IsStoppedBehind g z first e old new → MayBeShut (IsLeft z first.image older) z older e (g.faults old) (g.faults new)
 stopped_shut g z older first old new e r s = elim s.why [
   | inl stops ↦ by e stops
-  | inr bad ↦ subst (λ x. MayBeShut (IsLeft z first.image older) z older x (g.faults old) (g.faults new)) (sym bad.told) (λ left.
+  | inr (inl wanting) ↦ subst (λ x. MayBeShut (IsLeft z first.image older) z older x (g.faults old) (g.faults new)) (sym wanting.0) wanting.1
+  | inr (inr bad) ↦ subst (λ x. MayBeShut (IsLeft z first.image older) z older x (g.faults old) (g.faults new)) (sym bad.told) (λ left.
       let begins = bad.begins r.honest in
       let f = are_first older (bad.newest ∷ s.front) begins.0 r.are_spelled (bad.is_record, s.are_spelled) (sym r.reads ∙ begins.1) in
       let one : length (bad.newest ∷ s.front) ≡ length s.front + 1 = omega arith in
       bad.bad (left_belongs z older s.front bad.newest first s.mid (ap (λ n. oldest n older) (sym one) ∙ f.0) (omega (arith, f.1, one)) left s.repeated))
 ] where
   by : (x : Refusal) → StopsFor g x s.front old new → MayBeShut (IsLeft z first.image older) z older x (g.faults old) (g.faults new)
-  by why.NoMemory h = h
+  by why.LogFull h = λ left.
+      let more = h.1 r.honest in
+      let f = are_first older s.front more.0 r.are_spelled s.are_spelled (sym r.reads ∙ more.2) in
+      record { now = older; recovering = Undoing (undoing_none older); full = (let few = h.0 in omega (arith, f.1, few)) }
   by why.DiskRead h = h
   by (why.Damaged (damage.Record lsn)) h = λ left. no_damage older s.front r.are_spelled s.are_spelled (subst (λ b. IsDamagedBehind s.front b) r.reads (h.1 r.honest))
   by _ h = absurd h

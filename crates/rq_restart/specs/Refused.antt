@@ -30,6 +30,10 @@ module _ {L : Type 0} (g : Ghosts L) where
     pub bad : Belongs z front newest mid → ⊥
     pub counted : g.faults new ≡ g.faults old
 
+  -- memory is wanting
+  abbrev pub IsWanting : Refusal → L → L → Type 0
+  IsWanting e old new = (e ≡ why.NoMemory) × (g.faults new ≡ g.faults old)
+
   -- A log was gone through as it was read, as far as these records: each belonged where it stood and was repeated. Behind
   -- them no more could be read or kept, or no record stands there, or one that doesn't belong.
   pub record IsStoppedBehind (z : Sizes) (first : Paged) (e : Refusal) (old new : L) : Type 0 where
@@ -38,7 +42,7 @@ module _ {L : Type 0} (g : Ghosts L) where
     pub begins : g.honest new → BeginsWith front (g.seen old)
     pub mid : Paged
     pub repeated : Repeats z front first mid
-    pub why : StopsFor g e front old new ⊎ IsBadNext z front mid e old new
+    pub why : StopsFor g e front old new ⊎ (IsWanting e old new ⊎ IsBadNext z front mid e old new)
     pub read : IsRead g old new
 
 -- why no incarnation was begun over a log, with the failures of its device before and after it, and that it was left

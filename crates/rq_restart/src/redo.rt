@@ -101,7 +101,8 @@ pub(crate) struct LogScan {
 /// kept.
 ///
 /// # Errors
-/// `Damaged` with the number of the first record that doesn't fit, or where none stands; `DiskRead`; `NoMemory`.
+/// `Damaged` with the number of the first record that doesn't fit, or where none stands; `DiskRead`; `LogFull` behind as many
+/// records as a log may have; `NoMemory`.
 pub(crate) fn repeat_history<P: PageDevice + Drop, L: LogDevice, B: Level>(
     alloc: Global,
     pages: &mut Pages<P>,

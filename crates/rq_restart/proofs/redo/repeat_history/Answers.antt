@@ -1,13 +1,13 @@
-use Rattle.std.proofs.Common.{◌≡◌, ◌+◌, ◌∷◌, List, length, ap, subst, sym, ◌∙◌, arith}
+use Rattle.std.proofs.Common.{rules, ◌≡◌, ◌+◌, ◌∷◌, List, length, ap, subst, sym, ◌∙◌, arith}
 use Rattle.rq_model.specs.declared.record.Record.{Record}
 use Rattle.rq_page.specs.Sizes.{Sizes}
 use Rattle.rq_log.specs.Reading.{BeginsWith}
 use Rattle.rq_log.specs.Spelled.{AreSpelled}
 use Rattle.rq_restart.specs.Found.{IsAnalysisOf}
 use Rattle.rq_restart.specs.Overwritten.{AreKept}
-use Rattle.rq_restart.specs.Refused.{NotRepeated}
+use Rattle.rq_restart.specs.Refused.{IsStoppedBehind, NotRepeated}
 use Rattle.rq_restart.specs.Repeating.{IsRecordRedone, Repeats, paged}
-use Rattle.rq_restart.proofs.Going.{stopped_next}
+use Rattle.rq_restart.proofs.Going.{stopped_here, stopped_next}
 use Rattle.rq_restart.proofs.redo.repeat_history.Goals as goal
 
 pub loop-log_scan-preserved : goal.loop-log_scan-preserved
@@ -51,3 +51,17 @@ returns-in-Err-clause-stopped g c =
     let counted : l.faults c.next_into.new.self.device ≡ l.faults first = c.in_ok-next_into.ensures.cause ∙ so_far.counted ∙ ap l.faults (sym (c.next_into.ensures.first ∙ so_far.first)) in
     let not : NotRepeated z front r (paged c.loop-log_scan.pages) c.in-Err.refusal = subst (λ (y : Sizes). NotRepeated y front r (paged c.loop-log_scan.pages) c.in-Err.refusal) so_far.sizes (c.in-Err.ensures.not front place so_far.found) in
     stopped_next l z (paged c.args.pages.now) first c.next_into.new.self.device front r (paged c.loop-log_scan.pages) c.in-Err.refusal (subst AreSpelled grown now.are_spelled) begins so_far.repeated now.read counted not
+
+pub returns-in_err-next_into-clause-stopped : goal.returns-in_err-next_into-clause-stopped
+returns-in_err-next_into-clause-stopped g c =
+    let l = g.L.LogDevice in
+    let z = c.args.pages.now.sizes in
+    let front = c.loop-log_scan.reader.records in
+    let so_far = c.loop-log_scan.invariant in
+    let first = c.next_into.new.self.first in
+    let last = c.next_into.new.self.device in
+    let e = c.in_err-next_into.field-0.0 in
+    let begins : l.honest last → BeginsWith front (l.seen first) = λ h. subst (λ (rs : List Record). BeginsWith rs (l.seen first)) c.in_err-next_into.ensures.same (c.next_into.ensures.reading.begins h) in
+    let stopped : IsStoppedBehind l z (paged c.args.pages.now) e first last = stopped_here l z (paged c.args.pages.now) first last front (paged c.loop-log_scan.pages) e c.loop-log_scan.reader.device so_far.reading.are_spelled begins so_far.repeated c.next_into.ensures.reading.read
+    (so_far.reading.read.same ∙ ap l.seen (sym c.next_into.ensures.first)) (so_far.counted ∙ ap l.faults (sym (c.next_into.ensures.first ∙ so_far.first))) c.in_err-next_into.ensures.err in
+    search (rules, stopped)

@@ -10,37 +10,38 @@ use Rattle.rq_planner.specs.Asked.Asked.{Do}
 use Rattle.rq_planner.proofs.Replies.{some_is}
 use Rattle.rq_planner.proofs.Options.{some_told}
 use Rattle.rq_engine.specs.Plans.{known_part}
-use Rattle.rq_engine.proofs.Leveled.{deed_plan, plan_few, plan_told, some_doing}
+use Rattle.rq_engine.proofs.Leveled.{deed_plan, plan_few, some_doing}
 use Rattle.rq_engine.proofs.engine.Engine.plan_deed.Goals as goal
 
 pub plan_op-requires-clause-asked : goal.plan_op-requires-clause-asked
 plan_op-requires-clause-asked g c a e =
     subst (λ (x : Asked). asked_sender x < sender_count c.args.self.now.state.sizes) (some_is (Do c.requires.asked.doing) a (sym c.requires.asked.is ∙ e)) c.requires.asked.inside
 
+pub with_deed-plan-requires : goal.with_deed-plan-requires
+with_deed-plan-requires g c =
+    let s = c.args.self.now.state in
+    let d = c.requires.asked.doing in
+    let p : IsPlanOf (known_part s) d c.in-Ok-Some.plan = some_told (λ (p : Plan). (a : Asked) → asked_by c.args.op.now ≡ Some a → IsPlanFor (known_part s) a p) c.in-Ok-Some.field-0 _ c.in-Ok-Some.field-0-is c.in-Ok-Some.ensures.planned.plan (Do d) c.requires.asked.is in
+    rw p.reads refl
+
 pub room_of-room-requires : goal.room_of-room-requires
 room_of-room-requires g c =
     let s = c.args.self.now.state in
     let d = c.requires.asked.doing in
     let p : IsPlanOf (known_part s) d c.in-Ok-Some.plan = some_told (λ (p : Plan). (a : Asked) → asked_by c.args.op.now ≡ Some a → IsPlanFor (known_part s) a p) c.in-Ok-Some.field-0 _ c.in-Ok-Some.field-0-is c.in-Ok-Some.ensures.planned.plan (Do d) c.requires.asked.is in
-    subst (λ (ws : Vec SlotWrite). length ws.items ≤ 3) (sym c.in-Some.ensures.0) (plan_few s d c.in-Ok-Some.plan p)
+    subst (λ (ws : Vec SlotWrite). length ws.items ≤ 3) (sym c.with_deed-plan.ensures.writes) (plan_few s d c.in-Ok-Some.plan p)
 
-pub returns-in-Some-clause-plan : goal.returns-in-Some-clause-plan
-returns-in-Some-clause-plan g c d e =
+pub returns-in-Ok-Some-clause-plan : goal.returns-in-Ok-Some-clause-plan
+returns-in-Ok-Some-clause-plan g c d e =
     let s = c.args.self.now.state in
     let p : IsPlanOf (known_part s) d c.in-Ok-Some.plan = some_told (λ (p : Plan). (a : Asked) → asked_by c.args.op.now ≡ Some a → IsPlanFor (known_part s) a p) c.in-Ok-Some.field-0 _ c.in-Ok-Some.field-0-is c.in-Ok-Some.ensures.planned.plan (Do d) e in
     let inside : doing_sender d < sender_count s.sizes = subst (λ (x : Doing). doing_sender x < sender_count s.sizes) (some_doing c.requires.asked.doing d (sym c.requires.asked.is ∙ e)) c.requires.asked.inside in
-    deed_plan s d c.in-Ok-Some.plan p c.in-Some.plan c.room_of-room.result c.in-Some.ensures.0 c.in-Some.ensures.1 inside c.room_of-room.ensures.room c.room_of-room.ensures.low c.room_of-room.ensures.high
+    deed_plan s d c.in-Ok-Some.plan p c.with_deed-plan.result c.room_of-room.result c.with_deed-plan.ensures.writes c.with_deed-plan.ensures.deed inside c.room_of-room.ensures.room c.room_of-room.ensures.low c.room_of-room.ensures.high
 
-pub returns-in-Some-clause-unlatched : goal.returns-in-Some-clause-unlatched
-returns-in-Some-clause-unlatched g c d e =
+pub returns-in-Ok-Some-clause-unlatched : goal.returns-in-Ok-Some-clause-unlatched
+returns-in-Ok-Some-clause-unlatched g c d e =
     let s = c.args.self.now.state in
     some_told (λ (p : Plan). (a : Asked) → asked_by c.args.op.now ≡ Some a → IsHeldUp (known_part s) a → ⊥) c.in-Ok-Some.field-0 _ c.in-Ok-Some.field-0-is c.in-Ok-Some.ensures.planned.free (Do d) e
-
-pub returns-in-None-clause-refused : goal.returns-in-None-clause-refused
-returns-in-None-clause-refused g c k d e may =
-    let s = c.args.self.now.state in
-    let p : IsPlanOf (known_part s) d c.in-Ok-Some.plan = some_told (λ (p : Plan). (a : Asked) → asked_by c.args.op.now ≡ Some a → IsPlanFor (known_part s) a p) c.in-Ok-Some.field-0 _ c.in-Ok-Some.field-0-is c.in-Ok-Some.ensures.planned.plan (Do d) e in
-    absurd (plan_told s d c.in-Ok-Some.plan p c.in-None.ensures)
 
 pub returns-in-Err-clause-refused : goal.returns-in-Err-clause-refused
 returns-in-Err-clause-refused g c k d e may = c.in-Err.ensures.planned.memory c.args.self.now.state refl k (Do d) e may
