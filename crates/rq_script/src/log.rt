@@ -18,10 +18,7 @@ pub fn text_of_open<K, D, M: Medium<K, D>>(
 }
 
 /// The text of the log that a device holds, which is handed back.
-pub fn text_of_device<L: LogDevice + Drop>(
-    alloc: Global,
-    log: L,
-) -> (L, Result<Vec<u8>, Refusal>) {
+pub fn text_of_device<L: LogDevice + Drop>(alloc: Global, log: L) -> (L, Result<Vec<u8>, Refusal>) {
     let mut text = Vec::new(alloc);
     let (log, inspected) = inspect(alloc, log, &mut text);
     match inspected {
