@@ -15,10 +15,10 @@ use Rattle.rq_page.proofs.CellBytes.{length-cell_bytes}
 use Rattle.rq_page.proofs.DirectoryBytes.{length-directory_bytes}
 use Rattle.rq_views.specs.WorkedItems.{cell, sends, t1}
 use Rattle.rq_model.specs.declared.record.Record.{Record}
-use Rattle.rq_record.specs.Spelling.{FitsTxn, IsImage, IsRecord, IsTxnInRange}
+use Rattle.rq_record.specs.Spelling.{FitsTxn, IsImage, IsRecord, IsTxnInRange, spelling}
+use Rattle.rq_record.proofs.Whole.{long_spelling}
 use Rattle.rq_record.proofs.Readers.{AreBytes-append, AreBytes-zeros}
 use Rattle.rq_log.specs.Spelled.{AreSpelled, spelled}
-use Rattle.rq_log.proofs.Keeping.{few_records}
 use Rattle.rq_store.specs.Steps.{op_end, page_op}
 use Rattle.rq_cases.specs.Run.{log_1, log_5}
 use Rattle.rq_store.specs.Fitting.{image_in}
@@ -140,8 +140,9 @@ pub short_log : (log : List Record) → AreSpelled log → (0 ∷ []) ≡ spelle
 short_log [] told e = (let n : 1 ≡ 0 = ap length e in omega (arith, n))
 short_log (r ∷ older) told e =
     let n : 1 ≡ length (spelled (r ∷ older)) = ap length e in
-    let long = few_records (r ∷ older) told in
-    omega (arith, n, long)
+    let long = long_spelling r told.0 in
+    let all = length-append (spelled older) (spelling r) in
+    omega (arith, n, long, all)
 
 -- the formatted pages are pages of bytes
 header_bytes_are : (lsn page kind : ℕ) → kind < 256 → AreBytes (header_bytes lsn page kind)
