@@ -9,7 +9,7 @@ import subprocess
 import sys
 import tempfile
 
-from program import CRATE, built_twice, parser
+from program import built_twice, parser
 
 # A restart of incarnation 1, and the commit of the transaction 1.1.
 LOG = b"\0\0\0\x09\x07" + (1).to_bytes(8, "big") + b"\0\0\0\x11\x06" + (1).to_bytes(8, "big") * 2
@@ -27,21 +27,19 @@ ROWS = [
     (["beside", "commit", "2", "4", "begun", "8", "0", "10"], b"", "10 transactions\n"),
     (["make", ".", "1", "1", "10"], b"", "10 messages\n"),
     (["open", "."], b"", "restarted 2, 82 records\n"),
-    (["allocations"], b"", (CRATE / "stdout").read_text()),
     (["calls", "1", "2"], b"", "7168 calls\n"),
     (["calls", "4", "2"], b"", "7168 calls\n"),
 ]
 
 MOST_SECONDS = 60  # of one run of the program
 
-# What is no word, or lacks one, or is at fault: nothing is printed, and the status is 1.
+# What is no word, or lacks one, or is at fault: nothing is printed, and the status is 1. An opening says why.
 REFUSED = [
     (["decode"], LOG[:-1]),
     (["feed"], b"\0\0"),
     (["append", "appended"], b""),
     (["beside", "sent", "1", "1", "begun", "0", "0", "1"], b""),
     (["make", "none", "1", "1", "1"], b""),
-    (["open", "none"], b""),
     (["calls", "2", "1"], b""),
     (["other"], b""),
     ([], b""),
@@ -60,6 +58,7 @@ def ended(program, words, stdin, folder):
 def check(program):
     """Runs all rows by a program, in a folder of their own. Ends at the first that comes to something else."""
     wanted = [(*row[:2], 0, row[2]) for row in ROWS] + [(*row, 1, "") for row in REFUSED]
+    wanted.append((["open", "none"], b"", 1, "fault open\n"))
     with tempfile.TemporaryDirectory() as folder:
         for words, stdin, status, output in wanted:
             came = ended(program, words, stdin, folder)

@@ -16,7 +16,7 @@ from cases import MOST_SECONDS, built_twice
 from inspector import record
 
 PAGE, SLOT = 4096, 256
-OPENED, UNREAD = "opened", "refused 3 DiskRead"
+OPENED, UNREAD = "opened", "fault 3 DiskRead"
 
 
 def at_record(lsn):

@@ -148,7 +148,8 @@ MESSAGES = [
 def messages(program):
     """The files behind each transaction, once each changed page is written: page 2 by the record of this LSN, with these cells, and
     page 1 by the next one, with this slot of the sender; and what is received when the store is opened again."""
-    left = [(5, 3, ONE_SENT, [MESSAGE]), (10, 8, group(2, 0, 33, 34), [FIRST, SECOND]), (15, 13, group(2, 1, 34, 34), [FREE, cell(2)])]
+    one, two, last = (ONE_SENT, [MESSAGE]), (group(2, 0, 33, 34), [FIRST, SECOND]), (group(2, 1, 34, 34), [FREE, cell(2)])
+    left = [(5, 3, *one), (10, 8, *two), (15, 13, *last)]
     for sends, (records, lsn, slot, cells) in enumerate(left, 1):
         with folder_of(pages=formatted(), log=b"") as folder:
             server = Server(program, folder)
@@ -273,7 +274,8 @@ def courses(program):
             try:
                 server = Server(program, folder, environment=words)
             except NotStarted as refused:
-                assert told.exists() and refused.line in (b"fault 3 DiskRead\n", b"fault 15 DiskWrite\n", b"fault open\n"), refused
+                assert told.exists(), refused
+                assert refused.line in (b"fault 3 DiskRead\n", b"fault 15 DiskWrite\n", b"fault open\n"), refused
             else:
                 course.run(server)
                 wait_until(lambda: told.exists() or course.has_written(folder))

@@ -1,11 +1,8 @@
 //! Transactions of one kind beside others that stay open, over a store in memory.
 use crate::others::open_others;
 use crate::store::new_engine;
-use crate::transactions::{abort, begin, commit, receive, send};
+use crate::transactions::Queue;
 use crate::words::{named, number, sizes};
-use rq_disk::{LogDevice, PageDevice};
-use rq_engine::engine::Engine;
-use rq_levels::StoreLevel;
 use rq_page::layout::Layout;
 use std::alloc::Global;
 use std::io;
@@ -95,52 +92,36 @@ fn go(alloc: Global, case: &Case) -> Option<()> {
 }
 
 // The messages that wait and the others come first. What is timed goes by the last sender.
-fn all_of<P: PageDevice, L: LogDevice>(
-    engine: &mut Engine<P, L, StoreLevel>,
-    case: &Case,
-) -> Option<()> {
+fn all_of<Q: Queue>(queue: &mut Q, case: &Case) -> Option<()> {
     let sender = case.layout.senders().checked_sub(1)?;
-    send_messages(engine, sender, case.messages)?;
-    open_others(engine, case.other, case.open)?;
-    go_through(engine, case.kind, sender, case.transactions)
+    send_messages(queue, sender, case.messages)?;
+    open_others(queue, case.other, case.open)?;
+    go_through(queue, case.kind, sender, case.transactions)
 }
 
 /// Commits so many messages of a sender.
-pub fn send_messages<P: PageDevice, L: LogDevice>(
-    engine: &mut Engine<P, L, StoreLevel>,
-    sender: u32,
-    messages: u32,
-) -> Option<()> {
-    go_through(engine, Kind::Send, sender, messages)
+pub fn send_messages<Q: Queue>(queue: &mut Q, sender: u32, messages: u32) -> Option<()> {
+    go_through(queue, Kind::Send, sender, messages)
 }
 
 // Goes through so many transactions. A send is one of this sender.
-fn go_through<P: PageDevice, L: LogDevice>(
-    engine: &mut Engine<P, L, StoreLevel>,
-    kind: Kind,
-    sender: u32,
-    transactions: u32,
-) -> Option<()> {
+fn go_through<Q: Queue>(queue: &mut Q, kind: Kind, sender: u32, transactions: u32) -> Option<()> {
     for _ in 0..transactions {
-        one(engine, kind, sender)?;
+        one(queue, kind, sender)?;
     }
     Some(())
 }
 
-fn one<P: PageDevice, L: LogDevice>(
-    engine: &mut Engine<P, L, StoreLevel>,
-    kind: Kind,
-    sender: u32,
-) -> Option<()> {
-    let txn = begin(engine)?;
+fn one<Q: Queue>(queue: &mut Q, kind: Kind, sender: u32) -> Option<()> {
+    let txn = queue.begin()?;
     match kind {
-        Kind::Send => send(engine, txn, sender, b"x")?,
-        Kind::Receive => receive(engine, txn)?,
+        Kind::Send => queue.send(txn, sender, b"x")?,
+        Kind::Receive => queue.receive(txn)?,
         Kind::Commit => {}
         Kind::Abort => {
-            send(engine, txn, sender, b"x")?;
-            return abort(engine, txn);
+            queue.send(txn, sender, b"x")?;
+            return queue.abort(txn);
         }
     }
-    commit(engine, txn)
+    queue.commit(txn)
 }

@@ -7,22 +7,17 @@
 //! | `append FILE RECORDS` | appends to a log in a file |
 //! | `beside KIND DIRECTORY CELLS OTHER OPEN MESSAGES TRANSACTIONS` | goes through transactions beside others that stay open |
 //! | `make FOLDER DIRECTORY CELLS MESSAGES` | makes a store in a folder |
-//! | `open FOLDER` | opens it |
-//! | `allocations` | carries out two scripts, also where memory is wanting |
+//! | `open FOLDER` | opens it, or says why not |
 //! | `calls THREADS BATCHES` | makes calls by one thread or by four |
 #![tactic(auto)]
 
-mod allocations;
 mod beside;
 mod decode;
 mod feed;
 mod files;
-mod lines;
 mod others;
 mod reopen;
-mod retried;
 mod rounds;
-mod scripts;
 mod store;
 mod tally;
 mod threads;
@@ -56,7 +51,6 @@ fn run<R: Print + Eprint + Input + AllocGlobal + Env + Files<File = File> + Thre
         Some(Verb::Beside) => beside::run(rt, &words),
         Some(Verb::Make) => reopen::make(rt, &words),
         Some(Verb::Open) => reopen::open(rt, &words),
-        Some(Verb::Allocations) => allocations::run(rt),
         Some(Verb::Calls) => ways::run(rt, &words),
         None => Err(io::ErrorKind::InvalidInput.into()),
     }

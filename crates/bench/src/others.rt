@@ -1,36 +1,25 @@
 //! The transactions that stay open.
 use crate::beside::{Other, send_messages};
-use crate::transactions::{begin, receive_from, send};
-use rq_disk::{LogDevice, PageDevice};
-use rq_engine::engine::Engine;
-use rq_levels::StoreLevel;
+use crate::transactions::Queue;
 
 /// Opens so many.
-pub fn open_others<P: PageDevice, L: LogDevice>(
-    engine: &mut Engine<P, L, StoreLevel>,
-    other: Other,
-    open: u32,
-) -> Option<()> {
+pub fn open_others<Q: Queue>(queue: &mut Q, other: Other, open: u32) -> Option<()> {
     for sender in 0..open {
         if let Other::Received = other {
-            send_messages(engine, sender, 2)?;
+            send_messages(queue, sender, 2)?;
         }
     }
     for sender in 0..open {
-        open_one(engine, other, sender)?;
+        open_one(queue, other, sender)?;
     }
     Some(())
 }
 
-fn open_one<P: PageDevice, L: LogDevice>(
-    engine: &mut Engine<P, L, StoreLevel>,
-    other: Other,
-    sender: u32,
-) -> Option<()> {
-    let txn = begin(engine)?;
+fn open_one<Q: Queue>(queue: &mut Q, other: Other, sender: u32) -> Option<()> {
+    let txn = queue.begin()?;
     match other {
         Other::Begun => Some(()),
-        Other::Sent => send(engine, txn, sender, b"x"),
-        Other::Received => receive_from(engine, txn, sender),
+        Other::Sent => queue.send(txn, sender, b"x"),
+        Other::Received => queue.receive_from(txn, sender),
     }
 }

@@ -1,9 +1,9 @@
 //! A store in a folder: made with a log of messages, and opened.
-use crate::transactions::{begin, commit, force, receive, send};
+use crate::transactions::Queue;
 use crate::words::{number, sizes};
-use rq_disk::{FileLog, FilePages, LogDevice, PageDevice, Unknown};
+use rq_disk::{FileLog, FilePages, Unknown};
 use rq_engine::engine::Engine;
-use rq_files::{format_folder, open_folder};
+use rq_files::{Fault, format_folder, open_folder};
 use rq_levels::{StoreLevel, levels_of_store};
 use rq_model::refusal::{Damage, Refusal};
 use rq_page::layout::Layout;
@@ -49,7 +49,7 @@ fn filled<R: AllocGlobal + Files<File = File>>(
     layout: &Layout,
     messages: u32,
 ) -> Option<()> {
-    let (mut engine, _) = opened(rt, folder).ok()?.ok()?;
+    let (mut engine, _) = opened(rt, folder).ok()?;
     exchange(&mut engine, layout.senders(), messages)
 }
 
@@ -62,76 +62,74 @@ pub fn open<R: Print + AllocGlobal + Files<File = File>>(
         return Err(io::ErrorKind::InvalidInput.into());
     };
     let mut writer = io::writer(rt);
-    match report_of(rt, folder.as_str())? {
+    match report_of(rt, folder.as_str()) {
         Ok(report) => writeln!(
             writer,
             "restarted {}, {} records",
             report.incarnation, report.records
         ),
-        Err(refusal) => {
-            print_refusal(&mut writer, refusal)?;
+        Err(fault) => {
+            print_fault(&mut writer, fault)?;
             Err(io::ErrorKind::InvalidData.into())
         }
     }
 }
 
-fn print_refusal<W: Write>(writer: &mut W, refusal: Refusal) -> io::Result<()> {
-    match refusal {
-        Refusal::Damaged(Damage::Record(lsn)) => writeln!(writer, "damaged record {lsn}"),
-        Refusal::Damaged(Damage::Page(number)) => writeln!(writer, "damaged page {number}"),
-        _ => writeln!(writer, "refused {} {}", refusal.number(), refusal.name()),
+fn print_fault<W: Write>(writer: &mut W, fault: Fault) -> io::Result<()> {
+    match fault {
+        Fault::Refused(Refusal::Damaged(Damage::Record(lsn))) => {
+            writeln!(writer, "damaged record {lsn}")
+        }
+        Fault::Refused(Refusal::Damaged(Damage::Page(number))) => {
+            writeln!(writer, "damaged page {number}")
+        }
+        fault => writeln!(writer, "fault {fault}"),
     }
 }
 
-fn report_of<R: AllocGlobal + Files<File = File>>(
-    rt: &R,
-    folder: &str,
-) -> io::Result<Result<Report, Refusal>> {
-    match opened(rt, folder)? {
-        Ok((_, report)) => Ok(Ok(report)),
-        Err(refusal) => Ok(Err(refusal)),
+fn report_of<R: AllocGlobal + Files<File = File>>(rt: &R, folder: &str) -> Result<Report, Fault> {
+    match opened(rt, folder) {
+        Ok((_, report)) => Ok(report),
+        Err(fault) => Err(fault),
     }
 }
 
 fn opened<R: AllocGlobal + Files<File = File>>(
     rt: &R,
     folder: &str,
-) -> io::Result<Result<(Store, Report), Refusal>> {
-    let (pages, log) = open_folder(rt, folder, Unknown)?;
-    let levels = levels_of_store(rt.alloc()).map_err(|_| io::ErrorKind::OutOfMemory)?;
+) -> Result<(Store, Report), Fault> {
+    let Ok((pages, log)) = open_folder(rt, folder, Unknown) else {
+        return Err(Fault::Open);
+    };
+    let Ok(levels) = levels_of_store(rt.alloc()) else {
+        return Err(Fault::Refused(Refusal::NoMemory));
+    };
     match restart(rt.alloc(), pages, log, levels) {
-        Ok(opened) => Ok(Ok(opened)),
-        Err(stopped) => Ok(Err(stopped.refusal)),
+        Ok(opened) => Ok(opened),
+        Err(stopped) => Err(Fault::Refused(stopped.refusal)),
     }
 }
 
 // Sends and receives so many messages, each by a transaction of its own, by all senders in turn, and forces them.
-fn exchange<P: PageDevice, L: LogDevice>(
-    engine: &mut Engine<P, L, StoreLevel>,
-    senders: u32,
-    messages: u32,
-) -> Option<()> {
+fn exchange<Q: Queue>(queue: &mut Q, senders: u32, messages: u32) -> Option<()> {
     for n in 0..messages {
-        send_one(engine, n.checked_rem(senders)?)?;
-        receive_one(engine)?;
+        send_one(queue, n.checked_rem(senders)?)?;
+        receive_one(queue)?;
         if n % MESSAGES_A_FORCE == MESSAGES_A_FORCE - 1 {
-            force(engine)?;
+            queue.force()?;
         }
     }
-    force(engine)
+    queue.force()
 }
 
-fn send_one<P: PageDevice, L: LogDevice>(
-    engine: &mut Engine<P, L, StoreLevel>,
-    sender: u32,
-) -> Option<()> {
-    let txn = begin(engine)?;
-    send(engine, txn, sender, &[120; 200])?;
-    commit(engine, txn)
+fn send_one<Q: Queue>(queue: &mut Q, sender: u32) -> Option<()> {
+    let txn = queue.begin()?;
+    queue.send(txn, sender, &[120; 200])?;
+    queue.commit(txn)
 }
 
-fn receive_one<P: PageDevice, L: LogDevice>(engine: &mut Engine<P, L, StoreLevel>) -> Option<()> {
-    let txn = begin(engine)?;
-    receive(engine, txn)?;
-    commit(engine, txn)
+fn receive_one<Q: Queue>(queue: &mut Q) -> Option<()> {
+    let txn = queue.begin()?;
+    queue.receive(txn)?;
+    queue.commit(txn)
 }

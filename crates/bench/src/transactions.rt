@@ -8,39 +8,66 @@ use rq_model::txn::{Sub, Txn};
 /// More than the steps that an operation has.
 const STEPS: u32 = 8;
 
-/// Begins a transaction.
-pub fn begin<P: PageDevice, L: LogDevice>(engine: &mut Engine<P, L, StoreLevel>) -> Option<Txn> {
-    engine.begin().ok()
+/// A store as those know it who go through transactions: each call is none where it is refused.
+pub trait Queue {
+    /// Begins a transaction.
+    fn begin(&mut self) -> Option<Txn>;
+
+    /// Sends a message with this body.
+    fn send(&mut self, txn: Txn, sender: u32, body: &[u8]) -> Option<()>;
+
+    /// Receives a message.
+    fn receive(&mut self, txn: Txn) -> Option<()>;
+
+    /// Receives the first message of a sender.
+    fn receive_from(&mut self, txn: Txn, sender: u32) -> Option<()>;
+
+    /// Commits a transaction.
+    fn commit(&mut self, txn: Txn) -> Option<()>;
+
+    /// Takes back the one operation of a transaction, and ends it.
+    fn abort(&mut self, txn: Txn) -> Option<()>;
+
+    /// Forces the log.
+    fn force(&mut self) -> Option<()>;
 }
 
-/// Sends a message with this body.
-pub fn send<P: PageDevice, L: LogDevice>(
-    engine: &mut Engine<P, L, StoreLevel>,
-    txn: Txn,
-    sender: u32,
-    body: &[u8],
-) -> Option<()> {
-    let sub = engine.start_send(txn, sender, 1, body).ok()?;
-    finish(engine, sub)
-}
+impl<P: PageDevice, L: LogDevice> Queue for Engine<P, L, StoreLevel> {
+    fn begin(&mut self) -> Option<Txn> {
+        self.begin().ok()
+    }
 
-/// Receives a message.
-pub fn receive<P: PageDevice, L: LogDevice>(
-    engine: &mut Engine<P, L, StoreLevel>,
-    txn: Txn,
-) -> Option<()> {
-    let sub = engine.start_receive(txn).ok()??;
-    finish(engine, sub)
-}
+    fn send(&mut self, txn: Txn, sender: u32, body: &[u8]) -> Option<()> {
+        let sub = self.start_send(txn, sender, 1, body).ok()?;
+        finish(self, sub)
+    }
 
-/// Receives the first message of a sender.
-pub fn receive_from<P: PageDevice, L: LogDevice>(
-    engine: &mut Engine<P, L, StoreLevel>,
-    txn: Txn,
-    sender: u32,
-) -> Option<()> {
-    let sub = engine.start_receive_from(txn, sender).ok()??;
-    finish(engine, sub)
+    fn receive(&mut self, txn: Txn) -> Option<()> {
+        let sub = self.start_receive(txn).ok()??;
+        finish(self, sub)
+    }
+
+    fn receive_from(&mut self, txn: Txn, sender: u32) -> Option<()> {
+        let sub = self.start_receive_from(txn, sender).ok()??;
+        finish(self, sub)
+    }
+
+    fn commit(&mut self, txn: Txn) -> Option<()> {
+        self.commit(txn).ok()?;
+        Some(())
+    }
+
+    fn abort(&mut self, txn: Txn) -> Option<()> {
+        self.start_abort(txn).ok()?;
+        let sub = self.undo_next(txn).ok()??;
+        finish(self, sub)?;
+        self.end_abort(txn).ok()
+    }
+
+    fn force(&mut self) -> Option<()> {
+        self.force().ok()?;
+        Some(())
+    }
 }
 
 // Makes the steps of an operation, and finishes it.
@@ -67,30 +94,4 @@ fn is_ready<P: PageDevice, L: LogDevice>(
         Ok(Progress::Done(_)) => Some(false),
         Err(_) => None,
     }
-}
-
-/// Commits a transaction.
-pub fn commit<P: PageDevice, L: LogDevice>(
-    engine: &mut Engine<P, L, StoreLevel>,
-    txn: Txn,
-) -> Option<()> {
-    engine.commit(txn).ok()?;
-    Some(())
-}
-
-/// Takes back the one operation of a transaction, and ends it.
-pub fn abort<P: PageDevice, L: LogDevice>(
-    engine: &mut Engine<P, L, StoreLevel>,
-    txn: Txn,
-) -> Option<()> {
-    engine.start_abort(txn).ok()?;
-    let sub = engine.undo_next(txn).ok()??;
-    finish(engine, sub)?;
-    engine.end_abort(txn).ok()
-}
-
-/// Forces the log.
-pub fn force<P: PageDevice, L: LogDevice>(engine: &mut Engine<P, L, StoreLevel>) -> Option<()> {
-    engine.force().ok()?;
-    Some(())
 }

@@ -9,6 +9,7 @@ use rq_levels::StoreLevel;
 use rq_page::layout::Layout;
 use rq_shared::kept::Kept;
 use rq_workers::kept::KeptSteps;
+use rq_workers::steps::Steps;
 use std::alloc::Global;
 use std::io;
 use std::io::Write;
@@ -42,9 +43,34 @@ fn small_engine(alloc: Global) -> Option<Store> {
     new_engine(alloc, Layout::new(CALLERS, CALLERS)?)
 }
 
-// All calls through a kept engine, one caller after the other.
+/// Calls of a store under an audit.
+trait Audited {
+    /// What the calls come to whose entries are in the audit, which is taken.
+    fn counted(self) -> (Self, Tally);
+}
+
+impl<P: PageDevice + Drop, L: LogDevice + Drop> Audited for KeptSteps<P, L, StoreLevel> {
+    fn counted(self) -> (Self, Tally) {
+        let mut kept = self.into_kept();
+        let tally = Tally::of(kept.take().entries());
+        (KeptSteps::new(kept, 1), tally)
+    }
+}
+
+// All calls through a kept engine.
 fn by_one<R: Wait>(rt: &R, alloc: Global, batches: u32) -> Option<Tally> {
-    let mut steps = KeptSteps::new(Kept::new(alloc, small_engine(alloc)?), 1);
+    let kept = Kept::new(alloc, small_engine(alloc)?);
+    all_of(rt, alloc, KeptSteps::new(kept, 1), batches)
+}
+
+// All calls, one caller after the other.
+fn all_of<S: Steps + Audited + Drop, R: Wait>(
+    rt: &R,
+    alloc: Global,
+    steps: S,
+    batches: u32,
+) -> Option<Tally> {
+    let mut steps = steps;
     let mut tally = Tally::none();
     for caller in 0..CALLERS {
         let (after, of_sender) = batches_of(rt, alloc, steps, sender_of(caller), batches)?;
@@ -55,30 +81,21 @@ fn by_one<R: Wait>(rt: &R, alloc: Global, batches: u32) -> Option<Tally> {
 }
 
 // The batches of a sender. The audit is taken after each.
-fn batches_of<P: PageDevice + Drop, L: LogDevice + Drop, R: Wait>(
+fn batches_of<S: Steps + Audited + Drop, R: Wait>(
     rt: &R,
     alloc: Global,
-    steps: KeptSteps<P, L, StoreLevel>,
+    steps: S,
     sender: u32,
     batches: u32,
-) -> Option<(KeptSteps<P, L, StoreLevel>, Tally)> {
+) -> Option<(S, Tally)> {
     let mut steps = steps;
     let mut tally = Tally::none();
     for _ in 0..batches {
-        let (after, of_batch) = counted(batch(rt, alloc, steps, sender)?);
+        let (after, of_batch) = batch(rt, alloc, steps, sender)?.counted();
         steps = after;
         tally = tally.and(of_batch);
     }
     Some((steps, tally))
-}
-
-// What the calls come to whose entries are in the audit, which is taken.
-fn counted<P: PageDevice + Drop, L: LogDevice + Drop>(
-    steps: KeptSteps<P, L, StoreLevel>,
-) -> (KeptSteps<P, L, StoreLevel>, Tally) {
-    let mut kept = steps.into_kept();
-    let tally = Tally::of(kept.take().entries());
-    (KeptSteps::new(kept, 1), tally)
 }
 
 // All calls through a shared engine, each sender on a thread of its own.

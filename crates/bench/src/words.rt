@@ -13,18 +13,16 @@ pub enum Verb {
     Beside,
     Make,
     Open,
-    Allocations,
     Calls,
 }
 
-const VERBS: [(&str, Verb); 8] = [
+const VERBS: [(&str, Verb); 7] = [
     ("decode", Verb::Decode),
     ("feed", Verb::Feed),
     ("append", Verb::Append),
     ("beside", Verb::Beside),
     ("make", Verb::Make),
     ("open", Verb::Open),
-    ("allocations", Verb::Allocations),
     ("calls", Verb::Calls),
 ];
 

@@ -1,0 +1,187 @@
+#!/usr/bin/env python3
+"""Has each allocation of lists of happenings, and of scripts, fail in turn. The call is refused for it and nothing has changed:
+made again, it answers as where no allocation fails, and so does all behind it. Where a device in memory cannot grow, that is a
+failure of the device: of its call, or of the handing over as the store crashes.
+
+    python3 tests/memory.py [--happenings PROGRAM] [--rqm PROGRAM]
+
+A library that the loader puts in front of the C library's has the allocation fail; it is built with `cc`.
+"""
+import argparse
+import os
+import pathlib
+import subprocess
+import sys
+import tempfile
+from concurrent.futures import ThreadPoolExecutor
+
+from cases import MOST_SECONDS, built
+from script_reference import printed_by as script_printed
+from scripts import SCRIPTS
+from world_reference import World, picked_at
+from worlds import Worlds, is_plain
+
+SHIM = """#define _GNU_SOURCE
+#include <dlfcn.h>
+#include <errno.h>
+#include <stddef.h>
+#include <stdio.h>
+#include <stdlib.h>
+
+/* Has the allocation fail whose number is FAIL_AT, from 1. */
+static long made;
+
+static int fails(void) {
+    static long at = -1;
+    if (at < 0) { const char *word = getenv("FAIL_AT"); at = word ? atol(word) : 0; }
+    return ++made == at;
+}
+
+void *malloc(size_t size) {
+    static void *(*next)(size_t);
+    if (!next) next = (void *(*)(size_t)) dlsym(RTLD_NEXT, "malloc");
+    if (fails()) { errno = ENOMEM; return NULL; }
+    return next(size);
+}
+
+void *realloc(void *old, size_t size) {
+    static void *(*next)(void *, size_t);
+    if (!next) next = (void *(*)(void *, size_t)) dlsym(RTLD_NEXT, "realloc");
+    if (fails()) { errno = ENOMEM; return NULL; }
+    return next(old, size);
+}
+
+/* Tells how many there were, once: as the program ends, or as it ends at once. */
+__attribute__((destructor)) static void tell(void) {
+    static int told;
+    if (!told++) fprintf(stderr, "%ld\\n", made);
+}
+
+__attribute__((noreturn)) void _exit(int status) {
+    static void (*next)(int);
+    tell();
+    next = (void (*)(int)) dlsym(RTLD_NEXT, "_exit");
+    next(status);
+    abort();
+}
+"""
+
+WANTING = b"refused 1 NoMemory", b"not-opened 1 NoMemory"
+
+# More than the allocations by which a program reads one line more.
+MORE = 12
+
+# Scripts each of whose lines is one call.
+STEP_BY_STEP = ["a-send-is-aborted-and-one-is-committed-step-by-step", "two-sends-go-on-at-once-on-pages-of-their-own"]
+
+
+class Lists:
+    """What runs lines: happenings, or scripts where `names` are given."""
+
+    def __init__(self, program, library, door, names):
+        self.program, self.library, self.door, self.names = program, library, door, names
+
+    def run(self, name, lines, number):
+        """What lines print where this allocation fails (none of 0), or None where the program could not even read them; and how many
+        allocations there were."""
+        words = [self.program, *self.door.subcommand, *self.door.words_of(name)]
+        given = b"".join(line + b"\n" for line in lines)
+        environment = dict(os.environ, LD_PRELOAD=self.library, FAIL_AT=str(number))
+        ran = subprocess.run(words, input=given, env=environment, capture_output=True, timeout=MOST_SECONDS)
+        printed = ran.stdout.split(b"\n")[:-1]
+        made = int(ran.stderr.split()[-1])
+        return (None, made) if ran.returncode else (printed, made)
+
+    def fault(self, name):
+        """What is wrong with a list; and how many of its allocations were a call's."""
+        lines = self.door.lines_of(name)[0]
+        base, made = self.run(name, lines, 0)
+        if base != self.door.lines_of(name)[1]:
+            return f"{name}: {base}", 0
+        first = 1 if self.door is SCRIPTS else 0  # their first line tells of their opening
+        wanting, grown = {}, 0
+        for number in range(1, made + 1):
+            told, _ = self.run(name, lines, number)
+            if told is None:
+                continue
+            at = next((at for at, (one, other) in enumerate(zip(told, base)) if one != other), None)
+            if at is not None and told[at] in WANTING:
+                wanting.setdefault(at, []).append(number)
+            elif at is not None and told == self.where_a_device_fails(name, lines, at - first, told):
+                grown += 1
+            else:
+                return f"{name}: allocation {number} of {made} comes to {told}", 0
+        for at, numbers in wanting.items():
+            wrong = self.made_again(name, lines, base, at, at - first, numbers)
+            if wrong:
+                return wrong, 0
+        return None, grown + sum(map(len, wanting.values()))
+
+    def made_again(self, name, lines, base, at, place, numbers):
+        """What is wrong where the line at a place, in which these allocations fail, stands twice."""
+        twice, met = doubled(lines, place), 0
+        for number in range(numbers[0], numbers[-1] + MORE):
+            told, _ = self.run(name, twice, number)
+            if told and told[at] in WANTING:
+                met += 1
+                if told[:at] + told[at + 1 :] != base:
+                    return f"{name}: {lines[place]}, made again behind allocation {number}, comes to {told[at + 1:]}"
+        return None if met >= len(numbers) else f"{name}: {lines[place]} has {met} allocations, and not {len(numbers)}"
+
+    def where_a_device_fails(self, name, lines, place, told):
+        """What lines print by the reference where the call at a place meets a failing device: its first write. At a crash that is the
+        handing over of what is buffered."""
+        if self.door is SCRIPTS:
+            sizes = [int(word) for word in self.door.words_of(name) if word.isdigit()]
+            printed, _ = script_printed(lines[:place] + [b"fail write"] + lines[place:], *sizes, told)
+            return [line for line in printed if line != b"armed"]
+        world = World(*map(int, self.door.words_of(name)))
+        for at, line in enumerate(lines):
+            if at == place and line.startswith(b"crash"):
+                world.store.failed = True
+            elif at == place:
+                world.happen(b"fail %d" % (world.store.devices.reads() + 1 if line == b"restart" else 1))
+                world.printed.pop()
+            world.happen(line, picked_at(lines, told, at))
+        return world.printed
+
+
+def doubled(lines, place):
+    """The lines with one of them twice. Acknowledgements behind it name their commits by the numbers that they have then."""
+    made = []
+    for at, line in enumerate(lines):
+        if line.startswith(b"ack ") and b"." not in line and int(line[4:]) > place:
+            line = b"ack %d" % (int(line[4:]) + 1)
+        made += [line, line] if at == place else [line]
+    return made
+
+
+def check(lists):
+    with ThreadPoolExecutor(os.cpu_count()) as pool:
+        came = list(pool.map(lists.fault, lists.names))
+    print("".join(f"{wrong}\n" for wrong, _ in came if wrong), end="")
+    right, count = sum(not wrong for wrong, _ in came), sum(count for _, count in came)
+    print(f"{right} of {len(came)} come to what they should where each of {count} allocations fails ({os.path.basename(lists.program)})")
+    return right == len(came) and count > 20 * len(came)
+
+
+def main():
+    words = argparse.ArgumentParser(description="Has each allocation of lists and of scripts fail in turn.")
+    words.add_argument("--happenings", help="a program that was built elsewhere")
+    words.add_argument("--rqm", help="a program that was built elsewhere")
+    chosen = words.parse_args()
+    with tempfile.TemporaryDirectory() as folder:
+        source, library = pathlib.Path(folder) / "shim.c", str(pathlib.Path(folder) / "shim.so")
+        source.write_text(SHIM)
+        subprocess.run(["cc", "-O2", "-shared", "-fPIC", "-o", library, str(source), "-ldl"], check=True)
+        happenings = Worlds.cases
+        plain = [name for name in happenings.names() if is_plain(happenings.lines_of(name)[0])]
+        ran = [
+            check(Lists(built(chosen.happenings, "happenings"), library, happenings, plain)),
+            check(Lists(built(chosen.rqm, "rqm"), library, SCRIPTS, STEP_BY_STEP)),
+        ]
+    sys.exit(0 if all(ran) else 1)
+
+
+if __name__ == "__main__":
+    main()
