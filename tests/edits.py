@@ -131,7 +131,7 @@ def judge(edit, text, said):
         lines = said.strip().split("\n")
         error = next((line for line in lines if line.startswith("error")), lines[-1])
         return False, f"BAD EDIT: the prover did not come to the function: {error[:200]}"
-    if told[1] == "proved":
+    if told[1].startswith("proved"):
         return False, "NOT REFUSED: the function is still proved"
     place = re.compile(rf"(?:note: )?(?:\./)?({re.escape(edit.file)}:(\d+):\d+: .*not proved.*)")
     reasons = [it[1] for it in map(place.match, said.split("\n")) if it and any(int(it[2]) in span for span in spans(edit, text))]
