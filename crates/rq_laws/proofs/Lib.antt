@@ -6,6 +6,7 @@ pub mod Refusing
 pub mod Planning
 pub mod Least
 pub mod Told
+pub mod Places
 pub mod Fed
 pub mod Audits
 pub mod Restarting

@@ -1,5 +1,7 @@
 //! Records of the log, and what they come to as a restart goes through them.
-ghost use Rattle.std.specs.Prelude.{◌≡◌, [], IfOk};
+ghost use Rattle.std.specs.Prelude.{◌≡◌, ◌^◌, ◌<◌, [], IfOk, length};
+ghost use Rattle.rq_log.specs.Places.{IsPlace};
+ghost use Rattle.rq_log.specs.Spelled.{spelled};
 
 use rq_analysis::{OpenWork, PendingUndos};
 use rq_disk::LogDevice;
@@ -29,6 +31,25 @@ pub fn hands_over<L: LogDevice>(
         → L.seen first.new.device ≡ L.seen second.new.device)) }
 {
     (first.hand_over(), second.hand_over())
+}
+
+/// At a place where records end, logs of the same records tell the same. Excludes a look-up that passes over a record, or knows
+/// none that is not handed over.
+pub fn tells<L: LogDevice>(
+    first: &mut Log<L>,
+    second: &mut Log<L>,
+    place: u64,
+) -> (
+    Result<Option<(Record, u64)>, Refusal>,
+    Result<Option<(Record, u64)>, Refusal>,
+)
+    requires same { first.old.records ≡ second.old.records }
+    requires counted { length (spelled first.old.records) < 2 ^ 64 }
+    requires place { IsPlace first.old.records place }
+    ensures { IfOk result.0 (λ told. IfOk result.1 (λ again. L.honest first.new.device → L.honest second.new.device
+        → told ≡ again)) }
+{
+    (first.record_at(place), second.record_at(place))
 }
 
 /// After a record, the same is to be taken back. Excludes a Commit that leaves what it committed to be taken back, and
