@@ -1,5 +1,5 @@
 //! Records that are looked up in the log.
-ghost use Rattle.std.specs.Prelude.{◌≡◌, IfOk, IfErr, OnOk};
+ghost use Rattle.std.specs.Prelude.{◌≡◌, ◌↔◌, Err, IfOk, IfErr, OnOk, true};
 ghost use Rattle.rq_log.specs.Places.{StandsAt};
 ghost use Rattle.rq_log.specs.Reading.{IsRead};
 ghost use Rattle.rq_engine.specs.Opened.{NotTold};
@@ -21,6 +21,7 @@ impl<P: PageDevice, L: LogDevice, B: Level> Engine<P, L, B> {
         // What it answers, and why not.
         ensures found { IfOk result (λ found. L.honest self.new.log → StandsAt self.old.state.records place found) }
         ensures refusal { IfErr result (λ r. NotTold L.LogDevice self.old place self.new r) }
+        ensures failed { (result ≡ Err Refusal.Failed) ↔ (self.old.state.failed ≡ true) }
         ensures cause { OnOk result (L.faults self.new.log ≡ L.faults self.old.log) }
         // The device of the log was read, and nothing else happened.
         ensures same { self.new ≡ record self.old { log = self.new.log } }

@@ -188,6 +188,7 @@ impl<P: PageDevice + Drop, L: LogDevice + Drop, B: Level> Kept<P, L, B> {
         ensures found { IfOk result (λ found. L.honest self.new.engine.log
             → StandsAt self.old.engine.state.records place found) }
         ensures refusal { IfErr result (λ r. NotTold L.LogDevice self.old.engine place self.new.engine r) }
+        ensures failed { (result ≡ Err Refusal.Failed) ↔ (self.old.engine.state.failed ≡ true) }
         ensures cause { OnOk result (L.faults self.new.engine.log ≡ L.faults self.old.engine.log) }
         // The device of the log was read, and nothing else happened.
         ensures same { self.new ≡ record self.old { engine = record self.old.engine { log = self.new.engine.log } } }
