@@ -16,6 +16,6 @@ log_fits records more are few = let bytes = few_bytes records are in omega (arit
 
 pub not_told : {P L : Type 0} (g : Ghosts L) (old new : OpenStore P L) (place : ℕ) (e : Refusal) → old.state.failed ≡ false → length (spelled old.state.records) < 2 ^ 64
     → NotToldFor g e old.state.records place old.log new.log → NotTold g old place new e
-not_told g old new place why.DiskRead running few h = (running, h)
+not_told g old new place why.DiskRead running few h = (running, h.0, λ honest. h.1 honest few)
 not_told g old new place (why.Damaged (damage.Record lsn)) running few h = (running, h.0, h.1, λ honest. h.2 honest few)
 not_told g old new place _ running few h = absurd h

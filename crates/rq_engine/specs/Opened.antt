@@ -1,5 +1,5 @@
 -- What contracts see of an engine.
-use Rattle.std.specs.Prelude.{◌≡◌, ℕ, ◌+◌, ◌%◌, ◌^◌, Bool, true, false, List, Result, Ok, Err}
+use Rattle.std.specs.Prelude.{◌≡◌, ℕ, ◌+◌, ◌%◌, ◌^◌, ◌<◌, Bool, true, false, List, length, Result, Ok, Err}
 use Rattle.rq_model.specs.declared.refusal.Refusal.{Refusal}
 use Rattle.rq_model.specs.declared.refusal.Refusal.TheVariants as why
 use Rattle.rq_model.specs.declared.refusal.Damage.TheVariants as damage
@@ -39,11 +39,12 @@ NotWritten g old new why.Failed = (old.state.failed ≡ true) × (new ≡ old)
 NotWritten g old new why.DiskWrite = (old.state.failed ≡ false) × (g.faults new.log ≡ (g.faults old.log + 1) % 2 ^ 64)
 NotWritten g old new _ = ⊥
 
--- Why no record was told of a place of the log: the store had failed, and nothing changes; or the log's device failed now, or
--- gave other bytes than it was handed; or the place is none of the log's. Damage has no number.
+-- Why no record was told of a place of the log: the store had failed, and nothing changes; or the log's device failed now, which was
+-- handed what stands there, or gave other bytes than that; or the place is none of the log's. Damage has no number.
 abbrev pub NotTold : {P L : Type 0} → log_device.Ghosts L → OpenStore P L → ℕ → OpenStore P L → Refusal → Type 0
 NotTold g old place new why.Failed = (old.state.failed ≡ true) × (new ≡ old)
 NotTold g old place new why.DiskRead = (old.state.failed ≡ false) × (g.faults new.log ≡ (g.faults old.log + 1) % 2 ^ 64)
+    × (g.honest new.log → place < length (g.seen old.log))
 NotTold g old place new (why.Damaged (damage.Record lsn)) = (old.state.failed ≡ false) × (lsn ≡ 0)
     × (g.faults new.log ≡ g.faults old.log) × (g.honest new.log → IsPlace old.state.records place → ⊥)
 NotTold g old place new _ = ⊥

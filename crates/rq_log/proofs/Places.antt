@@ -6,7 +6,7 @@ use Rattle.rq_model.specs.declared.record.Record.{Record}
 use Rattle.rq_record.specs.Decoding.{IsFront}
 use Rattle.rq_record.specs.Spelling.{HoldsRecord, IsRecord, spelling}
 use Rattle.rq_record.proofs.Whole.{long_spelling, one_spelling, short_spelling}
-use Rattle.rq_log.specs.Places.{IsPlace, NoneReadFor, NotToldFor, StandsAt}
+use Rattle.rq_log.specs.Places.{IsPlace, NoneHeldFor, NoneReadFor, NotToldFor, StandsAt}
 use Rattle.rq_model.specs.declared.refusal.Refusal.{Refusal}
 use Rattle.rq_model.specs.declared.refusal.Refusal.TheVariants as why
 use Rattle.rq_model.specs.declared.refusal.Damage.TheVariants as damage
@@ -143,12 +143,20 @@ module _ {L : Type 0} (g : Ghosts L) where
   pub none_read : (e : Refusal) (bytes : List ℕ) (old new : L) → e ≡ why.Damaged (damage.Record 0) → g.faults new ≡ g.faults old → (g.honest new → HoldsRecord bytes → ⊥) → NoneReadFor g e bytes old new
   none_read e bytes old new is same none = subst (λ r. NoneReadFor g r bytes old new) (sym is) (refl, same, none)
 
+  pub none_held : (e : Refusal) (bytes : List ℕ) (old new : L) → e ≡ why.Damaged (damage.Record 0) → g.faults new ≡ g.faults old → (g.honest new → HoldsRecord bytes → ⊥) → NoneHeldFor g e bytes old new
+  none_held e bytes old new is same none = subst (λ r. NoneHeldFor g r bytes old new) (sym is) (refl, same, none)
+
+  -- what was not held was not read either
+  held_read : (e : Refusal) (bytes : List ℕ) (old new : L) → NoneHeldFor g e bytes old new → (e ≢ why.DiskRead) × NoneReadFor g e bytes old new
+  held_read (why.Damaged (damage.Record lsn)) bytes old new n = (cc, n)
+  held_read _ bytes old new n = absurd n
+
   -- where it stands at no place
-  pub not_told : (e : Refusal) (records : List Record) (place : ℕ) (bytes : List ℕ) (old new : L) → (g.honest new → length (spelled records) < 2 ^ 64 → (HoldsRecord bytes → ⊥) → IsPlace records place → ⊥)
+  pub not_told : (e : Refusal) (records : List Record) (place : ℕ) (bytes : List ℕ) (old new : L) → (e ≡ why.DiskRead → g.honest new → length (spelled records) < 2 ^ 64 → place < length (g.seen old)) → (g.honest new → length (spelled records) < 2 ^ 64 → (HoldsRecord bytes → ⊥) → IsPlace records place → ⊥)
       → NoneReadFor g e bytes old new → NotToldFor g e records place old new
-  not_told why.DiskRead records place bytes old new f n = n
-  not_told (why.Damaged (damage.Record lsn)) records place bytes old new f n = (n.0, n.1, λ h few. f h few (n.2 h))
-  not_told _ records place bytes old new f n = absurd n
+  not_told why.DiskRead records place bytes old new handed f n = (n, handed refl)
+  not_told (why.Damaged (damage.Record lsn)) records place bytes old new handed f n = (n.0, n.1, λ h few. f h few (n.2 h))
+  not_told _ records place bytes old new handed f n = absurd n
 
   -- of a log: what stands in front of the bytes from a place on, on its device or in its buffer, stands at that place
   pub told : {total : ℕ} (log : Logged L) (last : ℕ) (buffer : List ℕ) (capacity : ℕ) → Keeps g log last total buffer capacity → log.failed ≡ false → (handed place next : ℕ) → handed ≡ total - length buffer → place ≢ total
@@ -171,7 +179,7 @@ module _ {L : Type 0} (g : Ghosts L) where
 
   -- and where none does, the place is none of the log's
   pub why_not_told : {total : ℕ} (log : Logged L) (last : ℕ) (buffer : List ℕ) (capacity : ℕ) → Keeps g log last total buffer capacity → log.failed ≡ false → (handed place : ℕ) → handed ≡ total - length buffer → place ≢ total
-      → (e : Refusal) (new : L) → (g.honest new → g.honest log.device) → (place < handed → NoneReadFor g e (drop place (g.seen log.device)) log.device new) → (handed ≤ place → NoneReadFor g e (drop (place - handed) buffer) log.device new)
+      → (e : Refusal) (new : L) → (g.honest new → g.honest log.device) → (place < handed → NoneReadFor g e (drop place (g.seen log.device)) log.device new) → (handed ≤ place → NoneHeldFor g e (drop (place - handed) buffer) log.device new)
       → NotToldFor g e log.records place log.device new
   why_not_told {total} log last buffer capacity k running handed place is behind e new falls on_device buffered =
       let whole : g.honest new → g.seen log.device ++ buffer ≡ spelled log.records = λ h. reads_all g log last buffer capacity k running (falls h) in
@@ -181,9 +189,11 @@ module _ {L : Type 0} (g : Ghosts L) where
       let not_end : length (spelled log.records) < 2 ^ 64 → place ≢ length (spelled log.records) = λ few at. behind (at ∙ sym (k.total few)) in
       ⊎_elim
       (λ less. not_told e log.records place (drop place (g.seen log.device)) log.device new
+      (λ is h few. let n = seen h few in omega (arith, less, n))
       (λ h few none. let n = seen h few in no_place_handed log.records b.0 place k.is_log.spelled (subst (λ l. place < length l) (b.2 (falls h)) (omega (arith, less, n))) (not_end few) (subst (λ l. HoldsRecord (drop place l) → ⊥) (b.2 (falls h)) none))
       (on_device less))
       (λ le. not_told e log.records place (drop (place - handed) buffer) log.device new
+      (λ is. absurd ((held_read e (drop (place - handed) buffer) log.device new (buffered le)).0 is))
       (λ h few none. let n = seen h few in no_place_buffered log.records (g.seen log.device) buffer place k.is_log.spelled (whole h) (omega (arith, le, n)) (not_end few) (subst (λ m. HoldsRecord (drop (place - m) buffer) → ⊥) n none))
-      (buffered le))
+      (held_read e (drop (place - handed) buffer) log.device new (buffered le)).1)
       (cases_lt place handed)

@@ -28,10 +28,17 @@ module _ {L : Type 0} (g : Ghosts L) where
       × (g.honest new → HoldsRecord bytes → ⊥)
   NoneReadFor _ bytes old new = ⊥
 
-  -- Why it was not told what stands at a place: the device failed, or gave other bytes than it was handed, or the place is none
-  -- of the log's. Damage has no number.
+  -- why none was read at the front of bytes that no device was asked for
+  abbrev pub NoneHeldFor : Refusal → List ℕ → L → L → Type 0
+  NoneHeldFor (why.Damaged (damage.Record lsn)) bytes old new = (lsn ≡ 0) × (g.faults new ≡ g.faults old)
+      × (g.honest new → HoldsRecord bytes → ⊥)
+  NoneHeldFor _ bytes old new = ⊥
+
+  -- Why it was not told what stands at a place: the device failed, which was handed what stands there; or gave other bytes than it
+  -- was handed; or the place is none of the log's. Damage has no number.
   abbrev pub NotToldFor : Refusal → List Record → ℕ → L → L → Type 0
-  NotToldFor why.DiskRead records place old new = g.faults new ≡ (g.faults old + 1) % 2 ^ 64
+  NotToldFor why.DiskRead records place old new = (g.faults new ≡ (g.faults old + 1) % 2 ^ 64)
+      × (g.honest new → length (spelled records) < 2 ^ 64 → place < length (g.seen old))
   NotToldFor (why.Damaged (damage.Record lsn)) records place old new = (lsn ≡ 0) × (g.faults new ≡ g.faults old)
       × (g.honest new → length (spelled records) < 2 ^ 64 → IsPlace records place → ⊥)
   NotToldFor _ records place old new = ⊥

@@ -2,7 +2,7 @@
 ghost use Rattle.std.specs.Prelude.{◌≡◌, ◌-◌, ◌^◌, ◌<◌, ◌≤◌, IfOk, IfErr, OnOk, Err, length, drop, true, false};
 ghost use Rattle.rq_record.specs.Decoding.{IsFront};
 ghost use Rattle.rq_record.specs.Spelling.{HoldsRecord};
-ghost use Rattle.rq_log.specs.Places.{NoneReadFor, NotToldFor, StandsAt};
+ghost use Rattle.rq_log.specs.Places.{NoneHeldFor, NoneReadFor, NotToldFor, StandsAt};
 ghost use Rattle.rq_log.specs.Reading.{IsRead};
 ghost use Rattle.rq_log.specs.Spelled.{spelled};
 
@@ -55,7 +55,7 @@ fn record_in<L: LogDevice>(
     ensures buffered { handed ≤ place → IfOk result (λ found. IsFront found.0 found.1 (drop (place - handed) buffer.now)) }
     ensures none_on_device { place < handed → IfErr result (λ e. NoneReadFor L.LogDevice e (drop place (L.seen device.old))
         device.old device.new) }
-    ensures none_buffered { handed ≤ place → IfErr result (λ e. NoneReadFor L.LogDevice e (drop (place - handed) buffer.now)
+    ensures none_buffered { handed ≤ place → IfErr result (λ e. NoneHeldFor L.LogDevice e (drop (place - handed) buffer.now)
         device.old device.new) }
     ensures cause { OnOk result (L.faults device.new ≡ L.faults device.old) }
     ensures read { IsRead L.LogDevice device.old device.new }
