@@ -148,7 +148,7 @@ module _ {L : Type 0} (g : Ghosts L) where
 
   -- what was not held was not read either
   held_read : (e : Refusal) (bytes : List ℕ) (old new : L) → NoneHeldFor g e bytes old new → (e ≢ why.DiskRead) × NoneReadFor g e bytes old new
-  held_read (why.Damaged (damage.Record lsn)) bytes old new n = (cc, n)
+  held_read (why.Damaged (damage.Record lsn)) bytes old new n = (λ e. absurd cc, n)
   held_read _ bytes old new n = absurd n
 
   -- where it stands at no place
