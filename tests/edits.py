@@ -6,7 +6,8 @@
 An edit is a text file: a line 'function: PATH', a line 'file: src/..' and pairs of lines 'old: TEXT' and 'new: TEXT', each TEXT
 one line. An old text stands in the file once. In a copy of the crate the prover checks the function and what it calls, over
 the built libraries below it (out/rlib, as the gate or `rt lib` leaves them). It has to say that the function is not proved, and
-which clause or condition of it fails. Edits of several functions of a crate are tried in one copy.
+which clause or condition of it fails. Edits of several functions of a crate are tried in one copy. One of the functions is checked
+as it stands, too: it has to be proved, so that nothing else than the edits can have made the others fail.
 """
 
 import concurrent.futures
@@ -82,9 +83,16 @@ class Edit:
             path = f"{ROOT}/crates/{self.crate}/{file}"
             if not file.startswith("src/") or not os.path.isfile(path):
                 return f"there is no {file} in src/"
-            found = text_of(path).count(old)
-            if found != 1:
-                return f"a text stands in {file} {found} times: {old}"
+            text = text_of(path)
+            if text.count(old) != 1:
+                return f"a text stands in {file} {text.count(old)} times: {old}"
+            line = text[: text.index(old)].count("\n") + 1
+            if re.match(r" *(ensures|requires)", text.split("\n")[line - 1]):
+                return f"it changes a clause: {old}"
+        file, old, _ = self.pairs[-1]
+        text = text_of(f"{ROOT}/crates/{self.crate}/{file}")
+        if not any(text[: text.index(old)].count("\n") + 1 in span for span in spans(self, text)):
+            return f"no {self.function} stands where it changes {file}"
         return None
 
     def apply(self, folder):
@@ -144,7 +152,8 @@ def judge(edit, text, said):
     return True, f"refused: {reasons[0][:150]}"
 
 
-def try_round(uses, crate, edits):
+def checked(uses, crate, edits, functions):
+    """What the prover answers and says of these functions, with the edits, and the texts of the edits' files."""
     with tempfile.TemporaryDirectory(prefix="rt-edit-") as room:
         for part in PARTS:
             if os.path.isdir(f"{ROOT}/crates/{crate}/{part}"):
@@ -152,7 +161,7 @@ def try_round(uses, crate, edits):
         for edit in edits:
             edit.apply(room)
         ran = subprocess.run(
-            words(uses, crate, [edit.function for edit in edits]),
+            words(uses, crate, functions),
             cwd=room,
             stdin=subprocess.DEVNULL,
             stdout=subprocess.PIPE,
@@ -160,11 +169,26 @@ def try_round(uses, crate, edits):
             errors="replace",
             check=False,
         )
-        return [(edit, *judge(edit, text_of(f"{room}/{edit.file}"), ran.stdout)) for edit in edits]
+        return ran.returncode, ran.stdout, [text_of(f"{room}/{edit.file}") for edit in edits]
+
+
+def try_round(uses, crate, edits):
+    """Of each edit: whether it is refused, and why or why not."""
+    status, said, texts = checked(uses, crate, edits, [edit.function for edit in edits])
+    if status != 1:
+        return [(edit, False, f"BAD EDIT: the prover ended with {status}: {said.strip()[-200:]}") for edit in edits]
+    return [(edit, *judge(edit, text, said)) for edit, text in zip(edits, texts)]
+
+
+def try_nothing(uses, crate, edits):
+    """What is wrong where the first edited function is not proved as it stands."""
+    status, said, _ = checked(uses, crate, [], [edits[0].function])
+    return [(edits[0], False, f"NOT PROVED as it stands: {said.strip()[-200:]}")] if status else []
 
 
 def main(names):
     uses, bad, work = crates(), 0, []
+    unknown = {name for name in os.listdir(f"{ROOT}/crates") if os.path.isdir(f"{ROOT}/crates/{name}/wrong-bodies")} - {*uses}
     for crate in uses:
         folder = f"{ROOT}/crates/{crate}/wrong-bodies"
         if names and crate not in names or not os.path.isdir(folder):
@@ -173,15 +197,18 @@ def main(names):
         for edit in [edit for edit in edits if edit.why_bad()]:
             print(f"{crate}/{edit.name}: BAD EDIT: {edit.why_bad()}", flush=True)
             bad += 1
-        work += [(crate, group) for group in rounds([edit for edit in edits if not edit.why_bad()])]
+        good = [edit for edit in edits if not edit.why_bad()]
+        work += [(try_round, crate, group) for group in rounds(good)] + [(try_nothing, crate, good)] * bool(good)
     refused, start = 0, time.monotonic()
     with concurrent.futures.ThreadPoolExecutor(min(4, os.cpu_count() or 1)) as pool:
-        for task in concurrent.futures.as_completed([pool.submit(try_round, uses, *it) for it in work]):
+        for task in concurrent.futures.as_completed([pool.submit(call, uses, *it) for call, *it in work]):
             for edit, is_refused, why in task.result():
                 refused, bad = refused + is_refused, bad + (not is_refused)
                 print(f"{edit.crate}/{edit.name}: {edit.function}: {why}", flush=True)
+    for name in unknown:
+        print(f"{name}: it has edits, and crates.txt does not name it")
     print(f"edits: {refused} refused, {bad} not, in {time.monotonic() - start:.0f} s")
-    return 1 if bad or not refused else 0
+    return 1 if bad or unknown or not refused else 0
 
 
 if __name__ == "__main__":
