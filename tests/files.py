@@ -254,15 +254,18 @@ def each_call(least):
 
 
 def formats(program):
-    """A format one of whose calls fails tells it, and leaves files that are there."""
+    """A format one of whose calls fails tells it, and leaves files that are there. Once they are removed the store is made."""
     for words, told in each_call(8):
         with folder_of() as folder:
             came = format_store(program, folder, **words)
             if told.exists():
                 assert came in ((b"fault 15 DiskWrite\n", 1), (b"fault open\n", 1)), (words, came)
                 assert format_store(program, folder) == (b"fault exists\n", 1)
-            else:
-                assert came == (b"formatted 1 2\n", 0)
+                for file in folder.iterdir():
+                    file.unlink()
+                came = format_store(program, folder)
+            assert came == (b"formatted 1 2\n", 0), (words, came)
+            assert files_of(folder) == {"pages": bytes(formatted(1, 2)), "log": b""}, words
 
 
 def courses(program):
