@@ -4,8 +4,9 @@ where no store is made, and what is left where each call on the files fails in t
 
     python3 tests/files.py [--program PROGRAM] [NAME..]
 
-A name is one of the tests below, as `made`; without one all are run. A library that the loader puts in front of the C library's
-has a call fail; it is built with `cc`.
+A name is one of the tests below, as `made`; without one all are run. Where `rt ci` left the program as Rattle's own compiler
+builds it too, that one runs those of `TWICE` as well. A library that the loader puts in front of the C library's has a call fail;
+it is built with `cc`.
 """
 import argparse
 import os
@@ -15,7 +16,7 @@ import tempfile
 import time
 from contextlib import contextmanager
 
-from cases import built
+from cases import built_twice
 from damaged import (
     FREE, MESSAGE, ONE_COMMITTED, ONE_SENT, PAGE, cell, end, formatted, group, received, sent, small, write,
 )  # fmt: skip
@@ -334,18 +335,22 @@ def is_failed(server):
 
 TESTS = [made, there, no_folder, open_once, messages, log_of_all, formats, courses]
 
+# What looks at the bytes of each file.
+TWICE = [made, messages]
+
 
 def main():
     words = argparse.ArgumentParser(description="Has rqm make and serve stores in folders.")
     words.add_argument("--program", help="a program that was built elsewhere")
     words.add_argument("names", nargs="*", metavar="NAME", help="these tests alone")
     chosen = words.parse_args()
-    program = built(chosen.program, "rqm")
+    programs = built_twice(chosen.program, "rqm")
     known = {test.__name__: test for test in TESTS}
     for name in chosen.names or known:
-        before = time.monotonic()
-        known[name](program)
-        print(f"{name}: {time.monotonic() - before:.1f} s", flush=True)
+        for program in programs if known[name] in TWICE else programs[:1]:
+            before = time.monotonic()
+            known[name](program)
+            print(f"{name} ({os.path.basename(program)}): {time.monotonic() - before:.1f} s", flush=True)
 
 
 if __name__ == "__main__":
