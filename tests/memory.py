@@ -99,15 +99,18 @@ class Lists:
         if base != self.door.lines_of(name)[1]:
             return f"{name}: {base}", 0
         first = 1 if self.door is SCRIPTS else 0  # their first line tells of their opening
+        crashes = [place for place, line in enumerate(lines) if line.startswith(b"crash")]
         wanting, grown = {}, 0
         for number in range(1, made + 1):
             told, _ = self.run(name, lines, number)
             if told is None:
                 continue
             at = next((at for at, (one, other) in enumerate(zip(told, base)) if one != other), None)
+            # where nothing shows it, it was the handing over as the store crashes, of which the crash leaves nothing
+            places = crashes if at is None else [at - first]
             if at is not None and told[at] in WANTING:
                 wanting.setdefault(at, []).append(number)
-            elif at is not None and told == self.where_a_device_fails(name, lines, at - first, told):
+            elif any(told == self.where_a_device_fails(name, lines, place, told) for place in places):
                 grown += 1
             else:
                 return f"{name}: allocation {number} of {made} comes to {told}", 0
