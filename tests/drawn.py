@@ -18,11 +18,12 @@ from cases import MOST_SECONDS, built_twice
 
 
 class Door:
-    """What is drawn for a program. The reference has to print what stands beside each of the `cases` in files, and where they are
-    run here (`runs_cases`), so has the program. `name` is the kind of file; `crate` that of the program, and `subcommand` its first
-    words; `wanted` says what has to be met how often in so many (`courses`) of the seeds from 0."""
+    """What is drawn for a program. The reference has to print what stands beside each of the `cases` in files, but for those with a
+    line that it does not know (`unknown`), and where they are run here (`runs_cases`), so has the program. `name` is the kind of
+    file; `crate` that of the program, and `subcommand` its first words; `wanted` says what has to be met how often in so many
+    (`courses`) of the seeds from 0."""
 
-    cases, runs_cases = None, False
+    cases, unknown, runs_cases = None, None, False
     name, crate, subcommand, courses, wanted = "script", "rqm", [], 1000, {}
 
     def words(self, sizes):
@@ -131,10 +132,12 @@ def course(job):
 
 
 def agrees(door):
-    """Whether the reference prints what stands beside each case."""
+    """Whether the reference prints what stands beside each case that it knows all lines of."""
     is_right = True
     for name in door.cases.names():
         lines, expected = door.cases.lines_of(name)
+        if door.unknown in lines:
+            continue
         sizes = [int(word) for word in door.cases.words_of(name) if word.isdigit()]
         if door.replay(lines, sizes, ())[0] != expected:
             print(f"the reference does not print what stands beside {name}")
