@@ -1,7 +1,8 @@
 """Runs what seeds draw by a program, and compares what it prints with what the reference does.
 
 A door to the reference (tests/courses.py, tests/worlds.py) says how lines are drawn and what they have to print. One whose lines
-print something else is cut down to the fewest lines that still do, and shown so that it can be run again by hand.
+print something else is cut down to the fewest lines that still do, and shown so that it can be run again by hand. Where `rt ci` left
+the program as Rattle's own compiler builds it too, that one runs what is not drawn as well.
 """
 import argparse
 import multiprocessing
@@ -13,15 +14,16 @@ import sys
 import tempfile
 from collections import Counter
 
-from cases import MOST_SECONDS, built
+from cases import MOST_SECONDS, built_twice
 
 
 class Door:
-    """What is drawn for a program. The reference has to print what stands beside each of the `cases` in files, and where they are
-    run here (`runs_cases`), so has the program. `name` is the kind of file; `crate` that of the program, and `subcommand` its first
-    words; `wanted` says what has to be met how often in so many (`courses`) of the seeds from 0."""
+    """What is drawn for a program. The reference has to print what stands beside each of the `cases` in files, but for those with a
+    line that it does not know (`unknown`), and where they are run here (`runs_cases`), so has the program. `name` is the kind of
+    file; `crate` that of the program, and `subcommand` its first words; `wanted` says what has to be met how often in so many
+    (`courses`) of the seeds from 0."""
 
-    cases, runs_cases = None, False
+    cases, unknown, runs_cases = None, None, False
     name, crate, subcommand, courses, wanted = "script", "rqm", [], 1000, {}
 
     def words(self, sizes):
@@ -130,10 +132,12 @@ def course(job):
 
 
 def agrees(door):
-    """Whether the reference prints what stands beside each case."""
+    """Whether the reference prints what stands beside each case that it knows all lines of."""
     is_right = True
     for name in door.cases.names():
         lines, expected = door.cases.lines_of(name)
+        if door.unknown in lines:
+            continue
         sizes = [int(word) for word in door.cases.words_of(name) if word.isdigit()]
         if door.replay(lines, sizes, ())[0] != expected:
             print(f"the reference does not print what stands beside {name}")
@@ -160,11 +164,13 @@ def chosen_words(door, description):
 
 def main(door, description):
     chosen = chosen_words(door, description)
-    program = built(chosen.program, door.crate)
+    programs = built_twice(chosen.program, door.crate)
+    program = programs[0]
     is_right = agrees(door)
-    if door.runs_cases:
-        is_right = door.cases.run(program) and is_right
-    is_right = door.runs_more(program) and is_right
+    for each in programs:
+        if door.runs_cases:
+            is_right = door.cases.run(each) and is_right
+        is_right = door.runs_more(each) and is_right
     if chosen.keep:
         chosen.keep.mkdir(parents=True, exist_ok=True)
     jobs = [(door, program, seed, chosen.keep) for seed in range(chosen.first, chosen.first + chosen.courses)]

@@ -68,6 +68,18 @@ __attribute__((noreturn)) void _exit(int status) {
 
 WANTING = b"refused 1 NoMemory", b"not-opened 1 NoMemory"
 
+# How a program ends where memory is wanting for something that is no call: its status, what it prints, and what it says beside that.
+# It is wanting as the program starts, or for what a list comes to, which is printed as a whole; for words; for lines; for the store;
+# or a device in memory cannot grow before the store is open.
+UNABLE = [
+    (1, b"", []), (2, b"", [b"error: out of memory"]), (1, b"fault input\n", []), (1, b"fault 1 NoMemory\n", []),
+    (1, b"fault 15 DiskWrite\n", []),
+]  # fmt: skip
+
+# So many allocations of a list or a script at most are for that. Lists have up to 47: some 40 to be read, 7 to print what they come
+# to, and one where a crash names images. Scripts have up to 119, all before their first line is run, 75 of them for words.
+MOST_OF_LIST, MOST_OF_SCRIPT = 48, 120
+
 # More than the allocations by which a program reads one line more.
 MORE = 12
 
@@ -76,21 +88,23 @@ STEP_BY_STEP = ["a-send-is-aborted-and-one-is-committed-step-by-step", "two-send
 
 
 class Lists:
-    """What runs lines: happenings, or scripts where `names` are given."""
+    """What runs lines, happenings or scripts, under these names. In each, so many allocations at most (`most_others`) are no call's."""
 
-    def __init__(self, program, library, door, names):
-        self.program, self.library, self.door, self.names = program, library, door, names
+    def __init__(self, program, library, door, names, most_others):
+        self.program, self.library, self.door, self.names, self.most_others = program, library, door, names, most_others
 
     def run(self, name, lines, number):
-        """What lines print where this allocation fails (none of 0), or None where the program could not even read them; and how many
-        allocations there were."""
+        """What lines print where this allocation fails (none of 0), or None where it was no call's; and how many allocations there
+        were."""
         words = [self.program, *self.door.subcommand, *self.door.words_of(name)]
         given = b"".join(line + b"\n" for line in lines)
         environment = dict(os.environ, LD_PRELOAD=self.library, FAIL_AT=str(number))
         ran = subprocess.run(words, input=given, env=environment, capture_output=True, timeout=MOST_SECONDS)
-        printed = ran.stdout.split(b"\n")[:-1]
-        made = int(ran.stderr.split()[-1])
-        return (None, made) if ran.returncode else (printed, made)
+        *said, made = ran.stderr.splitlines() or [b"0"]
+        if (ran.returncode, ran.stdout, said) in UNABLE:
+            return None, int(made)
+        assert ran.returncode == 0 and not said, f"{name}, allocation {number}: ended with {ran.returncode}, {ran.stdout}, {said}"
+        return ran.stdout.split(b"\n")[:-1], int(made)
 
     def fault(self, name):
         """What is wrong with a list; and how many of its allocations were a call's."""
@@ -99,18 +113,24 @@ class Lists:
         if base != self.door.lines_of(name)[1]:
             return f"{name}: {base}", 0
         first = 1 if self.door is SCRIPTS else 0  # their first line tells of their opening
-        wanting, grown = {}, 0
+        crashes = [place for place, line in enumerate(lines) if line.startswith(b"crash")]
+        wanting, grown, others = {}, 0, 0
         for number in range(1, made + 1):
             told, _ = self.run(name, lines, number)
             if told is None:
+                others += 1
                 continue
             at = next((at for at, (one, other) in enumerate(zip(told, base)) if one != other), None)
+            # where nothing shows it, it was the handing over as the store crashes, of which the crash leaves nothing
+            places = crashes if at is None else [at - first]
             if at is not None and told[at] in WANTING:
                 wanting.setdefault(at, []).append(number)
-            elif at is not None and told == self.where_a_device_fails(name, lines, at - first, told):
+            elif any(told == self.where_a_device_fails(name, lines, place, told) for place in places):
                 grown += 1
             else:
                 return f"{name}: allocation {number} of {made} comes to {told}", 0
+        if others > self.most_others:
+            return f"{name}: {others} allocations of {made} are no call's", 0
         for at, numbers in wanting.items():
             wrong = self.made_again(name, lines, base, at, at - first, numbers)
             if wrong:
@@ -177,8 +197,8 @@ def main():
         happenings = Worlds.cases
         plain = [name for name in happenings.names() if is_plain(happenings.lines_of(name)[0])]
         ran = [
-            check(Lists(built(chosen.happenings, "happenings"), library, happenings, plain)),
-            check(Lists(built(chosen.rqm, "rqm"), library, SCRIPTS, STEP_BY_STEP)),
+            check(Lists(built(chosen.happenings, "happenings"), library, happenings, plain, MOST_OF_LIST)),
+            check(Lists(built(chosen.rqm, "rqm"), library, SCRIPTS, STEP_BY_STEP, MOST_OF_SCRIPT)),
         ]
     sys.exit(0 if all(ran) else 1)
 

@@ -27,7 +27,7 @@ from cases import TOP, built
 sys.dont_write_bytecode = True
 sys.path.insert(0, str(TOP / "clients" / "python"))
 from rqm import (  # noqa: E402
-    Connection, DiskWrite, Failed, Full, Latched, Passing, ReceiverBusy, SenderBusy, TooManyTransactions, UnknownSender,
+    Closed, Connection, DiskWrite, Failed, Full, Latched, Passing, ReceiverBusy, SenderBusy, TooManyTransactions, UnknownSender,
     UnknownTransaction,
 )  # fmt: skip
 
@@ -52,6 +52,18 @@ SESSION = [
     ("0001 07", "0001 87"),
 ]
 
+# A group is closed, on such a store, and behind the commit nothing more is sent there.
+CLOSING = [
+    ("0001 01", "0011 81 0000000000000001 0000000000000001"),
+    ("0005 05 00000000", "0001 85"),
+    ("0012 02 00000000 0000000000000007 68656c6c6f", "0002 ff 0a"),
+    ("0001 06", "0009 86 0000000000000004"),
+    ("0001 01", "0011 81 0000000000000001 0000000000000002"),
+    ("0012 02 00000000 0000000000000007 68656c6c6f", "0002 ff 0a"),
+    ("0005 05 00000000", "0002 ff 0a"),
+    ("0001 07", "0001 87"),
+]
+
 # A begin and a send, and what each answers; a count stands behind the incarnation.
 BEGIN = bytes.fromhex("0001 01")
 BEGIN_AND_SEND = BEGIN + bytes.fromhex("0012 02 00000000 0000000000000007 68656c6c6f")
@@ -60,8 +72,8 @@ SENT = bytes.fromhex("0001 82")
 
 # What is a fault as soon as it is there: lengths, kinds, and fields of a wrong length.
 FAULTS = [
-    "0201", "0000", "ffff", "0001 00", "0001 09", "0001 81", "0009 ff", "0002 01 00", "0002 03 00", "0002 06 00", "0002 07 00",
-    "0001 04", "0004 04 000000", "0006 04 00000000 00", "0001 05", "0001 08", "000c 02 00000000 00000000000000",
+    "0201", "0000", "ffff", "0001 00", "0001 09", "0001 0c", "0001 81", "0009 ff", "0002 01 00", "0002 03 00", "0002 06 00",
+    "0002 07 00", "0001 04", "0004 04 000000", "0006 04 00000000 00", "0001 05", "0001 08", "000c 02 00000000 00000000000000",
 ]  # fmt: skip
 
 COMMIT = bytes.fromhex("0001 06")
@@ -203,9 +215,9 @@ def everything(connection):
                 held.setdefault(message.sender, []).append((message.tag, message.body))
 
 
-def session_at(program, cut):
-    asked = b"".join(bytes.fromhex(request) for request, _ in SESSION)
-    wanted = b"".join(bytes.fromhex(answer) for _, answer in SESSION)
+def session_at(program, rows, cut):
+    asked = b"".join(bytes.fromhex(request) for request, _ in rows)
+    wanted = b"".join(bytes.fromhex(answer) for _, answer in rows)
     with store(program) as folder, serving(program, folder, "--sessions", 1) as server:
         with server.raw() as stream:
             if cut is None:
@@ -226,7 +238,13 @@ def session(program, _):
     """The worked session, byte for byte: whole, cut at every byte, and a byte at a time."""
     length = sum(len(bytes.fromhex(request)) for request, _ in SESSION)
     with ThreadPoolExecutor(4) as pool:
-        list(pool.map(lambda cut: session_at(program, cut), [*range(length), None]))
+        list(pool.map(lambda cut: session_at(program, SESSION, cut), [*range(length), None]))
+
+
+def closing(program, _):
+    """A session that closes a group, byte for byte: whole, and a byte at a time."""
+    for cut in (0, None):
+        session_at(program, CLOSING, cut)
 
 
 def faults(program, _):
@@ -592,6 +610,11 @@ def client(program, _):
         raises(UnknownSender, lambda: connection.last_tag(15))
         raises(UnknownTransaction, transaction.receive)
         assert connection.was_committed(0, 8) and not connection.was_committed(0, 9)
+        with connection.transaction() as transaction:
+            transaction.close_sender(0)
+        with connection.transaction() as transaction:
+            raises(Closed, lambda: transaction.send(0, 9, b"more"))
+        assert connection.was_committed(0, 8) and not connection.was_committed(0, 9), "of a closed group"
 
 
 def raises(kind, call):
@@ -603,8 +626,8 @@ def raises(kind, call):
 
 
 TESTS = [
-    starts, session, faults, bodies, pieces, lost_connections, served, silent_reader, few_descriptors, many_connections, full_disk,
-    client, sessions,
+    starts, session, closing, faults, bodies, pieces, lost_connections, served, silent_reader, few_descriptors, many_connections,
+    full_disk, client, sessions,
 ]  # fmt: skip
 
 

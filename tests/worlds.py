@@ -1,7 +1,8 @@
 #!/usr/bin/env python3
 """Lets anything happen to a store: draws happenings from seeds, runs them by the proved program, and compares each entry with the
 reference. The happenings of tests/worlds come first: each NAME.happenings comes to what stands in NAME.expected; and then those of
-them in which each device call fails in turn.
+them in which each device call fails in turn. Where `rt ci` left the program as Rattle's own compiler builds it too, that one runs
+these as well.
 
     python3 tests/worlds.py [--program PROGRAM] [--first SEED] [--courses N] [--keep FOLDER] [--counts]
 
@@ -321,7 +322,8 @@ class Worlds(drawn.Door):
             if wrong:
                 print(f"{name}: where device call {wrong} fails it comes to something else")
         right = sum(not wrong for _, _, wrong in came)
-        print(f"{right} of {len(came)} lists come to what they should where each of {sum(n for _, n, _ in came)} device calls fails")
+        of = f"{len(came)} lists come to what they should where each of {sum(n for _, n, _ in came)} device calls fails"
+        print(f"{right} of {of} ({os.path.basename(program)})")
         return right == len(came) and len(came) > 20
 
 
