@@ -41,7 +41,7 @@ def processes():
 def part_of(pid):
     """The crate and the part of its work that a process of the prover is, or None for any other."""
     words = text_of(f"/proc/{pid}/cmdline").split("\0")
-    if not re.search(r"/rattle$", words[0]) or "--crate-name" not in words:
+    if not re.search(r"(^|/)rattle$", words[0]) or "--crate-name" not in words:
         return None
     crate = words[words.index("--crate-name") + 1]
     try:
