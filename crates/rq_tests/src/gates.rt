@@ -4,7 +4,7 @@ ghost use Rattle.rq_shared.specs.Begun.{begins_with};
 ghost use Rattle.rq_shared.specs.Entries.{WasSound};
 
 use crate::connection::{Connection, connected};
-use crate::stores::{begun, called, has_aborted, small_engine, started};
+use crate::stores::{begun, called, engine_of, has_aborted, started};
 use rq_bytes::GhostList;
 use rq_disk::{LogDevice, MemLog, MemPages, PageDevice};
 use rq_engine::engine::Engine;
@@ -262,7 +262,7 @@ fn shared_by<P: PageDevice + Drop, L: LogDevice + Drop, B: Level, G: Sharing, R:
 }
 
 fn look<R: Wait>(rt: &R, alloc: Global, left: u32) -> Option<(Seen, Told)> {
-    let engine = small_engine(alloc).ok()?;
+    let engine = engine_of(alloc, 1, false)?;
     let taking = Blank::new(1024);
     shared_by::<MemPages, MemLog, StoreLevel, Brand, R>(
         rt,

@@ -4,7 +4,7 @@ ghost use Rattle.rq_shared.specs.Begun.{begins_with};
 ghost use Rattle.rq_shared.specs.Entries.{WasSound};
 
 use crate::connection::Often;
-use crate::stores::{KeepStamps, begun, committed, small_engine};
+use crate::stores::{KeepStamps, begun, committed, engine_of};
 use rq_disk::{LogDevice, MemLog, MemPages, PageDevice};
 use rq_engine::engine::Engine;
 use rq_engine::event::Reply;
@@ -90,7 +90,7 @@ fn forced_last(stamps: &[Stamped]) -> u64 {
 }
 
 fn mark_of<R: Wait>(rt: &R, alloc: Global) -> Option<(u64, u64, u64)> {
-    let engine = small_engine(alloc).ok()?;
+    let engine = engine_of(alloc, 1, false)?;
     let taking = Blank::new(1024);
     marked::<MemPages, MemLog, StoreLevel, Brand, R>(rt, alloc, engine, Blank::new(1024), taking)
 }

@@ -2,7 +2,7 @@
 use rq_bytes::GhostList;
 use rq_disk::{CallKind, LogDevice, MemLog, MemPages, Mishap, PageChoice, PageDevice, Switch};
 use rq_engine::engine::Engine;
-use rq_engine::event::{CommitNo, Event, Outcome, Receipt, Reply};
+use rq_engine::event::{CommitNo, Event, GroupContent, Outcome, Receipt, Reply};
 use rq_level::Level;
 use rq_levels::{StoreLevel, levels_of_store};
 use rq_model::txn::{Sub, Txn};
@@ -20,43 +20,29 @@ use std::alloc::{AllocError, Global};
 use std::snapshot::Snapshot;
 use std::sync::Wait;
 
-type Small = Engine<MemPages, MemLog, StoreLevel>;
+/// An engine over devices in memory.
+pub type Small = Engine<MemPages, MemLog, StoreLevel>;
 
-/// A store of one directory and one cell page over devices in memory, formatted and opened.
-pub fn small_engine(alloc: Global) -> Result<Small, &'static str> {
-    let layout = Layout::new(1, 1).ok_or("a small store")?;
-    engine_over(alloc, layout, Switch::new(alloc).map_err(|_| "memory")?)
-}
-
-/// One of two directory and two cell pages.
-pub fn wide_engine(alloc: Global) -> Result<Small, &'static str> {
-    let layout = Layout::new(2, 2).ok_or("a wide store")?;
-    engine_over(alloc, layout, Switch::new(alloc).map_err(|_| "memory")?)
-}
-
-// A small store whose next force fails.
-fn failing_engine(alloc: Global) -> Result<Small, &'static str> {
-    let layout = Layout::new(1, 1).ok_or("a small store")?;
-    let switch = Switch::new(alloc).map_err(|_| "memory")?;
-    let Ok(for_store) = switch.share() else {
-        return Err("memory");
-    };
-    let engine = engine_over(alloc, layout, for_store)?;
-    switch.arm_kind(CallKind::Force, Mishap::Fail);
-    Ok(engine)
-}
-
-fn engine_over(alloc: Global, layout: Layout, switch: Switch) -> Result<Small, &'static str> {
-    let Ok(for_log) = switch.share() else {
-        return Err("memory");
-    };
-    let Ok(mut pages) = MemPages::zeroed(alloc, layout.pages(), switch) else {
-        return Err("memory");
-    };
-    if format(&mut pages, &layout).is_err() {
-        return Err("format");
+/// A store of so many directory pages, and as many cell pages, over devices in memory, formatted and opened; its next force may
+/// fail.
+pub fn engine_of(alloc: Global, pages: u32, fails: bool) -> Option<Small> {
+    let layout = Layout::new(pages, pages)?;
+    let switch = Switch::new(alloc).ok()?;
+    let (pages, log) = formatted(alloc, &layout, &switch)?;
+    let engine = opened(alloc, pages, log)?;
+    if fails {
+        switch.arm_kind(CallKind::Force, Mishap::Fail);
     }
-    opened(alloc, pages, MemLog::new(alloc, Vec::new(alloc), for_log))
+    Some(engine)
+}
+
+fn formatted(alloc: Global, layout: &Layout, switch: &Switch) -> Option<(MemPages, MemLog)> {
+    let mut pages = MemPages::zeroed(alloc, layout.pages(), switch.share().ok()?).ok()?;
+    format(&mut pages, layout).ok()?;
+    Some((
+        pages,
+        MemLog::new(alloc, Vec::new(alloc), switch.share().ok()?),
+    ))
 }
 
 /// What the devices hold, opened.
@@ -64,27 +50,20 @@ pub fn opened<P: PageDevice + Drop, L: LogDevice + Drop>(
     alloc: Global,
     pages: P,
     log: L,
-) -> Result<Engine<P, L, StoreLevel>, &'static str> {
+) -> Option<Engine<P, L, StoreLevel>> {
     let Ok(levels) = levels_of_store(alloc) else {
-        return Err("memory");
+        return None;
     };
     match restart(alloc, pages, log, levels) {
-        Ok((engine, _)) => Ok(engine),
-        Err(_) => Err("restart"),
+        Ok((engine, _)) => Some(engine),
+        Err(_) => None,
     }
 }
 
 /// The calls of a small store, under its audit; its next force may fail.
-pub fn small_steps(
-    alloc: Global,
-    fails: bool,
-) -> Result<KeptSteps<MemPages, MemLog, StoreLevel>, &'static str> {
-    let engine = if fails {
-        failing_engine(alloc)?
-    } else {
-        small_engine(alloc)?
-    };
-    Ok(KeptSteps::new(Kept::new(alloc, engine), 1))
+pub fn small_steps(alloc: Global, fails: bool) -> Option<KeptSteps<MemPages, MemLog, StoreLevel>> {
+    let kept = Kept::new(alloc, engine_of(alloc, 1, fails)?);
+    Some(KeptSteps::new(kept, 1))
 }
 
 /// The devices of a kept engine, as a crash leaves them that takes what was not synced or forced.
@@ -208,17 +187,25 @@ impl StampSink for KeepStamps {
 }
 
 /// Whether this sender has sent one message, and what waits of it is one of this byte.
-pub fn has_sent<P: PageDevice + Drop, L: LogDevice + Drop>(
-    engine: &Engine<P, L, StoreLevel>,
+pub fn has_sent<P: PageDevice + Drop, L: LogDevice + Drop, B: Level>(
+    engine: &Engine<P, L, B>,
     sender: usize,
     byte: u8,
-) -> Result<bool, &'static str> {
-    let Ok(groups) = engine.content() else {
-        return Err("content");
+) -> bool {
+    match engine.content() {
+        Ok(groups) => is_of_one(groups.get(sender), byte),
+        Err(_) => false,
+    }
+}
+
+fn is_of_one(group: Option<&GroupContent>, byte: u8) -> bool {
+    let Some(group) = group else {
+        return false;
     };
-    let group = groups.get(sender).ok_or("a sender")?;
-    let waiting = group.rest.first().ok_or("a message")?;
-    Ok(group.sent == 1 && group.rest.len() == 1 && waiting.body.as_slice() == [byte].as_slice())
+    match group.rest.as_slice() {
+        [waiting] => group.sent == 1 && waiting.body.as_slice() == [byte].as_slice(),
+        _ => false,
+    }
 }
 
 /// What a store holds behind its calls: how many were made, where that is told; whether the last one ended an abort; and how many

@@ -5,8 +5,8 @@ ghost use Rattle.rq_shared.specs.Entries.{WasSound};
 
 use crate::connection::Often;
 use crate::stores::{
-    KeepStamps, carried_out, committed, crashed, has_sent, is_sent, opened, receipt, start_of_send,
-    wide_engine,
+    KeepStamps, carried_out, committed, crashed, engine_of, has_sent, is_sent, opened, receipt,
+    start_of_send,
 };
 use rq_bytes::GhostList;
 use rq_disk::{LogDevice, MemLog, MemPages, PageDevice};
@@ -201,12 +201,14 @@ struct Tie {
     is_tied_when_changed_about: bool,
 }
 
-/// What was seen once two threads had each sent a message and committed, and what is left at the end.
+/// What was seen once two threads had each sent a message and committed: how many entries are left at the end, and whether both
+/// messages outlive a crash.
 #[derive(Drop)]
-struct Seen<C> {
+struct Seen {
     tie: Option<Tie>,
     receipts: usize,
-    closed: C,
+    entries: usize,
+    outlives: bool,
 }
 
 // The stamps of seven calls, the first two changed about.
@@ -330,7 +332,7 @@ fn share<
     blank: Blank,
     taking: Blank,
     take: bool,
-) -> Option<Seen<Closed<P, L, B>>>
+) -> Option<(Option<Tie>, usize, Closed<P, L, B>)>
     requires name { (blank.name ≡ G.name) × (taking.name ≡ G.taking) }
     requires parts { (blank.parts ≡ G.parts) × (blank.parts ≡ 1024) × (taking.parts ≡ 1024) }
     requires sound { WasSound P.PageDevice L.LogDevice G.premise engine }
@@ -360,28 +362,47 @@ fn share<
     let given = receipts(rt, alloc, shared.engine_lock(), &mut three, &numbers).ok()?;
     let receipts = given.len();
     let closed = ended(alloc, shared, one, two, three, &given).ok()?;
-    Some(Seen {
-        tie,
-        receipts,
-        closed,
-    })
+    Some((tie, receipts, closed))
 }
 
-fn look<R: Threads + Wait + Sync>(
-    rt: &R,
-    alloc: Global,
-    take: bool,
-) -> Option<Seen<Closed<MemPages, MemLog, StoreLevel>>> {
-    let engine = wide_engine(alloc).ok()?;
+fn look<R: Threads + Wait + Sync>(rt: &R, alloc: Global, take: bool) -> Option<Seen> {
+    let engine = engine_of(alloc, 2, false)?;
     let taking = Blank::new(1024);
-    share::<MemPages, MemLog, StoreLevel, Brand, R>(
+    let (tie, receipts, closed) = share::<MemPages, MemLog, StoreLevel, Brand, R>(
         rt,
         alloc,
         engine,
         Blank::new(1024),
         taking,
         take,
-    )
+    )?;
+    let entries = entries_of(&closed);
+    Some(Seen {
+        tie,
+        receipts,
+        entries,
+        outlives: outlives(alloc, closed),
+    })
+}
+
+// How many entries are left at the end.
+fn entries_of<P: PageDevice + Drop, L: LogDevice + Drop, B: Level>(
+    closed: &Closed<P, L, B>,
+) -> usize {
+    closed.kept.entries().len()
+}
+
+// Whether both messages outlive a crash, each as it was sent.
+fn outlives<B: Level>(alloc: Global, closed: Closed<MemPages, MemLog, B>) -> bool {
+    let (pages, log) = crashed(closed.kept);
+    have_sent(alloc, pages, log)
+}
+
+fn have_sent<P: PageDevice + Drop, L: LogDevice + Drop>(alloc: Global, pages: P, log: L) -> bool {
+    match opened(alloc, pages, log) {
+        Some(engine) => has_sent(&engine, 0, b'x') && has_sent(&engine, 15, b'y'),
+        None => false,
+    }
 }
 
 #[test]
@@ -397,43 +418,17 @@ fn an_audit_holds_the_calls_of_both_threads(rt: HostRuntime) -> Result<(), Fail>
         "neither thread's are the other's, nor its own in another order"
     );
     assert!(rt;
-        entries_of(&seen.closed) == 3,
+        seen.entries == 3,
         "a force and two acknowledgements came after it"
     );
     Ok(())
-}
-
-// How many entries are left at the end.
-fn entries_of<P: PageDevice + Drop, L: LogDevice + Drop, B: Level>(
-    closed: &Closed<P, L, B>,
-) -> usize {
-    closed.kept.entries().len()
-}
-
-// Whether both messages outlive a crash, each as it was sent.
-fn outlives(
-    alloc: Global,
-    closed: Closed<MemPages, MemLog, StoreLevel>,
-) -> Result<bool, &'static str> {
-    let (pages, log) = crashed(closed.kept);
-    let engine = opened(alloc, pages, log)?;
-    have_sent(&engine)
-}
-
-fn have_sent<P: PageDevice + Drop, L: LogDevice + Drop>(
-    engine: &Engine<P, L, StoreLevel>,
-) -> Result<bool, &'static str> {
-    Ok(has_sent(engine, 0, b'x')? && has_sent(engine, 15, b'y')?)
 }
 
 #[test]
 fn what_receipts_name_outlives_a_crash(rt: HostRuntime) -> Result<(), Fail> {
     let seen = look(&rt, rt.alloc(), false).ok_or("both threads send and commit")?;
     assert!(rt; seen.receipts == 2, "both commits are forced");
-    assert!(rt; entries_of(&seen.closed) == 17, "no entry was taken");
-    assert!(rt;
-        outlives(rt.alloc(), seen.closed)?,
-        "both messages are there"
-    );
+    assert!(rt; seen.entries == 17, "no entry was taken");
+    assert!(rt; seen.outlives, "both messages are there");
     Ok(())
 }
