@@ -295,6 +295,53 @@ def pieces(program, chosen):
                 assert everything(connection) == {3: sent}, seed
 
 
+def damaged_streams(program, chosen):
+    """Questions in random pieces, of which one byte is another: those before the fault are answered, and nothing is behind it."""
+    faults_met = 0
+    with store(program) as folder, serving(program, folder) as server:
+        for seed in range(chosen.seed, chosen.seed + 300):
+            draw = random.Random(seed)
+            asked = bytearray(b"".join(struct.pack(">HBI", 5, 8, draw.randrange(20)) for _ in range(draw.randrange(1, 12))))
+            asked[draw.randrange(len(asked))] = draw.getrandbits(8)
+            wanted, end, is_fault = answers_to(bytes(asked))
+            faults_met += is_fault
+            rest = bytes(asked[:end])
+            with server.raw() as stream:
+                while rest:
+                    size = draw.choice([1, 2, draw.randrange(1, 30), len(rest)])
+                    stream.sendall(rest[:size])
+                    rest = rest[size:]
+                if not is_fault:
+                    stream.shutdown(socket.SHUT_WR)
+                assert read_to_end(stream) == wanted, (seed, asked.hex())
+    assert 60 < faults_met < 280, faults_met
+
+
+# How long each request of a fixed length is.
+LENGTHS = {1: 1, 3: 1, 4: 5, 5: 5, 6: 1, 7: 1, 8: 5}
+
+
+def answers_to(asked):
+    """By docs/PROTOCOL.md, on a fresh small store without a transaction: the answers, how many bytes there are up to the first fault, and
+    whether there is one."""
+    at, answers = 0, b""
+    while len(asked) - at > 2:
+        length, kind = int.from_bytes(asked[at : at + 2], "big"), asked[at + 2]
+        if not 1 <= length <= 512:
+            return answers, at + 2, True
+        if not 1 <= kind <= 8:
+            return answers, at + 3, True
+        end = at + 2 + length
+        if end > len(asked):
+            return answers, len(asked), False
+        if length < 13 if kind == 2 else length != LENGTHS[kind]:
+            return answers, end, True
+        sender = int.from_bytes(asked[at + 3 : end], "big")
+        answers += bytes.fromhex("0002 ff 04") if kind != 8 else NO_TAG if sender < 15 else bytes.fromhex("0002 ff 07")
+        at = end
+    return answers, len(asked), False
+
+
 def lost_connections(program, _):
     """A connection that ends at any byte behind its send, or is reset, leaves nothing of its transaction."""
     with store(program) as folder, serving(program, folder) as server:
@@ -626,8 +673,8 @@ def raises(kind, call):
 
 
 TESTS = [
-    starts, session, closing, faults, bodies, pieces, lost_connections, served, silent_reader, few_descriptors, many_connections,
-    full_disk, client, sessions,
+    starts, session, closing, faults, bodies, pieces, damaged_streams, lost_connections, served, silent_reader, few_descriptors,
+    many_connections, full_disk, client, sessions,
 ]  # fmt: skip
 
 
