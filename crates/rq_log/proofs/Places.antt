@@ -143,9 +143,6 @@ module _ {L : Type 0} (g : Ghosts L) where
   pub none_read : (e : Refusal) (bytes : List ℕ) (old new : L) → e ≡ why.Damaged (damage.Record 0) → g.faults new ≡ g.faults old → (g.honest new → HoldsRecord bytes → ⊥) → NoneReadFor g e bytes old new
   none_read e bytes old new is same none = subst (λ r. NoneReadFor g r bytes old new) (sym is) (refl, same, none)
 
-  pub none_held : (e : Refusal) (bytes : List ℕ) (old new : L) → e ≡ why.Damaged (damage.Record 0) → g.faults new ≡ g.faults old → (g.honest new → HoldsRecord bytes → ⊥) → NoneHeldFor g e bytes old new
-  none_held e bytes old new is same none = subst (λ r. NoneHeldFor g r bytes old new) (sym is) (refl, same, none)
-
   -- what was not held was not read either
   held_read : (e : Refusal) (bytes : List ℕ) (old new : L) → NoneHeldFor g e bytes old new → (e ≢ why.DiskRead) × NoneReadFor g e bytes old new
   held_read (why.Damaged (damage.Record lsn)) bytes old new n = (λ e. absurd cc, n)
