@@ -17,7 +17,7 @@ use Rattle.rq_level.specs.ChainPlans.{Beside, IsSent, CanReceive, IsReceived, Ca
 use Rattle.rq_level.specs.Writes.{writes_of, AreSlotWrites}
 use Rattle.rq_level.specs.declared.slots.Given.{Given}
 use Rattle.rq_level.specs.declared.writes.Plan.{Plan}
-use Rattle.rq_level.specs.declared.writes.PlannedReply.TheVariants as gives
+use Rattle.rq_level.specs.declared.writes.Outcome.TheVariants as gives
 use Rattle.rq_chain.specs.declared.CellEntry.{CellEntry}
 use Rattle.rq_chain.specs.declared.DirectoryEntry.{DirectoryEntry}
 use Rattle.rq_chain.specs.CellEntries.{cell_beside}

@@ -1,4 +1,5 @@
 pub mod CellEntries
 pub mod Doings
+pub mod Spans
 pub mod Refusing
 pub mod Cells

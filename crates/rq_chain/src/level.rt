@@ -4,7 +4,7 @@ ghost use Rattle.std.specs.Bool.{OnTrue, OnFalse};
 ghost use Rattle.rq_page.specs.Sizes.{IsCellAddress, place_of};
 ghost use Rattle.rq_level.specs.LevelState.{LevelState, IsLowest, NoneToTake, NoneFree, SomeFree, reserved_at, told_sizes, is_cell_address, noted_cell, noted};
 ghost use Rattle.rq_level.specs.Given.{AreGiven};
-ghost use Rattle.rq_level.specs.ChainPlans.{CanSend, IsSent, RefusesTaking, CanReceive, IsReceived, RefusesOther, CanMark, IsMarked, IsClosed, CanUnlinkTail, IsTailUnlinked, CanPutBack, IsReturned, IsReopened, IsInverse, Plans, Undoes};
+ghost use Rattle.rq_level.specs.ChainPlans.{CanSend, IsSent, RefusesTaking, CanReceive, IsReceived, RefusesOther, CanMark, IsMarked, IsClosed, CanUnlinkTail, IsTailUnlinked, CanPutBack, IsReturned, IsReopened, IsInverse, IsOfSender, Plans, Undoes};
 ghost use Rattle.rq_level.specs.declared.writes.Plan.{Plan};
 ghost use Rattle.rq_chain.specs.Doings.{told_one};
 ghost use Rattle.rq_chain.specs.Refusing.{NoCell};
@@ -13,10 +13,10 @@ use crate::cells::FreeCells;
 use crate::doing::{Doing, read_doing};
 use crate::given::{SENT_LIMIT, beside_given, cell_given, group_given, head_of, tail_of};
 use crate::plans::{append, put_back, set_closed, unlink_head, unlink_tail};
-use crate::wants::{undo_wanted, wanted};
+use crate::wants::wanted;
 use crate::{CellEntry, ChainPlan};
 use byteorder::{BigEndian, ByteOrder};
-use rq_level::{Level, Op, PageSet, Plan, PlannedReply, SlotWrite, Slots, Want, redo_page};
+use rq_level::{Level, Op, Outcome, PageSet, Plan, SlotWrite, Slots, Want, redo_page};
 use rq_model::message::{Body, Message};
 use rq_model::record::{Deed, DeedBytes, Record, Slot};
 use rq_model::refusal::{Damage, NoMemory, Refusal};
@@ -132,7 +132,7 @@ impl ChainLevel {
     {
         match doing {
             Doing::Send { sender, tag, body } => {
-                self.plan_send(alloc, layout, given, latched, *sender, *tag, *body)
+                self.plan_send(alloc, layout, given, latched, *sender, *tag, body)
             }
             Doing::Receive { sender } => self.plan_receive(alloc, layout, given, *sender),
             Doing::Close { sender } => self.plan_close(alloc, layout, given, *sender),
@@ -148,14 +148,14 @@ impl ChainLevel {
         latched: &PageSet,
         sender: u32,
         tag: u64,
-        body: Body,
+        body: &Body,
     ) -> Result<Plan, Refusal>
         requires { AreGiven layout.now given.now }
-        ensures ok { IfOk result (λ p. IsSent layout.now self.old given.now latched.now.pages sender tag body p self.new) }
+        ensures ok { IfOk result (λ p. IsSent layout.now self.old given.now latched.now.pages sender tag body.now p self.new) }
         ensures err { IfErr result (λ r. RefusesTaking layout.now self.old latched.now.pages sender (CanSend layout.now given.now sender) r) }
         ensures kept { OnErr result (self.new ≡ self.old) }
     {
-        let damaged = Refusal::Damaged(Damage::Page(1 + sender / SLOTS));
+        let damaged = Refusal::Damaged(damage_of(sender));
         if sender >= layout.senders() {
             return Err(damaged);
         }
@@ -179,7 +179,7 @@ impl ChainLevel {
         Ok(Plan {
             writes,
             deed: encode_deed(&deed),
-            reply: Some(PlannedReply::Sent),
+            reply: Some(Outcome::Sent),
         })
     }
 
@@ -195,7 +195,7 @@ impl ChainLevel {
         ensures ok { IfOk result (λ p. IsReceived layout.now self.now given.now sender p self.now) }
         ensures err { IfErr result (λ r. RefusesOther sender (CanReceive layout.now given.now sender) r) }
     {
-        let damaged = Refusal::Damaged(Damage::Page(1 + sender / SLOTS));
+        let damaged = Refusal::Damaged(damage_of(sender));
         if sender >= layout.senders() {
             return Err(damaged);
         }
@@ -237,7 +237,7 @@ impl ChainLevel {
         Ok(Plan {
             writes,
             deed: encode_deed(&Deed::Close { sender }),
-            reply: Some(PlannedReply::Closed),
+            reply: Some(Outcome::Closed),
         })
     }
 
@@ -266,7 +266,7 @@ impl ChainLevel {
                 tag,
                 body,
             } => self.plan_return(
-                alloc, layout, given, latched, *sender, *sequence, *tag, *body,
+                alloc, layout, given, latched, *sender, *sequence, *tag, body,
             ),
             Deed::Close { sender } => reopened(alloc, layout, given, *sender),
         }
@@ -282,16 +282,16 @@ impl ChainLevel {
         sender: u32,
         sequence: u64,
         tag: u64,
-        body: Body,
+        body: &Body,
     ) -> Result<Plan, Refusal>
         requires { AreGiven layout.now given.now }
         ensures ok { IfOk result (λ p. IsReturned layout.now self.old given.now latched.now.pages sender sequence tag
-            body p self.new) }
+            body.now p self.new) }
         ensures err { IfErr result (λ r. RefusesTaking layout.now self.old latched.now.pages sender
             (CanPutBack layout.now given.now sender sequence) r) }
         ensures kept { OnErr result (self.new ≡ self.old) }
     {
-        let damaged = Refusal::Damaged(Damage::Page(1 + sender / SLOTS));
+        let damaged = Refusal::Damaged(damage_of(sender));
         if sender >= layout.senders() {
             return Err(damaged);
         }
@@ -321,7 +321,7 @@ impl ChainLevel {
         if self.has_free(layout) {
             Refusal::Latched
         } else {
-            Refusal::Damaged(Damage::Page(1 + sender / SLOTS))
+            Refusal::Damaged(damage_of(sender))
         }
     }
 }
@@ -340,12 +340,7 @@ impl Level for ChainLevel {
     }
 
     fn want(&self, op: &Op, given: &Slots) -> Want {
-        let next = if op.is_undo() {
-            undo_wanted(&decode_deed(op.bytes()), given)
-        } else {
-            wanted(read_doing(op.bytes()), given)
-        };
-        match next {
+        match wanted(op, given) {
             None => Want::Ready,
             Some(at) => Want::Slot(at),
         }
@@ -398,6 +393,13 @@ impl Level for ChainLevel {
     }
 }
 
+// The damage that is told of a sender's chain: that of the page where its directory slot stands.
+fn damage_of(sender: u32) -> Damage
+    ensures { IsOfSender sender result }
+{
+    Damage::Page(1 + sender / SLOTS)
+}
+
 // The write that closes a group or opens it again, where it is not so already.
 fn closed_writes(
     alloc: Global,
@@ -410,7 +412,7 @@ fn closed_writes(
     ensures ok { IfOk result (λ writes. (p : Plan) → p.writes ≡ writes → IsMarked layout.now given.now sender closed p) }
     ensures err { IfErr result (λ r. RefusesOther sender (CanMark layout.now given.now sender closed) r) }
 {
-    let damaged = Refusal::Damaged(Damage::Page(1 + sender / SLOTS));
+    let damaged = Refusal::Damaged(damage_of(sender));
     if sender >= layout.senders() {
         return Err(damaged);
     }
@@ -449,7 +451,7 @@ fn unlinked_tail(
     ensures ok { IfOk result (λ p. (k : LevelState) → IsTailUnlinked layout.now k given.now sender sequence previous p k) }
     ensures err { IfErr result (λ r. RefusesOther sender (CanUnlinkTail layout.now given.now sender sequence) r) }
 {
-    let damaged = Refusal::Damaged(Damage::Page(1 + sender / SLOTS));
+    let damaged = Refusal::Damaged(damage_of(sender));
     if sender >= layout.senders() {
         return Err(damaged);
     }
@@ -486,7 +488,7 @@ fn inverse(writes: Vec<SlotWrite>) -> Plan
     Plan {
         writes,
         deed: DeedBytes::new(&[]).unwrap(),
-        reply: Some(PlannedReply::Undone),
+        reply: Some(Outcome::Undone),
     }
 }
 
@@ -498,10 +500,10 @@ fn front_of(tail: &CellEntry) -> Addr
 }
 
 // What the end of a receive answers.
-fn message_of(sender: u32, head: &CellEntry) -> PlannedReply
-    ensures { result ≡ PlannedReply.Message (record { sender = sender; tag = head.now.cell.tag; body = head.now.cell.body }) }
+fn message_of(sender: u32, head: &CellEntry) -> Outcome
+    ensures { result ≡ Outcome.Message (record { sender = sender; tag = head.now.cell.tag; body = head.now.cell.body }) }
 {
-    PlannedReply::Message(Message {
+    Outcome::Message(Message {
         sender,
         tag: head.cell.tag,
         body: head.cell.body,

@@ -9,6 +9,7 @@ mod doing;
 mod given;
 mod level;
 mod plans;
+mod spans;
 mod wants;
 mod writes;
 

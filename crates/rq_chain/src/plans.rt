@@ -28,20 +28,20 @@ pub fn append(
     tail: Option<CellEntry>,
     free: Addr,
     tag: u64,
-    body: Body,
+    body: &Body,
 ) -> Result<ChainPlan, NoMemory>
     requires room { group.now.directory.sent < 2 ^ 64 - 1 }
     requires group { IsGroupOf layout.now group.now }
     requires tail { IsCellEntry layout.now group.now.directory.tail tail }
     requires free { IsCellAddress layout.now free }
     ensures writes { IfOk result (λ plan. reverse (writes_of layout.now plan.writes.items)
-        ≡ append_writes (layout_of layout.now) group.now.sender group.now.directory free tag body (cell_beside tail)) }
+        ≡ append_writes (layout_of layout.now) group.now.sender group.now.directory free tag body.now (cell_beside tail)) }
     ensures slots { IfOk result (λ plan. AreSlotWrites layout.now plan.writes.items) }
     ensures count { IfOk result (λ plan. MatchOption tail (length plan.writes.items ≡ 2)
         (λ _. length plan.writes.items ≡ 3)) }
     ensures cell { IfOk result (λ plan. IsFirstAt free plan.writes.items) }
     ensures deed { IfOk result (λ plan. plan.deed ≡ Deed.Append group.now.sender
-        (group.now.directory.sent + 1) tag group.now.directory.last_tag body) }
+        (group.now.directory.sent + 1) tag group.now.directory.last_tag body.now) }
 {
     let new = next_cell(layout, group, tag, body);
     let first = cell_write(layout, free, &CellSlot::Free, &CellSlot::Used(new));
@@ -55,7 +55,7 @@ pub fn append(
         sequence: group.directory.sent + 1,
         tag,
         previous: group.directory.last_tag,
-        body,
+        body: *body,
     };
     Ok(ChainPlan { writes, deed })
 }
@@ -132,14 +132,14 @@ pub fn put_back(
     head: Option<CellEntry>,
     free: Addr,
     tag: u64,
-    body: Body,
+    body: &Body,
 ) -> Result<Vec<SlotWrite>, NoMemory>
     requires some { 0 < group.now.directory.received }
     requires group { IsGroupOf layout.now group.now }
     requires head { IsCellEntry layout.now group.now.directory.head head }
     requires free { IsCellAddress layout.now free }
     ensures writes { IfOk result (λ writes. reverse (writes_of layout.now writes.items)
-        ≡ put_back_writes (layout_of layout.now) group.now.sender group.now.directory free tag body (cell_beside head)) }
+        ≡ put_back_writes (layout_of layout.now) group.now.sender group.now.directory free tag body.now (cell_beside head)) }
     ensures slots { IfOk result (λ writes. AreSlotWrites layout.now writes.items) }
 {
     let new = returned_cell(layout, group, tag, body);
@@ -170,7 +170,7 @@ pub fn set_closed(
 }
 
 // The cell of a group's next message.
-fn next_cell(layout: &Layout, group: &DirectoryEntry, tag: u64, body: Body) -> Cell
+fn next_cell(layout: &Layout, group: &DirectoryEntry, tag: u64, body: &Body) -> Cell
     requires room { group.now.directory.sent < 2 ^ 64 - 1 }
     requires group { IsGroupOf layout.now group.now }
     ensures cell { result ≡ record {
@@ -179,7 +179,7 @@ fn next_cell(layout: &Layout, group: &DirectoryEntry, tag: u64, body: Body) -> C
       tag = tag;
       next = 0;
       prev = group.now.directory.tail;
-      body = body;
+      body = body.now;
     } }
     ensures fits { IsCellOf layout.now result }
 {
@@ -191,7 +191,7 @@ fn next_cell(layout: &Layout, group: &DirectoryEntry, tag: u64, body: Body) -> C
         tag,
         next: Addr::NONE,
         prev: group.directory.tail,
-        body,
+        body: *body,
     }
 }
 
@@ -238,7 +238,7 @@ fn head_unlinked(layout: &Layout, group: &DirectoryEntry, head: &Cell) -> Direct
 }
 
 // The cell of a message that comes back to the front of its group.
-fn returned_cell(layout: &Layout, group: &DirectoryEntry, tag: u64, body: Body) -> Cell
+fn returned_cell(layout: &Layout, group: &DirectoryEntry, tag: u64, body: &Body) -> Cell
     requires some { 0 < group.now.directory.received }
     requires group { IsGroupOf layout.now group.now }
     ensures cell { result ≡ record {
@@ -247,7 +247,7 @@ fn returned_cell(layout: &Layout, group: &DirectoryEntry, tag: u64, body: Body) 
       tag = tag;
       next = group.now.directory.head;
       prev = 0;
-      body = body;
+      body = body.now;
     } }
     ensures fits { IsCellOf layout.now result }
 {
@@ -259,7 +259,7 @@ fn returned_cell(layout: &Layout, group: &DirectoryEntry, tag: u64, body: Body) 
         tag,
         next: group.directory.head,
         prev: Addr::NONE,
-        body,
+        body: *body,
     }
 }
 

@@ -1,65 +1,44 @@
 //! Which slots operations need to see.
-ghost use Rattle.std.specs.Prelude.{◌≡◌, ◌+◌, ◌≤◌, length};
+ghost use Rattle.std.specs.Prelude.{◌≡◌, ◌+◌, ◌≤◌, Some, length};
 ghost use Rattle.rq_bytes.specs.Number.{number_at};
 ghost use Rattle.rq_page.specs.Cells.{cell_in, cell_slot_in};
 ghost use Rattle.rq_page.specs.Directories.{directory_in};
 ghost use Rattle.rq_page.specs.Sizes.{directory_at};
-ghost use Rattle.rq_level.specs.ChainPlans.{before, behind, link_wanted, head_wanted, tail_wanted, unless_given, undo_wanted, wanted};
+ghost use Rattle.rq_level.specs.ChainPlans.{before, behind, link_wanted, head_wanted, job_wanted, tail_wanted, unless_given};
 ghost use Rattle.rq_level.specs.Given.{given_at};
-ghost use Rattle.rq_chain.specs.Doings.{told};
+ghost use Rattle.rq_chain.specs.Spans.{span_wanted};
 
-use crate::doing::Doing;
+use crate::spans::{Reach, Span, span_of};
 use byteorder::{BigEndian, ByteOrder};
-use rq_level::Slots;
-use rq_model::record::{Deed, Slot};
+use rq_level::{Op, Slots};
+use rq_model::record::Slot;
 use rq_page::addr::Addr;
 use rq_page::layout::SLOTS;
 
-/// The slot that is wanted next, of those that the operation writes; none where all are given.
-pub(crate) fn wanted(doing: Option<Doing>, given: &Slots) -> Option<Addr>
-    ensures { result ≡ wanted (told doing) given.now }
+/// The slot that an operation wants to see next, of those that it writes; none where all are given.
+pub(crate) fn wanted(op: &Op, given: &Slots) -> Option<Addr>
+    ensures { result ≡ job_wanted op.now given.now }
 {
-    match doing {
+    match span_of(op) {
         None => None,
-        Some(Doing::Send { sender, .. }) => {
-            let at = directory_addr(sender);
-            match given.get(at) {
-                None => Some(at),
-                Some(bytes) => link_wanted(tail_in(bytes), given),
-            }
-        }
-        Some(Doing::Receive { sender }) => {
-            let at = directory_addr(sender);
-            match given.get(at) {
-                None => Some(at),
-                Some(bytes) => head_wanted(head_in(bytes), given),
-            }
-        }
-        Some(Doing::Close { sender }) => slot_wanted(directory_addr(sender), given),
+        Some(span) => slot_of_span(&span, given),
     }
 }
 
-/// The slot that is wanted next, of those that the inverse of a deed's operation writes; none where all are given.
-pub(crate) fn undo_wanted(deed: &Option<Deed>, given: &Slots) -> Option<Addr>
-    ensures { result ≡ undo_wanted deed.now given.now }
+// The slot of a span that is wanted next.
+fn slot_of_span(span: &Span, given: &Slots) -> Option<Addr>
+    ensures { result ≡ span_wanted (Some span.now) given.now }
 {
-    match deed {
-        None => None,
-        Some(Deed::Append { sender, .. }) => {
-            let at = directory_addr(*sender);
-            match given.get(at) {
-                None => Some(at),
-                Some(bytes) => tail_wanted(tail_in(bytes), given),
-            }
-        }
-        Some(Deed::UnlinkHead { sender, .. }) => {
-            let at = directory_addr(*sender);
-            match given.get(at) {
-                None => Some(at),
-                Some(bytes) => link_wanted(head_in(bytes), given),
-            }
-        }
-        Some(Deed::Close { sender }) => slot_wanted(directory_addr(*sender), given),
+    let at = directory_addr(span.sender);
+    match given.get(at) {
+        None => Some(at),
+        Some(directory) => match span.reach {
+            Reach::Nothing => None,
+            Reach::Tail => link_wanted(tail_in(directory), given),
+            Reach::TailAndPrevious => tail_wanted(tail_in(directory), given),
+            Reach::Head => link_wanted(head_in(directory), given),
+            Reach::HeadAndNext => head_wanted(head_in(directory), given),
+        },
     }
 }
 

@@ -20,7 +20,7 @@ use Rattle.rq_engine.specs.Opened.{OpenStore}
 use Rattle.rq_engine.specs.Says.{LogSays, call_of, gave}
 use Rattle.rq_engine.specs.declared.event.Event.{Event}
 use Rattle.rq_engine.specs.declared.event.Event.TheVariants as event
-use Rattle.rq_engine.specs.declared.event.Outcome.TheVariants as outcome
+use Rattle.rq_level.specs.declared.writes.Outcome.TheVariants as outcome
 use Rattle.rq_engine.specs.declared.event.Progress.TheVariants as progress
 use Rattle.rq_engine.specs.declared.event.Reply.{Reply}
 use Rattle.rq_engine.specs.declared.event.Reply.TheVariants as reply

@@ -41,7 +41,7 @@ use Rattle.rq_engine.proofs.Causes.{has_cause}
 use Rattle.rq_model.specs.Causes.{HasCause, IsCaused, writes_out}
 use Rattle.rq_engine.specs.declared.event.Event.{Event}
 use Rattle.rq_engine.specs.declared.event.Event.TheVariants as event
-use Rattle.rq_engine.specs.declared.event.Outcome.TheVariants as outcome
+use Rattle.rq_level.specs.declared.writes.Outcome.TheVariants as outcome
 use Rattle.rq_engine.specs.declared.event.Progress.TheVariants as progress
 use Rattle.rq_engine.specs.declared.event.Reply.{Reply}
 use Rattle.rq_engine.specs.declared.event.Reply.TheVariants as reply

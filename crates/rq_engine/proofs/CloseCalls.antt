@@ -14,7 +14,6 @@ use Rattle.rq_page.specs.Slots.Slot.{Sender}
 use Rattle.rq_views.specs.Items.{items}
 use Rattle.rq_views.specs.Legal.{view}
 use Rattle.rq_views.specs.Stored.{slots_in}
-use Rattle.rq_chain.specs.declared.ChainPlan.{ChainPlan as Plan}
 use Rattle.rq_txn.specs.Rows.{found_row, change_row, row_started}
 use Rattle.rq_groups.specs.Ends.{is_free_for, with_held}
 use Rattle.rq_store.specs.State.{State, ledger_of, size_of}
@@ -24,6 +23,7 @@ use Rattle.rq_sound.specs.Plans.{AreUnlatched}
 use Rattle.rq_sound.specs.Sound.{IsSound}
 use Rattle.rq_sound.specs.ModelSteps.{IsModelStep}
 use Rattle.rq_sound.proofs.FreeEnds.{free_is}
+use Rattle.rq_engine.specs.declared.plans.Planned.{Planned}
 use Rattle.rq_engine.specs.Answers.{Refuses, HasNothingUnderWay}
 use Rattle.rq_engine.specs.Closes.{IsClosePlan, close_latched}
 use Rattle.rq_engine.specs.Sends.{under_plan}
@@ -76,7 +76,7 @@ module _ (s : State) (t : Txn) (e : ℕ) (h : NoneHolds (ready_tests (ledger_of 
   refused may on k = (refused_steps s k call why.Latched (may k, refl) refl, latched_busy s.rows _ on)
 
   -- a close that has started
-  pub close_done : (new : State) (n : ℕ) (plan : Plan) → HasNothingUnderWay s t n → AreUnlatched s plan.writes.items → IsClosePlan s.sizes (slots_in s.sizes s.images) (under_plan n plan) e
+  pub close_done : (new : State) (n : ℕ) (plan : Planned) → HasNothingUnderWay s t n → AreUnlatched s plan.writes.items → IsClosePlan s.sizes (slots_in s.sizes s.images) (under_plan n plan) e
       → (IsSound s → Passes (size_of s.sizes) (ledger_of s) call)
       → new ≡ record s { rows = change_row t (row_started (under_plan n plan)) s.rows; ends = record { sending = with_held t e s.ends.sending; receiving = s.ends.receiving } }
       → IsSound s → IsModelStep s call (Gave_sub t n) new

@@ -27,7 +27,6 @@ use Rattle.rq_level.specs.declared.writes.SlotWrite.{SlotWrite}
 use Rattle.rq_level.specs.Ops.{Doing, Job, chain_job, doing_in}
 use Rattle.rq_level.specs.Ops.Doing.{Send, Receive, Close}
 use Rattle.rq_level.specs.Writes.{AreSlotWrites}
-use Rattle.rq_chain.specs.declared.ChainPlan.{ChainPlan}
 use Rattle.rq_txn.specs.declared.Aim.TheVariants as aims
 use Rattle.rq_txn.specs.Rows.{latched_in}
 use Rattle.rq_store.specs.Plans.{IsSendPlan, IsTakePlan}
@@ -37,6 +36,7 @@ use Rattle.rq_sound.specs.Plans.{AreUnlatched, IsMarking, IsPlannedFrom, IsRecei
 use Rattle.rq_planner.specs.Answered.{IsDeedFor, IsHeldUp, IsPlanOf, SendTakesLowest}
 use Rattle.rq_planner.specs.Asked.{asked_by, asked_in, doing_sender, to_do}
 use Rattle.rq_planner.specs.Asked.Asked.{Do}
+use Rattle.rq_engine.specs.declared.plans.Planned.{Planned}
 use Rattle.rq_engine.specs.Closes.{IsClosePlan, close_latched}
 use Rattle.rq_engine.specs.Plans.{IsDeedPlan, known_part}
 use Rattle.rq_engine.specs.Sends.{take_latched, under_plan}
@@ -54,6 +54,12 @@ sender_is (Receive g) (Close_deed h) is = absurd is
 sender_is (Close g) (Append h n t previous b) is = absurd is
 sender_is (Close g) (UnlinkHead h n t b) is = absurd is
 sender_is (Close g) (Close_deed h) is = is
+
+-- its bytes are some: its kind comes first
+spelled_some : (d : Deed) → 1 ≤ length (spelled_deed d)
+spelled_some (Append g n tag previous body) = omega arith
+spelled_some (UnlinkHead g n tag body) = omega arith
+spelled_some (Close_deed g) = omega arith
 
 -- three writes at most
 pub few_of : (z : Sizes) (q : Slots) (us : List SlotWrite) (e : Deed) → IsPlannedFrom z q us (Did e) → length us ≤ 3
@@ -78,15 +84,17 @@ module _ (s : State) (d : Doing) (p : Plan) (h : IsPlanOf (known_part s) d p) wh
   plan_few = few_of s.sizes (slots_now s) p.writes.items h.deed h.follows.0
 
   -- with its deed, and its room
-  pub deed_plan : (plan : ChainPlan) (room : ℕ) → plan.writes ≡ p.writes → deed_in p.deed ≡ Some plan.deed → doing_sender d < sender_count s.sizes
-      → room ≡ length plan.writes.items * 546 + (30 + length (spelled_deed plan.deed)) → 1 ≤ length (spelled_deed plan.deed) → length (spelled_deed plan.deed) ≤ 256
-      → IsDeedPlan s d plan room
-  deed_plan plan room same is inside room_is low high =
+  pub deed_plan : (plan : Planned) → plan.writes ≡ p.writes → deed_in p.deed ≡ Some plan.deed → doing_sender d < sender_count s.sizes
+      → plan.room ≡ length p.writes.items * 546 + (30 + length p.deed) → length p.deed ≤ 256
+      → IsDeedPlan s d plan
+  deed_plan plan same is inside room_is short =
       let deed : h.deed ≡ plan.deed = some_deed h.deed plan.deed (sym h.reads ∙ is) in
       let asked : IsDeedFor d plan.deed = subst (IsDeedFor d) deed h.asked in
       let reads : deed_in (spelled_deed plan.deed) ≡ Some plan.deed = ap (λ (e : Deed). deed_in (spelled_deed e)) (sym deed) ∙ ap deed_in (sym h.told) ∙ is in
       let from : IsPlannedFrom s.sizes (slots_now s) p.writes.items (Did plan.deed) = subst (λ (e : Deed). IsPlannedFrom s.sizes (slots_now s) p.writes.items (Did e)) deed h.follows.0 in
       let few = few_of s.sizes (slots_now s) p.writes.items plan.deed from in
+      let size : length p.deed ≡ length (spelled_deed plan.deed) = ap length (h.told ∙ ap spelled_deed deed) in
+      let count : length plan.writes.items ≡ length p.writes.items = ap (λ (ws : Vec SlotWrite). length ws.items) same in
       let sender = sender_is d plan.deed asked in
       record {
         asked = asked;
@@ -98,10 +106,10 @@ module _ (s : State) (d : Doing) (p : Plan) (h : IsPlanOf (known_part s) d p) wh
           sender = omega (arith, sender, inside);
           slots = subst (λ (ws : Vec SlotWrite). AreSlotWrites s.sizes ws.items) (sym same) h.slots;
           count = subst (λ (ws : Vec SlotWrite). length ws.items ≤ 3) (sym same) few;
-          deed_low = low;
-          deed_high = high;
+          deed_low = spelled_some plan.deed;
+          deed_high = omega (arith, size, short);
           reads = reads;
-          room_is = room_is;
+          room_is = omega (arith, room_is, size, count);
         };
       }
 
@@ -126,8 +134,8 @@ on_none P Q (Err e) f h = h
 
 -- ---- closes, sends and receives
 
-module _ (s : State) (g n : ℕ) (plan : ChainPlan) (room : ℕ) (below : g < sender_count s.sizes) where
-  pub close_plan : IsDeedPlan s (Close g) plan room → IsClosePlan s.sizes (slots_now s) (under_plan n plan) g
+module _ (s : State) (g n : ℕ) (plan : Planned) (below : g < sender_count s.sizes) where
+  pub close_plan : IsDeedPlan s (Close g) plan → IsClosePlan s.sizes (slots_now s) (under_plan n plan) g
   close_plan h = at plan.deed refl h.asked h.planned where
     at : (e : Deed) → plan.deed ≡ e → IsDeedFor (Close g) e → IsPlannedFrom s.sizes (slots_now s) plan.writes.items (Did e) → IsClosePlan s.sizes (slots_now s) (under_plan n plan) g
     at (Close_deed x) is same p = record {
@@ -140,7 +148,7 @@ module _ (s : State) (g n : ℕ) (plan : ChainPlan) (room : ℕ) (below : g < se
     at (Append x m t previous b) is same p = absurd same
     at (UnlinkHead x m t b) is same p = absurd same
 
-  pub send_plan : (tag : ℕ) (body : List ℕ) → IsDeedPlan s (Send g tag body) plan room → IsSendPlan s.sizes (slots_now s) (under_plan n plan) g tag body
+  pub send_plan : (tag : ℕ) (body : List ℕ) → IsDeedPlan s (Send g tag body) plan → IsSendPlan s.sizes (slots_now s) (under_plan n plan) g tag body
   send_plan tag body h = at plan.deed refl h.asked h.planned where
     at : (e : Deed) → plan.deed ≡ e → IsDeedFor (Send g tag body) e → IsPlannedFrom s.sizes (slots_now s) plan.writes.items (Did e) → IsSendPlan s.sizes (slots_now s) (under_plan n plan) g tag body
     at (Append x m t previous b) is same p =
@@ -179,8 +187,8 @@ used_cell z images a c e = elim (cases_Bool (nat_lt 0 (a % 16))) [
     at y (Some kinds.Directory) k e = absurd (let bad : Sender (directory_in (slot_at images a)).sender (directory_in (slot_at images a)).directory ≡ Used c = e in cc)
     at y (Some kinds.Cells) k e = of_cell (cell_slot_in (slot_at images a)) e y k
 
-pub take_plan : (s : State) (g n : ℕ) (plan : ChainPlan) (room : ℕ) → g < sender_count s.sizes → IsDeedPlan s (Receive g) plan room → IsTakePlan s.sizes (slots_now s) (under_plan n plan) g
-take_plan s g n plan room below h = at plan.deed refl h.asked h.planned where
+pub take_plan : (s : State) (g n : ℕ) (plan : Planned) → g < sender_count s.sizes → IsDeedPlan s (Receive g) plan → IsTakePlan s.sizes (slots_now s) (under_plan n plan) g
+take_plan s g n plan below h = at plan.deed refl h.asked h.planned where
   at : (e : Deed) → plan.deed ≡ e → IsDeedFor (Receive g) e → IsPlannedFrom s.sizes (slots_now s) plan.writes.items (Did e) → IsTakePlan s.sizes (slots_now s) (under_plan n plan) g
   at (UnlinkHead x m t b) is same p =
       let e : UnlinkHead x m t b ≡ UnlinkHead g m t b = ap (λ i. UnlinkHead i m t b) same in
@@ -213,5 +221,5 @@ pub close_free : (s : State) (g : ℕ) → (IsHeldUp (known_part s) (Do (Close g
 close_free s g h = false_from_ne_true (close_latched s g) (λ y. h (or_left (latched_in s.rows (directory_at g / 16)) false y))
 
 -- it makes one write
-pub close_one : (s : State) (g : ℕ) (plan : ChainPlan) (room : ℕ) → g < sender_count s.sizes → IsDeedPlan s (Close g) plan room → length plan.writes.items ≡ 1
-close_one s g plan room below h = one_write _ plan.writes.items _ (close_plan s g 0 plan room below h).marking.writes
+pub close_one : (s : State) (g : ℕ) (plan : Planned) → g < sender_count s.sizes → IsDeedPlan s (Close g) plan → length plan.writes.items ≡ 1
+close_one s g plan below h = one_write _ plan.writes.items _ (close_plan s g 0 plan below h).marking.writes

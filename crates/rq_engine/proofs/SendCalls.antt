@@ -29,9 +29,9 @@ use Rattle.rq_sound.proofs.Groups.{slots_tell}
 use Rattle.rq_engine.proofs.Latches.{send_busy}
 use Rattle.rq_engine.proofs.Standing.{refused_steps, start_steps}
 use Rattle.rq_model.specs.Replay.Reply.{Gave_sub}
+use Rattle.rq_engine.specs.declared.plans.Planned.{Planned}
 use Rattle.rq_engine.specs.Answers.{Refuses, HasNothingUnderWay, OnUnder}
 use Rattle.rq_model.specs.Legal.{OnFound}
-use Rattle.rq_chain.specs.declared.ChainPlan.{ChainPlan as Plan}
 use Rattle.rq_engine.specs.Invariant.{IsConsistent, IsUnderConsistent, end_bytes}
 use Rattle.rq_engine.specs.Sends.{under_plan, FitsUnder, HasRoom, SendIsLatched}
 use Rattle.rq_engine.proofs.Keeping.{kept_started}
@@ -121,7 +121,7 @@ pub send_refused : (s : State) (t : Txn) (g tag : ℕ) (body : List ℕ) → (Is
 send_refused s t g tag body may room latched k = (refused_steps s k (Start_send t (message_of g tag body)) why.Latched (may k, refl) refl, send_busy s k g room latched)
 
 -- a send that has started
-pub send_done : (s new : State) (t : Txn) (n e tag : ℕ) (body b : List ℕ) (plan : Plan) → HasNothingUnderWay s t n → NoneHolds (ready_tests (ledger_of s) t false) → AreUnlatched s plan.writes.items → b ≡ body
+pub send_done : (s new : State) (t : Txn) (n e tag : ℕ) (body b : List ℕ) (plan : Planned) → HasNothingUnderWay s t n → NoneHolds (ready_tests (ledger_of s) t false) → AreUnlatched s plan.writes.items → b ≡ body
     → IsSendPlan s.sizes (slots_in s.sizes s.images) (under_plan n plan) e tag b → is_free_for t e s.ends.sending ≡ true → s.cells_in_use < cell_count s.sizes → (IsSound s → Passes (size_of s.sizes) (ledger_of s) (Start_send t (message_of e tag body)))
     → new ≡ record s { rows = change_row t (row_started (under_plan n plan)) s.rows; ends = record { sending = with_held t e s.ends.sending; receiving = s.ends.receiving }; cells_in_use = s.cells_in_use + 1 }
     → IsSound s → IsModelStep s (Start_send t (message_of e tag body)) (Gave_sub t n) new
@@ -133,7 +133,7 @@ send_done s new t n e tag body b plan ready h off same p free room may is k =
     subst (λ (x : State). IsModelStep s (Start_send t (message_of e tag body)) (Gave_sub t n) x) (sym is) c
 
 -- what was planned is under way
-pub going_started : (s : State) (rows : List Row) (t : Txn) (n : ℕ) (plan : Plan) (P : Row → Under → Type 0) → HasNothingUnderWay s t n → rows ≡ change_row t (row_started (under_plan n plan)) s.rows
+pub going_started : (s : State) (rows : List Row) (t : Txn) (n : ℕ) (plan : Planned) (P : Row → Under → Type 0) → HasNothingUnderWay s t n → rows ≡ change_row t (row_started (under_plan n plan)) s.rows
     → ((r : Row) → P r (under_plan n plan)) → OnFound (found_row t rows) (λ r. OnUnder n P r r.under)
 going_started s rows t n plan P ready is holds =
     let r = found_of (λ r. (r.under ≡ None) × (n ≡ r.number + 1)) (found_row t s.rows) ready in

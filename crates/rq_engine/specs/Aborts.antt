@@ -82,7 +82,7 @@ UndoSays old t None new = ((n : ℕ) × IsTurnedBack old t n None) × (new ≡ o
 
 -- An inverse whose writes are made was ended by the record that names what it undid: that is no longer among what its
 -- transaction did, a message that it had taken waits again, and the cell of one that it had sent is free.
-pub record IsUndone (old : State) (sub : Sub) (new : State) : Type 0 where
+pub record IsUndoFinished (old : State) (sub : Sub) (new : State) : Type 0 where
   pub lsn : ℕ
   pub deed : Deed
   pub going : IsUnderWay old sub (λ r u. (length u.writes ≤ u.made) × (u.aim ≡ Undoing lsn deed))

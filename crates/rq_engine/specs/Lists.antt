@@ -23,7 +23,7 @@ use Rattle.rq_store.specs.State.{State}
 use Rattle.rq_store.specs.Plans.{IsSendPlan, IsTakePlan, WaitsFor, NoneWaits}
 use Rattle.rq_store.specs.Settled.{takes_one}
 use Rattle.rq_store.specs.Steps.{op_end, gave_done}
-use Rattle.rq_engine.specs.Aborts.{IsAborted, IsAborting, IsUndone, UndoSays}
+use Rattle.rq_engine.specs.Aborts.{IsAborted, IsAborting, IsUndoFinished, UndoSays}
 use Rattle.rq_engine.specs.Closes.{IsClosePlan}
 use Rattle.rq_engine.specs.Answers.{IsUnderWay, IsMade, HasNothingUnderWay}
 use Rattle.rq_engine.specs.Moves.{with_sends, with_tags, without_taken}
@@ -31,8 +31,8 @@ use Rattle.rq_engine.specs.Says.{outcome_of, receipt_of}
 use Rattle.rq_engine.specs.declared.event.CommitNo.{CommitNo}
 use Rattle.rq_engine.specs.declared.event.Event.{Event}
 use Rattle.rq_engine.specs.declared.event.Event.TheVariants as event
-use Rattle.rq_engine.specs.declared.event.Outcome.{Outcome}
-use Rattle.rq_engine.specs.declared.event.Outcome.TheVariants as outcome
+use Rattle.rq_level.specs.declared.writes.Outcome.{Outcome}
+use Rattle.rq_level.specs.declared.writes.Outcome.TheVariants as outcome
 use Rattle.rq_engine.specs.declared.event.Progress.{Progress}
 use Rattle.rq_engine.specs.declared.event.Progress.TheVariants as progress
 use Rattle.rq_engine.specs.declared.event.Receipt.{Receipt}
@@ -109,7 +109,7 @@ pub record IsFinished (old : State) (sub : Sub) (o : Outcome) (new : State) : Ty
 
 -- an operation was ended: an inverse, where it says that something is undone, else a deed
 abbrev pub FinishSays : State → Sub → Outcome → State → Type 0
-FinishSays old sub outcome.Undone new = IsUndone old sub new
+FinishSays old sub outcome.Undone new = IsUndoFinished old sub new
 FinishSays old sub o new = IsFinished old sub o new
 
 -- the operations that a transaction finished

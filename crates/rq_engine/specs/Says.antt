@@ -20,8 +20,8 @@ use Rattle.rq_pool.specs.Writing.{DeviceAfter}
 use Rattle.rq_engine.specs.Opened.{OpenStore, NotWritten, WritesWhen}
 use Rattle.rq_engine.specs.declared.event.Progress.{Progress}
 use Rattle.rq_engine.specs.declared.event.Progress.TheVariants as progress
-use Rattle.rq_engine.specs.declared.event.Outcome.{Outcome}
-use Rattle.rq_engine.specs.declared.event.Outcome.TheVariants as outcome
+use Rattle.rq_level.specs.declared.writes.Outcome.{Outcome}
+use Rattle.rq_level.specs.declared.writes.Outcome.TheVariants as outcome
 use Rattle.rq_engine.specs.declared.event.Event.{Event}
 use Rattle.rq_engine.specs.declared.event.Event.TheVariants as event
 use Rattle.rq_engine.specs.declared.event.CommitNo.{CommitNo}

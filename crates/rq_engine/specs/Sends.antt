@@ -4,7 +4,6 @@ use Rattle.rq_model.specs.Deeds.{deed_in, spelled_deed}
 use Rattle.rq_page.specs.Sizes.{Sizes, sender_count}
 use Rattle.rq_views.specs.Plans.{deed_sender}
 use Rattle.rq_level.specs.declared.writes.SlotWrite.{SlotWrite}
-use Rattle.rq_chain.specs.declared.ChainPlan.{ChainPlan as Plan}
 use Rattle.rq_level.specs.Writes.{AreSlotWrites}
 use Rattle.rq_txn.specs.declared.Aim.TheVariants.{Doing}
 use Rattle.rq_txn.specs.Rows.{Under, deed_of}
@@ -12,6 +11,7 @@ use Rattle.rq_store.specs.State.{State, owed_by}
 use Rattle.rq_sound.specs.Groups.{slots_now}
 use Rattle.rq_sound.specs.Latching.{AllFreeLatched, any_latched, at_tail, behind_head}
 use Rattle.rq_sound.specs.Lowest.{FirstIsLowest}
+use Rattle.rq_engine.specs.declared.plans.Planned.{Planned}
 use Rattle.rq_engine.specs.Invariant.{EndFits, end_bytes}
 
 -- the log has room for the records of so many writes, and an end, behind those that are owed
@@ -31,7 +31,7 @@ abbrev pub take_latched : State → ℕ → Bool
 take_latched s g = any_latched s.rows (behind_head (slots_now s) g)
 
 -- the operation that a plan begins as
-abbrev pub under_plan : ℕ → Plan → Under
+abbrev pub under_plan : ℕ → Planned → Under
 under_plan number plan = record { number = number; writes = plan.writes.items; made = 0; aim = Doing plan.deed }
 
 -- the operation writes slots of the store, nothing of it is made, and its records take so many bytes
@@ -43,11 +43,11 @@ pub record FitsUnder (z : Sizes) (u : Under) (room : ℕ) : Type 0 where
   pub room_is : room ≡ 546 * length u.writes + end_bytes u.aim
 
 -- the plan writes slots of the store, three at most, and its records take so many bytes
-pub record FitsPlan (z : Sizes) (plan : Plan) (room : ℕ) : Type 0 where
+pub record FitsPlan (z : Sizes) (plan : Planned) : Type 0 where
   pub sender : deed_sender plan.deed < sender_count z
   pub slots : AreSlotWrites z plan.writes.items
   pub count : length plan.writes.items ≤ 3
   pub deed_low : 1 ≤ length (spelled_deed plan.deed)
   pub deed_high : length (spelled_deed plan.deed) ≤ 256
   pub reads : deed_in (spelled_deed plan.deed) ≡ Some plan.deed
-  pub room_is : room ≡ length plan.writes.items * 546 + (30 + length (spelled_deed plan.deed))
+  pub room_is : plan.room ≡ length plan.writes.items * 546 + (30 + length (spelled_deed plan.deed))

@@ -19,8 +19,8 @@ ghost use Rattle.rq_engine.specs.Closes.{IsClosePlan, close_latched};
 ghost use Rattle.rq_engine.specs.Sends.{under_plan, FitsPlan};
 
 use crate::engine::Engine;
+use crate::plans::Planned;
 use crate::starts::CLOSE_RECORDS;
-use rq_chain::ChainPlan;
 use rq_disk::{LogDevice, PageDevice};
 use rq_groups::End;
 use rq_level::{Level, Op};
@@ -49,8 +49,8 @@ impl<P: PageDevice, L: LogDevice, B: Level> Engine<P, L, B> {
         self.check_close(txn, sender)?;
         match self.plan_close(sender) {
             Ok(None) => Err(Refusal::Latched),
-            Ok(Some((plan, room))) => {
-                match self.start(txn, number, End::Sending(sender), plan, room) {
+            Ok(Some(plan)) => {
+                match self.start(txn, number, End::Sending(sender), plan) {
                     Ok(()) => Ok(Sub { txn, number }),
                     Err(refusal) => Err(refusal),
                 }
@@ -90,18 +90,17 @@ impl<P: PageDevice, L: LogDevice, B: Level> Engine<P, L, B> {
         Ok(())
     }
 
-    // The plan of a close, from the slots as they are, and how many bytes its records take in the log; none where it
-    // needs a page that others have latched.
-    fn plan_close(&mut self, sender: u32) -> Result<Option<(ChainPlan, usize)>, Refusal>
+    // The plan of a close, from the slots as they are; none where it needs a page that others have latched.
+    fn plan_close(&mut self, sender: u32) -> Result<Option<Planned>, Refusal>
         requires { sender < sender_count self.old.state.sizes }
         ensures same { self.new ≡ self.old }
         ensures plan { IfOk result (λ found. IfSome found (λ planned. (number : ℕ)
             → IsClosePlan self.old.state.sizes (slots_in self.old.state.sizes self.old.state.images)
-            (under_plan number planned.0) sender)) }
-        ensures fits { IfOk result (λ found. IfSome found (λ planned. FitsPlan self.old.state.sizes planned.0 planned.1)) }
-        ensures one { IfOk result (λ found. IfSome found (λ planned. length planned.0.writes.items ≡ 1)) }
+            (under_plan number planned) sender)) }
+        ensures fits { IfOk result (λ found. IfSome found (λ planned. FitsPlan self.old.state.sizes planned)) }
+        ensures one { IfOk result (λ found. IfSome found (λ planned. length planned.writes.items ≡ 1)) }
         ensures free { IfOk result (λ found. IfSome found
-            (λ planned. AreUnlatched self.old.state planned.0.writes.items)) }
+            (λ planned. AreUnlatched self.old.state planned.writes.items)) }
         ensures unlatched { IfOk result (λ found. IfSome found (λ _. close_latched self.old.state sender ≡ false)) }
         ensures latched { IfOk result (λ found. IfNone found (close_latched self.old.state sender ≡ true)) }
         ensures plain { IfErr result (λ r. r ≢ Refusal.Failed) }

@@ -3,7 +3,7 @@ ghost use Rattle.std.specs.Prelude.{◌≡◌};
 
 pub use rq_content::GroupContent;
 pub use rq_groups::LastTag;
-use rq_model::message::Message;
+pub use rq_level::Outcome;
 use rq_model::refusal::Refusal;
 use rq_model::txn::{Lsn, Sub, Txn};
 pub use rq_pool::Written;
@@ -66,19 +66,6 @@ pub enum Progress {
     Done(Lsn),
     /// All slots are written: the operation may be finished.
     Ready,
-}
-
-/// What a finished operation did.
-#[derive(Clone, Copy, PartialEq, Eq)]
-pub enum Outcome {
-    /// A message was sent.
-    Sent,
-    /// This message was received.
-    Message(Message),
-    /// A group was closed.
-    Closed,
-    /// An earlier operation was undone.
-    Undone,
 }
 
 /// One call of the engine.

@@ -1,5 +1,5 @@
 //! Plans of operations, by the level.
-ghost use Rattle.std.specs.Prelude.{◌≡◌, ◌≢◌, IfOk, IfErr, IfSome, IfNone, IsSome, None, Some, false};
+ghost use Rattle.std.specs.Prelude.{◌≡◌, ◌≢◌, ◌+◌, ◌*◌, ◌≤◌, IfOk, IfErr, IfSome, IfNone, IsSome, None, Some, false, length};
 ghost use Rattle.rq_model.specs.Deeds.{deed_in};
 ghost use Rattle.rq_level.specs.Ops.{Doing};
 ghost use Rattle.rq_sound.specs.Sound.{IsSound};
@@ -8,24 +8,30 @@ ghost use Rattle.rq_planner.specs.Asked.{Do, IsOfStore, asked_by, undone_by};
 ghost use Rattle.rq_engine.specs.Plans.{IsDeedPlan, IsToDo, known_part};
 
 use crate::engine::Engine;
-use crate::starts::room_of;
-use rq_chain::ChainPlan;
 use rq_disk::{LogDevice, PageDevice};
-use rq_level::{Level, Op, Plan};
-use rq_model::record::Record;
+use rq_level::{Level, Op, Plan, SlotWrite};
+use rq_model::record::{Deed, Record};
 use rq_model::refusal::Refusal;
-use rq_record::decode_deed;
+use rq_record::{OP_END_BYTES, PAGE_OP_BYTES, decode_deed};
+
+/// What is planned of an operation that is to be done: its slot writes in order, the deed that its end tells, and how many
+/// bytes its records take in the log.
+#[derive(Drop)]
+pub(crate) struct Planned {
+    pub(crate) writes: Vec<SlotWrite>,
+    pub(crate) deed: Deed,
+    pub(crate) room: usize,
+}
 
 impl<P: PageDevice, L: LogDevice, B: Level> Engine<P, L, B> {
-    // The plan of an operation with its deed, and how many bytes its records take in the log; none where it needs a page
-    // that others have latched.
-    pub(crate) fn plan_deed(&mut self, op: &Op) -> Result<Option<(ChainPlan, usize)>, Refusal>
+    // The plan of an operation that is to be done; none where it needs a page that others have latched.
+    pub(crate) fn plan_deed(&mut self, op: &Op) -> Result<Option<Planned>, Refusal>
         requires forward { op.now.undo ≡ false }
         requires asked { IsToDo self.old.state.sizes (asked_by op.now) }
         ensures same { self.new ≡ self.old }
         // The plan, and latches, exactly.
         ensures plan { IfOk result (λ found. IfSome found (λ planned. (d : Doing) → asked_by op.now ≡ Some (Do d)
-            → IsDeedPlan self.old.state d planned.0 planned.1)) }
+            → IsDeedPlan self.old.state d planned)) }
         ensures unlatched { IfOk result (λ found. IfSome found (λ _. (d : Doing) → asked_by op.now ≡ Some (Do d)
             → IsHeldUp (known_part self.old.state) (Do d) → ⊥)) }
         ensures latched { IfOk result (λ found. IfNone found ((d : Doing) → asked_by op.now ≡ Some (Do d)
@@ -36,11 +42,7 @@ impl<P: PageDevice, L: LogDevice, B: Level> Engine<P, L, B> {
             → MayBeAsked self.old.state (Do d) → IfErr result (λ r. r ≡ Refusal.NoMemory) }
     {
         match self.plan_op(op) {
-            Ok(Some(plan)) => {
-                let plan = with_deed(plan);
-                let room = room_of(&plan);
-                Ok(Some((plan, room)))
-            }
+            Ok(Some(plan)) => Ok(Some(with_deed(plan))),
             Ok(None) => Ok(None),
             Err(refusal) => Err(refusal),
         }
@@ -68,17 +70,25 @@ impl<P: PageDevice, L: LogDevice, B: Level> Engine<P, L, B> {
     }
 }
 
-// A plan with the deed that its bytes tell.
-fn with_deed(plan: Plan) -> ChainPlan
-    requires { IsSome (deed_in plan.deed) }
+// A plan with the deed that its bytes tell. The level alone reads and writes these; the engine counts by the deed.
+fn with_deed(plan: Plan) -> Planned
+    requires few { length plan.writes.items ≤ 3 }
+    requires told { IsSome (deed_in plan.deed) }
     ensures writes { result.writes ≡ plan.writes }
     ensures deed { deed_in plan.deed ≡ Some result.deed }
+    ensures room { result.room ≡ length plan.writes.items * 546 + (30 + length plan.deed) }
+    ensures short { length plan.deed ≤ 256 }
 {
     let Plan {
         writes,
         deed,
         reply: _,
     } = plan;
-    let deed = decode_deed(deed.as_slice()).unwrap();
-    ChainPlan { writes, deed }
+    let told = deed.as_slice();
+    let end = OP_END_BYTES + told.len();
+    Planned {
+        room: writes.len() * PAGE_OP_BYTES + end,
+        writes,
+        deed: decode_deed(told).unwrap(),
+    }
 }

@@ -19,8 +19,8 @@ ghost use Rattle.rq_engine.specs.Receives.{IsTakeCall, started_of};
 ghost use Rattle.rq_engine.specs.Sends.{under_plan, FitsPlan, take_latched};
 
 use crate::engine::Engine;
+use crate::plans::Planned;
 use crate::starts::CHAIN_RECORDS;
-use rq_chain::ChainPlan;
 use rq_disk::{LogDevice, PageDevice};
 use rq_groups::End;
 use rq_level::{Level, Op};
@@ -56,8 +56,8 @@ impl<P: PageDevice, L: LogDevice, B: Level> Engine<P, L, B> {
         }
         match self.plan_any_take(txn, first) {
             Ok(None) => Err(Refusal::Latched),
-            Ok(Some((sender, plan, room))) => {
-                match self.start_take(txn, number, sender, plan, room) {
+            Ok(Some((sender, plan))) => {
+                match self.start_take(txn, number, sender, plan) {
                     Ok(sub) => Ok(Some(sub)),
                     Err(refusal) => Err(refusal),
                 }
@@ -100,7 +100,7 @@ impl<P: PageDevice, L: LogDevice, B: Level> Engine<P, L, B> {
         }
         match self.plan_take(sender) {
             Ok(None) => Err(Refusal::Latched),
-            Ok(Some((plan, room))) => match self.start_take(txn, number, sender, plan, room) {
+            Ok(Some(plan)) => match self.start_take(txn, number, sender, plan) {
                 Ok(sub) => Ok(Some(sub)),
                 Err(refusal) => Err(refusal),
             },
@@ -114,8 +114,7 @@ impl<P: PageDevice, L: LogDevice, B: Level> Engine<P, L, B> {
         txn: Txn,
         number: u64,
         sender: u32,
-        plan: ChainPlan,
-        room: usize,
+        plan: Planned,
     ) -> Result<Sub, Refusal>
         // What the caller has tested, and planned.
         requires ready { HasNothingUnderWay self.old.state txn number }
@@ -125,7 +124,7 @@ impl<P: PageDevice, L: LogDevice, B: Level> Engine<P, L, B> {
         requires plan { IsTakePlan self.old.state.sizes (slots_in self.old.state.sizes self.old.state.images)
             (under_plan number plan) sender }
         requires unlatched { AreUnlatched self.old.state plan.writes.items }
-        requires fits { FitsPlan self.old.state.sizes plan room }
+        requires fits { FitsPlan self.old.state.sizes plan }
         // What it answers and starts.
         ensures answered { (call : Call) → IsTakeCall txn sender call
             → AnswersLegally P.PageDevice L.LogDevice self.old call (λ sub. started_of (Some sub)) result self.new }
@@ -137,7 +136,7 @@ impl<P: PageDevice, L: LogDevice, B: Level> Engine<P, L, B> {
         ensures refused { OnErr result (self.new ≡ self.old) }
         ensures plain { IfErr result (λ r. r ≡ Refusal.NoMemory) }
     {
-        match self.start(txn, number, End::Receiving(sender), plan, room) {
+        match self.start(txn, number, End::Receiving(sender), plan) {
             Ok(()) => Ok(Sub { txn, number }),
             Err(refusal) => Err(refusal),
         }
@@ -163,21 +162,16 @@ impl<P: PageDevice, L: LogDevice, B: Level> Engine<P, L, B> {
         self.waiting.next_free(&self.ends, from)
     }
 
-    // A sender of which a message waits for the transaction, with the plan of its receive, and how many bytes its
-    // records take in the log; none where others have latched a page that is needed, whatever the sender. This one is
-    // tried first.
-    fn plan_any_take(
-        &mut self,
-        txn: Txn,
-        first: u32,
-    ) -> Result<Option<(u32, ChainPlan, usize)>, Refusal>
+    // A sender of which a message waits for the transaction, with the plan of its receive; none where others have latched
+    // a page that is needed, whatever the sender. This one is tried first.
+    fn plan_any_take(&mut self, txn: Txn, first: u32) -> Result<Option<(u32, Planned)>, Refusal>
         requires { WaitsFor self.old.state txn first }
         ensures same { self.new ≡ self.old }
         ensures waits { IfOk result (λ found. IfSome found (λ planned. WaitsFor self.old.state txn planned.0)) }
         ensures plan { IfOk result (λ found. IfSome found (λ planned. (number : ℕ)
             → IsTakePlan self.old.state.sizes (slots_in self.old.state.sizes self.old.state.images)
             (under_plan number planned.1) planned.0)) }
-        ensures fits { IfOk result (λ found. IfSome found (λ planned. FitsPlan self.old.state.sizes planned.1 planned.2)) }
+        ensures fits { IfOk result (λ found. IfSome found (λ planned. FitsPlan self.old.state.sizes planned.1)) }
         ensures free { IfOk result (λ found. IfSome found
             (λ planned. AreUnlatched self.old.state planned.1.writes.items)) }
         ensures unlatched { IfOk result (λ found. IfSome found
@@ -187,8 +181,8 @@ impl<P: PageDevice, L: LogDevice, B: Level> Engine<P, L, B> {
         ensures plain { IfErr result (λ r. r ≢ Refusal.Failed) }
         ensures refused { IsSound self.old.state → IfErr result (λ r. r ≡ Refusal.NoMemory) }
     {
-        if let Some((plan, room)) = self.plan_take(first)? {
-            return Ok(Some((first, plan, room)));
+        if let Some(plan) = self.plan_take(first)? {
+            return Ok(Some((first, plan)));
         }
         match self.plan_free_take(txn)? {
             Some(planned) => Ok(Some(planned)),
@@ -197,13 +191,13 @@ impl<P: PageDevice, L: LogDevice, B: Level> Engine<P, L, B> {
     }
 
     // The same, of the senders whose receiving end nobody holds.
-    fn plan_free_take(&mut self, txn: Txn) -> Result<Option<(u32, ChainPlan, usize)>, Refusal>
+    fn plan_free_take(&mut self, txn: Txn) -> Result<Option<(u32, Planned)>, Refusal>
         ensures same { self.new ≡ self.old }
         ensures waits { IfOk result (λ found. IfSome found (λ planned. WaitsFor self.old.state txn planned.0)) }
         ensures plan { IfOk result (λ found. IfSome found (λ planned. (number : ℕ)
             → IsTakePlan self.old.state.sizes (slots_in self.old.state.sizes self.old.state.images)
             (under_plan number planned.1) planned.0)) }
-        ensures fits { IfOk result (λ found. IfSome found (λ planned. FitsPlan self.old.state.sizes planned.1 planned.2)) }
+        ensures fits { IfOk result (λ found. IfSome found (λ planned. FitsPlan self.old.state.sizes planned.1)) }
         ensures free { IfOk result (λ found. IfSome found
             (λ planned. AreUnlatched self.old.state planned.1.writes.items)) }
         ensures unlatched { IfOk result (λ found. IfSome found
@@ -216,8 +210,8 @@ impl<P: PageDevice, L: LogDevice, B: Level> Engine<P, L, B> {
     {
         let mut from = 0;
         while let Some(sender) = self.next_free(from) {
-            if let Some((plan, room)) = self.plan_take(sender)? {
-                return Ok(Some((sender, plan, room)));
+            if let Some(plan) = self.plan_take(sender)? {
+                return Ok(Some((sender, plan)));
             }
             from = sender + 1;
         }
@@ -225,13 +219,13 @@ impl<P: PageDevice, L: LogDevice, B: Level> Engine<P, L, B> {
     }
 
     // The same, of the senders whose receiving end the transaction holds.
-    fn plan_own_take(&mut self, txn: Txn) -> Result<Option<(u32, ChainPlan, usize)>, Refusal>
+    fn plan_own_take(&mut self, txn: Txn) -> Result<Option<(u32, Planned)>, Refusal>
         ensures same { self.new ≡ self.old }
         ensures waits { IfOk result (λ found. IfSome found (λ planned. WaitsFor self.old.state txn planned.0)) }
         ensures plan { IfOk result (λ found. IfSome found (λ planned. (number : ℕ)
             → IsTakePlan self.old.state.sizes (slots_in self.old.state.sizes self.old.state.images)
             (under_plan number planned.1) planned.0)) }
-        ensures fits { IfOk result (λ found. IfSome found (λ planned. FitsPlan self.old.state.sizes planned.1 planned.2)) }
+        ensures fits { IfOk result (λ found. IfSome found (λ planned. FitsPlan self.old.state.sizes planned.1)) }
         ensures free { IfOk result (λ found. IfSome found
             (λ planned. AreUnlatched self.old.state planned.1.writes.items)) }
         ensures unlatched { IfOk result (λ found. IfSome found
@@ -244,8 +238,8 @@ impl<P: PageDevice, L: LogDevice, B: Level> Engine<P, L, B> {
     {
         let mut next = self.ends.newest_received(txn);
         while let Some(sender) = next {
-            if let Some((plan, room)) = self.plan_waiting(txn, sender)? {
-                return Ok(Some((sender, plan, room)));
+            if let Some(plan) = self.plan_waiting(txn, sender)? {
+                return Ok(Some((sender, plan)));
             }
             next = self.ends.received_before(sender);
         }
@@ -254,15 +248,15 @@ impl<P: PageDevice, L: LogDevice, B: Level> Engine<P, L, B> {
 
     // The plan of a receive from the sender's group, where it holds a message for the transaction and needs no page that
     // others have latched.
-    fn plan_waiting(&mut self, txn: Txn, sender: u32) -> Result<Option<(ChainPlan, usize)>, Refusal>
+    fn plan_waiting(&mut self, txn: Txn, sender: u32) -> Result<Option<Planned>, Refusal>
         ensures same { self.new ≡ self.old }
         ensures waits { IfOk result (λ found. IfSome found (λ _. WaitsFor self.old.state txn sender)) }
         ensures plan { IfOk result (λ found. IfSome found (λ planned. (number : ℕ)
             → IsTakePlan self.old.state.sizes (slots_in self.old.state.sizes self.old.state.images)
-            (under_plan number planned.0) sender)) }
-        ensures fits { IfOk result (λ found. IfSome found (λ planned. FitsPlan self.old.state.sizes planned.0 planned.1)) }
+            (under_plan number planned) sender)) }
+        ensures fits { IfOk result (λ found. IfSome found (λ planned. FitsPlan self.old.state.sizes planned)) }
         ensures free { IfOk result (λ found. IfSome found
-            (λ planned. AreUnlatched self.old.state planned.0.writes.items)) }
+            (λ planned. AreUnlatched self.old.state planned.writes.items)) }
         ensures unlatched { IfOk result (λ found. IfSome found (λ _. take_latched self.old.state sender ≡ false)) }
         ensures latched { IfOk result (λ found. IfNone found (WaitsFor self.old.state txn sender
             → take_latched self.old.state sender ≡ true)) }
@@ -275,19 +269,18 @@ impl<P: PageDevice, L: LogDevice, B: Level> Engine<P, L, B> {
         self.plan_take(sender)
     }
 
-    // The plan of a receive, from the slots as they are, and how many bytes its records take in the log; none where it
-    // needs a page that others have latched.
-    fn plan_take(&mut self, sender: u32) -> Result<Option<(ChainPlan, usize)>, Refusal>
+    // The plan of a receive, from the slots as they are; none where it needs a page that others have latched.
+    fn plan_take(&mut self, sender: u32) -> Result<Option<Planned>, Refusal>
         requires { sender < sender_count self.old.state.sizes }
         ensures same { self.new ≡ self.old }
         // The plan.
         ensures plan { IfOk result (λ found. IfSome found (λ planned. (number : ℕ)
             → IsTakePlan self.old.state.sizes (slots_in self.old.state.sizes self.old.state.images)
-            (under_plan number planned.0) sender)) }
-        ensures fits { IfOk result (λ found. IfSome found (λ planned. FitsPlan self.old.state.sizes planned.0 planned.1)) }
+            (under_plan number planned) sender)) }
+        ensures fits { IfOk result (λ found. IfSome found (λ planned. FitsPlan self.old.state.sizes planned)) }
         // Latches, exactly.
         ensures free { IfOk result (λ found. IfSome found
-            (λ planned. AreUnlatched self.old.state planned.0.writes.items)) }
+            (λ planned. AreUnlatched self.old.state planned.writes.items)) }
         ensures unlatched { IfOk result (λ found. IfSome found (λ _. take_latched self.old.state sender ≡ false)) }
         ensures latched { IfOk result (λ found. IfNone found (take_latched self.old.state sender ≡ true)) }
         // Why there is none otherwise.

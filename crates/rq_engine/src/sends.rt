@@ -18,8 +18,8 @@ ghost use Rattle.rq_engine.specs.Lists.{IsSendStarted};
 ghost use Rattle.rq_engine.specs.Sends.{under_plan, FitsPlan, SendIsLatched, TakesLowest};
 
 use crate::engine::Engine;
+use crate::plans::Planned;
 use crate::starts::CHAIN_RECORDS;
-use rq_chain::ChainPlan;
 use rq_disk::{LogDevice, PageDevice};
 use rq_groups::End;
 use rq_level::{Level, Op};
@@ -57,7 +57,7 @@ impl<P: PageDevice, L: LogDevice, B: Level> Engine<P, L, B> {
         let body = self.check_send(txn, sender, tag, body)?;
         match self.plan_send(sender, tag, body)? {
             None => Err(Refusal::Latched),
-            Some((plan, room)) => match self.start(txn, number, End::Sending(sender), plan, room) {
+            Some(plan) => match self.start(txn, number, End::Sending(sender), plan) {
                 Ok(()) => {
                     self.cells_in_use += 1;
                     Ok(Sub { txn, number })
@@ -107,26 +107,20 @@ impl<P: PageDevice, L: LogDevice, B: Level> Engine<P, L, B> {
         Ok(body)
     }
 
-    // The plan of a send, from the slots as they are, and how many bytes its records take in the log; none where it
-    // needs a page that others have latched.
-    fn plan_send(
-        &mut self,
-        sender: u32,
-        tag: u64,
-        body: Body,
-    ) -> Result<Option<(ChainPlan, usize)>, Refusal>
+    // The plan of a send, from the slots as they are; none where it needs a page that others have latched.
+    fn plan_send(&mut self, sender: u32, tag: u64, body: Body) -> Result<Option<Planned>, Refusal>
         requires { sender < sender_count self.old.state.sizes }
         ensures same { self.new ≡ self.old }
         // The plan.
         ensures plan { IfOk result (λ found. IfSome found (λ planned. (number : ℕ)
             → IsSendPlan self.old.state.sizes (slots_in self.old.state.sizes self.old.state.images)
-            (under_plan number planned.0) sender tag body)) }
+            (under_plan number planned) sender tag body)) }
         ensures lowest { IfOk result (λ found. IfSome found
-            (λ planned. TakesLowest self.old.state planned.0.writes.items)) }
-        ensures fits { IfOk result (λ found. IfSome found (λ planned. FitsPlan self.old.state.sizes planned.0 planned.1)) }
+            (λ planned. TakesLowest self.old.state planned.writes.items)) }
+        ensures fits { IfOk result (λ found. IfSome found (λ planned. FitsPlan self.old.state.sizes planned)) }
         // Latches, exactly.
         ensures free { IfOk result (λ found. IfSome found
-            (λ planned. AreUnlatched self.old.state planned.0.writes.items)) }
+            (λ planned. AreUnlatched self.old.state planned.writes.items)) }
         ensures unlatched { IfOk result (λ found. IfSome found (λ _. SendIsLatched self.old.state sender → ⊥)) }
         ensures latched { IfOk result (λ found. IfNone found (SendIsLatched self.old.state sender)) }
         // Why there is none otherwise.

@@ -1,7 +1,5 @@
 //! What starts of operations have in common.
-ghost use Rattle.std.specs.Prelude.{◌≡◌, ◌+◌, ◌*◌, ◌≤◌, IfErr, Some, OnOk, OnErr, true, length};
-ghost use Rattle.rq_model.specs.Deeds.{deed_in, spelled_deed};
-ghost use Rattle.rq_record.specs.Deeds.{IsDeedInRange};
+ghost use Rattle.std.specs.Prelude.{◌≡◌, IfErr, OnOk, OnErr, true};
 ghost use Rattle.rq_txn.specs.Rows.{change_row, row_started, under_of};
 ghost use Rattle.rq_groups.specs.Sides.{is_free_end, with_end};
 ghost use Rattle.rq_engine.specs.Opened.{LeavesDevices};
@@ -9,13 +7,12 @@ ghost use Rattle.rq_engine.specs.Answers.{HasNothingUnderWay};
 ghost use Rattle.rq_engine.specs.Sends.{under_plan, FitsPlan, FitsUnder, HasRoom};
 
 use crate::engine::Engine;
-use rq_chain::ChainPlan;
+use crate::plans::Planned;
 use rq_disk::{LogDevice, PageDevice};
 use rq_groups::End;
 use rq_level::Level;
 use rq_model::refusal::Refusal;
 use rq_model::txn::Txn;
-use rq_record::{OP_END_BYTES, PAGE_OP_BYTES, encode_deed};
 use rq_txn::{Aim, Operation};
 
 /// What a send, a receive or the inverse of one is counted as where it starts: three slots and an end.
@@ -24,18 +21,6 @@ pub(crate) const CHAIN_RECORDS: u64 = 4;
 /// What a close, or the inverse of one, is counted as where it starts: one slot and an end.
 pub(crate) const CLOSE_RECORDS: u64 = 2;
 
-/// How many bytes the records of a planned operation take in the log.
-pub(crate) fn room_of(plan: &ChainPlan) -> usize
-    requires { length plan.now.writes.items ≤ 3 }
-    ensures room { result ≡ length plan.now.writes.items * 546 + (30 + length (spelled_deed plan.now.deed)) }
-    ensures low { 1 ≤ length (spelled_deed plan.now.deed) }
-    ensures high { length (spelled_deed plan.now.deed) ≤ 256 }
-    ensures reads { IsDeedInRange plan.now.deed → deed_in (spelled_deed plan.now.deed) ≡ Some plan.now.deed }
-{
-    let end = OP_END_BYTES + encode_deed(&plan.deed).as_slice().len();
-    plan.writes.len() * PAGE_OP_BYTES + end
-}
-
 impl<P: PageDevice, L: LogDevice, B: Level> Engine<P, L, B> {
     // Takes the lock and the room of an operation, and lets it begin; where that is refused, the lock is given back.
     pub(crate) fn start(
@@ -43,12 +28,11 @@ impl<P: PageDevice, L: LogDevice, B: Level> Engine<P, L, B> {
         txn: Txn,
         number: u64,
         end: End,
-        plan: ChainPlan,
-        room: usize,
+        plan: Planned,
     ) -> Result<(), Refusal>
         requires ready { HasNothingUnderWay self.old.state txn number }
         requires free { is_free_end txn end self.old.state.ends ≡ true }
-        requires fits { FitsPlan self.old.state.sizes plan room }
+        requires fits { FitsPlan self.old.state.sizes plan }
         requires log { HasRoom self.old.state plan.writes.items }
         ensures started { OnOk result (self.new.state ≡ record self.old.state {
           rows = change_row txn
@@ -59,7 +43,7 @@ impl<P: PageDevice, L: LogDevice, B: Level> Engine<P, L, B> {
         ensures refusal { IfErr result (λ r. r ≡ Refusal.NoMemory) }
         ensures refused { OnErr result (self.new ≡ self.old) }
     {
-        let ChainPlan { writes, deed } = plan;
+        let Planned { writes, deed, room } = plan;
         let operation = Operation {
             number,
             writes,

@@ -35,8 +35,8 @@ pub fn sends(
         × (reverse (writes_of layout.now a.writes.items) ≡ reverse (writes_of layout.now b.writes.items)))) }
 {
     (
-        append(alloc, layout, group, tail, free, tag, body),
-        append(alloc, layout, group, tail_again, free, tag, body_again),
+        append(alloc, layout, group, tail, free, tag, &body),
+        append(alloc, layout, group, tail_again, free, tag, &body_again),
     )
 }
 
@@ -89,7 +89,7 @@ pub fn puts_back(
         (λ b. reverse (writes_of layout.now a.items) ≡ reverse (writes_of layout.now b.items))) }
 {
     (
-        put_back(alloc, layout, group, head, free, tag, body),
-        put_back(alloc, layout, group, head_again, free, tag, body_again),
+        put_back(alloc, layout, group, head, free, tag, &body),
+        put_back(alloc, layout, group, head_again, free, tag, &body_again),
     )
 }

@@ -26,11 +26,7 @@ use Rattle.rq_level.specs.Given.{given_at, GivenHolds}
 use Rattle.rq_level.specs.Writes.{writes_of, AreSlotWrites}
 use Rattle.rq_level.specs.declared.slots.Given.{Given}
 use Rattle.rq_level.specs.declared.writes.Plan.{Plan}
-use Rattle.rq_level.specs.declared.writes.PlannedReply.TheVariants as gives
-
--- the page where a sender's directory slot stands
-abbrev pub directory_page : ℕ → ℕ
-directory_page s = 1 + s / 15
+use Rattle.rq_level.specs.declared.writes.Outcome.TheVariants as gives
 
 -- the cell that a link names was given: none where it is 0
 abbrev pub Beside : Sizes → List Given → ℕ → Option Cell → Type 0
@@ -161,7 +157,7 @@ pub record IsReopened (z : Sizes) (k : LevelState) (given : List Given) (s : ℕ
 
 -- the damage is of the page where the sender's directory slot stands
 abbrev pub IsOfSender : ℕ → Damage → Type 0
-IsOfSender s d = d ≡ damage.Page (directory_page s)
+IsOfSender s d = d ≡ damage.Page (directory_at s / 16)
 
 -- why a sender's operation that takes a free cell has no plan, where the slots hold what it needs if Can
 abbrev pub RefusesTaking : Sizes → LevelState → List ℕ → ℕ → Type 0 → Refusal → Type 0

@@ -3,6 +3,7 @@ ghost use Rattle.std.specs.Prelude.{◌≡◌, ◌++◌, IfOk, Some, length, ◌
 ghost use Rattle.rq_level.specs.Ops.{Job, doing_in, chain_job, Send, Receive, Close, page_job, overwrite_in};
 
 use byteorder::{BigEndian, ByteOrder};
+use rq_bytes::end::put;
 use rq_model::record::Slot;
 use rq_model::refusal::NoMemory;
 use rq_page::addr::Addr;
@@ -119,12 +120,11 @@ impl Op {
     fn of(alloc: Global, level: u8, undo: bool, front: &[u8], rest: &[u8]) -> Result<Op, NoMemory>
         ensures { IfOk result (λ op. op ≡ record { level = level; undo = undo; bytes = front.now ++ rest.now }) }
     {
-        let Ok(mut bytes) = Vec::from_slice(alloc, front) else {
+        let Ok(mut bytes) = Vec::with_capacity(alloc, front.len() + rest.len()) else {
             return Err(NoMemory);
         };
-        match bytes.extend_from_slice(rest) {
-            Ok(()) => Ok(Op { level, undo, bytes }),
-            Err(_) => Err(NoMemory),
-        }
+        put(&mut bytes, front);
+        put(&mut bytes, rest);
+        Ok(Op { level, undo, bytes })
     }
 }

@@ -15,12 +15,16 @@ pub struct SlotWrite {
     ghost slot: { 0 < at % 16 },
 }
 
-/// What the end of an operation answers.
-#[derive(Clone, Copy)]
-pub enum PlannedReply {
+/// What a finished operation did.
+#[derive(Clone, Copy, PartialEq, Eq)]
+pub enum Outcome {
+    /// A message was sent.
     Sent,
+    /// This message was received.
     Message(Message),
+    /// A group was closed.
     Closed,
+    /// An earlier operation was undone.
     Undone,
 }
 
@@ -29,5 +33,5 @@ pub enum PlannedReply {
 pub struct Plan {
     pub writes: Vec<SlotWrite>,
     pub deed: DeedBytes,
-    pub reply: Option<PlannedReply>,
+    pub reply: Option<Outcome>,
 }

@@ -3,7 +3,7 @@ use Rattle.std.proofs.Common.{◌≡◌, ℕ, ◌<◌, ◌≤◌, Some, arith}
 use Rattle.std.proofs.lemmas.Bool.Decides.{nat_tests}
 use Rattle.rq_page.specs.Sizes.{Sizes, page_count}
 use Rattle.rq_page.specs.Kinds.{kind_of}
-use Rattle.rq_page.specs.Places.{CellsHavePlaces, PlacesAreCells, CellsRise, SendersHaveSlots, SlotsAreSenders}
+use Rattle.rq_page.specs.Places.{CellsHavePlaces, PlacesAreCells, CellsRise, SendersHaveSlots}
 use Rattle.rq_page.specs.declared.layout.PageKind.TheVariants as kind
 
 pub cells_have_places : CellsHavePlaces
@@ -18,9 +18,6 @@ cells_rise l i j lt = omega arith
 
 pub senders_have_slots : SendersHaveSlots
 senders_have_slots l sender lt = (omega arith, omega arith, omega arith, omega arith)
-
-pub slots_are_senders : SlotsAreSenders
-slots_are_senders l page slot page_low page_high slot_low slot_high = (omega arith, omega arith)
 
 -- the kinds of pages
 pub kind_directory : (l : Sizes) (page : ℕ) → 1 ≤ page → page ≤ l.directory → kind_of l page ≡ Some kind.Directory

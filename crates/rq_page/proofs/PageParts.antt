@@ -1,12 +1,12 @@
 -- The parts of a page, and what a write leaves of them.
-use Rattle.std.proofs.Common.{◌≡◌, ◌≢◌, ℕ, zero, suc, ◌+◌, ◌*◌, ◌^◌, ◌<◌, ◌≤◌, List, ◌++◌, length, take, drop, replicate, Option, Some, None, refl, sym, ap, ◌∙◌, arith, subst, inl, inr}
-use Rattle.std.proofs.lemmas.List.{drop-drop, drop-take, take-append-drop, drop_all}
-use Rattle.std.proofs.lemmas.Bool.{cases_lt, cases_eq}
+use Rattle.std.proofs.Common.{◌≡◌, ◌≢◌, ℕ, ◌*◌, ◌^◌, ◌<◌, ◌≤◌, List, ◌++◌, length, drop, replicate, Option, Some, None, refl, sym, ap, ◌∙◌, arith, inl, inr}
+use Rattle.std.proofs.lemmas.List.{drop-take}
+use Rattle.std.proofs.lemmas.Bool.{cases_lt}
 use Rattle.byteorder.specs.Endian.{big_bytes, big_number}
 use Rattle.byteorder.specs.Numbers.{big_number-reads_back, big_from-take}
 use Rattle.rq_bytes.specs.Number.{bytes_at, overlaid}
 use Rattle.rq_bytes.proofs.Overlaid.{bytes_at-overlaid, bytes_at-overlaid_before, bytes_at-overlaid_behind}
-use Rattle.rq_page.specs.Pages.{lsn_of, header_of, rest_of_header, slot_of, header_front, header_bytes, AreSamePages}
+use Rattle.rq_page.specs.Pages.{lsn_of, header_of, rest_of_header, slot_of, header_front, header_bytes}
 use Rattle.rq_page.specs.Sizes.{Sizes}
 use Rattle.rq_page.specs.Kinds.{kind_byte, kind_of}
 use Rattle.rq_page.specs.Formatted.{IsHeaderFor, IsHeaderOf}
@@ -100,26 +100,3 @@ stamped_for (Some k) page stamp old new lsn header is =
 pub header-stamped : (z : Sizes) (page stamp : ℕ) (old new : List ℕ) → lsn_of new ≡ stamp → header_of new ≡ big_bytes 8 stamp ++ rest_of_header old
     → IsHeaderOf z page old → IsHeaderOf z page new
 header-stamped z page stamp old new lsn header is = stamped_for (kind_of z page) page stamp old new lsn header is
-
--- lists of so many parts, the same from one part on
-same_from : (n k : ℕ) (p q : List ℕ) → length p ≡ 256 * (k + n) → length q ≡ 256 * (k + n)
-    → ((i : ℕ) → k ≤ i → i < k + n → bytes_at 256 (256 * i) p ≡ bytes_at 256 (256 * i) q)
-    → drop (256 * k) p ≡ drop (256 * k) q
-same_from zero k p q pl ql same = drop_all (256 * k) p (omega arith) ∙ sym (drop_all (256 * k) q (omega arith))
-same_from (suc n) k p q pl ql same =
-    let more : drop (256 * (k + 1)) p ≡ drop (256 * (k + 1)) q =
-    same_from n (k + 1) p q (omega (arith, pl)) (omega (arith, ql)) (λ i low high. same i (omega (arith, low)) (omega (arith, high))) in
-    let behind : (r : List ℕ) → drop 256 (drop (256 * k) r) ≡ drop (256 * (k + 1)) r =
-    λ r. drop-drop 256 (256 * k) r ∙ ap (λ j. drop j r) (let there : 256 * k + 256 ≡ 256 * (k + 1) = omega arith in there) in
-    sym (take-append-drop 256 (drop (256 * k) p))
-    ∙ ap (λ r. r ++ drop 256 (drop (256 * k) p)) (same k (omega arith) (omega arith))
-    ∙ ap (λ r. take 256 (drop (256 * k) q) ++ r) (behind p ∙ more ∙ sym (behind q))
-    ∙ take-append-drop 256 (drop (256 * k) q)
-
-pub are_same_pages : AreSamePages
-unfolding header_of slot_of
-are_same_pages p q pl ql header slots =
-    same_from 16 0 p q (omega arith) (omega arith) (λ i low high. elim (cases_eq i 0) [
-      | inl first ↦ subst (λ (j : ℕ). bytes_at 256 (256 * j) p ≡ bytes_at 256 (256 * j) q) (sym first) header
-      | inr later ↦ slots i (omega (arith, later)) (omega (arith, high))
-    ])

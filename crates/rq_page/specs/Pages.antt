@@ -1,5 +1,5 @@
 -- A page of 4,096 bytes: a header and fifteen slots.
-use Rattle.std.specs.Prelude.{◌≡◌, ◌≢◌, ℕ, ◌*◌, ◌≤◌, List, [], ◌∷◌, ◌++◌, length, replicate}
+use Rattle.std.specs.Prelude.{◌≡◌, ◌≢◌, ℕ, ◌*◌, ◌≤◌, List, [], ◌∷◌, ◌++◌, replicate}
 use Rattle.byteorder.specs.Endian.{big_bytes}
 use Rattle.rq_bytes.specs.Number.{number_at, bytes_at}
 
@@ -33,9 +33,3 @@ pub record IsWritten (old new : List ℕ) (n : ℕ) (image : List ℕ) (stamp : 
   pub header : rest_of_header new ≡ rest_of_header old
   pub slot : slot_of n new ≡ image
   pub others : (k : ℕ) → 1 ≤ k → k ≤ 15 → k ≢ n → slot_of k new ≡ slot_of k old
-
--- a page is its header and its fifteen slots
-abbrev pub AreSamePages : Type 0
-AreSamePages =
-    (p q : List ℕ) → length p ≡ 4096 → length q ≡ 4096 → header_of p ≡ header_of q
-    → ((n : ℕ) → 1 ≤ n → n ≤ 15 → slot_of n p ≡ slot_of n q) → p ≡ q

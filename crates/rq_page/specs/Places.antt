@@ -1,6 +1,6 @@
--- The addresses of cells and directory slots are the slots of their pages, each once.
+-- Cells and senders have addresses of their own.
 use Rattle.std.specs.Prelude.{◌≡◌, ℕ, ◌/◌, ◌%◌, ◌<◌, ◌≤◌}
-use Rattle.rq_page.specs.Sizes.{Sizes, IsCellAddress, cell_count, sender_count, address, directory_at, sender_at, cell_at, place_of}
+use Rattle.rq_page.specs.Sizes.{Sizes, IsCellAddress, cell_count, sender_count, directory_at, sender_at, cell_at, place_of}
 
 -- each place among the cells has its own address
 abbrev pub CellsHavePlaces : Type 0
@@ -23,9 +23,3 @@ SendersHaveSlots =
     (l : Sizes) (sender : ℕ) → sender < sender_count l
     → (1 ≤ directory_at sender / 16) × (directory_at sender / 16 ≤ l.directory) × (1 ≤ directory_at sender % 16)
     × (sender_at (directory_at sender / 16) (directory_at sender % 16) ≡ sender)
-
--- each slot of a directory page is that of a sender
-abbrev pub SlotsAreSenders : Type 0
-SlotsAreSenders =
-    (l : Sizes) (page slot : ℕ) → 1 ≤ page → page ≤ l.directory → 1 ≤ slot → slot ≤ 15
-    → (sender_at page slot < sender_count l) × (directory_at (sender_at page slot) ≡ address page slot)

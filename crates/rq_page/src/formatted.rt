@@ -1,7 +1,7 @@
 //! What a formatted store holds, page by page, and the superblock, which says how large a store is.
 ghost use Rattle.std.specs.Prelude.{◌≡◌, ◌≤◌, ◌<◌, ◌↔◌, IfSome, IsTrue, Some};
 ghost use Rattle.rq_page.specs.Sizes.{Sizes, IsInRange, page_count};
-ghost use Rattle.rq_page.specs.Formatted.{superblock_front, superblock_bytes, formatted_slot, IsFormatted, FormattedHolds};
+ghost use Rattle.rq_page.specs.Formatted.{superblock_front, superblock_bytes, formatted_slot, IsFormatted};
 
 use crate::cell::CellSlot;
 use crate::directory::{Directory, DirectorySlot};
@@ -73,12 +73,6 @@ impl Layout {
             None
         }
     }
-
-    /// The slots of a formatted store's directory and cell pages are well formed, and hold open groups to
-    /// which nothing was sent, and no message.
-    pub fn formatted_is_empty()
-        ensures { FormattedHolds }
-    {}
 
     // Whether a page is that of a formatted store.
     fn is_formatted(&self, page: u32, kind: PageKind, image: &Page) -> bool

@@ -1,7 +1,6 @@
 //! Where the pages, senders and cells of a store stand.
 ghost use Rattle.std.specs.Prelude.{◌≡◌, ◌↔◌, ◌≤◌, ◌<◌, IsTrue, IsSome, IfSome};
 ghost use Rattle.rq_page.specs.Sizes.{Sizes, IsInRange, IsCellAddress, page_count, sender_count, cell_count, directory_at, sender_at, cell_at, place_of};
-ghost use Rattle.rq_page.specs.Places.{CellsHavePlaces, PlacesAreCells, CellsRise, SendersHaveSlots, SlotsAreSenders};
 
 use crate::addr::Addr;
 use std::marker::Model;
@@ -185,14 +184,4 @@ impl Layout {
     {
         SLOTS * ((addr.page() - (1 + self.directory) as u64) as u32) + (addr.slot() as u32 - 1)
     }
-
-    /// The addresses of cells and directory slots are the slots of their pages, each once, and the cells'
-    /// rise with their places.
-    pub fn places_are_slots()
-        ensures cells { CellsHavePlaces }
-        ensures places { PlacesAreCells }
-        ensures rising { CellsRise }
-        ensures senders { SendersHaveSlots }
-        ensures slots { SlotsAreSenders }
-    {}
 }

@@ -1,6 +1,6 @@
 //! A page's image, seen as its LSN and its slots.
 ghost use Rattle.std.specs.Prelude.{◌≡◌, ◌≢◌, ◌≤◌, ◌↔◌, ℕ, IsTrue, length};
-ghost use Rattle.rq_page.specs.Pages.{lsn_of, header_of, slot_of, header_front, header_bytes, IsWritten, AreSamePages};
+ghost use Rattle.rq_page.specs.Pages.{lsn_of, header_of, slot_of, header_front, header_bytes, IsWritten};
 ghost use Rattle.rq_page.specs.Kinds.{kind_byte};
 ghost use Rattle.rq_page.specs.Sizes.{Sizes};
 ghost use Rattle.rq_page.specs.Formatted.{IsHeaderOf};
@@ -121,11 +121,6 @@ impl Page {
         let wanted = header(lsn, number, kind);
         are_equal(&self.bytes[..SLOT_BYTES], &wanted)
     }
-
-    /// Pages with the same header and the same slots are the same.
-    pub fn is_header_and_slots()
-        ensures { AreSamePages }
-    {}
 }
 
 // The header with these fields.

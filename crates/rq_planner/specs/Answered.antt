@@ -13,8 +13,8 @@ use Rattle.rq_views.specs.Log.{Slots}
 use Rattle.rq_views.specs.Plans.Turn.{Did, Undid}
 use Rattle.rq_level.specs.ChainPlans.{IsInverse}
 use Rattle.rq_level.specs.declared.slots.Given.{Given}
-use Rattle.rq_level.specs.declared.writes.PlannedReply.{PlannedReply}
-use Rattle.rq_level.specs.declared.writes.PlannedReply.TheVariants as gives
+use Rattle.rq_level.specs.declared.writes.Outcome.{Outcome}
+use Rattle.rq_level.specs.declared.writes.Outcome.TheVariants as gives
 use Rattle.rq_level.specs.declared.writes.Plan.{Plan}
 use Rattle.rq_level.specs.declared.writes.SlotWrite.{SlotWrite}
 use Rattle.rq_level.specs.LevelState.{LevelState}
@@ -30,7 +30,7 @@ use Rattle.rq_sound.specs.Chosen.{KeepsBeside, places_of}
 use Rattle.rq_sound.specs.Gathering.{AreGivenFrom}
 use Rattle.rq_sound.specs.Groups.{slots_now}
 use Rattle.rq_sound.specs.Latching.{any_latched}
-use Rattle.rq_sound.specs.Levels.{IsGathered, KeepsCells, MayFollow}
+use Rattle.rq_sound.specs.Levels.{IsGathered, KeepsCells, IsUnlatchedPlan}
 use Rattle.rq_sound.specs.Sound.{IsSound}
 use Rattle.rq_sound.specs.Wants.{AreGivenOf}
 use Rattle.rq_sound.specs.Lowest.{AreAllLatched, FirstIsLowest}
@@ -58,7 +58,7 @@ IsDeedFor (Close g) (Close_deed h) = h ≡ g
 IsDeedFor _ _ = ⊥
 
 -- what the end of an operation answers that did this
-abbrev pub answer_of : Deed → PlannedReply
+abbrev pub answer_of : Deed → Outcome
 answer_of (Append g n tag previous body) = gives.Sent
 answer_of (UnlinkHead g n tag body) = gives.Message (record { sender = g; tag = tag; body = body })
 answer_of (Close_deed g) = gives.Closed
@@ -77,14 +77,14 @@ pub record IsPlanOf (s : State) (d : Doing) (p : Plan) : Type 0 where
   pub told : p.deed ≡ spelled_deed deed
   pub reads : deed_in p.deed ≡ Some deed
   pub answer : p.reply ≡ Some (answer_of deed)
-  pub follows : MayFollow s p (Did deed)
+  pub follows : IsUnlatchedPlan s p (Did deed)
   pub slots : AreSlotWrites s.sizes p.writes.items
   pub lowest : SendTakesLowest s.sizes (slots_now s) s.rows d p.writes.items
 
 -- the plan of what takes back a deed
 pub record IsPlanBack (s : State) (d : Deed) (p : Plan) : Type 0 where
   pub inverse : IsInverse p
-  pub follows : MayFollow s p (Undid d)
+  pub follows : IsUnlatchedPlan s p (Undid d)
   pub slots : AreSlotWrites s.sizes p.writes.items
   pub lowest : InverseTakesLowest s.sizes (slots_now s) s.rows d p.writes.items
 

@@ -28,14 +28,6 @@ passed_suc f n =
 pub passed_more : (f : ℕ → Bool) (n : ℕ) → passed f (n + 1) ≡ passed f n + one_of (f n)
 passed_more f n = rw (add-one n) (passed_suc f n)
 
--- where each passes, all are counted
-pub all_passed : (f : ℕ → Bool) (n : ℕ) → ((i : ℕ) → i < n → f i ≡ true) → passed f n ≡ n
-all_passed f zero each = refl
-all_passed f (suc n) each =
-    let here : one_of (f n) ≡ 1 = ap one_of (each n (omega arith)) in
-    let rest : passed f n ≡ n = all_passed f n (λ i lt. each i (omega arith)) in
-    passed_suc f n ∙ omega (arith, here, rest)
-
 -- where each between two numbers passes, these are counted
 pub passed_run : (f : ℕ → Bool) (n m k : ℕ) → m ≡ n + k → ((i : ℕ) → n ≤ i → i < m → f i ≡ true) → passed f m ≡ passed f n + k
 passed_run f n m zero at each =
@@ -69,7 +61,3 @@ lower_place z b place is lt =
         | inr also ↦ absurd (let same : place_of z b ≡ place = omega arith in less_same b (cell_at z place) lt (sym e ∙ ap (cell_at z) same))
       ]
     ]
-
--- every cell is used
-pub all_used : (z : Sizes) (q : Slots) → ((a : ℕ) → IsCellAddress z a → is_used (q a) ≡ true) → count_used z q ≡ cell_count z
-all_used z q each = all_passed (λ i. is_used (q (cell_at z i))) (cell_count z) (λ i lt. each (cell_at z i) ((cells_have_places z i lt).0))

@@ -11,7 +11,7 @@ use Rattle.rq_views.specs.Log.{Slots}
 use Rattle.rq_views.specs.Stored.{slots_in, slot_at, is_used, count_used}
 use Rattle.rq_pool.specs.Pooled.{image_at}
 use Rattle.rq_pool.specs.Indexed.{free_flag, IsNoted, IsFreeIndex}
-use Rattle.rq_pool.proofs.Counts.{all_used, lower_place, one_of, passed, passed_more, passed_run, used_below}
+use Rattle.rq_pool.proofs.Counts.{lower_place, one_of, passed, passed_more, passed_run, used_below}
 use Rattle.rq_pool.proofs.Readings.{earlier}
 
 -- the flags of the cells of the first n pages are noted, and no later one is set
@@ -139,16 +139,3 @@ module _ (z : Sizes) (images : List (List ℕ)) (flags : List ℕ) (index : IsFr
       let run : passed f (cell_count z) ≡ passed f from + (cell_count z - from) =
       passed_run f from (cell_count z) (cell_count z - from) (omega (arith, within)) (λ i after to. by_no_flag (f i) (sym (index.cells i to) ∙ none i after)) in
       omega (arith, so_far, run)
-
--- ---- the lowest free cell
-
-pub lowest_of_all : (z : Sizes) (q : Slots) (r : Option ℕ)
-    → IfSome r (λ a. (b : ℕ) → IsCellAddress z b → 0 ≤ place_of z b → b < a → is_used (q b) ≡ true)
-    → IfSome r (λ a. (b : ℕ) → IsCellAddress z b → b < a → is_used (q b) ≡ true)
-lowest_of_all z q None h = h
-lowest_of_all z q (Some a) h = λ b is lt. h b is (omega arith) lt
-
-pub none_of_all : (z : Sizes) (q : Slots) (r : Option ℕ) → IfNone r ((b : ℕ) → IsCellAddress z b → 0 ≤ place_of z b → is_used (q b) ≡ true)
-    → IfNone r (count_used z q ≡ cell_count z)
-none_of_all z q None h = all_used z q (λ b is. h b is (omega arith))
-none_of_all z q (Some a) h = h

@@ -284,18 +284,6 @@ impl<P: PageDevice> Pages<P> {
         }
     }
 
-    /// The free cell with the lowest address; none where every cell is used.
-    pub fn free_cell(&self) -> Option<Addr>
-        ensures cell { IfSome result (λ a. IsCellAddress self.now.sizes a) }
-        ensures free { IfSome result (λ a. slots_in self.now.sizes self.now.images a ≡ Free) }
-        ensures lowest { IfSome result (λ a. (b : ℕ) → IsCellAddress self.now.sizes b → b < a
-            → is_used (slots_in self.now.sizes self.now.images b) ≡ true) }
-        ensures full { IfNone result (count_used self.now.sizes (slots_in self.now.sizes self.now.images)
-            ≡ cell_count self.now.sizes) }
-    {
-        self.next_free(0)
-    }
-
     /// The free cell with the lowest address whose place among the cells is this one or a later one; none where each of
     /// these is used.
     pub fn next_free(&self, from: u32) -> Option<Addr>

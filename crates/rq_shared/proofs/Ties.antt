@@ -7,7 +7,7 @@ use Rattle.rq_model.specs.declared.refusal.Refusal.TheVariants.{NoMemory}
 use Rattle.rq_engine.specs.declared.event.Reply.{Reply}
 use Rattle.rq_engine.specs.declared.event.Reply.TheVariants.{Refused, Stepped, Finished}
 use Rattle.rq_engine.specs.declared.event.Progress.TheVariants.{Done, Ready}
-use Rattle.rq_engine.specs.declared.event.Outcome.TheVariants.{Sent, Message, Closed, Undone}
+use Rattle.rq_level.specs.declared.writes.Outcome.TheVariants.{Sent, Message, Closed, Undone}
 use Rattle.rq_engine.specs.Says.{gave}
 use Rattle.rq_shared.specs.Entries.{Noted, entries, entry_of}
 use Rattle.rq_shared.specs.Tied.{own, left_entries, stamps, stamp_of, lacked_memory}

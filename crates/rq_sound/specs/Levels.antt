@@ -54,8 +54,8 @@ abbrev pub AreLatched : State → List ℕ → Type 0
 AreLatched s latched = (p : ℕ) → has_page p latched ≡ latched_in s.rows p
 
 -- the plan is of the operation, over the slots as they are, on pages that nobody has latched
-abbrev pub MayFollow : State → Plan → Turn → Type 0
-MayFollow s p turn = IsPlannedFrom s.sizes (slots_now s) p.writes.items turn × AreUnlatched s p.writes.items
+abbrev pub IsUnlatchedPlan : State → Plan → Turn → Type 0
+IsUnlatchedPlan s p turn = IsPlannedFrom s.sizes (slots_now s) p.writes.items turn × AreUnlatched s p.writes.items
 
 -- What the level plans from such slots is planned from the slots as they are, and its pages are nobody's, whether the
 -- store is sound or not. Where it finds none to take each free cell is on a latched page; and where a sound store is not
@@ -71,20 +71,20 @@ pub record LevelsPlanFromSlots : Type 0 where
   pub sent : (s : State) (k : LevelState) (given : List Given) (latched : List ℕ) (g tag : ℕ) (body : List ℕ) (p : Plan)
       (after : LevelState) → IsGathered s given → KeepsCells s k → AreLatched s latched
       → (m : IsSent s.sizes k given latched g tag body p after)
-      → MayFollow s p (Did (Append g (m.can.directory.sent + 1) tag m.can.directory.last_tag body))
+      → IsUnlatchedPlan s p (Did (Append g (m.can.directory.sent + 1) tag m.can.directory.last_tag body))
   pub received : (s : State) (k : LevelState) (given : List Given) (g : ℕ) (p : Plan) (after : LevelState)
       → IsGathered s given → (m : IsReceived s.sizes k given g p after)
-      → MayFollow s p (Did (UnlinkHead g (m.can.directory.received + 1) m.can.cell.tag m.can.cell.body))
+      → IsUnlatchedPlan s p (Did (UnlinkHead g (m.can.directory.received + 1) m.can.cell.tag m.can.cell.body))
   pub closed : (s : State) (k : LevelState) (given : List Given) (g : ℕ) (p : Plan) (after : LevelState)
-      → IsGathered s given → IsClosed s.sizes k given g p after → MayFollow s p (Did (Close g))
+      → IsGathered s given → IsClosed s.sizes k given g p after → IsUnlatchedPlan s p (Did (Close g))
   pub unsent : (s : State) (k : LevelState) (given : List Given) (g n tag previous : ℕ) (body : List ℕ) (p : Plan)
       (after : LevelState) → IsGathered s given → IsTailUnlinked s.sizes k given g n previous p after
-      → MayFollow s p (Undid (Append g n tag previous body))
+      → IsUnlatchedPlan s p (Undid (Append g n tag previous body))
   pub returned : (s : State) (k : LevelState) (given : List Given) (latched : List ℕ) (g n tag : ℕ) (body : List ℕ)
       (p : Plan) (after : LevelState) → IsGathered s given → KeepsCells s k → AreLatched s latched
-      → IsReturned s.sizes k given latched g n tag body p after → MayFollow s p (Undid (UnlinkHead g n tag body))
+      → IsReturned s.sizes k given latched g n tag body p after → IsUnlatchedPlan s p (Undid (UnlinkHead g n tag body))
   pub reopened : (s : State) (k : LevelState) (given : List Given) (g : ℕ) (p : Plan) (after : LevelState)
-      → IsGathered s given → IsReopened s.sizes k given g p after → MayFollow s p (Undid (Close g))
+      → IsGathered s given → IsReopened s.sizes k given g p after → IsUnlatchedPlan s p (Undid (Close g))
 
 -- want of memory; or each free cell is on a latched page
 abbrev pub IsForLatches : State → Refusal → Type 0

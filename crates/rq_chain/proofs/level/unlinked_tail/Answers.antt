@@ -1,10 +1,10 @@
-use Rattle.std.proofs.Common.{◌≡◌, ◌<◌, true, false, refl, sym, ◌∙◌, arith}
+use Rattle.std.proofs.Common.{◌≡◌, ◌<◌, true, false, sym, ◌∙◌, arith}
 use Rattle.rq_chain.proofs.Planned.{is_unlinked, no_tail, positive}
 use Rattle.rq_chain.proofs.level.unlinked_tail.Goals as goal
 
 pub returns-in_default-cell_given-clause-err : goal.returns-in_default-cell_given-clause-err
 returns-in_default-cell_given-clause-err c =
-    (refl, no_tail c.args.layout.now c.args.given.now c.args.sender c.args.sequence c.tail_of-2.result c.in-Some.group.directory c.tail_of-2.ensures c.in-Some.ensures.holds c.in_default-cell_given.ensures.none)
+    (c.damage_of.ensures, no_tail c.args.layout.now c.args.given.now c.args.sender c.args.sequence c.tail_of-2.result c.in-Some.group.directory c.tail_of-2.ensures c.in-Some.ensures.holds c.in_default-cell_given.ensures.none)
 
 pub returns-in-Ok-clause-ok : goal.returns-in-Ok-clause-ok
 returns-in-Ok-clause-ok c k =

@@ -6,7 +6,7 @@ use Rattle.rq_chain.proofs.level.ChainLevel.plan_receive.Goals as goal
 
 pub returns-in_default-cell_given-clause-err : goal.returns-in_default-cell_given-clause-err
 returns-in_default-cell_given-clause-err c =
-    (refl, no_head c.args.layout.now c.args.given.now c.args.sender c.head_of-2.result c.in-Some.group.directory c.head_of-2.ensures c.in-Some.ensures.holds c.in_default-cell_given.ensures.none)
+    (c.damage_of.ensures, no_head c.args.layout.now c.args.given.now c.args.sender c.head_of-2.result c.in-Some.group.directory c.head_of-2.ensures c.in-Some.ensures.holds c.in_default-cell_given.ensures.none)
 
 pub returns-clause-ok : goal.returns-clause-ok
 returns-clause-ok c =

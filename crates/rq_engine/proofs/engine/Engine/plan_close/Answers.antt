@@ -22,28 +22,28 @@ pub returns-clause-plan : goal.returns-clause-plan
 returns-clause-plan g c =
     let s = c.args.self.now.state in
     let asked : asked_by c.in-Ok.op ≡ Some (Do (Close c.args.sender)) = chain_asked c.in-Ok.op (Close c.args.sender) c.in-Ok.ensures.op c.in-Ok.ensures.told in
-    on_plan (λ p. (d : Doing) → asked_by c.in-Ok.op ≡ Some (Do d) → IsDeedPlan s d p.0 p.1) (λ p. (number : ℕ) → IsClosePlan s.sizes (slots_in s.sizes s.images) (under_plan number p.0) c.args.sender) c.plan_deed.result
-    (λ p h n. close_plan s c.args.sender n p.0 p.1 c.requires (h (Close c.args.sender) asked)) c.plan_deed.ensures.plan
+    on_plan (λ p. (d : Doing) → asked_by c.in-Ok.op ≡ Some (Do d) → IsDeedPlan s d p) (λ p. (number : ℕ) → IsClosePlan s.sizes (slots_in s.sizes s.images) (under_plan number p) c.args.sender) c.plan_deed.result
+    (λ p h n. close_plan s c.args.sender n p c.requires (h (Close c.args.sender) asked)) c.plan_deed.ensures.plan
 
 pub returns-clause-fits : goal.returns-clause-fits
 returns-clause-fits g c =
     let s = c.args.self.now.state in
     let asked : asked_by c.in-Ok.op ≡ Some (Do (Close c.args.sender)) = chain_asked c.in-Ok.op (Close c.args.sender) c.in-Ok.ensures.op c.in-Ok.ensures.told in
-    on_plan (λ p. (d : Doing) → asked_by c.in-Ok.op ≡ Some (Do d) → IsDeedPlan s d p.0 p.1) (λ p. FitsPlan s.sizes p.0 p.1) c.plan_deed.result
+    on_plan (λ p. (d : Doing) → asked_by c.in-Ok.op ≡ Some (Do d) → IsDeedPlan s d p) (λ p. FitsPlan s.sizes p) c.plan_deed.result
     (λ p h. (h (Close c.args.sender) asked).fits) c.plan_deed.ensures.plan
 
 pub returns-clause-one : goal.returns-clause-one
 returns-clause-one g c =
     let s = c.args.self.now.state in
     let asked : asked_by c.in-Ok.op ≡ Some (Do (Close c.args.sender)) = chain_asked c.in-Ok.op (Close c.args.sender) c.in-Ok.ensures.op c.in-Ok.ensures.told in
-    on_plan (λ p. (d : Doing) → asked_by c.in-Ok.op ≡ Some (Do d) → IsDeedPlan s d p.0 p.1) (λ p. length p.0.writes.items ≡ 1) c.plan_deed.result
-    (λ p h. close_one s c.args.sender p.0 p.1 c.requires (h (Close c.args.sender) asked)) c.plan_deed.ensures.plan
+    on_plan (λ p. (d : Doing) → asked_by c.in-Ok.op ≡ Some (Do d) → IsDeedPlan s d p) (λ p. length p.writes.items ≡ 1) c.plan_deed.result
+    (λ p h. close_one s c.args.sender p c.requires (h (Close c.args.sender) asked)) c.plan_deed.ensures.plan
 
 pub returns-clause-free : goal.returns-clause-free
 returns-clause-free g c =
     let s = c.args.self.now.state in
     let asked : asked_by c.in-Ok.op ≡ Some (Do (Close c.args.sender)) = chain_asked c.in-Ok.op (Close c.args.sender) c.in-Ok.ensures.op c.in-Ok.ensures.told in
-    on_plan (λ p. (d : Doing) → asked_by c.in-Ok.op ≡ Some (Do d) → IsDeedPlan s d p.0 p.1) (λ p. AreUnlatched s p.0.writes.items) c.plan_deed.result
+    on_plan (λ p. (d : Doing) → asked_by c.in-Ok.op ≡ Some (Do d) → IsDeedPlan s d p) (λ p. AreUnlatched s p.writes.items) c.plan_deed.result
     (λ p h. (h (Close c.args.sender) asked).free) c.plan_deed.ensures.plan
 
 pub returns-clause-unlatched : goal.returns-clause-unlatched

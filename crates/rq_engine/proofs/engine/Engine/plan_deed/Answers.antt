@@ -17,26 +17,26 @@ pub plan_op-requires-clause-asked : goal.plan_op-requires-clause-asked
 plan_op-requires-clause-asked g c a e =
     subst (λ (x : Asked). asked_sender x < sender_count c.args.self.now.state.sizes) (some_is (Do c.requires.asked.doing) a (sym c.requires.asked.is ∙ e)) c.requires.asked.inside
 
-pub with_deed-plan-requires : goal.with_deed-plan-requires
-with_deed-plan-requires g c =
+pub with_deed-requires-clause-told : goal.with_deed-requires-clause-told
+with_deed-requires-clause-told g c =
     let s = c.args.self.now.state in
     let d = c.requires.asked.doing in
     let p : IsPlanOf (known_part s) d c.in-Ok-Some.plan = some_told (λ (p : Plan). (a : Asked) → asked_by c.args.op.now ≡ Some a → IsPlanFor (known_part s) a p) c.in-Ok-Some.field-0 _ c.in-Ok-Some.field-0-is c.in-Ok-Some.ensures.planned.plan (Do d) c.requires.asked.is in
     rw p.reads refl
 
-pub room_of-room-requires : goal.room_of-room-requires
-room_of-room-requires g c =
+pub with_deed-requires-clause-few : goal.with_deed-requires-clause-few
+with_deed-requires-clause-few g c =
     let s = c.args.self.now.state in
     let d = c.requires.asked.doing in
     let p : IsPlanOf (known_part s) d c.in-Ok-Some.plan = some_told (λ (p : Plan). (a : Asked) → asked_by c.args.op.now ≡ Some a → IsPlanFor (known_part s) a p) c.in-Ok-Some.field-0 _ c.in-Ok-Some.field-0-is c.in-Ok-Some.ensures.planned.plan (Do d) c.requires.asked.is in
-    subst (λ (ws : Vec SlotWrite). length ws.items ≤ 3) (sym c.with_deed-plan.ensures.writes) (plan_few s d c.in-Ok-Some.plan p)
+    plan_few s d c.in-Ok-Some.plan p
 
 pub returns-in-Ok-Some-clause-plan : goal.returns-in-Ok-Some-clause-plan
 returns-in-Ok-Some-clause-plan g c d e =
     let s = c.args.self.now.state in
     let p : IsPlanOf (known_part s) d c.in-Ok-Some.plan = some_told (λ (p : Plan). (a : Asked) → asked_by c.args.op.now ≡ Some a → IsPlanFor (known_part s) a p) c.in-Ok-Some.field-0 _ c.in-Ok-Some.field-0-is c.in-Ok-Some.ensures.planned.plan (Do d) e in
     let inside : doing_sender d < sender_count s.sizes = subst (λ (x : Doing). doing_sender x < sender_count s.sizes) (some_doing c.requires.asked.doing d (sym c.requires.asked.is ∙ e)) c.requires.asked.inside in
-    deed_plan s d c.in-Ok-Some.plan p c.with_deed-plan.result c.room_of-room.result c.with_deed-plan.ensures.writes c.with_deed-plan.ensures.deed inside c.room_of-room.ensures.room c.room_of-room.ensures.low c.room_of-room.ensures.high
+    deed_plan s d c.in-Ok-Some.plan p c.with_deed.result c.with_deed.ensures.writes c.with_deed.ensures.deed inside c.with_deed.ensures.room c.with_deed.ensures.short
 
 pub returns-in-Ok-Some-clause-unlatched : goal.returns-in-Ok-Some-clause-unlatched
 returns-in-Ok-Some-clause-unlatched g c d e =

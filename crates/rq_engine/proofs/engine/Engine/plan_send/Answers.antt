@@ -28,15 +28,15 @@ returns-clause-plan g c =
     let s = c.args.self.now.state in
     let short : length c.args.body ≤ 216 = c.as_slice.ensures.within in
     let asked : asked_by c.in-Ok.op ≡ Some (Do (Send c.args.sender c.args.tag c.args.body)) = send_asked c.in-Ok.op c.args.sender c.args.tag c.as_slice.result.now c.args.body c.as_slice.ensures.bytes short c.in-Ok.ensures.op c.in-Ok.ensures.told in
-    on_plan (λ p. (d : Doing) → asked_by c.in-Ok.op ≡ Some (Do d) → IsDeedPlan s d p.0 p.1) (λ p. (number : ℕ) → IsSendPlan s.sizes (slots_in s.sizes s.images) (under_plan number p.0) c.args.sender c.args.tag c.args.body) c.plan_deed.result
-    (λ p h n. send_plan s c.args.sender n p.0 p.1 c.requires c.args.tag c.args.body (h (Send c.args.sender c.args.tag c.args.body) asked)) c.plan_deed.ensures.plan
+    on_plan (λ p. (d : Doing) → asked_by c.in-Ok.op ≡ Some (Do d) → IsDeedPlan s d p) (λ p. (number : ℕ) → IsSendPlan s.sizes (slots_in s.sizes s.images) (under_plan number p) c.args.sender c.args.tag c.args.body) c.plan_deed.result
+    (λ p h n. send_plan s c.args.sender n p c.requires c.args.tag c.args.body (h (Send c.args.sender c.args.tag c.args.body) asked)) c.plan_deed.ensures.plan
 
 pub returns-clause-fits : goal.returns-clause-fits
 returns-clause-fits g c =
     let s = c.args.self.now.state in
     let short : length c.args.body ≤ 216 = c.as_slice.ensures.within in
     let asked : asked_by c.in-Ok.op ≡ Some (Do (Send c.args.sender c.args.tag c.args.body)) = send_asked c.in-Ok.op c.args.sender c.args.tag c.as_slice.result.now c.args.body c.as_slice.ensures.bytes short c.in-Ok.ensures.op c.in-Ok.ensures.told in
-    on_plan (λ p. (d : Doing) → asked_by c.in-Ok.op ≡ Some (Do d) → IsDeedPlan s d p.0 p.1) (λ p. FitsPlan s.sizes p.0 p.1) c.plan_deed.result
+    on_plan (λ p. (d : Doing) → asked_by c.in-Ok.op ≡ Some (Do d) → IsDeedPlan s d p) (λ p. FitsPlan s.sizes p) c.plan_deed.result
     (λ p h. (h (Send c.args.sender c.args.tag c.args.body) asked).fits) c.plan_deed.ensures.plan
 
 pub returns-clause-lowest : goal.returns-clause-lowest
@@ -44,7 +44,7 @@ returns-clause-lowest g c =
     let s = c.args.self.now.state in
     let short : length c.args.body ≤ 216 = c.as_slice.ensures.within in
     let asked : asked_by c.in-Ok.op ≡ Some (Do (Send c.args.sender c.args.tag c.args.body)) = send_asked c.in-Ok.op c.args.sender c.args.tag c.as_slice.result.now c.args.body c.as_slice.ensures.bytes short c.in-Ok.ensures.op c.in-Ok.ensures.told in
-    on_plan (λ p. (d : Doing) → asked_by c.in-Ok.op ≡ Some (Do d) → IsDeedPlan s d p.0 p.1) (λ p. TakesLowest s p.0.writes.items) c.plan_deed.result
+    on_plan (λ p. (d : Doing) → asked_by c.in-Ok.op ≡ Some (Do d) → IsDeedPlan s d p) (λ p. TakesLowest s p.writes.items) c.plan_deed.result
     (λ p h. (h (Send c.args.sender c.args.tag c.args.body) asked).lowest) c.plan_deed.ensures.plan
 
 pub returns-clause-free : goal.returns-clause-free
@@ -52,7 +52,7 @@ returns-clause-free g c =
     let s = c.args.self.now.state in
     let short : length c.args.body ≤ 216 = c.as_slice.ensures.within in
     let asked : asked_by c.in-Ok.op ≡ Some (Do (Send c.args.sender c.args.tag c.args.body)) = send_asked c.in-Ok.op c.args.sender c.args.tag c.as_slice.result.now c.args.body c.as_slice.ensures.bytes short c.in-Ok.ensures.op c.in-Ok.ensures.told in
-    on_plan (λ p. (d : Doing) → asked_by c.in-Ok.op ≡ Some (Do d) → IsDeedPlan s d p.0 p.1) (λ p. AreUnlatched s p.0.writes.items) c.plan_deed.result
+    on_plan (λ p. (d : Doing) → asked_by c.in-Ok.op ≡ Some (Do d) → IsDeedPlan s d p) (λ p. AreUnlatched s p.writes.items) c.plan_deed.result
     (λ p h. (h (Send c.args.sender c.args.tag c.args.body) asked).free) c.plan_deed.ensures.plan
 
 pub returns-clause-unlatched : goal.returns-clause-unlatched

@@ -19,14 +19,14 @@ use Rattle.rq_engine.proofs.engine.Engine.start_close.Goals as goal
 pub start-requires-clause-log : goal.start-requires-clause-log
 start-requires-clause-log g c =
     let s = c.args.self.now.state in
-    let one = some_told (λ p. length p.0.writes.items ≡ 1) c.in-Ok-Some.field-0 _ c.in-Ok-Some.field-0-is c.in-Ok-Some.ensures.one in
+    let one = some_told (λ p. length p.writes.items ≡ 1) c.in-Ok-Some.field-0 _ c.in-Ok-Some.field-0-is c.in-Ok-Some.ensures.one in
     subst (λ (x : State). HasRoom x c.in-Ok-Some.plan.writes.items) (sym (state_is c.in-Ok-Some.ensures.same)) (has_room s c.in-Ok-Some.plan.writes.items 2 c.in_ok-check_close.ensures.log (omega (arith, one)))
 
 pub returns-in-Ok-clause-answered : goal.returns-in-Ok-clause-answered
 returns-in-Ok-clause-answered g c h =
     let s = c.args.self.now.state in
-    let plan = some_told (λ p. (number : ℕ) → IsClosePlan s.sizes (slots_in s.sizes s.images) (under_plan number p.0) c.args.sender) c.in-Ok-Some.field-0 _ c.in-Ok-Some.field-0-is c.in-Ok-Some.ensures.plan in
-    let off = some_told (λ p. AreUnlatched s p.0.writes.items) c.in-Ok-Some.field-0 _ c.in-Ok-Some.field-0-is c.in-Ok-Some.ensures.free in
+    let plan = some_told (λ p. (number : ℕ) → IsClosePlan s.sizes (slots_in s.sizes s.images) (under_plan number p) c.args.sender) c.in-Ok-Some.field-0 _ c.in-Ok-Some.field-0-is c.in-Ok-Some.ensures.plan in
+    let off = some_told (λ p. AreUnlatched s p.writes.items) c.in-Ok-Some.field-0 _ c.in-Ok-Some.field-0-is c.in-Ok-Some.ensures.free in
     close_done s c.args.txn c.args.sender c.in_ok-number.ensures.passes _ c.in_ok-number.number c.in-Ok-Some.plan
     c.in_ok-number.ensures.ready off (plan c.in_ok-number.number) (λ k. c.in_ok-check_close.ensures.passes k c.in_ok-number.ensures.passes)
     (c.in-Ok.ensures.started ∙ ap (λ (x : State). record x { rows = change_row c.args.txn (row_started (under_plan c.in_ok-number.number c.in-Ok-Some.plan)) x.rows; ends = with_end c.args.txn (Sending c.args.sender) x.ends }) (state_is c.in-Ok-Some.ensures.same))
@@ -54,7 +54,7 @@ returns-in-Ok-clause-latched g c k =
 pub returns-in-Ok-clause-lists : goal.returns-in-Ok-clause-lists
 returns-in-Ok-clause-lists g c =
     let s = c.args.self.now.state in
-    let plan = some_told (λ p. (number : ℕ) → IsClosePlan s.sizes (slots_in s.sizes s.images) (under_plan number p.0) c.args.sender) c.in-Ok-Some.field-0 _ c.in-Ok-Some.field-0-is c.in-Ok-Some.ensures.plan in (
+    let plan = some_told (λ p. (number : ℕ) → IsClosePlan s.sizes (slots_in s.sizes s.images) (under_plan number p) c.args.sender) c.in-Ok-Some.field-0 _ c.in-Ok-Some.field-0-is c.in-Ok-Some.ensures.plan in (
       refl,
       record {
         under = under_plan c.in_ok-number.number c.in-Ok-Some.plan;
@@ -73,8 +73,8 @@ start-requires-clause-free g c = subst (λ (x : State). is_free_end c.args.txn (
 
 pub start-requires-clause-fits : goal.start-requires-clause-fits
 start-requires-clause-fits g c =
-    subst (λ (x : State). FitsPlan x.sizes c.in-Ok-Some.plan c.in-Ok-Some.room) (sym (state_is c.in-Ok-Some.ensures.same))
-    (some_told (λ p. FitsPlan c.args.self.now.state.sizes p.0 p.1) c.in-Ok-Some.field-0 _ c.in-Ok-Some.field-0-is c.in-Ok-Some.ensures.fits)
+    subst (λ (x : State). FitsPlan x.sizes c.in-Ok-Some.plan) (sym (state_is c.in-Ok-Some.ensures.same))
+    (some_told (λ p. FitsPlan c.args.self.now.state.sizes p) c.in-Ok-Some.field-0 _ c.in-Ok-Some.field-0-is c.in-Ok-Some.ensures.fits)
 
 pub returns-in-Err-clause-answered : goal.returns-in-Err-clause-answered
 returns-in-Err-clause-answered g c h k =

@@ -18,8 +18,8 @@ use Rattle.rq_engine.proofs.engine.Engine.start_send.Goals as goal
 pub returns-in-Ok-clause-answered : goal.returns-in-Ok-clause-answered
 returns-in-Ok-clause-answered g c h =
     let s = c.args.self.now.state in
-    let plan = some_told (λ p. (number : ℕ) → IsSendPlan s.sizes (slots_in s.sizes s.images) (under_plan number p.0) c.args.sender c.args.tag c.in_ok-body.body) c.in_ok-plan_send.field-0 _ c.in-Some.is c.in_ok-plan_send.ensures.plan in
-    let off = some_told (λ p. AreUnlatched s p.0.writes.items) c.in_ok-plan_send.field-0 _ c.in-Some.is c.in_ok-plan_send.ensures.free in
+    let plan = some_told (λ p. (number : ℕ) → IsSendPlan s.sizes (slots_in s.sizes s.images) (under_plan number p) c.args.sender c.args.tag c.in_ok-body.body) c.in_ok-plan_send.field-0 _ c.in-Some.is c.in_ok-plan_send.ensures.plan in
+    let off = some_told (λ p. AreUnlatched s p.writes.items) c.in_ok-plan_send.field-0 _ c.in-Some.is c.in_ok-plan_send.ensures.free in
     send_done s _ c.args.txn c.in_ok-number.number c.args.sender c.args.tag c.args.body.now c.in_ok-body.body c.in-Some.plan
     c.in_ok-number.ensures.ready c.in_ok-number.ensures.passes off c.in_ok-body.ensures.body (plan c.in_ok-number.number) c.in_ok-body.ensures.free c.in_ok-body.ensures.room
     (λ k. c.in_ok-body.ensures.passes k c.in_ok-number.ensures.passes)
@@ -48,7 +48,7 @@ returns-in-Ok-clause-latched g c k =
 pub returns-in-Ok-clause-lowest : goal.returns-in-Ok-clause-lowest
 returns-in-Ok-clause-lowest g c =
     let s = c.args.self.now.state in
-    let low = some_told (λ p. TakesLowest s p.0.writes.items) c.in_ok-plan_send.field-0 _ c.in-Some.is c.in_ok-plan_send.ensures.lowest in
+    let low = some_told (λ p. TakesLowest s p.writes.items) c.in_ok-plan_send.field-0 _ c.in-Some.is c.in_ok-plan_send.ensures.lowest in
     going_started s _ c.args.txn c.in_ok-number.number c.in-Some.plan
     (λ r u. TakesLowest s u.writes)
     c.in_ok-number.ensures.ready (ap (λ (x : State). x.rows) (state_is c.self.view_is ∙ c.in-Ok.ensures.started ∙ ap (λ (x : State). record x { rows = change_row c.args.txn (row_started (under_plan c.in_ok-number.number c.in-Some.plan)) x.rows; ends = with_end c.args.txn (Sending c.args.sender) x.ends }) (state_is c.in_ok-plan_send.ensures.same))) (λ r. low)
@@ -56,7 +56,7 @@ returns-in-Ok-clause-lowest g c =
 pub returns-in-Ok-clause-lists : goal.returns-in-Ok-clause-lists
 returns-in-Ok-clause-lists g c =
     let s = c.args.self.now.state in
-    let plan = some_told (λ p. (number : ℕ) → IsSendPlan s.sizes (slots_in s.sizes s.images) (under_plan number p.0) c.args.sender c.args.tag c.in_ok-body.body) c.in_ok-plan_send.field-0 _ c.in-Some.is c.in_ok-plan_send.ensures.plan in (
+    let plan = some_told (λ p. (number : ℕ) → IsSendPlan s.sizes (slots_in s.sizes s.images) (under_plan number p) c.args.sender c.args.tag c.in_ok-body.body) c.in_ok-plan_send.field-0 _ c.in-Some.is c.in_ok-plan_send.ensures.plan in (
       refl,
       record {
         under = under_plan c.in_ok-number.number c.in-Some.plan;
@@ -70,7 +70,7 @@ returns-in-Ok-clause-lists g c =
 pub start-requires-clause-log : goal.start-requires-clause-log
 start-requires-clause-log g c =
     let s = c.args.self.now.state in
-    let fits = some_told (λ p. FitsPlan s.sizes p.0 p.1) c.in_ok-plan_send.field-0 _ c.in-Some.is c.in_ok-plan_send.ensures.fits in
+    let fits = some_told (λ p. FitsPlan s.sizes p) c.in_ok-plan_send.field-0 _ c.in-Some.is c.in_ok-plan_send.ensures.fits in
     subst (λ (x : State). HasRoom x c.in-Some.plan.writes.items) (sym (state_is c.in_ok-plan_send.ensures.same)) (has_room s c.in-Some.plan.writes.items 4 c.in_ok-body.ensures.log (let few = fits.count in omega (arith, few)))
 
 pub start-requires-clause-ready : goal.start-requires-clause-ready
@@ -81,5 +81,5 @@ start-requires-clause-free g c = subst (λ (x : State). is_free_end c.args.txn (
 
 pub start-requires-clause-fits : goal.start-requires-clause-fits
 start-requires-clause-fits g c =
-    subst (λ (x : State). FitsPlan x.sizes c.in-Some.plan c.in-Some.room) (sym (state_is c.in_ok-plan_send.ensures.same))
-    (some_told (λ p. FitsPlan c.args.self.now.state.sizes p.0 p.1) c.in_ok-plan_send.field-0 _ c.in-Some.is c.in_ok-plan_send.ensures.fits)
+    subst (λ (x : State). FitsPlan x.sizes c.in-Some.plan) (sym (state_is c.in_ok-plan_send.ensures.same))
+    (some_told (λ p. FitsPlan c.args.self.now.state.sizes p) c.in_ok-plan_send.field-0 _ c.in-Some.is c.in_ok-plan_send.ensures.fits)

@@ -1,4 +1,4 @@
-use Rattle.std.proofs.Common.{◌≡◌, true, false, List, ℕ, Some, sym, ap, ◌∙◌}
+use Rattle.std.proofs.Common.{◌≡◌, true, List, ℕ, Some, sym, ap, ◌∙◌}
 use Rattle.std.proofs.lemmas.Bool.{true≢false}
 use Rattle.rq_page.specs.Cells.{cell_slot_in, cell_slot_bytes}
 use Rattle.rq_page.proofs.CellBytes.{cell_slot_in-cell_slot_bytes}

@@ -1,4 +1,4 @@
-use Rattle.std.proofs.Common.{◌≡◌, true, false, List, ℕ, Some, sym, ap, ◌∙◌, arith}
+use Rattle.std.proofs.Common.{◌≡◌, true, List, ℕ, Some, sym, ap, ◌∙◌, arith}
 use Rattle.std.proofs.lemmas.Bool.{true≢false}
 use Rattle.rq_page.specs.declared.directory.DirectorySlot.{DirectorySlot}
 use Rattle.rq_page.specs.Directories.{directory_in, directory_bytes}

@@ -1,0 +1,7 @@
+use Rattle.std.proofs.Common.{ap, ◌∙◌}
+use Rattle.rq_chain.specs.Spans.{span_wanted}
+use Rattle.rq_chain.proofs.Wanted.{span_tells}
+use Rattle.rq_chain.proofs.wants.wanted.Goals as goal
+
+pub returns-in-Some : goal.returns-in-Some
+returns-in-Some c = c.slot_of_span.ensures ∙ ap (λ o. span_wanted o c.args.given.now) c.in-Some.ensures ∙ span_tells c.args.op.now c.args.given.now
