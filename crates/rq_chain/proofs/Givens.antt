@@ -1,11 +1,12 @@
 -- What slots hold that were given.
-use Rattle.std.proofs.Common.{◌≡◌, ℕ, ◌/◌, ◌%◌, ◌<◌, List, [], ◌∷◌, Bool, true, false, cond, nat_eq, Option, None, Some, refl, sym, ap, ◌∙◌, subst, IsSome}
+use Rattle.std.proofs.Common.{◌≡◌, ℕ, ◌/◌, ◌%◌, ◌<◌, List, [], ◌∷◌, Bool, true, false, cond, nat_eq, Option, None, Some, refl, sym, ap, ◌∙◌, subst}
 use Rattle.std.proofs.lemmas.List.Elements.{All-head, All-tail}
 use Rattle.std.proofs.lemmas.Bool.{eqb-true}
 use Rattle.rq_page.specs.Sizes.{Sizes, IsCellAddress, directory_at, sender_at, sender_count}
 use Rattle.rq_page.specs.Kinds.{kind_of}
 use Rattle.rq_page.specs.Cells.{cell_bytes, free_bytes, IsCell}
-use Rattle.rq_page.specs.Directories.{directory_bytes, IsDirectorySlot}
+use Rattle.rq_page.specs.Directories.{directory_bytes, directory_in}
+use Rattle.rq_page.proofs.DirectoryBytes.{directory_in-directory_bytes}
 use Rattle.rq_page.specs.Slots.{Slot, Free, Used, Sender, held_in, slot_bytes, MayHold, IsCellOf, IsDirectoryOf, IsSlotOf}
 use Rattle.rq_page.specs.declared.cell.Cell.{Cell}
 use Rattle.rq_page.specs.declared.directory.Directory.{Directory}
@@ -90,38 +91,24 @@ cell_held z a bytes is slot =
 pub holds : (z : Sizes) (given : List Given) (a : ℕ) (x : Slot) (bytes : List ℕ) → given_at a given ≡ Some bytes → held_in z (a / 16) bytes ≡ x → GivenHolds z given a x
 holds z given a x bytes e h = subst (HoldsBytes z a x) (sym e) h
 
--- what decoding a sender's directory slot gives, where it was given
-pub record IsDecoded (z : Sizes) (given : List Given) (s : ℕ) (o : Option DirectorySlot) : Type 0 where
-  pub directory : Directory
-  pub is : o ≡ Some (record { sender = s; directory = directory })
-  pub fits : IsDirectoryOf z s (record { sender = s; directory = directory })
-  pub holds_it : GivenHolds z given (directory_at s) (Sender s directory)
+-- what is read of a directory slot that was given is what it holds
+pub record IsGroupRead (z : Sizes) (given : List Given) (s : ℕ) (x : DirectorySlot) : Type 0 where
+  pub fits : IsDirectoryOf z s (record { sender = s; directory = x.directory })
+  pub holds_it : GivenHolds z given (directory_at s) (Sender s x.directory)
 
-pub decoded : (z : Sizes) (given : List Given) (s a : ℕ) (o : Option DirectorySlot) (bytes : List ℕ) → s < sender_count z → AreGiven z given → a ≡ directory_at s
-    → given_at a given ≡ Some bytes → ((x : DirectorySlot) → IsDirectorySlot x → directory_bytes x ≡ bytes → o ≡ Some x) → IsDecoded z given s o
-decoded z given s a o bytes below all at e only =
+pub group_read : (z : Sizes) (given : List Given) (s a : ℕ) (bytes : List ℕ) (x : DirectorySlot) → s < sender_count z → AreGiven z given → a ≡ directory_at s
+    → given_at a given ≡ Some bytes → x ≡ directory_in bytes → IsGroupRead z given s x
+group_read z given s a bytes x below all at e read =
     let e' : given_at (directory_at s) given ≡ Some bytes = ap (λ (n : ℕ). given_at n given) (sym at) ∙ e in
     let told = group_told z s bytes below (given_is z (directory_at s) given bytes all e').slot in
+    let held : DirectorySlot = record { sender = s; directory = told.directory } in
+    let same : held ≡ x = sym (read ∙ ap directory_in (sym told.spells) ∙ directory_in-directory_bytes held told.fits.numbers) in
     record {
-      directory = told.directory;
-      is = only (record { sender = s; directory = told.directory }) told.fits.numbers told.spells;
-      fits = told.fits;
-      holds_it = holds z given (directory_at s) (Sender s told.directory) bytes e' told.is;
+      fits = subst (λ (y : DirectorySlot). IsDirectoryOf z s (record { sender = s; directory = y.directory })) same told.fits;
+      holds_it = subst (λ (y : DirectorySlot). GivenHolds z given (directory_at s) (Sender s y.directory)) same (holds z given (directory_at s) (Sender s told.directory) bytes e' told.is);
     }
 
-pub decoded_some : (z : Sizes) (given : List Given) (s : ℕ) (o : Option DirectorySlot) → IsDecoded z given s o → IsSome o
-decoded_some z given s o d = subst IsSome (sym d.is) refl
-
-same_directory : (s : ℕ) (d : Directory) (x : DirectorySlot) (o : Option DirectorySlot) → o ≡ Some (record { sender = s; directory = d }) → o ≡ Some x → d ≡ x.directory
-same_directory s d x o e f = let both : Some (record { sender = s; directory = d }) ≡ Some x = sym e ∙ f in ap (λ (y : DirectorySlot). y.directory) (let it : record { sender = s; directory = d } ≡ x = cc in it)
-
-pub decoded_fits : (z : Sizes) (given : List Given) (s : ℕ) (o : Option DirectorySlot) (x : DirectorySlot) → IsDecoded z given s o → o ≡ Some x → IsDirectoryOf z s (record { sender = s; directory = x.directory })
-decoded_fits z given s o x d e = subst (λ (y : Directory). IsDirectoryOf z s (record { sender = s; directory = y })) (same_directory s d.directory x o d.is e) d.fits
-
-pub decoded_holds : (z : Sizes) (given : List Given) (s : ℕ) (o : Option DirectorySlot) (x : DirectorySlot) → IsDecoded z given s o → o ≡ Some x → GivenHolds z given (directory_at s) (Sender s x.directory)
-decoded_holds z given s o x d e = subst (λ (y : Directory). GivenHolds z given (directory_at s) (Sender s y)) (same_directory s d.directory x o d.is e) d.holds_it
-
--- what is known of a cell whose slot was given, once it is decoded
+-- what is known of a cell whose slot was given, once it is read
 pub data IsCellGiven (z : Sizes) (given : List Given) (a : ℕ) (o : Option Cell) : Type 0 where
   GivenFree : o ≡ None → GivenHolds z given a Free → IsCellGiven z given a o
   GivenUsed : (c : Cell) → o ≡ Some c → IsCellOf z c → GivenHolds z given a (Used c) → IsCellGiven z given a o

@@ -29,7 +29,7 @@ pub(crate) fn group_given(layout: &Layout, given: &Slots, sender: u32) -> Option
 {
     let at = layout.directory_of(sender);
     let bytes = given.get(at)?;
-    let held = DirectorySlot::decode(bytes).unwrap();
+    let held = DirectorySlot::read(bytes);
     Some(DirectoryEntry {
         at,
         sender,
@@ -55,7 +55,7 @@ fn used_in(bytes: &Slot) -> Option<Cell>
     ensures used { (c : Cell) → IsCell c → cell_bytes c ≡ bytes.now → result ≡ Some c }
     ensures free { free_bytes ≡ bytes.now → result ≡ None }
 {
-    match CellSlot::decode(bytes) {
+    match CellSlot::read(bytes) {
         Some(held) => used(&held),
         None => None,
     }

@@ -7,6 +7,7 @@ ghost use Rattle.rq_store.specs.Steps.{op_end, gave_done};
 ghost use Rattle.rq_sound.specs.Rows.{comp_end};
 ghost use Rattle.rq_views.specs.Claims.{appends_of};
 ghost use Rattle.rq_views.specs.Plans.{deed_sender};
+ghost use Rattle.rq_planner.specs.Answered.{answer_of};
 ghost use Rattle.rq_engine.specs.Opened.{LeavesDevices};
 ghost use Rattle.rq_engine.specs.Moves.{with_taken, without_taken};
 ghost use Rattle.rq_engine.specs.Applied.{IsStamped, StepChanges};
@@ -202,9 +203,10 @@ impl<P: PageDevice, L: LogDevice, B: Level> Engine<P, L, B> {
     }
 }
 
-// What the end of a deed answers.
+// What the end of a deed answers: the reply of its plan.
 fn done(deed: &Deed) -> Outcome
-    ensures { outcome_of result ≡ gave_done deed.now }
+    ensures reply { result ≡ answer_of deed.now }
+    ensures gave { outcome_of result ≡ gave_done deed.now }
 {
     match deed {
         Deed::Append { .. } => Outcome::Sent,

@@ -93,9 +93,10 @@ impl CellSlot {
         }
     }
 
-    // What stands in the fields of these bytes; none where they can be no spelling.
+    /// What stands in the fields of these bytes; none where they can be no spelling. Of a slot that was checked that is
+    /// what it holds.
     #[tactic(auto, unfolding(crate::specs::Cells::cell_in))]
-    fn read(bytes: &Slot) -> Option<Self>
+    pub fn read(bytes: &Slot) -> Option<Self>
         ensures held { IfSome result (λ held. held ≡ cell_slot_in bytes.now) }
         ensures range { IfSome result IsCellSlot }
         ensures none { IfNone result ((held : CellSlot) → IsCellSlot held → cell_slot_bytes held ≢ bytes.now) }

@@ -98,9 +98,9 @@ impl DirectorySlot {
         out
     }
 
-    // What stands in the fields of these bytes.
+    /// What stands in the fields of these bytes. Of a slot that was checked that is what it holds.
     #[tactic(auto, unfolding(crate::specs::Directories::directory_in))]
-    fn read(bytes: &Slot) -> Self
+    pub fn read(bytes: &Slot) -> Self
         ensures { result ≡ directory_in bytes.now }
     {
         DirectorySlot {

@@ -267,9 +267,7 @@ impl<P: PageDevice> Pages<P> {
         ensures fits { IsDirectoryOf self.now.sizes sender (record { sender = sender; directory = result }) }
     {
         let at = self.layout().directory_of(sender);
-        DirectorySlot::decode(self.slot_bytes(at))
-            .unwrap()
-            .directory
+        DirectorySlot::read(self.slot_bytes(at)).directory
     }
 
     /// The cell at an address; none where it is free.
@@ -278,7 +276,7 @@ impl<P: PageDevice> Pages<P> {
         ensures held { cell_in (slots_in self.now.sizes self.now.images at) ≡ result }
         ensures fits { IfSome result (λ cell. IsCellOf self.now.sizes cell) }
     {
-        match CellSlot::decode(self.slot_bytes(at)) {
+        match CellSlot::read(self.slot_bytes(at)) {
             Some(CellSlot::Used(cell)) => Some(cell),
             _ => None,
         }

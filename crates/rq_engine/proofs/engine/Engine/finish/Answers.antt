@@ -8,7 +8,7 @@ use Rattle.rq_engine.proofs.engine.Engine.finish.Goals as goal
 pub returns-in-Ok-Doing-clause-answered : goal.returns-in-Ok-Doing-clause-answered
 returns-in-Ok-Doing-clause-answered g c h k =
     let ready = subst (λ (a : Aim). IsUnderWay c.args.self.now.state c.args.sub (AllMade a)) c.in-Ok-Doing.field-0-is c.in-Ok-Doing.ensures.ready in
-    rw c.done.ensures (finish_done c.args.self.now.state _ c.args.sub _ c.in-Ok-Doing.ensures.running ready c.end.ensures.ended k)
+    rw c.done.ensures.gave (finish_done c.args.self.now.state _ c.args.sub _ c.in-Ok-Doing.ensures.running ready c.end.ensures.ended k)
 
 pub returns-in-Ok-Undoing-clause-answered : goal.returns-in-Ok-Undoing-clause-answered
 returns-in-Ok-Undoing-clause-answered g c h k =
