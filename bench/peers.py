@@ -65,7 +65,7 @@ def rqm(program, folder, workers):
     words = [program, "format", folder, "--directory", "64", "--cells", "4000"]
     subprocess.run(words, check=True, stdout=subprocess.DEVNULL)
     words = [program, "serve", folder, "--port", "0", "--workers", str(workers)]
-    server = Server(words, 0, {f"rqm, {workers} workers": "rqm"})
+    server = Server(words, 0, {f"rqm, workers {workers}": "rqm"})
     line = server.process.stdout.readline().decode()
     listening = re.fullmatch(r"listening 127\.0\.0\.1:(\d+)\n", line)
     if not listening:

@@ -21,7 +21,7 @@ from damaged import (
     FREE, MESSAGE, ONE_COMMITTED, ONE_SENT, PAGE, cell, end, formatted, group, received, sent, small, write,
 )  # fmt: skip
 from inspector import record
-from server import LONGEST, DiskWrite, Failed, NotStarted, Server, cut_torn_end, everything, raises
+from server import LONGEST, STORE_FAILED, DiskWrite, Failed, NotStarted, Server, cut_torn_end, everything, raises
 
 SHIM = """#define _GNU_SOURCE
 #include <dlfcn.h>
@@ -279,9 +279,9 @@ def formats(program):
 
 
 def courses(program):
-    """Where a call of an opening fails it is refused, and another one opens the store. Where one fails behind it, it is told, and the
-    store does nothing more. What was acknowledged is there once it is opened again, and of the rest at most one commit. So it is
-    where the machine stops, and the log keeps only what was synced."""
+    """Where a call of an opening fails it is refused, and another one opens the store. Where one fails behind it, it is told, also to
+    who runs the server, and the store does nothing more. What was acknowledged is there once it is opened again, and of the rest at
+    most one commit. So it is where the machine stops, and the log keeps only what was synced."""
     shorter = 0
     for words, told in each_call(16):
         course = Course()
@@ -299,6 +299,7 @@ def courses(program):
                 if told.exists():
                     wait_until(lambda: is_failed(server))
                 assert told.exists() or not course.has_failed
+                assert server.tells()[1:] == [STORE_FAILED] * told.exists()
                 server.kill()
             files = files_of(folder)
             left = files["log"][: synced.stat().st_size]

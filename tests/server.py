@@ -27,8 +27,8 @@ from cases import TOP, built
 sys.dont_write_bytecode = True
 sys.path.insert(0, str(TOP / "clients" / "python"))
 from rqm import (  # noqa: E402
-    Closed, Connection, DiskWrite, Failed, Full, Latched, Passing, ReceiverBusy, SenderBusy, TooManyTransactions, UnknownSender,
-    UnknownTransaction,
+    Closed, Connection, DiskWrite, Failed, Full, Latched, Lost, Passing, ReceiverBusy, SenderBusy, TooManyTransactions,
+    UnknownSender, UnknownTransaction,
 )  # fmt: skip
 
 # How many bytes the length at the head of a record has.
@@ -77,6 +77,9 @@ FAULTS = [
 ]  # fmt: skip
 
 COMMIT = bytes.fromhex("0001 06")
+
+# What a server says on standard error once its store has failed.
+STORE_FAILED = b"the store has failed: it refuses all calls until it is opened again"
 
 # What a client asks that does not read, and the answer.
 LAST_TAG = bytes.fromhex("0005 08 00000000")
@@ -349,13 +352,18 @@ def lost_connections(program, _):
             stream = server.raw()
             stream.sendall(BEGIN_AND_SEND + COMMIT[: trial % 3])
             read_bytes(stream, len(BEGUN) + 8 + len(SENT))
-            if trial % 2:  # a reset in place of an end
-                stream.setsockopt(socket.SOL_SOCKET, socket.SO_LINGER, struct.pack("ii", 1, 0))
+            if trial % 2:
+                reset(stream)
             stream.close()
             with server.connect() as connection:
                 send_when_free(connection, 0, trial + 1, b"after")
                 assert everything(connection) == {0: [(trial + 1, b"after")]}, trial
                 assert connection.last_tag(0) == (trial + 1, trial + 1), trial
+
+
+def reset(stream):
+    """Has the connection end by a reset once it is closed, in place of an end."""
+    stream.setsockopt(socket.SOL_SOCKET, socket.SO_LINGER, struct.pack("ii", 1, 0))
 
 
 def send_when_free(connection, sender, tag, body):
@@ -435,6 +443,33 @@ def silent_reader(program, _):
             assert read_bytes(greedy, frames * len(NO_TAG)) == NO_TAG * frames
 
 
+def slow_clients(program, _):
+    """Nobody waits for clients that say a byte a second, nor for those that reset their connections in the midst of a frame. The slow
+    ones are answered once their frames are whole."""
+    with store(program) as folder, serving(program, folder, "--workers", 1) as server, server.connect() as other:
+        slow = [server.raw() for _ in range(8)]
+        for stream in slow:
+            stream.sendall(LAST_TAG[:4])
+        longest = 0
+        for at in range(4, len(LAST_TAG)):
+            for stream in slow:
+                stream.sendall(LAST_TAG[at : at + 1])
+            until = time.monotonic() + 1
+            while time.monotonic() < until:
+                with server.raw() as broken:
+                    broken.sendall(BEGIN_AND_SEND + LAST_TAG[:at])
+                    reset(broken)
+                before = time.monotonic()
+                with other.transaction() as transaction:
+                    transaction.send(1, 1, b"")
+                    transaction.receive_from(1)
+                longest = max(longest, time.monotonic() - before)
+        assert longest < 1, "another connection waits"
+        for stream in slow:
+            assert read_bytes(stream, len(NO_TAG)) == NO_TAG
+            stream.close()
+
+
 def few_descriptors(program, _):
     """Where the system has no more descriptors, connections wait, those that are served go on, and those that wait are served once
     others have ended."""
@@ -473,7 +508,7 @@ def full_disk(program, _):
             acknowledged = send_until_failed(server)
             with server.connect() as connection:
                 raises(Failed, connection.transaction)
-            assert server.tells()[1:] == [b"the store has failed: it refuses all calls until it is opened again"]
+            assert server.tells()[1:] == [STORE_FAILED]
         cut_torn_end(folder)
         with serving(program, folder) as server, server.connect() as connection:
             held = everything(connection).get(0, [])
@@ -492,6 +527,42 @@ def send_until_failed(server):
             except (Failed, DiskWrite):
                 return acknowledged
     raise AssertionError("the disk took everything")
+
+
+def lost_answers(program, chosen):
+    """A client whose connection ends in front of its commit, or between that and its answer, goes on as the client's page says: each
+    message is there once, in order."""
+    draw = random.Random(chosen.seed)
+    told = []
+    with store(program, 1, 10) as folder, serving(program, folder) as server:
+        connection = server.connect()
+        for tag in range(1, 101):
+            while True:
+                try:
+                    with connection.transaction() as transaction:
+                        transaction.send(0, tag, b"%d" % tag)
+                        cut_off(connection, draw)
+                    break
+                except Lost:
+                    connection = server.connect()
+                    told.append(connection.was_committed(0, tag))
+                    if told[-1]:
+                        break
+        assert everything(connection) == {0: [(tag, b"%d" % tag) for tag in range(1, 101)]}
+    assert told.count(True) > 10 and told.count(False) > 10, told
+
+
+def cut_off(connection, draw):
+    """Ends the connection, mostly: behind a commit, whose answer nobody reads, or in front of it."""
+    kind = draw.randrange(4)
+    if kind == 0:
+        return
+    if kind < 3:
+        connection.socket.sendall(COMMIT)
+        time.sleep(draw.choice([0, 0.0002, 0.002]))
+    if draw.random() < 0.5:
+        reset(connection.socket)
+    connection.close()
 
 
 class Client:
@@ -556,7 +627,7 @@ class Client:
         self.broken += 1
         self.connection.socket.sendall(last)
         if self.random.random() < 0.5:
-            self.connection.socket.setsockopt(socket.SOL_SOCKET, socket.SO_LINGER, struct.pack("ii", 1, 0))
+            reset(self.connection.socket)
         self.connection.close()
         self.connection = self.server.connect()
         self.wait_for_end()
@@ -673,8 +744,8 @@ def raises(kind, call):
 
 
 TESTS = [
-    starts, session, closing, faults, bodies, pieces, damaged_streams, lost_connections, served, silent_reader, few_descriptors,
-    many_connections, full_disk, client, sessions,
+    starts, session, closing, faults, bodies, pieces, damaged_streams, lost_connections, served, silent_reader, slow_clients,
+    few_descriptors, many_connections, full_disk, client, lost_answers, sessions,
 ]  # fmt: skip
 
 

@@ -226,7 +226,8 @@ class Connection:
 
     def was_committed(self, sender, tag):
         """Whether the transaction was committed that sent `tag` as its last message for `sender`, and whose commit was not
-        answered, if its client keeps the rules above. What is answered stays so, also behind a crash of the server."""
+        answered, if its client keeps the rules above. What is answered stays so, also behind a crash of the server. It waits until
+        the lost transaction has ended. Where the server could not undo that, it ends as the server does, and `Lost` is raised."""
         with_end = self.transaction()
         while True:
             try:

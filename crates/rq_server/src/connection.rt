@@ -11,9 +11,6 @@ use std::collections::VecDeque;
 use std::io::{ErrorKind, Read, Write};
 use std::sync::Wait;
 
-/// How many bytes are read at once, at most.
-const PIECE: usize = 4096;
-
 /// How many pieces are read in one round, at most, so that nobody else waits for a connection that says much.
 const PIECES_A_ROUND: u32 = 4;
 
@@ -27,6 +24,8 @@ pub(crate) struct Connection {
     frames: Frames,
     serving: ServedSession<Yielding>,
     line: Line,
+    // the client says no more than what is here already
+    is_last: bool,
     asked: VecDeque<Request>,
     awaited: Option<Lsn>,
     answers: BytesMut,
@@ -53,6 +52,7 @@ impl Connection {
             frames: Frames::new(alloc),
             serving: ServedSession::new(Yielding::new()),
             line: Line::Quiet,
+            is_last: false,
             asked: VecDeque::new(alloc),
             awaited: None,
             answers: BytesMut::new(alloc),
@@ -81,9 +81,14 @@ impl Connection {
         !self.answers.is_empty()
     }
 
-    /// Reads what was said, a few pieces at most. A client that does not read is not heard, nor one that has asked more than was
-    /// carried out.
-    pub(crate) fn hear(&mut self) {
+    /// The client says no more than what is here already.
+    pub(crate) fn note_last(&mut self) {
+        self.is_last = true;
+    }
+
+    /// Reads what was said, a few pieces of this length at most. A client that does not read is not heard, nor one that has asked
+    /// more than was carried out.
+    pub(crate) fn hear(&mut self, piece: &mut [u8]) {
         if matches!(self.line, Line::Quiet) {
             self.line = Line::Unread;
         }
@@ -94,22 +99,25 @@ impl Connection {
             if !matches!(self.line, Line::Unread) {
                 return;
             }
-            self.line = self.read_piece();
+            self.line = self.read_piece(piece);
         }
     }
 
-    fn read_piece(&mut self) -> Line {
-        let mut piece = [0u8; PIECE];
-        match self.stream.read(&mut piece) {
+    fn read_piece(&mut self, piece: &mut [u8]) -> Line {
+        match self.stream.read(piece) {
             Ok(0) => Line::Ended,
-            Ok(count) => self.take(&piece[..count]),
+            Ok(count) => {
+                let is_short = count < piece.len();
+                self.take(&piece[..count], is_short)
+            }
             Err(error) if error.kind() == ErrorKind::WouldBlock => Line::Quiet,
             Err(_) => Line::Ended,
         }
     }
 
-    // Takes down what these bytes ask. After a fault, or where memory is wanting, that is all.
-    fn take(&mut self, piece: &[u8]) -> Line {
+    // Takes down what these bytes ask. After a fault, or where memory is wanting, that is all. Where fewer bytes came than there is
+    // room for, no more are here.
+    fn take(&mut self, piece: &[u8], is_short: bool) -> Line {
         let Ok(Fed { requests, fault }) = self.frames.feed(piece) else {
             return Line::Ended;
         };
@@ -118,7 +126,14 @@ impl Connection {
                 return Line::Ended;
             }
         }
-        if fault { Line::Ended } else { Line::Unread }
+        if fault {
+            return Line::Ended;
+        }
+        if is_short && !self.is_last {
+            Line::Quiet
+        } else {
+            Line::Unread
+        }
     }
 
     /// Carries out what was asked, up to a commit that waits for its receipt, and as much as a round takes.

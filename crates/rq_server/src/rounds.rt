@@ -17,6 +17,9 @@ use std::time::Duration;
 /// How many connections are reported at once, at most.
 const REPORTS: usize = 256;
 
+/// How many bytes are read at once, at most.
+const PIECE: usize = 4096;
+
 /// The token of the listener.
 const DOOR: usize = 0xFFFF_FFFF;
 
@@ -51,6 +54,8 @@ pub(crate) struct Connections {
     connections: Slab<Connection>,
     // the tokens of the round
     active: Vec<usize>,
+    // where bytes are read into
+    piece: Vec<u8>,
     queue: Queue,
     // there is an end to the sessions
     is_limited: bool,
@@ -63,6 +68,7 @@ impl Connections {
         Ok(Connections {
             connections: Slab::new(alloc),
             active: Vec::with_capacity(alloc, REPORTS)?,
+            piece: vec![in alloc; 0; PIECE]?,
             queue: Queue::Waiting,
             is_limited,
             served: 0,
@@ -114,7 +120,17 @@ impl Connections {
                 self.queue = Queue::Waiting;
             } else {
                 let _ = self.active.push(token);
+                self.note_last(token, event.is_read_closed());
             }
+        }
+    }
+
+    fn note_last(&mut self, token: usize, is_last: bool) {
+        if !is_last {
+            return;
+        }
+        if let Some(connection) = self.connections.get_mut(token) {
+            connection.note_last();
         }
     }
 
@@ -132,7 +148,7 @@ impl Connections {
         for at in 0..self.active.len() {
             let token = self.active.get(at).copied().unwrap_or(DOOR);
             if let Some(connection) = self.connections.get_mut(token) {
-                connection.hear();
+                connection.hear(&mut self.piece);
             }
         }
     }

@@ -47,6 +47,22 @@ impl<'a, P: PageDevice + Drop, L: LogDevice + Drop, B: Level, G: Sharing, R: Wai
     }
 }
 
+impl<'a, P: PageDevice, L: LogDevice, B: Level, G: Sharing, R: Wait + Eprint> ServerSteps<
+    'a,
+    P,
+    L,
+    B,
+    G,
+    R,
+> {
+    // Tells who runs the server, where a call says that the store has failed.
+    fn tell_failure(&self, stamped: &Stamped) {
+        if has_failed(stamped.reply()) {
+            self.notices.tell_failure(self.rt);
+        }
+    }
+}
+
 impl<'a, P: PageDevice + Drop, L: LogDevice + Drop, B: Level, G: Sharing, R: Wait + Eprint> Steps
     for ServerSteps<'a, P, L, B, G, R> {
     ghost made = { λ s. s.inner.made.value };
@@ -65,15 +81,15 @@ impl<'a, P: PageDevice + Drop, L: LogDevice + Drop, B: Level, G: Sharing, R: Wai
             self.calls = 0;
             drop(self.inner.take_audit());
         }
-        self.inner.call(event)
+        let stamped = self.inner.call(event);
+        self.tell_failure(&stamped);
+        stamped
     }
 
     fn force(&mut self) -> Stamped {
         let stamped = self.inner.force();
         self.notices.note_force();
-        if has_failed(stamped.reply()) {
-            self.notices.tell_failure(self.rt);
-        }
+        self.tell_failure(&stamped);
         drop(self.inner.take_audit());
         stamped
     }
