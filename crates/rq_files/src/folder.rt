@@ -1,5 +1,5 @@
 //! The files of a store, made in a folder or opened there.
-ghost use Rattle.std.specs.Prelude.{◌≡◌, ◌↔◌, ◌≤◌, ℕ, IfOk, length};
+ghost use Rattle.std.specs.Prelude.{◌≡◌, ◌↔◌, ◌≤◌, ℕ, IfOk, IsOk, length};
 ghost use Rattle.rq_disk.specs.Device.{Only};
 ghost use Rattle.rq_disk.specs.Stored.{first_len};
 
@@ -29,13 +29,22 @@ pub fn run_format<R: Files<File = File> + AllocGlobal, W: Write>(
 ) -> u8
     ensures status { result ≤ 1 }
 {
-    let (status, printed) = match format_folder(rt, folder, layout) {
-        Ok(()) => (0, print_formatted(writer, layout)),
-        Err(fault) => (1, writeln!(writer, "fault {fault}")),
+    let made = format_folder(rt, folder, layout);
+    let printed = match &made {
+        Ok(()) => print_formatted(writer, layout),
+        Err(fault) => writeln!(writer, "fault {fault}"),
     };
-    match printed {
-        Ok(()) => status,
-        Err(_) => 1,
+    exit_status(&made, &printed)
+}
+
+// 0 exactly where the store was made, and that was printed.
+fn exit_status(made: &Result<(), Fault>, printed: &io::Result<()>) -> u8
+    ensures done { (result ≡ 0) ↔ (IsOk made.now × IsOk printed.now) }
+    ensures fault { result ≤ 1 }
+{
+    match (made, printed) {
+        (Ok(()), Ok(())) => 0,
+        _ => 1,
     }
 }
 

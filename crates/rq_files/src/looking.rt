@@ -1,7 +1,11 @@
 //! The log of a store that is looked at, and not opened.
+ghost use Rattle.std.specs.Prelude.{◌≡◌, ◌↔◌, [], IfOk, length};
+ghost use Rattle.rq_disk.specs.Device.{Only};
+ghost use Rattle.rq_disk.specs.Stored.{first_len};
+
 use crate::fault::Fault;
 use crate::folder::log_path;
-use rq_disk::{Calls, FileContents, FileLog, Storage};
+use rq_disk::{Calls, FileContents, FileLog, LogDevice, Storage};
 use std::fs::{File, Files};
 use std::io;
 use std::io::ErrorKind;
@@ -51,7 +55,15 @@ pub fn look_at_log<S: FileContents, R: Files<File = File> + AllocGlobal>(
     rt: &R,
     folder: &str,
     _held: S,
-) -> Result<FileLog<S, ReadFile>, Fault> {
+) -> Result<FileLog<S, ReadFile>, Fault>
+    ensures log { IfOk result (λ d. ⟦<FileLog<S, ReadFile> as LogDevice>⟧.seen d ≡ S.bytes) }
+    ensures durable { IfOk result (λ d. Only S.bytes (⟦<FileLog<S, ReadFile> as LogDevice>⟧.may_leave d)) }
+    ensures honest { IfOk result (λ d. ⟦<FileLog<S, ReadFile> as LogDevice>⟧.honest d
+        ↔ (length S.bytes ≡ first_len d)) }
+    ensures runs { IfOk result (λ d. ⟦<FileLog<S, ReadFile> as LogDevice>⟧.stopped d → ⊥) }
+    ensures moment { IfOk result (λ d. ⟦<FileLog<S, ReadFile> as LogDevice>⟧.moment d ≡ 0) }
+    ensures failures { IfOk result (λ d. ⟦<FileLog<S, ReadFile> as LogDevice>⟧.faults d ≡ 0) }
+{
     let path = log_path(rt, folder)?;
     let Ok(file) = File::open(rt, &path) else {
         return Err(Fault::Open);
@@ -63,7 +75,14 @@ pub fn look_at_log<S: FileContents, R: Files<File = File> + AllocGlobal>(
 }
 
 // The log in a file that is so long.
-fn log_in<S: FileContents>(file: File, len: u64) -> FileLog<S, ReadFile> {
+fn log_in<S: FileContents>(file: File, len: u64) -> FileLog<S, ReadFile>
+    ensures log { ⟦<FileLog<S, ReadFile> as LogDevice>⟧.seen result ≡ S.bytes }
+    ensures durable { Only S.bytes (⟦<FileLog<S, ReadFile> as LogDevice>⟧.may_leave result) }
+    ensures honest { ⟦<FileLog<S, ReadFile> as LogDevice>⟧.honest result ↔ (length S.bytes ≡ first_len result) }
+    ensures runs { ⟦<FileLog<S, ReadFile> as LogDevice>⟧.stopped result → ⊥ }
+    ensures moment { ⟦<FileLog<S, ReadFile> as LogDevice>⟧.moment result ≡ 0 }
+    ensures failures { ⟦<FileLog<S, ReadFile> as LogDevice>⟧.faults result ≡ 0 }
+{
     let calls = Calls::none();
     FileLog::new(ReadFile { file, len, calls }, len)
 }
