@@ -1,6 +1,4 @@
 //! Two threads that take turns: how far they have come, and gates that hold one of them until the other has come further.
-ghost use Rattle.std.specs.Prelude.{◌≡◌};
-
 use rq_bytes::GhostList;
 use rq_workers::gate::Gate;
 use std::snapshot::Snapshot;
@@ -72,16 +70,7 @@ impl<'a> Held<'a> {
         }
     }
 
-    fn is_let_through(&mut self, point: u32) -> bool
-        ensures { self.new.answers ≡ self.old.answers }
-    {
-        if point != self.point {
-            return true;
-        }
-        if self.left == 0 {
-            return false;
-        }
-        self.left = self.left.saturating_sub(1);
+    fn is_let_go(&self) -> bool {
         self.turns.reach(self.stage);
         self.turns.comes(self.stage.saturating_add(1))
     }
@@ -91,7 +80,10 @@ impl Gate for Held<'_> {
     ghost answers = { λ gate. gate.answers.value };
 
     fn pass(&mut self, point: u32) -> bool {
-        let passed = self.is_let_through(point);
+        let passed = point != self.point || self.left > 0 && self.is_let_go();
+        if point == self.point {
+            self.left = self.left.saturating_sub(1);
+        }
         GhostList::push(&mut self.answers, &(point, passed));
         passed
     }
