@@ -20,3 +20,5 @@ mod stores;
 mod stream;
 #[cfg(test)]
 mod threads;
+#[cfg(test)]
+mod turns;

@@ -207,7 +207,7 @@ impl StampSink for KeepStamps {
     }
 }
 
-/// Whether this sender has sent one message, and what waits of it is one of this byte.
+/// Whether this sender's group is open and has sent one message, of this byte, which nobody has received.
 pub fn has_sent<P: PageDevice + Drop, L: LogDevice + Drop>(
     engine: &Engine<P, L, StoreLevel>,
     sender: usize,
@@ -218,7 +218,24 @@ pub fn has_sent<P: PageDevice + Drop, L: LogDevice + Drop>(
     };
     let group = groups.get(sender).ok_or("a sender")?;
     let waiting = group.rest.first().ok_or("a message")?;
-    Ok(group.sent == 1 && group.rest.len() == 1 && waiting.body.as_slice() == [byte].as_slice())
+    let is_one = group.sent == 1 && group.received == 0 && group.rest.len() == 1;
+    Ok(is_one && !group.closed && waiting.body.as_slice() == [byte].as_slice())
+}
+
+/// How many senders have sent something.
+pub fn senders_of<P: PageDevice + Drop, L: LogDevice + Drop>(
+    engine: &Engine<P, L, StoreLevel>,
+) -> Result<usize, &'static str> {
+    let Ok(groups) = engine.content() else {
+        return Err("content");
+    };
+    let mut senders = 0usize;
+    for group in &groups {
+        if group.sent > 0 {
+            senders = senders.saturating_add(1);
+        }
+    }
+    Ok(senders)
 }
 
 /// What a store holds behind its calls: how many were made, where that is told; whether the last one ended an abort; and how many

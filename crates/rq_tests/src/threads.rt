@@ -3,44 +3,62 @@ ghost use Rattle.std.specs.Prelude.{◌≡◌};
 ghost use Rattle.rq_shared.specs.Begun.{begins_with};
 ghost use Rattle.rq_shared.specs.Entries.{WasSound};
 
-use crate::connection::Often;
+use crate::gates::{Case, Done, first, second};
 use crate::stores::{
-    KeepStamps, carried_out, committed, crashed, has_sent, is_sent, opened, receipt, start_of_send,
-    wide_engine,
+    KeepStamps, crashed, has_sent, opened, receipt, senders_of, small_engine, wide_engine,
 };
-use rq_bytes::GhostList;
+use crate::turns::Turns;
 use rq_disk::{LogDevice, MemLog, MemPages, PageDevice};
 use rq_engine::engine::Engine;
-use rq_engine::event::{CommitNo, Event, Receipt};
+use rq_engine::event::{CommitNo, Event, Receipt, Reply};
 use rq_level::Level;
 use rq_levels::StoreLevel;
-use rq_model::txn::Txn;
+use rq_model::refusal::Refusal;
 use rq_shared::guarded::Pass;
 use rq_shared::kept::{AuditEntry, Stamped};
 use rq_shared::mark::{Mark, MarkPass};
 use rq_shared::shared::{Closed, EngineLock, Shared};
 use rq_shared::sharing::Sharing;
 use rq_shared::tied::tied;
-use rq_workers::acts::RunEnd;
-use rq_workers::gate::{BETWEEN_STEPS, Gate};
 use rq_workers::shared::SharedSteps;
-use rq_workers::steps::Steps;
 use std::alloc::{AllocError, Global};
 use std::marker::Brand;
-use std::snapshot::Snapshot;
 use std::sync::Wait;
-use std::sync::atomic::{AtomicU64, Ordering};
 use std::sync::ledger::Blank;
 use std::test::Fail;
-use std::thread;
 use std::thread::{Threads, join};
 
-/// What two threads share beside the engine: a mark, and words by which they take turns. Each is 0 until it is so.
+/// What two threads are to do, and how.
+#[derive(Clone, Copy)]
+struct Plan {
+    case: Case,
+    /// Whether the audit is taken before the end.
+    takes: bool,
+    /// Whether one thread does both, one behind the other.
+    is_alone: bool,
+}
+
+impl Plan {
+    fn new(case: Case) -> Self {
+        Plan {
+            case,
+            takes: false,
+            is_alone: false,
+        }
+    }
+
+    // How often a thread looks whether the other has gone on, at most. Where there is no other, looking more often would not help.
+    fn limit(self) -> u64 {
+        if self.is_alone { 1_000 } else { 10_000_000 }
+    }
+}
+
+/// What two threads share beside the engine.
 #[derive(Drop)]
 struct Common {
     mark: Mark,
-    first_is_held: AtomicU64,
-    second_has_committed: AtomicU64,
+    turns: Turns,
+    case: Case,
 }
 
 /// What a thread has of its own.
@@ -50,100 +68,8 @@ struct Own<G: Sharing> {
     seat: MarkPass,
 }
 
-/// Holds its thread between two steps until the second thread has committed.
-#[derive(Drop)]
-struct HeldBetween<'a> {
-    common: &'a Common,
-    answers: Snapshot<GhostList<(u32, bool)>>,
-}
-
-impl Gate for HeldBetween<'_> {
-    ghost answers = { λ gate. gate.answers.value };
-
-    fn pass(&mut self, point: u32) -> bool {
-        let passed = point != BETWEEN_STEPS || self.is_let_go();
-        GhostList::push(&mut self.answers, &(point, passed));
-        passed
-    }
-}
-
-impl HeldBetween<'_> {
-    fn is_let_go(&self) -> bool {
-        self.common.first_is_held.store(1, Ordering::SeqCst);
-        comes(&self.common.second_has_committed)
-    }
-}
-
-// Whether it comes within so many turns.
-fn comes(word: &AtomicU64) -> bool {
-    for _ in 0..10_000_000u64 {
-        if word.load(Ordering::SeqCst) == 1 {
-            return true;
-        }
-        thread::yield_now();
-    }
-    false
-}
-
-/// What a thread gives back: its pass, its stamps, and its commit.
-type Worked<G> = (Pass<G>, Vec<Stamped>, CommitNo);
-
-// Carries out a send, behind a gate, and commits: the commit, where it was sent with no turn that the gate refused.
-fn run_and_commit<H: Gate + Drop, S: Steps, R: Wait>(
-    rt: &R,
-    gate: H,
-    steps: S,
-    txn: Txn,
-    start: &Event,
-) -> (Option<CommitNo>, S) {
-    let (ended, goes_on, mut steps) = carried_out(rt, gate, steps, start);
-    let number = committed(&mut steps, txn);
-    (number_of(number, &ended, goes_on), steps)
-}
-
-// The commit, where the send before it came to its end and the worker goes on.
-fn number_of(number: Option<CommitNo>, ended: &RunEnd, goes_on: bool) -> Option<CommitNo> {
-    if goes_on && is_sent(ended) {
-        number
-    } else {
-        None
-    }
-}
-
-// Sends x for sender 0 and commits, and is held behind the first step of its send until the other thread has committed.
-fn send_held<S: Steps, R: Wait>(
-    rt: &R,
-    alloc: Global,
-    steps: S,
-    common: &Common,
-) -> (Option<CommitNo>, S) {
-    let mut steps = steps;
-    let Some((txn, start)) = start_of_send(alloc, &mut steps, 0, b'x') else {
-        return (None, steps);
-    };
-    let gate = HeldBetween {
-        common,
-        answers: GhostList::empty(),
-    };
-    run_and_commit(rt, gate, steps, txn, &start)
-}
-
-// Sends y for sender 15 and commits, once the other thread is held within its send.
-fn send_meanwhile<S: Steps, R: Wait>(
-    rt: &R,
-    alloc: Global,
-    steps: S,
-    common: &Common,
-) -> (Option<CommitNo>, S) {
-    let mut steps = steps;
-    let Some((txn, start)) = start_of_send(alloc, &mut steps, 15, b'y') else {
-        return (None, steps);
-    };
-    if !comes(&common.first_is_held) {
-        return (None, steps);
-    }
-    run_and_commit(rt, Often::new(u32::MAX), steps, txn, &start)
-}
+/// What a thread gives back: its pass, its stamps, and what it did.
+type Worked<G> = (Pass<G>, Vec<Stamped>, Done);
 
 // What the first thread does.
 fn work_first<P: PageDevice + Drop, L: LogDevice + Drop, B: Level, G: Sharing, R: Wait>(
@@ -152,15 +78,15 @@ fn work_first<P: PageDevice + Drop, L: LogDevice + Drop, B: Level, G: Sharing, R
     lock: &EngineLock<P, L, B, G>,
     own: Own<G>,
     common: &Common,
-) -> Option<Worked<G>>
+) -> Worked<G>
     requires { own.seat.table ≡ common.now.mark }
 {
     let Own { pass, seat } = own;
     let stamps = KeepStamps::new(alloc);
     let steps = SharedSteps::new(rt, lock, pass, &common.mark, seat, stamps);
-    let (number, steps) = send_held(rt, alloc, steps, common);
+    let (done, steps) = first(rt, alloc, steps, &common.turns, common.case);
     let (pass, _, kept) = steps.into_parts();
-    worked(pass, kept.stamps, number)
+    (pass, kept.stamps, done)
 }
 
 // What the second does.
@@ -170,26 +96,15 @@ fn work_second<P: PageDevice + Drop, L: LogDevice + Drop, B: Level, G: Sharing, 
     lock: &EngineLock<P, L, B, G>,
     own: Own<G>,
     common: &Common,
-) -> Option<Worked<G>>
+) -> Worked<G>
     requires { own.seat.table ≡ common.now.mark }
 {
     let Own { pass, seat } = own;
     let stamps = KeepStamps::new(alloc);
     let steps = SharedSteps::new(rt, lock, pass, &common.mark, seat, stamps);
-    let (number, steps) = send_meanwhile(rt, alloc, steps, common);
-    common.second_has_committed.store(1, Ordering::SeqCst);
+    let (done, steps) = second(rt, alloc, steps, &common.turns, common.case);
     let (pass, _, kept) = steps.into_parts();
-    worked(pass, kept.stamps, number)
-}
-
-// What a thread gives back, where it did its work.
-fn worked<G: Sharing>(
-    pass: Pass<G>,
-    stamps: Vec<Stamped>,
-    number: Option<CommitNo>,
-) -> Option<Worked<G>> {
-    let number = number?;
-    Some((pass, stamps, number))
+    (pass, kept.stamps, done)
 }
 
 /// Whether a taken audit is tied to the stamps of both threads.
@@ -201,12 +116,29 @@ struct Tie {
     is_tied_when_changed_about: bool,
 }
 
-/// What was seen once two threads had each sent a message and committed, and what is left at the end.
+/// What is seen of two threads once both have ended, and what is left at the end.
 #[derive(Drop)]
 struct Seen<C> {
+    // whether each came to a stage in time for the other, and did all that it was to do
+    is_in_time: bool,
+    are_done: bool,
+    // the calls of the first, and how many of them were refused for a latch
+    calls: usize,
+    latched: usize,
     tie: Option<Tie>,
     receipts: usize,
     closed: C,
+}
+
+// How many of these calls were refused for a latch.
+fn latched_in(stamps: &[Stamped]) -> usize {
+    let mut latched = 0usize;
+    for stamped in stamps {
+        if matches!(stamped.reply(), Reply::Refused(Refusal::Latched)) {
+            latched = latched.saturating_add(1);
+        }
+    }
+    latched
 }
 
 // The stamps of seven calls, the first two changed about.
@@ -238,11 +170,11 @@ fn tie_taken<P: PageDevice + Drop, L: LogDevice + Drop, B: Level, G: Sharing, R:
     rt: &R,
     shared: &Shared<P, L, B, G>,
     pass: &mut Pass<G>,
-    take: bool,
+    takes: bool,
     stamps: Vec<Stamped>,
     others: Vec<Stamped>,
 ) -> Option<Tie> {
-    if !take {
+    if !takes {
         return None;
     }
     let taken = shared.take_audit(rt, pass);
@@ -263,18 +195,33 @@ fn both<
     one: Own<G>,
     two: Own<G>,
     common: &Common,
-) -> (Option<Worked<G>>, Option<Worked<G>>)
+) -> (Worked<G>, Worked<G>)
     requires { (one.seat.table ≡ common.now.mark) × (two.seat.table ≡ common.now.mark) }
 {
     join(
         rt,
-        move || -> Option<Worked<G>>
+        move || -> Worked<G>
             requires { one.seat.table ≡ common.now.mark }
         { work_first(rt, alloc, lock, one, common) },
-        move || -> Option<Worked<G>>
+        move || -> Worked<G>
             requires { two.seat.table ≡ common.now.mark }
         { work_second(rt, alloc, lock, two, common) },
     )
+}
+
+// What two threads do, done by one.
+fn alone<P: PageDevice + Drop, L: LogDevice + Drop, B: Level, G: Sharing, R: Wait>(
+    rt: &R,
+    alloc: Global,
+    lock: &EngineLock<P, L, B, G>,
+    one: Own<G>,
+    two: Own<G>,
+    common: &Common,
+) -> (Worked<G>, Worked<G>)
+    requires { (one.seat.table ≡ common.now.mark) × (two.seat.table ≡ common.now.mark) }
+{
+    let first = work_first(rt, alloc, lock, one, common);
+    (first, work_second(rt, alloc, lock, two, common))
 }
 
 // A force, and then the receipt of each commit.
@@ -283,11 +230,11 @@ fn receipts<P: PageDevice + Drop, L: LogDevice + Drop, B: Level, G: Sharing, R: 
     alloc: Global,
     lock: &EngineLock<P, L, B, G>,
     pass: &mut Pass<G>,
-    numbers: &[CommitNo],
+    numbers: &[Option<CommitNo>],
 ) -> Result<Vec<Receipt>, AllocError> {
     let mut given = Vec::new(alloc);
     drop(lock.call(rt, pass, Event::Force));
-    for number in numbers {
+    for number in numbers.iter().flatten() {
         let stamped = lock.call(rt, pass, Event::Acknowledged(*number));
         if let Some(receipt) = receipt(&stamped) {
             given.push(receipt)?;
@@ -315,6 +262,41 @@ fn ended<P: PageDevice + Drop, L: LogDevice + Drop, B: Level, G: Sharing>(
     Ok(shared.close(passes, given))
 }
 
+// What two threads did under a pass each, and whether each came to a stage in time for the other.
+fn taken_turns<
+    P: PageDevice + Drop + Send,
+    L: LogDevice + Drop + Send,
+    B: Level + Send,
+    G: Sharing + Send + Sync,
+    R: Threads + Wait + Sync,
+>(
+    rt: &R,
+    alloc: Global,
+    lock: &EngineLock<P, L, B, G>,
+    pass: Pass<G>,
+    other: Pass<G>,
+    plan: Plan,
+) -> Option<((Worked<G>, Worked<G>), bool)> {
+    let (mark, mut seat) = Mark::new(alloc).ok()?;
+    let other_seat = mark.split(&mut seat);
+    let common = Common {
+        mark,
+        turns: Turns::new(plan.limit()),
+        case: plan.case,
+    };
+    let one = Own { pass, seat };
+    let two = Own {
+        pass: other,
+        seat: other_seat,
+    };
+    let worked = if plan.is_alone {
+        alone(rt, alloc, lock, one, two, &common)
+    } else {
+        both(rt, alloc, lock, one, two, &common)
+    };
+    Some((worked, !common.turns.is_late()))
+}
+
 // Two threads under a pass each, and a third pass that forces and asks for receipts. The audit is taken before that, or
 // left to the end.
 fn share<
@@ -329,7 +311,7 @@ fn share<
     engine: Engine<P, L, B>,
     blank: Blank,
     taking: Blank,
-    take: bool,
+    plan: Plan,
 ) -> Option<Seen<Closed<P, L, B>>>
     requires name { (blank.name ≡ G.name) × (taking.name ≡ G.taking) }
     requires parts { (blank.parts ≡ G.parts) × (blank.parts ≡ 1024) × (taking.parts ≡ 1024) }
@@ -340,27 +322,20 @@ fn share<
     let pass = shared.pass()?;
     let other = shared.pass()?;
     let mut three = shared.pass()?;
-    let (mark, mut seat) = Mark::new(alloc).ok()?;
-    let other_seat = mark.split(&mut seat);
-    let common = Common {
-        mark,
-        first_is_held: AtomicU64::new(0),
-        second_has_committed: AtomicU64::new(0),
-    };
-    let one = Own { pass, seat };
-    let two = Own {
-        pass: other,
-        seat: other_seat,
-    };
-    let (first, second) = both(rt, alloc, shared.engine_lock(), one, two, &common);
-    let (one, stamps, number) = first?;
-    let (two, others, other_number) = second?;
-    let tie = tie_taken(rt, &shared, &mut three, take, stamps, others);
-    let numbers = [number, other_number];
+    let (worked, is_in_time) = taken_turns(rt, alloc, shared.engine_lock(), pass, other, plan)?;
+    let ((one, stamps, done), (two, others, other_done)) = worked;
+    let calls = stamps.len();
+    let latched = latched_in(&stamps);
+    let tie = tie_taken(rt, &shared, &mut three, plan.takes, stamps, others);
+    let numbers = [done.number, other_done.number];
     let given = receipts(rt, alloc, shared.engine_lock(), &mut three, &numbers).ok()?;
     let receipts = given.len();
     let closed = ended(alloc, shared, one, two, three, &given).ok()?;
     Some(Seen {
+        is_in_time,
+        are_done: done.is_done && other_done.is_done,
+        calls,
+        latched,
         tie,
         receipts,
         closed,
@@ -370,9 +345,9 @@ fn share<
 fn look<R: Threads + Wait + Sync>(
     rt: &R,
     alloc: Global,
-    take: bool,
+    plan: Plan,
 ) -> Option<Seen<Closed<MemPages, MemLog, StoreLevel>>> {
-    let engine = wide_engine(alloc).ok()?;
+    let engine = engine_for(alloc, plan.case).ok()?;
     let taking = Blank::new(1024);
     share::<MemPages, MemLog, StoreLevel, Brand, R>(
         rt,
@@ -380,13 +355,32 @@ fn look<R: Threads + Wait + Sync>(
         engine,
         Blank::new(1024),
         taking,
-        take,
+        plan,
     )
+}
+
+// A store for two threads: that of an abort has one cell page, so that both send into it.
+fn engine_for(
+    alloc: Global,
+    case: Case,
+) -> Result<Engine<MemPages, MemLog, StoreLevel>, &'static str> {
+    match case {
+        Case::Abort | Case::GiveUp => small_engine(alloc),
+        _ => wide_engine(alloc),
+    }
 }
 
 #[test]
 fn an_audit_holds_the_calls_of_both_threads(rt: HostRuntime) -> Result<(), Fail> {
-    let seen = look(&rt, rt.alloc(), true).ok_or("both threads send and commit")?;
+    let plan = Plan {
+        takes: true,
+        ..Plan::new(Case::Send)
+    };
+    let seen = look(&rt, rt.alloc(), plan).ok_or("memory")?;
+    assert!(rt;
+        seen.is_in_time && seen.are_done,
+        "both threads send and commit"
+    );
     let tie = seen.tie.ok_or("the audit was taken")?;
     assert!(rt;
         tie.entries == 14 && tie.is_tied,
@@ -428,12 +422,66 @@ fn have_sent<P: PageDevice + Drop, L: LogDevice + Drop>(
 
 #[test]
 fn what_receipts_name_outlives_a_crash(rt: HostRuntime) -> Result<(), Fail> {
-    let seen = look(&rt, rt.alloc(), false).ok_or("both threads send and commit")?;
+    let seen = look(&rt, rt.alloc(), Plan::new(Case::Send)).ok_or("memory")?;
+    assert!(rt;
+        seen.is_in_time && seen.are_done,
+        "both threads send and commit"
+    );
     assert!(rt; seen.receipts == 2, "both commits are forced");
     assert!(rt; entries_of(&seen.closed) == 17, "no entry was taken");
     assert!(rt;
         outlives(rt.alloc(), seen.closed)?,
         "both messages are there"
     );
+    Ok(())
+}
+
+// Whether the second thread's message is all that is left at the end.
+fn has_only_the_seconds<P: PageDevice + Drop, L: LogDevice + Drop>(
+    closed: Closed<P, L, StoreLevel>,
+    case: Case,
+) -> Result<bool, &'static str> {
+    let engine = closed.kept.give_back();
+    Ok(has_sent(&engine, case.sender() as usize, b'y')? && senders_of(&engine)? == 1)
+}
+
+// What the first thread's calls were, of which so many were refused for a latch; both did all that they were to do, in time.
+fn is_seen<C>(seen: &Seen<C>, latched: usize) -> bool {
+    seen.is_in_time && seen.are_done && seen.latched == latched && seen.receipts == 1
+}
+
+#[test]
+fn a_loop_that_is_held_holds_up_nobody(rt: HostRuntime) -> Result<(), Fail> {
+    for case in [Case::WritePage, Case::WriteLog] {
+        let seen = look(&rt, rt.alloc(), Plan::new(case)).ok_or("memory")?;
+        assert!(rt;
+            is_seen(&seen, 0) && seen.calls == 1,
+            "a page is written, or the log"
+        );
+        assert!(rt; has_only_the_seconds(seen.closed, case)?);
+    }
+    Ok(())
+}
+
+#[test]
+fn an_abort_that_meets_latches_goes_on_or_is_given_up(rt: HostRuntime) -> Result<(), Fail> {
+    for case in [Case::Abort, Case::GiveUp] {
+        let seen = look(&rt, rt.alloc(), Plan::new(case)).ok_or("memory")?;
+        assert!(rt; is_seen(&seen, 1), "once it meets them");
+        assert!(rt; has_only_the_seconds(seen.closed, case)?);
+    }
+    Ok(())
+}
+
+#[test]
+fn one_thread_alone_meets_the_limit(rt: HostRuntime) -> Result<(), Fail> {
+    for case in [Case::WritePage, Case::Abort] {
+        let plan = Plan {
+            is_alone: true,
+            ..Plan::new(case)
+        };
+        let seen = look(&rt, rt.alloc(), plan).ok_or("memory")?;
+        assert!(rt; !seen.is_in_time && seen.latched == 0);
+    }
     Ok(())
 }
