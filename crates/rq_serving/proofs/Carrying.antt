@@ -21,7 +21,8 @@ use Rattle.rq_session.specs.Laws.{AwaitsOwn, IsOwn, NamesOwn, awaited}
 use Rattle.rq_session.proofs.EachTurn.{each_reply}
 use Rattle.rq_serving.specs.Translation.{asked, told_by, IsOwnCall}
 use Rattle.rq_serving.specs.Asking.{Asks, Says, said_no}
-use Rattle.rq_serving.specs.Carried.{IsAsked, IsCome, IsTold, IsCall, IsMade, IsTurn, Round, Turns, IsGoing, IsCarried, AreOwn, AskedIsOwn, AwaitsNumber, CallsAreOwn, KeepsNumber, NumberAfter, has_stopped, is_again, may_call, said_in}
+use Rattle.rq_serving.specs.Awaiting.{AwaitsNumber}
+use Rattle.rq_serving.specs.Carried.{IsAsked, IsCome, IsTold, IsCall, IsMade, IsTurn, Round, Turns, IsGoing, IsCarried, AreOwn, AskedIsOwn, CallsAreOwn, NumberAfter, has_stopped, is_again, may_call, said_in}
 use Rattle.rq_serving.specs.declared.asking.Asking.{Asking}
 use Rattle.rq_serving.specs.declared.serving.Served.{Served}
 use Rattle.rq_serving.specs.declared.serving.Served.TheVariants as came
@@ -248,14 +249,8 @@ told_keeps lost s what old new n k = other lost s what old new tt n k
 
 -- the session was told something
 pub keeps_number : (lost : Bool) (s : Stage) (o : Option Told) (what : Told) (to : Stage) (old new : Option CommitNo)
-    → o ≡ Some what → to ≡ (after_told lost s what).stage → NumberAfter old o new → KeepsNumber s old to new
+    → o ≡ Some what → to ≡ (after_told lost s what).stage → NumberAfter old o new → AwaitsNumber (awaited s) old
+    → AwaitsNumber (awaited to) new
 keeps_number lost s o what to old new is at n k =
     subst (λ (t : Stage). AwaitsNumber (awaited t) new) (sym at)
     (told_keeps lost s what old new (subst (λ (x : Option Told). NumberAfter old x new) is n) k)
-
-pub keeps_on : (a b c : Stage) (x y z : Option CommitNo) → KeepsNumber a x b y → KeepsNumber b y c z → KeepsNumber a x c z
-keeps_on a b c x y z first second k = second (first k)
-
-pub stays_kept : (a b c : Stage) (x y z : Option CommitNo) → KeepsNumber a x b y → c ≡ b → z ≡ y → KeepsNumber a x c z
-stays_kept a b c x y z first at is k =
-    subst (λ (t : Stage). AwaitsNumber (awaited t) z) (sym at) (subst (AwaitsNumber (awaited b)) (sym is) (first k))

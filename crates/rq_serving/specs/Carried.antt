@@ -16,7 +16,7 @@ use Rattle.rq_session.specs.declared.session.Session.{Session}
 use Rattle.rq_session.specs.declared.stage.Stage.{Stage}
 use Rattle.rq_session.specs.Rules.{after_told, after_loss, taken, call_in, answer_in}
 use Rattle.rq_session.specs.Stages.{own}
-use Rattle.rq_session.specs.Laws.{NamesOwn, awaited}
+use Rattle.rq_session.specs.Laws.{NamesOwn}
 use Rattle.rq_wire.specs.declared.answers.Answer.{Answer as Answered_with}
 use Rattle.rq_wire.specs.declared.request.Request.{Request}
 use Rattle.rq_serving.specs.Asking.{Asks, IsAskedAt, Says, said_no}
@@ -198,6 +198,13 @@ pub record IsAskedFor {G S : Type 0} (answers_by : G → List (ℕ × Bool)) (ma
   pub asks : IsCall answers_by made_by handed_to gate mid_gate old mid (Acknowledged number) before next told
   pub goes : CarriesOn answers_by made_by handed_to mid_gate asked_gate mid new told next after c
 
+-- it was so of the number of this commit
+abbrev pub IsAskedForOf : {G S : Type 0} → (G → List (ℕ × Bool)) → (S → List Stamped) → (S → List Stamped) → Asking G
+    → Asking G → S → S → Session → Session → Served → Commit_told → Type 0
+IsAskedForOf answers_by made_by handed_to gate asked_gate old new before after c commit =
+    (number : CommitNo) × (commit_told (commit_number number) ≡ commit)
+    × IsAskedFor answers_by made_by handed_to gate asked_gate old new number before after c
+
 -- a force was made, and its stamp handed on
 pub record IsForce {S : Type 0} (made_by forced_by handed_to : S → List Stamped) (old new : S) : Type 0 where
   pub stamp : Stamped
@@ -208,21 +215,11 @@ pub record IsForce {S : Type 0} (made_by forced_by handed_to : S → List Stampe
 
 -- ---- its own commit
 
--- the commit that is awaited, where there is one, is that of this number
-abbrev pub AwaitsNumber : Option Commit_told → Option CommitNo → Type 0
-AwaitsNumber None number = Unit {0}
-AwaitsNumber (Some commit) None = ⊥
-AwaitsNumber (Some commit) (Some number) = commit_told (commit_number number) ≡ commit
-
 -- the number that is kept, once this was told: that of the commit, where one was told, and else the one from before
 abbrev pub NumberAfter : Option CommitNo → Option Told → Option CommitNo → Type 0
 NumberAfter old (Some (Committed commit)) new =
     (number : CommitNo) × (new ≡ Some number) × (commit_told (commit_number number) ≡ commit)
 NumberAfter old what new = new ≡ old
-
--- where the number that is kept was that of the commit awaited at the one stage, it is at the other
-abbrev pub KeepsNumber : Stage → Option CommitNo → Stage → Option CommitNo → Type 0
-KeepsNumber old was new now = AwaitsNumber (awaited old) was → AwaitsNumber (awaited new) now
 
 -- ---- its own transaction
 

@@ -1,3 +1,4 @@
 pub mod Asking
+pub mod Awaiting
 pub mod Translation
 pub mod Carried

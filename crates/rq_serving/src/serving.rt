@@ -4,7 +4,8 @@ ghost use Rattle.rq_session.specs.declared.stage.OwnTxn.TheVariants.{Free};
 ghost use Rattle.rq_session.specs.declared.stage.Stage.TheVariants.{Rest};
 ghost use Rattle.rq_session.specs.Laws.{awaited};
 ghost use Rattle.rq_serving.specs.Asking.{Asks};
-ghost use Rattle.rq_serving.specs.Carried.{IsAsked, IsAskedFor, IsCall, IsCarried, IsCome, IsForce, IsLost, IsServed, KeepsNumber, NumberAfter, is_again, may_call, was_written};
+ghost use Rattle.rq_serving.specs.Awaiting.{AwaitsNumber, AwaitsNumber-prop};
+ghost use Rattle.rq_serving.specs.Carried.{IsAsked, IsAskedFor, IsAskedForOf, IsCall, IsCarried, IsCome, IsForce, IsLost, IsServed, NumberAfter, is_again, may_call, was_written};
 ghost use Rattle.rq_engine.specs.Says.{gave};
 ghost use Rattle.rq_serving.specs.Translation.{told_by};
 
@@ -40,6 +41,7 @@ pub struct ServedSession<G: Gate> {
     session: Session,
     // the commit that was answered last
     number: Option<CommitNo>,
+    ghost kept: { AwaitsNumber (awaited session.stage) number } by { AwaitsNumber-prop (awaited session.stage) number },
 }
 
 impl<G: Gate> ServedSession<G> {
@@ -67,7 +69,6 @@ impl<G: Gate> ServedSession<G> {
     /// or a commit waits for its receipt, or the session ends, or the gate has said no and no operation is under way.
     pub fn request<S: Steps, R: Wait>(&mut self, rt: &R, steps: &mut S, request: Request) -> Served
         ensures served { IsServed G.answers S.made S.told self.old.gate self.new.gate steps.old steps.new self.old.session request self.new.session result }
-        ensures number { KeepsNumber self.old.session.stage self.old.number self.new.session.stage self.new.number }
     {
         if let Some(ask) = self.session.input(request) {
             return self.carried(rt, steps, Action::Do(ask));
@@ -81,12 +82,10 @@ impl<G: Gate> ServedSession<G> {
     /// Asks whether the commit that waits is durable, also where the gate has said no. The caller waits before it asks
     /// again. Where none waits there is nothing to ask.
     pub fn ask_receipt<S: Steps, R: Wait>(&mut self, rt: &R, steps: &mut S) -> Served
-        ensures some { IfSome (awaited self.old.session.stage) (λ commit. IfSome self.old.number (λ number. IsAskedFor
-            G.answers S.made S.told self.old.gate self.new.gate steps.old steps.new number self.old.session
-            self.new.session result)) }
+        ensures some { IfSome (awaited self.old.session.stage) (λ commit. IsAskedForOf G.answers S.made S.told
+            self.old.gate self.new.gate steps.old steps.new self.old.session self.new.session result commit) }
         ensures none { IfNone (awaited self.old.session.stage) ((result ≡ Served.Ended) × (self.new.gate ≡ self.old.gate)
             × (steps.new ≡ steps.old) × (self.new.session ≡ self.old.session)) }
-        ensures number { KeepsNumber self.old.session.stage self.old.number self.new.session.stage self.new.number }
     {
         if self.session.awaited().is_none() {
             return Served::Ended;
@@ -101,7 +100,6 @@ impl<G: Gate> ServedSession<G> {
     /// the gate has said no the transaction stays as it is then.
     pub fn lose<S: Steps, R: Wait>(&mut self, rt: &R, steps: &mut S) -> Served
         ensures lost { IsLost G.answers S.made S.told self.old.gate self.new.gate steps.old steps.new self.old.session self.new.session result }
-        ensures number { KeepsNumber self.old.session.stage self.old.number self.new.session.stage self.new.number }
     {
         let action = self.session.lost();
         self.carried(rt, steps, action)
@@ -139,7 +137,6 @@ impl<G: Gate> ServedSession<G> {
     // Asks once for the receipt of a commit, and goes on with what that told.
     fn asked_for<S: Steps, R: Wait>(&mut self, rt: &R, steps: &mut S, number: CommitNo) -> Served
         ensures asked { IsAskedFor G.answers S.made S.told self.old.gate self.new.gate steps.old steps.new number self.old.session self.new.session result }
-        ensures number { KeepsNumber self.old.session.stage self.old.number self.new.session.stage self.new.number }
     {
         match self.called(steps, Event::Acknowledged(number)) {
             Some(action) => self.carried(rt, steps, action),
@@ -150,7 +147,6 @@ impl<G: Gate> ServedSession<G> {
     // Does what is to be done, until the session asks for nothing more.
     fn carried<S: Steps, R: Wait>(&mut self, rt: &R, steps: &mut S, first: Action) -> Served
         ensures carried { IsCarried G.answers S.made S.told self.old.gate self.new.gate steps.old steps.new self.old.session first self.new.session result }
-        ensures number { KeepsNumber self.old.session.stage self.old.number self.new.session.stage self.new.number }
     {
         let mut action = first;
         for _ in rt.forever() {
@@ -183,7 +179,6 @@ impl<G: Gate> ServedSession<G> {
     fn called<S: Steps>(&mut self, steps: &mut S, event: Event) -> Option<Action>
         ensures call { IsCall G.answers S.made S.told self.old.gate self.new.gate steps.old steps.new event
             self.old.session result self.new.session }
-        ensures number { KeepsNumber self.old.session.stage self.old.number self.new.session.stage self.new.number }
     {
         let stamped = steps.call(event);
         let told = told_of(stamped.reply());

@@ -1,45 +1,30 @@
-use Rattle.std.proofs.Common.{ap, subst}
+use Rattle.std.proofs.Common.{subst}
 use Rattle.std.specs.Prelude.{Option}
 use Rattle.rq_session.specs.declared.calls.Action.{Action}
-use Rattle.rq_session.specs.declared.session.Session.{Session}
 use Rattle.rq_serving.specs.Carried.{IsCall}
-use Rattle.rq_serving.proofs.Carrying.{begins, one_more, comes, strays, keeps_on, stays_kept}
+use Rattle.rq_serving.proofs.Carrying.{begins, one_more, comes, strays}
 use Rattle.rq_serving.proofs.serving.ServedSession.carried.Goals as goal
 
 pub loop-init : goal.loop-init
 loop-init g c =
-    (begins g.G.Gate.answers g.S.Steps.made g.S.Steps.told c.args.self.now.gate c.args.steps.now c.args.self.now.session c.args.first, λ k. k)
+    begins g.G.Gate.answers g.S.Steps.made g.S.Steps.told c.args.self.now.gate c.args.steps.now c.args.self.now.session c.args.first
 
-pub returns-in-Err-clause-carried : goal.returns-in-Err-clause-carried
-returns-in-Err-clause-carried g c =
+pub returns-in-Err : goal.returns-in-Err
+returns-in-Err g c =
     let same = c.asked.ensures.same in
-    comes g.G.Gate.answers g.S.Steps.made g.S.Steps.told _ _ _ _ _ _ _ _ _ _ _ c.loop.invariant.0 c.asked.ensures.gate same.0
+    comes g.G.Gate.answers g.S.Steps.made g.S.Steps.told _ _ _ _ _ _ _ _ _ _ _ c.loop.invariant c.asked.ensures.gate same.0
     c.in-Err.ensures.came
 
-pub returns-in-Err-clause-number : goal.returns-in-Err-clause-number
-returns-in-Err-clause-number g c =
+pub returns-in-None-called : goal.returns-in-None-called
+returns-in-None-called g c =
     let same = c.asked.ensures.same in
-    stays_kept _ _ _ _ _ _ c.loop.invariant.1 (ap (λ (x : Session). x.stage) same.0) same.1
-
-pub returns-in-None-called-clause-carried : goal.returns-in-None-called-clause-carried
-returns-in-None-called-clause-carried g c =
-    let same = c.asked.ensures.same in
-    let called = subst (λ (o : Option Action). IsCall g.G.Gate.answers g.S.Steps.made g.S.Steps.told c.asked.new.self.gate c.called.new.self.gate c.loop.steps c.called.new.steps c.event_of.result c.asked.new.self.session o c.called.new.self.session) c.in-None-called.is c.called.ensures.call in
+    let called = subst (λ (o : Option Action). IsCall g.G.Gate.answers g.S.Steps.made g.S.Steps.told c.asked.new.self.gate c.called.new.self.gate c.loop.steps c.called.new.steps c.event_of.result c.asked.new.self.session o c.called.new.self.session) c.in-None-called.is c.called.ensures in
     strays g.G.Gate.answers g.S.Steps.made g.S.Steps.told _ _ _ _ _ _ _ _ _ _ _ _ _ c.in-Ok.ask c.event_of.result
-    c.loop.invariant.0 c.asked.ensures.gate same.0 c.in-Ok.ensures.asks c.event_of.ensures called
-
-pub returns-in-None-called-clause-number : goal.returns-in-None-called-clause-number
-returns-in-None-called-clause-number g c =
-    let same = c.asked.ensures.same in
-    keeps_on _ _ _ _ _ _ (stays_kept _ _ _ _ _ _ c.loop.invariant.1 (ap (λ (x : Session). x.stage) same.0) same.1)
-    c.called.ensures.number
+    c.loop.invariant c.asked.ensures.gate same.0 c.in-Ok.ensures.asks c.event_of.ensures called
 
 pub loop-preserved : goal.loop-preserved
 loop-preserved g c =
     let same = c.asked.ensures.same in
-    let called = subst (λ (o : Option Action). IsCall g.G.Gate.answers g.S.Steps.made g.S.Steps.told c.asked.new.self.gate c.called.new.self.gate c.loop.steps c.called.new.steps c.event_of.result c.asked.new.self.session o c.called.new.self.session) c.in-Some-called.is c.called.ensures.call in (
-      one_more g.G.Gate.answers g.S.Steps.made g.S.Steps.told _ _ _ _ _ _ _ _ _ _ _ _ _ _ c.in-Ok.ask c.event_of.result
-          c.loop.invariant.0 c.asked.ensures.gate same.0 c.in-Ok.ensures.asks c.event_of.ensures called,
-      keeps_on _ _ _ _ _ _ (stays_kept _ _ _ _ _ _ c.loop.invariant.1 (ap (λ (x : Session). x.stage) same.0) same.1)
-          c.called.ensures.number,
-    )
+    let called = subst (λ (o : Option Action). IsCall g.G.Gate.answers g.S.Steps.made g.S.Steps.told c.asked.new.self.gate c.called.new.self.gate c.loop.steps c.called.new.steps c.event_of.result c.asked.new.self.session o c.called.new.self.session) c.in-Some-called.is c.called.ensures in
+    one_more g.G.Gate.answers g.S.Steps.made g.S.Steps.told _ _ _ _ _ _ _ _ _ _ _ _ _ _ c.in-Ok.ask c.event_of.result
+    c.loop.invariant c.asked.ensures.gate same.0 c.in-Ok.ensures.asks c.event_of.ensures called
