@@ -9,7 +9,7 @@ usual courses, those of the seeds from 0, each kind of thing that may happen has
 import random
 
 import drawn
-from reference import ALL
+from reference import ALL, bytes_of
 from script_reference import Script, printed_by
 from scripts import SCRIPTS
 
@@ -159,6 +159,8 @@ class Drawing:
         keep = "all" if self.is_first_of(6) else self.random.randrange(unforced + 1)
         if keep != "all" and self.is_first_of(3):
             keep = max(0, unforced - 1 - self.random.randrange(5))  # within what was done last
+        if keep != "all" and keep < unforced and self.is_first_of(2):
+            keep = f"{keep}+{self.random.randrange(bytes_of(devices.records[devices.forced + keep]) + self.is_first_of(60))}"
         self.add("crash", keep, *(["old"] if self.is_first_of(2) else []))
         self.stops_left = self.random.choice([0, 0, 1, 2, 3, 3, 3])
 

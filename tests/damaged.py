@@ -134,8 +134,13 @@ def changed_bytes():
 
 
 def cut_logs():
-    for length, said in ((1190, OPENED), (1189, at_record(5)), (1170, at_record(5)), (1, at_record(1))):
-        yield [b"".join(ONE_COMMITTED)[:length]], said
+    """Cut anywhere a log is opened: its end is no record. Bytes that begin none are damage."""
+    whole = b"".join(ONE_COMMITTED)
+    for length in {*range(0, 30), *range(550, 570), *range(1100, 1191)}:
+        yield [whole[:length]], OPENED
+    for bad in (b"\0\0\0\x11\x07", b"\1", bytes(4)):
+        yield [whole + bad], at_record(6)
+    yield [restart(1) + bytes(12)], at_record(2)
 
 
 def bytes_that_are_no_record():
@@ -340,6 +345,13 @@ LOGS = [
 # ---- what a restart adds to a log, record by record: the log, and what it is then
 
 
+def ends_that_a_crash_left():
+    """Each log as it is, and with a part of a record behind it, which goes before anything is added."""
+    for before, added in restarts():
+        for end in (b"", FILL[:545], COMMIT[:20], restart(2)[:12], b"\0"):
+            yield before, end, added
+
+
 def restarts():
     yield [], [BEGUN]
     yield ONE_COMMITTED, [restart(2)]
@@ -533,10 +545,11 @@ def several_faults():
     yield written((2, 263, 1)), odd_send, at_record(4)
     yield written((2, 263, 1)), ONE_COMMITTED, at_page(1)
     # a record whose before-image doesn't stand there comes before bytes that are no record, and these before a number beyond the log
-    yield formatted(), [BEGUN, write(1, 2, 1, MESSAGE, FREE), b"\0"], at_record(2)
+    yield formatted(), [BEGUN, write(1, 2, 1, MESSAGE, FREE), b"\1"], at_record(2)
     beyond = formatted()
     beyond[PAGE + 7] = 9
-    yield beyond, [BEGUN, b"\0"], at_record(2)
+    yield beyond, [BEGUN, b"\1"], at_record(2)
+    yield beyond, [BEGUN, b"\0"], at_page(1)
 
 
 def other_lengths():
@@ -582,12 +595,12 @@ def fault(program, name, pages, log, wanted):
     return None
 
 
-def odd_restart(program, at, before, added):
+def odd_restart(program, at, before, end, added):
     """What is wrong with the log that a restart leaves; None where nothing is."""
     with tempfile.TemporaryDirectory() as top:
         folder = pathlib.Path(top)
         (folder / "pages").write_bytes(formatted())
-        (folder / "log").write_bytes(b"".join(before))
+        (folder / "log").write_bytes(b"".join([*before, end]))
         subprocess.run([program, "open", top], stdout=subprocess.DEVNULL, timeout=MOST_SECONDS)
         left = (folder / "log").read_bytes()
     return None if left == b"".join([*before, *added]) else f"restarts, {at}: the log is {left.hex()}"
@@ -595,7 +608,7 @@ def odd_restart(program, at, before, added):
 
 def run(program):
     """Opens all by a program; whether each comes to what it should."""
-    stores, logs = list(rows()), list(restarts())
+    stores, logs = list(rows()), list(ends_that_a_crash_left())
     with ThreadPoolExecutor(os.cpu_count()) as pool:
         told = [*pool.map(lambda row: fault(program, *row), stores)]
         told += pool.map(lambda at: odd_restart(program, at, *logs[at]), range(len(logs)))

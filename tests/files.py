@@ -21,7 +21,7 @@ from damaged import (
     FREE, MESSAGE, ONE_COMMITTED, ONE_SENT, PAGE, cell, end, formatted, group, received, sent, small, write,
 )  # fmt: skip
 from inspector import record
-from server import LONGEST, STORE_FAILED, DiskWrite, Failed, NotStarted, Server, cut_torn_end, everything, raises
+from server import LONGEST, STORE_FAILED, DiskWrite, Failed, NotStarted, Server, everything, raises
 
 SHIM = """#define _GNU_SOURCE
 #include <dlfcn.h>
@@ -308,7 +308,6 @@ def courses(program):
                 with folder_of(pages=files["pages"], log=left) as stopped:
                     held = held_by(program, stopped)
                 assert held in course.may_leave(), (words, held, course.done, len(left))
-            cut_torn_end(folder)
             held = held_by(program, folder)
             assert held in course.may_leave(), (words, held, course.done)
     # so often fails the sync of the opening or of a commit, in either pass

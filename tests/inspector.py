@@ -95,6 +95,18 @@ def front(log, at):
     return (name, numbers, end) if is_in_range(name, numbers) else None
 
 
+def is_torn(end):
+    """Whether bytes are a proper beginning of a record: with ones behind they are a whole one, of some kind and length."""
+    for kind, (_, widths, room) in KINDS.items():
+        least = 1 + sum(widths)
+        for size in range(least + 1, least + 257) if room is None else (least + room,):
+            head = size.to_bytes(4, "big") + bytes([kind])
+            whole = (end + head[len(end) :]).ljust(4 + size, b"\1")
+            if len(end) < 4 + size and whole[:5] == head and front(whole, 0):
+                return True
+    return False
+
+
 # ---- what is to be printed
 
 
@@ -120,6 +132,8 @@ def wanted(log):
     lines, records, at = [], [], 0
     while at < len(log):
         found = front(log, at)
+        if found is None and is_torn(log[at:]):
+            return [*lines, f"torn {len(log) - at} bytes", *report_of(records)], 0
         if found is None:
             return [*lines, f"damaged record {len(records) + 1}"], 1
         name, numbers, end = found
@@ -203,7 +217,9 @@ def look_at_worked_bytes(looks):
              "6 abort-end 1.2", "records 6", "unfinished 0", "lost 0", "committed 1 1.1"]  # fmt: skip
     looks.look_at("worked bytes", restart + end + commit + void + undone + b"\0\0\0\x11\x08" + one + two, lines, 0)
     looks.look_at("no bytes", b"", ["records 0", "unfinished 0", "lost 0", "committed 0"], 0)
-    looks.look_at("a record that is cut", restart + b"\0\0\0\x09\x06", ["1 restart 1", "damaged record 2"], 1)
+    looks.look_at("another kind than the length says", restart + b"\0\0\0\x09\x06", ["1 restart 1", "damaged record 2"], 1)
+    looks.look_at("a record that is cut", restart + commit[:20],
+                  ["1 restart 1", "torn 20 bytes", "records 1", "unfinished 0", "lost 0", "committed 0"], 0)
 
 
 def look_at_order(looks):

@@ -4,8 +4,8 @@ the store holds once it is open again: nothing that was acknowledged is lost, no
 
     python3 tests/kill.py [--program PROGRAM] [--seed N] [--rounds N]
 
-A write that the system cuts off leaves a part of a record at the log's end, with which no server starts. It is cut here, and said
-how often. It was acknowledged to nobody.
+A write that the system cuts off leaves a part of a record at the log's end. It was acknowledged to nobody, and the next server cuts
+it off. How often that came is said.
 """
 import argparse
 import random
@@ -16,14 +16,12 @@ from concurrent.futures import ThreadPoolExecutor
 from contextlib import contextmanager
 
 from cases import built
-from server import NotStarted, Server, cut_torn_end, everything, store
+from server import Server, everything, store, torn_end
 
 sys.dont_write_bytecode = True
 from rqm import Full  # noqa: E402, where `server` finds it
 
 GROUPS = 4
-
-DAMAGED = b"fault 16 Damaged\n"
 
 
 class Load:
@@ -124,13 +122,10 @@ class Kills:
             server.kill()
 
     def started(self):
-        words = "--workers", self.random.choice((1, 3))
-        try:
-            return Server(self.program, self.folder, *words)
-        except NotStarted as refused:
-            assert refused.line == DAMAGED and cut_torn_end(self.folder), refused
-            self.torn += 1
-            return Server(self.program, self.folder, *words)
+        self.torn += torn_end(self.folder) > 0
+        server = Server(self.program, self.folder, "--workers", self.random.choice((1, 3)))
+        assert not torn_end(self.folder)
+        return server
 
     def round(self):
         if self.random.random() < 0.2:

@@ -111,6 +111,7 @@ class Devices:
 
     def __init__(self, pages):
         self.records, self.handed, self.forced = [], 0, 0
+        self.torn = 0  # bytes of a record behind those that were handed over, which a crash left of it
         self.pages = [Page() for _ in range(pages)]
         self.calls = self.failing = self.stopping = 0
         self.armed = set()  # kinds of calls of which the next fails: read, write, force
@@ -132,7 +133,16 @@ class Devices:
         self.armed.discard(kind)
         return not fails
 
+    def cut_end(self):
+        """Cuts off what is left of a record, if there is any."""
+        if not self.torn:
+            return
+        if not self.meet("cut"):
+            raise Refused("DiskWrite")
+        self.torn = 0
+
     def hand_over(self):
+        self.cut_end()
         if self.handed == len(self.records):
             return
         try:
@@ -170,7 +180,7 @@ class Devices:
 
     def reads(self):
         """How many reads an opening makes: each page, and the log in windows until one comes short."""
-        total, read, taken, reads, short = sum(map(bytes_of, self.records)), 0, 0, len(self.pages), False
+        total, read, taken, reads, short = sum(map(bytes_of, self.records)) + self.torn, 0, 0, len(self.pages), False
         for size in [*map(bytes_of, self.records), 0]:
             if not short and read - taken < self.LONGEST:
                 room = self.WINDOW - (read - taken)
@@ -193,9 +203,11 @@ class Devices:
             self.pages[record[2]].change(lsn)
         return lsn
 
-    def crash(self, keep, places):
-        """So many of the records that were handed over and not forced outlive it, and of each page the image at its place (the
-        newest where none is said). What is left counts as forced and synced."""
+    def crash(self, keep, torn, places):
+        """So many of the records that were handed over and not forced outlive it, so many bytes of the next, all but one at most,
+        and of each page the image at its place (the newest where none is said). What is left counts as forced and synced."""
+        if self.forced + keep < self.handed:
+            self.torn = min(torn, bytes_of(self.records[self.forced + keep]) - 1)
         del self.records[min(self.handed, self.forced + keep) :]
         self.handed = self.forced = len(self.records)
         for number, page in enumerate(self.pages):
@@ -407,17 +419,18 @@ class Store:
 
     # ---- devices: power, failures, restarts
 
-    def crash(self, keep, places=()):
+    def crash(self, keep, torn=0, places=()):
         """A crash. A store that is not open leaves all. Answers how many records are left."""
         if not self.open:
             keep, places = ALL, ()
         elif not self.failed:
             self.devices.handed = len(self.devices.records)
-        return self.lose(keep, places)
+        return self.lose(keep, torn, places)
 
-    def lose(self, keep, places):
+    def lose(self, keep, torn, places):
         before = len(self.devices.records)
-        self.devices.crash(keep, places)
+        self.devices.crash(keep, torn, places)
+        self.met["Torn"] += self.devices.torn > 0
         left = len(self.devices.records)
         self.met["Shorter"] += left < before
         self.commits = [commit for commit in self.commits if commit[1] <= left]
@@ -438,6 +451,7 @@ class Store:
             mending.count_before(self.met)
             self.is_cut = False
         mending.run()
+        self.met["TornCut"] += devices.torn > 0
         incarnation = 1 + max((record[1] for record in devices.records if record[0] == "restart"), default=0)
         devices.add(("restart", incarnation))
         try:
@@ -469,7 +483,7 @@ class Store:
         twin.restart()
         return len(twin.devices.records) - before
 
-    def restart_stopped(self, n, keep, places=()):
+    def restart_stopped(self, n, keep, torn=0, places=()):
         """A restart in whose nth device call the power fails: its report, or the number of records that are left."""
         before = len(self.devices.records)
         self.devices.stop(n)
@@ -477,7 +491,7 @@ class Store:
             report = self.restart()
         except Stopped:
             made, is_cut = self.devices.records[before:], self.is_cut
-            left = self.lose(keep, places)
+            left = self.lose(keep, torn, places)
             self.is_cut = is_cut
             self.count_stop(made, left - before)
             return left

@@ -38,7 +38,9 @@ def one_of(*choices):
 
 
 def kept(word):
-    return ALL if word == b"all" else number(word)
+    """How many records, and how many bytes of the next."""
+    records, plus, torn = word.partition(b"+")
+    return ALL if records == b"all" else number(records), number(torn) if plus else 0
 
 
 # The words behind each command, how to read each.
@@ -243,10 +245,14 @@ class Script:
         self.met["Armed"] += 1
         return "armed"
 
-    def crash(self, keep, old=None):
+    def crash(self, choice, old=None):
+        keep, torn = choice
         self.numbers, self.stops = {}, 0
         self.met["OldImages"] += old is not None
-        return f"crashed {self.store.crash(keep, [0] * len(self.store.devices.pages) if old else ())}"
+        left = self.store.crash(keep, torn, [0] * len(self.store.devices.pages) if old else ())
+        if self.store.devices.torn != torn:
+            raise Fault
+        return f"crashed {left}"
 
     def restart(self, keep=None):
         if self.store.open:
@@ -264,7 +270,7 @@ class Script:
         devices = self.store.devices
         before = len(devices.records)
         if keep is not None and keep < self.store.records_wanted() and not {"read", "write"} & devices.armed:
-            left = self.store.restart_stopped(devices.reads() + 1, keep)
+            left = self.store.restart_stopped(devices.reads() + (2 if devices.torn else 1), keep)
             self.stops += left > before
             return f"stopped {left}".encode()
         incarnation, unfinished, lost = self.store.restart()

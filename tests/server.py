@@ -162,8 +162,8 @@ def store(program, directory=1, cells=1):
         shutil.rmtree(folder)
 
 
-def cut_torn_end(folder):
-    """Cuts the log behind its last whole record, where a write was cut off; how many bytes went."""
+def torn_end(folder):
+    """How many bytes stand in the log behind its last whole record, where a write was cut off."""
     log = (folder / "log").read_bytes()
     end = 0
     while end + LENGTH <= len(log):
@@ -171,8 +171,6 @@ def cut_torn_end(folder):
         if end + LENGTH + length > len(log):
             break
         end += LENGTH + length
-    with open(folder / "log", "r+b") as file:
-        file.truncate(end)
     return len(log) - end
 
 
@@ -509,7 +507,6 @@ def full_disk(program, _):
             with server.connect() as connection:
                 raises(Failed, connection.transaction)
             assert server.tells()[1:] == [STORE_FAILED]
-        cut_torn_end(folder)
         with serving(program, folder) as server, server.connect() as connection:
             held = everything(connection).get(0, [])
             assert held[: len(acknowledged)] == acknowledged and len(held) <= len(acknowledged) + 1, (held, acknowledged)

@@ -12,8 +12,9 @@ def txn_of(word):
 
 
 def choice_of(keep, images):
-    """What a crash keeps: how many unforced records, and of each page the place of its image."""
-    return int(keep), [] if images == b"-" else [int(place) for place in images.split(b",")]
+    """What a crash keeps: how many unforced records, how many bytes of the next, and of each page the place of its image."""
+    records, _, torn = keep.partition(b"+")
+    return int(records), int(torn or 0), [] if images == b"-" else [int(place) for place in images.split(b",")]
 
 
 # How the words behind the name of a call are read.

@@ -105,7 +105,7 @@ class Drawing:
 
     def call_of_restart(self):
         """A device call of a restart, or one behind its last: most times its append, which is cut between any two records."""
-        append = self.store.devices.reads() + 1
+        append = self.store.devices.reads() + (2 if self.store.devices.torn else 1)
         return self.random.randrange(append + 3) if self.is_first_of(4) else append
 
     def acknowledgement(self):
@@ -120,6 +120,8 @@ class Drawing:
         """What a crash keeps."""
         if keep is None:
             keep = self.random.choice([0, ALL, self.random.randrange(5), self.random.randrange(24)])
+        if self.is_first_of(3):
+            keep = f"{keep}+{self.random.choice([1, 4, self.random.randrange(546), ALL])}"
         places = [self.random.choice([ALL, 0, 1, 2, 3]) for _ in range(self.random.randrange(sum(self.sizes) + 3))]
         return keep, ",".join(map(str, places)) or "-"
 
@@ -218,9 +220,10 @@ class Calls(courses.Drawing):
         if name == "fail":
             return self.happen("fail", self.random.randrange(1, 9))
         if name == "crash":
-            return self.happen("crash", ALL if words[0] == "all" else words[0], self.images(len(words) > 1))
+            return self.happen("crash", str(words[0]).replace("all", str(ALL)), self.images(len(words) > 1))
         if name == "restart" and words:
-            return self.happen("restart-stop", self.store.devices.reads() + 1 + self.random.randrange(2), words[0], "-")
+            append = self.store.devices.reads() + (2 if self.store.devices.torn else 1)
+            return self.happen("restart-stop", append + self.random.randrange(2), words[0], "-")
         if name == "force" and self.is_first_of(4):
             self.happen("hand-over")
         if name in ("send", "open-send") and len(words) < 4:

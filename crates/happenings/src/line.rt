@@ -45,6 +45,18 @@ impl<'a> Line<'a> {
         self.value(word)
     }
 
+    /// The next word, as a number, and another behind `+`; 0 where that is missing.
+    pub fn sum(&mut self) -> (u64, u64) {
+        let mut word = Line::new(self.until(b' '));
+        let first = word.until(b'+');
+        let first = self.value(first);
+        let second = match word.rest() {
+            [] => 0,
+            rest => self.value(rest),
+        };
+        (first, second)
+    }
+
     /// The next word, as a number of 32 bits.
     pub fn short(&mut self) -> u32 {
         let number = self.number();

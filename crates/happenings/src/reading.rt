@@ -1,6 +1,6 @@
 //! A list of happenings, one a line: a name and numbers, with one blank between two words. A transaction is written `2.1`,
-//! an operation `2.1 3`. What a crash keeps is two words: how many unforced records, and of each page the place of its image,
-//! `0,2,1`, or `-` where none is said.
+//! an operation `2.1 3`. What a crash keeps is two words: how many unforced records, and perhaps how many bytes
+//! of the next, `3+20`; and of each page the place of its image, `0,2,1`, or `-` where none is said.
 //!
 //! Calls: `begin`, `start-send TXN SENDER TAG BODY` (the body is the rest of the line), `start-receive TXN`,
 //! `start-receive-from TXN SENDER`, `start-close TXN SENDER`, `step OPERATION`, `finish OPERATION`, `commit TXN`,
@@ -143,7 +143,7 @@ fn stop_of(alloc: Global, line: &mut Line) -> Result<Happening, AllocError> {
 }
 
 fn choice_of(alloc: Global, line: &mut Line) -> Result<Choice, AllocError> {
-    let keep = line.number();
+    let (keep, bytes) = line.sum();
     let mut pages = Vec::new(alloc);
     let word = line.until(b' ');
     if word != b"-".as_slice() {
@@ -151,7 +151,7 @@ fn choice_of(alloc: Global, line: &mut Line) -> Result<Choice, AllocError> {
             pages.push(line.value(place))?;
         }
     }
-    Ok(Choice { keep, pages })
+    Ok(Choice { keep, bytes, pages })
 }
 
 // The call of this name.

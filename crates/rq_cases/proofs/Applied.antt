@@ -5,19 +5,19 @@ use Rattle.rq_model.specs.declared.record.Record.{Record}
 use Rattle.rq_model.specs.History.Call.{Force}
 use Rattle.rq_disk.specs.declared.mem_log.MemLog.{MemLog}
 use Rattle.rq_disk.specs.declared.mem_pages.MemPages.{MemPages}
-use Rattle.rq_log.specs.Spelled.{spelled}
+use Rattle.rq_log.specs.Spelled.{EndsWith, spelled}
 use Rattle.rq_page.specs.Pages.{lsn_of}
-use Rattle.rq_log.proofs.Parsing.{one_log}
+use Rattle.rq_log.proofs.Runs.{AreSpelled-drop}
 use Rattle.rq_store.specs.State.{State}
 use Rattle.rq_engine.specs.declared.event.Event.TheVariants as event
 use Rattle.rq_engine.specs.declared.event.Reply.TheVariants as reply
-use Rattle.rq_engine.proofs.Crashing.{runs_through_cuts, spelled_dropped}
+use Rattle.rq_engine.proofs.Crashing.{runs_through_cuts}
 use Rattle.rq_core.specs.Devices.{mem_log, mem_pages}
 use Rattle.rq_cases.specs.Applied.{CallsAreApplied, Makes, MeetsAll}
 use Rattle.rq_cases.specs.Opened.{AreNewPages, IsForcedSince, IsNewLog, over}
 use Rattle.rq_cases.specs.Run.{log_1, log_5, committed, forced}
 use Rattle.rq_cases.specs.Store.{formatted_pages, page_image, cells_1}
-use Rattle.rq_cases.proofs.Bytes.{first_spelled, records_spelled}
+use Rattle.rq_cases.proofs.Bytes.{first_spelled, records_spelled, spells_one, the_log}
 use Rattle.rq_cases.proofs.Held.{pages_now, pages_fit, leaves_beginning, runs_through, forced_reads, forced_only}
 use Rattle.rq_cases.proofs.Images.{lsn_is}
 use Rattle.rq_cases.proofs.Pages.{cells_1_long}
@@ -58,9 +58,9 @@ module _ (pages : MemPages) (old new : MemLog) (p : AreNewPages pages formatted_
   }
 
 -- a log of five records, of which a crash leaves one at least
-nothing_left : (lost : ℕ) → lost + 1 ≤ 5 → [] ≡ spelled (drop lost log_5) → ⊥
+nothing_left : (lost : ℕ) → lost + 1 ≤ 5 → EndsWith (drop lost log_5) [] → ⊥
 nothing_left lost le e =
-    let none : drop lost log_5 ≡ [] = one_log (drop lost log_5) [] (spelled_dropped lost log_5 records_spelled) tt (sym e) in
+    let none : drop lost log_5 ≡ [] = sym (the_log [] (drop lost log_5) [] tt (AreSpelled-drop lost log_5 records_spelled) refl e) in
     let n : length (drop lost log_5) ≡ 0 = ap (λ (l : List Record). length l) none in
     let m = length-drop lost log_5 in
     omega (arith, n, m, le)
@@ -86,7 +86,7 @@ applied = record {
   failed_without_a_failure = λ pages log new low same a. (let f = a.log.1 in omega (arith, low, same, f));
   forced_nothing = λ pages log new may a.
       (let e : spelled log_1 ≡ spelled log_5 = a.log.durable tt (spelled log_1) may in
-      let f : 1 ≡ 5 = ap (λ (l : List Record). length l) (one_log log_1 log_5 first_spelled records_spelled e) in
+      let f : 1 ≡ 5 = ap (λ (l : List Record). length l) (spells_one log_1 log_5 first_spelled records_spelled e) in
       omega (arith, f));
   left_nothing_meanwhile = λ pages log new left a.
       (let b = (a.any_moment tt).each [] left in nothing_left b.0 b.1 b.2);

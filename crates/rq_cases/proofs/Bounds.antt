@@ -63,7 +63,7 @@ use Rattle.rq_restart.specs.Restarting.{LogStops}
 use Rattle.rq_restart.proofs.Aborts.{aborting_none, behind_none, active_lost}
 use Rattle.rq_analysis.specs.Recovered.IsRecovered.{NoneLost}
 use Rattle.rq_analysis.specs.Recovered.IsRecovering.{Undoing}
-use Rattle.rq_log.proofs.Parsing.{one_log}
+use Rattle.rq_log.proofs.Runs.{ends_all}
 use Rattle.rq_restart.proofs.Parsing.{are_first}
 use Rattle.rq_core.specs.Devices.{mem_log, mem_pages}
 use Rattle.rq_core.specs.Worked.{hello}
@@ -78,6 +78,7 @@ use Rattle.rq_cases.specs.Run.{send_under}
 use Rattle.rq_cases.specs.Store.{formatted_pages, sizes}
 use Rattle.rq_cases.specs.Worlds.{Hold}
 use Rattle.rq_cases.proofs.Closes.{close_plan}
+use Rattle.rq_cases.proofs.Bytes.{the_log}
 use Rattle.rq_cases.proofs.Held.{leaves_beginning, log_seen, pages_fit, pages_now, same_beginning}
 use Rattle.rq_cases.proofs.Openings.{formatted_are, only_read}
 use Rattle.rq_cases.proofs.Pages.{are_formatted, range}
@@ -377,7 +378,7 @@ module _ (n : ℕ) (pages : MemPages) (log : MemLog) (h : Hold pages formatted_p
     seen = λ honest p below. sym (ap (λ (seen : Images). seen p) (pages_seen_are pages formatted_pages h.0));
     older = restarts n;
     are_spelled = are_spelled n (omega (arith, low));
-    reads = λ honest. log_seen log (restarts n) h.1;
+    reads = λ honest. ends_all (restarts n) (mem_log.seen log) (log_seen log (restarts n) h.1);
     rolled_back = restarts n;
     rolled_back_on = record { read_and_redone = (read_pages, gone n); rolls_back = rolls_back n; planned = tt; repeated = repeats n; linked = linked n; recovered = λ left. NoneLost (undoes n) (lost_none n left.whole) };
     begun = refl;
@@ -396,7 +397,7 @@ module _ (n : ℕ) (pages : MemPages) (log : MemLog) (h : Hold pages formatted_p
         inr (
           restarts n,
           are_spelled n low,
-          λ honest. log_seen log (restarts n) h.1,
+          λ honest. ends_all (restarts n) (mem_log.seen log) (log_seen log (restarts n) h.1),
           (
             record {
               undone = restarts n;
@@ -418,13 +419,13 @@ module _ (n : ℕ) (pages : MemPages) (log : MemLog) (h : Hold pages formatted_p
   fits_restart z first new low (inl l) = ⊎_elim
       (λ s.
       let more = s.1 tt in
-      let f = are_first (restarts n) l.front more.0 (are_spelled n (omega (arith, low))) l.are_spelled (sym (log_seen log (restarts n) h.1) ∙ more.2) in
+      let f = are_first (restarts n) l.front (mem_log.seen log) more.0 (are_spelled n (omega (arith, low))) l.are_spelled (ends_all (restarts n) (mem_log.seen log) (log_seen log (restarts n) h.1)) more.2 in
       let e = length_is n in
       let many = s.0 in
       omega (arith, f.1, e, many, low))
       (⊎_elim (λ w. (let e = w.0 in cc e)) (λ b. (let e = b.told in cc e))) l.why
   fits_restart z first new low (inr r) =
-      let same : restarts n ≡ r.0 = one_log (restarts n) r.0 (are_spelled n (omega (arith, low))) r.1 (sym (log_seen log (restarts n) h.1) ∙ r.2 tt) in
+      let same : restarts n ≡ r.0 = the_log (restarts n) r.0 (mem_log.seen log) (are_spelled n (omega (arith, low))) r.1 (log_seen log (restarts n) h.1) (r.2 tt) in
       let e = length_is n in
       let d : length (restarts n) ≡ length r.0 = ap (λ (x : List Record). length x) same in
       let b = r.3.0 in

@@ -1,7 +1,7 @@
 -- The records of the worked run have spellings.
-use Rattle.std.proofs.Common.{◌≡◌, ℕ, zero, suc, ◌+◌, ◌*◌, ◌<◌, ◌==◌, length-append, Bool, true, false, if◌then◌else◌, List, [], ◌∷◌, ◌++◌, length, replicate, refl, ap, arith}
+use Rattle.std.proofs.Common.{◌≡◌, ℕ, zero, suc, ◌+◌, ◌*◌, ◌<◌, ◌==◌, length-append, Bool, true, false, if◌then◌else◌, List, [], ◌∷◌, ◌++◌, ◌∙◌, ◌^◌, length, replicate, refl, sym, ap, arith}
 use Rattle.std.specs.Prelude.{codes}
-use Rattle.byteorder.specs.Endian.{big_bytes}
+use Rattle.byteorder.specs.Endian.{big_bytes, big_number}
 use Rattle.rq_bytes.specs.Number.{AreBytes, number}
 use Rattle.rq_bytes.proofs.Strings.{AreBytes-number}
 use Rattle.rq_model.specs.Deeds.{spelled_deed}
@@ -16,11 +16,13 @@ use Rattle.rq_page.proofs.DirectoryBytes.{length-directory_bytes}
 use Rattle.rq_views.specs.WorkedItems.{cell, sends, t1}
 use Rattle.rq_model.specs.declared.record.Record.{Record}
 use Rattle.rq_record.specs.Spelling.{FitsTxn, IsImage, IsRecord, IsTxnInRange, spelling}
-use Rattle.rq_record.proofs.Whole.{long_spelling}
+use Rattle.rq_record.proofs.Whole.{framed_whole, long_spelling, short_spelling}
 use Rattle.rq_record.proofs.Readers.{AreBytes-append, AreBytes-zeros}
-use Rattle.rq_log.specs.Spelled.{AreSpelled, spelled}
+use Rattle.rq_log.specs.Spelled.{AreSpelled, EndsWith, spelled}
+use Rattle.rq_log.proofs.Parsing.{one_log}
+use Rattle.rq_log.proofs.Runs.{ends_all}
 use Rattle.rq_store.specs.Steps.{op_end, page_op}
-use Rattle.rq_cases.specs.Run.{log_1, log_5}
+use Rattle.rq_cases.specs.Run.{log_1, log_5, no_record}
 use Rattle.rq_store.specs.Fitting.{image_in}
 use Rattle.rq_cases.specs.Sound.{IsImageOfPage}
 use Rattle.rq_cases.specs.Store.{cells_0, count_sent, fill_cell, formatted_pages, groups_0, joined, page_image, part, sizes}
@@ -135,14 +137,32 @@ first_spelled = ((omega arith, omega arith), tt)
 pub records_spelled : AreSpelled log_5
 records_spelled = ((in_range, fits), (end_is, (count_is, (fill_is, first_spelled))))
 
--- a byte is no log
-pub short_log : (log : List Record) → AreSpelled log → (0 ∷ []) ≡ spelled log → ⊥
-short_log [] told e = (let n : 1 ≡ 0 = ap length e in omega (arith, n))
-short_log (r ∷ older) told e =
-    let n : 1 ≡ length (spelled (r ∷ older)) = ap length e in
+-- the length field is too large for a record
+long_number : (rest : List ℕ) → big_number 4 (no_record ++ rest) ≡ 2 ^ 24
+long_number rest = refl
+
+-- what begins no record is no log
+pub short_log : (log : List Record) → AreSpelled log → EndsWith log no_record → ⊥
+short_log [] told ends =
+    let b = ends.1 in
+    let size = framed_whole b.0 b.2 in
+    let short = short_spelling b.0 b.2 in
+    let n : big_number 4 (spelling b.0) ≡ 2 ^ 24 = ap (big_number 4) (b.4 ∙ ap (λ l. l ++ b.1) (sym ends.2)) ∙ long_number b.1 in
+    omega (arith, size, short, n)
+short_log (r ∷ older) told ends =
+    let n : 4 ≡ length (spelled (r ∷ older) ++ ends.0) = ap length ends.2 in
     let long = long_spelling r told.0 in
     let all = length-append (spelled older) (spelling r) in
-    omega (arith, n, long, all)
+    let both = length-append (spelled (r ∷ older)) ends.0 in
+    omega (arith, n, long, all, both)
+
+-- the log that these bytes spell is the one that they tell
+pub the_log : (a b : List Record) (bytes : List ℕ) → AreSpelled a → AreSpelled b → bytes ≡ spelled a → EndsWith b bytes → a ≡ b
+the_log a b bytes h k e ends = one_log a b bytes h k (ends_all a bytes e) ends
+
+-- what spells one log spells no other
+pub spells_one : (a b : List Record) → AreSpelled a → AreSpelled b → spelled a ≡ spelled b → a ≡ b
+spells_one a b h k e = the_log a b (spelled a) h k refl (ends_all b (spelled a) e)
 
 -- the formatted pages are pages of bytes
 header_bytes_are : (lsn page kind : ℕ) → kind < 256 → AreBytes (header_bytes lsn page kind)

@@ -21,7 +21,7 @@ use Rattle.rq_core.specs.Happenings.{Happening, MayCrashIt}
 use Rattle.rq_core.specs.Happenings.Happening.{Crashes, Stops_in}
 use Rattle.rq_core.specs.Worked.{first_entries}
 use Rattle.rq_cases.specs.Crashes.{CrashesAreJudged, MayFail, RunsAreJudged}
-use Rattle.rq_cases.specs.Run.{committed, forced, log_1, log_5}
+use Rattle.rq_cases.specs.Run.{committed, forced, log_1, log_5, no_record}
 use Rattle.rq_cases.specs.Store.{formatted_pages, sent_pages}
 use Rattle.rq_cases.specs.Worlds.{Hold, course_to}
 use Rattle.rq_cases.proofs.Bytes.{short_log}
@@ -82,8 +82,8 @@ runs = record {
   forced_lost_between = λ pages log new left path.
       (let x = (goes_between (IsCut forced) pages new.pages log new.log path).each (spelled log_1) left in
       cuts.forced_lost x.0 x.1);
-  half_a_record_at_its_end = λ old new may path.
-      (let c = ends_there (IsCut old.state) path (mem_pages.seen new.pages) (0 ∷ []) (some_pages new.pages) may in
+  what_begins_no_record_at_its_end = λ old new may path.
+      (let c = ends_there (IsCut old.state) path (mem_pages.seen new.pages) no_record (some_pages new.pages) may in
       short_log (drop c.lost old.state.records) c.told c.spells);
 }
 
@@ -116,8 +116,8 @@ module _ (goes : CrashGoesOn small) where
     in_a_restart_of_an_open_store = λ pages log k.
         (let e = sym (ap (λ (h : List Entry). (ledger h).phase) k.tells.2.1) ∙ k.may in cc e);
     by_a_call = λ course pages log k. k.may;
-    leaves_half_a_record = λ course x pages log may k.
-        (let y = k.leaves (mem_pages.seen pages) (0 ∷ []) (some_pages pages) may in short_log y.0 y.1.are_spelled y.1.is);
+    leaves_what_begins_no_record = λ course x pages log may k.
+        (let y = k.leaves (mem_pages.seen pages) no_record (some_pages pages) may in short_log y.0 y.1.are_spelled y.1.is);
     leaves_less_than_was_forced = λ course x pages log records n told few may k.
         forced_is_left course k.history pages log records n k.tells k.legal k.leaves told few may;
   }

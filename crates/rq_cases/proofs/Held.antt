@@ -6,7 +6,6 @@ use Rattle.std.specs.declared.alloc.Global.{Global}
 use Rattle.rq_model.specs.declared.record.Record.{Record}
 use Rattle.rq_disk.specs.Device.{Images, Leaves, Only}
 use Rattle.rq_disk.specs.Memory.{LogState, LogSince, MayBe, MayLeave, PageState, fresh_pages, log_after, log_only, log_reads, pages_only}
-use Rattle.rq_disk.specs.Records.{first_records}
 use Rattle.rq_disk.specs.Shown.{log_of}
 use Rattle.rq_disk.specs.declared.mem_log.LogCall.{LogCall}
 use Rattle.rq_disk.specs.declared.mem_log.LogCall.TheVariants.{Append, Force}
@@ -17,7 +16,7 @@ use Rattle.rq_disk.proofs.KeptLog.{fresh_only}
 use Rattle.rq_log.specs.Crash.{LeavesOnly}
 use Rattle.rq_log.specs.Spelled.{AreSpelled, spelled, IsBeginning}
 use Rattle.rq_log.proofs.Moments.{started}
-use Rattle.rq_log.proofs.Runs.{all_of, some_newer, spelled_whole}
+use Rattle.rq_log.proofs.Runs.{all_of, ends_all, some_newer, spelled_whole}
 use Rattle.rq_store.specs.Fitting.{AllFit, image_in}
 use Rattle.rq_store.specs.Steps.{Continues}
 use Rattle.rq_store.proofs.Cutting.{all_fit_longer, only_fit}
@@ -32,7 +31,7 @@ pub pages_now : (d : MemPages) (c : Images) → mem_pages.left_since d (mem_page
 pages_now d c left = pages_only d.first.items d.calls.items c left
 
 pub log_now : (d : MemLog) (c : List ℕ) → mem_log.left_since d (mem_log.moment d) c → mem_log.may_leave d c
-log_now d c left = log_only (take d.first d.bytes.items) d.calls.items c left
+log_now d c left = log_only d.start.value.items d.calls.items c left
 
 -- pages that are formatted, with no call since
 module _ (d : MemPages) (n : AreNewPages d formatted_pages) where
@@ -54,8 +53,8 @@ module _ (d : MemLog) (records : List Record) (n : IsNewLog d records) where
   pub new_calls : d.calls.items ≡ []
   new_calls = nil_from_length d.calls.items n.moment
 
-  pub new_bytes : take d.first d.bytes.items ≡ spelled records
-  new_bytes = ap (λ (s : LogState). s.forced) (sym (ap (log_after (take d.first d.bytes.items)) new_calls) ∙ n.log)
+  pub new_bytes : d.start.value.items ≡ spelled records
+  new_bytes = ap (λ (s : LogState). s.forced) (sym (ap (log_after d.start.value.items) new_calls) ∙ n.log)
 
   pub log_left : mem_log.may_leave d (spelled records)
   log_left = subst (λ (s : LogState). MayLeave s (spelled records)) (sym n.log) (0, sym (append-nil (spelled records)))
@@ -69,7 +68,7 @@ module _ (d : MemLog) (records : List Record) (n : IsNewLog d records) where
   -- of a longer log it leaves a beginning, now and at each moment since
   module _ (all : List Record) (kept lost : ℕ) (some : lost + kept ≤ length all) (drops : drop lost all ≡ records) where
     pub leaves_beginning : (c : List ℕ) → mem_log.may_leave d c → IsBeginning all kept c
-    leaves_beginning c may = (lost, some, only_records c may ∙ ap spelled (sym drops))
+    leaves_beginning c may = (lost, some, ends_all (drop lost all) c (only_records c may ∙ ap spelled (sym drops)))
 
     pub same_beginning : LeavesOnly mem_log d d (IsBeginning all kept)
     same_beginning = started mem_log d (IsBeginning all kept) (λ c left. leaves_beginning c (log_now d c left))
@@ -92,9 +91,9 @@ module _ (all : List Record) (kept count : ℕ) (told : AreSpelled all) (le : co
     -- after each of both calls
     after_some : (k : ℕ) → k ≤ 2 → (c : List ℕ) → MayLeave (log_after (spelled older) (take k (forced_after run))) c
         → IsBeginning all kept c
-    after_some zero low c may = (count, le, fresh_only (spelled older) c may)
+    after_some zero low c may = (count, le, ends_all older c (fresh_only (spelled older) c may))
     after_some (suc zero) low c may =
-        subst (IsBeginning all kept) (sym (may.1 ∙ ap (λ l. spelled older ++ first_records may.0 l) items))
+        subst (IsBeginning all kept) (sym (may.1 ∙ ap (λ l. spelled older ++ take may.0 l) items))
         (some_newer all kept count may.0 told le)
     after_some (suc (suc zero)) low c may =
         all_of all kept c (omega (arith, le)) (fresh_only (spelled older ++ run.items) c may ∙ all_bytes)
@@ -121,7 +120,7 @@ module _ (all : List Record) (kept count : ℕ) (told : AreSpelled all) (le : co
     abbrev calls_are : List LogCall
     calls_are = forced_after f.run
 
-    bytes_are : take new.first new.bytes.items ≡ spelled older
+    bytes_are : new.start.value.items ≡ spelled older
     bytes_are = f.first ∙ new_bytes old older n
 
     log_forced : log_of new ≡ log_then f.run

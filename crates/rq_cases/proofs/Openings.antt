@@ -11,6 +11,7 @@ use Rattle.rq_disk.specs.declared.mem_pages.MemPages.{MemPages}
 use Rattle.rq_log.specs.Reading.{IsRead}
 use Rattle.rq_log.specs.Spelled.{AreSpelled, spelled}
 use Rattle.rq_log.proofs.Moments.{started}
+use Rattle.rq_log.proofs.Runs.{ends_all}
 use Rattle.rq_page.specs.Formatted.{IsHeaderOf}
 use Rattle.rq_page.specs.Pages.{lsn_of}
 use Rattle.rq_page.specs.Sizes.{Sizes}
@@ -35,7 +36,7 @@ use Rattle.rq_cases.specs.Restarting.{read_pages}
 use Rattle.rq_cases.specs.Run.{forced, log_1, log_4, log_5}
 use Rattle.rq_cases.specs.Store.{formatted_pages, sizes}
 use Rattle.rq_cases.specs.Worlds.{Hold, crashed}
-use Rattle.rq_cases.proofs.Bytes.{first_spelled, records_spelled}
+use Rattle.rq_cases.proofs.Bytes.{first_spelled, records_spelled, spells_one, the_log}
 use Rattle.rq_cases.proofs.Held.{log_now, log_seen, only_records}
 use Rattle.rq_cases.proofs.Reading.{first_block, no_header}
 use Rattle.rq_restart.proofs.Paths.{kept, kept_extends, kept_spelled, older_spelled}
@@ -96,7 +97,7 @@ checks = record {
       open_4 (same_log k.rolled_back log_4 k.rolled_back_on.rolls_back.ended (sym (read_is pages log new last (Restart 2 ∷ log_4) k (Restart 2) log_4 refl)));
   another_log = λ pages log new last n k.
       (let same : log_5 ≡ k.rolled_back = read_is pages log new last log_next k (Restart 2) log_5 refl in
-      let older : log_1 ≡ k.older = one_log log_1 k.older first_spelled k.are_spelled (sym (log_seen log log_1 n) ∙ k.reads tt) in
+      let older : log_1 ≡ k.older = the_log log_1 k.older (mem_log.seen log) first_spelled k.are_spelled (log_seen log log_1 n) (k.reads tt) in
       let c : committed_of log_5 ≡ committed_of log_1 = ap committed_of same ∙ extends_commits k.older k.rolled_back (rolled_back_extends k.older k.rolled_back k.rolled_back_on.rolls_back) ∙ ap committed_of (sym older) in
       let f : 1 ≡ 0 = ap (λ (l : List Done). length l) c in
       omega (arith, f));
@@ -144,15 +145,15 @@ commit_spelled : AreSpelled (Commit t1 ∷ log_1)
 commit_spelled = (records_spelled.0, first_spelled)
 
 same_length : (a b : List Record) → AreSpelled a → AreSpelled b → spelled a ≡ spelled b → length a ≡ length b
-same_length a b h k e = ap (λ (l : List Record). length l) (one_log a b h k e)
+same_length a b h k e = ap (λ (l : List Record). length l) (spells_one a b h k e)
 
 -- what is left then is no log with less than was read
 begun_with_less : (read : List ℕ) → read ≡ spelled log_5 → IsBegunOn sizes (image_in formatted_pages) read (spelled log_4) → ⊥
 begun_with_less read is b =
     let bytes = spelled log_4 in
     let left : Type 0 = IsLeft sizes (image_in formatted_pages) b.older in
-    let older : log_5 ≡ b.older = one_log log_5 b.older records_spelled (older_spelled sizes left b.older bytes b.begun) (sym is ∙ b.reads) in
-    let now : log_4 ≡ kept sizes left b.older bytes b.begun = one_log log_4 (kept sizes left b.older bytes b.begun) records_spelled.1 (kept_spelled sizes left b.older bytes b.begun) b.begun.is in
+    let older : log_5 ≡ b.older = the_log log_5 b.older read records_spelled (older_spelled sizes left b.older bytes b.begun) is b.reads in
+    let now : log_4 ≡ kept sizes left b.older bytes b.begun = the_log log_4 (kept sizes left b.older bytes b.begun) bytes records_spelled.1 (kept_spelled sizes left b.older bytes b.begun) refl b.begun.is in
     let more = kept_extends sizes left b.older bytes b.begun in
     let a = length-append more.0 b.older in
     let c : length (more.0 ++ b.older) ≡ 4 = ap (λ (l : List Record). length l) (more.1 ∙ sym now) in
@@ -204,12 +205,12 @@ beginnings = record {
       (λ k. begun_commit (subst (λ read. IsBegunOn sizes (image_in formatted_pages) read (spelled (Commit t1 ∷ log_1))) (log_seen old log_1 n) k))
       ((b tt).each (spelled (Commit t1 ∷ log_1)) left);
   of_stores = λ pages log new h seen honest z read told is each.
-      one_log read log_5 told records_spelled (sym is ∙ log_seen log log_5 h.1);
+      sym (the_log log_5 read (mem_log.seen log) records_spelled told (log_seen log log_5 h.1) is);
   of_other_stores = λ pages log new h q.
       (let e : 5 ≡ 4 = ap (λ (l : List Record). length l) (told_of (λ z read. read ≡ log_4) pages log new h q) in omega (arith, e));
   of_no_store = λ pages log new h q. told_of (λ z read. ⊥) pages log new h q;
   goes_on_with_a_commit = λ log images n k.
-      commit_behind log n k.0 (sym (one_log (Commit t1 ∷ log_1) k.0 commit_spelled k.1.are_spelled k.1.is)) k.2;
+      commit_behind log n k.0 (sym (the_log (Commit t1 ∷ log_1) k.0 (spelled (Commit t1 ∷ log_1)) commit_spelled k.1.are_spelled refl k.1.is)) k.2;
   shut_for_damage = λ pages new_pages log new_log d h s.
       (refused_over one_log sizes crashed pages new_pages log new_log (why.Damaged d) (shuts pages log h) s).cause tt;
   shut_with_less = λ pages new_pages log new_log r h n s.
@@ -222,5 +223,5 @@ beginnings = record {
 } where
   told_of : (Q : Sizes → List Record → Type 0) (pages : MemPages) (log new : MemLog) → Hold pages formatted_pages log log_5 → OfStores mem_pages mem_log pages log pages new Q → Q sizes log_5
   told_of Q pages log new h q =
-      q tt tt sizes log_5 records_spelled (log_seen log log_5 h.1)
+      q tt tt sizes log_5 records_spelled (ends_all log_5 (mem_log.seen log) (log_seen log log_5 h.1))
       (λ images bytes a b. (log_5, leaves_store pages log h images bytes a b))

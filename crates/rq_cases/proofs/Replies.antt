@@ -8,12 +8,11 @@ use Rattle.rq_model.specs.Vocabulary.Op.{Send}
 use Rattle.rq_model.specs.Replay.Reply.{Gave_commit, Gave_forced, Gave_receipt}
 use Rattle.rq_disk.specs.declared.mem_log.MemLog.{MemLog}
 use Rattle.rq_disk.specs.declared.mem_pages.MemPages.{MemPages}
-use Rattle.rq_log.specs.Spelled.{spelled}
+use Rattle.rq_log.specs.Spelled.{EndsWith, spelled}
 use Rattle.rq_views.specs.WorkedItems.{t1}
-use Rattle.rq_log.proofs.Parsing.{one_log}
+use Rattle.rq_log.proofs.Runs.{AreSpelled-drop, ends_all}
 use Rattle.rq_sound.specs.Sound.{IsSound}
 use Rattle.rq_engine.specs.Opened.{OpenStore}
-use Rattle.rq_engine.proofs.Crashing.{spelled_dropped}
 use Rattle.rq_shared.specs.Entries.{Noted}
 use Rattle.rq_shared.specs.Receipts.{IsReceiptOf}
 use Rattle.rq_core.specs.Worked.{hello}
@@ -23,7 +22,7 @@ use Rattle.rq_cases.specs.Replies.{ReceiptsAreJudged, asked_commit, asked_force,
 use Rattle.rq_cases.specs.Run.{committed, forced, log_1, log_5, take_started}
 use Rattle.rq_cases.specs.Store.{sizes}
 use Rattle.rq_cases.proofs.Audits.{audits, left_out_of, unsound}
-use Rattle.rq_cases.proofs.Bytes.{first_spelled, records_spelled}
+use Rattle.rq_cases.proofs.Bytes.{first_spelled, records_spelled, the_log}
 use Rattle.rq_cases.proofs.Held.{log_left, only_records}
 use Rattle.rq_cases.proofs.Running as running
 
@@ -31,9 +30,9 @@ use Rattle.rq_cases.proofs.Running as running
 abbrev done : Done
 done = record { txn = t1; lsn = 5; ops = Send hello ∷ [] }
 
-taken_away : (log : MemLog) → IsNewLog log log_1 → (commit : Done) (lost : ℕ) → spelled log_1 ≡ spelled (drop lost log_5) → In commit (committed_of (drop lost log_5)) → ⊥
+taken_away : (log : MemLog) → IsNewLog log log_1 → (commit : Done) (lost : ℕ) → EndsWith (drop lost log_5) (spelled log_1) → In commit (committed_of (drop lost log_5)) → ⊥
 taken_away log n commit lost e i =
-    let same : drop lost log_5 ≡ log_1 = one_log (drop lost log_5) log_1 (spelled_dropped lost log_5 records_spelled) first_spelled (sym e) in
+    let same : drop lost log_5 ≡ log_1 = sym (the_log log_1 (drop lost log_5) (spelled log_1) first_spelled (AreSpelled-drop lost log_5 records_spelled) refl e) in
     subst (λ (l : List Record). In commit (committed_of l)) same i
 
 -- what no entry of an audit gave
@@ -58,7 +57,7 @@ receipts = record {
     txn = refl;
     lsn = refl;
     stands = inl refl;
-    survives = λ bytes may. (0, only_records log log_5 n bytes may, inl refl);
+    survives = λ bytes may. (0, ends_all log_5 bytes (only_records log log_5 n bytes may), inl refl);
   };
   not_forced = λ pages log n k.
       (let s = k.survives (spelled log_1) (log_left log log_1 n) in taken_away log n k.commit s.0 s.1 s.2);

@@ -1,7 +1,8 @@
 -- Stores between two happenings, and headlines, over the worked run.
-use Rattle.std.proofs.Common.{rules, ◌≡◌, ℕ, ◌+◌, ◌-◌, ◌≤◌, ◌<◌, false, List, [], ◌∷◌, ◌++◌, length, drop, refl, sym, ap, ◌∙◌, subst, inl, arith, length-append}
-use Rattle.std.proofs.lemmas.List.{length-drop}
+use Rattle.std.proofs.Common.{rules, ◌≡◌, ℕ, ◌+◌, ◌-◌, ◌≤◌, ◌<◌, false, List, [], ◌∷◌, ◌++◌, length, take, drop, refl, sym, ap, ◌∙◌, subst, inl, arith, length-append}
+use Rattle.std.proofs.lemmas.List.{length-drop, take-append-drop}
 use Rattle.rq_model.specs.declared.record.Record.{Record}
+use Rattle.rq_model.specs.declared.record.Record.TheVariants.{Commit}
 use Rattle.rq_model.specs.History.{Entry}
 use Rattle.rq_model.specs.History.Entry.{Acknowledged, Begun, Committed, Did, Forced, Started, Stepped}
 use Rattle.rq_model.specs.History.Job.{Sending}
@@ -20,7 +21,10 @@ use Rattle.rq_disk.specs.Memory.{MayBe, PageState, pages_seen}
 use Rattle.rq_disk.specs.Shown.{pages_of}
 use Rattle.rq_disk.specs.declared.mem_log.MemLog.{MemLog}
 use Rattle.rq_disk.specs.declared.mem_pages.MemPages.{MemPages}
-use Rattle.rq_log.specs.Spelled.{AreSpelled, spelled}
+use Rattle.rq_record.specs.Spelling.{spelling}
+use Rattle.rq_record.proofs.Whole.{long_spelling}
+use Rattle.rq_views.specs.WorkedItems.{t1}
+use Rattle.rq_log.specs.Spelled.{AreSpelled, EndsWith, spelled}
 use Rattle.rq_page.specs.Pages.{lsn_of}
 use Rattle.rq_store.specs.Fitting.{FitsLog, FitsPage, image_in}
 use Rattle.rq_store.specs.State.{State}
@@ -32,7 +36,7 @@ use Rattle.rq_engine.specs.Crash.{IsCut, LeavesCut}
 use Rattle.rq_engine.specs.Devices.{EachPair}
 use Rattle.rq_engine.proofs.Crashing.{commits_of_cut, leaves_cut}
 use Rattle.rq_restart.specs.Underway.{IsStore}
-use Rattle.rq_log.proofs.Parsing.{one_log}
+use Rattle.rq_log.proofs.Runs.{ends_all}
 use Rattle.rq_core.specs.Devices.{mem_log, mem_pages}
 use Rattle.rq_core.specs.Happenings.{Course, Tells}
 use Rattle.rq_core.specs.Headline.{LeavesStores}
@@ -41,10 +45,10 @@ use Rattle.rq_core.specs.Worked.{first_entries, hello}
 use Rattle.rq_core.specs.World.World.{Is_open, Is_shut}
 use Rattle.rq_core.proofs.Arms.{open_ends, shut_ends}
 use Rattle.rq_cases.specs.Opened.{AreNewPages, IsNewLog, over}
-use Rattle.rq_cases.specs.Run.{log_1, log_5, committed, forced}
+use Rattle.rq_cases.specs.Run.{log_1, log_5, no_record, committed, forced}
 use Rattle.rq_cases.specs.Store.{formatted_pages, groups_1, page_image, sent_pages, sizes}
 use Rattle.rq_cases.specs.Worlds.{CutsAreJudged, HeadlinesAreJudged, Hold, Opens, Shuts, WorldsAreJudged, course_to, crashed, crashed_course}
-use Rattle.rq_cases.proofs.Bytes.{first_spelled, records_spelled, short_log}
+use Rattle.rq_cases.proofs.Bytes.{first_spelled, records_spelled, short_log, the_log}
 use Rattle.rq_cases.proofs.Held.{leaves_beginning, log_left, only_records, pages_fit, pages_now}
 use Rattle.rq_cases.proofs.Pages.{are_formatted, range}
 use Rattle.rq_cases.proofs.Running as running
@@ -93,7 +97,7 @@ module _ (pages : MemPages) (log : MemLog) where
   leaves_store h images bytes a b = record {
     range = range;
     are_spelled = records_spelled;
-    is = only_records log log_5 h.1 bytes b;
+    is = ends_all log_5 bytes (only_records log log_5 h.1 bytes b);
     left = record {
       whole = running.commit_send.sound.log;
       fits = fits_log (mem_pages.may_be pages) sizes log_5 images (pages_fit pages h.0 log_5 (5, refl)) a;
@@ -113,7 +117,7 @@ module _ (pages : MemPages) (log : MemLog) where
   shuts_with_less n s =
       let x = s.left (mem_pages.seen pages) (spelled log_1) (some_pages pages) (log_left log log_1 n) in
       let store : IsStore sizes x.0 (mem_pages.seen pages) (spelled log_1) = x.2 in
-      let same : x.0 ≡ log_1 = one_log x.0 log_1 store.are_spelled first_spelled (sym store.is) in
+      let same : x.0 ≡ log_1 = sym (the_log log_1 x.0 (spelled log_1) first_spelled store.are_spelled refl store.is) in
       let count : length x.0 ≡ 1 = ap (λ (l : List Record). length l) same in
       let more : length (x.1.0 ++ s.older) ≡ length x.0 = ap (λ (l : List Record). length l) x.1.1 in
       let joined = length-append x.1.0 s.older in
@@ -123,7 +127,7 @@ module _ (pages : MemPages) (log : MemLog) where
   fresh_with_one : IsNewLog log log_1 → EachPair mem_pages mem_log pages log (IsStore sizes []) → ⊥
   fresh_with_one n s =
       let store = s (mem_pages.seen pages) (spelled log_1) (some_pages pages) (log_left log log_1 n) in
-      let same : log_1 ≡ [] = one_log log_1 [] first_spelled tt store.is in
+      let same : log_1 ≡ [] = the_log log_1 [] (spelled log_1) first_spelled tt refl store.is in
       let count : 1 ≡ 0 = ap (λ (l : List Record). length l) same in
       omega (arith, count)
 
@@ -146,7 +150,7 @@ worlds = record {
     left = λ images bytes a b. record {
       range = range;
       are_spelled = tt;
-      is = only_records log [] h.1 bytes b;
+      is = ends_all [] bytes (only_records log [] h.1 bytes b);
       left = record {
         whole = whole_empty sizes;
         fits = fits_log (mem_pages.may_be pages) sizes [] images (pages_fit pages h.0 [] (0, refl)) a;
@@ -175,11 +179,22 @@ cut_first = record {
   forced = omega arith;
   incarnation = omega arith;
   told = first_spelled;
-  spells = refl;
+  spells = ends_all log_1 (spelled log_1) refl;
   store = record { whole = whole_dropped sizes 4 log_5 whole_5; fits = formatted_fit log_1 (1, refl) };
   durable = omega arith;
   content = λ g. content_is g log_1 (whole_dropped sizes 4 log_5 whole_5).rules ∙ ap (λ c. group_in c g) (sym (commits_of_cut 4 log_5));
 }
+
+-- seven bytes of the commit
+torn_commit : EndsWith log_1 (spelled log_1 ++ take 7 (spelling (Commit t1)))
+torn_commit =
+    let is = records_spelled.0 in
+    let long = long_spelling (Commit t1) is in
+    let left = length-drop 7 (spelling (Commit t1)) in
+    (take 7 (spelling (Commit t1)), (Commit t1, drop 7 (spelling (Commit t1)), is, omega (arith, long, left), sym (take-append-drop 7 (spelling (Commit t1)))), refl)
+
+cut_torn : IsCut committed (image_in formatted_pages) (spelled log_1 ++ take 7 (spelling (Commit t1)))
+cut_torn = record cut_first { spells = torn_commit }
 
 cut_all : IsCut committed (image_in formatted_pages) (spelled log_5)
 cut_all = record {
@@ -187,7 +202,7 @@ cut_all = record {
   forced = omega arith;
   incarnation = omega arith;
   told = records_spelled;
-  spells = refl;
+  spells = ends_all log_5 (spelled log_5) refl;
   store = record { whole = whole_5; fits = formatted_fit log_5 (5, refl) };
   durable = omega arith;
   content = λ g. content_is g log_5 whole_5.rules ∙ ap (λ c. group_in c g) (sym (commits_of_cut 0 log_5));
@@ -196,7 +211,7 @@ cut_all = record {
 -- how many records are left where these bytes are
 kept_count : (s : State) (images : Images) (records : List Record) → AreSpelled records → (c : IsCut s images (spelled records)) → length s.records - c.lost ≡ length records
 kept_count s images records told c =
-    sym (length-drop c.lost s.records) ∙ ap (λ (l : List Record). length l) (one_log (drop c.lost s.records) records c.told told (sym c.spells))
+    sym (length-drop c.lost s.records) ∙ ap (λ (l : List Record). length l) (sym (the_log records (drop c.lost s.records) (spelled records) told c.told refl c.spells))
 
 pub cuts : CutsAreJudged
 cuts = record {
@@ -207,7 +222,8 @@ cuts = record {
       (let n : 5 - c.lost ≡ 1 = kept_count forced images log_1 first_spelled c in
       let f : c.lost + 5 ≤ 5 = c.forced in
       omega (arith, n, f));
-  half_a_record = λ images c. short_log (drop c.lost log_5) c.told c.spells;
+  torn = cut_torn;
+  begins_no_record = λ images c. short_log (drop c.lost log_5) c.told c.spells;
   page_ahead = λ c.
       (let n : 5 - c.lost ≡ 1 = kept_count committed (image_in sent_pages) log_1 first_spelled c in
       let w : lsn_of (page_image 3 1 1 groups_1) ≤ length (drop c.lost log_5) = (c.store.fits.pages 1 (omega arith) (omega arith)).within in
@@ -231,7 +247,7 @@ pub forced_is_left : (course : Course) (h : List Entry) (pages : MemPages) (log 
     → LeavesStores mem_pages mem_log sizes h pages log → AreSpelled records → length records < n → mem_log.may_leave log (spelled records) → ⊥
 forced_is_left course h pages log records n tells legal leaves told few may =
     let x = leaves (mem_pages.seen pages) (spelled records) (some_pages pages) may in
-    let same : x.0 ≡ records = one_log x.0 records x.1.are_spelled told (sym x.1.is) in
+    let same : x.0 ≡ records = sym (the_log records x.0 (spelled records) told x.1.are_spelled refl x.1.is) in
     let count : length x.0 ≡ length records = ap (λ (l : List Record). length l) same in
     let older : List Entry = tells.0 in
     let is : h ≡ Forced n ∷ older = tells.2.3 ∙ ap (λ (e : Entry). e ∷ older) tells.2.1 in
@@ -258,11 +274,11 @@ module _ (fifo : (h : List Entry) → IsLegal small h → FifoThroughout h) (sta
     tells_nothing = λ pages log k. k.tells.2.0;
     loses_what_was_forced = λ course pages log records n told few may k.
         forced_is_left course k.history pages log records n k.tells k.legal k.leaves told few may;
-    leaves_half_a_record = λ course pages log may k.
-        (let x = k.leaves (mem_pages.seen pages) (0 ∷ []) (some_pages pages) may in short_log x.0 x.1.are_spelled x.1.is);
+    leaves_what_begins_no_record = λ course pages log may k.
+        (let x = k.leaves (mem_pages.seen pages) no_record (some_pages pages) may in short_log x.0 x.1.are_spelled x.1.is);
     left = λ pages log h images bytes a b. (log_5, leaves_store pages log h images bytes a b, refl);
     leaves_another_count = λ x course pages log n other l left.
         (let y = left (mem_pages.seen pages) (spelled log_5) (some_pages pages) (log_left log log_5 l) in
-        let same : y.0 ≡ log_5 = one_log y.0 log_5 y.1.are_spelled records_spelled (sym y.1.is) in
+        let same : y.0 ≡ log_5 = sym (the_log log_5 y.0 (spelled log_5) records_spelled y.1.are_spelled refl y.1.is) in
         other (sym y.2 ∙ ap (λ (l : List Record). length l) same));
   }

@@ -21,7 +21,7 @@ use Rattle.rq_core.specs.Runs.{CanCrash}
 use Rattle.rq_core.specs.Worked.{first_entries}
 use Rattle.rq_cases.specs.Courses as courses
 use Rattle.rq_cases.specs.Opened.{over}
-use Rattle.rq_cases.specs.Run.{committed, forced, log_1, log_5}
+use Rattle.rq_cases.specs.Run.{committed, forced, log_1, log_5, no_record}
 use Rattle.rq_cases.specs.Store.{formatted_pages, sent_pages, sizes}
 use Rattle.rq_cases.specs.Worlds.{Hold, course_to}
 
@@ -56,7 +56,7 @@ pub record RunsAreJudged : Type 0 where
       → Through (over committed pages log) new → ⊥
   pub forced_lost_between : (pages : MemPages) (log : MemLog) (new : OpenStore MemPages MemLog)
       → mem_log.left_since new.log (mem_log.moment log) (spelled log_1) → Through (over forced pages log) new → ⊥
-  pub half_a_record_at_its_end : (old new : OpenStore MemPages MemLog) → mem_log.may_leave new.log (0 ∷ [])
+  pub what_begins_no_record_at_its_end : (old new : OpenStore MemPages MemLog) → mem_log.may_leave new.log no_record
       → Through old new → ⊥
 
 -- the power may fail so behind this course
@@ -75,8 +75,8 @@ pub record CrashesAreJudged : Type 0 where
   pub in_a_restart_of_an_open_store : (pages : MemPages) (log : MemLog)
       → MayFail courses.opened Stops_restart pages log → ⊥
   pub by_a_call : (course : Course) (pages : MemPages) (log : MemLog) → MayFail course (Asks Force) pages log → ⊥
-  pub leaves_half_a_record : (course : Course) (x : Happening) (pages : MemPages) (log : MemLog)
-      → mem_log.may_leave log (0 ∷ []) → MayFail course x pages log → ⊥
+  pub leaves_what_begins_no_record : (course : Course) (x : Happening) (pages : MemPages) (log : MemLog)
+      → mem_log.may_leave log no_record → MayFail course x pages log → ⊥
   pub leaves_less_than_was_forced : (course : Course) (x : Happening) (pages : MemPages) (log : MemLog)
       (records : List Record) (n : ℕ) → AreSpelled records → length records < n
       → mem_log.may_leave log (spelled records)

@@ -25,7 +25,7 @@ pub record IsNewLog (d : MemLog) (records : List Record) : Type 0 where
 pub record IsForcedSince (old new : MemLog) (bytes : List ℕ) : Type 0 where
   pub run : Vec ℕ Global
   pub items : run.items ≡ bytes
-  pub first : take new.first new.bytes.items ≡ take old.first old.bytes.items
+  pub first : new.start.value.items ≡ old.start.value.items
   pub calls : new.calls.items ≡ Append run ∷ Force ∷ []
   pub failures : new.failures ≡ old.failures
 

@@ -47,6 +47,10 @@ sends_to_0 = record { sending = held t1; receiving = [] }
 abbrev pub takes_from_0 : HeldEnds
 takes_from_0 = record { sending = []; receiving = held t2 }
 
+-- the length field of no record: it is too large
+abbrev pub no_record : List ℕ
+no_record = 1 ∷ 0 ∷ 0 ∷ 0 ∷ []
+
 -- the log: its first record, and with each one more
 abbrev pub log_1 : List Record
 log_1 = Restart 1 ∷ []

@@ -1,7 +1,8 @@
 -- A store between two happenings, open, shut or fresh, and what a run of happenings says at its end: over the worked
 -- run, with devices in memory.
-use Rattle.std.specs.Prelude.{◌≢◌, ℕ, ◌<◌, List, [], ◌∷◌, length, take}
+use Rattle.std.specs.Prelude.{◌≢◌, ℕ, ◌<◌, List, [], ◌∷◌, ◌++◌, length, take}
 use Rattle.rq_model.specs.declared.record.Record.{Record}
+use Rattle.rq_model.specs.declared.record.Record.TheVariants.{Commit}
 use Rattle.rq_model.specs.History.{Entry}
 use Rattle.rq_model.specs.History.Call.{Begin, Force}
 use Rattle.rq_model.specs.History.Entry.{Crash as Crash_entry}
@@ -9,6 +10,8 @@ use Rattle.rq_model.specs.Replay.Reply.{Gave_forced}
 use Rattle.rq_disk.specs.Device.{Images}
 use Rattle.rq_disk.specs.declared.mem_log.MemLog.{MemLog}
 use Rattle.rq_disk.specs.declared.mem_pages.MemPages.{MemPages}
+use Rattle.rq_record.specs.Spelling.{spelling}
+use Rattle.rq_views.specs.WorkedItems.{t1}
 use Rattle.rq_log.specs.Spelled.{AreSpelled, spelled}
 use Rattle.rq_page.specs.Sizes.{Sizes}
 use Rattle.rq_store.specs.Fitting.{image_in}
@@ -23,7 +26,7 @@ use Rattle.rq_core.specs.Runs.{IsFresh, IsHeadline}
 use Rattle.rq_core.specs.Worked.{first_entries, happened, turned}
 use Rattle.rq_core.specs.World.{IsOpen, IsShut}
 use Rattle.rq_cases.specs.Opened.{AreNewPages, IsNewLog, over}
-use Rattle.rq_cases.specs.Run.{log_1, log_5, committed, forced}
+use Rattle.rq_cases.specs.Run.{log_1, log_5, no_record, committed, forced}
 use Rattle.rq_cases.specs.Store.{formatted_pages, sent_pages, sizes}
 
 -- the first happenings of the worked course: of seven the last is the commit, of nine the force
@@ -79,7 +82,9 @@ pub record CutsAreJudged : Type 0 where
   pub cut : IsCut committed (image_in formatted_pages) (spelled log_1)
   pub nothing_lost : IsCut committed (image_in formatted_pages) (spelled log_5)
   pub forced_lost : (images : Images) → IsCut forced images (spelled log_1) → ⊥
-  pub half_a_record : (images : Images) → IsCut committed images (0 ∷ []) → ⊥
+  -- of the record behind, some bytes may be left
+  pub torn : IsCut committed (image_in formatted_pages) (spelled log_1 ++ take 7 (spelling (Commit t1)))
+  pub begins_no_record : (images : Images) → IsCut committed images no_record → ⊥
   pub page_ahead : IsCut committed (image_in sent_pages) (spelled log_1) → ⊥
 
 -- the headline of a course, at its end
@@ -93,7 +98,7 @@ pub record HeadlinesAreJudged : Type 0 where
       → AreSpelled records → length records < n
       → mem_log.may_leave log (spelled records)
       → IsHeadline sizes ((Asks Force, Answered (Gave_forced n)) ∷ course) pages log → ⊥
-  pub leaves_half_a_record : (course : Course) (pages : MemPages) (log : MemLog) → mem_log.may_leave log (0 ∷ [])
+  pub leaves_what_begins_no_record : (course : Course) (pages : MemPages) (log : MemLog) → mem_log.may_leave log no_record
       → IsHeadline sizes course pages log → ⊥
   -- after a crash so many records are left as it told
   pub left : (pages : MemPages) (log : MemLog) → Hold pages formatted_pages log log_5

@@ -7,7 +7,8 @@ use Rattle.rq_disk.specs.Records.{HoldsRecords}
 use Rattle.rq_disk.specs.Shown.{log_of, pages_of}
 use Rattle.rq_disk.specs.declared.mem_log.MemLog.{MemLog}
 use Rattle.rq_disk.specs.declared.mem_pages.MemPages.{MemPages}
-use Rattle.rq_disk.proofs.Records.{front_nil}
+use Rattle.rq_disk.proofs.KeptLog.{fresh_only}
+use Rattle.rq_log.proofs.Runs.{ends_all}
 use Rattle.rq_page.specs.Sizes.{Sizes, IsInRange}
 use Rattle.rq_store.specs.Fitting.{AllFit}
 use Rattle.rq_store.proofs.WorkedFits.{whole_empty}
@@ -22,10 +23,8 @@ pub some_log : (d : MemLog) → MayLeave (log_of d) (log_reads (log_of d))
 some_log d = log_seen (log_of d)
 
 -- of a log that is all forced a crash leaves all
-fresh_only : (s : LogState) (bytes c : List ℕ) → s ≡ fresh_log bytes → MayLeave s c → c ≡ bytes
-fresh_only s bytes c is may =
-    let left = subst (λ t. MayLeave t c) is may in
-    left.1 ∙ ap (λ l. bytes ++ l) (front_nil left.0) ∙ append-nil bytes
+all_left : (s : LogState) (bytes c : List ℕ) → s ≡ fresh_log bytes → MayLeave s c → c ≡ bytes
+all_left s bytes c is may = fresh_only bytes c (subst (λ t. MayLeave t c) is may)
 
 fresh_reads : (s : LogState) (bytes : List ℕ) → s ≡ fresh_log bytes → log_reads s ≡ bytes
 fresh_reads s bytes is = ap log_reads is ∙ append-nil bytes
@@ -34,7 +33,7 @@ fresh_reads s bytes is = ap log_reads is ∙ append-nil bytes
 pub crashes : (pages new_pages : MemPages) (log new_log : MemLog) (bytes : List ℕ) (n : ℕ) → Leaves (MayBe (pages_of pages)) (reads (pages_of new_pages)) → ((q : ℕ) → Only (reads (pages_of new_pages) q) (MayBe (pages_of new_pages) q))
     → log_of new_log ≡ fresh_log bytes → MayLeave (log_of log) (log_reads (log_of new_log)) → HoldsRecords (log_reads (log_of new_log)) n → IsCrashed mem_pages mem_log pages new_pages log new_log n
 crashes pages new_pages log new_log bytes n may only is left holds =
-    let all : (c : List ℕ) → MayLeave (log_of new_log) c → c ≡ log_reads (log_of new_log) = λ c b. fresh_only (log_of new_log) bytes c is b ∙ sym (fresh_reads (log_of new_log) bytes is) in
+    let all : (c : List ℕ) → MayLeave (log_of new_log) c → c ≡ log_reads (log_of new_log) = λ c b. all_left (log_of new_log) bytes c is b ∙ sym (fresh_reads (log_of new_log) bytes is) in
     record {
       pages_left = λ images a q. subst (MayBe (pages_of pages) q) (sym (only q (images q) (a q))) (may q);
       pages_only = only;
@@ -50,7 +49,7 @@ formatted z pages log bytes range fit is none = record {
   left = λ images c a b. record {
     range = range;
     are_spelled = tt;
-    is = fresh_only (log_of log) bytes c is b ∙ none;
+    is = ends_all [] c (all_left (log_of log) bytes c is b ∙ none);
     left = record {
       whole = whole_empty z;
       fits = record {

@@ -19,11 +19,10 @@ use Rattle.rq_model.specs.Tests.{any_busy}
 use Rattle.rq_model.specs.Promises.{CrashGoesOn, ShutCrashGoesOn, RestartGoesOn, EndsInCrash, crash_to, AcknowledgedStay, FifoThroughout}
 use Rattle.rq_model.specs.Replay.{Says}
 use Rattle.rq_disk.specs.Device.{Images, Leaves}
-use Rattle.rq_disk.specs.Records.{HoldsRecords}
 use Rattle.rq_disk.specs.declared.device.LogDevice as log_device
 use Rattle.rq_disk.specs.declared.device.PageDevice as page_device
 use Rattle.rq_disk.specs.Memory.{if_yes, if_no}
-use Rattle.rq_log.specs.Spelled.{spelled, AreSpelled}
+use Rattle.rq_log.specs.Spelled.{AreSpelled, EndsWith}
 use Rattle.rq_page.specs.Sizes.{Sizes, IsInRange}
 use Rattle.rq_pool.specs.Reading.{IsSuperblock}
 use Rattle.rq_store.specs.State.{State, ledger_of, size_of, phase_of}
@@ -210,7 +209,7 @@ module _ {P L : Type 0} (p : page_device.Ghosts P) (l : log_device.Ghosts L) (ho
         let now = pick.0 in
         let store : IsStore z now (p.seen new_pages) seen = pick.1 in
         let ends : EndsInCrash (size_of z) h now = pick.2 in
-        let m : count ≡ length now = tally now count store.are_spelled (subst (λ b. HoldsRecords b count) store.is c.holds) in
+        let m : count ≡ length now = tally now seen count store.are_spelled store.is c.holds in
         let e : crash_to now h ≡ Crash_entry (kept_in count (ledger h).committed) count = ap (λ n. Crash_entry (kept_in n (ledger h).committed) n) (sym m) in
         record {
           history = crash_to now h ∷ h;
@@ -224,13 +223,13 @@ module _ {P L : Type 0} (p : page_device.Ghosts P) (l : log_device.Ghosts L) (ho
             left = λ images bytes a b.
                 let other = can.leaves images bytes (c.pages_left images a) (c.log_left bytes b) in
                 let there : IsStore z other.0 images bytes = other.1 in
-                let same : other.0 ≡ now = one other.0 now there.are_spelled store.are_spelled (sym there.is ∙ c.log_only bytes b ∙ store.is) in
+                let same : other.0 ≡ now = one other.0 now bytes there.are_spelled store.are_spelled there.is (subst (EndsWith now) (sym (c.log_only bytes b)) store.is) in
                 (now, ([], refl, tt), subst (λ log. IsStore z log images bytes) same there);
           };
           counted = λ images bytes a b.
               let other = can.leaves images bytes (c.pages_left images a) (c.log_left bytes b) in
               let there : IsStore z other.0 images bytes = other.1 in
-              let same : other.0 ≡ now = one other.0 now there.are_spelled store.are_spelled (sym there.is ∙ c.log_only bytes b ∙ store.is) in
+              let same : other.0 ≡ now = one other.0 now bytes there.are_spelled store.are_spelled there.is (subst (EndsWith now) (sym (c.log_only bytes b)) store.is) in
               (now, subst (λ log. IsStore z log images bytes) same there, sym m);
         }
 
@@ -247,7 +246,7 @@ module _ {P L : Type 0} (p : page_device.Ghosts P) (l : log_device.Ghosts L) (ho
       | inr other ↦ subst (p.may_be pages q) (sym (if_no q page image (p.seen pages q) other)) (some_p pages q)
     ]
 
-    all_fit : (h : List Entry) (pages : P) (log : L) (now : List Record) → IsShut p l z h pages log → AreSpelled now → l.seen log ≡ spelled now → AllFit (p.may_be pages) z now
+    all_fit : (h : List Entry) (pages : P) (log : L) (now : List Record) → IsShut p l z h pages log → AreSpelled now → EndsWith now (l.seen log) → AllFit (p.may_be pages) z now
     all_fit h pages log now s told reads = record {
       superblock = λ c may. subst (IsFormatted z 0) (is_image (p.seen pages) 0 c) (at 0 c may).superblock;
       headers = λ q c low high may. subst (IsHeaderOf z q) (is_image (p.seen pages) q c) ((at q c may).headers q low high);
@@ -257,7 +256,7 @@ module _ {P L : Type 0} (p : page_device.Ghosts P) (l : log_device.Ghosts L) (ho
       at q c may =
           let x = s.left (with_image (p.seen pages) q c) (l.seen log) (leaves_image pages q c may) (some_l log) in
           let store : IsStore z x.0 (with_image (p.seen pages) q c) (l.seen log) = x.2 in
-          let same : x.0 ≡ now = one x.0 now store.are_spelled told (sym store.is ∙ reads) in
+          let same : x.0 ≡ now = one x.0 now (l.seen log) store.are_spelled told store.is reads in
           subst (FitsLog z (with_image (p.seen pages) q c)) same store.left.fits
 
     -- what was added to a log, and then more
@@ -313,7 +312,7 @@ module _ {P L : Type 0} (p : page_device.Ghosts P) (l : log_device.Ghosts L) (ho
     pub record IsReadOf (older : List Record) (pages : P) (log : L) : Type 0 where
       pub read : List Record
       pub told : AreSpelled read
-      pub reads : l.seen log ≡ spelled read
+      pub reads : EndsWith read (l.seen log)
       pub more : Extends older read
       pub left : IsLeft z (p.seen pages) read
       pub each : EachPair p l pages log (IsSomeStore z)
@@ -341,7 +340,7 @@ module _ {P L : Type 0} (p : page_device.Ghosts P) (l : log_device.Ghosts L) (ho
           over images bytes now store (inl was) =
               let y = s.left (p.seen pages) bytes (some_p pages) was in
               let there : IsStore z y.0 (p.seen pages) bytes = y.2 in
-              subst (Extends s.older) (one y.0 now there.are_spelled store.are_spelled (sym there.is ∙ store.is)) y.1
+              subst (Extends s.older) (one y.0 now bytes there.are_spelled store.are_spelled there.is store.is) y.1
           over images bytes now store (inr more) = extends_join s.older r.read now r.more more
 
   -- the headline, where an open store is given up, and where one is shut

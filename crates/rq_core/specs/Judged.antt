@@ -10,7 +10,7 @@ use Rattle.rq_model.specs.Replay.Reply.{Gave_refusal, Gave_written}
 use Rattle.rq_model.specs.Unended.{lost, unfinished}
 use Rattle.rq_disk.specs.declared.mem_log.MemLog.{MemLog}
 use Rattle.rq_disk.specs.declared.mem_pages.MemPages.{MemPages}
-use Rattle.rq_log.specs.Spelled.{spelled}
+use Rattle.rq_log.specs.Spelled.{EndsWith}
 use Rattle.rq_page.specs.Sizes.{Sizes}
 use Rattle.rq_sound.specs.Latching.{IsLatched}
 use Rattle.rq_engine.specs.Opened.{OpenStore}
@@ -30,14 +30,14 @@ Asked call reply old new = IsAsked mem_pages mem_log (Some call) reply old new
 pub record IsRefusedOver (z : Sizes) (pages : MemPages) (log : MemLog) (refusal : Refusal) (new_pages : MemPages)
     (new_log : MemLog) : Type 0 where
   pub read : List Record
-  pub reads : mem_log.seen log ≡ spelled read
+  pub reads : EndsWith read (mem_log.seen log)
   pub cause : Stops (Unit {0}) z read refusal (mem_pages.faults pages) (mem_pages.faults new_pages) (mem_log.faults log)
       (mem_log.faults new_log)
 
 -- what a restart reports is so of the log that it read, and of the store that it opened
 pub record IsReportedOver (log : MemLog) (report : Report) (new : OpenStore MemPages MemLog) : Type 0 where
   pub read : List Record
-  pub reads : mem_log.seen log ≡ spelled read
+  pub reads : EndsWith read (mem_log.seen log)
   pub unfinished_are : report.unfinished ≡ length (unfinished read)
   pub lost_are : report.lost ≡ length (lost read)
   pub records_are : report.records ≡ length new.state.records

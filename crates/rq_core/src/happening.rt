@@ -8,6 +8,8 @@ use rq_restart::restart::Report;
 pub struct Choice {
     /// So many of the records that are not forced, or all where there are fewer.
     pub keep: u64,
+    /// So many bytes of the record behind those, at most all but one; none where there is no such record.
+    pub bytes: u64,
     /// Of each page, by number, the place of its image among the synced one, which is 0, and those written
     /// since. A place that is too large is the newest, and so is one that is missing.
     pub pages: Vec<u64>,

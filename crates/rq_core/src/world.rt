@@ -165,11 +165,11 @@ fn happen_to_open<B: Level>(
         }
         Happening::Crash(choice) => {
             let images = images(choice)?;
-            Ok(crash_open(switch, engine, choice.keep, images))
+            Ok(crash_open(switch, engine, choice.keep, choice.bytes, images))
         }
         Happening::StopIn(event, n, choice) => {
             let images = images(choice)?;
-            Ok(stop_in(switch, engine, event, *n, choice.keep, images))
+            Ok(stop_in(switch, engine, event, *n, choice.keep, choice.bytes, images))
         }
         Happening::Restart | Happening::RestartStop(..) => {
             Ok((WorldState::Open(engine), Entry::Running))
@@ -207,7 +207,7 @@ fn happen_to_shut<B: Level>(
         Happening::RestartStop(n, choice) => {
             let images = images(choice)?;
             let levels = next_set(sets)?;
-            Ok(reopen_stopped(alloc, switch, pages, log, levels, *n, choice.keep, images))
+            Ok(reopen_stopped(alloc, switch, pages, log, levels, *n, choice.keep, choice.bytes, images))
         }
     }
 }
@@ -234,7 +234,7 @@ fn not_open<B: Level>(pages: MemPages, log: MemLog) -> (WorldState<B>, Entry)
 fn crash_shut<B: Level>(pages: MemPages, log: MemLog) -> (WorldState<B>, Entry)
     ensures { HappensIn (Is Crashes) (Is_shut pages log) (answer_in result.1) (world_of result.0) }
 {
-    crash(pages, log, u64::MAX, PageChoice::Newest)
+    crash(pages, log, u64::MAX, 0, PageChoice::Newest)
 }
 
 // Makes a call of an open store.
@@ -251,6 +251,7 @@ fn crash_open<B: Level>(
     switch: &Switch,
     engine: Engine<MemPages, MemLog, B>,
     keep: u64,
+    torn: u64,
     images: PageChoice,
 ) -> (WorldState<B>, Entry)
     ensures { HappensIn (Is Crashes) (Is_open engine) (answer_in result.1) (world_of result.0) }
@@ -261,7 +262,7 @@ fn crash_open<B: Level>(
     switch.resume();
     engine.shows_kept();
     let (pages, log) = engine.give_back();
-    crash(pages, log, keep, images)
+    crash(pages, log, keep, torn, images)
 }
 
 // Makes a call; the power fails at its nth device call.
@@ -271,6 +272,7 @@ fn stop_in<B: Level>(
     event: &Event,
     n: u64,
     keep: u64,
+    torn: u64,
     images: PageChoice,
 ) -> (WorldState<B>, Entry)
     ensures { HappensIn (Is (Stops_in (call_of event.now))) (Is_open engine) (answer_in result.1) (world_of result.0) }
@@ -281,7 +283,7 @@ fn stop_in<B: Level>(
     if is_stopped(switch) && is_of_device(&reply) {
         engine.shows_kept();
         let (pages, log) = engine.give_back();
-        return crash(pages, log, keep, images);
+        return crash(pages, log, keep, torn, images);
     }
     (WorldState::Open(engine), Entry::Answered(reply))
 }
@@ -321,6 +323,7 @@ fn reopen_stopped<B: Level>(
     levels: StoreLevels<B>,
     n: u64,
     keep: u64,
+    torn: u64,
     images: PageChoice,
 ) -> (WorldState<B>, Entry)
     ensures { HappensIn (Is Stops_restart) (Is_shut pages log) (answer_in result.1) (world_of result.0) }
@@ -330,7 +333,7 @@ fn reopen_stopped<B: Level>(
     let power_failed = is_stopped(switch);
     match restarted {
         Ok((engine, report)) => (WorldState::Open(engine), Entry::Restarted(report)),
-        Err(stopped) if power_failed => { crash(stopped.pages, stopped.log, keep, images) }
+        Err(stopped) if power_failed => { crash(stopped.pages, stopped.log, keep, torn, images) }
         Err(stopped) => (
             WorldState::Shut(stopped.pages, stopped.log),
             Entry::Refused(stopped.refusal),
@@ -356,12 +359,13 @@ fn crash<B: Level>(
     pages: MemPages,
     log: MemLog,
     keep: u64,
+    torn: u64,
     images: PageChoice,
 ) -> (WorldState<B>, Entry)
     ensures { IsLeftBy pages log (answer_in result.1) (world_of result.0) }
 {
     let pages = pages.crash(images);
-    let log = log.crash(keep);
+    let log = log.crash(keep, torn);
     let records = log.records();
     (WorldState::Shut(pages, log), Entry::Crashed(records))
 }

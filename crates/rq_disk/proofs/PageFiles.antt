@@ -3,7 +3,7 @@ use Rattle.std.proofs.Common.{◌≡◌, ◌⊎◌, ◌↔◌, ℕ, Bool, true, 
 use Rattle.std.specs.Prelude.{if◌then◌else◌}
 use Rattle.rq_disk.specs.Device.{Images, Leaves, NoMore, Elapses, Stays}
 use Rattle.rq_disk.specs.FileCalls.{FileCall, has_failed, after_sync}
-use Rattle.rq_disk.specs.FileCalls.FileCall.{Gave, Denied, Took, Tried, Synced, Missed}
+use Rattle.rq_disk.specs.FileCalls.FileCall.{Gave, Denied, Took, Tried, Cut, Uncut, Synced, Missed}
 use Rattle.rq_disk.specs.PageFile.{images_now, page_may_be, PagesLeftSince, page_seen, before_sync, WasWrittenSince, PageFilesLeave}
 use Rattle.rq_disk.proofs.SinceCalls.{goes_on}
 
@@ -52,5 +52,7 @@ page_files_leave held (Gave at bytes ∷ calls) p c = page_files_leave held call
 page_files_leave held (Denied at ∷ calls) p c = page_files_leave held calls p c
 page_files_leave held (Took at bytes ∷ calls) p c = one_more (page_files_leave held calls p c)
 page_files_leave held (Tried at bytes ∷ calls) p c = one_more (page_files_leave held calls p c)
+page_files_leave held (Cut len ∷ calls) p c = page_files_leave held calls p c
+page_files_leave held (Uncut len ∷ calls) p c = page_files_leave held calls p c
 page_files_leave held (Synced ∷ calls) p c = synced held calls p c (has_failed calls) (page_files_leave held calls p c)
 page_files_leave held (Missed ∷ calls) p c = page_files_leave held calls p c

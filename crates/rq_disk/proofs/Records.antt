@@ -1,9 +1,9 @@
 -- Whole records, one after the other.
-use Rattle.std.proofs.Common.{◌<◌, ◌≡◌, ◌⊎◌, inl, inr, ⊎_elim, ℕ, zero, suc, ◌+◌, ◌-◌, ◌*◌, ◌≤◌, List, [], ◌++◌, length, take, drop, refl, sym, ◌∙◌, ap, subst, arith, length-append, append_assoc}
+use Rattle.std.proofs.Common.{◌<◌, ◌≡◌, ℕ, zero, suc, ◌+◌, ◌-◌, ◌*◌, ◌≤◌, min, List, [], ◌++◌, length, take, drop, refl, sym, ◌∙◌, ap, subst, arith, length-append, append_assoc}
 use Rattle.std.proofs.lemmas.List.{take_all, drop_all, drop-drop, drop-append-le, take-append-le, drop_at, length-take-le, length-drop, append-nil, take-append-drop, drop-take}
 use Rattle.std.proofs.Math.Seq.{take-add}
 use Rattle.byteorder.specs.Numbers.{big_from-append, big_from-take}
-use Rattle.rq_disk.specs.Records.{record_size, HasRecord, AreRecords, first_records}
+use Rattle.rq_disk.specs.Records.{record_size, HasRecord, AreRecords, torn_records}
 
 -- a length field is the same whatever comes behind it
 pub size-append : (a b : List ℕ) → 4 ≤ length a → record_size (a ++ b) ≡ record_size a
@@ -34,46 +34,70 @@ records-append (suc m) n a b is are =
     let joined : take s a ++ (drop s a ++ b) ≡ a ++ b = sym (append_assoc (take s a) (drop s a) b) ∙ ap (λ l. l ++ b) (take-append-drop s a) in
     subst (λ (k : ℕ). AreRecords k (a ++ b)) same (subst (AreRecords (suc (m + n))) joined (one_more (m + n) a (drop s a ++ b) is.0 tail))
 
-pub front_nil : (k : ℕ) → first_records k [] ≡ []
-front_nil zero = refl
-front_nil (suc k) =
+no_record : (n : ℕ) (b : List ℕ) → AreRecords n b → (HasRecord b → ⊥) → b ≡ []
+no_record zero b are none = are
+no_record (suc n) b are none = absurd (none are.0)
+
+pub torn_nil : (keep torn : ℕ) → torn_records keep torn [] ≡ []
+torn_nil zero torn = take_all (min torn (record_size [] - 1)) [] (omega arith)
+torn_nil (suc keep) torn =
     let s = record_size [] in
-    ap (λ (l : List ℕ). l ++ first_records k (drop s [])) (take_all s [] (omega arith)) ∙ ap (first_records k) (drop_all s [] (omega arith)) ∙ front_nil k
+    ap (λ (l : List ℕ). l ++ torn_records keep torn (drop s [])) (take_all s [] (omega arith))
+    ∙ ap (torn_records keep torn) (drop_all s [] (omega arith)) ∙ torn_nil keep torn
 
--- the front of two runs of records is one of the first, or all of that and a front of the second
-pub front-append : (m k : ℕ) (a b : List ℕ) → AreRecords m a → (first_records k (a ++ b) ≡ first_records k a) ⊎ ((j : ℕ) × (first_records k (a ++ b) ≡ a ++ first_records j b))
-front-append zero k a b is = inr (k, subst (λ (l : List ℕ). first_records k (l ++ b) ≡ l ++ first_records k b) (sym is) refl)
-front-append (suc m) zero a b is = inl refl
-front-append (suc m) (suc k) a b is =
-    let s = record_size a in
-    let same : record_size (a ++ b) ≡ s = size-append a b is.0.0 in
-    let taken : take (record_size (a ++ b)) (a ++ b) ≡ take s a = ap (λ n. take n (a ++ b)) same ∙ take-append-le s a b is.0.1 in
-    let dropped : drop (record_size (a ++ b)) (a ++ b) ≡ drop s a ++ b = ap (λ n. drop n (a ++ b)) same ∙ drop-append-le s a b is.0.1 in
-    let step : first_records (suc k) (a ++ b) ≡ take s a ++ first_records k (drop s a ++ b) = ap (λ (t : List ℕ). t ++ first_records k (drop (record_size (a ++ b)) (a ++ b))) taken ∙ ap (λ (t : List ℕ). take s a ++ first_records k t) dropped in
-    ⊎_elim
-    (λ same_front. inl (step ∙ ap (λ (t : List ℕ). take s a ++ t) same_front))
-    (λ more. inr (more.0, step ∙ ap (λ (t : List ℕ). take s a ++ t) more.1 ∙ sym (append_assoc (take s a) (drop s a) (first_records more.0 b)) ∙ ap (λ (t : List ℕ). t ++ first_records more.0 b) (take-append-drop s a)))
-    (front-append m k (drop s a) b is.1)
-
--- the first c of whole records, where c is k or none is left, are the first k
-pub front_is : (c n k e : ℕ) (b : List ℕ) → AreRecords n b → e ≤ length b → AreRecords c (take e b) → c ≤ k → (c < k → HasRecord (drop e b) → ⊥) → take e b ≡ first_records k b
-front_is zero n zero e b are within whole le last = whole
-front_is zero zero (suc k) e b are within whole le last = whole ∙ sym (front_nil (suc k)) ∙ sym (ap (first_records (suc k)) are)
-front_is zero (suc n) (suc k) e b are within whole le last =
+-- the first c of whole records, where c is k or none is left, and some bytes of the one behind them
+pub torn_is : (c n k e t torn : ℕ) (b : List ℕ) → AreRecords n b → e ≤ length b → AreRecords c (take e b) → c ≤ k
+    → (c < k → HasRecord (drop e b) → ⊥) → take t (drop e b) ≡ take (min torn (record_size (drop e b) - 1)) (drop e b)
+    → take (e + t) b ≡ torn_records k torn b
+torn_is zero n zero e t torn b are within whole le last tail =
+    let none : e ≡ 0 = omega (arith, length-take-le e b within, ap length whole) in
+    let sum : e + t ≡ t = omega (arith, none) in
+    ap (λ (i : ℕ). take i b) sum
+    ∙ subst (λ (i : ℕ). take t (drop i b) ≡ take (min torn (record_size (drop i b) - 1)) (drop i b)) none tail
+torn_is zero zero (suc k) e t torn b are within whole le last tail =
+    ap (take (e + t)) are ∙ take_all (e + t) [] (omega arith) ∙ sym (torn_nil (suc k) torn)
+    ∙ sym (ap (torn_records (suc k) torn) are)
+torn_is zero (suc n) (suc k) e t torn b are within whole le last tail =
     let none : e ≡ 0 = omega (arith, length-take-le e b within, ap length whole) in
     absurd (last (omega arith) (subst (λ (i : ℕ). HasRecord (drop i b)) (sym none) are.0))
-front_is (suc c) zero k e b are within whole le last = absurd (omega (arith, length-take-le e b within, whole.0.0, ap length are))
-front_is (suc c) (suc n) zero e b are within whole le last = absurd (omega arith)
-front_is (suc c) (suc n) (suc k) e b are within whole le last =
+torn_is (suc c) zero k e t torn b are within whole le last tail =
+    absurd (omega (arith, length-take-le e b within, whole.0.0, ap length are))
+torn_is (suc c) (suc n) zero e t torn b are within whole le last tail = absurd (omega arith)
+torn_is (suc c) (suc n) (suc k) e t torn b are within whole le last tail =
     let s = record_size b in
     let long : length (take e b) ≡ e = length-take-le e b within in
     let same : record_size (take e b) ≡ s = size-take e b (omega (arith, whole.0.0, long)) in
     let short : s ≤ e = omega (arith, whole.0.1, long, same) in
     let split : s + (e - s) ≡ e = omega (arith, short) in
-    let rest : drop (record_size (take e b)) (take e b) ≡ take (e - s) (drop s b) = ap (λ i. drop i (take e b)) same ∙ ap (λ i. drop s (take i b)) (sym split) ∙ drop-take s (e - s) b in
+    let sum : e + t ≡ s + ((e - s) + t) = omega (arith, short) in
+    let rest : drop (record_size (take e b)) (take e b) ≡ take (e - s) (drop s b) =
+    ap (λ i. drop i (take e b)) same ∙ ap (λ i. drop s (take i b)) (sym split) ∙ drop-take s (e - s) b in
     let behind : drop (e - s) (drop s b) ≡ drop e b = drop-drop (e - s) s b ∙ ap (λ i. drop i b) split in
-    let more = front_is c n k (e - s) (drop s b) are.1 (omega (arith, length-drop s b, within)) (subst (AreRecords c) rest whole.1) (omega arith) (λ lt has. last (omega (arith, lt)) (subst HasRecord behind has)) in
-    ap (λ i. take i b) (sym split) ∙ take-add s (e - s) b ∙ ap (λ (t : List ℕ). take s b ++ t) more
+    let more = torn_is c n k (e - s) t torn (drop s b) are.1 (omega (arith, length-drop s b, within))
+    (subst (AreRecords c) rest whole.1) (omega arith)
+    (λ lt has. last (omega (arith, lt)) (subst HasRecord behind has))
+    (subst (λ (l : List ℕ). take t l ≡ take (min torn (record_size l - 1)) l) (sym behind) tail) in
+    ap (λ i. take i b) sum ∙ take-add s ((e - s) + t) b ∙ ap (λ (l : List ℕ). take s b ++ l) more
+
+-- where whole records are cut behind whole ones, whole ones are left, or none
+pub none_behind : (c n e : ℕ) (b : List ℕ) → AreRecords n b → e ≤ length b → AreRecords c (take e b)
+    → (HasRecord (drop e b) → ⊥) → drop e b ≡ []
+none_behind zero n e b are within whole none =
+    let zero_long : e ≡ 0 = omega (arith, length-take-le e b within, ap length whole) in
+    ap (λ (i : ℕ). drop i b) zero_long ∙ no_record n b are (subst (λ (i : ℕ). HasRecord (drop i b) → ⊥) zero_long none)
+none_behind (suc c) zero e b are within whole none =
+    absurd (omega (arith, length-take-le e b within, whole.0.0, ap length are))
+none_behind (suc c) (suc n) e b are within whole none =
+    let s = record_size b in
+    let long : length (take e b) ≡ e = length-take-le e b within in
+    let same : record_size (take e b) ≡ s = size-take e b (omega (arith, whole.0.0, long)) in
+    let short : s ≤ e = omega (arith, whole.0.1, long, same) in
+    let split : s + (e - s) ≡ e = omega (arith, short) in
+    let rest : drop (record_size (take e b)) (take e b) ≡ take (e - s) (drop s b) =
+    ap (λ i. drop i (take e b)) same ∙ ap (λ i. drop s (take i b)) (sym split) ∙ drop-take s (e - s) b in
+    let behind : drop (e - s) (drop s b) ≡ drop e b = drop-drop (e - s) s b ∙ ap (λ i. drop i b) split in
+    sym behind ∙ none_behind c n (e - s) (drop s b) are.1 (omega (arith, length-drop s b, within))
+    (subst (AreRecords c) rest whole.1) (λ has. none (subst HasRecord behind has))
 
 -- one record more of a front
 pub record_step : (c at : ℕ) (b : List ℕ) → at ≤ length b → AreRecords c (take at b) → HasRecord (drop at b) → AreRecords (c + 1) (take (at + record_size (drop at b)) b)

@@ -1,6 +1,5 @@
 -- What the calls of the two devices do, and what a crash may leave.
-use Rattle.std.specs.Prelude.{◌≡◌, ◌⊎◌, ℕ, ◌+◌, ◌≤◌, ◌%◌, ◌^◌, ◌++◌, List, Result, OnOk, OnErr, if◌then◌else◌, ◌==◌}
-use Rattle.rq_disk.specs.Records.{first_records}
+use Rattle.std.specs.Prelude.{◌≡◌, ◌⊎◌, ℕ, ◌+◌, ◌≤◌, ◌%◌, ◌^◌, ◌++◌, List, take, Result, OnOk, OnErr, if◌then◌else◌, ◌==◌}
 
 -- a store of pages: the image of each
 abbrev pub Images : Type 0
@@ -22,9 +21,17 @@ Written page image old new = (p : ℕ) (c : List ℕ) → new p c → old p c �
 abbrev pub NoMore : (ℕ → List ℕ → Type 0) → (ℕ → List ℕ → Type 0) → Type 0
 NoMore old new = (p : ℕ) (c : List ℕ) → new p c → old p c
 
--- a log that may be left is one that might have been, or all that was there and the first of the new records
+-- a log that may be left is one that might have been, or all that was there and the first of the new bytes
 abbrev pub Appended : List ℕ → List ℕ → (List ℕ → Type 0) → (List ℕ → Type 0) → Type 0
-Appended seen bytes old new = (c : List ℕ) → new c → old c ⊎ ((k : ℕ) × (c ≡ seen ++ first_records k bytes))
+Appended seen bytes old new = (c : List ℕ) → new c → old c ⊎ ((n : ℕ) × (c ≡ seen ++ take n bytes))
+
+-- the first bytes of what was there, at least so many
+abbrev pub IsCutBetween : List ℕ → ℕ → List ℕ → Type 0
+IsCutBetween seen len c = (n : ℕ) × (len ≤ n) × (c ≡ take n seen)
+
+-- a log that may be left is one that might have been, or such
+abbrev pub CutOff : List ℕ → ℕ → (List ℕ → Type 0) → (List ℕ → Type 0) → Type 0
+CutOff seen len old new = (c : List ℕ) → new c → old c ⊎ IsCutBetween seen len c
 
 -- nothing else may be left
 abbrev pub Only : List ℕ → (List ℕ → Type 0) → Type 0
@@ -34,6 +41,13 @@ Only bytes may_leave = (c : List ℕ) → may_leave c → c ≡ bytes
 pub record Elapses {C : Type 0} (before now : ℕ) (past since : ℕ → C → Type 0) (may_leave : C → Type 0) : Type 0 where
   pub later : before ≤ now
   pub nothing_else : (t : ℕ) (c : C) → t ≤ before → since t c → past t c ⊎ may_leave c
+  pub keeps : (t : ℕ) (c : C) → t ≤ before → past t c → since t c
+
+-- the same where a crash in the midst of it may also have left what is inside
+pub record ElapsesThrough {C : Type 0} (before now : ℕ) (past since : ℕ → C → Type 0) (may_leave inside : C → Type 0)
+    : Type 0 where
+  pub later : before ≤ now
+  pub nothing_else : (t : ℕ) (c : C) → t ≤ before → since t c → past t c ⊎ may_leave c ⊎ inside c
   pub keeps : (t : ℕ) (c : C) → t ≤ before → past t c → since t c
 
 -- an error counts one failure, and nothing else does

@@ -10,27 +10,33 @@ pub data FileCall : Type 0 where
   Took : (at : ℕ) (bytes : List ℕ) → FileCall
   -- it was to write these bytes there, and failed: any of them may have been written
   Tried : (at : ℕ) (bytes : List ℕ) → FileCall
+  -- it lost what was behind its first bytes, so many
+  Cut : (len : ℕ) → FileCall
+  -- it was to lose that, and failed: it may have lost it
+  Uncut : (len : ℕ) → FileCall
   -- all that was written is durable
   Synced : FileCall
   -- a sync that failed
   Missed : FileCall
 
--- whether a write or a sync has failed
+-- whether a write, a cut or a sync has failed
 abbrev pub has_failed : List FileCall → Bool
 has_failed [] = false
 has_failed (FileCall.Gave at bytes ∷ calls) = has_failed calls
 has_failed (FileCall.Denied at ∷ calls) = has_failed calls
 has_failed (FileCall.Took at bytes ∷ calls) = has_failed calls
 has_failed (FileCall.Tried at bytes ∷ calls) = true
+has_failed (FileCall.Cut len ∷ calls) = has_failed calls
+has_failed (FileCall.Uncut len ∷ calls) = true
 has_failed (FileCall.Synced ∷ calls) = has_failed calls
 has_failed (FileCall.Missed ∷ calls) = true
 
--- Why a device that made these calls of a file may err: a write or a sync has failed, or the newest call is a read that
--- did.
+-- Why a device that made these calls of a file may err: a write, a cut or a sync has failed, or the newest call is a
+-- read that did.
 abbrev pub HasErred : (old new : List FileCall) → Type 0
 HasErred old new = (has_failed new ≡ true) ⊎ ((at : ℕ) × (new ≡ FileCall.Denied at ∷ old))
 
--- A sync leaves what is there now and nothing else; not so where a write or a sync had failed before it: what was to be
+-- A sync leaves what is there now and nothing else; not so where one of these had failed before it: what was to be
 -- written may be lost then, though this one was made, and all may be left that might have been.
 abbrev pub after_sync : (had_failed : Bool) (before now : Type 0) → Type 0
 after_sync true before now = before

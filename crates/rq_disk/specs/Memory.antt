@@ -5,9 +5,9 @@ use Rattle.std.proofs.lemmas.Bool.{cases_eq}
 use Rattle.std.proofs.lemmas.Bool.Decides.{nat_tests}
 use Rattle.std.proofs.Math.Seq.{take-length}
 use Rattle.rq_disk.specs.Device.{Images, Leaves}
-use Rattle.rq_disk.specs.Records.{first_records, front_all}
+use Rattle.rq_disk.specs.Records.{torn_records}
 use Rattle.rq_disk.specs.declared.mem_log.LogCall.{LogCall}
-use Rattle.rq_disk.specs.declared.mem_log.LogCall.TheVariants.{Append, Force}
+use Rattle.rq_disk.specs.declared.mem_log.LogCall.TheVariants.{Append, Force, Cut}
 use Rattle.rq_disk.specs.declared.mem_pages.PageCall.{PageCall}
 use Rattle.rq_disk.specs.declared.mem_pages.PageCall.TheVariants.{Write, Sync}
 
@@ -87,17 +87,18 @@ fresh_log bytes = record { forced = bytes; handed = [] }
 abbrev pub log_reads : LogState → List ℕ
 log_reads s = s.forced ++ s.handed
 
--- what is left where the first `keep` records that are not forced outlive a crash
-abbrev pub crashed_log : ℕ → LogState → List ℕ
-crashed_log keep s = s.forced ++ first_records keep s.handed
+-- what is left where the first `keep` records that are not forced outlive a crash, and `torn` bytes of the next
+abbrev pub crashed_log : (keep torn : ℕ) → LogState → List ℕ
+crashed_log keep torn s = s.forced ++ torn_records keep torn s.handed
 
--- what a crash may leave: the forced bytes, and the first few of the records behind them
+-- what a crash may leave: the forced bytes, and the first few of the bytes behind them
 abbrev pub MayLeave : LogState → List ℕ → Type 0
-MayLeave s c = (keep : ℕ) × (c ≡ crashed_log keep s)
+MayLeave s c = (n : ℕ) × (c ≡ s.forced ++ take n s.handed)
 
 abbrev pub after_log_call : LogState → LogCall → LogState
 after_log_call s (Append run) = record { forced = s.forced; handed = s.handed ++ run.items }
 after_log_call s Force = record { forced = log_reads s; handed = [] }
+after_log_call s (Cut len) = record { forced = take len (log_reads s); handed = [] }
 
 abbrev pub after_log_calls : LogState → List LogCall → LogState
 after_log_calls s [] = s
@@ -115,8 +116,7 @@ LogSince bytes calls t c = (k : ℕ) × (t ≤ k) × (k ≤ length calls) × May
 pub log_seen : (s : LogState) → MayLeave s (log_reads s)
 log_seen s = (
   length s.handed,
-  ap (λ (l : List ℕ). s.forced ++ l)
-      (sym (front_all (length s.handed) s.handed (omega arith))),
+  ap (λ (l : List ℕ). s.forced ++ l) (sym (take-length s.handed)),
 )
 
 pub log_count : (bytes : List ℕ) (calls : List LogCall) (t : ℕ) (c : List ℕ) → t ≤ length calls

@@ -8,5 +8,7 @@ call_of (notes.Gave at bytes) = FileCall.Gave at bytes.value
 call_of (notes.Denied at) = FileCall.Denied at
 call_of (notes.Took at bytes) = FileCall.Took at bytes.value
 call_of (notes.Tried at bytes) = FileCall.Tried at bytes.value
+call_of (notes.Cut len) = FileCall.Cut len
+call_of (notes.Uncut len) = FileCall.Uncut len
 call_of notes.Synced = FileCall.Synced
 call_of notes.Missed = FileCall.Missed

@@ -1,10 +1,10 @@
 -- Pages in a file, by what it held at first and its calls since, the newest first.
-use Rattle.std.specs.Prelude.{◌≡◌, ◌⊎◌, ◌↔◌, ℕ, ◌+◌, ◌≤◌, ◌/◌, ◌%◌, ◌^◌, ◌==◌, if◌then◌else◌, List, [], ◌∷◌, length, drop, refl, ⊤, Bool, true, ◌&&◌}
+use Rattle.std.specs.Prelude.{◌≡◌, ◌⊎◌, ◌↔◌, ℕ, ◌+◌, ◌≤◌, ◌/◌, ◌%◌, ◌^◌, ◌==◌, if◌then◌else◌, List, [], ◌∷◌, length, drop, refl, ⊤, Bool, true, false, ◌&&◌}
 use Rattle.std.proofs.Common.{inl, inr, sym, subst}
 use Rattle.std.proofs.lemmas.Bool.{cases_eq}
 use Rattle.rq_disk.specs.Device.{Images, Leaves}
 use Rattle.rq_disk.specs.FileCalls.{FileCall, has_failed, after_sync, after_sync_now}
-use Rattle.rq_disk.specs.FileCalls.FileCall.{Gave, Denied, Took, Tried, Synced, Missed}
+use Rattle.rq_disk.specs.FileCalls.FileCall.{Gave, Denied, Took, Tried, Cut, Uncut, Synced, Missed}
 use Rattle.rq_disk.specs.Memory.{if_yes, if_no}
 
 -- The page that begins at a place. A place where none begins counts as a page that no device has.
@@ -15,13 +15,15 @@ page_at at = if at % 4096 == 0 then at / 4096 else 2 ^ 64
 abbrev pub is_page : ℕ → List ℕ → Bool
 is_page at bytes = (at % 4096 == 0) && (length bytes == 4096)
 
--- each read and each write was of one page, one that failed too
+-- each read and each write was of one page, one that failed too, and nothing was cut
 abbrev pub are_whole : List FileCall → Bool
 are_whole [] = true
 are_whole (Gave at bytes ∷ calls) = is_page at bytes && are_whole calls
 are_whole (Denied at ∷ calls) = (at % 4096 == 0) && are_whole calls
 are_whole (Took at bytes ∷ calls) = is_page at bytes && are_whole calls
 are_whole (Tried at bytes ∷ calls) = is_page at bytes && are_whole calls
+are_whole (Cut len ∷ calls) = false
+are_whole (Uncut len ∷ calls) = false
 are_whole (Synced ∷ calls) = are_whole calls
 are_whole (Missed ∷ calls) = are_whole calls
 
@@ -32,6 +34,8 @@ images_now held (Gave at bytes ∷ calls) = images_now held calls
 images_now held (Denied at ∷ calls) = images_now held calls
 images_now held (Took at bytes ∷ calls) = λ p. if p == page_at at then bytes else images_now held calls p
 images_now held (Tried at bytes ∷ calls) = images_now held calls
+images_now held (Cut len ∷ calls) = images_now held calls
+images_now held (Uncut len ∷ calls) = images_now held calls
 images_now held (Synced ∷ calls) = images_now held calls
 images_now held (Missed ∷ calls) = images_now held calls
 
@@ -43,6 +47,8 @@ page_may_be held (Gave at bytes ∷ calls) p c = page_may_be held calls p c
 page_may_be held (Denied at ∷ calls) p c = page_may_be held calls p c
 page_may_be held (Took at bytes ∷ calls) p c = page_may_be held calls p c ⊎ ((p ≡ page_at at) × (c ≡ bytes))
 page_may_be held (Tried at bytes ∷ calls) p c = page_may_be held calls p c ⊎ ((p ≡ page_at at) × (c ≡ bytes))
+page_may_be held (Cut len ∷ calls) p c = page_may_be held calls p c
+page_may_be held (Uncut len ∷ calls) p c = page_may_be held calls p c
 page_may_be held (Synced ∷ calls) p c =
     after_sync (has_failed calls) (page_may_be held calls p c) (c ≡ images_now held calls p)
 page_may_be held (Missed ∷ calls) p c = page_may_be held calls p c
@@ -54,6 +60,8 @@ before_sync (Gave at bytes ∷ calls) = before_sync calls
 before_sync (Denied at ∷ calls) = before_sync calls
 before_sync (Took at bytes ∷ calls) = before_sync calls
 before_sync (Tried at bytes ∷ calls) = before_sync calls
+before_sync (Cut len ∷ calls) = before_sync calls
+before_sync (Uncut len ∷ calls) = before_sync calls
 before_sync (Synced ∷ calls) = if has_failed calls then before_sync calls else calls
 before_sync (Missed ∷ calls) = before_sync calls
 
@@ -64,6 +72,8 @@ WasWrittenSince (Gave at bytes ∷ calls) p c = WasWrittenSince calls p c
 WasWrittenSince (Denied at ∷ calls) p c = WasWrittenSince calls p c
 WasWrittenSince (Took at bytes ∷ calls) p c = ((p ≡ page_at at) × (c ≡ bytes)) ⊎ WasWrittenSince calls p c
 WasWrittenSince (Tried at bytes ∷ calls) p c = ((p ≡ page_at at) × (c ≡ bytes)) ⊎ WasWrittenSince calls p c
+WasWrittenSince (Cut len ∷ calls) p c = WasWrittenSince calls p c
+WasWrittenSince (Uncut len ∷ calls) p c = WasWrittenSince calls p c
 WasWrittenSince (Synced ∷ calls) p c = after_sync (has_failed calls) (WasWrittenSince calls p c) ⊥
 WasWrittenSince (Missed ∷ calls) p c = WasWrittenSince calls p c
 
@@ -81,6 +91,8 @@ PagesAgree held (Gave at bytes ∷ calls) = (bytes ≡ images_now held calls (pa
 PagesAgree held (Denied at ∷ calls) = PagesAgree held calls
 PagesAgree held (Took at bytes ∷ calls) = PagesAgree held calls
 PagesAgree held (Tried at bytes ∷ calls) = PagesAgree held calls
+PagesAgree held (Cut len ∷ calls) = PagesAgree held calls
+PagesAgree held (Uncut len ∷ calls) = PagesAgree held calls
 PagesAgree held (Synced ∷ calls) = PagesAgree held calls
 PagesAgree held (Missed ∷ calls) = PagesAgree held calls
 
@@ -100,6 +112,8 @@ page_seen held (Took at bytes ∷ calls) p = elim (cases_eq p (page_at at)) [
       inl (subst (page_may_be held calls p) (sym is) (page_seen held calls p))
 ]
 page_seen held (Tried at bytes ∷ calls) p = inl (page_seen held calls p)
+page_seen held (Cut len ∷ calls) p = page_seen held calls p
+page_seen held (Uncut len ∷ calls) p = page_seen held calls p
 page_seen held (Synced ∷ calls) p =
     after_sync_now (has_failed calls) (page_may_be held calls p (images_now held calls p))
     (images_now held calls p ≡ images_now held calls p) (page_seen held calls p) refl

@@ -1,7 +1,6 @@
 -- Records as they stand in a log: a big-endian u32 length of what follows, and that many bytes.
-use Rattle.std.specs.Prelude.{◌≡◌, ℕ, zero, suc, ◌+◌, ◌≤◌, List, [], ◌++◌, length, take, drop}
-use Rattle.std.proofs.Common.{refl, ap, arith, ◌∷◌, ◌∙◌}
-use Rattle.std.proofs.lemmas.List.{length-drop, take-append-drop}
+use Rattle.std.specs.Prelude.{◌≡◌, ◌⊎◌, ℕ, zero, suc, ◌+◌, ◌-◌, ◌≤◌, min, List, [], ◌++◌, length, take, drop}
+use Rattle.std.proofs.Common.{refl, ap, arith}
 use Rattle.std.specs.Coded.{×_prop, le_prop, Coded-set, coded_list, coded_ℕ}
 use Rattle.std.proofs.Math.Path.{Σ_path, to_path_p}
 use Rattle.byteorder.specs.Endian.{big_number}
@@ -19,10 +18,15 @@ abbrev pub AreRecords : ℕ → List ℕ → Type 0
 AreRecords zero bytes = bytes ≡ []
 AreRecords (suc n) bytes = HasRecord bytes × AreRecords n (drop (record_size bytes) bytes)
 
--- the first n records of bytes
-abbrev pub first_records : ℕ → List ℕ → List ℕ
-first_records zero bytes = []
-first_records (suc n) bytes = take (record_size bytes) bytes ++ first_records n (drop (record_size bytes) bytes)
+-- the first `keep` records of bytes, and of the one behind them the first `torn` bytes, at most all but one
+abbrev pub torn_records : (keep torn : ℕ) → List ℕ → List ℕ
+torn_records zero torn bytes = take (min torn (record_size bytes - 1)) bytes
+torn_records (suc keep) torn bytes =
+    take (record_size bytes) bytes ++ torn_records keep torn (drop (record_size bytes) bytes)
+
+-- so many bytes of the record at the front, where one stands there: at most `torn`, and at most all but one
+abbrev pub IsTorn : (torn tail : ℕ) → List ℕ → Type 0
+IsTorn torn tail rest = (HasRecord rest × (tail ≡ min torn (record_size rest - 1))) ⊎ (HasRecord rest → ⊥)
 
 -- bytes begin with n whole records, and no whole record comes behind them
 pub record HoldsRecords (bytes : List ℕ) (n : ℕ) : Type 0 where
@@ -45,12 +49,3 @@ records_count (suc m) (suc n) bytes is are = ap suc (records_count m n (drop (re
 pub some_records-prop : (bytes : List ℕ) → IsProp ((n : ℕ) × AreRecords n bytes)
 some_records-prop bytes a b = Σ_path (records_count a.0 b.0 bytes a.1 b.1)
     (to_path_p (λ i. AreRecords (records_count a.0 b.0 bytes a.1 b.1 i) bytes) (AreRecords-prop b.0 bytes _ b.1))
-
--- as many records as there are bytes are all of them
-pub front_all : (n : ℕ) (bytes : List ℕ) → length bytes ≤ n → first_records n bytes ≡ bytes
-front_all zero [] le = refl
-front_all zero (b ∷ bytes) le = absurd (omega arith)
-front_all (suc n) bytes le =
-    let s = record_size bytes in
-    ap (λ (t : List ℕ). take s bytes ++ t) (front_all n (drop s bytes)
-    (omega (arith, length-drop s bytes))) ∙ take-append-drop s bytes

@@ -1,5 +1,5 @@
 -- What the devices in memory show to contracts.
-use Rattle.std.specs.Prelude.{take, length, ℕ, Bool}
+use Rattle.std.specs.Prelude.{length, ℕ, Bool}
 use Rattle.rq_disk.specs.declared.mem_log.MemLog.{MemLog}
 use Rattle.rq_disk.specs.declared.mem_pages.MemPages.{MemPages}
 use Rattle.rq_disk.specs.declared.switch.Switch.{Switch}
@@ -7,7 +7,7 @@ use Rattle.rq_disk.specs.Memory.{LogState, log_after, PageState, pages_after}
 
 -- the forced bytes of a log, and the records handed over since
 abbrev pub log_of : MemLog → LogState
-log_of m = log_after (take m.first m.bytes.items) m.calls.items
+log_of m = log_after m.start.value.items m.calls.items
 
 -- how many calls changed it since it was made, or since its last crash
 abbrev pub log_moment : MemLog → ℕ

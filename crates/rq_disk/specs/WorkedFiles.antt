@@ -2,7 +2,7 @@
 use Rattle.std.specs.Prelude.{◌≡◌, ℕ, List, [], ◌∷◌, length, true, false}
 use Rattle.rq_disk.specs.Device.{Images}
 use Rattle.rq_disk.specs.FileCalls.{has_failed, HasErred}
-use Rattle.rq_disk.specs.FileCalls.FileCall.{Gave, Denied, Took, Tried, Synced, Missed}
+use Rattle.rq_disk.specs.FileCalls.FileCall.{Gave, Denied, Took, Tried, Cut, Uncut, Synced, Missed}
 use Rattle.rq_disk.specs.LogFile.{LogAgrees, log_may_leave}
 use Rattle.rq_disk.specs.PageFile.{are_whole, PagesAgree, page_may_be}
 
@@ -47,12 +47,18 @@ pub record FilesAreJudged : Type 0 where
   pub log_otherwise : LogAgrees (9 ∷ []) 1 (Gave 1 (5 ∷ []) ∷ Took 1 empty ∷ []) → ⊥
   -- it was longer than was told
   pub log_longer : LogAgrees (9 ∷ 9 ∷ []) 1 [] → ⊥
-  pub log_cut : log_may_leave (9 ∷ []) (Tried 1 empty ∷ []) (9 ∷ [])
+  pub log_stayed : log_may_leave (9 ∷ []) (Tried 1 empty ∷ []) (9 ∷ [])
+  pub log_torn : log_may_leave (9 ∷ []) (Tried 1 empty ∷ []) (9 ∷ 0 ∷ 0 ∷ [])
   pub log_whole : log_may_leave (9 ∷ []) (Tried 1 empty ∷ []) (9 ∷ empty)
   pub log_forced : log_may_leave (9 ∷ []) (Synced ∷ Took 1 empty ∷ []) (9 ∷ []) → ⊥
   pub log_missed_forced : log_may_leave (9 ∷ []) (Synced ∷ Missed ∷ Took 1 empty ∷ []) (9 ∷ [])
   pub log_missed_whole : log_may_leave (9 ∷ []) (Synced ∷ Missed ∷ Took 1 empty ∷ []) (9 ∷ empty)
   pub log_of_nobody : log_may_leave (9 ∷ []) (Synced ∷ Missed ∷ Took 1 empty ∷ []) [] → ⊥
+  -- a cut takes what is behind; once it is synced nothing else is left, before that more of it may be, and never less
+  pub log_cut : LogAgrees (9 ∷ []) 1 (Gave 0 (9 ∷ 0 ∷ []) ∷ Synced ∷ Cut 2 ∷ Took 1 empty ∷ [])
+  pub log_cut_stays : log_may_leave (9 ∷ []) (Synced ∷ Cut 2 ∷ Took 1 empty ∷ []) (9 ∷ empty) → ⊥
+  pub log_cut_part : log_may_leave (9 ∷ []) (Uncut 2 ∷ Synced ∷ Took 1 empty ∷ []) (9 ∷ 0 ∷ 0 ∷ [])
+  pub log_cut_less : log_may_leave (9 ∷ []) (Cut 2 ∷ Synced ∷ Took 1 empty ∷ []) (9 ∷ []) → ⊥
   -- which calls end a device
   pub ends : has_failed (Gave 0 seven ∷ Missed ∷ Took 0 seven ∷ []) ≡ true
   pub goes_on : has_failed (Synced ∷ Gave 0 seven ∷ Denied 0 ∷ Took 0 seven ∷ []) ≡ false

@@ -5,7 +5,7 @@
 //! nothing, or the device has stopped in it, its work done or not: each clause on what a crash leaves stands
 //! on every answer.
 ghost use Rattle.std.specs.Prelude.{◌≡◌, ◌≢◌, ◌⊎◌, ◌≤◌, ◌-◌, ◌++◌, List, ℕ, length, take, drop, min, IfOk, OnOk, OnErr, IsErr};
-ghost use Rattle.rq_disk.specs.Device.{Images, Leaves, Holds, Written, NoMore, Appended, Only, Elapses, FailureIsCounted, Stays};
+ghost use Rattle.rq_disk.specs.Device.{Images, Leaves, Holds, Written, NoMore, Appended, CutOff, IsCutBetween, Only, Elapses, ElapsesThrough, FailureIsCounted, Stays};
 ghost use Rattle.rq_disk.specs.Records.{AreRecords};
 
 use thiserror::Error;
@@ -163,7 +163,7 @@ pub trait LogDevice {
         ensures cause { FailureIsCounted (faults self.old) (faults self.new) result }
         ensures excused { OnErr result (excuse self.old self.new) };
 
-    /// Appends whole records. They are durable only after a force; a crash before it leaves the first few.
+    /// Appends whole records. They are durable only after a force; a crash before it leaves the first few of their bytes.
     fn append(&mut self, bytes: &[u8]) -> Result<(), DeviceFailed>
         requires { (n : ℕ) × AreRecords n bytes.now }
         ensures added { OnOk result (seen self.new ≡ seen self.old ++ bytes.now) }
@@ -185,6 +185,21 @@ pub trait LogDevice {
         ensures crash { (c : List ℕ) → may_leave self.new c → may_leave self.old c }
         ensures time { Elapses (moment self.old) (moment self.new) (left_since self.old) (left_since self.new)
             (may_leave self.new) }
+        ensures honest { honest self.new → honest self.old }
+        ensures failed { honest self.new → OnErr result
+            (stopped self.new ⊎ Stays (seen self.old) (seen self.new) (may_leave self.old) (may_leave self.new)) }
+        ensures still { honest self.new → stopped self.old → IsErr result × stopped self.new ×
+            Stays (seen self.old) (seen self.new) (may_leave self.old) (may_leave self.new) }
+        ensures cause { FailureIsCounted (faults self.old) (faults self.new) result }
+        ensures excused { OnErr result (excuse self.old self.new) };
+
+    /// Cuts off what is behind the first `len` bytes, and makes these durable. A crash in it leaves at least so many.
+    fn cut(&mut self, len: u64) -> Result<(), DeviceFailed>
+        ensures left { OnOk result (seen self.new ≡ take len (seen self.old)) }
+        ensures durable { OnOk result (Only (take len (seen self.old)) (may_leave self.new)) }
+        ensures crash { CutOff (seen self.old) len (may_leave self.old) (may_leave self.new) }
+        ensures time { ElapsesThrough (moment self.old) (moment self.new) (left_since self.old) (left_since self.new)
+            (may_leave self.new) (IsCutBetween (seen self.old) len) }
         ensures honest { honest self.new → honest self.old }
         ensures failed { honest self.new → OnErr result
             (stopped self.new ⊎ Stays (seen self.old) (seen self.new) (may_leave self.old) (may_leave self.new)) }

@@ -1,7 +1,7 @@
 //! A log in a file. What a read gives is believed, and noted: the device is honest where its notes agree.
-ghost use Rattle.std.specs.Prelude.{◌≡◌, ◌+◌, ◌-◌, ◌↔◌, [], length, min, IfOk, true, false};
+ghost use Rattle.std.specs.Prelude.{◌≡◌, ◌-◌, ◌↔◌, [], length, min, IfOk, true, false};
 ghost use Rattle.rq_disk.specs.FileCalls.{has_failed};
-ghost use Rattle.rq_disk.specs.LogFile.{grown, writes_at_end};
+ghost use Rattle.rq_disk.specs.LogFile.{end_of, writes_at_end};
 ghost use Rattle.rq_disk.specs.Device.{Only};
 
 use crate::contents::FileContents;
@@ -11,8 +11,8 @@ use std::fs::File;
 use std::io;
 use std::marker::PhantomData;
 
-/// A log in a file that held what `S` says when it was opened. After an append or a force that failed every call fails,
-/// until the file is opened again.
+/// A log in a file that held what `S` says when it was opened. After an append, a force or a cut that failed every call
+/// fails, until the file is opened again.
 #[derive(Drop)]
 pub struct FileLog<S: FileContents, F: Storage = NotedFile> {
     file: F,
@@ -20,17 +20,17 @@ pub struct FileLog<S: FileContents, F: Storage = NotedFile> {
     first: u64,
     // its length, where the next append goes
     end: u64,
-    // an append or a force has failed
+    // an append, a force or a cut has failed
     broken: bool,
     failures: u64,
     held: PhantomData<S>,
-    ghost length: { end ≡ first + grown (F.Storage.calls file) },
+    ghost length: { end ≡ end_of first (F.Storage.calls file) },
     ghost at_end: { writes_at_end first (F.Storage.calls file) ≡ true },
     ghost stops: { broken ≡ has_failed (F.Storage.calls file) },
 }
 
 impl<S: FileContents, F: Storage> LogDevice for FileLog<S, F> {
-    ghost use Rattle.std.specs.Prelude.{◌≤◌, ◌^◌, true, length};
+    ghost use Rattle.std.specs.Prelude.{◌≤◌, ◌+◌, ◌^◌, true, length};
     ghost use Rattle.rq_disk.specs.FileCalls.{HasErred};
     ghost use Rattle.rq_disk.specs.LogFile.{log_bytes, log_may_leave, LogAgrees, LogLeftSince, log_all};
     ghost use Rattle.rq_disk.specs.Since.{since_counts_now, since_only_now};
@@ -100,6 +100,25 @@ impl<S: FileContents, F: Storage> LogDevice for FileLog<S, F> {
             self.failures = self.failures.wrapping_add(1);
             return Err(DeviceFailed);
         }
+        if self.file.sync().is_err() {
+            self.broken = true;
+            self.failures = self.failures.wrapping_add(1);
+            return Err(DeviceFailed);
+        }
+        Ok(())
+    }
+
+    fn cut(&mut self, len: u64) -> Result<(), DeviceFailed> {
+        if self.broken {
+            self.failures = self.failures.wrapping_add(1);
+            return Err(DeviceFailed);
+        }
+        if self.file.shorten(len).is_err() {
+            self.broken = true;
+            self.failures = self.failures.wrapping_add(1);
+            return Err(DeviceFailed);
+        }
+        self.end = std::cmp::min(len, self.end);
         if self.file.sync().is_err() {
             self.broken = true;
             self.failures = self.failures.wrapping_add(1);

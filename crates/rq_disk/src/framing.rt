@@ -1,6 +1,6 @@
 //! Whole records in bytes.
 ghost use Rattle.std.specs.Prelude.{◌≡◌, ◌≤◌, ◌<◌, length, take, drop, IfSome, IfNone};
-ghost use Rattle.rq_disk.specs.Records.{record_size, HasRecord, AreRecords};
+ghost use Rattle.rq_disk.specs.Records.{record_size, HasRecord, AreRecords, IsTorn};
 
 use byteorder::{BigEndian, ByteOrder};
 
@@ -17,6 +17,17 @@ fn size_of_first(bytes: &[u8]) -> Option<usize>
         return None;
     }
     Some(size)
+}
+
+// How many bytes of the record at the front outlive a crash that keeps `torn` of them: at most all but one.
+pub(crate) fn torn_size(bytes: &[u8], torn: u64) -> usize
+    ensures within { result ≤ length bytes.now }
+    ensures is { IsTorn torn result bytes.now }
+{
+    match size_of_first(bytes) {
+        Some(size) => std::cmp::min(torn, size as u64 - 1) as usize,
+        None => 0,
+    }
 }
 
 // Where the first `limit` whole records end, or all that stand at the front, and how many they are.

@@ -1,18 +1,20 @@
 //! A log in memory. It keeps what it was at first and each call since, so that its past is real data.
-ghost use Rattle.std.specs.Prelude.{⊤, ◌≡◌, ◌≤◌, ◌-◌, ◌++◌, ◌∷◌, [], ℕ, length, take, drop, min, OnOk, OnErr, true, false};
+ghost use Rattle.std.specs.Prelude.{⊤, ◌≡◌, ◌≤◌, ◌+◌, ◌-◌, ◌++◌, ◌∷◌, [], ℕ, length, take, drop, min, OnOk, OnErr, true, false};
 ghost use Rattle.rq_disk.specs.Records.{AreRecords, some_records-prop};
 ghost use Rattle.rq_disk.specs.Memory.{log_after};
 
 use crate::device::{DeviceFailed, LogDevice};
-use crate::framing::first_records;
+use crate::framing::{first_records, torn_size};
 use crate::switch::{CallKind, Switch};
 use std::alloc::{AllocError, Global};
+use std::snapshot::Snapshot;
 
 /// A call that changed a log in memory.
 #[derive(Drop)]
 pub enum LogCall {
     Append(Vec<u8>),
     Force,
+    Cut(u64),
 }
 
 /// A log in memory.
@@ -21,8 +23,8 @@ pub struct MemLog {
     alloc: Global,
     // what reads give
     bytes: Vec<u8>,
-    // how many of the bytes it had at first
-    first: usize,
+    // what it was at first
+    start: Snapshot<Vec<u8>>,
     // how many of the bytes are forced
     forced: usize,
     calls: Vec<LogCall>,
@@ -30,10 +32,9 @@ pub struct MemLog {
     // the machine stopped in an append, which was made
     stopped: bool,
     switch: Switch,
-    ghost order: { first ≤ forced },
     ghost within: { forced ≤ length bytes.items },
-    ghost forced_bytes: { take forced bytes.items ≡ (log_after (take first bytes.items) calls.items).forced },
-    ghost handed_bytes: { drop forced bytes.items ≡ (log_after (take first bytes.items) calls.items).handed },
+    ghost forced_bytes: { take forced bytes.items ≡ (log_after start.value.items calls.items).forced },
+    ghost handed_bytes: { drop forced bytes.items ≡ (log_after start.value.items calls.items).handed },
     ghost whole: { (n : ℕ) × AreRecords n (drop forced bytes.items) } by { some_records-prop
         (drop forced bytes.items) },
 }
@@ -52,15 +53,15 @@ impl LogDevice for MemLog {
 
     ghost moment = { λ m. log_moment m };
 
-    ghost left_since = { λ m. LogSince (take m.first m.bytes.items) m.calls.items };
+    ghost left_since = { λ m. LogSince m.start.value.items m.calls.items };
 
     ghost faults = { λ m. log_faults m };
 
     ghost seen_may_be_left = { λ m. log_seen (log_of m) };
 
-    ghost counts_now = { λ m. log_count (take m.first m.bytes.items) m.calls.items };
+    ghost counts_now = { λ m. log_count m.start.value.items m.calls.items };
 
-    ghost only_now = { λ m. log_only (take m.first m.bytes.items) m.calls.items };
+    ghost only_now = { λ m. log_only m.start.value.items m.calls.items };
 
     fn failures(&self) -> u64 {
         self.failures
@@ -110,6 +111,42 @@ impl LogDevice for MemLog {
                 Err(DeviceFailed)
             }
         }
+    }
+
+    fn cut(&mut self, len: u64) -> Result<(), DeviceFailed> {
+        if self.switch.fails_any() || self.stopped {
+            self.failures = self.failures.wrapping_add(1);
+            return Err(DeviceFailed);
+        }
+        match add_cut(&mut self.calls, len) {
+            Ok(()) => {
+                keep_first(&mut self.bytes, len);
+                self.forced = self.bytes.len();
+                Ok(())
+            }
+            Err(_) => {
+                self.failures = self.failures.wrapping_add(1);
+                Err(DeviceFailed)
+            }
+        }
+    }
+}
+
+// Notes a cut, or nothing.
+fn add_cut(calls: &mut Vec<LogCall>, len: u64) -> Result<(), AllocError>
+    ensures ok { OnOk result (calls.new.items ≡ calls.old.items ++ LogCall.Cut len ∷ []) }
+    ensures err { OnErr result (calls.new.items ≡ calls.old.items) }
+{
+    calls.push(LogCall::Cut(len))?;
+    Ok(())
+}
+
+// Drops what is behind the first bytes.
+fn keep_first(bytes: &mut Vec<u8>, len: u64)
+    ensures { bytes.new.items ≡ take len bytes.old.items }
+{
+    if len < bytes.len() as u64 {
+        bytes.truncate(len as usize);
     }
 }
 
@@ -167,23 +204,17 @@ impl MemLog {
         ensures switch { log_switch result ≡ switch }
     {
         let len = bytes.len();
+        let start = Snapshot::of(&bytes);
         MemLog {
             alloc,
             bytes,
-            first: len,
+            start,
             forced: len,
             calls: Vec::new(alloc),
             failures: 0,
             stopped: false,
             switch,
         }
-    }
-
-    /// How many bytes are forced.
-    pub fn forced_len(&self) -> usize
-        ensures { result ≡ length (log_of self.now).forced }
-    {
-        self.forced
     }
 
     /// How many whole records it holds, forced or not.
@@ -194,11 +225,20 @@ impl MemLog {
         count
     }
 
+    /// How many bytes stand behind its whole records.
+    pub fn left(&self) -> usize
+        ensures { (n : ℕ) × (records : HoldsRecords (log_reads (log_of self.now)) n)
+            × (records.end + result ≡ length (log_reads (log_of self.now))) }
+    {
+        let (end, _) = first_records(&self.bytes, u64::MAX);
+        self.bytes.len() - end
+    }
+
     /// What a crash leaves where of the records that are not forced the first `keep` outlive it, or all where
-    /// there are fewer. All of it counts as forced from then on, and the log runs. The count of failures and the
-    /// switch stay.
-    pub fn crash(self, keep: u64) -> MemLog
-        ensures log { log_of result ≡ fresh_log (crashed_log keep (log_of self)) }
+    /// there are fewer, and of the one behind them the first `torn` bytes, at most all but one. All of it counts as
+    /// forced from then on, and the log runs. The count of failures and the switch stay.
+    pub fn crash(self, keep: u64, torn: u64) -> MemLog
+        ensures log { log_of result ≡ fresh_log (crashed_log keep torn (log_of self)) }
         ensures may_leave { MayLeave (log_of self) (log_reads (log_of result)) }
         ensures moment { log_moment result ≡ 0 }
         ensures failures { log_faults result ≡ log_faults self }
@@ -208,7 +248,7 @@ impl MemLog {
         let MemLog {
             alloc,
             mut bytes,
-            first: _,
+            start: _,
             forced,
             calls: _,
             failures,
@@ -216,12 +256,15 @@ impl MemLog {
             switch,
         } = self;
         let (end, _) = first_records(&bytes[forced..], keep);
-        bytes.truncate(forced + end);
+        let end = forced + end;
+        let tail = torn_size(&bytes[end..], torn);
+        bytes.truncate(end + tail);
         let len = bytes.len();
+        let start = Snapshot::of(&bytes);
         MemLog {
             alloc,
             bytes,
-            first: len,
+            start,
             forced: len,
             calls: Vec::new(alloc),
             failures,

@@ -184,13 +184,6 @@ impl MemPages {
         MemPages::new(alloc, images, switch)
     }
 
-    /// How many pages there are.
-    pub fn page_count(&self) -> usize
-        ensures { result ≡ page_count self.now }
-    {
-        self.newest.len()
-    }
-
     /// What a crash leaves where of each page the chosen image outlives it. All of it counts as synced from
     /// then on, and the pages run. The count of failures and the switch stay.
     pub fn crash(self, choice: PageChoice) -> MemPages

@@ -1,19 +1,21 @@
 //! The calls of a file, as contracts alone see them: they have no bytes.
 ghost use Rattle.std.specs.Prelude.{◌≡◌, [], ◌∷◌};
-ghost use Rattle.rq_disk.specs.FileCalls.FileCall.{Gave, Denied, Took, Tried, Synced, Missed};
+ghost use Rattle.rq_disk.specs.FileCalls.FileCall.{Gave, Denied, Took, Tried, Cut, Uncut, Synced, Missed};
 
 use rq_bytes::GhostList;
 use std::marker::Model;
 use std::snapshot::Snapshot;
 
 /// A call of a file: what it gave or wrote, from a place on; a read or a write there that failed, with what was to be
-/// written; or a sync, which was made or failed.
+/// written; a cut or a sync, which was made or failed.
 #[derive(Drop)]
 pub(crate) enum Note {
     Gave(u64, Snapshot<GhostList<u8>>),
     Denied(u64),
     Took(u64, Snapshot<GhostList<u8>>),
     Tried(u64, Snapshot<GhostList<u8>>),
+    Cut(u64),
+    Uncut(u64),
     Synced,
     Missed,
 }
@@ -71,6 +73,20 @@ impl Calls {
         ensures { self.new ≡ Tried at bytes.now ∷ self.old }
     {
         GhostList::push(&mut self.notes, &Note::Tried(at, listed(bytes)));
+    }
+
+    /// It lost what was behind its first `len` bytes.
+    pub fn cut(&mut self, len: u64)
+        ensures { self.new ≡ Cut len ∷ self.old }
+    {
+        GhostList::push(&mut self.notes, &Note::Cut(len));
+    }
+
+    /// It failed to lose that.
+    pub fn uncut(&mut self, len: u64)
+        ensures { self.new ≡ Uncut len ∷ self.old }
+    {
+        GhostList::push(&mut self.notes, &Note::Uncut(len));
     }
 
     /// It was synced.

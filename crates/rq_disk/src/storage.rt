@@ -2,7 +2,7 @@
 //! see the notes.
 ghost use Rattle.std.specs.Prelude.{◌≡◌, [], ◌∷◌, ℕ, List, IfOk, OnOk, OnErr};
 ghost use Rattle.rq_disk.specs.FileCalls.{FileCall};
-ghost use Rattle.rq_disk.specs.FileCalls.FileCall.{Gave, Denied, Took, Tried, Synced, Missed};
+ghost use Rattle.rq_disk.specs.FileCalls.FileCall.{Gave, Denied, Took, Tried, Cut, Uncut, Synced, Missed};
 
 use crate::noted::Calls;
 use std::fs::File;
@@ -27,6 +27,12 @@ pub trait Storage {
     fn put(&mut self, bytes: &[u8], at: u64) -> io::Result<()>
         ensures took { OnOk result (calls self.new ≡ Took at bytes.now ∷ calls self.old) }
         ensures tried { OnErr result (calls self.new ≡ Tried at bytes.now ∷ calls self.old) }
+        ensures opened { opened self.new ≡ opened self.old };
+
+    /// Loses what is behind its first `len` bytes, if there is more. Where it errs, it may have lost that.
+    fn shorten(&mut self, len: u64) -> io::Result<()>
+        ensures cut { OnOk result (calls self.new ≡ Cut len ∷ calls self.old) }
+        ensures uncut { OnErr result (calls self.new ≡ Uncut len ∷ calls self.old) }
         ensures opened { opened self.new ≡ opened self.old };
 
     /// Makes all that was written durable.
@@ -68,6 +74,15 @@ impl Storage for NotedFile {
         done
     }
 
+    fn shorten(&mut self, len: u64) -> io::Result<()> {
+        let done = shorten(&self.file, len);
+        match done {
+            Ok(()) => self.calls.cut(len),
+            Err(_) => self.calls.uncut(len),
+        }
+        done
+    }
+
     fn sync(&mut self) -> io::Result<()> {
         let done = self.file.sync_data();
         match done {
@@ -76,6 +91,14 @@ impl Storage for NotedFile {
         }
         done
     }
+}
+
+// Sets the length of a file that is longer.
+fn shorten(file: &File, len: u64) -> io::Result<()> {
+    if file.metadata()?.len() > len {
+        file.set_len(len)?;
+    }
+    Ok(())
 }
 
 impl NotedFile {

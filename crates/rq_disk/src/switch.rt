@@ -166,6 +166,26 @@ impl Switch {
         fails
     }
 
+    // The same of a call that is of no kind.
+    pub(crate) fn fails_any(&self) -> bool {
+        if self.is_suspended() {
+            return false;
+        }
+        let call = self
+            .armed
+            .calls
+            .fetch_add(1, Ordering::SeqCst)
+            .wrapping_add(1);
+        if self.is_stopped() {
+            return true;
+        }
+        if call == self.armed.stopping.load(Ordering::SeqCst) {
+            self.armed.stopped.store(1, Ordering::SeqCst);
+            return true;
+        }
+        call == self.armed.failing.load(Ordering::SeqCst)
+    }
+
     // Whether the call that has just done its work is the one that the machine stopped in.
     pub(crate) fn cuts_off(&self) -> bool {
         self.is_stopped() && !self.is_suspended()

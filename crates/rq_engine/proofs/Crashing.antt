@@ -1,5 +1,5 @@
 -- Pages that a crash leaves fit the log that it leaves.
-use Rattle.std.proofs.Common.{◌≡◌, ℕ, zero, suc, [], ◌∷◌, ◌<◌, ◌≤◌, List, drop, refl, sym, subst, Result, Ok, Err, ◌⊎◌, ⊎_elim, inl, arith, length, take, ap, ◌∙◌, ◌≡◌}
+use Rattle.std.proofs.Common.{◌≡◌, ℕ, ◌<◌, ◌≤◌, List, drop, refl, sym, subst, Result, Ok, Err, ◌⊎◌, ⊎_elim, inl, arith, length, take, ap, ◌∙◌, ◌≡◌}
 use Rattle.std.proofs.lemmas.List.{length-drop, take-append-drop}
 use Rattle.rq_model.specs.Commits.{committed_of}
 use Rattle.rq_model.specs.Ledger.{group_in, kept_in}
@@ -37,11 +37,7 @@ use Rattle.rq_engine.specs.Says.{PagesSay, WritesSay, written_by}
 use Rattle.rq_engine.specs.Crash.{AreFit, IsCut, KeepsFit, LeavesCut, RunsThroughCuts, StaysFit, commits_left}
 use Rattle.rq_engine.specs.Devices.Path.{Start, Pages, Log}
 use Rattle.rq_log.proofs.Moments.{started, weaker}
-
-pub spelled_dropped : (n : ℕ) (log : List Record) → AreSpelled log → AreSpelled (drop n log)
-spelled_dropped zero log h = h
-spelled_dropped (suc n) [] h = h
-spelled_dropped (suc n) (r ∷ log) h = spelled_dropped n log h.1
+use Rattle.rq_log.proofs.Runs.{AreSpelled-drop}
 
 -- the commits that a cut leaves
 pub commits_of_cut : (lost : ℕ) (log : List Record) → take (commits_left log lost) (committed_of log) ≡ committed_of (drop lost log)
@@ -56,7 +52,7 @@ cut s k told images bytes fits b =
       lost = b.0;
       forced = b.1;
       incarnation = begun_cut b.0 s.forced s.incarnation s.records b.1 whole.order k.begun;
-      told = spelled_dropped b.0 s.records told;
+      told = AreSpelled-drop b.0 s.records told;
       spells = b.2;
       store = record { whole = whole; fits = fits_log_longer s.sizes images (oldest s.forced s.records) (drop b.0 s.records) (longer_continues b.0 s.forced s.records b.1) fits };
       durable = kept_less s.forced (length (drop b.0 s.records)) (committed_of s.records) (let n = length-drop b.0 s.records in let f = b.1 in omega (arith, n, f));

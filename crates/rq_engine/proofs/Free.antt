@@ -24,6 +24,11 @@ pub free_first : (ws : List ℕ) (hs : List Held) (from : ℕ) (o : Option ℕ) 
 free_first ws hs from None f = f
 free_first ws hs from (Some s) f = (f.0, f.4)
 
+-- where none of which a message waits is free for a transaction, none is in the store
+pub none_waits : (n : ℕ) (ws : List ℕ) (hs : List Held) (t : Txn) (o : Option ℕ) → length ws ≡ n → IfNone o ((s : ℕ) → s < length ws → is_free_for t s hs ≡ true → waits ws s ≡ 0) → IfNone o ((s : ℕ) → s < n → is_free_for t s hs ≡ true → waits ws s ≡ 0)
+none_waits n ws hs t None e f = λ s low free. f s (omega (arith, low, e)) free
+none_waits n ws hs t (Some s) e f = f
+
 -- where neither a group that nobody holds nor one that the transaction holds goes without a latch, none does
 pub all_latched : {A E : Type 0} (s : State) (t : Txn) (o : Result (Option A) E) → ((g : ℕ) → is_held g s.ends.receiving ≡ false → WaitsFor s t g → take_latched s g ≡ true) → IfOk o (λ found. IfNone found ((g : ℕ) → has_held t g s.ends.receiving ≡ true → WaitsFor s t g → take_latched s g ≡ true)) → IfOk o (λ found. IfNone found ((g : ℕ) → WaitsFor s t g → take_latched s g ≡ true))
 all_latched s t (Err e) free own = own

@@ -3,7 +3,7 @@ use Rattle.std.specs.Prelude.{◌≡◌, ℕ, ◌+◌, ◌≤◌, List, length, 
 use Rattle.rq_disk.specs.Device.{Images}
 use Rattle.rq_disk.specs.declared.device.LogDevice as log_device
 use Rattle.rq_disk.specs.declared.device.PageDevice as page_device
-use Rattle.rq_log.specs.Spelled.{spelled, AreSpelled}
+use Rattle.rq_log.specs.Spelled.{AreSpelled, EndsWith}
 use Rattle.rq_model.specs.declared.record.Record.{Record}
 use Rattle.rq_model.specs.Content.{content}
 use Rattle.rq_model.specs.Commits.{committed_of}
@@ -25,14 +25,14 @@ abbrev pub commits_left : List Record → ℕ → ℕ
 commits_left log lost = kept_in (length (drop lost log)) (committed_of log)
 
 -- These are the pages and the log of a store that was left so: the first records, with all that are forced and the one
--- that began the incarnation, and pages that fit them. Its content is that of the first commits, with all that no crash
+-- that began the incarnation, with a short end perhaps, and pages that fit them. Its content is that of the first commits, with all that no crash
 -- may take.
 pub record IsCut (s : State) (images : Images) (bytes : List ℕ) : Type 0 where
   pub lost : ℕ
   pub forced : lost + s.forced ≤ length s.records
   pub incarnation : s.incarnation ≤ incarnation_of (drop lost s.records)
   pub told : AreSpelled (drop lost s.records)
-  pub spells : bytes ≡ spelled (drop lost s.records)
+  pub spells : EndsWith (drop lost s.records) bytes
   pub store : IsLeft s.sizes images (drop lost s.records)
   pub durable : (ledger_of s).durable ≤ commits_left s.records lost
   pub content : (g : ℕ) → content (drop lost s.records) g

@@ -40,6 +40,11 @@ impl Storage for ReadFile {
         Err(ErrorKind::PermissionDenied.into())
     }
 
+    fn shorten(&mut self, len: u64) -> io::Result<()> {
+        self.calls.uncut(len);
+        Err(ErrorKind::PermissionDenied.into())
+    }
+
     fn sync(&mut self) -> io::Result<()> {
         self.calls.missed();
         Err(ErrorKind::PermissionDenied.into())

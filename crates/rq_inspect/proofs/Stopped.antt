@@ -1,6 +1,5 @@
 -- Why an inspection stopped.
-use Rattle.std.proofs.Common.{◌≡◌, [], List, ℕ, ◌+◌, ◌%◌, ◌^◌, sym, ◌∙◌, ap, subst, Option}
-use Rattle.std.proofs.lemmas.List.{append-nil}
+use Rattle.std.proofs.Common.{◌≡◌, ⊎_elim, inl, inr, refl, [], List, ℕ, ◌+◌, ◌%◌, ◌^◌, sym, ◌∙◌, ap, subst, Option}
 use Rattle.std.specs.Io.KnownBytes.{Appends}
 use Rattle.rq_model.specs.declared.record.Record.{Record}
 use Rattle.rq_model.specs.declared.refusal.Refusal.{Refusal}
@@ -8,15 +7,34 @@ use Rattle.rq_model.specs.declared.refusal.Refusal.TheVariants as why
 use Rattle.rq_model.specs.declared.refusal.Damage.TheVariants as damage
 use Rattle.rq_disk.specs.declared.device.LogDevice.{Ghosts}
 use Rattle.rq_log.specs.Reading.{BeginsWith, HasMoreBehind, IsDamagedBehind, StopsFor}
-use Rattle.rq_log.specs.Spelled.{AreSpelled, spelled}
+use Rattle.rq_log.specs.Spelled.{AreSpelled, EndsWith}
 use Rattle.rq_log.proofs.Parsing.{no_damage}
 use Rattle.rq_inspect.specs.declared.inspecting.Stop.{Stop}
 use Rattle.rq_inspect.specs.declared.inspecting.Stop.TheVariants as stops
-use Rattle.rq_inspect.specs.Inspections.{IsBegun, IsCutShort, IsListed, IsOverfull, IsStopped, IsUnprinted, IsUnread, IsUnreported, lines}
+use Rattle.rq_inspect.specs.Inspections.{IsBegun, IsCutShort, IsListed, IsOverfull, IsStopped, IsUnprinted, IsUnread, IsUnreported, lines, listed_text}
 use Rattle.rq_inspect.specs.Reports.{Reported}
+use Rattle.rq_inspect.proofs.Written.{appends_nothing}
 
 begun_weaker : (bytes : List ℕ) (W V : List ℕ → Type 0) → ((text : List ℕ) → W text → V text) → IsBegun bytes W → IsBegun bytes V
-begun_weaker bytes W V f b = record { log = b.log; are_spelled = b.are_spelled; begins = b.begins; written = f (lines b.log) b.written }
+begun_weaker bytes W V f b = record {
+  log = b.log;
+  are_spelled = b.are_spelled;
+  begins = b.begins;
+  written = ⊎_elim (λ w. inl (f (lines b.log) w)) (λ w. inr (w.0, w.1, f (listed_text b.log w.0) w.2)) b.written;
+}
+
+-- nothing was read, and nothing written
+pub nothing_begun : (bytes : List ℕ) (w : Option (List ℕ)) → IsBegun bytes (Appends w w)
+nothing_begun bytes w = record { log = []; are_spelled = tt; begins = (bytes, refl); written = inl (appends_nothing w) }
+
+-- all of a log was listed
+listed_begun : (bytes : List ℕ) (old listed new : Option (List ℕ)) (report : Reported) → IsListed bytes old listed report → new ≡ listed → IsBegun bytes (Appends old new)
+listed_begun bytes old listed new report l same = record {
+  log = l.log;
+  are_spelled = l.are_spelled;
+  begins = (l.is.end, l.is.is);
+  written = inr (l.left, l.is, subst (λ w. Appends old w (listed_text l.log l.left)) (sym same) l.written);
+}
 
 cut_weaker : (bytes : List ℕ) (W V : List ℕ → Type 0) (lsn : ℕ) → ((text : List ℕ) → W text → V text) → IsCutShort bytes W lsn → IsCutShort bytes V lsn
 cut_weaker bytes W V lsn f b = record { log = b.log; are_spelled = b.are_spelled; next = b.next; damaged = b.damaged; written = f (lines b.log) b.written }
@@ -37,12 +55,12 @@ module _ {L : Type 0} (g : Ghosts L) where
   stopped_reading why.LogFull records first old new W are count same begins written s = (
     s.2 ∙ count,
     λ h. (
-      record { log = records; are_spelled = are; begins = begins h; written = written },
+      record { log = records; are_spelled = are; begins = begins h; written = inl written },
       record { log = records; are_spelled = are; full = s.0; more = subst (HasMoreBehind records) same (s.1 h) },
     ),
   )
   stopped_reading why.DiskRead records first old new W are count same begins written s =
-      (s ∙ ap (λ n. (n + 1) % 2 ^ 64) count, λ h. record { log = records; are_spelled = are; begins = begins h; written = written })
+      (s ∙ ap (λ n. (n + 1) % 2 ^ 64) count, λ h. record { log = records; are_spelled = are; begins = begins h; written = inl written })
   stopped_reading (why.Damaged (damage.Record lsn)) records first old new W are count same begins written s =
       (s.2 ∙ count, λ h. record { log = records; are_spelled = are; next = s.0; damaged = subst (IsDamagedBehind records) same (s.1 h); written = written })
   stopped_reading _ records first old new W are count same begins written s = absurd s
@@ -53,7 +71,7 @@ module _ {L : Type 0} (g : Ghosts L) where
       (s.2 ∙ count, λ h. record { log = records; are_spelled = are; full = s.0; more = subst (HasMoreBehind records) same (s.1 h) })
   unread why.DiskRead records first old new are count same s = s ∙ ap (λ n. (n + 1) % 2 ^ 64) count
   unread (why.Damaged (damage.Record lsn)) records first old new are count same s =
-      (s.2 ∙ count, λ h older are_older is. no_damage older records are_older are (subst (IsDamagedBehind records) (same ∙ is) (s.1 h)))
+      (s.2 ∙ count, λ h older are_older is. no_damage older records (g.seen first) are_older are is (subst (IsDamagedBehind records) same (s.1 h)))
   unread _ records first old new are count same s = absurd s
 
   pub unprinted : (stop : Stop) (log back : L) (old new : Option (List ℕ)) → g.faults back ≡ g.faults log → IsUnprinted stop old new → IsUnreported g stop log back old new
@@ -64,12 +82,12 @@ module _ {L : Type 0} (g : Ghosts L) where
   pub listed_stopped : (stop : Stop) (log mid back : L) (old listed new : Option (List ℕ)) (report : Reported) → g.faults mid ≡ g.faults log → g.seen mid ≡ g.seen log
       → (g.honest back → IsListed (g.seen log) old listed report) → IsUnreported g stop mid back listed new → IsStopped g stop log back (Appends old new)
   listed_stopped (stops.Refused why.NoMemory) log mid back old listed new report count same list s =
-      (s.0 ∙ count, λ h. let l = list h in record { log = l.log; are_spelled = l.are_spelled; begins = ([], l.is ∙ sym (append-nil (spelled l.log))); written = subst (λ w. Appends old w (lines l.log)) (sym s.1) l.written })
+      (s.0 ∙ count, λ h. let l = list h in listed_begun (g.seen log) old listed new report l s.1)
   listed_stopped (stops.Refused why.DiskRead) log mid back old listed new report count same list s =
-      (s.0 ∙ ap (λ n. (n + 1) % 2 ^ 64) count, λ h. let l = list h in record { log = l.log; are_spelled = l.are_spelled; begins = ([], l.is ∙ sym (append-nil (spelled l.log))); written = subst (λ w. Appends old w (lines l.log)) (sym s.1) l.written })
+      (s.0 ∙ ap (λ n. (n + 1) % 2 ^ 64) count, λ h. let l = list h in listed_begun (g.seen log) old listed new report l s.1)
   listed_stopped (stops.Refused why.LogFull) log mid back old listed new report count same list s =
-      (s.0.0 ∙ count, λ h. (let l = list h in record { log = l.log; are_spelled = l.are_spelled; begins = ([], l.is ∙ sym (append-nil (spelled l.log))); written = subst (λ w. Appends old w (lines l.log)) (sym s.1) l.written }, subst IsOverfull same (s.0.1 h)))
+      (s.0.0 ∙ count, λ h. (let l = list h in listed_begun (g.seen log) old listed new report l s.1, subst IsOverfull same (s.0.1 h)))
   listed_stopped (stops.Refused (why.Damaged (damage.Record lsn))) log mid back old listed new report count same list s =
-      (s.0.0 ∙ count, λ h. let l = list h in absurd (s.0.1 h l.log l.are_spelled (same ∙ l.is)))
+      (s.0.0 ∙ count, λ h. let l = list h in absurd (s.0.1 h l.log l.are_spelled (subst (EndsWith l.log) (sym same) (l.is.end, l.is.short, l.is.is))))
   listed_stopped (stops.Refused _) log mid back old listed new report count same list s = absurd s.0
   listed_stopped (stops.Output e) log mid back old listed new report count same list s = tt

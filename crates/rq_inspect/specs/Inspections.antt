@@ -1,16 +1,16 @@
 -- What is written of a log. A log is its records, the newest first.
-use Rattle.std.specs.Prelude.{◌≡◌, ℕ, ◌+◌, ◌%◌, ◌^◌, ◌≤◌, List, [], ◌∷◌, ◌++◌, Option, length}
+use Rattle.std.specs.Prelude.{◌≡◌, ◌⊎◌, ℕ, ◌+◌, ◌%◌, ◌^◌, ◌≤◌, List, [], ◌∷◌, ◌++◌, Option, length}
 use Rattle.std.specs.Io.KnownBytes.{Appends}
 use Rattle.rq_model.specs.declared.record.Record.{Record}
 use Rattle.rq_model.specs.declared.refusal.Refusal.{Refusal}
 use Rattle.rq_model.specs.declared.refusal.Refusal.TheVariants as why
 use Rattle.rq_model.specs.declared.refusal.Damage.TheVariants as damage
 use Rattle.rq_disk.specs.declared.device.LogDevice.{Ghosts}
-use Rattle.rq_log.specs.Reading.{BeginsWith, HasMoreBehind, IsDamagedBehind}
-use Rattle.rq_log.specs.Spelled.{AreSpelled, spelled}
+use Rattle.rq_log.specs.Reading.{BeginsWith, EndsShort, HasMoreBehind, IsDamagedBehind}
+use Rattle.rq_log.specs.Spelled.{AreSpelled, EndsWith}
 use Rattle.rq_inspect.specs.declared.inspecting.Stop.{Stop}
 use Rattle.rq_inspect.specs.declared.inspecting.Stop.TheVariants as stops
-use Rattle.rq_inspect.specs.Lines.{line_of}
+use Rattle.rq_inspect.specs.Lines.{line_of, torn_text}
 use Rattle.rq_inspect.specs.Reports.{IsReport, Reported, Tells, report_text}
 
 -- the line of each record, the oldest one's first
@@ -18,21 +18,28 @@ abbrev pub lines : List Record → List ℕ
 lines [] = []
 lines (r ∷ log) = lines log ++ line_of (length log + 1) r
 
--- The bytes are a log's, and what a writer holds grew by the line of each record and then the log's report.
+-- the same, and a line more where bytes that are no record stand behind them, so many
+abbrev pub listed_text : List Record → ℕ → List ℕ
+listed_text log left = lines log ++ torn_text left
+
+-- The bytes are a log's, with a proper beginning of a record behind it perhaps, and what a writer holds grew by the line of
+-- each record, the one on that beginning, and then the log's report.
 pub record IsInspected (bytes : List ℕ) (old new : Option (List ℕ)) : Type 0 where
   pub log : List Record
   pub are_spelled : AreSpelled log
-  pub is : bytes ≡ spelled log
+  pub left : ℕ
+  pub is : EndsShort log left bytes
   pub report : Reported
   pub told : IsReport log report
-  pub written : Appends old new (lines log ++ report_text report)
+  pub written : Appends old new (listed_text log left ++ report_text report)
 
--- The bytes begin with these records, and the line of each is written, and nothing else.
+-- The bytes begin with these records, and the line of each is written, and nothing else but the line on their end, if these
+-- are all.
 pub record IsBegun (bytes : List ℕ) (Written : List ℕ → Type 0) : Type 0 where
   pub log : List Record
   pub are_spelled : AreSpelled log
   pub begins : BeginsWith log bytes
-  pub written : Written (lines log)
+  pub written : Written (lines log) ⊎ ((left : ℕ) × EndsShort log left bytes × Written (listed_text log left))
 
 -- Behind these records the bytes go on with what is none, the record with this number; the line of each of those before it
 -- is written, and nothing else.
@@ -78,7 +85,7 @@ module _ {L : Type 0} (g : Ghosts L) where
   IsUnread why.DiskRead log back = g.faults back ≡ (g.faults log + 1) % 2 ^ 64
   IsUnread why.LogFull log back = (g.faults back ≡ g.faults log) × (g.honest back → IsOverfull (g.seen log))
   IsUnread (why.Damaged (damage.Record lsn)) log back = (g.faults back ≡ g.faults log)
-      × (g.honest back → (older : List Record) → AreSpelled older → g.seen log ≡ spelled older → ⊥)
+      × (g.honest back → (older : List Record) → AreSpelled older → EndsWith older (g.seen log) → ⊥)
   IsUnread _ log back = ⊥
 
   -- why a log was not read again, or its report not written
@@ -90,9 +97,10 @@ module _ {L : Type 0} (g : Ghosts L) where
 pub record IsListed (bytes : List ℕ) (old new : Option (List ℕ)) (report : Reported) : Type 0 where
   pub log : List Record
   pub are_spelled : AreSpelled log
-  pub is : bytes ≡ spelled log
+  pub left : ℕ
+  pub is : EndsShort log left bytes
   pub told : Tells log [] report
-  pub written : Appends old new (lines log)
+  pub written : Appends old new (listed_text log left)
 
 -- the report of the log is written
 pub record IsReported (log : List Record) (old new : Option (List ℕ)) : Type 0 where

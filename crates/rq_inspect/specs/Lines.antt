@@ -1,5 +1,5 @@
 -- The line of a record, as text.
-use Rattle.std.specs.Prelude.{ℕ, List, ◌++◌, codes, decimal, length}
+use Rattle.std.specs.Prelude.{ℕ, zero, suc, List, [], ◌++◌, codes, decimal, length}
 use Rattle.rq_model.specs.declared.txn.Txn.{Txn}
 use Rattle.rq_model.specs.declared.record.Record.{Record}
 use Rattle.rq_model.specs.declared.record.Record.TheVariants.{PageOp, PageUndo, OpEnd, OpVoid, CompEnd, Commit, Restart, AbortEnd}
@@ -33,3 +33,8 @@ record_text (AbortEnd t) = codes "abort-end " ++ txn_text t
 -- the line of the record with this LSN
 abbrev pub line_of : ℕ → Record → List ℕ
 line_of lsn r = decimal lsn ++ codes " " ++ record_text r ++ codes "\n"
+
+-- that so many bytes behind the records are none, where there are any
+abbrev pub torn_text : ℕ → List ℕ
+torn_text zero = []
+torn_text (suc n) = codes "torn " ++ decimal (suc n) ++ codes " bytes\n"

@@ -2,13 +2,13 @@
 ghost use Rattle.std.specs.Prelude.{◌≡◌, ◌+◌, ◌++◌, [], ◌∷◌, OnOk, OnErr, IfErr, List, ℕ, Option, length};
 ghost use Rattle.std.specs.Io.KnownBytes.{Appends};
 ghost use Rattle.rq_model.specs.declared.record.Record.{Record};
-ghost use Rattle.rq_log.specs.Reading.{IsRead};
-ghost use Rattle.rq_log.specs.Spelled.{AreSpelled, spelled};
-ghost use Rattle.rq_inspect.specs.Inspections.{IsInspected, IsListed, IsReported, IsStopped, IsUnprinted, IsUnread, IsUnreported, IsWrittenBut, lines};
+ghost use Rattle.rq_log.specs.Reading.{EndsShort, IsRead};
+ghost use Rattle.rq_log.specs.Spelled.{AreSpelled, EndsWith};
+ghost use Rattle.rq_inspect.specs.Inspections.{IsInspected, IsListed, IsReported, IsStopped, IsUnprinted, IsUnread, IsUnreported, IsWrittenBut, lines, listed_text};
 ghost use Rattle.rq_inspect.specs.Lines.{line_of};
 ghost use Rattle.rq_inspect.specs.Reports.{Tells, report_text};
 
-use crate::lines::line;
+use crate::lines::{line, torn_line};
 use crate::reporting::Report;
 use rq_disk::LogDevice;
 use rq_log::LogReader;
@@ -31,7 +31,8 @@ pub enum Stop {
     Output(io::Error),
 }
 
-/// Writes the line of each record of a log, and then its report. The log is read, and not changed: it is handed back. One in
+/// Writes the line of each record of a log, one on the proper beginning of a record behind them, if there is such a torn
+/// end, and then its report. The log is read, and not changed: it is handed back. One in
 /// which an operation or a transaction seems to have no end is read a second time, since its end may stand before what it
 /// ends.
 ///
@@ -93,7 +94,7 @@ fn report_on<L: LogDevice + Drop, W: Write>(
     writer: &mut W,
 ) -> (L, Result<(), Stop>)
     ensures whole { OnOk result.1 (L.honest result.0 → (older : List Record) → AreSpelled older
-        → L.seen log ≡ spelled older → Tells older [] report
+        → EndsWith older (L.seen log) → Tells older [] report
         → IsReported older (W.contents writer.old) (W.contents writer.new)) }
     ensures unreported { IfErr result.1 (λ stop. IsUnreported L.LogDevice stop log result.0
         (W.contents writer.old) (W.contents writer.new)) }
@@ -118,7 +119,7 @@ fn strike_out<L: LogDevice + Drop>(
     report: &mut Report,
 ) -> (L, Result<(), Refusal>)
     ensures whole { OnOk result.1 (L.honest result.0 → (older : List Record) → AreSpelled older
-        → L.seen log ≡ spelled older → Tells older [] report.old → Tells older older report.new) }
+        → EndsWith older (L.seen log) → Tells older [] report.old → Tells older older report.new) }
     ensures unread { IfErr result.1 (λ e. IsUnread L.LogDevice e log result.0) }
     ensures cause { OnOk result.1 (L.faults result.0 ≡ L.faults log) }
     ensures read { IsRead L.LogDevice log result.0 }
@@ -143,7 +144,7 @@ fn strike_all<L: LogDevice>(reader: &mut LogReader<L>, report: &mut Report) -> R
     ensures struck { OnOk result ((older : List Record) → Tells older [] report.old
         → Tells older reader.new.records report.new) }
     ensures whole { OnOk result (L.honest reader.new.device
-        → L.seen reader.new.first ≡ spelled reader.new.records) }
+        → EndsShort reader.new.records reader.new.left (L.seen reader.new.first)) }
     ensures unread { IfErr result (λ e. IsUnread L.LogDevice e reader.old.first reader.new.device) }
     ensures cause { OnOk result (L.faults reader.new.device ≡ L.faults reader.old.first) }
     ensures first { reader.new.first ≡ reader.old.first }
@@ -201,9 +202,9 @@ fn go_through<L: LogDevice, W: Write>(
     requires empty { piece.old.items ≡ [] }
     ensures told { OnOk result (Tells reader.new.records [] report.new) }
     ensures text { OnOk result (IsWrittenBut (W.contents writer.old) (W.contents writer.new) piece.new.items
-        (lines reader.new.records)) }
+        (listed_text reader.new.records reader.new.left)) }
     ensures whole { OnOk result (L.honest reader.new.device
-        → L.seen reader.new.first ≡ spelled reader.new.records) }
+        → EndsShort reader.new.records reader.new.left (L.seen reader.new.first)) }
     ensures stopped { IfErr result (λ stop. IsStopped L.LogDevice stop reader.old.first reader.new.device
         (λ text. IsWrittenBut (W.contents writer.old) (W.contents writer.new) piece.new.items text)) }
     ensures cause { OnOk result (L.faults reader.new.device ≡ L.faults reader.old.first) }
@@ -215,7 +216,7 @@ fn go_through<L: LogDevice, W: Write>(
     loop {
         match reader.next_into(&mut record) {
             Ok(true) => {}
-            Ok(false) => return Ok(()),
+            Ok(false) => break,
             Err(refusal) => return Err(Stop::Refused(refusal)),
         }
         if take_in(alloc, report, piece, reader.last(), &record).is_err() {
@@ -224,6 +225,10 @@ fn go_through<L: LogDevice, W: Write>(
         if let Err(error) = write_full(writer, piece) {
             return Err(Stop::Output(error));
         }
+    }
+    match torn_line(alloc, piece, reader.left()) {
+        Ok(()) => Ok(()),
+        Err(NoMemory) => Err(Stop::Refused(Refusal::NoMemory)),
     }
 }
 

@@ -1,6 +1,6 @@
 //! The line of a record.
-ghost use Rattle.std.specs.Prelude.{◌≡◌, ◌++◌, IfOk, OnOk, OnErr};
-ghost use Rattle.rq_inspect.specs.Lines.{line_of, record_text};
+ghost use Rattle.std.specs.Prelude.{◌≡◌, ◌++◌, IfOk, OnOk, OnErr, codes, decimal};
+ghost use Rattle.rq_inspect.specs.Lines.{line_of, record_text, torn_text};
 
 use crate::keys::{OperationKey, TxnKey};
 use rq_model::record::Record;
@@ -36,6 +36,35 @@ fn text_of(alloc: Global, lsn: Lsn, record: &Record) -> Result<Vec<u8>, NoMemory
         return Err(NoMemory);
     };
     match write_line(&mut text, lsn, record) {
+        Ok(()) => Ok(text),
+        Err(_) => Err(NoMemory),
+    }
+}
+
+/// Adds the line that tells of so many bytes behind the records of a log, which are no record; nothing where there are none.
+///
+/// # Errors
+/// `NoMemory`: the text is as it was.
+pub(crate) fn torn_line(alloc: Global, out: &mut Vec<u8>, left: usize) -> Result<(), NoMemory>
+    ensures ok { OnOk result (out.new.items ≡ out.old.items ++ torn_text left) }
+    ensures err { OnErr result (out.new.items ≡ out.old.items) }
+{
+    if left == 0 {
+        return Ok(());
+    }
+    let text = torn_end(alloc, left)?;
+    match out.extend_from_slice(&text) {
+        Ok(()) => Ok(()),
+        Err(_) => Err(NoMemory),
+    }
+}
+
+// That line of some bytes.
+fn torn_end(alloc: Global, left: usize) -> Result<Vec<u8>, NoMemory>
+    ensures { IfOk result (λ text. text.items ≡ codes "torn " ++ decimal left ++ codes " bytes\n") }
+{
+    let mut text = Vec::new(alloc);
+    match writeln!(text, "torn {left} bytes") {
         Ok(()) => Ok(text),
         Err(_) => Err(NoMemory),
     }

@@ -1,5 +1,5 @@
 -- What is so of a device whose records are read stays so.
-use Rattle.std.proofs.Common.{◌≡◌, ◌≢◌, ◌⊎◌, ⊎_elim, inl, inr, ℕ, ◌+◌, ◌*◌, ◌^◌, ◌<◌, ◌≤◌, List, [], ◌∷◌, ◌++◌, length, take, drop, refl, sym, ◌∙◌, ap, subst, arith, append_assoc, length-append}
+use Rattle.std.proofs.Common.{◌≡◌, ◌≢◌, ◌⊎◌, ⊎_elim, inl, inr, ℕ, ◌+◌, ◌-◌, ◌*◌, ◌^◌, ◌<◌, ◌≤◌, List, [], ◌∷◌, ◌++◌, length, take, drop, refl, sym, ◌∙◌, ap, subst, arith, append_assoc, length-append}
 use Rattle.std.proofs.lemmas.List.{append-nil, take-append-drop}
 use Rattle.rq_model.specs.declared.record.Record.{Record}
 use Rattle.rq_disk.specs.declared.device.LogDevice.{Ghosts}
@@ -7,9 +7,9 @@ use Rattle.rq_record.specs.declared.step.Decoded.{Decoded}
 use Rattle.rq_record.specs.declared.step.Decoded.TheVariants as fronts
 use Rattle.rq_record.specs.declared.step.Step.TheVariants as steps
 use Rattle.rq_record.specs.Decoding.{IsFront, step_with}
-use Rattle.rq_record.specs.Spelling.{HoldsRecord, spelling}
+use Rattle.rq_record.specs.Spelling.{HoldsRecord, BeginsRecord, spelling}
 use Rattle.rq_record.proofs.Whole.{short_spelling}
-use Rattle.rq_log.specs.Reading.{HasMoreBehind, HasMost, HasRoomToRead, IsDamagedBehind, IsRead, IsReading, KeepsRead, Streamed, left_of}
+use Rattle.rq_log.specs.Reading.{EndsShort, HasMoreBehind, HasMost, HasRoomToRead, IsDamagedBehind, IsRead, IsReading, KeepsRead, Streamed, left_of}
 use Rattle.rq_log.specs.Spelled.{spelled, AreSpelled}
 use Rattle.rq_log.proofs.Moments.{joined, weaker}
 
@@ -57,11 +57,21 @@ none_empty : (unread rest : List ℕ) → unread ≢ [] → unread ++ rest ≢ [
 none_empty [] rest some e = some refl
 none_empty (b ∷ unread) rest some e = let n = ap length e in omega (arith, n)
 
+begins_few : (unread : List ℕ) → BeginsRecord unread → 546 ≤ length unread → ⊥
+begins_few unread b most =
+    let size = short_spelling b.0 b.2 in let long = ap length b.4 in let sum = length-append unread b.1 in let more : 0 < length b.1 = b.3 in omega (arith, size, long, sum, more, most)
+
+-- and what is no such beginning stays none
+none_begins : (unread rest : List ℕ) → (BeginsRecord unread → ⊥) → (546 ≤ length unread) ⊎ (rest ≡ []) → BeginsRecord (unread ++ rest) → ⊥
+none_begins unread rest none (inl most) b =
+    let size = short_spelling b.0 b.2 in let long = ap length b.4 in let sum = length-append (unread ++ rest) b.1 in let parts = length-append unread rest in let more : 0 < length b.1 = b.3 in omega (arith, size, long, sum, parts, more, most)
+none_begins unread rest none (inr all) b = none (subst BeginsRecord (ap (λ l. unread ++ l) all ∙ append-nil unread) b)
+
 module _ {L : Type 0} (g : Ghosts L) (records : List Record) (first : L) (last : ℕ) where
   pub room_to_read : (s : Streamed L) → KeepsRead g records s first last → HasRoomToRead s
   room_to_read s k = let a = few_bytes records k.are_spelled in let b = k.place in let c = k.count in let d = k.few in omega (arith, a, b, c, d)
 
-  pub is_reading : (s : Streamed L) → KeepsRead g records s first last → IsReading g (record { records = records; device = s.device; first = first })
+  pub is_reading : (s : Streamed L) → KeepsRead g records s first last → IsReading g (record { records = records; left = length s.unread; device = s.device; first = first })
   is_reading s k = record {
     are_spelled = k.are_spelled;
     begins = λ h. (left_of g s, k.front h);
@@ -105,11 +115,23 @@ module _ {L : Type 0} (g : Ghosts L) (records : List Record) (first : L) (last :
   pub more : (s : Streamed L) → KeepsRead g records s first last → s.unread ≢ [] → g.honest s.device → HasMoreBehind records (g.seen first)
   more s k some h = (left_of g s, none_empty s.unread (drop s.at (g.seen s.device)) some, k.front h)
 
-  -- and no record
-  pub damaged : (s : Streamed L) → KeepsRead g records s first last → HasMost g 546 s → (HoldsRecord s.unread → ⊥) → s.unread ≢ [] → g.honest s.device → IsDamagedBehind records (g.seen first)
-  damaged s k most none some h = record {
-    rest = left_of g s;
-    some = none_empty s.unread (drop s.at (g.seen s.device)) some;
-    bad = none_left s.unread (drop s.at (g.seen s.device)) none (⊎_elim (λ m. inl m) (λ all. inr (all h)) most);
-    is = k.front h;
+  -- no more than a proper beginning of a record is left
+  pub all_read : (s : Streamed L) → KeepsRead g records s first last → HasMost g 546 s → BeginsRecord s.unread → g.honest s.device → EndsShort records (length s.unread) (g.seen first)
+  all_read s k (inl most) short h = absurd (begins_few s.unread short most)
+  all_read s k (inr all) short h = record {
+    end = s.unread;
+    short = short;
+    long = refl;
+    is = k.front h ∙ ap (λ l. spelled records ++ (s.unread ++ l)) (all h) ∙ ap (λ l. spelled records ++ l) (append-nil s.unread);
   }
+
+  -- what is left is no record
+  pub damaged : (s : Streamed L) → KeepsRead g records s first last → HasMost g 546 s → (HoldsRecord s.unread → ⊥) → (BeginsRecord s.unread → ⊥) → g.honest s.device → IsDamagedBehind records (g.seen first)
+  damaged s k most none some h =
+      let few : (546 ≤ length s.unread) ⊎ (drop s.at (g.seen s.device) ≡ []) = ⊎_elim (λ m. inl m) (λ all. inr (all h)) most in
+      record {
+        rest = left_of g s;
+        bad = none_left s.unread (drop s.at (g.seen s.device)) none few;
+        no_beginning = none_begins s.unread (drop s.at (g.seen s.device)) some few;
+        is = k.front h;
+      }

@@ -1,14 +1,18 @@
 -- What is so of a log stays so.
-use Rattle.std.proofs.Common.{◌≡◌, ℕ, suc, ◌+◌, ◌-◌, ◌^◌, ◌≤◌, min, true, false, List, [], ◌∷◌, ◌++◌, length, take, drop, sym, ◌∙◌, ap, subst, inl, inr, ⊎_elim, arith, length-append}
-use Rattle.std.proofs.lemmas.List.{nil_from_length}
+use Rattle.std.proofs.Common.{◌≡◌, ℕ, suc, ◌+◌, ◌-◌, ◌^◌, ◌<◌, ◌≤◌, min, true, false, List, [], ◌∷◌, ◌++◌, length, take, drop, sym, ◌∙◌, ap, subst, inl, inr, ⊎_elim, arith, append_assoc, length-append}
+use Rattle.std.proofs.lemmas.List.{nil_from_length, take-append-drop}
+use Rattle.std.proofs.Math.Seq.{take-append-add, take-append_seam}
+use Rattle.std.specs.Prelude.{Option, Some, None}
 use Rattle.rq_model.specs.declared.record.Record.{Record}
-use Rattle.rq_disk.specs.Device.{Appended, Only}
+use Rattle.rq_disk.specs.Device.{Appended, CutOff, ElapsesThrough, IsCutBetween, Only}
 use Rattle.rq_disk.specs.declared.device.LogDevice.{Ghosts}
 use Rattle.rq_disk.specs.Records.{AreRecords}
 use Rattle.rq_record.specs.Spelling.{IsRecord, spelling}
-use Rattle.rq_log.specs.Spelled.{spelled, IsBeginning}
-use Rattle.rq_log.specs.Logged.{Logged, WasDurable, WasLeftOrGoesOn, Keeps}
-use Rattle.rq_log.proofs.Runs.{spelled_records, AreSpelled-take, appended, one_newer, all_of, nothing_newer, spelled_whole, goes_on}
+use Rattle.rq_log.specs.Spelled.{spelled, AreSpelled, EndsWith, HoldsTo, IsBeginning}
+use Rattle.rq_log.specs.Crash.{LeavesOnly}
+use Rattle.rq_log.specs.Reading.{IsRead}
+use Rattle.rq_log.specs.Logged.{Logged, WasCut, WasDurable, WasLeftOrGoesOn, Keeps}
+use Rattle.rq_log.proofs.Runs.{spelled_records, AreSpelled-take, appended, one_newer, all_of, nothing_newer, spelled_whole, goes_on, ends_all, holds_ends, holds_whole}
 
 module _ {L : Type 0} (g : Ghosts L) where
   -- what is buffered is whole records
@@ -22,11 +26,11 @@ module _ {L : Type 0} (g : Ghosts L) where
   pub with_record : {total : ℕ} (log : Logged L) (last : ℕ) (buffer : List ℕ) (capacity : ℕ) → Keeps g log last total buffer capacity → log.failed ≡ false
       → (r : Record) → IsRecord r → (size : ℕ) → size ≡ length (spelling r) → size ≤ log.reserved
       → (records : List Record) → records ≡ r ∷ log.records → (bytes : List ℕ) → bytes ≡ buffer ++ spelling r → (room : ℕ) → capacity ≤ room → (sum : ℕ) → sum ≡ min (total + size) (2 ^ 64 - 1)
-      → Keeps g (record { records = records; forced = log.forced; pending = length bytes; reserved = log.reserved - size; failed = log.failed; device = log.device; settled = log.settled }) (last + 1) sum bytes room
+      → Keeps g (record { records = records; forced = log.forced; pending = length bytes; reserved = log.reserved - size; torn_at = log.torn_at; failed = log.failed; device = log.device; settled = log.settled }) (last + 1) sum bytes room
   with_record log last buffer capacity k running r is size measured fits records grown bytes longer room le sum added =
       let b = k.buffered running in
       let total : length bytes ≡ length buffer + size = ap length longer ∙ length-append buffer (spelling r) ∙ ap (λ (n : ℕ). length buffer + n) (sym measured) in
-      subst (λ (rs : List Record). Keeps g (record { records = rs; forced = log.forced; pending = length bytes; reserved = log.reserved - size; failed = log.failed; device = log.device; settled = log.settled }) (last + 1) sum bytes room) (sym grown)
+      subst (λ (rs : List Record). Keeps g (record { records = rs; forced = log.forced; pending = length bytes; reserved = log.reserved - size; torn_at = log.torn_at; failed = log.failed; device = log.device; settled = log.settled }) (last + 1) sum bytes room) (sym grown)
       (record {
         is_log = record {
           spelled = (is, k.is_log.spelled);
@@ -40,48 +44,48 @@ module _ {L : Type 0} (g : Ghosts L) where
       })
 
   -- what an append of the buffer leaves
-  pub append_leaves : {total : ℕ} (log : Logged L) (last : ℕ) (buffer : List ℕ) (capacity : ℕ) → Keeps g log last total buffer capacity → log.failed ≡ false
+  pub append_leaves : {total : ℕ} (log : Logged L) (last : ℕ) (buffer : List ℕ) (capacity : ℕ) → Keeps g log last total buffer capacity → log.failed ≡ false → log.torn_at ≡ None
       → (device : L) → Appended (g.seen log.device) buffer (g.may_leave log.device) (g.may_leave device) → g.honest log.device → WasDurable g log → (c : List ℕ) → g.may_leave device c → IsBeginning log.records log.forced c
-  append_leaves log last buffer capacity k running device crash h was =
+  append_leaves log last buffer capacity k running untorn device crash h was =
       let b = k.buffered running in
-      appended log.records log.forced b.0 (g.seen log.device) buffer (g.may_leave log.device) (g.may_leave device) k.is_log.spelled b.1 (b.2 h) b.3 (k.is_log.leaves h was) crash
+      appended log.records log.forced b.0 (g.seen log.device) buffer (g.may_leave log.device) (g.may_leave device) k.is_log.spelled b.1 (holds_whole log.torn_at (drop b.0 log.records) (g.seen log.device) untorn (b.2 h)) b.3 (k.is_log.leaves h was) crash
 
   -- the same, whatever a crash might have left before
-  pub append_adds : {total : ℕ} (log : Logged L) (last : ℕ) (buffer : List ℕ) (capacity : ℕ) → Keeps g log last total buffer capacity → log.failed ≡ false
+  pub append_adds : {total : ℕ} (log : Logged L) (last : ℕ) (buffer : List ℕ) (capacity : ℕ) → Keeps g log last total buffer capacity → log.failed ≡ false → log.torn_at ≡ None
       → (device : L) → Appended (g.seen log.device) buffer (g.may_leave log.device) (g.may_leave device) → g.honest log.device → (c : List ℕ) → g.may_leave device c → WasLeftOrGoesOn g log c
-  append_adds log last buffer capacity k running device crash h c left =
+  append_adds log last buffer capacity k running untorn device crash h c left =
       let b = k.buffered running in
-      ⊎_elim (λ was. inl was) (λ added. inr (goes_on log.records log.forced b.0 added.0 (g.seen log.device) buffer c k.is_log.spelled b.1 (b.2 h) b.3 added.1)) (crash c left)
+      ⊎_elim (λ was. inl was) (λ added. inr (goes_on log.records log.forced b.0 added.0 (g.seen log.device) buffer c k.is_log.spelled b.1 (holds_whole log.torn_at (drop b.0 log.records) (g.seen log.device) untorn (b.2 h)) b.3 added.1)) (crash c left)
 
-  pub reads_all : {total : ℕ} (log : Logged L) (last : ℕ) (buffer : List ℕ) (capacity : ℕ) → Keeps g log last total buffer capacity → log.failed ≡ false → g.honest log.device → g.seen log.device ++ buffer ≡ spelled log.records
-  reads_all log last buffer capacity k running h =
+  pub reads_all : {total : ℕ} (log : Logged L) (last : ℕ) (buffer : List ℕ) (capacity : ℕ) → Keeps g log last total buffer capacity → log.failed ≡ false → log.torn_at ≡ None → g.honest log.device → g.seen log.device ++ buffer ≡ spelled log.records
+  reads_all log last buffer capacity k running untorn h =
       let b = k.buffered running in
-      ap (λ (l : List ℕ). l ++ buffer) (b.2 h) ∙ ap (λ (l : List ℕ). spelled (drop b.0 log.records) ++ l) b.3 ∙ spelled_whole b.0 log.records
+      ap (λ (l : List ℕ). l ++ buffer) (holds_whole log.torn_at (drop b.0 log.records) (g.seen log.device) untorn (b.2 h)) ∙ ap (λ (l : List ℕ). spelled (drop b.0 log.records) ++ l) b.3 ∙ spelled_whole b.0 log.records
 
-  pub nothing_buffered : {total : ℕ} (log : Logged L) (last : ℕ) (buffer : List ℕ) (capacity : ℕ) → Keeps g log last total buffer capacity → log.failed ≡ false → length buffer ≡ 0 → g.honest log.device → g.seen log.device ≡ spelled log.records
-  nothing_buffered log last buffer capacity k running none h =
+  pub nothing_buffered : {total : ℕ} (log : Logged L) (last : ℕ) (buffer : List ℕ) (capacity : ℕ) → Keeps g log last total buffer capacity → log.failed ≡ false → log.torn_at ≡ None → length buffer ≡ 0 → g.honest log.device → g.seen log.device ≡ spelled log.records
+  nothing_buffered log last buffer capacity k running untorn none h =
       let b = k.buffered running in
-      nothing_newer b.0 log.records (g.seen log.device) buffer (b.2 h) b.3 none
+      nothing_newer b.0 log.records (g.seen log.device) buffer (holds_whole log.torn_at (drop b.0 log.records) (g.seen log.device) untorn (b.2 h)) b.3 none
 
   -- the buffer is handed over
-  pub handed : {total : ℕ} (log : Logged L) (last : ℕ) (buffer : List ℕ) (capacity : ℕ) → Keeps g log last total buffer capacity → log.failed ≡ false
+  pub handed : {total : ℕ} (log : Logged L) (last : ℕ) (buffer : List ℕ) (capacity : ℕ) → Keeps g log last total buffer capacity → log.failed ≡ false → log.torn_at ≡ None
       → (device : L) → (g.honest device → g.honest log.device) → Appended (g.seen log.device) buffer (g.may_leave log.device) (g.may_leave device) → g.seen device ≡ g.seen log.device ++ buffer → (room : ℕ) → log.reserved ≤ room → (bytes : List ℕ) → bytes ≡ []
-      → Keeps g (record { records = log.records; forced = log.forced; pending = length bytes; reserved = log.reserved; failed = log.failed; device = device; settled = log.settled }) last total bytes room
-  handed log last buffer capacity k running device falls crash added room le bytes none = record {
+      → Keeps g (record { records = log.records; forced = log.forced; pending = length bytes; reserved = log.reserved; torn_at = log.torn_at; failed = log.failed; device = device; settled = log.settled }) last total bytes room
+  handed log last buffer capacity k running untorn device falls crash added room le bytes none = record {
     is_log = record {
       spelled = k.is_log.spelled;
       order = k.is_log.order;
-      leaves = λ h. append_leaves log last buffer capacity k running device crash (falls h);
+      leaves = λ h. append_leaves log last buffer capacity k running untorn device crash (falls h);
     };
     count = k.count;
     total = k.total;
     room = omega (arith, le, ap length none);
-    buffered = λ _. (0, (let o = k.is_log.order in omega (arith, o)), λ h. added ∙ reads_all log last buffer capacity k running (falls h), none);
+    buffered = λ _. (0, (let o = k.is_log.order in omega (arith, o)), λ h. subst (λ (t : Option ℕ). HoldsTo t log.records (g.seen device)) (sym untorn) (added ∙ reads_all log last buffer capacity k running untorn (falls h)), none);
   }
 
   -- an append of the buffer has failed
   pub broken : {total : ℕ} (log : Logged L) (last : ℕ) (buffer : List ℕ) (capacity : ℕ) → Keeps g log last total buffer capacity → (device : L) → (g.honest device → WasDurable g log → (c : List ℕ) → g.may_leave device c → IsBeginning log.records log.forced c)
-      → Keeps g (record { records = log.records; forced = log.forced; pending = length buffer; reserved = log.reserved; failed = true; device = device; settled = log.settled }) last total buffer capacity
+      → Keeps g (record { records = log.records; forced = log.forced; pending = length buffer; reserved = log.reserved; torn_at = log.torn_at; failed = true; device = device; settled = log.settled }) last total buffer capacity
   broken log last buffer capacity k device leaves = record {
     is_log = record {
       spelled = k.is_log.spelled;
@@ -95,17 +99,123 @@ module _ {L : Type 0} (g : Ghosts L) where
   }
 
   -- all is forced
-  pub forced_all : {total : ℕ} (log : Logged L) (last : ℕ) (buffer : List ℕ) (capacity : ℕ) → Keeps g log last total buffer capacity → log.failed ≡ false → length buffer ≡ 0
+  pub forced_all : {total : ℕ} (log : Logged L) (last : ℕ) (buffer : List ℕ) (capacity : ℕ) → Keeps g log last total buffer capacity → log.failed ≡ false → log.torn_at ≡ None → length buffer ≡ 0
       → (device : L) → (g.honest device → g.honest log.device) → Only (g.seen log.device) (g.may_leave device) → g.seen device ≡ g.seen log.device → (settled : L)
-      → Keeps g (record { records = log.records; forced = last; pending = length buffer; reserved = log.reserved; failed = log.failed; device = device; settled = settled }) last total buffer capacity
-  forced_all log last buffer capacity k running none device falls durable same settled = record {
+      → Keeps g (record { records = log.records; forced = last; pending = length buffer; reserved = log.reserved; torn_at = log.torn_at; failed = log.failed; device = device; settled = settled }) last total buffer capacity
+  forced_all log last buffer capacity k running untorn none device falls durable same settled = record {
     is_log = record {
       spelled = k.is_log.spelled;
       order = (let n = k.count in omega arith);
-      leaves = λ h was c left. all_of log.records last c (let n = k.count in omega arith) (durable c left ∙ nothing_buffered log last buffer capacity k running none (falls h));
+      leaves = λ h was c left. all_of log.records last c (let n = k.count in omega arith) (durable c left ∙ nothing_buffered log last buffer capacity k running untorn none (falls h));
     };
     count = k.count;
     total = k.total;
     room = k.room;
-    buffered = λ _. (0, (let n = k.count in omega arith), λ h. same ∙ nothing_buffered log last buffer capacity k running none (falls h), nil_from_length buffer none);
+    buffered = λ _. (0, (let n = k.count in omega arith), λ h. subst (λ (t : Option ℕ). HoldsTo t log.records (g.seen device)) (sym untorn) (same ∙ nothing_buffered log last buffer capacity k running untorn none (falls h)), nil_from_length buffer none);
   }
+
+  -- an honest device reads as some of the first records
+  pub reads_beginning : (log : Logged L) (last size : ℕ) (buffer : List ℕ) (capacity : ℕ) → Keeps g log last size buffer capacity → log.failed ≡ false → g.honest log.device → IsBeginning log.records log.forced (g.seen log.device)
+  reads_beginning log last size buffer capacity k running h = let b = k.buffered running in (b.0, b.1, holds_ends log.torn_at (drop b.0 log.records) (g.seen log.device) (b.2 h))
+
+  -- a log with these records, all that its device holds
+  pub of_these : (records : List Record) (device settled : L) (last size : ℕ) (torn_at : Option ℕ) (buffer : List ℕ) (capacity : ℕ) → AreSpelled records → last ≡ length records → size ≡ length (spelled records) → IsRead g settled device → (g.honest device → HoldsTo torn_at records (g.seen settled)) → buffer ≡ []
+      → Keeps g (record { records = records; forced = 0; pending = length buffer; reserved = 0; torn_at = torn_at; failed = false; device = device; settled = settled }) last size buffer capacity
+  of_these records device settled last size torn_at buffer capacity are count long read holds none = record {
+    is_log = record {
+      spelled = are;
+      order = omega arith;
+      leaves = λ h was c left. (0, omega arith, subst (EndsWith records) (sym (was c (read.leaves c left))) (holds_ends torn_at records (g.seen settled) (holds h)));
+    };
+    count = count;
+    total = λ _. long;
+    room = omega (arith, ap length none);
+    buffered = λ _. (0, omega arith, λ h. subst (HoldsTo torn_at records) (sym read.same) (holds h), none);
+  }
+
+  -- a beginning of bytes that end with records is these with a short end, if it holds them
+  cut_ends : (records : List Record) (seen c : List ℕ) (n : ℕ) → EndsWith records seen → length (spelled records) ≤ n → c ≡ take n seen → EndsWith records c
+  cut_ends records seen c n ends le is =
+      let m : ℕ = n - length (spelled records) in
+      let e : n ≡ length (spelled records) + m = omega (arith, le) in
+      let end : List ℕ = ends.0 in
+      let b = ends.1 in
+      let sum = length-append (drop m end) b.1 in
+      let more : 0 < length b.1 = b.3 in (
+        take m end,
+        (b.0, drop m end ++ b.1, b.2, omega (arith, sum, more), b.4 ∙ ap (λ (l : List ℕ). l ++ b.1) (sym (take-append-drop m end)) ∙ append_assoc (take m end) (drop m end) b.1),
+        is ∙ ap (λ (k : ℕ). take k seen) e ∙ ap (take (length (spelled records) + m)) ends.2 ∙ take-append-add (spelled records) end m,
+      )
+
+  -- what a cut behind the records leaves at each moment: what might be left before, or these with a short end
+  pub cut_run : (records : List Record) (old new : L) (n : ℕ) (P : List ℕ → Type 0) → ((c : List ℕ) → g.left_since old (g.moment old) c → g.may_leave old c) → EndsWith records (g.seen old) → n ≡ length (spelled records)
+      → CutOff (g.seen old) n (g.may_leave old) (g.may_leave new) → ElapsesThrough (g.moment old) (g.moment new) (g.left_since old) (g.left_since new) (g.may_leave new) (IsCutBetween (g.seen old) n)
+      → ((c : List ℕ) → g.may_leave old c → P c) → ((c : List ℕ) → EndsWith records c → P c) → LeavesOnly g old new P
+  cut_run records old new n P only_now ends is crash time before short =
+      let inside : (c : List ℕ) → IsCutBetween (g.seen old) n c → P c = λ c between. short c (cut_ends records (g.seen old) c between.0 ends (let le = between.1 in omega (arith, le, is)) between.2) in
+      let now : (c : List ℕ) → g.may_leave new c → P c = λ c may. ⊎_elim (before c) (inside c) (crash c may) in
+      record {
+        later = time.later;
+        each = λ c since. ⊎_elim (λ was. before c (only_now c was)) (⊎_elim (now c) (inside c)) (time.nothing_else (g.moment old) c (omega arith) since);
+        before = λ t c le since. ⊎_elim (λ was. inl was) (λ more. inr (⊎_elim (now c) (inside c) more)) (time.nothing_else t c le since);
+        keeps = time.keeps;
+      }
+
+  module _ {total : ℕ} (log : Logged L) (last : ℕ) (buffer : List ℕ) (capacity : ℕ) (k : Keeps g log last total buffer capacity) (running : log.failed ≡ false) (end : ℕ) (torn : log.torn_at ≡ Some end) (device : L)
+      (falls : g.honest device → g.honest log.device) (crash : CutOff (g.seen log.device) end (g.may_leave log.device) (g.may_leave device)) where
+    abbrev newer : ℕ
+    newer = (k.buffered running).0
+
+    abbrev older : List Record
+    older = drop newer log.records
+
+    held : g.honest log.device → EndsWith older (g.seen log.device) × (end ≡ length (spelled older))
+    held h = subst (λ (t : Option ℕ). HoldsTo t older (g.seen log.device)) torn ((k.buffered running).2 h)
+
+    short_begins : (c : List ℕ) → EndsWith older c → IsBeginning log.records log.forced c
+    short_begins c ends = (newer, (k.buffered running).1, ends)
+
+    cut_leaves : g.honest log.device → WasDurable g log → (c : List ℕ) → g.may_leave device c → IsBeginning log.records log.forced c
+    cut_leaves h was c may = ⊎_elim (k.is_log.leaves h was c) (λ between. short_begins c (cut_ends older (g.seen log.device) c between.0 (held h).0 (let le = between.1 in let e = (held h).1 in omega (arith, le, e)) between.2)) (crash c may)
+
+    -- at each moment
+    pub cut_moments : ((c : List ℕ) → g.left_since log.device (g.moment log.device) c → g.may_leave log.device c) → ElapsesThrough (g.moment log.device) (g.moment device) (g.left_since log.device) (g.left_since device) (g.may_leave device) (IsCutBetween (g.seen log.device) end)
+        → g.honest device → WasDurable g log → LeavesOnly g log.device device (IsBeginning log.records log.forced)
+    cut_moments only_now time h was = cut_run older log.device device end (IsBeginning log.records log.forced) only_now (held (falls h)).0 (held (falls h)).1 crash time (k.is_log.leaves (falls h) was) short_begins
+
+    pub cut_adds : ((c : List ℕ) → g.left_since log.device (g.moment log.device) c → g.may_leave log.device c) → ElapsesThrough (g.moment log.device) (g.moment device) (g.left_since log.device) (g.left_since device) (g.may_leave device) (IsCutBetween (g.seen log.device) end)
+        → g.honest device → LeavesOnly g log.device device (WasLeftOrGoesOn g log)
+    cut_adds only_now time h = cut_run older log.device device end (WasLeftOrGoesOn g log) only_now (held (falls h)).0 (held (falls h)).1 crash time (λ c was. inl was)
+        (λ c ends. inr (record { behind = newer; within = (k.buffered running).1; reads = (held (falls h)).0; lost = newer; some = omega arith; is = ends }))
+
+    -- the cut is made
+    cut_reads : g.seen device ≡ take end (g.seen log.device) → g.honest log.device → g.seen device ≡ spelled older
+    cut_reads is h = is ∙ ap (λ (n : ℕ). take n (g.seen log.device)) (held h).1 ∙ ap (take (length (spelled older))) (held h).0.2 ∙ take-append_seam (spelled older) (held h).0.0
+
+    pub was_cut : g.seen device ≡ take end (g.seen log.device) → g.honest device → WasCut g log device
+    was_cut is h = (newer, (k.buffered running).1, (held (falls h)).0, cut_reads is (falls h))
+
+    pub cut_kept : g.seen device ≡ take end (g.seen log.device)
+        → Keeps g (record { records = log.records; forced = log.forced; pending = length buffer; reserved = log.reserved; torn_at = None; failed = log.failed; device = device; settled = log.settled }) last total buffer capacity
+    cut_kept is = record {
+      is_log = record {
+        spelled = k.is_log.spelled;
+        order = k.is_log.order;
+        leaves = λ h. cut_leaves (falls h);
+      };
+      count = k.count;
+      total = k.total;
+      room = k.room;
+      buffered = λ _. (newer, (k.buffered running).1, λ h. cut_reads is (falls h), (k.buffered running).3);
+    }
+
+    -- or it failed
+    pub uncut_kept : Keeps g (record { records = log.records; forced = log.forced; pending = length buffer; reserved = log.reserved; torn_at = log.torn_at; failed = true; device = device; settled = log.settled }) last total buffer capacity
+    uncut_kept = broken log last buffer capacity k device (λ h. cut_leaves (falls h))
+
+  -- nothing was to be cut
+  pub none_cut : {total : ℕ} (log : Logged L) (last : ℕ) (buffer : List ℕ) (capacity : ℕ) → Keeps g log last total buffer capacity → log.failed ≡ false → log.torn_at ≡ None → g.honest log.device → WasCut g log log.device
+  none_cut log last buffer capacity k running untorn h =
+      let b = k.buffered running in
+      let whole = holds_whole log.torn_at (drop b.0 log.records) (g.seen log.device) untorn (b.2 h) in
+      (b.0, b.1, ends_all (drop b.0 log.records) (g.seen log.device) whole, whole)

@@ -1,3 +1,4 @@
+pub mod Joining
 pub mod Keeping
 pub mod Kept
 pub mod Moments

@@ -11,10 +11,9 @@ use Rattle.rq_model.specs.declared.refusal.Refusal.{Refusal}
 use Rattle.rq_model.specs.declared.refusal.Refusal.TheVariants as why
 use Rattle.rq_model.specs.declared.refusal.Damage.TheVariants as damage
 use Rattle.rq_disk.specs.declared.device.LogDevice.{Ghosts}
-use Rattle.rq_log.specs.Spelled.{spelled, AreSpelled}
+use Rattle.rq_log.specs.Spelled.{spelled, AreSpelled, EndsWith}
 use Rattle.rq_log.specs.Logged.{Logged, Keeps}
-use Rattle.rq_log.proofs.Kept.{reads_all}
-use Rattle.rq_log.proofs.Runs.{spelled-append}
+use Rattle.rq_log.proofs.Runs.{holds_ends, spelled-append, spelled_whole}
 use Rattle.std.proofs.lemmas.Bool.{cases_lt}
 
 -- one record stands at the front of bytes at most
@@ -24,12 +23,6 @@ one_front r s used bytes rest front is e =
     let same = (one_spelling r s (drop used bytes) rest front.0 is whole).0 in
     let size : used ≡ length (spelling s) = sym (length-take-le used bytes front.1) ∙ ap length front.2 ∙ ap (λ x. length (spelling x)) same in
     (same, size)
-
-front_longer : (r : Record) (used : ℕ) (a b : List ℕ) → IsFront r used a → IsFront r used (a ++ b)
-front_longer r used a b front =
-    let size = length-append a b in
-    let within = front.1 in
-    (front.0, omega (arith, size, within), take-append-le used a b within ∙ front.2)
 
 AreSpelled-behind : (newer older : List Record) → AreSpelled (newer ++ older) → AreSpelled older
 AreSpelled-behind [] older are = are
@@ -82,17 +75,20 @@ stands_none records place are at = record {
   none = (λ _. at, λ _. refl);
 }
 
--- elsewhere it is what stands in front of the bytes from there on
-stands_some : (records : List Record) (place : ℕ) (r : Record) (used : ℕ) → AreSpelled records → place ≢ length (spelled records) → IsFront r used (drop place (spelled records))
-    → StandsAt records place (Some (r, place + used))
-stands_some records place r used are behind front = record {
+-- elsewhere it is what stands in front of bytes in which each record of that place stands
+stands_some : (records : List Record) (place : ℕ) (r : Record) (used next : ℕ) (bytes : List ℕ) → AreSpelled records → place ≢ length (spelled records) → IsFront r used bytes
+    → ((newer older : List Record) (s : Record) → records ≡ newer ++ (s ∷ older) → place ≡ length (spelled older) → (rest : List ℕ) × (bytes ≡ spelling s ++ rest))
+    → next ≡ min (place + used) (2 ^ 64 - 1) → length (spelled records) < 2 ^ 64 → StandsAt records place (Some (r, next))
+stands_some records place r used next bytes are behind front there goes few = record {
   next = λ newer older s is from.
       let fit = (AreSpelled-behind newer (s ∷ older) (subst AreSpelled is are)).0 in
-      let same = one_front r s used (drop place (spelled records)) (spelled newer) front fit
-      (ap (λ n. drop n (spelled records)) from ∙ ap (λ l. drop (length (spelled older)) (spelled l)) is ∙ next_stands newer older s) in
+      let stands = there newer older s is from in
+      let same = one_front r s used bytes stands.0 front fit stands.1 in
       let size = length-append (spelled older) (spelling s) in
-      let behind : place + used ≡ length (spelled older ++ spelling s) = omega (arith, size, from, same.1) in
-      ap (λ x. Some (x, place + used)) same.0 ∙ ap (λ n. Some (s, n)) behind;
+      let longer = next_longer newer older s in
+      let all = ap (λ l. length (spelled l)) is in
+      let behind : next ≡ length (spelled older ++ spelling s) = omega (arith, size, from, same.1, goes, longer, all, few) in
+      ap (λ x. Some (x, next)) same.0 ∙ ap (λ n. Some (s, n)) behind;
   none = (λ e. absurd cc, λ at. absurd (behind at));
 }
 
@@ -100,28 +96,6 @@ behind_seen : (seen buffer : List ℕ) (place : ℕ) → length seen ≤ place �
 behind_seen seen buffer place le =
     let n : place ≡ length seen + (place - length seen) = omega (arith, le) in
     sym (ap (λ k. drop k (seen ++ buffer)) n ∙ drop-append-add seen buffer (place - length seen))
-
--- where none stands there, it is no place
-pub no_place_handed : (records : List Record) (count place : ℕ) → AreSpelled records → place < length (spelled (drop count records)) → place ≢ length (spelled records)
-    → (HoldsRecord (drop place (spelled (drop count records))) → ⊥) → IsPlace records place → ⊥
-no_place_handed records count place are less behind none is =
-    let p = next_at records place is behind in
-    let fit = (AreSpelled-behind p.0 (p.2 ∷ p.1) (subst AreSpelled p.3 are)).0 in
-    let n = next_handed count p.0 p.1 p.2 (subst (λ l. length (spelled p.1) < length (spelled (drop count l))) p.3 (subst (λ k. k < length (spelled (drop count records))) p.4 less)) in
-    none (p.2, n.0, fit, ap (λ k. drop k (spelled (drop count records))) p.4 ∙ ap (λ l. drop (length (spelled p.1)) (spelled (drop count l))) p.3 ∙ n.1)
-
-pub no_place_buffered : (records : List Record) (seen buffer : List ℕ) (place : ℕ) → AreSpelled records → seen ++ buffer ≡ spelled records → length seen ≤ place → place ≢ length (spelled records)
-    → (HoldsRecord (drop (place - length seen) buffer) → ⊥) → IsPlace records place → ⊥
-no_place_buffered records seen buffer place are whole le behind none is =
-    let p = next_at records place is behind in
-    let fit = (AreSpelled-behind p.0 (p.2 ∷ p.1) (subst AreSpelled p.3 are)).0 in
-    none (
-      p.2,
-      spelled p.0,
-      fit,
-      behind_seen seen buffer place le ∙ ap (drop place) whole
-          ∙ ap (λ k. drop k (spelled records)) p.4 ∙ ap (λ l. drop (length (spelled p.1)) (spelled l)) p.3 ∙ next_stands p.0 p.1 p.2,
-    )
 
 -- what stands at the front of bytes stands at the front of the first 546 of them
 holds_most : (count : ℕ) (bytes : List ℕ) → count ≡ min 546 (length bytes) → HoldsRecord bytes → HoldsRecord (take count bytes)
@@ -156,41 +130,68 @@ module _ {L : Type 0} (g : Ghosts L) where
   not_told _ records place bytes old new handed f n = absurd n
 
   -- of a log: what stands in front of the bytes from a place on, on its device or in its buffer, stands at that place
-  pub told : {total : ℕ} (log : Logged L) (last : ℕ) (buffer : List ℕ) (capacity : ℕ) → Keeps g log last total buffer capacity → log.failed ≡ false → (handed place next : ℕ) → handed ≡ total - length buffer → place ≢ total
-      → place < 2 ^ 64 → (r : Record) (used : ℕ) → (place < handed → IsFront r used (drop place (g.seen log.device))) → (handed ≤ place → IsFront r used (drop (place - handed) buffer)) → next ≡ min (place + used) (2 ^ 64 - 1)
-      → g.honest log.device → length (spelled log.records) < 2 ^ 64 → StandsAt log.records place (Some (r, next))
-  told {total} log last buffer capacity k running handed place next is behind fits r used on_device buffered goes h few =
-      let whole = reads_all g log last buffer capacity k running h in
-      let size = k.total few in
-      let sum = length-append (g.seen log.device) buffer in
-      let seen : handed ≡ length (g.seen log.device) = (let e = ap length whole in omega (arith, is, size, sum, e)) in
-      let not_end : place ≢ length (spelled log.records) = λ e. behind (e ∙ sym size) in
-      let front : IsFront r used (drop place (spelled log.records)) = ⊎_elim
-      (λ less. subst (IsFront r used) (sym (drop-append-le place (g.seen log.device) buffer (omega (arith, less, seen))) ∙ ap (drop place) whole) (front_longer r used (drop place (g.seen log.device)) buffer (on_device less)))
-      (λ le. subst (IsFront r used) (ap (λ n. drop (place - n) buffer) seen ∙ behind_seen (g.seen log.device) buffer place (omega (arith, le, seen)) ∙ ap (drop place) whole) (buffered le))
-      (cases_lt place handed) in
-      let left = length-drop place (spelled log.records) in
-      let within = front.1 in
-      let exact : next ≡ place + used = omega (arith, goes, left, within, few, fits) in
-      subst (λ n. StandsAt log.records place (Some (r, n))) (sym exact) (stands_some log.records place r used k.is_log.spelled not_end front)
+  module _ {total : ℕ} (log : Logged L) (last : ℕ) (buffer : List ℕ) (capacity : ℕ) (k : Keeps g log last total buffer capacity) (running : log.failed ≡ false) (handed place : ℕ) (is : handed ≡ total - length buffer) (behind : place ≢ total)
+      (h : g.honest log.device) (few : length (spelled log.records) < 2 ^ 64) where
+    abbrev older : List Record
+    older = drop (k.buffered running).0 log.records
+
+    ends : EndsWith older (g.seen log.device)
+    ends = holds_ends log.torn_at older (g.seen log.device) ((k.buffered running).2 h)
+
+    whole : spelled older ++ buffer ≡ spelled log.records
+    whole = ap (λ (l : List ℕ). spelled older ++ l) (k.buffered running).3 ∙ spelled_whole (k.buffered running).0 log.records
+
+    seen : handed ≡ length (spelled older)
+    seen = let size = k.total few in let sum = length-append (spelled older) buffer in let e = ap length whole in omega (arith, is, size, sum, e)
+
+    on_it : handed ≤ length (g.seen log.device)
+    on_it = let sum = length-append (spelled older) ends.0 in let e = ap length ends.2 in let n = seen in omega (arith, sum, e, n)
+
+    not_end : place ≢ length (spelled log.records)
+    not_end e = behind (e ∙ sym (k.total few))
+
+    -- a record of that place stands on the device, whole
+    on_device_there : place < handed → (newer old : List Record) (s : Record) → log.records ≡ newer ++ (s ∷ old) → place ≡ length (spelled old) → (rest : List ℕ) × (drop place (g.seen log.device) ≡ spelling s ++ rest)
+    on_device_there less newer old s e at =
+        let n = next_handed (k.buffered running).0 newer old s (subst (λ l. length (spelled old) < length (spelled (drop (k.buffered running).0 l))) e (subst (λ m. m < length (spelled older)) at (subst (λ m. place < m) seen less))) in (
+          n.0 ++ ends.0,
+          ap (drop place) ends.2 ∙ drop-append-le place (spelled older) ends.0 (let m = seen in omega (arith, less, m))
+              ∙ ap (λ l. l ++ ends.0) (ap (λ m. drop m (spelled older)) at ∙ ap (λ l. drop (length (spelled old)) (spelled (drop (k.buffered running).0 l))) e ∙ n.1) ∙ append_assoc (spelling s) n.0 ends.0,
+        )
+
+    -- or in the buffer
+    buffered_there : handed ≤ place → (newer old : List Record) (s : Record) → log.records ≡ newer ++ (s ∷ old) → place ≡ length (spelled old) → (rest : List ℕ) × (drop (place - handed) buffer ≡ spelling s ++ rest)
+    buffered_there le newer old s e at = (
+      spelled newer,
+      ap (λ n. drop (place - n) buffer) seen ∙ behind_seen (spelled older) buffer place (let m = seen in omega (arith, le, m)) ∙ ap (drop place) whole
+          ∙ ap (λ n. drop n (spelled log.records)) at ∙ ap (λ l. drop (length (spelled old)) (spelled l)) e ∙ next_stands newer old s,
+    )
+
+    pub told : (next : ℕ) (r : Record) (used : ℕ) → (place < handed → IsFront r used (drop place (g.seen log.device))) → (handed ≤ place → IsFront r used (drop (place - handed) buffer)) → next ≡ min (place + used) (2 ^ 64 - 1)
+        → StandsAt log.records place (Some (r, next))
+    told next r used on_device buffered goes = ⊎_elim
+        (λ less. stands_some log.records place r used next (drop place (g.seen log.device)) k.is_log.spelled not_end (on_device less) (on_device_there less) goes few)
+        (λ le. stands_some log.records place r used next (drop (place - handed) buffer) k.is_log.spelled not_end (buffered le) (buffered_there le) goes few)
+        (cases_lt place handed)
+
+    -- where none does, the place is none of the log's
+    not_there : (bytes : List ℕ) → ((newer old : List Record) (s : Record) → log.records ≡ newer ++ (s ∷ old) → place ≡ length (spelled old) → (rest : List ℕ) × (bytes ≡ spelling s ++ rest)) → (HoldsRecord bytes → ⊥) → IsPlace log.records place → ⊥
+    not_there bytes there none at =
+        let p = next_at log.records place at not_end in
+        let n = there p.0 p.1 p.2 p.3 p.4 in
+        none (p.2, n.0, (AreSpelled-behind p.0 (p.2 ∷ p.1) (subst AreSpelled p.3 k.is_log.spelled)).0, n.1)
 
   -- and where none does, the place is none of the log's
   pub why_not_told : {total : ℕ} (log : Logged L) (last : ℕ) (buffer : List ℕ) (capacity : ℕ) → Keeps g log last total buffer capacity → log.failed ≡ false → (handed place : ℕ) → handed ≡ total - length buffer → place ≢ total
       → (e : Refusal) (new : L) → (g.honest new → g.honest log.device) → (place < handed → NoneReadFor g e (drop place (g.seen log.device)) log.device new) → (handed ≤ place → NoneHeldFor g e (drop (place - handed) buffer) log.device new)
       → NotToldFor g e log.records place log.device new
-  why_not_told {total} log last buffer capacity k running handed place is behind e new falls on_device buffered =
-      let whole : g.honest new → g.seen log.device ++ buffer ≡ spelled log.records = λ h. reads_all g log last buffer capacity k running (falls h) in
-      let b = k.buffered running in
-      let seen : g.honest new → length (spelled log.records) < 2 ^ 64 → handed ≡ length (g.seen log.device) =
-      (λ h few. let size = k.total few in let sum = length-append (g.seen log.device) buffer in let n = ap length (whole h) in omega (arith, is, size, sum, n)) in
-      let not_end : length (spelled log.records) < 2 ^ 64 → place ≢ length (spelled log.records) = λ few at. behind (at ∙ sym (k.total few)) in
-      ⊎_elim
+  why_not_told log last buffer capacity k running handed place is behind e new falls on_device buffered = ⊎_elim
       (λ less. not_told e log.records place (drop place (g.seen log.device)) log.device new
-      (λ is h few. let n = seen h few in omega (arith, less, n))
-      (λ h few none. let n = seen h few in no_place_handed log.records b.0 place k.is_log.spelled (subst (λ l. place < length l) (b.2 (falls h)) (omega (arith, less, n))) (not_end few) (subst (λ l. HoldsRecord (drop place l) → ⊥) (b.2 (falls h)) none))
+      (λ _ h few. let n = on_it log last buffer capacity k running handed place is behind (falls h) few in omega (arith, less, n))
+      (λ h few. not_there log last buffer capacity k running handed place is behind (falls h) few (drop place (g.seen log.device)) (on_device_there log last buffer capacity k running handed place is behind (falls h) few less))
       (on_device less))
       (λ le. not_told e log.records place (drop (place - handed) buffer) log.device new
-      (λ is. absurd ((held_read e (drop (place - handed) buffer) log.device new (buffered le)).0 is))
-      (λ h few none. let n = seen h few in no_place_buffered log.records (g.seen log.device) buffer place k.is_log.spelled (whole h) (omega (arith, le, n)) (not_end few) (subst (λ m. HoldsRecord (drop (place - m) buffer) → ⊥) n none))
+      (λ why_is. absurd ((held_read e (drop (place - handed) buffer) log.device new (buffered le)).0 why_is))
+      (λ h few. not_there log last buffer capacity k running handed place is behind (falls h) few (drop (place - handed) buffer) (buffered_there log last buffer capacity k running handed place is behind (falls h) few le))
       (held_read e (drop (place - handed) buffer) log.device new (buffered le)).1)
       (cases_lt place handed)

@@ -1,15 +1,18 @@
 -- Spelled records in a row, and what of them is left.
-use Rattle.std.specs.Prelude.{◌==◌, Bool, true, false}
+use Rattle.std.specs.Prelude.{◌==◌, Bool, true, false, Option, Some, None}
 use Rattle.std.proofs.lemmas.Bool.Decides.{nat_tests}
-use Rattle.std.proofs.Common.{◌≡◌, ⊎_elim, ℕ, zero, suc, ◌+◌, ◌≤◌, List, [], ◌∷◌, ◌++◌, length, take, drop, refl, sym, ◌∙◌, ap, subst, arith, append_assoc}
-use Rattle.std.proofs.lemmas.List.{take_all, drop_all, append-nil, take-append-drop, length-take-le}
+use Rattle.std.proofs.Common.{◌≡◌, ⊎_elim, ℕ, zero, suc, ◌+◌, ◌-◌, ◌≤◌, inl, inr, List, [], ◌∷◌, ◌++◌, length, take, drop, refl, sym, ◌∙◌, ap, subst, arith, append_assoc, length-append}
+use Rattle.std.proofs.lemmas.Bool.{cases_lt}
+use Rattle.std.proofs.Math.Seq.{take-append-add}
+use Rattle.std.proofs.lemmas.List.{take_all, drop_all, append-nil, take-append-drop, take-append-le, length-drop, length-take-le}
 use Rattle.rq_model.specs.declared.record.Record.{Record}
 use Rattle.rq_disk.specs.Device.{Appended}
-use Rattle.rq_disk.specs.Records.{record_size, AreRecords, first_records}
-use Rattle.rq_disk.proofs.Records.{records-append, front_nil, front-append}
-use Rattle.rq_record.specs.Spelling.{IsRecord, spelling}
+use Rattle.rq_disk.specs.Records.{record_size, AreRecords}
+use Rattle.rq_disk.proofs.Records.{records-append}
+use Rattle.rq_record.specs.Spelling.{IsRecord, BeginsRecord, spelling}
+use Rattle.rq_model.specs.declared.record.Record.TheVariants.{Restart}
 use Rattle.rq_record.proofs.Whole.{framed_whole, long_spelling}
-use Rattle.rq_log.specs.Spelled.{spelled, AreSpelled, IsBeginning, GoesOn}
+use Rattle.rq_log.specs.Spelled.{spelled, AreSpelled, EndsWith, HoldsTo, IsBeginning, GoesOn}
 
 one_size : (r : Record) → IsRecord r → record_size (spelling r) ≡ length (spelling r)
 one_size r is = framed_whole r is
@@ -35,38 +38,74 @@ AreSpelled-take zero rs are = tt
 AreSpelled-take (suc count) [] are = tt
 AreSpelled-take (suc count) (r ∷ rs) are = (are.0, AreSpelled-take count rs are.1)
 
+pub AreSpelled-drop : (count : ℕ) (rs : List Record) → AreSpelled rs → AreSpelled (drop count rs)
+AreSpelled-drop zero rs are = are
+AreSpelled-drop (suc count) [] are = tt
+AreSpelled-drop (suc count) (r ∷ rs) are = AreSpelled-drop count rs are.1
+
 pub spelled_records : (rs : List Record) → AreSpelled rs → AreRecords (length rs) (spelled rs)
 spelled_records [] are = refl
 spelled_records (r ∷ rs) are =
     let same : length rs + 1 ≡ suc (length rs) = omega arith in
     subst (λ (n : ℕ). AreRecords n (spelled rs ++ spelling r)) same (records-append (length rs) 1 (spelled rs) (spelling r) (spelled_records rs are.1) (one_record r are.0))
 
-front_one : (k : ℕ) (r : Record) → IsRecord r → first_records (suc k) (spelling r) ≡ spelling r
-front_one k r is =
-    let b = spelling r in
-    let s = record_size b in
-    let size = one_size r is in
-    ap (λ (l : List ℕ). l ++ first_records k (drop s b)) (take_all s b (omega (arith, size)))
-    ∙ ap (λ (l : List ℕ). b ++ first_records k l) (drop_all s b (omega (arith, size)))
-    ∙ ap (λ (l : List ℕ). b ++ l) (front_nil k) ∙ append-nil b
+some_record : IsRecord (Restart 1)
+some_record = (omega arith, omega arith)
 
--- all but the newest few of some records
-abbrev Older : List Record → List ℕ → Type 0
-Older rs bytes = (lost : ℕ) × (lost ≤ length rs) × (bytes ≡ spelled (drop lost rs))
+-- no byte is a proper beginning of a record
+pub nothing_short : BeginsRecord []
+nothing_short =
+    let long = long_spelling (Restart 1) some_record in
+    (Restart 1, spelling (Restart 1), some_record, omega (arith, long), refl)
 
-newest : (j : ℕ) (r : Record) (rs : List Record) (bytes : List ℕ) → IsRecord r → bytes ≡ spelled rs ++ first_records j (spelling r) → Older (r ∷ rs) bytes
-newest zero r rs bytes is e = (1, omega arith, e ∙ append-nil (spelled rs))
-newest (suc j) r rs bytes is e = (0, omega arith, e ∙ ap (λ (l : List ℕ). spelled rs ++ l) (front_one j r is))
+-- bytes that are these records end with them
+pub ends_all : (rs : List Record) (bytes : List ℕ) → bytes ≡ spelled rs → EndsWith rs bytes
+ends_all rs bytes e = ([], nothing_short, e ∙ sym (append-nil (spelled rs)))
 
--- the first few of spelled records are all but the newest few
-pub front_spelled : (k : ℕ) (rs : List Record) → AreSpelled rs → Older rs (first_records k (spelled rs))
-front_spelled k [] are = (0, omega arith, front_nil k)
-front_spelled k (r ∷ rs) are =
-    let more = front_spelled k rs are.1 in
-    ⊎_elim
-    (λ same. (suc more.0, omega (arith, more.1), same ∙ more.2))
-    (λ all. newest all.0 r rs (first_records k (spelled rs ++ spelling r)) are.0 all.1)
-    (front-append (length rs) k (spelled rs) (spelling r) (spelled_records rs are.1))
+-- and so do those that hold them
+pub holds_ends : (torn_at : Option ℕ) (rs : List Record) (bytes : List ℕ) → HoldsTo torn_at rs bytes → EndsWith rs bytes
+holds_ends None rs bytes is = ends_all rs bytes is
+holds_ends (Some end) rs bytes is = is.0
+
+pub holds_whole : (torn_at : Option ℕ) (rs : List Record) (bytes : List ℕ) → torn_at ≡ None → HoldsTo torn_at rs bytes → bytes ≡ spelled rs
+holds_whole torn_at rs bytes whole is = subst (λ (t : Option ℕ). HoldsTo t rs bytes) whole is
+
+-- all but the newest few of some records, and a short end
+pub record Older (rs : List Record) (bytes : List ℕ) : Type 0 where
+  pub lost : ℕ
+  pub few : lost ≤ length rs
+  pub ends : EndsWith (drop lost rs) bytes
+
+all_older : (rs : List Record) (bytes : List ℕ) → bytes ≡ spelled rs → Older rs bytes
+all_older rs bytes e = record { lost = 0; few = omega arith; ends = ends_all rs bytes e }
+
+-- the first few bytes of spelled records are all but the newest few of these and a short end
+pub front_spelled : (n : ℕ) (rs : List Record) → AreSpelled rs → Older rs (take n (spelled rs))
+front_spelled n [] are = all_older [] (take n []) (take_all n [] (omega arith))
+front_spelled n (r ∷ rs) are = elim (cases_lt (length (spelled rs)) n) [
+  | inl beyond ↦
+      let m : ℕ = n - length (spelled rs) in
+      let e : n ≡ length (spelled rs) + m = omega (arith, beyond) in
+      let cut : take n (spelled rs ++ spelling r) ≡ spelled rs ++ take m (spelling r) = ap (λ (k : ℕ). take k (spelled rs ++ spelling r)) e ∙ take-append-add (spelled rs) (spelling r) m in
+      elim (cases_lt m (length (spelling r))) [
+        | inl within ↦
+            let left = length-drop m (spelling r) in
+            record {
+              lost = 1;
+              few = omega arith;
+              ends = (take m (spelling r), (r, drop m (spelling r), are.0, omega (arith, left, within), sym (take-append-drop m (spelling r))), cut);
+            }
+        | inr all ↦ all_older (r ∷ rs) (take n (spelled rs ++ spelling r)) (cut ∙ ap (λ (l : List ℕ). spelled rs ++ l) (take_all m (spelling r) all))
+      ]
+  | inr before ↦
+      let f = front_spelled n rs are.1 in
+      let few = f.few in
+      record {
+        lost = suc f.lost;
+        few = omega (arith, few);
+        ends = (f.ends.0, f.ends.1, take-append-le n (spelled rs) (spelling r) before ∙ f.ends.2);
+      }
+]
 
 drop_joined : (m count : ℕ) (rs : List Record) → m ≤ count → drop m (take count rs) ++ drop count rs ≡ drop m rs
 drop_joined zero count rs le = take-append-drop count rs
@@ -74,30 +113,36 @@ drop_joined (suc m) zero rs le = absurd (omega arith)
 drop_joined (suc m) (suc count) [] le = refl
 drop_joined (suc m) (suc count) (r ∷ rs) le = drop_joined m count rs (omega arith)
 
--- the older records and a few of the newer ones behind them
-pub some_newer : (rs : List Record) (kept count k : ℕ) → AreSpelled rs → count + kept ≤ length rs → IsBeginning rs kept (spelled (drop count rs) ++ first_records k (spelled (take count rs)))
-some_newer rs kept count k are le =
-    let f = front_spelled k (take count rs) (AreSpelled-take count rs are) in
-    let short : f.0 ≤ count = omega (arith, f.1, length-take-le count rs (omega arith)) in (
-      f.0,
-      omega (arith, short, le),
-      ap (λ (l : List ℕ). spelled (drop count rs) ++ l) f.2 ∙ sym (spelled-append (drop f.0 (take count rs)) (drop count rs)) ∙ ap spelled (drop_joined f.0 count rs short),
-    )
+-- the older records and a few bytes of the newer ones behind them
+newer_ends : (rs : List Record) (count : ℕ) (bytes : List ℕ) (f : Older (take count rs) bytes) → f.lost ≤ count → EndsWith (drop f.lost rs) (spelled (drop count rs) ++ bytes)
+newer_ends rs count bytes f short = (
+  f.ends.0,
+  f.ends.1,
+  ap (λ (l : List ℕ). spelled (drop count rs) ++ l) f.ends.2 ∙ sym (append_assoc (spelled (drop count rs)) (spelled (drop f.lost (take count rs))) f.ends.0)
+      ∙ ap (λ (l : List ℕ). l ++ f.ends.0) (sym (spelled-append (drop f.lost (take count rs)) (drop count rs)) ∙ ap spelled (drop_joined f.lost count rs short)),
+)
 
--- what was read with a few of the newer records behind it
-pub goes_on : (rs : List Record) (kept count k : ℕ) (seen buffer c : List ℕ) → AreSpelled rs → count + kept ≤ length rs → seen ≡ spelled (drop count rs) → buffer ≡ spelled (take count rs) → c ≡ seen ++ first_records k buffer → GoesOn rs kept seen c
-goes_on rs kept count k seen buffer c are le reads holds is =
-    let f = front_spelled k (take count rs) (AreSpelled-take count rs are) in
-    let short : f.0 ≤ count = omega (arith, f.1, length-take-le count rs (omega arith)) in
+few_of : (rs : List Record) (kept count : ℕ) (bytes : List ℕ) (f : Older (take count rs) bytes) → count + kept ≤ length rs → f.lost ≤ count
+few_of rs kept count bytes f le = let few = f.few in let size = length-take-le count rs (omega arith) in omega (arith, few, size)
+
+pub some_newer : (rs : List Record) (kept count n : ℕ) → AreSpelled rs → count + kept ≤ length rs → IsBeginning rs kept (spelled (drop count rs) ++ take n (spelled (take count rs)))
+some_newer rs kept count n are le =
+    let f = front_spelled n (take count rs) (AreSpelled-take count rs are) in
+    let short = few_of rs kept count (take n (spelled (take count rs))) f le in
+    (f.lost, omega (arith, short, le), newer_ends rs count (take n (spelled (take count rs))) f short)
+
+-- what was read with a few bytes of the newer records behind it
+pub goes_on : (rs : List Record) (kept count n : ℕ) (seen buffer c : List ℕ) → AreSpelled rs → count + kept ≤ length rs → seen ≡ spelled (drop count rs) → buffer ≡ spelled (take count rs) → c ≡ seen ++ take n buffer → GoesOn rs kept seen c
+goes_on rs kept count n seen buffer c are le reads holds is =
+    let f = front_spelled n (take count rs) (AreSpelled-take count rs are) in
+    let short = few_of rs kept count (take n (spelled (take count rs))) f le in
     record {
       behind = count;
       within = le;
-      reads = reads;
-      lost = f.0;
+      reads = ends_all (drop count rs) seen reads;
+      lost = f.lost;
       some = short;
-      is =
-          is ∙ ap (λ (l : List ℕ). l ++ first_records k buffer) reads ∙ ap (λ (l : List ℕ). spelled (drop count rs) ++ first_records k l) holds
-          ∙ ap (λ (l : List ℕ). spelled (drop count rs) ++ l) f.2 ∙ sym (spelled-append (drop f.0 (take count rs)) (drop count rs)) ∙ ap spelled (drop_joined f.0 count rs short);
+      is = subst (EndsWith (drop f.lost rs)) (sym (is ∙ ap (λ (l : List ℕ). l ++ take n buffer) reads ∙ ap (λ (l : List ℕ). spelled (drop count rs) ++ take n l) holds)) (newer_ends rs count (take n (spelled (take count rs))) f short);
     }
 
 -- what an append of the newer records may leave
@@ -105,7 +150,7 @@ pub appended : (rs : List Record) (kept count : ℕ) (seen buffer : List ℕ) (o
     → ((c : List ℕ) → old c → IsBeginning rs kept c) → Appended seen buffer old new → (c : List ℕ) → new c → IsBeginning rs kept c
 appended rs kept count seen buffer old new are le reads holds before crash c now =
     ⊎_elim (before c)
-    (λ added. subst (IsBeginning rs kept) (sym (added.1 ∙ ap (λ (l : List ℕ). l ++ first_records added.0 buffer) reads ∙ ap (λ (l : List ℕ). spelled (drop count rs) ++ first_records added.0 l) holds)) (some_newer rs kept count added.0 are le))
+    (λ added. subst (IsBeginning rs kept) (sym (added.1 ∙ ap (λ (l : List ℕ). l ++ take added.0 buffer) reads ∙ ap (λ (l : List ℕ). spelled (drop count rs) ++ take added.0 l) holds)) (some_newer rs kept count added.0 are le))
     (crash c now)
 
 -- a newer record behind them changes nothing of what is left
@@ -113,7 +158,7 @@ pub one_newer : (r : Record) (rs : List Record) (kept : ℕ) (c : List ℕ) → 
 one_newer r rs kept c is = (suc is.0, omega (arith, is.1), is.2)
 
 pub all_of : (rs : List Record) (kept : ℕ) (c : List ℕ) → kept ≤ length rs → c ≡ spelled rs → IsBeginning rs kept c
-all_of rs kept c le e = (0, omega (arith, le), e)
+all_of rs kept c le e = (0, omega (arith, le), ends_all rs c e)
 
 -- what has no bytes to hand over is all handed over
 pub nothing_newer : (count : ℕ) (rs : List Record) (seen buffer : List ℕ) → seen ≡ spelled (drop count rs) → buffer ≡ spelled (take count rs) → length buffer ≡ 0 → seen ≡ spelled rs

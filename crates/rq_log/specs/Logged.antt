@@ -1,9 +1,9 @@
 -- What contracts see of a log.
-use Rattle.std.specs.Prelude.{◌≡◌, ◌⊎◌, ℕ, ◌+◌, ◌^◌, ◌<◌, ◌≤◌, Bool, false, List, length, drop, take}
+use Rattle.std.specs.Prelude.{◌≡◌, ◌⊎◌, ℕ, ◌+◌, ◌^◌, ◌<◌, ◌≤◌, Bool, false, Option, List, length, drop, take}
 use Rattle.rq_model.specs.declared.record.Record.{Record}
 use Rattle.rq_disk.specs.Device.{Only}
 use Rattle.rq_disk.specs.declared.device.LogDevice.{Ghosts}
-use Rattle.rq_log.specs.Spelled.{spelled, AreSpelled, IsBeginning, GoesOn}
+use Rattle.rq_log.specs.Spelled.{spelled, AreSpelled, EndsWith, HoldsTo, IsBeginning, GoesOn}
 
 pub record Logged (L : Type 0) : Type 0 where
   -- the records, the newest first; those that are not handed over yet are among them
@@ -14,7 +14,9 @@ pub record Logged (L : Type 0) : Type 0 where
   pub pending : ℕ
   -- the bytes of room for records to come
   pub reserved : ℕ
-  -- whether a write or a force has failed
+  -- where those that are handed over end on the device, if the proper beginning of a record stands behind them
+  pub torn_at : Option ℕ
+  -- whether a write, a cut or a force has failed
   pub failed : Bool
   pub device : L
   -- the device as it was when the records were read of it, or when they were last forced
@@ -34,16 +36,21 @@ module _ {L : Type 0} (g : Ghosts L) where
   abbrev pub WasLeftOrGoesOn : Logged L → List ℕ → Type 0
   WasLeftOrGoesOn log c = g.may_leave log.device c ⊎ GoesOn log.records log.forced (g.seen log.device) c
 
+  -- the first held some of the records, with a short end perhaps, and the second these alone
+  abbrev pub WasCut : Logged L → L → Type 0
+  WasCut log device = (count : ℕ) × (count + log.forced ≤ length log.records)
+      × EndsWith (drop count log.records) (g.seen log.device) × (g.seen device ≡ spelled (drop count log.records))
+
   -- what is so of each log
   pub record IsLog (log : Logged L) : Type 0 where
     pub spelled : AreSpelled log.records
     pub order : log.forced ≤ length log.records
     pub leaves : g.honest log.device → WasDurable log → LeavesBeginnings log
 
-  -- the newest records stand in a buffer, and an honest device reads as the others
+  -- the newest records stand in a buffer, and an honest device holds the others
   abbrev pub IsBuffered : Logged L → List ℕ → Type 0
   IsBuffered log buffer = (count : ℕ) × (count + log.forced ≤ length log.records)
-      × (g.honest log.device → g.seen log.device ≡ spelled (drop count log.records))
+      × (g.honest log.device → HoldsTo log.torn_at (drop count log.records) (g.seen log.device))
       × (buffer ≡ spelled (take count log.records))
 
   -- what is so of its fields

@@ -5,7 +5,7 @@ use Rattle.rq_model.specs.declared.refusal.Refusal.{Refusal}
 use Rattle.rq_model.specs.declared.refusal.Refusal.TheVariants as why
 use Rattle.rq_model.specs.declared.refusal.Damage.TheVariants as damage
 use Rattle.rq_disk.specs.declared.device.LogDevice.{Ghosts}
-use Rattle.rq_record.specs.Spelling.{HoldsRecord}
+use Rattle.rq_record.specs.Spelling.{HoldsRecord, BeginsRecord}
 use Rattle.rq_log.specs.Crash.{LeavesOnly}
 use Rattle.rq_log.specs.Spelled.{spelled, AreSpelled}
 
@@ -13,6 +13,8 @@ use Rattle.rq_log.specs.Spelled.{spelled, AreSpelled}
 pub record LogRead (L : Type 0) : Type 0 where
   -- the records that were read, the newest first
   pub records : List Record
+  -- how many bytes behind them were read too
+  pub left : ℕ
   pub device : L
   -- the device as it was before anything was read of it
   pub first : L
@@ -25,11 +27,19 @@ BeginsWith records bytes = (rest : List ℕ) × (bytes ≡ spelled records ++ re
 abbrev pub HasMoreBehind : List Record → List ℕ → Type 0
 HasMoreBehind records bytes = (rest : List ℕ) × (rest ≢ []) × (bytes ≡ spelled records ++ rest)
 
--- behind these records there are bytes, and no record stands at their front
+-- These records are all there are: behind them stand so many bytes, no byte or a proper beginning of a record, which is
+-- none.
+pub record EndsShort (records : List Record) (left : ℕ) (bytes : List ℕ) : Type 0 where
+  pub end : List ℕ
+  pub short : BeginsRecord end
+  pub long : length end ≡ left
+  pub is : bytes ≡ spelled records ++ end
+
+-- behind these records no record stands, nor a proper beginning of one
 pub record IsDamagedBehind (records : List Record) (bytes : List ℕ) : Type 0 where
   pub rest : List ℕ
-  pub some : rest ≢ []
   pub bad : HoldsRecord rest → ⊥
+  pub no_beginning : BeginsRecord rest → ⊥
   pub is : bytes ≡ spelled records ++ rest
 
 -- bytes of a device: those that were read and are not taken, and how many were read

@@ -1,7 +1,7 @@
 -- Records as they stand in the log, and what of them a crash leaves. The newest record is the first of a list.
-use Rattle.std.specs.Prelude.{◌≡◌, ℕ, ◌+◌, ◌≤◌, List, [], ◌∷◌, ◌++◌, length, drop}
+use Rattle.std.specs.Prelude.{◌≡◌, ℕ, ◌+◌, ◌≤◌, List, [], ◌∷◌, ◌++◌, length, drop, Option, Some, None}
 use Rattle.rq_model.specs.declared.record.Record.{Record}
-use Rattle.rq_record.specs.Spelling.{IsRecord, spelling}
+use Rattle.rq_record.specs.Spelling.{IsRecord, BeginsRecord, spelling}
 
 -- the spellings, one after the other, the oldest record's first
 abbrev pub spelled : List Record → List ℕ
@@ -13,18 +13,27 @@ abbrev pub AreSpelled : List Record → Type 0
 AreSpelled [] = Unit {0}
 AreSpelled (r ∷ older) = IsRecord r × AreSpelled older
 
--- these bytes are whole records from the oldest on, the first so many and perhaps more: only newest ones lack
+-- these records, and behind them no byte, or a proper beginning of a record, which is none
+abbrev pub EndsWith : List Record → List ℕ → Type 0
+EndsWith records bytes = (end : List ℕ) × BeginsRecord end × (bytes ≡ spelled records ++ end)
+
+-- the same; where they end is told if there is such a beginning
+abbrev pub HoldsTo : Option ℕ → List Record → List ℕ → Type 0
+HoldsTo None records bytes = bytes ≡ spelled records
+HoldsTo (Some end) records bytes = EndsWith records bytes × (end ≡ length (spelled records))
+
+-- These bytes are records from the oldest on, the first so many and perhaps more, with a short end: only newest ones lack.
 abbrev pub IsBeginning : List Record → ℕ → List ℕ → Type 0
-IsBeginning records kept bytes = (lost : ℕ) × (lost + kept ≤ length records) × (bytes ≡ spelled (drop lost records))
+IsBeginning records kept bytes = (lost : ℕ) × (lost + kept ≤ length records) × EndsWith (drop lost records) bytes
 
 -- These bytes are the records that were read with the first of those behind them: the first so many records and perhaps
--- more, whole ones.
+-- more, and then a short end.
 pub record GoesOn (records : List Record) (kept : ℕ) (seen bytes : List ℕ) : Type 0 where
   -- so many records come behind what was read
   pub behind : ℕ
   pub within : behind + kept ≤ length records
-  pub reads : seen ≡ spelled (drop behind records)
+  pub reads : EndsWith (drop behind records) seen
   -- so many of these lack
   pub lost : ℕ
   pub some : lost ≤ behind
-  pub is : bytes ≡ spelled (drop lost records)
+  pub is : EndsWith (drop lost records) bytes

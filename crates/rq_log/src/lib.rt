@@ -1,12 +1,12 @@
 //! The log: a list of records with a forced beginning, over a device.
 #![tactic(auto)]
 
-ghost use Rattle.std.specs.Prelude.{◌≡◌, ◌+◌, ◌-◌, ◌^◌, ◌<◌, ◌≤◌, ◌∷◌, OnOk, OnErr, IfOk, IfErr, IsErrOf, true, false, length};
+ghost use Rattle.std.specs.Prelude.{◌≡◌, ◌+◌, ◌-◌, ◌^◌, ◌<◌, ◌≤◌, ◌∷◌, None, OnOk, OnErr, IfOk, IfErr, IsErrOf, true, false, length};
 ghost use Rattle.rq_disk.specs.Device.{Only, FailureIsCounted};
 ghost use Rattle.rq_record.specs.Spelling.{IsInRange, spelling};
 ghost use Rattle.rq_log.specs.Crash.{LeavesOnly};
-ghost use Rattle.rq_log.specs.Logged.{IsLog, WasDurable, WasLeftOrGoesOn};
-ghost use Rattle.rq_log.specs.Spelled.{spelled, AreSpelled, IsBeginning};
+ghost use Rattle.rq_log.specs.Logged.{IsLog, WasCut, WasDurable, WasLeftOrGoesOn};
+ghost use Rattle.rq_log.specs.Spelled.{spelled, AreSpelled, HoldsTo, IsBeginning};
 
 mod looking;
 mod reading;
@@ -35,6 +35,8 @@ pub struct Log<L: LogDevice> {
     last: Lsn,
     // how many bytes its records take, where a number of 64 bits counts them
     size: u64,
+    // where those on the device end, if a proper beginning of a record stands behind them
+    torn_at: Option<u64>,
     forced: Lsn,
     failed: bool,
 }
@@ -50,6 +52,7 @@ impl<L: LogDevice> Model for Log<L> {
       forced = l.forced;
       pending = length l.buffer.items;
       reserved = l.reserved;
+      torn_at = l.torn_at;
       failed = l.failed;
       device = l.device;
       settled = l.settled.value;
@@ -60,6 +63,7 @@ impl<L: LogDevice> Model for Log<L> {
       forced = l.forced;
       pending = length l.buffer.items;
       reserved = l.reserved;
+      torn_at = l.torn_at;
       failed = l.failed;
       device = l.device;
       settled = l.settled.value;
@@ -77,7 +81,7 @@ impl<L: LogDevice + Drop> Log<L> {
     ghost use Rattle.std.specs.Prelude.{false};
     ghost use Rattle.rq_log.specs.Reading.{IsRead};
 
-    // The log with these records, all that the device reads as, if it is honest. None of them counts as forced.
+    // The log with these records, all that an honest device holds. None of them counts as forced.
     pub(crate) fn of_records(
         alloc: Global,
         device: L,
@@ -85,17 +89,19 @@ impl<L: LogDevice + Drop> Log<L> {
         past: Snapshot<GhostList<Record>>,
         last: Lsn,
         size: u64,
+        torn_at: Option<u64>,
     ) -> Log<L>
         requires spelled { AreSpelled past.value }
         requires count { last ≡ length past.value }
         requires size { size ≡ length (spelled past.value) }
         requires read { IsRead L.LogDevice settled.value device }
-        requires whole { L.honest device → L.seen settled.value ≡ spelled past.value }
+        requires holds { L.honest device → HoldsTo torn_at past.value (L.seen settled.value) }
         ensures { result ≡ record {
           records = past.value;
           forced = 0;
           pending = 0;
           reserved = 0;
+          torn_at = torn_at;
           failed = false;
           device = device;
           settled = settled.value;
@@ -109,6 +115,7 @@ impl<L: LogDevice + Drop> Log<L> {
             reserved: 0,
             last,
             size,
+            torn_at,
             forced: 0,
             failed: false,
         }
@@ -126,6 +133,7 @@ impl<L: LogDevice + Drop> Log<L> {
             reserved: _,
             last: _,
             size: _,
+            torn_at: _,
             forced: _,
             failed: _,
         } = self;
@@ -198,6 +206,7 @@ impl<L: LogDevice> Log<L> {
         // What stays.
         ensures forced { self.new.forced ≡ self.old.forced }
         ensures failed { self.new.failed ≡ false }
+        ensures torn { self.new.torn_at ≡ self.old.torn_at }
         ensures device { self.new.device ≡ self.old.device }
         ensures settled { self.new.settled ≡ self.old.settled }
     {
@@ -211,7 +220,7 @@ impl<L: LogDevice> Log<L> {
         self.last
     }
 
-    /// Appends the buffered records to the device.
+    /// Appends the buffered records to the device. What stands there behind those of before is cut off first.
     pub fn hand_over(&mut self) -> Result<(), Refusal>
         // What stays.
         ensures records { self.new.records ≡ self.old.records }
@@ -221,13 +230,13 @@ impl<L: LogDevice> Log<L> {
         // What it answers, and what the device holds then.
         ensures failed { self.old.failed ≡ true → (IsErrOf result Refusal.Failed) × (self.new ≡ self.old) }
         ensures honest { L.honest self.new.device → L.honest self.old.device }
-        ensures ok { OnOk result ((self.new.failed ≡ false) × (self.new.pending ≡ 0)
+        ensures ok { OnOk result ((self.new.failed ≡ false) × (self.new.pending ≡ 0) × (self.new.torn_at ≡ None)
             × (L.honest self.new.device → L.seen self.new.device ≡ spelled self.new.records)) }
         ensures err { self.old.failed ≡ false → IfErr result (λ e. (e ≡ Refusal.DiskWrite) × (self.new.failed ≡ true)) }
         ensures cause { self.old.failed ≡ false → FailureIsCounted (L.faults self.old.device)
             (L.faults self.new.device) result }
         // Nothing to hand over, and what a crash at any moment leaves.
-        ensures idle { self.old.pending ≡ 0 → self.new ≡ self.old }
+        ensures idle { self.old.pending ≡ 0 → self.old.torn_at ≡ None → self.new ≡ self.old }
         ensures left { L.honest self.new.device → LeavesOnly L.LogDevice self.old.device self.new.device
             (WasLeftOrGoesOn L.LogDevice self.old) }
         ensures any_moment { L.honest self.new.device → WasDurable L.LogDevice self.old
@@ -236,6 +245,66 @@ impl<L: LogDevice> Log<L> {
         if self.failed {
             return Err(Refusal::Failed);
         }
+        match self.cut_end() {
+            Ok(()) => self.append_buffer(),
+            Err(refusal) => Err(refusal),
+        }
+    }
+
+    // Cuts off what stands on the device behind the records, if there is anything.
+    fn cut_end(&mut self) -> Result<(), Refusal>
+        requires { self.old.failed ≡ false }
+        ensures same { self.new ≡ record self.old {
+          torn_at = self.new.torn_at;
+          failed = self.new.failed;
+          device = self.new.device;
+        } }
+        ensures honest { L.honest self.new.device → L.honest self.old.device }
+        ensures ok { OnOk result ((self.new.failed ≡ false) × (self.new.torn_at ≡ None)) }
+        ensures err { IfErr result (λ e. (e ≡ Refusal.DiskWrite) × (self.new.failed ≡ true)) }
+        ensures cause { FailureIsCounted (L.faults self.old.device) (L.faults self.new.device) result }
+        ensures idle { self.old.torn_at ≡ None → self.new ≡ self.old }
+        ensures left { L.honest self.new.device → LeavesOnly L.LogDevice self.old.device self.new.device
+            (WasLeftOrGoesOn L.LogDevice self.old) }
+        ensures reads { OnOk result (L.honest self.new.device → WasCut L.LogDevice self.old self.new.device) }
+        ensures any_moment { L.honest self.new.device → WasDurable L.LogDevice self.old
+            → LeavesOnly L.LogDevice self.old.device self.new.device (IsBeginning self.old.records self.old.forced) }
+    {
+        let Some(end) = self.torn_at else {
+            return Ok(());
+        };
+        match self.device.cut(end) {
+            Ok(()) => {
+                self.torn_at = None;
+                Ok(())
+            }
+            Err(_) => {
+                self.failed = true;
+                Err(Refusal::DiskWrite)
+            }
+        }
+    }
+
+    // Appends the buffered records to the device, which holds the others and nothing behind them.
+    fn append_buffer(&mut self) -> Result<(), Refusal>
+        requires running { self.old.failed ≡ false }
+        requires whole { self.old.torn_at ≡ None }
+        ensures records { self.new.records ≡ self.old.records }
+        ensures forced { self.new.forced ≡ self.old.forced }
+        ensures reserved { self.new.reserved ≡ self.old.reserved }
+        ensures settled { self.new.settled ≡ self.old.settled }
+        ensures torn { self.new.torn_at ≡ None }
+        ensures honest { L.honest self.new.device → L.honest self.old.device }
+        ensures ok { OnOk result ((self.new.failed ≡ false) × (self.new.pending ≡ 0)
+            × (L.honest self.new.device → L.seen self.new.device ≡ spelled self.new.records)) }
+        ensures err { IfErr result (λ e. (e ≡ Refusal.DiskWrite) × (self.new.failed ≡ true)) }
+        ensures cause { FailureIsCounted (L.faults self.old.device) (L.faults self.new.device) result }
+        ensures idle { self.old.pending ≡ 0 → self.new ≡ self.old }
+        ensures left { L.honest self.new.device → LeavesOnly L.LogDevice self.old.device self.new.device
+            (WasLeftOrGoesOn L.LogDevice self.old) }
+        ensures any_moment { L.honest self.new.device → WasDurable L.LogDevice self.old
+            → LeavesOnly L.LogDevice self.old.device self.new.device (IsBeginning self.old.records self.old.forced) }
+    {
         if self.buffer.is_empty() {
             return Ok(());
         }
@@ -274,8 +343,8 @@ impl<L: LogDevice> Log<L> {
             (WasLeftOrGoesOn L.LogDevice self.old) }
         ensures any_moment { L.honest self.new.device → WasDurable L.LogDevice self.old
             → LeavesOnly L.LogDevice self.old.device self.new.device (IsBeginning self.old.records self.old.forced) }
-        ensures idle { self.old.pending ≡ 0 → LeavesOnly L.LogDevice self.old.device self.new.device
-            (L.may_leave self.old.device) }
+        ensures idle { self.old.pending ≡ 0 → self.old.torn_at ≡ None → LeavesOnly L.LogDevice self.old.device
+            self.new.device (L.may_leave self.old.device) }
     {
         self.hand_over()?;
         match self.device.force() {

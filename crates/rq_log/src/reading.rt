@@ -1,8 +1,7 @@
 //! Reads the records of a device, one after the other.
-ghost use Rattle.std.specs.Prelude.{◌≡◌, ◌^◌, ◌<◌, ◌∷◌, IfOk, IfErr, IfSome, IfNone, OnOk, OnErr, length};
+ghost use Rattle.std.specs.Prelude.{◌≡◌, ◌^◌, ◌<◌, ◌∷◌, None, IfOk, IfErr, IfSome, IfNone, OnOk, OnErr, length};
 ghost use Rattle.std.specs.Bool.{OnTrue, OnFalse};
-ghost use Rattle.rq_log.specs.Reading.{IsReading, StopsFor};
-ghost use Rattle.rq_log.specs.Spelled.{spelled};
+ghost use Rattle.rq_log.specs.Reading.{EndsShort, IsReading, StopsFor};
 
 use crate::stream::Stream;
 use crate::{Log, RefusedLog};
@@ -28,12 +27,14 @@ pub struct LogReader<L: LogDevice> {
 }
 
 impl<L: LogDevice> Model for LogReader<L> {
+    ghost use Rattle.std.specs.Prelude.{length};
     ghost use Rattle.rq_log.specs.Reading.{LogRead, KeepsRead};
 
     ghost Value = { LogRead L };
 
     ghost view = { λ r. record {
       records = r.past.value;
+      left = length r.stream.unread;
       device = r.stream.device;
       first = r.first.value;
     } };
@@ -49,7 +50,7 @@ impl<L: LogDevice + Drop> LogReader<L> {
     /// # Errors
     /// `NoMemory`.
     pub fn new(alloc: Global, device: L) -> Result<LogReader<L>, RefusedLog<L>>
-        ensures ok { IfOk result (λ r. r ≡ record { records = []; device = device; first = device }) }
+        ensures ok { IfOk result (λ r. r ≡ record { records = []; left = 0; device = device; first = device }) }
         ensures err { IfErr result (λ stopped. (stopped.refusal ≡ Refusal.NoMemory) × (stopped.device ≡ device)) }
     {
         let first = Snapshot::of(&device);
@@ -62,20 +63,23 @@ impl<L: LogDevice + Drop> LogReader<L> {
         })
     }
 
-    /// The log whose records were read, all of them. None of them counts as forced: a crash may still lose what was
-    /// read, unless it is forced.
+    /// The log whose records were read, all of them. A proper beginning of a record behind them is cut off before anything
+    /// is handed over. None of the records counts as forced: a crash may still lose what was read, unless it is forced.
     pub fn into_log(self, alloc: Global) -> Log<L>
-        requires whole { L.honest self.device → L.seen self.first ≡ spelled self.records }
-        ensures { result ≡ record {
+        requires ends { L.honest self.device → EndsShort self.records self.left (L.seen self.first) }
+        ensures log { result ≡ record {
           records = self.records;
           forced = 0;
           pending = 0;
           reserved = 0;
+          torn_at = result.torn_at;
           failed = false;
           device = self.device;
           settled = self.first;
         } }
+        ensures whole { self.left ≡ 0 → result.torn_at ≡ None }
     {
+        let left = self.left();
         let LogReader {
             stream,
             first,
@@ -83,7 +87,8 @@ impl<L: LogDevice + Drop> LogReader<L> {
             last,
         } = self;
         let size = stream.taken();
-        Log::of_records(alloc, stream.give_back(), first, past, last, size)
+        let torn_at = if left == 0 { None } else { Some(size) };
+        Log::of_records(alloc, stream.give_back(), first, past, last, size, torn_at)
     }
 
     /// The device, as it is.
@@ -109,6 +114,14 @@ impl<L: LogDevice> LogReader<L> {
         let _last = self.last;
     }
 
+    /// How many bytes were read behind the records. Once all are read it is how many there are: those of a proper
+    /// beginning of a record.
+    pub fn left(&self) -> usize
+        ensures { result ≡ self.now.left }
+    {
+        self.stream.unread().len()
+    }
+
     /// The LSN of the last record that was read: how many were.
     pub fn last(&self) -> Lsn
         ensures { result ≡ length self.now.records }
@@ -116,7 +129,7 @@ impl<L: LogDevice> LogReader<L> {
         self.last
     }
 
-    /// Reads the next record. `None`: all are read, and no byte is left.
+    /// Reads the next record. `None`: all are read; what is left is no byte, or a proper beginning of a record.
     ///
     /// # Errors
     /// Those of `next_into`.
@@ -124,7 +137,7 @@ impl<L: LogDevice> LogReader<L> {
         // What is read then.
         ensures some { IfOk result (λ next. IfSome next (λ r. self.new.records ≡ r ∷ self.old.records)) }
         ensures none { IfOk result (λ next. IfNone next ((self.new.records ≡ self.old.records)
-            × (L.honest self.new.device → L.seen self.new.first ≡ spelled self.new.records))) }
+            × (L.honest self.new.device → EndsShort self.new.records self.new.left (L.seen self.new.first)))) }
         // Why nothing was.
         ensures same { OnErr result (self.new.records ≡ self.old.records) }
         ensures err { IfErr result (λ e. StopsFor L.LogDevice e self.old.records self.old.device self.new.device) }
@@ -142,17 +155,17 @@ impl<L: LogDevice> LogReader<L> {
         }
     }
 
-    /// Reads the next record, over a lent one. False: all are read, and no byte is left. Where none is read the lent one may
-    /// hold anything.
+    /// Reads the next record, over a lent one. False: all are read; what is left is no byte, or a proper beginning of a
+    /// record. Where none is read the lent one may hold anything.
     ///
     /// # Errors
-    /// `Damaged` with the LSN of the next record, where bytes are left and no whole record stands at their front;
-    /// `DiskRead`; `LogFull` where bytes are left behind as many records as a log may have.
+    /// `Damaged` with the LSN of the next record, where what is left begins with no record, nor is a proper beginning of
+    /// one; `DiskRead`; `LogFull` where bytes are left behind as many records as a log may have.
     pub fn next_into(&mut self, into: &mut Record) -> Result<bool, Refusal>
         // What is read then.
         ensures some { IfOk result (λ found. OnTrue found (self.new.records ≡ into.new ∷ self.old.records)) }
         ensures none { IfOk result (λ found. OnFalse found ((self.new.records ≡ self.old.records)
-            × (L.honest self.new.device → L.seen self.new.first ≡ spelled self.new.records))) }
+            × (L.honest self.new.device → EndsShort self.new.records self.new.left (L.seen self.new.first)))) }
         // Why nothing was.
         ensures same { OnErr result (self.new.records ≡ self.old.records) }
         ensures err { IfErr result (λ e. StopsFor L.LogDevice e self.old.records self.old.device self.new.device) }
@@ -172,7 +185,7 @@ impl<L: LogDevice> LogReader<L> {
         // What is read then.
         ensures some { IfOk result (λ found. OnTrue found (self.new.records ≡ into.new ∷ self.old.records)) }
         ensures none { IfOk result (λ found. OnFalse found ((self.new.records ≡ self.old.records)
-            × (L.honest self.new.device → L.seen self.new.first ≡ spelled self.new.records))) }
+            × (L.honest self.new.device → EndsShort self.new.records self.new.left (L.seen self.new.first)))) }
         // Why nothing was.
         ensures same { OnErr result (self.new.records ≡ self.old.records) }
         ensures err { IfErr result (λ e. StopsFor L.LogDevice e self.old.records self.old.device self.new.device) }
@@ -187,12 +200,15 @@ impl<L: LogDevice> LogReader<L> {
         if self.last >= LOG_LIMIT {
             return Err(Refusal::LogFull);
         }
-        let Decoded::Record(used) = decode_into(self.stream.unread(), into) else {
-            return Err(Refusal::Damaged(Damage::Record(self.last + 1)));
-        };
-        self.stream.skip(used);
-        GhostList::push(&mut self.past, into);
-        self.last += 1;
-        Ok(true)
+        match decode_into(self.stream.unread(), into) {
+            Decoded::Record(used) => {
+                self.stream.skip(used);
+                GhostList::push(&mut self.past, into);
+                self.last += 1;
+                Ok(true)
+            }
+            Decoded::Short => Ok(false),
+            Decoded::Bad => Err(Refusal::Damaged(Damage::Record(self.last + 1))),
+        }
     }
 }

@@ -35,7 +35,7 @@ use Rattle.rq_restart.specs.Aborting.IsBadStep.{BadDue, BadRecord}
 use Rattle.rq_restart.specs.Repeating.{ArePagesCounted, Belongs, IsRecordRedone, Paged, paged, slots_on}
 use Rattle.rq_restart.specs.Undoing.{StepStops}
 use Rattle.rq_log.specs.Spelled.{AreSpelled}
-use Rattle.rq_engine.proofs.Crashing.{spelled_dropped}
+use Rattle.rq_log.proofs.Runs.{AreSpelled-drop}
 use Rattle.rq_restart.proofs.Repeated.{counted_more}
 
 -- ---- rounds
@@ -171,7 +171,7 @@ aborting_extends log now a = subst (Extends log) a.are (rounds_extend log a.roun
 pub spelled_before : (log now : List Record) → AbortsBehind log now → AreSpelled now → AreSpelled log
 spelled_before log now a h =
     let e = aborting_extends log now a in
-    subst AreSpelled (drop_at e.0 log (length e.0) refl) (spelled_dropped (length e.0) (e.0 ++ log) (subst AreSpelled (sym e.1) h))
+    subst AreSpelled (drop_at e.0 log (length e.0) refl) (AreSpelled-drop (length e.0) (e.0 ++ log) (subst AreSpelled (sym e.1) h))
 
 same_writes : (t : Txn) (n : ℕ) (ws : List SlotWrite) (log : List Record) → incarnation_of (with_writes t n ws log) ≡ incarnation_of log
 same_writes t n [] log = refl

@@ -11,7 +11,7 @@ use Rattle.rq_model.proofs.Cuts.{extends_commits, extends_join}
 use Rattle.rq_page.specs.Sizes.{Sizes}
 use Rattle.rq_pool.specs.Pooled.{IsPool}
 use Rattle.rq_log.specs.Logged.{Logged}
-use Rattle.rq_log.specs.Spelled.{spelled, AreSpelled, GoesOn}
+use Rattle.rq_log.specs.Spelled.{AreSpelled, EndsWith, GoesOn}
 use Rattle.rq_views.specs.Stored.{count_used, slots_in}
 use Rattle.rq_sound.specs.Sound.{IsSound}
 use Rattle.rq_sound.proofs.Opened.{opened_sound}
@@ -31,7 +31,7 @@ use Rattle.rq_analysis.proofs.Noting.{few_incarnations, noted_incarnation, noted
 use Rattle.rq_analysis.proofs.Undos.{undo_keeps_whole, undoing_extends}
 use Rattle.rq_analysis.specs.Recovered.{IsRecovered, IsRecoveredFrom}
 use Rattle.rq_analysis.proofs.Recovering.{recovered_from}
-use Rattle.rq_engine.proofs.Crashing.{spelled_dropped}
+use Rattle.rq_log.proofs.Runs.{AreSpelled-drop}
 use Rattle.rq_analysis.proofs.Whole.{whole_logs}
 use Rattle.rq_restart.specs.Aborting.IsAborting.{Between}
 use Rattle.rq_restart.specs.RolledBack.{ArePlannedFrom, IsRolledBack}
@@ -131,11 +131,11 @@ module _ (log rolled_back : List Record) (m : IsRolledBack log rolled_back) (h :
   not_begun z first now_paged _ before now untouched repeated planned recovered b = absurd b
 
 -- the records behind, as they were forced
-pub begun_behind : (z : Sizes) (left : Type 0) (log rolled_back : List Record) (r : Record) (kept : ℕ) (seen bytes : List ℕ) → IsRolledBack log rolled_back → (left → IsRecovered z log rolled_back) → r ≡ next_restart rolled_back → AreSpelled log → seen ≡ spelled log → AreSpelled (r ∷ rolled_back)
+pub begun_behind : (z : Sizes) (left : Type 0) (log rolled_back : List Record) (r : Record) (kept : ℕ) (seen bytes : List ℕ) → IsRolledBack log rolled_back → (left → IsRecovered z log rolled_back) → r ≡ next_restart rolled_back → AreSpelled log → EndsWith log seen → AreSpelled (r ∷ rolled_back)
     → GoesOn (r ∷ rolled_back) kept seen bytes → IsBegunBehind z left log bytes
 begun_behind z left log rolled_back r kept seen bytes m recovered is are read now on =
     let n : ℕ = length (drop on.behind (r ∷ rolled_back)) in
-    let same : drop on.behind (r ∷ rolled_back) ≡ log = one_log (drop on.behind (r ∷ rolled_back)) log (spelled_dropped on.behind (r ∷ rolled_back) now) are (sym on.reads ∙ read) in
+    let same : drop on.behind (r ∷ rolled_back) ≡ log = one_log (drop on.behind (r ∷ rolled_back)) log seen (AreSpelled-drop on.behind (r ∷ rolled_back) now) are on.reads read in
     let a : n ≡ length log = ap length same in
     let b : n ≡ length (r ∷ rolled_back) - on.behind = length-drop on.behind (r ∷ rolled_back) in
     let c = on.within in
@@ -147,7 +147,7 @@ begun_behind z left log rolled_back r kept seen bytes m recovered is are read no
       are_spelled = subst (λ q. AreSpelled (q ∷ rolled_back)) is now;
       lacks = on.lost;
       some = omega (arith, a, b, c, d);
-      is = on.is ∙ ap (λ q. spelled (drop on.lost (q ∷ rolled_back))) is;
+      is = subst (λ q. EndsWith (drop on.lost (q ∷ rolled_back)) bytes) is on.is;
     }
 
 -- ---- what is opened

@@ -4,7 +4,7 @@ use Rattle.rq_model.specs.declared.record.Record.{Record}
 use Rattle.rq_disk.specs.declared.device.LogDevice.{Ghosts}
 use Rattle.rq_log.specs.Crash.{LeavesOnly}
 use Rattle.rq_log.specs.Logged.{Logged, WasLeftOrGoesOn}
-use Rattle.rq_log.specs.Spelled.{spelled, AreSpelled, GoesOn}
+use Rattle.rq_log.specs.Spelled.{AreSpelled, EndsWith, GoesOn}
 use Rattle.rq_log.proofs.Moments.{started, weaker, joined}
 use Rattle.rq_store.specs.Opening.{next_restart, IsLeft}
 use Rattle.rq_log.specs.Reading.{IsRead}
@@ -45,7 +45,7 @@ forced_behind g old new log kept records same grown forced are run =
           (subst (λ rs. LeavesOnly g old new (λ c. g.may_leave old c ⊎ GoesOn rs log.forced (g.seen old) c)) grown (subst (λ d. LeavesOnly g d new (λ c. g.may_leave d c ⊎ GoesOn log.records log.forced (g.seen d) c)) same run))
 
 -- they undo what has no end, and begin the next incarnation
-pub begun_moment : {L : Type 0} (g : Ghosts L) (z : Sizes) (left : Type 0) (older rolled_back : List Record) (r : Record) (kept : ℕ) (old mid new : L) → mid ≡ old → IsRolledBack older rolled_back → (left → IsRecovered z older rolled_back) → r ≡ next_restart rolled_back → AreSpelled older → g.seen old ≡ spelled older
+pub begun_moment : {L : Type 0} (g : Ghosts L) (z : Sizes) (left : Type 0) (older rolled_back : List Record) (r : Record) (kept : ℕ) (old mid new : L) → mid ≡ old → IsRolledBack older rolled_back → (left → IsRecovered z older rolled_back) → r ≡ next_restart rolled_back → AreSpelled older → EndsWith older (g.seen old)
     → LeavesOnly g mid new (WasLeftOrForced g mid (r ∷ rolled_back) kept) → LeavesOnly g old new (WasLeftOrBegun g z left old older)
 begun_moment g z left older rolled_back r kept old mid new same m recovered is are read run =
     weaker g old new (WasLeftOrForced g old (r ∷ rolled_back) kept) (WasLeftOrBegun g z left old older) (subst (λ d. LeavesOnly g d new (WasLeftOrForced g d (r ∷ rolled_back) kept)) same run)
@@ -58,14 +58,14 @@ module _ {L : Type 0} (g : Ghosts L) (z : Sizes) (images : Images) where
   only_read old new run h = weaker g old new (g.may_leave old) (λ c. g.may_leave old c ⊎ IsBegunOn z images (g.seen old) c) run (λ c was. inl was)
 
   -- it was read whole, and then gone on with
-  pub read_first : (old mid new : L) (older : List Record) → (g.honest new → g.honest mid) → (g.honest mid → g.seen old ≡ spelled older) → AreSpelled older → g.seen mid ≡ g.seen old
+  pub read_first : (old mid new : L) (older : List Record) → (g.honest new → g.honest mid) → (g.honest mid → EndsWith older (g.seen old)) → AreSpelled older → g.seen mid ≡ g.seen old
       → ((c : List ℕ) → g.may_leave mid c → g.may_leave old c) → LeavesOnly g old mid (g.may_leave old)
-      → (g.honest new → AreSpelled older → g.seen mid ≡ spelled older → LeavesOnly g mid new (WasLeftOrBegun g z (IsLeft z images older) mid older)) → BeginsAtMost g z images old new
+      → (g.honest new → AreSpelled older → EndsWith older (g.seen mid) → LeavesOnly g mid new (WasLeftOrBegun g z (IsLeft z images older) mid older)) → BeginsAtMost g z images old new
   read_first old mid new older falls reads are same crash run rest h =
       let read = reads (falls h) in
       joined g old mid new (λ c. g.may_leave old c ⊎ IsBegunOn z images (g.seen old) c)
       (weaker g old mid (g.may_leave old) (λ c. g.may_leave old c ⊎ IsBegunOn z images (g.seen old) c) run (λ c was. inl was))
-      (weaker g mid new (WasLeftOrBegun g z (IsLeft z images older) mid older) (λ c. g.may_leave old c ⊎ IsBegunOn z images (g.seen old) c) (rest h are (same ∙ read))
+      (weaker g mid new (WasLeftOrBegun g z (IsLeft z images older) mid older) (λ c. g.may_leave old c ⊎ IsBegunOn z images (g.seen old) c) (rest h are (subst (EndsWith older) (sym same) read))
       (λ c. ⊎_elim (λ was. inl (crash c was)) (λ is. inr (record { older = older; reads = read; begun = is }))))
 
 pub if_err_both : {T E : Type 0} {A B C : E → Type 0} (r : Result T E) → ((x : E) → A x → B x → C x) → IfErr r A → IfErr r B → IfErr r C

@@ -3,8 +3,8 @@ use Rattle.std.proofs.Common.{◌≡◌, ◌+◌, ◌-◌, ◌≤◌, ℕ, drop,
 use Rattle.std.proofs.lemmas.List.{append-nil, drop_at, reverse-append, reverse-reverse}
 use Rattle.rq_model.specs.declared.record.Record.{Record}
 use Rattle.rq_disk.specs.declared.device.LogDevice.{Ghosts}
-use Rattle.rq_log.specs.Spelled.{spelled, AreSpelled}
-use Rattle.rq_log.specs.Reading.{IsDamagedBehind, StopsFor}
+use Rattle.rq_log.specs.Spelled.{spelled, AreSpelled, EndsWith}
+use Rattle.rq_log.specs.Reading.{StopsFor}
 use Rattle.rq_log.proofs.Parsing.{no_damage, one_log, rest_of}
 use Rattle.rq_model.specs.declared.refusal.Refusal.{Refusal}
 use Rattle.rq_model.specs.declared.refusal.Refusal.TheVariants as why
@@ -20,13 +20,13 @@ use Rattle.rq_store.specs.Fitting.{oldest}
 use Rattle.rq_restart.proofs.Going.{left_belongs}
 
 -- the records that were read are the log's
-pub log_is : (older log rs : List Record) (bytes : List ℕ) → AreSpelled older → bytes ≡ spelled older → log ≡ rs → AreSpelled rs → bytes ≡ spelled log → log ≡ older
-log_is older log rs bytes are e same k f = one_log log older (subst AreSpelled (sym same) k) are (sym f ∙ e)
+pub log_is : (older log rs : List Record) (bytes : List ℕ) → AreSpelled older → EndsWith older bytes → log ≡ rs → AreSpelled rs → EndsWith log bytes → log ≡ older
+log_is older log rs bytes are e same k f = one_log log older bytes (subst AreSpelled (sym same) k) are f e
 
 -- records that stand in front of what spells a log are its first
-pub are_first : (log front : List Record) (rest : List ℕ) → AreSpelled log → AreSpelled front → spelled log ≡ spelled front ++ rest → (oldest (length front) log ≡ front) × (length front ≤ length log)
-are_first log front rest h k e =
-    let r = rest_of log front rest h k e in
+pub are_first : (log front : List Record) (bytes rest : List ℕ) → AreSpelled log → AreSpelled front → EndsWith log bytes → bytes ≡ spelled front ++ rest → (oldest (length front) log ≡ front) × (length front ≤ length log)
+are_first log front bytes rest h k ends e =
+    let r = rest_of log front bytes rest h k ends e in
     let whole : log ≡ reverse r.others ++ front = sym (reverse-reverse log) ∙ ap reverse r.whole ∙ reverse-append (reverse front) r.others ∙ ap (λ l. reverse r.others ++ l) (reverse-reverse front) in
     let a = length-append (reverse r.others) front in
     let b : length log ≡ length (reverse r.others ++ front) = ap length whole in
@@ -40,15 +40,15 @@ stopped_shut g z older first old new e r s = elim s.why [
   | inr (inl wanting) ↦ subst (λ x. MayBeShut (IsLeft z first.image older) z older x (g.faults old) (g.faults new)) (sym wanting.0) wanting.1
   | inr (inr bad) ↦ subst (λ x. MayBeShut (IsLeft z first.image older) z older x (g.faults old) (g.faults new)) (sym bad.told) (λ left.
       let begins = bad.begins r.honest in
-      let f = are_first older (bad.newest ∷ s.front) begins.0 r.are_spelled (bad.is_record, s.are_spelled) (sym r.reads ∙ begins.1) in
+      let f = are_first older (bad.newest ∷ s.front) (g.seen old) begins.0 r.are_spelled (bad.is_record, s.are_spelled) r.reads begins.1 in
       let one : length (bad.newest ∷ s.front) ≡ length s.front + 1 = omega arith in
       bad.bad (left_belongs z older s.front bad.newest first s.mid (ap (λ n. oldest n older) (sym one) ∙ f.0) (omega (arith, f.1, one)) left s.repeated))
 ] where
   by : (x : Refusal) → StopsFor g x s.front old new → MayBeShut (IsLeft z first.image older) z older x (g.faults old) (g.faults new)
   by why.LogFull h = λ left.
       let more = h.1 r.honest in
-      let f = are_first older s.front more.0 r.are_spelled s.are_spelled (sym r.reads ∙ more.2) in
+      let f = are_first older s.front (g.seen old) more.0 r.are_spelled s.are_spelled r.reads more.2 in
       record { now = older; recovering = Undoing (undoing_none older); full = (let few = h.0 in omega (arith, f.1, few)) }
   by why.DiskRead h = h
-  by (why.Damaged (damage.Record lsn)) h = λ left. no_damage older s.front r.are_spelled s.are_spelled (subst (λ b. IsDamagedBehind s.front b) r.reads (h.1 r.honest))
+  by (why.Damaged (damage.Record lsn)) h = λ left. no_damage older s.front (g.seen old) r.are_spelled s.are_spelled r.reads (h.1 r.honest)
   by _ h = absurd h

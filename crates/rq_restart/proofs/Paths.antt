@@ -10,7 +10,7 @@ use Rattle.rq_disk.specs.Device.{Images, Leaves}
 use Rattle.rq_disk.specs.declared.device.LogDevice as log_device
 use Rattle.rq_disk.specs.declared.device.PageDevice as page_device
 use Rattle.rq_pool.specs.Reading.{AreSeen, IsSuperblock, OnlyRead}
-use Rattle.rq_log.specs.Spelled.{spelled, AreSpelled}
+use Rattle.rq_log.specs.Spelled.{AreSpelled, EndsWith}
 use Rattle.rq_log.proofs.Moments.{weaker}
 use Rattle.rq_page.specs.Sizes.{Sizes, page_count}
 use Rattle.rq_sound.specs.Sound.{IsSound}
@@ -22,7 +22,7 @@ use Rattle.rq_store.proofs.Opening.{opened_after}
 use Rattle.rq_engine.specs.Opened.{OpenStore, pooled}
 use Rattle.rq_engine.specs.Devices.{EachPair, Path}
 use Rattle.rq_engine.specs.Devices.Path.{Start, Pages, Log}
-use Rattle.rq_engine.proofs.Crashing.{spelled_dropped}
+use Rattle.rq_log.proofs.Runs.{AreSpelled-drop}
 use Rattle.rq_analysis.specs.Recovered.{IsRecovered}
 use Rattle.rq_analysis.proofs.Recovering.{recovered_from}
 use Rattle.rq_analysis.proofs.Stopping.{plain_drop}
@@ -67,10 +67,10 @@ module _ (z : Sizes) (left : Type 0) (older : List Record) (bytes : List ℕ) (b
   kept_extends = (drop b.lacks behind, is_kept, plain_drop b.lacks behind (refl, more.2))
 
   pub older_spelled : AreSpelled older
-  older_spelled = subst AreSpelled (drop_at behind older (length behind) refl) (spelled_dropped (length behind) (behind ++ older) (subst AreSpelled (sym all) b.are_spelled))
+  older_spelled = subst AreSpelled (drop_at behind older (length behind) refl) (AreSpelled-drop (length behind) (behind ++ older) (subst AreSpelled (sym all) b.are_spelled))
 
   pub kept_spelled : AreSpelled kept
-  kept_spelled = spelled_dropped b.lacks (next_restart b.rolled_back ∷ b.rolled_back) b.are_spelled
+  kept_spelled = AreSpelled-drop b.lacks (next_restart b.rolled_back ∷ b.rolled_back) b.are_spelled
 
   pub kept_left : (images : Images) → IsLeft z images older → left → IsLeft z images kept
   kept_left images there l =
@@ -79,7 +79,7 @@ module _ (z : Sizes) (left : Type 0) (older : List Record) (bytes : List ℕ) (b
 
 module _ {P L : Type 0} (p : page_device.Ghosts P) (l : log_device.Ghosts L) (pages_now : (d : P) (c : Images) → p.left_since d (p.moment d) c → Leaves (p.may_be d) c) (pages_some : (d : P) (q : ℕ) → p.may_be d q (p.seen d q)) (log_some : (d : L) → l.may_leave d (l.seen d))
     (pages new_pages : P) (log new_log : L) (only : OnlyRead p pages new_pages) (begins : BeginsFrom p l pages log new_pages new_log)
-    (honest : p.honest new_pages) (h : l.honest new_log) (z : Sizes) (read : List Record) (are : AreSpelled read) (reads : l.seen log ≡ spelled read) (was : EachPair p l pages log (IsSomeStore z)) where
+    (honest : p.honest new_pages) (h : l.honest new_log) (z : Sizes) (read : List Record) (are : AreSpelled read) (reads : EndsWith read (l.seen log)) (was : EachPair p l pages log (IsSomeStore z)) where
   abbrev Q : Images → List ℕ → Type 0
   Q = IsLeftOrGoesOn l log z read
 
@@ -102,9 +102,9 @@ module _ {P L : Type 0} (p : page_device.Ghosts P) (l : log_device.Ghosts L) (pa
       let left : Type 0 = IsLeft z (image_in b.images) older in
       let s = was images (l.seen log) a (log_some log) in
       let are_older = older_spelled z left older bytes on.begun in
-      let same : s.0 ≡ older = one_log s.0 older s.1.are_spelled are_older (sym s.1.is ∙ on.reads) in
-      let same_first : first.0 ≡ older = one_log first.0 older first.1.are_spelled are_older (sym first.1.is ∙ on.reads) in
-      let is_read : older ≡ read = one_log older read are_older are (sym on.reads ∙ reads) in
+      let same : s.0 ≡ older = one_log s.0 older (l.seen log) s.1.are_spelled are_older s.1.is on.reads in
+      let same_first : first.0 ≡ older = one_log first.0 older (l.seen log) first.1.are_spelled are_older first.1.is on.reads in
+      let is_read : older ≡ read = one_log older read (l.seen log) are_older are on.reads reads in
       let there : left = left_read z seen b.images older seen_here (subst (IsLeft z seen) same_first first.1.left) in (
         kept z left older bytes on.begun,
         record {
@@ -146,7 +146,7 @@ module _ {P L : Type 0} (p : page_device.Ghosts P) (l : log_device.Ghosts L) (pa
       → WasChecked p l pages log o.0.state.sizes (paged (pooled o.0)) o.0.state.records o.0.pages o.0.log → IsRecovered o.0.state.sizes older (drop 1 o.0.state.records)
   opened_recovered o older read on checked =
       let z = o.0.state.sizes in
-      let same : checked.older ≡ older = one_log checked.older older checked.are_spelled read.are_spelled (sym (checked.reads read.honest) ∙ read.reads) in
+      let same : checked.older ≡ older = one_log checked.older older (l.seen log) checked.are_spelled read.are_spelled (checked.reads read.honest) read.reads in
       let left : IsLeft z (image_in checked.images) checked.older = left_read z (p.seen pages) checked.images checked.older (checked.seen on.honest) (subst (IsLeft z (p.seen pages)) (sym same) on.left) in
       subst (IsRecovered z older) (sym (ap (drop 1) checked.begun)) (subst (λ l. IsRecovered z l checked.rolled_back) same (checked.rolled_back_on.recovered left))
 

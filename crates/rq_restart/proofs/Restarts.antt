@@ -8,7 +8,7 @@ use Rattle.rq_page.specs.Sizes.{Sizes, page_count}
 use Rattle.rq_page.specs.Formatted.{IsFormatted, IsHeaderOf}
 use Rattle.rq_disk.specs.declared.device.PageDevice.{Ghosts}
 use Rattle.rq_disk.specs.declared.device.LogDevice as log_device
-use Rattle.rq_log.specs.Spelled.{spelled, AreSpelled}
+use Rattle.rq_log.specs.Spelled.{AreSpelled, EndsWith}
 use Rattle.rq_pool.specs.Pooled.{Pooled}
 use Rattle.rq_pool.specs.Reading.{IsSuperblock, ArePages, AreSeen, OnlyRead}
 use Rattle.rq_log.specs.Logged.{Logged}
@@ -43,7 +43,7 @@ module _ {P L : Type 0} (p : Ghosts P) (l : log_device.Ghosts L) (pages : P) (lo
   first_is = ap (λ (f : List Bool). record { image = image_in loaded.images; changed = f }) unchanged
 
   pub was_checked : (now : Pooled P) (records : List Record) (new : L) → now.sizes ≡ loaded.sizes → now.device ≡ loaded.device
-      → ((older : List Record) × AreSpelled older × (l.honest new → l.seen log ≡ spelled older) × (rolled_back : List Record) × IsRolledBackOn loaded.sizes older rolled_back (paged loaded) (paged now) × (records ≡ next_restart rolled_back ∷ rolled_back) × (length rolled_back < 2 ^ 50))
+      → ((older : List Record) × AreSpelled older × (l.honest new → EndsWith older (l.seen log)) × (rolled_back : List Record) × IsRolledBackOn loaded.sizes older rolled_back (paged loaded) (paged now) × (records ≡ next_restart rolled_back ∷ rolled_back) × (length rolled_back < 2 ^ 50))
       → WasChecked p l pages log now.sizes (paged now) records now.device new
   was_checked now records new same device h =
       subst (λ d. WasChecked p l pages log now.sizes (paged now) records d new) (sym device)

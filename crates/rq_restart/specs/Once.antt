@@ -2,17 +2,18 @@
 use Rattle.std.specs.Prelude.{◌≡◌, ℕ, List, length}
 use Rattle.rq_model.specs.declared.record.Record.{Record}
 use Rattle.rq_disk.specs.Records.{HoldsRecords}
-use Rattle.rq_log.specs.Spelled.{spelled, AreSpelled}
+use Rattle.rq_log.specs.Spelled.{AreSpelled, EndsWith}
 use Rattle.rq_page.specs.Sizes.{Sizes}
 use Rattle.rq_pool.specs.Reading.{IsSuperblock}
 
--- bytes are the spelling of one log at most
+-- bytes are the spelling of one log at most, with a short end or none
 abbrev pub OneLogEach : Type 0
-OneLogEach = (a b : List Record) → AreSpelled a → AreSpelled b → spelled a ≡ spelled b → a ≡ b
+OneLogEach = (a b : List Record) (bytes : List ℕ) → AreSpelled a → AreSpelled b → EndsWith a bytes → EndsWith b bytes → a ≡ b
 
--- the whole records in the spelling of a log are as many as the log's
+-- the whole records in the spelling of a log, with a short end or none, are as many as the log's
 abbrev pub AsManyAsTheLog : Type 0
-AsManyAsTheLog = (log : List Record) (n : ℕ) → AreSpelled log → HoldsRecords (spelled log) n → n ≡ length log
+AsManyAsTheLog = (log : List Record) (bytes : List ℕ) (n : ℕ) → AreSpelled log → EndsWith log bytes → HoldsRecords bytes n
+    → n ≡ length log
 
 -- a superblock tells one size
 abbrev pub OneSizeEach : Type 0

@@ -16,7 +16,7 @@ use Rattle.rq_pool.specs.Reading.{ArePages, AreSeen}
 use Rattle.rq_log.specs.Reading.{IsRead}
 use Rattle.rq_log.specs.Logged.{Logged, WasDurable}
 use Rattle.rq_log.specs.Crash.{LeavesOnly}
-use Rattle.rq_log.specs.Spelled.{spelled, AreSpelled, GoesOn}
+use Rattle.rq_log.specs.Spelled.{spelled, AreSpelled, EndsWith, GoesOn}
 use Rattle.rq_store.specs.Opening.{IsLeft, next_restart, opened, sent_in_slots, waiting_in}
 use Rattle.rq_store.specs.State.{State}
 use Rattle.rq_store.specs.Whole.{IsWhole}
@@ -57,11 +57,11 @@ Stops left z log why.LogFull before now old new = left → IsAtBound z log
 Stops left z log (why.Damaged d) before now old new = left → ⊥
 Stops left z log _ before now old new = ⊥
 
--- an honest device held these records as it was read
+-- an honest device held these records as it was read, with a short end perhaps
 pub record IsReadAs {L : Type 0} (g : log_device.Ghosts L) (old new : L) (older : List Record) : Type 0 where
   pub honest : g.honest new
   pub are_spelled : AreSpelled older
-  pub reads : g.seen old ≡ spelled older
+  pub reads : EndsWith older (g.seen old)
 
 -- an honest device held the pages of a store that was left so
 pub record IsLeftOn {P : Type 0} (g : page_device.Ghosts P) (z : Sizes) (old new : P)
@@ -90,7 +90,7 @@ pub record AreTold (z : Sizes) (images : List (List ℕ)) (count : ℕ) (waiting
   pub few_sent : (g : ℕ) → sent_count sent g ≤ count
 
 -- Bytes of a log with the first of the records behind it by which what has no end is undone and the next incarnation is
--- begun; of a store that was left so, these recover the log.
+-- begun, and a short end; of a store that was left so, these recover the log.
 pub record IsBegunBehind (z : Sizes) (left : Type 0) (older : List Record) (bytes : List ℕ) : Type 0 where
   pub rolled_back : List Record
   pub rolls_back : IsRolledBack older rolled_back
@@ -99,12 +99,12 @@ pub record IsBegunBehind (z : Sizes) (left : Type 0) (older : List Record) (byte
   -- so many of the newest lack
   pub lacks : ℕ
   pub some : lacks + length older ≤ length rolled_back + 1
-  pub is : bytes ≡ spelled (drop lacks (next_restart rolled_back ∷ rolled_back))
+  pub is : EndsWith (drop lacks (next_restart rolled_back ∷ rolled_back)) bytes
 
 -- those of the log that was read, beside these pages
 pub record IsBegunOn (z : Sizes) (images : Images) (read bytes : List ℕ) : Type 0 where
   pub older : List Record
-  pub reads : read ≡ spelled older
+  pub reads : EndsWith older read
   pub begun : IsBegunBehind z (IsLeft z images older) older bytes
 
 module _ {L : Type 0} (g : log_device.Ghosts L) where
@@ -127,7 +127,7 @@ module _ {L : Type 0} (g : log_device.Ghosts L) where
   abbrev pub LogStops : Sizes → Paged → Refusal → L → L → Type 0
   LogStops z first e old new =
       IsStoppedBehind g z first e old new
-      ⊎ ((older : List Record) × AreSpelled older × (g.honest new → g.seen old ≡ spelled older)
+      ⊎ ((older : List Record) × AreSpelled older × (g.honest new → EndsWith older (g.seen old))
       × WhyShut z older first e (g.faults old) (g.faults new) (IsRead g old new))
 
 module _ {P L : Type 0} (p : page_device.Ghosts P) (l : log_device.Ghosts L) (pages : P) (log : L) where
@@ -165,7 +165,7 @@ module _ {P L : Type 0} (p : page_device.Ghosts P) (l : log_device.Ghosts L) (pa
     pub seen : p.honest new_pages → AreSeen (p.seen pages) images (page_count z)
     pub older : List Record
     pub are_spelled : AreSpelled older
-    pub reads : l.honest new_log → l.seen log ≡ spelled older
+    pub reads : l.honest new_log → EndsWith older (l.seen log)
     pub rolled_back : List Record
     pub rolled_back_on : IsRolledBackOn z older rolled_back (as_read z images) last
     pub begun : records ≡ next_restart rolled_back ∷ rolled_back

@@ -1,12 +1,12 @@
 -- A restart that is under way: what a crash at each moment leaves of both devices, whichever of them its next call
 -- changes.
-use Rattle.std.specs.Prelude.{◌≡◌, ◌⊎◌, ℕ, List, Result, Ok, Err}
+use Rattle.std.specs.Prelude.{◌⊎◌, ℕ, List, Result, Ok, Err}
 use Rattle.rq_model.specs.declared.record.Record.{Record}
 use Rattle.rq_model.specs.Incarnations.{Extends}
 use Rattle.rq_disk.specs.Device.{Images}
 use Rattle.rq_disk.specs.declared.device.LogDevice as log_device
 use Rattle.rq_disk.specs.declared.device.PageDevice as page_device
-use Rattle.rq_log.specs.Spelled.{spelled, AreSpelled}
+use Rattle.rq_log.specs.Spelled.{AreSpelled, EndsWith}
 use Rattle.rq_page.specs.Sizes.{Sizes, IsInRange}
 use Rattle.rq_store.specs.Opening.{IsLeft}
 use Rattle.rq_engine.specs.Opened.{OpenStore}
@@ -14,11 +14,11 @@ use Rattle.rq_engine.specs.Devices.{EachPair}
 use Rattle.rq_restart.specs.declared.restart.Report.{Report}
 use Rattle.rq_restart.specs.declared.restart.Stopped.{Stopped}
 
--- these are the pages and the log of a store: a legal log of this spelling, and pages that fit it
+-- these are the pages and the log of a store: a legal log, with a short end perhaps, and pages that fit it
 pub record IsStore (z : Sizes) (log : List Record) (images : Images) (bytes : List ℕ) : Type 0 where
   pub range : IsInRange z
   pub are_spelled : AreSpelled log
-  pub is : bytes ≡ spelled log
+  pub is : EndsWith log bytes
   pub left : IsLeft z images log
 
 abbrev pub IsSomeStore : Sizes → Images → List ℕ → Type 0
@@ -33,7 +33,7 @@ IsLeftOrGoesOn l log z read images bytes = (now : List Record) × IsStore z now 
 abbrev pub OfStores : {P L : Type 0} → page_device.Ghosts P → log_device.Ghosts L → P → L → P → L
     → (Sizes → List Record → Type 0) → Type 0
 OfStores p l pages log new_pages new_log Q =
-    p.honest new_pages → l.honest new_log → (z : Sizes) (read : List Record) → AreSpelled read → l.seen log ≡ spelled read
+    p.honest new_pages → l.honest new_log → (z : Sizes) (read : List Record) → AreSpelled read → EndsWith read (l.seen log)
     → EachPair p l pages log (IsSomeStore z) → Q z read
 
 -- both devices as a restart leaves them

@@ -1,7 +1,7 @@
 //! Going through a log: each slot write that is not on its page yet is made there.
 ghost use Rattle.std.specs.Prelude.{◌≡◌, ◌↔◌, ◌≤◌, ◌<◌, ◌+◌, ◌∷◌, [], ℕ, List, IsTrue, None, false, IfOk, IfErr, IfSome, IfNone, OnOk, length};
 ghost use Rattle.rq_model.specs.declared.record.Record.{Record as AnyRecord};
-ghost use Rattle.rq_log.specs.Spelled.{spelled};
+ghost use Rattle.rq_log.specs.Reading.{EndsShort};
 ghost use Rattle.rq_page.specs.Sizes.{page_count};
 ghost use Rattle.rq_page.specs.Pages.{lsn_of, slot_of};
 ghost use Rattle.rq_page.specs.Slots.{IsSlotOf};
@@ -116,7 +116,7 @@ pub(crate) fn repeat_history<P: PageDevice + Drop, L: LogDevice, B: Level>(
     ensures kept { IfOk result (λ log_scan. AreKept pages.old.sizes (length reader.new.records) (paged pages.old)
         (paged pages.new) log_scan.overwritten.numbers.items) }
     ensures whole { OnOk result (L.honest reader.new.device
-        → L.seen reader.new.first ≡ spelled reader.new.records) }
+        → EndsShort reader.new.records reader.new.left (L.seen reader.new.first)) }
     ensures cause { OnOk result (L.faults reader.new.device ≡ L.faults reader.new.first) }
     ensures stopped { IfErr result (λ e. IsStoppedBehind L.LogDevice pages.old.sizes (paged pages.old) e
         reader.new.first reader.new.device) }

@@ -4,7 +4,7 @@ ghost use Rattle.rq_model.specs.declared.record.Record.TheVariants as records;
 ghost use Rattle.rq_model.specs.declared.record.Record.{Record};
 ghost use Rattle.rq_views.specs.Stored.{slots_in, count_used};
 ghost use Rattle.rq_log.specs.Crash.{LeavesOnly};
-ghost use Rattle.rq_log.specs.Spelled.{spelled, AreSpelled};
+ghost use Rattle.rq_log.specs.Spelled.{spelled, AreSpelled, EndsWith};
 ghost use Rattle.rq_page.specs.Sizes.{Sizes};
 ghost use Rattle.rq_disk.specs.Device.{Only};
 ghost use Rattle.rq_pool.specs.Pooled.{IsPool};
@@ -296,7 +296,7 @@ fn restart_log<P: PageDevice + Drop, L: LogDevice + Drop, B: Level>(
         stopped.log) }
     // What was checked, or why it was refused.
     ensures checked { IfOk result (λ o. (older : List Record) × AreSpelled older × (L.honest o.log.device →
-        L.seen log ≡ spelled older) × (rolled_back : List Record)
+        EndsWith older (L.seen log)) × (rolled_back : List Record)
         × IsRolledBackOn pages.sizes older rolled_back (paged pages) (paged o.pages)
         × (o.log.records ≡ next_restart rolled_back ∷ rolled_back) × (length rolled_back < 2 ^ 50)) }
     ensures refused { IfErr result (λ stopped. LogStops L.LogDevice pages.sizes
@@ -349,7 +349,7 @@ fn read_and_redo<P: PageDevice + Drop, L: LogDevice + Drop, B: Level>(
     ensures log { IfOk result (λ read. (read.0.forced ≡ 0) × (read.0.pending ≡ 0) × (read.0.reserved ≡ 0)
         × (read.0.failed ≡ false) × (read.0.settled ≡ log)) }
     ensures spelled { IfOk result (λ read. AreSpelled read.0.records) }
-    ensures whole { IfOk result (λ read. L.honest read.0.device → L.seen log ≡ spelled read.0.records) }
+    ensures whole { IfOk result (λ read. L.honest read.0.device → EndsWith read.0.records (L.seen log)) }
     ensures found { IfOk result (λ read. IsAnalysisOf read.1.analysis read.0.records) }
     ensures repeated { IfOk result (λ read. Repeats pages.old.sizes read.0.records (paged pages.old)
         (paged pages.new)) }
@@ -404,7 +404,7 @@ fn finish_restart<P: PageDevice + Drop, L: LogDevice + Drop, B: Level>(
     ensures pages { pages.new.device ≡ pages.old.device }
     ensures honest { L.honest log.new.device → L.honest log.old.device }
     ensures any_moment { (first : Paged) → Repeats pages.old.sizes log.old.records first (paged pages.old)
-        → L.honest log.new.device → AreSpelled log.old.records → L.seen log.old.device ≡ spelled log.old.records
+        → L.honest log.new.device → AreSpelled log.old.records → EndsWith log.old.records (L.seen log.old.device)
         → LeavesOnly L.LogDevice log.old.device log.new.device
         (WasLeftOrBegun L.LogDevice pages.old.sizes (IsLeft pages.old.sizes first.image log.old.records)
         log.old.device log.old.records) }
@@ -458,7 +458,7 @@ fn undo_and_begin<P: PageDevice + Drop, L: LogDevice + Drop, B: Level>(
     ensures pages { pages.new.device ≡ pages.old.device }
     ensures honest { L.honest log.new.device → L.honest log.old.device }
     ensures any_moment { (first : Paged) → Repeats pages.old.sizes log.old.records first (paged pages.old)
-        → L.honest log.new.device → AreSpelled log.old.records → L.seen log.old.device ≡ spelled log.old.records
+        → L.honest log.new.device → AreSpelled log.old.records → EndsWith log.old.records (L.seen log.old.device)
         → LeavesOnly L.LogDevice log.old.device log.new.device
         (WasLeftOrBegun L.LogDevice pages.old.sizes (IsLeft pages.old.sizes first.image log.old.records)
         log.old.device log.old.records) }

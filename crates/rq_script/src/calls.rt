@@ -23,8 +23,8 @@ pub trait Store {
     /// Makes the next device call of a kind fail, once, whether the store has failed or not.
     fn arm(&mut self, kind: CallKind);
 
-    /// A crash.
-    fn crash(&mut self, keep: Survivors, images: Images) -> CommandResult;
+    /// A crash; none where the record behind those that outlive it has no more bytes than so many, which is more than none.
+    fn crash(&mut self, keep: Survivors, torn: u64, images: Images) -> Option<CommandResult>;
 
     /// The text of the log of a store that is open, or as a crash left it.
     fn log(&mut self, alloc: Global) -> CommandResult;
@@ -45,7 +45,10 @@ pub fn carry_out<S: Store>(
         Some(Command::StopInRestart(records)) => store.restart(Some(records)),
         Some(Command::Log) => store.log(alloc),
         Some(_) if !store.is_open() => CommandResult::refused(Refusal::Failed),
-        Some(Command::Crash(keep, images)) => store.crash(keep, images),
+        Some(Command::Crash(keep, torn, images)) => match store.crash(keep, torn, images) {
+            Some(result) => result,
+            None => CommandResult::NoCommand(number),
+        },
         Some(Command::Fail(kind)) => {
             store.arm(kind);
             CommandResult::Armed

@@ -23,7 +23,8 @@ pub enum Command<'a> {
     Write(u32),
     Last(u32),
     Fail(CallKind),
-    Crash(Survivors, Images),
+    /// So many bytes of the record behind those that outlive it do so, too.
+    Crash(Survivors, u64, Images),
     /// One that goes to its end.
     Restart,
     /// One that the machine stops in, once so many of its records are kept.
@@ -205,14 +206,22 @@ fn device_call(word: &[u8]) -> Option<CallKind> {
     }
 }
 
-// `7`, `all`, or either with `old` behind it
+// `7`, `7+20`, `all`, or one of these with `old` behind it
 fn crash(rest: &[u8]) -> Option<Command<'static>> {
     let (word, rest) = first_word(rest);
-    let keep = outliving(word)?;
+    let (keep, torn) = parted(word)?;
     match rest {
-        None => Some(Command::Crash(keep, Images::Newest)),
-        Some(b"old") => Some(Command::Crash(keep, Images::Synced)),
+        None => Some(Command::Crash(keep, torn, Images::Newest)),
+        Some(b"old") => Some(Command::Crash(keep, torn, Images::Synced)),
         Some(_) => None,
+    }
+}
+
+// `7`, or `7+20`
+fn parted(word: &[u8]) -> Option<(Survivors, u64)> {
+    match word.iter().position(|byte| *byte == b'+') {
+        Some(at) => Some((outliving(&word[..at])?, number(&word[at + 1..])?)),
+        None => Some((outliving(word)?, 0)),
     }
 }
 

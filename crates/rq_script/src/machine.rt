@@ -30,10 +30,13 @@ pub trait Medium<K, D> {
     fn shut(&mut self, kept: K) -> D;
 
     /// The devices as a crash leaves them, and how many records are left.
-    fn crash(&mut self, devices: D, choice: PageChoice, keep: u64) -> (D, u64);
+    fn crash(&mut self, devices: D, choice: PageChoice, keep: u64, torn: u64) -> (D, u64);
 
     /// How many records the devices hold.
     fn records(&self, devices: &D) -> u64;
+
+    /// How many bytes stand behind these.
+    fn left(&self, devices: &D) -> u64;
 
     /// What makes device calls fail.
     fn switch(&self) -> &Switch;
@@ -186,10 +189,10 @@ impl<K: Drop, D: Drop, M: Medium<K, D>> Machine<K, D, M> {
     fn leave_with(&mut self, devices: D, before: u64, kept: u64) -> CommandResult {
         let made = self.medium.records(&devices).saturating_sub(before);
         if kept >= made {
-            let (devices, _) = self.medium.crash(devices, PageChoice::Newest, 0);
+            let (devices, _) = self.medium.crash(devices, PageChoice::Newest, 0, 0);
             return self.open(devices);
         }
-        CommandResult::Stopped(self.leave(devices, PageChoice::Newest, kept))
+        CommandResult::Stopped(self.leave(devices, PageChoice::Newest, kept, 0))
     }
 
     // The text of the log of a store that is open, or as a crash left it.
@@ -206,10 +209,18 @@ impl<K: Drop, D: Drop, M: Medium<K, D>> Machine<K, D, M> {
     }
 
     // The devices as a crash leaves them; how many records are left.
-    fn leave(&mut self, devices: D, choice: PageChoice, keep: u64) -> u64 {
-        let (devices, records) = self.medium.crash(devices, choice, keep);
+    fn leave(&mut self, devices: D, choice: PageChoice, keep: u64, torn: u64) -> u64 {
+        let (devices, records) = self.medium.crash(devices, choice, keep, torn);
         self.state = State::Crashed(devices);
         records
+    }
+
+    // Whether so many bytes are left behind the records.
+    fn has_left(&self, torn: u64) -> bool {
+        match &self.state {
+            State::Crashed(devices) => self.medium.left(devices) == torn,
+            _ => false,
+        }
     }
 }
 
@@ -238,14 +249,20 @@ impl<K: Drop, D: Drop, M: Medium<K, D>> Store for Machine<K, D, M> {
         self.medium.switch().arm_kind(kind, Mishap::Fail);
     }
 
-    // Buffered records are handed over, and then the devices are left as a crash leaves them.
-    fn crash(&mut self, keep: Survivors, images: Images) -> CommandResult {
+    // Buffered records are handed over, and then the devices are left as a crash leaves them. Where the record behind those
+    // that outlive it has no more bytes than so many, the line is none.
+    fn crash(&mut self, keep: Survivors, torn: u64, images: Images) -> Option<CommandResult> {
         let Some(kept) = self.state.take_open() else {
-            return CommandResult::refused(Refusal::Failed);
+            return Some(CommandResult::refused(Refusal::Failed));
         };
         let devices = self.medium.shut(kept);
         let choice = outliving_images(images);
-        CommandResult::Crashed(self.leave(devices, choice, outliving_records(keep)))
+        let records = self.leave(devices, choice, outliving_records(keep), torn);
+        if self.has_left(torn) {
+            Some(CommandResult::Crashed(records))
+        } else {
+            None
+        }
     }
 
     fn log(&mut self, alloc: Global) -> CommandResult {

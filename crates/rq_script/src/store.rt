@@ -87,15 +87,20 @@ impl<B: Level> Medium<Kept<MemPages, MemLog, B>, (MemPages, MemLog)> for Memory<
         devices: (MemPages, MemLog),
         choice: PageChoice,
         keep: u64,
+        torn: u64,
     ) -> ((MemPages, MemLog), u64) {
         let (pages, log) = devices;
-        let log = log.crash(keep);
+        let log = log.crash(keep, torn);
         let records = log.records();
         ((pages.crash(choice), log), records)
     }
 
     fn records(&self, devices: &(MemPages, MemLog)) -> u64 {
         devices.1.records()
+    }
+
+    fn left(&self, devices: &(MemPages, MemLog)) -> u64 {
+        devices.1.left() as u64
     }
 
     fn switch(&self) -> &Switch {

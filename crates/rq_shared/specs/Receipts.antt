@@ -7,7 +7,7 @@ use Rattle.rq_model.specs.Commits.{committed_of}
 use Rattle.rq_model.specs.Replay.{Number, Reply as Gave}
 use Rattle.rq_model.specs.Replay.Reply.{Gave_commit, Gave_receipt}
 use Rattle.rq_disk.specs.declared.device.LogDevice as log_device
-use Rattle.rq_log.specs.Spelled.{spelled}
+use Rattle.rq_log.specs.Spelled.{EndsWith}
 use Rattle.rq_engine.specs.Opened.{OpenStore}
 use Rattle.rq_shared.specs.Entries.{Noted}
 
@@ -20,9 +20,10 @@ pub record IsReceiptOf (audit : List Noted) (n : Number) : Type 0 where
   pub committed : IsGivenIn audit (Gave_commit n)
   pub acknowledged : IsGivenIn audit (Gave_receipt (Some n))
 
--- these bytes are the log's first records, and the commit is one of theirs: its record is there, at its place
+-- these bytes are the log's first records, with a short end perhaps, and the commit is one of theirs: its record is there,
+-- at its place
 abbrev pub KeepsCommit : List Record → Done → List ℕ → Type 0
-KeepsCommit records d bytes = (lost : ℕ) × (bytes ≡ spelled (drop lost records))
+KeepsCommit records d bytes = (lost : ℕ) × EndsWith (drop lost records) bytes
     × In d (committed_of (drop lost records))
 
 -- The number names a commit of the store, whose record is in every log that a crash may leave.

@@ -90,7 +90,7 @@ pub fn small_steps(
 /// The devices of a kept engine, as a crash leaves them that takes what was not synced or forced.
 pub fn crashed<B: Level>(kept: Kept<MemPages, MemLog, B>) -> (MemPages, MemLog) {
     let (pages, log) = devices_of(kept);
-    (pages.crash(PageChoice::Synced), log.crash(0))
+    (pages.crash(PageChoice::Synced), log.crash(0, 0))
 }
 
 fn devices_of<P: PageDevice + Drop, L: LogDevice + Drop, B: Level>(kept: Kept<P, L, B>) -> (P, L) {

@@ -1,5 +1,6 @@
 -- A store that is opened from what files held is sound.
-use Rattle.std.proofs.Common.{◌≡◌, ℕ, List, sym, ◌∙◌, subst}
+use Rattle.std.proofs.Common.{◌≡◌, ℕ, List, sym, subst}
+use Rattle.rq_log.specs.Spelled.{EndsWith}
 use Rattle.rq_disk.specs.declared.device.LogDevice as log_device
 use Rattle.rq_disk.specs.declared.device.PageDevice as page_device
 use Rattle.rq_engine.specs.Opened.{OpenStore}
@@ -21,7 +22,7 @@ was_sound p l pages log images bytes e seen read shown sound held honest =
     let z = e.state.sizes in
     let first = subst (λ (i : ℕ → List ℕ). IsSuperblock z (i 0)) seen (shown honest.0) in
     sound held.records
-    record { honest = honest.1; are_spelled = held.are_spelled; reads = read ∙ held.reads }
+    record { honest = honest.1; are_spelled = held.are_spelled; reads = subst (EndsWith held.records) (sym read) held.reads }
     record {
       honest = honest.0;
       left = subst (λ (i : ℕ → List ℕ). IsLeft z i held.records) (sym seen) (held.left z first);

@@ -1,4 +1,5 @@
 use Rattle.std.proofs.Common.{[], refl, arith, inl, ⊎_elim}
+use Rattle.rq_log.proofs.Runs.{ends_all}
 use Rattle.rq_cases.proofs.devices_are_judged.Goals as goal
 
 pub returns : goal.returns
@@ -20,8 +21,8 @@ returns c = record {
   another_changed = λ z old new q past other kept. other (kept q past);
   ran = λ d runs h s. runs s;
   ran_while_stopped = λ old new h s r. r h s;
-  no_bytes = λ log told e. c.one_log.ensures log [] told tt e;
-  two_logs = λ a b h k other e. other (c.one_log.ensures a b h k e);
-  another_count = λ log n told other holds. other (c.records_are_the_log.ensures log n told holds);
+  no_bytes = λ log told ends. c.one_log.ensures log [] [] told tt ends (ends_all [] [] refl);
+  two_logs = λ a b bytes h k other x y. other (c.one_log.ensures a b bytes h k x y);
+  another_count = λ log bytes n told other ends holds. other (c.records_are_the_log.ensures log bytes n told ends holds);
   two_sizes = λ a b image other h k. other (c.one_size.ensures a b image h k);
 }

@@ -5,5 +5,5 @@ use Rattle.rq_core.proofs.world.crash.Goals as goal
 
 pub returns : goal.returns
 returns g c =
-    crashes c.args.pages c.crash-pages.result c.args.log c.crash-log.result (crashed_log c.args.keep (log_of c.args.log)) c.records-records.result c.crash-pages.ensures.may_be c.crash-pages.ensures.synced c.crash-log.ensures.log c.crash-log.ensures.may_leave
+    crashes c.args.pages c.crash-pages.result c.args.log c.crash-log.result (crashed_log c.args.keep c.args.torn (log_of c.args.log)) c.records-records.result c.crash-pages.ensures.may_be c.crash-pages.ensures.synced c.crash-log.ensures.log c.crash-log.ensures.may_leave
     c.records-records.ensures

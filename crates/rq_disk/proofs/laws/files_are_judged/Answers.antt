@@ -1,6 +1,6 @@
-use Rattle.std.proofs.Common.{◌≡◌, ℕ, suc, List, get_or, length, refl, inl, inr, ap, arith, sym, ◌∙◌}
+use Rattle.std.proofs.Common.{◌≡◌, ◌∷◌, ℕ, suc, List, take, get_or, length, refl, inl, inr, ap, arith, sym, ◌∙◌}
 use Rattle.std.proofs.lemmas.Bool.Decides.{nat_tests}
-use Rattle.rq_disk.specs.Records.{first_records}
+use Rattle.std.proofs.lemmas.List.{length-take}
 use Rattle.rq_disk.specs.WorkedFiles.{empty}
 use Rattle.rq_disk.proofs.laws.files_are_judged.Goals as goal
 
@@ -27,14 +27,22 @@ returns c = record {
   log_read = (refl, refl);
   log_otherwise = λ a. (let e : 5 ≡ 0 = ap (λ (l : List ℕ). get_or l 0 0) a.0 in omega (arith, e));
   log_longer = λ a. omega (arith, a);
-  log_cut = inl refl;
-  log_whole = inr (1, refl);
+  log_stayed = inl refl;
+  log_torn = inr (2, refl);
+  log_whole = inr (4, refl);
   log_forced = λ a. (let e : 1 ≡ 5 = ap length a in omega (arith, e));
   log_missed_forced = inl refl;
-  log_missed_whole = inr (1, refl);
+  log_missed_whole = inr (4, refl);
   log_of_nobody = λ a. elim a [
     | inl held ↦ (let e : 0 ≡ 1 = ap length held in omega (arith, e))
-    | inr took ↦ (let e : 0 ≡ suc (length (first_records took.0 empty)) = ap length took.1 in omega (arith, e))
+    | inr took ↦ (let e : 0 ≡ suc (length (take took.0 empty)) = ap length took.1 in omega (arith, e))
+  ];
+  log_cut = (refl, refl);
+  log_cut_stays = λ a. (let e : 5 ≡ 2 = ap length a in omega (arith, e));
+  log_cut_part = inr (3, omega arith, refl);
+  log_cut_less = λ a. elim a [
+    | inl held ↦ (let e : 1 ≡ 5 = ap length held in omega (arith, e))
+    | inr cut ↦ (let e : 1 ≡ length (take cut.0 (9 ∷ empty)) = ap length cut.2 in omega (arith, e, cut.1, length-take cut.0 (9 ∷ empty)))
   ];
   ends = refl;
   goes_on = refl;

@@ -1,7 +1,8 @@
-use Rattle.std.proofs.Common.{◌∙◌}
+use Rattle.std.proofs.Common.{◌∙◌, sym, subst}
 use Rattle.std.proofs.lemmas.Result.{IfErr-weaker, on_ok_weaker}
 use Rattle.rq_log.proofs.Keeping.{read_twice}
-use Rattle.rq_inspect.specs.Inspections.{lines}
+use Rattle.rq_inspect.specs.Inspections.{listed_text}
+use Rattle.rq_log.specs.Spelled.{EndsWith}
 use Rattle.rq_inspect.specs.Reports.{report_text}
 use Rattle.rq_inspect.proofs.Stopped.{listed_stopped}
 use Rattle.rq_inspect.proofs.Written.{appends_joined}
@@ -12,14 +13,15 @@ returns-in-Ok-clause-whole g c =
     let listed = rw c.in-Ok.is at c.list-log.ensures.whole in
     on_ok_weaker c.report_on.result.1 (λ reported honest.
     let l = listed (c.report_on.ensures.read.honest honest) in
-    let r = reported honest l.log l.are_spelled (c.list-log.ensures.read.same ∙ l.is) l.told in
+    let r = reported honest l.log l.are_spelled (subst (EndsWith l.log) (sym c.list-log.ensures.read.same) (l.is.end, l.is.short, l.is.is)) l.told in
     record {
       log = l.log;
       are_spelled = l.are_spelled;
+      left = l.left;
       is = l.is;
       report = r.report;
       told = r.told;
-      written = appends_joined (g.W.Write.contents c.args.writer.now) (g.W.Write.contents c.list-log.new.writer) (g.W.Write.contents c.report_on.new.writer) (lines l.log) (report_text r.report) l.written r.written;
+      written = appends_joined (g.W.Write.contents c.args.writer.now) (g.W.Write.contents c.list-log.new.writer) (g.W.Write.contents c.report_on.new.writer) (listed_text l.log l.left) (report_text r.report) l.written r.written;
     }) c.report_on.ensures.whole
 
 pub returns-in-Ok-clause-stopped : goal.returns-in-Ok-clause-stopped

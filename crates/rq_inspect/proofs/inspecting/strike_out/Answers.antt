@@ -1,6 +1,7 @@
 use Rattle.std.proofs.Common.{◌≡◌, List, ap, sym, subst, ◌∙◌}
 use Rattle.rq_model.specs.declared.record.Record.{Record}
 use Rattle.rq_inspect.specs.Reports.{Tells}
+use Rattle.rq_log.specs.Spelled.{EndsWith}
 use Rattle.rq_log.proofs.Parsing.{one_log}
 use Rattle.rq_inspect.proofs.Written.{on_ok_both}
 use Rattle.rq_inspect.proofs.inspecting.strike_out.Goals as goal
@@ -12,6 +13,7 @@ returns-in-Ok-clause-whole g c =
     let first : reader.first ≡ c.args.log = c.strike_all-struck.ensures.first ∙ ap (λ r. r.first) c.in-Ok.ensures.ok in
     on_ok_both c.strike_all-struck.result (λ struck whole honest older are is told.
     let h = subst L.honest c.give_back.ensures honest in
-    let same : older ≡ reader.records = one_log older reader.records are c.shows_read.ensures.reading.are_spelled (sym is ∙ ap L.seen (sym first) ∙ whole h) in
+    let same : older ≡ reader.records = one_log older reader.records (L.seen c.args.log) are c.shows_read.ensures.reading.are_spelled is
+    (let w = whole h in subst (λ d. EndsWith reader.records (L.seen d)) first (w.end, w.short, w.is)) in
     subst (λ (rs : List Record). Tells older rs c.strike_all-struck.new.report) (sym same) (struck older told))
     c.strike_all-struck.ensures.struck c.strike_all-struck.ensures.whole

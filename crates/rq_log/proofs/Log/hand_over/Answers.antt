@@ -1,108 +1,37 @@
-use Rattle.std.proofs.Common.{arith, inl, sym, ap, length, ◌∙◌}
-use Rattle.rq_log.proofs.Kept.{whole, handed, broken, append_leaves, append_adds, reads_all, nothing_buffered}
-use Rattle.rq_log.proofs.Runs.{is_none, is_some}
-use Rattle.rq_log.proofs.Moments.{started, one_call}
+use Rattle.std.proofs.Common.{List, ℕ, ap, subst}
+use Rattle.rq_model.specs.declared.record.Record.{Record}
+use Rattle.rq_log.specs.Logged.{Logged, WasDurable}
+use Rattle.rq_log.specs.Crash.{LeavesOnly}
+use Rattle.rq_log.specs.Spelled.{AreSpelled, IsBeginning}
+use Rattle.rq_log.proofs.Joining.{cut_then_added}
+use Rattle.rq_log.proofs.Moments.{started, joined}
 use Rattle.rq_log.proofs.Log.hand_over.Goals as goal
 
 pub returns-then-self-clause-any_moment : goal.returns-then-self-clause-any_moment
 returns-then-self-clause-any_moment g c =
-    let L = g.L.LogDevice in
     let d = c.self.inside.device in
-    rw (← c.self.view_is) (λ h was. started L d _ (λ b left. c.self.invariant.is_log.leaves h was b (g.met.L.LogDevice.only_now d b left)))
-
-pub returns-then-is_empty-clause-ok : goal.returns-then-is_empty-clause-ok
-returns-then-is_empty-clause-ok g c =
-    let L = g.L.LogDevice in
-    let none = sym c.self.inside.buffer.ok.0 ∙ is_none _ _ c.is_empty.ensures c.if-is_empty.true in
-    rw (← c.self.view_is) (c.if-self.false, none, nothing_buffered L _ _ c.self.inside.buffer.items _ c.self.invariant c.if-self.false none)
-
-pub returns-then-is_empty-clause-any_moment : goal.returns-then-is_empty-clause-any_moment
-returns-then-is_empty-clause-any_moment g c =
-    let L = g.L.LogDevice in
-    let d = c.self.inside.device in
-    rw (← c.self.view_is) (λ h was. started L d _ (λ b left. c.self.invariant.is_log.leaves h was b (g.met.L.LogDevice.only_now d b left)))
-
-pub append-requires : goal.append-requires
-append-requires g c =
-    let L = g.L.LogDevice in
-    rw c.deref.ensures.value (whole L _ _ c.self.inside.buffer.items _ c.self.invariant c.if-self.false)
-
-pub invariant_of-self : goal.invariant_of-self
-invariant_of-self g c =
-    let L = g.L.LogDevice in
-    let crash = rw c.deref.ensures.value at c.append.ensures.crash in
-    let added = rw c.deref.ensures.value at c.in-Ok.ensures.added in
-    handed L _ _ c.self.inside.buffer.items _ c.self.invariant c.if-self.false c.append.new.self c.append.ensures.honest crash added _ (let room = c.self.invariant.room in omega (arith, room, c.clear.ensures.capacity)) _ c.clear.ensures.items
-
-pub invariant_of-self-in-Err : goal.invariant_of-self-in-Err
-invariant_of-self-in-Err g c =
-    let L = g.L.LogDevice in
-    let crash = rw c.deref.ensures.value at c.append.ensures.crash in
-    broken L _ _ c.self.inside.buffer.items _ c.self.invariant c.append.new.self
-    (λ h. append_leaves L _ _ c.self.inside.buffer.items _ c.self.invariant c.if-self.false c.append.new.self crash (c.append.ensures.honest h))
-
-pub returns-in-Ok-clause-ok : goal.returns-in-Ok-clause-ok
-returns-in-Ok-clause-ok g c =
-    let L = g.L.LogDevice in
-    let added = rw c.deref.ensures.value at c.in-Ok.ensures.added in
-    (c.if-self.false, ap length c.clear.ensures.items, λ h. added ∙ reads_all L _ _ c.self.inside.buffer.items _ c.self.invariant c.if-self.false (c.append.ensures.honest h))
-
-pub returns-in-Ok-clause-idle : goal.returns-in-Ok-clause-idle
-returns-in-Ok-clause-idle g c =
-    let L = g.L.LogDevice in
-    rw (← c.self.view_is) (λ none. absurd (is_some _ _ c.is_empty.ensures c.if-is_empty.false (c.self.inside.buffer.ok.0 ∙ none)))
-
-pub returns-in-Ok-clause-any_moment : goal.returns-in-Ok-clause-any_moment
-returns-in-Ok-clause-any_moment g c =
-    let L = g.L.LogDevice in
-    let d = c.self.inside.device in
-    let crash = rw c.deref.ensures.value at c.append.ensures.crash in
-    rw (← c.self.view_is)
-    (λ h was. one_call L d c.append.new.self _ (L.may_leave d) (L.may_leave c.append.new.self) (g.met.L.LogDevice.only_now d) c.append.ensures.time
-    (c.self.invariant.is_log.leaves (c.append.ensures.honest h) was)
-    (append_leaves L _ _ c.self.inside.buffer.items _ c.self.invariant c.if-self.false c.append.new.self crash (c.append.ensures.honest h) was))
-
-pub returns-in-Err-clause-idle : goal.returns-in-Err-clause-idle
-returns-in-Err-clause-idle g c =
-    let L = g.L.LogDevice in
-    rw (← c.self.view_is) (λ none. absurd (is_some _ _ c.is_empty.ensures c.if-is_empty.false (c.self.inside.buffer.ok.0 ∙ none)))
-
-pub returns-in-Err-clause-any_moment : goal.returns-in-Err-clause-any_moment
-returns-in-Err-clause-any_moment g c =
-    let L = g.L.LogDevice in
-    let d = c.self.inside.device in
-    let crash = rw c.deref.ensures.value at c.append.ensures.crash in
-    rw (← c.self.view_is)
-    (λ h was. one_call L d c.append.new.self _ (L.may_leave d) (L.may_leave c.append.new.self) (g.met.L.LogDevice.only_now d) c.append.ensures.time
-    (c.self.invariant.is_log.leaves (c.append.ensures.honest h) was)
-    (append_leaves L _ _ c.self.inside.buffer.items _ c.self.invariant c.if-self.false c.append.new.self crash (c.append.ensures.honest h) was))
-
-pub returns-then-self-clause-left : goal.returns-then-self-clause-left
-returns-then-self-clause-left g c =
-    let d = c.self.inside.device in
-    rw (← c.self.view_is) (λ h. started g.L.LogDevice d _ (λ b left. inl (g.met.L.LogDevice.only_now d b left)))
-
-pub returns-then-is_empty-clause-left : goal.returns-then-is_empty-clause-left
-returns-then-is_empty-clause-left g c =
-    let d = c.self.inside.device in
-    rw (← c.self.view_is) (λ h. started g.L.LogDevice d _ (λ b left. inl (g.met.L.LogDevice.only_now d b left)))
+    rw (← c.self.view_is) (λ h was. started g.L.LogDevice d _ (λ b left. c.self.invariant.is_log.leaves h was b (g.met.L.LogDevice.only_now d b left)))
 
 pub returns-in-Ok-clause-left : goal.returns-in-Ok-clause-left
-returns-in-Ok-clause-left g c =
+returns-in-Ok-clause-left g c h =
     let L = g.L.LogDevice in
-    let d = c.self.inside.device in
-    let crash = rw c.deref.ensures.value at c.append.ensures.crash in
-    rw (← c.self.view_is)
-    (λ h. one_call L d c.append.new.self _ (L.may_leave d) (L.may_leave c.append.new.self) (g.met.L.LogDevice.only_now d) c.append.ensures.time
-    (λ b was. inl was)
-    (append_adds L _ _ c.self.inside.buffer.items _ c.self.invariant c.if-self.false c.append.new.self crash (c.append.ensures.honest h)))
+    let old = c.args.self.now in
+    let mid = c.cut_end.new.self in
+    let same = c.cut_end.ensures.same in
+    let honest = c.append_buffer.ensures.honest h in
+    let are : AreSpelled old.records = rw (← c.self.view_is) c.self.invariant.is_log.spelled in
+    cut_then_added L old mid c.append_buffer.new.self.device (g.met.L.LogDevice.counts_now mid.device (L.moment old.device)) (ap (λ (l : Logged g.row.L.Denot). l.records) same) (ap (λ (l : Logged g.row.L.Denot). l.forced) same) are
+    (c.in-Ok.ensures.reads honest) (c.cut_end.ensures.left honest) (c.append_buffer.ensures.left h)
 
-pub returns-in-Err-clause-left : goal.returns-in-Err-clause-left
-returns-in-Err-clause-left g c =
+pub returns-in-Ok-clause-any_moment : goal.returns-in-Ok-clause-any_moment
+returns-in-Ok-clause-any_moment g c h was =
     let L = g.L.LogDevice in
-    let d = c.self.inside.device in
-    let crash = rw c.deref.ensures.value at c.append.ensures.crash in
-    rw (← c.self.view_is)
-    (λ h. one_call L d c.append.new.self _ (L.may_leave d) (L.may_leave c.append.new.self) (g.met.L.LogDevice.only_now d) c.append.ensures.time
-    (λ b was. inl was)
-    (append_adds L _ _ c.self.inside.buffer.items _ c.self.invariant c.if-self.false c.append.new.self crash (c.append.ensures.honest h)))
+    let old = c.args.self.now in
+    let mid = c.cut_end.new.self in
+    let new = c.append_buffer.new.self.device in
+    let same = c.cut_end.ensures.same in
+    let durable : WasDurable L mid = rw same was in
+    let second = c.append_buffer.ensures.any_moment h durable in
+    joined L old.device mid.device new (IsBeginning old.records old.forced) (c.cut_end.ensures.any_moment (c.append_buffer.ensures.honest h) was)
+    (subst (λ (n : ℕ). LeavesOnly L mid.device new (IsBeginning old.records n)) (ap (λ (l : Logged g.row.L.Denot). l.forced) same)
+    (subst (λ (rs : List Record). LeavesOnly L mid.device new (IsBeginning rs mid.forced)) (ap (λ (l : Logged g.row.L.Denot). l.records) same) second))

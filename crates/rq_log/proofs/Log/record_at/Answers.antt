@@ -15,8 +15,8 @@ returns-clause-found g c = elim c.match-record_in.branch [
       let buffer = s.buffer.items in
       let handed : c.saturating_sub-handed.result ≡ s.size - length buffer = c.saturating_sub-handed.ensures ∙ ap (λ n. s.size - n) (c.len.ensures ∙ s.buffer.ok.0) in
       let e = w.in-Ok.ensures in
-      rw w.result-is (rw (← c.self.view_is) (λ h. told g.L.LogDevice _ s.last buffer _ c.self.invariant c.if-self.false c.saturating_sub-handed.result c.args.place w.saturating_add.result handed c.if-place-self.false c.ranges.place.fits
-      w.in-Ok.record w.in-Ok.used (λ less. e.on_device less h) (rw c.deref.ensures.value at e.buffered) w.saturating_add.ensures (c.record_in.ensures.read.honest h)))
+      rw w.result-is (rw (← c.self.view_is) (λ h few. told g.L.LogDevice _ s.last buffer _ c.self.invariant c.if-self.false c.saturating_sub-handed.result c.args.place handed c.if-place-self.false (c.record_in.ensures.read.honest h) few
+      w.saturating_add.result w.in-Ok.record w.in-Ok.used (λ less. e.on_device less h) (rw c.deref.ensures.value at e.buffered) w.saturating_add.ensures))
   | in-Err w ↦ rw w.result-is tt
 ]
 

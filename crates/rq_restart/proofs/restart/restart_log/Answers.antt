@@ -7,7 +7,7 @@ use Rattle.rq_store.specs.Opening.{opened, IsLeft}
 use Rattle.rq_store.specs.Fitting.{image_in}
 use Rattle.rq_restart.specs.Restarting.{BeginsAtMost, IsBegun, Reports, WasLeftOrBegun}
 use Rattle.rq_log.specs.Reading.{IsRead}
-use Rattle.rq_log.specs.Spelled.{spelled, AreSpelled}
+use Rattle.rq_log.specs.Spelled.{AreSpelled, EndsWith}
 use Rattle.rq_restart.specs.Refused.{MayBeShut, WhyShut}
 use Rattle.rq_restart.specs.Repeating.{Repeats, paged}
 use Rattle.rq_restart.specs.Overwritten.{AreKept}
@@ -81,7 +81,7 @@ returns-in-Ok-finish_restart-clause-any_moment g c =
     let z = c.args.pages.sizes in
     let image = image_in c.args.pages.images in
     let log = c.in-Ok.log in
-    let moment : g.L.LogDevice.honest c.finish_restart.new.log.device → AreSpelled log.records → g.L.LogDevice.seen log.device ≡ spelled log.records
+    let moment : g.L.LogDevice.honest c.finish_restart.new.log.device → AreSpelled log.records → EndsWith log.records (g.L.LogDevice.seen log.device)
     → LeavesOnly g.L.LogDevice log.device c.finish_restart.new.log.device (WasLeftOrBegun g.L.LogDevice z (IsLeft z image log.records) log.device log.records) = λ h are reads. subst (λ (y : Sizes). LeavesOnly g.L.LogDevice log.device c.finish_restart.new.log.device (WasLeftOrBegun g.L.LogDevice y (IsLeft y image log.records) log.device log.records)) sizes (c.finish_restart.ensures.any_moment first repeated h are reads) in
     read_first g.L.LogDevice z image c.args.log log.device c.finish_restart.new.log.device log.records c.finish_restart.ensures.honest read.whole read.spelled read.read.same read.read.leaves read.read.moments moment
 
@@ -96,7 +96,7 @@ returns-in-Ok-clause-any_moment_back g c =
     let z = c.args.pages.sizes in
     let image = image_in c.args.pages.images in
     let log = c.in-Ok.log in
-    let moment : g.L.LogDevice.honest c.finish_restart.new.log.device → AreSpelled log.records → g.L.LogDevice.seen log.device ≡ spelled log.records
+    let moment : g.L.LogDevice.honest c.finish_restart.new.log.device → AreSpelled log.records → EndsWith log.records (g.L.LogDevice.seen log.device)
     → LeavesOnly g.L.LogDevice log.device c.finish_restart.new.log.device (WasLeftOrBegun g.L.LogDevice z (IsLeft z image log.records) log.device log.records) = λ h are reads. subst (λ (y : Sizes). LeavesOnly g.L.LogDevice log.device c.finish_restart.new.log.device (WasLeftOrBegun g.L.LogDevice y (IsLeft y image log.records) log.device log.records)) sizes (c.finish_restart.ensures.any_moment first repeated h are reads) in
     subst (λ new. BeginsAtMost g.L.LogDevice z image c.args.log new) (sym c.give_back-in-Err-finish_restart.ensures)
     (read_first g.L.LogDevice z image c.args.log log.device c.finish_restart.new.log.device log.records c.finish_restart.ensures.honest read.whole read.spelled read.read.same read.read.leaves read.read.moments moment)

@@ -1,7 +1,7 @@
 use Rattle.std.proofs.Common.{◌≡◌, ◌+◌, ◌∷◌, rules, ap, sym, ◌∙◌}
 use Rattle.rq_disk.specs.FileCalls.{has_failed}
 use Rattle.rq_disk.specs.FileCalls.FileCall.{Took, Tried}
-use Rattle.rq_disk.specs.LogFile.{grown}
+use Rattle.rq_disk.specs.LogFile.{end_of}
 use Rattle.rq_disk.proofs.LogFiles.{tried_at_end, took_crash, tried_crash, log_time}
 use Rattle.rq_disk.proofs.file_log.FileLogLogDevice.append.Goals as goal
 
@@ -12,7 +12,7 @@ invariant_of-self-then-is_err g c =
     let later = g.F.Storage.calls c.put.new.self in
     let is : later ≡ Tried m.end c.args.bytes.now ∷ calls = search rules in
     record {
-      length = m.length ∙ ap (λ n. m.first + n) (sym (ap grown is));
+      length = m.length ∙ sym (ap (end_of m.first) is);
       at_end = tried_at_end calls later m.end c.args.bytes.now is m.first m.length m.at_end;
       stops = sym (ap has_failed is);
     }

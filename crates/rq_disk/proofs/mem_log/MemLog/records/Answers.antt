@@ -8,7 +8,7 @@ use Rattle.rq_disk.proofs.mem_log.MemLog.records.Goals as goal
 pub returns : goal.returns
 returns c =
     let m = c.args.self.now in
-    let kept : Kept m.bytes.items m.first m.forced m.calls.items = record { order = m.order; within = m.within; forced_bytes = m.forced_bytes; handed_bytes = m.handed_bytes; whole = m.whole } in
+    let kept : Kept m.start.value.items m.bytes.items m.forced m.calls.items = record { within = m.within; forced_bytes = m.forced_bytes; handed_bytes = m.handed_bytes; whole = m.whole } in
     let first = c.first_records-count in
     let long = records_long first.result.1 (take first.result.0 c.deref.result.now) first.ensures.whole in
     let short = length-take-le first.result.0 c.deref.result.now first.ensures.within in
@@ -18,4 +18,4 @@ returns c =
       whole = first.ensures.whole;
       last = first.ensures.last (omega (arith, long, short, first.ensures.within, ap length c.deref.ensures.value, m.bytes.ok.0, m.bytes.ok.1, m.bytes.small));
     } in
-    subst (λ (l : List ℕ). HoldsRecords l first.result.1) (c.deref.ensures.value ∙ sym (kept_reads m.bytes.items m.first m.forced m.calls.items kept)) holds
+    subst (λ (l : List ℕ). HoldsRecords l first.result.1) (c.deref.ensures.value ∙ sym (kept_reads m.start.value.items m.bytes.items m.forced m.calls.items kept)) holds

@@ -1,10 +1,11 @@
-use Rattle.std.proofs.Common.{◌≡◌, ◌≢◌, ◌+◌, List, ℕ, [], false, length, ap, refl, sym, subst, ◌∙◌, arith}
+use Rattle.std.proofs.Common.{◌≡◌, ◌≢◌, ◌+◌, List, ℕ, [], true, false, length, ap, refl, sym, subst, ◌∙◌, arith}
 use Rattle.rq_model.specs.declared.record.Record.{Record}
-use Rattle.rq_record.specs.Spelling.{HoldsRecord, spelling}
+use Rattle.rq_record.specs.Spelling.{HoldsRecord, BeginsRecord}
 use Rattle.rq_record.specs.Decoding.{IsFront}
 use Rattle.rq_log.specs.Reading.{HasMoreBehind, IsDamagedBehind, KeepsRead}
-use Rattle.rq_log.proofs.Keeping.{damaged, filled, fronted, more, room_to_read, taken}
-use Rattle.rq_log.proofs.Runs.{is_some}
+use Rattle.rq_log.proofs.Keeping.{all_read, damaged, filled, more, room_to_read, taken}
+use Rattle.rq_log.proofs.Runs.{is_some, is_none, nothing_short}
+use Rattle.std.proofs.lemmas.List.{nil_from_length}
 use Rattle.rq_log.proofs.reading.LogReader.read_next.Goals as goal
 
 pub fill-requires : goal.fill-requires
@@ -26,30 +27,42 @@ returns-then-self-ge-LOG_LIMIT-clause-err g c =
       f.cause.ok,
     )
 
-pub returns-in_default : goal.returns-in_default
-returns-in_default g c =
+pub returns-then-is_empty-clause-none : goal.returns-then-is_empty-clause-none
+returns-then-is_empty-clause-none g c =
     let s = c.fill.new.self in
     let f = c.in_ok-fill.ensures in
     let was = c.self.inside in
     let k : KeepsRead g.L.LogDevice was.past.value s was.first.value was.last = filled g.L.LogDevice was.past.value was.first.value was.last was.stream s c.self.invariant f.left f.place f.read in
-    let none : HoldsRecord s.unread → ⊥ = λ h. c.in_default.not-Record (length (spelling h.0)) (fronted c.decode_into.result c.decode_into.new.into h.0 (length (spelling h.0)) (c.decode_into.ensures.found h.0 h.1 h.2 (c.unread-2.ensures ∙ h.3))) in
-    let some : s.unread ≢ [] = λ e. is_some (length c.unread.result.now) false c.if-is_empty.ensures refl (ap length (c.unread.ensures ∙ e)) in
-    let count = k.count in
-    rw (sym c.self.view_is) (record {
-      some = tt;
-      none = tt;
-      same = refl;
-      err = (
-        (let e : was.last + 1 ≡ length was.past.value + 1 = omega (arith, count) in e),
-        (λ h. subst (IsDamagedBehind was.past.value) (sym c.self.invariant.read.same) (damaged g.L.LogDevice was.past.value was.first.value was.last s k f.most none some h)),
-        f.cause.ok,
-      );
-      cause = tt;
-      first = refl;
-    })
+    let none : s.unread ≡ [] = nil_from_length s.unread (ap length (sym c.unread.ensures) ∙ is_none (length c.unread.result.now) true c.if-is_empty.ensures refl) in
+    rw (sym c.self.view_is) (refl, λ h. all_read g.L.LogDevice was.past.value was.first.value was.last s k f.most (subst BeginsRecord (sym none) nothing_short) h)
 
-pub invariant_of-self-2 : goal.invariant_of-self-2
-invariant_of-self-2 g c =
+pub returns-in-Short-clause-none : goal.returns-in-Short-clause-none
+returns-in-Short-clause-none g c =
+    let s = c.fill.new.self in
+    let f = c.in_ok-fill.ensures in
+    let was = c.self.inside in
+    let k : KeepsRead g.L.LogDevice was.past.value s was.first.value was.last = filled g.L.LogDevice was.past.value was.first.value was.last was.stream s c.self.invariant f.left f.place f.read in
+    let short : BeginsRecord s.unread = subst BeginsRecord c.unread-2.ensures (c.in-Short.ensures.short.0 refl) in
+    rw (sym c.self.view_is) (refl, λ h. all_read g.L.LogDevice was.past.value was.first.value was.last s k f.most short h)
+
+pub returns-in-Bad-clause-err : goal.returns-in-Bad-clause-err
+returns-in-Bad-clause-err g c =
+    let s = c.fill.new.self in
+    let f = c.in_ok-fill.ensures in
+    let was = c.self.inside in
+    let k : KeepsRead g.L.LogDevice was.past.value s was.first.value was.last = filled g.L.LogDevice was.past.value was.first.value was.last was.stream s c.self.invariant f.left f.place f.read in
+    let bad = c.in-Bad.ensures.bad.0 refl in
+    let none : HoldsRecord s.unread → ⊥ = λ h. bad.0 (subst HoldsRecord (sym c.unread-2.ensures) h) in
+    let some : BeginsRecord s.unread → ⊥ = λ b. bad.1 (subst BeginsRecord (sym c.unread-2.ensures) b) in
+    let count = k.count in
+    rw (sym c.self.view_is) (
+      (let e : was.last + 1 ≡ length was.past.value + 1 = omega (arith, count) in e),
+      (λ h. subst (IsDamagedBehind was.past.value) (sym c.self.invariant.read.same) (damaged g.L.LogDevice was.past.value was.first.value was.last s k f.most none some h)),
+      f.cause.ok,
+    )
+
+pub invariant_of-self-in-Record : goal.invariant_of-self-in-Record
+invariant_of-self-in-Record g c =
     let s = c.fill.new.self in
     let f = c.in_ok-fill.ensures in
     let was = c.self.inside in
