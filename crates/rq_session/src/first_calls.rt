@@ -1,7 +1,7 @@
 //! What an abort and a request ask first, by the transaction that the session has.
 ghost use Rattle.std.specs.Prelude.{◌≡◌};
 ghost use Rattle.rq_session.specs.Stages.{txn_held};
-ghost use Rattle.rq_session.specs.Rules.{abort, abort_refused, commit, after_request, answered, ended};
+ghost use Rattle.rq_session.specs.Rules.{abort, abort_refused, after_request, answered, ended};
 
 use crate::calls::{Action, Ask};
 use crate::stage::{Next, OwnTxn, Purpose, Stage};
