@@ -1,8 +1,8 @@
 -- One call more of a file of a log.
-use Rattle.std.proofs.Common.{◌≡◌, ◌⊎◌, inl, inr, refl, ℕ, ◌+◌, ◌-◌, ◌==◌, ◌&&◌, Bool, true, false, min, List, [], ◌∷◌, length, take, sym, ◌∙◌, ap, subst, arith, length-append}
+use Rattle.std.proofs.Common.{◌≡◌, ◌⊎◌, inl, inr, refl, ℕ, ◌-◌, ◌==◌, ◌&&◌, Bool, true, false, min, List, [], ◌∷◌, length, sym, ◌∙◌, ap, subst, arith, length-append}
 use Rattle.std.proofs.lemmas.List.{length-take}
 use Rattle.std.proofs.lemmas.Bool.Decides.{nat_tests}
-use Rattle.rq_disk.specs.Device.{Appended, CutOff, Elapses, ElapsesThrough, IsCutBetween, Stays}
+use Rattle.rq_disk.specs.Device.{Appended, Elapses, ElapsesThrough, IsCutBetween, Stays}
 use Rattle.rq_disk.specs.FileCalls.{FileCall, has_failed, after_sync}
 use Rattle.rq_disk.specs.FileCalls.FileCall.{Gave, Denied, Took, Tried, Cut, Uncut, Synced, Missed}
 use Rattle.rq_disk.specs.LogFile.{log_bytes, log_may_leave, end_of, writes_at_end, LogAgrees, LogLeftSince, log_all}

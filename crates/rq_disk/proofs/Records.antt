@@ -1,6 +1,6 @@
 -- Whole records, one after the other.
 use Rattle.std.proofs.Common.{◌<◌, ◌≡◌, ℕ, zero, suc, ◌+◌, ◌-◌, ◌*◌, ◌≤◌, min, List, [], ◌++◌, length, take, drop, refl, sym, ◌∙◌, ap, subst, arith, length-append, append_assoc}
-use Rattle.std.proofs.lemmas.List.{take_all, drop_all, drop-drop, drop-append-le, take-append-le, drop_at, length-take-le, length-drop, append-nil, take-append-drop, drop-take}
+use Rattle.std.proofs.lemmas.List.{take_all, drop_all, drop-drop, drop_at, length-take-le, length-drop, append-nil, take-append-drop, drop-take}
 use Rattle.std.proofs.Math.Seq.{take-add}
 use Rattle.byteorder.specs.Numbers.{big_from-append, big_from-take}
 use Rattle.rq_disk.specs.Records.{record_size, HasRecord, AreRecords, torn_records}

@@ -1,4 +1,4 @@
-use Rattle.std.proofs.Common.{◌≡◌, ◌+◌, ◌∷◌, rules, ap, sym, ◌∙◌}
+use Rattle.std.proofs.Common.{◌≡◌, ◌∷◌, rules, ap, sym, ◌∙◌}
 use Rattle.rq_disk.specs.FileCalls.{has_failed}
 use Rattle.rq_disk.specs.FileCalls.FileCall.{Took, Tried}
 use Rattle.rq_disk.specs.LogFile.{end_of}

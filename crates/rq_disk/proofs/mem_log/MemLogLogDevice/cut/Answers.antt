@@ -1,8 +1,8 @@
-use Rattle.std.proofs.Common.{◌≡◌, ◌∙◌, List, ℕ, take, ap, sym, arith}
+use Rattle.std.proofs.Common.{◌∙◌, arith}
 use Rattle.rq_disk.specs.Device.{IsCutBetween}
 use Rattle.rq_disk.specs.Memory.{log_reads, log_after}
 use Rattle.rq_disk.specs.declared.mem_log.LogCall.TheVariants.{Cut}
-use Rattle.rq_disk.proofs.KeptLog.{Kept, kept_reads, cut_kept, cut_reads, cut_only, cut_crash, log_elapses_through}
+use Rattle.rq_disk.proofs.KeptLog.{Kept, cut_kept, cut_reads, cut_only, cut_crash, log_elapses_through}
 use Rattle.rq_disk.proofs.mem_log.MemLogLogDevice.cut.Goals as goal
 
 pub invariant_of-self-in-Ok : goal.invariant_of-self-in-Ok

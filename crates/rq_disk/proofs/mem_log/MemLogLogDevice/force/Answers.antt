@@ -1,4 +1,4 @@
-use Rattle.std.proofs.Common.{take, arith, ◌∙◌}
+use Rattle.std.proofs.Common.{arith, ◌∙◌}
 use Rattle.rq_disk.specs.declared.mem_log.LogCall.TheVariants.{Force}
 use Rattle.rq_disk.proofs.KeptLog.{Kept, force_kept, forced_to, fewer_logs_to, log_elapses}
 use Rattle.rq_disk.proofs.mem_log.MemLogLogDevice.force.Goals as goal
