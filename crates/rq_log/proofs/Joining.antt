@@ -1,11 +1,11 @@
 -- A cut, and then an append.
-use Rattle.std.proofs.Common.{◌≡◌, ⊎_elim, inl, inr, ℕ, zero, suc, ◌≤◌, List, [], ◌∷◌, length, drop, sym, ◌∙◌, ap, subst, arith}
+use Rattle.std.proofs.Common.{◌≡◌, ⊎_elim, inr, ℕ, ◌≤◌, List, length, drop, ap, subst, arith}
 use Rattle.std.proofs.lemmas.List.{length-drop}
 use Rattle.rq_model.specs.declared.record.Record.{Record}
 use Rattle.rq_disk.specs.declared.device.LogDevice.{Ghosts}
 use Rattle.rq_log.specs.Crash.{LeavesOnly}
 use Rattle.rq_log.specs.Logged.{Logged, WasCut, WasLeftOrGoesOn}
-use Rattle.rq_log.specs.Spelled.{spelled, AreSpelled, EndsWith, GoesOn}
+use Rattle.rq_log.specs.Spelled.{AreSpelled, GoesOn}
 use Rattle.rq_log.proofs.Moments.{joined, weaker}
 use Rattle.rq_log.proofs.Parsing.{one_log}
 use Rattle.rq_log.proofs.Runs.{AreSpelled-drop, ends_all}

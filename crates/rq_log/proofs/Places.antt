@@ -1,7 +1,7 @@
 -- What stands at a place of a log, and that a record stands whole where it is handed over or buffered.
 use Rattle.std.proofs.Common.{◌≡◌, ◌≢◌, ⊎_elim, ℕ, zero, suc, ◌+◌, ◌-◌, ◌^◌, ◌<◌, ◌≤◌, min, false, List, [], ◌∷◌, ◌++◌, Some, None, length, take, drop, refl, sym, ◌∙◌, ap, subst, arith, append_assoc, length-append}
 use Rattle.std.proofs.Math.Seq.{drop-append_seam, drop-append-add, take-append-add, take-append_seam}
-use Rattle.std.proofs.lemmas.List.{drop-append-le, take-append-drop, take-append-le, length-take-le, length-drop}
+use Rattle.std.proofs.lemmas.List.{drop-append-le, take-append-drop, length-take-le, length-drop}
 use Rattle.rq_model.specs.declared.record.Record.{Record}
 use Rattle.rq_record.specs.Decoding.{IsFront}
 use Rattle.rq_record.specs.Spelling.{HoldsRecord, IsRecord, spelling}

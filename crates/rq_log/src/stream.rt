@@ -1,5 +1,5 @@
 //! Bytes of a device, from its front on, a window at a time.
-ghost use Rattle.std.specs.Prelude.{◌≡◌, ◌+◌, ◌-◌, ◌^◌, ◌<◌, ◌≤◌, ◌++◌, IfOk, IfErr, OnOk, OnErr, length, take, drop, min};
+ghost use Rattle.std.specs.Prelude.{◌≡◌, ◌+◌, ◌-◌, ◌<◌, ◌≤◌, ◌++◌, IfOk, IfErr, OnOk, OnErr, length, take, drop, min};
 ghost use Rattle.rq_disk.specs.Device.{FailureIsCounted};
 ghost use Rattle.rq_log.specs.Reading.{HasMost, HasRoomToRead, IsRead, left_of};
 

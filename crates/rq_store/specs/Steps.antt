@@ -5,7 +5,6 @@ use Rattle.rq_model.specs.declared.record.Record.{Record}
 use Rattle.rq_model.specs.declared.record.Record.TheVariants.{PageOp, OpEnd}
 use Rattle.rq_model.specs.Deeds.{spelled_deed}
 use Rattle.rq_model.specs.declared.record.Deed.{Deed}
-use Rattle.rq_model.specs.Ledger.{after}
 use Rattle.rq_model.specs.declared.record.Deed.TheVariants.{Append, UnlinkHead, Close}
 use Rattle.rq_model.specs.Replay.{Reply}
 use Rattle.rq_model.specs.Replay.Reply.{Gave_sent, Gave_message, Gave_closed}

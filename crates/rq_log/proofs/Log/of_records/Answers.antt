@@ -1,4 +1,3 @@
-use Rattle.std.proofs.Common.{◌≡◌}
 use Rattle.rq_log.proofs.Kept.{of_these}
 use Rattle.rq_log.proofs.Log.of_records.Goals as goal
 

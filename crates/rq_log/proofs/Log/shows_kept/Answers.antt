@@ -1,4 +1,3 @@
-use Rattle.std.proofs.Common.{◌≡◌}
 use Rattle.rq_log.proofs.Kept.{reads_beginning}
 use Rattle.rq_log.proofs.Log.shows_kept.Goals as goal
 
