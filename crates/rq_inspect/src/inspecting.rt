@@ -4,7 +4,7 @@ ghost use Rattle.std.specs.Io.KnownBytes.{Appends};
 ghost use Rattle.rq_model.specs.declared.record.Record.{Record};
 ghost use Rattle.rq_log.specs.Reading.{EndsShort, IsRead};
 ghost use Rattle.rq_log.specs.Spelled.{AreSpelled, EndsWith};
-ghost use Rattle.rq_inspect.specs.Inspections.{IsInspected, IsListed, IsReported, IsStopped, IsUnprinted, IsUnread, IsUnreported, IsWrittenBut, lines, listed_text};
+ghost use Rattle.rq_inspect.specs.Inspections.{IsInspected, IsListed, IsReported, IsStopped, IsUnprinted, IsUnread, IsUnreported, IsWrittenBut, listed_text};
 ghost use Rattle.rq_inspect.specs.Lines.{line_of};
 ghost use Rattle.rq_inspect.specs.Reports.{Tells, report_text};
 

@@ -1,10 +1,9 @@
 //! What the records of a log come to.
 ghost use Rattle.std.specs.Prelude.{◌≡◌, ◌+◌, ◌++◌, ◌||◌, ◌&&◌, not, false, ℕ, List, [], ◌∷◌, OnOk, OnErr, codes, length};
-ghost use Rattle.std.specs.List.Sorted.{IsStrictlySortedBy};
 ghost use Rattle.rq_model.specs.declared.txn.Txn.{Txn};
 ghost use Rattle.rq_model.specs.declared.record.Record.{Record};
 ghost use Rattle.rq_model.specs.Vocabulary.{same_txn};
-ghost use Rattle.rq_inspect.specs.Keys.{is_operation, names_operation, names_txn, operation_order, txn_of, txn_order};
+ghost use Rattle.rq_inspect.specs.Keys.{is_operation, names_operation, names_txn, txn_of};
 ghost use Rattle.rq_inspect.specs.Lines.{txn_text};
 ghost use Rattle.rq_inspect.specs.Reports.{Begins, Ends, IsReport, Tells, each, named, operation_key_text, report_text, txn_key_text};
 
