@@ -4,10 +4,10 @@ use Rattle.std.proofs.lemmas.Bool.{cases_lt}
 use Rattle.std.proofs.lemmas.List.Elements.{filter-append}
 use Rattle.std.specs.List.{filter}
 use Rattle.rq_model.specs.Tests.{below}
-use Rattle.rq_page.specs.Sizes.{Sizes, IsCellAddress, cell_count, cell_at, place_of}
-use Rattle.rq_page.proofs.Addresses.{cells_have_places, places_are_cells, cells_rise}
+use Rattle.rq_page.specs.Sizes.{Sizes, IsCellAddress, cell_at, place_of}
+use Rattle.rq_page.proofs.Addresses.{places_are_cells, cells_rise}
 use Rattle.rq_views.specs.Log.{Slots}
-use Rattle.rq_views.specs.Stored.{is_used, count_used}
+use Rattle.rq_views.specs.Stored.{is_used}
 
 -- 1 for a test that is passed
 abbrev pub one_of : Bool → ℕ

@@ -1,13 +1,12 @@
 -- The index of the free cells is kept.
 use Rattle.std.proofs.Common.{◌≡◌, ◌≢◌, ℕ, ◌*◌, ◌/◌, ◌%◌, ◌<◌, ◌≤◌, Bool, true, false, cond, nat_lt, List, [], ◌∷◌, ◌++◌, ◌+◌, ◌-◌, length, refl, sym, ap, ◌∙◌, arith, inl, inr}
-use Rattle.std.specs.Prelude.{Option, None, Some, IfSome, IfNone}
+use Rattle.std.specs.Prelude.{None, Some}
 use Rattle.std.proofs.lemmas.Bool.{cases_eq, cases_lt}
 use Rattle.rq_bitset.specs.Flags.{flag_at, IsNextFlag}
 use Rattle.rq_page.specs.Sizes.{Sizes, IsCellAddress, cell_count, cell_at, page_count, place_of}
 use Rattle.rq_page.specs.Slots.{Free, held_in}
 use Rattle.rq_page.specs.Pages.{slot_of, IsWritten}
 use Rattle.rq_page.proofs.Addresses.{cells_have_places, places_are_cells}
-use Rattle.rq_views.specs.Log.{Slots}
 use Rattle.rq_views.specs.Stored.{slots_in, slot_at, is_used, count_used}
 use Rattle.rq_pool.specs.Pooled.{image_at}
 use Rattle.rq_pool.specs.Indexed.{free_flag, IsNoted, IsFreeIndex}

@@ -3,7 +3,7 @@
 
 ghost use Rattle.std.specs.Prelude.{◌≡◌, ◌≢◌, ◌↔◌, ◌<◌, ◌≤◌, ◌+◌, ◌^◌, ◌/◌, ◌%◌, ℕ, true, false, IsSome, IfSome, IfNone, IfErr, IfOk, OnOk, OnErr, replicate, slice_set};
 ghost use Rattle.std.specs.Bool.{OnFalse};
-ghost use Rattle.rq_page.specs.Sizes.{IsCellAddress, page_count, sender_count, cell_count, directory_at, place_of};
+ghost use Rattle.rq_page.specs.Sizes.{IsCellAddress, page_count, sender_count, directory_at, place_of};
 ghost use Rattle.rq_page.specs.Pages.{IsWritten};
 ghost use Rattle.rq_page.specs.Slots.{Free, Sender, held_in, IsSlotOf, IsCellOf, IsDirectoryOf};
 ghost use Rattle.rq_views.specs.Log.{cell_in, put};
