@@ -19,14 +19,6 @@ appends_joined (Some xs) None c x y h k = absurd h
 appends_joined (Some xs) (Some ys) None x y h k = absurd k
 appends_joined (Some xs) (Some ys) (Some zs) x y h k = k ∙ ap (λ l. l ++ y) h ∙ append_assoc xs x y
 
-pub none_written : (a : Option (List ℕ)) (piece : List ℕ) → piece ≡ [] → IsWrittenBut a a piece []
-none_written a piece none = ([], appends_nothing a, none)
-
--- more of the text, and all of that in the piece
-pub piece_grown : (a b : Option (List ℕ)) (piece text more longer : List ℕ) → longer ≡ piece ++ more → IsWrittenBut a b piece text → IsWrittenBut a b longer (text ++ more)
-piece_grown a b piece text more longer is w =
-    (w.0, w.1, ap (λ l. w.0 ++ l) is ∙ sym (append_assoc w.0 piece more) ∙ ap (λ l. l ++ more) w.2)
-
 -- the piece is written
 pub all_written : (a b c : Option (List ℕ)) (piece text : List ℕ) → IsWrittenBut a b piece text → Appends b c piece → Appends a c text
 all_written a b c piece text w h = subst (Appends a c) w.2 (appends_joined a b c w.0 piece w.1 h)

@@ -3,10 +3,7 @@ use Rattle.std.proofs.Common.{◌≡◌, ◌≢◌, ◌⊎◌, ⊎_elim, inl, in
 use Rattle.std.proofs.lemmas.List.{append-nil, take-append-drop}
 use Rattle.rq_model.specs.declared.record.Record.{Record}
 use Rattle.rq_disk.specs.declared.device.LogDevice.{Ghosts}
-use Rattle.rq_record.specs.declared.step.Decoded.{Decoded}
-use Rattle.rq_record.specs.declared.step.Decoded.TheVariants as fronts
-use Rattle.rq_record.specs.declared.step.Step.TheVariants as steps
-use Rattle.rq_record.specs.Decoding.{IsFront, step_with}
+use Rattle.rq_record.specs.Decoding.{IsFront}
 use Rattle.rq_record.specs.Spelling.{HoldsRecord, BeginsRecord, spelling}
 use Rattle.rq_record.proofs.Whole.{short_spelling}
 use Rattle.rq_log.specs.Reading.{EndsShort, HasMoreBehind, HasMost, HasRoomToRead, IsDamagedBehind, IsRead, IsReading, KeepsRead, Streamed, left_of}
@@ -26,12 +23,6 @@ read_twice g old mid new a b = record {
   leaves = λ c left. a.leaves c (b.leaves c left);
   moments = joined g old mid new (g.may_leave old) a.moments (weaker g mid new (g.may_leave mid) (g.may_leave old) b.moments a.leaves);
 }
-
--- where a record is told, one was written over the lent one
-pub fronted : (f : Decoded) (lent r : Record) (used : ℕ) → step_with f lent ≡ steps.Record r used → f ≡ fronts.Record used
-fronted (fronts.Record k) lent r used e = cc
-fronted fronts.Short lent r used e = absurd cc
-fronted fronts.Bad lent r used e = absurd cc
 
 abbrev head_of : List ℕ → ℕ
 head_of [] = 0
