@@ -10,40 +10,26 @@ use Rattle.rq_level.specs.Given.{given_at}
 use Rattle.rq_level.specs.Ops.{Doing, Job, doing_in}
 use Rattle.rq_level.specs.Ops.Doing.{Send, Receive, Close}
 use Rattle.rq_chain.specs.declared.spans.Reach.TheVariants.{Nothing, Tail, TailAndPrevious, Head, HeadAndNext}
+use Rattle.rq_chain.specs.declared.spans.Span.{Span}
 use Rattle.rq_chain.specs.Spans.{slots_wanted, span_of_deed, span_of_doing, span_of_job, span_wanted}
 
-module _ (s : ℕ) (given : List Given) where
-  send : (o : Option (List ℕ)) → slots_wanted (record { sender = s; reach = Tail }) o given ≡ send_wants s o given
-  send None = refl
-  send (Some bytes) = refl
-
-  receive : (o : Option (List ℕ)) → slots_wanted (record { sender = s; reach = HeadAndNext }) o given ≡ receive_wants s o given
-  receive None = refl
-  receive (Some bytes) = refl
-
-  close : (o : Option (List ℕ)) → slots_wanted (record { sender = s; reach = Nothing }) o given ≡ unless_given (directory_at s) o
-  close None = refl
-  close (Some bytes) = refl
-
-  unlink_tail : (o : Option (List ℕ)) → slots_wanted (record { sender = s; reach = TailAndPrevious }) o given ≡ unlink_tail_wants s o given
-  unlink_tail None = refl
-  unlink_tail (Some bytes) = refl
-
-  put_back : (o : Option (List ℕ)) → slots_wanted (record { sender = s; reach = Head }) o given ≡ put_back_wants s o given
-  put_back None = refl
-  put_back (Some bytes) = refl
+-- whether the directory slot was given, or not
+by_slot : (span : Span) (given : List Given) (wants : Option (List ℕ) → Option ℕ) → slots_wanted span None given ≡ wants None
+    → ((bytes : List ℕ) → slots_wanted span (Some bytes) given ≡ wants (Some bytes)) → (o : Option (List ℕ)) → slots_wanted span o given ≡ wants o
+by_slot span given wants none some None = none
+by_slot span given wants none some (Some bytes) = some bytes
 
 by_doing : (d : Option Doing) (given : List Given) → span_wanted (span_of_doing d) given ≡ wanted d given
 by_doing None given = refl
-by_doing (Some (Send s tag body)) given = send s given (given_at (directory_at s) given)
-by_doing (Some (Receive s)) given = receive s given (given_at (directory_at s) given)
-by_doing (Some (Close s)) given = close s given (given_at (directory_at s) given)
+by_doing (Some (Send s tag body)) given = by_slot (record { sender = s; reach = Tail }) given (λ o. send_wants s o given) refl (λ _. refl) (given_at (directory_at s) given)
+by_doing (Some (Receive s)) given = by_slot (record { sender = s; reach = HeadAndNext }) given (λ o. receive_wants s o given) refl (λ _. refl) (given_at (directory_at s) given)
+by_doing (Some (Close s)) given = by_slot (record { sender = s; reach = Nothing }) given (λ o. unless_given (directory_at s) o) refl (λ _. refl) (given_at (directory_at s) given)
 
 by_deed : (d : Option Deed) (given : List Given) → span_wanted (span_of_deed d) given ≡ undo_wanted d given
 by_deed None given = refl
-by_deed (Some (deeds.Append s n tag previous body)) given = unlink_tail s given (given_at (directory_at s) given)
-by_deed (Some (deeds.UnlinkHead s n tag body)) given = put_back s given (given_at (directory_at s) given)
-by_deed (Some (deeds.Close s)) given = close s given (given_at (directory_at s) given)
+by_deed (Some (deeds.Append s n tag previous body)) given = by_slot (record { sender = s; reach = TailAndPrevious }) given (λ o. unlink_tail_wants s o given) refl (λ _. refl) (given_at (directory_at s) given)
+by_deed (Some (deeds.UnlinkHead s n tag body)) given = by_slot (record { sender = s; reach = Head }) given (λ o. put_back_wants s o given) refl (λ _. refl) (given_at (directory_at s) given)
+by_deed (Some (deeds.Close s)) given = by_slot (record { sender = s; reach = Nothing }) given (λ o. unless_given (directory_at s) o) refl (λ _. refl) (given_at (directory_at s) given)
 
 either : (undo : Bool) (e : Option Deed) (d : Option Doing) (given : List Given)
     → span_wanted (cond undo (span_of_deed e) (span_of_doing d)) given ≡ cond undo (undo_wanted e given) (wanted d given)

@@ -1,5 +1,5 @@
 //! Which slots of a chain operations ask for, by their first bytes alone.
-ghost use Rattle.std.specs.Prelude.{◌≡◌, ◌≤◌, drop, length};
+ghost use Rattle.std.specs.Prelude.{◌≡◌, ◌≤◌, cond, nat_eq, None, Some, drop, length};
 ghost use Rattle.byteorder.specs.Endian.{big_number};
 ghost use Rattle.rq_model.specs.Deeds.{deed_in};
 ghost use Rattle.rq_level.specs.Ops.{doing_in};
@@ -49,20 +49,8 @@ fn span_of_doing(bytes: &[u8]) -> Option<Span>
                 Some(span_at(fields, Reach::Tail))
             }
         }
-        [2, fields @ ..] => {
-            if fields.len() == 4 {
-                Some(span_at(fields, Reach::HeadAndNext))
-            } else {
-                None
-            }
-        }
-        [3, fields @ ..] => {
-            if fields.len() == 4 {
-                Some(span_at(fields, Reach::Nothing))
-            } else {
-                None
-            }
-        }
+        [2, fields @ ..] => span_of_sender(fields, Reach::HeadAndNext),
+        [3, fields @ ..] => span_of_sender(fields, Reach::Nothing),
         _ => None,
     }
 }
@@ -86,14 +74,20 @@ fn span_of_deed(bytes: &[u8]) -> Option<Span>
                 Some(span_at(fields, Reach::Head))
             }
         }
-        [3, fields @ ..] => {
-            if fields.len() == 4 {
-                Some(span_at(fields, Reach::Nothing))
-            } else {
-                None
-            }
-        }
+        [3, fields @ ..] => span_of_sender(fields, Reach::Nothing),
         _ => None,
+    }
+}
+
+// The span of the sender that is all of the fields.
+fn span_of_sender(fields: &[u8], reach: Reach) -> Option<Span>
+    ensures { result ≡ cond (nat_eq (length fields.now) 4)
+        (Some (record { sender = big_number 4 fields.now; reach = reach })) None }
+{
+    if fields.len() == 4 {
+        Some(span_at(fields, reach))
+    } else {
+        None
     }
 }
 
