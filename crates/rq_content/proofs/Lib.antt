@@ -2,4 +2,3 @@ pub mod Walks
 pub mod LeftOut
 pub mod OneRead
 pub mod Shown
-pub mod StartedRow
