@@ -11,6 +11,7 @@ ghost use Rattle.rq_analysis.specs.LogTables.{AreTablesOf, Passes, lsn_due};
 ghost use Rattle.rq_analysis.specs.Rules.{CanBeRead, FollowAll, FollowsRules};
 
 use crate::ended::EndedTransactions;
+use crate::open_work::sub;
 use crate::{LastOperations, OpenWork, PendingUndos};
 use rq_model::record::{Record, Slot};
 use rq_model::txn::{Lsn, Sub, Txn};
@@ -59,21 +60,14 @@ fn passes(
             slot,
             after,
         } => {
+            let by = sub(txn, *operation);
             !ended.has(*txn)
-                && open_work.is_unfinished(sub(txn, *operation))
-                && undoes_newest(
-                    open_work,
-                    sub(txn, *operation),
-                    *undone,
-                    *page,
-                    *slot,
-                    after,
-                )
+                && open_work.is_unfinished(by)
+                && undoes_newest(open_work, by, *undone, *page, *slot, after)
         }
-        Record::OpEnd { txn, operation, .. } => !ended.has(*txn)
-            && open_work.is_unfinished(sub(txn, *operation)),
-        Record::OpVoid { txn, operation } => !ended.has(*txn)
-            && open_work.is_unfinished(sub(txn, *operation)),
+        Record::OpEnd { txn, operation, .. } | Record::OpVoid { txn, operation } => {
+            !ended.has(*txn) && open_work.is_unfinished(sub(txn, *operation))
+        }
         Record::CompEnd {
             txn,
             operation,
@@ -83,19 +77,8 @@ fn passes(
                 && open_work.is_unfinished(sub(txn, *operation))
                 && takes_back_newest(dues, *txn, *undone)
         }
-        Record::Commit { txn } => !ended.has(*txn),
-        Record::AbortEnd { txn } => !ended.has(*txn),
+        Record::Commit { txn } | Record::AbortEnd { txn } => !ended.has(*txn),
         Record::Restart { .. } => true,
-    }
-}
-
-// The number of a transaction's operation.
-fn sub(txn: &Txn, operation: u64) -> Sub
-    ensures { result ≡ record { txn = txn.now; number = operation } }
-{
-    Sub {
-        txn: *txn,
-        number: operation,
     }
 }
 

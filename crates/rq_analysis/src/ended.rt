@@ -46,8 +46,7 @@ impl EndedTransactions {
         ensures err { OnErr result (self.new ≡ self.old) }
     {
         match record {
-            Record::Commit { txn } => self.add(txn.count),
-            Record::AbortEnd { txn } => self.add(txn.count),
+            Record::Commit { txn } | Record::AbortEnd { txn } => self.add(txn.count),
             Record::Restart { .. } => {
                 self.up_to = 0;
                 self.others.clear();

@@ -42,11 +42,11 @@ impl LastOperations {
         ensures err { OnErr result (self.new ≡ self.old) }
     {
         match record {
-            Record::PageOp { txn, operation, .. } => self.raise(*txn, *operation),
-            Record::PageUndo { txn, operation, .. } => self.raise(*txn, *operation),
-            Record::OpEnd { txn, operation, .. } => self.raise(*txn, *operation),
-            Record::OpVoid { txn, operation } => self.raise(*txn, *operation),
-            Record::CompEnd { txn, operation, .. } => self.raise(*txn, *operation),
+            Record::PageOp { txn, operation, .. }
+            | Record::PageUndo { txn, operation, .. }
+            | Record::OpEnd { txn, operation, .. }
+            | Record::OpVoid { txn, operation }
+            | Record::CompEnd { txn, operation, .. } => self.raise(*txn, *operation),
             Record::Commit { txn } | Record::AbortEnd { txn } => {
                 self.end(*txn);
                 Ok(())

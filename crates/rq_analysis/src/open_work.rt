@@ -153,11 +153,7 @@ impl OpenWork {
                 self.begin_transaction(*txn)?;
                 Ok(self.is_ours(txn))
             }
-            Record::OpVoid { txn, operation } => {
-                self.end_operation(sub(txn, *operation));
-                Ok(self.is_ours(txn))
-            }
-            Record::CompEnd { txn, operation, .. } => {
+            Record::OpVoid { txn, operation } | Record::CompEnd { txn, operation, .. } => {
                 self.end_operation(sub(txn, *operation));
                 Ok(self.is_ours(txn))
             }
@@ -173,8 +169,8 @@ impl OpenWork {
         ensures some { IfSome result (λ r. IsNextUndo self.now r) }
         ensures none { IfNone result (self.now.unfinished ≡ []) }
     {
-        match least_spent(&self.unfinished, &self.undoable) {
-            Some(spent) => Some(void_record(spent)),
+        match least_without_writes(&self.unfinished, &self.undoable) {
+            Some(least) => Some(void_record(least)),
             None => match self.undoable.last() {
                 Some(newest) => Some(undo_record(newest)),
                 None => None,
@@ -250,8 +246,8 @@ impl OpenWork {
     }
 }
 
-// The number of a transaction's operation.
-fn sub(txn: &Txn, operation: u64) -> Sub
+// A transaction's operation, by its number.
+pub(crate) fn sub(txn: &Txn, operation: u64) -> Sub
     ensures { result ≡ record { txn = txn.now; number = operation } }
 {
     Sub {
@@ -312,7 +308,7 @@ fn has_undoable(undoable: &[UndoableWrite], sub: Sub) -> bool
 }
 
 // Of these operations the least of which none of these writes is.
-fn least_spent(unfinished: &[Sub], undoable: &[UndoableWrite]) -> Option<Sub>
+fn least_without_writes(unfinished: &[Sub], undoable: &[UndoableWrite]) -> Option<Sub>
     ensures { result ≡ least_in undoable.now unfinished.now }
 {
     let mut place = unfinished.len();

@@ -1,6 +1,6 @@
 use Rattle.std.proofs.Common.{◌≡◌, ◌≤◌, drop, length}
 use Rattle.rq_analysis.specs.Least.{least_in}
-use Rattle.rq_analysis.proofs.open_work.least_spent.Given as goal
+use Rattle.rq_analysis.proofs.open_work.least_without_writes.Given as goal
 
 abbrev pub invariant-loop-place : goal.invariant-loop-place
 invariant-loop-place l = record {

@@ -10,16 +10,16 @@ use Rattle.rq_analysis.proofs.open_work.OpenWork.next_undo.Goals as goal
 pub returns-in-Some-clause-some : goal.returns-in-Some-clause-some
 returns-in-Some-clause-some c =
     let inside = c.self.inside in
-    let found : least_in inside.undoable.items inside.unfinished.items ≡ Some c.in-Some.spent =
-    ap (λ ps. least_in ps inside.unfinished.items) (sym c.deref-2.ensures.value) ∙ ap (least_in c.deref-2.result.now) (sym c.deref.ensures.value) ∙ sym c.least_spent.ensures ∙ c.in-Some.is in
+    let found : least_in inside.undoable.items inside.unfinished.items ≡ Some c.in-Some.least =
+    ap (λ ps. least_in ps inside.unfinished.items) (sym c.deref-2.ensures.value) ∙ ap (least_in c.deref-2.result.now) (sym c.deref.ensures.value) ∙ sym c.least_without_writes.ensures ∙ c.in-Some.is in
     subst (IsNextUndo c.args.self.now) (sym c.void_record.ensures)
-    (voids_next c.args.self.now inside.undoable.items inside.unfinished.items (ap (λ (h : OpenWorkView). h.undoable) (sym c.self.view_is)) (ap (λ (h : OpenWorkView). h.unfinished) (sym c.self.view_is)) c.in-Some.spent found)
+    (voids_next c.args.self.now inside.undoable.items inside.unfinished.items (ap (λ (h : OpenWorkView). h.undoable) (sym c.self.view_is)) (ap (λ (h : OpenWorkView). h.unfinished) (sym c.self.view_is)) c.in-Some.least found)
 
 pub returns-in-Some-last-clause-some : goal.returns-in-Some-last-clause-some
 returns-in-Some-last-clause-some c =
     let inside = c.self.inside in
     let none : least_in inside.undoable.items inside.unfinished.items ≡ None =
-    ap (λ ps. least_in ps inside.unfinished.items) (sym c.deref-2.ensures.value) ∙ ap (least_in c.deref-2.result.now) (sym c.deref.ensures.value) ∙ sym c.least_spent.ensures ∙ c.in-None.is in
+    ap (λ ps. least_in ps inside.unfinished.items) (sym c.deref-2.ensures.value) ∙ ap (least_in c.deref-2.result.now) (sym c.deref.ensures.value) ∙ sym c.least_without_writes.ensures ∙ c.in-None.is in
     let last : slice_get inside.undoable.items (length inside.undoable.items - 1) ≡ Some c.in-Some-last.newest.now =
     ap (λ ps. slice_get ps (length ps - 1)) (sym c.deref-in-None.ensures.value) ∙ sym c.last.ensures.value ∙ ap option_copied c.in-Some-last.is in
     subst (IsNextUndo c.args.self.now) (sym c.undo_record.ensures)
@@ -29,7 +29,7 @@ pub returns-in-None-last-clause-none : goal.returns-in-None-last-clause-none
 returns-in-None-last-clause-none c =
     let inside = c.self.inside in
     let none : least_in inside.undoable.items inside.unfinished.items ≡ None =
-    ap (λ ps. least_in ps inside.unfinished.items) (sym c.deref-2.ensures.value) ∙ ap (least_in c.deref-2.result.now) (sym c.deref.ensures.value) ∙ sym c.least_spent.ensures ∙ c.in-None.is in
+    ap (λ ps. least_in ps inside.unfinished.items) (sym c.deref-2.ensures.value) ∙ ap (least_in c.deref-2.result.now) (sym c.deref.ensures.value) ∙ sym c.least_without_writes.ensures ∙ c.in-None.is in
     let last : slice_get inside.undoable.items (length inside.undoable.items - 1) ≡ None =
     ap (λ ps. slice_get ps (length ps - 1)) (sym c.deref-in-None.ensures.value) ∙ sym c.last.ensures.value ∙ ap option_copied c.in-None-last.is in
     nothing_next c.args.self.now inside.undoable.items inside.unfinished.items (ap (λ (h : OpenWorkView). h.undoable) (sym c.self.view_is)) (ap (λ (h : OpenWorkView). h.unfinished) (sym c.self.view_is)) none last
