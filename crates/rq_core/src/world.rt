@@ -207,7 +207,17 @@ fn happen_to_shut<B: Level>(
         Happening::RestartStop(n, choice) => {
             let images = images(choice)?;
             let levels = next_set(sets)?;
-            Ok(reopen_stopped(alloc, switch, pages, log, levels, *n, choice.keep, choice.bytes, images))
+            Ok(reopen_stopped(
+                alloc,
+                switch,
+                pages,
+                log,
+                levels,
+                *n,
+                choice.keep,
+                choice.bytes,
+                images,
+            ))
         }
     }
 }
