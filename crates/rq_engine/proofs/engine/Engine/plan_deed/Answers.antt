@@ -1,7 +1,5 @@
-use Rattle.std.proofs.Common.{◌≡◌, ◌<◌, ◌≤◌, length, Some, refl, sym, ◌∙◌, subst}
-use Rattle.std.specs.Global.{Vec}
+use Rattle.std.proofs.Common.{◌≡◌, ◌<◌, Some, refl, sym, ◌∙◌, subst}
 use Rattle.rq_level.specs.declared.writes.Plan.{Plan}
-use Rattle.rq_level.specs.declared.writes.SlotWrite.{SlotWrite}
 use Rattle.rq_level.specs.Ops.{Doing}
 use Rattle.rq_page.specs.Sizes.{sender_count}
 use Rattle.rq_planner.specs.Answered.{IsHeldUp, IsPlanFor, IsPlanOf}
