@@ -4,7 +4,7 @@ ghost use Rattle.rq_content.specs.Read.{group_of};
 ghost use Rattle.rq_engine.specs.Says.{call_of, gave, outcome_of};
 
 use rq_content::GroupContent;
-use rq_engine::event::{Event, Outcome, Progress, Reply};
+use rq_engine::event::{Event, Outcome, Reply};
 use rq_model::message::Message;
 
 /// Whether they ask the same.
