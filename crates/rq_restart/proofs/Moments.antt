@@ -1,5 +1,5 @@
 -- What a crash at any moment of a restart leaves of the log.
-use Rattle.std.proofs.Common.{inl, inr, ◌⊎◌, ⊎_elim, Result, Ok, Err, IfErr, ◌≡◌, ℕ, List, ◌∷◌, refl, ◌∙◌, subst, [], ap, sym}
+use Rattle.std.proofs.Common.{inl, inr, ◌⊎◌, ⊎_elim, Result, Ok, Err, IfErr, ◌≡◌, ℕ, List, ◌∷◌, refl, subst, [], ap, sym}
 use Rattle.rq_model.specs.declared.record.Record.{Record}
 use Rattle.rq_disk.specs.declared.device.LogDevice.{Ghosts}
 use Rattle.rq_log.specs.Crash.{LeavesOnly}

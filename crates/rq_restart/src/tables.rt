@@ -13,8 +13,8 @@ use rq_planner::{Planner, StoreLevels};
 use rq_pool::Pages;
 use std::alloc::Global;
 
-/// By sender, how many messages wait, and what its sends come to; the locks, of which none is held; and what plans
-/// operations, told of each cell.
+/// The tables that an engine keeps in memory: of each sender how many messages wait, and what its sends come to; the locks,
+/// of which none is held; and the planner, which has the table of free cells.
 #[derive(Drop)]
 pub(crate) struct EngineTables<B: Level> {
     pub waiting: Waiting,

@@ -1,5 +1,4 @@
 use Rattle.std.proofs.Common.{◌≡◌, sym, ap, ◌∙◌, subst}
-use Rattle.rq_disk.specs.declared.device.LogDevice as log_device
 use Rattle.rq_log.specs.Logged.{Logged}
 use Rattle.rq_log.specs.Reading.{EndsShort}
 use Rattle.rq_log.specs.Spelled.{EndsWith}
