@@ -29,7 +29,7 @@ use Rattle.rq_model.specs.declared.refusal.Refusal.TheVariants as why
 use Rattle.rq_model.proofs.Cuts.{extends_commits, incarnation_grows}
 use Rattle.rq_analysis.proofs.Undos.{nothing_undone}
 use Rattle.rq_restart.specs.Checked.{IsEnded}
-use Rattle.rq_core.specs.Devices.{mem_pages}
+use Rattle.rq_core.specs.Devices.{mem_log, mem_pages}
 use Rattle.rq_cases.specs.Opened.{AreNewPages}
 use Rattle.rq_cases.specs.Restarting.{RestartsAreJudged, Shuts, read_pages}
 use Rattle.rq_cases.specs.Run.{log_1, log_4, log_5}

@@ -173,17 +173,21 @@ formatted_fit log c =
     fits_log_longer sizes (image_in formatted_pages) [] log c
     (formatted_fits sizes (image_in formatted_pages) range are_formatted)
 
-cut_first : IsCut committed (image_in formatted_pages) (spelled log_1)
-cut_first = record {
+-- the first record alone is left, and behind it no byte, or a short end
+cut_behind_first : (bytes : List ℕ) → EndsWith log_1 bytes → IsCut committed (image_in formatted_pages) bytes
+cut_behind_first bytes ends = record {
   lost = 4;
   forced = omega arith;
   incarnation = omega arith;
   told = first_spelled;
-  spells = ends_all log_1 (spelled log_1) refl;
+  spells = ends;
   store = record { whole = whole_dropped sizes 4 log_5 whole_5; fits = formatted_fit log_1 (1, refl) };
   durable = omega arith;
   content = λ g. content_is g log_1 (whole_dropped sizes 4 log_5 whole_5).rules ∙ ap (λ c. group_in c g) (sym (commits_of_cut 4 log_5));
 }
+
+cut_first : IsCut committed (image_in formatted_pages) (spelled log_1)
+cut_first = cut_behind_first (spelled log_1) (ends_all log_1 (spelled log_1) refl)
 
 -- seven bytes of the commit
 torn_commit : EndsWith log_1 (spelled log_1 ++ take 7 (spelling (Commit t1)))
@@ -194,7 +198,7 @@ torn_commit =
     (take 7 (spelling (Commit t1)), (Commit t1, drop 7 (spelling (Commit t1)), is, omega (arith, long, left), sym (take-append-drop 7 (spelling (Commit t1)))), refl)
 
 cut_torn : IsCut committed (image_in formatted_pages) (spelled log_1 ++ take 7 (spelling (Commit t1)))
-cut_torn = record cut_first { spells = torn_commit }
+cut_torn = cut_behind_first (spelled log_1 ++ take 7 (spelling (Commit t1))) torn_commit
 
 cut_all : IsCut committed (image_in formatted_pages) (spelled log_5)
 cut_all = record {

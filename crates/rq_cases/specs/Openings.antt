@@ -1,5 +1,5 @@
 -- What a restart has checked, what it leaves of a log, and why and where it was refused: over the worked run.
-use Rattle.std.specs.Prelude.{◌≡◌, ◌≢◌, ℕ, ◌^◌, ◌<◌, List, ◌∷◌, length, false, true}
+use Rattle.std.specs.Prelude.{◌≡◌, ◌≢◌, ℕ, ◌^◌, ◌<◌, List, None, ◌∷◌, length, false, true}
 use Rattle.rq_model.specs.declared.record.Record.{Record}
 use Rattle.rq_model.specs.declared.record.Record.TheVariants.{Commit, Restart}
 use Rattle.rq_model.specs.declared.refusal.Refusal.{Refusal}
@@ -80,6 +80,7 @@ logged records d = record {
   forced = length records;
   pending = 0;
   reserved = 0;
+  torn_at = None;
   failed = false;
   device = d;
   settled = d;

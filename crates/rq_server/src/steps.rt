@@ -73,6 +73,8 @@ impl<'a, P: PageDevice + Drop, L: LogDevice + Drop, B: Level, G: Sharing, R: Wai
 
     ghost lacked = { λ s. length s.inner.lacked.value };
 
+    ghost counted = { λ s. s.inner.pass.calls };
+
     ghost shown = { λ s. s.inner.seat.saw };
 
     fn call(&mut self, event: Event) -> Stamped {

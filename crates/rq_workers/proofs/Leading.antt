@@ -15,7 +15,7 @@ use Rattle.rq_workers.specs.declared.acts.Heard.TheVariants as heard
 use Rattle.rq_workers.specs.declared.acts.Part.{Part}
 use Rattle.rq_workers.specs.declared.acts.Part.TheVariants as part
 use Rattle.rq_workers.specs.declared.acts.AfterStep.TheVariants as turn
-use Rattle.rq_workers.specs.Hearing.{heard_of, may_try_again, wants_memory, operation_of, turn_of, part_event}
+use Rattle.rq_workers.specs.Hearing.{has_body, heard_of, may_try_again, wants_memory, operation_of, turn_of, part_event}
 use Rattle.rq_workers.specs.Acts.{Work, DidOne, IsCalled, may_call}
 use Rattle.rq_workers.specs.Operations.{Stage, Lead, LeadsOn, Carries, IsTried, after_start, after_asking, after_part, once_started, once_answered, started_stage}
 use Rattle.rq_workers.specs.Operations.Stage.{Starting, Refused_start, Due, Due_again, Between, Over}
@@ -86,7 +86,8 @@ module _ {S : Type 0} (c : Call) where
       ⊎_elim
       (λ (m : (s : Snapshot Stamped) × DidOne (Made s) w x × (call_of s.value.event ≡ c) × (heard_of s.value.reply ≡ h)).
       act_on (Made m.0) r Starting (once_started h) v w x k m.1 (m.2, sym (ap after_start m.3 ∙ for_good h e)))
-      (λ (n : DidOne Lacked w x × (h ≡ heard.Refused NoMemory)). absurd (false≢true (sym e ∙ ap may_try_again n.1)))
+      (λ (n : DidOne Lacked w x × (h ≡ heard.Refused NoMemory) × (has_body c ≡ true)).
+      absurd (false≢true (sym e ∙ ap may_try_again n.1)))
       d
 
   -- it was refused, and the gate asked whether to try again
@@ -97,9 +98,9 @@ module _ {S : Type 0} (c : Call) where
       act_on (Asked 4 b) r (Refused_start h) (after_asking h b) v x y
       (act_on (Made m.0) r Starting (Refused_start h) v w x k m.1 (m.2, sym (ap after_start m.3 ∙ again_start h e)))
       a (refl, refl))
-      (λ (n : DidOne Lacked w x × (h ≡ heard.Refused NoMemory)).
+      (λ (n : DidOne Lacked w x × (h ≡ heard.Refused NoMemory) × (has_body c ≡ true)).
       act_on (Asked 4 b) r (Refused_start h) (after_asking h b) v x y
-      (act_on Lacked r Starting (Refused_start h) v w x k n.0 (ap Refused_start n.1))
+      (act_on Lacked r Starting (Refused_start h) v w x k n.0 (n.2, ap Refused_start n.1))
       a (refl, refl))
       d
 

@@ -12,6 +12,7 @@ use Rattle.rq_model.specs.History.Call.{Step, Finish, Write_page}
 use Rattle.rq_engine.specs.Says.{call_of}
 use Rattle.rq_workers.specs.Hearing.{heard_of, starts_one}
 use Rattle.rq_workers.specs.Forcing.{most_forced}
+use Rattle.rq_workers.specs.Keeping.{counts_left}
 
 -- the gate's answers, each with its point
 abbrev pub asked_in : List Act → List (ℕ × Bool)
@@ -81,15 +82,16 @@ pub record Work (S : Type 0) : Type 0 where
 
 -- What is so of a worker: what its gate answered since it took that, and at which points, and what was called, forced by
 -- the interface's own force, and handed on, through its step interface since it took that is what it did, and so often
--- was memory wanting for a copy; what the interface shows is at least what was forced, and nothing was done but what may
--- be.
+-- was memory wanting for a copy; as many calls more are counted as left an entry; what the interface shows is at least
+-- what was forced, and nothing was done but what may be.
 pub record IsWork {G S : Type 0} (answers_by : G → List (ℕ × Bool)) (made_by forced_by told_by : S → List Stamped)
-    (lacked_by shown_by : S → ℕ) (gate : G) (steps : S) (begun : G × S) (done : List Act) (has_stopped : Bool) : Type 0 where
+    (lacked_by counted_by shown_by : S → ℕ) (gate : G) (steps : S) (begun : G × S) (done : List Act) (has_stopped : Bool) : Type 0 where
   pub asked : answers_by gate ≡ asked_in done ++ answers_by begun.0
   pub made : made_by steps ≡ stamps_in done ++ made_by begun.1
   pub forced : forced_by steps ≡ forced_in done ++ forced_by begun.1
   pub told : told_by steps ≡ stamps_in done ++ told_by begun.1
   pub lacked : lacked_by steps ≡ lacked_in done + lacked_by begun.1
+  pub counted : counted_by steps ≡ counts_left (stamps_in done) + counted_by begun.1
   pub shown : most_forced (forced_in done) ≤ shown_by steps
   pub ruled : KeepsRule done
   pub stopped : has_stopped ≡ was_stopped done

@@ -13,7 +13,7 @@ use Rattle.rq_workers.specs.declared.acts.Heard.TheVariants as heard
 use Rattle.rq_workers.specs.declared.acts.RunEnd.{RunEnd}
 use Rattle.rq_workers.specs.declared.acts.Part.{Part}
 use Rattle.rq_workers.specs.declared.acts.Part.TheVariants as part
-use Rattle.rq_workers.specs.Hearing.{heard_of, ended_of, part_event}
+use Rattle.rq_workers.specs.Hearing.{has_body, heard_of, ended_of, part_event}
 use Rattle.rq_workers.specs.Acts.{Work, Did, DidOne}
 
 -- How far an operation is.
@@ -60,10 +60,10 @@ after_part p sub h = once_answered p sub h
 
 -- How an act leads on, in an operation whose start is this call. The gate is asked at point 3 between two steps and at
 -- point 4 before a call is tried again; where it says no, an operation that is started goes on all the same. A start for
--- whose copy memory is wanting counts as refused for memory.
+-- a copy of whose body memory is wanting counts as refused for memory.
 abbrev pub LeadsOn : Call → Stage → Act → Stage → Type 0
 LeadsOn c Starting (Made s) next = (call_of s.value.event ≡ c) × (next ≡ after_start (heard_of s.value.reply))
-LeadsOn c Starting Lacked next = next ≡ Refused_start (heard.Refused NoMemory)
+LeadsOn c Starting Lacked next = (has_body c ≡ true) × (next ≡ Refused_start (heard.Refused NoMemory))
 LeadsOn c (Refused_start last) (Asked point passed) next = (point ≡ 4) × (next ≡ after_asking last passed)
 LeadsOn c (Due p sub) (Made s) next = (s.value.event ≡ part_event p sub)
     × (next ≡ after_part p sub (heard_of s.value.reply))
@@ -90,11 +90,11 @@ abbrev pub stepped_stage : Sub → Option Heard → Stage
 stepped_stage sub None = Due part.Finish sub
 stepped_stage sub (Some h) = Over h
 
--- the start was called once and answered so, or memory was wanting for a copy of it
+-- the start was called once and answered so, or memory was wanting for a copy of its body
 abbrev pub IsTried : {S : Type 0} → Call → Work S → Heard → Work S → Type 0
 IsTried c old h new =
     ((s : Snapshot Stamped) × DidOne (Made s) old new × (call_of s.value.event ≡ c) × (heard_of s.value.reply ≡ h))
-    ⊎ (DidOne Lacked old new × (h ≡ heard.Refused NoMemory))
+    ⊎ (DidOne Lacked old new × (h ≡ heard.Refused NoMemory) × (has_body c ≡ true))
 
 -- It went through an operation, from its start to the last answer, which says what came of it.
 abbrev pub GoesThrough : {S : Type 0} → Call → Work S → Work S → RunEnd → Type 0

@@ -1,10 +1,12 @@
 //! The step interface over a kept engine of one thread.
-ghost use Rattle.std.specs.Prelude.{◌≡◌, ◌≤◌, ◌+◌, ◌∷◌, ◌++◌, length, IfSome, IfNone};
+ghost use Rattle.std.specs.Prelude.{◌≡◌, ◌≤◌, ◌+◌, ◌∷◌, ◌++◌, true, length, IfSome, IfNone};
 ghost use Rattle.rq_engine.specs.Says.{call_of};
 ghost use Rattle.rq_shared.specs.Calls.{IsStepOf};
 ghost use Rattle.rq_workers.specs.Forcing.{lsn_forced, most_forced};
-ghost use Rattle.rq_workers.specs.Keeping.{entries_left};
+ghost use Rattle.rq_workers.specs.Hearing.{has_body};
+ghost use Rattle.rq_workers.specs.Keeping.{count_left, entries_left};
 
+use crate::copying::copy_event;
 use crate::steps::Steps;
 use rq_bytes::GhostList;
 use rq_disk::{LogDevice, PageDevice};
@@ -74,6 +76,8 @@ impl<P: PageDevice + Drop, L: LogDevice + Drop, B: Level> Steps for KeptSteps<P,
 
     ghost lacked = { λ s. length s.lacked.value };
 
+    ghost counted = { λ s. length s.kept.audit };
+
     ghost shown = { λ s. most_forced s.forced.value };
 
     fn call(&mut self, event: Event) -> Stamped
@@ -82,6 +86,7 @@ impl<P: PageDevice + Drop, L: LogDevice + Drop, B: Level> Steps for KeptSteps<P,
         ensures forced { self.new.forced.value ≡ self.old.forced.value }
         ensures told { self.new.told.value ≡ self.old.told.value }
         ensures lacked { length self.new.lacked.value ≡ length self.old.lacked.value }
+        ensures counted { length self.new.kept.audit ≡ count_left result + length self.old.kept.audit }
         ensures shown { most_forced self.old.forced.value ≤ most_forced self.new.forced.value }
         ensures stepped { IsStepOf P.PageDevice L.LogDevice self.old.kept self.old.pass event result self.new.kept }
         ensures given { (self.new.pass ≡ self.old.pass) × (self.new.begun.value ≡ self.old.begun.value) }
@@ -97,6 +102,7 @@ impl<P: PageDevice + Drop, L: LogDevice + Drop, B: Level> Steps for KeptSteps<P,
         ensures forced { self.new.forced.value ≡ result ∷ self.old.forced.value }
         ensures told { self.new.told.value ≡ self.old.told.value }
         ensures lacked { length self.new.lacked.value ≡ length self.old.lacked.value }
+        ensures counted { length self.new.kept.audit ≡ count_left result + length self.old.kept.audit }
         ensures shown { (most_forced self.old.forced.value ≤ most_forced self.new.forced.value)
             × (lsn_forced result.reply ≤ most_forced self.new.forced.value) }
         ensures stepped { IsStepOf P.PageDevice L.LogDevice self.old.kept self.old.pass Event.Force result self.new.kept }
@@ -112,6 +118,7 @@ impl<P: PageDevice + Drop, L: LogDevice + Drop, B: Level> Steps for KeptSteps<P,
         ensures forced { self.new.forced.value ≡ self.old.forced.value }
         ensures told { self.new.told.value ≡ stamped ∷ self.old.told.value }
         ensures lacked { length self.new.lacked.value ≡ length self.old.lacked.value }
+        ensures counted { length self.new.kept.audit ≡ length self.old.kept.audit }
         ensures shown { most_forced self.old.forced.value ≤ most_forced self.new.forced.value }
         ensures kept { (self.new.kept ≡ self.old.kept) × (self.new.pass ≡ self.old.pass)
             × (self.new.begun.value ≡ self.old.begun.value) }
@@ -123,14 +130,16 @@ impl<P: PageDevice + Drop, L: LogDevice + Drop, B: Level> Steps for KeptSteps<P,
         ensures copy { IfSome result (λ copy. (call_of copy ≡ call_of event.now)
             × (length self.new.lacked.value ≡ length self.old.lacked.value)) }
         ensures lacked { IfNone result (length self.new.lacked.value ≡ length self.old.lacked.value + 1) }
+        ensures body { IfNone result (has_body (call_of event.now) ≡ true) }
         ensures made { self.new.made.value ≡ self.old.made.value }
         ensures forced { self.new.forced.value ≡ self.old.forced.value }
         ensures told { self.new.told.value ≡ self.old.told.value }
+        ensures counted { length self.new.kept.audit ≡ length self.old.kept.audit }
         ensures shown { most_forced self.old.forced.value ≤ most_forced self.new.forced.value }
         ensures kept { (self.new.kept ≡ self.old.kept) × (self.new.pass ≡ self.old.pass)
             × (self.new.begun.value ≡ self.old.begun.value) }
     {
-        let copy = event.clone().ok();
+        let copy = copy_event(event);
         if copy.is_none() {
             GhostList::push(&mut self.lacked, &());
         }

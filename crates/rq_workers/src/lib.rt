@@ -2,6 +2,7 @@
 #![tactic(auto)]
 
 pub mod acts;
+mod copying;
 pub mod gate;
 pub mod kept;
 pub mod operation;

@@ -1,10 +1,13 @@
 //! The step interface over a shared engine, for one thread.
-ghost use Rattle.std.specs.Prelude.{◌≡◌, ◌≤◌, ◌+◌, List, [], ◌∷◌, length, IfSome, IfNone};
+ghost use Rattle.std.specs.Prelude.{◌≡◌, ◌≤◌, ◌+◌, List, [], ◌∷◌, true, length, IfSome, IfNone};
 ghost use Rattle.rq_engine.specs.Says.{call_of};
 ghost use Rattle.rq_shared.specs.declared.kept.Stamped.{Stamped as Stamp};
 ghost use Rattle.rq_workers.specs.Forcing.{lsn_forced};
+ghost use Rattle.rq_workers.specs.Hearing.{has_body};
+ghost use Rattle.rq_workers.specs.Keeping.{count_left};
 ghost use Rattle.rq_shared.specs.Calls.{CountsTaken, IsCalled, IsForced, IsTaken};
 
+use crate::copying::copy_event;
 use crate::steps::Steps;
 use rq_bytes::GhostList;
 use rq_disk::{LogDevice, PageDevice};
@@ -160,6 +163,8 @@ impl<
 
     ghost lacked = { λ s. length s.lacked.value };
 
+    ghost counted = { λ s. s.pass.calls };
+
     ghost shown = { λ s. s.seat.saw };
 
     fn call(&mut self, event: Event) -> Stamped
@@ -168,6 +173,7 @@ impl<
         ensures forced { self.new.forced.value ≡ self.old.forced.value }
         ensures told { K.handed self.new.sink ≡ K.handed self.old.sink }
         ensures lacked { length self.new.lacked.value ≡ length self.old.lacked.value }
+        ensures counted { self.new.pass.calls ≡ count_left result + self.old.pass.calls }
         ensures shown { self.old.seat.saw ≤ self.new.seat.saw }
         ensures called { IsCalled self.old.pass event result self.new.pass }
         ensures seat { self.new.seat ≡ self.old.seat }
@@ -185,6 +191,7 @@ impl<
         ensures forced { self.new.forced.value ≡ result ∷ self.old.forced.value }
         ensures told { K.handed self.new.sink ≡ K.handed self.old.sink }
         ensures lacked { length self.new.lacked.value ≡ length self.old.lacked.value }
+        ensures counted { self.new.pass.calls ≡ count_left result + self.old.pass.calls }
         ensures shown { (self.old.seat.saw ≤ self.new.seat.saw) × (lsn_forced result.reply ≤ self.new.seat.saw) }
         ensures published { IsForced self.old.pass self.old.seat result self.new.pass self.new.seat }
     {
@@ -201,6 +208,7 @@ impl<
         ensures forced { self.new.forced.value ≡ self.old.forced.value }
         ensures told { K.handed self.new.sink ≡ stamped ∷ K.handed self.old.sink }
         ensures lacked { length self.new.lacked.value ≡ length self.old.lacked.value }
+        ensures counted { self.new.pass.calls ≡ self.old.pass.calls }
         ensures shown { self.old.seat.saw ≤ self.new.seat.saw }
         ensures pass { (self.new.pass ≡ self.old.pass) × (self.new.seat ≡ self.old.seat) }
     {
@@ -211,13 +219,15 @@ impl<
         ensures copy { IfSome result (λ copy. (call_of copy ≡ call_of event.now)
             × (length self.new.lacked.value ≡ length self.old.lacked.value)) }
         ensures lacked { IfNone result (length self.new.lacked.value ≡ length self.old.lacked.value + 1) }
+        ensures body { IfNone result (has_body (call_of event.now) ≡ true) }
         ensures made { self.new.made.value ≡ self.old.made.value }
         ensures forced { self.new.forced.value ≡ self.old.forced.value }
         ensures told { K.handed self.new.sink ≡ K.handed self.old.sink }
+        ensures counted { self.new.pass.calls ≡ self.old.pass.calls }
         ensures shown { self.old.seat.saw ≤ self.new.seat.saw }
         ensures pass { (self.new.pass ≡ self.old.pass) × (self.new.seat ≡ self.old.seat) }
     {
-        let copy = event.clone().ok();
+        let copy = copy_event(event);
         if copy.is_none() {
             GhostList::push(&mut self.lacked, &());
         }

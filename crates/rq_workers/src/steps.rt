@@ -1,7 +1,9 @@
 //! How a worker calls a store.
-ghost use Rattle.std.specs.Prelude.{◌≡◌, ◌≤◌, ◌+◌, ℕ, List, ◌∷◌, IfSome, IfNone};
+ghost use Rattle.std.specs.Prelude.{◌≡◌, ◌≤◌, ◌+◌, ℕ, List, ◌∷◌, true, IfSome, IfNone};
 ghost use Rattle.rq_engine.specs.Says.{call_of};
 ghost use Rattle.rq_workers.specs.Forcing.{lsn_forced};
+ghost use Rattle.rq_workers.specs.Hearing.{has_body};
+ghost use Rattle.rq_workers.specs.Keeping.{count_left};
 ghost use Rattle.rq_shared.specs.declared.kept.Stamped.{Stamped as Stamp};
 
 use rq_engine::event::Event;
@@ -21,6 +23,9 @@ pub trait Steps {
     /// How often memory was wanting for a copy.
     ghost lacked: { Self → ℕ };
 
+    /// How many of its calls left an entry, as the audit, or the pass that it calls under, counts them.
+    ghost counted: { Self → ℕ };
+
     /// No smaller than any LSN that `force` answered, and never falling: that of `SharedSteps` is what its seat of the mark
     /// saw.
     ghost shown: { Self → ℕ };
@@ -32,6 +37,7 @@ pub trait Steps {
         ensures forced { forced self.new ≡ forced self.old }
         ensures told { told self.new ≡ told self.old }
         ensures lacked { lacked self.new ≡ lacked self.old }
+        ensures counted { counted self.new ≡ count_left result + counted self.old }
         ensures shown { shown self.old ≤ shown self.new };
 
     /// Forces. What `shown` says is at least what was forced.
@@ -41,6 +47,7 @@ pub trait Steps {
         ensures forced { forced self.new ≡ result ∷ forced self.old }
         ensures told { told self.new ≡ told self.old }
         ensures lacked { lacked self.new ≡ lacked self.old }
+        ensures counted { counted self.new ≡ count_left result + counted self.old }
         ensures shown { (shown self.old ≤ shown self.new) × (lsn_forced result.reply ≤ shown self.new) };
 
     /// Is handed a stamp, once it was read.
@@ -49,14 +56,17 @@ pub trait Steps {
         ensures forced { forced self.new ≡ forced self.old }
         ensures told { told self.new ≡ stamped ∷ told self.old }
         ensures lacked { lacked self.new ≡ lacked self.old }
+        ensures counted { counted self.new ≡ counted self.old }
         ensures shown { shown self.old ≤ shown self.new };
 
-    /// A copy of what is to be called, where there is memory for it.
+    /// A copy of what is to be called, where there is memory for the body that it has.
     fn copy(&mut self, event: &Event) -> Option<Event>
         ensures copy { IfSome result (λ copy. (call_of copy ≡ call_of event.now) × (lacked self.new ≡ lacked self.old)) }
         ensures lacked { IfNone result (lacked self.new ≡ lacked self.old + 1) }
+        ensures body { IfNone result (has_body (call_of event.now) ≡ true) }
         ensures made { made self.new ≡ made self.old }
         ensures forced { forced self.new ≡ forced self.old }
         ensures told { told self.new ≡ told self.old }
+        ensures counted { counted self.new ≡ counted self.old }
         ensures shown { shown self.old ≤ shown self.new };
 }

@@ -3,6 +3,8 @@ ghost use Rattle.std.specs.Prelude.{◌≡◌, ◌≤◌, ◌+◌, [], ◌++◌,
 ghost use Rattle.rq_engine.specs.Says.{call_of};
 ghost use Rattle.rq_workers.specs.Acts.{asked_in, stamps_in, forced_in, lacked_in, was_stopped, passed_at, may_call, KeepsRule, DidOne, IsCalled, IsForced};
 ghost use Rattle.rq_workers.specs.Forcing.{most_forced};
+ghost use Rattle.rq_workers.specs.Hearing.{has_body};
+ghost use Rattle.rq_workers.specs.Keeping.{counts_left};
 
 use crate::acts::{Act, Heard, heard_in};
 use crate::gate::Gate;
@@ -32,7 +34,7 @@ impl<G: Gate, S: Steps> Model for Worker<G, S> {
 
     ghost view = { λ w. record { done = w.done.value; begun = (w.opened.value, w.begun.value) } };
 
-    ghost invariant = { λ w. IsWork G.answers S.made S.forced S.told S.lacked S.shown w.gate w.steps
+    ghost invariant = { λ w. IsWork G.answers S.made S.forced S.told S.lacked S.counted S.shown w.gate w.steps
         (w.opened.value, w.begun.value) w.done.value w.stopped };
 }
 
@@ -72,10 +74,11 @@ impl<G: Gate + Drop, S: Steps> Worker<G, S> {
         passed
     }
 
-    // A copy of what is to be called, where there is memory for it.
+    // A copy of what is to be called, where there is memory for the body that it has.
     pub(crate) fn copies(&mut self, event: &Event) -> Option<Event>
         ensures copy { IfSome result (λ copy. (call_of copy ≡ call_of event.now) × (self.new ≡ self.old)) }
         ensures lacked { IfNone result (DidOne Act.Lacked self.old self.new) }
+        ensures body { IfNone result (has_body (call_of event.now) ≡ true) }
     {
         let copy = self.steps.copy(event);
         if copy.is_none() {
@@ -118,6 +121,7 @@ impl<G: Gate + Drop, S: Steps> Worker<G, S> {
         ensures forced { S.forced result.1 ≡ forced_in self.done ++ S.forced self.begun.1 }
         ensures told { S.told result.1 ≡ stamps_in self.done ++ S.told self.begun.1 }
         ensures lacked { S.lacked result.1 ≡ lacked_in self.done + S.lacked self.begun.1 }
+        ensures counted { S.counted result.1 ≡ counts_left (stamps_in self.done) + S.counted self.begun.1 }
         ensures shown { most_forced (forced_in self.done) ≤ S.shown result.1 }
         ensures ruled { KeepsRule self.done }
     {
@@ -137,6 +141,7 @@ impl<G: Gate + Drop, S: Steps> Worker<G, S> {
         ensures made { S.made result ≡ stamps_in self.done ++ S.made self.begun.1 }
         ensures forced { S.forced result ≡ forced_in self.done ++ S.forced self.begun.1 }
         ensures told { S.told result ≡ stamps_in self.done ++ S.told self.begun.1 }
+        ensures counted { S.counted result ≡ counts_left (stamps_in self.done) + S.counted self.begun.1 }
         ensures shown { most_forced (forced_in self.done) ≤ S.shown result }
         ensures ruled { KeepsRule self.done }
     {
