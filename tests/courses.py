@@ -16,7 +16,7 @@ from scripts import SCRIPTS
 # What has to be met, the usual courses taken together, and how often at least.
 WANTED = {
     "Beside": 4000, "HigherCell": 2000, "OtherGroup": 440, "SendDirectory": 5100, "SendTail": 2200, "SendCells": 190,
-    "TakeDirectory": 680, "TakeHead": 400, "TakeNext": 97, "TakeNextOpen": 21, "TakeAny": 2400, "CloseDirectory": 200,
+    "TakeDirectory": 680, "TakeHead": 400, "TakeNext": 97, "TakeNextOpen": 15, "TakeAny": 2400, "CloseDirectory": 200,
     "Close": 94, "CloseEmpty": 480, "SendUndone": 1700, "TakeUndone": 720, "CloseUndone": 180, "HigherBack": 100,
     "UnsendDirectory": 1900, "UnsendTail": 920, "UnsendBefore": 43, "BackDirectory": 810, "BackHead": 190, "BackCells": 14,
     "ReopenDirectory": 150, "EarlyEnd": 620, "NotAborting": 1000, "Shorter": 4100, "SendCut": 980, "TakeCut": 150,
@@ -30,7 +30,7 @@ WANTED = {
     "LastTag": 1800, "Content": 1200, "Opened": 3400, "UnknownTransaction": 4800, "NotOpen": 2100, "Unfinished": 7300,
     "ContentUnfinished": 1200, "UnknownSender": 51, "TooLong": 550, "SenderBusy": 11000, "Closed": 500, "ReceiverBusy": 1000,
     "Full": 1300, "NotForced": 1600, "UnknownOperation": 1300, "Armed": 260, "DiskWrite": 110, "Failed": 1200,
-    "NotOpened": 110, "OldImages": 1500, "Running": 490,
+    "NotOpened": 110, "OldImages": 1500, "Running": 490, "Torn": 980, "TornCut": 970,
 }  # fmt: skip
 
 

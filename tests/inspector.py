@@ -59,7 +59,9 @@ def record(kind, numbers, rest=None):
 
 
 def of_line(line):
-    """The bytes of a record with this line."""
+    """The bytes of a record with this line; those of a torn end, of whatever record."""
+    if line.startswith("torn "):
+        return record(1, [1] * 5)[: int(line.split(" ")[1])]
     _, name, *words = line.split(" ")
     kind = next(kind for kind, (known, *_) in KINDS.items() if known == name)
     numbers = [int(number) for number in re.findall(r"\d+", " ".join(words))]
@@ -235,12 +237,16 @@ def look_at_order(looks):
 # ---- damage
 
 
+def good_records():
+    """A record of each kind, by its number."""
+    for kind, (_, widths, room) in KINDS.items():
+        yield kind, record(kind, [1] * len(widths), b"x" * 3 if room is None else None)
+
+
 def damaged_records():
     """A record of each kind of damage, by what is wrong with it."""
-    for kind, (name, widths, room) in KINDS.items():
-        good = record(kind, [1] * len(widths), b"x" * 3 if room is None else None)
-        for cut in {0, 1, 2, 3, 4, 5, 6, len(good) // 2, len(good) - 1}:
-            yield f"{name} cut to {cut} bytes", good[:cut]
+    for kind, good in good_records():
+        name, widths, room = KINDS[kind]
         for more in (-1, 1):
             size = len(good) - 4 + more
             if room is not None:
@@ -260,14 +266,28 @@ def damaged_records():
         yield f"a length of {size}", size.to_bytes(4, "big") + b"\x06" + b"\0\0\0\0\0\0\0\1" * 2
 
 
+def whole_logs():
+    """The bytes and the lines of no, one and three records, and the lines behind them."""
+    records = [record(7, [1]), record(6, [1, 1]), record(8, [1, 2])]
+    lines = ["1 restart 1", "2 commit 1.1", "3 abort-end 1.2"]
+    for count, committed in ((0, "0"), (1, "0"), (3, "1 1.1")):
+        report = [f"records {count}", "unfinished 0", "lost 0", f"committed {committed}"]
+        yield b"".join(records[:count]), lines[:count], report
+
+
 def look_at_damage(looks):
     for what, damage in damaged_records():
-        for before in (0, 1, 3):
-            whole = [record(7, [1]), record(6, [1, 1]), record(8, [1, 2])][:before]
-            lines = ["1 restart 1", "2 commit 1.1", "3 abort-end 1.2"][:before]
-            if damage:
-                lines.append(f"damaged record {before + 1}")
-                looks.look_at(f"{what} behind {before} records", b"".join([*whole, damage]), lines, 1)
+        for whole, lines, _ in whole_logs():
+            told = [*lines, f"damaged record {len(lines) + 1}"]
+            looks.look_at(f"{what} behind {len(lines)} records", whole + damage, told, 1)
+
+
+def look_at_torn_ends(looks):
+    for kind, good in good_records():
+        for cut in {1, 2, 3, 4, 5, 6, len(good) // 2, len(good) - 1}:
+            for whole, lines, report in whole_logs():
+                told = [*lines, f"torn {cut} bytes", *report]
+                looks.look_at(f"{KINDS[kind][0]} cut to {cut} bytes behind {len(lines)} records", whole + good[:cut], told, 0)
 
 
 def drawn_log(draw):
@@ -370,6 +390,7 @@ def run(program, first, count):
         look_at_order(looks)
         look_at_scripts(looks)
         look_at_damage(looks)
+        look_at_torn_ends(looks)
         look_at_drawn(looks, first, count)
     print("".join(f"{fault}\n" for fault in looks.faults[:20]), end="")
     right = looks.looks - len(looks.faults)

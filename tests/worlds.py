@@ -27,7 +27,7 @@ WANTED = {
     "Close": 110, "CloseEmpty": 520, "SendUndone": 1600, "TakeUndone": 500, "CloseUndone": 140, "HigherBack": 97,
     "UnsendDirectory": 2200, "UnsendTail": 880, "UnsendBefore": 44, "BackDirectory": 1000, "BackHead": 170, "BackCells": 18,
     "ReopenDirectory": 230, "EarlyEnd": 740, "NotAborting": 1700, "Shorter": 4400, "SendCut": 1000, "TakeCut": 180,
-    "CloseCut": 28, "UnsendCut": 650, "BackCut": 110, "ReopenCut": 16, "TwoCut": 190, "BetweenSteps": 95, "OneLost": 1300,
+    "CloseCut": 28, "UnsendCut": 650, "BackCut": 110, "ReopenCut": 11, "TwoCut": 190, "BetweenSteps": 95, "OneLost": 1300,
     "MoreLost": 450, "CutBesideLost": 560, "SendLost": 2700, "TakeLost": 490, "CloseLost": 120, "EndWanting": 73,
     "StoppedOnce": 2500, "StoppedTwice": 1100, "StoppedThrice": 540, "StoppedInInverse": 360, "StoppedBeforeVoid": 200,
     "StoppedBeforeEnd": 240, "Begun": 22000, "SendStarted": 13000, "TakeStarted": 700, "AnyTakeStarted": 2300,
@@ -39,7 +39,7 @@ WANTED = {
     "ReceiverBusy": 1000, "Full": 1300, "NotForced": 4100, "UnknownOperation": 2100, "CrashedInAbort": 580,
     "StoppedCallInAbort": 21, "OpenedBehindAbort": 2800, "UnfinishedUndone": 1000, "BothUndone": 700, "LostUndone": 1500,
     "StoppedIdle": 34, "StoppedCall": 220, "Armed": 1500, "DiskWrite": 300, "Failed": 6700, "NotOpened": 590, "Running": 1300,
-    "AckOfNothing": 2800,
+    "AckOfNothing": 2800, "Torn": 1250, "TornCut": 1170,
 }  # fmt: skip
 
 LENGTH = 160
