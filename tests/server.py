@@ -411,7 +411,7 @@ def starts(program, _):
         assert said(folder / "missing", "--port", port) == (1, b"fault open\n")
         with serving(program, folder):
             assert said(folder, "--port", 0) == (1, b"fault open\n"), "a store in use"
-        (folder / "log").write_bytes(b"\0")
+        (folder / "log").write_bytes(b"\1")
         assert said(folder, "--port", port) == (1, b"fault 16 Damaged\n")
         (folder / "log").unlink()
         assert said(folder, "--port", port) == (1, b"fault open\n")
