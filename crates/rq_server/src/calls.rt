@@ -5,7 +5,8 @@ use crate::notices::Notices;
 use rq_model::txn::Lsn;
 use rq_shared::mark::{Mark, MarkPass};
 use rq_workers::steps::Steps;
-use std::sync::Mutex;
+use std::io::Error;
+use std::sync::{Mutex, Wait};
 
 /// Where a worker reads how far the log is forced.
 #[derive(Drop)]
@@ -60,9 +61,19 @@ impl<'a, S: Steps> Calls<'a, S> {
         }
     }
 
-    /// The system has no room for a connection.
-    pub(crate) fn tell_no_room<R: Eprint>(&self, rt: &R) {
-        self.notices.tell_no_room(rt);
+    /// No connection can be taken.
+    pub(crate) fn tell_no_room<R: Eprint>(&self, rt: &R, error: &Error) {
+        self.notices.tell_no_room(rt, error);
+    }
+
+    /// The system reports nothing more.
+    pub(crate) fn tell_deaf<R: Eprint>(&self, rt: &R, error: &Error) {
+        self.notices.tell_deaf(rt, error);
+    }
+
+    /// Sleeps for so many milliseconds.
+    pub(crate) fn pause<R: Wait>(&self, rt: &R, millis: u64) {
+        self.notices.pause(rt, millis);
     }
 
     /// A round was made.

@@ -9,13 +9,21 @@ use rq_workers::steps::Steps;
 use std::alloc::Global;
 use std::collections::VecDeque;
 use std::io::{ErrorKind, Read, Write};
+use std::net::Shutdown;
 use std::sync::Wait;
+use std::time::{Clock, Instant};
 
 /// How many pieces are read in one round, at most, so that nobody else waits for a connection that says much.
 const PIECES_A_ROUND: u32 = 4;
 
 /// How many requests are carried out in one round, at most.
 const REQUESTS_A_ROUND: u32 = 64;
+
+/// How many pieces are read away of a connection that is not heard any more, at most.
+const PIECES_AWAY: u32 = 256;
+
+/// For how many milliseconds, at most.
+const AWAY_MILLIS: u128 = 1000;
 
 /// A connection: what was asked and not yet carried out, and answers that the system has not taken yet.
 #[derive(Drop)]
@@ -31,6 +39,9 @@ pub(crate) struct Connection {
     answers: BytesMut,
     // nothing more is carried out
     session_is_over: bool,
+    // since when, and how many pieces more, what comes is read away
+    parted: Option<Instant>,
+    pieces_left: u32,
 }
 
 // How far a connection was read.
@@ -40,7 +51,9 @@ enum Line {
     Quiet,
     // more may have been said, and is not reported again
     Unread,
-    // nothing more is read: it has ended or is at fault
+    // nothing more is taken down: it is at fault, or there was no memory. More may have been said
+    Deaf,
+    // nothing more is read: it has ended
     Ended,
 }
 
@@ -57,6 +70,8 @@ impl Connection {
             awaited: None,
             answers: BytesMut::new(alloc),
             session_is_over: false,
+            parted: None,
+            pieces_left: PIECES_AWAY,
         }
     }
 
@@ -67,7 +82,7 @@ impl Connection {
 
     /// Whether nothing is left to be read, carried out or written.
     pub(crate) fn is_over(&self) -> bool {
-        self.session_is_over && !self.is_held_up()
+        self.session_is_over && !self.is_held_up() && !matches!(self.line, Line::Deaf)
     }
 
     /// Whether something is left to be read or carried out that the system does not report again.
@@ -89,6 +104,10 @@ impl Connection {
     /// Reads what was said, a few pieces of this length at most. A client that does not read is not heard, nor one that has asked
     /// more than was carried out.
     pub(crate) fn hear(&mut self, piece: &mut [u8]) {
+        if self.parted.is_some() {
+            self.read_away(piece);
+            return;
+        }
         if matches!(self.line, Line::Quiet) {
             self.line = Line::Unread;
         }
@@ -119,15 +138,15 @@ impl Connection {
     // room for, no more are here.
     fn take(&mut self, piece: &[u8], is_short: bool) -> Line {
         let Ok(Fed { requests, fault }) = self.frames.feed(piece) else {
-            return Line::Ended;
+            return Line::Deaf;
         };
         for request in requests {
             if self.asked.push_back(request).is_err() {
-                return Line::Ended;
+                return Line::Deaf;
             }
         }
         if fault {
-            return Line::Ended;
+            return Line::Deaf;
         }
         if is_short && !self.is_last {
             Line::Quiet
@@ -170,7 +189,7 @@ impl Connection {
         match came {
             Served::Answered(one) => {
                 if answer(&one, &mut self.answers).is_err() {
-                    self.line = Line::Ended;
+                    self.line = Line::Deaf;
                     self.asked.clear();
                 }
             }
@@ -181,7 +200,7 @@ impl Connection {
 
     // Where all is carried out, and nothing more will be asked, the session is lost.
     fn lose_if_ended<S: Steps, R: Wait>(&mut self, rt: &R, steps: &mut S) {
-        let is_ended = matches!(self.line, Line::Ended);
+        let is_ended = matches!(self.line, Line::Deaf | Line::Ended);
         if is_ended && self.asked.is_empty() && self.awaited.is_none() {
             self.lose(rt, steps);
         }
@@ -192,6 +211,50 @@ impl Connection {
         if !self.session_is_over {
             self.serving.lose(rt, steps);
             self.session_is_over = true;
+        }
+    }
+
+    /// Tells the client that nothing more is written, once all is of a connection that is not heard any more. What it still says is
+    /// read away from then on: where a connection is closed with something unread, the system may take the answers back. True where
+    /// that begins.
+    pub(crate) fn part<R: Clock>(&mut self, rt: &R) -> bool {
+        let is_due = self.session_is_over && !self.is_held_up() && matches!(self.line, Line::Deaf);
+        if !is_due || self.parted.is_some() {
+            return false;
+        }
+        self.parted = match self.stream.shutdown(Shutdown::Write) {
+            Ok(()) => Instant::now(rt).ok(),
+            Err(_) => None,
+        };
+        if self.parted.is_none() {
+            self.line = Line::Ended;
+        }
+        self.parted.is_some()
+    }
+
+    // Reads away what was said.
+    fn read_away(&mut self, piece: &mut [u8]) {
+        for _ in 0..PIECES_AWAY {
+            if self.pieces_left == 0 {
+                break;
+            }
+            self.pieces_left = self.pieces_left.saturating_sub(1);
+            match self.stream.read(piece) {
+                Ok(0) => break,
+                Ok(_) => (),
+                Err(error) if error.kind() == ErrorKind::WouldBlock => return,
+                Err(_) => break,
+            }
+        }
+        self.line = Line::Ended;
+    }
+
+    /// Whether what comes was read away for long enough; None where it is not read away.
+    pub(crate) fn is_late<R: Clock>(&self, rt: &R) -> Option<bool> {
+        let parted = self.parted?;
+        match parted.elapsed(rt) {
+            Ok(passed) => Some(passed.as_millis() >= AWAY_MILLIS),
+            Err(_) => Some(true),
         }
     }
 

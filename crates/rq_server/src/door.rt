@@ -1,6 +1,6 @@
 //! Where connections come in.
 use mio::net::{TcpListener, TcpStream};
-use std::io::ErrorKind;
+use std::io::{Error, ErrorKind};
 
 /// The listener, which does not block, and how many sessions may still begin; None where there is no end to them. Workers take
 /// connections by turns, under one lock on it.
@@ -19,8 +19,8 @@ pub(crate) enum Entered {
     Lost,
     /// No connection stands there: the next one is reported.
     Nobody,
-    /// The system has no room for a connection just now. It stands there still, and is not reported again.
-    NoRoom,
+    /// No connection can be taken just now. One may stand there still, and is not reported again.
+    NoRoom(Error),
     /// No session may begin any more.
     Closed,
 }
@@ -49,7 +49,7 @@ impl Door {
             }
             Err(error) if error.kind() == ErrorKind::WouldBlock => Entered::Nobody,
             Err(error) if error.kind() == ErrorKind::ConnectionAborted => Entered::Lost,
-            Err(_) => Entered::NoRoom,
+            Err(error) => Entered::NoRoom(error),
         }
     }
 }

@@ -14,5 +14,7 @@ mod notices;
 mod rounds;
 mod server;
 mod steps;
+mod stopped;
 
 pub use crate::server::{Plan, serve};
+pub use crate::stopped::Stopped;

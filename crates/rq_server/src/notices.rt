@@ -1,7 +1,14 @@
 //! What the threads of a server tell one another beside the mark. Nothing is claimed of it: it only lets them sleep.
+use std::io::Error;
 use std::sync::Wait;
 use std::sync::atomic::{AtomicU64, Ordering};
 use std::time::Duration;
+
+/// The system's numbers where no more files may be opened: by it, and by a process.
+const NO_MORE_FILES: [i32; 2] = [23, 24];
+
+/// How many milliseconds a thread sleeps at most that waits for others to be ready.
+const START_MILLIS: u64 = 10;
 
 /// Counts that all threads of a server share.
 #[derive(Drop)]
@@ -12,8 +19,13 @@ pub(crate) struct Notices {
     forces: AtomicU64,
     // how often the store refused a force
     failures: AtomicU64,
-    // how often the system had no room for a connection
+    // how often no connection could be taken, for want of a file and for anything else
+    without_files: AtomicU64,
     refusals: AtomicU64,
+    // how many workers are ready
+    ready: AtomicU64,
+    // 1 once all are
+    opened: AtomicU64,
     // 1 once the server ends
     ended: AtomicU64,
 }
@@ -24,7 +36,10 @@ impl Notices {
             rounds: AtomicU64::new(0),
             forces: AtomicU64::new(0),
             failures: AtomicU64::new(0),
+            without_files: AtomicU64::new(0),
             refusals: AtomicU64::new(0),
+            ready: AtomicU64::new(0),
+            opened: AtomicU64::new(0),
             ended: AtomicU64::new(0),
         }
     }
@@ -58,11 +73,66 @@ impl Notices {
         }
     }
 
-    /// The system has no room for a connection. Who runs the server is told once.
-    pub(crate) fn tell_no_room<R: Eprint>(&self, rt: &R) {
-        if self.refusals.fetch_add(1, Ordering::SeqCst) == 0 {
-            let _ = eprintln!(rt; "no more files may be opened: connections wait until others end");
+    /// No connection can be taken. Who runs the server is told once that no more files may be opened, and once of anything else.
+    pub(crate) fn tell_no_room<R: Eprint>(&self, rt: &R, error: &Error) {
+        if is_of_files(error) {
+            if self.without_files.fetch_add(1, Ordering::SeqCst) == 0 {
+                let _ = eprintln!(rt;
+                    "no more files may be opened: connections wait until others end"
+                );
+            }
+        } else if self.refusals.fetch_add(1, Ordering::SeqCst) == 0 {
+            let _ = eprintln!(rt; "no connection can be taken just now: {error}");
         }
+    }
+
+    /// The system reports nothing more to a worker. Who runs the server is told.
+    pub(crate) fn tell_deaf<R: Eprint>(&self, rt: &R, error: &Error) {
+        let _ = eprintln!(rt; "a worker ends, and its connections are lost: {error}");
+    }
+
+    /// A worker is ready.
+    pub(crate) fn note_ready(&self) {
+        self.ready.fetch_add(1, Ordering::SeqCst);
+        self.ready.wake_all();
+    }
+
+    /// Waits until so many workers are ready. False where the server ends before that.
+    pub(crate) fn are_ready<R: Wait>(&self, rt: &R, workers: u32) -> bool {
+        for _ in rt.forever() {
+            let ready = self.ready.load(Ordering::SeqCst);
+            if self.has_ended() {
+                return false;
+            }
+            if ready >= u64::from(workers) {
+                return true;
+            }
+            let seen = u32::try_from(ready).unwrap_or(u32::MAX);
+            self.ready
+                .park_timeout(rt, seen, Duration::from_millis(START_MILLIS));
+        }
+        unreachable!()
+    }
+
+    /// All workers are ready: they serve from now on.
+    pub(crate) fn open(&self) {
+        self.opened.store(1, Ordering::SeqCst);
+        self.opened.wake_all();
+    }
+
+    /// Waits until all workers are ready. False where the server ends before that.
+    pub(crate) fn opens<R: Wait>(&self, rt: &R) -> bool {
+        for _ in rt.forever() {
+            if self.has_ended() {
+                return false;
+            }
+            if self.opened.load(Ordering::SeqCst) != 0 {
+                return true;
+            }
+            self.opened
+                .park_timeout(rt, 0, Duration::from_millis(START_MILLIS));
+        }
+        unreachable!()
     }
 
     /// The server ends: whoever pauses is woken.
@@ -79,5 +149,13 @@ impl Notices {
     pub(crate) fn pause<R: Wait>(&self, rt: &R, millis: u64) {
         self.ended
             .park_timeout(rt, 0, Duration::from_millis(millis));
+    }
+}
+
+// Whether no more files may be opened.
+fn is_of_files(error: &Error) -> bool {
+    match error.raw_os_error() {
+        Some(number) => NO_MORE_FILES.contains(&number),
+        None => false,
     }
 }

@@ -9,10 +9,11 @@ use rq_model::txn::Lsn;
 use rq_workers::steps::Steps;
 use slab::Slab;
 use std::alloc::{AllocError, Global};
+use std::collections::VecDeque;
 use std::io;
 use std::net::Net;
 use std::sync::{Mutex, Wait};
-use std::time::Duration;
+use std::time::{Clock, Duration};
 
 /// How many connections are reported at once, at most.
 const REPORTS: usize = 256;
@@ -23,10 +24,11 @@ const PIECE: usize = 4096;
 /// The token of the listener.
 const DOOR: usize = 0xFFFF_FFFF;
 
-/// How many milliseconds pass before a connection that the system had no room for is tried again.
+/// How many milliseconds pass before a connection that the system had no room for is tried again, or a force that was refused.
 const AGAIN_MILLIS: u64 = 10;
 
-/// How many milliseconds a worker sleeps at most, where there is an end to the sessions that another may come to.
+/// How many milliseconds a worker sleeps at most, where there is an end to the sessions that another may come to, or something is
+/// read away.
 const LIMITED_MILLIS: u64 = 100;
 
 /// Where a worker waits: for connections at this listener, and for what its own ones say.
@@ -35,6 +37,20 @@ pub(crate) fn poll_at<R: Net>(rt: &R, listener: &mut TcpListener) -> io::Result<
     poll.registry()
         .register(listener, Token(DOOR), Interest::READABLE)?;
     Ok(poll)
+}
+
+/// Where a worker waits, with room for what is reported to it there.
+#[derive(Drop)]
+pub(crate) struct Ears {
+    poll: Poll,
+    events: Events,
+}
+
+impl Ears {
+    pub(crate) fn new(alloc: Global, poll: Poll) -> Result<Self, AllocError> {
+        let events = Events::with_capacity(alloc, REPORTS)?;
+        Ok(Ears { poll, events })
+    }
 }
 
 // Who stands at the door.
@@ -48,12 +64,23 @@ enum Queue {
     Stuck,
 }
 
+// What becomes of a connection behind a round.
+#[derive(Clone, Copy)]
+enum Fate {
+    Stays,
+    // it is not heard any more, and what it says is read away from now on
+    Parts,
+    Ends,
+}
+
 /// The connections of a worker, by token.
 #[derive(Drop)]
 pub(crate) struct Connections {
     connections: Slab<Connection>,
     // the tokens of the round
     active: Vec<usize>,
+    // the tokens of those that parted, the eldest first, and maybe of others
+    parted: VecDeque<usize>,
     // where bytes are read into
     piece: Vec<u8>,
     queue: Queue,
@@ -68,6 +95,7 @@ impl Connections {
         Ok(Connections {
             connections: Slab::new(alloc),
             active: Vec::with_capacity(alloc, REPORTS)?,
+            parted: VecDeque::new(alloc),
             piece: vec![in alloc; 0; PIECE]?,
             queue: Queue::Waiting,
             is_limited,
@@ -75,27 +103,30 @@ impl Connections {
         })
     }
 
-    /// Serves connections until no session may begin any more and all have ended. How many it served.
-    ///
-    /// # Errors
-    /// Where the system reports nothing any more, or there is no memory for what it reports.
-    pub(crate) fn serve<S: Steps, R: Wait + Eprint>(
+    /// Serves connections until no session may begin any more and all have ended. How many it served; None where the system reports
+    /// nothing any more: its sessions are lost then.
+    pub(crate) fn serve<S: Steps, R: Wait + Clock + Eprint>(
         &mut self,
         rt: &R,
         alloc: Global,
-        poll: Poll,
+        ears: Ears,
         door: &Mutex<Door>,
         calls: &mut Calls<'_, S>,
-    ) -> io::Result<u64> {
-        let mut poll = poll;
-        let mut events = Events::with_capacity(alloc, REPORTS)?;
+    ) -> Option<u64> {
+        let Ears { poll, events } = ears;
+        let (mut poll, mut events) = (poll, events);
         for _ in rt.forever() {
-            poll.poll(&mut events, self.patience())?;
+            if let Err(error) = poll.poll(&mut events, self.patience()) {
+                calls.tell_deaf(rt, &error);
+                self.lose_all(rt, calls);
+                return None;
+            }
             self.note(&events);
             self.round(rt, &poll, calls);
+            self.end_late(rt);
             self.let_in(rt, alloc, &poll, door, calls);
             if self.is_limited && self.connections.is_empty() && door.lock(rt).is_closed() {
-                return Ok(self.served);
+                return Some(self.served);
             }
         }
         unreachable!()
@@ -103,10 +134,11 @@ impl Connections {
 
     // How long to sleep at most, where nothing is reported; None where until something is.
     fn patience(&self) -> Option<Duration> {
+        let wakes = self.is_limited || !self.parted.is_empty();
         match self.queue {
             Queue::Waiting => Some(Duration::from_millis(0)),
             Queue::Stuck => Some(Duration::from_millis(AGAIN_MILLIS)),
-            Queue::Empty if self.is_limited => Some(Duration::from_millis(LIMITED_MILLIS)),
+            Queue::Empty if wakes => Some(Duration::from_millis(LIMITED_MILLIS)),
             Queue::Empty => None,
         }
     }
@@ -134,14 +166,17 @@ impl Connections {
         }
     }
 
-    fn round<S: Steps, R: Wait>(&mut self, rt: &R, poll: &Poll, calls: &mut Calls<'_, S>) {
+    fn round<S: Steps, R: Wait + Clock>(&mut self, rt: &R, poll: &Poll, calls: &mut Calls<'_, S>) {
         if self.active.is_empty() {
             return;
         }
         self.hear();
-        self.take_turn(rt, calls);
+        let is_forced = self.take_turn(rt, calls);
         self.answer(rt, poll, calls);
         calls.note_round();
+        if !is_forced {
+            calls.pause(rt, AGAIN_MILLIS);
+        }
     }
 
     fn hear(&mut self) {
@@ -153,8 +188,9 @@ impl Connections {
         }
     }
 
-    // Carries out what was asked, up to commits that wait, and forces once for all of these.
-    fn take_turn<S: Steps, R: Wait>(&mut self, rt: &R, calls: &mut Calls<'_, S>) {
+    // Carries out what was asked, up to commits that wait, and forces once for all of these. Whether none waits any more: one does
+    // where there was no memory for the force.
+    fn take_turn<S: Steps, R: Wait>(&mut self, rt: &R, calls: &mut Calls<'_, S>) -> bool {
         let turns = calls.turns;
         let _turn = turns.lock(rt);
         self.carry_out(rt, calls);
@@ -162,6 +198,7 @@ impl Connections {
             calls.force_up_to(lsn);
             self.ask_receipts(rt, calls);
         }
+        self.last_awaited().is_none()
     }
 
     fn carry_out<S: Steps, R: Wait>(&mut self, rt: &R, calls: &mut Calls<'_, S>) {
@@ -194,15 +231,67 @@ impl Connections {
     }
 
     // Writes the answers, and ends the connections that are over.
-    fn answer<S: Steps, R: Wait>(&mut self, rt: &R, poll: &Poll, calls: &mut Calls<'_, S>) {
+    fn answer<S: Steps, R: Wait + Clock>(&mut self, rt: &R, poll: &Poll, calls: &mut Calls<'_, S>) {
         for at in 0..self.active.len() {
             let token = self.active.get(at).copied().unwrap_or(DOOR);
+            match self.answer_one(rt, poll, calls, token) {
+                Fate::Ends => self.end(token),
+                Fate::Parts => self.await_end(token),
+                Fate::Stays => (),
+            }
+        }
+    }
+
+    fn answer_one<S: Steps, R: Wait + Clock>(
+        &mut self,
+        rt: &R,
+        poll: &Poll,
+        calls: &mut Calls<'_, S>,
+        token: usize,
+    ) -> Fate {
+        let Some(connection) = self.connections.get_mut(token) else {
+            return Fate::Stays;
+        };
+        let fate = fate_of(rt, connection, calls);
+        if matches!(fate, Fate::Parts) || connection.is_behind() {
+            report_again(poll, connection, token);
+        }
+        fate
+    }
+
+    // Notes one that parts. Where there is no memory for that, it ends.
+    fn await_end(&mut self, token: usize) {
+        if self.parted.push_back(token).is_err() {
+            self.end(token);
+        }
+    }
+
+    // Ends those that parted long enough ago.
+    fn end_late<R: Clock>(&mut self, rt: &R) {
+        for _ in 0..self.parted.len() {
+            let Some(token) = self.parted.front().copied() else {
+                return;
+            };
+            let is_late = match self.connections.get(token) {
+                Some(connection) => connection.is_late(rt),
+                None => None,
+            };
+            match is_late {
+                Some(false) => return,
+                Some(true) => self.end(token),
+                None => (),
+            }
+            self.parted.pop_front();
+        }
+    }
+
+    // All sessions are lost.
+    fn lose_all<S: Steps, R: Wait>(&mut self, rt: &R, calls: &mut Calls<'_, S>) {
+        let turns = calls.turns;
+        let _turn = turns.lock(rt);
+        for token in 0..self.connections.capacity() {
             if let Some(connection) = self.connections.get_mut(token) {
-                if is_over(rt, connection, calls) {
-                    self.end(token);
-                } else if connection.is_behind() {
-                    report_again(poll, connection, token);
-                }
+                connection.lose(rt, &mut calls.steps);
             }
         }
     }
@@ -229,8 +318,8 @@ impl Connections {
             Entered::Connection(stream) => self.take_in(alloc, poll, stream),
             Entered::Lost => Queue::Waiting,
             Entered::Nobody | Entered::Closed => Queue::Empty,
-            Entered::NoRoom => {
-                calls.tell_no_room(rt);
+            Entered::NoRoom(error) => {
+                calls.tell_no_room(rt, &error);
                 Queue::Stuck
             }
         };
@@ -259,19 +348,29 @@ fn later(one: Option<Lsn>, other: Option<Lsn>) -> Option<Lsn> {
     }
 }
 
-// Writes the answers of a connection. Whether it is over.
-fn is_over<S: Steps, R: Wait>(
+// Writes the answers of a connection: what becomes of it.
+fn fate_of<S: Steps, R: Wait + Clock>(
     rt: &R,
     connection: &mut Connection,
     calls: &mut Calls<'_, S>,
-) -> bool {
+) -> Fate {
     if connection.write_answers(rt) {
-        return connection.is_over();
+        return fate_behind_answers(rt, connection);
     }
     let turns = calls.turns;
     let _turn = turns.lock(rt);
     connection.lose(rt, &mut calls.steps);
-    true
+    Fate::Ends
+}
+
+fn fate_behind_answers<R: Clock>(rt: &R, connection: &mut Connection) -> Fate {
+    if connection.part(rt) {
+        Fate::Parts
+    } else if connection.is_over() {
+        Fate::Ends
+    } else {
+        Fate::Stays
+    }
 }
 
 fn register(poll: &Poll, stream: &mut TcpStream, token: usize) -> io::Result<()> {

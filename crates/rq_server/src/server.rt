@@ -6,25 +6,27 @@ use crate::calls::{Calls, MarkReader};
 use crate::door::Door;
 use crate::gates::{LogPace, PagePace};
 use crate::notices::Notices;
-use crate::rounds::{Connections, poll_at};
+use crate::rounds::{Connections, Ears, poll_at};
 use crate::steps::ServerSteps;
+use crate::stopped::Stopped;
 use mio::Poll;
 use mio::net::TcpListener as Listener;
 use rq_disk::{LogDevice, PageDevice};
-use rq_engine::event::Event;
+use rq_engine::event::{Event, Reply};
 use rq_level::Level;
-use rq_model::refusal::NoMemory;
+use rq_model::refusal::{NoMemory, Refusal};
 use rq_shared::guarded::Pass;
 use rq_shared::mark::{Mark, MarkPass};
 use rq_shared::shared::{EngineLock, Shared};
 use rq_shared::sharing::Sharing;
 use rq_workers::shared::{DropStamps, SharedSteps};
 use rq_workers::worker::Worker;
-use std::alloc::Global;
-use std::net::{Net, TcpListener};
+use std::alloc::{AllocError, Global};
+use std::net::{Net, SocketAddr, TcpListener};
 use std::sync::{Mutex, Wait};
 use std::thread;
 use std::thread::Threads;
+use std::time::Clock;
 
 /// How a server works.
 #[derive(Clone, Copy)]
@@ -73,35 +75,60 @@ struct Posts<'a, G: Sharing> {
     workers: Vec<Post<'a, G>>,
 }
 
-/// Serves connections over a store, and answers how many sessions there were. All threads have ended then, and the log is
-/// forced.
+/// Serves connections over a store, and answers how many sessions there were. Once all threads are ready, it prints where it
+/// listens. When it answers, they have ended, and the log is forced.
 ///
 /// # Errors
-/// `NoMemory` where the system has no room for a worker, or reports nothing to one any more.
+/// Where a thread could not start, nothing is printed and nobody served. Where a worker could not go on, or the last force was
+/// refused, all threads have ended too.
 pub fn serve<
     P: PageDevice + Drop + Send,
     L: LogDevice + Drop + Send,
     B: Level + Send,
     G: Sharing + Send + Sync,
-    R: Threads + Wait + Net + Eprint + Sync,
+    R: Threads + Wait + Clock + Net + Print + Eprint + Sync,
 >(
     rt: &R,
     alloc: Global,
     listener: TcpListener,
     shared: Shared<P, L, B, G>,
     plan: Plan,
-) -> Result<u64, NoMemory> {
+) -> Result<u64, Stopped> {
     let mut shared = shared;
-    let (common, seat, polls) = common_of(rt, alloc, listener, plan)?;
+    let address = match listener.local_addr() {
+        Ok(address) => address,
+        Err(error) => return Err(Stopped::NotTold(error)),
+    };
+    let Some(last) = shared.pass() else {
+        return Err(Stopped::NotStarted);
+    };
+    let Ok((common, seat, polls)) = common_of(rt, alloc, listener, plan) else {
+        return Err(Stopped::NotStarted);
+    };
     let mut seat = seat;
-    let posts = posts_of(alloc, &mut shared, &common, &mut seat, polls)?;
-    let last = shared.pass();
-    let served = run(rt, alloc, shared.engine_lock(), &common, posts);
-    if let Some(pass) = last {
-        let mut pass = pass;
-        drop(shared.call(rt, &mut pass, Event::Force));
+    let Ok(posts) = posts_of(alloc, &mut shared, &common, &mut seat, polls) else {
+        return Err(Stopped::NotStarted);
+    };
+    let served = run(rt, alloc, shared.engine_lock(), &common, address, posts);
+    let refused = force_last(rt, &shared, last);
+    match (served, refused) {
+        (Ok(_), Some(refusal)) => Err(Stopped::NotForced(refusal)),
+        (served, _) => served,
     }
-    served.ok_or(NoMemory)
+}
+
+// The force behind all threads: why it was refused, where it was.
+fn force_last<P: PageDevice + Drop, L: LogDevice + Drop, B: Level, G: Sharing, R: Wait>(
+    rt: &R,
+    shared: &Shared<P, L, B, G>,
+    pass: Pass<G>,
+) -> Option<Refusal> {
+    let mut pass = pass;
+    let stamped = shared.call(rt, &mut pass, Event::Force);
+    match stamped.reply() {
+        Reply::Refused(refusal) => Some(*refusal),
+        _ => None,
+    }
 }
 
 // What all threads share, with a seat of its mark, and where each worker waits.
@@ -211,22 +238,22 @@ fn caller_of<'a, P: PageDevice + Drop, L: LogDevice + Drop, B: Level, G: Sharing
     })
 }
 
-// All threads, until no session may begin any more and all have ended. How many sessions were served; None where a worker could
-// not serve.
+// All threads, until no session may begin any more and all have ended. How many sessions were served.
 fn run<
     'a,
     P: PageDevice + Drop + Send,
     L: LogDevice + Drop + Send,
     B: Level + Send,
     G: Sharing + Send + Sync,
-    R: Threads + Wait + Eprint + Sync,
+    R: Threads + Wait + Clock + Print + Eprint + Sync,
 >(
     rt: &'a R,
     alloc: Global,
     lock: &'a EngineLock<P, L, B, G>,
     common: &'a Common,
+    address: SocketAddr,
     posts: Posts<'a, G>,
-) -> Option<u64> {
+) -> Result<u64, Stopped> {
     let Posts {
         log_writer,
         page_writer,
@@ -235,7 +262,7 @@ fn run<
     thread::scope(
         thread::scope_env(),
         rt,
-        move |scope| -> Option<u64>
+        move |scope| -> Result<u64, Stopped>
             requires { IsSync R.row × IsSend P.row × IsSend L.row × IsSend B.row }
         {
             let log_writer = scope.spawn(move || write_log(rt, lock, log_writer));
@@ -246,7 +273,11 @@ fn run<
                     let _ = threads.push(thread);
                 }
             }
-            let mut served = if threads.is_empty() { None } else { Some(0) };
+            let are_there = log_writer.is_ok()
+                && page_writer.is_ok()
+                && threads.len() == common.plan.workers as usize;
+            let began = begin(rt, common, address, are_there);
+            let mut served = Some(0);
             for thread in threads {
                 served = both(served, thread.join(rt));
             }
@@ -257,14 +288,43 @@ fn run<
             if let Ok(thread) = page_writer {
                 thread.join(rt);
             }
-            served
+            match began {
+                Ok(()) => served.ok_or(Stopped::Deaf),
+                Err(stopped) => Err(stopped),
+            }
         },
     )
 }
 
+// Prints where the server listens and has the workers serve, once all threads are ready. Where one is not, all end.
+fn begin<R: Wait + Print>(
+    rt: &R,
+    common: &Common,
+    address: SocketAddr,
+    are_there: bool,
+) -> Result<(), Stopped> {
+    let began = if are_there && common.notices.are_ready(rt, common.plan.workers) {
+        tell_listening(rt, address)
+    } else {
+        Err(Stopped::NotStarted)
+    };
+    match &began {
+        Ok(()) => common.notices.open(),
+        Err(_) => common.notices.end(),
+    }
+    began
+}
+
+fn tell_listening<R: Print>(rt: &R, address: SocketAddr) -> Result<(), Stopped> {
+    match println!(rt; "listening {address}") {
+        Ok(()) => Ok(()),
+        Err(error) => Err(Stopped::NotTold(error)),
+    }
+}
+
 // The sum, where there are both.
 fn both(served: Option<u64>, more: Option<u64>) -> Option<u64> {
-    Some(served?.wrapping_add(more?))
+    Some(served?.saturating_add(more?))
 }
 
 // The steps of a caller.
@@ -306,22 +366,42 @@ fn write_pages<
     worker.write_pages(rt, pages);
 }
 
-// Serves connections. How many it served; None where it could not go on.
-fn work<'a, P: PageDevice + Drop, L: LogDevice + Drop, B: Level, G: Sharing, R: Wait + Eprint>(
-    rt: &'a R,
-    alloc: Global,
-    lock: &'a EngineLock<P, L, B, G>,
-    post: Post<'a, G>,
-) -> Option<u64> {
+// Serves connections, once all workers are ready. How many it served; None where it could not go on.
+fn work<
+    'a,
+    P: PageDevice + Drop,
+    L: LogDevice + Drop,
+    B: Level,
+    G: Sharing,
+    R: Wait + Clock + Eprint,
+>(rt: &'a R, alloc: Global, lock: &'a EngineLock<P, L, B, G>, post: Post<'a, G>) -> Option<u64> {
     let Post {
         poll,
         reader,
         caller,
     } = post;
     let common = caller.common;
+    let Ok((ears, connections)) = made_ready(alloc, poll, common) else {
+        common.notices.end();
+        return None;
+    };
+    common.notices.note_ready();
+    if !common.notices.opens(rt) {
+        return None;
+    }
+    let mut connections = connections;
     let steps = steps_of(rt, lock, caller);
     let mut calls = Calls::new(steps, reader, &common.turns, &common.notices);
-    let mut connections = Connections::new(alloc, common.plan.sessions != 0).ok()?;
-    let served = connections.serve(rt, alloc, poll, &common.door, &mut calls);
-    served.ok()
+    connections.serve(rt, alloc, ears, &common.door, &mut calls)
+}
+
+// What a worker takes memory for before it serves.
+fn made_ready(
+    alloc: Global,
+    poll: Poll,
+    common: &Common,
+) -> Result<(Ears, Connections), AllocError> {
+    let ears = Ears::new(alloc, poll)?;
+    let connections = Connections::new(alloc, common.plan.sessions != 0)?;
+    Ok((ears, connections))
 }

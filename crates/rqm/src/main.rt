@@ -45,7 +45,7 @@ fn run<
     Ok(match args::read(rt)? {
         Args::Run(layout) => run_input(rt, &mut writer, layout)?,
         Args::Format(folder, layout) => run_format(rt, &mut writer, folder.as_str(), &layout),
-        Args::Serve(asked) => run_serve(rt, &mut writer, &asked)?,
+        Args::Serve(asked) => run_serve(rt, &asked)?,
         Args::Inspect(folder) => run_inspect(rt, &mut writer, folder.as_str())?,
         Args::Answered(status) => status,
     })

@@ -9,14 +9,13 @@ use rq_disk::{FileContents, FileLog, FilePages, LogDevice, PAGE, PageDevice, Unk
 use rq_engine::engine::Engine;
 use rq_files::{Fault, open_folder};
 use rq_levels::{StoreLevel, levels_of_store};
-use rq_model::refusal::{NoMemory, Refusal};
+use rq_model::refusal::Refusal;
 use rq_restart::restart::{Report, restart};
-use rq_server::{Plan, serve};
+use rq_server::{Plan, Stopped, serve};
 use rq_shared::shared::Shared;
 use rq_shared::sharing::Sharing;
 use std::alloc::Global;
 use std::fs::{File, Files};
-use std::io::Write;
 use std::marker::Brand;
 use std::net::{Ipv4Addr, Net, SocketAddr, TcpListener, TcpStream};
 use std::path::Path;
@@ -33,9 +32,10 @@ type Store<S> = Engine<FilePages<S>, FileLog<S>, StoreLevel>;
 /// status: 0, or 1 after a fault.
 ///
 /// # Errors
-/// Where the writer refuses a line.
+/// Where a line cannot be printed.
 pub fn run_serve<
     R: AllocGlobal
+        + Print
         + Eprint
         + Clock
         + Files<File = File>
@@ -43,15 +43,17 @@ pub fn run_serve<
         + Wait
         + Threads
         + Sync,
-    W: Write,
->(rt: &R, writer: &mut W, asked: &Serve) -> io::Result<u8> {
+>(rt: &R, asked: &Serve) -> io::Result<u8> {
     match opened_and_bound(rt, asked, Unknown) {
-        Ok((engine, listener, plan)) => served(rt, writer, engine, listener, plan),
-        Err(fault) => {
-            writeln!(writer, "fault {fault}")?;
-            Ok(1)
-        }
+        Ok((engine, listener, plan)) => served(rt, engine, listener, plan),
+        Err(fault) => tell_fault(rt, fault),
     }
+}
+
+// Prints a fault. The exit status.
+fn tell_fault<R: Print>(rt: &R, fault: Fault) -> io::Result<u8> {
+    println!(rt; "fault {fault}")?;
+    Ok(1)
 }
 
 // The faults come in this order: those of the folder and its files, of the restart, of the port.
@@ -148,50 +150,42 @@ fn pages_in<R: AllocGlobal + Files<File = File>>(rt: &R, folder: &str) -> Result
 fn served<
     S: FileContents + Send,
     R: AllocGlobal
+        + Print
         + Eprint
+        + Clock
         + Net<Listener = TcpListener, Stream = TcpStream>
         + Wait
         + Threads
         + Sync,
-    W: Write,
->(rt: &R, writer: &mut W, engine: Store<S>, listener: TcpListener, plan: Plan) -> io::Result<u8>
+>(rt: &R, engine: Store<S>, listener: TcpListener, plan: Plan) -> io::Result<u8>
     requires { WasSound ⟦<FilePages<S> as PageDevice>⟧ ⟦<FileLog<S> as LogDevice>⟧ (HoldStore S.pages S.bytes) engine }
 {
-    if let Err(error) = print_listening(writer, &listener) {
-        return Err(error);
-    }
     let served = shared_by_brand(rt, rt.alloc(), engine, listener, plan);
-    print_served(writer, served)
-}
-
-fn print_listening<W: Write>(writer: &mut W, listener: &TcpListener) -> io::Result<()> {
-    let address = listener.local_addr()?;
-    writeln!(writer, "listening {address}")?;
-    writer.flush()
+    print_served(rt, served)
 }
 
 // Prints how many sessions there were, or why not. The exit status.
-fn print_served<W: Write>(writer: &mut W, served: Result<u64, NoMemory>) -> io::Result<u8> {
+fn print_served<R: Print>(rt: &R, served: Result<u64, Stopped>) -> io::Result<u8> {
     match served {
         Ok(sessions) => {
-            writeln!(writer, "served {sessions}")?;
+            println!(rt; "served {sessions}")?;
             Ok(0)
         }
-        Err(NoMemory) => {
-            writeln!(writer, "fault 1 NoMemory")?;
-            Ok(1)
-        }
+        Err(Stopped::NotStarted) => tell_fault(rt, Fault::Refused(Refusal::NoMemory)),
+        Err(Stopped::NotTold(error)) => Err(error),
+        Err(Stopped::Deaf) => tell_fault(rt, Fault::Open),
+        Err(Stopped::NotForced(refusal)) => tell_fault(rt, Fault::Refused(refusal)),
     }
 }
 
 // Shares an engine under a name of its own.
-fn shared_by_brand<S: FileContents + Send, R: Wait + Threads + Net + Eprint + Sync>(
+fn shared_by_brand<S: FileContents + Send, R: Wait + Threads + Clock + Net + Print + Eprint + Sync>(
     rt: &R,
     alloc: Global,
     engine: Store<S>,
     listener: TcpListener,
     plan: Plan,
-) -> Result<u64, NoMemory>
+) -> Result<u64, Stopped>
     requires { WasSound ⟦<FilePages<S> as PageDevice>⟧ ⟦<FileLog<S> as LogDevice>⟧ (HoldStore S.pages S.bytes) engine }
 {
     let taking = Blank::new(1024);
@@ -211,7 +205,7 @@ fn share<
     P: PageDevice + Drop + Send,
     L: LogDevice + Drop + Send,
     G: Sharing + Send + Sync,
-    R: Wait + Threads + Net + Eprint + Sync,
+    R: Wait + Threads + Clock + Net + Print + Eprint + Sync,
 >(
     rt: &R,
     alloc: Global,
@@ -220,7 +214,7 @@ fn share<
     taking: Blank,
     listener: TcpListener,
     plan: Plan,
-) -> Result<u64, NoMemory>
+) -> Result<u64, Stopped>
     requires name { (blank.name ≡ G.name) × (taking.name ≡ G.taking) }
     requires parts { (blank.parts ≡ G.parts) × (blank.parts ≡ 1024) × (taking.parts ≡ 1024) }
     requires sound { WasSound P.PageDevice L.LogDevice G.premise engine }
