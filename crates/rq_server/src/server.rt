@@ -273,8 +273,8 @@ fn run<
                     let _ = threads.push(thread);
                 }
             }
-            let are_there = log_writer.is_ok()
-                && page_writer.is_ok()
+            let are_there = matches!(log_writer, Ok(_))
+                && matches!(page_writer, Ok(_))
                 && threads.len() == common.plan.workers as usize;
             let began = begin(rt, common, address, are_there);
             let mut served = Some(0);
