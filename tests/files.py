@@ -314,6 +314,27 @@ def courses(program):
     assert shorter >= 2 * len(Course.left), f"only {shorter} logs were not synced whole"
 
 
+def last_force(program):
+    """A server that ends by itself tells where its last force is refused, since a call failed there or before it."""
+    for words, told in each_call(6):
+        with folder_of(pages=formatted(), log=b"") as folder:
+            try:
+                server = Server(program, folder, "--sessions", 1, environment=words)
+            except NotStarted as refused:
+                assert told.exists(), refused
+                continue
+            with server.connect() as connection:
+                try:
+                    connection.transaction().send(0, 7, b"hello")
+                except (Failed, DiskWrite):
+                    assert told.exists(), words
+            status, printed = server.ended()
+            if told.exists():
+                assert status == 1 and printed in (b"fault 15 DiskWrite\n", b"fault 2 Failed\n"), (words, status, printed)
+            else:
+                assert (status, printed) == (0, b"served 1\n"), (words, status, printed)
+
+
 def held_by(program, folder):
     """What a store holds, once it is open."""
     server = Server(program, folder)
@@ -333,7 +354,7 @@ def is_failed(server):
     return False
 
 
-TESTS = [made, there, no_folder, open_once, messages, log_of_all, formats, courses]
+TESTS = [made, there, no_folder, open_once, messages, log_of_all, formats, courses, last_force]
 
 # What looks at the bytes of each file.
 TWICE = [made, messages]

@@ -346,9 +346,11 @@ def answers_to(asked):
 def lost_connections(program, _):
     """A connection that ends at any byte behind its send, or is reset, leaves nothing of its transaction."""
     with store(program) as folder, serving(program, folder) as server:
-        for trial in range(12):
+        # the last is a frame of ReceiveFrom that ends amid its sender
+        ends = COMMIT[:0], COMMIT[:1], COMMIT[:2], bytes.fromhex("0005040000")
+        for trial in range(16):
             stream = server.raw()
-            stream.sendall(BEGIN_AND_SEND + COMMIT[: trial % 3])
+            stream.sendall(BEGIN_AND_SEND + ends[trial // 2 % 4])
             read_bytes(stream, len(BEGUN) + 8 + len(SENT))
             if trial % 2:
                 reset(stream)
@@ -357,6 +359,40 @@ def lost_connections(program, _):
                 send_when_free(connection, 0, trial + 1, b"after")
                 assert everything(connection) == {0: [(trial + 1, b"after")]}, trial
                 assert connection.last_tag(0) == (trial + 1, trial + 1), trial
+
+
+def answers_before_a_fault(program, _):
+    """What was answered in front of a fault comes, though much was said behind it and it is read late."""
+    with store(program) as folder, serving(program, folder) as server:
+        for behind in (0, 1, 4096, 500_000):
+            with server.raw() as stream:
+                stream.sendall(BEGIN_AND_SEND + b"\0\0")
+                stream.setblocking(False)
+                try:
+                    for _ in range(behind // 1000 + 1):
+                        stream.send(bytes(min(behind, 1000)))
+                except OSError:
+                    pass
+                time.sleep(0.1)
+                stream.settimeout(LONGEST)
+                answered = read_bytes(stream, len(BEGUN) + 8 + len(SENT))
+                assert answered.startswith(BEGUN) and answered.endswith(SENT), (behind, answered)
+                assert stream.recv(1) == b"", behind
+
+
+def ends_inside_a_frame(program, _):
+    """A connection that ends inside a frame has the answers to what stands before it, and leaves nothing of its transaction."""
+    asked = bytes.fromhex("0005 04 00000000")
+    with store(program) as folder, serving(program, folder) as server:
+        for end in range(1, len(asked)):
+            with server.raw() as stream:
+                stream.sendall(BEGIN_AND_SEND + asked[:end])
+                stream.shutdown(socket.SHUT_WR)
+                answered = read_to_end(stream)
+            assert answered == BEGUN + struct.pack(">Q", end) + SENT, (end, answered.hex())
+        with server.connect() as connection:
+            assert connection.last_tag(0) == (0, 0)
+            assert everything(connection) == {}
 
 
 def reset(stream):
@@ -741,8 +777,9 @@ def raises(kind, call):
 
 
 TESTS = [
-    starts, session, closing, faults, bodies, pieces, damaged_streams, lost_connections, served, silent_reader, slow_clients,
-    few_descriptors, many_connections, full_disk, client, lost_answers, sessions,
+    starts, session, closing, faults, bodies, pieces, damaged_streams, lost_connections, ends_inside_a_frame,
+    answers_before_a_fault, served, silent_reader, slow_clients, few_descriptors, many_connections, full_disk, client,
+    lost_answers, sessions,
 ]  # fmt: skip
 
 

@@ -231,7 +231,7 @@ class Connection:
         with_end = self.transaction()
         while True:
             try:
-                with_end.send(sender, tag, b"")
+                with_end.send(sender, tag, b"")  # any tag will do, since this is aborted
                 break
             except SenderBusy:  # by the lost transaction, which has not ended
                 time.sleep(0.01)

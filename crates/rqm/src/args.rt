@@ -191,7 +191,7 @@ fn sessions<'a>(alloc: Global) -> Arg<'a> {
 }
 
 fn frames<'a>(alloc: Global) -> Arg<'a> {
-    let help = "Pages that are kept in memory";
+    let help = "Pages that are kept in memory; makes no difference yet, all are";
     number(alloc, "frames", help, FEWEST_FRAMES, MOST_FRAMES)
 }
 
