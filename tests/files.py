@@ -67,6 +67,12 @@ static int noted(const struct stat *synced) {
     return fails() || fstat(file, &before) || NEXT(name)(file) ? -1 : noted(&before); \\
 }
 
+#define CUT(name, offset) int name(int file, offset length) { \\
+    return fails() ? -1 : NEXT(name)(file, length); \\
+}
+
+CUT(ftruncate, off_t)
+CUT(ftruncate64, off64_t)
 WRITE(pwrite, off_t)
 WRITE(pwrite64, off64_t)
 READ(pread, off_t)
@@ -314,6 +320,27 @@ def courses(program):
     assert shorter >= 2 * len(Course.left), f"only {shorter} logs were not synced whole"
 
 
+def torn_ends(program):
+    """A torn end is cut off, and the restart's record stands in its place, byte for byte. Where a call fails, also the cut, the
+    opening is refused, and the next one comes to the same."""
+    whole = b"".join(ONE_COMMITTED)
+    for end in (b"\0", ONE_COMMITTED[-1][:-1], ONE_COMMITTED[1][:545]):
+        cut = 0
+        for words, told in each_call(6):
+            with folder_of(pages=formatted(), log=whole + end) as folder:
+                try:
+                    Server(program, folder, environment=words).kill()
+                except NotStarted as refused:
+                    assert told.exists() and refused.line.startswith(b"fault "), refused
+                    log = (folder / "log").read_bytes()
+                    assert log.startswith(whole), words
+                    cut += log == whole + end and refused.line == b"fault 15 DiskWrite\n"
+                    assert held_by(program, folder) == {0: [(7, b"hello")]}, words
+                else:
+                    assert (folder / "log").read_bytes() == whole + record(7, [2]), words
+        assert cut, "no cut failed"
+
+
 def last_force(program):
     """A server that ends by itself tells where its last force is refused, since a call failed there or before it."""
     for words, told in each_call(6):
@@ -354,7 +381,7 @@ def is_failed(server):
     return False
 
 
-TESTS = [made, there, no_folder, open_once, messages, log_of_all, formats, courses, last_force]
+TESTS = [made, there, no_folder, open_once, messages, log_of_all, formats, courses, torn_ends, last_force]
 
 # What looks at the bytes of each file.
 TWICE = [made, messages]

@@ -110,8 +110,8 @@ pub trait PageDevice {
     ghost only_now: { (d : Self) (c : Images) → left_since d (moment d) c → Leaves (may_be d) c };
 }
 
-/// A device of a log: bytes that grow at the end, whole records at a time. What was appended is durable
-/// once forced. A record is a big-endian `u32` length and that many bytes.
+/// A device of a log: bytes that grow at the end, whole records at a time, and may be cut off there. What was appended is
+/// durable once forced. A record is a big-endian `u32` length and that many bytes.
 pub trait LogDevice {
     /// The bytes that reads give.
     ghost seen: { Self → List ℕ };
@@ -193,7 +193,7 @@ pub trait LogDevice {
         ensures cause { FailureIsCounted (faults self.old) (faults self.new) result }
         ensures excused { OnErr result (excuse self.old self.new) };
 
-    /// Cuts off what is behind the first `len` bytes, and makes these durable. A crash in it leaves at least so many.
+    /// Cuts off what is behind the first `len` bytes, and makes these durable. If they were, a crash in it leaves at least these.
     fn cut(&mut self, len: u64) -> Result<(), DeviceFailed>
         ensures left { OnOk result (seen self.new ≡ take len (seen self.old)) }
         ensures durable { OnOk result (Only (take len (seen self.old)) (may_leave self.new)) }

@@ -142,17 +142,21 @@ impl Switch {
         }
     }
 
+    // Counts a call, and answers its number; None where calls are not counted.
+    fn count(&self) -> Option<u64> {
+        if self.is_suspended() {
+            return None;
+        }
+        let before = self.armed.calls.fetch_add(1, Ordering::SeqCst);
+        Some(before.wrapping_add(1))
+    }
+
     // Counts a call, and answers whether it fails before its work. A write that meets a stop is made first:
     // it fails after its work, where `cuts_off` says so.
     pub(crate) fn fails(&self, kind: CallKind) -> bool {
-        if self.is_suspended() {
+        let Some(call) = self.count() else {
             return false;
-        }
-        let call = self
-            .armed
-            .calls
-            .fetch_add(1, Ordering::SeqCst)
-            .wrapping_add(1);
+        };
         if self.is_stopped() {
             return true;
         }
@@ -168,14 +172,9 @@ impl Switch {
 
     // The same of a call that is of no kind.
     pub(crate) fn fails_any(&self) -> bool {
-        if self.is_suspended() {
+        let Some(call) = self.count() else {
             return false;
-        }
-        let call = self
-            .armed
-            .calls
-            .fetch_add(1, Ordering::SeqCst)
-            .wrapping_add(1);
+        };
         if self.is_stopped() {
             return true;
         }

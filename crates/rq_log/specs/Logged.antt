@@ -27,7 +27,7 @@ module _ {L : Type 0} (g : Ghosts L) where
   abbrev pub WasDurable : Logged L → Type 0
   WasDurable log = Only (g.seen log.settled) (g.may_leave log.settled)
 
-  -- a crash now leaves the first records, whole ones, with all that are forced
+  -- a crash now leaves the first records, with all that are forced, and a short end perhaps
   abbrev pub LeavesBeginnings : Logged L → Type 0
   LeavesBeginnings log = (c : List ℕ) → g.may_leave log.device c → IsBeginning log.records log.forced c
 
