@@ -4,13 +4,14 @@ ghost use Rattle.rq_model.specs.Deeds.{deed_in};
 ghost use Rattle.rq_level.specs.Ops.{Doing};
 ghost use Rattle.rq_sound.specs.Sound.{IsSound};
 ghost use Rattle.rq_planner.specs.Answered.{IsHeldUp, IsPlanned, MayBeAsked};
-ghost use Rattle.rq_planner.specs.Asked.{Do, IsOfStore, asked_by, undone_by};
+ghost use Rattle.rq_planner.specs.Asked.{Do, IsOfStore, asked_back, asked_by};
 ghost use Rattle.rq_engine.specs.Plans.{IsDeedPlan, IsToDo, known_part};
 
 use crate::engine::Engine;
+use crate::operations::CHAIN_LEVEL;
 use rq_disk::{LogDevice, PageDevice};
 use rq_level::{Level, Op, Plan, SlotWrite};
-use rq_model::record::{Deed, Record};
+use rq_model::record::{Deed, DeedBytes};
 use rq_model::refusal::Refusal;
 use rq_record::{OP_END_BYTES, PAGE_OP_BYTES, decode_deed};
 
@@ -59,14 +60,19 @@ impl<P: PageDevice, L: LogDevice, B: Level> Engine<P, L, B> {
             .plan(self.alloc, &self.pages, &self.transactions, op)
     }
 
-    // What the level plans to take back the operation whose end the record is.
-    pub(crate) fn plan_inverse(&mut self, told: &Record) -> Result<Option<Plan>, Refusal>
-        requires { IsOfStore self.old.state.sizes (undone_by told.now) }
+    // What the level plans to take back the deed that the bytes tell.
+    pub(crate) fn plan_inverse(&mut self, deed: &DeedBytes) -> Result<Option<Plan>, Refusal>
+        requires { IsOfStore self.old.state.sizes (asked_back deed.now) }
         ensures same { self.new ≡ self.old }
-        ensures planned { IsPlanned (known_part self.old.state) (undone_by told.now) result }
+        ensures planned { IsPlanned (known_part self.old.state) (asked_back deed.now) result }
     {
-        self.planner
-            .plan_inverse(self.alloc, &self.pages, &self.transactions, told)
+        self.planner.plan_inverse(
+            self.alloc,
+            &self.pages,
+            &self.transactions,
+            CHAIN_LEVEL,
+            deed,
+        )
     }
 }
 

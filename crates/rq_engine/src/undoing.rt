@@ -20,7 +20,6 @@ ghost use Rattle.rq_engine.specs.Sends.{HasRoom};
 ghost use Rattle.rq_engine.specs.Aborts.{IsTurnedBack, UndoIsLatched, UndoSays, UndoTakesLowest};
 
 use crate::engine::Engine;
-use crate::operations::CHAIN_LEVEL;
 use crate::starts::{CHAIN_RECORDS, CLOSE_RECORDS};
 use rq_disk::{LogDevice, PageDevice};
 use rq_level::{Level, SlotWrite};
@@ -64,7 +63,7 @@ impl<P: PageDevice, L: LogDevice, B: Level> Engine<P, L, B> {
         if self.is_log_full(undo_records(&done.deed)) {
             return Err(Refusal::LogFull);
         }
-        match self.plan_undo(txn, number, &done) {
+        match self.plan_undo(&done) {
             Ok(None) => Err(Refusal::Latched),
             Ok(Some(writes)) => match self.start_undo(txn, number, &done, writes) {
                 Ok(()) => Ok(Some(Sub { txn, number })),
@@ -119,12 +118,7 @@ impl<P: PageDevice, L: LogDevice, B: Level> Engine<P, L, B> {
     }
 
     // The writes that take back what a finished operation did; none where they need a page that others have latched.
-    fn plan_undo(
-        &mut self,
-        txn: Txn,
-        number: u64,
-        done: &Finished,
-    ) -> Result<Option<Vec<SlotWrite>>, Refusal>
+    fn plan_undo(&mut self, done: &Finished) -> Result<Option<Vec<SlotWrite>>, Refusal>
         requires { IsDoneConsistent self.old.state.sizes done.now }
         ensures same { self.new ≡ self.old }
         // The plan.
@@ -142,14 +136,7 @@ impl<P: PageDevice, L: LogDevice, B: Level> Engine<P, L, B> {
         ensures refused { IsSound self.old.state → IsNewestDeed self.old.state done.now.deed
             → IfErr result (λ r. r ≡ Refusal.NoMemory) }
     {
-        // The level reads the deed alone.
-        let end = Record::OpEnd {
-            txn,
-            operation: number,
-            level: CHAIN_LEVEL,
-            deed: encode_deed(&done.deed),
-        };
-        match self.plan_inverse(&end) {
+        match self.plan_inverse(&encode_deed(&done.deed)) {
             Ok(Some(plan)) => Ok(Some(plan.writes)),
             Ok(None) => Ok(None),
             Err(refusal) => Err(refusal),

@@ -3,8 +3,7 @@ use Rattle.std.proofs.Common.{◌≡◌, ℕ, ◌<◌, not, List, [], ◌∷◌,
 use Rattle.std.proofs.lemmas.Bool.{cases_eq, false≢true, true≢false}
 use Rattle.rq_model.specs.declared.record.Deed.{Deed}
 use Rattle.rq_model.specs.declared.record.Deed.TheVariants.{Append, UnlinkHead, Close}
-use Rattle.rq_model.specs.declared.record.Record.{Record}
-use Rattle.rq_model.specs.declared.record.Record.TheVariants as records
+use Rattle.rq_model.specs.declared.record.Record.TheVariants.{OpEnd}
 use Rattle.rq_model.specs.declared.refusal.Refusal.{Refusal}
 use Rattle.rq_model.specs.declared.refusal.Refusal.TheVariants as why
 use Rattle.rq_model.specs.declared.txn.Txn.{Txn}
@@ -17,7 +16,7 @@ use Rattle.rq_views.specs.Log.{Slots}
 use Rattle.rq_views.specs.Plans.{deed_sender}
 use Rattle.rq_views.specs.Plans.Turn.{Undid}
 use Rattle.rq_views.specs.Stored.{is_used, slots_in}
-use Rattle.rq_level.specs.ChainPlans.{Beside, CanMark, CanPutBack, CanUnlinkTail, Undoes, chain_undoes}
+use Rattle.rq_level.specs.ChainPlans.{Beside, CanMark, CanPutBack, CanUnlinkTail, Undoes}
 use Rattle.rq_level.specs.declared.slots.Given.{Given}
 use Rattle.rq_level.specs.declared.writes.Plan.{Plan}
 use Rattle.rq_level.specs.Given.{GivenHolds}
@@ -33,7 +32,7 @@ use Rattle.rq_sound.specs.Wants.{AreGivenOf}
 use Rattle.rq_sound.proofs.Levels.{levels_plan}
 use Rattle.rq_sound.specs.Inverses.{InverseIsLatched, InverseTakesLowest}
 use Rattle.rq_sound.proofs.Wants.{given_parts, given_named}
-use Rattle.rq_planner.specs.Asked.{Asked, IsOfStore, asked_sender, known, to_undo, undone_by}
+use Rattle.rq_planner.specs.Asked.{Asked, IsOfStore, asked_back, asked_sender, known, to_undo}
 use Rattle.rq_planner.specs.Asked.Asked.{Undo}
 use Rattle.rq_planner.specs.Answered.{HasGatheredFor, IsHeldUp, IsPlanBack, unless_latched}
 use Rattle.rq_planner.specs.Backs.{CanBeTakenBack, IsJudgedBack, IsRefusedBack, IsShut, IsTakingBack, SentLast, TakenLast}
@@ -153,41 +152,25 @@ module _ (s : State) (k : LevelState) (given : List Given) (latched : List ℕ) 
   judged (Close g) (why.Damaged x) h m can = absurd (m.0.1 (can_open s given g can h))
   judged (Close g) r h m can = absurd m.0
 
-  deed_is : (o : Option Deed) (d : Deed) → to_undo o ≡ Some (Undo d) → o ≡ Some d
-  deed_is None d e = absurd (let no : None ≡ Some (Undo d) = e in cc no)
-  deed_is (Some x) d e = let same : Some (Undo x) ≡ Some (Undo d) = e in cc same
-
-  -- what is answered to what a record tells
-  back_judged_as : (o : Option Deed) (answer : Result Plan Refusal) → HasGatheredFor s given (to_undo o) → Undoes (Some s.sizes) o k given latched answer after → IsJudgedBack s.sizes (slots_now s) (to_undo o) (unless_latched answer)
+  back_judged_as : (o : Option Deed) (answer : Result Plan Refusal) → HasGatheredFor s given (to_undo o) → Undoes (Some s.sizes) o k given latched answer after → IsJudgedBack s.sizes (slots_now s) o (unless_latched answer)
   back_judged_as o (Ok p) h m = record {
-    can = λ d e.
-        let is = deed_is o d e in
-        can_be d p h.has.gathered (subst (λ (x : Option Deed). Undoes (Some s.sizes) x k given latched (Ok p) after) is m);
+    can = λ d is. can_be d p h.has.gathered (subst (λ (x : Option Deed). Undoes (Some s.sizes) x k given latched (Ok p) after) is m);
     refused = tt;
   }
   back_judged_as o (Err r) h m = by r refl where
     told : (d : Deed) → o ≡ Some d → CanBeTakenBack s.sizes (slots_now s) d → IfErr (unless_latched (Err r)) (λ x. x ≡ why.NoMemory)
     told d is can = judged d r (subst (λ (x : Option Deed). HasGatheredFor s given (to_undo x)) is h).all (subst (λ (x : Option Deed). Undoes (Some s.sizes) x k given latched (Err r) after) is m) can
 
-    by : (x : Refusal) → r ≡ x → IsJudgedBack s.sizes (slots_now s) (to_undo o) (unless_latched (Err x))
+    by : (x : Refusal) → r ≡ x → IsJudgedBack s.sizes (slots_now s) o (unless_latched (Err x))
     by why.Latched e = record { can = tt; refused = tt }
-    by x e = record { can = tt; refused = λ d f can. subst (λ y. IfErr (unless_latched (Err y)) (λ w. w ≡ why.NoMemory)) e (told d (deed_is o d f) can) }
+    by x e = record { can = tt; refused = λ d is can. subst (λ y. IfErr (unless_latched (Err y)) (λ w. w ≡ why.NoMemory)) e (told d is can) }
 
-  pub back_judged : (n : ℕ) (told : Record) (t : Txn) (number level : ℕ) (deed : List ℕ) (answer : Result Plan Refusal) → n ≡ 1 → told ≡ records.OpEnd t number level deed → HasGatheredFor s given (to_undo (deed_in deed))
-      → (meaning_of n).undoes k told given latched answer after → IsJudgedBack s.sizes (slots_now s) (undone_by told) (unless_latched answer)
+  pub back_judged : (n : ℕ) (t : Txn) (number level : ℕ) (deed : List ℕ) (answer : Result Plan Refusal) → n ≡ 1 → HasGatheredFor s given (asked_back deed)
+      → (meaning_of n).undoes k (OpEnd t number level deed) given latched answer after → IsJudgedBack s.sizes (slots_now s) (deed_in deed) (unless_latched answer)
   unfolding meaning_of
-  back_judged n told t number level deed answer one is h m =
-      let law : chain_undoes k told given latched answer after = subst (λ (x : ℕ). (meaning_of x).undoes k told given latched answer after) one m in
-      let undoes : Undoes (Some s.sizes) (deed_in deed) k given latched answer after =
-      subst (λ (z : Option Sizes). Undoes z (deed_in deed) k given latched answer after) keeps.sizes (subst (λ (x : Record). chain_undoes k x given latched answer after) is law) in
-      subst (λ (x : Record). IsJudgedBack s.sizes (slots_now s) (undone_by x) (unless_latched answer)) (sym is) (back_judged_as (deed_in deed) answer h undoes)
-
--- a record that ends no operation tells nothing
-pub tells_nothing : (told : Record) → ((t : Txn) (n level : ℕ) (deed : List ℕ) → told ≡ records.OpEnd t n level deed → ⊥) → (d : Deed) → undone_by told ≡ Some (Undo d) → ⊥
-tells_nothing (records.OpEnd t n level deed) none d e = none t n level deed refl
-tells_nothing told none d e = (let no : None ≡ Some (Undo d) = e in cc no)
-
--- ---- the deed that a record tells
+  back_judged n t number level deed answer one h m =
+      let law : Undoes k.sizes (deed_in deed) k given latched answer after = subst (λ (x : ℕ). (meaning_of x).undoes k (OpEnd t number level deed) given latched answer after) one m in
+      back_judged_as (deed_in deed) answer h (subst (λ (z : Option Sizes). Undoes z (deed_in deed) k given latched answer after) keeps.sizes law)
 
 -- ---- where nothing is under way
 
@@ -214,8 +197,8 @@ never_latched z q (UnlinkHead g n tag body) c h = elim h [
 ]
 never_latched z q (Close g) c h = false≢true h
 
-module _ (z : Sizes) (images : List (List ℕ)) (rows : List Row) (none : rows ≡ []) (told : Record) where
-  pub taken_back : (d : Deed) (p : Plan) → undone_by told ≡ Some (Undo d) → IsPlanBack (known z images rows) d p → CanBeTakenBack z (slots_in z images) d → IsTakingBack z (slots_in z images) told p
+module _ (z : Sizes) (images : List (List ℕ)) (rows : List Row) (none : rows ≡ []) (bytes : List ℕ) where
+  pub taken_back : (d : Deed) (p : Plan) → deed_in bytes ≡ Some d → IsPlanBack (known z images rows) d p → CanBeTakenBack z (slots_in z images) d → IsTakingBack z (slots_in z images) bytes p.writes.items
   taken_back d p reads back can = record {
     deed = d;
     reads = reads;
@@ -225,6 +208,6 @@ module _ (z : Sizes) (images : List (List ℕ)) (rows : List Row) (none : rows �
     lowest = subst (λ (rs : List Row). InverseTakesLowest z (slots_in z images) rs d p.writes.items) none back.lowest;
   }
 
-  pub not_held_up : (r : Refusal) → ((a : Asked) → undone_by told ≡ Some a → IsHeldUp (known z images rows) a) → IsRefusedBack z (slots_in z images) (undone_by told) r
-  not_held_up r held d e can =
-      absurd (never_latched z (slots_in z images) d can (subst (λ (rs : List Row). InverseIsLatched z (slots_in z images) rs d) none (held (Undo d) e)))
+  pub not_held_up : (r : Refusal) → ((a : Asked) → asked_back bytes ≡ Some a → IsHeldUp (known z images rows) a) → IsRefusedBack z (slots_in z images) (deed_in bytes) r
+  not_held_up r held d is can =
+      absurd (never_latched z (slots_in z images) d can (subst (λ (rs : List Row). InverseIsLatched z (slots_in z images) rs d) none (held (Undo d) (ap to_undo is))))

@@ -42,7 +42,7 @@ use Rattle.rq_sound.proofs.Chosen.{planned_kept}
 use Rattle.rq_sound.proofs.Levels.{levels_plan, levels_refuse, writes_latched}
 use Rattle.rq_sound.proofs.Wants.{levels_find}
 use Rattle.rq_sound.specs.Lowest.{AreAllLatched, AreLatchedBelow, FirstIsLowest}
-use Rattle.rq_planner.specs.Asked.{Asked, IsOfStore, asked_by, asked_in, doing_sender, known, needed_by, to_do, to_undo, undone_by}
+use Rattle.rq_planner.specs.Asked.{Asked, IsOfStore, asked_back, asked_by, asked_in, doing_sender, known, needed_by, to_do, to_undo}
 use Rattle.rq_planner.specs.Asked.Asked.{Do, Undo}
 use Rattle.rq_planner.specs.Answered.{HasGatheredFor, IsAnswered, IsHeldUp, IsNewestDeed, IsPlanBack, IsPlanFor, IsPlanOf, MayBeAsked, RefusesPlan, unless_latched}
 
@@ -366,11 +366,9 @@ module _ (s : State) (k : LevelState) (given : List Given) (latched : List ℕ) 
       subst (λ (b : Bool). IsAnswered s k (asked_in b job.bytes) (unless_latched answer) after) (sym forward)
       (by_doing job (doing_in job.bytes) answer (subst (λ (b : Bool). HasGatheredFor s given (asked_in b job.bytes)) forward h) (subst (λ (b : Bool). IsOfStore s.sizes (asked_in b job.bytes)) forward inside) law plans)
 
-  pub back_answered : (n : ℕ) (told : Record) (t : Txn) (number level : ℕ) (deed : List ℕ) (answer : Result Plan Refusal) → n ≡ 1 → told ≡ OpEnd t number level deed → HasGatheredFor s given (to_undo (deed_in deed))
-      → (meaning_of n).undoes k told given latched answer after → IsAnswered s k (undone_by told) (unless_latched answer) after
+  pub back_answered : (n : ℕ) (t : Txn) (number level : ℕ) (deed : List ℕ) (answer : Result Plan Refusal) → n ≡ 1 → HasGatheredFor s given (asked_back deed)
+      → (meaning_of n).undoes k (OpEnd t number level deed) given latched answer after → IsAnswered s k (asked_back deed) (unless_latched answer) after
   unfolding meaning_of
-  back_answered n told t number level deed answer one is h m =
-      let law : chain_undoes k told given latched answer after = subst (λ (x : ℕ). (meaning_of x).undoes k told given latched answer after) one m in
-      let undoes : Undoes (Some s.sizes) (deed_in deed) k given latched answer after =
-      subst (λ (z : Option Sizes). Undoes z (deed_in deed) k given latched answer after) keeps.sizes (subst (λ (x : Record). chain_undoes k x given latched answer after) is law) in
-      subst (λ (x : Record). IsAnswered s k (undone_by x) (unless_latched answer) after) (sym is) (by_deed told (deed_in deed) answer h law undoes)
+  back_answered n t number level deed answer one h m =
+      let law : Undoes k.sizes (deed_in deed) k given latched answer after = subst (λ (x : ℕ). (meaning_of x).undoes k (OpEnd t number level deed) given latched answer after) one m in
+      by_deed (OpEnd t number level deed) (deed_in deed) answer h law (subst (λ (z : Option Sizes). Undoes z (deed_in deed) k given latched answer after) keeps.sizes law)

@@ -1,8 +1,6 @@
 -- What is asked of the level of chains, and what it needs for that.
 use Rattle.std.specs.Prelude.{◌≡◌, ℕ, ◌<◌, true, false, Bool, List, [], ◌∷◌, Option, None, Some}
 use Rattle.rq_model.specs.declared.record.Deed.{Deed}
-use Rattle.rq_model.specs.declared.record.Record.{Record}
-use Rattle.rq_model.specs.declared.record.Record.TheVariants.{OpEnd}
 use Rattle.rq_model.specs.Deeds.{deed_in}
 use Rattle.rq_page.specs.Sizes.{Sizes, directory_at, sender_count}
 use Rattle.rq_views.specs.Log.{Slots}
@@ -62,18 +60,17 @@ abbrev pub to_undo : Option Deed → Option Asked
 to_undo None = None
 to_undo (Some d) = Some (Undo d)
 
+-- what bytes ask that are to be a deed to take back, if they are one
+abbrev pub asked_back : List ℕ → Option Asked
+asked_back bytes = to_undo (deed_in bytes)
+
 -- what these bytes ask, if they ask anything
 abbrev pub asked_in : (undo : Bool) → List ℕ → Option Asked
-asked_in true bytes = to_undo (deed_in bytes)
+asked_in true bytes = asked_back bytes
 asked_in false bytes = to_do (doing_in bytes)
 
 abbrev pub asked_by : Job → Option Asked
 asked_by job = asked_in job.undo job.bytes
-
--- what is asked by a record that is to be taken back: it ends an operation, and tells its deed
-abbrev pub undone_by : Record → Option Asked
-undone_by (OpEnd t n level deed) = to_undo (deed_in deed)
-undone_by _ = None
 
 -- it is of a sender of the store
 abbrev pub IsOfStore : Sizes → Option Asked → Type 0

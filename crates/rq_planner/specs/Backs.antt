@@ -1,10 +1,10 @@
 -- What takes back a deed where nothing is under way, by what the slots hold.
-use Rattle.std.specs.Prelude.{◌≡◌, ℕ, ◌<◌, true, [], Option, Some, Result, IfOk, IfErr, IfSome}
+use Rattle.std.specs.Prelude.{◌≡◌, ℕ, ◌<◌, true, List, [], Option, Some, Result, IfOk, IfErr, IfSome}
 use Rattle.rq_model.specs.declared.record.Deed.{Deed}
 use Rattle.rq_model.specs.declared.record.Deed.TheVariants.{Append, UnlinkHead, Close}
-use Rattle.rq_model.specs.declared.record.Record.{Record}
 use Rattle.rq_model.specs.declared.refusal.Refusal.{Refusal}
 use Rattle.rq_model.specs.declared.refusal.Refusal.TheVariants as why
+use Rattle.rq_model.specs.Deeds.{deed_in}
 use Rattle.rq_page.specs.declared.cell.Cell.{Cell}
 use Rattle.rq_page.specs.declared.directory.Directory.{Directory}
 use Rattle.rq_page.specs.Sizes.{Sizes, IsCellAddress, directory_at, sender_count}
@@ -12,12 +12,11 @@ use Rattle.rq_page.specs.Slots.Slot.{Free, Used, Sender}
 use Rattle.rq_views.specs.Log.{Slots}
 use Rattle.rq_views.specs.Plans.Turn.{Undid}
 use Rattle.rq_level.specs.declared.writes.Plan.{Plan}
+use Rattle.rq_level.specs.declared.writes.SlotWrite.{SlotWrite}
 use Rattle.rq_level.specs.Writes.{AreSlotWrites}
 use Rattle.rq_store.specs.Plans.{Stands_at}
 use Rattle.rq_sound.specs.Plans.{IsPlannedFrom}
 use Rattle.rq_sound.specs.Inverses.{InverseTakesLowest}
-use Rattle.rq_planner.specs.Asked.{Asked, undone_by}
-use Rattle.rq_planner.specs.Asked.Asked.{Undo}
 
 -- of the messages that were sent for a group, the last has this number, and stands at the end of its chain
 pub record SentLast (z : Sizes) (q : Slots) (g n : ℕ) : Type 0 where
@@ -59,25 +58,21 @@ CanBeTakenBack z q (Append g n tag previous body) = SentLast z q g n
 CanBeTakenBack z q (UnlinkHead g n tag body) = TakenLast z q g n
 CanBeTakenBack z q (Close g) = IsShut z q g
 
--- none is refused but for memory where it is so
-abbrev pub IsRefusedBack : Sizes → Slots → Option Asked → Refusal → Type 0
-IsRefusedBack z q asked r = (d : Deed) → asked ≡ Some (Undo d) → CanBeTakenBack z q d → r ≡ why.NoMemory
-
--- what is planned to be taken back can be
-abbrev pub IsOfWhatCan : Sizes → Slots → Option Asked → Type 0
-IsOfWhatCan z q asked = (d : Deed) → asked ≡ Some (Undo d) → CanBeTakenBack z q d
+-- none is refused but for memory where it is so of the deed that is told
+abbrev pub IsRefusedBack : Sizes → Slots → Option Deed → Refusal → Type 0
+IsRefusedBack z q told r = (d : Deed) → told ≡ Some d → CanBeTakenBack z q d → r ≡ why.NoMemory
 
 -- a deed has a plan only where the slots hold what its inverse needs, and is refused otherwise alone, but for memory
-pub record IsJudgedBack (z : Sizes) (q : Slots) (asked : Option Asked) (answer : Result (Option Plan) Refusal) : Type 0 where
-  pub can : IfOk answer (λ found. IfSome found (λ p. IsOfWhatCan z q asked))
-  pub refused : IfErr answer (λ r. IsRefusedBack z q asked r)
+pub record IsJudgedBack (z : Sizes) (q : Slots) (told : Option Deed) (answer : Result (Option Plan) Refusal) : Type 0 where
+  pub can : IfOk answer (λ found. IfSome found (λ p. (d : Deed) → told ≡ Some d → CanBeTakenBack z q d))
+  pub refused : IfErr answer (λ r. IsRefusedBack z q told r)
 
--- The plan of what takes back the operation whose end the record is, over the slots as they are, into the lowest free cell
--- where it puts a message back.
-pub record IsTakingBack (z : Sizes) (q : Slots) (told : Record) (p : Plan) : Type 0 where
+-- The writes take back the deed that these bytes tell, as its level plans them over the slots as they are: it was done last
+-- at its end of its group there, and a message is put back into the lowest free cell.
+pub record IsTakingBack (z : Sizes) (q : Slots) (bytes : List ℕ) (ws : List SlotWrite) : Type 0 where
   pub deed : Deed
-  pub reads : undone_by told ≡ Some (Undo deed)
+  pub reads : deed_in bytes ≡ Some deed
   pub can : CanBeTakenBack z q deed
-  pub planned : IsPlannedFrom z q p.writes.items (Undid deed)
-  pub slots : AreSlotWrites z p.writes.items
-  pub lowest : InverseTakesLowest z q [] deed p.writes.items
+  pub planned : IsPlannedFrom z q ws (Undid deed)
+  pub slots : AreSlotWrites z ws
+  pub lowest : InverseTakesLowest z q [] deed ws

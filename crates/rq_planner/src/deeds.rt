@@ -1,26 +1,23 @@
-//! Deeds of records that are to be taken back.
+//! Deeds that are to be taken back.
 ghost use Rattle.std.specs.Prelude.{◌≡◌, ◌<◌, IfNone, IfSome, Some};
 ghost use Rattle.rq_model.specs.declared.record.Deed.{Deed as AnyDeed};
+ghost use Rattle.rq_model.specs.Deeds.{deed_in};
 ghost use Rattle.rq_page.specs.Sizes.{sender_count};
 ghost use Rattle.rq_views.specs.Plans.{deed_sender};
-ghost use Rattle.rq_planner.specs.Asked.{Undo, undone_by};
 
 use rq_disk::PageDevice;
-use rq_model::record::{Deed, Record};
+use rq_model::record::{Deed, DeedBytes};
 use rq_pool::Pages;
 use rq_record::decode_deed;
 
-/// The deed that a record tells, where it ends an operation, and its group is one of the store's.
-pub(crate) fn deed_of_store<P: PageDevice>(pages: &Pages<P>, told: &Record) -> Option<Deed>
-    ensures told { IfSome result (λ deed. undone_by told.now ≡ Some (Undo deed)) }
+/// The deed that these bytes tell, where its group is one of the store's.
+pub(crate) fn deed_of_store<P: PageDevice>(pages: &Pages<P>, bytes: &DeedBytes) -> Option<Deed>
+    ensures told { IfSome result (λ deed. deed_in bytes.now ≡ Some deed) }
     ensures sender { IfSome result (λ deed. deed_sender deed < sender_count pages.now.sizes) }
-    ensures none { IfNone result ((deed : AnyDeed) → undone_by told.now ≡ Some (Undo deed)
+    ensures none { IfNone result ((deed : AnyDeed) → deed_in bytes.now ≡ Some deed
         → deed_sender deed < sender_count pages.now.sizes → ⊥) }
 {
-    let Record::OpEnd { deed, .. } = told else {
-        return None;
-    };
-    let deed = decode_deed(deed.as_slice())?;
+    let deed = decode_deed(bytes.as_slice())?;
     if sender_of(&deed) < pages.layout().senders() {
         Some(deed)
     } else {

@@ -1,9 +1,10 @@
 //! Planners: a level, with the slots that it is given.
 ghost use Rattle.std.specs.Prelude.{◌≡◌, ◌≢◌, ℕ, List, ◌≤◌, IfErr, IfOk, false, length};
+ghost use Rattle.rq_model.specs.Deeds.{deed_in};
 ghost use Rattle.rq_page.specs.Sizes.{cell_count};
 ghost use Rattle.rq_level.specs.LevelState.{noted};
 ghost use Rattle.rq_planner.specs.Answered.{IsPlanned, KnowsCells, RefusesPlan};
-ghost use Rattle.rq_planner.specs.Asked.{IsOfStore, asked_by, known_from, undone_by};
+ghost use Rattle.rq_planner.specs.Asked.{IsOfStore, asked_back, asked_by, known_from};
 ghost use Rattle.rq_planner.specs.Backs.{IsJudgedBack, IsRefusedBack, IsTakingBack};
 ghost use Rattle.rq_planner.specs.Handed.{HasRoom};
 ghost use Rattle.rq_views.specs.Stored.{IsStoreSlot, slots_in};
@@ -14,8 +15,8 @@ use crate::operations::Operations;
 use crate::planning::{plan, plan_inverse};
 use crate::telling::{tell, tell_store, unreserve};
 use rq_disk::PageDevice;
-use rq_level::{Level, Op, Plan, Slots};
-use rq_model::record::{Record, Slot};
+use rq_level::{Level, Op, Plan, SlotWrite, Slots};
+use rq_model::record::{DeedBytes, Slot};
 use rq_model::refusal::{Damage, Refusal};
 use rq_page::addr::Addr;
 use rq_pool::Pages;
@@ -113,7 +114,7 @@ impl<B: Level> Planner<B> {
         }
     }
 
-    /// The plan of what takes back the operation whose end the record is, as `plan` does.
+    /// The plan of what takes back the deed that the bytes tell, which the level of this number reads, as `plan` does.
     ///
     /// # Errors
     /// `NoMemory`; of a store that is not sound, or where the operation may not be undone, also `Damaged`.
@@ -122,13 +123,14 @@ impl<B: Level> Planner<B> {
         alloc: Global,
         pages: &Pages<P>,
         transactions: &Transactions,
-        told: &Record,
+        level: u8,
+        deed: &DeedBytes,
     ) -> Result<Option<Plan>, Refusal>
         requires cells { KnowsCells pages.now.sizes pages.now.images self.old }
-        requires asked { IsOfStore pages.now.sizes (undone_by told.now) }
+        requires asked { IsOfStore pages.now.sizes (asked_back deed.now) }
         ensures cells { KnowsCells pages.now.sizes pages.now.images self.new }
-        ensures planned { IsPlanned (known_from pages.now transactions.now) (undone_by told.now) result }
-        ensures judged { IsJudgedBack pages.now.sizes (slots_in pages.now.sizes pages.now.images) (undone_by told.now)
+        ensures planned { IsPlanned (known_from pages.now transactions.now) (asked_back deed.now) result }
+        ensures judged { IsJudgedBack pages.now.sizes (slots_in pages.now.sizes pages.now.images) (deed_in deed.now)
             result }
     {
         match plan_inverse(
@@ -136,7 +138,8 @@ impl<B: Level> Planner<B> {
             pages,
             transactions,
             &mut self.level,
-            told,
+            level,
+            deed,
             &mut self.slots,
         ) {
             Ok(Some(plan)) => {
@@ -148,26 +151,27 @@ impl<B: Level> Planner<B> {
         }
     }
 
-    /// The plan of what takes back the operation whose end the record is, where nothing is under way.
+    /// The writes that take back the deed that the bytes tell, where nothing is under way.
     ///
     /// # Errors
-    /// `NoMemory`; `Damaged` where the record tells no deed, or one that the slots as they are do not show to be done last
+    /// `NoMemory`; `Damaged` where they tell no deed, or one that the slots as they are do not show to be done last
     /// (of a close: where its group is not closed).
     pub fn plan_inverse_alone<P: PageDevice>(
         &mut self,
         alloc: Global,
         pages: &Pages<P>,
-        told: &Record,
-    ) -> Result<Plan, Refusal>
+        level: u8,
+        deed: &DeedBytes,
+    ) -> Result<Vec<SlotWrite>, Refusal>
         requires { KnowsCells pages.now.sizes pages.now.images self.old }
         ensures cells { KnowsCells pages.now.sizes pages.now.images self.new }
-        ensures plan { IfOk result (λ plan. IsTakingBack pages.now.sizes
-            (slots_in pages.now.sizes pages.now.images) told.now plan) }
+        ensures plan { IfOk result (λ writes. IsTakingBack pages.now.sizes
+            (slots_in pages.now.sizes pages.now.images) deed.now writes.items) }
         ensures refused { IfErr result (λ r. IsRefusedBack pages.now.sizes
-            (slots_in pages.now.sizes pages.now.images) (undone_by told.now) r) }
+            (slots_in pages.now.sizes pages.now.images) (deed_in deed.now) r) }
         ensures causes { IfErr result RefusesPlan }
     {
-        let Some(_deed) = deed_of_store(pages, told) else {
+        let Some(_deed) = deed_of_store(pages, deed) else {
             return Err(Refusal::Damaged(Damage::Page(0)));
         };
         let nobody = Transactions::new(alloc);
@@ -176,12 +180,13 @@ impl<B: Level> Planner<B> {
             pages,
             &nobody,
             &mut self.level,
-            told,
+            level,
+            deed,
             &mut self.slots,
         ) {
             Ok(Some(plan)) => {
                 unreserve(pages, &mut self.level, &plan.writes);
-                Ok(plan)
+                Ok(plan.writes)
             }
             Ok(None) => Err(Refusal::Damaged(Damage::Page(0))),
             Err(refusal) => Err(refusal),

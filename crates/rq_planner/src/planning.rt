@@ -2,15 +2,17 @@
 ghost use Rattle.std.specs.Prelude.{◌≡◌, Some, false};
 ghost use Rattle.rq_sound.specs.Levels.{KeepsCells};
 ghost use Rattle.rq_planner.specs.Answered.{IsAnswered, unless_latched};
-ghost use Rattle.rq_planner.specs.Asked.{IsOfStore, asked_by, known_from, undone_by};
+ghost use Rattle.rq_model.specs.Deeds.{deed_in};
+ghost use Rattle.rq_planner.specs.Asked.{IsOfStore, asked_back, asked_by, known_from};
 ghost use Rattle.rq_planner.specs.Backs.{IsJudgedBack};
 ghost use Rattle.rq_views.specs.Stored.{slots_in};
 
 use crate::gathering::gather;
 use rq_disk::PageDevice;
 use rq_level::{Level, Op, Plan, Slots};
-use rq_model::record::Record;
-use rq_model::refusal::{Damage, Refusal};
+use rq_model::record::{DeedBytes, Record};
+use rq_model::refusal::Refusal;
+use rq_model::txn::Txn;
 use rq_pool::Pages;
 use rq_txn::Transactions;
 use std::alloc::Global;
@@ -44,7 +46,7 @@ pub fn plan<P: PageDevice, B: Level>(
     }
 }
 
-/// Has the level plan what takes back the operation whose end the record is, as `plan` does.
+/// Has the level of this number plan what takes back the deed that the bytes tell, as `plan` does.
 ///
 /// # Errors
 /// `NoMemory`; of a store that is not sound, or where the operation may not be undone, also `Damaged`.
@@ -54,31 +56,34 @@ pub fn plan_inverse<P: PageDevice, B: Level>(
     pages: &Pages<P>,
     transactions: &Transactions,
     level: &mut B,
-    told: &Record,
+    number: u8,
+    deed: &DeedBytes,
     slots: &mut Slots,
 ) -> Result<Option<Plan>, Refusal>
     requires number { B.level level.old ≡ 1 }
     requires cells { KeepsCells (known_from pages.now transactions.now) (B.kept level.old) }
-    requires asked { IsOfStore pages.now.sizes (undone_by told.now) }
+    requires asked { IsOfStore pages.now.sizes (asked_back deed.now) }
     ensures same { B.level level.new ≡ 1 }
-    ensures answered { IsAnswered (known_from pages.now transactions.now) (B.kept level.old) (undone_by told.now) result
+    ensures answered { IsAnswered (known_from pages.now transactions.now) (B.kept level.old) (asked_back deed.now) result
         (B.kept level.new) }
-    ensures judged { IsJudgedBack pages.now.sizes (slots_in pages.now.sizes pages.now.images) (undone_by told.now)
+    ensures judged { IsJudgedBack pages.now.sizes (slots_in pages.now.sizes pages.now.images) (deed_in deed.now)
         result }
 {
-    let Record::OpEnd {
-        level: number,
-        deed,
-        ..
-    } = told
-    else {
-        return Err(Refusal::Damaged(Damage::Page(0)));
-    };
-    let Ok(op) = Op::undo(alloc, *number, deed.as_slice()) else {
+    let Ok(op) = Op::undo(alloc, number, deed.as_slice()) else {
         return Err(Refusal::NoMemory);
     };
+    // Of this record the level reads the deed alone.
+    let end = Record::OpEnd {
+        txn: Txn {
+            incarnation: 1,
+            count: 1,
+        },
+        operation: 1,
+        level: number,
+        deed: *deed,
+    };
     match gather(pages, transactions, level, &op, slots) {
-        Ok(true) => found(level.undo(alloc, told, slots, transactions.latched())),
+        Ok(true) => found(level.undo(alloc, &end, slots, transactions.latched())),
         Ok(false) => Ok(None),
         Err(refusal) => Err(refusal),
     }

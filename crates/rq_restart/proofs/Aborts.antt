@@ -18,6 +18,7 @@ use Rattle.rq_level.specs.declared.writes.SlotWrite.{SlotWrite}
 use Rattle.rq_store.specs.State.{State}
 use Rattle.rq_store.specs.Steps.{page_op}
 use Rattle.rq_sound.specs.Rows.{comp_end}
+use Rattle.rq_planner.specs.Backs.{IsTakingBack}
 use Rattle.rq_store.specs.Whole.{IsWhole}
 use Rattle.rq_analysis.specs.OpenWorkView.{OpenWorkView, open_work_of, without_txn}
 use Rattle.rq_analysis.proofs.Lists.{filter_less}
@@ -28,7 +29,7 @@ use Rattle.rq_analysis.proofs.Noting.{noted_active}
 use Rattle.rq_restart.specs.declared.analysis.Analysis.{Analysis}
 use Rattle.rq_restart.specs.Found.{IsAnalysisOf}
 use Rattle.rq_analysis.specs.declared.dues.PendingUndo.{PendingUndo}
-use Rattle.rq_restart.specs.Aborting.{AbortStops, AbortsBehind, AbortsFrom, AbortsOn, ArePlanned, AreRounds, HasGoneOn, IsAborting, IsBadStep, IsNextRound, IsMaking, IsOnItsWay, IsPlannedBack, IsPlannedOn, IsTakenNext, OfStore, RepeatedSince, Round, after_round, after_rounds, with_writes}
+use Rattle.rq_restart.specs.Aborting.{AbortStops, AbortsBehind, AbortsFrom, AbortsOn, ArePlanned, AreRounds, HasGoneOn, IsAborting, IsBadStep, IsNextRound, IsMaking, IsOnItsWay, IsPlannedOn, IsTakenNext, OfStore, RepeatedSince, Round, after_round, after_rounds, with_writes}
 use Rattle.rq_restart.specs.Aborting.Round.{Ends, TakesBack}
 use Rattle.rq_restart.specs.Aborting.IsAborting.{Between, Within}
 use Rattle.rq_restart.specs.Aborting.IsBadStep.{BadDue, BadRecord}
@@ -124,7 +125,7 @@ module _ (z : Sizes) (a b : List Record) (old mid : Paged) (repeated : RepeatedS
   aborting_join c h k = same_aborting z (RepeatedSince z a old) a b c h (aborting_weaker z (RepeatedSince z b mid) (RepeatedSince z a old) since b c k)
 
 -- what is planned over the pages as they are
-pub planned_here : (z : Sizes) (log : List Record) (old : Paged) (d : PendingUndo) (ws : List SlotWrite) → IsPlannedBack z (slots_on z old) d ws → IsPlannedOn z (RepeatedSince z log old log) d ws
+pub planned_here : (z : Sizes) (log : List Record) (old : Paged) (d : PendingUndo) (ws : List SlotWrite) → IsTakingBack z (slots_on z old) d.deed ws → IsPlannedOn z (RepeatedSince z log old log) d ws
 planned_here z log old d ws plan = record { pages = old; on_pages = λ first k. k; plan = plan }
 
 -- ---- writes of an operation

@@ -1,12 +1,10 @@
 -- What is due can be planned to be taken back.
-use Rattle.std.proofs.Common.{◌≡◌, ℕ, ◌/◌, ◌<◌, List, [], Option, Some, None, refl, sym, ◌∙◌, ap, subst, false, arith}
+use Rattle.std.proofs.Common.{◌≡◌, ℕ, ◌/◌, ◌<◌, List, [], Some, refl, sym, ◌∙◌, ap, subst, false, arith}
 use Rattle.rq_model.specs.declared.record.Deed.{Deed}
 use Rattle.rq_model.specs.declared.record.Deed.TheVariants.{Append, UnlinkHead, Close}
 use Rattle.rq_model.specs.declared.record.Record.{Record}
-use Rattle.rq_model.specs.declared.record.Record.TheVariants as records
 use Rattle.rq_model.specs.declared.refusal.Refusal.{Refusal}
 use Rattle.rq_model.specs.declared.refusal.Refusal.TheVariants as why
-use Rattle.rq_model.specs.declared.txn.Txn.{Txn}
 use Rattle.rq_model.specs.Deeds.{deed_in}
 use Rattle.rq_page.specs.declared.directory.Directory.{Directory}
 use Rattle.rq_page.specs.Sizes.{Sizes, directory_at, sender_count}
@@ -16,7 +14,6 @@ use Rattle.rq_views.specs.Log.{Slots}
 use Rattle.rq_views.specs.Plans.{deed_sender}
 use Rattle.rq_views.specs.Plans.Turn.{Undid}
 use Rattle.rq_views.specs.Stored.{slots_in}
-use Rattle.rq_level.specs.declared.writes.Plan.{Plan}
 use Rattle.rq_level.specs.declared.writes.SlotWrite.{SlotWrite}
 use Rattle.rq_txn.specs.Rows.{latched_in}
 use Rattle.rq_store.specs.State.{State}
@@ -27,14 +24,12 @@ use Rattle.rq_sound.proofs.Groups.{all_stand, tells_group}
 use Rattle.rq_sound.proofs.Latching as latching
 use Rattle.rq_sound.proofs.UsedCells.{some_free}
 use Rattle.rq_sound.specs.Inverses.{InverseTakesLowest, MayBeUndone}
-use Rattle.rq_planner.specs.Asked.{to_undo}
-use Rattle.rq_planner.specs.Asked.Asked.{Undo}
 use Rattle.rq_planner.specs.Backs.{CanBeTakenBack, IsRefusedBack, IsTakingBack}
 use Rattle.rq_chain_check.proofs.Chains.{sender_same}
 use Rattle.rq_analysis.specs.declared.dues.PendingUndo.{PendingUndo}
 use Rattle.rq_analysis.specs.Dues.{deed_due}
 use Rattle.rq_analysis.specs.Walk.{ShowsUndone, StandsLast}
-use Rattle.rq_restart.specs.Aborting.{IsPlannedBack, PlanStops, blamed_on}
+use Rattle.rq_restart.specs.Aborting.{PlanStops, blamed_on}
 
 -- ---- what a sound store shows to be done last, with nothing under way, can be taken back
 
@@ -99,21 +94,7 @@ shows_can z images log d low shows =
 deed_is : (d : PendingUndo) (deed : Deed) → deed_in d.deed ≡ Some deed → deed_due d ≡ deed
 deed_is d deed e = ap told_deed e
 
-asked_is : (o : Option Deed) (d : Deed) → to_undo o ≡ Some (Undo d) → o ≡ Some d
-asked_is None d e = absurd (let no : None ≡ Some (Undo d) = e in cc no)
-asked_is (Some x) d e = let same : Some (Undo x) ≡ Some (Undo d) = e in cc same
-
-pub planned_back : (z : Sizes) (q : Slots) (due : PendingUndo) (t : Txn) (n level : ℕ) (p : Plan) → IsTakingBack z q (records.OpEnd t n level due.deed) p → IsPlannedBack z q due p.writes.items
-planned_back z q due t n level p b = record {
-  deed = b.deed;
-  reads = asked_is (deed_in due.deed) b.deed b.reads;
-  can = b.can;
-  planned = b.planned;
-  slots = b.slots;
-  lowest = b.lowest;
-}
-
-module _ (z : Sizes) (q : Slots) (due : PendingUndo) (ws : List SlotWrite) (b : IsPlannedBack z q due ws) where
+module _ (z : Sizes) (q : Slots) (due : PendingUndo) (ws : List SlotWrite) (b : IsTakingBack z q due.deed ws) where
   pub plan_is : IsPlannedFrom z q ws (Undid (deed_due due))
   plan_is = subst (λ (d : Deed). IsPlannedFrom z q ws (Undid d)) (sym (deed_is due b.deed b.reads)) b.planned
 
@@ -121,7 +102,7 @@ module _ (z : Sizes) (q : Slots) (due : PendingUndo) (ws : List SlotWrite) (b : 
   lowest_is = subst (λ (d : Deed). InverseTakesLowest z q [] d ws) (sym (deed_is due b.deed b.reads)) b.lowest
 
 -- and why it plans nothing
-pub why_not_planned : (z : Sizes) (images : List (List ℕ)) (due : PendingUndo) (r : Refusal) → IsRefusedBack z (slots_in z images) (to_undo (deed_in due.deed)) r → PlanStops z images due (blamed_on due.lsn r)
+pub why_not_planned : (z : Sizes) (images : List (List ℕ)) (due : PendingUndo) (r : Refusal) → IsRefusedBack z (slots_in z images) (deed_in due.deed) r → PlanStops z images due (blamed_on due.lsn r)
 why_not_planned z images due why.NoMemory f = tt
-why_not_planned z images due (why.Damaged x) f = (refl, λ deed told can. (let e = f deed (ap to_undo told) can in cc e))
-why_not_planned z images due _ f = (refl, λ deed told can. (let e = f deed (ap to_undo told) can in cc e))
+why_not_planned z images due (why.Damaged x) f = (refl, λ deed told can. (let e = f deed told can in cc e))
+why_not_planned z images due _ f = (refl, λ deed told can. (let e = f deed told can in cc e))

@@ -43,6 +43,7 @@ use Rattle.rq_analysis.proofs.Logging.{write_whole}
 use Rattle.rq_analysis.proofs.Moving.{moves_sound}
 use Rattle.rq_analysis.proofs.Numbering.{kept}
 use Rattle.rq_analysis.proofs.Owing.{rest_due}
+use Rattle.rq_planner.specs.Backs.{IsTakingBack}
 use Rattle.rq_analysis.proofs.Planning.{due_may, due_reads}
 use Rattle.rq_analysis.proofs.Recovering.{behind}
 use Rattle.rq_analysis.proofs.Walking.{aborts_go_on}
@@ -55,7 +56,7 @@ use Rattle.rq_restart.specs.Found.{IsAnalysisOf}
 use Rattle.rq_restart.specs.Repeating.{Belongs, IsRecordRedone, Paged, Repeats, paged}
 use Rattle.rq_restart.proofs.Aborts.{aborting_none, active_lost}
 use Rattle.rq_restart.proofs.DueLists.{nobody_left, one_next, own_stay}
-use Rattle.rq_restart.proofs.Planning.{shows_can}
+use Rattle.rq_restart.proofs.Planning.{lowest_is, plan_is, shows_can}
 use Rattle.rq_restart.proofs.Showing.{belongs_next, between_holds, put_next, within_holds}
 
 -- ---- numbers
@@ -150,11 +151,11 @@ module _ {P : Type 0} (z : Sizes) (log : List Record) (old : Pooled P) (f : Anal
         in_txns (x ∷ rows) q i = elim i [ inl e ↦ inl (ap (λ (y : Row). y.txn) e) | inr j ↦ inr (in_txns rows q j) ]
 
     -- it can be planned
-    pub begin_shown : (ws : List SlotWrite) (n : ℕ) → IsPlannedFrom z (slots_in z old.images) ws (Undid (deed_due d)) → InverseTakesLowest z (slots_in z old.images) [] (deed_due d) ws → n ≡ number_of d.txn f.numbers + 1 → OfStore z shown (IsShownWithin log old d n ws 0)
-    begin_shown ws n plan low number base k same b =
-        let planned : IsPlannedFrom base.sizes (slots_in base.sizes old.images) ws (Undid (deed_due d)) = subst (λ y. IsPlannedFrom y (slots_in y old.images) ws (Undid (deed_due d))) (sym same) plan in
+    pub begin_shown : (ws : List SlotWrite) (n : ℕ) → IsTakingBack z (slots_in z old.images) d.deed ws → n ≡ number_of d.txn f.numbers + 1 → OfStore z shown (IsShownWithin log old d n ws 0)
+    begin_shown ws n back number base k same b =
+        let planned : IsPlannedFrom base.sizes (slots_in base.sizes old.images) ws (Undid (deed_due d)) = subst (λ y. IsPlannedFrom y (slots_in y old.images) ws (Undid (deed_due d))) (sym same) (plan_is z (slots_in z old.images) d ws back) in
         let e : number_of d.txn (numbers log) + 1 ≡ n = ap (λ m. number_of d.txn m + 1) (sym are.numbers) ∙ sym number in
-        let lowest : InverseTakesLowest base.sizes (slots_in base.sizes old.images) [] (deed_due d) ws = subst (λ y. InverseTakesLowest y (slots_in y old.images) [] (deed_due d) ws) (sym same) low in
+        let lowest : InverseTakesLowest base.sizes (slots_in base.sizes old.images) [] (deed_due d) ws = subst (λ y. InverseTakesLowest y (slots_in y old.images) [] (deed_due d) ws) (sym same) (lowest_is z (slots_in z old.images) d ws back) in
         subst (λ m. IsWithin base old.images log d.txn m d.lsn (deed_due d) ws 0) e
         (aborts_go_on.begins base old.images log d ds ws k b (least_is None none base k same b) first_is planned lowest)
 

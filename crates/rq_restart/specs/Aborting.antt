@@ -9,20 +9,15 @@ use Rattle.rq_model.specs.declared.refusal.Damage.TheVariants as damage
 use Rattle.rq_model.specs.declared.txn.Txn.{Txn}
 use Rattle.rq_model.specs.Deeds.{deed_in}
 use Rattle.rq_page.specs.Sizes.{Sizes}
-use Rattle.rq_views.specs.Log.{Slots}
-use Rattle.rq_views.specs.Plans.Turn.{Undid}
 use Rattle.rq_views.specs.Stored.{slots_in}
 use Rattle.rq_level.specs.declared.writes.SlotWrite.{SlotWrite}
-use Rattle.rq_level.specs.Writes.{AreSlotWrites}
 use Rattle.rq_pool.specs.Pooled.{Pooled}
 use Rattle.rq_store.specs.Fitting.{image_in}
 use Rattle.rq_store.specs.State.{State}
 use Rattle.rq_store.specs.Steps.{page_op}
-use Rattle.rq_sound.specs.Plans.{IsPlannedFrom}
 use Rattle.rq_sound.specs.Rows.{comp_end}
 use Rattle.rq_sound.specs.Sound.{IsSound}
-use Rattle.rq_sound.specs.Inverses.{InverseTakesLowest}
-use Rattle.rq_planner.specs.Backs.{CanBeTakenBack}
+use Rattle.rq_planner.specs.Backs.{CanBeTakenBack, IsTakingBack}
 use Rattle.rq_analysis.specs.declared.dues.PendingUndo.{PendingUndo}
 use Rattle.rq_analysis.specs.OpenWorkView.{open_work_of}
 use Rattle.rq_analysis.specs.Choices.{least_free}
@@ -75,21 +70,11 @@ pub record AbortsBehind (log now : List Record) : Type 0 where
   pub turns : AreRounds log rounds
   pub are : after_rounds rounds log ≡ now
 
--- The writes are those that take back what is due, as its level plans them over these slots: its deed was done last at its
--- end of its group there, and a message is put back into the lowest free cell.
-pub record IsPlannedBack (z : Sizes) (q : Slots) (due : PendingUndo) (ws : List SlotWrite) : Type 0 where
-  pub deed : Deed
-  pub reads : deed_in due.deed ≡ Some deed
-  pub can : CanBeTakenBack z q deed
-  pub planned : IsPlannedFrom z q ws (Undid deed)
-  pub slots : AreSlotWrites z ws
-  pub lowest : InverseTakesLowest z q [] deed ws
-
--- they are so planned over some pages of which this is so
+-- the writes take back what is due, as its level plans them over some pages of which this is so
 pub record IsPlannedOn (z : Sizes) (on : Paged → Type 0) (due : PendingUndo) (ws : List SlotWrite) : Type 0 where
   pub pages : Paged
   pub on_pages : on pages
-  pub plan : IsPlannedBack z (slots_on z pages) due ws
+  pub plan : IsTakingBack z (slots_on z pages) due.deed ws
 
 -- what is taken back in each round is planned over pages of which this is so, and of the log before the round
 abbrev pub ArePlanned : Sizes → (List Record → Paged → Type 0) → List Record → List Round → Type 0

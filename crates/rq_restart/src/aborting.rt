@@ -1,18 +1,15 @@
 //! Undoing lost transactions, one after the other, by the inverses of what they did.
 ghost use Rattle.std.specs.Prelude.{◌≡◌, ◌∷◌, ◌<◌, IfOk, IfErr, OnOk, OnErr, None, false, List, [], length, take};
-ghost use Rattle.rq_views.specs.Plans.Turn.{Undid};
 ghost use Rattle.rq_views.specs.Stored.{slots_in};
 ghost use Rattle.rq_level.specs.Writes.{AreSlotWrites};
-ghost use Rattle.rq_sound.specs.Plans.{IsPlannedFrom};
-ghost use Rattle.rq_sound.specs.Inverses.{InverseTakesLowest};
 ghost use Rattle.rq_planner.specs.Answered.{KnowsCells};
+ghost use Rattle.rq_planner.specs.Backs.{IsTakingBack};
 ghost use Rattle.rq_analysis.specs.declared.dues.PendingUndo.{PendingUndo};
 ghost use Rattle.rq_analysis.specs.Choices.{least_free};
-ghost use Rattle.rq_analysis.specs.Dues.{deed_due};
 ghost use Rattle.rq_record.specs.Spelling.{IsTxnInRange};
 ghost use Rattle.rq_store.specs.Steps.{page_op};
 ghost use Rattle.rq_model.specs.Vocabulary.{In};
-ghost use Rattle.rq_restart.specs.Aborting.{AbortStops, AbortsFrom, HasGoneOn, IsAbortingFrom, IsMaking, IsPlannedBack, blamed_on, IsShown, IsShownWithin, PlanStops, with_writes};
+ghost use Rattle.rq_restart.specs.Aborting.{AbortStops, AbortsFrom, HasGoneOn, IsAbortingFrom, IsMaking, blamed_on, IsShown, IsShownWithin, PlanStops, with_writes};
 ghost use Rattle.rq_restart.specs.Checked.{IsEnded};
 ghost use Rattle.rq_restart.specs.Found.{IsAnalysisOf};
 
@@ -248,24 +245,12 @@ fn plan<P: PageDevice, B: Level>(
 ) -> Result<Vec<SlotWrite>, Refusal>
     requires { KnowsCells pages.now.sizes pages.now.images planner.old }
     ensures cells { KnowsCells pages.now.sizes pages.now.images planner.new }
-    ensures back { IfOk result (λ writes. IsPlannedBack pages.now.sizes (slots_in pages.now.sizes pages.now.images)
-        due.now writes.items) }
-    ensures plan { IfOk result (λ writes. IsPlannedFrom pages.now.sizes (slots_in pages.now.sizes pages.now.images)
-        writes.items (Undid (deed_due due.now))) }
-    ensures slots { IfOk result (λ writes. AreSlotWrites pages.now.sizes writes.items) }
-    ensures lowest { IfOk result (λ writes. InverseTakesLowest pages.now.sizes
-        (slots_in pages.now.sizes pages.now.images) [] (deed_due due.now) writes.items) }
+    ensures back { IfOk result (λ writes. IsTakingBack pages.now.sizes (slots_in pages.now.sizes pages.now.images)
+        due.now.deed writes.items) }
     ensures stops { IfErr result (λ e. PlanStops pages.now.sizes pages.now.images due.now e) }
 {
-    // The number of its operation is not read.
-    let told = Record::OpEnd {
-        txn: due.txn,
-        operation: 1,
-        level: due.level,
-        deed: due.deed,
-    };
-    match planner.plan_inverse_alone(alloc, pages, &told) {
-        Ok(plan) => Ok(plan.writes),
+    match planner.plan_inverse_alone(alloc, pages, due.level, &due.deed) {
+        Ok(writes) => Ok(writes),
         Err(refusal) => Err(blamed(due.lsn, refusal)),
     }
 }

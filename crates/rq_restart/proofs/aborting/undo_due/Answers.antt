@@ -1,19 +1,16 @@
-use Rattle.std.proofs.Common.{◌≡◌, ℕ, [], ◌∷◌, ◌+◌, ◌≤◌, inr, ◌^◌, List, rules, length, take, inl, refl, ◌∙◌, sym, ap, subst, arith}
+use Rattle.std.proofs.Common.{◌≡◌, ℕ, ◌∷◌, ◌+◌, ◌≤◌, inr, ◌^◌, rules, length, take, inl, refl, ◌∙◌, sym, ap, subst, arith}
 use Rattle.std.proofs.lemmas.Bool.{cases_lt}
 use Rattle.rq_model.specs.declared.record.Record.{Record}
 use Rattle.rq_model.specs.Vocabulary.{In}
 use Rattle.rq_page.specs.Sizes.{Sizes}
-use Rattle.rq_views.specs.Plans.Turn.{Undid}
 use Rattle.rq_views.specs.Stored.{slots_in}
-use Rattle.rq_level.specs.declared.writes.SlotWrite.{SlotWrite}
-use Rattle.rq_sound.specs.Plans.{IsPlannedFrom}
 use Rattle.rq_sound.specs.Rows.{comp_end}
-use Rattle.rq_sound.specs.Inverses.{InverseTakesLowest}
+use Rattle.rq_planner.specs.Backs.{IsTakingBack}
 use Rattle.rq_restart.proofs.Renewing.{cells_same}
-use Rattle.rq_analysis.specs.Dues.{deed_due, dues}
+use Rattle.rq_analysis.specs.Dues.{dues}
 use Rattle.rq_analysis.specs.Numbers.{number_of, numbers}
 use Rattle.rq_analysis.specs.OpenWorkView.{OpenWorkView, open_work_of}
-use Rattle.rq_restart.specs.Aborting.{AbortStops, AbortsFrom, HasGoneOn, IsAbortingFrom, IsMaking, IsPlannedBack, IsPlannedOn, IsShown, IsShownWithin, IsTakenNext, RepeatedSince, with_writes}
+use Rattle.rq_restart.specs.Aborting.{AbortStops, AbortsFrom, HasGoneOn, IsAbortingFrom, IsMaking, IsPlannedOn, IsShown, IsShownWithin, IsTakenNext, RepeatedSince, with_writes}
 use Rattle.rq_restart.specs.Aborting.IsAborting.{Between}
 use Rattle.rq_restart.specs.Repeating.{Belongs, IsRecordRedone, paged}
 use Rattle.rq_restart.specs.Undoing.{StepStops}
@@ -59,13 +56,11 @@ returns-in_err-make_all-clause-stops g c =
     let d = c.args.due.now in
     let n = c.in-Some.operation in
     let ws = c.deref.result.now in
-    let plan : IsPlannedFrom z (slots_in z old.images) ws (Undid (deed_due d)) = subst (λ (l : List SlotWrite). IsPlannedFrom z (slots_in z old.images) l (Undid (deed_due d))) (sym c.deref.ensures.value) c.in_ok-writes.ensures.plan in
-    let low : InverseTakesLowest z (slots_in z old.images) [] (deed_due d) ws = subst (InverseTakesLowest z (slots_in z old.images) [] (deed_due d)) (sym c.deref.ensures.value) c.in_ok-writes.ensures.lowest in
     let first = c.requires.first in
     let refusal = c.in_err-make_all.field-0.0 in
     let number : n ≡ number_of d.txn c.args.analysis.now.numbers + 1 = (let e : c.in-Some.operation ≡ c.greatest.result + 1 = search rules in e ∙ ap (λ (m : ℕ). m + 1) c.greatest.ensures) in
-    let begun = begin_shown z log old c.args.analysis.now c.requires.found d first.0 first.1 c.requires.none ws n plan low number in
-    let back : IsPlannedBack z (slots_in z old.images) d ws = subst (λ (l : List SlotWrite). IsPlannedBack z (slots_in z old.images) d l) (sym c.deref.ensures.value) c.in_ok-writes.ensures.back in
+    let back : IsTakingBack z (slots_in z old.images) d.deed ws = subst (IsTakingBack z (slots_in z old.images) d.deed) (sym c.deref.ensures.value) c.in_ok-writes.ensures.back in
+    let begun = begin_shown z log old c.args.analysis.now c.requires.found d first.0 first.1 c.requires.none ws n back number in
     let planned : IsPlannedOn z (RepeatedSince z log (paged old) log) d ws = planned_here z log (paged old) d ws back in
     let next : IsTakenNext log d n = taken_next z log old c.args.analysis.now c.requires.found d first.0 first.1 c.requires.none n number in
     let h : AbortStops z (IsAbortingFrom z log old) log old (IsShown log old) refusal =
@@ -99,8 +94,6 @@ returns-in_err-append-clause-stops g c =
     let d = c.args.due.now in
     let n = c.in-Some.operation in
     let ws = c.deref.result.now in
-    let plan : IsPlannedFrom z (slots_in z old.images) ws (Undid (deed_due d)) = subst (λ (l : List SlotWrite). IsPlannedFrom z (slots_in z old.images) l (Undid (deed_due d))) (sym c.deref.ensures.value) c.in_ok-writes.ensures.plan in
-    let low : InverseTakesLowest z (slots_in z old.images) [] (deed_due d) ws = subst (InverseTakesLowest z (slots_in z old.images) [] (deed_due d)) (sym c.deref.ensures.value) c.in_ok-writes.ensures.lowest in
     let first = c.requires.first in
     let made = c.in_ok-make_all.ensures in
     let mid = c.make_all.new.log.records in
@@ -108,10 +101,10 @@ returns-in_err-append-clause-stops g c =
     let r : Record = comp_end d.txn n d.lsn in
     let refusal = c.in_err-append.field-0.0 in
     let number : n ≡ number_of d.txn c.args.analysis.now.numbers + 1 = (let e : c.in-Some.operation ≡ c.greatest.result + 1 = search rules in e ∙ ap (λ (m : ℕ). m + 1) c.greatest.ensures) in
-    let begun = begin_shown z log old c.args.analysis.now c.requires.found d first.0 first.1 c.requires.none ws n plan low number in
+    let back : IsTakingBack z (slots_in z old.images) d.deed ws = subst (IsTakingBack z (slots_in z old.images) d.deed) (sym c.deref.ensures.value) c.in_ok-writes.ensures.back in
+    let begun = begin_shown z log old c.args.analysis.now c.requires.found d first.0 first.1 c.requires.none ws n back number in
     let all = IsShownWithin mid pages d n ws (length ws) in
     let step : StepStops (length mid) (Belongs z mid r (paged pages)) refusal = subst (λ y. StepStops (length mid) (Belongs y mid r (paged pages)) refusal) made.sizes c.in_err-append.ensures.stops in
-    let back : IsPlannedBack z (slots_in z old.images) d ws = subst (λ (l : List SlotWrite). IsPlannedBack z (slots_in z old.images) d l) (sym c.deref.ensures.value) c.in_ok-writes.ensures.back in
     let planned : IsPlannedOn z (RepeatedSince z log (paged old) log) d ws = planned_here z log (paged old) d ws back in
     let next : IsTakenNext log d n = taken_next z log old c.args.analysis.now c.requires.found d first.0 first.1 c.requires.none n number in
     let here : AbortStops z (IsAbortingFrom z log old) mid pages all refusal = one_stops z (IsAbortingFrom z log old) mid r pages all (making_aborts z (RepeatedSince z log (paged old)) log mid d n ws next planned (record { made = length ws; are = made.gone_on.aborting })) (Between (closing_aborts z (RepeatedSince z log (paged old)) log mid d n ws next planned (all_made d.txn n ws log mid made.gone_on.aborting))) refusal step (within_way z mid pages d n ws (length ws)) (close_belongs z mid pages d n ws) in
@@ -127,8 +120,6 @@ returns-clause-gone_on g c =
     let d = c.args.due.now in
     let n = c.in-Some.operation in
     let ws = c.deref.result.now in
-    let plan : IsPlannedFrom z (slots_in z old.images) ws (Undid (deed_due d)) = subst (λ (l : List SlotWrite). IsPlannedFrom z (slots_in z old.images) l (Undid (deed_due d))) (sym c.deref.ensures.value) c.in_ok-writes.ensures.plan in
-    let low : InverseTakesLowest z (slots_in z old.images) [] (deed_due d) ws = subst (InverseTakesLowest z (slots_in z old.images) [] (deed_due d)) (sym c.deref.ensures.value) c.in_ok-writes.ensures.lowest in
     let first = c.requires.first in
     let made = c.in_ok-make_all.ensures in
     let mid = c.make_all.new.log.records in
@@ -137,11 +128,11 @@ returns-clause-gone_on g c =
     let last = c.in_ok-append.ensures in
     let r : Record = comp_end d.txn n d.lsn in
     let number : n ≡ number_of d.txn c.args.analysis.now.numbers + 1 = (let e : c.in-Some.operation ≡ c.greatest.result + 1 = search rules in e ∙ ap (λ (m : ℕ). m + 1) c.greatest.ensures) in
-    let begun = begin_shown z log old c.args.analysis.now c.requires.found d first.0 first.1 c.requires.none ws n plan low number in
+    let back : IsTakingBack z (slots_in z old.images) d.deed ws = subst (IsTakingBack z (slots_in z old.images) d.deed) (sym c.deref.ensures.value) c.in_ok-writes.ensures.back in
+    let begun = begin_shown z log old c.args.analysis.now c.requires.found d first.0 first.1 c.requires.none ws n back number in
     let before = IsShownWithin log old d n ws 0 in
     let all = IsShownWithin mid pages d n ws (length ws) in
     let one : IsRecordRedone z mid r (paged pages) (paged new) = subst (λ y. IsRecordRedone y mid r (paged pages) (paged new)) made.sizes last.repeated in
-    let back : IsPlannedBack z (slots_in z old.images) d ws = subst (λ (l : List SlotWrite). IsPlannedBack z (slots_in z old.images) d l) (sym c.deref.ensures.value) c.in_ok-writes.ensures.back in
     let planned : IsPlannedOn z (RepeatedSince z log (paged old) log) d ws = planned_here z log (paged old) d ws back in
     let next : IsTakenNext log d n = taken_next z log old c.args.analysis.now c.requires.found d first.0 first.1 c.requires.none n number in
     let taken : AbortsFrom z log old (r ∷ mid) = closing_aborts z (RepeatedSince z log (paged old)) log mid d n ws next planned (all_made d.txn n ws log mid made.gone_on.aborting) in

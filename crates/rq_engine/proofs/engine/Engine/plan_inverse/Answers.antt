@@ -1,13 +1,13 @@
 use Rattle.std.proofs.Common.{sym, subst}
 use Rattle.rq_store.specs.State.{State}
 use Rattle.rq_planner.specs.Answered.{IsPlanned}
-use Rattle.rq_planner.specs.Asked.{IsOfStore, undone_by}
+use Rattle.rq_planner.specs.Asked.{IsOfStore, asked_back}
 use Rattle.rq_engine.specs.Plans.{known_part}
 use Rattle.rq_engine.proofs.Opened.{state_is}
 use Rattle.rq_engine.proofs.engine.Engine.plan_inverse.Goals as goal
 
 pub plan_inverse-requires-clause-asked : goal.plan_inverse-requires-clause-asked
-plan_inverse-requires-clause-asked g c = subst (λ (s : State). IsOfStore s.sizes (undone_by c.args.told.now)) (sym (state_is c.self.view_is)) c.requires
+plan_inverse-requires-clause-asked g c = subst (λ (s : State). IsOfStore s.sizes (asked_back c.args.deed.now)) (sym (state_is c.self.view_is)) c.requires
 
 pub plan_inverse-requires-clause-cells : goal.plan_inverse-requires-clause-cells
 plan_inverse-requires-clause-cells g c = c.self.invariant.cells
@@ -16,4 +16,4 @@ pub invariant_of-self : goal.invariant_of-self
 invariant_of-self g c = record { kept = c.self.invariant.kept; durable = c.self.invariant.durable; cells = c.plan_inverse.ensures.cells }
 
 pub returns-clause-planned : goal.returns-clause-planned
-returns-clause-planned g c = subst (λ (s : State). IsPlanned (known_part s) (undone_by c.args.told.now) c.plan_inverse.result) (state_is c.self.view_is) c.plan_inverse.ensures.planned
+returns-clause-planned g c = subst (λ (s : State). IsPlanned (known_part s) (asked_back c.args.deed.now) c.plan_inverse.result) (state_is c.self.view_is) c.plan_inverse.ensures.planned
