@@ -2,12 +2,11 @@
 ghost use Rattle.std.specs.Prelude.{◌≡◌, ◌∷◌, ◌+◌, ◌<◌, [], IfSome, IfNone, MatchOption, OnOk, OnErr, Some, List, true, false, drop, length, slice_index_or};
 ghost use Rattle.std.specs.List.{filter};
 ghost use Rattle.rq_model.specs.Vocabulary.{first};
-ghost use Rattle.rq_analysis.specs.Dues.{any_due, but_newest, but_own, deed_due, due_of, dues, dues_after};
+ghost use Rattle.rq_analysis.specs.Dues.{any_due, but_newest, but_own, due_of, dues, dues_after};
 
-use rq_model::record::{Deed, DeedBytes, Record};
+use rq_model::record::{DeedBytes, Record};
 use rq_model::refusal::NoMemory;
 use rq_model::txn::{Lsn, Txn};
-use rq_record::decode_deed;
 use std::alloc::Global;
 use std::marker::Model;
 
@@ -30,18 +29,6 @@ pub struct PendingUndo {
 pub struct PendingUndos {
     /// In the order of their records.
     dues: Vec<PendingUndo>,
-}
-
-impl PendingUndo {
-    /// What was done; the close of the first group where the bytes are no deed's.
-    pub fn told(&self) -> Deed
-        ensures { result ≡ deed_due self.now }
-    {
-        match decode_deed(self.deed.as_slice()) {
-            Some(deed) => deed,
-            None => Deed::Close { sender: 0 },
-        }
-    }
 }
 
 impl Model for PendingUndos {
