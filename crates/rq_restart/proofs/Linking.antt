@@ -8,28 +8,26 @@ use Rattle.rq_page.specs.Sizes.{Sizes}
 use Rattle.rq_pool.specs.Pooled.{IsPool, Pooled}
 use Rattle.rq_views.specs.Stored.{slots_in}
 use Rattle.rq_store.specs.Opening.{IsLeft}
-use Rattle.rq_analysis.specs.Recovered.{IsRecovered}
 use Rattle.rq_chain_check.specs.Links.{AreLinked}
 use Rattle.rq_chain_check.proofs.Faults.{faults_exact}
 use Rattle.rq_chain_check.proofs.Sound.{sound_linked}
-use Rattle.rq_restart.specs.RolledBack.{ArePlannedFrom, IsRolledBack, LinkStops, RollbackStops}
+use Rattle.rq_restart.specs.RolledBack.{IsRolledBackSince, LinkStops, RollbackStops}
 use Rattle.rq_restart.specs.Repeating.{Paged, Repeats, paged, slots_on}
 use Rattle.rq_restart.proofs.Begun.{begun_sound}
 
-module _ {P : Type 0} (z : Sizes) (log rolled_back : List Record) (new : Pooled P) (first : Paged) (rolls_back : IsRolledBack log rolled_back) (pool : IsPool z new.images) (repeated : Repeats z rolled_back first (paged new))
-    (planned : ArePlannedFrom z first log rolled_back rolls_back) (recovered : IsLeft z first.image log → IsRecovered z log rolled_back) where
+module _ {P : Type 0} (z : Sizes) (log rolled_back : List Record) (old : Paged) (new : Pooled P) (m : IsRolledBackSince z log rolled_back old (paged new)) (pool : IsPool z new.images) (first : Paged) (before : Repeats z log first old) where
   -- of a store that was left so they are
   left_linked : IsLeft z first.image log → AreLinked z (slots_in z new.images)
-  left_linked left = sound_linked.open_store z new.images rolled_back (begun_sound z first (paged new) new.images log rolled_back refl pool rolls_back (recovered left) repeated left)
+  left_linked left = sound_linked.open_store z new.images rolled_back (begun_sound z first (paged new) new.images log rolled_back refl pool m.is (m.recovered first before left) (m.repeated first before) left)
 
   pub unlinked_stops : (e : Refusal) → LinkStops z (slots_on z (paged new)) e → RollbackStops z log first e
   unlinked_stops why.NoMemory s = tt
   unlinked_stops (why.Damaged (damage.Page page)) s = record {
     rolled_back = rolled_back;
-    rolls_back = rolls_back;
-    planned = planned;
+    rolls_back = m.is;
+    planned = m.planned first before;
     last = paged new;
-    repeated = repeated;
+    repeated = m.repeated first before;
     fault = s;
     none = λ left. faults_exact.none z (slots_in z new.images) page (left_linked left) s;
   }

@@ -34,7 +34,7 @@ use Rattle.rq_analysis.proofs.Owing.{first_due}
 use Rattle.rq_analysis.proofs.Logging.{come_sound}
 use Rattle.rq_analysis.proofs.Store.{lost_sound, some_incarnation}
 use Rattle.rq_analysis.proofs.Walking.{aborts_come}
-use Rattle.rq_restart.specs.Aborting.{AbortStops, AbortsFrom, AbortsOn, HasGoneOn, IsAborting, IsAbortingFrom, IsFull, IsOnItsWay, IsShown, RepeatedFrom, RepeatedSince}
+use Rattle.rq_restart.specs.Aborting.{AbortStops, AbortsFrom, HasGoneOn, IsAborting, IsAbortingFrom, IsFull, IsOnItsWay, IsShown, RepeatedFrom, RepeatedSince}
 use Rattle.rq_restart.specs.Aborting.IsOnItsWay.{Between, Within}
 use Rattle.rq_restart.specs.Checked.{IsEnded}
 use Rattle.rq_restart.specs.RolledBack.{IsRolledBackSince, RollbackStops}
@@ -170,9 +170,14 @@ abort_rolls_nothing_back z log undone mid u pool some first repeated (why.Damage
 abort_rolls_nothing_back z log undone mid u pool some first repeated _ s = absurd s
 
 -- what mends it from there, wherever the log was repeated so
-pub rolled_back_since : (z : Sizes) (log undone now : List Record) (old mid : Paged) → IsUndone log undone → AbortsOn z (RepeatedSince z undone mid) undone now → IsEnded now → (IsEnded log → now ≡ undone) → ((first : Paged) → Repeats z log first old → Repeats z undone first mid)
-    → IsRolledBackSince z log now old
-rolled_back_since z log undone now old mid u a ended none repeated = record {
-  is = record { undone = undone; undoes = u; aborting = a.behind; ended = ended; none_lost = none };
-  planned = λ first before. planned_weaker z (RepeatedSince z undone mid) (RepeatedFrom z first) (λ l p h. h first (repeated first before)) undone a.behind.rounds a.planned;
-}
+pub rolled_back_since : {P : Type 0} (z : Sizes) (log undone now : List Record) (old mid new : Pooled P) → mid.sizes ≡ z → IsUndone log undone → IsPool mid.sizes mid.images → ((first : Paged) → Repeats z log first (paged old) → Repeats z undone first (paged mid))
+    → HasGoneOn mid.sizes (AbortsFrom mid.sizes undone mid now) undone now mid new (IsShown undone mid) (IsShown now new) → IsEnded now → (IsEnded undone → now ≡ undone) → IsRolledBackSince z log now (paged old) (paged new)
+rolled_back_since z log undone now old mid new same u in_pool before went ended none =
+    let gone : HasGoneOn z (AbortsFrom z undone mid now) undone now mid new (IsShown undone mid) (IsShown now new) = subst (λ y. HasGoneOn y (AbortsFrom y undone mid now) undone now mid new (IsShown undone mid) (IsShown now new)) same went in
+    let pool : IsPool z mid.images = subst (λ y. IsPool y mid.images) same in_pool in
+    record {
+      is = record { undone = undone; undoes = u; aborting = gone.aborting.behind; ended = ended; none_lost = λ e. none (undone_active log undone u ∙ e) };
+      planned = λ first b. planned_weaker z (RepeatedSince z undone (paged mid)) (RepeatedFrom z first) (λ l p h. h first (before first b)) undone gone.aborting.behind.rounds gone.aborting.planned;
+      repeated = λ first b. gone.repeated first (before first b);
+      recovered = λ first b left. recovered_is z log undone mid u pool first left (before first b) now new gone ended none;
+    }

@@ -28,10 +28,13 @@ pub record IsRolledBack (log rolled_back : List Record) : Type 0 where
 abbrev pub ArePlannedFrom : Sizes → Paged → (log rolled_back : List Record) → IsRolledBack log rolled_back → Type 0
 ArePlannedFrom z first log rolled_back m = ArePlanned z (RepeatedFrom z first) m.undone m.aborting.rounds
 
--- the same, wherever the log was repeated to these pages
-pub record IsRolledBackSince (z : Sizes) (log rolled_back : List Record) (old : Paged) : Type 0 where
+-- The same, wherever the log was repeated to the pages as they were: its records were repeated on them, too. Of a store
+-- that was left so, they recover it.
+pub record IsRolledBackSince (z : Sizes) (log rolled_back : List Record) (old new : Paged) : Type 0 where
   pub is : IsRolledBack log rolled_back
   pub planned : (first : Paged) → Repeats z log first old → ArePlannedFrom z first log rolled_back is
+  pub repeated : (first : Paged) → Repeats z log first old → Repeats z rolled_back first new
+  pub recovered : (first : Paged) → Repeats z log first old → IsLeft z first.image log → IsRecovered z log rolled_back
 
 -- The pages went through the log, and the records that mend it were repeated on them too, each operation of them planned
 -- from the slots as they were. The senders' chains are whole then. Of a store that was left so, the records recover it.
@@ -43,16 +46,12 @@ pub record IsRolledBackOn (z : Sizes) (log rolled_back : List Record) (first las
   pub linked : AreLinked z (slots_on z last)
   pub recovered : IsLeft z first.image log → IsRecovered z log rolled_back
 
--- From pages that history was repeated on: behind the log stand the records that mend it, and the one that begins the
--- next incarnation, and the first of these were repeated on the pages too. The senders' chains are whole then. Of a store
--- that was left so, they recover it.
+-- Behind the log stand such records, and the one that begins the next incarnation. The senders' chains are whole then.
 pub record HasRepeated (z : Sizes) (log now : List Record) (old new : Paged) : Type 0 where
   pub rolled_back : List Record
-  pub rolls_back : IsRolledBackSince z log rolled_back old
+  pub rolls_back : IsRolledBackSince z log rolled_back old new
   pub begun : now ≡ next_restart rolled_back ∷ rolled_back
-  pub repeated : (first : Paged) → Repeats z log first old → Repeats z rolled_back first new
   pub linked : AreLinked z (slots_on z new)
-  pub recovered : (first : Paged) → Repeats z log first old → IsLeft z first.image log → IsRecovered z log rolled_back
 
 -- the log, with the records behind that recover some of it, is at its greatest length
 pub record IsAtBound (z : Sizes) (log : List Record) : Type 0 where

@@ -470,48 +470,12 @@ fn undo_and_begin<P: PageDevice + Drop, L: LogDevice + Drop, B: Level>(
         (log.new.device ≡ log.old.device)) }
 {
     let unfinished = analysis.open_work.unfinished();
-    let (lost, planner) = undo_all_checked(alloc, pages, log, analysis, levels)?;
+    let (lost, planner) = undo_all(alloc, pages, log, analysis, levels)?;
     let tables = read_directory(alloc, pages, planner)?;
     match begin_incarnation(log, analysis.open_work.incarnation(), unfinished, lost) {
         Ok(report) => Ok((tables, report)),
         Err(refusal) => Err(refusal),
     }
-}
-
-// Undoes what has no end in the log, of which these are the findings, and looks whether the senders' chains are whole then.
-// Gives how many transactions there were, and what plans operations, told of each cell.
-fn undo_all_checked<P: PageDevice + Drop, L: LogDevice + Drop, B: Level>(
-    alloc: Global,
-    pages: &mut Pages<P>,
-    log: &mut Log<L>,
-    analysis: &mut Analysis,
-    levels: StoreLevels<B>,
-) -> Result<(u64, Planner<B>), Refusal>
-    requires found { IsAnalysisOf analysis.old log.old.records }
-    requires running { log.old.failed ≡ false }
-    ensures rolls_back { OnOk result (IsRolledBackSince pages.old.sizes log.old.records log.new.records (paged pages.old)) }
-    ensures repeated { OnOk result ((first : Paged) → Repeats pages.old.sizes log.old.records first (paged pages.old)
-        → Repeats pages.old.sizes log.new.records first (paged pages.new)) }
-    ensures counted { OnOk result (ArePagesCounted pages.old.sizes (length log.old.records) (paged pages.old)
-        → ArePagesCounted pages.old.sizes (length log.new.records) (paged pages.new)) }
-    ensures recovered { OnOk result ((first : Paged) → Repeats pages.old.sizes log.old.records first (paged pages.old)
-        → IsLeft pages.old.sizes first.image log.old.records → IsRecovered pages.old.sizes log.old.records
-        log.new.records) }
-    ensures linked { OnOk result (AreLinked pages.old.sizes (slots_on pages.old.sizes (paged pages.new))) }
-    ensures lost { IfOk result (λ rolled_back. rolled_back.0 ≡ length analysis.old.open_work.active) }
-    ensures known { IfOk result (λ rolled_back. KnowsCells pages.new.sizes pages.new.images rolled_back.1) }
-    ensures found { OnOk result (IsAnalysisOf analysis.new log.new.records) }
-    ensures stops { IfErr result (λ e. (first : Paged) → Repeats pages.old.sizes log.old.records first (paged pages.old)
-        → RollbackStops pages.old.sizes log.old.records first e) }
-    ensures sizes { pages.new.sizes ≡ pages.old.sizes }
-    ensures device { pages.new.device ≡ pages.old.device }
-    ensures log { (log.new.device ≡ log.old.device) × (log.new.forced ≡ log.old.forced)
-        × (log.new.failed ≡ false) × (log.new.settled ≡ log.old.settled) }
-    ensures room { OnOk result (log.new.reserved ≡ log.old.reserved) }
-{
-    let rolled_back = undo_all(alloc, pages, log, analysis, levels)?;
-    check_links(alloc, pages)?;
-    Ok(rolled_back)
 }
 
 // That the senders' chains are whole; else it is refused with the page to be named.
@@ -527,8 +491,8 @@ fn check_links<P: PageDevice>(alloc: Global, pages: &Pages<P>) -> Result<(), Ref
     }
 }
 
-// Undoes what has no end in the log, of which these are the findings: operations, and then transactions. Gives how many
-// of the latter there were, and what plans operations, told of each cell.
+// Undoes what has no end in the log, of which these are the findings: operations, and then transactions; and looks whether
+// the senders' chains are whole then. Gives how many transactions there were, and what plans operations, told of each cell.
 fn undo_all<P: PageDevice + Drop, L: LogDevice + Drop, B: Level>(
     alloc: Global,
     pages: &mut Pages<P>,
@@ -538,14 +502,11 @@ fn undo_all<P: PageDevice + Drop, L: LogDevice + Drop, B: Level>(
 ) -> Result<(u64, Planner<B>), Refusal>
     requires found { IsAnalysisOf analysis.old log.old.records }
     requires running { log.old.failed ≡ false }
-    ensures rolls_back { OnOk result (IsRolledBackSince pages.old.sizes log.old.records log.new.records (paged pages.old)) }
-    ensures repeated { OnOk result ((first : Paged) → Repeats pages.old.sizes log.old.records first (paged pages.old)
-        → Repeats pages.old.sizes log.new.records first (paged pages.new)) }
+    ensures rolls_back { OnOk result (IsRolledBackSince pages.old.sizes log.old.records log.new.records (paged pages.old)
+        (paged pages.new)) }
     ensures counted { OnOk result (ArePagesCounted pages.old.sizes (length log.old.records) (paged pages.old)
         → ArePagesCounted pages.old.sizes (length log.new.records) (paged pages.new)) }
-    ensures recovered { OnOk result ((first : Paged) → Repeats pages.old.sizes log.old.records first (paged pages.old)
-        → IsLeft pages.old.sizes first.image log.old.records → IsRecovered pages.old.sizes log.old.records
-        log.new.records) }
+    ensures linked { OnOk result (AreLinked pages.old.sizes (slots_on pages.old.sizes (paged pages.new))) }
     ensures lost { IfOk result (λ rolled_back. rolled_back.0 ≡ length analysis.old.open_work.active) }
     ensures known { IfOk result (λ rolled_back. KnowsCells pages.new.sizes pages.new.images rolled_back.1) }
     ensures found { OnOk result (IsAnalysisOf analysis.new log.new.records) }
@@ -561,6 +522,7 @@ fn undo_all<P: PageDevice + Drop, L: LogDevice + Drop, B: Level>(
     let mut planner = planner_of(alloc, pages, levels);
     let lost = analysis.open_work.active().len() as u64;
     abort_lost(alloc, pages, log, analysis, &mut planner)?;
+    check_links(alloc, pages)?;
     Ok((lost, planner))
 }
 

@@ -18,7 +18,7 @@ returns-in-Ok-undo_and_begin-clause-sound g c = λ first before left.
     let all = made.repeated in
     let pool : IsPool z new.images = subst (λ (y : Sizes). IsPool y new.images) made.sizes made.pool in
     subst (λ l. IsSound (opened z new.images l)) (ap (drop 1) (sym all.begun))
-    (begun_sound z first (paged new) new.images older all.rolled_back refl pool all.rolls_back.is (all.recovered first before left) (all.repeated first before) left)
+    (begun_sound z first (paged new) new.images older all.rolled_back refl pool all.rolls_back.is (all.rolls_back.recovered first before left) (all.rolls_back.repeated first before) left)
 
 pub returns-in-Ok-undo_and_begin-clause-checked : goal.returns-in-Ok-undo_and_begin-clause-checked
 returns-in-Ok-undo_and_begin-clause-checked g c = λ first before k.
@@ -37,9 +37,9 @@ returns-in-Ok-undo_and_begin-clause-checked g c = λ first before k.
         );
         rolls_back = all.rolls_back.is;
         planned = all.rolls_back.planned first before;
-        repeated = all.repeated first before;
+        repeated = all.rolls_back.repeated first before;
         linked = all.linked;
-        recovered = all.recovered first before;
+        recovered = all.rolls_back.recovered first before;
       },
       all.begun,
     )

@@ -13,18 +13,16 @@ use Rattle.rq_restart.proofs.restart.undo_and_begin.Goals as goal
 pub returns-in-Ok-clause-begun : goal.returns-in-Ok-clause-begun
 returns-in-Ok-clause-begun g c =
     let rollback = c.in_ok-lost.ensures in
-    begun_is c.args.log.now.records c.undo_all_checked.new.log.records rollback.rolls_back.is c.undo_all_checked.new.analysis.open_work rollback.found.open_work c.incarnation.result c.incarnation.ensures c.begin_incarnation.new.log c.in-Ok.ensures.records c.in-Ok.ensures.forced
+    begun_is c.args.log.now.records c.undo_all.new.log.records rollback.rolls_back.is c.undo_all.new.analysis.open_work rollback.found.open_work c.incarnation.result c.incarnation.ensures c.begin_incarnation.new.log c.in-Ok.ensures.records c.in-Ok.ensures.forced
 
 pub returns-in-Ok-clause-repeated : goal.returns-in-Ok-clause-repeated
 returns-in-Ok-clause-repeated g c =
     let rollback = c.in_ok-lost.ensures in
     record {
-      rolled_back = c.undo_all_checked.new.log.records;
+      rolled_back = c.undo_all.new.log.records;
       rolls_back = rollback.rolls_back;
-      begun = begins c.args.log.now.records c.undo_all_checked.new.log.records rollback.rolls_back.is c.undo_all_checked.new.analysis.open_work rollback.found.open_work c.incarnation.result c.incarnation.ensures c.begin_incarnation.new.log.records c.in-Ok.ensures.records;
-      repeated = rollback.repeated;
+      begun = begins c.args.log.now.records c.undo_all.new.log.records rollback.rolls_back.is c.undo_all.new.analysis.open_work rollback.found.open_work c.incarnation.result c.incarnation.ensures c.begin_incarnation.new.log.records c.in-Ok.ensures.records;
       linked = rollback.linked;
-      recovered = rollback.recovered;
     }
 
 pub returns-in-Ok-clause-report : goal.returns-in-Ok-clause-report
@@ -32,18 +30,18 @@ returns-in-Ok-clause-report g c =
     let rollback = c.in_ok-lost.ensures in
     let told = c.in-Ok.ensures.report in
     let found = c.requires.found.open_work in
-    reports c.args.log.now.records c.undo_all_checked.new.log.records rollback.rolls_back.is c.undo_all_checked.new.analysis.open_work rollback.found.open_work c.incarnation.result c.incarnation.ensures c.args.pages.now.sizes c.begin_incarnation.new.log.records
+    reports c.args.log.now.records c.undo_all.new.log.records rollback.rolls_back.is c.undo_all.new.analysis.open_work rollback.found.open_work c.incarnation.result c.incarnation.ensures c.args.pages.now.sizes c.begin_incarnation.new.log.records
     c.in-Ok.report.incarnation c.in-Ok.report.records c.in-Ok.report.unfinished c.in-Ok.report.lost
     (told.0, told.1, told.2 ∙ c.unfinished-unfinished.ensures ∙ ap (λ (h : OpenWorkView). length h.unfinished) found, told.3 ∙ rollback.lost ∙ ap (λ (h : OpenWorkView). length h.active) found)
 
 pub returns-in-Ok-clause-told : goal.returns-in-Ok-clause-told
 returns-in-Ok-clause-told g c =
     let rollback = c.in_ok-lost.ensures in
-    let z = c.undo_all_checked.new.pages.sizes in
-    let images = c.undo_all_checked.new.pages.images in
-    let count : ℕ = length c.undo_all_checked.new.log.records in
-    let counted : ArePagesCounted z count (paged c.undo_all_checked.new.pages) = subst (λ y. ArePagesCounted y count (paged c.undo_all_checked.new.pages)) (sym rollback.sizes) (rollback.counted c.requires.counted) in
-    let longer : count + 1 ≡ length c.begin_incarnation.new.log.records = (let e : length c.begin_incarnation.new.log.records ≡ length (records.Restart (c.incarnation.result + 1) ∷ c.undo_all_checked.new.log.records) = ap length c.in-Ok.ensures.records in omega (arith, e)) in
+    let z = c.undo_all.new.pages.sizes in
+    let images = c.undo_all.new.pages.images in
+    let count : ℕ = length c.undo_all.new.log.records in
+    let counted : ArePagesCounted z count (paged c.undo_all.new.pages) = subst (λ y. ArePagesCounted y count (paged c.undo_all.new.pages)) (sym rollback.sizes) (rollback.counted c.requires.counted) in
+    let longer : count + 1 ≡ length c.begin_incarnation.new.log.records = (let e : length c.begin_incarnation.new.log.records ≡ length (records.Restart (c.incarnation.result + 1) ∷ c.undo_all.new.log.records) = ap length c.in-Ok.ensures.records in omega (arith, e)) in
     subst (λ n. AreTold z images n c.in_ok-tables.tables.waiting c.in_ok-tables.tables.sent) longer (are_told z images count c.in_ok-tables.tables.waiting c.in_ok-tables.tables.sent c.in_ok-tables.ensures.waiting c.in_ok-tables.ensures.sent counted)
 
 pub returns-in-Ok-clause-any_moment : goal.returns-in-Ok-clause-any_moment
@@ -51,9 +49,9 @@ returns-in-Ok-clause-any_moment g c = λ first before h are read.
     let rollback = c.in_ok-lost.ensures in
     let z = c.args.pages.now.sizes in
     let older = c.args.log.now.records in
-    let rolled_back = c.undo_all_checked.new.log.records in
-    let restart : records.Restart (c.incarnation.result + 1) ≡ next_restart rolled_back = ap (λ n. records.Restart (n + 1)) (last_is older rolled_back rollback.rolls_back.is c.undo_all_checked.new.analysis.open_work rollback.found.open_work c.incarnation.result c.incarnation.ensures) in
-    begun_moment g.L.LogDevice z (IsLeft z first.image older) older rolled_back (records.Restart (c.incarnation.result + 1)) c.undo_all_checked.new.log.forced c.args.log.now.device c.undo_all_checked.new.log.device c.begin_incarnation.new.log.device rollback.log.0 rollback.rolls_back.is (rollback.recovered first before)
+    let rolled_back = c.undo_all.new.log.records in
+    let restart : records.Restart (c.incarnation.result + 1) ≡ next_restart rolled_back = ap (λ n. records.Restart (n + 1)) (last_is older rolled_back rollback.rolls_back.is c.undo_all.new.analysis.open_work rollback.found.open_work c.incarnation.result c.incarnation.ensures) in
+    begun_moment g.L.LogDevice z (IsLeft z first.image older) older rolled_back (records.Restart (c.incarnation.result + 1)) c.undo_all.new.log.forced c.args.log.now.device c.undo_all.new.log.device c.begin_incarnation.new.log.device rollback.log.0 rollback.rolls_back.is (rollback.rolls_back.recovered first before)
     restart are read (c.begin_incarnation.ensures.any_moment h)
 
 pub returns-in-Err-clause-any_moment : goal.returns-in-Err-clause-any_moment
@@ -61,9 +59,9 @@ returns-in-Err-clause-any_moment g c = λ first before h are read.
     let rollback = c.in_ok-lost.ensures in
     let z = c.args.pages.now.sizes in
     let older = c.args.log.now.records in
-    let rolled_back = c.undo_all_checked.new.log.records in
-    let restart : records.Restart (c.incarnation.result + 1) ≡ next_restart rolled_back = ap (λ n. records.Restart (n + 1)) (last_is older rolled_back rollback.rolls_back.is c.undo_all_checked.new.analysis.open_work rollback.found.open_work c.incarnation.result c.incarnation.ensures) in
-    begun_moment g.L.LogDevice z (IsLeft z first.image older) older rolled_back (records.Restart (c.incarnation.result + 1)) c.undo_all_checked.new.log.forced c.args.log.now.device c.undo_all_checked.new.log.device c.begin_incarnation.new.log.device rollback.log.0 rollback.rolls_back.is (rollback.recovered first before)
+    let rolled_back = c.undo_all.new.log.records in
+    let restart : records.Restart (c.incarnation.result + 1) ≡ next_restart rolled_back = ap (λ n. records.Restart (n + 1)) (last_is older rolled_back rollback.rolls_back.is c.undo_all.new.analysis.open_work rollback.found.open_work c.incarnation.result c.incarnation.ensures) in
+    begun_moment g.L.LogDevice z (IsLeft z first.image older) older rolled_back (records.Restart (c.incarnation.result + 1)) c.undo_all.new.log.forced c.args.log.now.device c.undo_all.new.log.device c.begin_incarnation.new.log.device rollback.log.0 rollback.rolls_back.is (rollback.rolls_back.recovered first before)
     restart are read (c.begin_incarnation.ensures.any_moment h)
 
 pub returns-in-Err-clause-stops : goal.returns-in-Err-clause-stops
@@ -73,6 +71,6 @@ returns-in-Err-clause-stops g c = λ first before.
     let older = c.args.log.now.records in
     let faults = g.L.LogDevice.faults in
     let new = c.begin_incarnation.new.log.device in
-    let mid = c.undo_all_checked.new.log.device in
+    let mid = c.undo_all.new.log.device in
     subst (λ d. WhyNotBegun z older first c.in-Err.refusal (faults d) (faults new) (new ≡ d)) rollback.log.0
-    (not_begun older c.undo_all_checked.new.log.records rollback.rolls_back.is c.undo_all_checked.new.analysis.open_work rollback.found.open_work c.incarnation.result c.incarnation.ensures z first (paged c.undo_all_checked.new.pages) c.in-Err.refusal (faults mid) (faults new) (new ≡ mid) (rollback.repeated first before) (rollback.rolls_back.planned first before) (rollback.recovered first before) c.in-Err.ensures.err)
+    (not_begun older c.undo_all.new.log.records rollback.rolls_back.is c.undo_all.new.analysis.open_work rollback.found.open_work c.incarnation.result c.incarnation.ensures z first (paged c.undo_all.new.pages) c.in-Err.refusal (faults mid) (faults new) (new ≡ mid) (rollback.rolls_back.repeated first before) (rollback.rolls_back.planned first before) (rollback.rolls_back.recovered first before) c.in-Err.ensures.err)
