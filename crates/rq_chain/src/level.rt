@@ -368,11 +368,11 @@ impl Level for ChainLevel {
     fn undo(
         &mut self,
         alloc: Global,
-        told: &Record,
+        record: &Record,
         given: &Slots,
         latched: &PageSet,
     ) -> Result<Plan, Refusal> {
-        let Record::OpEnd { deed, .. } = told else {
+        let Record::OpEnd { deed, .. } = record else {
             return Err(Refusal::Damaged(Damage::Page(0)));
         };
         let Some(layout) = self.layout else {
@@ -384,8 +384,8 @@ impl Level for ChainLevel {
         self.plan_undo(alloc, &layout, &deed, given, latched)
     }
 
-    fn redo(&mut self, page: &mut Page, lsn: Lsn, told: &Record) -> bool {
-        redo_page(page, lsn, told)
+    fn redo(&mut self, page: &mut Page, lsn: Lsn, record: &Record) -> bool {
+        redo_page(page, lsn, record)
     }
 
     fn noted(&mut self, at: Addr, bytes: &Slot) {

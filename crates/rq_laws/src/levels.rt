@@ -39,15 +39,18 @@ pub fn redoes<B: Level>(
     page: &mut Page,
     again: &mut Page,
     lsn: Lsn,
-    told: &Record,
+    record: &Record,
 ) -> (bool, bool)
     requires same { page.old ≡ again.old }
-    requires redo { IsRedo (redo_of told.now) }
+    requires redo { IsRedo (redo_of «record».now) }
     ensures applied { result.0 ≡ result.1 }
     ensures pages { PagesAlike page.new again.new }
     ensures kept { B.kept first.old ≡ B.kept second.old → B.kept first.new ≡ B.kept second.new }
 {
-    (first.redo(page, lsn, told), second.redo(again, lsn, told))
+    (
+        first.redo(page, lsn, record),
+        second.redo(again, lsn, record),
+    )
 }
 
 /// The level of chains plans the same, keeps the same chosen cell, and where one plans, the other refuses for want of
@@ -79,7 +82,7 @@ pub fn undoes<B: Level>(
     alloc: Global,
     first: &mut B,
     second: &mut B,
-    told: &Record,
+    record: &Record,
     given: &Slots,
     latched: &PageSet,
 ) -> (Result<Plan, Refusal>, Result<Plan, Refusal>)
@@ -91,7 +94,7 @@ pub fn undoes<B: Level>(
     ensures kept { IfOk result.0 (λ _. IfOk result.1 (λ _. B.kept first.new ≡ B.kept second.new)) }
 {
     (
-        first.undo(alloc, told, given, latched),
-        second.undo(alloc, told, given, latched),
+        first.undo(alloc, record, given, latched),
+        second.undo(alloc, record, given, latched),
     )
 }

@@ -58,12 +58,12 @@ pub fn dues(
     first: &mut PendingUndos,
     second: &mut PendingUndos,
     lsn: Lsn,
-    told: &Record,
+    record: &Record,
 ) -> (Result<(), NoMemory>, Result<(), NoMemory>)
     requires same { first.old ≡ second.old }
     ensures { IfOk result.0 (λ _. IfOk result.1 (λ _. first.new ≡ second.new)) }
 {
-    (first.note(lsn, told), second.note(lsn, told))
+    (first.note(lsn, record), second.note(lsn, record))
 }
 
 /// After a record, the same operations have no end, with the same writes. Excludes operations that are finished and
@@ -72,12 +72,12 @@ pub fn notes(
     first: &mut OpenWork,
     second: &mut OpenWork,
     lsn: Lsn,
-    told: &Record,
+    record: &Record,
 ) -> (Result<bool, Refusal>, Result<bool, Refusal>)
     requires same { first.old ≡ second.old }
     ensures { IfOk result.0 (λ _. IfOk result.1 (λ _. first.new ≡ second.new)) }
 {
-    (first.note(lsn, told), second.note(lsn, told))
+    (first.note(lsn, record), second.note(lsn, record))
 }
 
 /// The record by which operations without an end are undone next is one. Excludes an operation that is voided with a

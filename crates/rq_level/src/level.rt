@@ -60,20 +60,20 @@ pub trait Level: Drop {
     fn undo(
         &mut self,
         alloc: Global,
-        told: &Record,
+        record: &Record,
         given: &Slots,
         latched: &PageSet,
     ) -> Result<Plan, Refusal>
         requires { AreOf (kept self.old).sizes given.now }
         ensures same { level self.new ≡ level self.old }
-        ensures answer { (meaning_of (level self.old)).undoes (kept self.old) told.now given.now latched.now.pages result (kept self.new) };
+        ensures answer { (meaning_of (level self.old)).undoes (kept self.old) «record».now given.now latched.now.pages result (kept self.new) };
 
     /// Applies a record to its page, where the page is older, and answers whether it did.
-    fn redo(&mut self, page: &mut Page, lsn: Lsn, told: &Record) -> bool
-        requires { IsRedo (redo_of told.now) }
+    fn redo(&mut self, page: &mut Page, lsn: Lsn, record: &Record) -> bool
+        requires { IsRedo (redo_of «record».now) }
         ensures same { level self.new ≡ level self.old }
         ensures kept { kept self.new ≡ kept self.old }
-        ensures page { AppliesOnce (redo_of told.now) page.old lsn result page.new };
+        ensures page { AppliesOnce (redo_of «record».now) page.old lsn result page.new };
 
     /// A slot was read or written. Takes no memory.
     fn noted(&mut self, at: Addr, bytes: &Slot)
@@ -111,15 +111,15 @@ impl Level for Box<dyn Level + Send> {
     fn undo(
         &mut self,
         alloc: Global,
-        told: &Record,
+        record: &Record,
         given: &Slots,
         latched: &PageSet,
     ) -> Result<Plan, Refusal> {
-        (**self).undo(alloc, told, given, latched)
+        (**self).undo(alloc, record, given, latched)
     }
 
-    fn redo(&mut self, page: &mut Page, lsn: Lsn, told: &Record) -> bool {
-        (**self).redo(page, lsn, told)
+    fn redo(&mut self, page: &mut Page, lsn: Lsn, record: &Record) -> bool {
+        (**self).redo(page, lsn, record)
     }
 
     fn noted(&mut self, at: Addr, bytes: &Slot) {
@@ -128,11 +128,11 @@ impl Level for Box<dyn Level + Send> {
 }
 
 /// Applies a record to its page, where the page is older, and answers whether it did.
-pub fn redo_page(page: &mut Page, lsn: Lsn, told: &Record) -> bool
-    requires { IsRedo (redo_of told.now) }
-    ensures { AppliesOnce (redo_of told.now) page.old lsn result page.new }
+pub fn redo_page(page: &mut Page, lsn: Lsn, record: &Record) -> bool
+    requires { IsRedo (redo_of «record».now) }
+    ensures { AppliesOnce (redo_of «record».now) page.old lsn result page.new }
 {
-    match told {
+    match record {
         Record::PageOp { slot, after, .. } => redo_slot(page, lsn, *slot, after),
         Record::PageUndo { slot, after, .. } => redo_slot(page, lsn, *slot, after),
         _ => false,

@@ -88,28 +88,28 @@ impl<B: Level> Levels<B> {
         &mut self,
         alloc: Global,
         level: usize,
-        told: &Record,
+        record: &Record,
         given: &Slots,
         latched: &PageSet,
     ) -> Result<Plan, Refusal>
         requires level { level < length self.old }
         requires given { AreOf (kept_at self.old level).sizes given.now }
-        ensures answer { (meaning_of level).undoes (kept_at self.old level) told.now given.now latched.now.pages result (kept_at self.new level) }
+        ensures answer { (meaning_of level).undoes (kept_at self.old level) «record».now given.now latched.now.pages result (kept_at self.new level) }
         ensures others { self.new ≡ slice_set self.old level (kept_at self.new level) }
     {
         let it = &mut self.all[level];
-        it.undo(alloc, told, given, latched)
+        it.undo(alloc, record, given, latched)
     }
 
     /// Has the level apply a record to its page, where the page is older.
-    pub fn redo(&mut self, level: usize, page: &mut Page, lsn: Lsn, told: &Record) -> bool
+    pub fn redo(&mut self, level: usize, page: &mut Page, lsn: Lsn, record: &Record) -> bool
         requires level { level < length self.old }
-        requires told { IsRedo (redo_of told.now) }
+        requires redo { IsRedo (redo_of «record».now) }
         ensures kept { self.new ≡ self.old }
-        ensures page { AppliesOnce (redo_of told.now) page.old lsn result page.new }
+        ensures page { AppliesOnce (redo_of «record».now) page.old lsn result page.new }
     {
         let it = &mut self.all[level];
-        it.redo(page, lsn, told)
+        it.redo(page, lsn, record)
     }
 
     /// Tells the level of a slot.

@@ -65,20 +65,20 @@ impl Level for StoreLevel {
     fn undo(
         &mut self,
         alloc: Global,
-        told: &Record,
+        record: &Record,
         given: &Slots,
         latched: &PageSet,
     ) -> Result<Plan, Refusal> {
         match self {
-            StoreLevel::Slots(level) => level.undo(alloc, told, given, latched),
-            StoreLevel::Chains(level) => level.undo(alloc, told, given, latched),
+            StoreLevel::Slots(level) => level.undo(alloc, record, given, latched),
+            StoreLevel::Chains(level) => level.undo(alloc, record, given, latched),
         }
     }
 
-    fn redo(&mut self, page: &mut Page, lsn: Lsn, told: &Record) -> bool {
+    fn redo(&mut self, page: &mut Page, lsn: Lsn, record: &Record) -> bool {
         match self {
-            StoreLevel::Slots(level) => level.redo(page, lsn, told),
-            StoreLevel::Chains(level) => level.redo(page, lsn, told),
+            StoreLevel::Slots(level) => level.redo(page, lsn, record),
+            StoreLevel::Chains(level) => level.redo(page, lsn, record),
         }
     }
 

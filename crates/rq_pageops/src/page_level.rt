@@ -64,11 +64,11 @@ impl Level for PageLevel {
     fn undo(
         &mut self,
         alloc: Global,
-        told: &Record,
+        record: &Record,
         _given: &Slots,
         _latched: &PageSet,
     ) -> Result<Plan, Refusal> {
-        match told {
+        match record {
             Record::PageOp {
                 page,
                 slot,
@@ -80,8 +80,8 @@ impl Level for PageLevel {
         }
     }
 
-    fn redo(&mut self, page: &mut Page, lsn: Lsn, told: &Record) -> bool {
-        redo_page(page, lsn, told)
+    fn redo(&mut self, page: &mut Page, lsn: Lsn, record: &Record) -> bool {
+        redo_page(page, lsn, record)
     }
 
     fn noted(&mut self, _at: Addr, _bytes: &Slot) {}

@@ -73,15 +73,15 @@ impl<B: Level> Level for Operations<B> {
     fn undo(
         &mut self,
         alloc: Global,
-        told: &Record,
+        record: &Record,
         given: &Slots,
         latched: &PageSet,
     ) -> Result<Plan, Refusal> {
-        self.levels.undo(alloc, OPERATIONS, told, given, latched)
+        self.levels.undo(alloc, OPERATIONS, record, given, latched)
     }
 
-    fn redo(&mut self, page: &mut Page, lsn: Lsn, told: &Record) -> bool {
-        self.levels.redo(OPERATIONS, page, lsn, told)
+    fn redo(&mut self, page: &mut Page, lsn: Lsn, record: &Record) -> bool {
+        self.levels.redo(OPERATIONS, page, lsn, record)
     }
 
     fn noted(&mut self, at: Addr, bytes: &Slot) {

@@ -93,15 +93,15 @@ impl Level for Counted {
     fn undo(
         &mut self,
         alloc: Global,
-        told: &Record,
+        record: &Record,
         given: &Slots,
         latched: &PageSet,
     ) -> Result<Plan, Refusal> {
-        self.level.undo(alloc, told, given, latched)
+        self.level.undo(alloc, record, given, latched)
     }
 
-    fn redo(&mut self, page: &mut Page, lsn: Lsn, told: &Record) -> bool {
-        self.level.redo(page, lsn, told)
+    fn redo(&mut self, page: &mut Page, lsn: Lsn, record: &Record) -> bool {
+        self.level.redo(page, lsn, record)
     }
 
     fn noted(&mut self, at: Addr, bytes: &Slot) {

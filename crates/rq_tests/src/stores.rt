@@ -244,7 +244,7 @@ pub fn senders_of<P: PageDevice + Drop, L: LogDevice + Drop>(
 pub struct Held {
     pub calls: Option<usize>,
     pub has_aborted: bool,
-    pub told: Option<(u64, u64, bool)>,
+    pub messages: Option<(u64, u64, bool)>,
 }
 
 /// Whether the store of these calls holds that.
@@ -254,7 +254,7 @@ pub fn held_by<P: PageDevice + Drop, L: LogDevice + Drop, B: Level>(
 ) -> bool {
     let kept = steps.into_kept();
     let is_called = are_called(kept.entries(), held);
-    told(&kept.give_back()) == held.told && is_called
+    messages_of(&kept.give_back()) == held.messages && is_called
 }
 
 fn are_called(audit: &[AuditEntry], held: &Held) -> bool {
@@ -265,7 +265,7 @@ fn are_called(audit: &[AuditEntry], held: &Held) -> bool {
     is_counted && has_aborted(audit) == held.has_aborted
 }
 
-fn told<P: PageDevice + Drop, L: LogDevice + Drop, B: Level>(
+fn messages_of<P: PageDevice + Drop, L: LogDevice + Drop, B: Level>(
     engine: &Engine<P, L, B>,
 ) -> Option<(u64, u64, bool)> {
     let groups = engine.content().ok()?;

@@ -48,7 +48,7 @@ const SESSION: Row = Row {
     held: Held {
         calls: None,
         has_aborted: true,
-        told: Some((1, 0, true)),
+        messages: Some((1, 0, true)),
     },
 };
 
@@ -64,7 +64,7 @@ const SEND: Row = Row {
     held: Held {
         calls: None,
         has_aborted: true,
-        told: Some((0, 0, true)),
+        messages: Some((0, 0, true)),
     },
     ..SESSION
 };
@@ -99,7 +99,7 @@ const ROWS: [Row; 6] = [
         held: Held {
             calls: None,
             has_aborted: false,
-            told: None,
+            messages: None,
         },
         ..SESSION
     },
@@ -119,7 +119,7 @@ const ROWS: [Row; 6] = [
         held: Held {
             calls: Some(12),
             has_aborted: false,
-            told: Some((0, 0, true)),
+            messages: Some((0, 0, true)),
         },
         ..SEND
     },
@@ -135,7 +135,7 @@ const ROWS: [Row; 6] = [
         held: Held {
             calls: Some(12),
             has_aborted: false,
-            told: Some((0, 0, true)),
+            messages: Some((0, 0, true)),
         },
         ..SEND
     },
