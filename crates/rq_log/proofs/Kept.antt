@@ -169,7 +169,7 @@ module _ {L : Type 0} (g : Ghosts L) where
     abbrev older : List Record
     older = drop newer log.records
 
-    held : g.honest log.device → EndsWith older (g.seen log.device) × (end ≡ length (spelled older))
+    held : g.honest log.device → EndsWith older (g.seen log.device) × (end ≡ length (spelled older)) × (end < length (g.seen log.device))
     held h = subst (λ (t : Option ℕ). HoldsTo t older (g.seen log.device)) torn ((k.buffered running).2 h)
 
     short_begins : (c : List ℕ) → EndsWith older c → IsBeginning log.records log.forced c

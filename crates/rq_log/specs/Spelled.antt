@@ -1,5 +1,5 @@
 -- Records as they stand in the log, and what of them a crash leaves. The newest record is the first of a list.
-use Rattle.std.specs.Prelude.{◌≡◌, ℕ, ◌+◌, ◌≤◌, List, [], ◌∷◌, ◌++◌, length, drop, Option, Some, None}
+use Rattle.std.specs.Prelude.{◌≡◌, ℕ, ◌+◌, ◌<◌, ◌≤◌, List, [], ◌∷◌, ◌++◌, length, drop, Option, Some, None}
 use Rattle.rq_model.specs.declared.record.Record.{Record}
 use Rattle.rq_record.specs.Spelling.{IsRecord, BeginsRecord, spelling}
 
@@ -20,7 +20,7 @@ EndsWith records bytes = (end : List ℕ) × BeginsRecord end × (bytes ≡ spel
 -- the same; where they end is told if there is such a beginning
 abbrev pub HoldsTo : Option ℕ → List Record → List ℕ → Type 0
 HoldsTo None records bytes = bytes ≡ spelled records
-HoldsTo (Some end) records bytes = EndsWith records bytes × (end ≡ length (spelled records))
+HoldsTo (Some end) records bytes = EndsWith records bytes × (end ≡ length (spelled records)) × (end < length bytes)
 
 -- These bytes are records from the oldest on, the first so many and perhaps more, with a short end: only newest ones lack.
 abbrev pub IsBeginning : List Record → ℕ → List ℕ → Type 0

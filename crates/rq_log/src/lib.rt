@@ -330,6 +330,7 @@ impl<L: LogDevice> Log<L> {
         ensures honest { L.honest self.new.device → L.honest self.old.device }
         ensures ok { IfOk result (λ lsn. (lsn ≡ length self.new.records) × (self.new.forced ≡ lsn)
             × (self.new.failed ≡ false)) }
+        ensures whole { OnOk result (self.new.torn_at ≡ None) }
         ensures reads { OnOk result (L.honest self.new.device → L.seen self.new.device ≡ spelled self.new.records) }
         ensures durable { OnOk result (L.honest self.new.device
             → Only (spelled self.new.records) (L.may_leave self.new.device)) }
