@@ -113,7 +113,7 @@ cell_image = (length-cell_bytes (cell 0) (omega arith), filled_bytes)
 free_image : IsImage free_bytes
 free_image = (length-free, empty_bytes)
 
-fill_is : IsRecord (page_op t1 1 fill_cell)
+pub fill_is : IsRecord (page_op t1 1 fill_cell)
 fill_is = (
   (in_range, omega arith, (omega arith, omega arith)),
   (fits, omega arith, omega arith, omega arith, free_image, cell_image),

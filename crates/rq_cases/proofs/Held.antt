@@ -16,7 +16,7 @@ use Rattle.rq_disk.proofs.KeptLog.{fresh_only}
 use Rattle.rq_log.specs.Crash.{LeavesOnly}
 use Rattle.rq_log.specs.Spelled.{AreSpelled, spelled, IsBeginning}
 use Rattle.rq_log.proofs.Moments.{started}
-use Rattle.rq_log.proofs.Runs.{all_of, ends_all, some_newer, spelled_whole}
+use Rattle.rq_log.proofs.Runs.{all_of, ends_all, go_on_all, go_on_newer, some_newer, spelled_whole}
 use Rattle.rq_store.specs.Fitting.{AllFit, image_in}
 use Rattle.rq_store.specs.Steps.{Continues}
 use Rattle.rq_store.proofs.Cutting.{all_fit_longer, only_fit}
@@ -68,7 +68,9 @@ module _ (d : MemLog) (records : List Record) (n : IsNewLog d records) where
   -- of a longer log it leaves a beginning, now and at each moment since
   module _ (all : List Record) (kept lost : ℕ) (some : lost + kept ≤ length all) (drops : drop lost all ≡ records) where
     pub leaves_beginning : (c : List ℕ) → mem_log.may_leave d c → IsBeginning all kept c
-    leaves_beginning c may = (lost, some, ends_all (drop lost all) c (only_records c may ∙ ap spelled (sym drops)))
+    leaves_beginning c may =
+        let is = only_records c may ∙ ap spelled (sym drops) in
+        (lost, some, ends_all (drop lost all) c is, λ forced. go_on_newer lost all c (go_on_all (drop lost all) c is))
 
     pub same_beginning : LeavesOnly mem_log d d (IsBeginning all kept)
     same_beginning = started mem_log d (IsBeginning all kept) (λ c left. leaves_beginning c (log_now d c left))
@@ -91,7 +93,9 @@ module _ (all : List Record) (kept count : ℕ) (told : AreSpelled all) (le : co
     -- after each of both calls
     after_some : (k : ℕ) → k ≤ 2 → (c : List ℕ) → MayLeave (log_after (spelled older) (take k (forced_after run))) c
         → IsBeginning all kept c
-    after_some zero low c may = (count, le, ends_all older c (fresh_only (spelled older) c may))
+    after_some zero low c may =
+        let is = fresh_only (spelled older) c may in
+        (count, le, ends_all older c is, λ forced. go_on_newer count all c (go_on_all older c is))
     after_some (suc zero) low c may =
         subst (IsBeginning all kept) (sym (may.1 ∙ ap (λ l. spelled older ++ take may.0 l) items))
         (some_newer all kept count may.0 told le)

@@ -1,7 +1,13 @@
 -- What a restart has checked, what it leaves of a log, and why it was refused.
-use Rattle.std.proofs.Common.{◌≡◌, ◌⊎◌, ⊎_elim, ℕ, ◌+◌, Bool, false, true, List, [], ◌∷◌, ◌++◌, length, refl, sym, ap, ◌∙◌, subst, inl, inr, arith, length-append}
+use Rattle.std.proofs.Common.{◌≡◌, ◌⊎◌, ⊎_elim, ℕ, ◌+◌, Bool, false, true, List, [], ◌∷◌, ◌++◌, length, take, drop, refl, sym, ap, ◌∙◌, ◌≤◌, subst, inl, inr, arith, append_assoc, length-append}
+use Rattle.std.proofs.Math.Seq.{drop-append_seam}
+use Rattle.std.proofs.lemmas.List.{append-nil, length-take-le, take-append-drop}
+use Rattle.rq_bytes.specs.Number.{number}
+use Rattle.rq_bytes.proofs.Strings.{length-number}
 use Rattle.rq_model.specs.declared.record.Record.{Record}
-use Rattle.rq_model.specs.declared.record.Record.TheVariants.{Commit, Restart}
+use Rattle.rq_model.specs.declared.record.Record.TheVariants.{PageOp, PageUndo, OpEnd, OpVoid, CompEnd, Commit, Restart, AbortEnd}
+use Rattle.rq_record.specs.Spelling.{fields, kind_number, spelling}
+use Rattle.rq_record.proofs.Whole.{long_spelling}
 use Rattle.rq_model.specs.declared.refusal.Refusal.TheVariants as why
 use Rattle.rq_model.specs.Incarnations.{ArePlain, incarnation_of, is_plain}
 use Rattle.rq_model.specs.Legal.{Legal}
@@ -11,7 +17,7 @@ use Rattle.rq_disk.specs.declared.mem_pages.MemPages.{MemPages}
 use Rattle.rq_log.specs.Reading.{IsRead}
 use Rattle.rq_log.specs.Spelled.{AreSpelled, spelled}
 use Rattle.rq_log.proofs.Moments.{started}
-use Rattle.rq_log.proofs.Runs.{ends_all}
+use Rattle.rq_log.proofs.Runs.{ends_all, spelled-append}
 use Rattle.rq_page.specs.Formatted.{IsHeaderOf}
 use Rattle.rq_page.specs.Pages.{lsn_of}
 use Rattle.rq_page.specs.Sizes.{Sizes}
@@ -25,7 +31,7 @@ use Rattle.rq_restart.proofs.Begun.{rolled_back_extends}
 use Rattle.rq_restart.specs.Repeating.{Paged, Repeats}
 use Rattle.rq_restart.specs.Restarting.{IsBegunOn, LogStops}
 use Rattle.rq_log.proofs.Parsing.{one_log}
-use Rattle.rq_restart.specs.Underway.{OfStores}
+use Rattle.rq_restart.specs.Underway.{IsGoneOnWith, OfStores}
 use Rattle.rq_core.specs.Devices.{mem_log, mem_pages}
 use Rattle.rq_core.proofs.Arms.{refused_stays}
 use Rattle.rq_core.proofs.Judged.{refused_over}
@@ -152,9 +158,9 @@ begun_with_less : (read : List ℕ) → read ≡ spelled log_5 → IsBegunOn siz
 begun_with_less read is b =
     let bytes = spelled log_4 in
     let left : Type 0 = IsLeft sizes (image_in formatted_pages) b.older in
-    let older : log_5 ≡ b.older = the_log log_5 b.older read records_spelled (older_spelled sizes left b.older bytes b.begun) is b.reads in
-    let now : log_4 ≡ kept sizes left b.older bytes b.begun = the_log log_4 (kept sizes left b.older bytes b.begun) bytes records_spelled.1 (kept_spelled sizes left b.older bytes b.begun) refl b.begun.is in
-    let more = kept_extends sizes left b.older bytes b.begun in
+    let older : log_5 ≡ b.older = the_log log_5 b.older read records_spelled (older_spelled sizes left b.older read bytes b.begun) is b.reads in
+    let now : log_4 ≡ kept sizes left b.older read bytes b.begun = the_log log_4 (kept sizes left b.older read bytes b.begun) bytes records_spelled.1 (kept_spelled sizes left b.older read bytes b.begun) refl b.begun.is in
+    let more = kept_extends sizes left b.older read bytes b.begun in
     let a = length-append more.0 b.older in
     let c : length (more.0 ++ b.older) ≡ 4 = ap (λ (l : List Record). length l) (more.1 ∙ sym now) in
     let d : length b.older ≡ 5 = ap (λ (l : List Record). length l) (sym older) in
@@ -173,10 +179,94 @@ no_commit_behind (r ∷ more) now plain e f =
     cc same
 
 commit_behind : (log : MemLog) → IsNewLog log log_1 → (now : List Record) → now ≡ Commit t1 ∷ log_1
-    → mem_log.may_leave log (spelled (Commit t1 ∷ log_1)) ⊎ ((more : List Record) × (more ++ log_1 ≡ now) × ArePlain more) → ⊥
+    → mem_log.may_leave log (spelled (Commit t1 ∷ log_1)) ⊎ IsGoneOnWith log_1 (mem_log.seen log) now (spelled (Commit t1 ∷ log_1)) → ⊥
 commit_behind log n now is (inl may) =
     (let e : 2 ≡ 1 = same_length (Commit t1 ∷ log_1) log_1 commit_spelled first_spelled (only_records log log_1 n (spelled (Commit t1 ∷ log_1)) may) in omega (arith, e))
-commit_behind log n now is (inr more) = no_commit_behind more.0 now more.2 more.1 is
+commit_behind log n now is (inr on) = no_commit_behind on.more.0 now on.more.2 on.more.1 is
+
+-- a record's fifth byte is its kind
+abbrev fifth : List ℕ → ℕ
+fifth (p ∷ q ∷ r ∷ s ∷ kind ∷ bytes) = kind
+fifth _ = 0
+
+fifth_behind : (p bytes : List ℕ) → length p ≡ 4 → (kind : ℕ) → fifth (p ++ (kind ∷ bytes)) ≡ kind
+fifth_behind (p ∷ q ∷ r ∷ s ∷ []) bytes e kind = refl
+fifth_behind [] bytes e kind = absurd (omega (arith, e))
+fifth_behind (p ∷ []) bytes e kind = absurd (omega (arith, e))
+fifth_behind (p ∷ q ∷ []) bytes e kind = absurd (omega (arith, e))
+fifth_behind (p ∷ q ∷ r ∷ []) bytes e kind = absurd (omega (arith, e))
+fifth_behind (p ∷ q ∷ r ∷ s ∷ t ∷ more) bytes e kind = absurd (omega (arith, e))
+
+fifth_kind : (r : Record) (rest : List ℕ) → fifth (spelling r ++ rest) ≡ kind_number r
+unfolding spelling
+fifth_kind r rest =
+    let n = 1 + length (fields r) in
+    ap fifth (append_assoc (number 4 n) (kind_number r ∷ fields r) rest) ∙ fifth_behind (number 4 n) (fields r ++ rest) (length-number 4 n) (kind_number r)
+
+same_fifth : (bytes a b : List ℕ) → 5 ≤ length bytes → fifth (bytes ++ a) ≡ fifth (bytes ++ b)
+same_fifth [] a b le = absurd (omega (arith, le))
+same_fifth (p ∷ []) a b le = absurd (omega (arith, le))
+same_fifth (p ∷ q ∷ []) a b le = absurd (omega (arith, le))
+same_fifth (p ∷ q ∷ r ∷ []) a b le = absurd (omega (arith, le))
+same_fifth (p ∷ q ∷ r ∷ s ∷ []) a b le = absurd (omega (arith, le))
+same_fifth (p ∷ q ∷ r ∷ s ∷ t ∷ bytes) a b le = refl
+
+abbrev torn_end : List ℕ
+torn_end = take 7 (spelling (Commit t1))
+
+torn_long : 5 ≤ length torn_end
+torn_long = (let long = long_spelling (Commit t1) commit_spelled.0 in let n = length-take-le 7 (spelling (Commit t1)) (omega (arith, long)) in omega (arith, n))
+
+torn_kind : (rest : List ℕ) → fifth (torn_end ++ rest) ≡ 6
+torn_kind rest =
+    same_fifth torn_end rest (drop 7 (spelling (Commit t1))) torn_long
+    ∙ ap fifth (take-append-drop 7 (spelling (Commit t1)) ∙ sym (append-nil (spelling (Commit t1)))) ∙ fifth_kind (Commit t1) []
+
+not_plain : (r : Record) → is_plain r ≡ true → kind_number r ≡ 6 → ⊥
+not_plain (PageOp t n page slot before after) plain e = omega (arith, e)
+not_plain (PageUndo t n undone page slot after) plain e = omega (arith, e)
+not_plain (OpEnd t n level deed) plain e = cc plain
+not_plain (OpVoid t n) plain e = omega (arith, e)
+not_plain (CompEnd t n undone) plain e = omega (arith, e)
+not_plain (Commit t) plain e = cc plain
+not_plain (Restart incarnation) plain e = omega (arith, e)
+not_plain (AbortEnd t) plain e = omega (arith, e)
+
+-- the oldest of plain records is no commit
+none_commits : (r : Record) (more : List Record) (behind : List ℕ) → ArePlain (r ∷ more) → fifth (spelled (r ∷ more) ++ behind) ≡ 6 → ⊥
+none_commits r [] behind plain e = not_plain r plain.0 (sym (fifth_kind r behind) ∙ e)
+none_commits r (s ∷ more) behind plain e = none_commits s more (spelling r ++ behind) plain.1 (ap fifth (sym (append_assoc (spelled (s ∷ more)) (spelling r) behind)) ∙ e)
+
+torn_behind : (more : List Record) (rest : List ℕ) → ArePlain more → spelled more ≡ torn_end ++ rest → ⊥
+torn_behind [] rest plain e = (let n = ap length e in let m = length-append torn_end rest in let long = torn_long in omega (arith, n, m, long))
+torn_behind (r ∷ more) rest plain e = none_commits r more [] plain (ap fifth (append-nil (spelled (r ∷ more)) ∙ e) ∙ torn_kind rest)
+
+abbrev torn_commit : List ℕ
+torn_commit = spelled log_1 ++ torn_end
+
+torn_commit_behind : (log : MemLog) → IsNewLog log log_1 → (now : List Record) → mem_log.may_leave log torn_commit ⊎ IsGoneOnWith log_1 (mem_log.seen log) now torn_commit → ⊥
+torn_commit_behind log n now (inl may) =
+    let e = ap (λ (l : List ℕ). length l) (only_records log log_1 n torn_commit may) in
+    let sum = length-append (spelled log_1) torn_end in
+    let long = torn_long in
+    omega (arith, e, sum, long)
+torn_commit_behind log n now (inr on) = elim on.first [
+  | inl first ↦
+      let e = ap (λ (l : List ℕ). length l) (sym (log_seen log log_1 n) ∙ first.1) in
+      let sum = length-append (spelled log_1) torn_end in
+      let all = length-append torn_commit first.0 in
+      let long = torn_long in
+      omega (arith, e, sum, all, long)
+  | inr whole ↦
+      let more = whole.2 in
+      let rest = whole.3.0 in
+      let front = spelled log_1 in
+      torn_behind more.0 rest more.2 (
+      sym (drop-append_seam front (spelled more.0))
+      ∙ ap (drop (length front)) (sym (spelled-append more.0 log_1) ∙ ap spelled more.1 ∙ whole.3.1 ∙ append_assoc front torn_end rest)
+      ∙ drop-append_seam front (torn_end ++ rest)
+      )
+]
 
 pub beginnings : BeginningsAreJudged
 beginnings = record {
@@ -211,6 +301,7 @@ beginnings = record {
   of_no_store = λ pages log new h q. told_of (λ z read. ⊥) pages log new h q;
   goes_on_with_a_commit = λ log images n k.
       commit_behind log n k.0 (sym (the_log (Commit t1 ∷ log_1) k.0 (spelled (Commit t1 ∷ log_1)) commit_spelled k.1.are_spelled refl k.1.is)) k.2;
+  goes_on_with_a_torn_commit = λ log images n k. torn_commit_behind log n k.0 k.2;
   shut_for_damage = λ pages new_pages log new_log d h s.
       (refused_over one_log sizes crashed pages new_pages log new_log (why.Damaged d) (shuts pages log h) s).cause tt;
   shut_with_less = λ pages new_pages log new_log r h n s.

@@ -141,9 +141,9 @@ begun_open : IsBegunOn sizes (image_in formatted_pages) (spelled log_4) (spelled
 begun_open b =
     let bytes = spelled (Restart 2 ∷ log_4) in
     let left : Type 0 = IsLeft sizes (image_in formatted_pages) b.older in
-    let older : log_4 ≡ b.older = the_log log_4 b.older (spelled log_4) records_spelled.1 (older_spelled sizes left b.older bytes b.begun) refl b.reads in
-    let now : Restart 2 ∷ log_4 ≡ kept sizes left b.older bytes b.begun =
-    the_log (Restart 2 ∷ log_4) (kept sizes left b.older bytes b.begun) bytes ((omega arith, omega arith), records_spelled.1) (kept_spelled sizes left b.older bytes b.begun) refl b.begun.is in
+    let older : log_4 ≡ b.older = the_log log_4 b.older (spelled log_4) records_spelled.1 (older_spelled sizes left b.older (spelled log_4) bytes b.begun) refl b.reads in
+    let now : Restart 2 ∷ log_4 ≡ kept sizes left b.older (spelled log_4) bytes b.begun =
+    the_log (Restart 2 ∷ log_4) (kept sizes left b.older (spelled log_4) bytes b.begun) bytes ((omega arith, omega arith), records_spelled.1) (kept_spelled sizes left b.older (spelled log_4) bytes b.begun) refl b.begun.is in
     let here : left = subst (IsLeft sizes (image_in formatted_pages)) older (record { whole = whole_4; fits = formatted_fit_4 }) in
     let from = recovered_from sizes b.older b.begun.rolled_back here.whole (b.begun.recovered here) in
     let one : incarnation_of b.begun.rolled_back ≡ 1 = rolled_back_incarnation b.older b.begun.rolled_back b.begun.rolls_back ∙ ap incarnation_of (sym older) in
@@ -161,9 +161,9 @@ pub begun_commit : IsBegunOn sizes (image_in formatted_pages) (spelled log_1) (s
 begun_commit b =
     let bytes = spelled (Commit t1 ∷ log_1) in
     let left : Type 0 = IsLeft sizes (image_in formatted_pages) b.older in
-    let older : log_1 ≡ b.older = the_log log_1 b.older (spelled log_1) first_spelled (older_spelled sizes left b.older bytes b.begun) refl b.reads in
-    let now : Commit t1 ∷ log_1 ≡ kept sizes left b.older bytes b.begun = the_log (Commit t1 ∷ log_1) (kept sizes left b.older bytes b.begun) bytes (records_spelled.0, first_spelled) (kept_spelled sizes left b.older bytes b.begun) refl b.begun.is in
-    let same : committed_of (Commit t1 ∷ log_1) ≡ committed_of log_1 = ap committed_of now ∙ extends_commits b.older (kept sizes left b.older bytes b.begun) (kept_extends sizes left b.older bytes b.begun) ∙ ap committed_of (sym older) in
+    let older : log_1 ≡ b.older = the_log log_1 b.older (spelled log_1) first_spelled (older_spelled sizes left b.older (spelled log_1) bytes b.begun) refl b.reads in
+    let now : Commit t1 ∷ log_1 ≡ kept sizes left b.older (spelled log_1) bytes b.begun = the_log (Commit t1 ∷ log_1) (kept sizes left b.older (spelled log_1) bytes b.begun) bytes (records_spelled.0, first_spelled) (kept_spelled sizes left b.older (spelled log_1) bytes b.begun) refl b.begun.is in
+    let same : committed_of (Commit t1 ∷ log_1) ≡ committed_of log_1 = ap committed_of now ∙ extends_commits b.older (kept sizes left b.older (spelled log_1) bytes b.begun) (kept_extends sizes left b.older (spelled log_1) bytes b.begun) ∙ ap committed_of (sym older) in
     let count : 1 ≡ 0 = ap length same in
     omega (arith, count)
 

@@ -1,6 +1,8 @@
 -- Stores between two happenings, and headlines, over the worked run.
-use Rattle.std.proofs.Common.{rules, ◌≡◌, ℕ, ◌+◌, ◌-◌, ◌≤◌, ◌<◌, false, List, [], ◌∷◌, ◌++◌, length, take, drop, refl, sym, ap, ◌∙◌, subst, inl, arith, length-append}
-use Rattle.std.proofs.lemmas.List.{length-drop, take-append-drop}
+use Rattle.std.proofs.Common.{rules, ◌≡◌, ℕ, ◌+◌, ◌-◌, ◌≤◌, ◌<◌, false, List, [], ◌∷◌, ◌++◌, length, take, drop, refl, sym, ap, ◌∙◌, subst, inl, arith, append_assoc, length-append}
+use Rattle.std.proofs.lemmas.List.{length-drop, length-take-le, take-append-drop}
+use Rattle.std.proofs.Math.Seq.{drop-append_seam}
+use Rattle.byteorder.specs.Endian.{big_number}
 use Rattle.rq_model.specs.declared.record.Record.{Record}
 use Rattle.rq_model.specs.declared.record.Record.TheVariants.{Commit}
 use Rattle.rq_model.specs.History.{Entry}
@@ -21,14 +23,15 @@ use Rattle.rq_disk.specs.Memory.{MayBe, PageState, pages_seen}
 use Rattle.rq_disk.specs.Shown.{pages_of}
 use Rattle.rq_disk.specs.declared.mem_log.MemLog.{MemLog}
 use Rattle.rq_disk.specs.declared.mem_pages.MemPages.{MemPages}
-use Rattle.rq_record.specs.Spelling.{spelling}
-use Rattle.rq_record.proofs.Whole.{long_spelling}
+use Rattle.rq_record.specs.Spelling.{IsRecord, spelling}
+use Rattle.rq_record.proofs.Sizes.{each_length}
+use Rattle.rq_record.proofs.Whole.{framed, framed_whole, long_spelling}
 use Rattle.rq_views.specs.WorkedItems.{t1}
-use Rattle.rq_log.specs.Spelled.{AreSpelled, EndsWith, spelled}
+use Rattle.rq_log.specs.Spelled.{AreSpelled, EndsWith, GoOnTo, spelled}
 use Rattle.rq_page.specs.Pages.{lsn_of}
 use Rattle.rq_store.specs.Fitting.{FitsLog, FitsPage, image_in}
 use Rattle.rq_store.specs.State.{State}
-use Rattle.rq_store.specs.Steps.{Continues}
+use Rattle.rq_store.specs.Steps.{Continues, page_op}
 use Rattle.rq_store.proofs.Cutting.{fits_log, fits_log_longer, whole_dropped}
 use Rattle.rq_store.proofs.Formatting.{formatted_fits}
 use Rattle.rq_store.proofs.WorkedFits.{whole_empty}
@@ -36,7 +39,7 @@ use Rattle.rq_engine.specs.Crash.{IsCut, LeavesCut}
 use Rattle.rq_engine.specs.Devices.{EachPair}
 use Rattle.rq_engine.proofs.Crashing.{commits_of_cut, leaves_cut}
 use Rattle.rq_restart.specs.Underway.{IsStore}
-use Rattle.rq_log.proofs.Runs.{ends_all}
+use Rattle.rq_log.proofs.Runs.{ends_all, go_on_all, go_on_newer, spelled_whole}
 use Rattle.rq_core.specs.Devices.{mem_log, mem_pages}
 use Rattle.rq_core.specs.Happenings.{Course, Tells}
 use Rattle.rq_core.specs.Headline.{LeavesStores}
@@ -45,10 +48,10 @@ use Rattle.rq_core.specs.Worked.{first_entries, hello}
 use Rattle.rq_core.specs.World.World.{Is_open, Is_shut}
 use Rattle.rq_core.proofs.Arms.{open_ends, shut_ends}
 use Rattle.rq_cases.specs.Opened.{AreNewPages, IsNewLog, over}
-use Rattle.rq_cases.specs.Run.{log_1, log_5, no_record, committed, forced}
-use Rattle.rq_cases.specs.Store.{formatted_pages, groups_1, page_image, sent_pages, sizes}
+use Rattle.rq_cases.specs.Run.{log_1, log_2, log_5, no_record, committed, forced}
+use Rattle.rq_cases.specs.Store.{fill_cell, formatted_pages, groups_1, page_image, sent_pages, sizes}
 use Rattle.rq_cases.specs.Worlds.{CutsAreJudged, HeadlinesAreJudged, Hold, Opens, Shuts, WorldsAreJudged, course_to, crashed, crashed_course}
-use Rattle.rq_cases.proofs.Bytes.{first_spelled, records_spelled, short_log, the_log}
+use Rattle.rq_cases.proofs.Bytes.{fill_is, first_spelled, records_spelled, short_log, the_log}
 use Rattle.rq_cases.proofs.Held.{leaves_beginning, log_left, only_records, pages_fit, pages_now}
 use Rattle.rq_cases.proofs.Pages.{are_formatted, range}
 use Rattle.rq_cases.proofs.Running as running
@@ -173,32 +176,64 @@ formatted_fit log c =
     fits_log_longer sizes (image_in formatted_pages) [] log c
     (formatted_fits sizes (image_in formatted_pages) range are_formatted)
 
+abbrev first_op : Record
+first_op = page_op t1 1 fill_cell
+
 -- the first record alone is left, and behind it no byte, or a short end
-cut_behind_first : (bytes : List ℕ) → EndsWith log_1 bytes → IsCut committed (image_in formatted_pages) bytes
-cut_behind_first bytes ends = record {
+cut_behind_first : (bytes : List ℕ) → EndsWith log_1 bytes → GoOnTo bytes (spelled log_2) → IsCut committed (image_in formatted_pages) bytes
+cut_behind_first bytes ends on = record {
   lost = 4;
   forced = omega arith;
   incarnation = omega arith;
   told = first_spelled;
   spells = ends;
+  begins = go_on_newer 3 log_5 bytes on;
   store = record { whole = whole_dropped sizes 4 log_5 whole_5; fits = formatted_fit log_1 (1, refl) };
   durable = omega arith;
   content = λ g. content_is g log_1 (whole_dropped sizes 4 log_5 whole_5).rules ∙ ap (λ c. group_in c g) (sym (commits_of_cut 4 log_5));
 }
 
 cut_first : IsCut committed (image_in formatted_pages) (spelled log_1)
-cut_first = cut_behind_first (spelled log_1) (ends_all log_1 (spelled log_1) refl)
+cut_first = cut_behind_first (spelled log_1) (ends_all log_1 (spelled log_1) refl) (spelling first_op, refl)
 
--- seven bytes of the commit
-torn_commit : EndsWith log_1 (spelled log_1 ++ take 7 (spelling (Commit t1)))
-torn_commit =
-    let is = records_spelled.0 in
-    let long = long_spelling (Commit t1) is in
-    let left = length-drop 7 (spelling (Commit t1)) in
-    (take 7 (spelling (Commit t1)), (Commit t1, drop 7 (spelling (Commit t1)), is, omega (arith, long, left), sym (take-append-drop 7 (spelling (Commit t1)))), refl)
+-- seven bytes of a record behind it
+torn_first : (r : Record) → IsRecord r → EndsWith log_1 (spelled log_1 ++ take 7 (spelling r))
+torn_first r is =
+    let long = long_spelling r is in
+    let left = length-drop 7 (spelling r) in
+    (take 7 (spelling r), (r, drop 7 (spelling r), is, omega (arith, long, left), sym (take-append-drop 7 (spelling r))), refl)
 
-cut_torn : IsCut committed (image_in formatted_pages) (spelled log_1 ++ take 7 (spelling (Commit t1)))
-cut_torn = cut_behind_first (spelled log_1 ++ take 7 (spelling (Commit t1))) torn_commit
+cut_torn : IsCut committed (image_in formatted_pages) (spelled log_1 ++ take 7 (spelling first_op))
+cut_torn =
+    cut_behind_first (spelled log_1 ++ take 7 (spelling first_op)) (torn_first first_op fill_is)
+    (drop 7 (spelling first_op), ap (λ (l : List ℕ). spelled log_1 ++ l) (sym (take-append-drop 7 (spelling first_op))) ∙ sym (append_assoc (spelled log_1) (take 7 (spelling first_op)) (drop 7 (spelling first_op))))
+
+-- a number in the first four of some bytes, whatever is behind them
+same_number : (bytes a b : List ℕ) → 4 ≤ length bytes → big_number 4 (bytes ++ a) ≡ big_number 4 (bytes ++ b)
+same_number [] a b le = absurd (omega (arith, le))
+same_number (p ∷ []) a b le = absurd (omega (arith, le))
+same_number (p ∷ q ∷ []) a b le = absurd (omega (arith, le))
+same_number (p ∷ q ∷ r ∷ []) a b le = absurd (omega (arith, le))
+same_number (p ∷ q ∷ r ∷ s ∷ bytes) a b le = refl
+
+-- what stands behind the first record tells the length of the next one
+no_torn_commit : (images : Images) → IsCut committed images (spelled log_1 ++ take 7 (spelling (Commit t1))) → ⊥
+no_torn_commit images c =
+    let end = take 7 (spelling (Commit t1)) in
+    let fits = records_spelled.0 in
+    let long = long_spelling (Commit t1) fits in
+    let four : 4 ≤ length end = (let n = length-take-le 7 (spelling (Commit t1)) (omega (arith, long)) in omega (arith, n)) in
+    let later = spelled (take 3 log_5) in
+    let all_5 : spelled log_5 ≡ spelled log_1 ++ (spelling first_op ++ later) = sym (spelled_whole 3 log_5) ∙ append_assoc (spelled log_1) (spelling first_op) later in
+    let behind : drop (length (spelled log_1)) (spelled log_5) ≡ spelling first_op ++ later = ap (drop (length (spelled log_1))) all_5 ∙ drop-append_seam (spelled log_1) (spelling first_op ++ later) in
+    let torn : drop (length (spelled log_1)) (spelled log_5) ≡ end ++ c.begins.0 = ap (drop (length (spelled log_1))) (c.begins.1 ∙ append_assoc (spelled log_1) end c.begins.0) ∙ drop-append_seam (spelled log_1) (end ++ c.begins.0) in
+    let same : big_number 4 (spelling first_op ++ later) ≡ big_number 4 (end ++ c.begins.0) = ap (big_number 4) (sym behind ∙ torn) in
+    let one = same_number end c.begins.0 (drop 7 (spelling (Commit t1))) four ∙ ap (big_number 4) (take-append-drop 7 (spelling (Commit t1))) in
+    let a = framed first_op later fill_is in
+    let b = framed_whole (Commit t1) fits in
+    let m : length (spelling first_op) ≡ 546 = each_length first_op fill_is.1 in
+    let n : length (spelling (Commit t1)) ≡ 21 = each_length (Commit t1) fits.1 in
+    omega (arith, same, one, a, b, m, n)
 
 cut_all : IsCut committed (image_in formatted_pages) (spelled log_5)
 cut_all = record {
@@ -207,6 +242,7 @@ cut_all = record {
   incarnation = omega arith;
   told = records_spelled;
   spells = ends_all log_5 (spelled log_5) refl;
+  begins = go_on_all log_5 (spelled log_5) refl;
   store = record { whole = whole_5; fits = formatted_fit log_5 (5, refl) };
   durable = omega arith;
   content = λ g. content_is g log_5 whole_5.rules ∙ ap (λ c. group_in c g) (sym (commits_of_cut 0 log_5));
@@ -227,6 +263,7 @@ cuts = record {
       let f : c.lost + 5 ≤ 5 = c.forced in
       omega (arith, n, f));
   torn = cut_torn;
+  torn_commit = no_torn_commit;
   begins_no_record = λ images c. short_log (drop c.lost log_5) c.told c.spells;
   page_ahead = λ c.
       (let n : 5 - c.lost ≡ 1 = kept_count committed (image_in sent_pages) log_1 first_spelled c in

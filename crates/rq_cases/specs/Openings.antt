@@ -1,5 +1,5 @@
 -- What a restart has checked, what it leaves of a log, and why and where it was refused: over the worked run.
-use Rattle.std.specs.Prelude.{◌≡◌, ◌≢◌, ℕ, ◌^◌, ◌<◌, List, None, ◌∷◌, length, false, true}
+use Rattle.std.specs.Prelude.{◌≡◌, ◌≢◌, ℕ, ◌^◌, ◌<◌, List, None, ◌∷◌, ◌++◌, length, take, false, true}
 use Rattle.rq_model.specs.declared.record.Record.{Record}
 use Rattle.rq_model.specs.declared.record.Record.TheVariants.{Commit, Restart}
 use Rattle.rq_model.specs.declared.refusal.Refusal.{Refusal}
@@ -9,6 +9,7 @@ use Rattle.rq_model.specs.History.Call.{Begin, Commit as Commit_call}
 use Rattle.rq_disk.specs.Device.{Images}
 use Rattle.rq_disk.specs.declared.mem_log.MemLog.{MemLog}
 use Rattle.rq_disk.specs.declared.mem_pages.MemPages.{MemPages}
+use Rattle.rq_record.specs.Spelling.{spelling}
 use Rattle.rq_log.specs.Logged.{Logged}
 use Rattle.rq_log.specs.Spelled.{spelled}
 use Rattle.rq_views.specs.WorkedItems.{t1, t2}
@@ -115,6 +116,8 @@ pub record BeginningsAreJudged : Type 0 where
       → OfStores mem_pages mem_log pages log pages new (λ z read. ⊥) → ⊥
   pub goes_on_with_a_commit : (log : MemLog) (images : Images) → IsNewLog log log_1
       → IsLeftOrGoesOn mem_log log sizes log_1 images (spelled (Commit t1 ∷ log_1)) → ⊥
+  pub goes_on_with_a_torn_commit : (log : MemLog) (images : Images) → IsNewLog log log_1
+      → IsLeftOrGoesOn mem_log log sizes log_1 images (spelled log_1 ++ take 7 (spelling (Commit t1))) → ⊥
   -- a store whose restart is refused stays as it was, for no damage
   pub shut_for_damage : (pages new_pages : MemPages) (log new_log : MemLog) (d : Damage)
       → Hold pages formatted_pages log log_5 → StaysShut pages log (why.Damaged d) new_pages new_log → ⊥

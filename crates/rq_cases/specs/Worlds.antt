@@ -15,6 +15,7 @@ use Rattle.rq_views.specs.WorkedItems.{t1}
 use Rattle.rq_log.specs.Spelled.{AreSpelled, spelled}
 use Rattle.rq_page.specs.Sizes.{Sizes}
 use Rattle.rq_store.specs.Fitting.{image_in}
+use Rattle.rq_store.specs.Steps.{page_op}
 use Rattle.rq_engine.specs.Crash.{IsCut, LeavesCut}
 use Rattle.rq_engine.specs.Opened.{OpenStore}
 use Rattle.rq_core.specs.Devices.{mem_log, mem_pages}
@@ -27,7 +28,7 @@ use Rattle.rq_core.specs.Worked.{first_entries, happened, turned}
 use Rattle.rq_core.specs.World.{IsOpen, IsShut}
 use Rattle.rq_cases.specs.Opened.{AreNewPages, IsNewLog, over}
 use Rattle.rq_cases.specs.Run.{log_1, log_5, no_record, committed, forced}
-use Rattle.rq_cases.specs.Store.{formatted_pages, sent_pages, sizes}
+use Rattle.rq_cases.specs.Store.{fill_cell, formatted_pages, sent_pages, sizes}
 
 -- the first happenings of the worked course: of seven the last is the commit, of nine the force
 abbrev pub course_to : ℕ → Course
@@ -82,8 +83,9 @@ pub record CutsAreJudged : Type 0 where
   pub cut : IsCut committed (image_in formatted_pages) (spelled log_1)
   pub nothing_lost : IsCut committed (image_in formatted_pages) (spelled log_5)
   pub forced_lost : (images : Images) → IsCut forced images (spelled log_1) → ⊥
-  -- of the record behind, some bytes may be left
-  pub torn : IsCut committed (image_in formatted_pages) (spelled log_1 ++ take 7 (spelling (Commit t1)))
+  -- of the record behind, some bytes may be left, and of no other
+  pub torn : IsCut committed (image_in formatted_pages) (spelled log_1 ++ take 7 (spelling (page_op t1 1 fill_cell)))
+  pub torn_commit : (images : Images) → IsCut committed images (spelled log_1 ++ take 7 (spelling (Commit t1))) → ⊥
   pub begins_no_record : (images : Images) → IsCut committed images no_record → ⊥
   pub page_ahead : IsCut committed (image_in sent_pages) (spelled log_1) → ⊥
 

@@ -48,7 +48,7 @@ use Rattle.rq_restart.specs.Restarting.{IsReadAs, IsLeftOn, IsOpenedOver, Report
 use Rattle.rq_analysis.specs.Recovered.{IsRecovered, IsRecoveredFrom}
 use Rattle.rq_analysis.proofs.Recovering.{recovered_from}
 use Rattle.rq_restart.proofs.Begun.{rolled_back_incarnation}
-use Rattle.rq_restart.specs.Underway.{IsStore, IsSomeStore, IsLeftOrGoesOn}
+use Rattle.rq_restart.specs.Underway.{IsGoneOnWith, IsStore, IsSomeStore, IsLeftOrGoesOn}
 use Rattle.rq_restart.specs.Once.{OneLogEach, AsManyAsTheLog, OneSizeEach}
 use Rattle.rq_core.specs.Happenings.{Happening, Report, Course, Tells, AddsCall, called, is_of_device}
 use Rattle.rq_core.specs.Happenings.Answer.{Answered, Crashed}
@@ -336,12 +336,12 @@ module _ {P L : Type 0} (p : page_device.Ghosts P) (l : log_device.Ghosts L) (ho
               let store : IsStore z x.0 images bytes = x.1 in
               (x.0, over images bytes x.0 store x.2, store);
         } where
-          over : (images : Images) (bytes : List ℕ) (now : List Record) → IsStore z now images bytes → l.may_leave log bytes ⊎ Extends r.read now → Extends s.older now
+          over : (images : Images) (bytes : List ℕ) (now : List Record) → IsStore z now images bytes → l.may_leave log bytes ⊎ IsGoneOnWith r.read (l.seen log) now bytes → Extends s.older now
           over images bytes now store (inl was) =
               let y = s.left (p.seen pages) bytes (some_p pages) was in
               let there : IsStore z y.0 (p.seen pages) bytes = y.2 in
               subst (Extends s.older) (one y.0 now bytes there.are_spelled store.are_spelled there.is store.is) y.1
-          over images bytes now store (inr more) = extends_join s.older r.read now r.more more
+          over images bytes now store (inr on) = extends_join s.older r.read now r.more on.more
 
   -- the headline, where an open store is given up, and where one is shut
   pub headline : (fifo : (h : List Entry) → IsLegal (size_of z) h → FifoThroughout h) (stay : AcknowledgedStay (size_of z)) (course : Course) (h : List Entry) (pages : P) (log : L) → Tells course h → IsLegal (size_of z) h

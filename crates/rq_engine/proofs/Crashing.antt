@@ -1,7 +1,8 @@
 -- Pages that a crash leaves fit the log that it leaves.
-use Rattle.std.proofs.Common.{◌≡◌, ℕ, ◌<◌, ◌≤◌, List, drop, refl, sym, subst, Result, Ok, Err, ◌⊎◌, ⊎_elim, inl, arith, length, take, ap, ◌∙◌, ◌≡◌}
-use Rattle.std.proofs.lemmas.List.{length-drop, take-append-drop}
+use Rattle.std.proofs.Common.{◌≡◌, ℕ, zero, suc, ◌-◌, ◌<◌, ◌≤◌, List, drop, refl, sym, subst, Result, Ok, Err, ◌⊎◌, ⊎_elim, inl, arith, length, take, ap, ◌∙◌, ◌≡◌}
+use Rattle.std.proofs.lemmas.List.{drop_all, length-drop, take-append-drop}
 use Rattle.rq_model.specs.Commits.{committed_of}
+use Rattle.rq_model.specs.Incarnations.{incarnation_of}
 use Rattle.rq_model.specs.Ledger.{group_in, kept_in}
 use Rattle.rq_model.proofs.Rises.{kept_less}
 use Rattle.rq_model.proofs.Told.{content_is}
@@ -44,6 +45,13 @@ pub commits_of_cut : (lost : ℕ) (log : List Record) → take (commits_left log
 commits_of_cut lost log =
     subst (λ l. take (kept_in (length (drop lost log)) (committed_of l)) (committed_of l) ≡ committed_of (drop lost log)) (take-append-drop lost log) (cut_commits (take lost log) (drop lost log))
 
+-- the record that began the incarnation is forced, so some are
+some_forced : (forced i : ℕ) (log : List Record) → incarnation_of (oldest forced log) ≡ i → 1 ≤ i → 0 < forced
+some_forced zero i log e some =
+    let none = ap incarnation_of (drop_all (length log - 0) log (omega arith)) in
+    absurd (omega (arith, e, some, none))
+some_forced (suc n) i log e some = omega arith
+
 -- the log's first records, and pages that fit those that are forced
 cut : (s : State) → IsSound s → AreSpelled s.records → (images : Images) (bytes : List ℕ) → FitsLog s.sizes images (oldest s.forced s.records) → IsBeginning s.records s.forced bytes → IsCut s images bytes
 cut s k told images bytes fits b =
@@ -54,6 +62,7 @@ cut s k told images bytes fits b =
       incarnation = begun_cut b.0 s.forced s.incarnation s.records b.1 whole.order k.begun;
       told = AreSpelled-drop b.0 s.records told;
       spells = b.2;
+      begins = b.3 (some_forced s.forced s.incarnation s.records k.begun k.some);
       store = record { whole = whole; fits = fits_log_longer s.sizes images (oldest s.forced s.records) (drop b.0 s.records) (longer_continues b.0 s.forced s.records b.1) fits };
       durable = kept_less s.forced (length (drop b.0 s.records)) (committed_of s.records) (let n = length-drop b.0 s.records in let f = b.1 in omega (arith, n, f));
       content = λ g. content_is g (drop b.0 s.records) whole.rules ∙ ap (λ c. group_in c g) (sym (commits_of_cut b.0 s.records));

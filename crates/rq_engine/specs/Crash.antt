@@ -3,7 +3,7 @@ use Rattle.std.specs.Prelude.{◌≡◌, ℕ, ◌+◌, ◌≤◌, List, length, 
 use Rattle.rq_disk.specs.Device.{Images}
 use Rattle.rq_disk.specs.declared.device.LogDevice as log_device
 use Rattle.rq_disk.specs.declared.device.PageDevice as page_device
-use Rattle.rq_log.specs.Spelled.{AreSpelled, EndsWith}
+use Rattle.rq_log.specs.Spelled.{spelled, AreSpelled, EndsWith, GoOnTo}
 use Rattle.rq_model.specs.declared.record.Record.{Record}
 use Rattle.rq_model.specs.Content.{content}
 use Rattle.rq_model.specs.Commits.{committed_of}
@@ -24,15 +24,16 @@ AreFit p s = AllFit (p.may_be s.pages) s.state.sizes (oldest s.state.forced s.st
 abbrev pub commits_left : List Record → ℕ → ℕ
 commits_left log lost = kept_in (length (drop lost log)) (committed_of log)
 
--- These are the pages and the log of a store that was left so: the first records, with all that are forced and the one
--- that began the incarnation, with a short end perhaps, and pages that fit them. Its content is that of the first commits, with all that no crash
--- may take.
+-- These are the pages and the log of a store that was left so: the first bytes of its records, which are the first records,
+-- with all that are forced and the one that began the incarnation, and a short end perhaps, of the next; and pages that fit
+-- them. Its content is that of the first commits, with all that no crash may take.
 pub record IsCut (s : State) (images : Images) (bytes : List ℕ) : Type 0 where
   pub lost : ℕ
   pub forced : lost + s.forced ≤ length s.records
   pub incarnation : s.incarnation ≤ incarnation_of (drop lost s.records)
   pub told : AreSpelled (drop lost s.records)
   pub spells : EndsWith (drop lost s.records) bytes
+  pub begins : GoOnTo bytes (spelled s.records)
   pub store : IsLeft s.sizes images (drop lost s.records)
   pub durable : (ledger_of s).durable ≤ commits_left s.records lost
   pub content : (g : ℕ) → content (drop lost s.records) g

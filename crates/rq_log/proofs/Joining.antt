@@ -1,11 +1,11 @@
 -- A cut, and then an append.
-use Rattle.std.proofs.Common.{◌≡◌, ⊎_elim, inr, ℕ, ◌≤◌, List, length, drop, ap, subst, arith}
+use Rattle.std.proofs.Common.{◌≡◌, ⊎_elim, inl, inr, ℕ, ◌≤◌, List, ◌++◌, length, drop, sym, ◌∙◌, ap, subst, arith, append_assoc}
 use Rattle.std.proofs.lemmas.List.{length-drop}
 use Rattle.rq_model.specs.declared.record.Record.{Record}
 use Rattle.rq_disk.specs.declared.device.LogDevice.{Ghosts}
 use Rattle.rq_log.specs.Crash.{LeavesOnly}
 use Rattle.rq_log.specs.Logged.{Logged, WasCut, WasLeftOrGoesOn}
-use Rattle.rq_log.specs.Spelled.{AreSpelled, GoesOn}
+use Rattle.rq_log.specs.Spelled.{AreSpelled, GoOnTo, GoesOn}
 use Rattle.rq_log.proofs.Moments.{joined, weaker}
 use Rattle.rq_log.proofs.Parsing.{one_log}
 use Rattle.rq_log.proofs.Runs.{AreSpelled-drop, ends_all}
@@ -22,7 +22,10 @@ module _ {L : Type 0} (g : Ghosts L) where
       let within = on.within in
       let le = cut.1 in
       let some = on.some in
-      record { behind = cut.0; within = le; reads = cut.2; lost = on.lost; some = omega (arith, a, b, e, within, le, some); is = on.is }
+      -- what the cut left went on with the end
+      let longer : GoOnTo c (g.seen mid) → GoOnTo c (g.seen log.device) = λ (on : GoOnTo c (g.seen mid)).
+      (on.0 ++ cut.2.0, cut.2.2 ∙ ap (λ (l : List ℕ). l ++ cut.2.0) (sym cut.3 ∙ on.1) ∙ append_assoc c on.0 cut.2.0) in
+      record { behind = cut.0; within = le; reads = cut.2; lost = on.lost; some = omega (arith, a, b, e, within, le, some); is = on.is; from = ⊎_elim (λ whole. inl whole) (λ first. inr (longer first)) on.from }
 
   -- what a crash at any moment leaves of both
   pub cut_then_added : (old mid : Logged L) (new : L) → ((c : List ℕ) → g.moment old.device ≤ g.moment mid.device → g.may_leave mid.device c → g.left_since mid.device (g.moment old.device) c) → mid.records ≡ old.records → mid.forced ≡ old.forced → AreSpelled old.records → WasCut g old mid.device

@@ -1,5 +1,5 @@
 -- What is so of a log stays so.
-use Rattle.std.proofs.Common.{◌≡◌, ℕ, suc, ◌+◌, ◌-◌, ◌^◌, ◌<◌, ◌≤◌, min, true, false, List, [], ◌∷◌, ◌++◌, length, take, drop, sym, ◌∙◌, ap, subst, inl, inr, ⊎_elim, arith, append_assoc, length-append}
+use Rattle.std.proofs.Common.{◌≡◌, ℕ, suc, ◌+◌, ◌-◌, ◌^◌, ◌<◌, ◌≤◌, min, true, false, List, [], ◌∷◌, ◌++◌, length, take, drop, refl, sym, ◌∙◌, ap, subst, inl, inr, ⊎_elim, arith, append_assoc, length-append}
 use Rattle.std.proofs.lemmas.List.{nil_from_length, take-append-drop}
 use Rattle.std.proofs.Math.Seq.{take-append-add, take-append_seam}
 use Rattle.std.specs.Prelude.{Option, Some, None}
@@ -8,11 +8,14 @@ use Rattle.rq_disk.specs.Device.{Appended, CutOff, ElapsesThrough, IsCutBetween,
 use Rattle.rq_disk.specs.declared.device.LogDevice.{Ghosts}
 use Rattle.rq_disk.specs.Records.{AreRecords}
 use Rattle.rq_record.specs.Spelling.{IsRecord, spelling}
-use Rattle.rq_log.specs.Spelled.{spelled, AreSpelled, EndsWith, HoldsTo, IsBeginning}
+use Rattle.rq_log.specs.Spelled.{spelled, AreSpelled, EndsWith, GoOnTo, HoldsTo, IsBeginning}
 use Rattle.rq_log.specs.Crash.{LeavesOnly}
 use Rattle.rq_log.specs.Reading.{IsRead}
 use Rattle.rq_log.specs.Logged.{Logged, WasCut, WasDurable, WasLeftOrGoesOn, Keeps}
-use Rattle.rq_log.proofs.Runs.{spelled_records, AreSpelled-take, appended, one_newer, all_of, nothing_newer, spelled_whole, goes_on, ends_all, holds_ends, holds_whole}
+use Rattle.rq_log.proofs.Runs.{spelled_records, AreSpelled-take, appended, one_newer, all_of, nothing_newer, spelled_whole, goes_on, go_on_all, go_on_newer, ends_all, holds_ends, holds_whole}
+
+none_torn : (end : ℕ) → None ≡ Some end → ⊥
+none_torn end e = cc
 
 module _ {L : Type 0} (g : Ghosts L) where
   -- what is buffered is whole records
@@ -40,6 +43,7 @@ module _ {L : Type 0} (g : Ghosts L) where
         count = (let n = k.count in omega arith);
         total = (λ few. let more = length-append (spelled log.records) (spelling r) in let n = k.total (omega (arith, few, more)) in omega (arith, n, added, more, measured, few));
         room = (let n = k.room in omega arith);
+        whole = k.whole;
         buffered = λ _. (suc b.0, omega (arith, b.1), b.2, longer ∙ ap (λ (l : List ℕ). l ++ spelling r) b.3);
       })
 
@@ -80,6 +84,7 @@ module _ {L : Type 0} (g : Ghosts L) where
     count = k.count;
     total = k.total;
     room = omega (arith, le, ap length none);
+    whole = k.whole;
     buffered = λ _. (0, (let o = k.is_log.order in omega (arith, o)), λ h. subst (λ (t : Option ℕ). HoldsTo t log.records (g.seen device)) (sym untorn) (added ∙ reads_all log last buffer capacity k running untorn (falls h)), none);
   }
 
@@ -95,6 +100,7 @@ module _ {L : Type 0} (g : Ghosts L) where
     count = k.count;
     total = k.total;
     room = k.room;
+    whole = k.whole;
     buffered = λ running. absurd cc;
   }
 
@@ -111,12 +117,19 @@ module _ {L : Type 0} (g : Ghosts L) where
     count = k.count;
     total = k.total;
     room = k.room;
+    whole = λ some. untorn;
     buffered = λ _. (0, (let n = k.count in omega arith), λ h. subst (λ (t : Option ℕ). HoldsTo t log.records (g.seen device)) (sym untorn) (same ∙ nothing_buffered log last buffer capacity k running untorn none (falls h)), nil_from_length buffer none);
   }
 
   -- an honest device reads as some of the first records
   pub reads_beginning : (log : Logged L) (last size : ℕ) (buffer : List ℕ) (capacity : ℕ) → Keeps g log last size buffer capacity → log.failed ≡ false → g.honest log.device → IsBeginning log.records log.forced (g.seen log.device)
-  reads_beginning log last size buffer capacity k running h = let b = k.buffered running in (b.0, b.1, holds_ends log.torn_at (drop b.0 log.records) (g.seen log.device) (b.2 h))
+  reads_beginning log last size buffer capacity k running h =
+      let b = k.buffered running in (
+        b.0,
+        b.1,
+        holds_ends log.torn_at (drop b.0 log.records) (g.seen log.device) (b.2 h),
+        λ some. go_on_newer b.0 log.records (g.seen log.device) (go_on_all (drop b.0 log.records) (g.seen log.device) (holds_whole log.torn_at (drop b.0 log.records) (g.seen log.device) (k.whole some) (b.2 h))),
+      )
 
   -- a log with these records, all that its device holds
   pub of_these : (records : List Record) (device settled : L) (last size : ℕ) (torn_at : Option ℕ) (buffer : List ℕ) (capacity : ℕ) → AreSpelled records → last ≡ length records → size ≡ length (spelled records) → IsRead g settled device → (g.honest device → HoldsTo torn_at records (g.seen settled)) → buffer ≡ []
@@ -125,11 +138,12 @@ module _ {L : Type 0} (g : Ghosts L) where
     is_log = record {
       spelled = are;
       order = omega arith;
-      leaves = λ h was c left. (0, omega arith, subst (EndsWith records) (sym (was c (read.leaves c left))) (holds_ends torn_at records (g.seen settled) (holds h)));
+      leaves = λ h was c left. (0, omega arith, subst (EndsWith records) (sym (was c (read.leaves c left))) (holds_ends torn_at records (g.seen settled) (holds h)), λ some. absurd (omega (arith, some)));
     };
     count = count;
     total = λ _. long;
     room = omega (arith, ap length none);
+    whole = λ some. absurd (omega (arith, some));
     buffered = λ _. (0, omega arith, λ h. subst (HoldsTo torn_at records) (sym read.same) (holds h), none);
   }
 
@@ -147,12 +161,15 @@ module _ {L : Type 0} (g : Ghosts L) where
         is ∙ ap (λ (k : ℕ). take k seen) e ∙ ap (take (length (spelled records) + m)) ends.2 ∙ take-append-add (spelled records) end m,
       )
 
+  cut_first : (seen c : List ℕ) (n : ℕ) → c ≡ take n seen → GoOnTo c seen
+  cut_first seen c n is = (drop n seen, sym (take-append-drop n seen) ∙ ap (λ (l : List ℕ). l ++ drop n seen) (sym is))
+
   -- what a cut behind the records leaves at each moment: what might be left before, or these with a short end
   pub cut_run : (records : List Record) (old new : L) (n : ℕ) (P : List ℕ → Type 0) → ((c : List ℕ) → g.left_since old (g.moment old) c → g.may_leave old c) → EndsWith records (g.seen old) → n ≡ length (spelled records)
       → CutOff (g.seen old) n (g.may_leave old) (g.may_leave new) → ElapsesThrough (g.moment old) (g.moment new) (g.left_since old) (g.left_since new) (g.may_leave new) (IsCutBetween (g.seen old) n)
-      → ((c : List ℕ) → g.may_leave old c → P c) → ((c : List ℕ) → EndsWith records c → P c) → LeavesOnly g old new P
+      → ((c : List ℕ) → g.may_leave old c → P c) → ((c : List ℕ) → EndsWith records c → GoOnTo c (g.seen old) → P c) → LeavesOnly g old new P
   cut_run records old new n P only_now ends is crash time before short =
-      let inside : (c : List ℕ) → IsCutBetween (g.seen old) n c → P c = λ c between. short c (cut_ends records (g.seen old) c between.0 ends (let le = between.1 in omega (arith, le, is)) between.2) in
+      let inside : (c : List ℕ) → IsCutBetween (g.seen old) n c → P c = λ c between. short c (cut_ends records (g.seen old) c between.0 ends (let le = between.1 in omega (arith, le, is)) between.2) (cut_first (g.seen old) c between.0 between.2) in
       let now : (c : List ℕ) → g.may_leave new c → P c = λ c may. ⊎_elim (before c) (inside c) (crash c may) in
       record {
         later = time.later;
@@ -173,7 +190,7 @@ module _ {L : Type 0} (g : Ghosts L) where
     held h = subst (λ (t : Option ℕ). HoldsTo t older (g.seen log.device)) torn ((k.buffered running).2 h)
 
     short_begins : (c : List ℕ) → EndsWith older c → IsBeginning log.records log.forced c
-    short_begins c ends = (newer, (k.buffered running).1, ends)
+    short_begins c ends = (newer, (k.buffered running).1, ends, λ some. absurd (none_torn end (sym (k.whole some) ∙ torn)))
 
     cut_leaves : g.honest log.device → WasDurable g log → (c : List ℕ) → g.may_leave device c → IsBeginning log.records log.forced c
     cut_leaves h was c may = ⊎_elim (k.is_log.leaves h was c) (λ between. short_begins c (cut_ends older (g.seen log.device) c between.0 (held h).0 (let le = between.1 in let e = (held h).1 in omega (arith, le, e)) between.2)) (crash c may)
@@ -181,12 +198,12 @@ module _ {L : Type 0} (g : Ghosts L) where
     -- at each moment
     pub cut_moments : ((c : List ℕ) → g.left_since log.device (g.moment log.device) c → g.may_leave log.device c) → ElapsesThrough (g.moment log.device) (g.moment device) (g.left_since log.device) (g.left_since device) (g.may_leave device) (IsCutBetween (g.seen log.device) end)
         → g.honest device → WasDurable g log → LeavesOnly g log.device device (IsBeginning log.records log.forced)
-    cut_moments only_now time h was = cut_run older log.device device end (IsBeginning log.records log.forced) only_now (held (falls h)).0 (held (falls h)).1 crash time (k.is_log.leaves (falls h) was) short_begins
+    cut_moments only_now time h was = cut_run older log.device device end (IsBeginning log.records log.forced) only_now (held (falls h)).0 (held (falls h)).1 crash time (k.is_log.leaves (falls h) was) (λ c ends first. short_begins c ends)
 
     pub cut_adds : ((c : List ℕ) → g.left_since log.device (g.moment log.device) c → g.may_leave log.device c) → ElapsesThrough (g.moment log.device) (g.moment device) (g.left_since log.device) (g.left_since device) (g.may_leave device) (IsCutBetween (g.seen log.device) end)
         → g.honest device → LeavesOnly g log.device device (WasLeftOrGoesOn g log)
     cut_adds only_now time h = cut_run older log.device device end (WasLeftOrGoesOn g log) only_now (held (falls h)).0 (held (falls h)).1 crash time (λ c was. inl was)
-        (λ c ends. inr (record { behind = newer; within = (k.buffered running).1; reads = (held (falls h)).0; lost = newer; some = omega arith; is = ends }))
+        (λ c ends first. inr (record { behind = newer; within = (k.buffered running).1; reads = (held (falls h)).0; lost = newer; some = omega arith; is = ends; from = inr first }))
 
     -- the cut is made
     cut_reads : g.seen device ≡ take end (g.seen log.device) → g.honest log.device → g.seen device ≡ spelled older
@@ -206,6 +223,7 @@ module _ {L : Type 0} (g : Ghosts L) where
       count = k.count;
       total = k.total;
       room = k.room;
+      whole = λ some. refl;
       buffered = λ _. (newer, (k.buffered running).1, λ h. cut_reads is (falls h), (k.buffered running).3);
     }
 

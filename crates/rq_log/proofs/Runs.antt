@@ -12,7 +12,7 @@ use Rattle.rq_disk.proofs.Records.{records-append}
 use Rattle.rq_record.specs.Spelling.{IsRecord, BeginsRecord, spelling}
 use Rattle.rq_model.specs.declared.record.Record.TheVariants.{Restart}
 use Rattle.rq_record.proofs.Whole.{framed_whole, long_spelling}
-use Rattle.rq_log.specs.Spelled.{spelled, AreSpelled, EndsWith, HoldsTo, IsBeginning, GoesOn}
+use Rattle.rq_log.specs.Spelled.{spelled, AreSpelled, EndsWith, GoOnTo, HoldsTo, IsBeginning, GoesOn}
 
 one_size : (r : Record) → IsRecord r → record_size (spelling r) ≡ length (spelling r)
 one_size r is = framed_whole r is
@@ -107,6 +107,24 @@ front_spelled n (r ∷ rs) are = elim (cases_lt (length (spelled rs)) n) [
       }
 ]
 
+-- what spells older records goes on with the newer ones
+pub go_on_newer : (count : ℕ) (rs : List Record) (bytes : List ℕ) → GoOnTo bytes (spelled (drop count rs)) → GoOnTo bytes (spelled rs)
+go_on_newer count rs bytes on = (
+  on.0 ++ spelled (take count rs),
+  sym (spelled_whole count rs) ∙ ap (λ (l : List ℕ). l ++ spelled (take count rs)) on.1 ∙ append_assoc bytes on.0 (spelled (take count rs)),
+)
+
+pub go_on_all : (rs : List Record) (bytes : List ℕ) → bytes ≡ spelled rs → GoOnTo bytes (spelled rs)
+go_on_all rs bytes e = ([], sym e ∙ sym (append-nil bytes))
+
+-- and so do the first few bytes of the newer ones behind it
+pub go_on_some : (count n : ℕ) (rs : List Record) (seen buffer c : List ℕ) → seen ≡ spelled (drop count rs) → buffer ≡ spelled (take count rs) → c ≡ seen ++ take n buffer → GoOnTo c (spelled rs)
+go_on_some count n rs seen buffer c reads holds is = (
+  drop n buffer,
+  sym (spelled_whole count rs) ∙ ap (λ (l : List ℕ). l ++ spelled (take count rs)) (sym reads) ∙ ap (λ (l : List ℕ). seen ++ l) (sym holds ∙ sym (take-append-drop n buffer))
+      ∙ sym (append_assoc seen (take n buffer) (drop n buffer)) ∙ ap (λ (l : List ℕ). l ++ drop n buffer) (sym is),
+)
+
 drop_joined : (m count : ℕ) (rs : List Record) → m ≤ count → drop m (take count rs) ++ drop count rs ≡ drop m rs
 drop_joined zero count rs le = take-append-drop count rs
 drop_joined (suc m) zero rs le = absurd (omega arith)
@@ -129,7 +147,7 @@ pub some_newer : (rs : List Record) (kept count n : ℕ) → AreSpelled rs → c
 some_newer rs kept count n are le =
     let f = front_spelled n (take count rs) (AreSpelled-take count rs are) in
     let short = few_of rs kept count (take n (spelled (take count rs))) f le in
-    (f.lost, omega (arith, short, le), newer_ends rs count (take n (spelled (take count rs))) f short)
+    (f.lost, omega (arith, short, le), newer_ends rs count (take n (spelled (take count rs))) f short, λ some. go_on_some count n rs (spelled (drop count rs)) (spelled (take count rs)) (spelled (drop count rs) ++ take n (spelled (take count rs))) refl refl refl)
 
 -- what was read with a few bytes of the newer records behind it
 pub goes_on : (rs : List Record) (kept count n : ℕ) (seen buffer c : List ℕ) → AreSpelled rs → count + kept ≤ length rs → seen ≡ spelled (drop count rs) → buffer ≡ spelled (take count rs) → c ≡ seen ++ take n buffer → GoesOn rs kept seen c
@@ -143,6 +161,7 @@ goes_on rs kept count n seen buffer c are le reads holds is =
       lost = f.lost;
       some = short;
       is = subst (EndsWith (drop f.lost rs)) (sym (is ∙ ap (λ (l : List ℕ). l ++ take n buffer) reads ∙ ap (λ (l : List ℕ). spelled (drop count rs) ++ take n l) holds)) (newer_ends rs count (take n (spelled (take count rs))) f short);
+      from = inl (go_on_some count n rs seen buffer c reads holds is);
     }
 
 -- what an append of the newer records may leave
@@ -155,10 +174,10 @@ appended rs kept count seen buffer old new are le reads holds before crash c now
 
 -- a newer record behind them changes nothing of what is left
 pub one_newer : (r : Record) (rs : List Record) (kept : ℕ) (c : List ℕ) → IsBeginning rs kept c → IsBeginning (r ∷ rs) kept c
-one_newer r rs kept c is = (suc is.0, omega (arith, is.1), is.2)
+one_newer r rs kept c is = (suc is.0, omega (arith, is.1), is.2, λ some. go_on_newer 1 (r ∷ rs) c (is.3 some))
 
 pub all_of : (rs : List Record) (kept : ℕ) (c : List ℕ) → kept ≤ length rs → c ≡ spelled rs → IsBeginning rs kept c
-all_of rs kept c le e = (0, omega (arith, le), ends_all rs c e)
+all_of rs kept c le e = (0, omega (arith, le), ends_all rs c e, λ some. go_on_all rs c e)
 
 -- what has no bytes to hand over is all handed over
 pub nothing_newer : (count : ℕ) (rs : List Record) (seen buffer : List ℕ) → seen ≡ spelled (drop count rs) → buffer ≡ spelled (take count rs) → length buffer ≡ 0 → seen ≡ spelled rs

@@ -1,5 +1,5 @@
 -- What contracts see of a log.
-use Rattle.std.specs.Prelude.{◌≡◌, ◌⊎◌, ℕ, ◌+◌, ◌^◌, ◌<◌, ◌≤◌, Bool, false, Option, List, length, drop, take}
+use Rattle.std.specs.Prelude.{◌≡◌, ◌⊎◌, ℕ, ◌+◌, ◌^◌, ◌<◌, ◌≤◌, Bool, false, Option, None, List, length, drop, take}
 use Rattle.rq_model.specs.declared.record.Record.{Record}
 use Rattle.rq_disk.specs.Device.{Only}
 use Rattle.rq_disk.specs.declared.device.LogDevice.{Ghosts}
@@ -59,4 +59,6 @@ module _ {L : Type 0} (g : Ghosts L) where
     pub count : last ≡ length log.records
     pub total : length (spelled log.records) < 2 ^ 64 → size ≡ length (spelled log.records)
     pub room : length buffer + log.reserved ≤ capacity
+    -- a force is behind the cut
+    pub whole : 0 < log.forced → log.torn_at ≡ None
     pub buffered : log.failed ≡ false → IsBuffered log buffer

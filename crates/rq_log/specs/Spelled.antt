@@ -1,5 +1,5 @@
 -- Records as they stand in the log, and what of them a crash leaves. The newest record is the first of a list.
-use Rattle.std.specs.Prelude.{◌≡◌, ℕ, ◌+◌, ◌<◌, ◌≤◌, List, [], ◌∷◌, ◌++◌, length, drop, Option, Some, None}
+use Rattle.std.specs.Prelude.{◌≡◌, ◌⊎◌, ℕ, ◌+◌, ◌<◌, ◌≤◌, List, [], ◌∷◌, ◌++◌, length, drop, Option, Some, None}
 use Rattle.rq_model.specs.declared.record.Record.{Record}
 use Rattle.rq_record.specs.Spelling.{IsRecord, BeginsRecord, spelling}
 
@@ -22,12 +22,18 @@ abbrev pub HoldsTo : Option ℕ → List Record → List ℕ → Type 0
 HoldsTo None records bytes = bytes ≡ spelled records
 HoldsTo (Some end) records bytes = EndsWith records bytes × (end ≡ length (spelled records)) × (end < length bytes)
 
+-- all of those begin with these bytes
+abbrev pub GoOnTo : List ℕ → List ℕ → Type 0
+GoOnTo bytes all = (rest : List ℕ) × (all ≡ bytes ++ rest)
+
 -- These bytes are records from the oldest on, the first so many and perhaps more, with a short end: only newest ones lack.
+-- Once any were forced, no end that was read stands behind them: the bytes are the first of what the records spell.
 abbrev pub IsBeginning : List Record → ℕ → List ℕ → Type 0
 IsBeginning records kept bytes = (lost : ℕ) × (lost + kept ≤ length records) × EndsWith (drop lost records) bytes
+    × (0 < kept → GoOnTo bytes (spelled records))
 
 -- These bytes are the records that were read with the first of those behind them: the first so many records and perhaps
--- more, and then a short end.
+-- more, and then a short end, which is of the next of them, or of the end that was read.
 pub record GoesOn (records : List Record) (kept : ℕ) (seen bytes : List ℕ) : Type 0 where
   -- so many records come behind what was read
   pub behind : ℕ
@@ -37,3 +43,4 @@ pub record GoesOn (records : List Record) (kept : ℕ) (seen bytes : List ℕ) :
   pub lost : ℕ
   pub some : lost ≤ behind
   pub is : EndsWith (drop lost records) bytes
+  pub from : GoOnTo bytes (spelled records) ⊎ GoOnTo bytes seen

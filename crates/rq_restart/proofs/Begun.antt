@@ -1,5 +1,5 @@
 -- What undoing leaves of a store that was left as a crash may leave one.
-use Rattle.std.proofs.Common.{◌≡◌, ℕ, suc, ◌+◌, ◌-◌, ◌≤◌, ◌^◌, ◌++◌, false, List, [], ◌∷◌, length, drop, inl, inr, refl, sym, ◌∙◌, ap, subst, arith}
+use Rattle.std.proofs.Common.{◌≡◌, ◌⊎◌, ℕ, suc, ◌+◌, ◌-◌, ◌≤◌, ◌^◌, ◌++◌, false, List, [], ◌∷◌, length, drop, inl, inr, refl, sym, ◌∙◌, ap, subst, arith}
 use Rattle.std.proofs.lemmas.List.{length-drop, length-map}
 use Rattle.rq_model.specs.declared.record.Record.{Record}
 use Rattle.rq_model.specs.declared.refusal.Refusal.{Refusal}
@@ -11,7 +11,7 @@ use Rattle.rq_model.proofs.Cuts.{extends_commits, extends_join}
 use Rattle.rq_page.specs.Sizes.{Sizes}
 use Rattle.rq_pool.specs.Pooled.{IsPool}
 use Rattle.rq_log.specs.Logged.{Logged}
-use Rattle.rq_log.specs.Spelled.{AreSpelled, EndsWith, GoesOn}
+use Rattle.rq_log.specs.Spelled.{spelled, AreSpelled, EndsWith, GoOnTo, GoesOn}
 use Rattle.rq_views.specs.Stored.{count_used, slots_in}
 use Rattle.rq_sound.specs.Sound.{IsSound}
 use Rattle.rq_sound.proofs.Opened.{opened_sound}
@@ -132,7 +132,7 @@ module _ (log rolled_back : List Record) (m : IsRolledBack log rolled_back) (h :
 
 -- the records behind, as they were forced
 pub begun_behind : (z : Sizes) (left : Type 0) (log rolled_back : List Record) (r : Record) (kept : ℕ) (seen bytes : List ℕ) → IsRolledBack log rolled_back → (left → IsRecovered z log rolled_back) → r ≡ next_restart rolled_back → AreSpelled log → EndsWith log seen → AreSpelled (r ∷ rolled_back)
-    → GoesOn (r ∷ rolled_back) kept seen bytes → IsBegunBehind z left log bytes
+    → GoesOn (r ∷ rolled_back) kept seen bytes → IsBegunBehind z left log seen bytes
 begun_behind z left log rolled_back r kept seen bytes m recovered is are read now on =
     let n : ℕ = length (drop on.behind (r ∷ rolled_back)) in
     let same : drop on.behind (r ∷ rolled_back) ≡ log = one_log (drop on.behind (r ∷ rolled_back)) log seen (AreSpelled-drop on.behind (r ∷ rolled_back) now) are on.reads read in
@@ -148,6 +148,7 @@ begun_behind z left log rolled_back r kept seen bytes m recovered is are read no
       lacks = on.lost;
       some = omega (arith, a, b, c, d);
       is = subst (λ q. EndsWith (drop on.lost (q ∷ rolled_back)) bytes) is on.is;
+      from = subst (λ q. GoOnTo bytes (spelled (q ∷ rolled_back)) ⊎ GoOnTo bytes seen) is on.from;
     }
 
 -- ---- what is opened

@@ -12,7 +12,7 @@ use Rattle.rq_model.specs.declared.refusal.Refusal.{Refusal}
 use Rattle.rq_model.specs.declared.refusal.Refusal.TheVariants as why
 use Rattle.rq_restart.specs.Refused.{IsStoppedBehind}
 use Rattle.rq_restart.specs.Repeating.{Paged}
-use Rattle.rq_restart.specs.Restarting.{IsBegunOn, WasLeftOrBegun, WasLeftOrForced, BeginsAtMost}
+use Rattle.rq_restart.specs.Restarting.{IsBegunBehind, IsBegunOn, WasLeftOrBegun, WasLeftOrForced, BeginsAtMost}
 use Rattle.rq_disk.specs.Device.{Images}
 use Rattle.rq_page.specs.Sizes.{Sizes}
 use Rattle.rq_analysis.specs.Recovered.{IsRecovered}
@@ -66,7 +66,7 @@ module _ {L : Type 0} (g : Ghosts L) (z : Sizes) (images : Images) where
       joined g old mid new (λ c. g.may_leave old c ⊎ IsBegunOn z images (g.seen old) c)
       (weaker g old mid (g.may_leave old) (λ c. g.may_leave old c ⊎ IsBegunOn z images (g.seen old) c) run (λ c was. inl was))
       (weaker g mid new (WasLeftOrBegun g z (IsLeft z images older) mid older) (λ c. g.may_leave old c ⊎ IsBegunOn z images (g.seen old) c) (rest h are (subst (EndsWith older) (sym same) read))
-      (λ c. ⊎_elim (λ was. inl (crash c was)) (λ is. inr (record { older = older; reads = read; begun = is }))))
+      (λ c. ⊎_elim (λ was. inl (crash c was)) (λ is. inr (record { older = older; reads = read; begun = subst (λ seen. IsBegunBehind z (IsLeft z images older) older seen c) same is }))))
 
 pub if_err_both : {T E : Type 0} {A B C : E → Type 0} (r : Result T E) → ((x : E) → A x → B x → C x) → IfErr r A → IfErr r B → IfErr r C
 if_err_both (Ok x) f h k = h

@@ -44,7 +44,7 @@ drop_front (suc n) [] ys le = absurd (omega (arith, le))
 drop_front (suc n) (x ∷ xs) ys le = drop_front n xs ys (omega (arith, le))
 
 -- the first of the records behind a log, that begin an incarnation over it
-module _ (z : Sizes) (left : Type 0) (older : List Record) (bytes : List ℕ) (b : IsBegunBehind z left older bytes) where
+module _ (z : Sizes) (left : Type 0) (older : List Record) (read bytes : List ℕ) (b : IsBegunBehind z left older read bytes) where
   more : Extends older b.rolled_back
   more = rolled_back_extends older b.rolled_back b.rolls_back
 
@@ -56,6 +56,9 @@ module _ (z : Sizes) (left : Type 0) (older : List Record) (bytes : List ℕ) (b
 
   all : behind ++ older ≡ next_restart b.rolled_back ∷ b.rolled_back
   all = ap (λ l. next_restart b.rolled_back ∷ l) more.1
+
+  pub all_extend : Extends older (next_restart b.rolled_back ∷ b.rolled_back)
+  all_extend = (behind, all, (refl, more.2))
 
   few : b.lacks ≤ length behind
   few = let n = ap length all in let m = length-append behind older in let s = b.some in omega (arith, n, m, s)
@@ -92,6 +95,7 @@ module _ {P L : Type 0} (p : page_device.Ghosts P) (l : log_device.Ghosts L) (pa
   begun : (images : Images) (bytes : List ℕ) → Leaves (p.may_be pages) images → IsBegunFrom p l pages log new_pages bytes → Q images bytes
   begun images bytes a b =
       let seen = p.seen pages in
+      let seen_log = l.seen log in
       let first = was seen (l.seen log) (pages_some pages) (log_some log) in
       let told : IsSuperblock z (seen 0) = record { range = first.1.range; formatted = first.1.left.fits.superblock } in
       let seen_there = b.were.seen honest in
@@ -101,19 +105,24 @@ module _ {P L : Type 0} (p : page_device.Ghosts P) (l : log_device.Ghosts L) (pa
       let older = on.older in
       let left : Type 0 = IsLeft z (image_in b.images) older in
       let s = was images (l.seen log) a (log_some log) in
-      let are_older = older_spelled z left older bytes on.begun in
+      let are_older = older_spelled z left older seen_log bytes on.begun in
       let same : s.0 ≡ older = one_log s.0 older (l.seen log) s.1.are_spelled are_older s.1.is on.reads in
       let same_first : first.0 ≡ older = one_log first.0 older (l.seen log) first.1.are_spelled are_older first.1.is on.reads in
       let is_read : older ≡ read = one_log older read (l.seen log) are_older are on.reads reads in
       let there : left = left_read z seen b.images older seen_here (subst (IsLeft z seen) same_first first.1.left) in (
-        kept z left older bytes on.begun,
+        kept z left older seen_log bytes on.begun,
         record {
           range = s.1.range;
-          are_spelled = kept_spelled z left older bytes on.begun;
+          are_spelled = kept_spelled z left older seen_log bytes on.begun;
           is = on.begun.is;
-          left = kept_left z left older bytes on.begun images (subst (IsLeft z images) same s.1.left) there;
+          left = kept_left z left older seen_log bytes on.begun images (subst (IsLeft z images) same s.1.left) there;
         },
-        inr (subst (λ l. Extends l (kept z left older bytes on.begun)) is_read (kept_extends z left older bytes on.begun)),
+        inr (record {
+          more = subst (λ l. Extends l (kept z left older seen_log bytes on.begun)) is_read (kept_extends z left older seen_log bytes on.begun);
+          first = ⊎_elim
+              (λ whole. inr (next_restart on.begun.rolled_back ∷ on.begun.rolled_back, on.begun.are_spelled, subst (λ l. Extends l (next_restart on.begun.rolled_back ∷ on.begun.rolled_back)) is_read (all_extend z left older seen_log bytes on.begun), whole))
+              (λ was. inl was) on.begun.from;
+        }),
       )
 
   left_or_begun : (images : Images) (bytes : List ℕ) → Leaves (p.may_be new_pages) images → l.may_leave log bytes ⊎ IsBegunFrom p l pages log new_pages bytes → Q images bytes

@@ -16,7 +16,7 @@ use Rattle.rq_pool.specs.Reading.{ArePages, AreSeen}
 use Rattle.rq_log.specs.Reading.{IsRead}
 use Rattle.rq_log.specs.Logged.{Logged, WasDurable}
 use Rattle.rq_log.specs.Crash.{LeavesOnly}
-use Rattle.rq_log.specs.Spelled.{spelled, AreSpelled, EndsWith, GoesOn}
+use Rattle.rq_log.specs.Spelled.{spelled, AreSpelled, EndsWith, GoOnTo, GoesOn}
 use Rattle.rq_store.specs.Opening.{IsLeft, next_restart, opened, sent_in_slots, waiting_in}
 use Rattle.rq_store.specs.State.{State}
 use Rattle.rq_store.specs.Whole.{IsWhole}
@@ -90,8 +90,9 @@ pub record AreTold (z : Sizes) (images : List (List ℕ)) (count : ℕ) (waiting
   pub few_sent : (g : ℕ) → sent_count sent g ≤ count
 
 -- Bytes of a log with the first of the records behind it by which what has no end is undone and the next incarnation is
--- begun, and a short end; of a store that was left so, these recover the log.
-pub record IsBegunBehind (z : Sizes) (left : Type 0) (older : List Record) (bytes : List ℕ) : Type 0 where
+-- begun, and a short end, of the next of these or of the end that was read; of a store that was left so, these recover
+-- the log.
+pub record IsBegunBehind (z : Sizes) (left : Type 0) (older : List Record) (read bytes : List ℕ) : Type 0 where
   pub rolled_back : List Record
   pub rolls_back : IsRolledBack older rolled_back
   pub recovered : left → IsRecovered z older rolled_back
@@ -100,17 +101,18 @@ pub record IsBegunBehind (z : Sizes) (left : Type 0) (older : List Record) (byte
   pub lacks : ℕ
   pub some : lacks + length older ≤ length rolled_back + 1
   pub is : EndsWith (drop lacks (next_restart rolled_back ∷ rolled_back)) bytes
+  pub from : GoOnTo bytes (spelled (next_restart rolled_back ∷ rolled_back)) ⊎ GoOnTo bytes read
 
 -- those of the log that was read, beside these pages
 pub record IsBegunOn (z : Sizes) (images : Images) (read bytes : List ℕ) : Type 0 where
   pub older : List Record
   pub reads : EndsWith older read
-  pub begun : IsBegunBehind z (IsLeft z images older) older bytes
+  pub begun : IsBegunBehind z (IsLeft z images older) older read bytes
 
 module _ {L : Type 0} (g : log_device.Ghosts L) where
   -- a crash might have left it of the log before, or it is what was read with the first of the records behind
   abbrev pub WasLeftOrBegun : Sizes → Type 0 → L → List Record → List ℕ → Type 0
-  WasLeftOrBegun z left old older c = g.may_leave old c ⊎ IsBegunBehind z left older c
+  WasLeftOrBegun z left old older c = g.may_leave old c ⊎ IsBegunBehind z left older (g.seen old) c
 
   -- the same of these records, of which so many were forced
   abbrev pub WasLeftOrForced : L → List Record → ℕ → List ℕ → Type 0

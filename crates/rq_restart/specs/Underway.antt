@@ -6,7 +6,7 @@ use Rattle.rq_model.specs.Incarnations.{Extends}
 use Rattle.rq_disk.specs.Device.{Images}
 use Rattle.rq_disk.specs.declared.device.LogDevice as log_device
 use Rattle.rq_disk.specs.declared.device.PageDevice as page_device
-use Rattle.rq_log.specs.Spelled.{AreSpelled, EndsWith}
+use Rattle.rq_log.specs.Spelled.{spelled, AreSpelled, EndsWith, GoOnTo}
 use Rattle.rq_page.specs.Sizes.{Sizes, IsInRange}
 use Rattle.rq_store.specs.Opening.{IsLeft}
 use Rattle.rq_engine.specs.Opened.{OpenStore}
@@ -24,10 +24,16 @@ pub record IsStore (z : Sizes) (log : List Record) (images : Images) (bytes : Li
 abbrev pub IsSomeStore : Sizes → Images → List ℕ → Type 0
 IsSomeStore z images bytes = (log : List Record) × IsStore z log images bytes
 
+-- These bytes tell the log that was read with the first of plain records behind it. They are the first of all that these
+-- spell or, as long as the end that was read is not cut off, of what was read.
+pub record IsGoneOnWith (read : List Record) (seen : List ℕ) (now : List Record) (bytes : List ℕ) : Type 0 where
+  pub more : Extends read now
+  pub first : GoOnTo bytes seen ⊎ ((all : List Record) × AreSpelled all × Extends read all × GoOnTo bytes (spelled all))
+
 -- a store, whose log a crash might have left before, or is what was read with plain records behind
 abbrev pub IsLeftOrGoesOn : {L : Type 0} → log_device.Ghosts L → L → Sizes → List Record → Images → List ℕ → Type 0
 IsLeftOrGoesOn l log z read images bytes = (now : List Record) × IsStore z now images bytes
-    × (l.may_leave log bytes ⊎ Extends read now)
+    × (l.may_leave log bytes ⊎ IsGoneOnWith read (l.seen log) now bytes)
 
 -- where each pair that a crash might have left before is a store, and this was read of the log, then so says Q
 abbrev pub OfStores : {P L : Type 0} → page_device.Ghosts P → log_device.Ghosts L → P → L → P → L
