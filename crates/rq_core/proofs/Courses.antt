@@ -1,7 +1,6 @@
 -- Courses, happening by happening.
 use Rattle.std.proofs.Common.{◌≡◌, ℕ, suc, ◌+◌, ◌<◌, List, [], ◌∷◌, ◌++◌, length, take, map, refl, sym, ◌∙◌, ap, arith, append_assoc, get_or, ◌≤◌, Some, option_map}
-use Rattle.std.proofs.Math.Seq.{take-suc}
-use Rattle.std.proofs.lemmas.List.{append-nil, length-take-le, map-append, length-map, reverse-append}
+use Rattle.std.proofs.lemmas.List.{append-nil, length-take-le, length-map, reverse-append}
 use Rattle.std.proofs.lemmas.Option.{slice_get-map, slice_get-get_or}
 use Rattle.rq_model.specs.History.{Call}
 use Rattle.rq_model.specs.History.Call.{Acknowledge}
@@ -30,16 +29,6 @@ paired_answers course (x ∷ xs) [] e = absurd (omega (arith, e))
 pub answers_are : (xs : List Happening) (bs : List Answer) → length xs ≡ length bs → answers_of (course_of xs bs) ≡ bs
 answers_are xs bs e = paired_answers [] xs bs e
 
-paired_more : (course : Course) (xs : List Happening) (bs : List Answer) (x : Happening) (b : Answer) → length xs ≡ length bs → paired course (xs ++ x ∷ []) (bs ++ b ∷ []) ≡ (x, b) ∷ paired course xs bs
-paired_more course [] [] x b e = refl
-paired_more course (y ∷ xs) (c ∷ bs) x b e = paired_more ((y, c) ∷ course) xs bs x b (omega (arith, e))
-paired_more course [] (c ∷ bs) x b e = absurd (omega (arith, e))
-paired_more course (y ∷ xs) [] x b e = absurd (omega (arith, e))
-
--- one happening more, and its answer
-pub one_more : (xs : List Happening) (bs : List Answer) (x : Happening) (b : Answer) → length xs ≡ length bs → course_of (xs ++ x ∷ []) (bs ++ b ∷ []) ≡ (x, b) ∷ course_of xs bs
-one_more xs bs x b e = paired_more [] xs bs x b e
-
 abbrev ack : CommitNo → Call
 ack number = Acknowledge number.txn number.lsn
 
@@ -60,17 +49,6 @@ in_entry _ = refl
 pub nth_told : (es : List Entry) (n i : ℕ) (d : Entry) → n ≡ suc i → i < length es → acknowledging (nth n (map answer_in es)) ≡ option_map ack (commit_told (get_or es i d))
 nth_told es n i d is within =
     ap (λ k. acknowledging (nth k (map answer_in es))) is ∙ ap acknowledging (slice_get-map answer_in es i ∙ ap (option_map answer_in) (slice_get-get_or es i d within)) ∙ in_entry (get_or es i d)
-
--- a loop over happenings: one more is taken, and its entry is pushed
-pub pushed : (xs : List Happens) (es new : List Entry) (i : ℕ) (d : Happens) (e : Entry) → i < length xs → length es ≡ i → new ≡ es ++ e ∷ [] → course (take (i + 1) xs) new ≡ (happens (get_or xs i d), answer_in e) ∷ course (take i xs) es
-pushed xs es new i d e within count is =
-    let s : i + 1 ≡ suc i = omega arith in
-    let t : take (i + 1) xs ≡ take i xs ++ (get_or xs i d ∷ []) = ap (λ n. take n xs) s ∙ take-suc xs i d within in
-    let n : length (map happens (take i xs)) ≡ length (map answer_in es) = length-map (take i xs) happens ∙ length-take-le i xs (omega (arith, within)) ∙ sym count ∙ sym (length-map es answer_in) in
-    ap (λ l. course l new) t ∙ ap (λ l. course (take i xs ++ (get_or xs i d ∷ [])) l) is
-    ∙ ap (λ l. course_of l (map answer_in (es ++ e ∷ []))) (map-append happens (take i xs) (get_or xs i d ∷ []))
-    ∙ ap (λ l. course_of (map happens (take i xs) ++ (happens (get_or xs i d) ∷ [])) l) (map-append answer_in es (e ∷ []))
-    ∙ one_more (map happens (take i xs)) (map answer_in es) (happens (get_or xs i d)) (answer_in e) n
 
 pub told_so_far : (xs : List Happens) (es : List Entry) (i : ℕ) → i ≤ length xs → length es ≡ i → answers_of (course (take i xs) es) ≡ map answer_in es
 told_so_far xs es i within count =

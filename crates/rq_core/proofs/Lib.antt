@@ -1,4 +1,5 @@
 pub mod Arms
+pub mod Choosing
 pub mod Courses
 pub mod Devices
 pub mod Worked

@@ -1,4 +1,5 @@
 pub mod Always
+pub mod Chosen
 pub mod Devices
 pub mod Happenings
 pub mod Headline

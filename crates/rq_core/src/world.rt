@@ -1,10 +1,11 @@
 //! A store over devices in memory, and what happens to it: calls, failures of devices, crashes at any device
 //! call, restarts.
-ghost use Rattle.std.specs.Prelude.{◌≡◌, IfOk, IfErr, IsTrue, Some, None, length, map, option_map, true};
+ghost use Rattle.std.specs.Prelude.{◌≡◌, ◌-◌, ◌^◌, IfOk, IfErr, IsTrue, Some, None, length, map, option_map, true};
 ghost use Rattle.rq_model.specs.History.{Call};
 ghost use Rattle.rq_model.specs.History.Call.{Acknowledge};
 ghost use Rattle.rq_page.specs.Sizes.{Sizes};
 ghost use Rattle.rq_engine.specs.Says.{call_of};
+ghost use Rattle.rq_core.specs.Chosen.{IfCrashed, IsAsChosen, IsChosen, IsRunAsChosen, OpenLeavesChosen, ShutLeavesChosen};
 ghost use Rattle.rq_core.specs.Happenings.{Course, acknowledging, answers_of, is_of_device, nth};
 ghost use Rattle.rq_core.specs.Happenings.Happening.{Crashes, Restarts, Stops_in, Stops_restart};
 ghost use Rattle.rq_core.specs.Runs.{GivesUp, Happened, HappensIn, Is, IsFresh, IsHeadline, IsLeftBy, IsOpened, IsRefused, IsRun, Makes};
@@ -98,6 +99,7 @@ impl World {
     ) -> Result<RunResult, AllocError>
         ensures each { IfOk result (λ o. length o.entries.items ≡ length happenings.now) }
         ensures run { IfOk result (λ o. IsRun self (course happenings.now o.entries.items) o.pages o.log) }
+        ensures chosen { IfOk result (λ o. IsRunAsChosen self happenings.now o.entries.items o.pages o.log) }
         ensures headline { IfOk result (λ o. IsHeadline self (course happenings.now o.entries.items) o.pages o.log) }
     {
         let World {
@@ -133,8 +135,9 @@ fn happen<B: Level>(
     entries: &[Entry],
     sets: &mut Vec<StoreLevels<B>>,
 ) -> Result<(WorldState<B>, Entry), AllocError>
-    ensures { IfOk result (λ r. (c : Course) → answers_of c ≡ map answer_in entries.now
+    ensures happened { IfOk result (λ r. (c : Course) → answers_of c ≡ map answer_in entries.now
         → Happened c (happens happening.now) (world_of store) (answer_in r.1) (world_of r.0)) }
+    ensures chosen { IfOk result (λ r. IsAsChosen happening.now (world_of store) (answer_in r.1) (world_of r.0)) }
 {
     match store {
         WorldState::Open(engine) => happen_to_open(switch, engine, happening, entries),
@@ -150,8 +153,9 @@ fn happen_to_open<B: Level>(
     happening: &Happening,
     entries: &[Entry],
 ) -> Result<(WorldState<B>, Entry), AllocError>
-    ensures { IfOk result (λ r. (c : Course) → answers_of c ≡ map answer_in entries.now
+    ensures happened { IfOk result (λ r. (c : Course) → answers_of c ≡ map answer_in entries.now
         → Happened c (happens happening.now) (Is_open engine) (answer_in r.1) (world_of r.0)) }
+    ensures chosen { IfOk result (λ r. IsAsChosen happening.now (Is_open engine) (answer_in r.1) (world_of r.0)) }
 {
     match happening {
         Happening::Call(event) => Ok(ask(engine, event)),
@@ -186,8 +190,9 @@ fn happen_to_shut<B: Level>(
     entries: &[Entry],
     sets: &mut Vec<StoreLevels<B>>,
 ) -> Result<(WorldState<B>, Entry), AllocError>
-    ensures { IfOk result (λ r. (c : Course) → answers_of c ≡ map answer_in entries.now
+    ensures happened { IfOk result (λ r. (c : Course) → answers_of c ≡ map answer_in entries.now
         → Happened c (happens happening.now) (Is_shut pages log) (answer_in r.1) (world_of r.0)) }
+    ensures chosen { IfOk result (λ r. IsAsChosen happening.now (Is_shut pages log) (answer_in r.1) (world_of r.0)) }
 {
     match happening {
         Happening::Call(_) | Happening::StopIn(..) => Ok(not_open(pages, log)),
@@ -242,7 +247,8 @@ fn not_open<B: Level>(pages: MemPages, log: MemLog) -> (WorldState<B>, Entry)
 
 // The power fails while the store is not open: all that its devices hold outlives it.
 fn crash_shut<B: Level>(pages: MemPages, log: MemLog) -> (WorldState<B>, Entry)
-    ensures { HappensIn (Is Crashes) (Is_shut pages log) (answer_in result.1) (world_of result.0) }
+    ensures happened { HappensIn (Is Crashes) (Is_shut pages log) (answer_in result.1) (world_of result.0) }
+    ensures chosen { IsChosen (2 ^ 64 - 1) 0 log (world_of result.0) }
 {
     crash(pages, log, u64::MAX, 0, PageChoice::Newest)
 }
@@ -264,7 +270,8 @@ fn crash_open<B: Level>(
     torn: u64,
     images: PageChoice,
 ) -> (WorldState<B>, Entry)
-    ensures { HappensIn (Is Crashes) (Is_open engine) (answer_in result.1) (world_of result.0) }
+    ensures happened { HappensIn (Is Crashes) (Is_open engine) (answer_in result.1) (world_of result.0) }
+    ensures chosen { OpenLeavesChosen keep torn Event.HandOver engine (world_of result.0) }
 {
     let mut engine = engine;
     switch.suspend();
@@ -285,7 +292,9 @@ fn stop_in<B: Level>(
     torn: u64,
     images: PageChoice,
 ) -> (WorldState<B>, Entry)
-    ensures { HappensIn (Is (Stops_in (call_of event.now))) (Is_open engine) (answer_in result.1) (world_of result.0) }
+    ensures happened { HappensIn (Is (Stops_in (call_of event.now))) (Is_open engine) (answer_in result.1)
+        (world_of result.0) }
+    ensures chosen { IfCrashed (answer_in result.1) (OpenLeavesChosen keep torn event.now engine (world_of result.0)) }
 {
     let mut engine = engine;
     switch.arm_call(n, Mishap::Stop);
@@ -336,7 +345,8 @@ fn reopen_stopped<B: Level>(
     torn: u64,
     images: PageChoice,
 ) -> (WorldState<B>, Entry)
-    ensures { HappensIn (Is Stops_restart) (Is_shut pages log) (answer_in result.1) (world_of result.0) }
+    ensures happened { HappensIn (Is Stops_restart) (Is_shut pages log) (answer_in result.1) (world_of result.0) }
+    ensures chosen { IfCrashed (answer_in result.1) (ShutLeavesChosen keep torn pages log (world_of result.0)) }
 {
     switch.arm_call(n, Mishap::Stop);
     let restarted = try_restart(alloc, pages, log, levels);
@@ -372,7 +382,8 @@ fn crash<B: Level>(
     torn: u64,
     images: PageChoice,
 ) -> (WorldState<B>, Entry)
-    ensures { IsLeftBy pages log (answer_in result.1) (world_of result.0) }
+    ensures left { IsLeftBy pages log (answer_in result.1) (world_of result.0) }
+    ensures chosen { IsChosen keep torn log (world_of result.0) }
 {
     let pages = pages.crash(images);
     let log = log.crash(keep, torn);

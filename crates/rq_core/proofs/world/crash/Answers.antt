@@ -3,7 +3,7 @@ use Rattle.rq_disk.specs.Shown.{log_of}
 use Rattle.rq_core.proofs.Devices.{crashes}
 use Rattle.rq_core.proofs.world.crash.Goals as goal
 
-pub returns : goal.returns
-returns g c =
+pub returns-clause-left : goal.returns-clause-left
+returns-clause-left g c =
     crashes c.args.pages c.crash-pages.result c.args.log c.crash-log.result (crashed_log c.args.keep c.args.torn (log_of c.args.log)) c.records-records.result c.crash-pages.ensures.may_be c.crash-pages.ensures.synced c.crash-log.ensures.log c.crash-log.ensures.may_leave
     c.records-records.ensures

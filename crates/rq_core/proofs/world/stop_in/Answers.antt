@@ -1,15 +1,26 @@
 use Rattle.std.proofs.Common.{subst, sym, ap, refl}
 use Rattle.rq_core.specs.Happenings.{called}
+use Rattle.rq_core.specs.Chosen.{IsChosen, OpenLeavesChosen}
 use Rattle.rq_core.specs.Happened.{IsLast}
 use Rattle.rq_core.specs.Views.{answer_in, world_of}
+use Rattle.rq_core.proofs.Choosing.{if_crashed}
 use Rattle.rq_core.proofs.Steps.{open_left}
 use Rattle.rq_core.proofs.world.stop_in.Goals as goal
 
-pub returns-then-is_of_device : goal.returns-then-is_of_device
-returns-then-is_of_device g c = λ course x is.
+pub returns-then-is_of_device-clause-happened : goal.returns-then-is_of_device-clause-happened
+returns-then-is_of_device-clause-happened g c = λ course x is.
     let device = c.is_of_device.ensures c.if-is_of_device.true in
     open_left course x (answer_in c.crash.result.1) (world_of c.crash.result.0) c.args.event.now c.apply-reply.result c.args.engine c.apply-reply.new.self c.give_back-pages.result.0 c.give_back-pages.result.1
-    (subst (λ y. IsLast y c.args.event.now c.apply-reply.result) (sym is) (refl, device.0, device.1, device.2)) c.apply-reply.ensures.applied (λ honest. c.shows_kept.ensures.cut honest.1) c.give_back-pages.ensures.pages c.give_back-pages.ensures.log c.crash.ensures
+    (subst (λ y. IsLast y c.args.event.now c.apply-reply.result) (sym is) (refl, device.0, device.1, device.2)) c.apply-reply.ensures.applied (λ honest. c.shows_kept.ensures.cut honest.1) c.give_back-pages.ensures.pages c.give_back-pages.ensures.log c.crash.ensures.left
 
-pub returns : goal.returns
-returns g c = λ course x is. record { event = c.args.event.now; told = c.apply-reply.result; call_is = ap (called course) is; reply_is = refl; applied = c.apply-reply.ensures.applied }
+pub returns-clause-happened : goal.returns-clause-happened
+returns-clause-happened g c = λ course x is. record { event = c.args.event.now; told = c.apply-reply.result; call_is = ap (called course) is; reply_is = refl; applied = c.apply-reply.ensures.applied }
+
+pub returns-then-is_of_device-clause-chosen : goal.returns-then-is_of_device-clause-chosen
+returns-then-is_of_device-clause-chosen g c =
+    if_crashed (answer_in c.crash.result.1) (OpenLeavesChosen c.args.keep c.args.torn c.args.event.now c.args.engine (world_of c.crash.result.0)) (record {
+      told = c.apply-reply.result;
+      mid = c.apply-reply.new.self;
+      applied = c.apply-reply.ensures.applied;
+      chosen = subst (λ d. IsChosen c.args.keep c.args.torn d (world_of c.crash.result.0)) c.give_back-pages.ensures.log c.crash.ensures.chosen;
+    })

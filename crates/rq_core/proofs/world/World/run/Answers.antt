@@ -1,15 +1,17 @@
-use Rattle.std.proofs.Common.{◌+◌, [], length, map, take, sym, ◌∙◌, ap, subst, arith}
+use Rattle.std.proofs.Common.{◌+◌, [], ◌∷◌, length, map, take, sym, ◌∙◌, ap, subst, arith}
 use Rattle.std.proofs.lemmas.List.{length_push, take_all}
-use Rattle.rq_core.specs.Runs.{Happened, Led}
+use Rattle.rq_core.specs.Chosen.{IsAsChosen, LedAsChosen, course_in, entered}
+use Rattle.rq_core.specs.Runs.{Happened}
 use Rattle.rq_core.specs.World.World.{Is_shut}
 use Rattle.rq_core.specs.Views.{answer_in, course, happens, world_of}
-use Rattle.rq_core.proofs.Courses.{pushed, told_so_far}
+use Rattle.rq_core.proofs.Choosing.{course_is, entered_pushed, led_of}
+use Rattle.rq_core.proofs.Courses.{told_so_far}
 use Rattle.rq_core.proofs.world.World.run.Goals as goal
 
 pub loop-happening-init : goal.loop-happening-init
 loop-happening-init g c = record {
   each = ap length c.in_ok-entries.ensures.items;
-  led = subst (λ es. Led c.args.self (course [] es) (Is_shut c.self.inside.pages c.self.inside.log)) (sym c.in_ok-entries.ensures.items) (subst (λ z. Led z [] (Is_shut c.self.inside.pages c.self.inside.log)) c.self.view_is (c.self.invariant.range, c.self.invariant.left));
+  led = subst (λ es. LedAsChosen c.args.self (entered [] [] es) (Is_shut c.self.inside.pages c.self.inside.log)) (sym c.in_ok-entries.ensures.items) (subst (λ z. LedAsChosen z [] (Is_shut c.self.inside.pages c.self.inside.log)) c.self.view_is (c.self.invariant.range, c.self.invariant.left));
 }
 
 pub loop-happening-preserved : goal.loop-happening-preserved
@@ -24,12 +26,24 @@ loop-happening-preserved g c =
     let same = told_so_far xs es i (omega (arith, within)) count in
     record {
       each = ap length items ∙ length_push es c.in_ok-next.entry ∙ ap (λ n. n + 1) count;
-      led = subst (λ k. Led c.args.self k (world_of c.in_ok-next.next)) (sym (pushed xs es c.push.new.self.items i c.happening-item.result c.in_ok-next.entry within count items)) (
+      led = subst (λ k. LedAsChosen c.args.self k (world_of c.in_ok-next.next)) (sym (entered_pushed xs es c.push.new.self.items i c.happening-item.result c.in_ok-next.entry within count items)) (
         met,
         c.loop-happening.invariant.led,
-        subst (λ h. Happened (course (take i xs) es) (happens h) met (answer_in c.in_ok-next.entry) (world_of c.in_ok-next.next)) c.happening-item.is
-            (c.in_ok-next.ensures (course (take i xs) es) (same ∙ ap (map answer_in) (sym c.deref.ensures.value))),
+        subst (λ h. Happened (course_in (entered [] (take i xs) es)) (happens h) met (answer_in c.in_ok-next.entry) (world_of c.in_ok-next.next)) c.happening-item.is
+            (subst (λ k. Happened k (happens c.happening-item.result) met (answer_in c.in_ok-next.entry) (world_of c.in_ok-next.next)) (sym (course_is (take i xs) es))
+            (c.in_ok-next.ensures.happened (course (take i xs) es) (same ∙ ap (map answer_in) (sym c.deref.ensures.value)))),
+        subst (λ h. IsAsChosen h met (answer_in c.in_ok-next.entry) (world_of c.in_ok-next.next)) c.happening-item.is c.in_ok-next.ensures.chosen,
       );
+    }
+
+pub returns-clause-chosen : goal.returns-clause-chosen
+returns-clause-chosen g c =
+    let xs = c.args.happenings.now in
+    let end = c.loop-happening-test.false in
+    record {
+      end = world_of c.loop-happening.store;
+      led = subst (λ l. LedAsChosen c.args.self (entered [] l c.loop-happening.entries.items) (world_of c.loop-happening.store)) (take_all c.loop-happening.happening-index xs end) c.loop-happening.invariant.led;
+      given = c.given_up-pages.ensures;
     }
 
 pub returns-clause-run : goal.returns-clause-run
@@ -38,7 +52,8 @@ returns-clause-run g c =
     let end = c.loop-happening-test.false in
     record {
       end = world_of c.loop-happening.store;
-      led = subst (λ l. Led c.args.self (course l c.loop-happening.entries.items) (world_of c.loop-happening.store)) (take_all c.loop-happening.happening-index xs end) c.loop-happening.invariant.led;
+      led = led_of c.args.self xs c.loop-happening.entries.items (world_of c.loop-happening.store)
+          (subst (λ l. LedAsChosen c.args.self (entered [] l c.loop-happening.entries.items) (world_of c.loop-happening.store)) (take_all c.loop-happening.happening-index xs end) c.loop-happening.invariant.led);
       given = c.given_up-pages.ensures;
     }
 
@@ -49,6 +64,7 @@ returns-clause-headline g c =
     c.a_run_is_told.ensures.headline c.args.self (course xs c.loop-happening.entries.items) c.given_up-pages.result.0 c.given_up-pages.result.1
     (record {
       end = world_of c.loop-happening.store;
-      led = subst (λ l. Led c.args.self (course l c.loop-happening.entries.items) (world_of c.loop-happening.store)) (take_all c.loop-happening.happening-index xs end) c.loop-happening.invariant.led;
+      led = led_of c.args.self xs c.loop-happening.entries.items (world_of c.loop-happening.store)
+          (subst (λ l. LedAsChosen c.args.self (entered [] l c.loop-happening.entries.items) (world_of c.loop-happening.store)) (take_all c.loop-happening.happening-index xs end) c.loop-happening.invariant.led);
       given = c.given_up-pages.ensures;
     })

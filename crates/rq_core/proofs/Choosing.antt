@@ -1,0 +1,47 @@
+-- A run whose crashes leave what was chosen is a run.
+use Rattle.std.proofs.Common.{◌≡◌, ℕ, suc, ◌+◌, ◌<◌, List, [], ◌∷◌, ◌++◌, length, take, map, refl, sym, ◌∙◌, ap, subst, arith, get_or}
+use Rattle.std.proofs.Math.Seq.{take-suc}
+use Rattle.std.proofs.lemmas.List.{length-take-le}
+use Rattle.rq_page.specs.Sizes.{Sizes}
+use Rattle.rq_core.specs.declared.happening.Entry.{Entry}
+use Rattle.rq_core.specs.declared.happening.Happening.{Happening as Happens}
+use Rattle.rq_core.specs.Happenings.{Answer, Course, paired}
+use Rattle.rq_core.specs.Happenings.Answer.{Crashed}
+use Rattle.rq_core.specs.Chosen.{DoneSoFar, IfCrashed, LedAsChosen, course_in, entered}
+use Rattle.rq_core.specs.Runs.{Led, MemWorld}
+use Rattle.rq_core.specs.Views.{answer_in, course, happens}
+
+pub if_crashed : (a : Answer) (said : Type 0) → said → IfCrashed a said
+if_crashed (Crashed n) said h = h
+if_crashed _ said h = tt
+
+-- the course is that of the lists
+entered_course : (done : DoneSoFar) (xs : List Happens) (es : List Entry) → course_in (entered done xs es) ≡ paired (course_in done) (map happens xs) (map answer_in es)
+entered_course done (x ∷ xs) (e ∷ es) = entered_course ((x, e) ∷ done) xs es
+entered_course done [] [] = refl
+entered_course done [] (e ∷ es) = refl
+entered_course done (x ∷ xs) [] = refl
+
+led_in : (z : Sizes) (done : DoneSoFar) (world : MemWorld) → LedAsChosen z done world → Led z (course_in done) world
+led_in z [] world led = led
+led_in z (a ∷ done) world led = (led.0, led_in z done led.0 led.1, led.2)
+
+pub led_of : (z : Sizes) (xs : List Happens) (es : List Entry) (world : MemWorld) → LedAsChosen z (entered [] xs es) world → Led z (course xs es) world
+led_of z xs es world led = subst (λ c. Led z c world) (entered_course [] xs es) (led_in z (entered [] xs es) world led)
+
+pub course_is : (xs : List Happens) (es : List Entry) → course_in (entered [] xs es) ≡ course xs es
+course_is xs es = entered_course [] xs es
+
+-- one happening more, and its entry
+entered_more : (done : DoneSoFar) (xs : List Happens) (es : List Entry) (x : Happens) (e : Entry) → length xs ≡ length es → entered done (xs ++ x ∷ []) (es ++ e ∷ []) ≡ (x, e) ∷ entered done xs es
+entered_more done [] [] x e same = refl
+entered_more done (y ∷ xs) (d ∷ es) x e same = entered_more ((y, d) ∷ done) xs es x e (omega (arith, same))
+entered_more done [] (d ∷ es) x e same = absurd (omega (arith, same))
+entered_more done (y ∷ xs) [] x e same = absurd (omega (arith, same))
+
+pub entered_pushed : (xs : List Happens) (es new : List Entry) (i : ℕ) (d : Happens) (e : Entry) → i < length xs → length es ≡ i → new ≡ es ++ e ∷ [] → entered [] (take (i + 1) xs) new ≡ (get_or xs i d, e) ∷ entered [] (take i xs) es
+entered_pushed xs es new i d e within count is =
+    let s : i + 1 ≡ suc i = omega arith in
+    let t : take (i + 1) xs ≡ take i xs ++ (get_or xs i d ∷ []) = ap (λ n. take n xs) s ∙ take-suc xs i d within in
+    let n : length (take i xs) ≡ length es = length-take-le i xs (omega (arith, within)) ∙ sym count in
+    ap (λ l. entered [] l new) t ∙ ap (λ l. entered [] (take i xs ++ (get_or xs i d ∷ [])) l) is ∙ entered_more [] (take i xs) es (get_or xs i d) e n
