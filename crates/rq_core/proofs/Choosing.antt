@@ -2,18 +2,24 @@
 use Rattle.std.proofs.Common.{◌≡◌, ℕ, suc, ◌+◌, ◌<◌, List, [], ◌∷◌, ◌++◌, length, take, map, refl, sym, ◌∙◌, ap, subst, arith, get_or}
 use Rattle.std.proofs.Math.Seq.{take-suc}
 use Rattle.std.proofs.lemmas.List.{length-take-le}
+use Rattle.rq_disk.specs.declared.mem_log.MemLog.{MemLog}
+use Rattle.rq_disk.specs.declared.mem_pages.MemPages.{MemPages}
 use Rattle.rq_page.specs.Sizes.{Sizes}
 use Rattle.rq_core.specs.declared.happening.Entry.{Entry}
 use Rattle.rq_core.specs.declared.happening.Happening.{Happening as Happens}
-use Rattle.rq_core.specs.Happenings.{Answer, Course, paired}
+use Rattle.rq_core.specs.Happenings.{Answer, paired}
 use Rattle.rq_core.specs.Happenings.Answer.{Crashed}
-use Rattle.rq_core.specs.Chosen.{DoneSoFar, IfCrashed, LedAsChosen, course_in, entered}
+use Rattle.rq_core.specs.Chosen.{DoneSoFar, IfCrashed, IsChosen, Outlives, LedAsChosen, course_in, entered}
 use Rattle.rq_core.specs.Runs.{Led, MemWorld}
 use Rattle.rq_core.specs.Views.{answer_in, course, happens}
 
 pub if_crashed : (a : Answer) (said : Type 0) → said → IfCrashed a said
 if_crashed (Crashed n) said h = h
 if_crashed _ said h = tt
+
+-- of the devices of a store that was given up
+pub left_by : (o : Outlives) (pages old_pages : MemPages) (log old_log : MemLog) (new : MemWorld) → pages ≡ old_pages → log ≡ old_log → IsChosen o pages log new → IsChosen o old_pages old_log new
+left_by o pages old_pages log old_log new same same_log left = subst (λ d. IsChosen o d old_log new) same (subst (λ d. IsChosen o pages d new) same_log left)
 
 -- the course is that of the lists
 entered_course : (done : DoneSoFar) (xs : List Happens) (es : List Entry) → course_in (entered done xs es) ≡ paired (course_in done) (map happens xs) (map answer_in es)

@@ -1,8 +1,8 @@
--- What a crash leaves of the log is what was chosen, over devices in memory.
-use Rattle.std.specs.Prelude.{◌≡◌, ℕ, ◌-◌, ◌^◌, List, [], ◌∷◌, map}
+-- What a crash leaves of both devices is what was chosen, in memory.
+use Rattle.std.specs.Prelude.{◌≡◌, ℕ, ◌-◌, ◌^◌, ◌<◌, List, [], ◌∷◌, map, Option, None, slice_get}
 use Rattle.rq_model.specs.declared.refusal.Refusal.{Refusal}
-use Rattle.rq_disk.specs.Memory.{crashed_log, fresh_log}
-use Rattle.rq_disk.specs.Shown.{log_of}
+use Rattle.rq_disk.specs.Memory.{crashed_log, crashed_page, fresh_log, reads}
+use Rattle.rq_disk.specs.Shown.{log_of, page_count, pages_of}
 use Rattle.rq_disk.specs.declared.mem_log.MemLog.{MemLog}
 use Rattle.rq_disk.specs.declared.mem_pages.MemPages.{MemPages}
 use Rattle.rq_page.specs.Sizes.{Sizes}
@@ -11,6 +11,7 @@ use Rattle.rq_engine.specs.declared.event.Event.TheVariants as event
 use Rattle.rq_engine.specs.declared.event.Reply.{Reply}
 use Rattle.rq_engine.specs.Applied.{Applied}
 use Rattle.rq_engine.specs.Opened.{OpenStore}
+use Rattle.rq_core.specs.declared.happening.Choice.{Choice}
 use Rattle.rq_core.specs.declared.happening.Entry.{Entry}
 use Rattle.rq_core.specs.declared.happening.Happening.{Happening as Happens}
 use Rattle.rq_core.specs.declared.happening.Happening.TheVariants as happening
@@ -22,38 +23,57 @@ use Rattle.rq_core.specs.Runs.{GivesUp, Happened, IsRefused, MemWorld}
 use Rattle.rq_core.specs.Views.{answer_in, happens}
 use Rattle.rq_core.specs.World.World.{Is_open, Is_shut}
 
--- of the log that the crash met so many of the records that are not forced are left, and so many bytes of the next one
-abbrev pub IsChosen : ℕ → ℕ → MemLog → MemWorld → Type 0
-IsChosen keep torn log (Is_shut pages new) = log_of new ≡ fresh_log (crashed_log keep torn (log_of log))
-IsChosen keep torn log (Is_open engine) = ⊥
+-- what outlives a crash: so many of the records that are not forced, so many bytes of the next one, and of each page the
+-- image at its place, or the newest
+pub record Outlives : Type 0 where
+  pub keep : ℕ
+  pub torn : ℕ
+  pub places : ℕ → Option ℕ
 
--- of the log that an open store's last call left
-pub record OpenLeavesChosen (keep torn : ℕ) (e : Event) (old : OpenStore MemPages MemLog) (new : MemWorld) : Type 0 where
+-- so it is of the devices that the crash met
+pub record IsChosenOf (o : Outlives) (pages new_pages : MemPages) (log new_log : MemLog) : Type 0 where
+  pub log_is : log_of new_log ≡ fresh_log (crashed_log o.keep o.torn (log_of log))
+  pub pages_are : (p : ℕ) → p < page_count pages
+      → reads (pages_of new_pages) p ≡ crashed_page (o.places p) (pages_of pages) p
+
+abbrev pub IsChosen : Outlives → MemPages → MemLog → MemWorld → Type 0
+IsChosen o pages log (Is_shut new_pages new_log) = IsChosenOf o pages new_pages log new_log
+IsChosen o pages log (Is_open engine) = ⊥
+
+-- of those that an open store's last call left
+pub record OpenLeavesChosen (o : Outlives) (e : Event) (old : OpenStore MemPages MemLog) (new : MemWorld) : Type 0 where
   pub told : Reply
   pub mid : OpenStore MemPages MemLog
   pub applied : Applied mem_pages mem_log old e told mid
-  pub chosen : IsChosen keep torn mid.log new
+  pub chosen : IsChosen o mid.pages mid.log new
 
--- of the log that a restart left, which was refused
-pub record ShutLeavesChosen (keep torn : ℕ) (pages : MemPages) (log : MemLog) (new : MemWorld) : Type 0 where
+-- of those that a restart left, which was refused
+pub record ShutLeavesChosen (o : Outlives) (pages : MemPages) (log : MemLog) (new : MemWorld) : Type 0 where
   pub refusal : Refusal
   pub mid_pages : MemPages
   pub mid_log : MemLog
   pub refused : IsRefused pages log refusal mid_pages mid_log
-  pub chosen : IsChosen keep torn mid_log new
+  pub chosen : IsChosen o mid_pages mid_log new
 
 abbrev pub IfCrashed : Answer → Type 0 → Type 0
 IfCrashed (Crashed n) said = said
 IfCrashed _ said = Unit {0}
 
--- a crash leaves what the happening chose, and of a store that is not open all that its device holds
+abbrev pub outlives : Choice → Outlives
+outlives choice = record { keep = choice.keep; torn = choice.bytes; places = slice_get choice.pages.items }
+
+-- all that the devices hold
+abbrev pub all_outlives : Outlives
+all_outlives = record { keep = 2 ^ 64 - 1; torn = 0; places = λ page. None }
+
+-- a crash leaves what the happening chose, and of a store that is not open all that its devices hold
 abbrev pub IsAsChosen : Happens → MemWorld → Answer → MemWorld → Type 0
-IsAsChosen (happening.Crash choice) (Is_open old) answer new = OpenLeavesChosen choice.keep choice.bytes event.HandOver old new
-IsAsChosen (happening.Crash choice) (Is_shut pages log) answer new = IsChosen (2 ^ 64 - 1) 0 log new
+IsAsChosen (happening.Crash choice) (Is_open old) answer new = OpenLeavesChosen (outlives choice) event.HandOver old new
+IsAsChosen (happening.Crash choice) (Is_shut pages log) answer new = IsChosen all_outlives pages log new
 IsAsChosen (happening.StopIn e place choice) (Is_open old) answer new =
-    IfCrashed answer (OpenLeavesChosen choice.keep choice.bytes e old new)
+    IfCrashed answer (OpenLeavesChosen (outlives choice) e old new)
 IsAsChosen (happening.RestartStop place choice) (Is_shut pages log) answer new =
-    IfCrashed answer (ShutLeavesChosen choice.keep choice.bytes pages log new)
+    IfCrashed answer (ShutLeavesChosen (outlives choice) pages log new)
 IsAsChosen _ _ _ _ = Unit {0}
 
 -- what happened, with the entries, the newest first

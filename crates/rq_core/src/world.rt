@@ -1,11 +1,12 @@
 //! A store over devices in memory, and what happens to it: calls, failures of devices, crashes at any device
 //! call, restarts.
-ghost use Rattle.std.specs.Prelude.{◌≡◌, ◌-◌, ◌^◌, IfOk, IfErr, IsTrue, Some, None, length, map, option_map, true};
+ghost use Rattle.std.specs.Prelude.{◌≡◌, IfOk, IfErr, IsTrue, Some, None, length, map, option_map, slice_get, true};
 ghost use Rattle.rq_model.specs.History.{Call};
 ghost use Rattle.rq_model.specs.History.Call.{Acknowledge};
 ghost use Rattle.rq_page.specs.Sizes.{Sizes};
 ghost use Rattle.rq_engine.specs.Says.{call_of};
-ghost use Rattle.rq_core.specs.Chosen.{IfCrashed, IsAsChosen, IsChosen, IsRunAsChosen, OpenLeavesChosen, ShutLeavesChosen};
+ghost use Rattle.rq_disk.specs.Choice.{place_of};
+ghost use Rattle.rq_core.specs.Chosen.{all_outlives, IfCrashed, IsAsChosen, IsChosen, IsRunAsChosen, OpenLeavesChosen, ShutLeavesChosen};
 ghost use Rattle.rq_core.specs.Happenings.{Course, acknowledging, answers_of, is_of_device, nth};
 ghost use Rattle.rq_core.specs.Happenings.Happening.{Crashes, Restarts, Stops_in, Stops_restart};
 ghost use Rattle.rq_core.specs.Runs.{GivesUp, Happened, HappensIn, Is, IsFresh, IsHeadline, IsLeftBy, IsOpened, IsRefused, IsRun, Makes};
@@ -248,7 +249,7 @@ fn not_open<B: Level>(pages: MemPages, log: MemLog) -> (WorldState<B>, Entry)
 // The power fails while the store is not open: all that its devices hold outlives it.
 fn crash_shut<B: Level>(pages: MemPages, log: MemLog) -> (WorldState<B>, Entry)
     ensures happened { HappensIn (Is Crashes) (Is_shut pages log) (answer_in result.1) (world_of result.0) }
-    ensures chosen { IsChosen (2 ^ 64 - 1) 0 log (world_of result.0) }
+    ensures chosen { IsChosen all_outlives pages log (world_of result.0) }
 {
     crash(pages, log, u64::MAX, 0, PageChoice::Newest)
 }
@@ -271,7 +272,8 @@ fn crash_open<B: Level>(
     images: PageChoice,
 ) -> (WorldState<B>, Entry)
     ensures happened { HappensIn (Is Crashes) (Is_open engine) (answer_in result.1) (world_of result.0) }
-    ensures chosen { OpenLeavesChosen keep torn Event.HandOver engine (world_of result.0) }
+    ensures chosen { OpenLeavesChosen (record { keep = keep; torn = torn; places = place_of images }) Event.HandOver
+        engine (world_of result.0) }
 {
     let mut engine = engine;
     switch.suspend();
@@ -294,7 +296,11 @@ fn stop_in<B: Level>(
 ) -> (WorldState<B>, Entry)
     ensures happened { HappensIn (Is (Stops_in (call_of event.now))) (Is_open engine) (answer_in result.1)
         (world_of result.0) }
-    ensures chosen { IfCrashed (answer_in result.1) (OpenLeavesChosen keep torn event.now engine (world_of result.0)) }
+    ensures chosen { IfCrashed (answer_in result.1) (OpenLeavesChosen (record {
+      keep = keep;
+      torn = torn;
+      places = place_of images;
+    }) event.now engine (world_of result.0)) }
 {
     let mut engine = engine;
     switch.arm_call(n, Mishap::Stop);
@@ -346,7 +352,11 @@ fn reopen_stopped<B: Level>(
     images: PageChoice,
 ) -> (WorldState<B>, Entry)
     ensures happened { HappensIn (Is Stops_restart) (Is_shut pages log) (answer_in result.1) (world_of result.0) }
-    ensures chosen { IfCrashed (answer_in result.1) (ShutLeavesChosen keep torn pages log (world_of result.0)) }
+    ensures chosen { IfCrashed (answer_in result.1) (ShutLeavesChosen (record {
+      keep = keep;
+      torn = torn;
+      places = place_of images;
+    }) pages log (world_of result.0)) }
 {
     switch.arm_call(n, Mishap::Stop);
     let restarted = try_restart(alloc, pages, log, levels);
@@ -383,7 +393,8 @@ fn crash<B: Level>(
     images: PageChoice,
 ) -> (WorldState<B>, Entry)
     ensures left { IsLeftBy pages log (answer_in result.1) (world_of result.0) }
-    ensures chosen { IsChosen keep torn log (world_of result.0) }
+    ensures chosen { IsChosen (record { keep = keep; torn = torn; places = place_of images }) pages log
+        (world_of result.0) }
 {
     let pages = pages.crash(images);
     let log = log.crash(keep, torn);
@@ -436,6 +447,8 @@ fn commit_of(entry: &Entry) -> Option<CommitNo>
 }
 
 // Which image of each page outlives the crash.
-fn images(choice: &Choice) -> Result<PageChoice, AllocError> {
+fn images(choice: &Choice) -> Result<PageChoice, AllocError>
+    ensures { IfOk result (λ images. place_of images ≡ slice_get choice.now.pages.items) }
+{
     Ok(PageChoice::Places(choice.pages.clone()?))
 }

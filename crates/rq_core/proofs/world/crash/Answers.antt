@@ -7,3 +7,6 @@ pub returns-clause-left : goal.returns-clause-left
 returns-clause-left g c =
     crashes c.args.pages c.crash-pages.result c.args.log c.crash-log.result (crashed_log c.args.keep c.args.torn (log_of c.args.log)) c.records-records.result c.crash-pages.ensures.may_be c.crash-pages.ensures.synced c.crash-log.ensures.log c.crash-log.ensures.may_leave
     c.records-records.ensures
+
+pub returns-clause-chosen : goal.returns-clause-chosen
+returns-clause-chosen g c = record { log_is = c.crash-log.ensures.log; pages_are = c.crash-pages.ensures.pages }

@@ -1,6 +1,7 @@
 use Rattle.std.proofs.Common.{subst, sym, refl}
 use Rattle.rq_engine.specs.declared.event.Event.TheVariants as event
-use Rattle.rq_core.specs.Chosen.{IsChosen}
+use Rattle.rq_disk.specs.Choice.{place_of}
+use Rattle.rq_core.proofs.Choosing.{left_by}
 use Rattle.rq_core.specs.Happened.{IsLast}
 use Rattle.rq_core.specs.Views.{answer_in, world_of}
 use Rattle.rq_core.proofs.Steps.{open_left}
@@ -16,5 +17,5 @@ returns-clause-chosen g c = record {
   told = c.apply.result;
   mid = c.apply.new.self;
   applied = c.apply.ensures.applied;
-  chosen = subst (λ d. IsChosen c.args.keep c.args.torn d (world_of c.crash.result.0)) c.give_back-pages.ensures.log c.crash.ensures.chosen;
+  chosen = left_by (record { keep = c.args.keep; torn = c.args.torn; places = place_of c.args.images }) _ _ _ _ (world_of c.crash.result.0) c.give_back-pages.ensures.pages c.give_back-pages.ensures.log c.crash.ensures.chosen;
 }

@@ -1,4 +1,5 @@
 use Rattle.std.proofs.Common.{refl, subst, sym}
+use Rattle.rq_disk.specs.Choice.{place_of}
 use Rattle.rq_core.specs.Chosen.{ShutLeavesChosen}
 use Rattle.rq_core.specs.Happenings.{MayRestart}
 use Rattle.rq_core.specs.Views.{answer_in, world_of}
@@ -18,7 +19,7 @@ returns-in-Ok-clause-happened g c = λ course x is. (subst (MayRestart course) (
 
 pub returns-in-Err-clause-chosen : goal.returns-in-Err-clause-chosen
 returns-in-Err-clause-chosen g c =
-    if_crashed (answer_in c.crash.result.1) (ShutLeavesChosen c.args.keep c.args.torn c.args.pages c.args.log (world_of c.crash.result.0)) (record {
+    if_crashed (answer_in c.crash.result.1) (ShutLeavesChosen (record { keep = c.args.keep; torn = c.args.torn; places = place_of c.args.images }) c.args.pages c.args.log (world_of c.crash.result.0)) (record {
       refusal = c.in-Err.stopped.refusal;
       mid_pages = c.in-Err.stopped.pages;
       mid_log = c.in-Err.stopped.log;

@@ -1,9 +1,10 @@
 use Rattle.std.proofs.Common.{subst, sym, ap, refl}
 use Rattle.rq_core.specs.Happenings.{called}
-use Rattle.rq_core.specs.Chosen.{IsChosen, OpenLeavesChosen}
+use Rattle.rq_disk.specs.Choice.{place_of}
+use Rattle.rq_core.specs.Chosen.{OpenLeavesChosen}
 use Rattle.rq_core.specs.Happened.{IsLast}
 use Rattle.rq_core.specs.Views.{answer_in, world_of}
-use Rattle.rq_core.proofs.Choosing.{if_crashed}
+use Rattle.rq_core.proofs.Choosing.{if_crashed, left_by}
 use Rattle.rq_core.proofs.Steps.{open_left}
 use Rattle.rq_core.proofs.world.stop_in.Goals as goal
 
@@ -18,9 +19,9 @@ returns-clause-happened g c = λ course x is. record { event = c.args.event.now;
 
 pub returns-then-is_of_device-clause-chosen : goal.returns-then-is_of_device-clause-chosen
 returns-then-is_of_device-clause-chosen g c =
-    if_crashed (answer_in c.crash.result.1) (OpenLeavesChosen c.args.keep c.args.torn c.args.event.now c.args.engine (world_of c.crash.result.0)) (record {
+    if_crashed (answer_in c.crash.result.1) (OpenLeavesChosen (record { keep = c.args.keep; torn = c.args.torn; places = place_of c.args.images }) c.args.event.now c.args.engine (world_of c.crash.result.0)) (record {
       told = c.apply-reply.result;
       mid = c.apply-reply.new.self;
       applied = c.apply-reply.ensures.applied;
-      chosen = subst (λ d. IsChosen c.args.keep c.args.torn d (world_of c.crash.result.0)) c.give_back-pages.ensures.log c.crash.ensures.chosen;
+      chosen = left_by (record { keep = c.args.keep; torn = c.args.torn; places = place_of c.args.images }) _ _ _ _ (world_of c.crash.result.0) c.give_back-pages.ensures.pages c.give_back-pages.ensures.log c.crash.ensures.chosen;
     })
