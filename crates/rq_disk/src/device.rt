@@ -193,7 +193,8 @@ pub trait LogDevice {
         ensures cause { FailureIsCounted (faults self.old) (faults self.new) result }
         ensures excused { OnErr result (excuse self.old self.new) };
 
-    /// Cuts off what is behind the first `len` bytes, and makes these durable. If they were, a crash in it leaves at least these.
+    /// Cuts off what is behind the first `len` bytes, and makes these durable. If these bytes were durable before, a crash in it
+    /// leaves at least them.
     fn cut(&mut self, len: u64) -> Result<(), DeviceFailed>
         ensures left { OnOk result (seen self.new ≡ take len (seen self.old)) }
         ensures durable { OnOk result (Only (take len (seen self.old)) (may_leave self.new)) }
