@@ -1,5 +1,5 @@
 -- What the functions of a world say, as happenings.
-use Rattle.std.proofs.Common.{◌≡◌, sym, subst}
+use Rattle.std.proofs.Common.{◌≡◌, sym, subst, true}
 use Rattle.rq_model.specs.declared.refusal.Refusal.{Refusal}
 use Rattle.rq_disk.specs.declared.mem_log.MemLog.{MemLog}
 use Rattle.rq_disk.specs.declared.mem_pages.MemPages.{MemPages}
@@ -7,7 +7,7 @@ use Rattle.rq_engine.specs.Applied.{Applied}
 use Rattle.rq_engine.specs.declared.event.Event.{Event}
 use Rattle.rq_engine.specs.declared.event.Reply.{Reply}
 use Rattle.rq_core.specs.Devices.{mem_pages, mem_log}
-use Rattle.rq_core.specs.Happenings.{Answer, Course, Happening}
+use Rattle.rq_core.specs.Happenings.{Answer, Course, Happening, is_of_device}
 use Rattle.rq_core.specs.Happenings.Answer.{Crashed}
 use Rattle.rq_core.specs.Happenings.Happening.{Crashes, Stops_restart}
 use Rattle.rq_core.specs.Happened.{CrashesShut, IsCrashed, IsLast, Keeps}
@@ -35,8 +35,8 @@ shut_left course x (Crashed n) (Is_shut new_pages new_log) pages log is left = s
 shut_left course x _ _ pages log is left = absurd left
 
 -- and in a restart
-pub restart_left : (course : Course) (x : Happening) (a : Answer) (new : MemWorld) (pages mid_pages : MemPages) (log mid_log : MemLog) (r : Refusal) → x ≡ Stops_restart → IsRefused pages log r mid_pages mid_log → IsLeftBy mid_pages mid_log a new
+pub restart_left : (course : Course) (x : Happening) (a : Answer) (new : MemWorld) (pages mid_pages : MemPages) (log mid_log : MemLog) (r : Refusal) → x ≡ Stops_restart → IsRefused pages log r mid_pages mid_log → is_of_device r ≡ true → IsLeftBy mid_pages mid_log a new
     → Happened course x (Is_shut pages log) a new
-restart_left course x (Crashed n) (Is_shut new_pages new_log) pages mid_pages log mid_log r is stopped left =
-    subst (λ y. CrashesShut mem_pages mem_log y pages log new_pages new_log n) (sym is) (record { refusal = r; mid_pages = mid_pages; mid_log = mid_log; refused = stopped; crashed = left })
-restart_left course x _ _ pages mid_pages log mid_log r is stopped left = absurd left
+restart_left course x (Crashed n) (Is_shut new_pages new_log) pages mid_pages log mid_log r is stopped device left =
+    subst (λ y. CrashesShut mem_pages mem_log y pages log new_pages new_log n) (sym is) (record { refusal = r; mid_pages = mid_pages; mid_log = mid_log; refused = stopped; by_device = device; crashed = left })
+restart_left course x _ _ pages mid_pages log mid_log r is stopped device left = absurd left

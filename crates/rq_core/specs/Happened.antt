@@ -112,6 +112,7 @@ module _ {P L : Type 0} (p : page_device.Ghosts P) (l : log_device.Ghosts L) whe
     pub mid_pages : P
     pub mid_log : L
     pub refused : IsRefused pages log refusal mid_pages mid_log
+    pub by_device : is_of_device refusal ≡ true
     pub crashed : IsCrashed mid_pages new_pages mid_log new_log count
 
   abbrev pub CrashesShut : Happening → P → L → P → L → ℕ → Type 0

@@ -305,7 +305,7 @@ fn stop_in<B: Level>(
     let mut engine = engine;
     switch.arm_call(n, Mishap::Stop);
     let reply = engine.apply(event);
-    if is_stopped(switch) && is_of_device(&reply) {
+    if is_stopped(switch) && has_failed(&reply) {
         engine.shows_kept();
         let (pages, log) = engine.give_back();
         return crash(pages, log, keep, torn, images);
@@ -363,7 +363,9 @@ fn reopen_stopped<B: Level>(
     let power_failed = is_stopped(switch);
     match restarted {
         Ok((engine, report)) => (WorldState::Open(engine), Entry::Restarted(report)),
-        Err(stopped) if power_failed => { crash(stopped.pages, stopped.log, keep, torn, images) }
+        Err(stopped) if power_failed && is_of_device(stopped.refusal) => {
+            crash(stopped.pages, stopped.log, keep, torn, images)
+        }
         Err(stopped) => (
             WorldState::Shut(stopped.pages, stopped.log),
             Entry::Refused(stopped.refusal),
@@ -416,13 +418,19 @@ fn given_up<B: Level>(store: WorldState<B>) -> (MemPages, MemLog)
 }
 
 // A device has failed in the call.
-fn is_of_device(reply: &Reply) -> bool
+fn has_failed(reply: &Reply) -> bool
     ensures { IsTrue result → (r : _) × (reply.now ≡ Reply.Refused r) × (is_of_device r ≡ true) }
 {
     match reply {
-        Reply::Refused(Refusal::DiskRead | Refusal::DiskWrite) => true,
+        Reply::Refused(refusal) => is_of_device(*refusal),
         _ => false,
     }
+}
+
+fn is_of_device(refusal: Refusal) -> bool
+    ensures { result ≡ is_of_device refusal }
+{
+    matches!(refusal, Refusal::DiskRead | Refusal::DiskWrite)
 }
 
 // The commit that the nth of these answered.

@@ -1,7 +1,7 @@
-use Rattle.std.proofs.Common.{refl, subst, sym}
+use Rattle.std.proofs.Common.{◌≡◌, refl, rules, subst, sym, true}
 use Rattle.rq_disk.specs.Choice.{place_of}
 use Rattle.rq_core.specs.Chosen.{ShutLeavesChosen}
-use Rattle.rq_core.specs.Happenings.{MayRestart}
+use Rattle.rq_core.specs.Happenings.{MayRestart, is_of_device}
 use Rattle.rq_core.specs.Views.{answer_in, world_of}
 use Rattle.rq_core.proofs.Choosing.{if_crashed}
 use Rattle.rq_core.proofs.Steps.{restart_left}
@@ -9,7 +9,8 @@ use Rattle.rq_core.proofs.world.reopen_stopped.Goals as goal
 
 pub returns-in-Err-clause-happened : goal.returns-in-Err-clause-happened
 returns-in-Err-clause-happened g c = λ course x is.
-    restart_left course x (answer_in c.crash.result.1) (world_of c.crash.result.0) c.args.pages c.in-Err.stopped.pages c.args.log c.in-Err.stopped.log c.in-Err.stopped.refusal is c.in-Err.ensures.refused c.crash.ensures.left
+    let device : is_of_device c.in-Err.stopped.refusal ≡ true = search rules in
+    restart_left course x (answer_in c.crash.result.1) (world_of c.crash.result.0) c.args.pages c.in-Err.stopped.pages c.args.log c.in-Err.stopped.log c.in-Err.stopped.refusal is c.in-Err.ensures.refused device c.crash.ensures.left
 
 pub returns-in-Err-2-clause-happened : goal.returns-in-Err-2-clause-happened
 returns-in-Err-2-clause-happened g c = λ course x is. (subst (MayRestart course) (sym is) refl, c.in-Err.ensures.refused)
