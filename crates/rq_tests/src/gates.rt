@@ -9,9 +9,9 @@ use rq_workers::worker::Worker;
 use std::alloc::Global;
 use std::sync::Wait;
 
-// Begin, Send 0 7 hello.
-const ONE_SEND: [u8; 23] = [
-    0, 1, 1, 0, 0x12, 2, 0, 0, 0, 0, 0, 0, 0, 0, 0, 0, 0, 7, 0x68, 0x65, 0x6c, 0x6c, 0x6f,
+// Begin, Send 0 1 x.
+const ONE_SEND: [u8; 19] = [
+    0, 1, 1, 0, 0x0e, 2, 0, 0, 0, 0, 0, 0, 0, 0, 0, 0, 0, 1, b'x',
 ];
 
 // Begun 1.1, Sent.
@@ -24,8 +24,8 @@ const SENT_ONCE: [u8; 22] = [
 pub enum Case {
     /// It sends x and commits, held between two steps until the second has committed.
     Send,
-    /// It writes a page, held before that until the second has committed.
-    WritePage,
+    /// It writes the pages up to the one of the second's sender, held before that until the second has committed and forced.
+    WritePages,
     /// It forces, held before that until the second has committed, who asks for a receipt before and behind the force.
     WriteLog,
     /// It is a session that has sent. Its connection is lost while the second is held between two steps of its send; that one
@@ -55,7 +55,7 @@ impl Case {
     fn gate(self, turns: &Turns) -> Held<'_> {
         match self {
             Case::Send => Held::new(turns, BETWEEN_STEPS, 1, u32::MAX),
-            Case::WritePage => Held::new(turns, BEFORE_WRITE, 1, 1),
+            Case::WritePages => Held::new(turns, BEFORE_WRITE, 1, 3),
             Case::WriteLog => Held::new(turns, BEFORE_FORCE, 1, 1),
             Case::Abort => Held::new(turns, BEFORE_AGAIN, 3, u32::MAX),
             Case::GiveUp => Held::new(turns, BEFORE_AGAIN, 3, 0),
@@ -74,7 +74,7 @@ pub fn first<S: Steps + Drop, R: Wait>(
     let gate = case.gate(turns);
     match case {
         Case::Send => sent(rt, alloc, gate, steps, 0, b'x'),
-        Case::WritePage => pages_written(rt, gate, steps),
+        Case::WritePages => pages_written(rt, gate, steps),
         Case::WriteLog => log_written(rt, gate, steps, turns),
         Case::Abort | Case::GiveUp => lost(rt, alloc, gate, steps, turns),
     }
@@ -90,8 +90,19 @@ pub fn second<S: Steps, R: Wait>(
 ) -> (Done, S) {
     turns.comes(1);
     match case {
-        Case::Send | Case::WritePage => {
-            let (done, steps) = sent(rt, alloc, Often::new(u32::MAX), steps, case.sender(), b'y');
+        Case::Send | Case::WritePages => {
+            let (done, mut steps) = sent(
+                rt,
+                alloc,
+                Often::new(u32::MAX),
+                steps,
+                case.sender(),
+                b'y',
+            );
+            if matches!(case, Case::WritePages) {
+                let stamped = steps.call(Event::Force);
+                steps.seen(stamped);
+            }
             turns.reach(2);
             (done, steps)
         }

@@ -241,28 +241,28 @@ pub fn senders_of<P: PageDevice + Drop, L: LogDevice + Drop>(
 /// What a store holds behind its calls: how many were made, where that is told; whether the last one ended an abort; and how many
 /// messages of the first sender are committed, how many were received, and whether no other sender has any.
 #[derive(Clone, Copy)]
-pub struct Held {
+pub struct EndState {
     pub calls: Option<usize>,
     pub has_aborted: bool,
     pub messages: Option<(u64, u64, bool)>,
 }
 
-/// Whether the store of these calls holds that.
-pub fn held_by<P: PageDevice + Drop, L: LogDevice + Drop, B: Level>(
+/// Whether these calls leave that.
+pub fn leave<P: PageDevice + Drop, L: LogDevice + Drop, B: Level>(
     steps: KeptSteps<P, L, B>,
-    held: &Held,
+    left: &EndState,
 ) -> bool {
     let kept = steps.into_kept();
-    let is_called = are_called(kept.entries(), held);
-    messages_of(&kept.give_back()) == held.messages && is_called
+    let is_called = are_called(kept.entries(), left);
+    messages_of(&kept.give_back()) == left.messages && is_called
 }
 
-fn are_called(audit: &[AuditEntry], held: &Held) -> bool {
-    let is_counted = match held.calls {
+fn are_called(audit: &[AuditEntry], left: &EndState) -> bool {
+    let is_counted = match left.calls {
         Some(calls) => audit.len() == calls,
         None => true,
     };
-    is_counted && has_aborted(audit) == held.has_aborted
+    is_counted && has_aborted(audit) == left.has_aborted
 }
 
 fn messages_of<P: PageDevice + Drop, L: LogDevice + Drop, B: Level>(

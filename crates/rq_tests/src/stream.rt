@@ -1,6 +1,6 @@
 //! Sessions over a store in memory: their bytes cut anywhere, faults, connections that are lost, and gates that say no.
 use crate::connection::{Connection, Often, connected};
-use crate::stores::{Held, held_by, small_steps};
+use crate::stores::{EndState, leave, small_steps};
 use rq_model::refusal::NoMemory;
 use rq_workers::steps::Steps;
 use std::alloc::Global;
@@ -22,7 +22,7 @@ struct Row {
     is_over: bool,
     /// How often the gate was asked, where that is told.
     asked: Option<u32>,
-    held: Held,
+    left: EndState,
 }
 
 // Begin, Send 0 7 hello, Receive, Begin, Commit, Commit, LastTag 0, Begin, ReceiveFrom 0, Close 15, Abort; and what a fresh small
@@ -45,7 +45,7 @@ const SESSION: Row = Row {
     ],
     is_over: false,
     asked: None,
-    held: Held {
+    left: EndState {
         calls: None,
         has_aborted: true,
         messages: Some((1, 0, true)),
@@ -61,7 +61,7 @@ const SEND: Row = Row {
         0, 0x11, 0x81, 0, 0, 0, 0, 0, 0, 0, 1, 0, 0, 0, 0, 0, 0, 0, 1, 0, 1, 0x82,
     ],
     is_over: true,
-    held: Held {
+    left: EndState {
         calls: None,
         has_aborted: true,
         messages: Some((0, 0, true)),
@@ -96,7 +96,7 @@ const ROWS: [Row; 6] = [
             0, 0x11, 0x81, 0, 0, 0, 0, 0, 0, 0, 1, 0, 0, 0, 0, 0, 0, 0, 1, 0, 2, 0xff, 2, 0, 2,
             0xff, 2,
         ],
-        held: Held {
+        left: EndState {
             calls: None,
             has_aborted: false,
             messages: None,
@@ -116,7 +116,7 @@ const ROWS: [Row; 6] = [
             0, 0x11, 0x81, 0, 0, 0, 0, 0, 0, 0, 1, 0, 0, 0, 0, 0, 0, 0, 1, 0, 1, 0x82, 0, 1, 0x82,
         ],
         asked: Some(5),
-        held: Held {
+        left: EndState {
             calls: Some(12),
             has_aborted: false,
             messages: Some((0, 0, true)),
@@ -132,7 +132,7 @@ const ROWS: [Row; 6] = [
         ends: true,
         passes: 2,
         asked: Some(4),
-        held: Held {
+        left: EndState {
             calls: Some(12),
             has_aborted: false,
             messages: Some((0, 0, true)),
@@ -180,7 +180,7 @@ fn served<S: Steps, R: Wait>(rt: &R, alloc: Global, steps: S, row: &Row, cut: us
 // The same, and of the store.
 fn comes_so<R: Wait>(rt: &R, alloc: Global, row: &Row, cut: usize) -> Result<bool, &'static str> {
     let (is_so, steps) = served(rt, alloc, small_steps(alloc, row.fails)?, row, cut);
-    Ok(is_so && held_by(steps, &row.held))
+    Ok(is_so && leave(steps, &row.left))
 }
 
 // Byte by byte, too.

@@ -14,6 +14,7 @@ use rq_engine::event::{CommitNo, Event, Receipt, Reply};
 use rq_level::Level;
 use rq_levels::StoreLevel;
 use rq_model::refusal::Refusal;
+use rq_pool::Written;
 use rq_shared::guarded::Pass;
 use rq_shared::kept::{AuditEntry, Stamped};
 use rq_shared::mark::{Mark, MarkPass};
@@ -45,11 +46,6 @@ impl Plan {
             takes: false,
             is_alone: false,
         }
-    }
-
-    // How often a thread looks whether the other has gone on, at most. Where there is no other, looking more often would not help.
-    fn limit(self) -> u64 {
-        if self.is_alone { 1_000 } else { 10_000_000 }
     }
 }
 
@@ -122,12 +118,24 @@ struct Seen<C> {
     // whether each came to a stage in time for the other, and did all that it was to do
     is_in_time: bool,
     are_done: bool,
-    // the calls of the first, and how many of them were refused for a latch
+    // the calls of the first: what was done for each page, and how many were refused for a latch
     calls: usize,
+    written: Vec<Written>,
     latched: usize,
     tie: Option<Tie>,
     receipts: usize,
     closed: C,
+}
+
+// What these calls did for each page that they were to write.
+fn written_by(alloc: Global, stamps: &[Stamped]) -> Result<Vec<Written>, AllocError> {
+    let mut written = Vec::new(alloc);
+    for stamped in stamps {
+        if let Reply::Written(done) = stamped.reply() {
+            written.push(*done)?;
+        }
+    }
+    Ok(written)
 }
 
 // How many of these calls were refused for a latch.
@@ -281,7 +289,7 @@ fn taken_turns<
     let other_seat = mark.split(&mut seat);
     let common = Common {
         mark,
-        turns: Turns::new(plan.limit()),
+        turns: Turns::new(plan.is_alone),
         case: plan.case,
     };
     let one = Own { pass, seat };
@@ -325,6 +333,7 @@ fn share<
     let (worked, is_in_time) = taken_turns(rt, alloc, shared.engine_lock(), pass, other, plan)?;
     let ((one, stamps, done), (two, others, other_done)) = worked;
     let calls = stamps.len();
+    let written = written_by(alloc, &stamps).ok()?;
     let latched = latched_in(&stamps);
     let tie = tie_taken(rt, &shared, &mut three, plan.takes, stamps, others);
     let numbers = [done.number, other_done.number];
@@ -335,6 +344,7 @@ fn share<
         is_in_time,
         are_done: done.is_done && other_done.is_done,
         calls,
+        written,
         latched,
         tie,
         receipts,
@@ -451,12 +461,17 @@ fn is_seen<C>(seen: &Seen<C>, latched: usize) -> bool {
 }
 
 #[test]
-fn a_loop_that_is_held_holds_up_nobody(rt: HostRuntime) -> Result<(), Fail> {
-    for case in [Case::WritePage, Case::WriteLog] {
+fn loops_that_are_held_hold_up_nobody(rt: HostRuntime) -> Result<(), Fail> {
+    let pages = [Written::Nothing, Written::Nothing, Written::Done];
+    for (case, written) in [(Case::WritePages, pages.as_slice()), (Case::WriteLog, &[])] {
         let seen = look(&rt, rt.alloc(), Plan::new(case)).ok_or("memory")?;
         assert!(rt;
-            is_seen(&seen, 0) && seen.calls == 1,
-            "a page is written, or the log"
+            is_seen(&seen, 0) && seen.calls == written.len().max(1),
+            "a loop is held once, and then goes on"
+        );
+        assert!(rt;
+            seen.written.as_slice() == written,
+            "the page of the second's sender is written"
         );
         assert!(rt; has_only_the_seconds(seen.closed, case)?);
     }
@@ -475,7 +490,7 @@ fn an_abort_that_meets_latches_goes_on_or_is_given_up(rt: HostRuntime) -> Result
 
 #[test]
 fn one_thread_alone_meets_the_limit(rt: HostRuntime) -> Result<(), Fail> {
-    for case in [Case::WritePage, Case::Abort] {
+    for case in [Case::WritePages, Case::Abort] {
         let plan = Plan {
             is_alone: true,
             ..Plan::new(case)

@@ -5,22 +5,25 @@ use std::snapshot::Snapshot;
 use std::sync::atomic::{AtomicU64, Ordering};
 use std::thread;
 
+// How often a thread looks whether the other has brought them to a stage, at most.
+const LIMIT: u64 = 10_000_000;
+
 /// How far two threads have come together, stage by stage.
 #[derive(Drop)]
 pub struct Turns {
     reached: AtomicU64,
-    // how often a thread looks whether the other has brought them to a stage, at most
-    limit: u64,
+    // whether one thread takes all turns, so that it need not let another go on
+    is_alone: bool,
     // 1 once a thread has met that limit
     late: AtomicU64,
 }
 
 impl Turns {
     /// They stand at stage 0.
-    pub fn new(limit: u64) -> Self {
+    pub fn new(is_alone: bool) -> Self {
         Turns {
             reached: AtomicU64::new(0),
-            limit,
+            is_alone,
             late: AtomicU64::new(0),
         }
     }
@@ -32,11 +35,13 @@ impl Turns {
 
     /// Waits until they have come to a stage: whether they do within the limit.
     pub fn comes(&self, stage: u64) -> bool {
-        for _ in 0..self.limit {
+        for _ in 0..LIMIT {
             if self.reached.load(Ordering::SeqCst) >= stage {
                 return true;
             }
-            thread::yield_now();
+            if !self.is_alone {
+                thread::yield_now();
+            }
         }
         self.late.store(1, Ordering::SeqCst);
         false
