@@ -26,7 +26,7 @@ ROWS = [
     (["beside", "abort", "2", "4", "sent", "8", "0", "10"], b"", "10 transactions\n"),
     (["beside", "commit", "2", "4", "begun", "8", "0", "10"], b"", "10 transactions\n"),
     (["make", ".", "1", "1", "10"], b"", "10 messages\n"),
-    (["open", "."], b"", "restarted 2, 82 records\n"),
+    (["open", "."], b"", "restarted 2 unfinished 0 lost 0, 82 records\n"),
     (["calls", "1", "2"], b"", "7168 calls\n"),
     (["calls", "4", "2"], b"", "7168 calls\n"),
 ]

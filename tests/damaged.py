@@ -11,6 +11,7 @@ import subprocess
 import sys
 import tempfile
 from concurrent.futures import ThreadPoolExecutor
+from itertools import accumulate
 
 from cases import MOST_SECONDS, built_twice
 from inspector import record
@@ -134,10 +135,13 @@ def changed_bytes():
 
 
 def cut_logs():
-    """Cut anywhere a log is opened: its end is no record. Bytes that begin none are damage."""
+    """Cut anywhere a log is opened: its end is no record, and what the others leave open is undone. Bytes that begin none are damage."""
     whole = b"".join(ONE_COMMITTED)
+    ends = [*accumulate(map(len, ONE_COMMITTED))]
+    left = [(1, 0, 0), (2, 0, 0), (2, 1, 0), (2, 1, 0), (2, 0, 1), (2, 0, 0)]  # by how many records are whole
     for length in {*range(0, 30), *range(550, 570), *range(1100, 1191)}:
-        yield [whole[:length]], OPENED
+        incarnation, unfinished, lost = left[sum(end <= length for end in ends)]
+        yield [whole[:length]], f"restarted {incarnation} unfinished {unfinished} lost {lost}"
     for bad in (b"\0\0\0\x11\x07", b"\1", bytes(4)):
         yield [whole + bad], at_record(6)
     yield [restart(1) + bytes(12)], at_record(2)
@@ -588,7 +592,8 @@ def fault(program, name, pages, log, wanted):
         ran = subprocess.run([program, "open", top], capture_output=True, timeout=MOST_SECONDS)
         said = ran.stdout.decode(errors="backslashreplace")
         is_opened = said.startswith("restarted ")
-        if ("opened\n" if is_opened else said) != f"{wanted}\n" or ran.returncode != (0 if is_opened else 1):
+        told = said.split(", ")[0] if is_opened else said.rstrip("\n")
+        if wanted not in (told, OPENED if is_opened else told) or ran.returncode != (0 if is_opened else 1):
             return f"{name}: {said!r} and {ran.returncode}, and not {wanted!r}"
         if not is_opened and ((folder / "pages").read_bytes(), (folder / "log").read_bytes()) != (pages, log):
             return f"{name}: its files have changed"

@@ -65,8 +65,8 @@ pub fn open<R: Print + AllocGlobal + Files<File = File>>(
     match report_of(rt, folder.as_str()) {
         Ok(report) => writeln!(
             writer,
-            "restarted {}, {} records",
-            report.incarnation, report.records
+            "restarted {} unfinished {} lost {}, {} records",
+            report.incarnation, report.unfinished, report.lost, report.records
         ),
         Err(fault) => {
             print_fault(&mut writer, fault)?;
@@ -98,8 +98,9 @@ fn opened<R: AllocGlobal + Files<File = File>>(
     rt: &R,
     folder: &str,
 ) -> Result<(Store, Report), Fault> {
-    let Ok((pages, log)) = open_folder(rt, folder, Unknown) else {
-        return Err(Fault::Open);
+    let (pages, log) = match open_folder(rt, folder, Unknown) {
+        Ok(files) => files,
+        Err(not_opened) => return Err(not_opened.fault),
     };
     let Ok(levels) = levels_of_store(rt.alloc()) else {
         return Err(Fault::Refused(Refusal::NoMemory));

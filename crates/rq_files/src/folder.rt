@@ -3,7 +3,7 @@ ghost use Rattle.std.specs.Prelude.{◌≡◌, ◌↔◌, ◌≤◌, ℕ, IfOk, 
 ghost use Rattle.rq_disk.specs.Device.{Only};
 ghost use Rattle.rq_disk.specs.Stored.{first_len};
 
-use crate::fault::Fault;
+use crate::fault::{Fault, NotOpened};
 use rq_disk::{FileContents, FileLog, FilePages, LogDevice, PAGE, PageDevice, Unknown};
 use rq_model::refusal::Refusal;
 use rq_page::layout::Layout;
@@ -85,12 +85,12 @@ pub fn format_folder<R: Files<File = File> + AllocGlobal>(
 /// hold; its value is used up, so that code over any `S` opens one store.
 ///
 /// # Errors
-/// `WouldBlock` where another opening has a file; those of the system.
+/// `Open` where a file or its lock cannot be had, `Refused` with `DiskWrite` where it cannot be synced, and with `NoMemory`.
 pub fn open_folder<S: FileContents, R: Files<File = File> + AllocGlobal>(
     rt: &R,
     folder: &str,
     _held: S,
-) -> io::Result<(FilePages<S>, FileLog<S>)>
+) -> Result<(FilePages<S>, FileLog<S>), NotOpened>
     ensures pages { IfOk result (λ d. ⟦<FilePages<S> as PageDevice>⟧.seen d.0 ≡ S.pages) }
     ensures pages_durable { IfOk result (λ d. (p : ℕ)
         → Only (S.pages p) (⟦<FilePages<S> as PageDevice>⟧.may_be d.0 p)) }
@@ -106,11 +106,46 @@ pub fn open_folder<S: FileContents, R: Files<File = File> + AllocGlobal>(
     ensures log_moment { IfOk result (λ d. ⟦<FileLog<S> as LogDevice>⟧.moment d.1 ≡ 0) }
     ensures log_failures { IfOk result (λ d. ⟦<FileLog<S> as LogDevice>⟧.faults d.1 ≡ 0) }
 {
-    let alloc = rt.alloc();
-    let folder = Path::new(folder);
-    let pages = opened(rt, &folder.join(alloc, PAGES)?)?;
-    let log = opened(rt, &folder.join(alloc, LOG)?)?;
-    Ok((FilePages::open(pages)?, FileLog::open(log)?))
+    let pages = opened(rt, folder, PAGES)?;
+    let log = opened(rt, folder, LOG)?;
+    let pages = match FilePages::open(pages) {
+        Ok(pages) => pages,
+        Err(error) => return Err(not_synced(error)),
+    };
+    match FileLog::open(log) {
+        Ok(log) => Ok((pages, log)),
+        Err(error) => Err(not_synced(error)),
+    }
+}
+
+fn opened<R: Files<File = File> + AllocGlobal>(
+    rt: &R,
+    folder: &str,
+    name: &str,
+) -> Result<File, NotOpened> {
+    let Ok(path) = Path::new(folder).join(rt.alloc(), name) else {
+        return Err(NotOpened {
+            fault: Fault::Refused(Refusal::NoMemory),
+            error: ErrorKind::OutOfMemory.into(),
+        });
+    };
+    match OpenOptions::new().read(true).write(true).open(rt, &path) {
+        Ok(file) => Ok(file),
+        Err(error) => Err(NotOpened {
+            fault: Fault::Open,
+            error,
+        }),
+    }
+}
+
+// Why a file that is there was not locked and synced.
+fn not_synced(error: io::Error) -> NotOpened {
+    let fault = if error.kind() == ErrorKind::WouldBlock {
+        Fault::Open
+    } else {
+        Fault::Refused(Refusal::DiskWrite)
+    };
+    NotOpened { fault, error }
 }
 
 /// Where the log of the store in a folder is.
@@ -161,10 +196,6 @@ fn made<R: Files<File = File>>(rt: &R, path: &PathBuf) -> Result<File, Fault> {
         Err(error) if error.kind() == ErrorKind::AlreadyExists => Err(Fault::Exists),
         Err(_) => Err(Fault::Open),
     }
-}
-
-fn opened<R: Files<File = File>>(rt: &R, path: &PathBuf) -> io::Result<File> {
-    OpenOptions::new().read(true).write(true).open(rt, path)
 }
 
 fn format_pages(file: File, layout: &Layout) -> Result<(), Fault> {

@@ -5,6 +5,6 @@ mod fault;
 mod folder;
 mod looking;
 
-pub use fault::Fault;
+pub use fault::{Fault, NotOpened};
 pub use folder::{format_folder, open_folder, run_format};
 pub use looking::{ReadFile, look_at_log};

@@ -7,7 +7,7 @@ ghost use Rattle.rqm.specs.Holding.{HoldStore};
 use crate::args::Serve;
 use rq_disk::{FileContents, FileLog, FilePages, LogDevice, PAGE, PageDevice, Unknown};
 use rq_engine::engine::Engine;
-use rq_files::{Fault, open_folder};
+use rq_files::{Fault, NotOpened, open_folder};
 use rq_levels::{StoreLevel, levels_of_store};
 use rq_model::refusal::Refusal;
 use rq_restart::restart::{Report, restart};
@@ -83,7 +83,7 @@ fn opened_and_bound<
     }
 }
 
-fn opened<S: FileContents, R: AllocGlobal + Files<File = File>>(
+fn opened<S: FileContents, R: AllocGlobal + Eprint + Files<File = File>>(
     rt: &R,
     folder: &str,
     held: S,
@@ -91,8 +91,12 @@ fn opened<S: FileContents, R: AllocGlobal + Files<File = File>>(
     ensures { IfOk result (λ o. WasSound ⟦<FilePages<S> as PageDevice>⟧ ⟦<FileLog<S> as LogDevice>⟧
         (HoldStore S.pages S.bytes) o.0) }
 {
-    let Ok((pages, log)) = open_folder(rt, folder, held) else {
-        return Err(Fault::Open);
+    let (pages, log) = match open_folder(rt, folder, held) {
+        Ok(files) => files,
+        Err(NotOpened { fault, error }) => {
+            tell_not_opened(rt, &error);
+            return Err(fault);
+        }
     };
     let Ok(levels) = levels_of_store(rt.alloc()) else {
         return Err(Fault::Refused(Refusal::NoMemory));
@@ -101,6 +105,15 @@ fn opened<S: FileContents, R: AllocGlobal + Files<File = File>>(
         Ok(opened) => Ok(opened),
         Err(stopped) => Err(Fault::Refused(stopped.refusal)),
     }
+}
+
+// Tells who runs the server why the store was not opened.
+fn tell_not_opened<R: Eprint>(rt: &R, error: &io::Error) {
+    let _ = if error.kind() == io::ErrorKind::WouldBlock {
+        eprintln!(rt; "another program has the store open")
+    } else {
+        eprintln!(rt; "the store cannot be opened: {error}")
+    };
 }
 
 // 0 where the clock does not say.
@@ -124,25 +137,34 @@ fn tell_opened<R: Eprint>(rt: &R, report: &Report, millis: u128) {
     );
 }
 
-fn bound<R: Net<Listener = TcpListener, Stream = TcpStream>>(
+fn bound<R: Eprint + Net<Listener = TcpListener, Stream = TcpStream>>(
     rt: &R,
     port: u16,
 ) -> Result<TcpListener, Fault> {
     match TcpListener::bind(rt, SocketAddr::from((Ipv4Addr::LOCALHOST, port))) {
         Ok(listener) => Ok(listener),
-        Err(_) => Err(Fault::Open),
+        Err(error) => {
+            let _ = eprintln!(rt; "port {port} cannot be had: {error}");
+            Err(Fault::Open)
+        }
     }
 }
 
 // How many pages the file of a store has, those behind its last page too: asking for one of these does nothing. Where it is not
 // there, it cannot be opened either.
-fn pages_in<R: AllocGlobal + Files<File = File>>(rt: &R, folder: &str) -> Result<u32, Fault> {
+fn pages_in<R: AllocGlobal + Eprint + Files<File = File>>(
+    rt: &R,
+    folder: &str,
+) -> Result<u32, Fault> {
     let Ok(path) = Path::new(folder).join(rt.alloc(), "pages") else {
         return Err(Fault::Refused(Refusal::NoMemory));
     };
     match fs::metadata(rt, &path) {
         Ok(known) => Ok(u32::try_from(known.len() / PAGE as u64).unwrap_or(u32::MAX)),
-        Err(_) => Err(Fault::Open),
+        Err(error) => {
+            tell_not_opened(rt, &error);
+            Err(Fault::Open)
+        }
     }
 }
 
