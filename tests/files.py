@@ -5,8 +5,7 @@ where no store is made, and what is left where each call on the files fails in t
     python3 tests/files.py [--program PROGRAM] [NAME..]
 
 A name is one of the tests below, as `made`; without one all are run. Where `rt ci` left the program as Rattle's own compiler
-builds it too, that one runs those of `TWICE` as well. A library that the loader puts in front of the C library's has a call fail;
-it is built with `cc`.
+builds it too, that one runs those of `TWICE` as well.
 """
 import argparse
 import os
@@ -21,7 +20,8 @@ from damaged import (
     FREE, MESSAGE, ONE_COMMITTED, ONE_SENT, PAGE, cell, end, formatted, group, received, sent, small, write,
 )  # fmt: skip
 from inspector import record
-from server import LONGEST, STORE_FAILED, DiskWrite, Failed, NotStarted, Server, everything, raises
+from server import LONGEST, STORE_FAILED, DiskWrite, Failed, NotStarted, Server, everything, raises, wait_until
+from shim import failing
 
 SHIM = """#define _GNU_SOURCE
 #include <dlfcn.h>
@@ -102,13 +102,6 @@ def format_store(program, folder, directory=1, cells=2, **words):
     return ended.stdout, ended.returncode
 
 
-def wait_until(comes):
-    until = time.monotonic() + LONGEST
-    while not comes():
-        assert time.monotonic() < until, "it does not come"
-        time.sleep(0.01)
-
-
 def made(program):
     """A store as it is formatted."""
     for directory, cells in ((1, 2), (3, 1), (2, 20)):
@@ -166,26 +159,42 @@ MESSAGES = [
 
 def messages(program):
     """The files behind each transaction, once each changed page is written: page 2 by the record of this LSN, with these cells, and
-    page 1 by the next one, with this slot of the sender; and what is received when the store is opened again."""
+    page 1 by the next one, with this slot of the sender; and what is received when the store is opened again. One server does all, and
+    then one each time."""
     one, two, last = (ONE_SENT, [MESSAGE]), (group(2, 0, 33, 34), [FIRST, SECOND]), (group(2, 1, 34, 34), [FREE, cell(2)])
     left = [(5, 3, *one), (10, 8, *two), (15, 13, *last)]
-    for sends, (records, lsn, slot, cells) in enumerate(left, 1):
+    with folder_of(pages=formatted(), log=b"") as folder:
+        server = Server(program, folder)
+        for number in range(3):
+            transact(server, number)
+            wait_until(lambda: files_of(folder) == files_behind(*left[number]))
+        server.kill()
+    for sends, (records, *slots) in enumerate(left, 1):
         with folder_of(pages=formatted(), log=b"") as folder:
             server = Server(program, folder)
-            with server.connect() as connection:
-                for _ in range(min(sends, 2)):
-                    with connection.transaction() as transaction:
-                        transaction.send(0, 7, b"hello")
-                if sends > 2:
-                    with connection.transaction() as transaction:
-                        assert transaction.receive() == (0, 7, b"hello")
-            assert transaction.lsn == records
-            pages = small(slot, *cells)
-            pages[PAGE : PAGE + 8], pages[2 * PAGE : 2 * PAGE + 8] = lsn.to_bytes(8, "big"), (lsn - 1).to_bytes(8, "big")
-            wanted = {"pages": bytes(pages), "log": b"".join(MESSAGES[:records])}
-            wait_until(lambda: files_of(folder) == wanted)
+            for number in range(sends):
+                lsn = transact(server, number)
+            assert lsn == records
+            wait_until(lambda: files_of(folder) == files_behind(records, *slots))
             server.kill()
             assert held_by(program, folder) == {0: [(7, b"hello")] * (2 if sends == 2 else 1)}
+
+
+def transact(server, number):
+    """One of two sends and a receive, by a connection of its own: where its commit stands."""
+    with server.connect() as connection, connection.transaction() as transaction:
+        if number < 2:
+            transaction.send(0, 7, b"hello")
+        else:
+            assert transaction.receive() == (0, 7, b"hello")
+    return transaction.lsn
+
+
+def files_behind(records, lsn, slot, cells):
+    """The files once so many records are forced, and the pages written."""
+    pages = small(slot, *cells)
+    pages[PAGE : PAGE + 8], pages[2 * PAGE : 2 * PAGE + 8] = lsn.to_bytes(8, "big"), (lsn - 1).to_bytes(8, "big")
+    return {"pages": bytes(pages), "log": b"".join(MESSAGES[:records])}
 
 
 def log_of_all(program):
@@ -247,19 +256,11 @@ class Course:
         return self.left[self.done : self.done + 2]
 
 
-@contextmanager
-def failing():
-    """The words by which the nth call fails, and the file that tells it."""
-    with tempfile.TemporaryDirectory() as top:
-        source, library, told = (os.path.join(top, name) for name in ("shim.c", "shim.so", "failed"))
-        pathlib.Path(source).write_text(SHIM)
-        subprocess.run(["cc", "-O2", "-shared", "-fPIC", "-o", library, source, "-ldl"], check=True)
-        yield {"LD_PRELOAD": library, "FAILED": told}, pathlib.Path(told)
-
-
 def each_call(least):
     """The numbers of the calls up to one that is not made, with the words for each; there have to be so many."""
-    with failing() as (words, told):
+    with failing(SHIM) as (beside, words):
+        told = beside / "failed"
+        words = {**words, "FAILED": str(told)}
         for in_part in ({}, {"IN_PART": "1"}):
             number = 0
             while number == 0 or told.exists():
@@ -298,7 +299,7 @@ def courses(program):
                 server = Server(program, folder, environment=words)
             except NotStarted as refused:
                 assert told.exists(), refused
-                assert refused.line in (b"fault 3 DiskRead\n", b"fault 15 DiskWrite\n", b"fault open\n"), refused
+                assert refused.line in (b"fault 3 DiskRead\n", b"fault 15 DiskWrite\n"), refused
             else:
                 course.run(server)
                 wait_until(lambda: told.exists() or course.has_written(folder))
@@ -343,6 +344,7 @@ def torn_ends(program):
 
 def last_force(program):
     """A server that ends by itself tells where its last force is refused, since a call failed there or before it."""
+    refused_forces = 0
     for words, told in each_call(6):
         with folder_of(pages=formatted(), log=b"") as folder:
             try:
@@ -357,9 +359,13 @@ def last_force(program):
                     assert told.exists(), words
             status, printed = server.ended()
             if told.exists():
+                refused_forces += 1
                 assert status == 1 and printed in (b"fault 15 DiskWrite\n", b"fault 2 Failed\n"), (words, status, printed)
             else:
                 assert (status, printed) == (0, b"served 1\n"), (words, status, printed)
+                assert (folder / "log").read_bytes().endswith(record(8, [1, 1])), "the end of the abort is forced"
+    # an append and a sync, in either pass
+    assert refused_forces >= 4, f"only {refused_forces} forces were refused"
 
 
 def held_by(program, folder):

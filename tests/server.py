@@ -23,11 +23,12 @@ from concurrent.futures import ThreadPoolExecutor
 from contextlib import contextmanager
 
 from cases import TOP, built
+from shim import failing
 
 sys.dont_write_bytecode = True
 sys.path.insert(0, str(TOP / "clients" / "python"))
 from rqm import (  # noqa: E402
-    Closed, Connection, DiskWrite, Failed, Full, Latched, Lost, Passing, ReceiverBusy, SenderBusy, TooManyTransactions,
+    Closed, Connection, DiskWrite, Failed, Full, Lost, Passing, ReceiverBusy, SenderBusy, TooManyTransactions,
     UnknownSender, UnknownTransaction,
 )  # fmt: skip
 
@@ -76,7 +77,10 @@ FAULTS = [
     "0002 07 00", "0001 04", "0004 04 000000", "0006 04 00000000 00", "0001 05", "0001 08", "000c 02 00000000 00000000000000",
 ]  # fmt: skip
 
-COMMIT = bytes.fromhex("0001 06")
+COMMIT, ABORT = bytes.fromhex("0001 06"), bytes.fromhex("0001 07")
+
+# How a server ends that cannot have its folder, files or port.
+OPEN = 1, b"fault open\n"
 
 # What a server says on standard error once its store has failed.
 STORE_FAILED = b"the store has failed: it refuses all calls until it is opened again"
@@ -84,6 +88,76 @@ STORE_FAILED = b"the store has failed: it refuses all calls until it is opened a
 # What a client asks that does not read, and the answer.
 LAST_TAG = bytes.fromhex("0005 08 00000000")
 NO_TAG = bytes.fromhex("0011 88 0000000000000000 0000000000000000")
+
+# Has a call fail as long as there is a file of its name; a send to the first connection alone. That for a thread fails once so many
+# were made. A sync takes so many milliseconds more, and makes the file SYNCS longer by a byte.
+SHIM = """#define _GNU_SOURCE
+#include <dlfcn.h>
+#include <errno.h>
+#include <fcntl.h>
+#include <pthread.h>
+#include <stdatomic.h>
+#include <stdio.h>
+#include <stdlib.h>
+#include <sys/epoll.h>
+#include <sys/socket.h>
+#include <unistd.h>
+
+#define NEXT(name) ((__typeof__(&name)) dlsym(RTLD_NEXT, #name))
+
+static int fails(const char *name, int number) {
+    char path[4096];
+    snprintf(path, sizeof path, "%s/%s", getenv("FAILING"), name);
+    if (access(path, F_OK)) return 0;
+    errno = number;
+    return 1;
+}
+
+int epoll_wait(int poll, struct epoll_event *events, int most, int millis) {
+    return fails("epoll_wait", EBADF) ? -1 : NEXT(epoll_wait)(poll, events, most, millis);
+}
+
+static int first;
+
+int accept4(int listener, struct sockaddr *address, socklen_t *size, int flags) {
+    int stream = fails("accept", EPROTO) ? -1 : NEXT(accept4)(listener, address, size, flags);
+    if (!first && stream > 0) first = stream;
+    return stream;
+}
+
+int accept(int listener, struct sockaddr *address, socklen_t *size) {
+    int stream = fails("accept", EPROTO) ? -1 : NEXT(accept)(listener, address, size);
+    if (!first && stream > 0) first = stream;
+    return stream;
+}
+
+ssize_t send(int stream, const void *bytes, size_t size, int flags) {
+    return stream == first && fails("send", EAGAIN) ? -1 : NEXT(send)(stream, bytes, size, flags);
+}
+
+ssize_t write(int stream, const void *bytes, size_t size) {
+    return stream == first && fails("send", EAGAIN) ? -1 : NEXT(write)(stream, bytes, size);
+}
+
+static int noted(int answer) {
+    const char *path = getenv("SYNCS");
+    if (!path) return answer;
+    int file = open(path, O_WRONLY | O_APPEND | O_CREAT, 0666);
+    if (write(file, "x", 1) == 1) close(file);
+    usleep(1000 * atoi(getenv("MILLIS")));
+    return answer;
+}
+
+int fsync(int file) { return noted(NEXT(fsync)(file)); }
+int fdatasync(int file) { return noted(NEXT(fdatasync)(file)); }
+
+int pthread_create(pthread_t *thread, const pthread_attr_t *with, void *(*run)(void *), void *given) {
+    static atomic_int made;
+    const char *most = getenv("THREADS");
+    if (most && made++ >= atoi(most)) return EAGAIN;
+    return NEXT(pthread_create)(thread, with, run, given);
+}
+"""
 
 
 class Server:
@@ -105,8 +179,9 @@ class Server:
         line = self.process.stdout.readline()
         listening = re.fullmatch(rb"listening 127\.0\.0\.1:([0-9]+)\n", line)
         if not listening:
+            self.process.wait(LONGEST)
             self.kill()
-            raise NotStarted(line)
+            raise NotStarted(line, self.process.returncode)
         self.port = int(listening[1])
 
     def connect(self):
@@ -134,11 +209,11 @@ class Server:
 
 
 class NotStarted(Exception):
-    """The server printed this in place of where it listens."""
+    """The server printed this in place of where it listens, and ended with this status."""
 
-    def __init__(self, line):
-        super().__init__(line)
-        self.line = line
+    def __init__(self, line, status):
+        super().__init__(line, status)
+        self.line, self.status = line, status
 
 
 @contextmanager
@@ -380,6 +455,90 @@ def answers_before_a_fault(program, _):
                 assert stream.recv(1) == b"", behind
 
 
+def parted_clients(program, _):
+    """A client at fault that keeps its connection, or says more and more, holds up neither others nor the server's end."""
+    with store(program) as folder, serving(program, folder, "--workers", 1, "--sessions", 3) as server:
+        silent, loud, other = server.raw(), server.raw(), server.connect()
+        silent.sendall(bytes(2))
+        loud.sendall(bytes(2))
+        longest, until = 0, time.monotonic() + 2
+        with ThreadPoolExecutor() as pool:
+            flood = pool.submit(said_until_lost, loud, until)
+            while time.monotonic() < until:
+                before = time.monotonic()
+                assert other.last_tag(0) == (0, 0)
+                longest = max(longest, time.monotonic() - before)
+            flood.result()
+        assert longest < 0.5, longest
+        other.close()
+        assert server.ended() == (0, b"served 3\n")
+        silent.close()
+        loud.close()
+
+
+def said_until_lost(stream, until):
+    """Says as much as the system takes, for so long, or until the connection is lost."""
+    try:
+        while time.monotonic() < until:
+            stream.sendall(bytes(65536))
+    except OSError:
+        pass
+
+
+def unread_answers(program, _):
+    """A client that has said all and reads nothing keeps no transaction. What was answered it may still read."""
+    with failing(SHIM) as (beside, words), store(program) as folder:
+        words["FAILING"], full = str(beside), beside / "send"
+        with serving(program, folder, "--workers", 1, environment=words) as server:
+            with server.raw() as silent, server.connect() as other:
+                silent.sendall(LAST_TAG)
+                assert read_bytes(silent, len(NO_TAG)) == NO_TAG
+                full.touch()
+                silent.sendall(BEGIN_AND_SEND)
+                wait_until(lambda: is_busy(other))
+                silent.shutdown(socket.SHUT_WR)
+                send_when_free(other, 0, 1, b"kept")
+
+
+def is_busy(connection):
+    """Whether another transaction sends for sender 0."""
+    with connection.transaction() as transaction:
+        try:
+            transaction.send(0, 1, b"")
+        except SenderBusy:
+            return True
+        finally:
+            transaction.abort()
+    return False
+
+
+def shared_forces(program, _):
+    """Commits that wait together are forced together. What nobody waits for is forced once a second."""
+    with failing(SHIM) as (beside, words), store(program) as folder:
+        syncs = beside / "syncs"
+        words.update(FAILING=str(beside), SYNCS=str(syncs), MILLIS="50")
+        with serving(program, folder, "--workers", 1, environment=words) as server:
+            opened = [server.raw() for _ in range(16)]
+            for stream in opened:
+                stream.sendall(BEGIN)
+                read_bytes(stream, len(BEGUN) + 8)
+            time.sleep(1.5)  # until the page writer rests
+            before = syncs.stat().st_size
+            for stream in opened:
+                stream.sendall(COMMIT)
+            for stream in opened:
+                read_bytes(stream, 11)
+            assert syncs.stat().st_size - before <= 4, "16 commits"
+            time.sleep(1.5)
+            before, until = syncs.stat().st_size, time.monotonic() + 0.5
+            while time.monotonic() < until:
+                opened[0].sendall(BEGIN + ABORT)
+                read_bytes(opened[0], len(BEGUN) + 8 + 3)
+            assert syncs.stat().st_size - before <= 2, "aborts"
+            for stream in opened:
+                stream.close()
+
+
 def ends_inside_a_frame(program, _):
     """A connection that ends inside a frame has the answers to what stands before it, and leaves nothing of its transaction."""
     asked = bytes.fromhex("0005 04 00000000")
@@ -431,8 +590,9 @@ def served(program, _):
 def starts(program, _):
     """Words that are not accepted, and faults in their order: folder and files, restart, port."""
 
-    def said(*words):
+    def said(*words, tells=None):
         ended = subprocess.run([program, "serve", *map(str, words)], capture_output=True, timeout=LONGEST)
+        assert tells is None or ended.stderr.endswith(tells), ended.stderr
         return ended.returncode, ended.stdout
 
     with store(program) as folder, socket.create_server(("127.0.0.1", 0)) as taken:
@@ -443,14 +603,15 @@ def starts(program, _):
             [folder, "--port", 0, "--frames", 66562], [folder, "--port", 0, "--sessions", "x"], [folder, "--port", 0, "more"],
         ):  # fmt: skip
             assert said(*words) == (2, b""), words
-        assert said(folder, "--port", port) == (1, b"fault open\n")
-        assert said(folder / "missing", "--port", port) == (1, b"fault open\n")
+        missing = b"the store cannot be opened: No such file or directory (os error 2)\n"
+        assert said(folder, "--port", port, tells=b"port %d cannot be had: Address already in use (os error 98)\n" % port) == OPEN
+        assert said(folder / "missing", "--port", port, tells=missing) == OPEN
         with serving(program, folder):
-            assert said(folder, "--port", 0) == (1, b"fault open\n"), "a store in use"
+            assert said(folder, "--port", 0, tells=b"another program has the store open\n") == OPEN
         (folder / "log").write_bytes(b"\1")
         assert said(folder, "--port", port) == (1, b"fault 16 Damaged\n")
         (folder / "log").unlink()
-        assert said(folder, "--port", port) == (1, b"fault open\n")
+        assert said(folder, "--port", port, tells=missing) == OPEN
 
 
 def silent_reader(program, _):
@@ -533,6 +694,87 @@ def many_connections(program, _):
             send_when_free(connection, 0, 1, b"after")
 
 
+def missing_threads(program, _):
+    """Where a thread does not start, all end, nobody is served, and the store is free for the next server."""
+    with failing(SHIM) as (beside, words), store(program) as folder:
+        words["FAILING"] = str(beside)
+        for threads in range(5):
+            refused = started(program, folder, "--workers", 3, environment={**words, "THREADS": str(threads)})
+            assert refused == (b"fault 1 NoMemory\n", 1), (threads, refused)
+        with serving(program, folder, "--workers", 3, environment={**words, "THREADS": "5"}) as server:
+            with server.connect() as connection:
+                assert everything(connection) == {}
+        with serving(program, folder, "--workers", 64, files=200):
+            pass
+        try:
+            Server(program, folder, "--workers", 64, files=40)
+        except NotStarted as refused:
+            assert (refused.line, refused.status) == (b"fault 1 NoMemory\n", 1)
+        else:
+            raise AssertionError("more workers than files")
+
+
+def started(program, folder, *words, environment):
+    """What a server prints first that does not start, and its exit status."""
+    try:
+        Server(program, folder, *words, environment=environment).kill()
+    except NotStarted as refused:
+        return refused.line, refused.status
+    raise AssertionError("it has started")
+
+
+def worker_without_reports(program, _):
+    """A worker to which the system reports nothing more loses its connections, and their transactions are aborted. Others go on. Where
+    there is no other, the server ends."""
+    with failing(SHIM) as (beside, words), store(program) as folder:
+        words["FAILING"], fails = str(beside), beside / "epoll_wait"
+        with serving(program, folder, "--workers", 2, environment=words) as server:
+            lost_once_it_asks(server, fails)
+            fails.unlink()
+            with server.connect() as connection:
+                send_when_free(connection, 0, 2, b"kept")
+        with serving(program, folder, "--workers", 1, environment=words) as server:
+            lost_once_it_asks(server, fails)
+            assert server.ended() == (1, b"fault open\n")
+        fails.unlink()
+        with serving(program, folder) as server, server.connect() as connection:
+            assert b"lost 0" in server.tells()[0]
+            assert everything(connection) == {0: [(2, b"kept")]}
+
+
+def lost_once_it_asks(server, fails):
+    """A connection with an open send, whose worker meets that failure behind its next answer."""
+    with server.raw() as stream:
+        stream.sendall(BEGIN_AND_SEND)
+        read_bytes(stream, len(BEGUN) + 8 + len(SENT))
+        time.sleep(0.5)  # until the other workers sleep
+        fails.touch()
+        stream.sendall(LAST_TAG)
+        read_to_end(stream)
+        wait_until(lambda: server.tells()[1:])
+        (told,) = server.tells()[1:]
+        assert told.startswith(b"a worker ends, and its connections are lost: "), told
+
+
+def refused_connections(program, _):
+    """Where a connection cannot be taken for some other reason, it waits, and is served once it can be; who runs the server is told
+    once."""
+    with failing(SHIM) as (beside, words), store(program) as folder:
+        words["FAILING"], fails = str(beside), beside / "accept"
+        with serving(program, folder, environment=words) as server:
+            fails.touch()
+            waiting = [server.raw() for _ in range(3)]
+            wait_until(lambda: server.tells()[1:])
+            time.sleep(0.1)
+            fails.unlink()
+            for stream in waiting:
+                stream.sendall(LAST_TAG)
+                assert read_bytes(stream, len(NO_TAG)) == NO_TAG
+                stream.close()
+            (told,) = server.tells()[1:]
+            assert told.startswith(b"no connection can be taken just now: "), told
+
+
 def full_disk(program, _):
     """Where the disk takes no more, no commit is acknowledged that is not there later; the store answers that it has failed. What
     was acknowledged is there once there is room."""
@@ -607,8 +849,14 @@ class Client:
         self.server, self.number, self.random = server, number, random.Random(f"{seed}.{number}")
         self.tag = 0
         self.sent, self.taken = [], []
-        self.connection = server.connect()
+        self.connection = self.connected()
         self.broken = 0
+
+    def connected(self):
+        """A connection that tells also what passes in a moment: nobody is ever refused for what others do within an operation."""
+        connection = self.server.connect()
+        connection.patience = 0
+        return connection
 
     def run(self, transactions):
         for _ in range(transactions):
@@ -652,7 +900,7 @@ class Client:
             return True
         except Full:
             return False
-        except (Latched, ReceiverBusy):
+        except ReceiverBusy:
             return step == "receive"
 
     def break_off(self, last):
@@ -662,7 +910,7 @@ class Client:
         if self.random.random() < 0.5:
             reset(self.connection.socket)
         self.connection.close()
-        self.connection = self.server.connect()
+        self.connection = self.connected()
         self.wait_for_end()
 
     def wait_for_end(self):
@@ -768,6 +1016,13 @@ def client(program, _):
         assert connection.was_committed(0, 8) and not connection.was_committed(0, 9), "of a closed group"
 
 
+def wait_until(comes):
+    until = time.monotonic() + LONGEST
+    while not comes():
+        assert time.monotonic() < until, "it does not come"
+        time.sleep(0.01)
+
+
 def raises(kind, call):
     try:
         call()
@@ -778,8 +1033,8 @@ def raises(kind, call):
 
 TESTS = [
     starts, session, closing, faults, bodies, pieces, damaged_streams, lost_connections, ends_inside_a_frame,
-    answers_before_a_fault, served, silent_reader, slow_clients, few_descriptors, many_connections, full_disk, client,
-    lost_answers, sessions,
+    answers_before_a_fault, parted_clients, unread_answers, shared_forces, served, silent_reader, slow_clients, few_descriptors, missing_threads,
+    worker_without_reports, refused_connections, many_connections, full_disk, client, lost_answers, sessions,
 ]  # fmt: skip
 
 

@@ -22,9 +22,6 @@ const REQUESTS_A_ROUND: u32 = 64;
 /// How many pieces are read away of a connection that is not heard any more, at most.
 const PIECES_AWAY: u32 = 256;
 
-/// For how many milliseconds, at most.
-const AWAY_MILLIS: u128 = 1000;
-
 /// A connection: what was asked and not yet carried out, and answers that the system has not taken yet.
 #[derive(Drop)]
 pub(crate) struct Connection {
@@ -101,8 +98,8 @@ impl Connection {
         self.is_last = true;
     }
 
-    /// Reads what was said, a few pieces of this length at most. A client that does not read is not heard, nor one that has asked
-    /// more than was carried out.
+    /// Reads what was said, a few pieces of this length at most. A client that has asked more than was carried out is not heard, nor
+    /// one that does not read its answers, unless it may have ended.
     pub(crate) fn hear(&mut self, piece: &mut [u8]) {
         if self.parted.is_some() {
             self.read_away(piece);
@@ -111,11 +108,12 @@ impl Connection {
         if matches!(self.line, Line::Quiet) {
             self.line = Line::Unread;
         }
-        if self.is_held_up() || !self.asked.is_empty() {
+        if self.is_held_up() && !self.is_last || !self.asked.is_empty() {
             return;
         }
         for _ in 0..PIECES_A_ROUND {
-            if !matches!(self.line, Line::Unread) {
+            let is_more_heard = self.asked.is_empty() || !self.is_held_up();
+            if !matches!(self.line, Line::Unread) || !is_more_heard {
                 return;
             }
             self.line = self.read_piece(piece);
@@ -155,9 +153,11 @@ impl Connection {
         }
     }
 
-    /// Carries out what was asked, up to a commit that waits for its receipt, and as much as a round takes.
+    /// Carries out what was asked, up to a commit that waits for its receipt, and as much as a round takes. For a client that does not
+    /// read its answers nothing is carried out but its end.
     pub(crate) fn carry_out<S: Steps, R: Wait>(&mut self, rt: &R, steps: &mut S) {
         if self.is_held_up() {
+            self.lose_if_ended(rt, steps);
             return;
         }
         for _ in 0..REQUESTS_A_ROUND {
@@ -249,13 +249,9 @@ impl Connection {
         self.line = Line::Ended;
     }
 
-    /// Whether what comes was read away for long enough; None where it is not read away.
-    pub(crate) fn is_late<R: Clock>(&self, rt: &R) -> Option<bool> {
-        let parted = self.parted?;
-        match parted.elapsed(rt) {
-            Ok(passed) => Some(passed.as_millis() >= AWAY_MILLIS),
-            Err(_) => Some(true),
-        }
+    /// Since when what comes is read away.
+    pub(crate) fn parted(&self) -> Option<Instant> {
+        self.parted
     }
 
     /// Writes as many of the answers as the system takes. False where nobody reads them any more.

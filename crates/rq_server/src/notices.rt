@@ -13,7 +13,7 @@ const START_MILLIS: u64 = 10;
 /// Counts that all threads of a server share.
 #[derive(Drop)]
 pub(crate) struct Notices {
-    // how many rounds were made
+    // how many rounds were made, a long one counted more than once
     rounds: AtomicU64,
     // how many forces were made
     forces: AtomicU64,
@@ -44,7 +44,7 @@ impl Notices {
         }
     }
 
-    /// A round was made.
+    /// A round was made, or a part of one that calls much.
     pub(crate) fn note_round(&self) {
         self.rounds.fetch_add(1, Ordering::SeqCst);
     }

@@ -13,13 +13,16 @@ use std::collections::VecDeque;
 use std::io;
 use std::net::Net;
 use std::sync::{Mutex, Wait};
-use std::time::{Clock, Duration};
+use std::time::{Clock, Duration, Instant};
 
 /// How many connections are reported at once, at most.
 const REPORTS: usize = 256;
 
 /// How many bytes are read at once, at most.
 const PIECE: usize = 4096;
+
+/// For how many milliseconds what comes is read away of a connection that is not heard any more, at most.
+const AWAY_MILLIS: u128 = 1000;
 
 /// The token of the listener.
 const DOOR: usize = 0xFFFF_FFFF;
@@ -73,14 +76,21 @@ enum Fate {
     Ends,
 }
 
+// A connection that parted: its token then, and when.
+#[derive(Clone, Copy)]
+struct Parted {
+    token: usize,
+    since: Instant,
+}
+
 /// The connections of a worker, by token.
 #[derive(Drop)]
 pub(crate) struct Connections {
     connections: Slab<Connection>,
     // the tokens of the round
     active: Vec<usize>,
-    // the tokens of those that parted, the eldest first, and maybe of others
-    parted: VecDeque<usize>,
+    // those that parted, the eldest first, and some that have ended since
+    parted: VecDeque<Parted>,
     // where bytes are read into
     piece: Vec<u8>,
     queue: Queue,
@@ -261,7 +271,15 @@ impl Connections {
 
     // Notes one that parts. Where there is no memory for that, it ends.
     fn await_end(&mut self, token: usize) {
-        if self.parted.push_back(token).is_err() {
+        let since = match self.connections.get(token) {
+            Some(connection) => connection.parted(),
+            None => None,
+        };
+        let is_noted = match since {
+            Some(since) => self.parted.push_back(Parted { token, since }).is_ok(),
+            None => false,
+        };
+        if !is_noted {
             self.end(token);
         }
     }
@@ -269,19 +287,20 @@ impl Connections {
     // Ends those that parted long enough ago.
     fn end_late<R: Clock>(&mut self, rt: &R) {
         for _ in 0..self.parted.len() {
-            let Some(token) = self.parted.front().copied() else {
+            let Some(Parted { token, since }) = self.parted.front().copied() else {
                 return;
             };
-            let is_late = match self.connections.get(token) {
-                Some(connection) => connection.is_late(rt),
-                None => None,
-            };
-            match is_late {
-                Some(false) => return,
-                Some(true) => self.end(token),
-                None => (),
+            if !is_late(rt, since) {
+                return;
             }
             self.parted.pop_front();
+            let is_there = match self.connections.get(token) {
+                Some(connection) => connection.parted() == Some(since),
+                None => false,
+            };
+            if is_there {
+                self.end(token);
+            }
         }
     }
 
@@ -336,6 +355,14 @@ impl Connections {
             self.served = self.served.saturating_add(1);
         }
         Queue::Waiting
+    }
+}
+
+// Whether what came since then was read away for long enough.
+fn is_late<R: Clock>(rt: &R, since: Instant) -> bool {
+    match since.elapsed(rt) {
+        Ok(passed) => passed.as_millis() >= AWAY_MILLIS,
+        Err(_) => true,
     }
 }
 

@@ -16,7 +16,8 @@ use std::sync::Wait;
 const CALLS_A_TAKE: u32 = 256;
 
 /// The calls of a worker or of a loop. Stamps are dropped, and the audit is taken and dropped with each force and after many
-/// calls. A force is made known to the server's other threads, and a store that has failed to who runs it.
+/// calls. A force is made known to the server's other threads, as are many calls of one round, and a store that has failed to who
+/// runs it.
 #[derive(Drop)]
 pub(crate) struct ServerSteps<'a, P: PageDevice, L: LogDevice, B: Level, G: Sharing, R: Wait> {
     inner: SharedSteps<'a, P, L, B, G, R, DropStamps>,
@@ -55,10 +56,14 @@ impl<'a, P: PageDevice, L: LogDevice, B: Level, G: Sharing, R: Wait + Eprint> Se
     G,
     R,
 > {
-    // Tells who runs the server, where a call says that the store has failed.
-    fn tell_failure(&self, stamped: &Stamped) {
+    // Tells who runs the server, where a call says that the store has failed. Where memory is wanting, the log writer is to force,
+    // which frees what is buffered.
+    fn tell(&self, stamped: &Stamped) {
         if has_failed(stamped.reply()) {
             self.notices.tell_failure(self.rt);
+        }
+        if matches!(stamped.reply(), Reply::Refused(Refusal::NoMemory)) {
+            self.notices.note_round();
         }
     }
 }
@@ -81,17 +86,18 @@ impl<'a, P: PageDevice + Drop, L: LogDevice + Drop, B: Level, G: Sharing, R: Wai
         self.calls = self.calls.saturating_add(1);
         if self.calls >= CALLS_A_TAKE && !is_part(&event) {
             self.calls = 0;
+            self.notices.note_round();
             drop(self.inner.take_audit());
         }
         let stamped = self.inner.call(event);
-        self.tell_failure(&stamped);
+        self.tell(&stamped);
         stamped
     }
 
     fn force(&mut self) -> Stamped {
         let stamped = self.inner.force();
         self.notices.note_force();
-        self.tell_failure(&stamped);
+        self.tell(&stamped);
         drop(self.inner.take_audit());
         stamped
     }
