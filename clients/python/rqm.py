@@ -228,17 +228,17 @@ class Connection:
         """Whether the transaction was committed that sent `tag` as its last message for `sender`, and whose commit was not
         answered, if its client keeps the rules above. What is answered stays so, also behind a crash of the server. It waits until
         the lost transaction has ended. Where the server could not undo that, it ends as the server does, and `Lost` is raised."""
-        with_end = self.transaction()
-        while True:
-            try:
-                with_end.send(sender, tag, b"")  # any tag will do, since this is aborted
-                break
-            except SenderBusy:  # by the lost transaction, which has not ended
-                time.sleep(0.01)
-            except (Closed, Full):  # these are told only where nobody else sends for the sender
-                break
-        was_last = self.last_tag(sender).tag == tag
-        with_end.abort()
+        with self.transaction() as with_end:
+            while True:
+                try:
+                    with_end.send(sender, tag, b"")  # any tag will do, since this is aborted
+                    break
+                except SenderBusy:  # by the lost transaction, which has not ended
+                    time.sleep(0.01)
+                except (Closed, Full):  # these are told only where nobody else sends for the sender
+                    break
+            was_last = self.last_tag(sender).tag == tag
+            with_end.abort()
         if was_last:
             self.transaction().commit()  # its record stands behind that of the lost one, and now both are durable
         return was_last
@@ -266,6 +266,9 @@ class Connection:
         except OSError as error:
             self.close()
             raise Lost("the connection has ended") from error
+        except BaseException:  # the answer, once it comes, would be taken for that of the next request
+            self.close()
+            raise
         return frame[0], frame[1:]
 
     def read(self, size):
