@@ -451,14 +451,16 @@ class Store:
             mending.count_before(self.met)
             self.is_cut = False
         mending.run()
-        self.met["TornCut"] += devices.torn > 0
         incarnation = 1 + max((record[1] for record in devices.records if record[0] == "restart"), default=0)
         devices.add(("restart", incarnation))
+        torn = devices.torn
         try:
             devices.force()
         except Refused:
             del devices.records[devices.handed :]
             raise
+        finally:
+            self.met["TornCut"] += devices.torn < torn
         self.open, self.failed, self.rows = True, False, {}
         self.incarnation, self.begins = incarnation, 0
         self.met["Opened"] += 1
