@@ -38,7 +38,7 @@ pub enum Stop {
 ///
 /// # Errors
 /// `Refused` with `Damaged` and the LSN of the first record that is none, behind the lines of those before it; with `LogFull`
-/// where more than 2^50 records are there; with `DiskRead` or `NoMemory`. `Output` where the writer failed.
+/// where more is there than 2^50 records; with `DiskRead` or `NoMemory`. `Output` where the writer failed.
 pub fn inspect<L: LogDevice + Drop, W: Write>(
     alloc: Global,
     log: L,
