@@ -161,10 +161,10 @@ int pthread_create(pthread_t *thread, const pthread_attr_t *with, void *(*run)(v
 
 
 class Server:
-    """`rqm serve` on a folder. It may open so many files, and make none longer than so many bytes; and its environment has more
-    words."""
+    """`rqm serve` on a folder. It may open so many files, and make none longer than so many bytes; its environment has more words, and
+    its standard input may be another one."""
 
-    def __init__(self, program, folder, *words, files=None, longest=None, environment=None):
+    def __init__(self, program, folder, *words, files=None, longest=None, environment=None, stdin=None):
         def limit():
             if files:
                 resource.setrlimit(resource.RLIMIT_NOFILE, (files, files))
@@ -175,7 +175,9 @@ class Server:
         command = [program, "serve", str(folder), "--port", "0", *map(str, words)]
         self.told = tempfile.TemporaryFile()  # on standard error
         words = dict(os.environ, **(environment or {}))
-        self.process = subprocess.Popen(command, stdout=subprocess.PIPE, stderr=self.told, preexec_fn=limit, env=words)
+        self.process = subprocess.Popen(
+            command, stdin=stdin, stdout=subprocess.PIPE, stderr=self.told, preexec_fn=limit, env=words
+        )
         line = self.process.stdout.readline()
         listening = re.fullmatch(rb"listening 127\.0\.0\.1:([0-9]+)\n", line)
         if not listening:
@@ -614,6 +616,35 @@ def starts(program, _):
         assert said(folder, "--port", port, tells=missing) == OPEN
 
 
+def input_ends(program, _):
+    """A server that is to end with its standard input goes on while somebody may write there, and then ends cleanly: no session begins any
+    more, those that are open are lost, and all is forced."""
+    with store(program) as folder:
+        for workers in (1, 3):
+            words = ("--workers", workers, "--until-input-ends")
+            with serving(program, folder, *words, stdin=subprocess.PIPE) as server:
+                server.process.stdin.write(b"x")
+                server.process.stdin.flush()
+                time.sleep(0.3)
+                with server.connect() as ended:
+                    with ended.transaction() as transaction:
+                        transaction.send(workers, 1, b"kept")
+                with server.connect() as open_one, server.raw() as silent:
+                    lost = open_one.transaction()
+                    lost.send(0, 1, b"lost")
+                    silent.sendall(BEGIN_AND_SEND[:7])
+                    time.sleep(0.1)
+                    server.process.stdin.close()
+                    server.process.stdin = None
+                    assert server.ended() == (0, b"served 3\n")
+                    raises(Lost, lost.receive)
+        with serving(program, folder) as server, server.connect() as connection:
+            assert b"unfinished 0, lost 0" in server.tells()[0]
+            assert everything(connection) == {1: [(1, b"kept")], 3: [(1, b"kept")]}
+        with open(os.devnull, "rb") as no_pipe:
+            assert started(program, folder, "--until-input-ends", environment={}, stdin=no_pipe) == (b"fault input\n", 1)
+
+
 def silent_reader(program, _):
     """Nobody waits for a client that asks much and does not read; once it reads it has all its answers."""
     with store(program) as folder, serving(program, folder, "--workers", 1) as server:
@@ -714,10 +745,10 @@ def missing_threads(program, _):
             raise AssertionError("more workers than files")
 
 
-def started(program, folder, *words, environment):
+def started(program, folder, *words, **limits):
     """What a server prints first that does not start, and its exit status."""
     try:
-        Server(program, folder, *words, environment=environment).kill()
+        Server(program, folder, *words, **limits).kill()
     except NotStarted as refused:
         return refused.line, refused.status
     raise AssertionError("it has started")
@@ -1033,7 +1064,7 @@ def raises(kind, call):
 
 TESTS = [
     starts, session, closing, faults, bodies, pieces, damaged_streams, lost_connections, ends_inside_a_frame,
-    answers_before_a_fault, parted_clients, unread_answers, shared_forces, served, silent_reader, slow_clients, few_descriptors, missing_threads,
+    answers_before_a_fault, parted_clients, unread_answers, shared_forces, input_ends, served, silent_reader, slow_clients, few_descriptors, missing_threads,
     worker_without_reports, refused_connections, many_connections, full_disk, client, lost_answers, sessions,
 ]  # fmt: skip
 

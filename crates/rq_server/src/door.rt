@@ -8,6 +8,7 @@ use std::io::{Error, ErrorKind};
 pub(crate) struct Door {
     listener: TcpListener,
     left: Option<u64>,
+    is_shut: bool,
 }
 
 /// What came of a look at the door.
@@ -29,7 +30,22 @@ impl Door {
     /// With no end where `sessions` is 0.
     pub(crate) fn new(listener: TcpListener, sessions: u64) -> Self {
         let left = if sessions == 0 { None } else { Some(sessions) };
-        Door { listener, left }
+        Door {
+            listener,
+            left,
+            is_shut: false,
+        }
+    }
+
+    /// No session may begin any more, and those that have begun are to end.
+    pub(crate) fn shut(&mut self) {
+        self.left = Some(0);
+        self.is_shut = true;
+    }
+
+    /// Whether sessions are to end.
+    pub(crate) fn is_shut(&self) -> bool {
+        self.is_shut
     }
 
     /// Whether no session may begin any more.

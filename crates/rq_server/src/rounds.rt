@@ -4,6 +4,7 @@ use crate::calls::Calls;
 use crate::connection::Connection;
 use crate::door::{Door, Entered};
 use mio::net::{TcpListener, TcpStream};
+use mio::unix::SourceFd;
 use mio::{Events, Interest, Poll, Token};
 use rq_model::txn::Lsn;
 use rq_workers::steps::Steps;
@@ -27,6 +28,11 @@ const AWAY_MILLIS: u128 = 1000;
 /// The token of the listener.
 const DOOR: usize = 0xFFFF_FFFF;
 
+/// The token of standard input, and its number.
+const INPUT: usize = 0xFFFF_FFFE;
+
+const STANDARD_INPUT: i32 = 0;
+
 /// How many milliseconds pass before a connection that the system had no room for is tried again, or a force that was refused.
 const AGAIN_MILLIS: u64 = 10;
 
@@ -40,6 +46,15 @@ pub(crate) fn poll_at<R: Net>(rt: &R, listener: &mut TcpListener) -> io::Result<
     poll.registry()
         .register(listener, Token(DOOR), Interest::READABLE)?;
     Ok(poll)
+}
+
+/// Has a worker wait for the end of standard input too: until nobody can write there any more. False where the system can't tell that,
+/// as of a file.
+pub(crate) fn hears_input(poll: &Poll) -> bool {
+    let input = STANDARD_INPUT;
+    poll.registry()
+        .register(&mut SourceFd(&input), Token(INPUT), Interest::READABLE)
+        .is_ok()
 }
 
 /// Where a worker waits, with room for what is reported to it there.
@@ -96,6 +111,7 @@ pub(crate) struct Connections {
     queue: Queue,
     // there is an end to the sessions
     is_limited: bool,
+    has_input_ended: bool,
     served: u64,
 }
 
@@ -109,12 +125,13 @@ impl Connections {
             piece: vec![in alloc; 0; PIECE]?,
             queue: Queue::Waiting,
             is_limited,
+            has_input_ended: false,
             served: 0,
         })
     }
 
-    /// Serves connections until no session may begin any more and all have ended. How many it served; None where the system reports
-    /// nothing any more: its sessions are lost then.
+    /// Serves connections until no session may begin any more and all have ended, or are to. How many it served; None where the system
+    /// reports nothing any more. Sessions that have not ended are lost then.
     pub(crate) fn serve<S: Steps, R: Wait + Clock + Eprint>(
         &mut self,
         rt: &R,
@@ -135,11 +152,22 @@ impl Connections {
             self.round(rt, &poll, calls);
             self.end_late(rt);
             self.let_in(rt, alloc, &poll, door, calls);
-            if self.is_limited && self.connections.is_empty() && door.lock(rt).is_closed() {
-                return Some(self.served);
+            if self.is_limited && self.is_to_end(rt, door) {
+                self.lose_all(rt, calls);
+                let left = self.connections.len() as u64;
+                return Some(self.served.saturating_add(left));
             }
         }
         unreachable!()
+    }
+
+    // Whether no session may begin any more and all have ended, or are to.
+    fn is_to_end<R: Wait>(&self, rt: &R, door: &Mutex<Door>) -> bool {
+        let mut door = door.lock(rt);
+        if self.has_input_ended {
+            door.shut();
+        }
+        door.is_shut() || door.is_closed() && self.connections.is_empty()
     }
 
     // How long to sleep at most, where nothing is reported; None where until something is.
@@ -160,6 +188,8 @@ impl Connections {
             let Token(token) = event.token();
             if token == DOOR {
                 self.queue = Queue::Waiting;
+            } else if token == INPUT {
+                self.has_input_ended |= event.is_read_closed();
             } else {
                 let _ = self.active.push(token);
                 self.note_last(token, event.is_read_closed());

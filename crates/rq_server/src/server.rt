@@ -6,7 +6,7 @@ use crate::calls::{Calls, MarkReader};
 use crate::door::Door;
 use crate::gates::{LogPace, PagePace};
 use crate::notices::Notices;
-use crate::rounds::{Connections, Ears, poll_at};
+use crate::rounds::{Connections, Ears, hears_input, poll_at};
 use crate::steps::ServerSteps;
 use crate::stopped::Stopped;
 use mio::Poll;
@@ -35,6 +35,8 @@ pub struct Plan {
     pub workers: u32,
     /// After how many sessions it ends; 0 for no end.
     pub sessions: u64,
+    /// Whether it ends once nobody can write to standard input any more.
+    pub ends_with_input: bool,
     /// How many pages the store has.
     pub pages: u32,
 }
@@ -105,6 +107,9 @@ pub fn serve<
     let Ok((common, seat, polls)) = common_of(rt, alloc, listener, plan) else {
         return Err(Stopped::NotStarted);
     };
+    if plan.ends_with_input && !is_input_heard(&polls) {
+        return Err(Stopped::NoInput);
+    }
     let mut seat = seat;
     let Ok(posts) = posts_of(alloc, &mut shared, &common, &mut seat, polls) else {
         return Err(Stopped::NotStarted);
@@ -156,6 +161,14 @@ fn common_of<R: Net>(
         plan,
     };
     Ok((common, seat, polls))
+}
+
+// Whether the first worker waits for the end of standard input too.
+fn is_input_heard(polls: &[Poll]) -> bool {
+    match polls.first() {
+        Some(poll) => hears_input(poll),
+        None => false,
+    }
 }
 
 // Where each worker waits.
@@ -402,6 +415,7 @@ fn made_ready(
     common: &Common,
 ) -> Result<(Ears, Connections), AllocError> {
     let ears = Ears::new(alloc, poll)?;
-    let connections = Connections::new(alloc, common.plan.sessions != 0)?;
+    let is_limited = common.plan.sessions != 0 || common.plan.ends_with_input;
+    let connections = Connections::new(alloc, is_limited)?;
     Ok((ears, connections))
 }

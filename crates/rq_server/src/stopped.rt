@@ -11,6 +11,8 @@ pub enum Stopped {
     NotTold(Error),
     /// The system reported nothing to a worker any more. Standard error says why.
     Deaf,
+    /// It was to end with standard input, and the system can't tell when that ends.
+    NoInput,
     /// The store refused the last force.
     NotForced(Refusal),
 }

@@ -45,6 +45,8 @@ pub struct Serve {
     pub workers: u32,
     /// After how many sessions it ends; 0 for no end.
     pub sessions: u64,
+    /// Whether it ends with standard input.
+    pub until_input_ends: bool,
 }
 
 /// Reads the words of the process. Words that are not accepted, one that is not UTF-8 among them, and those that ask for
@@ -103,6 +105,7 @@ fn server(alloc: Global, matches: &ArgMatches<'_>) -> Result<Option<Args>, Alloc
         port,
         workers: matches.get_one::<u32>("workers").unwrap_or(WORKERS),
         sessions: matches.get_one::<u64>("sessions").unwrap_or(0),
+        until_input_ends: matches.get_flag("until-input-ends"),
     })))
 }
 
@@ -155,6 +158,7 @@ fn serve_command<'a>(alloc: Global) -> Result<Command<'a>, AllocError> {
         .arg(port(alloc))?
         .arg(number(alloc, "workers", workers, 1, MOST_WORKERS))?
         .arg(sessions(alloc))?
+        .arg(until_input_ends(alloc))?
         .arg(frames(alloc))
 }
 
@@ -188,6 +192,13 @@ fn sessions<'a>(alloc: Global) -> Arg<'a> {
         .help("After how many sessions it ends; 0 for no end")
         .action(ArgAction::Set)
         .value_parser(clap::value_parser!(u64))
+}
+
+fn until_input_ends<'a>(alloc: Global) -> Arg<'a> {
+    Arg::new(alloc, "until-input-ends")
+        .long("until-input-ends")
+        .help("Ends once standard input, a pipe, is closed: open sessions are lost")
+        .action(ArgAction::SetTrue)
 }
 
 fn frames<'a>(alloc: Global) -> Arg<'a> {

@@ -72,6 +72,7 @@ fn opened_and_bound<
     let plan = Plan {
         workers: asked.workers,
         sessions: asked.sessions,
+        ends_with_input: asked.until_input_ends,
         pages: pages_in(rt, folder)?,
     };
     let began = Instant::now(rt);
@@ -195,6 +196,10 @@ fn print_served<R: Print>(rt: &R, served: Result<u64, Stopped>) -> io::Result<u8
         }
         Err(Stopped::NotStarted) => tell_fault(rt, Fault::Refused(Refusal::NoMemory)),
         Err(Stopped::NotTold(error)) => Err(error),
+        Err(Stopped::NoInput) => {
+            println!(rt; "fault input")?;
+            Ok(1)
+        }
         Err(Stopped::Deaf) => tell_fault(rt, Fault::Open),
         Err(Stopped::NotForced(refusal)) => tell_fault(rt, Fault::Refused(refusal)),
     }
