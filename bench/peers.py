@@ -108,7 +108,8 @@ def installed():
         return
     if os.geteuid() != 0:
         sys.exit(f"to be installed first: {' '.join(missing)}")
-    subprocess.run(["apt-get", "install", "-y", *missing], check=True, stdout=subprocess.DEVNULL)
+    for words in (["update"], ["install", "-y", *missing]):
+        subprocess.run(["apt-get", *words], check=True, stdout=subprocess.DEVNULL)
 
 
 def run(load, server, kind, turn, connections):
