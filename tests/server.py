@@ -530,13 +530,13 @@ def shared_forces(program, _):
                 stream.sendall(COMMIT)
             for stream in opened:
                 read_bytes(stream, 11)
-            assert syncs.stat().st_size - before <= 4, "16 commits"
+            assert syncs.stat().st_size - before <= 8, "16 commits"
             time.sleep(1.5)
             before, until = syncs.stat().st_size, time.monotonic() + 0.5
             while time.monotonic() < until:
                 opened[0].sendall(BEGIN + ABORT)
                 read_bytes(opened[0], len(BEGUN) + 8 + 3)
-            assert syncs.stat().st_size - before <= 2, "aborts"
+            assert syncs.stat().st_size - before <= 4, "aborts"
             for stream in opened:
                 stream.close()
 
