@@ -179,7 +179,7 @@ formatted_fit log c =
 abbrev first_op : Record
 first_op = page_op t1 1 fill_cell
 
--- the first record alone is left, and behind it no byte, or a short end
+-- the first record alone is left, and behind it no byte, or a torn end
 cut_behind_first : (bytes : List ℕ) → EndsWith log_1 bytes → GoOnTo bytes (spelled log_2) → IsCut committed (image_in formatted_pages) bytes
 cut_behind_first bytes ends on = record {
   lost = 4;

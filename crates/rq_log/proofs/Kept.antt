@@ -147,7 +147,7 @@ module _ {L : Type 0} (g : Ghosts L) where
     buffered = λ _. (0, omega arith, λ h. subst (HoldsTo torn_at records) (sym read.same) (holds h), none);
   }
 
-  -- a beginning of bytes that end with records is these with a short end, if it holds them
+  -- a beginning of bytes that end with records is these with a torn end, if it holds them
   cut_ends : (records : List Record) (seen c : List ℕ) (n : ℕ) → EndsWith records seen → length (spelled records) ≤ n → c ≡ take n seen → EndsWith records c
   cut_ends records seen c n ends le is =
       let m : ℕ = n - length (spelled records) in
@@ -164,7 +164,7 @@ module _ {L : Type 0} (g : Ghosts L) where
   cut_first : (seen c : List ℕ) (n : ℕ) → c ≡ take n seen → GoOnTo c seen
   cut_first seen c n is = (drop n seen, sym (take-append-drop n seen) ∙ ap (λ (l : List ℕ). l ++ drop n seen) (sym is))
 
-  -- what a cut behind the records leaves at each moment: what might be left before, or these with a short end
+  -- what a cut behind the records leaves at each moment: what might be left before, or these with a torn end
   pub cut_run : (records : List Record) (old new : L) (n : ℕ) (P : List ℕ → Type 0) → ((c : List ℕ) → g.left_since old (g.moment old) c → g.may_leave old c) → EndsWith records (g.seen old) → n ≡ length (spelled records)
       → CutOff (g.seen old) n (g.may_leave old) (g.may_leave new) → ElapsesThrough (g.moment old) (g.moment new) (g.left_since old) (g.left_since new) (g.may_leave new) (IsCutBetween (g.seen old) n)
       → ((c : List ℕ) → g.may_leave old c → P c) → ((c : List ℕ) → EndsWith records c → GoOnTo c (g.seen old) → P c) → LeavesOnly g old new P

@@ -70,7 +70,7 @@ holds_ends (Some end) rs bytes is = is.0
 pub holds_whole : (torn_at : Option ℕ) (rs : List Record) (bytes : List ℕ) → torn_at ≡ None → HoldsTo torn_at rs bytes → bytes ≡ spelled rs
 holds_whole torn_at rs bytes whole is = subst (λ (t : Option ℕ). HoldsTo t rs bytes) whole is
 
--- all but the newest few of some records, and a short end
+-- all but the newest few of some records, and a torn end
 pub record Older (rs : List Record) (bytes : List ℕ) : Type 0 where
   pub lost : ℕ
   pub few : lost ≤ length rs
@@ -79,7 +79,7 @@ pub record Older (rs : List Record) (bytes : List ℕ) : Type 0 where
 all_older : (rs : List Record) (bytes : List ℕ) → bytes ≡ spelled rs → Older rs bytes
 all_older rs bytes e = record { lost = 0; few = omega arith; ends = ends_all rs bytes e }
 
--- the first few bytes of spelled records are all but the newest few of these and a short end
+-- the first few bytes of spelled records are all but the newest few of these and a torn end
 pub front_spelled : (n : ℕ) (rs : List Record) → AreSpelled rs → Older rs (take n (spelled rs))
 front_spelled n [] are = all_older [] (take n []) (take_all n [] (omega arith))
 front_spelled n (r ∷ rs) are = elim (cases_lt (length (spelled rs)) n) [

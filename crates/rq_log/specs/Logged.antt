@@ -27,7 +27,7 @@ module _ {L : Type 0} (g : Ghosts L) where
   abbrev pub WasDurable : Logged L → Type 0
   WasDurable log = Only (g.seen log.settled) (g.may_leave log.settled)
 
-  -- a crash now leaves the first records, with all that are forced, and a short end perhaps
+  -- a crash now leaves the first records, with all that are forced, and a torn end perhaps
   abbrev pub LeavesBeginnings : Logged L → Type 0
   LeavesBeginnings log = (c : List ℕ) → g.may_leave log.device c → IsBeginning log.records log.forced c
 
@@ -36,7 +36,7 @@ module _ {L : Type 0} (g : Ghosts L) where
   abbrev pub WasLeftOrGoesOn : Logged L → List ℕ → Type 0
   WasLeftOrGoesOn log c = g.may_leave log.device c ⊎ GoesOn log.records log.forced (g.seen log.device) c
 
-  -- the first held some of the records, with a short end perhaps, and the second these alone
+  -- the first held some of the records, with a torn end perhaps, and the second these alone
   abbrev pub WasCut : Logged L → L → Type 0
   WasCut log device = (count : ℕ) × (count + log.forced ≤ length log.records)
       × EndsWith (drop count log.records) (g.seen log.device) × (g.seen device ≡ spelled (drop count log.records))

@@ -26,14 +26,14 @@ HoldsTo (Some end) records bytes = EndsWith records bytes × (end ≡ length (sp
 abbrev pub GoOnTo : List ℕ → List ℕ → Type 0
 GoOnTo bytes all = (rest : List ℕ) × (all ≡ bytes ++ rest)
 
--- These bytes are records from the oldest on, the first so many and perhaps more, with a short end: only newest ones lack.
+-- These bytes are records from the oldest on, the first so many and perhaps more, with a torn end: only newest ones lack.
 -- Once any were forced, no end that was read stands behind them: the bytes are the first of what the records spell.
 abbrev pub IsBeginning : List Record → ℕ → List ℕ → Type 0
 IsBeginning records kept bytes = (lost : ℕ) × (lost + kept ≤ length records) × EndsWith (drop lost records) bytes
     × (0 < kept → GoOnTo bytes (spelled records))
 
 -- These bytes are the records that were read with the first of those behind them: the first so many records and perhaps
--- more, and then a short end, which is of the next of them, or of the end that was read.
+-- more, and then a torn end, which is of the next of them, or of the end that was read.
 pub record GoesOn (records : List Record) (kept : ℕ) (seen bytes : List ℕ) : Type 0 where
   -- so many records come behind what was read
   pub behind : ℕ

@@ -6,11 +6,11 @@ use Rattle.rq_log.specs.Spelled.{AreSpelled, EndsWith}
 use Rattle.rq_page.specs.Sizes.{Sizes}
 use Rattle.rq_pool.specs.Reading.{IsSuperblock}
 
--- bytes are the spelling of one log at most, with a short end or none
+-- bytes are the spelling of one log at most, with a torn end or none
 abbrev pub OneLogEach : Type 0
 OneLogEach = (a b : List Record) (bytes : List ℕ) → AreSpelled a → AreSpelled b → EndsWith a bytes → EndsWith b bytes → a ≡ b
 
--- the whole records in the spelling of a log, with a short end or none, are as many as the log's
+-- the whole records in the spelling of a log, with a torn end or none, are as many as the log's
 abbrev pub AsManyAsTheLog : Type 0
 AsManyAsTheLog = (log : List Record) (bytes : List ℕ) (n : ℕ) → AreSpelled log → EndsWith log bytes → HoldsRecords bytes n
     → n ≡ length log

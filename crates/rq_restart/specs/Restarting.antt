@@ -57,7 +57,7 @@ Stops left z log why.LogFull before now old new = left → IsAtBound z log
 Stops left z log (why.Damaged d) before now old new = left → ⊥
 Stops left z log _ before now old new = ⊥
 
--- an honest device held these records as it was read, with a short end perhaps
+-- an honest device held these records as it was read, with a torn end perhaps
 pub record IsReadAs {L : Type 0} (g : log_device.Ghosts L) (old new : L) (older : List Record) : Type 0 where
   pub honest : g.honest new
   pub are_spelled : AreSpelled older
@@ -90,7 +90,7 @@ pub record AreTold (z : Sizes) (images : List (List ℕ)) (count : ℕ) (waiting
   pub few_sent : (g : ℕ) → sent_count sent g ≤ count
 
 -- Bytes of a log with the first of the records behind it by which what has no end is undone and the next incarnation is
--- begun, and a short end, of the next of these or of the end that was read; of a store that was left so, these recover
+-- begun, and a torn end, of the next of these or of the end that was read; of a store that was left so, these recover
 -- the log.
 pub record IsBegunBehind (z : Sizes) (left : Type 0) (older : List Record) (read bytes : List ℕ) : Type 0 where
   pub rolled_back : List Record

@@ -14,7 +14,7 @@ use Rattle.rq_engine.specs.Devices.{EachPair}
 use Rattle.rq_restart.specs.declared.restart.Report.{Report}
 use Rattle.rq_restart.specs.declared.restart.Stopped.{Stopped}
 
--- these are the pages and the log of a store: a legal log, with a short end perhaps, and pages that fit it
+-- these are the pages and the log of a store: a legal log, with a torn end perhaps, and pages that fit it
 pub record IsStore (z : Sizes) (log : List Record) (images : Images) (bytes : List ℕ) : Type 0 where
   pub range : IsInRange z
   pub are_spelled : AreSpelled log

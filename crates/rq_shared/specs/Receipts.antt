@@ -20,7 +20,7 @@ pub record IsReceiptOf (audit : List Noted) (n : Number) : Type 0 where
   pub committed : IsGivenIn audit (Gave_commit n)
   pub acknowledged : IsGivenIn audit (Gave_receipt (Some n))
 
--- these bytes are the log's first records, with a short end perhaps, and the commit is one of theirs: its record is there,
+-- these bytes are the log's first records, with a torn end perhaps, and the commit is one of theirs: its record is there,
 -- at its place
 abbrev pub KeepsCommit : List Record → Done → List ℕ → Type 0
 KeepsCommit records d bytes = (lost : ℕ) × EndsWith (drop lost records) bytes
