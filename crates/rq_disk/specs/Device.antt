@@ -5,6 +5,19 @@ use Rattle.std.specs.Prelude.{◌≡◌, ◌⊎◌, ℕ, ◌+◌, ◌≤◌, ◌
 abbrev pub Images : Type 0
 Images = ℕ → List ℕ
 
+-- what a device of pages was asked
+pub data PageAsk : Type 0 where
+  Reads : (page : ℕ) → PageAsk
+  Writes : (page : ℕ) (image : List ℕ) → PageAsk
+  Syncs : PageAsk
+
+-- what a device of a log was asked
+pub data LogAsk : Type 0 where
+  Reads : (at : ℕ) → LogAsk
+  Appends : (bytes : List ℕ) → LogAsk
+  Forces : LogAsk
+  Cuts : (len : ℕ) → LogAsk
+
 -- what a crash leaves of all pages, where each page by itself has one of its images
 abbrev pub Leaves : (ℕ → List ℕ → Type 0) → Images → Type 0
 Leaves may_be images = (page : ℕ) → may_be page (images page)

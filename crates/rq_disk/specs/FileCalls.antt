@@ -31,10 +31,13 @@ has_failed (FileCall.Uncut len ∷ calls) = true
 has_failed (FileCall.Synced ∷ calls) = has_failed calls
 has_failed (FileCall.Missed ∷ calls) = true
 
--- Why a device that made these calls of a file may err: a write, a cut or a sync has failed, or the newest call is a
--- read that did.
-abbrev pub HasErred : (old new : List FileCall) → Type 0
-HasErred old new = (has_failed new ≡ true) ⊎ ((at : ℕ) × (new ≡ FileCall.Denied at ∷ old))
+-- It asked the file nothing, since a write, a cut or a sync has failed before.
+abbrev pub IsOver : (old new : List FileCall) → Type 0
+IsOver old new = (new ≡ old) × (has_failed old ≡ true)
+
+-- Why a device in a file may err: it is over, or it made this call and no other, which failed.
+abbrev pub HasErred : (failed : FileCall) (old new : List FileCall) → Type 0
+HasErred failed old new = IsOver old new ⊎ (new ≡ failed ∷ old)
 
 -- A sync leaves what is there now and nothing else; not so where one of these had failed before it: what was to be
 -- written may be lost then, though this one was made, and all may be left that might have been.

@@ -1,9 +1,9 @@
 -- A log in a file, by what it held at first and its calls since, the newest first.
-use Rattle.std.specs.Prelude.{◌≡◌, ◌⊎◌, ℕ, ◌+◌, ◌≤◌, ◌==◌, min, List, [], ◌∷◌, ◌++◌, length, take, drop, refl, Bool, true, ◌&&◌}
+use Rattle.std.specs.Prelude.{◌≡◌, ◌⊎◌, ℕ, ◌+◌, ◌^◌, ◌≤◌, ◌==◌, min, List, [], ◌∷◌, ◌++◌, length, take, drop, refl, Bool, true, ◌&&◌}
 use Rattle.std.proofs.Common.{inl, inr, sym, ap, arith}
-use Rattle.rq_disk.specs.FileCalls.{FileCall, has_failed, after_sync, after_sync_now}
+use Rattle.rq_disk.specs.FileCalls.{FileCall, HasErred, has_failed, after_sync, after_sync_now}
 use Rattle.rq_disk.specs.FileCalls.FileCall.{Gave, Denied, Took, Tried, Cut, Uncut, Synced, Missed}
-use Rattle.rq_disk.specs.Device.{IsCutBetween}
+use Rattle.rq_disk.specs.Device.{IsCutBetween, LogAsk}
 use Rattle.std.proofs.Math.Seq.{take-length}
 
 -- what it held at first and what was appended, so far as it was not cut
@@ -74,6 +74,15 @@ LogAgrees held first (Missed ∷ calls) = LogAgrees held first calls
 -- what a crash may have left at some moment from t on: before the newest k of the calls
 abbrev pub LogLeftSince : List ℕ → List FileCall → ℕ → List ℕ → Type 0
 LogLeftSince held calls t c = (k : ℕ) × (k + t ≤ length calls) × log_may_leave held (drop k calls) c
+
+-- Why such a file's device that ends there may err: it is over, its own call of the file failed, or the bytes would end beyond
+-- its last place.
+abbrev pub LogErred : ℕ → LogAsk → (old new : List FileCall) → Type 0
+LogErred end (LogAsk.Reads at) old new = HasErred (Denied at) old new
+LogErred end (LogAsk.Appends bytes) old new =
+    ((2 ^ 64 ≤ end + length bytes) × (new ≡ old)) ⊎ HasErred (Tried end bytes) old new
+LogErred end LogAsk.Forces old new = HasErred Missed old new
+LogErred end (LogAsk.Cuts len) old new = HasErred (Uncut len) old new ⊎ (new ≡ Missed ∷ Cut len ∷ old)
 
 -- a crash may leave what reads give
 pub log_all : (held : List ℕ) (calls : List FileCall) → log_may_leave held calls (log_bytes held calls)

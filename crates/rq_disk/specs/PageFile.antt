@@ -1,9 +1,9 @@
 -- Pages in a file, by what it held at first and its calls since, the newest first.
-use Rattle.std.specs.Prelude.{◌≡◌, ◌⊎◌, ◌↔◌, ℕ, ◌+◌, ◌≤◌, ◌/◌, ◌%◌, ◌^◌, ◌==◌, if◌then◌else◌, List, [], ◌∷◌, length, drop, refl, ⊤, Bool, true, false, ◌&&◌}
+use Rattle.std.specs.Prelude.{◌≡◌, ◌⊎◌, ◌↔◌, ℕ, ◌+◌, ◌*◌, ◌≤◌, ◌/◌, ◌%◌, ◌^◌, ◌==◌, if◌then◌else◌, List, [], ◌∷◌, length, drop, refl, ⊤, Bool, true, false, ◌&&◌}
 use Rattle.std.proofs.Common.{inl, inr, sym, subst}
 use Rattle.std.proofs.lemmas.Bool.{cases_eq}
-use Rattle.rq_disk.specs.Device.{Images, Leaves}
-use Rattle.rq_disk.specs.FileCalls.{FileCall, has_failed, after_sync, after_sync_now}
+use Rattle.rq_disk.specs.Device.{Images, Leaves, PageAsk}
+use Rattle.rq_disk.specs.FileCalls.{FileCall, HasErred, has_failed, after_sync, after_sync_now}
 use Rattle.rq_disk.specs.FileCalls.FileCall.{Gave, Denied, Took, Tried, Cut, Uncut, Synced, Missed}
 use Rattle.rq_disk.specs.Memory.{if_yes, if_no}
 
@@ -99,6 +99,14 @@ PagesAgree held (Missed ∷ calls) = PagesAgree held calls
 -- what a crash may have left at some moment from t on: before the newest k of the calls
 abbrev pub PagesLeftSince : Images → List FileCall → ℕ → Images → Type 0
 PagesLeftSince held calls t c = (k : ℕ) × (k + t ≤ length calls) × Leaves (page_may_be held (drop k calls)) c
+
+-- Why such a file's device of so many pages may err: there is no such page, it is over, or its own call of the file failed.
+abbrev pub PageErred : ℕ → PageAsk → (old new : List FileCall) → Type 0
+PageErred count (PageAsk.Reads page) old new =
+    ((count ≤ page) × (new ≡ old)) ⊎ HasErred (Denied (page * 4096)) old new
+PageErred count (PageAsk.Writes page image) old new =
+    ((count ≤ page) × (new ≡ old)) ⊎ HasErred (Tried (page * 4096) image) old new
+PageErred count PageAsk.Syncs old new = HasErred Missed old new
 
 -- a crash may leave what was written last
 pub page_seen : (held : Images) (calls : List FileCall) (p : ℕ) → page_may_be held calls p (images_now held calls p)

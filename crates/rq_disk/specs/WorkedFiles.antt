@@ -1,10 +1,10 @@
 -- Worked calls of files: those of an honest one, and those of none; what a crash may leave, and what it may not.
 use Rattle.std.specs.Prelude.{◌≡◌, ℕ, List, [], ◌∷◌, length, true, false}
-use Rattle.rq_disk.specs.Device.{Images}
-use Rattle.rq_disk.specs.FileCalls.{has_failed, HasErred}
+use Rattle.rq_disk.specs.Device.{Images, LogAsk as Logs, PageAsk as Pages}
+use Rattle.rq_disk.specs.FileCalls.{has_failed}
 use Rattle.rq_disk.specs.FileCalls.FileCall.{Gave, Denied, Took, Tried, Cut, Uncut, Synced, Missed}
-use Rattle.rq_disk.specs.LogFile.{LogAgrees, log_may_leave}
-use Rattle.rq_disk.specs.PageFile.{are_whole, PagesAgree, page_may_be}
+use Rattle.rq_disk.specs.LogFile.{LogAgrees, LogErred, log_may_leave}
+use Rattle.rq_disk.specs.PageFile.{are_whole, PageErred, PagesAgree, page_may_be}
 
 -- images of a byte
 abbrev pub blank : Images
@@ -62,8 +62,13 @@ pub record FilesAreJudged : Type 0 where
   -- which calls end a device
   pub ends : has_failed (Gave 0 seven ∷ Missed ∷ Took 0 seven ∷ []) ≡ true
   pub goes_on : has_failed (Synced ∷ Gave 0 seven ∷ Denied 0 ∷ Took 0 seven ∷ []) ≡ false
-  -- a call errs behind a write or a sync that failed, or in a read that fails, and not for an earlier one
-  pub erred_behind : HasErred (Missed ∷ []) (Missed ∷ [])
-  pub erred_in_it : HasErred (Took 0 seven ∷ []) (Denied 4096 ∷ Took 0 seven ∷ [])
-  pub erred_for_nothing : HasErred (Took 0 seven ∷ []) (Took 0 seven ∷ []) → ⊥
-  pub erred_for_an_earlier_one : HasErred (Denied 4096 ∷ []) (Denied 4096 ∷ []) → ⊥
+  -- a call errs behind a write or a sync that failed, or in its own call of the file, and neither for an earlier one nor for
+  -- one of another kind
+  pub erred_behind : PageErred 9 (Pages.Reads 1) (Missed ∷ []) (Missed ∷ [])
+  pub erred_in_it : PageErred 9 (Pages.Reads 1) (Took 0 seven ∷ []) (Denied 4096 ∷ Took 0 seven ∷ [])
+  pub erred_outside : PageErred 1 (Pages.Writes 1 seven) [] []
+  pub erred_for_nothing : PageErred 9 (Pages.Reads 1) (Took 0 seven ∷ []) (Took 0 seven ∷ []) → ⊥
+  pub erred_for_an_earlier_one : PageErred 9 (Pages.Reads 1) (Denied 4096 ∷ []) (Denied 4096 ∷ []) → ⊥
+  pub synced_for_a_read : PageErred 9 Pages.Syncs [] (Denied 0 ∷ []) → ⊥
+  pub forced_for_a_read : LogErred 9 Logs.Forces [] (Denied 0 ∷ []) → ⊥
+  pub read_for_a_sync : LogErred 9 (Logs.Reads 0) [] (Missed ∷ []) → ⊥

@@ -5,7 +5,7 @@
 //! nothing, or the device has stopped in it, its work done or not: each clause on what a crash leaves stands
 //! on every answer.
 ghost use Rattle.std.specs.Prelude.{◌≡◌, ◌≢◌, ◌⊎◌, ◌≤◌, ◌-◌, ◌++◌, List, ℕ, length, take, drop, min, IfOk, OnOk, OnErr, IsErr};
-ghost use Rattle.rq_disk.specs.Device.{Images, Leaves, Holds, Written, NoMore, Appended, CutOff, IsCutBetween, Only, Elapses, ElapsesThrough, FailureIsCounted, Stays};
+ghost use Rattle.rq_disk.specs.Device.{Images, PageAsk, LogAsk, Leaves, Holds, Written, NoMore, Appended, CutOff, IsCutBetween, Only, Elapses, ElapsesThrough, FailureIsCounted, Stays};
 ghost use Rattle.rq_disk.specs.Records.{AreRecords};
 
 use thiserror::Error;
@@ -41,12 +41,9 @@ pub trait PageDevice {
     /// How often a call has failed, modulo 2^64.
     ghost faults: { Self → ℕ };
 
-    /// What excuses a call that has erred, by the device before and after it. An implementation that leaves this out may
-    /// err for no reason.
-    ghost excuse: { Self → Self → Type 0 } = { λ _ _. Unit {0} };
-
-    /// It has no such page.
-    ghost outside: { Self → ℕ → Type 0 } = { λ _ _. Unit {0} };
+    /// What excuses a call that was asked this and has erred, by the device before and after it. An implementation that
+    /// leaves this out may err for no reason.
+    ghost excuse: { PageAsk → Self → Self → Type 0 } = { λ _ _ _. Unit {0} };
 
     /// How often a call has failed, modulo 2^64. Only a call that errs counts, and it counts one.
     fn failures(&self) -> u64
@@ -66,7 +63,7 @@ pub trait PageDevice {
         ensures still { honest self.new → stopped self.old → IsErr result × stopped self.new ×
             Stays (seen self.old) (seen self.new) (Leaves (may_be self.old)) (Leaves (may_be self.new)) }
         ensures cause { FailureIsCounted (faults self.old) (faults self.new) result }
-        ensures excused { OnErr result (excuse self.old self.new ⊎ outside self.old page) };
+        ensures excused { OnErr result (excuse (PageAsk.Reads page) self.old self.new) };
 
     /// Writes a page. The image is durable only after a sync.
     fn write(&mut self, page: u32, image: &[u8; PAGE]) -> Result<(), DeviceFailed>
@@ -82,7 +79,7 @@ pub trait PageDevice {
         ensures still { honest self.new → stopped self.old → IsErr result × stopped self.new ×
             Stays (seen self.old) (seen self.new) (Leaves (may_be self.old)) (Leaves (may_be self.new)) }
         ensures cause { FailureIsCounted (faults self.old) (faults self.new) result }
-        ensures excused { OnErr result (excuse self.old self.new ⊎ outside self.old page) };
+        ensures excused { OnErr result (excuse (PageAsk.Writes page image.now) self.old self.new) };
 
     /// Makes everything written so far durable.
     fn sync(&mut self) -> Result<(), DeviceFailed>
@@ -98,7 +95,7 @@ pub trait PageDevice {
         ensures still { honest self.new → stopped self.old → IsErr result × stopped self.new ×
             Stays (seen self.old) (seen self.new) (Leaves (may_be self.old)) (Leaves (may_be self.new)) }
         ensures cause { FailureIsCounted (faults self.old) (faults self.new) result }
-        ensures excused { OnErr result (excuse self.old self.new) };
+        ensures excused { OnErr result (excuse PageAsk.Syncs self.old self.new) };
 
     /// A crash may leave what reads give.
     ghost seen_may_be: { (d : Self) (p : ℕ) → may_be d p (seen d p) };
@@ -134,12 +131,9 @@ pub trait LogDevice {
     /// How often a call has failed, modulo 2^64.
     ghost faults: { Self → ℕ };
 
-    /// What excuses a call that has erred, by the device before and after it. An implementation that leaves this out may
-    /// err for no reason.
-    ghost excuse: { Self → Self → Type 0 } = { λ _ _. Unit {0} };
-
-    /// So many bytes more would end beyond its last place.
-    ghost outside: { Self → ℕ → Type 0 } = { λ _ _. Unit {0} };
+    /// What excuses a call that was asked this and has erred, by the device before and after it. An implementation that
+    /// leaves this out may err for no reason.
+    ghost excuse: { LogAsk → Self → Self → Type 0 } = { λ _ _ _. Unit {0} };
 
     /// How often a call has failed, modulo 2^64. Only a call that errs counts, and it counts one.
     fn failures(&self) -> u64
@@ -161,7 +155,7 @@ pub trait LogDevice {
         ensures still { honest self.new → stopped self.old → IsErr result × stopped self.new ×
             Stays (seen self.old) (seen self.new) (may_leave self.old) (may_leave self.new) }
         ensures cause { FailureIsCounted (faults self.old) (faults self.new) result }
-        ensures excused { OnErr result (excuse self.old self.new) };
+        ensures excused { OnErr result (excuse (LogAsk.Reads at) self.old self.new) };
 
     /// Appends whole records. They are durable only after a force; a crash before it leaves the first few of their bytes.
     fn append(&mut self, bytes: &[u8]) -> Result<(), DeviceFailed>
@@ -176,7 +170,7 @@ pub trait LogDevice {
         ensures still { honest self.new → stopped self.old → IsErr result × stopped self.new ×
             Stays (seen self.old) (seen self.new) (may_leave self.old) (may_leave self.new) }
         ensures cause { FailureIsCounted (faults self.old) (faults self.new) result }
-        ensures excused { OnErr result (excuse self.old self.new ⊎ outside self.old (length bytes.now)) };
+        ensures excused { OnErr result (excuse (LogAsk.Appends bytes.now) self.old self.new) };
 
     /// Makes everything appended so far durable.
     fn force(&mut self) -> Result<(), DeviceFailed>
@@ -191,7 +185,7 @@ pub trait LogDevice {
         ensures still { honest self.new → stopped self.old → IsErr result × stopped self.new ×
             Stays (seen self.old) (seen self.new) (may_leave self.old) (may_leave self.new) }
         ensures cause { FailureIsCounted (faults self.old) (faults self.new) result }
-        ensures excused { OnErr result (excuse self.old self.new) };
+        ensures excused { OnErr result (excuse LogAsk.Forces self.old self.new) };
 
     /// Cuts off what is behind the first `len` bytes, and makes these durable. If these bytes were durable before, a crash in it
     /// leaves at least them.
@@ -207,7 +201,7 @@ pub trait LogDevice {
         ensures still { honest self.new → stopped self.old → IsErr result × stopped self.new ×
             Stays (seen self.old) (seen self.new) (may_leave self.old) (may_leave self.new) }
         ensures cause { FailureIsCounted (faults self.old) (faults self.new) result }
-        ensures excused { OnErr result (excuse self.old self.new) };
+        ensures excused { OnErr result (excuse (LogAsk.Cuts len) self.old self.new) };
 
     /// A crash may leave what reads give.
     ghost seen_may_be_left: { (d : Self) → may_leave d (seen d) };

@@ -31,8 +31,7 @@ pub struct FileLog<S: FileContents, F: Storage = NotedFile> {
 
 impl<S: FileContents, F: Storage> LogDevice for FileLog<S, F> {
     ghost use Rattle.std.specs.Prelude.{◌≤◌, ◌+◌, ◌^◌, true, length};
-    ghost use Rattle.rq_disk.specs.FileCalls.{HasErred};
-    ghost use Rattle.rq_disk.specs.LogFile.{log_bytes, log_may_leave, LogAgrees, LogLeftSince, log_all};
+    ghost use Rattle.rq_disk.specs.LogFile.{log_bytes, log_may_leave, LogAgrees, LogErred, LogLeftSince, log_all};
     ghost use Rattle.rq_disk.specs.Since.{since_counts_now, since_only_now};
 
     ghost seen = { λ d. log_bytes S.bytes (F.calls d.file) };
@@ -49,9 +48,7 @@ impl<S: FileContents, F: Storage> LogDevice for FileLog<S, F> {
 
     ghost faults = { λ d. d.failures };
 
-    ghost excuse = { λ old new. HasErred (F.calls old.file) (F.calls new.file) };
-
-    ghost outside = { λ d count. 2 ^ 64 ≤ d.end + count };
+    ghost excuse = { λ call old new. LogErred old.end call (F.calls old.file) (F.calls new.file) };
 
     ghost seen_may_be_left = { λ d. log_all S.bytes (F.calls d.file) };
 

@@ -29,8 +29,7 @@ pub struct FilePages<S: FileContents, F: Storage = NotedFile> {
 impl<S: FileContents, F: Storage> PageDevice for FilePages<S, F> {
     ghost use Rattle.std.specs.Prelude.{true, length};
     ghost use Rattle.rq_disk.specs.Device.{Leaves};
-    ghost use Rattle.rq_disk.specs.FileCalls.{HasErred};
-    ghost use Rattle.rq_disk.specs.PageFile.{images_now, page_may_be, PagesAgree, PagesLeftSince, page_seen};
+    ghost use Rattle.rq_disk.specs.PageFile.{images_now, page_may_be, PageErred, PagesAgree, PagesLeftSince, page_seen};
     ghost use Rattle.rq_disk.specs.Since.{since_counts_now, since_only_now};
 
     ghost seen = { λ d. images_now S.pages (F.calls d.file) };
@@ -47,9 +46,7 @@ impl<S: FileContents, F: Storage> PageDevice for FilePages<S, F> {
 
     ghost faults = { λ d. d.failures };
 
-    ghost excuse = { λ old new. HasErred (F.calls old.file) (F.calls new.file) };
-
-    ghost outside = { λ d page. d.count ≤ page };
+    ghost excuse = { λ call old new. PageErred old.count call (F.calls old.file) (F.calls new.file) };
 
     ghost seen_may_be = { λ d. page_seen S.pages (F.calls d.file) };
 

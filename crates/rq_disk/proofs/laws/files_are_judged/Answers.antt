@@ -1,6 +1,7 @@
-use Rattle.std.proofs.Common.{◌≡◌, ◌∷◌, ℕ, suc, List, take, get_or, length, refl, inl, inr, ap, arith, sym, ◌∙◌}
+use Rattle.std.proofs.Common.{◌≡◌, ◌∷◌, ℕ, suc, List, take, get_or, length, refl, true, false, inl, inr, ap, arith, sym, ◌∙◌}
 use Rattle.std.proofs.lemmas.Bool.Decides.{nat_tests}
 use Rattle.std.proofs.lemmas.List.{length-take}
+use Rattle.rq_disk.specs.FileCalls.{has_failed}
 use Rattle.rq_disk.specs.WorkedFiles.{empty}
 use Rattle.rq_disk.proofs.laws.files_are_judged.Goals as goal
 
@@ -46,8 +47,29 @@ returns c = record {
   ];
   ends = refl;
   goes_on = refl;
-  erred_behind = inl refl;
-  erred_in_it = inr (4096, refl);
-  erred_for_nothing = λ a. elim a [ inl failed ↦ cc failed | inr read ↦ (let e : 1 ≡ 2 = ap length read.1 in omega (arith, e)) ];
-  erred_for_an_earlier_one = λ a. elim a [ inl failed ↦ cc failed | inr read ↦ (let e : 1 ≡ 2 = ap length read.1 in omega (arith, e)) ];
+  erred_behind = inr (inl (refl, refl));
+  erred_in_it = inr (inr refl);
+  erred_outside = inl (omega arith, refl);
+  erred_for_nothing = λ a. elim a [
+    | inl outside ↦ omega (arith, outside.0)
+    | inr (inl over) ↦ cc over.1
+    | inr (inr own) ↦ (let e : 1 ≡ 2 = ap length own in omega (arith, e))
+  ];
+  erred_for_an_earlier_one = λ a. elim a [
+    | inl outside ↦ omega (arith, outside.0)
+    | inr (inl over) ↦ cc over.1
+    | inr (inr own) ↦ (let e : 1 ≡ 2 = ap length own in omega (arith, e))
+  ];
+  synced_for_a_read = λ a. elim a [
+    | inl over ↦ (let e : 1 ≡ 0 = ap length over.0 in omega (arith, e))
+    | inr own ↦ (let e : false ≡ true = ap has_failed own in cc e)
+  ];
+  forced_for_a_read = λ a. elim a [
+    | inl over ↦ (let e : 1 ≡ 0 = ap length over.0 in omega (arith, e))
+    | inr own ↦ (let e : false ≡ true = ap has_failed own in cc e)
+  ];
+  read_for_a_sync = λ a. elim a [
+    | inl over ↦ (let e : 1 ≡ 0 = ap length over.0 in omega (arith, e))
+    | inr own ↦ (let e : true ≡ false = ap has_failed own in cc e)
+  ];
 }

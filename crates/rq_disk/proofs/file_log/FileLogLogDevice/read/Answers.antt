@@ -36,4 +36,4 @@ pub returns-then-is_err-clause-excused : goal.returns-then-is_err-clause-excused
 returns-then-is_err-clause-excused g c =
     let calls = g.F.Storage.calls c.args.self.now.file in
     let is : g.F.Storage.calls c.fill.new.self ≡ Denied c.args.at ∷ calls = search rules in
-    inr (c.args.at, is)
+    inr is

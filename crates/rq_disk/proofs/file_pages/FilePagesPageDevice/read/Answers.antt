@@ -1,4 +1,4 @@
-use Rattle.std.proofs.Common.{◌≡◌, ◌∷◌, inl, inr, rules}
+use Rattle.std.proofs.Common.{◌≡◌, ◌∷◌, ◌*◌, ◌∙◌, ℕ, ap, inr, rules}
 use Rattle.rq_disk.specs.FileCalls.FileCall.{Gave, Denied}
 use Rattle.rq_disk.proofs.PageFiles.{denied_stays, page_time}
 use Rattle.rq_disk.proofs.file_pages.FilePagesPageDevice.read.Goals as goal
@@ -28,4 +28,5 @@ pub returns-then-is_err-clause-excused : goal.returns-then-is_err-clause-excused
 returns-then-is_err-clause-excused g c =
     let calls = g.F.Storage.calls c.args.self.now.file in
     let is : g.F.Storage.calls c.fill.new.self ≡ Denied c.place_of.result ∷ calls = search rules in
-    inl (inr (c.place_of.result, is))
+    let at : c.place_of.result ≡ c.args.page * 4096 = search rules in
+    inr (inr (is ∙ ap (λ (at : ℕ). Denied at ∷ calls) at))
