@@ -1,5 +1,5 @@
 //! Reads the records of a device, one after the other.
-ghost use Rattle.std.specs.Prelude.{◌≡◌, ◌^◌, ◌<◌, ◌∷◌, None, IfOk, IfErr, IfSome, IfNone, OnOk, OnErr, length};
+ghost use Rattle.std.specs.Prelude.{◌≡◌, ◌^◌, ◌≤◌, ◌∷◌, None, IfOk, IfErr, IfSome, IfNone, OnOk, OnErr, length};
 ghost use Rattle.std.specs.Bool.{OnTrue, OnFalse};
 ghost use Rattle.rq_log.specs.Reading.{EndsShort, IsReading, StopsFor};
 
@@ -109,7 +109,7 @@ impl<L: LogDevice> LogReader<L> {
     /// What is so of each reader, for proofs: it runs no code.
     pub fn shows_read(&self)
         ensures reading { IsReading L.LogDevice self.now }
-        ensures count { length self.now.records < 2 ^ 64 }
+        ensures count { length self.now.records ≤ 2 ^ 50 }
     {
         let _last = self.last;
     }
@@ -138,6 +138,7 @@ impl<L: LogDevice> LogReader<L> {
         ensures some { IfOk result (λ next. IfSome next (λ r. self.new.records ≡ r ∷ self.old.records)) }
         ensures none { IfOk result (λ next. IfNone next ((self.new.records ≡ self.old.records)
             × (L.honest self.new.device → EndsShort self.new.records self.new.left (L.seen self.new.first)))) }
+        ensures bound { IfOk result (λ next. IfNone next (2 ^ 50 ≤ length self.old.records → self.new.left ≡ 0)) }
         // Why nothing was.
         ensures same { OnErr result (self.new.records ≡ self.old.records) }
         ensures err { IfErr result (λ e. StopsFor L.LogDevice e self.old.records self.old.device self.new.device) }
@@ -145,7 +146,7 @@ impl<L: LogDevice> LogReader<L> {
         ensures cause { OnOk result (L.faults self.new.device ≡ L.faults self.old.device) }
         ensures first { self.new.first ≡ self.old.first }
         ensures reading { IsReading L.LogDevice self.new }
-        ensures count { length self.new.records < 2 ^ 64 }
+        ensures count { length self.new.records ≤ 2 ^ 50 }
     {
         let mut record = Record::Restart { incarnation: 0 };
         match self.next_into(&mut record) {
@@ -166,6 +167,7 @@ impl<L: LogDevice> LogReader<L> {
         ensures some { IfOk result (λ found. OnTrue found (self.new.records ≡ into.new ∷ self.old.records)) }
         ensures none { IfOk result (λ found. OnFalse found ((self.new.records ≡ self.old.records)
             × (L.honest self.new.device → EndsShort self.new.records self.new.left (L.seen self.new.first)))) }
+        ensures bound { IfOk result (λ found. OnFalse found (2 ^ 50 ≤ length self.old.records → self.new.left ≡ 0)) }
         // Why nothing was.
         ensures same { OnErr result (self.new.records ≡ self.old.records) }
         ensures err { IfErr result (λ e. StopsFor L.LogDevice e self.old.records self.old.device self.new.device) }
@@ -173,7 +175,7 @@ impl<L: LogDevice> LogReader<L> {
         ensures cause { OnOk result (L.faults self.new.device ≡ L.faults self.old.device) }
         ensures first { self.new.first ≡ self.old.first }
         ensures reading { IsReading L.LogDevice self.new }
-        ensures count { length self.new.records < 2 ^ 64 }
+        ensures count { length self.new.records ≤ 2 ^ 50 }
     {
         let found = self.read_next(into);
         self.shows_read();
@@ -186,6 +188,7 @@ impl<L: LogDevice> LogReader<L> {
         ensures some { IfOk result (λ found. OnTrue found (self.new.records ≡ into.new ∷ self.old.records)) }
         ensures none { IfOk result (λ found. OnFalse found ((self.new.records ≡ self.old.records)
             × (L.honest self.new.device → EndsShort self.new.records self.new.left (L.seen self.new.first)))) }
+        ensures bound { IfOk result (λ found. OnFalse found (2 ^ 50 ≤ length self.old.records → self.new.left ≡ 0)) }
         // Why nothing was.
         ensures same { OnErr result (self.new.records ≡ self.old.records) }
         ensures err { IfErr result (λ e. StopsFor L.LogDevice e self.old.records self.old.device self.new.device) }

@@ -69,3 +69,16 @@ invariant_of-self-in-Record g c =
     let k : KeepsRead g.L.LogDevice was.past.value s was.first.value was.last = filled g.L.LogDevice was.past.value was.first.value was.last was.stream s c.self.invariant f.left f.place f.read in
     let front : IsFront c.decode_into.new.into c.in-Record.used s.unread = subst (λ (b : List ℕ). IsFront c.decode_into.new.into c.in-Record.used b) c.unread-2.ensures c.in-Record.ensures.front in
     subst (λ (rs : List Record). KeepsRead g.L.LogDevice rs c.skip.new.self was.first.value (was.last + 1)) (sym c.push.ensures) (taken g.L.LogDevice was.past.value was.first.value was.last s c.skip.new.self c.decode_into.new.into c.in-Record.used k (let low = c.if-self-ge-LOG_LIMIT.false in omega (arith, low)) front c.skip.ensures)
+
+pub returns-then-is_empty-clause-bound : goal.returns-then-is_empty-clause-bound
+returns-then-is_empty-clause-bound g c =
+    let s = c.fill.new.self in
+    let none : s.unread ≡ [] = nil_from_length s.unread (ap length (sym c.unread.ensures) ∙ is_none (length c.unread.result.now) true c.if-is_empty.ensures refl) in
+    λ full. ap length none
+
+pub returns-in-Short-clause-bound : goal.returns-in-Short-clause-bound
+returns-in-Short-clause-bound g c =
+    let was = c.self.inside in
+    let count = c.self.invariant.count in
+    let low = c.if-self-ge-LOG_LIMIT.false in
+    rw (sym c.self.view_is) (λ full. absurd (omega (arith, full, count, low)))
