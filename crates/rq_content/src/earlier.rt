@@ -6,7 +6,7 @@ use rq_model::message::Message;
 use rq_model::record::Deed;
 use rq_model::refusal::NoMemory;
 use rq_page::directory::Directory;
-use rq_txn::{Finished, Transactions};
+use rq_txn::{Finished, ToldDeed, Transactions};
 use std::alloc::Global;
 
 /// What a directory slot says of a sender, without deeds that are not committed.
@@ -61,7 +61,17 @@ impl Earlier {
     }
 
     // Leaves a deed out, where it is of the sender.
-    fn leave_out(&mut self, sender: u32, deed: &Deed) -> Result<(), NoMemory>
+    fn leave_out(&mut self, sender: u32, deed: &ToldDeed) -> Result<(), NoMemory>
+        ensures { OnOk result (before_of self.new ≡ without_deed sender deed.now (before_of self.old)) }
+    {
+        if deed.sender() != sender {
+            return Ok(());
+        }
+        self.leave_out_whole(sender, &deed.deed())
+    }
+
+    // The same, by all that the deed says.
+    fn leave_out_whole(&mut self, sender: u32, deed: &Deed) -> Result<(), NoMemory>
         ensures { OnOk result (before_of self.new ≡ without_deed sender deed.now (before_of self.old)) }
     {
         match deed {

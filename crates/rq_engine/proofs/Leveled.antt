@@ -19,6 +19,7 @@ use Rattle.rq_page.specs.Slots.{held_for, held_in, of_cell_slot}
 use Rattle.rq_page.specs.Slots.Slot.{Free, Sender, Used}
 use Rattle.rq_views.specs.Stored.{slot_at, slots_in}
 use Rattle.rq_views.proofs.Stands.{page_of_cells}
+use Rattle.rq_views.specs.Items.{told_deed}
 use Rattle.rq_views.specs.Log.{Slots}
 use Rattle.rq_views.specs.Plans.{deed_sender, with_next, with_prev}
 use Rattle.rq_views.specs.Plans.Turn.{Did}
@@ -29,6 +30,7 @@ use Rattle.rq_level.specs.Ops.Doing.{Send, Receive, Close}
 use Rattle.rq_level.specs.Writes.{AreSlotWrites}
 use Rattle.rq_txn.specs.declared.Aim.TheVariants as aims
 use Rattle.rq_txn.specs.Rows.{latched_in}
+use Rattle.rq_txn.specs.Told.{IsTold}
 use Rattle.rq_store.specs.Plans.{IsSendPlan, IsTakePlan}
 use Rattle.rq_store.specs.State.{State}
 use Rattle.rq_sound.specs.Groups.{slots_now}
@@ -78,6 +80,12 @@ some_doing a b e = cc
 
 some_deed : (a b : Deed) → Some a ≡ Some b → a ≡ b
 some_deed a b e = cc
+
+-- bytes that are a deed's spelling, and are read as it
+pub told_by : (bytes : List ℕ) (d : Deed) → bytes ≡ spelled_deed d → deed_in bytes ≡ Some d → IsTold bytes
+told_by bytes d spelled reads =
+    let is : told_deed (deed_in bytes) ≡ d = ap told_deed reads in
+    record { reads = reads ∙ ap (λ (e : Deed). Some e) (sym is); spelled = ap spelled_deed is ∙ sym spelled }
 
 module _ (s : State) (d : Doing) (p : Plan) (h : IsPlanOf (known_part s) d p) where
   pub plan_few : length p.writes.items ≤ 3

@@ -8,8 +8,7 @@ ghost use Rattle.rq_views.specs.Claims.{appends_of};
 ghost use Rattle.rq_engine.specs.Moves.{with_sends, with_taken, with_tags, without_taken};
 
 use rq_groups::{Sent, Waiting};
-use rq_model::record::Deed;
-use rq_txn::Finished;
+use rq_txn::{Finished, Gist, ToldDeed};
 
 /// Has the messages wait that these operations sent.
 pub(crate) fn add_sends(waiting: &mut Waiting, finished: &[Finished])
@@ -17,8 +16,8 @@ pub(crate) fn add_sends(waiting: &mut Waiting, finished: &[Finished])
     ensures { waiting.new ≡ with_sends finished.now waiting.old }
 {
     for done in finished {
-        if let Deed::Append { sender, .. } = &done.deed {
-            waiting.add(*sender, 1);
+        if let Gist::Append { sender, .. } = done.deed.gist() {
+            waiting.add(sender, 1);
         }
     }
 }
@@ -29,8 +28,8 @@ pub(crate) fn count_sends(sent: &mut Sent, finished: &[Finished])
     ensures { sent.new ≡ with_tags finished.now sent.old }
 {
     for done in finished {
-        if let Deed::Append { sender, tag, .. } = &done.deed {
-            sent.add(*sender, *tag);
+        if let Gist::Append { sender, tag } = done.deed.gist() {
+            sent.add(sender, tag);
         }
     }
 }
@@ -41,7 +40,7 @@ pub(crate) fn count_takes(finished: &[Finished]) -> u64
 {
     let mut taken: u64 = 0;
     for done in finished {
-        if let Deed::UnlinkHead { .. } = &done.deed {
+        if let Gist::UnlinkHead { .. } = done.deed.gist() {
             taken += 1;
         }
     }
@@ -49,33 +48,33 @@ pub(crate) fn count_takes(finished: &[Finished]) -> u64
 }
 
 /// Has a message wait again whose taking is undone.
-pub(crate) fn put_in_taken(waiting: &mut Waiting, deed: &Deed)
+pub(crate) fn put_in_taken(waiting: &mut Waiting, deed: &ToldDeed)
     requires room { (s : ℕ) → waits waiting.old s + 1 < 2 ^ 64 }
     ensures { waiting.new ≡ with_taken deed.now waiting.old }
 {
-    match deed {
-        Deed::Append { .. } => {}
-        Deed::UnlinkHead { sender, .. } => waiting.add(*sender, 1),
-        Deed::Close { .. } => {}
+    match deed.gist() {
+        Gist::Append { .. } => {}
+        Gist::UnlinkHead { sender } => waiting.add(sender, 1),
+        Gist::Close { .. } => {}
     }
 }
 
 /// How many cells are free again where an operation is undone: that of what it sent.
-pub(crate) fn cells_given_back(deed: &Deed) -> u64
+pub(crate) fn cells_given_back(deed: &ToldDeed) -> u64
     ensures { result ≡ appends_of deed.now }
 {
-    match deed {
-        Deed::Append { .. } => 1,
-        Deed::UnlinkHead { .. } => 0,
-        Deed::Close { .. } => 0,
+    match deed.gist() {
+        Gist::Append { .. } => 1,
+        Gist::UnlinkHead { .. } => 0,
+        Gist::Close { .. } => 0,
     }
 }
 
 /// Has a message wait no more that the operation took.
-pub(crate) fn leave_out_taken(waiting: &mut Waiting, deed: &Deed)
+pub(crate) fn leave_out_taken(waiting: &mut Waiting, deed: &ToldDeed)
     ensures { waiting.new ≡ without_taken deed.now waiting.old }
 {
-    if let Deed::UnlinkHead { sender, .. } = deed {
-        waiting.take(*sender);
+    if let Gist::UnlinkHead { sender } = deed.gist() {
+        waiting.take(sender);
     }
 }

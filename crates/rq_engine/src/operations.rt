@@ -24,8 +24,8 @@ use rq_model::message::Message;
 use rq_model::record::{Deed, Record};
 use rq_model::refusal::Refusal;
 use rq_model::txn::{Lsn, Sub};
-use rq_record::{encode_deed, shows_size};
-use rq_txn::{Aim, Finished, Operation};
+use rq_record::shows_size;
+use rq_txn::{Aim, Finished, Gist, Operation, ToldDeed};
 
 /// The level of the chain operations.
 pub(crate) const CHAIN_LEVEL: u8 = 1;
@@ -68,14 +68,16 @@ impl<P: PageDevice, L: LogDevice, B: Level> Engine<P, L, B> {
         ensures failed { (result ≡ Err Refusal.Failed) ↔ (self.old.state.failed ≡ true) }
     {
         match self.ready_aim(sub) {
-            Ok(Aim::Doing(deed)) => {
-                self.end(sub, &deed);
-                Ok(done(&deed))
-            }
-            Ok(Aim::Undoing { lsn, deed }) => {
-                self.end_undo(sub, lsn, &deed);
-                Ok(Outcome::Undone)
-            }
+            Ok(aim) => match &aim {
+                Aim::Doing(deed) => {
+                    self.end(sub, deed);
+                    Ok(done(deed))
+                }
+                Aim::Undoing { lsn, deed } => {
+                    self.end_undo(sub, *lsn, deed);
+                    Ok(Outcome::Undone)
+                }
+            },
             Err(refusal) => Err(refusal),
         }
     }
@@ -149,7 +151,7 @@ impl<P: PageDevice, L: LogDevice, B: Level> Engine<P, L, B> {
     }
 
     // Ends a deed, with its record.
-    fn end(&mut self, sub: Sub, deed: &Deed)
+    fn end(&mut self, sub: Sub, deed: &ToldDeed)
         requires running { self.old.state.failed ≡ false }
         requires ready { IsUnderWay self.old.state sub (λ r u. (length u.writes ≤ u.made) × (u.aim ≡ Aim.Doing deed.now)) }
         ensures ended { self.new.state ≡ record self.old.state {
@@ -165,7 +167,7 @@ impl<P: PageDevice, L: LogDevice, B: Level> Engine<P, L, B> {
             txn: sub.txn,
             operation: sub.number,
             level: CHAIN_LEVEL,
-            deed: encode_deed(deed),
+            deed: *deed.bytes(),
         };
         shows_size(&record);
         let lsn = self.log.append(&record);
@@ -176,7 +178,7 @@ impl<P: PageDevice, L: LogDevice, B: Level> Engine<P, L, B> {
     }
 
     // Ends an inverse, with its record.
-    fn end_undo(&mut self, sub: Sub, lsn: Lsn, deed: &Deed)
+    fn end_undo(&mut self, sub: Sub, lsn: Lsn, deed: &ToldDeed)
         requires running { self.old.state.failed ≡ false }
         requires ready { IsUnderWay self.old.state sub
             (λ r u. (length u.writes ≤ u.made) × (u.aim ≡ Aim.Undoing lsn deed.now)) }
@@ -204,7 +206,19 @@ impl<P: PageDevice, L: LogDevice, B: Level> Engine<P, L, B> {
 }
 
 // What the end of a deed answers: the reply of its plan.
-fn done(deed: &Deed) -> Outcome
+fn done(deed: &ToldDeed) -> Outcome
+    ensures reply { result ≡ answer_of deed.now }
+    ensures gave { outcome_of result ≡ gave_done deed.now }
+{
+    match deed.gist() {
+        Gist::Append { .. } => Outcome::Sent,
+        Gist::UnlinkHead { .. } => outcome_of(&deed.deed()),
+        Gist::Close { .. } => Outcome::Closed,
+    }
+}
+
+// The same, by all that the deed says.
+fn outcome_of(deed: &Deed) -> Outcome
     ensures reply { result ≡ answer_of deed.now }
     ensures gave { outcome_of result ≡ gave_done deed.now }
 {

@@ -1,7 +1,8 @@
 //! Plans of operations, by the level.
-ghost use Rattle.std.specs.Prelude.{◌≡◌, ◌≢◌, ◌+◌, ◌*◌, ◌≤◌, IfOk, IfErr, IfSome, IfNone, IsSome, None, Some, false, length};
+ghost use Rattle.std.specs.Prelude.{◌≡◌, ◌≢◌, ◌+◌, ◌*◌, ◌≤◌, IfOk, IfErr, IfSome, IfNone, None, Some, false, length};
 ghost use Rattle.rq_model.specs.Deeds.{deed_in};
 ghost use Rattle.rq_level.specs.Ops.{Doing};
+ghost use Rattle.rq_txn.specs.Told.{IsTold};
 ghost use Rattle.rq_sound.specs.Sound.{IsSound};
 ghost use Rattle.rq_planner.specs.Answered.{IsHeldUp, IsPlanned, MayBeAsked};
 ghost use Rattle.rq_planner.specs.Asked.{Do, IsOfStore, asked_back, asked_by};
@@ -11,16 +12,17 @@ use crate::engine::Engine;
 use crate::operations::CHAIN_LEVEL;
 use rq_disk::{LogDevice, PageDevice};
 use rq_level::{Level, Op, Plan, SlotWrite};
-use rq_model::record::{Deed, DeedBytes};
+use rq_model::record::DeedBytes;
 use rq_model::refusal::Refusal;
-use rq_record::{OP_END_BYTES, PAGE_OP_BYTES, decode_deed};
+use rq_record::{OP_END_BYTES, PAGE_OP_BYTES};
+use rq_txn::ToldDeed;
 
 /// What is planned of an operation that is to be done: its slot writes in order, the deed that its end tells, and how many
 /// bytes its records take in the log.
 #[derive(Drop)]
 pub(crate) struct Planned {
     pub(crate) writes: Vec<SlotWrite>,
-    pub(crate) deed: Deed,
+    pub(crate) deed: ToldDeed,
     pub(crate) room: usize,
 }
 
@@ -76,10 +78,10 @@ impl<P: PageDevice, L: LogDevice, B: Level> Engine<P, L, B> {
     }
 }
 
-// A plan with the deed that its bytes tell. The level alone reads and writes these; the engine counts by the deed.
+// A plan as it is kept until its operation ends: with the bytes of its deed, by which the engine counts.
 fn with_deed(plan: Plan) -> Planned
     requires few { length plan.writes.items ≤ 3 }
-    requires told { IsSome (deed_in plan.deed) }
+    requires told { IsTold plan.deed }
     ensures writes { result.writes ≡ plan.writes }
     ensures deed { deed_in plan.deed ≡ Some result.deed }
     ensures room { result.room ≡ length plan.writes.items * 546 + (30 + length plan.deed) }
@@ -90,11 +92,10 @@ fn with_deed(plan: Plan) -> Planned
         deed,
         reply: _,
     } = plan;
-    let told = deed.as_slice();
-    let end = OP_END_BYTES + told.len();
+    let end = OP_END_BYTES + deed.as_slice().len();
     Planned {
         room: writes.len() * PAGE_OP_BYTES + end,
         writes,
-        deed: decode_deed(told).unwrap(),
+        deed: ToldDeed::new(deed),
     }
 }

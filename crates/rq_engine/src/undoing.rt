@@ -23,20 +23,20 @@ use crate::engine::Engine;
 use crate::starts::{CHAIN_RECORDS, CLOSE_RECORDS};
 use rq_disk::{LogDevice, PageDevice};
 use rq_level::{Level, SlotWrite};
-use rq_model::record::{Deed, Record};
+use rq_model::record::Record;
 use rq_model::refusal::Refusal;
 use rq_model::txn::{Sub, Txn};
-use rq_record::{PAGE_OP_BYTES, encode_deed, shows_size, spelled_len};
-use rq_txn::{Aim, Finished, Operation};
+use rq_record::{PAGE_OP_BYTES, shows_size, spelled_len};
+use rq_txn::{Aim, Finished, Gist, Operation, ToldDeed};
 
 /// What the inverse of an operation is counted as where it starts.
-fn undo_records(deed: &Deed) -> u64
+fn undo_records(deed: &ToldDeed) -> u64
     ensures { result ≡ undo_cost (Some (op_of (said deed.now))) }
 {
-    match deed {
-        Deed::Append { .. } => CHAIN_RECORDS,
-        Deed::UnlinkHead { .. } => CHAIN_RECORDS,
-        Deed::Close { .. } => CLOSE_RECORDS,
+    match deed.gist() {
+        Gist::Append { .. } => CHAIN_RECORDS,
+        Gist::UnlinkHead { .. } => CHAIN_RECORDS,
+        Gist::Close { .. } => CLOSE_RECORDS,
     }
 }
 
@@ -136,7 +136,7 @@ impl<P: PageDevice, L: LogDevice, B: Level> Engine<P, L, B> {
         ensures refused { IsSound self.old.state → IsNewestDeed self.old.state done.now.deed
             → IfErr result (λ r. r ≡ Refusal.NoMemory) }
     {
-        match self.plan_inverse(&encode_deed(&done.deed)) {
+        match self.plan_inverse(done.deed.bytes()) {
             Ok(Some(plan)) => Ok(Some(plan.writes)),
             Ok(None) => Ok(None),
             Err(refusal) => Err(refusal),

@@ -1,11 +1,10 @@
 //! The transactions that have not ended.
 #![tactic(auto)]
 
-ghost use Rattle.std.specs.Prelude.{◌<◌, ◌≤◌, IsSome, vec_capacity, vec_len};
+ghost use Rattle.std.specs.Prelude.{◌≡◌, ◌<◌, ◌≤◌, IsSome, OnOk, vec_capacity, vec_len};
 
 use rq_level::{PageSet, SlotWrite};
 use rq_model::limits::TRANSACTION_LIMIT;
-use rq_model::record::Deed;
 use rq_model::refusal::NoMemory;
 use rq_model::txn::{Lsn, Txn};
 use slab::Slab;
@@ -17,6 +16,9 @@ use tally::Tally;
 mod counts;
 mod table;
 mod tally;
+mod told;
+
+pub use told::{Gist, ToldDeed};
 
 /// An operation that is finished and not undone.
 #[derive(Clone, Copy)]
@@ -24,16 +26,16 @@ pub struct Finished {
     /// The LSN of its OpEnd.
     pub lsn: Lsn,
     /// What that says was done.
-    pub deed: Deed,
+    pub deed: ToldDeed,
 }
 
 /// What an operation under way is for.
 #[derive(Clone, Copy)]
 pub enum Aim {
     /// A deed.
-    Doing(Deed),
+    Doing(ToldDeed),
     /// To take back what the finished operation did whose OpEnd has this LSN.
-    Undoing { lsn: Lsn, deed: Deed },
+    Undoing { lsn: Lsn, deed: ToldDeed },
 }
 
 /// An operation under way.
@@ -83,9 +85,7 @@ impl Transaction {
         ensures err { OnErr result (row_of self.new ≡ row_of self.old) }
         ensures same { OnErr result (Latches [] tally.old tally.new) }
     {
-        if self.finished.try_reserve(1).is_err() {
-            return Err(NoMemory);
-        }
+        make_room(&mut self.finished)?;
         tally.reserve(&operation.writes)?;
         tally.add(&operation.writes);
         self.number = operation.number;
@@ -137,6 +137,23 @@ impl Transaction {
     {
         let _ = self.finished.pop();
         tally.release(self.under_way.take());
+    }
+}
+
+// Takes the memory for one more. That for the first is no more than it needs: most transactions finish only one.
+fn make_room(finished: &mut Vec<Finished>) -> Result<(), NoMemory>
+    ensures items { finished.new.items ≡ finished.old.items }
+    ensures room { OnOk result (vec_len finished.new < vec_capacity finished.new) }
+    ensures kept { vec_len finished.old < vec_capacity finished.old → vec_len finished.new < vec_capacity finished.new }
+{
+    let taken = if finished.is_empty() {
+        finished.try_reserve_exact(1)
+    } else {
+        finished.try_reserve(1)
+    };
+    match taken {
+        Ok(()) => Ok(()),
+        Err(_) => Err(NoMemory),
     }
 }
 

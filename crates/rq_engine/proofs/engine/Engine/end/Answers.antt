@@ -11,14 +11,18 @@ pub append-lsn-requires-clause-record : goal.append-lsn-requires-clause-record
 append-lsn-requires-clause-record g c =
     let h = subst (λ (s : State). IsUnderWay s c.args.sub (AllMade (Doing c.args.deed.now))) (sym (state_is c.self.view_is)) c.requires.ready in
     let r = going_range _ _ _ _ c.self.invariant.kept c.args.sub (AllMade (Doing c.args.deed.now)) h in
-    (r.0, r.1, omega arith, c.encode_deed.ensures.size.0, c.encode_deed.ensures.size.1)
+    let f = end_fits _ _ _ _ c.self.invariant.kept c.args.sub (Doing c.args.deed.now) h in
+    let low = f.0 in
+    let high = f.1 in
+    let d : length c.bytes.result.now ≡ length (spelled_deed c.args.deed.now) = ap length c.bytes.ensures.spelled in
+    (r.0, r.1, omega arith, omega (arith, low, d), omega (arith, high, d))
 
 pub append-lsn-requires-clause-room : goal.append-lsn-requires-clause-room
 append-lsn-requires-clause-room g c =
     let h = subst (λ (s : State). IsUnderWay s c.args.sub (AllMade (Doing c.args.deed.now))) (sym (state_is c.self.view_is)) c.requires.ready in
     let r = end_room _ _ _ _ c.self.invariant.kept c.args.sub (Doing c.args.deed.now) h in
     let e = c.shows_size.ensures in
-    let d : length c.encode_deed.result ≡ length (spelled_deed c.args.deed.now) = ap length c.encode_deed.ensures.spelled in
+    let d : length c.bytes.result.now ≡ length (spelled_deed c.args.deed.now) = ap length c.bytes.ensures.spelled in
     omega (arith, r, e, d)
 
 pub overflow_sub-self : goal.overflow_sub-self
@@ -29,7 +33,7 @@ overflow_sub-self g c =
 pub invariant_of-self : goal.invariant_of-self
 invariant_of-self g c =
     let h = subst (λ (s : State). IsUnderWay s c.args.sub (AllMade (Doing c.args.deed.now))) (sym (state_is c.self.view_is)) c.requires.ready in
-    let d : length c.encode_deed.result ≡ length (spelled_deed c.args.deed.now) = ap length c.encode_deed.ensures.spelled in
+    let d : length c.bytes.result.now ≡ length (spelled_deed c.args.deed.now) = ap length c.bytes.ensures.spelled in
     let room : c.append-lsn.new.self.reserved + (30 + length (spelled_deed c.args.deed.now)) ≡ c.self.inside.log.reserved = (let a = c.append-lsn.ensures.reserved in let b = c.shows_size.ensures in omega (arith, a, b, d)) in
     let failed : c.self.inside.log.failed ≡ c.append-lsn.new.self.failed = c.self.invariant.kept.fails (ap (λ (s : State). s.failed) (state_is c.self.view_is) ∙ c.requires.running) ∙ sym c.append-lsn.ensures.failed in
     record {

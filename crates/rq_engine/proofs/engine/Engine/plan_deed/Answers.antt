@@ -8,7 +8,7 @@ use Rattle.rq_planner.specs.Asked.Asked.{Do}
 use Rattle.rq_planner.proofs.Replies.{some_is}
 use Rattle.rq_planner.proofs.Options.{some_told}
 use Rattle.rq_engine.specs.Plans.{known_part}
-use Rattle.rq_engine.proofs.Leveled.{deed_plan, plan_few, some_doing}
+use Rattle.rq_engine.proofs.Leveled.{deed_plan, plan_few, some_doing, told_by}
 use Rattle.rq_engine.proofs.engine.Engine.plan_deed.Goals as goal
 
 pub plan_op-requires-clause-asked : goal.plan_op-requires-clause-asked
@@ -20,7 +20,7 @@ with_deed-requires-clause-told g c =
     let s = c.args.self.now.state in
     let d = c.requires.asked.doing in
     let p : IsPlanOf (known_part s) d c.in-Ok-Some.plan = some_told (λ (p : Plan). (a : Asked) → asked_by c.args.op.now ≡ Some a → IsPlanFor (known_part s) a p) c.in-Ok-Some.field-0 _ c.in-Ok-Some.field-0-is c.in-Ok-Some.ensures.planned.plan (Do d) c.requires.asked.is in
-    rw p.reads refl
+    told_by c.in-Ok-Some.plan.deed p.deed p.told p.reads
 
 pub with_deed-requires-clause-few : goal.with_deed-requires-clause-few
 with_deed-requires-clause-few g c =
