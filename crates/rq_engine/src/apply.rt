@@ -21,6 +21,16 @@ use rq_level::Level;
 use rq_model::refusal::Refusal;
 use rq_model::txn::Sub;
 
+// The reply to a call: what it gave, or why it was refused.
+macro_rules! reply {
+    ($answered:expr, $given:pat => $reply:expr) => {
+        match $answered {
+            Ok($given) => $reply,
+            Err(refusal) => Reply::Refused(refusal),
+        }
+    };
+}
+
 impl<P: PageDevice, L: LogDevice, B: Level> Engine<P, L, B> {
     /// The committed content of each sender's group, by rising number.
     ///
@@ -85,72 +95,36 @@ impl<P: PageDevice, L: LogDevice, B: Level> Engine<P, L, B> {
     {
         self.shows_kept();
         match event {
-            Event::Begin => match self.begin() {
-                Ok(txn) => Reply::Begun(txn),
-                Err(refusal) => Reply::Refused(refusal),
-            },
+            Event::Begin => reply!(self.begin(), txn => Reply::Begun(txn)),
             Event::StartSend {
                 txn,
                 sender,
                 tag,
                 body,
-            } => match self.start_send(*txn, *sender, *tag, body) {
-                Ok(sub) => Reply::Started(sub),
-                Err(refusal) => Reply::Refused(refusal),
-            },
+            } => reply!(self.start_send(*txn, *sender, *tag, body), sub => Reply::Started(sub)),
             Event::StartReceive(txn) => receive_reply(self.start_receive(*txn)),
             Event::StartReceiveFrom { txn, sender } => {
                 receive_reply(self.start_receive_from(*txn, *sender))
             }
-            Event::StartClose { txn, sender } => match self.start_close(*txn, *sender) {
-                Ok(sub) => Reply::Started(sub),
-                Err(refusal) => Reply::Refused(refusal),
-            },
-            Event::Step(sub) => match self.step(*sub) {
-                Ok(progress) => Reply::Stepped(progress),
-                Err(refusal) => Reply::Refused(refusal),
-            },
-            Event::Finish(sub) => match self.finish(*sub) {
-                Ok(outcome) => Reply::Finished(outcome),
-                Err(refusal) => Reply::Refused(refusal),
-            },
-            Event::Commit(txn) => match self.commit(*txn) {
-                Ok(number) => Reply::Committed(number),
-                Err(refusal) => Reply::Refused(refusal),
-            },
-            Event::StartAbort(txn) => match self.start_abort(*txn) {
-                Ok(()) => Reply::Aborting,
-                Err(refusal) => Reply::Refused(refusal),
-            },
+            Event::StartClose { txn, sender } => {
+                reply!(self.start_close(*txn, *sender), sub => Reply::Started(sub))
+            }
+            Event::Step(sub) => reply!(self.step(*sub), progress => Reply::Stepped(progress)),
+            Event::Finish(sub) => reply!(self.finish(*sub), outcome => Reply::Finished(outcome)),
+            Event::Commit(txn) => reply!(self.commit(*txn), number => Reply::Committed(number)),
+            Event::StartAbort(txn) => reply!(self.start_abort(*txn), () => Reply::Aborting),
             Event::UndoNext(txn) => undoing(self.undo_next(*txn)),
-            Event::EndAbort(txn) => match self.end_abort(*txn) {
-                Ok(()) => Reply::Aborted,
-                Err(refusal) => Reply::Refused(refusal),
-            },
-            Event::Acknowledged(number) => match self.acknowledged(*number) {
-                Ok(given) => Reply::Acknowledged(given),
-                Err(refusal) => Reply::Refused(refusal),
-            },
-            Event::HandOver => match self.hand_over() {
-                Ok(()) => Reply::HandedOver,
-                Err(refusal) => Reply::Refused(refusal),
-            },
-            Event::Force => match self.force() {
-                Ok(lsn) => Reply::Forced(lsn),
-                Err(refusal) => Reply::Refused(refusal),
-            },
-            Event::WritePage(page) => match self.write_page(*page) {
-                Ok(written) => Reply::Written(written),
-                Err(refusal) => Reply::Refused(refusal),
-            },
-            Event::LastTag(sender) => match self.last_tag(*sender) {
-                Ok(last) => Reply::LastTag(last),
-                Err(refusal) => Reply::Refused(refusal),
-            },
-            Event::Content => match self.content() {
-                Ok(groups) => Reply::Content(groups),
-                Err(refusal) => Reply::Refused(refusal),
-            },
+            Event::EndAbort(txn) => reply!(self.end_abort(*txn), () => Reply::Aborted),
+            Event::Acknowledged(number) => {
+                reply!(self.acknowledged(*number), given => Reply::Acknowledged(given))
+            }
+            Event::HandOver => reply!(self.hand_over(), () => Reply::HandedOver),
+            Event::Force => reply!(self.force(), lsn => Reply::Forced(lsn)),
+            Event::WritePage(page) => {
+                reply!(self.write_page(*page), written => Reply::Written(written))
+            }
+            Event::LastTag(sender) => reply!(self.last_tag(*sender), last => Reply::LastTag(last)),
+            Event::Content => reply!(self.content(), groups => Reply::Content(groups)),
         }
     }
 }
