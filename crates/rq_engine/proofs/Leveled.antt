@@ -126,9 +126,8 @@ module _ (s : State) (d : Doing) (p : Plan) (h : IsPlanOf (known_part s) d p) wh
 pub chain_asked : (job : Job) (d : Doing) → job ≡ chain_job d → doing_in job.bytes ≡ Some d → asked_by job ≡ Some (Do d)
 chain_asked job d is told = ap (λ (j : Job). asked_in j.undo job.bytes) is ∙ ap to_do told
 
-pub send_asked : (job : Job) (g tag : ℕ) (slice body : List ℕ) → slice ≡ body → length body ≤ 216 → job ≡ chain_job (Send g tag slice) → (length slice ≤ 216 → doing_in job.bytes ≡ Some (Send g tag slice)) → asked_by job ≡ Some (Do (Send g tag body))
-send_asked job g tag slice body same short is told =
-    chain_asked job (Send g tag slice) is (told (subst (λ (b : List ℕ). length b ≤ 216) (sym same) short)) ∙ ap (λ (b : List ℕ). Some (Do (Send g tag b))) same
+pub send_asked : (job : Job) (g tag : ℕ) (body : List ℕ) → length body ≤ 216 → job ≡ chain_job (Send g tag body) → (length body ≤ 216 → doing_in job.bytes ≡ Some (Send g tag body)) → asked_by job ≡ Some (Do (Send g tag body))
+send_asked job g tag body short is told = chain_asked job (Send g tag body) is (told short)
 
 pub on_plan : {X E : Type 0} (P Q : X → Type 0) (r : Result (Option X) E) → ((x : X) → P x → Q x) → IfOk r (λ o. IfSome o P) → IfOk r (λ o. IfSome o Q)
 on_plan P Q (Ok (Some x)) f h = f x h

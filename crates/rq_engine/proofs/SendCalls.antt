@@ -121,14 +121,13 @@ pub send_refused : (s : State) (t : Txn) (g tag : ℕ) (body : List ℕ) → (Is
 send_refused s t g tag body may room latched k = (refused_steps s k (Start_send t (message_of g tag body)) why.Latched (may k, refl) refl, send_busy s k g room latched)
 
 -- a send that has started
-pub send_done : (s new : State) (t : Txn) (n e tag : ℕ) (body b : List ℕ) (plan : Planned) → HasNothingUnderWay s t n → NoneHolds (ready_tests (ledger_of s) t false) → AreUnlatched s plan.writes.items → b ≡ body
-    → IsSendPlan s.sizes (slots_in s.sizes s.images) (under_plan n plan) e tag b → is_free_for t e s.ends.sending ≡ true → s.cells_in_use < cell_count s.sizes → (IsSound s → Passes (size_of s.sizes) (ledger_of s) (Start_send t (message_of e tag body)))
+pub send_done : (s new : State) (t : Txn) (n e tag : ℕ) (body : List ℕ) (plan : Planned) → HasNothingUnderWay s t n → NoneHolds (ready_tests (ledger_of s) t false) → AreUnlatched s plan.writes.items
+    → IsSendPlan s.sizes (slots_in s.sizes s.images) (under_plan n plan) e tag body → is_free_for t e s.ends.sending ≡ true → s.cells_in_use < cell_count s.sizes → (IsSound s → Passes (size_of s.sizes) (ledger_of s) (Start_send t (message_of e tag body)))
     → new ≡ record s { rows = change_row t (row_started (under_plan n plan)) s.rows; ends = record { sending = with_held t e s.ends.sending; receiving = s.ends.receiving }; cells_in_use = s.cells_in_use + 1 }
     → IsSound s → IsModelStep s (Start_send t (message_of e tag body)) (Gave_sub t n) new
-send_done s new t n e tag body b plan ready h off same p free room may is k =
+send_done s new t n e tag body plan ready h off p free room may is k =
     let r = found_of (λ r. (r.under ≡ None) × (n ≡ r.number + 1)) (found_row t s.rows) ready in
-    let planned = subst (λ (x : List ℕ). IsSendPlan s.sizes (slots_in s.sizes s.images) (under_plan n plan) e tag x) same p in
-    let a = start_steps s k t r.0 (under_plan n plan) e tag body r.1 r.2.0 off r.2.1 planned (may k) in
+    let a = start_steps s k t r.0 (under_plan n plan) e tag body r.1 r.2.0 off r.2.1 p (may k) in
     let c = subst (λ (m : ℕ). IsModelStep s (Start_send t (message_of e tag body)) (Gave_sub t m) (record s { rows = change_row t (row_started (under_plan n plan)) s.rows; ends = record { sending = with_held t e s.ends.sending; receiving = s.ends.receiving }; cells_in_use = s.cells_in_use + 1 })) (sym r.2.1) a in
     subst (λ (x : State). IsModelStep s (Start_send t (message_of e tag body)) (Gave_sub t n) x) (sym is) c
 

@@ -1,5 +1,5 @@
 //! Sends.
-ghost use Rattle.std.specs.Prelude.{◌≡◌, ◌≢◌, ◌↔◌, Err, ◌<◌, ◌^◌, IfOk, IfErr, IfSome, IfNone, None, OnOk, OnErr, ℕ, Some, true, false};
+ghost use Rattle.std.specs.Prelude.{◌≡◌, ◌≢◌, ◌↔◌, Err, ◌<◌, ◌≤◌, ◌^◌, IfOk, IfErr, IfSome, IfNone, None, OnOk, OnErr, ℕ, Some, true, false, length};
 ghost use Rattle.rq_model.specs.History.Call.{Start_send};
 ghost use Rattle.rq_model.specs.Replay.Reply.{Gave_sub};
 ghost use Rattle.rq_model.specs.Tests.{NoneHolds, Passes, log_full, ready_tests};
@@ -23,7 +23,7 @@ use crate::starts::CHAIN_RECORDS;
 use rq_disk::{LogDevice, PageDevice};
 use rq_groups::End;
 use rq_level::{Level, Op};
-use rq_model::message::Body;
+use rq_model::message::BODY_LIMIT;
 use rq_model::refusal::Refusal;
 use rq_model::txn::{Sub, Txn};
 
@@ -54,7 +54,7 @@ impl<P: PageDevice, L: LogDevice, B: Level> Engine<P, L, B> {
         ensures failed { (result ≡ Err Refusal.Failed) ↔ (self.old.state.failed ≡ true) }
     {
         let number = self.check_open(txn)?;
-        let body = self.check_send(txn, sender, tag, body)?;
+        self.check_send(txn, sender, tag, body)?;
         match self.plan_send(sender, tag, body)? {
             None => Err(Refusal::Latched),
             Some(plan) => match self.start(txn, number, End::Sending(sender), plan) {
@@ -68,7 +68,7 @@ impl<P: PageDevice, L: LogDevice, B: Level> Engine<P, L, B> {
     }
 
     // The tests of a send behind those of its transaction.
-    fn check_send(&self, txn: Txn, sender: u32, tag: u64, body: &[u8]) -> Result<Body, Refusal>
+    fn check_send(&self, txn: Txn, sender: u32, tag: u64, body: &[u8]) -> Result<(), Refusal>
         // Why it is refused, and that the model's tests are passed.
         ensures refused { NoneHolds (ready_tests (ledger_of self.now.state) txn false)
             → IfErr result (λ r. Refuses self.now.state
@@ -79,7 +79,7 @@ impl<P: PageDevice, L: LogDevice, B: Level> Engine<P, L, B> {
         // What was tested.
         ensures plain { IfErr result (λ r. r ≢ Refusal.Failed) }
         ensures unlatched { IfErr result (λ r. OnLatched ⊥ r) }
-        ensures body { IfOk result (λ b. b ≡ body.now) }
+        ensures short { OnOk result (length body.now ≤ 216) }
         ensures sender { OnOk result (sender < sender_count self.now.state.sizes) }
         ensures free { OnOk result (is_free_for txn sender self.now.state.ends.sending ≡ true) }
         ensures room { OnOk result (self.now.state.cells_in_use < cell_count self.now.state.sizes) }
@@ -89,9 +89,9 @@ impl<P: PageDevice, L: LogDevice, B: Level> Engine<P, L, B> {
         if sender >= self.pages.layout().senders() {
             return Err(Refusal::UnknownSender);
         }
-        let Some(body) = Body::new(body) else {
+        if body.len() > BODY_LIMIT {
             return Err(Refusal::TooLong);
-        };
+        }
         if !self.ends.may_send(txn, sender) {
             return Err(Refusal::SenderBusy);
         }
@@ -104,17 +104,18 @@ impl<P: PageDevice, L: LogDevice, B: Level> Engine<P, L, B> {
         if self.is_log_full(CHAIN_RECORDS) {
             return Err(Refusal::LogFull);
         }
-        Ok(body)
+        Ok(())
     }
 
     // The plan of a send, from the slots as they are; none where it needs a page that others have latched.
-    fn plan_send(&mut self, sender: u32, tag: u64, body: Body) -> Result<Option<Planned>, Refusal>
-        requires { sender < sender_count self.old.state.sizes }
+    fn plan_send(&mut self, sender: u32, tag: u64, body: &[u8]) -> Result<Option<Planned>, Refusal>
+        requires sender { sender < sender_count self.old.state.sizes }
+        requires short { length body.now ≤ 216 }
         ensures same { self.new ≡ self.old }
         // The plan.
         ensures plan { IfOk result (λ found. IfSome found (λ planned. (number : ℕ)
             → IsSendPlan self.old.state.sizes (slots_in self.old.state.sizes self.old.state.images)
-            (under_plan number planned) sender tag body)) }
+            (under_plan number planned) sender tag body.now)) }
         ensures lowest { IfOk result (λ found. IfSome found
             (λ planned. TakesLowest self.old.state planned.writes.items)) }
         ensures fits { IfOk result (λ found. IfSome found (λ planned. FitsPlan self.old.state.sizes planned)) }
@@ -128,7 +129,7 @@ impl<P: PageDevice, L: LogDevice, B: Level> Engine<P, L, B> {
         ensures refused { IsSound self.old.state → self.old.state.cells_in_use < cell_count self.old.state.sizes
             → IfErr result (λ r. r ≡ Refusal.NoMemory) }
     {
-        let Ok(op) = Op::send(self.alloc, sender, tag, body.as_slice()) else {
+        let Ok(op) = Op::send(self.alloc, sender, tag, body) else {
             return Err(Refusal::NoMemory);
         };
         self.plan_deed(&op)

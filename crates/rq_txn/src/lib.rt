@@ -140,13 +140,13 @@ impl Transaction {
     }
 }
 
-// Takes the memory for one more. That for the first is no more than it needs: most transactions finish only one.
+// Takes the memory for one more: for each of the first two alone, since most transactions finish no more.
 fn make_room(finished: &mut Vec<Finished>) -> Result<(), NoMemory>
     ensures items { finished.new.items ≡ finished.old.items }
     ensures room { OnOk result (vec_len finished.new < vec_capacity finished.new) }
     ensures kept { vec_len finished.old < vec_capacity finished.old → vec_len finished.new < vec_capacity finished.new }
 {
-    let taken = if finished.is_empty() {
+    let taken = if finished.len() < 2 {
         finished.try_reserve_exact(1)
     } else {
         finished.try_reserve(1)

@@ -13,7 +13,7 @@ returns-then-not-may_send-clause-refused g c h =
     let n : c.senders.result ≡ sender_count c.args.self.now.state.sizes = c.senders.ensures.number ∙ ap sender_count (c.layout.ensures.sizes ∙ ap (λ (s : State). s.sizes) (state_is c.self.view_is)) in
     let lt = c.if-sender-senders.false in
     let below : c.args.sender < sender_count c.args.self.now.state.sizes = omega (arith, n, lt) in
-    let short : length c.args.body.now ≤ 216 = c.in-Some.ensures.fits.0 refl in
+    let short : length c.args.body.now ≤ 216 = (let t = c.if-body-gt-BODY_LIMIT.false in omega (arith, t)) in
     busy c.args.self.now.state c.args.txn c.args.sender c.args.tag c.args.body.now h below short (ap (λ (s : State). is_free_for c.args.txn c.args.sender s.ends.sending) (sym (state_is c.self.view_is)) ∙ sym c.if-not-may_send.ensures)
 
 pub returns-then-group-clause-refused : goal.returns-then-group-clause-refused
@@ -21,7 +21,7 @@ returns-then-group-clause-refused g c h =
     let n : c.senders.result ≡ sender_count c.args.self.now.state.sizes = c.senders.ensures.number ∙ ap sender_count (c.layout.ensures.sizes ∙ ap (λ (s : State). s.sizes) (state_is c.self.view_is)) in
     let lt = c.if-sender-senders.false in
     let below : c.args.sender < sender_count c.args.self.now.state.sizes = omega (arith, n, lt) in
-    let short : length c.args.body.now ≤ 216 = c.in-Some.ensures.fits.0 refl in
+    let short : length c.args.body.now ≤ 216 = (let t = c.if-body-gt-BODY_LIMIT.false in omega (arith, t)) in
     let free : is_free_for c.args.txn c.args.sender c.args.self.now.state.ends.sending ≡ true = ap (λ (s : State). is_free_for c.args.txn c.args.sender s.ends.sending) (sym (state_is c.self.view_is)) ∙ sym c.if-not-may_send.ensures in
     let at : slots_in c.args.self.now.state.sizes c.args.self.now.state.images (directory_at c.args.sender) ≡ Sender c.args.sender c.group.result = ap (λ (s : State). slots_in s.sizes s.images (directory_at c.args.sender)) (sym (state_is c.self.view_is)) ∙ c.group.ensures.held in
     closed c.args.self.now.state c.args.txn c.args.sender c.args.tag c.args.body.now h below short free c.group.result at c.if-group.true
@@ -31,7 +31,7 @@ returns-then-self-from-clause-refused g c h =
     let n : c.senders.result ≡ sender_count c.args.self.now.state.sizes = c.senders.ensures.number ∙ ap sender_count (c.layout.ensures.sizes ∙ ap (λ (s : State). s.sizes) (state_is c.self.view_is)) in
     let lt = c.if-sender-senders.false in
     let below : c.args.sender < sender_count c.args.self.now.state.sizes = omega (arith, n, lt) in
-    let short : length c.args.body.now ≤ 216 = c.in-Some.ensures.fits.0 refl in
+    let short : length c.args.body.now ≤ 216 = (let t = c.if-body-gt-BODY_LIMIT.false in omega (arith, t)) in
     let free : is_free_for c.args.txn c.args.sender c.args.self.now.state.ends.sending ≡ true = ap (λ (s : State). is_free_for c.args.txn c.args.sender s.ends.sending) (sym (state_is c.self.view_is)) ∙ sym c.if-not-may_send.ensures in
     let cells : c.cell_slots.result ≡ cell_count c.args.self.now.state.sizes = c.cell_slots.ensures.number ∙ ap cell_count (c.layout-2.ensures.sizes ∙ ap (λ (s : State). s.sizes) (state_is c.self.view_is)) in
     let used : c.self.inside.cells_in_use ≡ c.args.self.now.state.cells_in_use = ap (λ (s : State). s.cells_in_use) (state_is c.self.view_is) in
@@ -44,7 +44,7 @@ returns-then-is_log_full-clause-refused g c h =
     let n : c.senders.result ≡ sender_count c.args.self.now.state.sizes = c.senders.ensures.number ∙ ap sender_count (c.layout.ensures.sizes ∙ ap (λ (s : State). s.sizes) (state_is c.self.view_is)) in
     let lt = c.if-sender-senders.false in
     let below : c.args.sender < sender_count c.args.self.now.state.sizes = omega (arith, n, lt) in
-    let short : length c.args.body.now ≤ 216 = c.in-Some.ensures.fits.0 refl in
+    let short : length c.args.body.now ≤ 216 = (let t = c.if-body-gt-BODY_LIMIT.false in omega (arith, t)) in
     let free : is_free_for c.args.txn c.args.sender c.args.self.now.state.ends.sending ≡ true = ap (λ (s : State). is_free_for c.args.txn c.args.sender s.ends.sending) (sym (state_is c.self.view_is)) ∙ sym c.if-not-may_send.ensures in
     let cells : c.cell_slots.result ≡ cell_count c.args.self.now.state.sizes = c.cell_slots.ensures.number ∙ ap cell_count (c.layout-2.ensures.sizes ∙ ap (λ (s : State). s.sizes) (state_is c.self.view_is)) in
     let used : c.self.inside.cells_in_use ≡ c.args.self.now.state.cells_in_use = ap (λ (s : State). s.cells_in_use) (state_is c.self.view_is) in
@@ -57,7 +57,7 @@ returns-clause-passes g c k h =
     let n : c.senders.result ≡ sender_count c.args.self.now.state.sizes = c.senders.ensures.number ∙ ap sender_count (c.layout.ensures.sizes ∙ ap (λ (s : State). s.sizes) (state_is c.self.view_is)) in
     let lt = c.if-sender-senders.false in
     let below : c.args.sender < sender_count c.args.self.now.state.sizes = omega (arith, n, lt) in
-    let short : length c.args.body.now ≤ 216 = c.in-Some.ensures.fits.0 refl in
+    let short : length c.args.body.now ≤ 216 = (let t = c.if-body-gt-BODY_LIMIT.false in omega (arith, t)) in
     let free : is_free_for c.args.txn c.args.sender c.args.self.now.state.ends.sending ≡ true = ap (λ (s : State). is_free_for c.args.txn c.args.sender s.ends.sending) (sym (state_is c.self.view_is)) ∙ sym c.if-not-may_send.ensures in
     let cells : c.cell_slots.result ≡ cell_count c.args.self.now.state.sizes = c.cell_slots.ensures.number ∙ ap cell_count (c.layout-2.ensures.sizes ∙ ap (λ (s : State). s.sizes) (state_is c.self.view_is)) in
     let used : c.self.inside.cells_in_use ≡ c.args.self.now.state.cells_in_use = ap (λ (s : State). s.cells_in_use) (state_is c.self.view_is) in

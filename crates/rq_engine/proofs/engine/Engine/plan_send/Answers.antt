@@ -20,59 +20,59 @@ plan_deed-requires-clause-forward g c = ap (λ (j : Job). j.undo) c.in-Ok.ensure
 
 pub plan_deed-requires-clause-asked : goal.plan_deed-requires-clause-asked
 plan_deed-requires-clause-asked g c =
-    let short : length c.args.body ≤ 216 = c.as_slice.ensures.within in
-    record { doing = Send c.args.sender c.args.tag c.args.body; is = send_asked c.in-Ok.op c.args.sender c.args.tag c.as_slice.result.now c.args.body c.as_slice.ensures.bytes short c.in-Ok.ensures.op c.in-Ok.ensures.told; inside = c.requires }
+    let short = c.requires.short in
+    record { doing = Send c.args.sender c.args.tag c.args.body.now; is = send_asked c.in-Ok.op c.args.sender c.args.tag c.args.body.now short c.in-Ok.ensures.op c.in-Ok.ensures.told; inside = c.requires.sender }
 
 pub returns-clause-plan : goal.returns-clause-plan
 returns-clause-plan g c =
     let s = c.args.self.now.state in
-    let short : length c.args.body ≤ 216 = c.as_slice.ensures.within in
-    let asked : asked_by c.in-Ok.op ≡ Some (Do (Send c.args.sender c.args.tag c.args.body)) = send_asked c.in-Ok.op c.args.sender c.args.tag c.as_slice.result.now c.args.body c.as_slice.ensures.bytes short c.in-Ok.ensures.op c.in-Ok.ensures.told in
-    on_plan (λ p. (d : Doing) → asked_by c.in-Ok.op ≡ Some (Do d) → IsDeedPlan s d p) (λ p. (number : ℕ) → IsSendPlan s.sizes (slots_in s.sizes s.images) (under_plan number p) c.args.sender c.args.tag c.args.body) c.plan_deed.result
-    (λ p h n. send_plan s c.args.sender n p c.requires c.args.tag c.args.body (h (Send c.args.sender c.args.tag c.args.body) asked)) c.plan_deed.ensures.plan
+    let short = c.requires.short in
+    let asked : asked_by c.in-Ok.op ≡ Some (Do (Send c.args.sender c.args.tag c.args.body.now)) = send_asked c.in-Ok.op c.args.sender c.args.tag c.args.body.now short c.in-Ok.ensures.op c.in-Ok.ensures.told in
+    on_plan (λ p. (d : Doing) → asked_by c.in-Ok.op ≡ Some (Do d) → IsDeedPlan s d p) (λ p. (number : ℕ) → IsSendPlan s.sizes (slots_in s.sizes s.images) (under_plan number p) c.args.sender c.args.tag c.args.body.now) c.plan_deed.result
+    (λ p h n. send_plan s c.args.sender n p c.requires.sender c.args.tag c.args.body.now (h (Send c.args.sender c.args.tag c.args.body.now) asked)) c.plan_deed.ensures.plan
 
 pub returns-clause-fits : goal.returns-clause-fits
 returns-clause-fits g c =
     let s = c.args.self.now.state in
-    let short : length c.args.body ≤ 216 = c.as_slice.ensures.within in
-    let asked : asked_by c.in-Ok.op ≡ Some (Do (Send c.args.sender c.args.tag c.args.body)) = send_asked c.in-Ok.op c.args.sender c.args.tag c.as_slice.result.now c.args.body c.as_slice.ensures.bytes short c.in-Ok.ensures.op c.in-Ok.ensures.told in
+    let short = c.requires.short in
+    let asked : asked_by c.in-Ok.op ≡ Some (Do (Send c.args.sender c.args.tag c.args.body.now)) = send_asked c.in-Ok.op c.args.sender c.args.tag c.args.body.now short c.in-Ok.ensures.op c.in-Ok.ensures.told in
     on_plan (λ p. (d : Doing) → asked_by c.in-Ok.op ≡ Some (Do d) → IsDeedPlan s d p) (λ p. FitsPlan s.sizes p) c.plan_deed.result
-    (λ p h. (h (Send c.args.sender c.args.tag c.args.body) asked).fits) c.plan_deed.ensures.plan
+    (λ p h. (h (Send c.args.sender c.args.tag c.args.body.now) asked).fits) c.plan_deed.ensures.plan
 
 pub returns-clause-lowest : goal.returns-clause-lowest
 returns-clause-lowest g c =
     let s = c.args.self.now.state in
-    let short : length c.args.body ≤ 216 = c.as_slice.ensures.within in
-    let asked : asked_by c.in-Ok.op ≡ Some (Do (Send c.args.sender c.args.tag c.args.body)) = send_asked c.in-Ok.op c.args.sender c.args.tag c.as_slice.result.now c.args.body c.as_slice.ensures.bytes short c.in-Ok.ensures.op c.in-Ok.ensures.told in
+    let short = c.requires.short in
+    let asked : asked_by c.in-Ok.op ≡ Some (Do (Send c.args.sender c.args.tag c.args.body.now)) = send_asked c.in-Ok.op c.args.sender c.args.tag c.args.body.now short c.in-Ok.ensures.op c.in-Ok.ensures.told in
     on_plan (λ p. (d : Doing) → asked_by c.in-Ok.op ≡ Some (Do d) → IsDeedPlan s d p) (λ p. TakesLowest s p.writes.items) c.plan_deed.result
-    (λ p h. (h (Send c.args.sender c.args.tag c.args.body) asked).lowest) c.plan_deed.ensures.plan
+    (λ p h. (h (Send c.args.sender c.args.tag c.args.body.now) asked).lowest) c.plan_deed.ensures.plan
 
 pub returns-clause-free : goal.returns-clause-free
 returns-clause-free g c =
     let s = c.args.self.now.state in
-    let short : length c.args.body ≤ 216 = c.as_slice.ensures.within in
-    let asked : asked_by c.in-Ok.op ≡ Some (Do (Send c.args.sender c.args.tag c.args.body)) = send_asked c.in-Ok.op c.args.sender c.args.tag c.as_slice.result.now c.args.body c.as_slice.ensures.bytes short c.in-Ok.ensures.op c.in-Ok.ensures.told in
+    let short = c.requires.short in
+    let asked : asked_by c.in-Ok.op ≡ Some (Do (Send c.args.sender c.args.tag c.args.body.now)) = send_asked c.in-Ok.op c.args.sender c.args.tag c.args.body.now short c.in-Ok.ensures.op c.in-Ok.ensures.told in
     on_plan (λ p. (d : Doing) → asked_by c.in-Ok.op ≡ Some (Do d) → IsDeedPlan s d p) (λ p. AreUnlatched s p.writes.items) c.plan_deed.result
-    (λ p h. (h (Send c.args.sender c.args.tag c.args.body) asked).free) c.plan_deed.ensures.plan
+    (λ p h. (h (Send c.args.sender c.args.tag c.args.body.now) asked).free) c.plan_deed.ensures.plan
 
 pub returns-clause-unlatched : goal.returns-clause-unlatched
 returns-clause-unlatched g c =
     let s = c.args.self.now.state in
-    let short : length c.args.body ≤ 216 = c.as_slice.ensures.within in
-    let asked : asked_by c.in-Ok.op ≡ Some (Do (Send c.args.sender c.args.tag c.args.body)) = send_asked c.in-Ok.op c.args.sender c.args.tag c.as_slice.result.now c.args.body c.as_slice.ensures.bytes short c.in-Ok.ensures.op c.in-Ok.ensures.told in
+    let short = c.requires.short in
+    let asked : asked_by c.in-Ok.op ≡ Some (Do (Send c.args.sender c.args.tag c.args.body.now)) = send_asked c.in-Ok.op c.args.sender c.args.tag c.args.body.now short c.in-Ok.ensures.op c.in-Ok.ensures.told in
     on_plan (λ p. (d : Doing) → asked_by c.in-Ok.op ≡ Some (Do d) → IsHeldUp (known_part s) (Do d) → ⊥) (λ _. SendIsLatched s c.args.sender → ⊥) c.plan_deed.result
-    (λ p h. (h (Send c.args.sender c.args.tag c.args.body) asked)) c.plan_deed.ensures.unlatched
+    (λ p h. (h (Send c.args.sender c.args.tag c.args.body.now) asked)) c.plan_deed.ensures.unlatched
 
 pub returns-clause-latched : goal.returns-clause-latched
 returns-clause-latched g c =
     let s = c.args.self.now.state in
-    let short : length c.args.body ≤ 216 = c.as_slice.ensures.within in
-    let asked : asked_by c.in-Ok.op ≡ Some (Do (Send c.args.sender c.args.tag c.args.body)) = send_asked c.in-Ok.op c.args.sender c.args.tag c.as_slice.result.now c.args.body c.as_slice.ensures.bytes short c.in-Ok.ensures.op c.in-Ok.ensures.told in
+    let short = c.requires.short in
+    let asked : asked_by c.in-Ok.op ≡ Some (Do (Send c.args.sender c.args.tag c.args.body.now)) = send_asked c.in-Ok.op c.args.sender c.args.tag c.args.body.now short c.in-Ok.ensures.op c.in-Ok.ensures.told in
     on_none ((d : Doing) → asked_by c.in-Ok.op ≡ Some (Do d) → IsHeldUp (known_part s) (Do d)) (SendIsLatched s c.args.sender) c.plan_deed.result
-    (λ h. (h (Send c.args.sender c.args.tag c.args.body) asked)) c.plan_deed.ensures.latched
+    (λ h. (h (Send c.args.sender c.args.tag c.args.body.now) asked)) c.plan_deed.ensures.latched
 
 pub returns-clause-refused : goal.returns-clause-refused
 returns-clause-refused g c k room =
-    let short : length c.args.body ≤ 216 = c.as_slice.ensures.within in
+    let short = c.requires.short in
     let count : total_of c.args.self.now.state ≤ 2 ^ 50 = subst (λ (s : State). total_of s ≤ 2 ^ 50) (state_is c.self.view_is) c.self.invariant.kept.count in
-    c.plan_deed.ensures.refused k (Send c.args.sender c.args.tag c.args.body) (send_asked c.in-Ok.op c.args.sender c.args.tag c.as_slice.result.now c.args.body c.as_slice.ensures.bytes short c.in-Ok.ensures.op c.in-Ok.ensures.told) (room, omega (arith, count))
+    c.plan_deed.ensures.refused k (Send c.args.sender c.args.tag c.args.body.now) (send_asked c.in-Ok.op c.args.sender c.args.tag c.args.body.now short c.in-Ok.ensures.op c.in-Ok.ensures.told) (room, omega (arith, count))

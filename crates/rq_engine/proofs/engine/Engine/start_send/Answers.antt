@@ -1,4 +1,4 @@
-use Rattle.std.proofs.Common.{◌≡◌, true, arith, ◌+◌, ap, sym, ◌∙◌, refl, subst, List, ℕ}
+use Rattle.std.proofs.Common.{◌≡◌, true, arith, ◌+◌, ap, sym, ◌∙◌, refl, subst, ℕ}
 use Rattle.rq_txn.specs.Rows.{change_row, row_started}
 use Rattle.rq_groups.specs.declared.End.TheVariants.{Sending}
 use Rattle.rq_groups.specs.Sides.{is_free_end, with_end}
@@ -18,21 +18,21 @@ use Rattle.rq_engine.proofs.engine.Engine.start_send.Goals as goal
 pub returns-in-Ok-clause-answered : goal.returns-in-Ok-clause-answered
 returns-in-Ok-clause-answered g c h =
     let s = c.args.self.now.state in
-    let plan = some_told (λ p. (number : ℕ) → IsSendPlan s.sizes (slots_in s.sizes s.images) (under_plan number p) c.args.sender c.args.tag c.in_ok-body.body) c.in_ok-plan_send.field-0 _ c.in-Some.is c.in_ok-plan_send.ensures.plan in
+    let plan = some_told (λ p. (number : ℕ) → IsSendPlan s.sizes (slots_in s.sizes s.images) (under_plan number p) c.args.sender c.args.tag c.args.body.now) c.in_ok-plan_send.field-0 _ c.in-Some.is c.in_ok-plan_send.ensures.plan in
     let off = some_told (λ p. AreUnlatched s p.writes.items) c.in_ok-plan_send.field-0 _ c.in-Some.is c.in_ok-plan_send.ensures.free in
-    send_done s _ c.args.txn c.in_ok-number.number c.args.sender c.args.tag c.args.body.now c.in_ok-body.body c.in-Some.plan
-    c.in_ok-number.ensures.ready c.in_ok-number.ensures.passes off c.in_ok-body.ensures.body (plan c.in_ok-number.number) c.in_ok-body.ensures.free c.in_ok-body.ensures.room
-    (λ k. c.in_ok-body.ensures.passes k c.in_ok-number.ensures.passes)
+    send_done s _ c.args.txn c.in_ok-number.number c.args.sender c.args.tag c.args.body.now c.in-Some.plan
+    c.in_ok-number.ensures.ready c.in_ok-number.ensures.passes off (plan c.in_ok-number.number) c.in_ok-check_send.ensures.free c.in_ok-check_send.ensures.room
+    (λ k. c.in_ok-check_send.ensures.passes k c.in_ok-number.ensures.passes)
     (ap (λ (x : State). record x { cells_in_use = x.cells_in_use + 1 }) ((state_is c.self.view_is) ∙ c.in-Ok.ensures.started ∙ ap (λ (x : State). record x { rows = change_row c.args.txn (row_started (under_plan c.in_ok-number.number c.in-Some.plan)) x.rows; ends = with_end c.args.txn (Sending c.args.sender) x.ends }) (state_is c.in_ok-plan_send.ensures.same)))
 
 pub returns-in-Err-clause-answered : goal.returns-in-Err-clause-answered
 returns-in-Err-clause-answered g c h k =
-    rw (c.in-Err.ensures.refusal, c.in-Err.ensures.refused, c.in_ok-plan_send.ensures.same) (no_memory c.args.self.now.state _ c.in_ok-number.ensures.running (λ k. c.in_ok-body.ensures.passes k c.in_ok-number.ensures.passes) (λ k. refl) k)
+    rw (c.in-Err.ensures.refusal, c.in-Err.ensures.refused, c.in_ok-plan_send.ensures.same) (no_memory c.args.self.now.state _ c.in_ok-number.ensures.running (λ k. c.in_ok-check_send.ensures.passes k c.in_ok-number.ensures.passes) (λ k. refl) k)
 
 pub returns-in-None-clause-answered : goal.returns-in-None-clause-answered
 returns-in-None-clause-answered g c h =
     let s = c.args.self.now.state in
-    rw (c.in_ok-plan_send.ensures.same) (send_refused s c.args.txn c.args.sender c.args.tag c.args.body.now (λ k. c.in_ok-body.ensures.passes k c.in_ok-number.ensures.passes) c.in_ok-body.ensures.room
+    rw (c.in_ok-plan_send.ensures.same) (send_refused s c.args.txn c.args.sender c.args.tag c.args.body.now (λ k. c.in_ok-check_send.ensures.passes k c.in_ok-number.ensures.passes) c.in_ok-check_send.ensures.room
     (none_told (SendIsLatched s c.args.sender) c.in_ok-plan_send.field-0 c.in-None.is c.in_ok-plan_send.ensures.latched))
 
 pub returns-in-None-clause-latched : goal.returns-in-None-clause-latched
@@ -56,13 +56,13 @@ returns-in-Ok-clause-lowest g c =
 pub returns-in-Ok-clause-lists : goal.returns-in-Ok-clause-lists
 returns-in-Ok-clause-lists g c =
     let s = c.args.self.now.state in
-    let plan = some_told (λ p. (number : ℕ) → IsSendPlan s.sizes (slots_in s.sizes s.images) (under_plan number p) c.args.sender c.args.tag c.in_ok-body.body) c.in_ok-plan_send.field-0 _ c.in-Some.is c.in_ok-plan_send.ensures.plan in (
+    let plan = some_told (λ p. (number : ℕ) → IsSendPlan s.sizes (slots_in s.sizes s.images) (under_plan number p) c.args.sender c.args.tag c.args.body.now) c.in_ok-plan_send.field-0 _ c.in-Some.is c.in_ok-plan_send.ensures.plan in (
       refl,
       record {
         under = under_plan c.in_ok-number.number c.in-Some.plan;
         number = refl;
         ready = c.in_ok-number.ensures.ready;
-        plan = subst (λ (x : List ℕ). IsSendPlan s.sizes (slots_in s.sizes s.images) (under_plan c.in_ok-number.number c.in-Some.plan) c.args.sender c.args.tag x) c.in_ok-body.ensures.body (plan c.in_ok-number.number);
+        plan = plan c.in_ok-number.number;
         lists = ap (λ (x : State). record x { cells_in_use = x.cells_in_use + 1 }) ((state_is c.self.view_is) ∙ c.in-Ok.ensures.started ∙ ap (λ (x : State). record x { rows = change_row c.args.txn (row_started (under_plan c.in_ok-number.number c.in-Some.plan)) x.rows; ends = with_end c.args.txn (Sending c.args.sender) x.ends }) (state_is c.in_ok-plan_send.ensures.same));
       },
     )
@@ -71,13 +71,13 @@ pub start-requires-clause-log : goal.start-requires-clause-log
 start-requires-clause-log g c =
     let s = c.args.self.now.state in
     let fits = some_told (λ p. FitsPlan s.sizes p) c.in_ok-plan_send.field-0 _ c.in-Some.is c.in_ok-plan_send.ensures.fits in
-    subst (λ (x : State). HasRoom x c.in-Some.plan.writes.items) (sym (state_is c.in_ok-plan_send.ensures.same)) (has_room s c.in-Some.plan.writes.items 4 c.in_ok-body.ensures.log (let few = fits.count in omega (arith, few)))
+    subst (λ (x : State). HasRoom x c.in-Some.plan.writes.items) (sym (state_is c.in_ok-plan_send.ensures.same)) (has_room s c.in-Some.plan.writes.items 4 c.in_ok-check_send.ensures.log (let few = fits.count in omega (arith, few)))
 
 pub start-requires-clause-ready : goal.start-requires-clause-ready
 start-requires-clause-ready g c = subst (λ (x : State). HasNothingUnderWay x c.args.txn c.in_ok-number.number) (sym (state_is c.in_ok-plan_send.ensures.same)) c.in_ok-number.ensures.ready
 
 pub start-requires-clause-free : goal.start-requires-clause-free
-start-requires-clause-free g c = subst (λ (x : State). is_free_end c.args.txn (Sending c.args.sender) x.ends ≡ true) (sym (state_is c.in_ok-plan_send.ensures.same)) c.in_ok-body.ensures.free
+start-requires-clause-free g c = subst (λ (x : State). is_free_end c.args.txn (Sending c.args.sender) x.ends ≡ true) (sym (state_is c.in_ok-plan_send.ensures.same)) c.in_ok-check_send.ensures.free
 
 pub start-requires-clause-fits : goal.start-requires-clause-fits
 start-requires-clause-fits g c =
