@@ -12,7 +12,7 @@ use Rattle.rq_model.specs.declared.refusal.Refusal.{Refusal}
 use Rattle.rq_model.specs.declared.refusal.Refusal.TheVariants as why
 use Rattle.rq_restart.specs.Refused.{IsStoppedBehind}
 use Rattle.rq_restart.specs.Repeating.{Paged}
-use Rattle.rq_restart.specs.Restarting.{IsBegunBehind, IsBegunOn, WasLeftOrBegun, WasLeftOrForced, BeginsAtMost}
+use Rattle.rq_restart.specs.Restarting.{IsBegunBehind, IsBegunOn, LeavesLog, WasLeftOrBegun, WasLeftOrForced, BeginsAtMost}
 use Rattle.rq_disk.specs.Device.{Images}
 use Rattle.rq_page.specs.Sizes.{Sizes}
 use Rattle.rq_analysis.specs.Recovered.{IsRecovered}
@@ -33,6 +33,15 @@ stopped_at_once g only_now z first e old new is same = record {
   repeated = refl;
   why = inr (inl (is, ap g.faults same));
   read = subst (λ d. IsRead g old d) (sym same) (still g only_now old);
+}
+
+-- nothing was done to the device of the log
+pub left_alone : {L : Type 0} (g : Ghosts L) (only_now : (d : L) (c : List ℕ) → g.left_since d (g.moment d) c → g.may_leave d c) (z : Sizes) (pages : Paged) (old new : Logged L) → new.device ≡ old.device → LeavesLog g z pages old new
+left_alone g only_now z pages old new same = record {
+  honest = λ h. subst g.honest same h;
+  any_moment = λ first before h are reads.
+      let Q : List ℕ → Type 0 = WasLeftOrBegun g z (IsLeft z first.image old.records) old.device old.records in
+      subst (λ d. LeavesOnly g old.device d Q) (sym same) (started g old.device Q (λ c left. inl (only_now old.device c left)));
 }
 
 -- records are forced behind what was read

@@ -6,6 +6,8 @@ use Rattle.rq_model.specs.declared.refusal.Refusal.TheVariants as why
 use Rattle.rq_groups.specs.Sent.{SentBy, sent_count}
 use Rattle.rq_groups.specs.Waiting.{waits}
 use Rattle.rq_page.specs.Sizes.{Sizes, page_count, sender_count}
+use Rattle.rq_level.specs.LevelState.{LevelState}
+use Rattle.rq_planner.specs.Answered.{KnowsCells}
 use Rattle.rq_model.specs.Incarnations.{incarnation_of}
 use Rattle.rq_model.specs.Unended.{unfinished, lost}
 use Rattle.rq_disk.specs.Device.{Images, Only}
@@ -23,7 +25,8 @@ use Rattle.rq_store.specs.Whole.{IsWhole}
 use Rattle.rq_store.specs.Fitting.{image_in}
 use Rattle.rq_analysis.specs.Recovered.{IsRecovered}
 use Rattle.rq_restart.specs.RolledBack.{IsAtBound, IsRolledBack, IsRolledBackOn}
-use Rattle.rq_restart.specs.Repeating.{Paged}
+use Rattle.rq_restart.specs.Repeating.{Paged, Repeats}
+use Rattle.rq_restart.specs.declared.restart.Report.{Report}
 use Rattle.rq_restart.specs.Checked.{as_read}
 use Rattle.rq_restart.specs.Refused.{IsStoppedBehind, WhyShut}
 
@@ -117,6 +120,26 @@ module _ {L : Type 0} (g : log_device.Ghosts L) where
   -- the same of these records, of which so many were forced
   abbrev pub WasLeftOrForced : L → List Record → ℕ → List ℕ → Type 0
   WasLeftOrForced old records kept c = g.may_leave old c ⊎ (AreSpelled records × GoesOn records kept (g.seen old) c)
+
+  -- Behind the log that was read the next incarnation was begun, as the report says, and the tables tell what these pages
+  -- do: an engine may be opened over it.
+  pub record IsRestarted (z : Sizes) (images : List (List ℕ)) (old new : Logged L) (waiting : List ℕ) (sent : SentBy)
+      (planner : LevelState) (report : Report) : Type 0 where
+    pub begun : IsBegun old.records new
+    pub reports : Reports z old.records new.records report.incarnation report.records report.unfinished report.lost
+    pub told : AreTold z images (length new.records) waiting sent
+    pub known : KnowsCells z images planner
+    pub ready : IsReady g report.incarnation new
+    pub room : new.reserved ≡ old.reserved
+    pub cause : g.faults new.device ≡ g.faults old.device
+
+  -- The device of a log that was gone through to these pages: a crash at any moment leaves what it might have left before,
+  -- or the first of the records by which the next incarnation is begun.
+  pub record LeavesLog (z : Sizes) (pages : Paged) (old new : Logged L) : Type 0 where
+    pub honest : g.honest new.device → g.honest old.device
+    pub any_moment : (first : Paged) → Repeats z old.records first pages → g.honest new.device → AreSpelled old.records
+        → EndsWith old.records (g.seen old.device) → LeavesOnly g old.device new.device
+        (WasLeftOrBegun z (IsLeft z first.image old.records) old.device old.records)
 
   -- whatever a crash at any moment leaves of the log beside these pages: what it might have left before, or what was read
   -- with the first of the records behind

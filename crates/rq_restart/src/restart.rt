@@ -22,7 +22,7 @@ ghost use Rattle.rq_engine.specs.Opened.{pooled};
 ghost use Rattle.rq_chain_check.specs.Links.{AreLinked};
 ghost use Rattle.rq_restart.specs.Repeating.{ArePagesCounted, Paged, Repeats, paged, slots_on};
 ghost use Rattle.rq_analysis.specs.Recovered.{IsRecovered};
-ghost use Rattle.rq_restart.specs.Restarting.{IsReadAs, IsLeftOn, IsReady, AreTold, IsBegun, IsOpenedOver, Reports, Stops, WasLeftOrBegun, WasLeftOrForced, BeginsAtMost, BeginsFrom, LogStops, IsRefusedFor, WasChecked};
+ghost use Rattle.rq_restart.specs.Restarting.{IsReadAs, IsLeftOn, IsReady, IsRestarted, LeavesLog, AreTold, IsBegun, IsOpenedOver, Reports, Stops, WasLeftOrForced, BeginsAtMost, BeginsFrom, LogStops, IsRefusedFor, WasChecked};
 ghost use Rattle.rq_restart.specs.Refused.{BeginsNot, IsStoppedBehind, MayBeShut, WhyNotBegun, WhyShut};
 ghost use Rattle.rq_restart.specs.Overwritten.{AreKept};
 ghost use Rattle.rq_log.specs.Reading.{IsRead};
@@ -388,26 +388,16 @@ fn finish_restart<P: PageDevice + Drop, L: LogDevice + Drop, B: Level>(
 ) -> Result<(EngineTables<B>, Report), Refusal>
     requires found { IsAnalysisOf log_scan.old.analysis log.old.records }
     requires running { log.old.failed ≡ false }
-    // What the log comes to.
-    ensures begun { OnOk result (IsBegun log.old.records log.new) }
-    ensures sizes { pages.new.sizes ≡ pages.old.sizes }
-    ensures report { IfOk result (λ begun. Reports pages.old.sizes log.old.records log.new.records begun.1.incarnation
-        begun.1.records begun.1.unfinished begun.1.lost) }
+    // What the log comes to, and what is left of it.
+    ensures restarted { IfOk result (λ begun. IsRestarted L.LogDevice pages.new.sizes pages.new.images log.old log.new
+        begun.0.waiting begun.0.sent begun.0.planner begun.1) }
+    ensures left { LeavesLog L.LogDevice pages.old.sizes (paged pages.old) log.old log.new }
     ensures sound { OnOk result ((first : Paged) → Repeats pages.old.sizes log.old.records first (paged pages.old)
         → IsLeft pages.old.sizes first.image log.old.records
         → IsSound (opened pages.old.sizes pages.new.images (drop 1 log.new.records))) }
-    ensures told { IfOk result (λ begun. AreTold pages.new.sizes pages.new.images
-        (length log.new.records) begun.0.waiting begun.0.sent) }
-    ensures known { IfOk result (λ begun. KnowsCells pages.new.sizes pages.new.images begun.0.planner) }
-    ensures ready { IfOk result (λ begun. IsReady L.LogDevice begun.1.incarnation log.new) }
-    // What is left of both devices.
+    // What stays of the pages.
+    ensures sizes { pages.new.sizes ≡ pages.old.sizes }
     ensures pages { pages.new.device ≡ pages.old.device }
-    ensures honest { L.honest log.new.device → L.honest log.old.device }
-    ensures any_moment { (first : Paged) → Repeats pages.old.sizes log.old.records first (paged pages.old)
-        → L.honest log.new.device → AreSpelled log.old.records → EndsWith log.old.records (L.seen log.old.device)
-        → LeavesOnly L.LogDevice log.old.device log.new.device
-        (WasLeftOrBegun L.LogDevice pages.old.sizes (IsLeft pages.old.sizes first.image log.old.records)
-        log.old.device log.old.records) }
     // What was checked, or why it was refused.
     ensures checked { OnOk result ((first : Paged) → Repeats pages.old.sizes log.old.records first (paged pages.old)
         → AreKept pages.old.sizes (length log.old.records) first (paged pages.old) log_scan.old.overwritten.numbers.items
@@ -417,9 +407,6 @@ fn finish_restart<P: PageDevice + Drop, L: LogDevice + Drop, B: Level>(
         → AreKept pages.old.sizes (length log.old.records) first (paged pages.old) log_scan.old.overwritten.numbers.items
         → WhyShut pages.old.sizes log.old.records first e (L.faults log.old.device) (L.faults log.new.device)
         (log.new.device ≡ log.old.device)) }
-    // Room, failures, and what a refusal says of a store that was left so.
-    ensures room { OnOk result (log.new.reserved ≡ log.old.reserved) }
-    ensures cause { OnOk result (L.faults log.new.device ≡ L.faults log.old.device) }
 {
     match check_page_numbers(pages, &log_scan.overwritten, log.last()) {
         Ok(()) => match undo_and_begin(alloc, pages, log, &mut log_scan.analysis, levels) {
@@ -442,29 +429,17 @@ fn undo_and_begin<P: PageDevice + Drop, L: LogDevice + Drop, B: Level>(
     requires found { IsAnalysisOf analysis.old log.old.records }
     requires running { log.old.failed ≡ false }
     requires counted { ArePagesCounted pages.old.sizes (length log.old.records) (paged pages.old) }
-    // What the log and the pages come to.
-    ensures begun { OnOk result (IsBegun log.old.records log.new) }
+    // What the log and the pages come to, and what is left of the log.
+    ensures restarted { IfOk result (λ begun. IsRestarted L.LogDevice pages.new.sizes pages.new.images log.old log.new
+        begun.0.waiting begun.0.sent begun.0.planner begun.1) }
+    ensures left { LeavesLog L.LogDevice pages.old.sizes (paged pages.old) log.old log.new }
     ensures repeated { OnOk result (HasRepeated pages.old.sizes log.old.records log.new.records (paged pages.old)
         (paged pages.new)) }
-    ensures report { IfOk result (λ begun. Reports pages.old.sizes log.old.records log.new.records begun.1.incarnation
-        begun.1.records begun.1.unfinished begun.1.lost) }
-    ensures told { IfOk result (λ begun. AreTold pages.new.sizes pages.new.images
-        (length log.new.records) begun.0.waiting begun.0.sent) }
-    ensures known { IfOk result (λ begun. KnowsCells pages.new.sizes pages.new.images begun.0.planner) }
-    ensures ready { IfOk result (λ begun. IsReady L.LogDevice begun.1.incarnation log.new) }
-    // What is left of both devices.
+    // What stays of the pages.
     ensures sizes { pages.new.sizes ≡ pages.old.sizes }
     ensures pool { OnOk result (IsPool pages.new.sizes pages.new.images) }
     ensures pages { pages.new.device ≡ pages.old.device }
-    ensures honest { L.honest log.new.device → L.honest log.old.device }
-    ensures any_moment { (first : Paged) → Repeats pages.old.sizes log.old.records first (paged pages.old)
-        → L.honest log.new.device → AreSpelled log.old.records → EndsWith log.old.records (L.seen log.old.device)
-        → LeavesOnly L.LogDevice log.old.device log.new.device
-        (WasLeftOrBegun L.LogDevice pages.old.sizes (IsLeft pages.old.sizes first.image log.old.records)
-        log.old.device log.old.records) }
-    // Room, failures, and why it was refused.
-    ensures room { OnOk result (log.new.reserved ≡ log.old.reserved) }
-    ensures cause { OnOk result (L.faults log.new.device ≡ L.faults log.old.device) }
+    // Why it was refused.
     ensures stops { IfErr result (λ e. (first : Paged) → Repeats pages.old.sizes log.old.records first (paged pages.old)
         → WhyNotBegun pages.old.sizes log.old.records first e (L.faults log.old.device) (L.faults log.new.device)
         (log.new.device ≡ log.old.device)) }

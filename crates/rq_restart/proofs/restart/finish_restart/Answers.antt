@@ -6,6 +6,7 @@ use Rattle.rq_store.specs.Opening.{opened}
 use Rattle.rq_restart.specs.Overwritten.{AreKept, NamesFirst}
 use Rattle.rq_restart.specs.Repeating.{ArePagesCounted, paged}
 use Rattle.rq_restart.proofs.Begun.{begun_sound}
+use Rattle.rq_restart.proofs.Moments.{left_alone}
 use Rattle.rq_restart.proofs.Restarts.{beyond_shut}
 use Rattle.rq_restart.proofs.restart.finish_restart.Goals as goal
 
@@ -51,3 +52,6 @@ returns-in-Err-clause-shut g c = λ first before k.
     let faults = g.L.LogDevice.faults c.args.log.now.device in
     beyond_shut z c.args.log.now.records first (paged c.args.pages.now) c.in-Err.refusal faults faults (c.args.log.now.device ≡ c.args.log.now.device) before refl
     (subst (λ m. NamesFirst z m first c.in-Err.refusal) n (c.in-Err.ensures.names first (subst (λ m. AreKept z m first (paged c.args.pages.now) c.args.log_scan.now.overwritten.numbers.items) (sym n) k)))
+
+pub returns-in-Err-clause-left : goal.returns-in-Err-clause-left
+returns-in-Err-clause-left g c = left_alone g.L.LogDevice g.met.L.LogDevice.only_now c.args.pages.now.sizes (paged c.args.pages.now) c.args.log.now c.args.log.now refl

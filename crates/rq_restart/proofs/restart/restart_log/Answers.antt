@@ -19,22 +19,22 @@ use Rattle.rq_restart.proofs.restart.restart_log.Goals as goal
 pub returns-in-Ok-finish_restart-clause-begun : goal.returns-in-Ok-finish_restart-clause-begun
 returns-in-Ok-finish_restart-clause-begun g c = λ older r.
     let read = c.in-Ok.ensures in
-    let same : c.in-Ok.log.records ≡ older = log_is older c.in-Ok.log.records c.in-Ok.log.records _ r.are_spelled r.reads refl read.spelled (read.whole (c.finish_restart.ensures.honest r.honest)) in
-    subst (λ l. IsBegun l c.finish_restart.new.log) same c.in-Ok-finish_restart.ensures.begun
+    let same : c.in-Ok.log.records ≡ older = log_is older c.in-Ok.log.records c.in-Ok.log.records _ r.are_spelled r.reads refl read.spelled (read.whole (c.finish_restart.ensures.left.honest r.honest)) in
+    subst (λ l. IsBegun l c.finish_restart.new.log) same c.in-Ok-finish_restart.ensures.restarted.begun
 
 pub returns-in-Ok-finish_restart-clause-report : goal.returns-in-Ok-finish_restart-clause-report
 returns-in-Ok-finish_restart-clause-report g c = λ older r.
     let read = c.in-Ok.ensures in
-    let same : c.in-Ok.log.records ≡ older = log_is older c.in-Ok.log.records c.in-Ok.log.records _ r.are_spelled r.reads refl read.spelled (read.whole (c.finish_restart.ensures.honest r.honest)) in
+    let same : c.in-Ok.log.records ≡ older = log_is older c.in-Ok.log.records c.in-Ok.log.records _ r.are_spelled r.reads refl read.spelled (read.whole (c.finish_restart.ensures.left.honest r.honest)) in
     let t = c.in-Ok-finish_restart.report in
     let z = c.finish_restart.new.pages.sizes in
     let now = c.finish_restart.new.log.records in
-    subst (λ l. Reports z l now t.incarnation t.records t.unfinished t.lost) same (subst (λ (y : Sizes). Reports y c.in-Ok.log.records now t.incarnation t.records t.unfinished t.lost) (sym c.finish_restart.ensures.sizes) c.in-Ok-finish_restart.ensures.report)
+    subst (λ l. Reports z l now t.incarnation t.records t.unfinished t.lost) same c.in-Ok-finish_restart.ensures.restarted.reports
 
 pub returns-in-Ok-finish_restart-clause-sound : goal.returns-in-Ok-finish_restart-clause-sound
 returns-in-Ok-finish_restart-clause-sound g c = λ older r.
     let read = c.in-Ok.ensures in
-    let same : c.in-Ok.log.records ≡ older = log_is older c.in-Ok.log.records c.in-Ok.log.records _ r.are_spelled r.reads refl read.spelled (read.whole (c.finish_restart.ensures.honest r.honest)) in
+    let same : c.in-Ok.log.records ≡ older = log_is older c.in-Ok.log.records c.in-Ok.log.records _ r.are_spelled r.reads refl read.spelled (read.whole (c.finish_restart.ensures.left.honest r.honest)) in
     let mid = c.read_and_redo.new.pages in
     let first = paged c.args.pages in
     let sizes = c.read_and_redo.ensures.sizes in
@@ -48,7 +48,7 @@ returns-in-Ok-finish_restart-clause-sound g c = λ older r.
 pub returns-in-Ok-clause-err : goal.returns-in-Ok-clause-err
 returns-in-Ok-clause-err g c = λ older r.
     let read = c.in-Ok.ensures in
-    let same : c.in-Ok.log.records ≡ older = log_is older c.in-Ok.log.records c.in-Ok.log.records _ r.are_spelled r.reads refl read.spelled (read.whole (c.finish_restart.ensures.honest (subst g.L.LogDevice.honest c.give_back-in-Err-finish_restart.ensures r.honest))) in
+    let same : c.in-Ok.log.records ≡ older = log_is older c.in-Ok.log.records c.in-Ok.log.records _ r.are_spelled r.reads refl read.spelled (read.whole (c.finish_restart.ensures.left.honest (subst g.L.LogDevice.honest c.give_back-in-Err-finish_restart.ensures r.honest))) in
     let mid = c.read_and_redo.new.pages in
     let first = paged c.args.pages in
     let sizes = c.read_and_redo.ensures.sizes in
@@ -82,8 +82,8 @@ returns-in-Ok-finish_restart-clause-any_moment g c =
     let image = image_in c.args.pages.images in
     let log = c.in-Ok.log in
     let moment : g.L.LogDevice.honest c.finish_restart.new.log.device → AreSpelled log.records → EndsWith log.records (g.L.LogDevice.seen log.device)
-    → LeavesOnly g.L.LogDevice log.device c.finish_restart.new.log.device (WasLeftOrBegun g.L.LogDevice z (IsLeft z image log.records) log.device log.records) = λ h are reads. subst (λ (y : Sizes). LeavesOnly g.L.LogDevice log.device c.finish_restart.new.log.device (WasLeftOrBegun g.L.LogDevice y (IsLeft y image log.records) log.device log.records)) sizes (c.finish_restart.ensures.any_moment first repeated h are reads) in
-    read_first g.L.LogDevice z image c.args.log log.device c.finish_restart.new.log.device log.records c.finish_restart.ensures.honest read.whole read.spelled read.read.same read.read.leaves read.read.moments moment
+    → LeavesOnly g.L.LogDevice log.device c.finish_restart.new.log.device (WasLeftOrBegun g.L.LogDevice z (IsLeft z image log.records) log.device log.records) = λ h are reads. subst (λ (y : Sizes). LeavesOnly g.L.LogDevice log.device c.finish_restart.new.log.device (WasLeftOrBegun g.L.LogDevice y (IsLeft y image log.records) log.device log.records)) sizes (c.finish_restart.ensures.left.any_moment first repeated h are reads) in
+    read_first g.L.LogDevice z image c.args.log log.device c.finish_restart.new.log.device log.records c.finish_restart.ensures.left.honest read.whole read.spelled read.read.same read.read.leaves read.read.moments moment
 
 pub returns-in-Ok-clause-any_moment_back : goal.returns-in-Ok-clause-any_moment_back
 returns-in-Ok-clause-any_moment_back g c =
@@ -97,9 +97,9 @@ returns-in-Ok-clause-any_moment_back g c =
     let image = image_in c.args.pages.images in
     let log = c.in-Ok.log in
     let moment : g.L.LogDevice.honest c.finish_restart.new.log.device → AreSpelled log.records → EndsWith log.records (g.L.LogDevice.seen log.device)
-    → LeavesOnly g.L.LogDevice log.device c.finish_restart.new.log.device (WasLeftOrBegun g.L.LogDevice z (IsLeft z image log.records) log.device log.records) = λ h are reads. subst (λ (y : Sizes). LeavesOnly g.L.LogDevice log.device c.finish_restart.new.log.device (WasLeftOrBegun g.L.LogDevice y (IsLeft y image log.records) log.device log.records)) sizes (c.finish_restart.ensures.any_moment first repeated h are reads) in
+    → LeavesOnly g.L.LogDevice log.device c.finish_restart.new.log.device (WasLeftOrBegun g.L.LogDevice z (IsLeft z image log.records) log.device log.records) = λ h are reads. subst (λ (y : Sizes). LeavesOnly g.L.LogDevice log.device c.finish_restart.new.log.device (WasLeftOrBegun g.L.LogDevice y (IsLeft y image log.records) log.device log.records)) sizes (c.finish_restart.ensures.left.any_moment first repeated h are reads) in
     subst (λ new. BeginsAtMost g.L.LogDevice z image c.args.log new) (sym c.give_back-in-Err-finish_restart.ensures)
-    (read_first g.L.LogDevice z image c.args.log log.device c.finish_restart.new.log.device log.records c.finish_restart.ensures.honest read.whole read.spelled read.read.same read.read.leaves read.read.moments moment)
+    (read_first g.L.LogDevice z image c.args.log log.device c.finish_restart.new.log.device log.records c.finish_restart.ensures.left.honest read.whole read.spelled read.read.same read.read.leaves read.read.moments moment)
 
 pub returns-clause-any_moment_back : goal.returns-clause-any_moment_back
 returns-clause-any_moment_back g c = only_read g.L.LogDevice c.args.pages.sizes (image_in c.args.pages.images) c.args.log c.in-Err.stopped.device c.in-Err.ensures.stopped.read.moments
@@ -115,7 +115,7 @@ returns-in-Ok-finish_restart-clause-checked g c =
     let went = c.in-Ok-finish_restart.ensures in
     let checked = went.checked first repeated kept in
     let on = subst (λ (y : Sizes). IsRolledBackOn y c.in-Ok.log.records checked.0 first (paged c.finish_restart.new.pages)) sizes checked.1 in
-    (c.in-Ok.log.records, read.spelled, (λ h. read.whole (c.finish_restart.ensures.honest h)), checked.0, on, checked.2, (let n = went.ready.count in let e = ap length checked.2 in omega (arith, n, e)))
+    (c.in-Ok.log.records, read.spelled, (λ h. read.whole (c.finish_restart.ensures.left.honest h)), checked.0, on, checked.2, (let n = went.restarted.ready.count in let e = ap length checked.2 in omega (arith, n, e)))
 
 pub returns-in-Ok-clause-refused : goal.returns-in-Ok-clause-refused
 returns-in-Ok-clause-refused g c =
@@ -136,7 +136,7 @@ returns-in-Ok-clause-refused g c =
     inr (
       log.records,
       read.spelled,
-      (λ h. read.whole (c.finish_restart.ensures.honest (subst l.honest back h))),
+      (λ h. read.whole (c.finish_restart.ensures.left.honest (subst l.honest back h))),
       subst (λ d. WhyShut z log.records first e (l.faults c.args.log) (l.faults d) (IsRead l c.args.log d)) (sym back)
           (subst (λ n. WhyShut z log.records first e n (l.faults last) (IsRead l c.args.log last)) read.cause
           (shut_by z log.records first e (l.faults was) (l.faults last) (λ same. subst (IsRead l c.args.log) (sym same) read.read) shut)),
