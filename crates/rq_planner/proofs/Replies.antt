@@ -32,7 +32,7 @@ use Rattle.rq_level.specs.Ops.Doing.{Send, Receive, Close}
 use Rattle.rq_level.specs.Writes.{AreSlotWrites, IsFirstAt, write_of, writes_of}
 use Rattle.rq_txn.specs.Rows.{Row, latched_in}
 use Rattle.rq_store.specs.State.{State}
-use Rattle.rq_sound.specs.Chosen.{KeepsBeside, places_of}
+use Rattle.rq_sound.specs.Chosen.{KeepsBeside, first_place}
 use Rattle.rq_sound.specs.Groups.{slots_now}
 use Rattle.rq_sound.specs.Latching.{any_latched, needed}
 use Rattle.rq_sound.specs.Levels.{AreLatched, IsGathered, KeepsCells}
@@ -61,7 +61,7 @@ module _ (s : State) (k : LevelState) (a : Asked) where
   for_one P h b e = subst P (some_is a b e) h
 
   planned_answer : (after : LevelState) (p : Plan) → IsPlanFor s a p → AreSlotWrites s.sizes p.writes.items → (IsHeldUp s a → ⊥)
-      → ((rows : List Row) → KeepsCells (record s { rows = rows }) k → KeepsBeside (record s { rows = rows }) after (places_of p.writes.items)) → IsAnswered s k (Some a) (Ok (Some p)) after
+      → ((rows : List Row) → KeepsCells (record s { rows = rows }) k → KeepsBeside (record s { rows = rows }) after (first_place p.writes.items)) → IsAnswered s k (Some a) (Ok (Some p)) after
   planned_answer after p is slots off beside = record {
     read = refl;
     plan = for_one (λ b. IsPlanFor s b p) is;

@@ -1,9 +1,8 @@
 -- A level that is told of slots as they are.
-use Rattle.std.proofs.Common.{◌≡◌, ℕ, ◌+◌, ◌/◌, ◌%◌, ◌<◌, ◌≤◌, cond, false, zero, suc, drop, slice_index_or, List, ◌∷◌, length, Option, Some, refl, sym, ◌∙◌, ap, subst, arith}
+use Rattle.std.proofs.Common.{◌≡◌, ℕ, ◌+◌, ◌/◌, ◌%◌, ◌<◌, ◌≤◌, cond, false, zero, suc, List, [], ◌∷◌, Option, Some, refl, sym, ◌∙◌, ap, subst, arith}
 use Rattle.std.specs.Prelude.{IfSome}
 use Rattle.std.proofs.lemmas.Bool.{lt-ltb}
-use Rattle.std.proofs.lemmas.List.{drop_all}
-use Rattle.std.proofs.Math.Seq.{drop-cons}
+use Rattle.std.specs.List.{slice_get}
 use Rattle.rq_page.specs.Formatted.{IsFormatted}
 use Rattle.rq_page.specs.Pages.{slot_of}
 use Rattle.rq_page.specs.Sizes.{Sizes, IsCellAddress, IsInRange, cell_at, cell_count}
@@ -18,7 +17,7 @@ use Rattle.rq_level.specs.LevelState.{LevelState, noted}
 use Rattle.rq_level.specs.Meaning.{meaning_of}
 use Rattle.rq_level.specs.Writes.{AreSlotWrites}
 use Rattle.rq_level.proofs.Superblock.{sizes_told}
-use Rattle.rq_sound.specs.Chosen.{KeepsBeside, KnowsFirst, places_of}
+use Rattle.rq_sound.specs.Chosen.{KeepsBeside, KnowsFirst, first_place}
 use Rattle.rq_sound.specs.Levels.{KeepsCells}
 use Rattle.rq_sound.proofs.Chosen.{noted_known, planned_kept}
 use Rattle.rq_sound.proofs.Gathering.{cell_of_store}
@@ -72,13 +71,10 @@ module _ (z : Sizes) (images : List (List ℕ)) where
   one_back rows k after a planned stands e h =
       subst (λ (x : LevelState). KeepsBeside (known z images rows) x planned) (sym e) (planned_kept.notes (known z images rows) k a (slot_at images a) planned stands (slot_is z images a stands) h)
 
-  pub rest_back : (rows : List Row) (k after : LevelState) (ws : List SlotWrite) (i : ℕ) (w : SlotWrite) → w ≡ slice_index_or ws i w → i < length ws → AreSlotWrites z ws → after ≡ noted k w.at (slot_at images w.at)
-      → KeepsBeside (known z images rows) k (places_of (drop i ws)) → KeepsBeside (known z images rows) after (places_of (drop (i + 1) ws))
-  rest_back rows k after ws i w is lt stand e h =
-      let stands : IsStoreSlot z w.at = subst (λ (x : SlotWrite). IsStoreSlot z x.at) (sym is) (stand i w lt).place in
-      let next : suc i ≡ i + 1 = omega arith in
-      let here : drop i ws ≡ w ∷ drop (i + 1) ws = drop-cons ws i w lt ∙ ap (λ (x : SlotWrite). x ∷ drop (suc i) ws) (sym is) ∙ ap (λ (n : ℕ). w ∷ drop n ws) next in
-      one_back rows k after w.at (places_of (drop (i + 1) ws)) stands e (subst (λ (us : List SlotWrite). KeepsBeside (known z images rows) k (places_of us)) here h)
-
-  pub all_back : (rows : List Row) (k : LevelState) (ws : List SlotWrite) (i : ℕ) → length ws ≤ i → KeepsBeside (known z images rows) k (places_of (drop i ws)) → KeepsCells (known z images rows) k
-  all_back rows k ws i past h = planned_kept.given_back (known z images rows) k (subst (λ (us : List SlotWrite). KeepsBeside (known z images rows) k (places_of us)) (drop_all i ws past) h)
+  pub first_back : (rows : List Row) (k after : LevelState) (w : SlotWrite) (ws : List SlotWrite) → Some w ≡ slice_get ws 0 → AreSlotWrites z ws → after ≡ noted k w.at (slot_at images w.at)
+      → KeepsBeside (known z images rows) k (first_place ws) → KeepsCells (known z images rows) after
+  first_back rows k after w [] is stand e h = absurd (cc)
+  first_back rows k after w (x ∷ ws) is stand e h =
+      let same : x ≡ w = cc is in
+      let stands : IsStoreSlot z w.at = subst (λ (y : SlotWrite). IsStoreSlot z y.at) same (stand 0 x (omega arith)).place in
+      planned_kept.given_back (known z images rows) after (one_back rows k after w.at [] stands e (subst (λ (y : SlotWrite). KeepsBeside (known z images rows) k (y.at ∷ [])) same h))

@@ -26,7 +26,7 @@ use Rattle.rq_txn.specs.Rows.{Row}
 use Rattle.rq_groups.specs.Waiting.{waits}
 use Rattle.rq_store.specs.State.{State}
 use Rattle.rq_sound.specs.Calls.{IsIdle}
-use Rattle.rq_sound.specs.Chosen.{KeepsBeside, places_of}
+use Rattle.rq_sound.specs.Chosen.{KeepsBeside, first_place}
 use Rattle.rq_sound.specs.Gathering.{AreGivenFrom}
 use Rattle.rq_sound.specs.Groups.{slots_now}
 use Rattle.rq_sound.specs.Latching.{any_latched}
@@ -140,7 +140,7 @@ pub record IsAnswered (s : State) (k : LevelState) (asked : Option Asked) (answe
   pub plan : IfOk answer (λ found. IfSome found (λ p. (a : Asked) → asked ≡ Some a → IsPlanFor s a p))
   pub slots : IfOk answer (λ found. IfSome found (λ p. AreSlotWrites s.sizes p.writes.items))
   pub chosen : IfOk answer (λ found. IfSome found (λ p. (rows : List Row) → KeepsCells (record s { rows = rows }) k
-      → KeepsBeside (record s { rows = rows }) after (places_of p.writes.items)))
+      → KeepsBeside (record s { rows = rows }) after (first_place p.writes.items)))
   -- there is none exactly where latches hold it up
   pub free : IfOk answer (λ found. IfSome found (λ p. (a : Asked) → asked ≡ Some a → IsHeldUp s a → ⊥))
   pub latched : IfOk answer (λ found. IfNone found ((a : Asked) → asked ≡ Some a → IsHeldUp s a))

@@ -15,4 +15,4 @@ mod telling;
 pub use handed::StoreLevels;
 pub use planner::Planner;
 pub use planning::{plan, plan_inverse};
-pub use telling::{tell_store, unreserve};
+pub use telling::tell_store;

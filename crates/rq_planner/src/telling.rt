@@ -7,7 +7,7 @@ ghost use Rattle.rq_views.specs.Stored.{IsStoreSlot, slot_at, slots_in};
 ghost use Rattle.rq_level.specs.LevelState.{noted};
 ghost use Rattle.rq_level.specs.Writes.{AreSlotWrites};
 ghost use Rattle.rq_txn.specs.Rows.{Row};
-ghost use Rattle.rq_sound.specs.Chosen.{KeepsBeside, places_of};
+ghost use Rattle.rq_sound.specs.Chosen.{KeepsBeside, first_place};
 ghost use Rattle.rq_sound.specs.Levels.{KeepsCells};
 ghost use Rattle.rq_planner.specs.Asked.{known_from};
 
@@ -19,16 +19,20 @@ use rq_page::cell::CellSlot;
 use rq_page::layout::Layout;
 use rq_pool::Pages;
 
-/// Gives back the cell of a plan: tells the level of each of its slots as it is. The cell that the plan chose may be
+/// Gives back the cell of a plan, where it takes one: tells the level of the plan's first slot as it is. The cell may be
 /// chosen again.
-pub fn unreserve<P: PageDevice, B: Level>(pages: &Pages<P>, level: &mut B, writes: &[SlotWrite])
+pub(crate) fn unreserve<P: PageDevice, B: Level>(
+    pages: &Pages<P>,
+    level: &mut B,
+    writes: &[SlotWrite],
+)
     requires number { B.level level.old ≡ 1 }
     requires slots { AreSlotWrites pages.now.sizes writes.now }
     ensures same { B.level level.new ≡ 1 }
-    ensures cells { (rows : List Row) → KeepsBeside (known_from pages.now rows) (B.kept level.old) (places_of writes.now)
+    ensures cells { (rows : List Row) → KeepsBeside (known_from pages.now rows) (B.kept level.old) (first_place writes.now)
         → KeepsCells (known_from pages.now rows) (B.kept level.new) }
 {
-    for write in writes {
+    if let Some(write) = writes.first() {
         tell(pages, level, write.at);
     }
 }

@@ -1,7 +1,7 @@
 -- Which cells a level knows as chosen while a plan has not started, and how it comes to know a store's cells.
-use Rattle.std.proofs.Common.{set, ◌≡◌, ◌≢◌, ◌⊎◌, ℕ, ◌+◌, ◌/◌, ◌<◌, ◌++◌, List, [], ◌∷◌, length, map, drop, reverse, refl, sym, ◌∙◌, ap, subst, Bool, true, false, not, nat_eq, Option, Some, None, Ok, Err, inl, inr, arith}
-use Rattle.std.proofs.lemmas.Bool.{cases_Bool, cases_eq, eq-eqb, eqb-true, false≢true, false_from_ne_true, or_cases, or_left, or_right, true≢false}
-use Rattle.std.proofs.lemmas.List.{length-set, reverse-append}
+use Rattle.std.proofs.Common.{set, ◌≡◌, ◌≢◌, ◌⊎◌, ℕ, ◌+◌, ◌/◌, ◌<◌, List, [], ◌∷◌, length, map, drop, reverse, refl, sym, ◌∙◌, ap, subst, Bool, true, false, not, nat_eq, Option, Some, None, Ok, Err, inl, inr, arith}
+use Rattle.std.proofs.lemmas.Bool.{cases_Bool, cases_eq, eq-eqb, eqb-true, false≢true, false_from_ne_true, or_cases, or_left, true≢false}
+use Rattle.std.proofs.lemmas.List.{length-set, reverse-reverse}
 use Rattle.rq_model.specs.declared.refusal.Refusal.{Refusal}
 use Rattle.rq_model.specs.declared.record.Deed.{Deed}
 use Rattle.rq_model.specs.declared.record.Deed.TheVariants.{Append, UnlinkHead, Close as Close_deed}
@@ -17,7 +17,7 @@ use Rattle.rq_page.specs.declared.directory.Directory.{Directory}
 use Rattle.rq_page.specs.Slots.Slot.{Free, Used}
 use Rattle.rq_views.specs.Chain.{directory_appended}
 use Rattle.rq_views.specs.Items.{layout_of}
-use Rattle.rq_views.specs.Log.{Places, Slots, Write}
+use Rattle.rq_views.specs.Log.{Slots, Write}
 use Rattle.rq_views.specs.Plans.{append_writes, directory_put_back, directory_write, put_back_writes, relinked, with_next, with_prev}
 use Rattle.rq_views.specs.Stored.{IsStoreSlot, is_used}
 use Rattle.rq_level.specs.ChainPlans.{PlansFor, Plans, Undoes, chain_undoes}
@@ -35,62 +35,44 @@ use Rattle.rq_store.specs.State.{State}
 use Rattle.rq_sound.specs.Calls.{IsIdle, started}
 use Rattle.rq_sound.specs.Groups.{slots_now}
 use Rattle.rq_sound.specs.Levels.{KeepsCells, to_write}
-use Rattle.rq_sound.specs.Chosen.{KeepsBeside, KnowsFirst, NotedCellsAreKnown, PlannedCellsAreKept, places_of}
+use Rattle.rq_sound.specs.Chosen.{KeepsBeside, KnowsFirst, NotedCellsAreKnown, PlannedCellsAreKept, first_place}
 use Rattle.rq_sound.proofs.KeptCells.{cell_is, flag_other, flag_same, free_by_byte, more_started, own_write, place_is}
 
--- ---- among the writes of a plan
+-- ---- the first write of a plan
 
-abbrev ats : List Write → List ℕ
-ats [] = []
-ats (w ∷ ws) = w.at ∷ ats ws
+abbrev at_first : List Write → ℕ
+at_first [] = 0
+at_first (w ∷ ws) = w.at
 
-ats-append : (xs ys : List Write) → ats (xs ++ ys) ≡ ats xs ++ ats ys
-ats-append [] ys = refl
-ats-append (x ∷ xs) ys = ap (λ l. x.at ∷ l) (ats-append xs ys)
+first_is : (z : Sizes) (us : List SlotWrite) (v : Write) (rest : List Write) → writes_of z us ≡ v ∷ rest → has_number v.at (first_place us) ≡ true
+first_is z [] v rest e = absurd (cc)
+first_is z (u ∷ us) v rest e = or_left (nat_eq u.at v.at) false (eq-eqb u.at v.at (ap at_first e))
 
-ats-writes : (z : Sizes) (us : List SlotWrite) → ats (writes_of z us) ≡ places_of us
-ats-writes z [] = refl
-ats-writes z (u ∷ us) = ap (λ l. u.at ∷ l) (ats-writes z us)
+-- of a send's plan and of a receive's inverse it is of the cell that they take
+new_first : (z : Sizes) (us : List SlotWrite) (w : Write) (at : ℕ) (o : Option Cell) (f : Cell → Cell) (v : Write) → reverse (writes_of z us) ≡ w ∷ relinked at o f (v ∷ [])
+    → has_number v.at (first_place us) ≡ true
+new_first z us w at None f v e = first_is z us v (w ∷ []) (sym (reverse-reverse (writes_of z us)) ∙ ap reverse e)
+new_first z us w at (Some c) f v e = first_is z us v (record { at = at; before = Used c; after = Used (f c) } ∷ w ∷ []) (sym (reverse-reverse (writes_of z us)) ∙ ap reverse e)
 
--- what stands in a list turned about stands in it
-has_back : (a : ℕ) (ws : List Write) → has_number a (ats (reverse ws)) ≡ true → has_number a (ats ws) ≡ true
-has_back a [] h = h
-has_back a (w ∷ ws) h =
-    let split : has_number a (ats (reverse ws) ++ w.at ∷ []) ≡ true = subst (λ l. has_number a l ≡ true) (ap ats (reverse-append (w ∷ []) ws) ∙ ats-append (reverse ws) (w ∷ [])) h in
-    elim (cases_Bool (nat_eq w.at a)) [
-      | inl y ↦ or_left (nat_eq w.at a) (has_number a (ats ws)) y
-      | inr n ↦ or_right (nat_eq w.at a) (has_number a (ats ws)) (has_back a ws (before a (ats (reverse ws)) w.at n split))
-    ]
-  where
-    before : (a : ℕ) (xs : List ℕ) (x : ℕ) → nat_eq x a ≡ false → has_number a (xs ++ x ∷ []) ≡ true → has_number a xs ≡ true
-    before a [] x n h = elim (or_cases (nat_eq x a) false h) [ inl y ↦ absurd (true≢false (sym y ∙ n)) | inr f ↦ absurd (false≢true f) ]
-    before a (y ∷ xs) x n h = elim (or_cases (nat_eq y a) (has_number a (xs ++ x ∷ [])) h) [
-      | inl e ↦ or_left (nat_eq y a) (has_number a xs) e
-      | inr m ↦ or_right (nat_eq y a) (has_number a xs) (before a xs x n m)
-    ]
+sent_first : (z : Sizes) (us : List SlotWrite) (g : ℕ) (d : Directory) (new tag : ℕ) (body : List ℕ) (old : Option Cell) → reverse (writes_of z us) ≡ append_writes (layout_of z) g d new tag body old
+    → has_number new (first_place us) ≡ true
+sent_first z us g d new tag body old e =
+    new_first z us (directory_write (layout_of z) g d (directory_appended d new tag)) d.tail old (with_next new)
+    (record { at = new; before = Free; after = Used (record { sender = g; sequence = d.sent + 1; tag = tag; body = body; next = 0; prev = d.tail }) }) e
 
--- the last write of a send's plan and of a receive's inverse is of the cell that it takes
-new_last : (w : Write) (at : ℕ) (o : Option Cell) (f : Cell → Cell) (v : Write) → has_number v.at (ats (w ∷ relinked at o f (v ∷ []))) ≡ true
-new_last w at o f v = or_right (nat_eq w.at v.at) (has_number v.at (ats (relinked at o f (v ∷ [])))) (behind o) where
-  own : has_number v.at (v.at ∷ []) ≡ true
-  own = or_left (nat_eq v.at v.at) false (eq-eqb v.at v.at refl)
+returned_first : (z : Sizes) (us : List SlotWrite) (g : ℕ) (d : Directory) (new tag : ℕ) (body : List ℕ) (old : Option Cell) → reverse (writes_of z us) ≡ put_back_writes (layout_of z) g d new tag body old
+    → has_number new (first_place us) ≡ true
+returned_first z us g d new tag body old e =
+    new_first z us (directory_write (layout_of z) g d (directory_put_back d new)) d.head old (with_prev new)
+    (record { at = new; before = Free; after = Used (record { sender = g; sequence = d.received; tag = tag; body = body; next = d.head; prev = 0 }) }) e
 
-  behind : (o : Option Cell) → has_number v.at (ats (relinked at o f (v ∷ []))) ≡ true
-  behind None = own
-  behind (Some c) = or_right (nat_eq at v.at) (has_number v.at (v.at ∷ [])) own
-
-sent_new : (l : Places) (g : ℕ) (d : Directory) (new tag : ℕ) (body : List ℕ) (old : Option Cell) → has_number new (ats (append_writes l g d new tag body old)) ≡ true
-sent_new l g d new tag body old =
-    new_last (directory_write l g d (directory_appended d new tag)) d.tail old (with_next new)
-    (record { at = new; before = Free; after = Used (record { sender = g; sequence = d.sent + 1; tag = tag; body = body; next = 0; prev = d.tail }) })
-
-returned_new : (l : Places) (g : ℕ) (d : Directory) (new tag : ℕ) (body : List ℕ) (old : Option Cell) → has_number new (ats (put_back_writes l g d new tag body old)) ≡ true
-returned_new l g d new tag body old =
-    new_last (directory_write l g d (directory_put_back d new)) d.head old (with_prev new)
-    (record { at = new; before = Free; after = Used (record { sender = g; sequence = d.received; tag = tag; body = body; next = d.head; prev = 0 }) })
-
-planned_new : (z : Sizes) (us : List SlotWrite) (ws : List Write) (a : ℕ) → reverse (writes_of z us) ≡ ws → has_number a (ats ws) ≡ true → has_number a (places_of us) ≡ true
-planned_new z us ws a is h = subst (λ l. has_number a l ≡ true) (ats-writes z us) (has_back a (writes_of z us) (subst (λ l. has_number a (ats l) ≡ true) (sym is) h))
+-- it is among them all
+first_among : (a : ℕ) (us : List SlotWrite) → has_number a (first_place us) ≡ true → has_number a (map (λ (w : SlotWrite). w.at) us) ≡ true
+first_among a [] h = h
+first_among a (u ∷ us) h = elim (or_cases (nat_eq u.at a) false h) [
+  | inl y ↦ or_left (nat_eq u.at a) (has_number a (map (λ (w : SlotWrite). w.at) us)) y
+  | inr f ↦ absurd (false≢true f)
+]
 
 -- ---- plans
 
@@ -124,11 +106,11 @@ lowest_cell : (z : Sizes) (place a : ℕ) → place < cell_count z → a ≡ cel
 lowest_cell z place a lt e = subst (IsCellAddress z) (sym e) (cells_have_places z place lt).0
 
 module _ (s : State) (k : LevelState) (h : KeepsCells s k) (given : List Given) (latched : List ℕ) where
-  does : (d : Option Doing) (p : Plan) (after : LevelState) → Plans (Some s.sizes) d k given latched (Ok p) after → KeepsBeside s after (places_of p.writes.items)
+  does : (d : Option Doing) (p : Plan) (after : LevelState) → Plans (Some s.sizes) d k given latched (Ok p) after → KeepsBeside s after (first_place p.writes.items)
   does None p after m = absurd m
   does (Some (Send g tag body)) p after m =
-      subst (λ (x : LevelState). KeepsBeside s x (places_of p.writes.items)) (sym m.kept)
-      (chosen_beside s k m.new (places_of p.writes.items) h (planned_new s.sizes p.writes.items _ m.new m.writes (sent_new (layout_of s.sizes) g m.can.directory m.new tag body m.can.old)) (lowest_cell s.sizes m.lowest.place m.new m.lowest.below m.lowest.at))
+      subst (λ (x : LevelState). KeepsBeside s x (first_place p.writes.items)) (sym m.kept)
+      (chosen_beside s k m.new (first_place p.writes.items) h (sent_first s.sizes p.writes.items g m.can.directory m.new tag body m.can.old m.writes) (lowest_cell s.sizes m.lowest.place m.new m.lowest.below m.lowest.at))
   does (Some (Receive g)) p after m = same_kept s k after _ h m.kept
   does (Some (Close g)) p after m = same_kept s k after _ h m.kept
 
@@ -138,12 +120,12 @@ module _ (s : State) (k : LevelState) (h : KeepsCells s k) (given : List Given) 
   does_not (Some (Receive g)) r after m = m.1
   does_not (Some (Close g)) r after m = m.1
 
-  takes_back : (d : Option Deed) (p : Plan) (after : LevelState) → Undoes (Some s.sizes) d k given latched (Ok p) after → KeepsBeside s after (places_of p.writes.items)
+  takes_back : (d : Option Deed) (p : Plan) (after : LevelState) → Undoes (Some s.sizes) d k given latched (Ok p) after → KeepsBeside s after (first_place p.writes.items)
   takes_back None p after m = absurd m
   takes_back (Some (Append g n tag previous body)) p after m = same_kept s k after _ h m.kept
   takes_back (Some (UnlinkHead g n tag body)) p after m =
-      subst (λ (x : LevelState). KeepsBeside s x (places_of p.writes.items)) (sym m.kept)
-      (chosen_beside s k m.new (places_of p.writes.items) h (planned_new s.sizes p.writes.items _ m.new m.writes (returned_new (layout_of s.sizes) g m.can.directory m.new tag body m.can.old)) (lowest_cell s.sizes m.lowest.place m.new m.lowest.below m.lowest.at))
+      subst (λ (x : LevelState). KeepsBeside s x (first_place p.writes.items)) (sym m.kept)
+      (chosen_beside s k m.new (first_place p.writes.items) h (returned_first s.sizes p.writes.items g m.can.directory m.new tag body m.can.old m.writes) (lowest_cell s.sizes m.lowest.place m.new m.lowest.below m.lowest.at))
   takes_back (Some (Close_deed g)) p after m = same_kept s k after _ h m.kept
 
   leaves : (d : Option Deed) (r : Refusal) (after : LevelState) → Undoes (Some s.sizes) d k given latched (Err r) after → after ≡ k
@@ -153,7 +135,7 @@ module _ (s : State) (k : LevelState) (h : KeepsCells s k) (given : List Given) 
   leaves (Some (Close_deed g)) r after m = m.1
 
 plans_for : (s : State) (k : LevelState) (h : KeepsCells s k) (undo : Bool) (d : Option Doing) (given : List Given) (latched : List ℕ) (p : Plan) (after : LevelState)
-    → PlansFor undo k.sizes d k given latched (Ok p) after → KeepsBeside s after (places_of p.writes.items)
+    → PlansFor undo k.sizes d k given latched (Ok p) after → KeepsBeside s after (first_place p.writes.items)
 plans_for s k h true d given latched p after m = absurd m
 plans_for s k h false d given latched p after m = does s k h given latched d p after (of_sizes s k (λ o. Plans o d k given latched (Ok p) after) h m)
 
@@ -164,7 +146,7 @@ refuses_for s k h false d given latched r after m = does_not s k h given latched
 
 -- a record that ends an operation is the one that tells a deed
 undone_by : (s : State) (k : LevelState) (h : KeepsCells s k) (told : Record) (given : List Given) (latched : List ℕ) (p : Plan) (after : LevelState)
-    → chain_undoes k told given latched (Ok p) after → KeepsBeside s after (places_of p.writes.items)
+    → chain_undoes k told given latched (Ok p) after → KeepsBeside s after (first_place p.writes.items)
 undone_by s k h (OpEnd t n level deed) given latched p after m = takes_back s k h given latched (deed_in deed) p after (of_sizes s k (λ o. Undoes o (deed_in deed) k given latched (Ok p) after) h m)
 undone_by s k h told given latched p after m = absurd m
 
@@ -246,7 +228,7 @@ nothing_beside s k h = record {
 }
 
 -- what it is to write is chosen where it starts
-started_beside : (s : State) (r : Row) (u : Under) (ends : HeldEnds) (k : LevelState) → AreDistinct s.rows → IsIdle s r → u.made ≡ 0 → KeepsBeside s k (places_of u.writes) → KeepsCells (started s r u ends) k
+started_beside : (s : State) (r : Row) (u : Under) (ends : HeldEnds) (k : LevelState) → AreDistinct s.rows → IsIdle s r → u.made ≡ 0 → KeepsBeside s k (first_place u.writes) → KeepsCells (started s r u ends) k
 started_beside s r u ends k d m made h = record {
   sizes = h.sizes;
   free_count = h.free_count;
@@ -254,7 +236,7 @@ started_beside s r u ends k d m made h = record {
   free = h.free;
   chosen = λ i lt e. elim (h.chosen i lt e) [
     | inl y ↦ more_started s d r m u ends (cell_at s.sizes i) y
-    | inr has ↦ own_write s d r m u ends (cell_at s.sizes i) (subst (λ n. has_number (cell_at s.sizes i) (map (λ (w : SlotWrite). w.at) (drop n u.writes)) ≡ true) (sym made) has)
+    | inr has ↦ own_write s d r m u ends (cell_at s.sizes i) (subst (λ n. has_number (cell_at s.sizes i) (map (λ (w : SlotWrite). w.at) (drop n u.writes)) ≡ true) (sym made) (first_among (cell_at s.sizes i) u.writes has))
   ];
 }
 

@@ -1,5 +1,5 @@
 -- Which cells a level knows as chosen while a plan has not started, and how it comes to know a store's cells.
-use Rattle.std.specs.Prelude.{◌≡◌, ◌⊎◌, ℕ, ◌/◌, ◌+◌, ◌<◌, ◌≤◌, true, false, not, List, [], ◌∷◌, length, map, Some, Ok, Err}
+use Rattle.std.specs.Prelude.{◌≡◌, ◌⊎◌, ℕ, ◌/◌, ◌+◌, ◌<◌, ◌≤◌, true, false, not, List, [], ◌∷◌, length, Some, Ok, Err}
 use Rattle.rq_model.specs.declared.refusal.Refusal.{Refusal}
 use Rattle.rq_model.specs.declared.record.Record.{Record}
 use Rattle.rq_model.specs.Vocabulary.{has_number}
@@ -20,9 +20,10 @@ use Rattle.rq_sound.specs.Calls.{IsIdle, started}
 use Rattle.rq_sound.specs.Groups.{slots_now}
 use Rattle.rq_sound.specs.Levels.{KeepsCells, to_write}
 
--- where the writes of a plan go
-abbrev pub places_of : List SlotWrite → List ℕ
-places_of ws = map (λ w. w.at) ws
+-- where the first write of a plan goes: a cell that it takes
+abbrev pub first_place : List SlotWrite → List ℕ
+first_place [] = []
+first_place (w ∷ ws) = w.at ∷ []
 
 -- The level knows the cells, but that those at these addresses may be chosen too: a plan is to write there that has not
 -- started.
@@ -36,18 +37,18 @@ pub record KeepsBeside (s : State) (k : LevelState) (planned : List ℕ) : Type 
       → (to_write s.rows (cell_at s.sizes i) ≡ true) ⊎ (has_number (cell_at s.sizes i) planned ≡ true)
 
 -- A plan, or its refusal, leaves the level knowing the cells, but for the one that the plan chose. Where the plan starts,
--- that one is to be written. Where it does not, each of its slots is noted as it is, and the level knows the cells again.
+-- that one is to be written. Where it does not, its slot is noted as it is, and the level knows the cells again.
 pub record PlannedCellsAreKept : Type 0 where
   pub plans : (s : State) (k : LevelState) (job : Job) (given : List Given) (latched : List ℕ) (p : Plan) (after : LevelState)
-      → KeepsCells s k → chain_plans k job given latched (Ok p) after → KeepsBeside s after (places_of p.writes.items)
+      → KeepsCells s k → chain_plans k job given latched (Ok p) after → KeepsBeside s after (first_place p.writes.items)
   pub refuses : (s : State) (k : LevelState) (job : Job) (given : List Given) (latched : List ℕ) (r : Refusal) (after : LevelState)
       → KeepsCells s k → chain_plans k job given latched (Err r) after → KeepsCells s after
   pub undoes : (s : State) (k : LevelState) (told : Record) (given : List Given) (latched : List ℕ) (p : Plan) (after : LevelState)
-      → KeepsCells s k → chain_undoes k told given latched (Ok p) after → KeepsBeside s after (places_of p.writes.items)
+      → KeepsCells s k → chain_undoes k told given latched (Ok p) after → KeepsBeside s after (first_place p.writes.items)
   pub refuses_undo : (s : State) (k : LevelState) (told : Record) (given : List Given) (latched : List ℕ) (r : Refusal)
       (after : LevelState) → KeepsCells s k → chain_undoes k told given latched (Err r) after → KeepsCells s after
   pub starts : (s : State) (r : Row) (u : Under) (ends : HeldEnds) (k : LevelState) → AreDistinct s.rows → IsIdle s r
-      → u.made ≡ 0 → KeepsBeside s k (places_of u.writes) → KeepsCells (started s r u ends) k
+      → u.made ≡ 0 → KeepsBeside s k (first_place u.writes) → KeepsCells (started s r u ends) k
   pub notes : (s : State) (k : LevelState) (a : ℕ) (bytes : List ℕ) (planned : List ℕ) → IsStoreSlot s.sizes a
       → slots_now s a ≡ held_in s.sizes (a / 16) bytes → KeepsBeside s k (a ∷ planned)
       → KeepsBeside s (noted k a bytes) planned
