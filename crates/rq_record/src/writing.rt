@@ -1,5 +1,5 @@
 //! From records to bytes.
-ghost use Rattle.std.specs.Prelude.{◌≡◌, ◌+◌, ◌≤◌, ◌++◌, ◌∷◌, length, vec_len, vec_capacity, OnOk, OnErr, IsOk};
+ghost use Rattle.std.specs.Prelude.{◌≡◌, ◌+◌, ◌≤◌, ◌++◌, [], ◌∷◌, length, vec_len, vec_capacity, OnOk, OnErr, IsOk};
 ghost use Rattle.rq_model.specs.declared.record.Record.{Record};
 ghost use Rattle.rq_record.specs.Sizes.{length_of};
 ghost use Rattle.rq_record.specs.Spelling.{IsInRange, HasWidths, FitsTxn, IsImage, txn_bytes, spelling};
@@ -123,6 +123,23 @@ fn put_head(out: &mut Vec<u8>, size: u32, kind: u8, txn: &Txn)
     put(out, &head_of(size, kind, txn));
 }
 
+// What stands before the images of a slot write, of which a log has the most.
+#[tactic(auto, unfolding(rq_bytes::specs::Number::number, crate::specs::Spelling::txn_bytes))]
+fn front_of_page_op(txn: &Txn, operation: u64, page: u32, slot: u8) -> [u8; 34]
+    ensures { result ≡ number 4 542
+        ++ (1 ∷ (txn_bytes txn.now ++ (number 8 operation ++ (number 4 page ++ slot ∷ [])))) }
+{
+    let mut front = [0; 34];
+    BigEndian::write_u32(&mut front, 542);
+    front[4] = 1;
+    BigEndian::write_u64(&mut front[5..], txn.incarnation);
+    BigEndian::write_u64(&mut front[13..], txn.count);
+    BigEndian::write_u64(&mut front[21..], operation);
+    BigEndian::write_u32(&mut front[29..], page);
+    front[33] = slot;
+    front
+}
+
 // A record of each kind, put at the end.
 
 #[tactic(auto, using(crate::proofs::Spelled::spellings))]
@@ -140,10 +157,7 @@ fn put_page_op(
         ≡ out.old.items ++ spelling (Record.PageOp txn.now operation page slot before.now after.now) }
     ensures capacity { vec_capacity out.old ≤ vec_capacity out.new }
 {
-    put_head(out, 542, 1, txn);
-    put_u64(out, operation);
-    put_u32(out, page);
-    put_byte(out, slot);
+    put(out, &front_of_page_op(txn, operation, page, slot));
     put(out, before.as_slice());
     put(out, after.as_slice());
 }
