@@ -2,6 +2,7 @@
 ghost use Rattle.std.specs.Prelude.{◌≡◌, ◌<◌, ◌≤◌, ◌+◌, ◌*◌, ◌/◌, ℕ, IfSome, IfNone, None, Some, length, true, false};
 ghost use Rattle.rq_page.specs.Sizes.{cell_at, cell_count};
 ghost use Rattle.rq_level.specs.Given.{has_page};
+ghost use Rattle.rq_level.specs.LevelState.{flag_at};
 ghost use Rattle.rq_bitset.specs.Bits.{IsNextBit};
 ghost use Rattle.rq_chain.specs.Cells.{Flags, IsLowestIn, NoneInPage, NoneToTakeIn, is_open, noted_flags, reserved_flags, takes};
 
@@ -150,13 +151,30 @@ impl FreeCells {
         ensures others { IfSome result (λ i. (j : ℕ) → j / 15 ≡ page → j < i → is_open self.now j ≡ false) }
         ensures none { IfNone result (NoneInPage self.now page) }
     {
-        for slot in 0..SLOTS {
-            let place = page * SLOTS + slot;
-            if self.is_open(place) {
+        let mut from = page * SLOTS;
+        while let Some(place) = self.next_free(page, from) {
+            if !self.reserved.has(place) {
                 return Some(place);
             }
+            from = place + 1;
         }
         None
+    }
+
+    // The next free cell of a page, from this place on, whether a plan has chosen it or not.
+    fn next_free(&self, page: u32, from: u32) -> Option<u32>
+        requires { page * 15 ≤ from }
+        ensures free { IfSome result (λ i. (from ≤ i) × (i / 15 ≡ page) × (flag_at self.now.free i ≡ true)) }
+        ensures bound { IfSome result (λ i. i < 983040) }
+        ensures passed { IfSome result (λ i. (j : ℕ) → from ≤ j → j < i → is_open self.now j ≡ false) }
+        ensures none { IfNone result ((j : ℕ) → j / 15 ≡ page → from ≤ j → is_open self.now j ≡ false) }
+    {
+        let place = self.free.next(from)?;
+        if place / SLOTS == page {
+            Some(place)
+        } else {
+            None
+        }
     }
 }
 
