@@ -20,8 +20,7 @@ use crate::event::{Outcome, Progress};
 use crate::moves::{cells_given_back, leave_out_taken, put_in_taken};
 use rq_disk::{LogDevice, PageDevice};
 use rq_level::{Level, SlotWrite};
-use rq_model::message::Message;
-use rq_model::record::{Deed, Record};
+use rq_model::record::Record;
 use rq_model::refusal::Refusal;
 use rq_model::txn::{Lsn, Sub};
 use rq_record::shows_size;
@@ -210,30 +209,9 @@ fn done(deed: &ToldDeed) -> Outcome
     ensures reply { result ≡ answer_of deed.now }
     ensures gave { outcome_of result ≡ gave_done deed.now }
 {
-    match deed.gist() {
-        Gist::Append { .. } => Outcome::Sent,
-        Gist::UnlinkHead { .. } => outcome_of(&deed.deed()),
-        Gist::Close { .. } => Outcome::Closed,
-    }
-}
-
-// The same, by all that the deed says.
-fn outcome_of(deed: &Deed) -> Outcome
-    ensures reply { result ≡ answer_of deed.now }
-    ensures gave { outcome_of result ≡ gave_done deed.now }
-{
-    match deed {
-        Deed::Append { .. } => Outcome::Sent,
-        Deed::UnlinkHead {
-            sender,
-            sequence: _,
-            tag,
-            body,
-        } => Outcome::Message(Message {
-            sender: *sender,
-            tag: *tag,
-            body: *body,
-        }),
-        Deed::Close { sender: _ } => Outcome::Closed,
+    match (deed.message(), deed.gist()) {
+        (Some(message), _) => Outcome::Message(message),
+        (None, Gist::Close { .. }) => Outcome::Closed,
+        (None, _) => Outcome::Sent,
     }
 }

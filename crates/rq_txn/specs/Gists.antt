@@ -1,5 +1,6 @@
--- What is counted of deeds.
+-- What is counted of deeds, and what they took.
 use Rattle.std.specs.Prelude.{Option, None, Some}
+use Rattle.rq_model.specs.declared.message.Message.{Message}
 use Rattle.rq_model.specs.declared.record.Deed.{Deed}
 use Rattle.rq_model.specs.declared.record.Deed.TheVariants as deeds
 use Rattle.rq_txn.specs.declared.told.Gist.{Gist}
@@ -13,3 +14,11 @@ gist_of (deeds.Close sender) = Close sender
 abbrev pub gist_in : Option Deed → Option Gist
 gist_in None = None
 gist_in (Some d) = Some (gist_of d)
+
+abbrev pub message_of : Deed → Option Message
+message_of (deeds.UnlinkHead sender sequence tag body) = Some (record { sender = sender; tag = tag; body = body })
+message_of _ = None
+
+abbrev pub message_in : Option Deed → Option Message
+message_in None = None
+message_in (Some d) = message_of d

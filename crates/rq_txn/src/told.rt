@@ -1,13 +1,13 @@
 //! Deeds, as levels tell them.
 ghost use Rattle.std.specs.Prelude.{◌≡◌, ◌+◌, ◌≤◌, Some, drop, length};
 ghost use Rattle.byteorder.specs.Endian.{big_number};
-ghost use Rattle.rq_model.specs.Deeds.{deed_in, spelled_deed};
+ghost use Rattle.rq_model.specs.Deeds.{deed_in, spelled_deed, unlink_head_in};
 ghost use Rattle.rq_views.specs.Plans.{deed_sender};
 ghost use Rattle.rq_txn.specs.Told.{IsTold};
-ghost use Rattle.rq_txn.specs.Gists.{gist_in, gist_of};
+ghost use Rattle.rq_txn.specs.Gists.{gist_in, gist_of, message_in, message_of};
 
 use byteorder::{BigEndian, ByteOrder};
-use rq_model::message::BODY_LIMIT;
+use rq_model::message::{BODY_LIMIT, Body, Message};
 use rq_model::record::{Deed, DeedBytes};
 use rq_record::decode_deed;
 use std::marker::Model;
@@ -78,6 +78,13 @@ impl ToldDeed {
         gist_in(self.bytes.as_slice()).unwrap()
     }
 
+    /// The message that was taken, where one was.
+    pub fn message(&self) -> Option<Message>
+        ensures { result ≡ message_of self.now }
+    {
+        message_in(self.bytes.as_slice())
+    }
+
     /// Whose group it is of.
     pub fn sender(&self) -> u32
         ensures { result ≡ deed_sender self.now }
@@ -125,6 +132,33 @@ fn gist_in(bytes: &[u8]) -> Option<Gist>
         }
         _ => None,
     }
+}
+
+// The message that was taken by the deed that these bytes tell; none where they tell no such deed.
+fn message_in(bytes: &[u8]) -> Option<Message>
+    ensures { result ≡ message_in (deed_in bytes.now) }
+{
+    match bytes {
+        [1, ..] => None,
+        [2, fields @ ..] => message_at(fields),
+        [3, ..] => None,
+        _ => None,
+    }
+}
+
+// The message in the fields of a deed that took one.
+fn message_at(fields: &[u8]) -> Option<Message>
+    ensures { result ≡ message_in (unlink_head_in fields.now) }
+{
+    if fields.len() < 20 || number_at(fields, 4) == 0 {
+        return None;
+    }
+    let body = Body::new(&fields[20..])?;
+    Some(Message {
+        sender: BigEndian::read_u32(fields),
+        tag: number_at(fields, 12),
+        body,
+    })
 }
 
 // A number of the fields of a deed.

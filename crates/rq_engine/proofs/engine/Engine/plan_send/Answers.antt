@@ -1,4 +1,4 @@
-use Rattle.std.proofs.Common.{◌≡◌, ℕ, ◌≤◌, ◌^◌, length, Some, ap, subst, arith}
+use Rattle.std.proofs.Common.{◌≡◌, ℕ, ◌≤◌, ◌^◌, Some, ap, subst, arith}
 use Rattle.rq_views.specs.Stored.{slots_in}
 use Rattle.rq_level.specs.Ops.{Doing, Job}
 use Rattle.rq_level.specs.Ops.Doing.{Send}
