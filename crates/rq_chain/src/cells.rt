@@ -129,13 +129,6 @@ impl FreeCells {
         None
     }
 
-    // Whether the cell may be taken, latched or not.
-    fn is_open(&self, place: u32) -> bool
-        ensures { result ≡ is_open self.now place }
-    {
-        self.free.has(place) && !self.reserved.has(place)
-    }
-
     // A page has none.
     fn close_page(&mut self, page: u32)
         requires { NoneInPage self.old page }
