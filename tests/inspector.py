@@ -32,6 +32,7 @@ KINDS = {
     6: ("commit", (8, 8), 0),
     7: ("restart", (8,), 0),
     8: ("abort-end", (8, 8), 0),
+    9: ("base", (8, 8), 0),
 }
 
 # How each line goes on, by the numbers of its record in the order of its bytes.
@@ -44,6 +45,7 @@ LINES = {
     "commit": "{0}.{1}",
     "restart": "{0}",
     "abort-end": "{0}.{1}",
+    "base": "{0} {1}",
 }
 
 
@@ -73,7 +75,9 @@ def of_line(line):
 
 
 def is_in_range(name, numbers):
-    """Pages may be any; slots are 1 to 15, all other numbers at least 1."""
+    """Pages may be any; slots are 1 to 15, all other numbers at least 1. A base is of fewer than 2^50 records, and of no more incarnations."""
+    if name == "base" and not numbers[1] <= numbers[0] < 2**50:
+        return False
     page = {"page-op": 3, "page-undo": 4}.get(name)
     if page is not None and not 1 <= numbers[-1] <= 15:
         return False
@@ -98,15 +102,26 @@ def front(log, at):
 
 
 def is_torn(end):
-    """Whether bytes are a proper beginning of a record: with ones behind they are a whole one, of some kind and length."""
+    """Whether bytes are a proper beginning of a record: with ones behind they are a whole one, of some kind and length. A base is one
+    also with the least numbers behind: what lacks of a number is 0, but for a 1 at the end of one that would be none."""
     for kind, (_, widths, room) in KINDS.items():
         least = 1 + sum(widths)
         for size in range(least + 1, least + 257) if room is None else (least + room,):
             head = size.to_bytes(4, "big") + bytes([kind])
-            whole = (end + head[len(end) :]).ljust(4 + size, b"\1")
-            if len(end) < 4 + size and whole[:5] == head and front(whole, 0):
+            begun = end + head[len(end) :]
+            wholes = [begun.ljust(4 + size, b"\1")] if kind != 9 else least_bases(begun)
+            if len(end) < 4 + size and any(whole[:5] == head and front(whole, 0) for whole in wholes):
                 return True
     return False
+
+
+def least_bases(begun):
+    """A base that begins so, with the least numbers."""
+    if len(begun) < 13:
+        begun = begun.ljust(13, b"\0")
+        begun = begun if any(begun[5:13]) else begun[:12] + b"\1"
+    whole = begun.ljust(21, b"\0")
+    return [whole if any(whole[13:21]) else whole[:20] + b"\1"]
 
 
 # ---- what is to be printed
@@ -260,7 +275,7 @@ def damaged_records():
             yield f"{name} of slot 16", record(kind, [1] * (len(widths) - 1) + [16])
     yield "an op-end of no deed", record(3, [1] * 4, b"")
     yield "an op-end of too long a deed", record(3, [1] * 4, bytes(257))
-    for kind in (0, 9, 128, 255):
+    for kind in (0, 10, 128, 255):
         yield f"kind {kind}", b"\0\0\0\x11" + bytes([kind]) + b"\0\0\0\0\0\0\0\1" * 2
     for size in (0, 1, 2**31, 2**32 - 1):
         yield f"a length of {size}", size.to_bytes(4, "big") + b"\x06" + b"\0\0\0\0\0\0\0\1" * 2

@@ -64,10 +64,10 @@ module _ (log : List Record) (f : FollowAll log) where
         elim p.1 [
           | inl u ↦
               let k = open_parts (operation t n) u in
-              record { running = run; going = k.1; begun = tt; numbered = λ off. absurd (true≢false (sym k.0 ∙ off)); undoes = tt; takes_back = tt; reads = tt }
+              record { running = run; going = k.1; begun = tt; numbered = λ off. absurd (true≢false (sym k.0 ∙ off)); undoes = tt; takes_back = tt; reads = tt; belongs = tt }
           | inr e ↦
               let new : n ≡ greatest_number t log + 1 = e ∙ ap (λ (k : ℕ). k + 1) (number_kept log t run) in
-              record { running = run; going = unbegun_going (operation t n) log (next_unbegun t n new); begun = tt; numbered = λ off. new; undoes = tt; takes_back = tt; reads = tt }
+              record { running = run; going = unbegun_going (operation t n) log (next_unbegun t n new); begun = tt; numbered = λ off. new; undoes = tt; takes_back = tt; reads = tt; belongs = tt }
         ]
 
     from : FollowsRules log (records.PageOp t n page slot before after) → Passes (open_work_of log) (dues log) (numbers log) (ended log) (records.PageOp t n page slot before after)
@@ -79,32 +79,36 @@ module _ (log : List Record) (f : FollowAll log) where
       ],
     )
   judged (records.PageUndo t n undone page slot after) w can = (
-    λ p. let k = open_parts (operation t n) p.1 in record { running = runs t w.1 w.0.1 p.0; going = k.1; begun = k.0; numbered = tt; undoes = ap first (sym (undoable_kept log f (operation t n) k.1)) ∙ p.2; takes_back = tt; reads = tt },
+    λ p. let k = open_parts (operation t n) p.1 in record { running = runs t w.1 w.0.1 p.0; going = k.1; begun = k.0; numbered = tt; undoes = ap first (sym (undoable_kept log f (operation t n) k.1)) ∙ p.2; takes_back = tt; reads = tt; belongs = tt },
     λ q. (running t w.1 w.0.1 q.running, open_from (operation t n) q.begun q.going, ap first (undoable_kept log f (operation t n) q.going) ∙ q.undoes),
   )
   judged (records.OpEnd t n level deed) w can = (
-    λ p. let k = open_parts (operation t n) p.1 in record { running = runs t w.1 w.0.1 p.0; going = k.1; begun = k.0; numbered = tt; undoes = tt; takes_back = tt; reads = can },
+    λ p. let k = open_parts (operation t n) p.1 in record { running = runs t w.1 w.0.1 p.0; going = k.1; begun = k.0; numbered = tt; undoes = tt; takes_back = tt; reads = can; belongs = tt },
     λ q. (running t w.1 w.0.1 q.running, open_from (operation t n) q.begun q.going),
   )
   judged (records.OpVoid t n) w can = (
-    λ p. let k = open_parts (operation t n) p.1 in record { running = runs t w.1 w.0.1 p.0; going = k.1; begun = k.0; numbered = tt; undoes = tt; takes_back = tt; reads = tt },
+    λ p. let k = open_parts (operation t n) p.1 in record { running = runs t w.1 w.0.1 p.0; going = k.1; begun = k.0; numbered = tt; undoes = tt; takes_back = tt; reads = tt; belongs = tt },
     λ q. (running t w.1 w.0.1 q.running, open_from (operation t n) q.begun q.going),
   )
   judged (records.CompEnd t n undone) w can = (
-    λ p. let k = open_parts (operation t n) p.1 in let run = runs t w.1 w.0.1 p.0 in record { running = run; going = k.1; begun = k.0; numbered = tt; undoes = tt; takes_back = sym (due_kept log f t run) ∙ p.2; reads = tt },
+    λ p. let k = open_parts (operation t n) p.1 in let run = runs t w.1 w.0.1 p.0 in record { running = run; going = k.1; begun = k.0; numbered = tt; undoes = tt; takes_back = sym (due_kept log f t run) ∙ p.2; reads = tt; belongs = tt },
     λ q. (running t w.1 w.0.1 q.running, open_from (operation t n) q.begun q.going, due_kept log f t q.running ∙ q.takes_back),
   )
   judged (records.Commit t) w can = (
-    λ p. record { running = runs t w.1 w.0.1 p; going = tt; begun = tt; numbered = tt; undoes = tt; takes_back = tt; reads = tt },
+    λ p. record { running = runs t w.1 w.0.1 p; going = tt; begun = tt; numbered = tt; undoes = tt; takes_back = tt; reads = tt; belongs = tt },
     λ q. running t w.1 w.0.1 q.running,
   )
   judged (records.AbortEnd t) w can = (
-    λ p. record { running = runs t w.1 w.0.1 p; going = tt; begun = tt; numbered = tt; undoes = tt; takes_back = tt; reads = tt },
+    λ p. record { running = runs t w.1 w.0.1 p; going = tt; begun = tt; numbered = tt; undoes = tt; takes_back = tt; reads = tt; belongs = tt },
     λ q. running t w.1 w.0.1 q.running,
   )
   judged (records.Restart i) w can = (
-    λ p. record { running = tt; going = tt; begun = tt; numbered = tt; undoes = tt; takes_back = tt; reads = tt },
+    λ p. record { running = tt; going = tt; begun = tt; numbered = tt; undoes = tt; takes_back = tt; reads = tt; belongs = tt },
     λ q. tt,
+  )
+  judged (records.Base many i) w can = (
+    λ p. absurd p,
+    λ q. absurd q.belongs,
   )
 
 pub judged_by : (log : List Record) (r : Record) (h : OpenWorkView) (ds : List PendingUndo) (os : List Sub) (ns : Counts) → AreTablesOf log h ds os ns → FollowAll log → InOrder (r ∷ log) → CanBeRead r → Passes h ds os ns r ↔ FollowsRules log r

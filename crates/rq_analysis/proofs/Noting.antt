@@ -26,13 +26,8 @@ use Rattle.rq_analysis.specs.OpenWorkView.{OpenWorkView, open_work_of, has_sub, 
 pub noted_incarnation : (log : List Record) → (open_work_of log).incarnation ≡ incarnation_of log
 noted_incarnation [] = refl
 noted_incarnation (records.Restart i ∷ log) = refl
-noted_incarnation (records.PageOp t n page slot before after ∷ log) = noted_incarnation log
-noted_incarnation (records.PageUndo t n undone page slot after ∷ log) = noted_incarnation log
-noted_incarnation (records.OpEnd t n level deed ∷ log) = noted_incarnation log
-noted_incarnation (records.OpVoid t n ∷ log) = noted_incarnation log
-noted_incarnation (records.CompEnd t n undone ∷ log) = noted_incarnation log
-noted_incarnation (records.Commit t ∷ log) = noted_incarnation log
-noted_incarnation (records.AbortEnd t ∷ log) = noted_incarnation log
+noted_incarnation (records.Base many i ∷ log) = refl
+noted_incarnation (_ ∷ log) = noted_incarnation log
 
 -- one test after another
 pub filter_twice : {X : Type 0} (f g : X → Bool) (xs : List X) → filter (λ x. not (f x || g x)) xs ≡ filter (λ x. not (f x)) (filter (λ x. not (g x)) xs)
@@ -119,13 +114,10 @@ noted_unfinished z (records.PageOp t n page slot before after ∷ log) k =
     pairs_with t n (open_work_of log).unfinished
     ∙ ap (add_pair (Some (t, n))) (noted_unfinished z log k.1)
     ∙ sym (pair_more (λ p. not (any_record (operation_ended p.0 p.1) log)) (operations log) t n (ap not e))
-noted_unfinished z (records.PageUndo t n undone page slot after ∷ log) k = noted_unfinished z log k.1
 noted_unfinished z (records.OpEnd t n level deed ∷ log) k = ended_more t n (open_work_of log).unfinished log (noted_unfinished z log k.1)
 noted_unfinished z (records.OpVoid t n ∷ log) k = ended_more t n (open_work_of log).unfinished log (noted_unfinished z log k.1)
 noted_unfinished z (records.CompEnd t n undone ∷ log) k = ended_more t n (open_work_of log).unfinished log (noted_unfinished z log k.1)
-noted_unfinished z (records.Commit t ∷ log) k = noted_unfinished z log k.1
-noted_unfinished z (records.AbortEnd t ∷ log) k = noted_unfinished z log k.1
-noted_unfinished z (records.Restart i ∷ log) k = noted_unfinished z log k.1
+noted_unfinished z (_ ∷ log) k = noted_unfinished z log k.1
 
 pub filter_same : {X : Type 0} (f g : X → Bool) (xs : List X) → ((x : X) → f x ≡ g x) → filter f xs ≡ filter g xs
 filter_same f g xs h = let e : f ≡ g = λ i. λ x. h x i in ap (λ k. filter k xs) e
@@ -133,34 +125,25 @@ filter_same f g xs h = let e : f ≡ g = λ i. λ x. h x i in ap (λ k. filter k
 -- and the transactions those that are lost
 pub noted_active : (z : Sizes) (log : List Record) → IsLegalLog (layout_of z) (items z log) → ReadsItsDeeds log → (open_work_of log).active ≡ lost log
 noted_active z [] k r = refl
-noted_active z (records.PageOp t n page slot before after ∷ log) k r = noted_active z log k.1 r.1
-noted_active z (records.PageUndo t n undone page slot after ∷ log) k r = noted_active z log k.1 r.1
 noted_active z (records.OpEnd t n level deed ∷ log) k r =
     let e : ending (records.OpEnd t n level deed) ≡ ending_by t (Some r.0.1.0) = ap (λ l. ending_by t (cond (nat_eq l 1) (deed_in deed) None)) r.0.0 ∙ ap (ending_by t) r.0.1.1 in
     let open_one : has_end log t ≡ false = sym (has_end_same z t log) ∙ k.0.running in
     ap (with_txn t) (noted_active z log k.1 r.1)
     ∙ sym (txn_more (λ u. not (has_end log u)) (workers log) t (ap not open_one))
     ∙ ap (λ (x : Option Ending). filter (λ u. not (has_end log u)) (add_txn x (workers log))) (sym e)
-noted_active z (records.OpVoid t n ∷ log) k r = noted_active z log k.1 r.1
-noted_active z (records.CompEnd t n undone ∷ log) k r = noted_active z log k.1 r.1
 noted_active z (records.Commit t ∷ log) k r =
     ap (without_txn t) (noted_active z log k.1 r.1)
     ∙ sym (filter_twice (λ u. same_txn t u) (λ u. has_end log u) (workers log))
     ∙ filter_same (λ u. not (same_txn t u || has_end log u)) (λ u. not ((same_txn t u || false) || has_end log u)) (workers log) (λ u. ap (λ b. not (b || has_end log u)) (sym (or-false (same_txn t u))))
 noted_active z (records.AbortEnd t ∷ log) k r = ap (without_txn t) (noted_active z log k.1 r.1) ∙ sym (filter_twice (λ u. same_txn t u) (λ u. has_end log u) (workers log))
-noted_active z (records.Restart i ∷ log) k r = noted_active z log k.1 r.1
+noted_active z (_ ∷ log) k r = noted_active z log k.1 r.1
 
 -- there are no more incarnations than records
 pub few_incarnations : (log : List Record) → InOrder log → incarnation_of log ≤ length log
 few_incarnations [] o = omega arith
 few_incarnations (records.Restart i ∷ log) o = let e : i ≡ incarnation_of log + 1 = o.0 in let ih = few_incarnations log o.1 in omega (arith, e, ih)
-few_incarnations (records.PageOp t n page slot before after ∷ log) o = let ih = few_incarnations log o.1 in omega (arith, ih)
-few_incarnations (records.PageUndo t n undone page slot after ∷ log) o = let ih = few_incarnations log o.1 in omega (arith, ih)
-few_incarnations (records.OpEnd t n level deed ∷ log) o = let ih = few_incarnations log o.1 in omega (arith, ih)
-few_incarnations (records.OpVoid t n ∷ log) o = let ih = few_incarnations log o.1 in omega (arith, ih)
-few_incarnations (records.CompEnd t n undone ∷ log) o = let ih = few_incarnations log o.1 in omega (arith, ih)
-few_incarnations (records.Commit t ∷ log) o = let ih = few_incarnations log o.1 in omega (arith, ih)
-few_incarnations (records.AbortEnd t ∷ log) o = let ih = few_incarnations log o.1 in omega (arith, ih)
+few_incarnations (records.Base many i ∷ log) o = let e : i ≡ incarnation_of log = o.0.1 in let ih = few_incarnations log o.1 in omega (arith, e, ih)
+few_incarnations (_ ∷ log) o = let ih = few_incarnations log o.1 in omega (arith, ih)
 
 -- a search of a list
 pub any_sub : (o : Sub) (os : List Sub) → list_any (λ u. same_op u o) os ≡ has_sub o os

@@ -110,13 +110,13 @@ kept z (records.PageUndo u n undone page slot after ∷ log) t e = more z log t 
 kept z (records.OpEnd u n level deed ∷ log) t e = more z log t (operation u n) (kept z log t e)
 kept z (records.OpVoid u n ∷ log) t e = more z log t (operation u n) (kept z log t e)
 kept z (records.CompEnd u n undone ∷ log) t e = more z log t (operation u n) (kept z log t e)
-kept z (records.Restart i ∷ log) t e = kept z log t e ∙ with_none (greatest t (items z log))
 kept z (records.Commit u ∷ log) t e =
     let k = or_parts (same_txn u t || false) (has_end log t) e in
     number_but t u (numbers log) (or_parts (same_txn u t) false k.0).0 ∙ kept z log t k.1 ∙ with_none (greatest t (items z log))
 kept z (records.AbortEnd u ∷ log) t e =
     let k = or_parts (same_txn u t) (has_end log t) e in
     number_but t u (numbers log) k.0 ∙ kept z log t k.1 ∙ with_none (greatest t (items z log))
+kept z (_ ∷ log) t e = kept z log t e ∙ with_none (greatest t (items z log))
 
 pub row_number : (s : State) (r : Row) → IsSound s → In r s.rows → r.under ≡ None → number_of r.txn (numbers s.records) ≡ r.number
 row_number s r k j off =
@@ -168,6 +168,6 @@ once (records.PageUndo u n undone page slot after ∷ log) t = own_with t (opera
 once (records.OpEnd u n level deed ∷ log) t = own_with t (operation u n) (numbers log) (once log t)
 once (records.OpVoid u n ∷ log) t = own_with t (operation u n) (numbers log) (once log t)
 once (records.CompEnd u n undone ∷ log) t = own_with t (operation u n) (numbers log) (once log t)
-once (records.Restart i ∷ log) t = once log t
 once (records.Commit u ∷ log) t = (let a = once log t in let b = own_but t u (numbers log) in omega (arith, a, b))
 once (records.AbortEnd u ∷ log) t = (let a = once log t in let b = own_but t u (numbers log) in omega (arith, a, b))
+once (_ ∷ log) t = once log t

@@ -22,23 +22,11 @@ use Rattle.rq_analysis.specs.Rules.{FollowAll, ends_op, greatest_number, has_op,
 -- the same said of the items of a log
 of_same : (z : Sizes) (r : Record) → op_of r ≡ of_op (item_of z r)
 of_same z (records.PageOp t n page slot before after) = refl
-of_same z (records.PageUndo t n undone page slot after) = refl
-of_same z (records.OpEnd t n level deed) = refl
-of_same z (records.OpVoid t n) = refl
-of_same z (records.CompEnd t n undone) = refl
-of_same z (records.Commit t) = refl
-of_same z (records.AbortEnd t) = refl
-of_same z (records.Restart i) = refl
+of_same z _ = refl
 
 ends_same : (z : Sizes) (r : Record) → ends_op r ≡ is_end (item_of z r)
 ends_same z (records.PageOp t n page slot before after) = refl
-ends_same z (records.PageUndo t n undone page slot after) = refl
-ends_same z (records.OpEnd t n level deed) = refl
-ends_same z (records.OpVoid t n) = refl
-ends_same z (records.CompEnd t n undone) = refl
-ends_same z (records.Commit t) = refl
-ends_same z (records.AbortEnd t) = refl
-ends_same z (records.Restart i) = refl
+ends_same z _ = refl
 
 pub has_op_same : (z : Sizes) (o : Sub) (log : List Record) → has_op o log ≡ began o (items z log)
 has_op_same z o [] = refl
@@ -126,6 +114,4 @@ unfinished_kept (records.PageUndo t n undone page slot after ∷ log) f o =
 unfinished_kept (records.OpEnd t n level deed ∷ log) f o = ended_one (operation t n) o log (unfinished_kept log f.1 o) f.0.begun
 unfinished_kept (records.OpVoid t n ∷ log) f o = ended_one (operation t n) o log (unfinished_kept log f.1 o) f.0.begun
 unfinished_kept (records.CompEnd t n undone ∷ log) f o = ended_one (operation t n) o log (unfinished_kept log f.1 o) f.0.begun
-unfinished_kept (records.Commit t ∷ log) f o = unfinished_kept log f.1 o
-unfinished_kept (records.AbortEnd t ∷ log) f o = unfinished_kept log f.1 o
-unfinished_kept (records.Restart i ∷ log) f o = unfinished_kept log f.1 o
+unfinished_kept (_ ∷ log) f o = unfinished_kept log f.1 o

@@ -55,13 +55,7 @@ ends_below t (records.OpEnd u n level deed ∷ log) = elim (cases_Bool (same_txn
   | inl y ↦ rw y (omega arith, ends_below t log)
   | inr m ↦ rw m (older_below t log (ends_below t log))
 ]
-ends_below t (records.PageOp u n page slot before after ∷ log) = older_below t log (ends_below t log)
-ends_below t (records.PageUndo u n undone page slot after ∷ log) = older_below t log (ends_below t log)
-ends_below t (records.OpVoid u n ∷ log) = older_below t log (ends_below t log)
-ends_below t (records.CompEnd u n undone ∷ log) = older_below t log (ends_below t log)
-ends_below t (records.Commit u ∷ log) = older_below t log (ends_below t log)
-ends_below t (records.AbortEnd u ∷ log) = older_below t log (ends_below t log)
-ends_below t (records.Restart i ∷ log) = older_below t log (ends_below t log)
+ends_below t (_ ∷ log) = older_below t log (ends_below t log)
 
 pub names_older : (t : Txn) (log : List Record) (n : ℕ) → first (left_of t log) ≡ Some n → n < length log + 1
 names_older t log n e =
@@ -79,12 +73,7 @@ none_later t (records.CompEnd u m undone ∷ log) n f lt =
     none_there true c e = e
     none_there false c e = e
 none_later t (records.PageOp u m page slot before after ∷ log) n f lt = none_later t log n f.1 (omega (arith, lt))
-none_later t (records.PageUndo u m undone page slot after ∷ log) n f lt = none_later t log n f.1 (omega (arith, lt))
-none_later t (records.OpEnd u m level deed ∷ log) n f lt = none_later t log n f.1 (omega (arith, lt))
-none_later t (records.OpVoid u m ∷ log) n f lt = none_later t log n f.1 (omega (arith, lt))
-none_later t (records.Commit u ∷ log) n f lt = none_later t log n f.1 (omega (arith, lt))
-none_later t (records.AbortEnd u ∷ log) n f lt = none_later t log n f.1 (omega (arith, lt))
-none_later t (records.Restart i ∷ log) n f lt = none_later t log n f.1 (omega (arith, lt))
+none_later t (_ ∷ log) n f lt = none_later t log n f.1 (omega (arith, lt))
 
 -- the first alone is left out
 but : (n m : ℕ) (ns : List ℕ) → m ≤ n → AreBelow m ns → filter (λ k. not (nat_eq n k)) ns ≡ ns
@@ -163,10 +152,7 @@ dues_kept (records.Commit u ∷ log) f t g =
 dues_kept (records.AbortEnd u ∷ log) f t g =
     let k = or_parts (same_txn u t) (has_end log t) g in
     ap (map lsn_of) (other_own t u (dues log) k.0) ∙ dues_kept log f.1 t k.1
-dues_kept (records.PageOp u n page slot before after ∷ log) f t g = dues_kept log f.1 t g
-dues_kept (records.PageUndo u n undone page slot after ∷ log) f t g = dues_kept log f.1 t g
-dues_kept (records.OpVoid u n ∷ log) f t g = dues_kept log f.1 t g
-dues_kept (records.Restart i ∷ log) f t g = dues_kept log f.1 t g
+dues_kept (_ ∷ log) f t g = dues_kept log f.1 t g
 
 first_lsn : (ds : List PendingUndo) → lsn_due (first ds) ≡ first (map lsn_of ds)
 first_lsn [] = refl

@@ -56,10 +56,6 @@ others_stay t (x ∷ xs) e = elim (cases_Bool (owned_by t x)) [
 -- of a legal log they are the open deeds of all
 dues_are : (z : Sizes) (log : List Record) → IsLegalLog (layout_of z) (items z log) → map owned_due (dues log) ≡ all_open (items z log)
 dues_are z [] k = refl
-dues_are z (records.PageOp t n page slot before after ∷ log) k = dues_are z log k.1
-dues_are z (records.PageUndo t n undone page slot after ∷ log) k = dues_are z log k.1
-dues_are z (records.OpVoid t n ∷ log) k = dues_are z log k.1
-dues_are z (records.Restart i ∷ log) k = dues_are z log k.1
 dues_are z (records.CompEnd t n undone ∷ log) k = map_but_newest t (dues log) ∙ ap (but_first (owned_by t)) (dues_are z log k.1)
 dues_are z (records.Commit t ∷ log) k = map_but_own t (dues log) ∙ ap (but_all (owned_by t)) (dues_are z log k.1)
 dues_are z (records.AbortEnd t ∷ log) k =
@@ -69,6 +65,7 @@ dues_are z (records.OpEnd t n level deed ∷ log) k =
     let d : Deed = told_deed (deed_in deed) in
     ap (λ (l : List Owned). record { txn = t; placed = record { lsn = length log + 1; deed = d } } ∷ l) (dues_are z log k.1)
     ∙ ap (λ (k : ℕ). record { txn = t; placed = record { lsn = k + 1; deed = d } } ∷ all_open (items z log)) (sym (length-map log (item_of z)))
+dues_are z (_ ∷ log) k = dues_are z log k.1
 
 map_own : (t : Txn) (ds : List PendingUndo) → map placed_of (filter (owned_by t) (map owned_due ds)) ≡ map placed_due (filter (due_of t) ds)
 map_own t [] = refl
@@ -108,14 +105,11 @@ older_below log ds h = below_more (length log) (suc (length log)) ds (omega arit
 
 dues_below : (log : List Record) → AreBelow (length log) (dues log)
 dues_below [] = tt
-dues_below (records.PageOp t n page slot before after ∷ log) = older_below log (dues log) (dues_below log)
-dues_below (records.PageUndo t n undone page slot after ∷ log) = older_below log (dues log) (dues_below log)
-dues_below (records.OpVoid t n ∷ log) = older_below log (dues log) (dues_below log)
-dues_below (records.Restart i ∷ log) = older_below log (dues log) (dues_below log)
 dues_below (records.CompEnd t n undone ∷ log) = below_newest t (suc (length log)) (dues log) (older_below log (dues log) (dues_below log))
 dues_below (records.Commit t ∷ log) = below_own t (suc (length log)) (dues log) (older_below log (dues log) (dues_below log))
 dues_below (records.AbortEnd t ∷ log) = below_own t (suc (length log)) (dues log) (older_below log (dues log) (dues_below log))
 dues_below (records.OpEnd t n level deed ∷ log) = (omega arith, below_more (length log) (length log + 1) (dues log) (omega arith) (dues_below log))
+dues_below (_ ∷ log) = older_below log (dues log) (dues_below log)
 
 all_below : (n : ℕ) (ds : List PendingUndo) (d : PendingUndo) → AreBelow n ds → In d ds → d.lsn ≤ n
 all_below n [] d h i = absurd i

@@ -50,13 +50,11 @@ op_began z p (records.PageOp t n page slot before after ∷ log) i = elim (cases
     | inr is ↦ or_left _ (began (operation p.0 p.1) (items z log)) (ap (λ (q : Txn × ℕ). same_txn t q.0 && nat_eq n q.1) is ∙ ops.same_self (operation t n))
   ]
 ]
-op_began z p (records.PageUndo t n undone page slot after ∷ log) i = or_right _ (began (operation p.0 p.1) (items z log)) (op_began z p log i)
-op_began z p (records.OpEnd t n level deed ∷ log) i = or_right _ (began (operation p.0 p.1) (items z log)) (op_began z p log i)
-op_began z p (records.OpVoid t n ∷ log) i = or_right _ (began (operation p.0 p.1) (items z log)) (op_began z p log i)
-op_began z p (records.CompEnd t n undone ∷ log) i = or_right _ (began (operation p.0 p.1) (items z log)) (op_began z p log i)
 op_began z p (records.Commit t ∷ log) i = op_began z p log i
 op_began z p (records.AbortEnd t ∷ log) i = op_began z p log i
 op_began z p (records.Restart j ∷ log) i = op_began z p log i
+op_began z p (records.Base many j ∷ log) i = op_began z p log i
+op_began z p (_ ∷ log) i = or_right _ (began (operation p.0 p.1) (items z log)) (op_began z p log i)
 
 module _ (s : State) (k : IsSound s) (e : s.rows ≡ []) where
   settled : (t : Txn) → IsSettled s.sizes s.records t

@@ -55,14 +55,9 @@ plain_content z log now g w v x =
 
 -- nobody is lost behind them who was not
 plain_ending : (r : Record) (ts : List Txn) → is_plain r ≡ true → add_txn (ending r) ts ≡ ts
-plain_ending (records.PageOp t n page slot before after) ts e = refl
-plain_ending (records.PageUndo t n undone page slot after) ts e = refl
 plain_ending (records.OpEnd t n level deed) ts e = absurd (true≢false (sym e))
-plain_ending (records.OpVoid t n) ts e = refl
-plain_ending (records.CompEnd t n undone) ts e = refl
 plain_ending (records.Commit t) ts e = absurd (true≢false (sym e))
-plain_ending (records.AbortEnd t) ts e = refl
-plain_ending (records.Restart i) ts e = refl
+plain_ending _ ts e = refl
 
 same_workers : (more log : List Record) → ArePlain more → workers (more ++ log) ≡ workers log
 same_workers [] log p = refl

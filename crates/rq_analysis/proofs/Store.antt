@@ -90,13 +90,8 @@ lost_sound z images log forced h = record {
 -- a log that is not empty begins with a restart
 next_some : (i : ℕ) (r : Record) → IsNext i r → 1 ≤ incarnation_one r i
 next_some i (records.Restart j) h = (let e : j ≡ i + 1 = h in omega (arith, e))
-next_some i (records.PageOp t n page slot before after) h = h.0
-next_some i (records.PageUndo t n undone page slot after) h = h.0
-next_some i (records.OpEnd t n level deed) h = h.0
-next_some i (records.OpVoid t n) h = h.0
-next_some i (records.CompEnd t n undone) h = h.0
-next_some i (records.Commit t) h = h.0
-next_some i (records.AbortEnd t) h = h.0
+next_some i (records.Base many j) h = (let e : j ≡ i = h.1 in let some : 1 ≤ i = h.0 in omega (arith, e, some))
+next_some i _ h = h.0
 
 pub some_incarnation : (z : Sizes) (log : List Record) → IsWhole z log → lost log ≢ [] → 1 ≤ incarnation_of log
 some_incarnation z [] w ne = absurd (ne refl)

@@ -55,6 +55,7 @@ write_there o (records.CompEnd t n undone ∷ log) p i = older_there o (records.
 write_there o (records.Commit t ∷ log) p i = older_there o (records.Commit t) log p i (write_there o log p i)
 write_there o (records.AbortEnd t ∷ log) p i = older_there o (records.AbortEnd t) log p i (write_there o log p i)
 write_there o (records.Restart j ∷ log) p i = older_there o (records.Restart j) log p i (write_there o log p i)
+write_there o (records.Base many j ∷ log) p i = older_there o (records.Base many j) log p i (write_there o log p i)
 
 -- that of the PageUndo that follows
 named_there : (log : List Record) (t : Txn) (n lsn page slot : ℕ) (after : List ℕ) → first (standing (operation t n) log) ≡ Some (undoable_at lsn (operation t n) page slot after)
@@ -75,12 +76,7 @@ none_later (records.PageUndo t n undone page slot after ∷ log) lsn f lt =
     let other : nat_eq undone lsn ≡ false = ne_eqb undone lsn (λ e. absurd (omega (arith, a, e, lt))) in
     rw other (none_later log lsn f.1 (omega (arith, lt)))
 none_later (records.PageOp t n page slot before after ∷ log) lsn f lt = none_later log lsn f.1 (omega (arith, lt))
-none_later (records.OpEnd t n level deed ∷ log) lsn f lt = none_later log lsn f.1 (omega (arith, lt))
-none_later (records.OpVoid t n ∷ log) lsn f lt = none_later log lsn f.1 (omega (arith, lt))
-none_later (records.CompEnd t n undone ∷ log) lsn f lt = none_later log lsn f.1 (omega (arith, lt))
-none_later (records.Commit t ∷ log) lsn f lt = none_later log lsn f.1 (omega (arith, lt))
-none_later (records.AbortEnd t ∷ log) lsn f lt = none_later log lsn f.1 (omega (arith, lt))
-none_later (records.Restart i ∷ log) lsn f lt = none_later log lsn f.1 (omega (arith, lt))
+none_later (_ ∷ log) lsn f lt = none_later log lsn f.1 (omega (arith, lt))
 
 -- where a record has this LSN, it is the newest, or one behind
 at_or_behind : (r : Record) (log : List Record) (lsn : ℕ) (x : Record) → record_at lsn (r ∷ log) ≡ Some x → ((lsn ≡ length log + 1) × (r ≡ x)) ⊎ (record_at lsn log ≡ Some x)
@@ -109,12 +105,7 @@ module _ (t : Txn) (n lsn page slot : ℕ) (before after : List ℕ) where
           | inr off ↦ rw off (ih parts.1)
         ]
     one_more (records.PageOp u m p s b a) g h = ih h
-    one_more (records.OpEnd u m level deed) g h = ih h
-    one_more (records.OpVoid u m) g h = ih h
-    one_more (records.CompEnd u m undone) g h = ih h
-    one_more (records.Commit u) g h = ih h
-    one_more (records.AbortEnd u) g h = ih h
-    one_more (records.Restart i) g h = ih h
+    one_more _ g h = ih h
 
   not_named : (log : List Record) → FollowAll log → record_at lsn log ≡ Some the_write → any_record (undoes (operation t n) lsn) log ≡ false → any_record (names_write lsn) log ≡ false
   not_named [] f e h = refl
@@ -155,6 +146,7 @@ end_there t (records.CompEnd u n undone ∷ log) lsn i = older_end t (records.Co
 end_there t (records.Commit u ∷ log) lsn i = older_end t (records.Commit u) log lsn i (end_there t log lsn i)
 end_there t (records.AbortEnd u ∷ log) lsn i = older_end t (records.AbortEnd u) log lsn i (end_there t log lsn i)
 end_there t (records.Restart j ∷ log) lsn i = older_end t (records.Restart j) log lsn i (end_there t log lsn i)
+end_there t (records.Base many j ∷ log) lsn i = older_end t (records.Base many j) log lsn i (end_there t log lsn i)
 
 end_named : (log : List Record) (t : Txn) (lsn : ℕ) → first (left_of t log) ≡ Some lsn → EndsThere log t lsn × (any_record (takes_back t lsn) log ≡ false)
 end_named log t lsn e =
@@ -171,12 +163,7 @@ no_later_end (records.CompEnd t n undone ∷ log) lsn f lt =
     let other : nat_eq undone lsn ≡ false = ne_eqb undone lsn (λ e. absurd (omega (arith, a, e, lt))) in
     rw other (no_later_end log lsn f.1 (omega (arith, lt)))
 no_later_end (records.PageOp t n page slot before after ∷ log) lsn f lt = no_later_end log lsn f.1 (omega (arith, lt))
-no_later_end (records.PageUndo t n undone page slot after ∷ log) lsn f lt = no_later_end log lsn f.1 (omega (arith, lt))
-no_later_end (records.OpEnd t n level deed ∷ log) lsn f lt = no_later_end log lsn f.1 (omega (arith, lt))
-no_later_end (records.OpVoid t n ∷ log) lsn f lt = no_later_end log lsn f.1 (omega (arith, lt))
-no_later_end (records.Commit t ∷ log) lsn f lt = no_later_end log lsn f.1 (omega (arith, lt))
-no_later_end (records.AbortEnd t ∷ log) lsn f lt = no_later_end log lsn f.1 (omega (arith, lt))
-no_later_end (records.Restart i ∷ log) lsn f lt = no_later_end log lsn f.1 (omega (arith, lt))
+no_later_end (_ ∷ log) lsn f lt = no_later_end log lsn f.1 (omega (arith, lt))
 
 module _ (t : Txn) (n level lsn : ℕ) (deed : List ℕ) where
   abbrev the_end : Record
@@ -196,12 +183,7 @@ module _ (t : Txn) (n level lsn : ℕ) (deed : List ℕ) where
           | inr off ↦ rw off (ih parts.1)
         ]
     end_more (records.PageOp u m p s b a) g h = ih h
-    end_more (records.PageUndo u m undone p s a) g h = ih h
-    end_more (records.OpEnd u m i d) g h = ih h
-    end_more (records.OpVoid u m) g h = ih h
-    end_more (records.Commit u) g h = ih h
-    end_more (records.AbortEnd u) g h = ih h
-    end_more (records.Restart i) g h = ih h
+    end_more _ g h = ih h
 
   end_not_named : (log : List Record) → FollowAll log → record_at lsn log ≡ Some the_end → any_record (takes_back t lsn) log ≡ false → any_record (names_end lsn) log ≡ false
   end_not_named [] f e h = refl
@@ -253,9 +235,7 @@ no_gaps (records.PageUndo u m undone page slot after ∷ log) t n f low le = one
 no_gaps (records.OpEnd u m level deed ∷ log) t n f low le = one_of t n (operation u m) log (has_begun (operation u m) log f.0.begun) (no_gaps log t n f.1 low) le
 no_gaps (records.OpVoid u m ∷ log) t n f low le = one_of t n (operation u m) log (has_begun (operation u m) log f.0.begun) (no_gaps log t n f.1 low) le
 no_gaps (records.CompEnd u m undone ∷ log) t n f low le = one_of t n (operation u m) log (has_begun (operation u m) log f.0.begun) (no_gaps log t n f.1 low) le
-no_gaps (records.Commit u ∷ log) t n f low le = no_gaps log t n f.1 low (none_more (greatest_number t log) n le)
-no_gaps (records.AbortEnd u ∷ log) t n f low le = no_gaps log t n f.1 low (none_more (greatest_number t log) n le)
-no_gaps (records.Restart i ∷ log) t n f low le = no_gaps log t n f.1 low (none_more (greatest_number t log) n le)
+no_gaps (_ ∷ log) t n f low le = no_gaps log t n f.1 low (none_more (greatest_number t log) n le)
 
 pub rules_told : RulesTell
 rules_told = record { undone = undone_told; taken_back = taken_told; no_gaps = no_gaps }

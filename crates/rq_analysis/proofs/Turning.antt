@@ -136,11 +136,6 @@ split_last (f ∷ g ∷ fs) ne = let h = split_last (g ∷ fs) (λ e. cc e) in (
 -- the deeds of a transaction stand in the log in the order in which they were done
 open_within : (t : Txn) (log : List Item) (p : Placed) → In p (open_deeds t log) → p.lsn ≤ length log
 open_within t [] p i = absurd i
-open_within t (PageOp o w ∷ log) p i = let a = open_within t log p i in omega (arith, a)
-open_within t (PageUndo o u at after ∷ log) p i = let a = open_within t log p i in omega (arith, a)
-open_within t (OpVoid o ∷ log) p i = let a = open_within t log p i in omega (arith, a)
-open_within t (AbortEnd u ∷ log) p i = let a = open_within t log p i in omega (arith, a)
-open_within t (Restart n ∷ log) p i = let a = open_within t log p i in omega (arith, a)
 open_within t (OpEnd o d ∷ log) p i = elim (cases_Bool (same_txn o.txn t)) [
   | inl y ↦ elim (rw y at i) [
     | inl e ↦ (let a : p.lsn ≡ length log + 1 = ap (λ (x : Placed). x.lsn) e in omega (arith, a))
@@ -159,6 +154,7 @@ open_within t (Commit u ∷ log) p i = elim (cases_Bool (same_txn u t)) [
   | inl y ↦ absurd (rw y at i)
   | inr n ↦ (let a = open_within t log p (rw n at i) in omega (arith, a))
 ]
+open_within t (_ ∷ log) p i = let a = open_within t log p i in omega (arith, a)
 
 abbrev AreFalling : List Placed → Type 0
 AreFalling [] = Unit {0}
@@ -170,11 +166,6 @@ rest_falls (p ∷ ps) h = h.1
 
 open_falls : (t : Txn) (log : List Item) → AreFalling (open_deeds t log)
 open_falls t [] = tt
-open_falls t (PageOp o w ∷ log) = open_falls t log
-open_falls t (PageUndo o u at after ∷ log) = open_falls t log
-open_falls t (OpVoid o ∷ log) = open_falls t log
-open_falls t (AbortEnd u ∷ log) = open_falls t log
-open_falls t (Restart n ∷ log) = open_falls t log
 open_falls t (OpEnd o d ∷ log) = elim (cases_Bool (same_txn o.txn t)) [
   | inl y ↦ rw y ((λ q i. (let a = open_within t log q i in omega (arith, a))), open_falls t log)
   | inr n ↦ rw n (open_falls t log)
@@ -187,6 +178,7 @@ open_falls t (Commit u ∷ log) = elim (cases_Bool (same_txn u t)) [
   | inl y ↦ rw y tt
   | inr n ↦ rw n (open_falls t log)
 ]
+open_falls t (_ ∷ log) = open_falls t log
 
 pub in_placed : (fs : List Finished) (g : Finished) → In g fs → In (placed_one g) (placed fs)
 in_placed fs g i = In-reverse (placed_one g) (map placed_one fs) (In-to placed_one fs g i)
@@ -208,10 +200,6 @@ newest_or false x ps p i = inr i
 owner : (t u : Txn) (log : List Item) (p q : Placed) → In p (open_deeds t log) → In q (open_deeds u log) → p.lsn ≡ q.lsn → t ≡ u
 owner t u [] p q i j e = absurd i
 owner t u (PageOp o w ∷ log) p q i j e = owner t u log p q i j e
-owner t u (PageUndo o n at after ∷ log) p q i j e = owner t u log p q i j e
-owner t u (OpVoid o ∷ log) p q i j e = owner t u log p q i j e
-owner t u (AbortEnd v ∷ log) p q i j e = owner t u log p q i j e
-owner t u (Restart n ∷ log) p q i j e = owner t u log p q i j e
 owner t u (CompEnd o n ∷ log) p q i j e =
     owner t u log p q
     (in_shorter (same_txn o.txn t) (rest_placed (open_deeds t log)) (open_deeds t log) p (in_rest_placed (open_deeds t log) p) i)
@@ -232,6 +220,7 @@ owner t u (OpEnd o d ∷ log) p q i j e =
         | inr z ↦ owner t u log p q y z e
       ]
     ]
+owner t u (_ ∷ log) p q i j e = owner t u log p q i j e
 
 same_numbers : (a b : Txn) → a.incarnation ≡ b.incarnation → a.count ≡ b.count → a ≡ b
 same_numbers a b i c = ap (λ (n : ℕ). record { incarnation = n; count = a.count }) i ∙ ap (λ (n : ℕ). record { incarnation = b.incarnation; count = n }) c

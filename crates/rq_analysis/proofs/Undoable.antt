@@ -5,7 +5,7 @@ use Rattle.std.proofs.lemmas.Bool.{cases_Bool, or_parts, or_left, or_right, fals
 use Rattle.std.proofs.lemmas.List.{length-map}
 use Rattle.rq_model.specs.declared.txn.Sub.{Sub}
 use Rattle.rq_model.specs.declared.record.Record.{Record}
-use Rattle.rq_model.specs.declared.record.Record.TheVariants.{PageOp, PageUndo, OpEnd, OpVoid, CompEnd, Commit, Restart, AbortEnd}
+use Rattle.rq_model.specs.declared.record.Record.TheVariants.{PageOp, PageUndo, OpEnd, OpVoid, CompEnd, Commit, Restart, AbortEnd, Base}
 use Rattle.rq_model.specs.Vocabulary.{In}
 use Rattle.rq_model.specs.Incarnations.{InOrder, IsOf, incarnation_of}
 use Rattle.rq_page.specs.Sizes.{Sizes, address}
@@ -95,9 +95,7 @@ own_writes z o (PageUndo t n undone page slot after ∷ log) = elim (cases_Bool 
 own_writes z o (OpEnd t n level deed ∷ log) = ended_writes z o (operation t n) log (own_writes z o log)
 own_writes z o (OpVoid t n ∷ log) = ended_writes z o (operation t n) log (own_writes z o log)
 own_writes z o (CompEnd t n undone ∷ log) = ended_writes z o (operation t n) log (own_writes z o log)
-own_writes z o (Commit t ∷ log) = own_writes z o log
-own_writes z o (Restart i ∷ log) = own_writes z o log
-own_writes z o (AbortEnd t ∷ log) = own_writes z o log
+own_writes z o (_ ∷ log) = own_writes z o log
 
 other_end : (o p : Sub) (log : List Record) (ns : List ℕ) → same_op p o ≡ false → map lsn_of (filter (undoable_by o) (undoable log)) ≡ ns → map lsn_of (filter (undoable_by o) (without_undoable p (undoable log))) ≡ ns
 other_end o p log ns n ih = ap (map lsn_of) (other_none (undoable_by o) p (undoable log) (apart p o n)) ∙ ih
@@ -116,9 +114,7 @@ own_lsns z o (PageUndo t n undone page slot after ∷ log) g = elim (cases_Bool 
 own_lsns z o (OpEnd t n level deed ∷ log) g = let k = or_parts (same_op (operation t n) o) (over o (items z log)) g in other_end o (operation t n) log (lsns o (items z log)) k.0 (own_lsns z o log k.1)
 own_lsns z o (OpVoid t n ∷ log) g = let k = or_parts (same_op (operation t n) o) (over o (items z log)) g in other_end o (operation t n) log (lsns o (items z log)) k.0 (own_lsns z o log k.1)
 own_lsns z o (CompEnd t n undone ∷ log) g = let k = or_parts (same_op (operation t n) o) (over o (items z log)) g in other_end o (operation t n) log (lsns o (items z log)) k.0 (own_lsns z o log k.1)
-own_lsns z o (Commit t ∷ log) g = own_lsns z o log g
-own_lsns z o (Restart i ∷ log) g = own_lsns z o log g
-own_lsns z o (AbortEnd t ∷ log) g = own_lsns z o log g
+own_lsns z o (_ ∷ log) g = own_lsns z o log g
 
 pub way_parts : (b c : Bool) → (b && not c) ≡ true → (b ≡ true) × (c ≡ false)
 way_parts true true e = absurd (false≢true e)
@@ -149,9 +145,7 @@ noted_way z (PageUndo t n undone page slot after ∷ log) g o h = let k = noted_
 noted_way z (OpEnd t n level deed ∷ log) g o h = let k = in_without (operation t n) (unfinished log) o h in still z o (operation t n) log k.1 (noted_way z log g.1 o k.0)
 noted_way z (OpVoid t n ∷ log) g o h = let k = in_without (operation t n) (unfinished log) o h in still z o (operation t n) log k.1 (noted_way z log g.1 o k.0)
 noted_way z (CompEnd t n undone ∷ log) g o h = let k = in_without (operation t n) (unfinished log) o h in still z o (operation t n) log k.1 (noted_way z log g.1 o k.0)
-noted_way z (Commit t ∷ log) g o h = noted_way z log g.1 o h
-noted_way z (Restart i ∷ log) g o h = noted_way z log g.1 o h
-noted_way z (AbortEnd t ∷ log) g o h = noted_way z log g.1 o h
+noted_way z (_ ∷ log) g o h = noted_way z log g.1 o h
 
 -- an undoable write is of an operation that is noted as unfinished
 pub undoable_noted : (log : List Record) (p : UndoableWrite) → In p (open_work_of log).undoable → In p.by (open_work_of log).unfinished
@@ -164,9 +158,7 @@ undoable_noted (PageUndo t n undone page slot after ∷ log) p h = undoable_note
 undoable_noted (OpEnd t n level deed ∷ log) p h = let k = in_undoable (operation t n) (undoable log) p h in without_in (operation t n) (unfinished log) p.by (undoable_noted log p k.0) (op_other p.by (operation t n) k.1)
 undoable_noted (OpVoid t n ∷ log) p h = let k = in_undoable (operation t n) (undoable log) p h in without_in (operation t n) (unfinished log) p.by (undoable_noted log p k.0) (op_other p.by (operation t n) k.1)
 undoable_noted (CompEnd t n undone ∷ log) p h = let k = in_undoable (operation t n) (undoable log) p h in without_in (operation t n) (unfinished log) p.by (undoable_noted log p k.0) (op_other p.by (operation t n) k.1)
-undoable_noted (Commit t ∷ log) p h = undoable_noted log p h
-undoable_noted (Restart i ∷ log) p h = undoable_noted log p h
-undoable_noted (AbortEnd t ∷ log) p h = undoable_noted log p h
+undoable_noted (_ ∷ log) p h = undoable_noted log p h
 
 -- what stood there before it is a slot of the store
 pub undoable_before : (z : Sizes) (log : List Record) → BeforesAreSlots z log → (p : UndoableWrite) → In p (open_work_of log).undoable → IsSlotOf z p.page p.slot p.before
@@ -179,9 +171,7 @@ undoable_before z (PageUndo t n undone page slot after ∷ log) b p h = undoable
 undoable_before z (OpEnd t n level deed ∷ log) b p h = undoable_before z log b.1 p (in_undoable (operation t n) (undoable log) p h).0
 undoable_before z (OpVoid t n ∷ log) b p h = undoable_before z log b.1 p (in_undoable (operation t n) (undoable log) p h).0
 undoable_before z (CompEnd t n undone ∷ log) b p h = undoable_before z log b.1 p (in_undoable (operation t n) (undoable log) p h).0
-undoable_before z (Commit t ∷ log) b p h = undoable_before z log b.1 p h
-undoable_before z (Restart i ∷ log) b p h = undoable_before z log b.1 p h
-undoable_before z (AbortEnd t ∷ log) b p h = undoable_before z log b.1 p h
+undoable_before z (_ ∷ log) b p h = undoable_before z log b.1 p h
 
 -- what is noted as unfinished is of the running incarnation
 pub noted_order : (z : Sizes) (log : List Record) → IsLegal z log → InOrder log → (o : Sub) → In o (open_work_of log).unfinished → IsOf (incarnation_of log) (Some o.txn)
@@ -190,10 +180,9 @@ noted_order z (PageOp t n page slot before after ∷ log) g r o h = elim (in_wit
   | inl e ↦ subst (λ (p : Sub). IsOf (incarnation_of log) (Some p.txn)) (sym e) r.0
   | inr i ↦ noted_order z log g.1 r.1 o i
 ]
-noted_order z (PageUndo t n undone page slot after ∷ log) g r o h = noted_order z log g.1 r.1 o h
 noted_order z (OpEnd t n level deed ∷ log) g r o h = noted_order z log g.1 r.1 o (in_without (operation t n) (unfinished log) o h).0
 noted_order z (OpVoid t n ∷ log) g r o h = noted_order z log g.1 r.1 o (in_without (operation t n) (unfinished log) o h).0
 noted_order z (CompEnd t n undone ∷ log) g r o h = noted_order z log g.1 r.1 o (in_without (operation t n) (unfinished log) o h).0
-noted_order z (Commit t ∷ log) g r o h = noted_order z log g.1 r.1 o h
 noted_order z (Restart i ∷ log) g r o h = absurd (true≢false (sym (noted_way z log g.1 o h) ∙ g.0.idle o))
-noted_order z (AbortEnd t ∷ log) g r o h = noted_order z log g.1 r.1 o h
+noted_order z (Base many i ∷ log) g r o h = absurd (true≢false (sym (noted_way z log g.1 o h) ∙ g.0.idle o))
+noted_order z (_ ∷ log) g r o h = noted_order z log g.1 r.1 o h

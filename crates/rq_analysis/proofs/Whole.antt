@@ -159,6 +159,7 @@ module _ (z : Sizes) (log : List Record) (w : IsWhole z log) (f : FollowAll log)
         undoes = tt;
         takes_back = tt;
         reads = tt;
+        belongs = tt;
       }
   next_follows (records.PageUndo t n undone page slot after) v =
       let k = v.legal.0 in
@@ -171,6 +172,7 @@ module _ (z : Sizes) (log : List Record) (w : IsWhole z log) (f : FollowAll log)
         undoes = undoes_newest (operation t n) undone page slot after v.in_store.0 k.going k.lsn k.newest;
         takes_back = tt;
         reads = tt;
+        belongs = tt;
       }
   next_follows (records.OpEnd t n level deed) v =
       let k = v.legal.0 in
@@ -182,6 +184,7 @@ module _ (z : Sizes) (log : List Record) (w : IsWhole z log) (f : FollowAll log)
         undoes = tt;
         takes_back = tt;
         reads = chain_reads level deed v.reads.0.0 (ap is_some v.reads.0.1.1);
+        belongs = tt;
       }
   next_follows (records.OpVoid t n) v =
       let k = v.legal.0 in
@@ -193,6 +196,7 @@ module _ (z : Sizes) (log : List Record) (w : IsWhole z log) (f : FollowAll log)
         undoes = tt;
         takes_back = tt;
         reads = tt;
+        belongs = tt;
       }
   next_follows (records.CompEnd t n undone) v =
       let k = v.legal.0 in
@@ -205,10 +209,12 @@ module _ (z : Sizes) (log : List Record) (w : IsWhole z log) (f : FollowAll log)
         undoes = tt;
         takes_back = takes_newest t undone ((left_by z log).writes (operation t n)) run k.plan;
         reads = tt;
+        belongs = tt;
       }
-  next_follows (records.Commit t) v = record { running = sym (has_end_same z t log) ∙ v.legal.0.running; going = tt; begun = tt; numbered = tt; undoes = tt; takes_back = tt; reads = tt }
-  next_follows (records.AbortEnd t) v = record { running = sym (has_end_same z t log) ∙ v.legal.0.running; going = tt; begun = tt; numbered = tt; undoes = tt; takes_back = tt; reads = tt }
-  next_follows (records.Restart i) v = record { running = tt; going = tt; begun = tt; numbered = tt; undoes = tt; takes_back = tt; reads = tt }
+  next_follows (records.Commit t) v = record { running = sym (has_end_same z t log) ∙ v.legal.0.running; going = tt; begun = tt; numbered = tt; undoes = tt; takes_back = tt; reads = tt; belongs = tt }
+  next_follows (records.AbortEnd t) v = record { running = sym (has_end_same z t log) ∙ v.legal.0.running; going = tt; begun = tt; numbered = tt; undoes = tt; takes_back = tt; reads = tt; belongs = tt }
+  next_follows (records.Restart i) v = record { running = tt; going = tt; begun = tt; numbered = tt; undoes = tt; takes_back = tt; reads = tt; belongs = tt }
+  next_follows (records.Base many i) v = absurd v.based.0
 
 whole_follow : (z : Sizes) (log : List Record) → IsWhole z log → FollowAll log
 whole_follow z [] w = tt

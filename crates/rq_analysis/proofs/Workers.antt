@@ -128,13 +128,7 @@ ended_by t u (Some d) ts b ih h = elim (or_cases (same_txn u t) (has_txn t ts) (
 worker_did : (z : Sizes) (t : Txn) (log : List Record) → has_txn t (workers log) ≡ true → has_deed t (items z log) ≡ true
 worker_did z t [] h = h
 worker_did z t (records.OpEnd u n level deed ∷ log) h = ended_by t u (cond (nat_eq level 1) (deed_in deed) None) (workers log) (has_deed t (items z log)) (worker_did z t log) h
-worker_did z t (records.PageOp u n page slot before after ∷ log) h = worker_did z t log h
-worker_did z t (records.PageUndo u n undone page slot after ∷ log) h = worker_did z t log h
-worker_did z t (records.OpVoid u n ∷ log) h = worker_did z t log h
-worker_did z t (records.CompEnd u n undone ∷ log) h = worker_did z t log h
-worker_did z t (records.Commit u ∷ log) h = worker_did z t log h
-worker_did z t (records.AbortEnd u ∷ log) h = worker_did z t log h
-worker_did z t (records.Restart i ∷ log) h = worker_did z t log h
+worker_did z t (_ ∷ log) h = worker_did z t log h
 
 -- who did something and has not ended is of the running incarnation: a restart comes behind the ends of all
 doer_now : (z : Sizes) (t : Txn) (log : List Record) → IsLegalLog (layout_of z) (items z log) → InOrder log → has_deed t (items z log) ≡ true → has_end log t ≡ false → t.incarnation ≡ incarnation_of log
@@ -143,13 +137,11 @@ doer_now z t (records.OpEnd u n level deed ∷ log) k o h e = elim (cases_Bool (
   | inl own ↦ ap (λ (v : Txn). v.incarnation) (sym (same_is u t own)) ∙ o.0.1
   | inr other ↦ doer_now z t log k.1 o.1 (rw other at h) e
 ]
-doer_now z t (records.PageOp u n page slot before after ∷ log) k o h e = doer_now z t log k.1 o.1 h e
-doer_now z t (records.PageUndo u n undone page slot after ∷ log) k o h e = doer_now z t log k.1 o.1 h e
-doer_now z t (records.OpVoid u n ∷ log) k o h e = doer_now z t log k.1 o.1 h e
-doer_now z t (records.CompEnd u n undone ∷ log) k o h e = doer_now z t log k.1 o.1 h e
 doer_now z t (records.Commit u ∷ log) k o h e = doer_now z t log k.1 o.1 h (or_parts _ (has_end log t) e).1
 doer_now z t (records.AbortEnd u ∷ log) k o h e = doer_now z t log k.1 o.1 h (or_parts _ (has_end log t) e).1
 doer_now z t (records.Restart i ∷ log) k o h e = absurd (true≢false (sym (k.0.ended t h) ∙ has_end_same z t log ∙ e))
+doer_now z t (records.Base many i ∷ log) k o h e = absurd (true≢false (sym (k.0.ended t h) ∙ has_end_same z t log ∙ e))
+doer_now z t (_ ∷ log) k o h e = doer_now z t log k.1 o.1 h e
 
 pub lost_running : (log : List Record) (t : Txn) → In t (lost log) → has_end log t ≡ false
 lost_running log t i = not-true (has_end log t) (In-filter (λ u. not (has_end log u)) (workers log) t i).1
@@ -174,7 +166,7 @@ not_mentioned t (records.OpVoid u n) lt = other_count u t lt
 not_mentioned t (records.CompEnd u n undone) lt = other_count u t lt
 not_mentioned t (records.Commit u) lt = other_count u t lt
 not_mentioned t (records.AbortEnd u) lt = other_count u t lt
-not_mentioned t (records.Restart i) lt = refl
+not_mentioned t _ lt = refl
 
 pub beyond : (t : Txn) (log : List Record) → begins_in log < t.count → IsStranger t log
 beyond t [] lt = refl

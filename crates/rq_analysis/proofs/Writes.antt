@@ -56,13 +56,7 @@ writes_below o (records.PageOp t n page slot before after ∷ log) = elim (cases
   | inl y ↦ rw y (omega arith, writes_below o log)
   | inr m ↦ rw m (older_below o log (writes_below o log))
 ]
-writes_below o (records.PageUndo t n undone page slot after ∷ log) = older_below o log (writes_below o log)
-writes_below o (records.OpEnd t n level deed ∷ log) = older_below o log (writes_below o log)
-writes_below o (records.OpVoid t n ∷ log) = older_below o log (writes_below o log)
-writes_below o (records.CompEnd t n undone ∷ log) = older_below o log (writes_below o log)
-writes_below o (records.Commit t ∷ log) = older_below o log (writes_below o log)
-writes_below o (records.AbortEnd t ∷ log) = older_below o log (writes_below o log)
-writes_below o (records.Restart i ∷ log) = older_below o log (writes_below o log)
+writes_below o (_ ∷ log) = older_below o log (writes_below o log)
 
 -- what a PageUndo names is a record behind it
 pub names_older : (o : Sub) (log : List Record) (p : UndoableWrite) → first (standing o log) ≡ Some p → p.lsn < length log + 1
@@ -82,12 +76,7 @@ none_later o (records.PageUndo t n undone page slot after ∷ log) lsn f lt =
     none_there true c e = e
     none_there false c e = e
 none_later o (records.PageOp t n page slot before after ∷ log) lsn f lt = none_later o log lsn f.1 (omega (arith, lt))
-none_later o (records.OpEnd t n level deed ∷ log) lsn f lt = none_later o log lsn f.1 (omega (arith, lt))
-none_later o (records.OpVoid t n ∷ log) lsn f lt = none_later o log lsn f.1 (omega (arith, lt))
-none_later o (records.CompEnd t n undone ∷ log) lsn f lt = none_later o log lsn f.1 (omega (arith, lt))
-none_later o (records.Commit t ∷ log) lsn f lt = none_later o log lsn f.1 (omega (arith, lt))
-none_later o (records.AbortEnd t ∷ log) lsn f lt = none_later o log lsn f.1 (omega (arith, lt))
-none_later o (records.Restart i ∷ log) lsn f lt = none_later o log lsn f.1 (omega (arith, lt))
+none_later o (_ ∷ log) lsn f lt = none_later o log lsn f.1 (omega (arith, lt))
 
 -- the first alone is left out
 all_but : (n : ℕ) (ps : List UndoableWrite) → AreBelow n ps → filter (λ p. not (nat_eq n p.lsn)) ps ≡ ps
@@ -139,6 +128,4 @@ undoable_kept (records.PageUndo t n lsn page slot after ∷ log) f o g = elim (c
 undoable_kept (records.OpEnd t n level deed ∷ log) f o g = let k = or_parts (same_op (operation t n) o) (has_op_end o log) g in ended_other (operation t n) o log k.0 ∙ undoable_kept log f.1 o k.1
 undoable_kept (records.OpVoid t n ∷ log) f o g = let k = or_parts (same_op (operation t n) o) (has_op_end o log) g in ended_other (operation t n) o log k.0 ∙ undoable_kept log f.1 o k.1
 undoable_kept (records.CompEnd t n undone ∷ log) f o g = let k = or_parts (same_op (operation t n) o) (has_op_end o log) g in ended_other (operation t n) o log k.0 ∙ undoable_kept log f.1 o k.1
-undoable_kept (records.Commit t ∷ log) f o g = undoable_kept log f.1 o g
-undoable_kept (records.AbortEnd t ∷ log) f o g = undoable_kept log f.1 o g
-undoable_kept (records.Restart i ∷ log) f o g = undoable_kept log f.1 o g
+undoable_kept (_ ∷ log) f o g = undoable_kept log f.1 o g

@@ -5,7 +5,7 @@ use Rattle.std.specs.Ordering.{nat_cmp}
 use Rattle.std.specs.BTreeSet.{insert_key}
 use Rattle.rq_model.specs.declared.txn.Sub.{Sub}
 use Rattle.rq_model.specs.declared.record.Record.{Record}
-use Rattle.rq_model.specs.declared.record.Record.TheVariants.{PageOp, PageUndo, OpEnd, OpVoid, CompEnd, Commit, AbortEnd, Restart}
+use Rattle.rq_model.specs.declared.record.Record.TheVariants.{PageOp, PageUndo, OpEnd, OpVoid, CompEnd, Commit, AbortEnd, Restart, Base}
 use Rattle.rq_model.specs.Vocabulary.{first, has_number}
 use Rattle.rq_views.specs.Items.{operation}
 use Rattle.rq_analysis.specs.OpenWorkView.{OpenWorkView, open_work_of, has_sub, undoable_at, undoable_by}
@@ -79,3 +79,4 @@ Passes h ds os c (CompEnd t n undone) =
 Passes h ds os c (Commit t) = has_count t.count c ≡ false
 Passes h ds os c (AbortEnd t) = has_count t.count c ≡ false
 Passes h ds os c (Restart i) = Unit {0}
+Passes h ds os c (Base many i) = ⊥

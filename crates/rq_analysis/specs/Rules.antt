@@ -7,7 +7,7 @@ use Rattle.rq_model.specs.declared.record.Record.{Record}
 use Rattle.rq_model.specs.declared.record.Record.TheVariants.{PageOp, PageUndo, OpEnd, OpVoid, CompEnd}
 use Rattle.rq_model.specs.Vocabulary.{first, same_txn}
 use Rattle.rq_model.specs.Content.{has_end}
-use Rattle.rq_model.specs.Incarnations.{txn_of}
+use Rattle.rq_model.specs.Incarnations.{IsBased, txn_of}
 use Rattle.rq_model.specs.Unended.{any_record}
 use Rattle.rq_level.specs.Meaning.{meaning_of}
 use Rattle.rq_views.specs.Log.{same_op}
@@ -133,6 +133,8 @@ pub record FollowsRules (log : List Record) (r : Record) : Type 0 where
   pub takes_back : TakesBackNewest log r
   -- the level that an OpEnd names reads its deed
   pub reads : CanBeRead r
+  -- no store writes a Base so far
+  pub belongs : IsBased r
 
 -- each record of the log is that
 abbrev pub FollowAll : List Record → Type 0

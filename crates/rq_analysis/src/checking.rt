@@ -79,6 +79,7 @@ fn passes(
         }
         Record::Commit { txn } | Record::AbortEnd { txn } => !ended.has(*txn),
         Record::Restart { .. } => true,
+        Record::Base { .. } => false,
     }
 }
 

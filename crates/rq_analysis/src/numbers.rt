@@ -51,7 +51,7 @@ impl LastOperations {
                 self.end(*txn);
                 Ok(())
             }
-            Record::Restart { .. } => Ok(()),
+            Record::Restart { .. } | Record::Base { .. } => Ok(()),
         }
     }
 

@@ -125,6 +125,11 @@ impl OpenWork {
                 self.incarnation = *incarnation;
                 Ok(is_next)
             }
+            Record::Base { incarnation, .. } => {
+                let is_next = 1 <= self.incarnation && *incarnation == self.incarnation;
+                self.incarnation = *incarnation;
+                Ok(is_next)
+            }
             Record::PageOp {
                 txn,
                 operation,

@@ -2,7 +2,7 @@
 use Rattle.std.specs.Prelude.{ℕ, zero, suc, List, [], ◌++◌, codes, decimal, length}
 use Rattle.rq_model.specs.declared.txn.Txn.{Txn}
 use Rattle.rq_model.specs.declared.record.Record.{Record}
-use Rattle.rq_model.specs.declared.record.Record.TheVariants.{PageOp, PageUndo, OpEnd, OpVoid, CompEnd, Commit, Restart, AbortEnd}
+use Rattle.rq_model.specs.declared.record.Record.TheVariants.{PageOp, PageUndo, OpEnd, OpVoid, CompEnd, Commit, Restart, AbortEnd, Base}
 
 -- a transaction: 2.1
 abbrev pub txn_text : Txn → List ℕ
@@ -29,6 +29,7 @@ record_text (CompEnd t n undone) = codes "comp-end " ++ operation_text t n ++ co
 record_text (Commit t) = codes "commit " ++ txn_text t
 record_text (Restart incarnation) = codes "restart " ++ decimal incarnation
 record_text (AbortEnd t) = codes "abort-end " ++ txn_text t
+record_text (Base many incarnation) = codes "base " ++ decimal many ++ codes " " ++ decimal incarnation
 
 -- the line of the record with this LSN
 abbrev pub line_of : ℕ → Record → List ℕ

@@ -137,5 +137,9 @@ fn write_record(out: &mut Vec<u8>, record: &Record) -> io::Result<()>
             let txn = TxnKey::of(*txn);
             write!(out, "abort-end {txn}")
         }
+        Record::Base {
+            records,
+            incarnation,
+        } => write!(out, "base {records} {incarnation}"),
     }
 }

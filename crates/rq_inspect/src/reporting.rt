@@ -140,7 +140,8 @@ impl Report {
             | Record::OpVoid { .. }
             | Record::CompEnd { .. }
             | Record::Restart { .. }
-            | Record::AbortEnd { .. } => Ok(()),
+            | Record::AbortEnd { .. }
+            | Record::Base { .. } => Ok(()),
         }
     }
 
@@ -157,7 +158,10 @@ impl Report {
             Record::Commit { txn } | Record::AbortEnd { txn } => {
                 remove_txn(&mut self.lost, TxnKey::of(*txn));
             }
-            Record::PageOp { .. } | Record::PageUndo { .. } | Record::Restart { .. } => {}
+            Record::PageOp { .. }
+            | Record::PageUndo { .. }
+            | Record::Restart { .. }
+            | Record::Base { .. } => {}
         }
     }
 }

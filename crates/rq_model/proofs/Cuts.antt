@@ -3,7 +3,7 @@ use Rattle.std.proofs.Common.{◌≡◌, ℕ, ◌+◌, ◌<◌, ◌≤◌, suc, 
 use Rattle.std.proofs.lemmas.List.{length-append}
 use Rattle.std.proofs.lemmas.Bool.Decides.{nat_tests}
 use Rattle.rq_model.specs.declared.record.Record.{Record}
-use Rattle.rq_model.specs.declared.record.Record.TheVariants.{PageOp, PageUndo, OpEnd, OpVoid, CompEnd, Commit, Restart, AbortEnd}
+use Rattle.rq_model.specs.declared.record.Record.TheVariants.{PageOp, PageUndo, OpEnd, OpVoid, CompEnd, Commit, Restart, AbortEnd, Base}
 use Rattle.rq_model.specs.Vocabulary.{In}
 use Rattle.rq_model.specs.Ledger.{Done, kept_in, Rising}
 use Rattle.rq_model.specs.Commits.{committed_of, told}
@@ -15,13 +15,7 @@ use Rattle.rq_model.specs.Incarnations.{incarnation_of, InOrder, ArePlain, Exten
 pub rising_log : (log : List Record) → Rising 0 (committed_of log) (length log)
 rising_log [] = omega arith
 rising_log (Commit t ∷ log) = rising_append 0 (length log) (length (Commit t ∷ log)) (committed_of log) (record { txn = t; lsn = length log + 1; ops = told t log }) (rising_log log) (omega arith) (omega arith)
-rising_log (PageOp t n page slot before after ∷ log) = rising_further 0 (length log) (suc (length log)) (committed_of log) (omega arith) (rising_log log)
-rising_log (PageUndo t n undone page slot after ∷ log) = rising_further 0 (length log) (suc (length log)) (committed_of log) (omega arith) (rising_log log)
-rising_log (OpEnd t n level deed ∷ log) = rising_further 0 (length log) (suc (length log)) (committed_of log) (omega arith) (rising_log log)
-rising_log (OpVoid t n ∷ log) = rising_further 0 (length log) (suc (length log)) (committed_of log) (omega arith) (rising_log log)
-rising_log (CompEnd t n undone ∷ log) = rising_further 0 (length log) (suc (length log)) (committed_of log) (omega arith) (rising_log log)
-rising_log (Restart i ∷ log) = rising_further 0 (length log) (suc (length log)) (committed_of log) (omega arith) (rising_log log)
-rising_log (AbortEnd t ∷ log) = rising_further 0 (length log) (suc (length log)) (committed_of log) (omega arith) (rising_log log)
+rising_log (_ ∷ log) = rising_further 0 (length log) (suc (length log)) (committed_of log) (omega arith) (rising_log log)
 
 -- a commit beyond the first n records is not among theirs
 pub kept_beyond : (n : ℕ) (c : List Done) (d : Done) → n < d.lsn → kept_in n (c ++ d ∷ []) ≡ kept_in n c
@@ -37,12 +31,7 @@ kept_cut [] older = all_kept 0 (length older) (length older) (committed_of older
 kept_cut (Commit t ∷ newer) older =
     kept_beyond (length older) (committed_of (newer ++ older)) (record { txn = t; lsn = length (newer ++ older) + 1; ops = told t (newer ++ older) }) (beyond newer older) ∙ kept_cut newer older
 kept_cut (PageOp t n page slot before after ∷ newer) older = kept_cut newer older
-kept_cut (PageUndo t n undone page slot after ∷ newer) older = kept_cut newer older
-kept_cut (OpEnd t n level deed ∷ newer) older = kept_cut newer older
-kept_cut (OpVoid t n ∷ newer) older = kept_cut newer older
-kept_cut (CompEnd t n undone ∷ newer) older = kept_cut newer older
-kept_cut (Restart i ∷ newer) older = kept_cut newer older
-kept_cut (AbortEnd t ∷ newer) older = kept_cut newer older
+kept_cut (_ ∷ newer) older = kept_cut newer older
 
 -- the commits that a cut leaves are those with an LSN at most the number of its records
 pub cut_commits : (newer older : List Record) → take (kept_in (length older) (committed_of (newer ++ older))) (committed_of (newer ++ older)) ≡ committed_of older
@@ -52,12 +41,7 @@ pub plain_commits : (more older : List Record) → ArePlain more → committed_o
 plain_commits [] older p = refl
 plain_commits (Commit t ∷ more) older p = cc (p.0)
 plain_commits (OpEnd t n level deed ∷ more) older p = cc (p.0)
-plain_commits (PageOp t n page slot before after ∷ more) older p = plain_commits more older p.1
-plain_commits (PageUndo t n undone page slot after ∷ more) older p = plain_commits more older p.1
-plain_commits (OpVoid t n ∷ more) older p = plain_commits more older p.1
-plain_commits (CompEnd t n undone ∷ more) older p = plain_commits more older p.1
-plain_commits (Restart i ∷ more) older p = plain_commits more older p.1
-plain_commits (AbortEnd t ∷ more) older p = plain_commits more older p.1
+plain_commits (_ ∷ more) older p = plain_commits more older p.1
 
 pub plain_join : (xs ys : List Record) → ArePlain xs → ArePlain ys → ArePlain (xs ++ ys)
 plain_join [] ys p q = q
@@ -73,13 +57,8 @@ extends_join a b c g h = (h.0 ++ g.0, append_assoc h.0 g.0 a ∙ ap (λ l. h.0 +
 pub incarnation_grows : (newer older : List Record) → InOrder (newer ++ older) → incarnation_of older ≤ incarnation_of (newer ++ older)
 incarnation_grows [] older o = omega arith
 incarnation_grows (Restart i ∷ newer) older o = let h = incarnation_grows newer older o.1 in let e : i ≡ incarnation_of (newer ++ older) + 1 = o.0 in omega (arith, h, e)
-incarnation_grows (Commit t ∷ newer) older o = incarnation_grows newer older o.1
-incarnation_grows (OpEnd t n level deed ∷ newer) older o = incarnation_grows newer older o.1
-incarnation_grows (PageOp t n page slot before after ∷ newer) older o = incarnation_grows newer older o.1
-incarnation_grows (PageUndo t n undone page slot after ∷ newer) older o = incarnation_grows newer older o.1
-incarnation_grows (OpVoid t n ∷ newer) older o = incarnation_grows newer older o.1
-incarnation_grows (CompEnd t n undone ∷ newer) older o = incarnation_grows newer older o.1
-incarnation_grows (AbortEnd t ∷ newer) older o = incarnation_grows newer older o.1
+incarnation_grows (Base many i ∷ newer) older o = let h = incarnation_grows newer older o.1 in let e : i ≡ incarnation_of (newer ++ older) = o.0.1 in omega (arith, h, e)
+incarnation_grows (_ ∷ newer) older o = incarnation_grows newer older o.1
 
 pub extends_incarnation : (older log : List Record) → Extends older log → InOrder log → incarnation_of older ≤ incarnation_of log
 extends_incarnation older log g o =

@@ -23,19 +23,4 @@ replays_on z h (x ∷ audit) l a r =
 -- every call of a store that does not run may be refused so
 pub shut_refuses : (z : Size) (l : Ledger) (c : Call) → runs l.phase ≡ false → Legal z l (Refused c Failed)
 shut_refuses z l Begin e = rw e refl
-shut_refuses z l (Start_send t m) e = rw e refl
-shut_refuses z l (Start_receive t) e = rw e refl
-shut_refuses z l (Start_receive_from t s) e = rw e refl
-shut_refuses z l (Start_close t s) e = rw e refl
-shut_refuses z l (Step t n) e = rw e refl
-shut_refuses z l (Finish t n) e = rw e refl
-shut_refuses z l (Commit t) e = rw e refl
-shut_refuses z l (Acknowledge t n) e = rw e refl
-shut_refuses z l (Start_abort t) e = rw e refl
-shut_refuses z l (Undo_next t) e = rw e refl
-shut_refuses z l (End_abort t) e = rw e refl
-shut_refuses z l Hand_over e = rw e refl
-shut_refuses z l Force e = rw e refl
-shut_refuses z l (Write_page p) e = rw e refl
-shut_refuses z l (Last_tag s) e = rw e refl
-shut_refuses z l Show e = rw e refl
+shut_refuses z l _ e = rw e refl

@@ -87,27 +87,8 @@ durable_refused l c r = refl
 
 -- the ledger's number of commits that stay
 durable_one : (l : Ledger) (e : Entry) → (after e l).durable ≡ durable_by e (length l.committed) l.durable
-durable_one l (Begun t) = refl
-durable_one l (Started t n job) = refl
-durable_one l (None_free t) = refl
-durable_one l (None_from t s) = refl
-durable_one l (Stepped t n lsn) = refl
-durable_one l (Ready t n) = refl
-durable_one l (Did t n op) = refl
-durable_one l (Undid t n) = refl
-durable_one l (Acknowledged t n y) = refl
-durable_one l (Aborting t) = refl
-durable_one l (None_left t) = refl
-durable_one l (Aborted t) = refl
-durable_one l Handed_over = refl
-durable_one l (Told s sent tag) = refl
-durable_one l (Shown groups) = refl
-durable_one l (Committed t n) = refl
-durable_one l (Forced n) = refl
-durable_one l (Wrote p d) = refl
-durable_one l (Crash k r) = refl
-durable_one l (Restarted i r) = refl
 durable_one l (Refused c r) = durable_refused l c r
+durable_one l _ = refl
 
 durable_is : (z : Size) (h : List Entry) → IsLegal z h → (ledger h).durable ≡ durable h
 durable_is z [] a = refl
@@ -117,50 +98,17 @@ durable_is z (e ∷ h) a =
 
 -- a legal entry keeps the first n commits, where n may not be taken, and never lowers that number
 kept_one : (z : Size) (l : Ledger) (e : Entry) (c : List Txn) (n : ℕ) → Legal z l e → n ≤ l.durable → n ≤ length c → take n (committed_by e c) ≡ take n c
-kept_one z l (Begun t) c m a b w = refl
-kept_one z l (Started t n job) c m a b w = refl
-kept_one z l (None_free t) c m a b w = refl
-kept_one z l (None_from t s) c m a b w = refl
-kept_one z l (Stepped t n lsn) c m a b w = refl
-kept_one z l (Ready t n) c m a b w = refl
-kept_one z l (Did t n op) c m a b w = refl
-kept_one z l (Undid t n) c m a b w = refl
-kept_one z l (Acknowledged t n y) c m a b w = refl
-kept_one z l (Aborting t) c m a b w = refl
-kept_one z l (None_left t) c m a b w = refl
-kept_one z l (Aborted t) c m a b w = refl
-kept_one z l Handed_over c m a b w = refl
-kept_one z l (Told s sent tag) c m a b w = refl
-kept_one z l (Shown groups) c m a b w = refl
 kept_one z l (Committed t n) c m a b w = take-append-le m c (t ∷ []) w
-kept_one z l (Forced n) c m a b w = refl
-kept_one z l (Wrote p d) c m a b w = refl
 kept_one z l (Crash k r) c m a b w = take-take m k c (let x : l.durable ≤ k = a.durable in omega arith)
-kept_one z l (Restarted i r) c m a b w = refl
 kept_one z l (Refused c r) d m a b w = refl
+kept_one z l _ c m a b w = refl
 
 bound_one : (z : Size) (l : Ledger) (e : Entry) (c : List Txn) (d : ℕ) → Legal z l e → l.durable ≡ d → d ≤ length c → (durable_by e (length c) d ≤ length (committed_by e c)) × (d ≤ durable_by e (length c) d)
-bound_one z l (Begun t) c d a e w = (w, omega arith)
-bound_one z l (Started t n job) c d a e w = (w, omega arith)
-bound_one z l (None_free t) c d a e w = (w, omega arith)
-bound_one z l (None_from t s) c d a e w = (w, omega arith)
-bound_one z l (Stepped t n lsn) c d a e w = (w, omega arith)
-bound_one z l (Ready t n) c d a e w = (w, omega arith)
-bound_one z l (Did t n op) c d a e w = (w, omega arith)
-bound_one z l (Undid t n) c d a e w = (w, omega arith)
-bound_one z l (Acknowledged t n y) c d a e w = (w, omega arith)
-bound_one z l (Aborting t) c d a e w = (w, omega arith)
-bound_one z l (None_left t) c d a e w = (w, omega arith)
-bound_one z l (Aborted t) c d a e w = (w, omega arith)
-bound_one z l Handed_over c d a e w = (w, omega arith)
-bound_one z l (Wrote p done) c d a e w = (w, omega arith)
-bound_one z l (Told s sent tag) c d a e w = (w, omega arith)
-bound_one z l (Shown groups) c d a e w = (w, omega arith)
 bound_one z l (Committed t n) c d a e w = (omega (arith, w, length_push c t), omega arith)
 bound_one z l (Forced n) c d a e w = (omega arith, w)
 bound_one z l (Crash k r) c d a e w = (let x : l.durable ≤ k = a.durable in omega (arith, x, e, w, length-take k c), omega arith)
 bound_one z l (Restarted i r) c d a e w = (omega arith, w)
-bound_one z l (Refused q r) c d a e w = (w, omega arith)
+bound_one z l _ c d a e w = (w, omega arith)
 
 durable_within : (z : Size) (h : List Entry) → IsLegal z h → durable h ≤ length (commits h)
 durable_within z [] a = omega arith

@@ -7,7 +7,7 @@ use Rattle.std.proofs.lemmas.Bool.{cases_Bool, false≢true, false_from_ne_true}
 use Rattle.std.proofs.Math.Bool.{or_comm}
 use Rattle.rq_model.specs.declared.txn.Txn.{Txn}
 use Rattle.rq_model.specs.declared.record.Record.{Record}
-use Rattle.rq_model.specs.declared.record.Record.TheVariants.{PageOp, PageUndo, OpEnd, OpVoid, CompEnd, Commit, Restart, AbortEnd}
+use Rattle.rq_model.specs.declared.record.Record.TheVariants.{PageOp, PageUndo, OpEnd, OpVoid, CompEnd, Commit, Restart, AbortEnd, Base}
 use Rattle.rq_model.specs.declared.message.Message.{Message}
 use Rattle.rq_model.specs.Vocabulary.{sent_for, taken_from, ends}
 use Rattle.rq_model.specs.History.{Group}
@@ -92,17 +92,12 @@ content_is s (OpEnd t n level deed ∷ log) g = no_commit s (OpEnd t n level dee
 content_is s (OpVoid t n ∷ log) g = no_commit s (OpVoid t n) log g (λ u. refl) ∙ content_is s log g.2
 content_is s (CompEnd t n undone ∷ log) g = no_commit s (CompEnd t n undone) log g (λ u. refl) ∙ content_is s log g.2
 content_is s (Restart i ∷ log) g = no_commit s (Restart i) log g (λ u. refl) ∙ content_is s log g.2
+content_is s (Base many i ∷ log) g = no_commit s (Base many i) log g (λ u. refl) ∙ content_is s log g.2
 content_is s (AbortEnd t ∷ log) g = no_commit s (AbortEnd t) log g (λ u. refl) ∙ content_is s log g.2
 
 grows_one : (r : Record) (log : List Record) → (more : List Done) × (committed_of (r ∷ log) ≡ committed_of log ++ more)
 grows_one (Commit t) log = (record { txn = t; lsn = length log + 1; ops = told t log } ∷ [], refl)
-grows_one (PageOp t n page slot before after) log = ([], sym (append-nil (committed_of log)))
-grows_one (PageUndo t n undone page slot after) log = ([], sym (append-nil (committed_of log)))
-grows_one (OpEnd t n level deed) log = ([], sym (append-nil (committed_of log)))
-grows_one (OpVoid t n) log = ([], sym (append-nil (committed_of log)))
-grows_one (CompEnd t n undone) log = ([], sym (append-nil (committed_of log)))
-grows_one (Restart i) log = ([], sym (append-nil (committed_of log)))
-grows_one (AbortEnd t) log = ([], sym (append-nil (committed_of log)))
+grows_one _ log = ([], sym (append-nil (committed_of log)))
 
 grows : (newer older : List Record) → (more : List Done) × (committed_of (newer ++ older) ≡ committed_of older ++ more)
 grows [] older = ([], sym (append-nil (committed_of older)))

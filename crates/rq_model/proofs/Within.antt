@@ -3,7 +3,7 @@ use Rattle.std.proofs.Common.{◌≡◌, ℕ, ◌<◌, ◌≤◌, List, [], ◌�
 use Rattle.std.proofs.lemmas.Bool.{cases_Bool, or_cases, or_parts, or_left, or_right, or_from, and_parts, and_from, false≢true, false_from_ne_true, not-true}
 use Rattle.rq_model.specs.declared.txn.Txn.{Txn}
 use Rattle.rq_model.specs.declared.record.Record.{Record}
-use Rattle.rq_model.specs.declared.record.Record.TheVariants.{PageOp, PageUndo, OpEnd, OpVoid, CompEnd, Commit, Restart, AbortEnd}
+use Rattle.rq_model.specs.declared.record.Record.TheVariants.{PageOp, PageUndo, OpEnd, OpVoid, CompEnd, Commit, Restart, AbortEnd, Base}
 use Rattle.rq_model.specs.Vocabulary.{same_txn}
 use Rattle.rq_model.specs.Content.{Said, Ending, ending, ends_txn, has_commit, has_end, kept, deeds, added, removed, removed_one}
 use Rattle.rq_model.specs.Rules.{uses_receive, any_use, holds, EndingMay, KeepsRules}
@@ -121,13 +121,9 @@ or_parts_left u t log e = let p = or_parts (same_txn u t || false) (has_end log 
 -- what a transaction that has not ended took, with what is committed taken, is no more than is committed sent
 pub within_log : (s : ℕ) (log : List Record) → KeepsRules log → (t : Txn) → has_end log t ≡ false → Bound s log t
 within_log s [] g t e = omega arith
-within_log s (PageOp u n page slot before after ∷ log) g t e = within_log s log g.2 t e
-within_log s (PageUndo u n undone page slot after ∷ log) g t e = within_log s log g.2 t e
-within_log s (OpVoid u n ∷ log) g t e = within_log s log g.2 t e
-within_log s (CompEnd u n undone ∷ log) g t e = within_log s log g.2 t e
-within_log s (Restart i ∷ log) g t e = within_log s log g.2 t e
 within_log s (OpEnd u n level deed ∷ log) g t e = within_end s log (ending (OpEnd u n level deed)) t g.0 (within_log s log g.2 t e)
 within_log s (AbortEnd u ∷ log) g t e = within_log s log g.2 t (or_parts (same_txn u t) (has_end log t) e).1
 within_log s (Commit u ∷ log) g t e =
     let x = or_parts (same_txn u t) (has_end log t) (or_parts_left u t log e) in
     within_commit s u t log g.2 (g.1 u (commit_ends u)) x.1 x.0 (within_log s log g.2 t x.1) (within_log s log g.2 u (g.1 u (commit_ends u)))
+within_log s (_ ∷ log) g t e = within_log s log g.2 t e

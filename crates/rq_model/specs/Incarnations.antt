@@ -2,7 +2,7 @@
 use Rattle.std.specs.Prelude.{◌≡◌, ℕ, ◌+◌, ◌≤◌, Bool, true, false, List, [], ◌∷◌, ◌++◌, length, Option, Some, None}
 use Rattle.rq_model.specs.declared.txn.Txn.{Txn}
 use Rattle.rq_model.specs.declared.record.Record.{Record}
-use Rattle.rq_model.specs.declared.record.Record.TheVariants.{PageOp, PageUndo, OpEnd, OpVoid, CompEnd, Commit, Restart, AbortEnd}
+use Rattle.rq_model.specs.declared.record.Record.TheVariants.{PageOp, PageUndo, OpEnd, OpVoid, CompEnd, Commit, Restart, AbortEnd, Base}
 use Rattle.rq_model.specs.Ledger.{Ledger}
 use Rattle.rq_model.specs.Ledger.Phase.{Running}
 use Rattle.rq_model.specs.Commits.{committed_of}
@@ -10,6 +10,7 @@ use Rattle.rq_model.specs.Commits.{committed_of}
 -- the incarnation that the log's records are of, 0 where it has none
 abbrev pub incarnation_one : Record → ℕ → ℕ
 incarnation_one (Restart i) n = i
+incarnation_one (Base many i) n = i
 incarnation_one _ n = n
 
 abbrev pub incarnation_of : List Record → ℕ
@@ -26,6 +27,7 @@ txn_of (CompEnd t n undone) = Some t
 txn_of (Commit t) = Some t
 txn_of (Restart i) = None
 txn_of (AbortEnd t) = Some t
+txn_of (Base many i) = None
 
 -- incarnations are counted from 1 on, and each record is of the running one
 abbrev pub IsOf : ℕ → Option Txn → Type 0
@@ -34,11 +36,21 @@ IsOf i (Some t) = (1 ≤ i) × (t.incarnation ≡ i)
 
 abbrev pub IsNext : ℕ → Record → Type 0
 IsNext i (Restart j) = j ≡ i + 1
+IsNext i (Base many j) = (1 ≤ i) × (j ≡ i)
 IsNext i r = IsOf i (txn_of r)
 
 abbrev pub InOrder : List Record → Type 0
 InOrder [] = Unit {0}
 InOrder (r ∷ log) = IsNext (incarnation_of log) r × InOrder log
+
+-- no store's log has a Base so far
+abbrev pub IsBased : Record → Type 0
+IsBased (Base many i) = ⊥
+IsBased r = Unit {0}
+
+abbrev pub AreBased : List Record → Type 0
+AreBased [] = Unit {0}
+AreBased (r ∷ log) = IsBased r × AreBased log
 
 -- what a restart adds: no Commit and no OpEnd
 abbrev pub is_plain : Record → Bool

@@ -67,6 +67,12 @@ pub enum Record {
     AbortEnd {
         txn: Txn,
     },
+    /// So many records stood before it, the last ones of this incarnation. All that they began had ended, and the pages
+    /// hold it.
+    Base {
+        records: u64,
+        incarnation: u64,
+    },
 }
 
 /// What an operation of the chain level did.

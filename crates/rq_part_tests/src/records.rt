@@ -1,7 +1,7 @@
-//! Records and deeds, as bytes are read.
+//! Records and deeds, as bytes are read and written.
 use rq_model::message::Body;
 use rq_model::txn::Txn;
-use rq_record::{Deed, Record, Step, decode, decode_deed, encode_deed};
+use rq_record::{Deed, Record, Step, decode, decode_deed, encode, encode_deed};
 use std::test::Fail;
 
 const FIRST: Txn = Txn {
@@ -14,11 +14,18 @@ const SECOND: Txn = Txn {
     count: 2,
 };
 
+const BASE: Record = Record::Base {
+    records: 5,
+    incarnation: 1,
+};
+
+const BASE_SPELLING: &[u8] = b"\0\0\0\x11\x09\0\0\0\0\0\0\0\x05\0\0\0\0\0\0\0\x01";
+
 /// Bytes, and what is read at their front.
 type Row = (&'static [u8], Step);
 
 // The last restart has bytes behind it.
-const ROWS: [Row; 16] = [
+const ROWS: [Row; 27] = [
     (
         b"\0\0\0\x09\x07\0\0\0\0\0\0\0\x01",
         Step::Record(Record::Restart { incarnation: 1 }, 13),
@@ -56,18 +63,51 @@ const ROWS: [Row; 16] = [
             37,
         ),
     ),
+    (BASE_SPELLING, Step::Record(BASE, 21)),
+    (
+        b"\0\0\0\x11\x09\0\x03\xff\xff\xff\xff\xff\xff\0\0\0\0\0\0\0\x01",
+        Step::Record(
+            Record::Base {
+                records: (1 << 50) - 1,
+                incarnation: 1,
+            },
+            21,
+        ),
+    ),
     // beginnings of records
     (&[], Step::Short),
     (&[0, 0, 0, 9, 7, 0], Step::Short),
     (&[0, 0, 0, 9, 7, 0, 0, 0, 0, 0, 0, 0], Step::Short),
     (&[0, 0, 2], Step::Short),
     (&[0, 0, 0, 17], Step::Short),
+    (&[0, 0, 0, 17, 9], Step::Short),
+    (&[0, 0, 0, 17, 9, 0], Step::Short),
+    (&[0, 0, 0, 17, 9, 0, 0, 0, 0, 0, 0, 0, 5, 0], Step::Short),
     // a commit of another length, an incarnation of 0, and lengths of no record
     (&[0, 0, 0, 9, 6], Step::Bad),
     (&[0, 0, 0, 9, 7, 0, 0, 0, 0, 0, 0, 0, 0], Step::Bad),
     (&[0, 0, 0, 18], Step::Bad),
     (&[0, 0, 3], Step::Bad),
     (&[1], Step::Bad),
+    // bases after too many records or none, of too high an incarnation or none, and parts of such
+    (&[0, 0, 0, 17, 9, 1], Step::Bad),
+    (&[0, 0, 0, 17, 9, 0, 0, 0, 0, 0, 0, 0, 5, 1], Step::Bad),
+    (
+        b"\0\0\0\x11\x09\0\x04\0\0\0\0\0\0\0\0\0\0\0\0\0\x01",
+        Step::Bad,
+    ),
+    (
+        b"\0\0\0\x11\x09\0\0\0\0\0\0\0\0\0\0\0\0\0\0\0\x01",
+        Step::Bad,
+    ),
+    (
+        b"\0\0\0\x11\x09\0\0\0\0\0\0\0\x05\0\0\0\0\0\0\0\0",
+        Step::Bad,
+    ),
+    (
+        b"\0\0\0\x11\x09\0\0\0\0\0\0\0\x05\0\0\0\0\0\0\0\x06",
+        Step::Bad,
+    ),
 ];
 
 // The calls that follow promise nothing, so that a test of many is checked fast.
@@ -96,6 +136,14 @@ fn records_are_read(rt: HostRuntime) {
     for (bytes, step) in ROWS {
         assert!(rt; read(bytes) == step);
     }
+}
+
+#[test]
+fn a_base_is_written(rt: HostRuntime) -> Result<(), Fail> {
+    let mut bytes = Vec::new(rt.alloc());
+    encode(&BASE, &mut bytes)?;
+    assert!(rt; bytes.as_slice() == BASE_SPELLING);
+    Ok(())
 }
 
 #[test]

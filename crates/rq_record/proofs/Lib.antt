@@ -1,4 +1,5 @@
 pub mod Readers
+pub mod UpTo
 pub mod Records
 pub mod Whole
 pub mod Fronts

@@ -1,16 +1,17 @@
 -- The reader of records reads exactly what spells one.
-use Rattle.std.proofs.Common.{◌≡◌, ℕ, ◌+◌, ◌^◌, ◌<◌, ◌≤◌, List, [], ◌∷◌, length, replicate, refl, ap, ◌∙◌, arith}
+use Rattle.std.proofs.Common.{◌≡◌, ℕ, ◌+◌, ◌-◌, ◌^◌, ◌<◌, ◌≤◌, List, [], ◌∷◌, ◌++◌, length, Ok, replicate, refl, ap, ◌∙◌, arith}
 use Rattle.std.proofs.lemmas.List.{length-append, length-replicate}
 use Rattle.rq_model.specs.declared.txn.Txn.{Txn}
 use Rattle.rq_model.specs.declared.record.Record.{Record}
-use Rattle.rq_model.specs.declared.record.Record.TheVariants.{PageOp, PageUndo, OpEnd, OpVoid, CompEnd, Commit, Restart, AbortEnd}
+use Rattle.rq_model.specs.declared.record.Record.TheVariants.{PageOp, PageUndo, OpEnd, OpVoid, CompEnd, Commit, Restart, AbortEnd, Base}
 use Rattle.rq_record.specs.declared.reading.Kind.{Kind}
 use Rattle.rq_record.specs.declared.reading.Kind.TheVariants as kinds
 use Rattle.rq_record.specs.Spelling.{txn_bytes, fields, IsTxnInRange, FitsTxn, IsRecord, IsSlotNumber}
 use Rattle.rq_bytes.specs.Number.{AreBytes, number}
-use Rattle.rq_record.specs.Reading.{bytes_at, number_at, positive_at, byte_between, txn_at, page_op_at, page_undo_at, op_end_at, op_void_at, comp_end_at, commit_at, restart_at, abort_end_at}
+use Rattle.rq_record.specs.Reading.{◌>>=◌, bytes_at, number_at, positive_at, number_up_to, byte_between, txn_at, page_op_at, page_undo_at, op_end_at, op_void_at, comp_end_at, commit_at, restart_at, abort_end_at, base_at}
 use Rattle.rq_bytes.proofs.Strings.{length-number}
-use Rattle.rq_record.proofs.Readers.{Field, Reads, also, both, Some-of, pair, Reads-and, Reads-last, Reads-field, Field-bytes, Field-number, Field-positive, Field-byte, AreBytes-zeros}
+use Rattle.rq_record.proofs.Readers.{Field, Reads, also, both, Some-of, pair, Reads-then, Reads-and, Reads-last, Reads-field, Field-bytes, Field-number, Field-positive, Field-byte, AreBytes-zeros}
+use Rattle.rq_record.proofs.UpTo.{IsUpTo, Field-up_to}
 use Rattle.rq_record.proofs.DeedParts.{plain}
 
 -- ---- fields that stand in many records
@@ -90,6 +91,7 @@ kind_from (CompEnd txn operation undone) = kinds.CompEnd
 kind_from (Commit txn) = kinds.Commit
 kind_from (Restart incarnation) = kinds.Restart
 kind_from (AbortEnd txn) = kinds.AbortEnd
+kind_from (Base records incarnation) = kinds.Base
 
 -- a record of this kind, with so many bytes after its length
 abbrev pub IsOf : Kind → ℕ → Record → Type 0
@@ -127,6 +129,10 @@ length-restart incarnation = simp length-number
 pub length-abort_end : (txn : Txn) → 1 + length (fields (AbortEnd txn)) ≡ 17
 unfolding fields
 length-abort_end txn = simp length-txn
+
+pub length-base : (records incarnation : ℕ) → 1 + length (fields (Base records incarnation)) ≡ 17
+unfolding fields
+length-base records incarnation = simp (length-append, length-number)
 
 -- a page operation
 abbrev images : List ℕ × List ℕ → List ℕ
@@ -171,12 +177,7 @@ from_page_op (PageOp txn operation page slot before after) is =
     let high = is.0.1 in
     ((txn, (operation, (page, (slot, (before, after))))), ((low.0, high.0), ((low.1, high.1), (high.2, (low.2, (high.4, high.5))))), refl)
 from_page_op (PageUndo txn operation undone page slot after) is = absurd cc
-from_page_op (OpEnd txn operation level deed) is = absurd cc
-from_page_op (OpVoid txn operation) is = absurd cc
-from_page_op (CompEnd txn operation undone) is = absurd cc
-from_page_op (Commit txn) is = absurd cc
-from_page_op (Restart incarnation) is = absurd cc
-from_page_op (AbortEnd txn) is = absurd cc
+from_page_op _ is = absurd cc
 
 pub Field-page_op : Field page_op_at fields (IsOf kinds.PageOp 542)
 Field-page_op = Reads-field page_op_at make_page_op page_op_bytes ArePageOp fields (IsOf kinds.PageOp 542) Reads-page_op to_page_op from_page_op
@@ -223,12 +224,7 @@ from_page_undo (PageUndo txn operation undone page slot after) is =
     let high = is.0.1 in
     ((txn, (operation, (undone, (page, (slot, after))))), ((low.0, high.0), ((low.1, high.1), ((low.2, high.2), (high.3, (low.3, high.5))))), refl)
 from_page_undo (PageOp txn operation page slot before after) is = absurd cc
-from_page_undo (OpEnd txn operation level deed) is = absurd cc
-from_page_undo (OpVoid txn operation) is = absurd cc
-from_page_undo (CompEnd txn operation undone) is = absurd cc
-from_page_undo (Commit txn) is = absurd cc
-from_page_undo (Restart incarnation) is = absurd cc
-from_page_undo (AbortEnd txn) is = absurd cc
+from_page_undo _ is = absurd cc
 
 pub Field-page_undo : Field page_undo_at fields (IsOf kinds.PageUndo 294)
 Field-page_undo = Reads-field page_undo_at make_page_undo page_undo_bytes ArePageUndo fields (IsOf kinds.PageUndo 294) Reads-page_undo to_page_undo from_page_undo
@@ -273,12 +269,7 @@ from_op_end size (OpEnd txn operation level deed) is =
     let deed_size : length deed ≡ size = omega (arith, is.2, length-op_end txn operation level deed) in
     ((txn, (operation, (level, deed))), ((low.0, high.0), ((low.1, high.1), ((low.2, omega (arith, high.2)), (deed_size, high.4)))), refl)
 from_op_end size (PageOp txn operation page slot before after) is = absurd cc
-from_op_end size (PageUndo txn operation undone page slot after) is = absurd cc
-from_op_end size (OpVoid txn operation) is = absurd cc
-from_op_end size (CompEnd txn operation undone) is = absurd cc
-from_op_end size (Commit txn) is = absurd cc
-from_op_end size (Restart incarnation) is = absurd cc
-from_op_end size (AbortEnd txn) is = absurd cc
+from_op_end size _ is = absurd cc
 
 pub Field-op_end : (size : ℕ) → 1 ≤ size → size ≤ 256 → Field (op_end_at size) fields (IsOf kinds.OpEnd (26 + size))
 Field-op_end size low high = Reads-field (op_end_at size) make_op_end op_end_bytes (AreOpEnd size) fields (IsOf kinds.OpEnd (26 + size)) (Reads-op_end size) (to_op_end size low high) (from_op_end size)
@@ -300,13 +291,7 @@ to_op_void x v = ((((v.0.0, v.1.0), (v.0.1, v.1.1)), refl, length-op_void x.0 x.
 
 from_op_void : (r : Record) → IsOf kinds.OpVoid 25 r → (x : Txn × ℕ) × both IsTxn IsPositive x × (make_op_void x ≡ r)
 from_op_void (OpVoid txn operation) is = ((txn, operation), ((is.0.0.0, is.0.1.0), (is.0.0.1, is.0.1.1)), refl)
-from_op_void (PageOp txn operation page slot before after) is = absurd cc
-from_op_void (PageUndo txn operation undone page slot after) is = absurd cc
-from_op_void (OpEnd txn operation level deed) is = absurd cc
-from_op_void (CompEnd txn operation undone) is = absurd cc
-from_op_void (Commit txn) is = absurd cc
-from_op_void (Restart incarnation) is = absurd cc
-from_op_void (AbortEnd txn) is = absurd cc
+from_op_void _ is = absurd cc
 
 pub Field-op_void : Field op_void_at fields (IsOf kinds.OpVoid 25)
 Field-op_void = Reads-field op_void_at make_op_void (also txn_bytes (number 8)) (both IsTxn IsPositive) fields (IsOf kinds.OpVoid 25) Reads-op_void to_op_void from_op_void
@@ -329,13 +314,7 @@ to_comp_end x v = ((((v.0.0, v.1.0.0, v.1.1.0), (v.0.1, v.1.0.1, v.1.1.1)), refl
 
 from_comp_end : (r : Record) → IsOf kinds.CompEnd 33 r → (x : Txn × (ℕ × ℕ)) × both IsTxn (both IsPositive IsPositive) x × (make_comp_end x ≡ r)
 from_comp_end (CompEnd txn operation undone) is = ((txn, (operation, undone)), ((is.0.0.0, is.0.1.0), ((is.0.0.1, is.0.1.1), (is.0.0.2, is.0.1.2))), refl)
-from_comp_end (PageOp txn operation page slot before after) is = absurd cc
-from_comp_end (PageUndo txn operation undone page slot after) is = absurd cc
-from_comp_end (OpEnd txn operation level deed) is = absurd cc
-from_comp_end (OpVoid txn operation) is = absurd cc
-from_comp_end (Commit txn) is = absurd cc
-from_comp_end (Restart incarnation) is = absurd cc
-from_comp_end (AbortEnd txn) is = absurd cc
+from_comp_end _ is = absurd cc
 
 pub Field-comp_end : Field comp_end_at fields (IsOf kinds.CompEnd 33)
 Field-comp_end = Reads-field comp_end_at make_comp_end (also txn_bytes (also (number 8) (number 8))) (both IsTxn (both IsPositive IsPositive)) fields (IsOf kinds.CompEnd 33) Reads-comp_end to_comp_end from_comp_end
@@ -355,13 +334,7 @@ to_commit x v = (((v.0, v.1), refl, length-commit x), refl)
 
 from_commit : (r : Record) → IsOf kinds.Commit 17 r → (x : Txn) × IsTxn x × (make_commit x ≡ r)
 from_commit (Commit txn) is = (txn, (is.0.0, is.0.1), refl)
-from_commit (PageOp txn operation page slot before after) is = absurd cc
-from_commit (PageUndo txn operation undone page slot after) is = absurd cc
-from_commit (OpEnd txn operation level deed) is = absurd cc
-from_commit (OpVoid txn operation) is = absurd cc
-from_commit (CompEnd txn operation undone) is = absurd cc
-from_commit (Restart incarnation) is = absurd cc
-from_commit (AbortEnd txn) is = absurd cc
+from_commit _ is = absurd cc
 
 pub Field-commit : Field commit_at fields (IsOf kinds.Commit 17)
 Field-commit = Reads-field commit_at make_commit txn_bytes IsTxn fields (IsOf kinds.Commit 17) Reads-commit to_commit from_commit
@@ -379,13 +352,7 @@ to_restart x v = (((v.0, v.1), refl, length-restart x), refl)
 
 from_restart : (r : Record) → IsOf kinds.Restart 9 r → (x : ℕ) × IsPositive x × (make_restart x ≡ r)
 from_restart (Restart incarnation) is = (incarnation, (is.0.0, is.0.1), refl)
-from_restart (PageOp txn operation page slot before after) is = absurd cc
-from_restart (PageUndo txn operation undone page slot after) is = absurd cc
-from_restart (OpEnd txn operation level deed) is = absurd cc
-from_restart (OpVoid txn operation) is = absurd cc
-from_restart (CompEnd txn operation undone) is = absurd cc
-from_restart (Commit txn) is = absurd cc
-from_restart (AbortEnd txn) is = absurd cc
+from_restart _ is = absurd cc
 
 pub Field-restart : Field restart_at fields (IsOf kinds.Restart 9)
 Field-restart = Reads-field restart_at make_restart (number 8) IsPositive fields (IsOf kinds.Restart 9) Reads-restart to_restart from_restart
@@ -403,13 +370,43 @@ to_abort_end x v = (((v.0, v.1), refl, length-abort_end x), refl)
 
 from_abort_end : (r : Record) → IsOf kinds.AbortEnd 17 r → (x : Txn) × IsTxn x × (make_abort_end x ≡ r)
 from_abort_end (AbortEnd txn) is = (txn, (is.0.0, is.0.1), refl)
-from_abort_end (PageOp txn operation page slot before after) is = absurd cc
-from_abort_end (PageUndo txn operation undone page slot after) is = absurd cc
-from_abort_end (OpEnd txn operation level deed) is = absurd cc
-from_abort_end (OpVoid txn operation) is = absurd cc
-from_abort_end (CompEnd txn operation undone) is = absurd cc
-from_abort_end (Commit txn) is = absurd cc
-from_abort_end (Restart incarnation) is = absurd cc
+from_abort_end _ is = absurd cc
 
 pub Field-abort_end : Field abort_end_at fields (IsOf kinds.AbortEnd 17)
 Field-abort_end = Reads-field abort_end_at make_abort_end txn_bytes IsTxn fields (IsOf kinds.AbortEnd 17) Reads-abort_end to_abort_end from_abort_end
+
+-- what stands for the records before it: the second number is bounded by the first
+
+abbrev most : ℕ
+most = 2 ^ 50 - 1
+
+abbrev make_base : ℕ × ℕ → Record
+make_base x = Base x.0 x.1
+
+abbrev base_bytes : ℕ × ℕ → List ℕ
+base_bytes x = number 8 x.0 ++ number 8 x.1
+
+abbrev AreBase : ℕ × ℕ → Type 0
+AreBase x = IsUpTo most x.0 × IsUpTo x.0 x.1
+
+Field-incarnation : (records : ℕ) → IsUpTo most records → Field (number_up_to 8 records) (number 8) (IsUpTo records)
+Field-incarnation records is = Field-up_to 8 records (omega arith) is.0 (omega (arith, is.1))
+
+Reads-base : Reads base_at make_base base_bytes AreBase
+unfolding base_at
+Reads-base =
+    Reads-then (number_up_to 8 most) (number 8) (IsUpTo most) (λ records bytes. number_up_to 8 records bytes >>= λ incarnation. Ok (Base records incarnation.0, incarnation.1)) make_base
+    (λ _. number 8) IsUpTo (Field-up_to 8 most (omega arith) (omega arith) (omega arith))
+    (λ records is. Reads-last (number_up_to 8 records) (number 8) (IsUpTo records) (λ incarnation. Base records incarnation) (Field-incarnation records is))
+    (λ records is. (1, (omega arith, is.0)))
+
+to_base : (x : ℕ × ℕ) → AreBase x → IsOf kinds.Base 17 (make_base x) × (fields (make_base x) ≡ base_bytes x)
+unfolding fields
+to_base x v = ((((v.0.0, omega (arith, v.0.1), v.1.0, v.1.1), (omega (arith, v.0.1), omega (arith, v.0.1, v.1.1))), refl, length-base x.0 x.1), refl)
+
+from_base : (r : Record) → IsOf kinds.Base 17 r → (x : ℕ × ℕ) × AreBase x × (make_base x ≡ r)
+from_base (Base records incarnation) is = ((records, incarnation), ((is.0.0.0, omega (arith, is.0.0.1)), (is.0.0.2, is.0.0.3)), refl)
+from_base _ is = absurd cc
+
+pub Field-base : Field base_at fields (IsOf kinds.Base 17)
+Field-base = Reads-field base_at make_base base_bytes AreBase fields (IsOf kinds.Base 17) Reads-base to_base from_base

@@ -2,10 +2,10 @@
 use Rattle.std.proofs.Common.{◌≡◌, ℕ, List, length, arith}
 use Rattle.rq_model.specs.declared.txn.Txn.{Txn}
 use Rattle.rq_model.specs.declared.record.Record.{Record}
-use Rattle.rq_model.specs.declared.record.Record.TheVariants.{PageOp, PageUndo, OpEnd, OpVoid, CompEnd, Commit, Restart, AbortEnd}
+use Rattle.rq_model.specs.declared.record.Record.TheVariants.{PageOp, PageUndo, OpEnd, OpVoid, CompEnd, Commit, Restart, AbortEnd, Base}
 use Rattle.rq_record.specs.Spelling.{spelling, HasWidths}
 use Rattle.rq_record.specs.Sizes.{length_of}
-use Rattle.rq_record.proofs.Spelled.{length-spelling_page_op, length-spelling_page_undo, length-spelling_op_end, length-spelling_op_void, length-spelling_comp_end, length-spelling_commit, length-spelling_restart, length-spelling_abort_end}
+use Rattle.rq_record.proofs.Spelled.{length-spelling_page_op, length-spelling_page_undo, length-spelling_op_end, length-spelling_op_void, length-spelling_comp_end, length-spelling_commit, length-spelling_restart, length-spelling_abort_end, length-spelling_base}
 
 -- a slot write, with two images
 pub page_op_length : (txn : Txn) (operation page slot : ℕ) (before after : List ℕ) → length before ≡ 256 → length after ≡ 256 → length (spelling (PageOp txn operation page slot before after)) ≡ 546
@@ -24,3 +24,4 @@ each_length (CompEnd txn operation undone) f = length-spelling_comp_end txn oper
 each_length (Commit txn) f = length-spelling_commit txn
 each_length (Restart incarnation) f = length-spelling_restart incarnation
 each_length (AbortEnd txn) f = length-spelling_abort_end txn
+each_length (Base records incarnation) f = length-spelling_base records incarnation

@@ -2,10 +2,10 @@
 use Rattle.std.proofs.Common.{◌≡◌, ℕ, ◌+◌, List, ◌∷◌, ◌++◌, length, ap, append_assoc, arith}
 use Rattle.rq_model.specs.declared.txn.Txn.{Txn}
 use Rattle.rq_model.specs.declared.record.Record.{Record}
-use Rattle.rq_model.specs.declared.record.Record.TheVariants.{PageOp, PageUndo, OpEnd, OpVoid, CompEnd, Commit, Restart, AbortEnd}
+use Rattle.rq_model.specs.declared.record.Record.TheVariants.{PageOp, PageUndo, OpEnd, OpVoid, CompEnd, Commit, Restart, AbortEnd, Base}
 use Rattle.rq_record.specs.Spelling.{txn_bytes, kind_number, fields, spelling}
 use Rattle.rq_bytes.specs.Number.{number}
-use Rattle.rq_record.proofs.Records.{length-txn, length-page_op, length-page_undo, length-op_end, length-op_void, length-comp_end, length-commit, length-restart, length-abort_end}
+use Rattle.rq_record.proofs.Records.{length-txn, length-page_op, length-page_undo, length-op_end, length-op_void, length-comp_end, length-commit, length-restart, length-abort_end, length-base}
 use Rattle.std.proofs.lemmas.List.{length-append}
 use Rattle.rq_bytes.proofs.Strings.{length-number}
 use Rattle.rq_record.proofs.Whole.{length-spelling}
@@ -49,6 +49,10 @@ pub spelling-abort_end : (txn : Txn) → spelling (AbortEnd txn) ≡ number 4 17
 unfolding fields
 spelling-abort_end txn = spelled (AbortEnd txn) 17 (length-abort_end txn)
 
+pub spelling-base : (records incarnation : ℕ) → spelling (Base records incarnation) ≡ number 4 17 ++ (9 ∷ (number 8 records ++ number 8 incarnation))
+unfolding fields
+spelling-base records incarnation = spelled (Base records incarnation) 17 (length-base records incarnation)
+
 -- how many bytes a spelling has, by kinds
 page_op_fields : (txn : Txn) (operation page slot : ℕ) (before after : List ℕ) → length (fields (PageOp txn operation page slot before after)) ≡ 29 + length before + length after
 unfolding fields
@@ -85,6 +89,9 @@ length-spelling_restart incarnation = size_known (Restart incarnation) 9 (length
 pub length-spelling_abort_end : (txn : Txn) → length (spelling (AbortEnd txn)) ≡ 21
 length-spelling_abort_end txn = size_known (AbortEnd txn) 17 (length-abort_end txn)
 
-pub ruleset spellings = (spelling-page_op, spelling-page_undo, spelling-op_end, spelling-op_void, spelling-comp_end, spelling-commit, spelling-restart, spelling-abort_end, append_assoc)
+pub length-spelling_base : (records incarnation : ℕ) → length (spelling (Base records incarnation)) ≡ 21
+length-spelling_base records incarnation = size_known (Base records incarnation) 17 (length-base records incarnation)
 
-pub ruleset lengths = (length-spelling_page_op, length-spelling_page_undo, length-spelling_op_end, length-spelling_op_void, length-spelling_comp_end, length-spelling_commit, length-spelling_restart, length-spelling_abort_end)
+pub ruleset spellings = (spelling-page_op, spelling-page_undo, spelling-op_end, spelling-op_void, spelling-comp_end, spelling-commit, spelling-restart, spelling-abort_end, spelling-base, append_assoc)
+
+pub ruleset lengths = (length-spelling_page_op, length-spelling_page_undo, length-spelling_op_end, length-spelling_op_void, length-spelling_comp_end, length-spelling_commit, length-spelling_restart, length-spelling_abort_end, length-spelling_base)

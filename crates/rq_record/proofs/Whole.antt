@@ -6,7 +6,7 @@ use Rattle.std.proofs.lemmas.List.{append-nil, length-append, length-replicate, 
 use Rattle.byteorder.specs.Endian.{big_number}
 use Rattle.rq_model.specs.declared.txn.Txn.{Txn}
 use Rattle.rq_model.specs.declared.record.Record.{Record}
-use Rattle.rq_model.specs.declared.record.Record.TheVariants.{PageOp, PageUndo, OpEnd, OpVoid, CompEnd, Commit, Restart, AbortEnd}
+use Rattle.rq_model.specs.declared.record.Record.TheVariants.{PageOp, PageUndo, OpEnd, OpVoid, CompEnd, Commit, Restart, AbortEnd, Base}
 use Rattle.rq_record.specs.declared.reading.Stop.TheVariants.{Short, Bad}
 use Rattle.rq_record.specs.declared.reading.Kind.{Kind}
 use Rattle.rq_record.specs.declared.reading.Kind.TheVariants as kinds
@@ -15,7 +15,7 @@ use Rattle.rq_bytes.specs.Number.{AreBytes, number}
 use Rattle.rq_record.specs.Reading.{◌>>=◌, op_end_at, kind_of, is_size, begins_size, size_at, known, kind_at, fields_at, record_at}
 use Rattle.rq_bytes.proofs.Strings.{length-number, number_read, number_written}
 use Rattle.rq_record.proofs.Readers.{Begins, Field, Reads, done, done_is, chosen, cut_length, AreBytes-zeros, Reads-then, Field-reads, Reads-field, within, within_is}
-use Rattle.rq_record.proofs.Records.{kind_from, IsOf, length-page_op, length-page_undo, length-op_end, length-op_void, length-comp_end, length-commit, length-restart, length-abort_end, Field-page_op, Field-page_undo, Field-op_end, Field-op_void, Field-comp_end, Field-commit, Field-restart, Field-abort_end}
+use Rattle.rq_record.proofs.Records.{kind_from, IsOf, length-page_op, length-page_undo, length-op_end, length-op_void, length-comp_end, length-commit, length-restart, length-abort_end, length-base, Field-page_op, Field-page_undo, Field-op_end, Field-op_void, Field-comp_end, Field-commit, Field-restart, Field-abort_end, Field-base}
 
 -- ---- the lengths
 
@@ -26,9 +26,8 @@ IsSizeOf kinds.PageUndo size = size ≡ 294
 IsSizeOf kinds.OpEnd size = (27 ≤ size) × (size ≤ 282)
 IsSizeOf kinds.OpVoid size = size ≡ 25
 IsSizeOf kinds.CompEnd size = size ≡ 33
-IsSizeOf kinds.Commit size = size ≡ 17
 IsSizeOf kinds.Restart size = size ≡ 9
-IsSizeOf kinds.AbortEnd size = size ≡ 17
+IsSizeOf _ size = size ≡ 17
 
 -- a length is that of some kind
 kind_of_size : (size : ℕ) → is_size size ≡ true → (kind : Kind) × IsSizeOf kind size
@@ -57,24 +56,12 @@ inside size is = ap (λ (t : Bool). cond t true (cond (eqb size 9) true (cond (e
 
 size_of_kind : (kind : Kind) (size : ℕ) → IsSizeOf kind size → is_size size ≡ true
 unfolding is_size
-size_of_kind kinds.PageOp size e = ap is_size e
-size_of_kind kinds.PageUndo size e = ap is_size e
 size_of_kind kinds.OpEnd size is = inside size is
-size_of_kind kinds.OpVoid size e = ap is_size e
-size_of_kind kinds.CompEnd size e = ap is_size e
-size_of_kind kinds.Commit size e = ap is_size e
-size_of_kind kinds.Restart size e = ap is_size e
-size_of_kind kinds.AbortEnd size e = ap is_size e
+size_of_kind _ size e = ap is_size e
 
 small_kind : (kind : Kind) (size : ℕ) → IsSizeOf kind size → size ≤ 542
-small_kind kinds.PageOp size e = omega arith
-small_kind kinds.PageUndo size e = omega arith
 small_kind kinds.OpEnd size is = omega (arith, is)
-small_kind kinds.OpVoid size e = omega arith
-small_kind kinds.CompEnd size e = omega arith
-small_kind kinds.Commit size e = omega arith
-small_kind kinds.Restart size e = omega arith
-small_kind kinds.AbortEnd size e = omega arith
+small_kind _ size e = omega arith
 
 small : (size : ℕ) → is_size size ≡ true → size ≤ 542
 small size e = let k = kind_of_size size e in small_kind k.0 size k.1
@@ -173,6 +160,7 @@ number_of kinds.CompEnd = 5
 number_of kinds.Commit = 6
 number_of kinds.Restart = 7
 number_of kinds.AbortEnd = 8
+number_of kinds.Base = 9
 
 abbrev Names : ℕ → ℕ → Kind → Type 0
 Names b size kind = (b ≡ number_of kind) × IsSizeOf kind size
@@ -192,6 +180,17 @@ op_end_true b size e = grind (arith, nat_tests)
 named : (b size : ℕ) (j k : Kind) → Names b size j → some j ≡ some k → Names b size k
 named b size j k h e = subst (Names b size) (some_is j k e) h
 
+-- the last two kinds
+last_named : (b size : ℕ) (k : Kind) → cond (eqb b 8 && eqb size 17) (some kinds.AbortEnd) (cond (eqb b 9 && eqb size 17) (some kinds.Base) None) ≡ Some k → Names b size k
+last_named b size k e =
+    elim (chosen (eqb b 8 && eqb size 17) (some kinds.AbortEnd) _ (Some k) e) [
+      | inl (t, h) ↦ named b size kinds.AbortEnd k (both_true b 8 size 17 t) h
+      | inr (f, e) ↦ elim (chosen (eqb b 9 && eqb size 17) (some kinds.Base) None (Some k) e) [
+        | inl (t, h) ↦ named b size kinds.Base k (both_true b 9 size 17 t) h
+        | inr (f, e) ↦ absurd cc
+      ]
+    ]
+
 -- a kind that is named so has that number and may be so long
 kind_named : (b size : ℕ) (k : Kind) → kind_of b size ≡ Some k → Names b size k
 unfolding kind_of
@@ -210,10 +209,7 @@ kind_named b size k e =
                 | inl (t, h) ↦ named b size kinds.Commit k (both_true b 6 size 17 t) h
                 | inr (f, e) ↦ elim (chosen (eqb b 7 && eqb size 9) (some kinds.Restart) _ (Some k) e) [
                   | inl (t, h) ↦ named b size kinds.Restart k (both_true b 7 size 9 t) h
-                  | inr (f, e) ↦ elim (chosen (eqb b 8 && eqb size 17) (some kinds.AbortEnd) None (Some k) e) [
-                    | inl (t, h) ↦ named b size kinds.AbortEnd k (both_true b 8 size 17 t) h
-                    | inr (f, e) ↦ absurd cc
-                  ]
+                  | inr (f, e) ↦ last_named b size k e
                 ]
               ]
             ]
@@ -236,6 +232,7 @@ kind_is kinds.CompEnd size e = ap (kind_of 5) e
 kind_is kinds.Commit size e = ap (kind_of 6) e
 kind_is kinds.Restart size e = ap (kind_of 7) e
 kind_is kinds.AbortEnd size e = ap (kind_of 8) e
+kind_is kinds.Base size e = ap (kind_of 9) e
 
 abbrev pub kind_bytes : Kind → List ℕ
 kind_bytes kind = number_of kind ∷ []
@@ -290,6 +287,7 @@ Field-fields size kinds.CompEnd e = subst (λ (n : ℕ). Field (fields_at n kind
 Field-fields size kinds.Commit e = subst (λ (n : ℕ). Field (fields_at n kinds.Commit) fields (IsOf kinds.Commit n)) (sym e) Field-commit
 Field-fields size kinds.Restart e = subst (λ (n : ℕ). Field (fields_at n kinds.Restart) fields (IsOf kinds.Restart n)) (sym e) Field-restart
 Field-fields size kinds.AbortEnd e = subst (λ (n : ℕ). Field (fields_at n kinds.AbortEnd) fields (IsOf kinds.AbortEnd n)) (sym e) Field-abort_end
+Field-fields size kinds.Base e = subst (λ (n : ℕ). Field (fields_at n kinds.Base) fields (IsOf kinds.Base n)) (sym e) Field-base
 
 -- ---- a whole record
 
@@ -304,16 +302,11 @@ size_of_record (CompEnd txn operation undone) is = length-comp_end txn operation
 size_of_record (Commit txn) is = length-commit txn
 size_of_record (Restart incarnation) is = length-restart incarnation
 size_of_record (AbortEnd txn) is = length-abort_end txn
+size_of_record (Base records incarnation) is = length-base records incarnation
 
 number_from : (r : Record) → kind_number r ≡ number_of (kind_from r)
 number_from (PageOp txn operation page slot before after) = refl
-number_from (PageUndo txn operation undone page slot after) = refl
-number_from (OpEnd txn operation level deed) = refl
-number_from (OpVoid txn operation) = refl
-number_from (CompEnd txn operation undone) = refl
-number_from (Commit txn) = refl
-number_from (Restart incarnation) = refl
-number_from (AbortEnd txn) = refl
+number_from _ = refl
 
 -- each kind has a record of each of its lengths
 first_txn : Txn
@@ -348,6 +341,7 @@ some_of kinds.CompEnd size e = (CompEnd first_txn 1 1, ((((omega arith, omega ar
 some_of kinds.Commit size e = (Commit first_txn, (((omega arith, omega arith), (omega arith, omega arith)), refl, length-commit first_txn ∙ sym e))
 some_of kinds.Restart size e = (Restart 1, ((omega arith, omega arith), refl, length-restart 1 ∙ sym e))
 some_of kinds.AbortEnd size e = (AbortEnd first_txn, (((omega arith, omega arith), (omega arith, omega arith)), refl, length-abort_end first_txn ∙ sym e))
+some_of kinds.Base size e = (Base 1 1, (((omega arith, omega arith, omega arith, omega arith), (omega arith, omega arith)), refl, length-base 1 1 ∙ sym e))
 
 abbrev Parts : Type 0
 Parts = ℕ × (Kind × Record)
@@ -421,14 +415,8 @@ pub framed_whole : (r : Record) → IsRecord r → 4 + big_number 4 (spelling r)
 framed_whole r is = ap (λ (t : List ℕ). 4 + big_number 4 t) (sym (append-nil (spelling r))) ∙ framed r [] is
 
 large_kind : (kind : Kind) (size : ℕ) → IsSizeOf kind size → 9 ≤ size
-large_kind kinds.PageOp size e = omega arith
-large_kind kinds.PageUndo size e = omega arith
 large_kind kinds.OpEnd size is = omega (arith, is)
-large_kind kinds.OpVoid size e = omega arith
-large_kind kinds.CompEnd size e = omega arith
-large_kind kinds.Commit size e = omega arith
-large_kind kinds.Restart size e = omega arith
-large_kind kinds.AbortEnd size e = omega arith
+large_kind _ size e = omega arith
 
 pub long_spelling : (r : Record) → IsRecord r → 13 ≤ length (spelling r)
 long_spelling r is = omega (arith, large_kind (kind_from r) (1 + length (fields r)) (size_of_record r is), length-spelling r)

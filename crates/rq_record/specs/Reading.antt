@@ -1,9 +1,9 @@
 -- How a record is read, field by field: each reader gives a value and the bytes after it, or says why it stops.
-use Rattle.std.specs.Prelude.{◌≡◌, ℕ, ◌-◌, ◌≤◌, Bool, true, false, ◌&&◌, ◌==◌, nat_lt, nat_le, if◌then◌else◌, List, [], ◌∷◌, length, take, drop, Option, Some, None, Result, Ok, Err}
+use Rattle.std.specs.Prelude.{◌≡◌, ℕ, ◌-◌, ◌^◌, ◌≤◌, Bool, true, false, ◌&&◌, ◌==◌, nat_lt, nat_le, if◌then◌else◌, List, [], ◌∷◌, length, take, drop, Option, Some, None, Result, Ok, Err}
 use Rattle.byteorder.specs.Endian.{big_number}
 use Rattle.rq_model.specs.declared.txn.Txn.{Txn}
 use Rattle.rq_model.specs.declared.record.Record.{Record}
-use Rattle.rq_model.specs.declared.record.Record.TheVariants.{PageOp, PageUndo, OpEnd, OpVoid, CompEnd, Commit, Restart, AbortEnd}
+use Rattle.rq_model.specs.declared.record.Record.TheVariants.{PageOp, PageUndo, OpEnd, OpVoid, CompEnd, Commit, Restart, AbortEnd, Base}
 use Rattle.rq_record.specs.declared.reading.Stop.{Stop}
 use Rattle.rq_record.specs.declared.reading.Stop.TheVariants.{Short, Bad}
 use Rattle.rq_record.specs.declared.reading.Kind.{Kind}
@@ -30,6 +30,11 @@ number_at size bytes = if nat_lt (length bytes) size then Err Short else Ok (big
 -- the same, from 1 on
 unfoldable pub positive_at : ℕ → List ℕ → Result (ℕ × List ℕ) Stop
 positive_at size bytes = number_at size bytes >>= λ n. if n.0 == 0 then Err Bad else Ok n
+
+-- the same, up to a highest number. Where bytes are wanting they count as 0: if even that is too high,
+-- no number begins so
+unfoldable pub number_up_to : ℕ → ℕ → List ℕ → Result (ℕ × List ℕ) Stop
+number_up_to size high bytes = if nat_le (big_number size bytes) high then positive_at size bytes else Err Bad
 
 -- a byte from low to high
 unfoldable pub byte_between : ℕ → ℕ → List ℕ → Result (ℕ × List ℕ) Stop
@@ -80,6 +85,11 @@ restart_at bytes = positive_at 8 bytes >>= λ incarnation. Ok (Restart incarnati
 unfoldable pub abort_end_at : List ℕ → Result (Record × List ℕ) Stop
 abort_end_at bytes = txn_at bytes >>= λ txn. Ok (AbortEnd txn.0, txn.1)
 
+unfoldable pub base_at : List ℕ → Result (Record × List ℕ) Stop
+base_at bytes =
+    number_up_to 8 (2 ^ 50 - 1) bytes >>= λ records. number_up_to 8 records.0 records.1 >>= λ incarnation.
+    Ok (Base records.0 incarnation.0, incarnation.1)
+
 -- ---- what stands before the fields
 
 -- the kind of this number, of which a record may be so long
@@ -93,6 +103,7 @@ kind_of number size =
     if number == 6 && size == 17 then Some kinds.Commit else
     if number == 7 && size == 9 then Some kinds.Restart else
     if number == 8 && size == 17 then Some kinds.AbortEnd else
+    if number == 9 && size == 17 then Some kinds.Base else
     None
 
 -- some kind's length
@@ -138,6 +149,7 @@ fields_at size kinds.CompEnd bytes = comp_end_at bytes
 fields_at size kinds.Commit bytes = commit_at bytes
 fields_at size kinds.Restart bytes = restart_at bytes
 fields_at size kinds.AbortEnd bytes = abort_end_at bytes
+fields_at size kinds.Base bytes = base_at bytes
 
 unfoldable pub record_at : List ℕ → Result (Record × List ℕ) Stop
 record_at bytes = size_at bytes >>= λ size. kind_at size.0 size.1 >>= λ kind. fields_at size.0 kind.0 kind.1

@@ -1,7 +1,7 @@
 -- How long the spelling of each kind of record is.
 use Rattle.std.specs.Prelude.{◌≡◌, ℕ, ◌+◌, length}
 use Rattle.rq_model.specs.declared.record.Record.{Record}
-use Rattle.rq_model.specs.declared.record.Record.TheVariants.{PageOp, PageUndo, OpEnd, OpVoid, CompEnd, Commit, Restart, AbortEnd}
+use Rattle.rq_model.specs.declared.record.Record.TheVariants.{PageOp, PageUndo, OpEnd, OpVoid, CompEnd, Commit, Restart, AbortEnd, Base}
 use Rattle.rq_record.specs.Spelling.{spelling, HasWidths}
 
 -- how many bytes a record of each kind has: its kind alone says it, but for an operation's end, where
@@ -15,6 +15,7 @@ length_of (CompEnd txn operation undone) = 37
 length_of (Commit txn) = 21
 length_of (Restart incarnation) = 13
 length_of (AbortEnd txn) = 21
+length_of (Base records incarnation) = 21
 
 -- the spelling of each record that a program holds is that long
 abbrev pub EachHasItsLength : Type 0

@@ -4,7 +4,7 @@ use Rattle.byteorder.specs.Endian.{big_number}
 use Rattle.rq_bytes.specs.Number.{AreBytes, number}
 use Rattle.rq_model.specs.declared.txn.Txn.{Txn}
 use Rattle.rq_model.specs.declared.record.Record.{Record}
-use Rattle.rq_model.specs.declared.record.Record.TheVariants.{PageOp, PageUndo, OpEnd, OpVoid, CompEnd, Commit, Restart, AbortEnd}
+use Rattle.rq_model.specs.declared.record.Record.TheVariants.{PageOp, PageUndo, OpEnd, OpVoid, CompEnd, Commit, Restart, AbortEnd, Base}
 
 -- the number of a transaction
 unfoldable pub txn_bytes : Txn → List ℕ
@@ -20,6 +20,7 @@ kind_number (CompEnd txn operation undone) = 5
 kind_number (Commit txn) = 6
 kind_number (Restart incarnation) = 7
 kind_number (AbortEnd txn) = 8
+kind_number (Base records incarnation) = 9
 
 -- what stands after a record's kind
 unfoldable pub fields : Record → List ℕ
@@ -33,6 +34,7 @@ fields (CompEnd txn operation undone) = txn_bytes txn ++ (number 8 operation ++ 
 fields (Commit txn) = txn_bytes txn
 fields (Restart incarnation) = number 8 incarnation
 fields (AbortEnd txn) = txn_bytes txn
+fields (Base records incarnation) = number 8 records ++ number 8 incarnation
 
 -- the one spelling of a record: the length of what follows in four bytes, the kind, the fields
 unfoldable pub spelling : Record → List ℕ
@@ -46,7 +48,8 @@ abbrev pub IsSlotNumber : ℕ → Type 0
 IsSlotNumber slot = (1 ≤ slot) × (slot ≤ 15)
 
 -- what a record may say: incarnations, counts, operation numbers, LSNs and levels begin at 1, a page
--- has slots 1 to 15, and a deed is 1 to 256 bytes
+-- has slots 1 to 15, and a deed is 1 to 256 bytes. Before a base stood fewer than 2 ^ 50 records, at
+-- least one of each incarnation.
 abbrev pub IsInRange : Record → Type 0
 IsInRange (PageOp txn operation page slot before after) = IsTxnInRange txn × (0 < operation) × IsSlotNumber slot
 IsInRange (PageUndo txn operation undone page slot after) = IsTxnInRange txn × (0 < operation) × (0 < undone)
@@ -58,6 +61,7 @@ IsInRange (CompEnd txn operation undone) = IsTxnInRange txn × (0 < operation) �
 IsInRange (Commit txn) = IsTxnInRange txn
 IsInRange (Restart incarnation) = 0 < incarnation
 IsInRange (AbortEnd txn) = IsTxnInRange txn
+IsInRange (Base records incarnation) = (1 ≤ records) × (records < 2 ^ 50) × (1 ≤ incarnation) × (incarnation ≤ records)
 
 abbrev pub FitsTxn : Txn → Type 0
 FitsTxn txn = (txn.incarnation < 2 ^ 64) × (txn.count < 2 ^ 64)
@@ -78,6 +82,7 @@ HasWidths (CompEnd txn operation undone) = FitsTxn txn × (operation < 2 ^ 64) �
 HasWidths (Commit txn) = FitsTxn txn
 HasWidths (Restart incarnation) = incarnation < 2 ^ 64
 HasWidths (AbortEnd txn) = FitsTxn txn
+HasWidths (Base records incarnation) = (records < 2 ^ 64) × (incarnation < 2 ^ 64)
 
 -- what has a spelling
 abbrev pub IsRecord : Record → Type 0

@@ -1,12 +1,14 @@
 //! From bytes to records.
 ghost use Rattle.std.specs.Prelude.{◌≡◌, ◌-◌, ◌≤◌, ◌<◌, length, IfOk, IfSome, List, ℕ, ◌++◌, ◌↔◌};
+ghost use Rattle.byteorder.specs.Endian.{big_number};
 ghost use Rattle.rq_model.specs.declared.record.Record.{Record};
 ghost use Rattle.rq_record.specs.Spelling.{IsRecord, spelling, BeginsRecord, HoldsRecord};
 ghost use Rattle.rq_record.specs.Decoding.{IfRecord, IsFront, step_of, step_with};
-ghost use Rattle.rq_record.specs.Reading.{Gives, bytes_at, number_at, positive_at, byte_between, txn_at, page_op_at, page_undo_at, op_end_at, op_void_at, comp_end_at, commit_at, restart_at, abort_end_at, kind_of, is_size, begins_size, size_at, kind_at, IsDeedSize, fields_at, record_at};
+ghost use Rattle.rq_record.specs.Reading.{Gives, bytes_at, number_at, positive_at, number_up_to, byte_between, txn_at, page_op_at, page_undo_at, op_end_at, op_void_at, comp_end_at, commit_at, restart_at, abort_end_at, base_at, kind_of, is_size, begins_size, size_at, kind_at, IsDeedSize, fields_at, record_at};
 
 use crate::step::{Decoded, Step};
 use byteorder::{BigEndian, ByteOrder};
+use rq_model::limits::LOG_LIMIT;
 use rq_model::record::{DeedBytes, Record, SLOT_BYTES, Slot};
 use rq_model::txn::Txn;
 
@@ -30,6 +32,7 @@ pub enum Kind {
     Commit,
     Restart,
     AbortEnd,
+    Base,
 }
 
 // So many bytes, and the bytes after them.
@@ -76,6 +79,27 @@ pub fn take_positive(bytes: &[u8]) -> Result<(u64, &[u8]), Stop>
         return Err(Stop::Bad);
     }
     Ok((n, rest))
+}
+
+// The least number of eight bytes that begins so.
+fn least_number(bytes: &[u8]) -> u64
+    ensures { result ≡ big_number 8 bytes.now }
+{
+    let mut whole = [0; 8];
+    let count = bytes.len().min(8);
+    whole[..count].copy_from_slice(&bytes[..count]);
+    BigEndian::read_u64(whole.as_slice())
+}
+
+// A number of eight bytes, from 1 to `high`. Fewer bytes may show that it is higher.
+#[tactic(auto, unfolding(crate::specs::Reading::number_up_to))]
+fn take_up_to(high: u64, bytes: &[u8]) -> Result<(u64, &[u8]), Stop>
+    ensures { Gives (λ x. (x.0, x.1.now)) result (number_up_to 8 high bytes.now) }
+{
+    if least_number(bytes) > high {
+        return Err(Stop::Bad);
+    }
+    take_positive(bytes)
 }
 
 // A byte from `low` to `high`.
@@ -238,6 +262,19 @@ fn abort_end<'a>(bytes: &'a [u8], into: &mut Record) -> Result<&'a [u8], Stop>
     Ok(rest)
 }
 
+#[tactic(auto, unfolding(crate::specs::Reading::base_at))]
+fn base<'a>(bytes: &'a [u8], into: &mut Record) -> Result<&'a [u8], Stop>
+    ensures { Gives (λ rest. (into.new, rest.now)) result (base_at bytes.now) }
+{
+    let (records, rest) = take_up_to(LOG_LIMIT - 1, bytes)?;
+    let (incarnation, rest) = take_up_to(records, rest)?;
+    *into = Record::Base {
+        records,
+        incarnation,
+    };
+    Ok(rest)
+}
+
 // The kind with this number, where a record of it may be so long.
 #[tactic(auto, unfolding(crate::specs::Reading::kind_of))]
 fn kind_named(number: u8, size: u32) -> Option<Kind>
@@ -253,6 +290,7 @@ fn kind_named(number: u8, size: u32) -> Option<Kind>
         (6, 17) => Some(Kind::Commit),
         (7, 9) => Some(Kind::Restart),
         (8, 17) => Some(Kind::AbortEnd),
+        (9, 17) => Some(Kind::Base),
         _ => None,
     }
 }
@@ -333,6 +371,7 @@ fn take_fields<'a>(
         Kind::Commit => commit(bytes, into),
         Kind::Restart => restart(bytes, into),
         Kind::AbortEnd => abort_end(bytes, into),
+        Kind::Base => base(bytes, into),
     }
 }
 

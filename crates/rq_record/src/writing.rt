@@ -97,10 +97,16 @@ pub fn shows_fits(record: &Record)
             let _number = *incarnation;
         }
         Record::AbortEnd { txn } => shows_txn_fits(txn),
+        Record::Base {
+            records,
+            incarnation,
+        } => {
+            let _numbers = (*records, *incarnation);
+        }
     }
 }
 
-// The length, the kind and the transaction, with which all records but a restart begin.
+// The length, the kind and the transaction, with which all records but a restart and a base begin.
 #[tactic(auto, unfolding(rq_bytes::specs::Number::number, crate::specs::Spelling::txn_bytes))]
 fn head_of(size: u32, kind: u8, txn: &Txn) -> [u8; 21]
     ensures { result ≡ number 4 size ++ (kind ∷ txn_bytes txn.now) }
@@ -250,6 +256,18 @@ fn put_abort_end(out: &mut Vec<u8>, txn: &Txn)
     put_head(out, 17, 8, txn);
 }
 
+#[tactic(auto, using(crate::proofs::Spelled::spellings))]
+fn put_base(out: &mut Vec<u8>, records: u64, incarnation: u64)
+    requires { vec_len out.old + 21 ≤ vec_capacity out.old }
+    ensures items { out.new.items ≡ out.old.items ++ spelling (Record.Base records incarnation) }
+    ensures capacity { vec_capacity out.old ≤ vec_capacity out.new }
+{
+    put_u32(out, 17);
+    put_byte(out, 9);
+    put_u64(out, records);
+    put_u64(out, incarnation);
+}
+
 /// The spelling of a record that a program holds is as long as its kind says, for proofs: a call at a
 /// record of a known kind says the number of its bytes.
 pub fn shows_size(record: &Record)
@@ -270,7 +288,7 @@ pub fn spelled_len(record: &Record) -> usize
         Record::OpVoid { .. } => 29,
         Record::CompEnd { .. } => 37,
         Record::Commit { .. } => COMMIT_BYTES,
-        Record::AbortEnd { .. } => 21,
+        Record::AbortEnd { .. } | Record::Base { .. } => 21,
         Record::Restart { .. } => 13,
     }
 }
@@ -314,6 +332,10 @@ fn put_record(out: &mut Vec<u8>, record: &Record)
         Record::Commit { txn } => put_commit(out, txn),
         Record::Restart { incarnation } => put_restart(out, *incarnation),
         Record::AbortEnd { txn } => put_abort_end(out, txn),
+        Record::Base {
+            records,
+            incarnation,
+        } => put_base(out, *records, *incarnation),
     }
 }
 

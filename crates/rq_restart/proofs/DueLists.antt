@@ -2,7 +2,7 @@
 use Rattle.std.proofs.Common.{◌≡◌, ℕ, ◌+◌, ◌<◌, true, false, not, nat_lt, List, [], ◌∷◌, ◌++◌, length, Option, Some, None, inl, inr, ◌⊎◌, refl, sym, ◌∙◌, ap, subst, arith}
 use Rattle.std.proofs.lemmas.Bool.{cases_Bool, false≢true, or_parts, true≢false}
 use Rattle.rq_model.specs.declared.record.Record.{Record}
-use Rattle.rq_model.specs.declared.record.Record.TheVariants.{PageOp, PageUndo, OpEnd, OpVoid, CompEnd, Commit, Restart, AbortEnd}
+use Rattle.rq_model.specs.declared.record.Record.TheVariants.{PageOp, PageUndo, OpEnd, OpVoid, CompEnd, Commit, Restart, AbortEnd, Base}
 use Rattle.rq_model.specs.declared.txn.Txn.{Txn}
 use Rattle.rq_model.specs.Content.{commits_txn, ends_txn, has_end}
 use Rattle.rq_model.specs.Vocabulary.{In, has_txn, same_txn}
@@ -38,6 +38,7 @@ due_told P Q older one (PageOp t n page slot before after ∷ log) q d i = due_t
 due_told P Q older one (PageUndo t n undone page slot after ∷ log) q d i = due_told P Q older one log (older (PageUndo t n undone page slot after) log q) d i
 due_told P Q older one (OpVoid t n ∷ log) q d i = due_told P Q older one log (older (OpVoid t n) log q) d i
 due_told P Q older one (Restart n ∷ log) q d i = due_told P Q older one log (older (Restart n) log q) d i
+due_told P Q older one (Base many n ∷ log) q d i = due_told P Q older one log (older (Base many n) log q) d i
 due_told P Q older one (AbortEnd t ∷ log) q d i = due_told P Q older one log (older (AbortEnd t) log q) d (own_in t (dues log) d i)
 
 abbrev IsDueInRange : PendingUndo → Type 0
@@ -64,11 +65,7 @@ active_range (OpEnd u n level deed ∷ log) a t i = elim (with_in u (open_work_o
 ]
 active_range (Commit u ∷ log) a t i = active_range log a.1 t (In-filter (λ (x : Txn). not (same_txn u x)) (open_work_of log).active t i).0
 active_range (AbortEnd u ∷ log) a t i = active_range log a.1 t (In-filter (λ (x : Txn). not (same_txn u x)) (open_work_of log).active t i).0
-active_range (PageOp u n page slot before after ∷ log) a t i = active_range log a.1 t i
-active_range (PageUndo u n undone page slot after ∷ log) a t i = active_range log a.1 t i
-active_range (OpVoid u n ∷ log) a t i = active_range log a.1 t i
-active_range (CompEnd u n undone ∷ log) a t i = active_range log a.1 t i
-active_range (Restart n ∷ log) a t i = active_range log a.1 t i
+active_range (_ ∷ log) a t i = active_range log a.1 t i
 
 -- ---- which transaction is next, once the first due is taken back
 
@@ -200,7 +197,4 @@ due_active (AbortEnd u ∷ log) d i e =
     let k = or_parts (ends_txn d.txn (AbortEnd u)) (has_end log d.txn) e in
     other_in u d.txn (open_work_of log).active k.0 (due_active log d (own_in u (dues log) d i) k.1)
 due_active (CompEnd u n undone ∷ log) d i e = due_active log d (in_newest u (dues log) d i) e
-due_active (PageOp u n page slot before after ∷ log) d i e = due_active log d i e
-due_active (PageUndo u n undone page slot after ∷ log) d i e = due_active log d i e
-due_active (OpVoid u n ∷ log) d i e = due_active log d i e
-due_active (Restart n ∷ log) d i e = due_active log d i e
+due_active (_ ∷ log) d i e = due_active log d i e

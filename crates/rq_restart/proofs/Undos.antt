@@ -1,7 +1,7 @@
 -- Undoing operations that have no end, record by record.
 use Rattle.std.proofs.Common.{◌≡◌, ℕ, ◌+◌, ◌<◌, List, [], ◌∷◌, length, inl, inr, refl, sym, ◌∙◌, ap, subst, arith}
 use Rattle.rq_model.specs.declared.record.Record.{Record}
-use Rattle.rq_model.specs.declared.record.Record.TheVariants.{PageOp, PageUndo, OpEnd, OpVoid, CompEnd, Commit, Restart, AbortEnd}
+use Rattle.rq_model.specs.declared.record.Record.TheVariants.{PageOp, PageUndo, OpEnd, OpVoid, CompEnd, Commit, Restart, AbortEnd, Base}
 use Rattle.rq_model.specs.declared.refusal.Refusal.{Refusal}
 use Rattle.rq_model.specs.declared.refusal.Refusal.TheVariants as why
 use Rattle.rq_model.specs.declared.refusal.Damage.TheVariants as damage
@@ -35,13 +35,10 @@ noted_range (PageOp t n page slot before after ∷ log) a o h = elim (in_with (o
   | inl e ↦ subst IsOpInRange (sym e) (a.0.0.0, a.0.0.1)
   | inr i ↦ noted_range log a.1 o i
 ]
-noted_range (PageUndo t n undone page slot after ∷ log) a o h = noted_range log a.1 o h
 noted_range (OpEnd t n level deed ∷ log) a o h = noted_range log a.1 o (in_without (operation t n) (open_work_of log).unfinished o h).0
 noted_range (OpVoid t n ∷ log) a o h = noted_range log a.1 o (in_without (operation t n) (open_work_of log).unfinished o h).0
 noted_range (CompEnd t n undone ∷ log) a o h = noted_range log a.1 o (in_without (operation t n) (open_work_of log).unfinished o h).0
-noted_range (Commit t ∷ log) a o h = noted_range log a.1 o h
-noted_range (Restart i ∷ log) a o h = noted_range log a.1 o h
-noted_range (AbortEnd t ∷ log) a o h = noted_range log a.1 o h
+noted_range (_ ∷ log) a o h = noted_range log a.1 o h
 
 abbrev IsUndoableInRange : UndoableWrite → Type 0
 IsUndoableInRange p = IsOpInRange p.by × (0 < p.lsn) × IsSlotNumber p.slot
@@ -56,9 +53,7 @@ undoable_range (PageUndo t n undone page slot after ∷ log) a p h = undoable_ra
 undoable_range (OpEnd t n level deed ∷ log) a p h = undoable_range log a.1 p (in_undoable (operation t n) (open_work_of log).undoable p h).0
 undoable_range (OpVoid t n ∷ log) a p h = undoable_range log a.1 p (in_undoable (operation t n) (open_work_of log).undoable p h).0
 undoable_range (CompEnd t n undone ∷ log) a p h = undoable_range log a.1 p (in_undoable (operation t n) (open_work_of log).undoable p h).0
-undoable_range (Commit t ∷ log) a p h = undoable_range log a.1 p h
-undoable_range (Restart i ∷ log) a p h = undoable_range log a.1 p h
-undoable_range (AbortEnd t ∷ log) a p h = undoable_range log a.1 p h
+undoable_range (_ ∷ log) a p h = undoable_range log a.1 p h
 
 -- none of these records tells a deed
 pub undo_reads : (h : OpenWorkView) (r : Record) → IsNextUndo h r → CanBeRead r

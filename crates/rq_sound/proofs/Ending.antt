@@ -164,6 +164,7 @@ module _ (z : Sizes) (log : List Record) (ends : HeldEnds) (rows : List Row) (i 
     reads = ((refl, (d, reads), own.forward forward), whole.reads);
     in_store = (subst (λ e. deed_sender e < sender_count z) (sym deed_is) below, whole.in_store);
     befores = (tt, whole.befores);
+    based = (tt, whole.based);
     order = (of_order z log ends rows i b k incarnation some r at_row, whole.order);
     room = (subst (λ y. claimed (items z log) + appends_of y ≤ cell_count z) (sym deed_is) room, whole.room);
     numbers = (tt, whole.numbers);

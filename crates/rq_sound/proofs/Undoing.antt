@@ -86,6 +86,7 @@ module _ (z : Sizes) (log : List Record) (ends : HeldEnds) (rows : List Row) (i 
     reads = (tt, whole.reads);
     in_store = (tt, whole.in_store);
     befores = (tt, whole.befores);
+    based = (tt, whole.based);
     order = (of_order z log ends rows i b k incarnation some r at_row, whole.order);
     room = (tt, whole.room);
     numbers = (tt, whole.numbers);

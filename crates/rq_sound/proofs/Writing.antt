@@ -112,6 +112,7 @@ module _ (z : Sizes) (log : List Record) (ends : HeldEnds) (rows : List Row) (i 
     reads = (tt, whole.reads);
     in_store = (slot, whole.in_store);
     befores = (old_slot, whole.befores);
+    based = (tt, whole.based);
     order = (of_order z log ends rows i b k incarnation some r at_row, whole.order);
     room = (tt, whole.room);
     numbers = (next_number z log ends rows i b k incarnation some r at_row u under, whole.numbers);

@@ -123,9 +123,7 @@ bounded l (PageUndo p u at after ∷ log) start k =
 bounded l (OpEnd p d ∷ log) start k = over l log (λ o. same_op p o) (bounded l log start k.1)
 bounded l (OpVoid p ∷ log) start k = over l log (λ o. same_op p o) (bounded l log start k.1)
 bounded l (CompEnd p u ∷ log) start k = over l log (λ o. same_op p o) (bounded l log start k.1)
-bounded l (Commit t ∷ log) start k = same l log (bounded l log start k.1)
-bounded l (AbortEnd t ∷ log) start k = same l log (bounded l log start k.1)
-bounded l (Restart i ∷ log) start k = same l log (bounded l log start k.1)
+bounded l (_ ∷ log) start k = same l log (bounded l log start k.1)
 
 formatted_within : (z : Sizes) (a : ℕ) → SentWithin 0 (formatted_at z a)
 formatted_within z a = elim (cases_Bool (nat_lt 0 (a / 16) && nat_le (a / 16) z.directory && nat_lt 0 (a % 16))) [ inl y ↦ rw y (omega arith) | inr n ↦ rw n tt ]
@@ -173,12 +171,7 @@ sound_told z r log page slot after k is e =
 sound_write : (z : Sizes) (r : Record) (log : List Record) → IsLegalLog (layout_of z) (items z (r ∷ log)) → InStoreOne z r → IsSoundWrite z (length log + 1) (told_by r)
 sound_write z (records.PageOp t n page slot before after) log k store = sound_told z (records.PageOp t n page slot before after) log page slot after k store refl
 sound_write z (records.PageUndo t n undone page slot after) log k store = sound_told z (records.PageUndo t n undone page slot after) log page slot after k store refl
-sound_write z (records.OpEnd t n level deed) log k store = tt
-sound_write z (records.OpVoid t n) log k store = tt
-sound_write z (records.CompEnd t n undone) log k store = tt
-sound_write z (records.Commit t) log k store = tt
-sound_write z (records.Restart i) log k store = tt
-sound_write z (records.AbortEnd t) log k store = tt
+sound_write z _ log k store = tt
 
 -- a slot of the store is on a directory or cell page
 pub page_of_slot : (z : Sizes) (page slot : ℕ) (bytes : List ℕ) → IsSlotOf z page slot bytes → (1 ≤ page) × (page < page_count z)
@@ -208,9 +201,4 @@ may_redo z log image k r legal store befores within grows h =
           let at = page_of_slot z page slot after there in
           λ lt. before_is z log k t n page slot before after (image page) legal store befores after_all (h page at.0 at.1) lt
       before_of (records.PageUndo t n undone page slot after) e = tt
-      before_of (records.OpEnd t n level deed) e = tt
-      before_of (records.OpVoid t n) e = tt
-      before_of (records.CompEnd t n undone) e = tt
-      before_of (records.Commit t) e = tt
-      before_of (records.Restart i) e = tt
-      before_of (records.AbortEnd t) e = tt
+      before_of _ e = tt

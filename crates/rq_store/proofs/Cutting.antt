@@ -19,6 +19,7 @@ whole_older z r log w = record {
   reads = w.reads.1;
   in_store = w.in_store.1;
   befores = w.befores.1;
+  based = w.based.1;
   order = w.order.1;
   room = w.room.1;
   numbers = w.numbers.1;

@@ -55,13 +55,7 @@ use Rattle.rq_store.proofs.Grouping.{groups_of}
 -- the item of a record ends the operations that the record ends
 ends_operation : (z : Sizes) (t : Txn) (n : ℕ) (r : Record) → operation_ended t n r ≡ (is_end (item_of z r) && is_of (operation t n) (of_op (item_of z r)))
 ends_operation z t n (records.PageOp u m page slot before after) = refl
-ends_operation z t n (records.PageUndo u m undone page slot after) = refl
-ends_operation z t n (records.OpEnd u m level deed) = refl
-ends_operation z t n (records.OpVoid u m) = refl
-ends_operation z t n (records.CompEnd u m undone) = refl
-ends_operation z t n (records.Commit u) = refl
-ends_operation z t n (records.Restart i) = refl
-ends_operation z t n (records.AbortEnd u) = refl
+ends_operation z t n _ = refl
 
 pub over_same : (z : Sizes) (t : Txn) (n : ℕ) (log : List Record) → over (operation t n) (items z log) ≡ any_record (operation_ended t n) log
 over_same z t n [] = refl
@@ -137,8 +131,7 @@ never z t n (records.CompEnd u m undone ∷ log) k h e =
     let ih = never z t n log k.1 h p.1 in
     (rw p.0 ih.0, or_from (same_op (operation u m) (operation t n)) (began (operation t n) (items z log)) p.0 ih.1)
 never z t n (records.Commit u ∷ log) k h e = never z t n log k.1 h e
-never z t n (records.AbortEnd u ∷ log) k h e = never z t n log k.1 h e
-never z t n (records.Restart i ∷ log) k h e = never z t n log k.1 h e
+never z t n (_ ∷ log) k h e = never z t n log k.1 h e
 
 -- no operation is under way
 pub idle_log : (z : Sizes) (log : List Record) → IsLegalLog (layout_of z) (items z log) → unfinished log ≡ [] → (o : Sub) → under_way o (items z log) ≡ false
@@ -188,21 +181,18 @@ ending_is u m level deed d one read = ap (λ l. ending_by u (cond (nat_eq l 1) (
 idler : (z : Sizes) (t : Txn) (log : List Record) → ReadsItsDeeds log → has_txn t (workers log) ≡ false → (open_deeds t (items z log) ≡ []) × (deeds (λ u. same_txn u t) log ≡ [])
 idler z t [] r h = (refl, refl)
 idler z t (records.PageOp u m page slot before after ∷ log) r h = idler z t log r.1 h
-idler z t (records.PageUndo u m undone page slot after ∷ log) r h = idler z t log r.1 h
 idler z t (records.OpEnd u m level deed ∷ log) r h =
     let e = ending_is u m level deed r.0.1.0 r.0.0 r.0.1.1 in
     let p = txn_added t u (workers log) (ap (λ (x : Option Ending). has_txn t (add_txn x (workers log))) (sym e) ∙ h) in
     let ih = idler z t log r.1 p.0 in
     (rw p.1 ih.0, ap (λ (x : Option Ending). kept (λ v. same_txn v t) x (deeds (λ v. same_txn v t) log)) e ∙ rw p.1 ih.1)
-idler z t (records.OpVoid u m ∷ log) r h = idler z t log r.1 h
 idler z t (records.CompEnd u m undone ∷ log) r h =
     let ih = idler z t log r.1 h in
     (elim (cases_Bool (same_txn u t)) [ inl y ↦ rw y (ap rest_placed ih.0) | inr f ↦ rw f ih.0 ], ih.1)
 idler z t (records.Commit u ∷ log) r h =
     let ih = idler z t log r.1 h in
     (elim (cases_Bool (same_txn u t)) [ inl y ↦ rw y refl | inr f ↦ rw f ih.0 ], ih.1)
-idler z t (records.AbortEnd u ∷ log) r h = idler z t log r.1 h
-idler z t (records.Restart i ∷ log) r h = idler z t log r.1 h
+idler z t (_ ∷ log) r h = idler z t log r.1 h
 
 -- where no transaction is lost, one that has not ended ended no operation
 no_worker : (log : List Record) (t : Txn) → lost log ≡ [] → has_end log t ≡ false → has_txn t (workers log) ≡ false
@@ -235,18 +225,13 @@ not_mentioned t i (records.OpVoid u m) h lt = other_incarnation u t i h.1 lt
 not_mentioned t i (records.CompEnd u m undone) h lt = other_incarnation u t i h.1 lt
 not_mentioned t i (records.Commit u) h lt = other_incarnation u t i h.1 lt
 not_mentioned t i (records.AbortEnd u) h lt = other_incarnation u t i h.1 lt
-not_mentioned t i (records.Restart j) h lt = refl
+not_mentioned t i _ h lt = refl
 
 -- each record's incarnation is the running one or an earlier one
 incarnation_rises : (i : ℕ) (r : Record) → IsNext i r → i ≤ incarnation_one r i
 incarnation_rises i (records.Restart j) h = let e : j ≡ i + 1 = h in omega (arith, e)
-incarnation_rises i (records.PageOp u m page slot before after) h = omega arith
-incarnation_rises i (records.PageUndo u m undone page slot after) h = omega arith
-incarnation_rises i (records.OpEnd u m level deed) h = omega arith
-incarnation_rises i (records.OpVoid u m) h = omega arith
-incarnation_rises i (records.CompEnd u m undone) h = omega arith
-incarnation_rises i (records.Commit u) h = omega arith
-incarnation_rises i (records.AbortEnd u) h = omega arith
+incarnation_rises i (records.Base many j) h = let e : j ≡ i = h.1 in omega (arith, e)
+incarnation_rises i _ h = omega arith
 
 -- no record is of an incarnation to come
 pub later_stranger : (t : Txn) (log : List Record) → InOrder log → incarnation_of log < t.incarnation → IsStranger t log
@@ -297,16 +282,11 @@ told_below f (suc n) g m =
 idle_worker : (z : Sizes) (t : Txn) (log : List Record) → ReadsItsDeeds log → has_txn t (workers log) ≡ false → has_deed t (items z log) ≡ false
 idle_worker z t [] r h = refl
 idle_worker z t (records.PageOp u m page slot before after ∷ log) r h = idle_worker z t log r.1 h
-idle_worker z t (records.PageUndo u m undone page slot after ∷ log) r h = idle_worker z t log r.1 h
 idle_worker z t (records.OpEnd u m level deed ∷ log) r h =
     let e = ending_is u m level deed r.0.1.0 r.0.0 r.0.1.1 in
     let p = txn_added t u (workers log) (ap (λ (x : Option Ending). has_txn t (add_txn x (workers log))) (sym e) ∙ h) in
     or_from (same_txn u t) (has_deed t (items z log)) p.1 (idle_worker z t log r.1 p.0)
-idle_worker z t (records.OpVoid u m ∷ log) r h = idle_worker z t log r.1 h
-idle_worker z t (records.CompEnd u m undone ∷ log) r h = idle_worker z t log r.1 h
-idle_worker z t (records.Commit u ∷ log) r h = idle_worker z t log r.1 h
-idle_worker z t (records.AbortEnd u ∷ log) r h = idle_worker z t log r.1 h
-idle_worker z t (records.Restart i ∷ log) r h = idle_worker z t log r.1 h
+idle_worker z t (_ ∷ log) r h = idle_worker z t log r.1 h
 
 -- where no transaction is lost, whoever did something has ended
 doers_ended : (z : Sizes) (log : List Record) → ReadsItsDeeds log → lost log ≡ [] → (t : Txn) → has_deed t (items z log) ≡ true → ends.has_end t (items z log) ≡ true
@@ -324,6 +304,7 @@ restarted_whole z log w none_unfinished none_lost = record {
   reads = (tt, w.reads);
   in_store = (tt, w.in_store);
   befores = (tt, w.befores);
+  based = (tt, w.based);
   order = (refl, w.order);
   room = (tt, w.room);
   numbers = (tt, w.numbers);

@@ -51,12 +51,7 @@ oldest_befores z log n h = dropped (length log - n) log h where
 slots_untold : (z : Sizes) (r : Record) (log : List Record) (a : ℕ) → told_by r ≡ None → (left_by z (r ∷ log)).slots a ≡ (left_by z log).slots a
 slots_untold z (records.PageOp t n page slot before after) log a e = cc
 slots_untold z (records.PageUndo t n undone page slot after) log a e = cc
-slots_untold z (records.OpEnd t n level deed) log a e = refl
-slots_untold z (records.OpVoid t n) log a e = refl
-slots_untold z (records.CompEnd t n undone) log a e = refl
-slots_untold z (records.Commit t) log a e = refl
-slots_untold z (records.Restart i) log a e = refl
-slots_untold z (records.AbortEnd t) log a e = refl
+slots_untold z _ log a e = refl
 
 abbrev told_slots : Sizes → ToldWrite → Slots → Slots
 told_slots z w q = put q (address w.page w.slot) (held_in z w.page w.after)
@@ -64,23 +59,13 @@ told_slots z w q = put q (address w.page w.slot) (held_in z w.page w.after)
 slots_told : (z : Sizes) (r : Record) (log : List Record) (a : ℕ) (w : ToldWrite) → told_by r ≡ Some w → (left_by z (r ∷ log)).slots a ≡ told_slots z w (left_by z log).slots a
 slots_told z (records.PageOp t n page slot before after) log a w e = let s : record { page = page; slot = slot; after = after } ≡ w = cc in ap (λ (v : ToldWrite). told_slots z v (left_by z log).slots a) s
 slots_told z (records.PageUndo t n undone page slot after) log a w e = let s : record { page = page; slot = slot; after = after } ≡ w = cc in ap (λ (v : ToldWrite). told_slots z v (left_by z log).slots a) s
-slots_told z (records.OpEnd t n level deed) log a w e = cc
-slots_told z (records.OpVoid t n) log a w e = cc
-slots_told z (records.CompEnd t n undone) log a w e = cc
-slots_told z (records.Commit t) log a w e = cc
-slots_told z (records.Restart i) log a w e = cc
-slots_told z (records.AbortEnd t) log a w e = cc
+slots_told z _ log a w e = cc
 
 -- and they are slots of the store
 told_store : (z : Sizes) (r : Record) (w : ToldWrite) → told_by r ≡ Some w → InStoreOne z r → IsSlotOf z w.page w.slot w.after
 told_store z (records.PageOp t n page slot before after) w e h = let s : record { page = page; slot = slot; after = after } ≡ w = cc in subst (λ (v : ToldWrite). IsSlotOf z v.page v.slot v.after) s h
 told_store z (records.PageUndo t n undone page slot after) w e h = let s : record { page = page; slot = slot; after = after } ≡ w = cc in subst (λ (v : ToldWrite). IsSlotOf z v.page v.slot v.after) s h
-told_store z (records.OpEnd t n level deed) w e h = cc
-told_store z (records.OpVoid t n) w e h = cc
-told_store z (records.CompEnd t n undone) w e h = cc
-told_store z (records.Commit t) w e h = cc
-told_store z (records.Restart i) w e h = cc
-told_store z (records.AbortEnd t) w e h = cc
+told_store z _ w e h = cc
 
 module _ (z : Sizes) (log : List Record) (k : ℕ) (r : Record) (grows : oldest (k + 1) log ≡ r ∷ oldest k log) (within : k + 1 ≤ length log) (store : InStoreOne z r) where
   abbrev older : List Record

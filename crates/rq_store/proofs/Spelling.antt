@@ -43,11 +43,7 @@ one_back z (PageUndo o u at after) h =
     ap (λ a. PageUndo o u a (held_in z (at / 16) (slot_bytes after))) (address_is at)
     ∙ ap (λ x. PageUndo o u at x) (told z at after h).0
 one_back z (OpEnd o d) h = ap (λ e. OpEnd o (told_deed e)) h.0
-one_back z (OpVoid o) h = refl
-one_back z (CompEnd o u) h = refl
-one_back z (Commit t) h = refl
-one_back z (AbortEnd t) h = refl
-one_back z (Restart i) h = refl
+one_back z _ h = refl
 
 pub items_back : (z : Sizes) (log : List Item) → AreSpelt z log → items z (spelled_log log) ≡ log
 items_back z [] h = refl
@@ -58,11 +54,7 @@ one_in_store : (z : Sizes) (i : Item) → IsSpelt z i → InStoreOne z (record_o
 one_in_store z (PageOp o w) h = (told z w.at w.after h.1).1
 one_in_store z (PageUndo o u at after) h = (told z at after h).1
 one_in_store z (OpEnd o d) h = subst (λ e. deed_sender (told_deed e) < sender_count z) (sym h.0) h.1
-one_in_store z (OpVoid o) h = tt
-one_in_store z (CompEnd o u) h = tt
-one_in_store z (Commit t) h = tt
-one_in_store z (AbortEnd t) h = tt
-one_in_store z (Restart i) h = tt
+one_in_store z _ h = tt
 
 pub in_store : (z : Sizes) (log : List Item) → AreSpelt z log → InStore z (spelled_log log)
 in_store z [] h = tt
@@ -70,13 +62,7 @@ in_store z (i ∷ log) h = (one_in_store z i h.0, in_store z log h.1)
 
 one_before : (z : Sizes) (i : Item) → IsSpelt z i → IsBefore z (record_of i)
 one_before z (PageOp o w) h = (told z w.at w.before h.0).1
-one_before z (PageUndo o u at after) h = tt
-one_before z (OpEnd o d) h = tt
-one_before z (OpVoid o) h = tt
-one_before z (CompEnd o u) h = tt
-one_before z (Commit t) h = tt
-one_before z (AbortEnd t) h = tt
-one_before z (Restart i) h = tt
+one_before z _ h = tt
 
 pub befores : (z : Sizes) (log : List Item) → AreSpelt z log → BeforesAreSlots z (spelled_log log)
 befores z [] h = tt

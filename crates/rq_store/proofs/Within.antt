@@ -21,9 +21,4 @@ all_within (records.Commit t ∷ log) n h =
     let c = length-append (committed_of log) (d ∷ []) in
     omega (arith, a, b, c)
 all_within (records.PageOp t m page slot before after ∷ log) n h = all_within log n (omega arith)
-all_within (records.PageUndo t m undone page slot after ∷ log) n h = all_within log n (omega arith)
-all_within (records.OpEnd t m level deed ∷ log) n h = all_within log n (omega arith)
-all_within (records.OpVoid t m ∷ log) n h = all_within log n (omega arith)
-all_within (records.CompEnd t m undone ∷ log) n h = all_within log n (omega arith)
-all_within (records.Restart i ∷ log) n h = all_within log n (omega arith)
-all_within (records.AbortEnd t ∷ log) n h = all_within log n (omega arith)
+all_within (_ ∷ log) n h = all_within log n (omega arith)

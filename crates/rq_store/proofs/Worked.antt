@@ -264,6 +264,7 @@ whole = record {
   in_store = in_store sizes restarted spelt;
   befores = befores sizes restarted spelt;
   order = order;
+  based = search;
   room = subst (HasRoom (cell_count sizes)) (sym same) worked.restarted_keeps.room;
   numbers = subst AreNumbered (sym same) worked.restarted_keeps.numbers;
 }

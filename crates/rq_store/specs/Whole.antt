@@ -2,7 +2,7 @@
 use Rattle.std.specs.Prelude.{List, [], ◌∷◌}
 use Rattle.rq_model.specs.declared.record.Record.{Record}
 use Rattle.rq_model.specs.declared.record.Record.TheVariants.{PageOp}
-use Rattle.rq_model.specs.Incarnations.{InOrder}
+use Rattle.rq_model.specs.Incarnations.{AreBased, InOrder}
 use Rattle.rq_model.specs.Rules.{KeepsRules}
 use Rattle.rq_page.specs.Sizes.{Sizes, cell_count}
 use Rattle.rq_page.specs.Slots.{IsSlotOf}
@@ -31,5 +31,6 @@ pub record IsWhole (z : Sizes) (log : List Record) : Type 0 where
   pub in_store : InStore z log
   pub befores : BeforesAreSlots z log
   pub order : InOrder log
+  pub based : AreBased log
   pub room : HasRoom (cell_count z) (items z log)
   pub numbers : AreNumbered (items z log)

@@ -100,11 +100,6 @@ own t log = filter (owned_by t) (all_open log)
 -- of each transaction, those that it has open
 pub own_open : (t : Txn) (log : List Item) → map placed_of (filter (owned_by t) (all_open log)) ≡ open_deeds t log
 own_open t [] = refl
-own_open t (PageOp o w ∷ log) = own_open t log
-own_open t (PageUndo o u at after ∷ log) = own_open t log
-own_open t (OpVoid o ∷ log) = own_open t log
-own_open t (AbortEnd u ∷ log) = own_open t log
-own_open t (Restart i ∷ log) = own_open t log
 own_open t (OpEnd o d ∷ log) = elim (cases_Bool (same_txn o.txn t)) [
   | inl y ↦ rw y (ap (λ l. record { lsn = length log + 1; deed = d } ∷ l) (own_open t log))
   | inr n ↦ rw n (own_open t log)
@@ -120,6 +115,7 @@ own_open t (Commit u ∷ log) = elim (cases_Bool (same_txn u t)) [
   | inl y ↦ ap (map placed_of) (subst (λ v. filter (owned_by t) (but_all (owned_by v) (all_open log)) ≡ []) (sym (same_is u t y)) (own_but_all (owned_by t) (all_open log))) ∙ rw y refl
   | inr n ↦ ap (map placed_of) (other_but_all (owned_by t) (owned_by u) (all_open log) (apart u t n)) ∙ own_open t log ∙ rw n refl
 ]
+own_open t (_ ∷ log) = own_open t log
 
 none_mapped : (xs : List Owned) (x : Owned) → map placed_of xs ≡ [] → In x xs → ⊥
 none_mapped [] x e h = h

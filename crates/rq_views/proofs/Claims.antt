@@ -66,10 +66,6 @@ pub claimed_is : (z : Sizes) (log : List Record) → IsLegalLog (layout_of z) (i
     → claimed (items z log) ≡ count_messages z log + taken (all_open (items z log))
 claimed_is z [] g k = let e = sum_none (sender_count z) in omega (arith, e)
 claimed_is z (records.PageOp t n page slot before after ∷ log) g k = claimed_is z log g.1 k.1
-claimed_is z (records.PageUndo t n undone page slot after ∷ log) g k = claimed_is z log g.1 k.1
-claimed_is z (records.OpVoid t n ∷ log) g k = claimed_is z log g.1 k.1
-claimed_is z (records.Restart i ∷ log) g k = claimed_is z log g.1 k.1
-claimed_is z (records.AbortEnd t ∷ log) g k = claimed_is z log g.1 k.1
 claimed_is z (records.OpEnd t n level deed ∷ log) g k =
     let ih = claimed_is z log g.1 k.1 in
     let d : Deed = told_deed (deed_in deed) in
@@ -92,18 +88,15 @@ claimed_is z (records.Commit t ∷ log) g k =
     ap (sum_by takes_placed) (sym (own_open t (items z log)))
     ∙ taken_placed (filter (owned_by t) (all_open (items z log))) in
     omega (arith, ih, a, b)
+claimed_is z (_ ∷ log) g k = claimed_is z log g.1 k.1
 
 -- no more is claimed than there is
 pub claimed_within : (cells : ℕ) (log : List Item) → HasRoom cells log → claimed log ≤ cells
 claimed_within cells [] h = omega arith
-claimed_within cells (PageOp o w ∷ log) h = claimed_within cells log h.1
-claimed_within cells (PageUndo o u at after ∷ log) h = claimed_within cells log h.1
 claimed_within cells (OpEnd o d ∷ log) h = h.0
-claimed_within cells (OpVoid o ∷ log) h = claimed_within cells log h.1
 claimed_within cells (CompEnd o u ∷ log) h = let a = claimed_within cells log h.1 in omega (arith, a)
 claimed_within cells (Commit t ∷ log) h = let a = claimed_within cells log h.1 in omega (arith, a)
-claimed_within cells (AbortEnd t ∷ log) h = claimed_within cells log h.1
-claimed_within cells (Restart i ∷ log) h = claimed_within cells log h.1
+claimed_within cells (_ ∷ log) h = claimed_within cells log h.1
 
 -- beside the cells that whole operations use there is one for each message that a transaction took and may put back
 pub taken_have_cells : (z : Sizes) (log : List Record) (t : Txn) → IsLegalLog (layout_of z) (items z log) → InStore z log

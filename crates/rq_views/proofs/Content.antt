@@ -5,7 +5,7 @@ use Rattle.std.proofs.lemmas.List.{length-map, length-drop}
 use Rattle.rq_model.specs.declared.txn.Txn.{Txn}
 use Rattle.rq_model.specs.declared.record.Deed.{Deed}
 use Rattle.rq_model.specs.declared.record.Record.{Record}
-use Rattle.rq_model.specs.declared.record.Record.TheVariants.{PageOp, PageUndo, OpEnd, OpVoid, CompEnd, Commit, Restart, AbortEnd}
+use Rattle.rq_model.specs.declared.record.Record.TheVariants.{PageOp, PageUndo, OpEnd, OpVoid, CompEnd, Commit, Restart, AbortEnd, Base}
 use Rattle.rq_model.specs.Vocabulary.{same_txn}
 use Rattle.rq_model.specs.Deeds.{deed_in}
 use Rattle.rq_model.specs.History.{Group}
@@ -31,10 +31,6 @@ told_end t u n level bytes d ps ds l e h =
 
 pub own_deeds : (z : Sizes) (t : Txn) (log : List Record) → ReadsItsDeeds log → has_end log t ≡ false → has_undone log t ≡ false → say (open_deeds t (items z log)) ≡ deeds (only t) log
 own_deeds z t [] g e n = refl
-own_deeds z t (PageOp u k page slot before after ∷ log) g e n = own_deeds z t log g.1 e n
-own_deeds z t (PageUndo u k undone page slot after ∷ log) g e n = own_deeds z t log g.1 e n
-own_deeds z t (OpVoid u k ∷ log) g e n = own_deeds z t log g.1 e n
-own_deeds z t (Restart i ∷ log) g e n = own_deeds z t log g.1 e n
 own_deeds z t (OpEnd u k level bytes ∷ log) g e n =
     told_end t u (length (items z log) + 1) level bytes g.0.1.0 (open_deeds t (items z log)) (deeds (only t) log) g.0.0 g.0.1.1 (own_deeds z t log g.1 e n)
 own_deeds z t (CompEnd u k undone ∷ log) g e n = elim (cases_Bool (same_txn u t)) [
@@ -46,6 +42,7 @@ own_deeds z t (Commit u ∷ log) g e n =
     let p = or_parts (same_txn u t || false) (has_end log t) e in
     let other : same_txn u t ≡ false = (or_parts (same_txn u t) false p.0).0 in
     rw other (own_deeds z t log g.1 p.1 n)
+own_deeds z t (_ ∷ log) g e n = own_deeds z t log g.1 e n
 
 -- what a transaction that has not ended took is there
 there : (s : ℕ) (t : Txn) (log : List Record) → KeepsRules log → has_end log t ≡ false → removed s (deeds (only t) log) ≤ length (content log s).rest
@@ -72,6 +69,7 @@ committed_is_content z s (OpEnd u k level bytes ∷ log) g d = same_content z s 
 committed_is_content z s (OpVoid u k ∷ log) g d = same_content z s (OpVoid u k) log (no_commit s (OpVoid u k) log g (λ x. refl)) (committed_is_content z s log g.2 d.1)
 committed_is_content z s (CompEnd u k undone ∷ log) g d = same_content z s (CompEnd u k undone) log (no_commit s (CompEnd u k undone) log g (λ x. refl)) (committed_is_content z s log g.2 d.1)
 committed_is_content z s (Restart i ∷ log) g d = same_content z s (Restart i) log (no_commit s (Restart i) log g (λ x. refl)) (committed_is_content z s log g.2 d.1)
+committed_is_content z s (Base many i ∷ log) g d = same_content z s (Base many i) log (no_commit s (Base many i) log g (λ x. refl)) (committed_is_content z s log g.2 d.1)
 committed_is_content z s (AbortEnd u ∷ log) g d = same_content z s (AbortEnd u) log (no_commit s (AbortEnd u) log g (λ x. refl)) (committed_is_content z s log g.2 d.1)
 committed_is_content z s (Commit t ∷ log) g d =
     let ih = committed_is_content z s log g.2 d.1 in

@@ -104,19 +104,13 @@ count_writes z (w ∷ ws) q h k f =
 -- how many messages a whole operation adds to its chain, and how many it takes from it
 abbrev pub gained : Turn → ℕ
 gained (Did (Append s n tag previous body)) = 1
-gained (Did (UnlinkHead s n tag body)) = 0
-gained (Did (Close s)) = 0
-gained (Undid (Append s n tag previous body)) = 0
 gained (Undid (UnlinkHead s n tag body)) = 1
-gained (Undid (Close s)) = 0
+gained _ = 0
 
 abbrev pub lost : Turn → ℕ
-lost (Did (Append s n tag previous body)) = 0
 lost (Did (UnlinkHead s n tag body)) = 1
-lost (Did (Close s)) = 0
 lost (Undid (Append s n tag previous body)) = 1
-lost (Undid (UnlinkHead s n tag body)) = 0
-lost (Undid (Close s)) = 0
+lost _ = 0
 
 -- a link's write counts nothing
 relinked_counts : (at : ℕ) (o : Option Cell) (f : Cell → Cell) (ws : List Write) → used_after (relinked at o f ws) + used_before ws ≡ used_before (relinked at o f ws) + used_after ws
@@ -225,19 +219,15 @@ rest_store z (p ∷ ps) h = h.1
 -- the deeds of a log of the store are
 pub deeds_in_store : (z : Sizes) (t : Txn) (log : List Record) → InStore z log → AllInStore z (open_deeds t (items z log))
 deeds_in_store z t [] h = tt
-deeds_in_store z t (records.PageOp u n page slot before after ∷ log) h = deeds_in_store z t log h.1
-deeds_in_store z t (records.PageUndo u n undone page slot after ∷ log) h = deeds_in_store z t log h.1
 deeds_in_store z t (records.OpEnd u n level deed ∷ log) h =
     let ps = open_deeds t (items z log) in
     let p : Placed = record { lsn = length (items z log) + 1; deed = told_deed (deed_in deed) } in
     choose_store z (same_txn u t) (p ∷ ps) ps (h.0, deeds_in_store z t log h.1) (deeds_in_store z t log h.1)
-deeds_in_store z t (records.OpVoid u n ∷ log) h = deeds_in_store z t log h.1
 deeds_in_store z t (records.CompEnd u n undone ∷ log) h =
     let ps = open_deeds t (items z log) in
     choose_store z (same_txn u t) (rest_placed ps) ps (rest_store z ps (deeds_in_store z t log h.1)) (deeds_in_store z t log h.1)
 deeds_in_store z t (records.Commit u ∷ log) h = choose_store z (same_txn u t) [] (open_deeds t (items z log)) tt (deeds_in_store z t log h.1)
-deeds_in_store z t (records.AbortEnd u ∷ log) h = deeds_in_store z t log h.1
-deeds_in_store z t (records.Restart i ∷ log) h = deeds_in_store z t log h.1
+deeds_in_store z t (_ ∷ log) h = deeds_in_store z t log h.1
 
 -- how many messages all chains hold
 abbrev pub count_messages : Sizes → List Record → ℕ
@@ -277,11 +267,6 @@ formatted_counts z =
 pub quiet_counts : (z : Sizes) (log : List Record) → IsLegalLog (layout_of z) (items z log) → InStore z log
     → count_used z (state_of (layout_of z) (items z log)).quiet ≡ sum_by (λ s. length (view (items z log) s).messages) (below (sender_count z))
 quiet_counts z [] h k = formatted_counts z ∙ sym (sum_none (sender_count z))
-quiet_counts z (records.PageOp t n page slot before after ∷ log) h k = quiet_counts z log h.1 k.1
-quiet_counts z (records.PageUndo t n undone page slot after ∷ log) h k = quiet_counts z log h.1 k.1
 quiet_counts z (records.OpEnd t n level deed ∷ log) h k = turn_counts z log (operation t n) (Did (told_deed (deed_in deed))) h.1 k.1 k.0 h.0.plan (quiet_counts z log h.1 k.1)
-quiet_counts z (records.OpVoid t n ∷ log) h k = quiet_counts z log h.1 k.1
 quiet_counts z (records.CompEnd t n undone ∷ log) h k = undone_counts z log (operation t n) undone (open_deeds t (items z log)) h.1 k.1 (deeds_in_store z t log k.1) h.0.plan (quiet_counts z log h.1 k.1)
-quiet_counts z (records.Commit t ∷ log) h k = quiet_counts z log h.1 k.1
-quiet_counts z (records.AbortEnd t ∷ log) h k = quiet_counts z log h.1 k.1
-quiet_counts z (records.Restart i ∷ log) h k = quiet_counts z log h.1 k.1
+quiet_counts z (_ ∷ log) h k = quiet_counts z log h.1 k.1

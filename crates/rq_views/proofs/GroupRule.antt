@@ -80,14 +80,10 @@ comp_held s os v c t (p ∷ ps) e n h = undone_held s os v c t p.lsn p.deed ps e
 -- the rule of groups: a log's views, by who holds the ends
 pub held : (s : ℕ) (log : List Item) → KeepsGroups log → Held s (λ u. open_deeds u log) (view log s) (committed log s)
 held s [] k = start_held s (record { incarnation = 1; count = 1 })
-held s (PageOp o w ∷ log) k = held s log k.1
-held s (PageUndo o u at x ∷ log) k = held s log k.1
 held s (OpEnd o d ∷ log) k = end_held s log o d (k.0 s) (held s log k.1)
-held s (OpVoid o ∷ log) k = held s log k.1
 held s (CompEnd o u ∷ log) k = comp_held s (λ u. open_deeds u log) (view log s) (committed log s) o.txn (open_deeds o.txn log) refl k.0 (held s log k.1)
 held s (Commit t ∷ log) k = held_committed s (λ u. open_deeds u log) (view log s) (committed log s) t (held s log k.1)
-held s (AbortEnd t ∷ log) k = held s log k.1
-held s (Restart i ∷ log) k = held s log k.1
+held s (_ ∷ log) k = held s log k.1
 
 -- where no transaction is open, the view is what committed transactions leave
 pub settled_view : (s : ℕ) (log : List Item) → KeepsGroups log → ((t : Txn) → open_deeds t log ≡ []) → view log s ≡ committed log s

@@ -16,40 +16,27 @@ other_writes (PageUndo u k at after) o ws n = cond-false (same_op u o) _ ws n
 other_writes (OpEnd u d) o ws n = cond-false (same_op u o) [] ws n
 other_writes (OpVoid u) o ws n = cond-false (same_op u o) [] ws n
 other_writes (CompEnd u k) o ws n = cond-false (same_op u o) [] ws n
-other_writes (Commit t) o ws n = refl
-other_writes (AbortEnd t) o ws n = refl
-other_writes (Restart i) o ws n = refl
+other_writes _ o ws n = refl
 
 other_stands : (page : ℕ → ℕ) (r : Item) (o : Sub) (p : ℕ) (b : Bool) → is_of o (of_op r) ≡ false → stands_after page (act r) o p b ≡ b
 other_stands page (PageOp u w) o p b n = rw n refl
-other_stands page (PageUndo u k at after) o p b n = refl
 other_stands page (OpEnd u d) o p b n = cond-false (same_op u o) false b n
 other_stands page (OpVoid u) o p b n = cond-false (same_op u o) false b n
 other_stands page (CompEnd u k) o p b n = cond-false (same_op u o) false b n
-other_stands page (Commit t) o p b n = refl
-other_stands page (AbortEnd t) o p b n = refl
-other_stands page (Restart i) o p b n = refl
+other_stands page _ o p b n = refl
 
 -- the operation's own end
 ended_writes : (r : Item) (o : Sub) (ws : List Write) → is_end r ≡ true → is_of o (of_op r) ≡ true → writes_after (act r) o ws ≡ []
-ended_writes (PageOp u w) o ws e y = absurd (false≢true e)
-ended_writes (PageUndo u k at after) o ws e y = absurd (false≢true e)
 ended_writes (OpEnd u d) o ws e y = cond-true (same_op u o) [] ws y
 ended_writes (OpVoid u) o ws e y = cond-true (same_op u o) [] ws y
 ended_writes (CompEnd u k) o ws e y = cond-true (same_op u o) [] ws y
-ended_writes (Commit t) o ws e y = absurd (false≢true e)
-ended_writes (AbortEnd t) o ws e y = absurd (false≢true e)
-ended_writes (Restart i) o ws e y = absurd (false≢true e)
+ended_writes _ o ws e y = absurd (false≢true e)
 
 ended_stands : (page : ℕ → ℕ) (r : Item) (o : Sub) (p : ℕ) (b : Bool) → is_end r ≡ true → is_of o (of_op r) ≡ true → stands_after page (act r) o p b ≡ false
-ended_stands page (PageOp u w) o p b e y = absurd (false≢true e)
-ended_stands page (PageUndo u k at after) o p b e y = absurd (false≢true e)
 ended_stands page (OpEnd u d) o p b e y = cond-true (same_op u o) false b y
 ended_stands page (OpVoid u) o p b e y = cond-true (same_op u o) false b y
 ended_stands page (CompEnd u k) o p b e y = cond-true (same_op u o) false b y
-ended_stands page (Commit t) o p b e y = absurd (false≢true e)
-ended_stands page (AbortEnd t) o p b e y = absurd (false≢true e)
-ended_stands page (Restart i) o p b e y = absurd (false≢true e)
+ended_stands page _ o p b e y = absurd (false≢true e)
 
 -- an operation that never began has written nothing
 pub unbegun_writes : (l : Places) (log : List Item) (o : Sub) → began o log ≡ false → (state_of l log).writes o ≡ []
@@ -85,9 +72,7 @@ may_going l log (PageUndo u k at after) o may y = ap (λ x. over x log) (sym (sa
 may_going l log (OpEnd u d) o may y = ap (λ x. over x log) (sym (same_is u o y)) ∙ may.going
 may_going l log (OpVoid u) o may y = ap (λ x. over x log) (sym (same_is u o y)) ∙ may.going
 may_going l log (CompEnd u k) o may y = ap (λ x. over x log) (sym (same_is u o y)) ∙ may.going
-may_going l log (Commit t) o may y = absurd (false≢true y)
-may_going l log (AbortEnd t) o may y = absurd (false≢true y)
-may_going l log (Restart i) o may y = absurd (false≢true y)
+may_going l log _ o may y = absurd (false≢true y)
 
 -- an operation that has its end has no writes that are not whole
 pub over_writes : (l : Places) (log : List Item) (o : Sub) → IsLegalLog l log → over o log ≡ true → (state_of l log).writes o ≡ []

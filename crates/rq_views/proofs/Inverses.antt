@@ -63,10 +63,8 @@ taken_law ops v w u tag body rest e alone done =
 -- the sending end receives nothing
 sent_received : (ops : List Sending) (v w : View) → AreSent ops v w → w.received ≡ v.received
 sent_received [] v w h = ap (λ (u : View). u.received) (sym h)
-sent_received (Sent t body ∷ ops) v w h = sent_received ops _ w h
 sent_received (TailUnlinked t ∷ ops) v w h = sent_received ops _ w h.3
-sent_received (Closed ∷ ops) v w h = sent_received ops _ w h
-sent_received (Reopened ∷ ops) v w h = sent_received ops _ w h
+sent_received (_ ∷ ops) v w h = sent_received ops _ w h
 
 -- a message taken again
 taken_again : (ops : List Sending) (v w u : View) (tag : ℕ) (body : List ℕ) → 0 < v.received → AreSent ops v w

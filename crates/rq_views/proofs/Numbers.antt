@@ -95,6 +95,4 @@ all_begun l t n (OpVoid o ∷ log) g h low le =
     one_of t n o log (has_begun o log (greatest o.txn log + 1) g.0.begun) (all_begun l t n log g.1 h.1 low) le
 all_begun l t n (CompEnd o u ∷ log) g h low le =
     one_of t n o log (has_begun o log (greatest o.txn log + 1) (written_began l log o (λ e. undoes_some l (open_deeds o.txn log) u (subst (λ ws. Undoes l (open_deeds o.txn log) u ws) e g.0.plan)))) (all_begun l t n log g.1 h.1 low) le
-all_begun l t n (Commit u ∷ log) g h low le = all_begun l t n log g.1 h.1 low (omega (arith, le))
-all_begun l t n (AbortEnd u ∷ log) g h low le = all_begun l t n log g.1 h.1 low (omega (arith, le))
-all_begun l t n (Restart i ∷ log) g h low le = all_begun l t n log g.1 h.1 low (omega (arith, le))
+all_begun l t n (_ ∷ log) g h low le = all_begun l t n log g.1 h.1 low (omega (arith, le))

@@ -32,13 +32,10 @@ use Rattle.rq_views.proofs.Holders.{rest_alone}
 pub ended : (z : Sizes) (t : Txn) (log : List Record) → IsLegalLog (layout_of z) (items z log) → has_end log t ≡ true
     → open_deeds t (items z log) ≡ []
 ended z t [] k h = refl
-ended z t (records.PageOp u m page slot before after ∷ log) k h = ended z t log k.1 h
-ended z t (records.PageUndo u m undone page slot after ∷ log) k h = ended z t log k.1 h
 ended z t (records.OpEnd u m level deed ∷ log) k h = elim (cases_Bool (same_txn u t)) [
   | inl own ↦ absurd (true≢false (sym h ∙ ap (has_end log) (sym (same_is u t own)) ∙ sym (has_end_same z u log) ∙ k.0.running))
   | inr other ↦ rw other (ended z t log k.1 h)
 ]
-ended z t (records.OpVoid u m ∷ log) k h = ended z t log k.1 h
 ended z t (records.CompEnd u m undone ∷ log) k h = elim (cases_Bool (same_txn u t)) [
   | inl own ↦ absurd (true≢false (sym h ∙ ap (has_end log) (sym (same_is u t own)) ∙ sym (has_end_same z u log) ∙ k.0.running))
   | inr other ↦ rw other (ended z t log k.1 h)
@@ -51,7 +48,7 @@ ended z t (records.AbortEnd u ∷ log) k h = elim (cases_Bool (same_txn u t)) [
   | inl own ↦ ap (λ (v : Txn). open_deeds v (items z log)) (sym (same_is u t own)) ∙ k.0.empty
   | inr other ↦ let rest : has_end log t ≡ true = rw other at h in ended z t log k.1 rest
 ]
-ended z t (records.Restart i ∷ log) k h = ended z t log k.1 h
+ended z t (_ ∷ log) k h = ended z t log k.1 h
 
 pub one_unused : (f : Said → Bool) (p : Deed → Bool) → ((d : Deed) → f (said d) ≡ p d)
     → (t u : Txn) (n level : ℕ) (bytes : List ℕ) (d : Deed) (ps : List Placed) (ds : List Said) → level ≡ 1
@@ -71,11 +68,6 @@ pub unused : (f : Said → Bool) (p : Deed → Bool) → ((d : Deed) → f (said
     → (z : Sizes) (t : Txn) (log : List Record) → ReadsItsDeeds log → any_use f (deeds (λ v. same_txn v t) log) ≡ false
     → side p (open_deeds t (items z log)) ≡ []
 unused f p same z t [] g e = refl
-unused f p same z t (records.PageOp u k page slot before after ∷ log) g e = unused f p same z t log g.1 e
-unused f p same z t (records.PageUndo u k undone page slot after ∷ log) g e = unused f p same z t log g.1 e
-unused f p same z t (records.OpVoid u k ∷ log) g e = unused f p same z t log g.1 e
-unused f p same z t (records.Restart i ∷ log) g e = unused f p same z t log g.1 e
-unused f p same z t (records.AbortEnd u ∷ log) g e = unused f p same z t log g.1 e
 unused f p same z t (records.OpEnd u k level bytes ∷ log) g e =
     one_unused f p same t u (length (items z log) + 1) level bytes g.0.1.0 (open_deeds t (items z log))
     (deeds (λ v. same_txn v t) log) g.0.0 g.0.1.1 (unused f p same z t log g.1) e
@@ -85,6 +77,7 @@ unused f p same z t (records.CompEnd u k undone ∷ log) g e = elim (cases_Bool 
 ]
 unused f p same z t (records.Commit u ∷ log) g e =
     elim (cases_Bool (same_txn u t)) [ inl y ↦ rw y refl | inr m ↦ rw m (unused f p same z t log g.1 e) ]
+unused f p same z t (_ ∷ log) g e = unused f p same z t log g.1 e
 
 pub sends_same : (s : ℕ) (d : Deed) → uses_send s (said d) ≡ on_sending_end s d
 sends_same s (Append r n tag previous body) = refl
@@ -176,12 +169,8 @@ pub rules_groups : (z : Sizes) (log : List Record) → IsLegalLog (layout_of z) 
     → DeedsTellViews (items z log) → KeepsGroups (items z log)
 rules_groups z [] g k r h = tt
 rules_groups z (records.PageOp t n page slot before after ∷ log) g k r h = (tt, rules_groups z log g.1 k.2 r.1 h.1)
-rules_groups z (records.PageUndo t n undone page slot after ∷ log) g k r h = (tt, rules_groups z log g.1 k.2 r.1 h.1)
-rules_groups z (records.OpVoid t n ∷ log) g k r h = (tt, rules_groups z log g.1 k.2 r.1 h.1)
-rules_groups z (records.Commit t ∷ log) g k r h = (tt, rules_groups z log g.1 k.2 r.1 h.1)
-rules_groups z (records.AbortEnd t ∷ log) g k r h = (tt, rules_groups z log g.1 k.2 r.1 h.1)
-rules_groups z (records.Restart i ∷ log) g k r h = (tt, rules_groups z log g.1 k.2 r.1 h.1)
 rules_groups z (records.CompEnd t n u ∷ log) g k r h =
     (some_open z (open_deeds t (items z log)) u _ g.0.plan, rules_groups z log g.1 k.2 r.1 h.1)
 rules_groups z (records.OpEnd t n level deed ∷ log) g k r h =
     (end_turn z log t level deed r.0.1.0 r.0.0 r.0.1.1 g.1 k.2 r.1 r.0.2 k.0 h.0, rules_groups z log g.1 k.2 r.1 h.1)
+rules_groups z (_ ∷ log) g k r h = (tt, rules_groups z log g.1 k.2 r.1 h.1)

@@ -117,33 +117,21 @@ writes_stand z (records.PageUndo t n undone page slot after ∷ log) o h =
 writes_stand z (records.OpEnd t n level deed ∷ log) o h = choose_stands z (same_op (operation t n) o) [] ((state_of (layout_of z) (items z log)).writes o) tt (writes_stand z log o h.1)
 writes_stand z (records.OpVoid t n ∷ log) o h = choose_stands z (same_op (operation t n) o) [] ((state_of (layout_of z) (items z log)).writes o) tt (writes_stand z log o h.1)
 writes_stand z (records.CompEnd t n undone ∷ log) o h = choose_stands z (same_op (operation t n) o) [] ((state_of (layout_of z) (items z log)).writes o) tt (writes_stand z log o h.1)
-writes_stand z (records.Commit t ∷ log) o h = writes_stand z log o h.1
-writes_stand z (records.AbortEnd t ∷ log) o h = writes_stand z log o h.1
-writes_stand z (records.Restart i ∷ log) o h = writes_stand z log o h.1
+writes_stand z (_ ∷ log) o h = writes_stand z log o h.1
 
 -- the slots of a log of the store stand where they may
 pub slots_stand : (z : Sizes) (log : List Record) → InStore z log → AllStand z (state_of (layout_of z) (items z log)).slots
 slots_stand z [] h = formatted_stands z
 slots_stand z (records.PageOp t n page slot before after ∷ log) h = put_stands z _ _ _ (slots_stand z log h.1) (slot_stands z page slot after h.0)
 slots_stand z (records.PageUndo t n undone page slot after ∷ log) h = put_stands z _ _ _ (slots_stand z log h.1) (slot_stands z page slot after h.0)
-slots_stand z (records.OpEnd t n level deed ∷ log) h = slots_stand z log h.1
-slots_stand z (records.OpVoid t n ∷ log) h = slots_stand z log h.1
-slots_stand z (records.CompEnd t n undone ∷ log) h = slots_stand z log h.1
-slots_stand z (records.Commit t ∷ log) h = slots_stand z log h.1
-slots_stand z (records.AbortEnd t ∷ log) h = slots_stand z log h.1
-slots_stand z (records.Restart i ∷ log) h = slots_stand z log h.1
+slots_stand z (_ ∷ log) h = slots_stand z log h.1
 
 -- and so do those that whole operations alone have written
 pub quiet_stand : (z : Sizes) (log : List Record) → InStore z log → AllStand z (state_of (layout_of z) (items z log)).quiet
 quiet_stand z [] h = formatted_stands z
-quiet_stand z (records.PageOp t n page slot before after ∷ log) h = quiet_stand z log h.1
-quiet_stand z (records.PageUndo t n undone page slot after ∷ log) h = quiet_stand z log h.1
 quiet_stand z (records.OpEnd t n level deed ∷ log) h = applied_stands z _ _ (quiet_stand z log h.1) (writes_stand z log _ h.1)
-quiet_stand z (records.OpVoid t n ∷ log) h = quiet_stand z log h.1
 quiet_stand z (records.CompEnd t n undone ∷ log) h = applied_stands z _ _ (quiet_stand z log h.1) (writes_stand z log _ h.1)
-quiet_stand z (records.Commit t ∷ log) h = quiet_stand z log h.1
-quiet_stand z (records.AbortEnd t ∷ log) h = quiet_stand z log h.1
-quiet_stand z (records.Restart i ∷ log) h = quiet_stand z log h.1
+quiet_stand z (_ ∷ log) h = quiet_stand z log h.1
 
 -- only cells are used
 pub used_is_cell : (z : Sizes) (q : Slots) (a : ℕ) (c : Cell) → AllStand z q → q a ≡ Used c → IsCellAddress z a

@@ -28,17 +28,12 @@ stranger_deeds z t (records.OpVoid u n ∷ log) h = stranger_deeds z t log (or_p
 stranger_deeds z t (records.CompEnd u n undone ∷ log) h = let p = or_parts (same_txn u t) (any_record (mentions t) log) h in rw p.0 (stranger_deeds z t log p.1)
 stranger_deeds z t (records.Commit u ∷ log) h = let p = or_parts (same_txn u t) (any_record (mentions t) log) h in rw p.0 (stranger_deeds z t log p.1)
 stranger_deeds z t (records.AbortEnd u ∷ log) h = stranger_deeds z t log (or_parts (same_txn u t) (any_record (mentions t) log) h).1
-stranger_deeds z t (records.Restart i ∷ log) h = stranger_deeds z t log h
+stranger_deeds z t (_ ∷ log) h = stranger_deeds z t log h
 
 not_ended : (t : Txn) (r : Record) → mentions t r ≡ false → content.ends_txn t r ≡ false
-not_ended t (records.PageOp u n page slot before after) h = refl
-not_ended t (records.PageUndo u n undone page slot after) h = refl
-not_ended t (records.OpEnd u n level deed) h = refl
-not_ended t (records.OpVoid u n) h = refl
-not_ended t (records.CompEnd u n undone) h = refl
 not_ended t (records.Commit u) h = rw h refl
 not_ended t (records.AbortEnd u) h = rw h refl
-not_ended t (records.Restart i) h = refl
+not_ended t _ h = refl
 
 -- has not ended
 pub stranger_end : (t : Txn) (log : List Record) → IsStranger t log → content.has_end log t ≡ false
@@ -46,14 +41,8 @@ stranger_end t [] h = refl
 stranger_end t (r ∷ log) h = let p = or_parts (mentions t r) (any_record (mentions t) log) h in or_from (content.ends_txn t r) (content.has_end log t) (not_ended t r p.0) (stranger_end t log p.1)
 
 ends_same : (z : Sizes) (t : Txn) (r : Record) → legal.ends_txn t (item_of z r) ≡ content.ends_txn t r
-ends_same z t (records.PageOp u n page slot before after) = refl
-ends_same z t (records.PageUndo u n undone page slot after) = refl
-ends_same z t (records.OpEnd u n level deed) = refl
-ends_same z t (records.OpVoid u n) = refl
-ends_same z t (records.CompEnd u n undone) = refl
 ends_same z t (records.Commit u) = sym (or-false (same_txn u t))
-ends_same z t (records.AbortEnd u) = refl
-ends_same z t (records.Restart i) = refl
+ends_same z t _ = refl
 
 -- a transaction has its end among the items where it has it in the log
 pub has_end_same : (z : Sizes) (t : Txn) (log : List Record) → legal.has_end t (items z log) ≡ content.has_end log t
@@ -70,7 +59,7 @@ stranger_undone t (records.OpVoid u n ∷ log) h = stranger_undone t log (or_par
 stranger_undone t (records.CompEnd u n undone ∷ log) h = let p = or_parts (same_txn u t) (any_record (mentions t) log) h in rw p.0 (stranger_undone t log p.1)
 stranger_undone t (records.Commit u ∷ log) h = stranger_undone t log (or_parts (same_txn u t) (any_record (mentions t) log) h).1
 stranger_undone t (records.AbortEnd u ∷ log) h = stranger_undone t log (or_parts (same_txn u t) (any_record (mentions t) log) h).1
-stranger_undone t (records.Restart i ∷ log) h = stranger_undone t log h
+stranger_undone t (_ ∷ log) h = stranger_undone t log h
 
 not_of : (z : Sizes) (t : Txn) (n : ℕ) (r : Record) → mentions t r ≡ false → is_of (operation t n) (of_op (item_of z r)) ≡ false
 not_of z t n (records.PageOp u k page slot before after) h = and_left (same_txn u t) (k == n) h
@@ -78,9 +67,7 @@ not_of z t n (records.PageUndo u k undone page slot after) h = and_left (same_tx
 not_of z t n (records.OpEnd u k level deed) h = and_left (same_txn u t) (k == n) h
 not_of z t n (records.OpVoid u k) h = and_left (same_txn u t) (k == n) h
 not_of z t n (records.CompEnd u k undone) h = and_left (same_txn u t) (k == n) h
-not_of z t n (records.Commit u) h = refl
-not_of z t n (records.AbortEnd u) h = refl
-not_of z t n (records.Restart i) h = refl
+not_of z t n _ h = refl
 
 -- has begun no operation
 pub stranger_began : (z : Sizes) (t : Txn) (n : ℕ) (log : List Record) → IsStranger t log → began (operation t n) (items z log) ≡ false
@@ -94,14 +81,8 @@ kept_other t u None ds h = refl
 kept_other t u (Some d) ds h = rw h refl
 
 pub told_other : (t : Txn) (r : Record) (ds : List Said) → mentions t r ≡ false → kept (λ v. same_txn v t) (ending r) ds ≡ ds
-told_other t (records.PageOp u k page slot before after) ds h = refl
-told_other t (records.PageUndo u k undone page slot after) ds h = refl
 told_other t (records.OpEnd u k level deed) ds h = kept_other t u (cond (nat_eq level 1) (deed_in deed) None) ds h
-told_other t (records.OpVoid u k) ds h = refl
-told_other t (records.CompEnd u k undone) ds h = refl
-told_other t (records.Commit u) ds h = refl
-told_other t (records.AbortEnd u) ds h = refl
-told_other t (records.Restart i) ds h = refl
+told_other t _ ds h = refl
 
 pub stranger_said : (t : Txn) (log : List Record) → IsStranger t log → deeds (λ v. same_txn v t) log ≡ []
 stranger_said t [] h = refl

@@ -21,10 +21,8 @@ fewer_but_last (x ∷ y ∷ xs) = let h : length (all_but_last (y ∷ xs)) ≤ l
 turn_total : (t : Turn) (v : View) → total (with_turn t v) ≤ total v + 1
 turn_total (Did (Append s n tag previous body)) v = let e : length (v.messages ++ (tag, body) ∷ []) ≡ length v.messages + 1 = length-append v.messages ((tag, body) ∷ []) in omega arith
 turn_total (Did (UnlinkHead s n tag body)) v = let e = length-drop 1 v.messages in omega arith
-turn_total (Did (Close s)) v = omega arith
 turn_total (Undid (Append s n tag previous body)) v = let e = fewer_but_last v.messages in omega arith
-turn_total (Undid (UnlinkHead s n tag body)) v = omega arith
-turn_total (Undid (Close s)) v = omega arith
+turn_total _ v = omega arith
 
 after_total : (s : ℕ) (t : Option Turn) (v : View) → total (view_after s t v) ≤ total v + 1
 after_total s None v = omega arith

@@ -51,12 +51,8 @@ turn_law l q ws t s v p f h = elim (cases_eq (turn_sender t) s) [
 pub may_act : (l : Places) (log : List Item) (r : Item) → MayFollow l log r → MayAct l.page (state_of l log) (act r)
 may_act l log (PageOp o w) may = may.write
 may_act l log (PageUndo o u at after) may = may.newest
-may_act l log (OpEnd o d) may = tt
 may_act l log (OpVoid o) may = may.all_undone
-may_act l log (CompEnd o u) may = tt
-may_act l log (Commit t) may = tt
-may_act l log (AbortEnd t) may = tt
-may_act l log (Restart i) may = tt
+may_act l log _ may = tt
 
 -- of a legal log, the slots are the quiet slots, written over by the operations under way on pages of their own
 pub good : (l : Places) (log : List Item) → IsLegalLog l log → Good l.page (state_of l log)
@@ -69,14 +65,9 @@ undone_law l q ws (p ∷ ps) u s v k f h = turn_law l q ws (Undid p.deed) s v k.
 
 -- one record over the quiet slots
 quiet_step : (l : Places) (log : List Item) (r : Item) (s : ℕ) → MayFollow l log r → Good l.page (state_of l log) → ShowsAt l (state_of l log).quiet s (view log s) → ShowsAt l (state_of l (r ∷ log)).quiet s (view (r ∷ log) s)
-quiet_step l log (PageOp o w) s may g h = h
-quiet_step l log (PageUndo o u at after) s may g h = h
 quiet_step l log (OpEnd o d) s may g h = turn_law l (state_of l log).quiet ((state_of l log).writes o) (Did d) s (view log s) may.plan (g.fits o) h
-quiet_step l log (OpVoid o) s may g h = h
 quiet_step l log (CompEnd o u) s may g h = undone_law l (state_of l log).quiet ((state_of l log).writes o) (open_deeds o.txn log) u s (view log s) may.plan (g.fits o) h
-quiet_step l log (Commit t) s may g h = h
-quiet_step l log (AbortEnd t) s may g h = h
-quiet_step l log (Restart i) s may g h = h
+quiet_step l log _ s may g h = h
 
 -- the quiet slots show the fold of each sender's deeds, whatever is under way
 pub quiet_views : (l : Places) (log : List Item) (s : ℕ) → IsLayout l → IsLegalLog l log → s < l.senders → ShowsAt l (state_of l log).quiet s (view log s)

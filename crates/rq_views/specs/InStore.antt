@@ -57,6 +57,7 @@ mentions t (records.CompEnd u n undone) = same_txn u t
 mentions t (records.Commit u) = same_txn u t
 mentions t (records.AbortEnd u) = same_txn u t
 mentions t (records.Restart i) = false
+mentions t (records.Base many i) = false
 
 -- no record of the log is the transaction's
 abbrev pub IsStranger : Txn → List Record → Type 0

@@ -33,6 +33,7 @@ item_of z (records.OpVoid t n) = OpVoid (operation t n)
 item_of z (records.CompEnd t n undone) = CompEnd (operation t n) undone
 item_of z (records.Commit t) = Commit t
 item_of z (records.Restart i) = Restart i
+item_of z (records.Base many i) = Restart i
 item_of z (records.AbortEnd t) = AbortEnd t
 
 abbrev pub items : Sizes → List Record → List Item
