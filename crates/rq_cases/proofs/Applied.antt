@@ -33,10 +33,11 @@ force_meets pages old p = record { honest = (tt, tt); sound = running.commit_sen
 module _ (pages : MemPages) (old new : MemLog) (p : AreNewPages pages formatted_pages) (l : IsNewLog old log_1) (f : IsForcedSince old new (spelled (take 4 log_5))) where
   pub force_made : Makes (over committed pages old) event.Force (reply.Forced 5) (over forced pages new)
   force_made = record {
-    steps = λ h k. running.force;
-    cause = λ h k. tt;
-    latched = λ k. tt;
+    steps = λ h earlier long k. running.force;
+    cause = λ h earlier long k. tt;
+    latched = λ earlier long k. tt;
     sizes = refl;
+    unknown = refl;
     failed = (λ e. cc e, λ e. cc e);
     refused = tt;
     lists = (refl, refl);
@@ -50,8 +51,8 @@ module _ (pages : MemPages) (old new : MemLog) (p : AreNewPages pages formatted_
     };
     honest = λ h. h;
     any_moment = λ h. runs_through log_5 1 4 records_spelled (omega arith) old new l f;
-    fit = λ h k fit. pages_fit pages p log_5 (5, refl);
-    crash = λ h k fit.
+    fit = λ h earlier long k fit. pages_fit pages p log_5 (5, refl);
+    crash = λ h earlier long k fit alike.
         runs_through_cuts mem_pages mem_log pages_now (over committed pages old) (over forced pages new) k fit event.Force
         (reply.Forced 5) records_spelled tt refl (leaves_beginning old log_1 l log_5 1 4 (omega arith) refl)
         (runs_through log_5 1 4 records_spelled (omega arith) old new l f);

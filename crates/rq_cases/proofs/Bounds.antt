@@ -3,6 +3,7 @@ use Rattle.std.proofs.Common.{◌≡◌, ⊎_elim, ℕ, zero, suc, ◌+◌, ◌-
 use Rattle.std.specs.List.{filter, sum_by}
 use Rattle.std.proofs.lemmas.Bool.{lt-ltb, le-ltb}
 use Rattle.rq_model.specs.declared.record.Record.{Record}
+use Rattle.rq_model.specs.declared.record.Record.TheVariants as records
 use Rattle.rq_model.specs.declared.refusal.Refusal.{Refusal}
 use Rattle.rq_model.specs.declared.refusal.Refusal.TheVariants as why
 use Rattle.rq_model.specs.declared.txn.Txn.{Txn}
@@ -15,7 +16,7 @@ use Rattle.rq_model.specs.Legal.{Legal}
 use Rattle.rq_model.specs.History.Entry.{Committed, Started}
 use Rattle.rq_model.specs.History.Job.{Ending, Sending}
 use Rattle.rq_model.specs.Replay.{Number}
-use Rattle.rq_model.specs.Replay.Reply.{Gave_refusal}
+use Rattle.rq_model.specs.Replay.Reply.{Gave_commit, Gave_refusal}
 use Rattle.rq_model.specs.Tests.{NoneHolds, Passes, first_of, log_full, owed, ready_tests, tests}
 use Rattle.rq_model.specs.Unended.{any_record, lost, operation_ended, operations, unfinished, workers}
 use Rattle.rq_model.proofs.Lists.{same_self}
@@ -48,6 +49,10 @@ use Rattle.rq_engine.specs.Says.{commit_number}
 use Rattle.rq_engine.specs.declared.event.Event.TheVariants as event
 use Rattle.rq_engine.specs.declared.event.Reply.TheVariants as reply
 use Rattle.rq_engine.proofs.Crashing.{fit_kept, runs_through_cuts}
+use Rattle.rq_store.specs.Opening.{next_restart}
+use Rattle.rq_engine.specs.Crash.{AreFit, RunsThroughCuts}
+use Rattle.rq_engine.specs.Earlier.{on, rebased, rebased_one}
+use Rattle.rq_engine.proofs.Owned.{steps_own}
 use Rattle.rq_engine.proofs.Refusals.{refuse, refuse_full}
 use Rattle.rq_engine.proofs.Standing.{close_steps, start_steps}
 use Rattle.rq_analysis.specs.OpenWorkView.{open_work_of}
@@ -89,6 +94,16 @@ use Rattle.rq_cases.proofs.Running.{first_sound, send_plan}
 incarnation_is : (n : ℕ) → incarnation_of (restarts n) ≡ n
 incarnation_is zero = refl
 incarnation_is (suc n) = (let e = incarnation_is n in omega (arith, e))
+
+-- none of them is unknown
+one_known : (e : List Record) (i k : ℕ) (rest : List Record) → i ≡ suc k → rebased_one e (records.Restart i) rest ≡ records.Restart i ∷ rest
+one_known e i k rest is = subst (λ (j : ℕ). rebased_one e (records.Restart j) rest ≡ records.Restart j ∷ rest) (sym is) refl
+
+same_restarts : (e : List Record) (n : ℕ) → rebased e (restarts n) ≡ restarts n
+same_restarts e zero = refl
+same_restarts e (suc n) =
+    let i = incarnation_of (restarts n) in
+    one_known e (i + 1) i (rebased e (restarts n)) (omega arith) ∙ ap (λ (l : List Record). next_restart (restarts n) ∷ l) (same_restarts e n)
 
 length_is : (n : ℕ) → length (restarts n) ≡ n
 length_is zero = refl
@@ -226,6 +241,19 @@ module _ (n : ℕ) where
     none_done : done_by s t ≡ []
     none_done = ap finished_of at_row
 
+    -- no record of it is unknown
+    same_begun : (e : List Record) → on e s ≡ s
+    same_begun e = ap (λ (l : List Record). record s { records = l }) (same_restarts e (suc n))
+
+    begun_over : (e : List Record) (P : State → Type 0) → P s → P (on e s)
+    begun_over e P h = subst P (sym (same_begun e)) h
+
+    committed_over : (e : List Record) (P : State → State → Type 0) → P s (one_committed n) → P (on e s) (on e (one_committed n))
+    committed_over e P h =
+        let c = one_committed n in
+        let same : on e c ≡ c = ap (λ (l : List Record). record c { records = records.Commit t ∷ l }) (same_restarts e (suc n)) in
+        begun_over e (λ a. P a (on e c)) (subst (P s) (sym same) h)
+
     commit_whole : (number : CommitNo) → n + 2 ≤ 2 ^ 50 → number.txn ≡ t → number.lsn ≡ n + 2
         → Makes (over s pages log) (event.Commit t) (reply.Committed number) (over (one_committed n) pages log)
     commit_whole number le of at =
@@ -248,10 +276,11 @@ module _ (n : ℕ) where
         let steps : Commits n (commit_number number) (one_committed n) =
         subst (λ (x : Number). Commits n x (one_committed n)) (sym is) made in
         record {
-          steps = λ honest k. steps;
-          cause = λ honest k. tt;
-          latched = λ k. tt;
+          steps = λ honest earlier long k. committed_over earlier (λ a b. IsModelStep a (Commit t) (Gave_commit (commit_number number)) b) steps;
+          cause = λ honest earlier long k. tt;
+          latched = λ earlier long k. tt;
           sizes = refl;
+          unknown = refl;
           failed = (λ e. cc e, λ e. cc e);
           refused = tt;
           lists = record { txn = of; lsn = next; ready = (1, rw (same_self t) (refl, refl)); lists = refl };
@@ -262,13 +291,15 @@ module _ (n : ℕ) where
           log = refl;
           honest = λ honest. honest;
           any_moment = λ honest. here;
-          fit = λ honest k fits.
-              fit_kept mem_pages mem_log pages_now (over s pages log) (over (one_committed n) pages log) k fits (event.Commit t)
-              (reply.Committed number) (Commit t) _ refl steps tt refl;
-          crash = λ honest k fits.
-              runs_through_cuts mem_pages mem_log pages_now (over s pages log) (over (one_committed n) pages log) k fits
+          fit = λ honest earlier long k.
+              committed_over earlier (λ a b. AreFit mem_pages (over a pages log) → AreFit mem_pages (over b pages log))
+              (λ fits. fit_kept mem_pages mem_log pages_now (over s pages log) (over (one_committed n) pages log) (begun_sound n) fits
+              (event.Commit t) (reply.Committed number) (Commit t) _ refl steps tt refl);
+          crash = λ honest earlier long k fits alike.
+              committed_over earlier (λ a b. AreFit mem_pages (over a pages log) → RunsThroughCuts mem_pages mem_log (over a pages log) (over b pages log))
+              (λ fits. runs_through_cuts mem_pages mem_log pages_now (over s pages log) (over (one_committed n) pages log) (begun_sound n) fits
               (event.Commit t) (reply.Committed number) told tt refl
-              (leaves_beginning log (restarts (suc n)) h.1 s.records s.forced 0 (omega arith) refl) here;
+              (leaves_beginning log (restarts (suc n)) h.1 s.records s.forced 0 (omega arith) refl) here) fits;
         }
 
     refused_whole : 2 ^ 50 ≤ n + 1 → n + 1 < 2 ^ 64 → Makes (over s pages log) (event.Commit t) (reply.Refused why.LogFull) (over s pages log)
@@ -276,10 +307,12 @@ module _ (n : ℕ) where
         let told : AreSpelled s.records = are_spelled (suc n) (omega (arith, low)) in
         let here = same_beginning log (restarts (suc n)) h.1 s.records s.forced 0 (omega arith) refl in
         record {
-          steps = λ honest k. (refuse_full s t ready (commit_full le) k).0;
-          cause = λ honest k. tt;
-          latched = λ k. tt;
+          steps = λ honest earlier long k.
+              begun_over earlier (λ a. IsModelStep a (Commit t) (Gave_refusal why.LogFull) a) (refuse_full s t ready (commit_full le) (begun_sound n)).0;
+          cause = λ honest earlier long k. tt;
+          latched = λ earlier long k. tt;
           sizes = refl;
+          unknown = refl;
           failed = (λ e. cc e, λ e. cc e);
           refused = refl;
           lists = tt;
@@ -290,11 +323,12 @@ module _ (n : ℕ) where
           log = refl;
           honest = λ honest. honest;
           any_moment = λ honest. here;
-          fit = λ honest k fits. fits;
-          crash = λ honest k fits.
-              runs_through_cuts mem_pages mem_log pages_now (over s pages log) (over s pages log) k fits (event.Commit t)
+          fit = λ honest earlier long k fits. fits;
+          crash = λ honest earlier long k fits alike.
+              begun_over earlier (λ a. AreFit mem_pages (over a pages log) → RunsThroughCuts mem_pages mem_log (over a pages log) (over a pages log))
+              (λ fits. runs_through_cuts mem_pages mem_log pages_now (over s pages log) (over s pages log) (begun_sound n) fits (event.Commit t)
               (reply.Refused why.LogFull) told tt refl
-              (leaves_beginning log (restarts (suc n)) h.1 s.records s.forced 0 (omega arith) refl) here;
+              (leaves_beginning log (restarts (suc n)) h.1 s.records s.forced 0 (omega arith) refl) here) fits;
         }
 
 -- what a refusal tells of the tests
@@ -331,7 +365,7 @@ repeats (suc n) = (
   record {
     belongs = record {
       next = refl;
-      follows = record { running = tt; going = tt; begun = tt; numbered = tt; undoes = tt; takes_back = tt; reads = tt };
+      follows = record { running = tt; going = tt; begun = tt; numbered = tt; undoes = tt; takes_back = tt; reads = tt; belongs = tt };
       may = record { write = tt; before = tt };
     };
     redone = λ p. refl;
@@ -475,9 +509,9 @@ bounds = record {
   commit_made = λ n pages log number le of at h. commit_whole n pages log h number le of at;
   commit_refused = λ n pages log le low h. refused_whole n pages log h le low;
   refused_where_it_fits = λ n pages log new le a.
-      not_full n (Commit (only_one n)) new.state (commit_passes n le) (a.steps (tt, tt) (begun_sound n));
+      not_full n (Commit (only_one n)) new.state (commit_passes n le) (steps_own _ _ _ _ _ _ a (tt, tt) (begun_sound n));
   committed_where_it_is_full = λ n pages log number new le a.
-      not_committed n (commit_number number) new.state le (a.steps (tt, tt) (begun_sound n));
+      not_committed n (commit_number number) new.state le (steps_own _ _ _ _ _ _ a (tt, tt) (begun_sound n));
   restart_fits = λ n pages log new low h. checked n pages log h new low;
   restart_is_full = λ n pages log le low h. full_restart n pages log h le low;
   restart_full_where_it_fits = λ n pages new_pages log new_log low h s.

@@ -5,7 +5,7 @@ use Rattle.std.proofs.lemmas.List.{append-nil, length-take-le, take-append-drop}
 use Rattle.rq_bytes.specs.Number.{number}
 use Rattle.rq_bytes.proofs.Strings.{length-number}
 use Rattle.rq_model.specs.declared.record.Record.{Record}
-use Rattle.rq_model.specs.declared.record.Record.TheVariants.{PageOp, PageUndo, OpEnd, OpVoid, CompEnd, Commit, Restart, AbortEnd}
+use Rattle.rq_model.specs.declared.record.Record.TheVariants.{PageOp, PageUndo, OpEnd, OpVoid, CompEnd, Commit, Restart, AbortEnd, Base}
 use Rattle.rq_record.specs.Spelling.{fields, kind_number, spelling}
 use Rattle.rq_record.proofs.Whole.{long_spelling}
 use Rattle.rq_model.specs.declared.refusal.Refusal.TheVariants as why
@@ -223,14 +223,9 @@ torn_kind rest =
     ∙ ap fifth (take-append-drop 7 (spelling (Commit t1)) ∙ sym (append-nil (spelling (Commit t1)))) ∙ fifth_kind (Commit t1) []
 
 not_plain : (r : Record) → is_plain r ≡ true → kind_number r ≡ 6 → ⊥
-not_plain (PageOp t n page slot before after) plain e = omega (arith, e)
-not_plain (PageUndo t n undone page slot after) plain e = omega (arith, e)
 not_plain (OpEnd t n level deed) plain e = cc plain
-not_plain (OpVoid t n) plain e = omega (arith, e)
-not_plain (CompEnd t n undone) plain e = omega (arith, e)
 not_plain (Commit t) plain e = cc plain
-not_plain (Restart incarnation) plain e = omega (arith, e)
-not_plain (AbortEnd t) plain e = omega (arith, e)
+not_plain _ plain e = omega (arith, e)
 
 -- the oldest of plain records is no commit
 none_commits : (r : Record) (more : List Record) (behind : List ℕ) → ArePlain (r ∷ more) → fifth (spelled (r ∷ more) ++ behind) ≡ 6 → ⊥

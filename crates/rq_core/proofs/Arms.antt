@@ -21,6 +21,7 @@ use Rattle.rq_store.specs.State.{ledger_of, phase_of, size_of}
 use Rattle.rq_engine.specs.Applied.{Applied}
 use Rattle.rq_engine.specs.Crash.{LeavesCut, AreFit}
 use Rattle.rq_engine.specs.Opened.{OpenStore}
+use Rattle.rq_engine.proofs.Owned.{cause_own}
 use Rattle.rq_engine.specs.Says.{call_of, gave}
 use Rattle.rq_engine.specs.declared.event.Event.{Event}
 use Rattle.rq_engine.specs.declared.event.Reply.{Reply}
@@ -201,5 +202,5 @@ pub stop_may : (z : Sizes) (course : Course) (e : Event) (r : Refusal) (old new 
 stop_may z course e r old new ran a device =
     let o : IsOpen mem_pages mem_log z ran.history old = ran.stands in (
       ap (λ (l : Ledger). l.phase) (sym o.ledger) ∙ stop_runs r old.state.failed device a.failed,
-      stop_writes r (any_busy (ledger_of old.state).open_ones) (call_of e) device (caused e (reply.Refused r) old.state (a.cause (tt, tt) o.sound)),
+      stop_writes r (any_busy (ledger_of old.state).open_ones) (call_of e) device (caused e (reply.Refused r) old.state (cause_own mem_pages mem_log old new e (reply.Refused r) a (tt, tt) o.sound)),
     )

@@ -17,6 +17,7 @@ use Rattle.rq_store.specs.Whole.{IsWhole}
 use Rattle.rq_sound.specs.Latching.{IsLatched}
 use Rattle.rq_engine.specs.Applied.{Applied, LatchedSay}
 use Rattle.rq_engine.specs.Opened.{OpenStore}
+use Rattle.rq_engine.proofs.Owned.{latched_own, steps_own}
 use Rattle.rq_engine.specs.Says.{LogSays, call_of, gave}
 use Rattle.rq_engine.specs.declared.event.Event.{Event}
 use Rattle.rq_engine.specs.declared.event.Event.TheVariants as event
@@ -109,10 +110,10 @@ module _ (one : OneLogEach) (size_once : OneSizeEach) (met : (z : Sizes) (course
       let ran : Ran z course (Is_open old) = met z course (Is_open old) led in
       let here : IsOpen mem_pages mem_log z ran.history old = ran.stands in
       let b : Applied mem_pages mem_log old a.event (reply.Refused why.Latched) new = subst (λ r. Applied mem_pages mem_log old a.event r new) (refused_so a.told why.Latched a.reply_is) a.applied in
-      let s = b.steps (tt, tt) here.sound in
+      let s = steps_own mem_pages mem_log old new a.event (reply.Refused why.Latched) b (tt, tt) here.sound in
       let legal : LegalRefusal (size_of old.state.sizes) (ledger_of old.state) (call_of a.event) why.Latched = subst (Legal (size_of old.state.sizes) (ledger_of old.state)) s.says s.legal in
       let is : call_of a.event ≡ call = ap (λ o. call_in o call) (sym a.call_is) in
-      subst (IsLatched old.state) is (by_latches old.state a.event legal (b.latched here.sound))
+      subst (IsLatched old.state) is (by_latches old.state a.event legal (latched_own mem_pages mem_log old new a.event (reply.Refused why.Latched) b here.sound))
 
   refused : (pages new_pages : MemPages) (log new_log : MemLog) (r : Refusal) → Led z course (Is_shut pages log) → IsRefused pages log r new_pages new_log → IsRefusedOver z pages log r new_pages new_log
   refused pages new_pages log new_log r led stopped =

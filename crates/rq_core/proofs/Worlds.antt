@@ -37,6 +37,7 @@ use Rattle.rq_engine.specs.Devices.{EachPair}
 use Rattle.rq_engine.specs.Opened.{OpenStore}
 use Rattle.rq_engine.specs.Says.{RefusedForCause, call_of, gave}
 use Rattle.rq_engine.proofs.Causes.{has_cause}
+use Rattle.rq_engine.proofs.Owned.{cause_own, fit_own, steps_own}
 use Rattle.rq_model.specs.Causes.{HasCause, IsCaused, writes_out}
 use Rattle.rq_engine.specs.declared.event.Event.{Event}
 use Rattle.rq_engine.specs.declared.event.Event.TheVariants as event
@@ -101,16 +102,16 @@ module _ {P L : Type 0} (p : page_device.Ghosts P) (l : log_device.Ghosts L) (ho
       → Ran_to course (Is_open old) → Ran_to ((x, Answered (gave r)) ∷ course) (Is_open new)
   calls course x e r old new is a ran =
       let o : IsOpen p l z ran.history old = ran.stands in
-      let s = a.steps (honest_p new.pages, honest_l new.log) o.sound in
+      let s = steps_own p l old new e r a (honest_p new.pages, honest_l new.log) o.sound in
       record {
         history = s.entry ∷ ran.history;
-        tells = (ran.history, ran.tells, subst (λ c. AddsCall c (gave r) ran.history (s.entry ∷ ran.history)) (sym is) (s.entry, s.says, subst (λ l. IsCaused (any_busy l.open_ones) (call_of e) (gave r)) o.ledger (caused e r old.state (a.cause (honest_p new.pages, honest_l new.log) o.sound)), refl));
+        tells = (ran.history, ran.tells, subst (λ c. AddsCall c (gave r) ran.history (s.entry ∷ ran.history)) (sym is) (s.entry, s.says, subst (λ l. IsCaused (any_busy l.open_ones) (call_of e) (gave r)) o.ledger (caused e r old.state (cause_own p l old new e r a (honest_p new.pages, honest_l new.log) o.sound)), refl));
         legal = (subst (λ b. Legal (size_of z) b s.entry) o.ledger (subst (λ y. Legal (size_of y) (ledger_of old.state) s.entry) o.sizes s.legal), ran.legal);
         stands = record {
           sizes = a.sizes ∙ o.sizes;
           ledger = s.after ∙ ap (after s.entry) o.ledger;
           sound = s.sound;
-          fit = a.fit (honest_p new.pages, honest_l new.log) o.sound o.fit;
+          fit = fit_own p l old new e r a (honest_p new.pages, honest_l new.log) o.sound o.fit;
         };
         counted = tt;
       }
@@ -128,12 +129,12 @@ module _ {P L : Type 0} (p : page_device.Ghosts P) (l : log_device.Ghosts L) (ho
   -- a call that a device refused changes nothing of that
   pub refused : (h : List Entry) (e : Event) (r : Refusal) (old new : OpenStore P L) → IsOpen p l z h old → Applied p l old e (reply.Refused r) new → is_of_device r ≡ true → IsGivenUp h new
   refused h e r old new o a device =
-      let s = a.steps (honest_p new.pages, honest_l new.log) o.sound in
+      let s = steps_own p l old new e (reply.Refused r) a (honest_p new.pages, honest_l new.log) o.sound in
       record {
         sizes = a.sizes ∙ o.sizes;
         at = stays r device a.refused;
         sound = s.sound;
-        fit = a.fit (honest_p new.pages, honest_l new.log) o.sound o.fit;
+        fit = fit_own p l old new e (reply.Refused r) a (honest_p new.pages, honest_l new.log) o.sound o.fit;
       } where
         same : new ≡ old → StandsAt h new.state
         same i = subst (StandsAt h) (ap (λ (o : OpenStore P L). o.state) (sym i)) (stands_at h old.state o.ledger)
@@ -150,12 +151,12 @@ module _ {P L : Type 0} (p : page_device.Ghosts P) (l : log_device.Ghosts L) (ho
   -- and so does a hand-over
   pub handed_over : (h : List Entry) (r : Reply) (old new : OpenStore P L) → IsOpen p l z h old → Applied p l old event.HandOver r new → IsGivenUp h new
   handed_over h r old new o a =
-      let s = a.steps (honest_p new.pages, honest_l new.log) o.sound in
+      let s = steps_own p l old new event.HandOver r a (honest_p new.pages, honest_l new.log) o.sound in
       record {
         sizes = a.sizes ∙ o.sizes;
         at = by r a.refused s.entry s.says s.after;
         sound = s.sound;
-        fit = a.fit (honest_p new.pages, honest_l new.log) o.sound o.fit;
+        fit = fit_own p l old new event.HandOver r a (honest_p new.pages, honest_l new.log) o.sound o.fit;
       } where
         same : new ≡ old → StandsAt h new.state
         same i = subst (StandsAt h) (ap (λ (o : OpenStore P L). o.state) (sym i)) (stands_at h old.state o.ledger)

@@ -54,10 +54,6 @@ use Rattle.rq_engine.specs.Answers.{Refuses, OnUnder, IsUnderWay, IsNotUnderWay,
 use Rattle.rq_engine.proofs.Keeping.{kept_at, under_at, kept_stepped, kept_finished, kept_undone, kept_committed}
 use Rattle.rq_engine.proofs.Refusals.{refuse, refuse_failed, found_of, found_some, found_none, not_full}
 
--- from what is inside an engine to what is seen of it
-pub from_inside : {a b new : State} {c : Call} {gave : Gave} → a ≡ b → (IsSound a → IsModelStep a c gave new) → IsSound b → IsModelStep b c gave new
-from_inside {a} {b} {new} {c} {gave} e h k = subst (λ (s : State). IsModelStep s c gave new) e (h (subst IsSound (sym e) k))
-
 -- the row and the operation that are going
 pub record Going (s : State) (sub : Sub) (P : Row → Under → Type 0) : Type 0 where
   pub row : Row
@@ -240,24 +236,7 @@ unknown_operation s sub c running h w k = elim w [
 pub step_idle : (s : State) (sub : Sub) (r : Refusal) → Idle s sub r → Refuses s (Step sub.txn sub.number) r
 step_idle s sub why.Failed h = refuse_failed s (Step sub.txn sub.number) h
 step_idle s sub why.UnknownOperation h = unknown_operation s sub (Step sub.txn sub.number) h.0 h.1 (inl refl)
-step_idle s sub why.NoMemory h = absurd h
-step_idle s sub why.DiskRead h = absurd h
-step_idle s sub why.UnknownTransaction h = absurd h
-step_idle s sub why.NotOpen h = absurd h
-step_idle s sub why.Unfinished h = absurd h
-step_idle s sub why.UnknownSender h = absurd h
-step_idle s sub why.TooLong h = absurd h
-step_idle s sub why.SenderBusy h = absurd h
-step_idle s sub why.Closed h = absurd h
-step_idle s sub why.ReceiverBusy h = absurd h
-step_idle s sub why.Full h = absurd h
-step_idle s sub why.Latched h = absurd h
-step_idle s sub why.PoolFull h = absurd h
-step_idle s sub why.DiskWrite h = absurd h
-step_idle s sub (why.Damaged d) h = absurd h
-step_idle s sub why.TooManyTransactions h = absurd h
-step_idle s sub why.NotForced h = absurd h
-step_idle s sub why.LogFull h = absurd h
+step_idle s sub _ h = absurd h
 
 pub finish_done : (s new : State) (sub : Sub) (d : Deed) → s.failed ≡ false → IsUnderWay s sub (AllMade (Doing d)) → new ≡ record s { rows = change_row sub.txn (row_finished (record { lsn = length s.records + 1; deed = d })) s.rows; records = op_end sub.txn sub.number d ∷ s.records; waiting = without_taken d s.waiting } → IsSound s → IsModelStep s (Finish sub.txn sub.number) (gave_done d) new
 finish_done s new sub d running h e k =
@@ -278,23 +257,7 @@ pub finish_idle : (s : State) (sub : Sub) (r : Refusal) → CannotFinish s sub r
 finish_idle s sub why.Failed h = refuse_failed s (Finish sub.txn sub.number) h
 finish_idle s sub why.UnknownOperation h = unknown_operation s sub (Finish sub.txn sub.number) h.0 h.1 (inr refl)
 finish_idle s sub why.Unfinished h = steps_are_left s sub h.0 h.1
-finish_idle s sub why.NoMemory h = absurd h
-finish_idle s sub why.DiskRead h = absurd h
-finish_idle s sub why.UnknownTransaction h = absurd h
-finish_idle s sub why.NotOpen h = absurd h
-finish_idle s sub why.UnknownSender h = absurd h
-finish_idle s sub why.TooLong h = absurd h
-finish_idle s sub why.SenderBusy h = absurd h
-finish_idle s sub why.Closed h = absurd h
-finish_idle s sub why.ReceiverBusy h = absurd h
-finish_idle s sub why.Full h = absurd h
-finish_idle s sub why.Latched h = absurd h
-finish_idle s sub why.PoolFull h = absurd h
-finish_idle s sub why.DiskWrite h = absurd h
-finish_idle s sub (why.Damaged d) h = absurd h
-finish_idle s sub why.TooManyTransactions h = absurd h
-finish_idle s sub why.NotForced h = absurd h
-finish_idle s sub why.LogFull h = absurd h
+finish_idle s sub _ h = absurd h
 
 -- a commit
 pub commit_range : (s : State) (f : Bool) (o res n : ℕ) (t : Txn) → IsConsistent s f o res → HasNothingUnderWay s t n → (0 < t.incarnation) × (0 < t.count)

@@ -1,5 +1,5 @@
 -- Pages that a crash leaves fit the log that it leaves.
-use Rattle.std.proofs.Common.{◌≡◌, ℕ, zero, suc, ◌-◌, ◌<◌, ◌≤◌, List, drop, refl, sym, subst, Result, Ok, Err, ◌⊎◌, ⊎_elim, inl, arith, length, take, ap, ◌∙◌, ◌≡◌}
+use Rattle.std.proofs.Common.{◌≡◌, ℕ, zero, suc, ◌-◌, ◌<◌, ◌≤◌, List, drop, refl, sym, subst, Result, Ok, Err, ◌⊎◌, ⊎_elim, inl, inr, arith, length, take, ap, ◌∙◌, ◌≡◌}
 use Rattle.std.proofs.lemmas.List.{drop_all, length-drop, take-append-drop}
 use Rattle.rq_model.specs.Commits.{committed_of}
 use Rattle.rq_model.specs.Incarnations.{incarnation_of}
@@ -33,10 +33,12 @@ use Rattle.rq_store.proofs.Cutting.{whole_dropped, longer_continues, oldest_cont
 use Rattle.rq_engine.specs.declared.event.Event.{Event}
 use Rattle.rq_engine.specs.declared.event.Event.TheVariants as event
 use Rattle.rq_engine.specs.declared.event.Reply.{Reply}
-use Rattle.rq_engine.specs.Opened.{OpenStore, WritesWhen, state_after}
+use Rattle.rq_engine.specs.Opened.{AreHonest, OpenStore, WritesWhen, state_after}
 use Rattle.rq_engine.specs.Says.{PagesSay, WritesSay, written_by}
 use Rattle.rq_engine.specs.Crash.{AreFit, IsCut, KeepsFit, LeavesCut, RunsThroughCuts, StaysFit, commits_left}
+use Rattle.rq_engine.specs.Earlier.{on, over, rebased, IsSpelledAlike}
 use Rattle.rq_engine.specs.Devices.Path.{Start, Pages, Log}
+use Rattle.rq_engine.proofs.Earlier.{long_on}
 use Rattle.rq_log.proofs.Moments.{started, weaker}
 use Rattle.rq_log.proofs.Runs.{AreSpelled-drop}
 
@@ -164,6 +166,10 @@ lists_stay s (Ok w) = (refl, refl, refl)
 lists_stay s (Err why.DiskWrite) = (refl, refl, refl)
 lists_stay s (Err e) = (refl, refl, refl)
 
+-- the same of the store as it is
+abbrev KeepsFitAlone : {P L : Type 0} → page_device.Ghosts P → log_device.Ghosts L → OpenStore P L → OpenStore P L → Type 0
+KeepsFitAlone p l old new = AreHonest p l new → IsSound old.state → AreFit p old → StaysFit p l old new
+
 -- calls that write no record, of devices whose crashes leave nothing else while no call is made
 module _ {P L : Type 0} (p : page_device.Ghosts P) (l : log_device.Ghosts L) (only_pages : (d : P) (c : Images) → p.left_since d (p.moment d) c → Leaves (p.may_be d) c)
     (only_log : (d : L) (c : List ℕ) → l.left_since d (l.moment d) c → l.may_leave d c) (old new : OpenStore P L) (told : AreSpelled old.state.records)
@@ -174,21 +180,21 @@ module _ {P L : Type 0} (p : page_device.Ghosts P) (l : log_device.Ghosts L) (on
       (started l old.log (IsBeginning old.state.records old.state.forced) (λ c left. leaves h c (only_log old.log c left)))
 
   -- one of the log's device, from a store that is the older one
-  pub log_fit : (met : OpenStore P L) → met ≡ old → new.pages ≡ met.pages → new.state.sizes ≡ met.state.sizes → new.state.records ≡ met.state.records
+  log_fits : (met : OpenStore P L) → met ≡ old → new.pages ≡ met.pages → new.state.sizes ≡ met.state.sizes → new.state.records ≡ met.state.records
       → (new.state.forced ≡ met.state.forced) ⊎ (new.state.forced ≡ length met.state.records) → (l.honest new.log → l.honest met.log)
-      → (l.honest new.log → LeavesOnly l met.log new.log (IsBeginning met.state.records met.state.forced)) → KeepsFit p l old new
-  log_fit met same = subst (λ (s : OpenStore P L). new.pages ≡ s.pages → new.state.sizes ≡ s.state.sizes → new.state.records ≡ s.state.records
+      → (l.honest new.log → LeavesOnly l met.log new.log (IsBeginning met.state.records met.state.forced)) → KeepsFitAlone p l old new
+  log_fits met same = subst (λ (s : OpenStore P L). new.pages ≡ s.pages → new.state.sizes ≡ s.state.sizes → new.state.records ≡ s.state.records
       → (new.state.forced ≡ s.state.forced) ⊎ (new.state.forced ≡ length s.state.records) → (l.honest new.log → l.honest s.log)
-      → (l.honest new.log → LeavesOnly l s.log new.log (IsBeginning s.state.records s.state.forced)) → KeepsFit p l old new) (sym same)
+      → (l.honest new.log → LeavesOnly l s.log new.log (IsBeginning s.state.records s.state.forced)) → KeepsFitAlone p l old new) (sym same)
       (λ pages sizes records forced honest run h k fit.
       let few = k.forced in
       stays_fit p l only_pages old new k fit sizes records told (leaves (honest h.1)) (stays p l only_pages old new k fit pages)
       (⊎_elim (λ e. omega (arith, e)) (λ e. omega (arith, e, few)) forced) (⊎_elim (λ e. omega (arith, e, few)) (λ e. omega (arith, e)) forced) (run h.1))
 
   -- one of the pages' device
-  pub page_fit : (page : ℕ) (r : Result Written Refusal) → WritesWhen old page r → DeviceAfter p page (image_at old.state.images page) old.pages new.pages r
-      → new.state ≡ state_after old.state r → new.log ≡ old.log → KeepsFit p l old new
-  page_fit page r when after state log h k fit =
+  page_fits : (page : ℕ) (r : Result Written Refusal) → WritesWhen old page r → DeviceAfter p page (image_at old.state.images page) old.pages new.pages r
+      → new.state ≡ state_after old.state r → new.log ≡ old.log → KeepsFitAlone p l old new
+  page_fits page r when after state log h k fit =
       let same = lists_stay old.state r in
       let honest : l.honest old.log = subst (λ (d : L). l.honest d) log h.1 in
       let forced : new.state.forced ≡ old.state.forced = ap (λ (s : State). s.forced) state ∙ same.2 in
@@ -196,9 +202,71 @@ module _ {P L : Type 0} (p : page_device.Ghosts P) (l : log_device.Ghosts L) (on
       stays_fit p l only_pages old new k fit (ap (λ (s : State). s.sizes) state ∙ same.0) (ap (λ (s : State). s.records) state ∙ same.1) told (leaves honest)
       (goes_out p l only_pages old new k fit page r when after) (omega (arith, forced)) (omega (arith, forced, few)) (log_still honest log)
 
+-- what is said of pages says nothing of records
+when_over : {P L : Type 0} (x : List Record) (old : OpenStore P L) (page : ℕ) (w : Result Written Refusal) → WritesWhen old page w → WritesWhen (over x old) page w
+when_over x old page (Ok w) h = h
+when_over x old page (Err why.Failed) h = h
+when_over x old page (Err _) h = h
+
+-- nor does what a page write leaves
+after_over : (x : List Record) (s : State) (r : Result Written Refusal) → on x (state_after s r) ≡ state_after (on x s) r
+after_over x s (Ok w) = refl
+after_over x s (Err why.DiskWrite) = refl
+after_over x s (Err e) = refl
+
+pub writes_over : {P L : Type 0} (x : List Record) (old : OpenStore P L) (e : Event) (r : Reply) → WritesSay old e r → WritesSay (over x old) e r
+writes_over x old (event.WritePage page) r h = when_over x old page (written_by r) h
+writes_over x old _ r h = tt
+
+pub pages_over : {P L : Type 0} (p : page_device.Ghosts P) (x : List Record) (old new : OpenStore P L) (e : Event) (r : Reply) → PagesSay p old new e r → PagesSay p (over x old) (over x new) e r
+pages_over p x old new (event.WritePage page) r h = h
+pages_over p x old new _ r h = h
+
+-- over any earlier records with the same bytes
+module _ {P L : Type 0} (p : page_device.Ghosts P) (l : log_device.Ghosts L) (only_now : (d : P) (c : Images) → p.left_since d (p.moment d) c → Leaves (p.may_be d) c) where
+  pub leaves_cut_over : (s : OpenStore P L) (x : List Record) → (l.honest s.log → (c : List ℕ) → l.may_leave s.log c → IsBeginning s.state.records s.state.forced c) → l.honest s.log → IsSound (on x s.state) → AreFit p (over x s) → IsSpelledAlike x s.state → LeavesCut p l (over x s)
+  leaves_cut_over s x log h k fit alike = leaves_cut p l only_now (over x s) (λ q c m. alike.1 c (log q c m)) alike.0 h k fit
+
+  pub cuts_over : (old new : OpenStore P L) (x : List Record) → IsSound (on x old.state) → AreFit p (over x old) → IsSpelledAlike x old.state → (e : Event) (r : Reply) → WritesSay old e r → PagesSay p old new e r
+      → ((c : List ℕ) → l.may_leave old.log c → IsBeginning old.state.records old.state.forced c)
+      → LeavesOnly l old.log new.log (IsBeginning old.state.records old.state.forced) → RunsThroughCuts p l (over x old) (over x new)
+  cuts_over old new x k fit alike e r when say log run =
+      runs_through_cuts p l only_now (over x old) (over x new) k fit e r alike.0 (writes_over x old e r when) (pages_over p x old new e r say)
+      (λ c m. alike.1 c (log c m)) (weaker l old.log new.log (IsBeginning old.state.records old.state.forced) (IsBeginning (rebased x old.state.records) old.state.forced) run (λ c b. alike.1 c b))
+
+-- calls that write no record, over any earlier records with the same bytes
+module _ {P L : Type 0} (p : page_device.Ghosts P) (l : log_device.Ghosts L) (only_pages : (d : P) (c : Images) → p.left_since d (p.moment d) c → Leaves (p.may_be d) c)
+    (only_log : (d : L) (c : List ℕ) → l.left_since d (l.moment d) c → l.may_leave d c) (old new : OpenStore P L)
+    (leaves : l.honest old.log → (c : List ℕ) → l.may_leave old.log c → IsBeginning old.state.records old.state.forced c) where
+  module _ (x : List Record) (alike : IsSpelledAlike x old.state) where
+    leaves_over : l.honest old.log → (c : List ℕ) → l.may_leave old.log c → IsBeginning (rebased x old.state.records) old.state.forced c
+    leaves_over h c m = alike.1 c (leaves h c m)
+
+    run_over : LeavesOnly l old.log new.log (IsBeginning old.state.records old.state.forced) → LeavesOnly l old.log new.log (IsBeginning (rebased x old.state.records) old.state.forced)
+    run_over run = weaker l old.log new.log (IsBeginning old.state.records old.state.forced) (IsBeginning (rebased x old.state.records) old.state.forced) run (λ c b. alike.1 c b)
+
+  -- one of the log's device, from a store that is the older one
+  pub log_fit : (met : OpenStore P L) → met ≡ old → new.pages ≡ met.pages → new.state.sizes ≡ met.state.sizes → new.state.records ≡ met.state.records
+      → (new.state.forced ≡ met.state.forced) ⊎ (new.state.forced ≡ length met.state.records) → (l.honest new.log → l.honest met.log)
+      → (l.honest new.log → LeavesOnly l met.log new.log (IsBeginning met.state.records met.state.forced)) → KeepsFit p l old new
+  log_fit met same = subst (λ (s : OpenStore P L). new.pages ≡ s.pages → new.state.sizes ≡ s.state.sizes → new.state.records ≡ s.state.records
+      → (new.state.forced ≡ s.state.forced) ⊎ (new.state.forced ≡ length s.state.records) → (l.honest new.log → l.honest s.log)
+      → (l.honest new.log → LeavesOnly l s.log new.log (IsBeginning s.state.records s.state.forced)) → KeepsFit p l old new) (sym same)
+      (λ pages sizes records forced honest run h x long k fit alike.
+      log_fits p l only_pages only_log (over x old) (over x new) alike.0 (leaves_over x alike) (over x old) refl pages sizes (ap (rebased x) records)
+      (⊎_elim (λ e. inl e) (λ e. inr (e ∙ sym (long_on x old.state long))) forced) honest (λ q. run_over x alike (run q)) h k fit)
+
+  -- one of the pages' device
+  pub page_fit : (page : ℕ) (r : Result Written Refusal) → WritesWhen old page r → DeviceAfter p page (image_at old.state.images page) old.pages new.pages r
+      → new.state ≡ state_after old.state r → new.log ≡ old.log → KeepsFit p l old new
+  page_fit page r when after state log h x long k fit alike =
+      page_fits p l only_pages only_log (over x old) (over x new) alike.0 (leaves_over x alike) page r (when_over x old page r when) after
+      (ap (on x) state ∙ after_over x old.state r) log h k fit
+
 -- no call is made
 pub none_fit : {P L : Type 0} (p : page_device.Ghosts P) (l : log_device.Ghosts L) (only_pages : (d : P) (c : Images) → p.left_since d (p.moment d) c → Leaves (p.may_be d) c)
-    (only_log : (d : L) (c : List ℕ) → l.left_since d (l.moment d) c → l.may_leave d c) (s : OpenStore P L) → AreSpelled s.state.records
+    (only_log : (d : L) (c : List ℕ) → l.left_since d (l.moment d) c → l.may_leave d c) (s : OpenStore P L)
     → (l.honest s.log → (c : List ℕ) → l.may_leave s.log c → IsBeginning s.state.records s.state.forced c) → KeepsFit p l s s
-none_fit p l only_pages only_log s told leaves =
-    log_fit p l only_pages only_log s s told leaves s refl refl refl refl (inl refl) (λ h. h) (λ h. log_still p l only_pages only_log s s told leaves h refl)
+none_fit p l only_pages only_log s leaves h x long k fit alike =
+    log_fits p l only_pages only_log (over x s) (over x s) alike.0 (leaves_over p l only_pages only_log s s leaves x alike) (over x s) refl refl refl refl (inl refl) (λ q. q)
+    (λ q. log_still p l only_pages only_log (over x s) (over x s) alike.0 (leaves_over p l only_pages only_log s s leaves x alike) q refl) h k fit

@@ -1,5 +1,8 @@
 pub mod Told
 pub mod Opened
+pub mod Earlier
+pub mod UnknownStay
+pub mod Owned
 pub mod Waits
 pub mod Tags
 pub mod Keeping

@@ -17,6 +17,8 @@ use Rattle.rq_model.specs.History.{Call}
 use Rattle.rq_sound.specs.Sound.{IsSound}
 use Rattle.rq_sound.specs.ModelSteps.{IsModelStep}
 use Rattle.rq_sound.specs.Calls.{next_txn}
+use Rattle.rq_model.specs.declared.record.Record.{Record}
+use Rattle.rq_engine.specs.Earlier.{on, IsEarlier}
 use Rattle.rq_engine.specs.Answers.{AnswersLegally, HasNothingUnderWay}
 use Rattle.rq_engine.specs.Opened.{AreHonest, OpenStore}
 use Rattle.rq_engine.specs.Aborts.{UndoSays}
@@ -70,14 +72,14 @@ log_left g old new P same only_now leaves h =
 
 -- the reply to a start of a receive is the entry that its answer is
 pub begun_answered : {P L : Type 0} (p : page_device.Ghosts P) (l : log_device.Ghosts L) (old : OpenStore P L) (call : Call) (x : Result (Option Sub) Refusal) (y : Reply) (e : Event) (new : OpenStore P L) → call_of e ≡ call → AnswersLegally p l old call started_of x new → y ≡ begun_reply x
-    → AreHonest p l new → IsSound old.state → IsModelStep old.state (call_of e) (gave y) new.state
-begun_answered p l old call (Ok (Some sub)) y e new is says reply h k = rw (is, reply) (says h k)
-begun_answered p l old call (Ok None) y e new is says reply h k = rw (is, reply) (says h k)
-begun_answered p l old call (Err r) y e new is says reply h k = rw (is, reply) (says h k).0
+    → AreHonest p l new → (earlier : List Record) → IsEarlier earlier old.state → IsSound (on earlier old.state) → IsModelStep (on earlier old.state) (call_of e) (gave y) (on earlier new.state)
+begun_answered p l old call (Ok (Some sub)) y e new is says reply h earlier long k = rw (is, reply) (says h earlier long k)
+begun_answered p l old call (Ok None) y e new is says reply h earlier long k = rw (is, reply) (says h earlier long k)
+begun_answered p l old call (Err r) y e new is says reply h earlier long k = rw (is, reply) (says h earlier long k).0
 
 -- so is that to the start of an inverse
 pub undo_answered : {P L : Type 0} (p : page_device.Ghosts P) (l : log_device.Ghosts L) (old : OpenStore P L) (call : Call) (x : Result (Option Sub) Refusal) (y : Reply) (e : Event) (new : OpenStore P L) → call_of e ≡ call → AnswersLegally p l old call undoing_of x new → y ≡ undo_reply x
-    → AreHonest p l new → IsSound old.state → IsModelStep old.state (call_of e) (gave y) new.state
-undo_answered p l old call (Ok (Some sub)) y e new is says reply h k = rw (is, reply) (says h k)
-undo_answered p l old call (Ok None) y e new is says reply h k = rw (is, reply) (says h k)
-undo_answered p l old call (Err r) y e new is says reply h k = rw (is, reply) (says h k).0
+    → AreHonest p l new → (earlier : List Record) → IsEarlier earlier old.state → IsSound (on earlier old.state) → IsModelStep (on earlier old.state) (call_of e) (gave y) (on earlier new.state)
+undo_answered p l old call (Ok (Some sub)) y e new is says reply h earlier long k = rw (is, reply) (says h earlier long k)
+undo_answered p l old call (Ok None) y e new is says reply h earlier long k = rw (is, reply) (says h earlier long k)
+undo_answered p l old call (Err r) y e new is says reply h earlier long k = rw (is, reply) (says h earlier long k).0

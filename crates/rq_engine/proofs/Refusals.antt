@@ -24,22 +24,7 @@ use Rattle.rq_engine.specs.Answers.{IsCausedIn, Refuses, needs_memory}
 
 failed_first : (z : Size) (l : Ledger) (c : Call) → runs l.phase ≡ false → first_of (tests z l c) ≡ Some why.Failed
 failed_first z l Begin e = rw e refl
-failed_first z l (Commit t) e = rw e refl
-failed_first z l (Start_send t m) e = rw e refl
-failed_first z l (Step t n) e = rw e refl
-failed_first z l (Finish t n) e = rw e refl
-failed_first z l (Acknowledge t n) e = rw e refl
-failed_first z l Force e = rw e refl
-failed_first z l Hand_over e = rw e refl
-failed_first z l Show e = rw e refl
-failed_first z l (Start_receive t) e = rw e refl
-failed_first z l (Start_receive_from t s) e = rw e refl
-failed_first z l (Start_close t s) e = rw e refl
-failed_first z l (Start_abort t) e = rw e refl
-failed_first z l (Undo_next t) e = rw e refl
-failed_first z l (End_abort t) e = rw e refl
-failed_first z l (Write_page p) e = rw e refl
-failed_first z l (Last_tag s) e = rw e refl
+failed_first z l _ e = rw e refl
 
 -- want of memory, and a device's failure, are no test's
 runs_first : (z : Size) (l : Ledger) (c : Call) (r : Refusal) → (why.Failed ≡ r → ⊥) → first_of (tests z l c) ≡ Some r → runs l.phase ≡ true
@@ -47,47 +32,17 @@ runs_first z l c r other e = elim (cases_Bool (runs l.phase)) [ inl y ↦ y | in
 
 legal_first : (z : Size) (l : Ledger) (c : Call) (r : Refusal) → IsTrue (without_pages r) → first_of (tests z l c) ≡ Some r → LegalRefusal z l c r
 legal_first z l c why.NoMemory p e = runs_first z l c why.NoMemory (λ x. cc x) e
-legal_first z l c why.Failed p e = e
 legal_first z l c why.DiskRead p e = runs_first z l c why.DiskRead (λ x. cc x) e
-legal_first z l c why.UnknownTransaction p e = e
-legal_first z l c why.NotOpen p e = e
-legal_first z l c why.Unfinished p e = e
-legal_first z l c why.UnknownSender p e = e
-legal_first z l c why.TooLong p e = e
-legal_first z l c why.SenderBusy p e = e
-legal_first z l c why.Closed p e = e
-legal_first z l c why.ReceiverBusy p e = e
-legal_first z l c why.Full p e = e
 legal_first z l c why.Latched p e = absurd (false≢true p)
 legal_first z l c why.PoolFull p e = absurd (false≢true p)
 legal_first z l c why.DiskWrite p e = runs_first z l c why.DiskWrite (λ x. cc x) e
 legal_first z l c (why.Damaged d) p e = runs_first z l c (why.Damaged d) (λ x. cc x) e
-legal_first z l c why.TooManyTransactions p e = e
 legal_first z l c why.NotForced p e = absurd (false≢true p)
-legal_first z l c why.LogFull p e = e
-legal_first z l c why.UnknownOperation p e = e
+legal_first z l c _ p e = e
 
 same_after : (l : Ledger) (c : Call) (r : Refusal) → IsTrue (without_pages r) → after (Refused c r) l ≡ l
-same_after l c why.NoMemory p = refl
-same_after l c why.Failed p = refl
-same_after l c why.DiskRead p = refl
-same_after l c why.UnknownTransaction p = refl
-same_after l c why.NotOpen p = refl
-same_after l c why.Unfinished p = refl
-same_after l c why.UnknownSender p = refl
-same_after l c why.TooLong p = refl
-same_after l c why.SenderBusy p = refl
-same_after l c why.Closed p = refl
-same_after l c why.ReceiverBusy p = refl
-same_after l c why.Full p = refl
-same_after l c why.Latched p = refl
-same_after l c why.PoolFull p = refl
 same_after l c why.DiskWrite p = absurd (false≢true p)
-same_after l c (why.Damaged d) p = refl
-same_after l c why.TooManyTransactions p = refl
-same_after l c why.NotForced p = refl
-same_after l c why.LogFull p = refl
-same_after l c why.UnknownOperation p = refl
+same_after l c _ p = refl
 
 -- the first test that holds is the refusal
 pub refuse : (s : State) (c : Call) (r : Refusal) → IsTrue (without_pages r) → IsCausedIn s c r → first_of (tests (size_of s.sizes) (ledger_of s) c) ≡ Some r → Refuses s c r
@@ -146,6 +101,10 @@ not_full s more e = ltb-false (2 ^ 50) (length s.records + owed_by s.rows + more
 
 pub refuse_full : (s : State) (t : Txn) → NoneHolds (ready_tests (ledger_of s) t false) → log_full (ledger_of s) 1 ≡ true → Refuses s (Commit t) why.LogFull
 refuse_full s t h e = refuse s (Commit t) why.LogFull refl tt (rw (h.0, h.1.0, h.1.1.0, h.1.1.1.0, e) refl)
+
+-- where memory is wanting, it has passed them and needs some
+pub commit_memory : (s : State) (t : Txn) → NoneHolds (ready_tests (ledger_of s) t false) → s.failed ≡ false → log_full (ledger_of s) 1 ≡ false → Refuses s (Commit t) why.NoMemory
+commit_memory s t h running room = no_memory s (Commit t) running (λ _. (h.0, (h.1.0, (h.1.1.0, (h.1.1.1.0, (room, tt)))))) (λ _. refl)
 
 -- what is so of the row that is found
 pub found_of : (P : Row → Type 0) (o : Option Row) → OnFound o P → (r : Row) × (o ≡ Some r) × P r

@@ -1,5 +1,6 @@
 -- What a call answers, and what it finds of the operation that it names.
-use Rattle.std.specs.Prelude.{◌≡◌, ◌≢◌, ℕ, ◌+◌, ◌/◌, ◌%◌, ◌<◌, length, Bool, true, false, ◌∷◌, Option, Some, None, Result, Ok, Err}
+use Rattle.std.specs.Prelude.{◌≡◌, ◌≢◌, ℕ, ◌+◌, ◌/◌, ◌%◌, ◌<◌, length, Bool, true, false, ◌∷◌, Option, Some, None, Result, Ok, Err, List}
+use Rattle.rq_model.specs.Causes.{HasCause}
 use Rattle.rq_model.specs.declared.txn.Sub.{Sub}
 use Rattle.rq_model.specs.declared.txn.Txn.{Txn}
 use Rattle.rq_model.specs.declared.refusal.Refusal.{Refusal}
@@ -23,6 +24,8 @@ use Rattle.rq_store.specs.Steps.{IsPutIn, page_op}
 use Rattle.rq_sound.specs.ModelSteps.{IsModelStep}
 use Rattle.rq_disk.specs.declared.device.LogDevice as log_device
 use Rattle.rq_disk.specs.declared.device.PageDevice as page_device
+use Rattle.rq_model.specs.declared.record.Record.{Record}
+use Rattle.rq_engine.specs.Earlier.{on, IsEarlier}
 use Rattle.rq_engine.specs.Opened.{OpenStore, AreHonest}
 
 -- the call needs memory: what starts an operation, where there is one to start
@@ -42,14 +45,19 @@ IsCausedIn s c r = HasCause (any_under s.rows) c r
 abbrev pub Refuses : State → Call → Refusal → Type 0
 Refuses s call r = IsSound s → IsModelStep s call (Gave_refusal r) s × IsCausedIn s call r
 
+-- whatever the earlier records were
+abbrev pub RefusesOver : State → Call → Refusal → Type 0
+RefusesOver s call r = (e : List Record) → IsEarlier e s → Refuses (on e s) call r
+
 -- The call with its answer is an entry that may come next where the store goes back to a legal log and both devices
 -- have been honest up to its end, and the store after it is what that entry makes of it.
 abbrev pub AnswersLegally : {P L X : Type 0} → page_device.Ghosts P → log_device.Ghosts L
     → OpenStore P L → Call → (X → Gave) → Result X Refusal → OpenStore P L → Type 0
-AnswersLegally p l old call gave (Ok x) new = AreHonest p l new → IsSound old.state
-    → IsModelStep old.state call (gave x) new.state
-AnswersLegally p l old call gave (Err r) new = AreHonest p l new → IsSound old.state
-    → IsModelStep old.state call (Gave_refusal r) new.state × IsCausedIn old.state call r
+AnswersLegally p l old call gave (Ok x) new = AreHonest p l new → (e : List Record) → IsEarlier e old.state
+    → IsSound (on e old.state) → IsModelStep (on e old.state) call (gave x) (on e new.state)
+AnswersLegally p l old call gave (Err r) new = AreHonest p l new → (e : List Record) → IsEarlier e old.state
+    → IsSound (on e old.state) → IsModelStep (on e old.state) call (Gave_refusal r) (on e new.state)
+    × IsCausedIn (on e old.state) call r
 
 -- what is so of a transaction's operation under way, if it has this number
 abbrev pub OnUnder : ℕ → (Row → Under → Type 0) → Row → Option Under → Type 0

@@ -1,5 +1,5 @@
 -- What one call makes of an open store: of its lists, of its devices, and of what a crash leaves of them.
-use Rattle.std.specs.Prelude.{◌≡◌, ◌↔◌, ℕ, true, false, Bool, Option, None, Some, Result, Ok, Err, slice_set}
+use Rattle.std.specs.Prelude.{◌≡◌, ◌↔◌, ℕ, true, false, Bool, Option, None, Some, Result, Ok, Err, List, slice_set}
 use Rattle.rq_model.specs.declared.refusal.Refusal.{Refusal}
 use Rattle.rq_model.specs.declared.refusal.Refusal.TheVariants as why
 use Rattle.rq_model.specs.declared.txn.Sub.{Sub}
@@ -16,6 +16,8 @@ use Rattle.rq_store.specs.State.{State}
 use Rattle.rq_sound.specs.Latching.{IsLatched}
 use Rattle.rq_sound.specs.Sound.{IsSound}
 use Rattle.rq_sound.specs.ModelSteps.{IsModelStep}
+use Rattle.rq_model.specs.declared.record.Record.{Record}
+use Rattle.rq_engine.specs.Earlier.{on, over, unknown, IsEarlier, IsSpelledAlike}
 use Rattle.rq_engine.specs.declared.event.Event.{Event}
 use Rattle.rq_engine.specs.declared.event.Event.TheVariants as event
 use Rattle.rq_engine.specs.declared.event.Progress.{Progress}
@@ -99,13 +101,18 @@ LatchedSay s _ r = Unit {0}
 -- The call was made, and answered so.
 pub record Applied {P L : Type 0} (p : page_device.Ghosts P) (l : log_device.Ghosts L) (old : OpenStore P L)
     (e : Event) (r : Reply) (new : OpenStore P L) : Type 0 where
-  -- of a sound store over honest devices: the entry that event and reply say may come next, and a refusal has its cause;
+  -- of a sound store over honest devices, whatever its earlier records were: the entry that event and reply say may come next, and a refusal has its cause;
   -- and whatever its devices, latches are judged
-  pub steps : AreHonest p l new → IsSound old.state → IsModelStep old.state (call_of e) (gave r) new.state
-  pub cause : AreHonest p l new → IsSound old.state → RefusedForCause old.state e r
-  pub latched : IsSound old.state → LatchedSay old.state e r
+  pub steps : AreHonest p l new → (earlier : List Record) → IsEarlier earlier old.state → IsSound (on earlier old.state)
+      → IsModelStep (on earlier old.state) (call_of e) (gave r) (on earlier new.state)
+  pub cause : AreHonest p l new → (earlier : List Record) → IsEarlier earlier old.state → IsSound (on earlier old.state)
+      → RefusedForCause (on earlier old.state) e r
+  pub latched : (earlier : List Record) → IsEarlier earlier old.state → IsSound (on earlier old.state)
+      → LatchedSay (on earlier old.state) e r
   -- of every store
   pub sizes : new.state.sizes ≡ old.state.sizes
+  -- of the records of which nothing is known nothing is known after it
+  pub unknown : unknown new.state.records ≡ unknown old.state.records
   pub failed : (r ≡ reply.Refused why.Failed) ↔ (old.state.failed ≡ true)
   pub refused : RefusalLeaves old e r new
   pub lists : ListsSay old.state e r new.state
@@ -117,5 +124,7 @@ pub record Applied {P L : Type 0} (p : page_device.Ghosts P) (l : log_device.Gho
   pub honest : AreHonest p l new → AreHonest p l old
   -- of crashes, at every moment since the call began
   pub any_moment : l.honest new.log → LeavesOnly l old.log new.log (IsBeginning old.state.records old.state.forced)
-  pub fit : AreHonest p l new → IsSound old.state → AreFit p old → AreFit p new
-  pub crash : AreHonest p l new → IsSound old.state → AreFit p old → RunsThroughCuts p l old new
+  pub fit : AreHonest p l new → (earlier : List Record) → IsEarlier earlier old.state → IsSound (on earlier old.state)
+      → AreFit p (over earlier old) → AreFit p (over earlier new)
+  pub crash : AreHonest p l new → (earlier : List Record) → IsEarlier earlier old.state → IsSound (on earlier old.state)
+      → AreFit p (over earlier old) → IsSpelledAlike earlier old.state → RunsThroughCuts p l (over earlier old) (over earlier new)

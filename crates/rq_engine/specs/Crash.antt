@@ -15,6 +15,7 @@ use Rattle.rq_store.specs.Opening.{IsLeft}
 use Rattle.rq_engine.specs.Devices.{EachPair, Path}
 use Rattle.rq_sound.specs.Sound.{IsSound}
 use Rattle.rq_engine.specs.Opened.{AreHonest, OpenStore}
+use Rattle.rq_engine.specs.Earlier.{IsEarlier, IsSpelledAlike, on, over}
 
 -- whatever images a crash now may leave of the pages, they fit the forced records
 abbrev pub AreFit : {P L : Type 0} → page_device.Ghosts P → OpenStore P L → Type 0
@@ -48,11 +49,12 @@ abbrev pub RunsThroughCuts : {P L : Type 0} → page_device.Ghosts P → log_dev
     → OpenStore P L → Type 0
 RunsThroughCuts p l old new = Path p l (IsCut old.state) old.pages old.log new.pages new.log
 
--- of a sound store over honest devices whose pages fit: they fit after the call, and a crash at any moment of it leaves
--- such a cut
+-- of a sound store over honest devices whose pages fit, whatever the earlier records were: they fit after the call, and a
+-- crash at any moment of it leaves such a cut
 pub record StaysFit {P L : Type 0} (p : page_device.Ghosts P) (l : log_device.Ghosts L) (old new : OpenStore P L) : Type 0 where
   pub fit : AreFit p new
   pub crash : RunsThroughCuts p l old new
 
 abbrev pub KeepsFit : {P L : Type 0} → page_device.Ghosts P → log_device.Ghosts L → OpenStore P L → OpenStore P L → Type 0
-KeepsFit p l old new = AreHonest p l new → IsSound old.state → AreFit p old → StaysFit p l old new
+KeepsFit p l old new = AreHonest p l new → (e : List Record) → IsEarlier e old.state → IsSound (on e old.state)
+    → AreFit p (over e old) → IsSpelledAlike e old.state → StaysFit p l (over e old) (over e new)

@@ -1,4 +1,5 @@
 pub mod Opened
+pub mod Earlier
 pub mod Says
 pub mod Moves
 pub mod Receives

@@ -5,7 +5,7 @@ ghost use Rattle.rq_model.specs.Tests.{IsUnready, NoneHolds, ready_tests};
 ghost use Rattle.rq_model.specs.Replay.Reply.{Gave_aborted, Gave_aborting};
 ghost use Rattle.rq_store.specs.State.{ledger_of};
 ghost use Rattle.rq_engine.specs.Opened.{LeavesDevices};
-ghost use Rattle.rq_engine.specs.Answers.{AnswersLegally, Refuses};
+ghost use Rattle.rq_engine.specs.Answers.{AnswersLegally, RefusesOver};
 ghost use Rattle.rq_engine.specs.Aborts.{IsAborted, IsAborting, IsTurnedBack};
 ghost use Rattle.rq_engine.specs.Invariant.{IsDoneConsistent};
 
@@ -72,7 +72,7 @@ impl<P: PageDevice, L: LogDevice, B: Level> Engine<P, L, B> {
         ensures running { OnOk result (self.now.state.failed ≡ false) }
         ensures passes { OnOk result (NoneHolds (ready_tests (ledger_of self.now.state) txn true)) }
         ensures failed { (result ≡ Err Refusal.Failed) ↔ (self.now.state.failed ≡ true) }
-        ensures refused { IfErr result (λ r. Refuses self.now.state (End_abort txn) r) }
+        ensures refused { IfErr result (λ r. RefusesOver self.now.state (End_abort txn) r) }
     {
         let (_, newest) = self.check_aborting(txn)?;
         match newest {

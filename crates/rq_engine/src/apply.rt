@@ -1,5 +1,5 @@
 //! Events and their replies.
-ghost use Rattle.std.specs.Prelude.{◌≡◌, ◌↔◌, ℕ, map, true, Err};
+ghost use Rattle.std.specs.Prelude.{◌≡◌, ◌↔◌, ℕ, map, true, Err, List};
 ghost use Rattle.rq_model.specs.History.Call.{Show};
 ghost use Rattle.rq_model.specs.Replay.Reply.{Gave_content};
 ghost use Rattle.rq_log.specs.Crash.{LeavesOnly};
@@ -8,6 +8,8 @@ ghost use Rattle.rq_sound.specs.Sound.{IsSound};
 ghost use Rattle.rq_sound.specs.ModelSteps.{IsModelStep};
 ghost use Rattle.rq_content.specs.Read.{group_of};
 ghost use Rattle.rq_engine.specs.Answers.{AnswersLegally};
+ghost use Rattle.rq_engine.specs.Earlier.{on, IsEarlier};
+ghost use Rattle.rq_model.specs.declared.record.Record.{Record};
 ghost use Rattle.rq_engine.specs.Applied.{Applied, ChangesSay, LatchedSay, RefusalLeaves, StartSays};
 ghost use Rattle.rq_engine.specs.Lists.{ListsSay};
 ghost use Rattle.rq_engine.specs.Opened.{AreHonest};
@@ -68,10 +70,11 @@ impl<P: PageDevice, L: LogDevice, B: Level> Engine<P, L, B> {
     // The call, with what it says of the store and of its devices.
     fn call(&mut self, event: &Event) -> Reply
         // Of a sound store: the entry that it is, and a refusal's cause.
-        ensures answered { AreHonest P.PageDevice L.LogDevice self.new → IsSound self.old.state
-            → IsModelStep self.old.state (call_of event.now) (gave result) self.new.state }
-        ensures cause { AreHonest P.PageDevice L.LogDevice self.new → IsSound self.old.state
-            → RefusedForCause self.old.state event.now result }
+        ensures answered { AreHonest P.PageDevice L.LogDevice self.new → (e : List Record) → IsEarlier e self.old.state
+            → IsSound (on e self.old.state)
+            → IsModelStep (on e self.old.state) (call_of event.now) (gave result) (on e self.new.state) }
+        ensures cause { AreHonest P.PageDevice L.LogDevice self.new → (e : List Record) → IsEarlier e self.old.state
+            → IsSound (on e self.old.state) → RefusedForCause (on e self.old.state) event.now result }
         // Answers that change nothing, or one thing.
         ensures sizes { self.new.state.sizes ≡ self.old.state.sizes }
         ensures no_memory { result ≡ Reply.Refused Refusal.NoMemory → self.new ≡ self.old }
@@ -87,7 +90,8 @@ impl<P: PageDevice, L: LogDevice, B: Level> Engine<P, L, B> {
         ensures lists { ListsSay self.old.state event.now result self.new.state }
         ensures changes { ChangesSay self.old event.now result self.new }
         ensures starts { StartSays self.old event.now result self.new }
-        ensures latched { IsSound self.old.state → LatchedSay self.old.state event.now result }
+        ensures latched { (e : List Record) → IsEarlier e self.old.state → IsSound (on e self.old.state)
+            → LatchedSay (on e self.old.state) event.now result }
         // Devices and what a crash at any moment leaves.
         ensures honest { AreHonest P.PageDevice L.LogDevice self.new → AreHonest P.PageDevice L.LogDevice self.old }
         ensures any_moment { L.honest self.new.log → LeavesOnly L.LogDevice self.old.log self.new.log

@@ -1,5 +1,5 @@
 //! Closes.
-ghost use Rattle.std.specs.Prelude.{◌≡◌, ◌≢◌, ◌↔◌, Err, ◌<◌, IfOk, IfErr, IfSome, IfNone, OnOk, OnErr, ℕ, true, false, length};
+ghost use Rattle.std.specs.Prelude.{◌≡◌, ◌≢◌, ◌↔◌, Err, ◌<◌, IfOk, IfErr, IfSome, IfNone, OnOk, OnErr, ℕ, true, false, length, List};
 ghost use Rattle.rq_model.specs.History.Call.{Start_close};
 ghost use Rattle.rq_model.specs.Replay.Reply.{Gave_sub};
 ghost use Rattle.rq_model.specs.Tests.{NoneHolds, Passes, log_full, ready_tests};
@@ -11,8 +11,10 @@ ghost use Rattle.rq_groups.specs.Ends.{is_free_for};
 ghost use Rattle.rq_store.specs.State.{ledger_of, size_of};
 ghost use Rattle.rq_sound.specs.Plans.{AreUnlatched};
 ghost use Rattle.rq_sound.specs.Sound.{IsSound};
+ghost use Rattle.rq_engine.specs.Earlier.{on, IsEarlier};
+ghost use Rattle.rq_model.specs.declared.record.Record.{Record};
 ghost use Rattle.rq_engine.specs.Opened.{LeavesDevices};
-ghost use Rattle.rq_engine.specs.Answers.{AnswersLegally, Refuses};
+ghost use Rattle.rq_engine.specs.Answers.{AnswersLegally, RefusesOver};
 ghost use Rattle.rq_engine.specs.Applied.{OnLatched, StartsUnlatched};
 ghost use Rattle.rq_engine.specs.Lists.{IsCloseStarted};
 ghost use Rattle.rq_engine.specs.Closes.{IsClosePlan, close_latched};
@@ -40,7 +42,8 @@ impl<P: PageDevice, L: LogDevice, B: Level> Engine<P, L, B> {
         ensures sizes { self.new.state.sizes ≡ self.old.state.sizes }
         ensures sub { IfOk result (λ sub. sub.txn ≡ txn) }
         ensures lists { IfOk result (λ sub. IsCloseStarted self.old.state txn sender sub self.new.state) }
-        ensures latched { IsSound self.old.state → StartsUnlatched self.old.state (Start_close txn sender) result }
+        ensures latched { (e : List Record) → IsEarlier e self.old.state → IsSound (on e self.old.state)
+            → StartsUnlatched (on e self.old.state) (Start_close txn sender) result }
         ensures devices { LeavesDevices self.old self.new }
         ensures refused { OnErr result (self.new ≡ self.old) }
         ensures failed { (result ≡ Err Refusal.Failed) ↔ (self.old.state.failed ≡ true) }
@@ -63,17 +66,19 @@ impl<P: PageDevice, L: LogDevice, B: Level> Engine<P, L, B> {
     fn check_close(&self, txn: Txn, sender: u32) -> Result<(), Refusal>
         // Why it is refused, and that the model's tests are passed.
         ensures refused { NoneHolds (ready_tests (ledger_of self.now.state) txn false)
-            → IfErr result (λ r. Refuses self.now.state (Start_close txn sender) r) }
-        ensures passes { IsSound self.now.state → NoneHolds (ready_tests (ledger_of self.now.state) txn false)
-            → OnOk result (Passes (size_of self.now.state.sizes) (ledger_of self.now.state) (Start_close txn sender)) }
+            → IfErr result (λ r. RefusesOver self.now.state (Start_close txn sender) r) }
+        ensures passes { (e : List Record) → IsEarlier e self.now.state → IsSound (on e self.now.state)
+            → NoneHolds (ready_tests (ledger_of self.now.state) txn false)
+            → OnOk result (Passes (size_of self.now.state.sizes) (ledger_of (on e self.now.state)) (Start_close txn sender)) }
         // What was tested.
         ensures plain { IfErr result (λ r. r ≢ Refusal.Failed) }
         ensures unlatched { IfErr result (λ r. OnLatched ⊥ r) }
         ensures sender { OnOk result (sender < sender_count self.now.state.sizes) }
         ensures free { OnOk result (is_free_for txn sender self.now.state.ends.sending ≡ true) }
         ensures log { OnOk result (log_full (ledger_of self.now.state) 2 ≡ false) }
-        ensures unclosed { IsSound self.now.state → NoneHolds (ready_tests (ledger_of self.now.state) txn false)
-            → OnOk result ((view (items self.now.state.sizes self.now.state.records) sender).closed ≡ false) }
+        ensures unclosed { (e : List Record) → IsEarlier e self.now.state → IsSound (on e self.now.state)
+            → NoneHolds (ready_tests (ledger_of self.now.state) txn false)
+            → OnOk result ((view (items self.now.state.sizes (on e self.now.state).records) sender).closed ≡ false) }
     {
         if sender >= self.pages.layout().senders() {
             return Err(Refusal::UnknownSender);
@@ -104,8 +109,8 @@ impl<P: PageDevice, L: LogDevice, B: Level> Engine<P, L, B> {
         ensures unlatched { IfOk result (λ found. IfSome found (λ _. close_latched self.old.state sender ≡ false)) }
         ensures latched { IfOk result (λ found. IfNone found (close_latched self.old.state sender ≡ true)) }
         ensures plain { IfErr result (λ r. r ≢ Refusal.Failed) }
-        ensures refused { IsSound self.old.state
-            → (view (items self.old.state.sizes self.old.state.records) sender).closed ≡ false
+        ensures refused { (e : List Record) → IsEarlier e self.old.state → IsSound (on e self.old.state)
+            → (view (items self.old.state.sizes (on e self.old.state).records) sender).closed ≡ false
             → IfErr result (λ r. r ≡ Refusal.NoMemory) }
     {
         let Ok(op) = Op::close(self.alloc, sender) else {

@@ -12,6 +12,8 @@ ghost use Rattle.rq_page.specs.Sizes.{sender_count};
 ghost use Rattle.rq_groups.specs.Sent.{sent_count};
 ghost use Rattle.rq_groups.specs.Waiting.{waits};
 ghost use Rattle.rq_sound.specs.Sound.{IsSound};
+ghost use Rattle.rq_engine.specs.Earlier.{on, over, IsEarlier, IsSpelledAlike};
+ghost use Rattle.rq_model.specs.declared.record.Record.{Record};
 ghost use Rattle.rq_planner.specs.Answered.{KnowsCells};
 ghost use Rattle.rq_engine.specs.Opened.{LeavesDevices, NotWritten};
 ghost use Rattle.rq_engine.specs.Crash.{AreFit, KeepsFit, LeavesCut};
@@ -203,8 +205,9 @@ impl<P: PageDevice, L: LogDevice, B: Level> Engine<P, L, B> {
         ensures leaves { L.honest self.now.log → (c : List ℕ) → L.may_leave self.now.log c
             → IsBeginning self.now.state.records self.now.state.forced c }
         ensures spelled { AreSpelled self.now.state.records }
-        ensures cut { L.honest self.now.log → IsSound self.now.state → AreFit P.PageDevice self.now
-            → LeavesCut P.PageDevice L.LogDevice self.now }
+        ensures cut { L.honest self.now.log → (e : List Record) → IsEarlier e self.now.state
+            → IsSound (on e self.now.state) → AreFit P.PageDevice (over e self.now) → IsSpelledAlike e self.now.state
+            → LeavesCut P.PageDevice L.LogDevice (over e self.now) }
     {
         self.log.shows_kept();
     }

@@ -1,5 +1,5 @@
 //! Receives.
-ghost use Rattle.std.specs.Prelude.{◌≡◌, ◌≢◌, ◌↔◌, Err, ◌+◌, ◌<◌, ◌≤◌, ◌^◌, IfOk, IfErr, IfSome, IfNone, None, OnErr, ℕ, Some, true, false};
+ghost use Rattle.std.specs.Prelude.{◌≡◌, ◌≢◌, ◌↔◌, Err, ◌+◌, ◌<◌, ◌≤◌, ◌^◌, IfOk, IfErr, IfSome, IfNone, None, OnErr, ℕ, Some, true, false, List};
 ghost use Rattle.rq_model.specs.History.{Call};
 ghost use Rattle.rq_model.specs.History.Call.{Start_receive, Start_receive_from};
 ghost use Rattle.rq_model.specs.Tests.{NoneHolds, log_full, ready_tests};
@@ -10,6 +10,8 @@ ghost use Rattle.rq_groups.specs.Waiting.{waits};
 ghost use Rattle.rq_store.specs.State.{ledger_of};
 ghost use Rattle.rq_sound.specs.Plans.{AreUnlatched};
 ghost use Rattle.rq_sound.specs.Sound.{IsSound};
+ghost use Rattle.rq_engine.specs.Earlier.{on, IsEarlier, IsSoundOver};
+ghost use Rattle.rq_model.specs.declared.record.Record.{Record};
 ghost use Rattle.rq_store.specs.Plans.{IsTakePlan, NoneWaits, WaitsFor};
 ghost use Rattle.rq_engine.specs.Applied.{TakesUnlatched};
 ghost use Rattle.rq_engine.specs.Opened.{LeavesDevices};
@@ -42,7 +44,8 @@ impl<P: PageDevice, L: LogDevice, B: Level> Engine<P, L, B> {
         ensures sub { IfOk result (λ begun. IfSome begun (λ sub. sub.txn ≡ txn)) }
         ensures lists { IfOk result (λ begun. TakeSays self.old.state txn begun self.new.state) }
         ensures none { IfOk result (λ begun. IfNone begun (self.new ≡ self.old)) }
-        ensures latched { IsSound self.old.state → TakesUnlatched self.old.state (Start_receive txn) result }
+        ensures latched { (e : List Record) → IsEarlier e self.old.state → IsSound (on e self.old.state)
+            → TakesUnlatched (on e self.old.state) (Start_receive txn) result }
         ensures devices { LeavesDevices self.old self.new }
         ensures refused { OnErr result (self.new ≡ self.old) }
         ensures failed { (result ≡ Err Refusal.Failed) ↔ (self.old.state.failed ≡ true) }
@@ -79,8 +82,8 @@ impl<P: PageDevice, L: LogDevice, B: Level> Engine<P, L, B> {
         ensures sub { IfOk result (λ begun. IfSome begun (λ sub. sub.txn ≡ txn)) }
         ensures lists { IfOk result (λ begun. TakeFromSays self.old.state txn sender begun self.new.state) }
         ensures none { IfOk result (λ begun. IfNone begun (self.new ≡ self.old)) }
-        ensures latched { IsSound self.old.state
-            → TakesUnlatched self.old.state (Start_receive_from txn sender) result }
+        ensures latched { (e : List Record) → IsEarlier e self.old.state → IsSound (on e self.old.state)
+            → TakesUnlatched (on e self.old.state) (Start_receive_from txn sender) result }
         ensures devices { LeavesDevices self.old self.new }
         ensures refused { OnErr result (self.new ≡ self.old) }
         ensures failed { (result ≡ Err Refusal.Failed) ↔ (self.old.state.failed ≡ true) }
@@ -179,7 +182,7 @@ impl<P: PageDevice, L: LogDevice, B: Level> Engine<P, L, B> {
         ensures latched { IfOk result (λ found. IfNone found ((g : ℕ) → WaitsFor self.old.state txn g
             → take_latched self.old.state g ≡ true)) }
         ensures plain { IfErr result (λ r. r ≢ Refusal.Failed) }
-        ensures refused { IsSound self.old.state → IfErr result (λ r. r ≡ Refusal.NoMemory) }
+        ensures refused { IsSoundOver self.old.state → IfErr result (λ r. r ≡ Refusal.NoMemory) }
     {
         if let Some(plan) = self.plan_take(first)? {
             return Ok(Some((first, plan)));
@@ -206,7 +209,7 @@ impl<P: PageDevice, L: LogDevice, B: Level> Engine<P, L, B> {
             → is_held g self.old.state.ends.receiving ≡ false → WaitsFor self.old.state txn g
             → take_latched self.old.state g ≡ true)) }
         ensures plain { IfErr result (λ r. r ≢ Refusal.Failed) }
-        ensures refused { IsSound self.old.state → IfErr result (λ r. r ≡ Refusal.NoMemory) }
+        ensures refused { IsSoundOver self.old.state → IfErr result (λ r. r ≡ Refusal.NoMemory) }
     {
         let mut from = 0;
         while let Some(sender) = self.next_free(from) {
@@ -234,7 +237,7 @@ impl<P: PageDevice, L: LogDevice, B: Level> Engine<P, L, B> {
             → has_held txn g self.old.state.ends.receiving ≡ true → WaitsFor self.old.state txn g
             → take_latched self.old.state g ≡ true)) }
         ensures plain { IfErr result (λ r. r ≢ Refusal.Failed) }
-        ensures refused { IsSound self.old.state → IfErr result (λ r. r ≡ Refusal.NoMemory) }
+        ensures refused { IsSoundOver self.old.state → IfErr result (λ r. r ≡ Refusal.NoMemory) }
     {
         let mut next = self.ends.newest_received(txn);
         while let Some(sender) = next {
@@ -261,7 +264,7 @@ impl<P: PageDevice, L: LogDevice, B: Level> Engine<P, L, B> {
         ensures latched { IfOk result (λ found. IfNone found (WaitsFor self.old.state txn sender
             → take_latched self.old.state sender ≡ true)) }
         ensures plain { IfErr result (λ r. r ≢ Refusal.Failed) }
-        ensures refused { IsSound self.old.state → IfErr result (λ r. r ≡ Refusal.NoMemory) }
+        ensures refused { IsSoundOver self.old.state → IfErr result (λ r. r ≡ Refusal.NoMemory) }
     {
         if self.waiting.count(sender) == 0 || !self.ends.may_receive(txn, sender) {
             return Ok(None);
@@ -285,7 +288,7 @@ impl<P: PageDevice, L: LogDevice, B: Level> Engine<P, L, B> {
         ensures latched { IfOk result (λ found. IfNone found (take_latched self.old.state sender ≡ true)) }
         // Why there is none otherwise.
         ensures plain { IfErr result (λ r. r ≢ Refusal.Failed) }
-        ensures refused { IsSound self.old.state → 1 ≤ waits self.old.state.waiting sender
+        ensures refused { IsSoundOver self.old.state → 1 ≤ waits self.old.state.waiting sender
             → IfErr result (λ r. r ≡ Refusal.NoMemory) }
     {
         let Ok(op) = Op::receive(self.alloc, sender) else {

@@ -1,5 +1,5 @@
 //! Sends.
-ghost use Rattle.std.specs.Prelude.{◌≡◌, ◌≢◌, ◌↔◌, Err, ◌<◌, ◌≤◌, ◌^◌, IfOk, IfErr, IfSome, IfNone, None, OnOk, OnErr, ℕ, Some, true, false, length};
+ghost use Rattle.std.specs.Prelude.{◌≡◌, ◌≢◌, ◌↔◌, Err, ◌<◌, ◌≤◌, ◌^◌, IfOk, IfErr, IfSome, IfNone, None, OnOk, OnErr, ℕ, List, Some, true, false, length};
 ghost use Rattle.rq_model.specs.History.Call.{Start_send};
 ghost use Rattle.rq_model.specs.Replay.Reply.{Gave_sub};
 ghost use Rattle.rq_model.specs.Tests.{NoneHolds, Passes, log_full, ready_tests};
@@ -10,9 +10,11 @@ ghost use Rattle.rq_groups.specs.Ends.{is_free_for};
 ghost use Rattle.rq_store.specs.State.{ledger_of, size_of};
 ghost use Rattle.rq_sound.specs.Plans.{AreUnlatched};
 ghost use Rattle.rq_sound.specs.Sound.{IsSound};
+ghost use Rattle.rq_engine.specs.Earlier.{on, IsEarlier, IsSoundOver};
+ghost use Rattle.rq_model.specs.declared.record.Record.{Record};
 ghost use Rattle.rq_store.specs.Plans.{IsSendPlan};
 ghost use Rattle.rq_engine.specs.Opened.{LeavesDevices};
-ghost use Rattle.rq_engine.specs.Answers.{AnswersLegally, IsUnderWay, Refuses};
+ghost use Rattle.rq_engine.specs.Answers.{AnswersLegally, IsUnderWay, RefusesOver};
 ghost use Rattle.rq_engine.specs.Applied.{OnLatched, StartsUnlatched};
 ghost use Rattle.rq_engine.specs.Lists.{IsSendStarted};
 ghost use Rattle.rq_engine.specs.Sends.{under_plan, FitsPlan, SendIsLatched, TakesLowest};
@@ -47,8 +49,8 @@ impl<P: PageDevice, L: LogDevice, B: Level> Engine<P, L, B> {
         ensures lists { IfOk result (λ sub. IsSendStarted self.old.state txn sender tag body.now sub self.new.state) }
         ensures lowest { IfOk result (λ sub. IsUnderWay self.new.state sub
             (λ r u. TakesLowest self.old.state u.writes)) }
-        ensures latched { IsSound self.old.state → StartsUnlatched self.old.state
-            (Start_send txn (message_of sender tag body.now)) result }
+        ensures latched { (e : List Record) → IsEarlier e self.old.state → IsSound (on e self.old.state)
+            → StartsUnlatched (on e self.old.state) (Start_send txn (message_of sender tag body.now)) result }
         ensures devices { LeavesDevices self.old self.new }
         ensures refused { OnErr result (self.new ≡ self.old) }
         ensures failed { (result ≡ Err Refusal.Failed) ↔ (self.old.state.failed ≡ true) }
@@ -71,10 +73,11 @@ impl<P: PageDevice, L: LogDevice, B: Level> Engine<P, L, B> {
     fn check_send(&self, txn: Txn, sender: u32, tag: u64, body: &[u8]) -> Result<(), Refusal>
         // Why it is refused, and that the model's tests are passed.
         ensures refused { NoneHolds (ready_tests (ledger_of self.now.state) txn false)
-            → IfErr result (λ r. Refuses self.now.state
+            → IfErr result (λ r. RefusesOver self.now.state
             (Start_send txn (message_of sender tag body.now)) r) }
-        ensures passes { IsSound self.now.state → NoneHolds (ready_tests (ledger_of self.now.state) txn false)
-            → OnOk result (Passes (size_of self.now.state.sizes) (ledger_of self.now.state)
+        ensures passes { (e : List Record) → IsEarlier e self.now.state → IsSound (on e self.now.state)
+            → NoneHolds (ready_tests (ledger_of self.now.state) txn false)
+            → OnOk result (Passes (size_of self.now.state.sizes) (ledger_of (on e self.now.state))
             (Start_send txn (message_of sender tag body.now))) }
         // What was tested.
         ensures plain { IfErr result (λ r. r ≢ Refusal.Failed) }
@@ -126,7 +129,7 @@ impl<P: PageDevice, L: LogDevice, B: Level> Engine<P, L, B> {
         ensures latched { IfOk result (λ found. IfNone found (SendIsLatched self.old.state sender)) }
         // Why there is none otherwise.
         ensures plain { IfErr result (λ r. r ≢ Refusal.Failed) }
-        ensures refused { IsSound self.old.state → self.old.state.cells_in_use < cell_count self.old.state.sizes
+        ensures refused { IsSoundOver self.old.state → self.old.state.cells_in_use < cell_count self.old.state.sizes
             → IfErr result (λ r. r ≡ Refusal.NoMemory) }
     {
         let Ok(op) = Op::send(self.alloc, sender, tag, body) else {

@@ -1,5 +1,5 @@
 //! What an abort undoes: the inverses of finished operations.
-ghost use Rattle.std.specs.Prelude.{◌≡◌, ◌≢◌, ◌↔◌, ◌+◌, ◌≤◌, Err, IfOk, IfErr, IfSome, IfNone, None, OnOk, OnErr, Some, true, length};
+ghost use Rattle.std.specs.Prelude.{◌≡◌, ◌≢◌, ◌↔◌, ◌+◌, ◌≤◌, Err, IfOk, IfErr, IfSome, IfNone, None, OnOk, OnErr, Some, true, length, List};
 ghost use Rattle.rq_model.specs.History.Call.{Undo_next};
 ghost use Rattle.rq_model.specs.Tests.{undo_cost};
 ghost use Rattle.rq_model.specs.Commits.{op_of};
@@ -10,6 +10,8 @@ ghost use Rattle.rq_level.specs.Writes.{AreSlotWrites};
 ghost use Rattle.rq_txn.specs.Rows.{change_row, row_started};
 ghost use Rattle.rq_sound.specs.Plans.{AreUnlatched, IsPlannedFrom};
 ghost use Rattle.rq_sound.specs.Sound.{IsSound};
+ghost use Rattle.rq_engine.specs.Earlier.{on, IsEarlier, IsSoundOver};
+ghost use Rattle.rq_model.specs.declared.record.Record.{Record};
 ghost use Rattle.rq_planner.specs.Answered.{IsNewestDeed};
 ghost use Rattle.rq_engine.specs.Opened.{LeavesDevices};
 ghost use Rattle.rq_engine.specs.Answers.{AnswersLegally};
@@ -51,7 +53,8 @@ impl<P: PageDevice, L: LogDevice, B: Level> Engine<P, L, B> {
         ensures answered { AnswersLegally P.PageDevice L.LogDevice self.old (Undo_next txn) undoing_of result self.new }
         ensures sizes { self.new.state.sizes ≡ self.old.state.sizes }
         ensures lists { IfOk result (λ started. UndoSays self.old.state txn started self.new.state) }
-        ensures latched { IsSound self.old.state → TakesUnlatched self.old.state (Undo_next txn) result }
+        ensures latched { (e : List Record) → IsEarlier e self.old.state → IsSound (on e self.old.state)
+            → TakesUnlatched (on e self.old.state) (Undo_next txn) result }
         ensures devices { LeavesDevices self.old self.new }
         ensures refused { OnErr result (self.new ≡ self.old) }
         ensures failed { (result ≡ Err Refusal.Failed) ↔ (self.old.state.failed ≡ true) }
@@ -133,7 +136,7 @@ impl<P: PageDevice, L: LogDevice, B: Level> Engine<P, L, B> {
         ensures latched { IfOk result (λ found. IfNone found (UndoIsLatched self.old.state done.now.deed)) }
         // Why there is none otherwise.
         ensures plain { IfErr result (λ r. r ≢ Refusal.Failed) }
-        ensures refused { IsSound self.old.state → IsNewestDeed self.old.state done.now.deed
+        ensures refused { IsSoundOver self.old.state → IsNewestDeed self.old.state done.now.deed
             → IfErr result (λ r. r ≡ Refusal.NoMemory) }
     {
         match self.plan_inverse(done.deed.bytes()) {

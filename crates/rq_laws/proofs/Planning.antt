@@ -165,18 +165,16 @@ plans_alike : (zs : Option Sizes) (d : Option Doing) (k : LevelState) (given : L
 plans_alike (Some z) (Some (Send s tag body)) k given latched (Ok a) (Ok b) x y all f h = sent_alike z k given all latched s tag body a b x y f h
 plans_alike (Some z) (Some (Send s tag body)) k given latched (Ok a) (Err r) x y all f h = (taking_wants z k latched s (CanSend z given s) f.new r f.can f.lowest h.0, tt)
 plans_alike (Some z) (Some (Send s tag body)) k given latched (Err r) (Ok b) x y all f h = (taking_wants z k latched s (CanSend z given s) h.new r h.can h.lowest f.0, tt)
-plans_alike (Some z) (Some (Send s tag body)) k given latched (Err r) (Err v) x y all f h = (tt, tt)
 plans_alike (Some z) (Some (Receive s)) k given latched (Ok a) (Ok b) x y all f h = received_alike z k given all s a b x y f h
 plans_alike (Some z) (Some (Receive s)) k given latched (Ok a) (Err r) x y all f h = (other_wants s (CanReceive z given s) r f.can h.0, tt)
 plans_alike (Some z) (Some (Receive s)) k given latched (Err r) (Ok b) x y all f h = (other_wants s (CanReceive z given s) r h.can f.0, tt)
-plans_alike (Some z) (Some (Receive s)) k given latched (Err r) (Err v) x y all f h = (tt, tt)
 plans_alike (Some z) (Some (Close s)) k given latched (Ok a) (Ok b) x y all f h = closed_alike z k given all s a b x y f h
 plans_alike (Some z) (Some (Close s)) k given latched (Ok a) (Err r) x y all f h = (other_wants s (CanMark z given s true) r f.marked.can h.0, tt)
 plans_alike (Some z) (Some (Close s)) k given latched (Err r) (Ok b) x y all f h = (other_wants s (CanMark z given s true) r h.marked.can f.0, tt)
-plans_alike (Some z) (Some (Close s)) k given latched (Err r) (Err v) x y all f h = (tt, tt)
 plans_alike (Some z) None k given latched p q x y all f h = unread_alike (Some z) k p q x y f h
 plans_alike None (Some d) k given latched p q x y all f h = unread_alike None k p q x y f h
 plans_alike None None k given latched p q x y all f h = unread_alike None k p q x y f h
+plans_alike (Some z) _ k given latched (Err r) (Err v) x y all f h = (tt, tt)
 
 for_alike : (undo : Bool) (zs : Option Sizes) (d : Option Doing) (k : LevelState) (given : List Given) (latched : List ℕ) (p q : Result Plan Refusal) (x y : LevelState) → AreOf zs given
     → PlansFor undo zs d k given latched p x → PlansFor undo zs d k given latched q y → Alike zs p q x y
@@ -188,18 +186,16 @@ undoes_alike : (zs : Option Sizes) (d : Option Deed) (k : LevelState) (given : L
 undoes_alike (Some z) (Some (Append s n tag previous body)) k given latched (Ok a) (Ok b) x y all f h = unlinked_alike z k given all s n previous a b x y f h
 undoes_alike (Some z) (Some (Append s n tag previous body)) k given latched (Ok a) (Err r) x y all f h = (other_wants s (CanUnlinkTail z given s n) r f.can h.0, tt)
 undoes_alike (Some z) (Some (Append s n tag previous body)) k given latched (Err r) (Ok b) x y all f h = (other_wants s (CanUnlinkTail z given s n) r h.can f.0, tt)
-undoes_alike (Some z) (Some (Append s n tag previous body)) k given latched (Err r) (Err v) x y all f h = (tt, tt)
 undoes_alike (Some z) (Some (UnlinkHead s n tag body)) k given latched (Ok a) (Ok b) x y all f h = returned_alike z k given all latched s n tag body a b x y f h
 undoes_alike (Some z) (Some (UnlinkHead s n tag body)) k given latched (Ok a) (Err r) x y all f h = (taking_wants z k latched s (CanPutBack z given s n) f.new r f.can f.lowest h.0, tt)
 undoes_alike (Some z) (Some (UnlinkHead s n tag body)) k given latched (Err r) (Ok b) x y all f h = (taking_wants z k latched s (CanPutBack z given s n) h.new r h.can h.lowest f.0, tt)
-undoes_alike (Some z) (Some (UnlinkHead s n tag body)) k given latched (Err r) (Err v) x y all f h = (tt, tt)
 undoes_alike (Some z) (Some (Close_deed s)) k given latched (Ok a) (Ok b) x y all f h = reopened_alike z k given all s a b x y f h
 undoes_alike (Some z) (Some (Close_deed s)) k given latched (Ok a) (Err r) x y all f h = (other_wants s (CanMark z given s false) r f.marked.can h.0, tt)
 undoes_alike (Some z) (Some (Close_deed s)) k given latched (Err r) (Ok b) x y all f h = (other_wants s (CanMark z given s false) r h.marked.can f.0, tt)
-undoes_alike (Some z) (Some (Close_deed s)) k given latched (Err r) (Err v) x y all f h = (tt, tt)
 undoes_alike (Some z) None k given latched p q x y all f h = unread_alike (Some z) k p q x y f h
 undoes_alike None (Some d) k given latched p q x y all f h = unread_alike None k p q x y f h
 undoes_alike None None k given latched p q x y all f h = unread_alike None k p q x y f h
+undoes_alike (Some z) _ k given latched (Err r) (Err v) x y all f h = (tt, tt)
 
 record_alike : (k : LevelState) (told : Record) (given : List Given) (latched : List ℕ) (p q : Result Plan Refusal) (x y : LevelState) → AreOf k.sizes given
     → chain_undoes k told given latched p x → chain_undoes k told given latched q y → Alike k.sizes p q x y

@@ -34,7 +34,10 @@ use Rattle.rq_engine.specs.declared.event.CommitNo.{CommitNo}
 use Rattle.rq_engine.specs.Answers.{AnswersLegally}
 use Rattle.rq_engine.proofs.Causes.{has_cause}
 use Rattle.rq_engine.specs.Applied.{OnLatched, StartsUnlatched, TakesUnlatched}
+use Rattle.rq_model.specs.declared.record.Record.{Record}
+use Rattle.rq_engine.specs.Earlier.{IsEarlier, on}
 use Rattle.rq_engine.specs.Opened.{OpenStore, AreHonest}
+use Rattle.rq_engine.proofs.Owned.{err_own, of_own, ok_own}
 use Rattle.rq_engine.specs.Receives.{started_of, undoing_of}
 use Rattle.rq_engine.specs.Says.{commit_number, outcome_of, progress_of}
 use Rattle.rq_laws.specs.Refusals.{IsWant, LatchedApart, RefuseAlike, TakenApart}
@@ -54,19 +57,7 @@ legal_why busy z l c (why.Damaged d) w g h = absurd h
 legal_why busy z l c why.PoolFull w g h = absurd h
 legal_why busy z l c why.NotForced w g h = absurd (true≢false (sym h ∙ w))
 legal_why busy z l c why.Latched w g h = inr (inl (refl, g.0))
-legal_why busy z l c why.Failed w g h = inl g
-legal_why busy z l c why.UnknownTransaction w g h = inl g
-legal_why busy z l c why.NotOpen w g h = inl g
-legal_why busy z l c why.Unfinished w g h = inl g
-legal_why busy z l c why.UnknownSender w g h = inl g
-legal_why busy z l c why.TooLong w g h = inl g
-legal_why busy z l c why.SenderBusy w g h = inl g
-legal_why busy z l c why.Closed w g h = inl g
-legal_why busy z l c why.ReceiverBusy w g h = inl g
-legal_why busy z l c why.Full w g h = inl g
-legal_why busy z l c why.TooManyTransactions w g h = inl g
-legal_why busy z l c why.LogFull w g h = inl g
-legal_why busy z l c why.UnknownOperation w g h = inl g
+legal_why busy z l c _ w g h = inl g
 
 none_first : (cs : List (Bool × Refusal)) → NoneHolds cs → first_of cs ≡ None
 none_first [] h = refl
@@ -103,17 +94,18 @@ module _ {P L X : Type 0} (p : page_device.Ghosts P) (l : log_device.Ghosts L) (
   SaysPassed = (old new : State) (a : X) → IsModelStep old c (gave a) new → Passes (size_of old.sizes) (ledger_of old) c
 
   why_refused : (old new : OpenStore P L) (r : Refusal) → writes_out c ≡ false → AnswersLegally p l old c gave (Err r) new → AreHonest p l new → IsSound old.state → Why (size_of old.state.sizes) (ledger_of old.state) c r
-  why_refused old new r w a h k = let s = a h k in legal_why (any_under old.state.rows) (size_of old.state.sizes) (ledger_of old.state) c r w (refusal_legal old.state c r new.state s.0) (has_cause old.state c r s.1)
+  why_refused old new r w a h k = let s = err_own p l old new c gave r a h k in legal_why (any_under old.state.rows) (size_of old.state.sizes) (ledger_of old.state) c r w (refusal_legal old.state c r s.0 s.1.0) (has_cause old.state c r s.1.1)
 
   refuse_one : (old x y : OpenStore P L) (r s : Result X Refusal) → SaysPassed → writes_out c ≡ false → LatchedApart r s → AnswersLegally p l old c gave r x → AnswersLegally p l old c gave s y → AreHonest p l x → AreHonest p l y → IsSound old.state → RefuseAlike r s
   refuse_one old x y (Ok a) (Ok b) says w apart f g hx hy k = tt
-  refuse_one old x y (Ok a) (Err s) says w apart f g hx hy k = passed (size_of old.state.sizes) (ledger_of old.state) c s (says old.state x.state a (f hx k)) apart (why_refused old y s w g hy k)
-  refuse_one old x y (Err r) (Ok b) says w apart f g hx hy k = passed (size_of old.state.sizes) (ledger_of old.state) c r (says old.state y.state b (g hy k)) apart (why_refused old x r w f hx k)
+  refuse_one old x y (Ok a) (Err s) says w apart f g hx hy k = passed (size_of old.state.sizes) (ledger_of old.state) c s (let o = ok_own p l old x c gave a f hx k in says old.state o.0 a o.1) apart (why_refused old y s w g hy k)
+  refuse_one old x y (Err r) (Ok b) says w apart f g hx hy k = passed (size_of old.state.sizes) (ledger_of old.state) c r (let o = ok_own p l old y c gave b g hy k in says old.state o.0 b o.1) apart (why_refused old x r w f hx k)
   refuse_one old x y (Err r) (Err s) says w apart f g hx hy k = both_refused (size_of old.state.sizes) (ledger_of old.state) c r s (why_refused old x r w f hx k) (why_refused old y s w g hy k)
 
   not_latched : (old new : OpenStore P L) (r : Refusal) → ((z : Size) (g : Ledger) → starts z g c ≡ false) → AnswersLegally p l old c gave (Err r) new → AreHonest p l new → IsSound old.state → r ≡ why.Latched → ⊥
   not_latched old new r st a h k e =
-      let g : LegalRefusal (size_of old.state.sizes) (ledger_of old.state) c why.Latched = subst (LegalRefusal (size_of old.state.sizes) (ledger_of old.state) c) e (refusal_legal old.state c r new.state (a h k).0) in
+      let s = err_own p l old new c gave r a h k in
+      let g : LegalRefusal (size_of old.state.sizes) (ledger_of old.state) c why.Latched = subst (LegalRefusal (size_of old.state.sizes) (ledger_of old.state) c) e (refusal_legal old.state c r s.0 s.1.0) in
       true≢false (sym g.1 ∙ st (size_of old.state.sizes) (ledger_of old.state))
 
   plain_apart : (old x y : OpenStore P L) (r s : Result X Refusal) → ((z : Size) (g : Ledger) → starts z g c ≡ false) → AnswersLegally p l old c gave r x → AnswersLegally p l old c gave s y → AreHonest p l x → AreHonest p l y → IsSound old.state → LatchedApart r s
@@ -140,8 +132,10 @@ module _ {P L : Type 0} (p : page_device.Ghosts P) (l : log_device.Ghosts L) (c 
 
   none_latched : (old x y : OpenStore P L) (r : Refusal) → SaysNothing → AnswersLegally p l old c gave (Ok None) x → AnswersLegally p l old c gave (Err r) y → AreHonest p l x → AreHonest p l y → IsSound old.state → r ≡ why.Latched → ⊥
   none_latched old x y r none f g hx hy k e =
-      let s : LegalRefusal (size_of old.state.sizes) (ledger_of old.state) c why.Latched = subst (LegalRefusal (size_of old.state.sizes) (ledger_of old.state) c) e (refusal_legal old.state c r y.state (g hy k).0) in
-      true≢false (sym s.1 ∙ none old.state x.state (f hx k))
+      let refusal = err_own p l old y c gave r g hy k in
+      let nothing = ok_own p l old x c gave None f hx k in
+      let s : LegalRefusal (size_of old.state.sizes) (ledger_of old.state) c why.Latched = subst (LegalRefusal (size_of old.state.sizes) (ledger_of old.state) c) e (refusal_legal old.state c r refusal.0 refusal.1.0) in
+      true≢false (sym s.1 ∙ none old.state nothing.0 nothing.1)
 
   taken_latched : (old x y : OpenStore P L) (r s : Result (Option Sub) Refusal) → SaysNothing → TakenApart r s → AnswersLegally p l old c gave r x → AnswersLegally p l old c gave s y → AreHonest p l x → AreHonest p l y → IsSound old.state → LatchedApart r s
   taken_latched old x y (Ok a) (Ok b) none apart f g hx hy k = tt
@@ -165,8 +159,8 @@ latched_apart s c (Err r) (Ok b) f g = λ e. g (subst (OnLatched (IsLatched s c)
 latched_apart s c (Err r) (Err q) f g = tt
 
 pub starts_apart : {P L X Y : Type 0} (old old2 : OpenStore P L) (c : Call) (r : Result X Refusal) (q : Result Y Refusal) → old ≡ old2
-    → (IsSound old.state → StartsUnlatched old.state c r) → (IsSound old2.state → StartsUnlatched old2.state c q) → IsSound old.state → LatchedApart r q
-starts_apart {P} {L} old old2 c r q e f g k = latched_apart old.state c r q (f k) (subst (λ (o : OpenStore P L). IsSound o.state → StartsUnlatched o.state c q) (sym e) g k)
+    → ((x : List Record) → IsEarlier x old.state → IsSound (on x old.state) → StartsUnlatched (on x old.state) c r) → ((x : List Record) → IsEarlier x old2.state → IsSound (on x old2.state) → StartsUnlatched (on x old2.state) c q) → IsSound old.state → LatchedApart r q
+starts_apart {P} {L} old old2 c r q e f g k = latched_apart old.state c r q (of_own (λ s. StartsUnlatched s c r) old.state f k) (subst (λ (o : OpenStore P L). IsSound o.state → StartsUnlatched o.state c q) (sym e) (of_own (λ s. StartsUnlatched s c q) old2.state g) k)
 
 taken_one : (s : State) (c : Call) (r q : Result (Option Sub) Refusal) → TakesUnlatched s c r → TakesUnlatched s c q → TakenApart r q
 taken_one s c (Ok a) (Ok b) f g = tt
@@ -177,8 +171,8 @@ taken_one s c (Err r) (Ok (Some b)) f g = λ e. g (subst (OnLatched (IsLatched s
 taken_one s c (Err r) (Err q) f g = tt
 
 pub takes_apart : {P L : Type 0} (old old2 : OpenStore P L) (c : Call) (r q : Result (Option Sub) Refusal) → old ≡ old2
-    → (IsSound old.state → TakesUnlatched old.state c r) → (IsSound old2.state → TakesUnlatched old2.state c q) → IsSound old.state → TakenApart r q
-takes_apart {P} {L} old old2 c r q e f g k = taken_one old.state c r q (f k) (subst (λ (o : OpenStore P L). IsSound o.state → TakesUnlatched o.state c q) (sym e) g k)
+    → ((x : List Record) → IsEarlier x old.state → IsSound (on x old.state) → TakesUnlatched (on x old.state) c r) → ((x : List Record) → IsEarlier x old2.state → IsSound (on x old2.state) → TakesUnlatched (on x old2.state) c q) → IsSound old.state → TakenApart r q
+takes_apart {P} {L} old old2 c r q e f g k = taken_one old.state c r q (of_own (λ s. TakesUnlatched s c r) old.state f k) (subst (λ (o : OpenStore P L). IsSound o.state → TakesUnlatched o.state c q) (sym e) (of_own (λ s. TakesUnlatched s c q) old2.state g) k)
 
 -- ---- calls whose answers say that their tests are passed
 

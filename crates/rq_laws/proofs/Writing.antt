@@ -26,6 +26,7 @@ use Rattle.rq_sound.specs.Sound.{IsSound}
 use Rattle.rq_sound.specs.ModelSteps.{IsModelStep}
 use Rattle.rq_engine.specs.Answers.{AnswersLegally}
 use Rattle.rq_engine.specs.Lists.{IsCommitted}
+use Rattle.rq_engine.proofs.Owned.{ok_own}
 use Rattle.rq_engine.specs.Opened.{AreHonest, NotWritten, OpenStore, WritesWhen, pooled, state_after}
 use Rattle.rq_engine.specs.declared.event.CommitNo.{CommitNo}
 use Rattle.rq_groups.specs.declared.sent.LastTag.{LastTag}
@@ -52,26 +53,9 @@ failed_alike {P} {L} old old2 p q is f r g s = failed_one old.state.failed p q f
 -- ---- records that are handed over, or forced
 
 not_written : {P L : Type 0} (g : log_device.Ghosts L) (old x : OpenStore P L) (r : Refusal) → NotWritten g old x r → ((r ≡ why.Failed) × (old.state.failed ≡ true)) ⊎ IsWant r
-not_written g old x why.NoMemory h = absurd h
 not_written g old x why.DiskWrite h = inr tt
-not_written g old x why.DiskRead h = absurd h
-not_written g old x (why.Damaged d) h = absurd h
-not_written g old x why.PoolFull h = absurd h
-not_written g old x why.NotForced h = absurd h
-not_written g old x why.Latched h = absurd h
 not_written g old x why.Failed h = inl (refl, h.0)
-not_written g old x why.UnknownTransaction h = absurd h
-not_written g old x why.NotOpen h = absurd h
-not_written g old x why.Unfinished h = absurd h
-not_written g old x why.UnknownSender h = absurd h
-not_written g old x why.TooLong h = absurd h
-not_written g old x why.SenderBusy h = absurd h
-not_written g old x why.Closed h = absurd h
-not_written g old x why.ReceiverBusy h = absurd h
-not_written g old x why.Full h = absurd h
-not_written g old x why.TooManyTransactions h = absurd h
-not_written g old x why.LogFull h = absurd h
-not_written g old x why.UnknownOperation h = absurd h
+not_written g old x _ h = absurd h
 
 module _ {P L X Y : Type 0} (g : log_device.Ghosts L) where
   handed_one : (old x y : OpenStore P L) (p : Result X Refusal) (q : Result Y Refusal) → FailsWhen old.state.failed p → IfErr p (λ r. NotWritten g old x r) → FailsWhen old.state.failed q → IfErr q (λ r. NotWritten g old y r) → RefuseAlike p q
@@ -100,26 +84,10 @@ left_one g bytes others x y (Err d) q is f h = tt
 
 unwritten : {P L : Type 0} (s : OpenStore P L) (page : ℕ) (r : Refusal) → WritesWhen s page (Err r)
     → ((r ≡ why.Failed) × (s.state.failed ≡ true)) ⊎ ((r ≡ why.NotForced) × (s.state.failed ≡ false) × IsUnwritten (pooled s) page × (s.state.forced < lsn_of (image_at s.state.images page))) ⊎ IsWant r
-unwritten s page why.NoMemory h = absurd h.1
 unwritten s page why.DiskWrite h = inr (inr tt)
-unwritten s page why.DiskRead h = absurd h.1
-unwritten s page (why.Damaged d) h = absurd h.1
-unwritten s page why.PoolFull h = absurd h.1
 unwritten s page why.NotForced h = inr (inl (refl, h.0, h.1.0, h.1.1))
-unwritten s page why.Latched h = absurd h.1
 unwritten s page why.Failed h = inl (refl, h)
-unwritten s page why.UnknownTransaction h = absurd h.1
-unwritten s page why.NotOpen h = absurd h.1
-unwritten s page why.Unfinished h = absurd h.1
-unwritten s page why.UnknownSender h = absurd h.1
-unwritten s page why.TooLong h = absurd h.1
-unwritten s page why.SenderBusy h = absurd h.1
-unwritten s page why.Closed h = absurd h.1
-unwritten s page why.ReceiverBusy h = absurd h.1
-unwritten s page why.Full h = absurd h.1
-unwritten s page why.TooManyTransactions h = absurd h.1
-unwritten s page why.LogFull h = absurd h.1
-unwritten s page why.UnknownOperation h = absurd h.1
+unwritten s page _ h = absurd h.1
 
 module _ {P L : Type 0} (g : page_device.Ghosts P) where
   -- what a page that was to go out says
@@ -210,24 +178,7 @@ number_alike old old2 x y t (Err d) q is f h = tt
 want_none : (r : Refusal) → IsWant r → (r ≡ why.NoMemory → ⊥) → (r ≡ why.DiskWrite → ⊥) → ⊥
 want_none why.NoMemory w m n = m refl
 want_none why.DiskWrite w m n = n refl
-want_none why.DiskRead w m n = w
-want_none (why.Damaged d) w m n = w
-want_none why.PoolFull w m n = w
-want_none why.NotForced w m n = w
-want_none why.Latched w m n = w
-want_none why.Failed w m n = w
-want_none why.UnknownTransaction w m n = w
-want_none why.NotOpen w m n = w
-want_none why.Unfinished w m n = w
-want_none why.UnknownSender w m n = w
-want_none why.TooLong w m n = w
-want_none why.SenderBusy w m n = w
-want_none why.Closed w m n = w
-want_none why.ReceiverBusy w m n = w
-want_none why.Full w m n = w
-want_none why.TooManyTransactions w m n = w
-want_none why.LogFull w m n = w
-want_none why.UnknownOperation w m n = w
+want_none _ w m n = w
 
 abbrev pub IsOfSender : Refusal → Type 0
 IsOfSender r = (r ≡ why.Failed) ⊎ (r ≡ why.UnknownSender)
@@ -278,6 +229,8 @@ module _ {P L : Type 0} (p : page_device.Ghosts P) (l : log_device.Ghosts L) whe
   pub shown_alike : (s t : OpenStore P L) (a b : Result (Vec GroupContent Global) Refusal) → s ≡ t → Shows s a → Shows t b → AreHonest p l s → AreHonest p l t → IsSound s.state → IfOk a (λ x. IfOk b (λ y. map group_of x.items ≡ map group_of y.items))
   shown_alike s t (Ok x) (Ok y) is f g h k sound =
       let there : Shows s (Ok y) = subst (λ o. Shows o (Ok y)) (sym is) g in
-      shown s.state s.state (map group_of x.items) (f h sound) ∙ sym (shown s.state s.state (map group_of y.items) (there h sound))
+      let a = ok_own p l s s Show (λ groups. Gave_content (map group_of groups.items)) x f h sound in
+      let b = ok_own p l s s Show (λ groups. Gave_content (map group_of groups.items)) y there h sound in
+      shown s.state a.0 (map group_of x.items) a.1 ∙ sym (shown s.state b.0 (map group_of y.items) b.1)
   shown_alike s t (Ok x) (Err e) is f g h k sound = tt
   shown_alike s t (Err d) b is f g h k sound = tt

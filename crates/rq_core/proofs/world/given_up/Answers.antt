@@ -1,6 +1,8 @@
 use Rattle.std.proofs.Common.{refl, subst, sym}
 use Rattle.rq_core.specs.Runs.{GivesUp}
 use Rattle.rq_core.specs.Views.{world_of}
+use Rattle.rq_core.specs.Devices.{mem_pages, mem_log}
+use Rattle.rq_engine.proofs.Owned.{cut_own}
 use Rattle.rq_core.proofs.world.given_up.Goals as goal
 
 pub returns-in-Shut : goal.returns-in-Shut
@@ -8,4 +10,4 @@ returns-in-Shut g c = subst (λ s. GivesUp (world_of s) c.in-Shut.pages c.in-Shu
 
 pub returns-in-Open : goal.returns-in-Open
 returns-in-Open g c =
-    subst (λ s. GivesUp (world_of s) c.give_back.result.0 c.give_back.result.1) (sym c.in-Open.is) (c.give_back.ensures.pages, c.give_back.ensures.log, λ honest. c.shows_kept.ensures.cut honest.1)
+    subst (λ s. GivesUp (world_of s) c.give_back.result.0 c.give_back.result.1) (sym c.in-Open.is) (c.give_back.ensures.pages, c.give_back.ensures.log, λ honest. cut_own mem_pages mem_log c.in-Open.engine (c.shows_kept.ensures.cut honest.1) c.shows_kept.ensures.spelled)

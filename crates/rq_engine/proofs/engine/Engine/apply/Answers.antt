@@ -1,4 +1,6 @@
-use Rattle.rq_engine.proofs.Crashing.{fit_kept, runs_through_cuts}
+use Rattle.rq_engine.proofs.Crashing.{cuts_over, fit_kept, pages_over, writes_over}
+use Rattle.rq_engine.specs.Earlier.{over}
+use Rattle.rq_engine.proofs.UnknownStay.{unknown_stay}
 use Rattle.rq_engine.proofs.engine.Engine.apply.Goals as goal
 
 pub returns-clause-applied : goal.returns-clause-applied
@@ -9,6 +11,7 @@ returns-clause-applied g c =
       cause = told.cause;
       latched = told.latched;
       sizes = told.sizes;
+      unknown = unknown_stay c.args.self.now c.call.new.self c.args.event.now c.call.result told.lists told.refused;
       failed = told.failed;
       refused = told.refused;
       lists = told.lists;
@@ -19,10 +22,10 @@ returns-clause-applied g c =
       log = told.log;
       honest = told.honest;
       any_moment = told.any_moment;
-      fit = λ h k fit.
-          fit_kept g.P.PageDevice g.L.LogDevice g.met.P.PageDevice.only_now c.args.self.now c.call.new.self k fit
-          c.args.event.now c.call.result _ _ told.sizes (told.answered h k) told.writes told.pages;
-      crash = λ h k fit.
-          runs_through_cuts g.P.PageDevice g.L.LogDevice g.met.P.PageDevice.only_now c.args.self.now c.call.new.self k fit
-          c.args.event.now c.call.result c.shows_kept.ensures.spelled told.writes told.pages (c.shows_kept.ensures.leaves (told.honest h).1) (told.any_moment h.1);
+      fit = λ h earlier long k fit.
+          fit_kept g.P.PageDevice g.L.LogDevice g.met.P.PageDevice.only_now (over earlier c.args.self.now) (over earlier c.call.new.self) k fit
+          c.args.event.now c.call.result _ _ told.sizes (told.answered h earlier long k) (writes_over earlier c.args.self.now c.args.event.now c.call.result told.writes) (pages_over g.P.PageDevice earlier c.args.self.now c.call.new.self c.args.event.now c.call.result told.pages);
+      crash = λ h earlier long k fit alike.
+          cuts_over g.P.PageDevice g.L.LogDevice g.met.P.PageDevice.only_now c.args.self.now c.call.new.self earlier k fit alike
+          c.args.event.now c.call.result told.writes told.pages (c.shows_kept.ensures.leaves (told.honest h).1) (told.any_moment h.1);
     }

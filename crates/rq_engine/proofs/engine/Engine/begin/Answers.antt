@@ -12,6 +12,7 @@ use Rattle.rq_engine.proofs.Refusals.{few}
 use Rattle.rq_engine.proofs.Opened.{state_is}
 use Rattle.rq_engine.proofs.Listing.{begun_lists}
 use Rattle.rq_engine.specs.Lists.{IsBegun}
+use Rattle.rq_engine.specs.Earlier.{on}
 use Rattle.rq_engine.proofs.engine.Engine.begin.Goals as goal
 
 pub begin-requires-clause-rising : goal.begin-requires-clause-rising
@@ -21,12 +22,12 @@ abbrev next : State → Txn
 next s = record { incarnation = s.incarnation; count = s.begins + 1 }
 
 pub returns-clause-answered : goal.returns-clause-answered
-returns-clause-answered g c h k =
+returns-clause-answered g c h earlier long k =
     let full : not (nat_lt (length c.args.self.now.state.rows) 4096) ≡ false = ap (λ (s : State). not (nat_lt (length s.rows) 4096)) (sym (state_is c.self.view_is)) ∙ sym c.if-is_full.ensures in
     let max : c.args.self.now.state.begins ≢ 18446744073709551615 = λ e. c.if-self.false (ap (λ (s : State). s.begins) (state_is c.self.view_is) ∙ e) in
     rw (c.in_ok-begin.ensures.ok)
-    (subst (λ (s : State). IsModelStep c.args.self.now.state Begin (Gave_txn (next s)) (record s { rows = fresh_row (next s) ∷ s.rows; begins = s.begins + 1 })) (sym (state_is c.self.view_is))
-    (abort_steps.begins c.args.self.now.state k c.in_ok-check_running.ensures.running (few c.args.self.now.state 18446744073709551615 full max)))
+    (subst (λ (s : State). IsModelStep (on earlier c.args.self.now.state) Begin (Gave_txn (next s)) (on earlier (record s { rows = fresh_row (next s) ∷ s.rows; begins = s.begins + 1 }))) (sym (state_is c.self.view_is))
+    (abort_steps.begins (on earlier c.args.self.now.state) k c.in_ok-check_running.ensures.running (few (on earlier c.args.self.now.state) 18446744073709551615 full max)))
 
 pub invariant_of-self-2 : goal.invariant_of-self-2
 invariant_of-self-2 g c = record { kept = rw (c.in_ok-begin.ensures.ok) (kept_begun _ _ _ _ c.self.invariant.kept); durable = c.self.invariant.durable; cells = c.self.invariant.cells }

@@ -57,3 +57,6 @@ returns-in-UndoNext-clause-lists g c = undo_lists c.args.self.now.state _ c.undo
 
 pub returns-in-UndoNext-clause-answered : goal.returns-in-UndoNext-clause-answered
 returns-in-UndoNext-clause-answered g c = undo_answered g.P.PageDevice g.L.LogDevice c.args.self.now _ c.undo_next.result _ c.args.event.now c.undo_next.new.self (ap call_of c.in-UndoNext.is) c.undo_next.ensures.answered c.undoing.ensures
+
+pub returns-in-Err-write_page-clause-answered : goal.returns-in-Err-write_page-clause-answered
+returns-in-Err-write_page-clause-answered g c h earlier long k = rw (c.in-WritePage.is) (c.in-Err-write_page.ensures.answered h earlier long k).0

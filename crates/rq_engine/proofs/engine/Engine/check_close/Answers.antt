@@ -6,25 +6,27 @@ use Rattle.rq_groups.specs.Ends.{is_free_for}
 use Rattle.rq_store.specs.State.{State}
 use Rattle.rq_engine.proofs.CloseCalls.{busy, closed, is_open, log_is_full, passes, unknown}
 use Rattle.rq_engine.proofs.Opened.{state_is}
+use Rattle.rq_engine.specs.Earlier.{on}
+use Rattle.rq_engine.proofs.Earlier.{full_on}
 use Rattle.rq_engine.proofs.engine.Engine.check_close.Goals as goal
 
 pub returns-then-sender-senders-clause-refused : goal.returns-then-sender-senders-clause-refused
-returns-then-sender-senders-clause-refused g c h =
-    let s = c.args.self.now.state in
+returns-then-sender-senders-clause-refused g c h earlier long =
+    let s = on earlier c.args.self.now.state in
     let n : c.senders.result ≡ sender_count s.sizes = c.senders.ensures.number ∙ ap sender_count (c.layout.ensures.sizes ∙ ap (λ (x : State). x.sizes) (state_is c.self.view_is)) in
     unknown s c.args.txn c.args.sender h (let ge = c.if-sender-senders.true in omega (arith, n, ge))
 
 pub returns-then-not-may_send-clause-refused : goal.returns-then-not-may_send-clause-refused
-returns-then-not-may_send-clause-refused g c h =
-    let s = c.args.self.now.state in
+returns-then-not-may_send-clause-refused g c h earlier long =
+    let s = on earlier c.args.self.now.state in
     let n : c.senders.result ≡ sender_count s.sizes = c.senders.ensures.number ∙ ap sender_count (c.layout.ensures.sizes ∙ ap (λ (x : State). x.sizes) (state_is c.self.view_is)) in
     let lt = c.if-sender-senders.false in
     let below : c.args.sender < sender_count s.sizes = omega (arith, n, lt) in
     busy s c.args.txn c.args.sender h below (ap (λ (x : State). is_free_for c.args.txn c.args.sender x.ends.sending) (sym (state_is c.self.view_is)) ∙ sym c.if-not-may_send.ensures)
 
 pub returns-then-group-clause-refused : goal.returns-then-group-clause-refused
-returns-then-group-clause-refused g c h =
-    let s = c.args.self.now.state in
+returns-then-group-clause-refused g c h earlier long =
+    let s = on earlier c.args.self.now.state in
     let n : c.senders.result ≡ sender_count s.sizes = c.senders.ensures.number ∙ ap sender_count (c.layout.ensures.sizes ∙ ap (λ (x : State). x.sizes) (state_is c.self.view_is)) in
     let lt = c.if-sender-senders.false in
     let below : c.args.sender < sender_count s.sizes = omega (arith, n, lt) in
@@ -33,28 +35,28 @@ returns-then-group-clause-refused g c h =
     closed s c.args.txn c.args.sender h below free c.group.result at c.if-group.true
 
 pub returns-then-is_log_full-clause-refused : goal.returns-then-is_log_full-clause-refused
-returns-then-is_log_full-clause-refused g c h =
-    let s = c.args.self.now.state in
+returns-then-is_log_full-clause-refused g c h earlier long =
+    let s = on earlier c.args.self.now.state in
     let n : c.senders.result ≡ sender_count s.sizes = c.senders.ensures.number ∙ ap sender_count (c.layout.ensures.sizes ∙ ap (λ (x : State). x.sizes) (state_is c.self.view_is)) in
     let lt = c.if-sender-senders.false in
     let below : c.args.sender < sender_count s.sizes = omega (arith, n, lt) in
     let free : is_free_for c.args.txn c.args.sender s.ends.sending ≡ true = ap (λ (x : State). is_free_for c.args.txn c.args.sender x.ends.sending) (sym (state_is c.self.view_is)) ∙ sym c.if-not-may_send.ensures in
     let at : slots_in s.sizes s.images (directory_at c.args.sender) ≡ Sender c.args.sender c.group.result = ap (λ (x : State). slots_in x.sizes x.images (directory_at c.args.sender)) (sym (state_is c.self.view_is)) ∙ c.group.ensures.held in
-    log_is_full s c.args.txn c.args.sender h below free c.group.result at c.if-group.false (sym c.if-is_log_full.ensures)
+    log_is_full s c.args.txn c.args.sender h below free c.group.result at c.if-group.false (full_on earlier c.args.self.now.state long _ ∙ sym c.if-is_log_full.ensures)
 
 pub returns-clause-passes : goal.returns-clause-passes
-returns-clause-passes g c k h =
-    let s = c.args.self.now.state in
+returns-clause-passes g c earlier long k h =
+    let s = on earlier c.args.self.now.state in
     let n : c.senders.result ≡ sender_count s.sizes = c.senders.ensures.number ∙ ap sender_count (c.layout.ensures.sizes ∙ ap (λ (x : State). x.sizes) (state_is c.self.view_is)) in
     let lt = c.if-sender-senders.false in
     let below : c.args.sender < sender_count s.sizes = omega (arith, n, lt) in
     let free : is_free_for c.args.txn c.args.sender s.ends.sending ≡ true = ap (λ (x : State). is_free_for c.args.txn c.args.sender x.ends.sending) (sym (state_is c.self.view_is)) ∙ sym c.if-not-may_send.ensures in
     let at : slots_in s.sizes s.images (directory_at c.args.sender) ≡ Sender c.args.sender c.group.result = ap (λ (x : State). slots_in x.sizes x.images (directory_at c.args.sender)) (sym (state_is c.self.view_is)) ∙ c.group.ensures.held in
-    passes s c.args.txn c.args.sender h below free c.group.result at c.if-group.false (sym c.if-is_log_full.ensures) k
+    passes s c.args.txn c.args.sender h below free c.group.result at c.if-group.false (full_on earlier c.args.self.now.state long _ ∙ sym c.if-is_log_full.ensures) k
 
 pub returns-clause-unclosed : goal.returns-clause-unclosed
-returns-clause-unclosed g c k h =
-    let s = c.args.self.now.state in
+returns-clause-unclosed g c earlier long k h =
+    let s = on earlier c.args.self.now.state in
     let n : c.senders.result ≡ sender_count s.sizes = c.senders.ensures.number ∙ ap sender_count (c.layout.ensures.sizes ∙ ap (λ (x : State). x.sizes) (state_is c.self.view_is)) in
     let lt = c.if-sender-senders.false in
     let below : c.args.sender < sender_count s.sizes = omega (arith, n, lt) in

@@ -1,12 +1,17 @@
-use Rattle.std.proofs.Common.{◌≡◌, ℕ, ◌-◌, sym, ap, ◌∙◌, subst, arith, length, false}
+use Rattle.std.proofs.Common.{rules, ◌≡◌, ℕ, ◌-◌, sym, ap, ◌∙◌, subst, arith, length, false}
 use Rattle.std.specs.List.{sum_by}
 use Rattle.rq_store.specs.Settled.{takes_one}
 use Rattle.rq_store.specs.State.{State, ledger_of}
-use Rattle.rq_engine.specs.Answers.{HasNothingUnderWay}
+use Rattle.rq_engine.specs.Answers.{HasNothingUnderWay, RefusesOver}
 use Rattle.rq_model.specs.Tests.{NoneHolds, ready_tests, log_full}
-use Rattle.rq_engine.proofs.Calls.{commit_range, commit_kept, commit_done, from_inside}
+use Rattle.rq_engine.proofs.Calls.{commit_range, commit_kept, commit_done}
 use Rattle.rq_engine.proofs.Opened.{state_is}
 use Rattle.rq_engine.proofs.Listing.{committed_lists, committed_from}
+use Rattle.rq_engine.specs.Earlier.{on}
+use Rattle.rq_engine.proofs.Earlier.{from_inside_on, full_on, kept_on, long as records_long}
+use Rattle.rq_engine.proofs.Refusals.{commit_memory, refuse_full}
+use Rattle.rq_model.specs.History.Call.{Commit}
+use Rattle.rq_model.specs.declared.refusal.Refusal.TheVariants as why
 use Rattle.rq_engine.proofs.engine.Engine.commit.Goals as goal
 
 pub append-lsn-requires-clause-record : goal.append-lsn-requires-clause-record
@@ -27,12 +32,15 @@ invariant_of-self-2 g c =
     }
 
 pub returns-clause-answered : goal.returns-clause-answered
-returns-clause-answered g c h =
+returns-clause-answered g c h earlier long =
     let ready = subst (λ (s : State). HasNothingUnderWay s c.args.txn c.in_ok-check_open.field-0) (sym (state_is c.self.view_is)) c.in_ok-check_open.ensures.ready in
-    let full = ap (λ (s : State). log_full (ledger_of s) 1) (state_is c.self.view_is) ∙ sym c.if-is_log_full.ensures in
+    let full = ap (λ (s : State). log_full (ledger_of (on earlier s)) 1) (state_is c.self.view_is) ∙ full_on earlier c.args.self.now.state long 1 ∙ sym c.if-is_log_full.ensures in
     let running = ap (λ (s : State). s.failed) (state_is c.self.view_is) ∙ c.in_ok-check_open.ensures.running in
     let tested = subst (λ (s : State). NoneHolds (ready_tests (ledger_of s) c.args.txn false)) (sym (state_is c.self.view_is)) c.in_ok-check_open.ensures.passes in
-    from_inside (state_is c.self.view_is) (λ k. rw (c.new.ensures.txn, c.new.ensures.lsn, c.append-lsn.ensures.lsn, c.end.ensures, c.release.ensures, c.add_sends.ensures, c.count_sends.ensures, c.finished-finished.ensures, c.append-lsn.ensures.records, c.append-lsn.ensures.forced, c.in_ok-reserve.ensures.ok) (commit_done _ _ _ _ c.in_ok-check_open.field-0 _ _ c.args.txn c.self.invariant.kept running tested ready full (omega arith) (c.saturating_sub-self-inside.ensures ∙ ap (λ (n : ℕ). c.self.inside.cells_in_use - n) (c.count_takes.ensures ∙ ap (sum_by takes_one) c.finished-finished.ensures)) k))
+    from_inside_on earlier (state_is c.self.view_is) long (λ as_many k. rw (c.new.ensures.txn, c.new.ensures.lsn, c.append-lsn.ensures.lsn, c.end.ensures, c.release.ensures, c.add_sends.ensures, c.count_sends.ensures, c.finished-finished.ensures, c.append-lsn.ensures.records, c.append-lsn.ensures.forced, c.in_ok-reserve.ensures.ok) (commit_done _ _ _ _ c.in_ok-check_open.field-0 _ _ c.args.txn (kept_on earlier _ c.self.invariant.kept as_many) running tested ready full (let n = records_long earlier c.self.inside.log.records as_many in omega (arith, n)) (c.saturating_sub-self-inside.ensures ∙ ap (λ (n : ℕ). c.self.inside.cells_in_use - n) (c.count_takes.ensures ∙ ap (sum_by takes_one) c.finished-finished.ensures)) k))
+
+pub returns-then-is_log_full-clause-answered : goal.returns-then-is_log_full-clause-answered
+returns-then-is_log_full-clause-answered g c h earlier long = refuse_full (on earlier c.args.self.now.state) c.args.txn c.in_ok-check_open.ensures.passes (full_on earlier c.args.self.now.state long _ ∙ sym c.if-is_log_full.ensures)
 
 pub returns-clause-lists : goal.returns-clause-lists
 returns-clause-lists g c =
@@ -41,3 +49,10 @@ returns-clause-lists g c =
     (rw (c.end.ensures, c.release.ensures, c.add_sends.ensures, c.count_sends.ensures, c.finished-finished.ensures, c.append-lsn.ensures.records, c.append-lsn.ensures.forced, c.in_ok-reserve.ensures.ok)
     (committed_lists _ c.args.txn c.in_ok-check_open.field-0 _ _ c.new.ensures.txn (let a = c.new.ensures.lsn in let b = c.append-lsn.ensures.lsn in let d = ap length c.append-lsn.ensures.records in let e = ap (λ l. length l.records) c.in_ok-reserve.ensures.ok in omega (arith, a, b, d, e)) ready
     (c.saturating_sub-self-inside.ensures ∙ ap (λ (n : ℕ). c.self.inside.cells_in_use - n) (c.count_takes.ensures ∙ ap (sum_by takes_one) c.finished-finished.ensures))))
+
+pub returns-in_err-reserve-clause-answered : goal.returns-in_err-reserve-clause-answered
+returns-in_err-reserve-clause-answered g c =
+    let s = c.args.self.now.state in
+    let refuses : RefusesOver s (Commit c.args.txn) why.NoMemory = λ earlier long.
+    commit_memory (on earlier s) c.args.txn c.in_ok-check_open.ensures.passes c.in_ok-check_open.ensures.running (full_on earlier s long 1 ∙ sym c.if-is_log_full.ensures) in
+    search (rules, refuses)

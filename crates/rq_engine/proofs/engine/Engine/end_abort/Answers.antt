@@ -2,17 +2,21 @@ use Rattle.std.proofs.Common.{rules, ◌≡◌, sym, ap, ◌∙◌, subst, arith
 use Rattle.rq_model.specs.Tests.{log_full}
 use Rattle.rq_store.specs.State.{State, ledger_of}
 use Rattle.rq_engine.specs.Aborts.{IsTurnedBack}
-use Rattle.rq_engine.specs.Answers.{HasNothingUnderWay}
+use Rattle.rq_engine.specs.Answers.{HasNothingUnderWay, RefusesOver}
+use Rattle.rq_model.specs.History.Call.{End_abort}
+use Rattle.rq_model.specs.declared.refusal.Refusal.TheVariants as why
 use Rattle.rq_engine.proofs.AbortCalls.{aborted_done, aborted_kept, end_full, end_memory, turned_idle}
-use Rattle.rq_engine.proofs.Calls.{commit_range, from_inside}
+use Rattle.rq_engine.proofs.Calls.{commit_range}
 use Rattle.rq_engine.proofs.Opened.{state_is}
+use Rattle.rq_engine.specs.Earlier.{on}
+use Rattle.rq_engine.proofs.Earlier.{from_inside_on, full_on}
 use Rattle.rq_engine.proofs.engine.Engine.end_abort.Goals as goal
 
 pub returns-then-is_log_full-clause-answered : goal.returns-then-is_log_full-clause-answered
-returns-then-is_log_full-clause-answered g c h =
-    let s = c.args.self.now.state in
+returns-then-is_log_full-clause-answered g c h earlier long =
+    let s = on earlier c.args.self.now.state in
     let back = c.in_ok-check_undone.ensures.ready in
-    end_full s c.args.txn back.0 c.in_ok-check_undone.ensures.passes back.1 (sym c.if-is_log_full.ensures)
+    end_full s c.args.txn back.0 c.in_ok-check_undone.ensures.passes back.1 (full_on earlier c.args.self.now.state long _ ∙ sym c.if-is_log_full.ensures)
 
 pub append-requires-clause-record : goal.append-requires-clause-record
 append-requires-clause-record g c =
@@ -36,15 +40,17 @@ invariant_of-self-2 g c =
     }
 
 pub returns-clause-answered : goal.returns-clause-answered
-returns-clause-answered g c h =
+returns-clause-answered g c h earlier long =
     let back = c.in_ok-check_undone.ensures.ready in
     let inside = subst (λ (s : State). IsTurnedBack s c.args.txn back.0 None) (sym (state_is c.self.view_is)) back.1 in
-    let full = ap (λ (s : State). log_full (ledger_of s) 1) (state_is c.self.view_is) ∙ sym c.if-is_log_full.ensures in
+    let full = ap (λ (s : State). log_full (ledger_of (on earlier s)) 1) (state_is c.self.view_is) ∙ full_on earlier c.args.self.now.state long 1 ∙ sym c.if-is_log_full.ensures in
     let running = ap (λ (s : State). s.failed) (state_is c.self.view_is) ∙ c.in_ok-check_undone.ensures.running in
-    from_inside (state_is c.self.view_is) (λ k. rw (c.end.ensures, c.release.ensures, c.append.ensures.records, c.append.ensures.forced, c.in_ok-reserve.ensures.ok) (aborted_done _ c.args.txn back.0 running inside full k))
+    from_inside_on earlier (state_is c.self.view_is) long (λ as_many k. rw (c.end.ensures, c.release.ensures, c.append.ensures.records, c.append.ensures.forced, c.in_ok-reserve.ensures.ok) (aborted_done _ c.args.txn back.0 running inside full k))
 
 pub returns-in_err-reserve-clause-answered : goal.returns-in_err-reserve-clause-answered
 returns-in_err-reserve-clause-answered g c =
     let s = c.args.self.now.state in
     let back = c.in_ok-check_undone.ensures.ready in
-    search (rules, end_memory s c.args.txn back.0 c.in_ok-check_undone.ensures.passes back.1 c.in_ok-check_undone.ensures.running (sym c.if-is_log_full.ensures))
+    let refuses : RefusesOver s (End_abort c.args.txn) why.NoMemory = λ earlier long.
+    end_memory (on earlier s) c.args.txn back.0 c.in_ok-check_undone.ensures.passes back.1 c.in_ok-check_undone.ensures.running (full_on earlier s long 1 ∙ sym c.if-is_log_full.ensures) in
+    search (rules, refuses)

@@ -3,17 +3,20 @@ use Rattle.rq_txn.specs.declared.Aim.{Aim}
 use Rattle.rq_engine.specs.Answers.{IsUnderWay}
 use Rattle.rq_engine.proofs.AbortCalls.{undone_done}
 use Rattle.rq_engine.proofs.Calls.{AllMade, finish_done, finish_idle}
+use Rattle.rq_engine.specs.Earlier.{on}
+use Rattle.rq_engine.proofs.Earlier.{ended_on}
+use Rattle.std.proofs.Common.{ap}
 use Rattle.rq_engine.proofs.engine.Engine.finish.Goals as goal
 
 pub returns-in-Doing-clause-answered : goal.returns-in-Doing-clause-answered
-returns-in-Doing-clause-answered g c h k =
+returns-in-Doing-clause-answered g c h earlier long k =
     let ready = subst (λ (a : Aim). IsUnderWay c.args.self.now.state c.args.sub (AllMade a)) c.in-Doing.is c.in-Ok.ensures.ready in
-    rw c.done.ensures.gave (finish_done c.args.self.now.state _ c.args.sub _ c.in-Ok.ensures.running ready c.end.ensures.ended k)
+    rw c.done.ensures.gave (finish_done (on earlier c.args.self.now.state) _ c.args.sub _ c.in-Ok.ensures.running ready (ended_on earlier c.args.self.now.state _ c.args.sub _ long c.end.ensures.ended) k)
 
 pub returns-in-Undoing-clause-answered : goal.returns-in-Undoing-clause-answered
-returns-in-Undoing-clause-answered g c h k =
+returns-in-Undoing-clause-answered g c h earlier long k =
     let ready = subst (λ (a : Aim). IsUnderWay c.args.self.now.state c.args.sub (AllMade a)) c.in-Undoing.is c.in-Ok.ensures.ready in
-    undone_done c.args.self.now.state _ c.args.sub _ _ c.in-Ok.ensures.running c.end_undo.ensures.sender ready c.end_undo.ensures.ended k
+    undone_done (on earlier c.args.self.now.state) _ c.args.sub _ _ c.in-Ok.ensures.running c.end_undo.ensures.sender ready (ap (on earlier) c.end_undo.ensures.ended) k
 
 pub returns-in-Err-clause-answered : goal.returns-in-Err-clause-answered
-returns-in-Err-clause-answered g c h = finish_idle c.args.self.now.state c.args.sub _ c.in-Err.ensures.refused
+returns-in-Err-clause-answered g c h earlier long = finish_idle (on earlier c.args.self.now.state) c.args.sub _ c.in-Err.ensures.refused

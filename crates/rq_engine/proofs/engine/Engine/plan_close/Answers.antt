@@ -61,4 +61,4 @@ returns-clause-latched g c =
     (λ h. close_held s c.args.sender (h (Close c.args.sender) asked)) c.plan_deed.ensures.latched
 
 pub returns-clause-refused : goal.returns-clause-refused
-returns-clause-refused g c k may = c.plan_deed.ensures.refused k (Close c.args.sender) (chain_asked c.in-Ok.op (Close c.args.sender) c.in-Ok.ensures.op c.in-Ok.ensures.told) may
+returns-clause-refused g c earlier long k may = c.plan_deed.ensures.refused earlier long k (Close c.args.sender) (chain_asked c.in-Ok.op (Close c.args.sender) c.in-Ok.ensures.op c.in-Ok.ensures.told) may

@@ -9,6 +9,7 @@ use Rattle.rq_planner.proofs.Replies.{some_is}
 use Rattle.rq_planner.proofs.Options.{some_told}
 use Rattle.rq_engine.specs.Plans.{known_part}
 use Rattle.rq_engine.proofs.Leveled.{deed_plan, plan_few, some_doing, told_by}
+use Rattle.rq_engine.specs.Earlier.{on}
 use Rattle.rq_engine.proofs.engine.Engine.plan_deed.Goals as goal
 
 pub plan_op-requires-clause-asked : goal.plan_op-requires-clause-asked
@@ -42,4 +43,4 @@ returns-in-Ok-Some-clause-unlatched g c d e =
     some_told (λ (p : Plan). (a : Asked) → asked_by c.args.op.now ≡ Some a → IsHeldUp (known_part s) a → ⊥) c.in-Ok-Some.field-0 _ c.in-Ok-Some.field-0-is c.in-Ok-Some.ensures.planned.free (Do d) e
 
 pub returns-in-Err-clause-refused : goal.returns-in-Err-clause-refused
-returns-in-Err-clause-refused g c k d e may = c.in-Err.ensures.planned.memory c.args.self.now.state refl k (Do d) e may
+returns-in-Err-clause-refused g c earlier long k d e may = c.in-Err.ensures.planned.memory (on earlier c.args.self.now.state) refl k (Do d) e may

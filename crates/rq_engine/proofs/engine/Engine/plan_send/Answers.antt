@@ -13,6 +13,7 @@ use Rattle.rq_engine.specs.Invariant.{total_of}
 use Rattle.rq_engine.specs.Sends.{FitsPlan, SendIsLatched, TakesLowest, under_plan}
 use Rattle.rq_engine.proofs.Leveled.{on_none, on_plan, send_asked, send_plan}
 use Rattle.rq_engine.proofs.Opened.{state_is}
+use Rattle.rq_engine.proofs.Earlier.{long_on}
 use Rattle.rq_engine.proofs.engine.Engine.plan_send.Goals as goal
 
 pub plan_deed-requires-clause-forward : goal.plan_deed-requires-clause-forward
@@ -75,4 +76,4 @@ pub returns-clause-refused : goal.returns-clause-refused
 returns-clause-refused g c k room =
     let short = c.requires.short in
     let count : total_of c.args.self.now.state ≤ 2 ^ 50 = subst (λ (s : State). total_of s ≤ 2 ^ 50) (state_is c.self.view_is) c.self.invariant.kept.count in
-    c.plan_deed.ensures.refused k (Send c.args.sender c.args.tag c.args.body.now) (send_asked c.in-Ok.op c.args.sender c.args.tag c.args.body.now short c.in-Ok.ensures.op c.in-Ok.ensures.told) (room, omega (arith, count))
+    c.plan_deed.ensures.refused k.0 k.1 k.2 (Send c.args.sender c.args.tag c.args.body.now) (send_asked c.in-Ok.op c.args.sender c.args.tag c.args.body.now short c.in-Ok.ensures.op c.in-Ok.ensures.told) (room, (let n = long_on k.0 c.args.self.now.state k.1 in omega (arith, count, n)))

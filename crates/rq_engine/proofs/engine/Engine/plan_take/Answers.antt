@@ -54,4 +54,4 @@ returns-clause-latched g c =
     (λ h. (h (Receive c.args.sender) asked)) c.plan_deed.ensures.latched
 
 pub returns-clause-refused : goal.returns-clause-refused
-returns-clause-refused g c k wait = c.plan_deed.ensures.refused k (Receive c.args.sender) (chain_asked c.in-Ok.op (Receive c.args.sender) c.in-Ok.ensures.op c.in-Ok.ensures.told) wait
+returns-clause-refused g c k wait = c.plan_deed.ensures.refused k.0 k.1 k.2 (Receive c.args.sender) (chain_asked c.in-Ok.op (Receive c.args.sender) c.in-Ok.ensures.op c.in-Ok.ensures.told) wait

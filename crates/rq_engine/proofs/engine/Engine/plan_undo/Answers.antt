@@ -9,6 +9,8 @@ use Rattle.rq_planner.proofs.Replies.{some_is}
 use Rattle.rq_planner.proofs.Options.{some_told}
 use Rattle.rq_engine.specs.Plans.{known_part}
 use Rattle.rq_engine.proofs.Opened.{none_told}
+use Rattle.rq_engine.specs.Earlier.{on}
+use Rattle.rq_engine.proofs.Earlier.{newest_on}
 use Rattle.rq_engine.proofs.engine.Engine.plan_undo.Goals as goal
 
 pub plan_inverse-requires : goal.plan_inverse-requires
@@ -62,4 +64,4 @@ returns-in-Err-clause-plain g c = c.in-Err.ensures.planned.plain.0
 pub returns-in-Err-clause-refused : goal.returns-in-Err-clause-refused
 returns-in-Err-clause-refused g c k may =
     let asked : to_undo (deed_in c.bytes.result.now) ≡ Some (Undo c.args.done.now.deed) = ap to_undo c.bytes.ensures.reads in
-    c.in-Err.ensures.planned.memory c.args.self.now.state refl k (Undo c.args.done.now.deed) asked may
+    c.in-Err.ensures.planned.memory (on k.0 c.args.self.now.state) refl k.2 (Undo c.args.done.now.deed) asked (newest_on k.0 c.args.self.now.state may)

@@ -1,9 +1,8 @@
-use Rattle.rq_engine.proofs.Crashing.{leaves_cut}
+use Rattle.rq_engine.proofs.Crashing.{leaves_cut_over}
 use Rattle.rq_engine.proofs.engine.Engine.shows_kept.Goals as goal
 
 pub returns-clause-cut : goal.returns-clause-cut
 returns-clause-cut g c =
-    λ h k fit.
-    leaves_cut g.P.PageDevice g.L.LogDevice g.met.P.PageDevice.only_now c.args.self.now
-    (rw (← c.self.view_is) (λ h. c.shows_kept.ensures.log.leaves h c.self.invariant.durable))
-    (rw (← c.self.view_is) c.shows_kept.ensures.log.spelled) h k fit
+    λ h earlier long k fit alike.
+    leaves_cut_over g.P.PageDevice g.L.LogDevice g.met.P.PageDevice.only_now c.args.self.now earlier
+    (rw (← c.self.view_is) (λ h. c.shows_kept.ensures.log.leaves h c.self.invariant.durable)) h k fit alike

@@ -14,6 +14,7 @@ use Rattle.rq_engine.proofs.Latches.{close_refused, close_unlatched}
 use Rattle.rq_engine.proofs.Refusals.{no_memory}
 use Rattle.rq_engine.proofs.SendCalls.{has_room}
 use Rattle.rq_engine.proofs.Opened.{none_told, state_is}
+use Rattle.rq_engine.specs.Earlier.{on}
 use Rattle.rq_engine.proofs.engine.Engine.start_close.Goals as goal
 
 pub start-requires-clause-log : goal.start-requires-clause-log
@@ -23,32 +24,32 @@ start-requires-clause-log g c =
     subst (λ (x : State). HasRoom x c.in-Ok-Some.plan.writes.items) (sym (state_is c.in-Ok-Some.ensures.same)) (has_room s c.in-Ok-Some.plan.writes.items 2 c.in_ok-check_close.ensures.log (omega (arith, one)))
 
 pub returns-in-Ok-clause-answered : goal.returns-in-Ok-clause-answered
-returns-in-Ok-clause-answered g c h =
-    let s = c.args.self.now.state in
+returns-in-Ok-clause-answered g c h earlier long =
+    let s = on earlier c.args.self.now.state in
     let plan = some_told (λ p. (number : ℕ) → IsClosePlan s.sizes (slots_in s.sizes s.images) (under_plan number p) c.args.sender) c.in-Ok-Some.field-0 _ c.in-Ok-Some.field-0-is c.in-Ok-Some.ensures.plan in
     let off = some_told (λ p. AreUnlatched s p.writes.items) c.in-Ok-Some.field-0 _ c.in-Ok-Some.field-0-is c.in-Ok-Some.ensures.free in
     close_done s c.args.txn c.args.sender c.in_ok-number.ensures.passes _ c.in_ok-number.number c.in-Ok-Some.plan
-    c.in_ok-number.ensures.ready off (plan c.in_ok-number.number) (λ k. c.in_ok-check_close.ensures.passes k c.in_ok-number.ensures.passes)
-    (c.in-Ok.ensures.started ∙ ap (λ (x : State). record x { rows = change_row c.args.txn (row_started (under_plan c.in_ok-number.number c.in-Ok-Some.plan)) x.rows; ends = with_end c.args.txn (Sending c.args.sender) x.ends }) (state_is c.in-Ok-Some.ensures.same))
+    c.in_ok-number.ensures.ready off (plan c.in_ok-number.number) (λ k. c.in_ok-check_close.ensures.passes earlier long k c.in_ok-number.ensures.passes)
+    (ap (on earlier) (c.in-Ok.ensures.started ∙ ap (λ (x : State). record x { rows = change_row c.args.txn (row_started (under_plan c.in_ok-number.number c.in-Ok-Some.plan)) x.rows; ends = with_end c.args.txn (Sending c.args.sender) x.ends }) (state_is c.in-Ok-Some.ensures.same)))
 
 pub returns-in-Err-start-clause-answered : goal.returns-in-Err-start-clause-answered
-returns-in-Err-start-clause-answered g c h k =
-    rw (c.in-Err-start.ensures.refusal, c.in-Err-start.ensures.refused, c.in-Ok-Some.ensures.same) (no_memory c.args.self.now.state _ c.in_ok-number.ensures.running (λ k. c.in_ok-check_close.ensures.passes k c.in_ok-number.ensures.passes) (λ k. refl) k)
+returns-in-Err-start-clause-answered g c h earlier long k =
+    rw (c.in-Err-start.ensures.refusal, c.in-Err-start.ensures.refused, c.in-Ok-Some.ensures.same) (no_memory (on earlier c.args.self.now.state) _ c.in_ok-number.ensures.running (λ k. c.in_ok-check_close.ensures.passes earlier long k c.in_ok-number.ensures.passes) (λ k. refl) k)
 
 pub returns-in-Ok-None-clause-answered : goal.returns-in-Ok-None-clause-answered
-returns-in-Ok-None-clause-answered g c h =
-    let s = c.args.self.now.state in
-    rw (c.in-Ok-None.ensures.same) (refused s c.args.txn c.args.sender c.in_ok-number.ensures.passes (λ k. c.in_ok-check_close.ensures.passes k c.in_ok-number.ensures.passes)
+returns-in-Ok-None-clause-answered g c h earlier long =
+    let s = on earlier c.args.self.now.state in
+    rw (c.in-Ok-None.ensures.same) (refused s c.args.txn c.args.sender c.in_ok-number.ensures.passes (λ k. c.in_ok-check_close.ensures.passes earlier long k c.in_ok-number.ensures.passes)
     (none_told (close_latched s c.args.sender ≡ true) c.in-Ok-None.field-0 c.in-Ok-None.field-0-is c.in-Ok-None.ensures.latched))
 
 pub returns-in-Ok-None-clause-latched : goal.returns-in-Ok-None-clause-latched
-returns-in-Ok-None-clause-latched g c k =
-    let s = c.args.self.now.state in
+returns-in-Ok-None-clause-latched g c earlier long k =
+    let s = on earlier c.args.self.now.state in
     close_refused s k c.args.txn c.args.sender (none_told (close_latched s c.args.sender ≡ true) c.in-Ok-None.field-0 c.in-Ok-None.field-0-is c.in-Ok-None.ensures.latched)
 
 pub returns-in-Ok-clause-latched : goal.returns-in-Ok-clause-latched
-returns-in-Ok-clause-latched g c k =
-    let s = c.args.self.now.state in
+returns-in-Ok-clause-latched g c earlier long k =
+    let s = on earlier c.args.self.now.state in
     close_unlatched s k c.args.txn c.args.sender (some_told (λ _. close_latched s c.args.sender ≡ false) c.in-Ok-Some.field-0 _ c.in-Ok-Some.field-0-is c.in-Ok-Some.ensures.unlatched)
 
 pub returns-in-Ok-clause-lists : goal.returns-in-Ok-clause-lists
@@ -77,7 +78,7 @@ start-requires-clause-fits g c =
     (some_told (λ p. FitsPlan c.args.self.now.state.sizes p) c.in-Ok-Some.field-0 _ c.in-Ok-Some.field-0-is c.in-Ok-Some.ensures.fits)
 
 pub returns-in-Err-clause-answered : goal.returns-in-Err-clause-answered
-returns-in-Err-clause-answered g c h k =
-    let s = c.args.self.now.state in
-    let e = c.in-Err.ensures.refused k (c.in_ok-check_close.ensures.unclosed k c.in_ok-number.ensures.passes) in
-    rw (e, c.in-Err.ensures.same) (no_memory s _ c.in_ok-number.ensures.running (λ k. c.in_ok-check_close.ensures.passes k c.in_ok-number.ensures.passes) (λ k. refl) k)
+returns-in-Err-clause-answered g c h earlier long k =
+    let s = on earlier c.args.self.now.state in
+    let e = c.in-Err.ensures.refused earlier long k (c.in_ok-check_close.ensures.unclosed earlier long k c.in_ok-number.ensures.passes) in
+    rw (e, c.in-Err.ensures.same) (no_memory s _ c.in_ok-number.ensures.running (λ k. c.in_ok-check_close.ensures.passes earlier long k c.in_ok-number.ensures.passes) (λ k. refl) k)

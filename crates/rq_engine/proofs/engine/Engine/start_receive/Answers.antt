@@ -1,4 +1,4 @@
-use Rattle.std.proofs.Common.{◌≡◌, ℕ, true, false, sym, subst, refl, inl}
+use Rattle.std.proofs.Common.{◌≡◌, ℕ, true, false, sym, ◌∙◌, subst, refl, inl}
 use Rattle.rq_model.specs.History.Call.{Start_receive}
 use Rattle.rq_store.specs.Plans.{NoneWaits, WaitsFor}
 use Rattle.rq_engine.specs.Sends.{take_latched}
@@ -12,11 +12,13 @@ use Rattle.rq_store.specs.State.{State}
 use Rattle.rq_sound.specs.Sound.{IsSound}
 use Rattle.rq_sound.specs.ModelSteps.{IsModelStep}
 use Rattle.rq_planner.proofs.Options.{some_told}
+use Rattle.rq_engine.specs.Earlier.{on, IsEarlier}
+use Rattle.rq_engine.proofs.Earlier.{full_on}
 use Rattle.rq_engine.proofs.engine.Engine.start_receive.Goals as goal
 
 pub returns-in_default-clause-answered : goal.returns-in_default-clause-answered
-returns-in_default-clause-answered g c h =
-    none_done c.args.self.now.state c.args.txn c.in_ok-number.ensures.passes
+returns-in_default-clause-answered g c h earlier long =
+    none_done (on earlier c.args.self.now.state) c.args.txn c.in_ok-number.ensures.passes
     (left_none (NoneWaits c.args.self.now.state c.args.txn) c.first_waiting.result c.in_default.not-Some c.first_waiting.ensures.none)
 
 pub returns-in_default-clause-lists : goal.returns-in_default-clause-lists
@@ -27,41 +29,41 @@ returns-in_default-clause-lists g c = (
 )
 
 pub returns-then-is_log_full-clause-answered : goal.returns-then-is_log_full-clause-answered
-returns-then-is_log_full-clause-answered g c h =
-    let s = c.args.self.now.state in
+returns-then-is_log_full-clause-answered g c h earlier long =
+    let s = on earlier c.args.self.now.state in
     let w : WaitsFor s c.args.txn c.in-Some.first = c.in-Some.ensures.waits in
-    log_is_full s c.args.txn c.in_ok-number.ensures.passes c.in-Some.first w.0 w.1 w.2 (sym c.if-is_log_full.ensures) (Start_receive c.args.txn) (inl refl)
+    log_is_full s c.args.txn c.in_ok-number.ensures.passes c.in-Some.first w.0 w.1 w.2 (full_on earlier c.args.self.now.state long _ ∙ sym c.if-is_log_full.ensures) (Start_receive c.args.txn) (inl refl)
 
 pub returns-in-Ok-None-clause-answered : goal.returns-in-Ok-None-clause-answered
-returns-in-Ok-None-clause-answered g c h =
-    let s = c.args.self.now.state in
+returns-in-Ok-None-clause-answered g c h earlier long =
+    let s = on earlier c.args.self.now.state in
     let w : WaitsFor s c.args.txn c.in-Some.first = c.in-Some.ensures.waits in
-    rw (c.in-Ok-None.ensures.same) (any_refused s c.args.txn c.in_ok-number.ensures.passes c.in-Some.first w.0 w.1 w.2 (sym c.if-is_log_full.ensures)
+    rw (c.in-Ok-None.ensures.same) (any_refused s c.args.txn c.in_ok-number.ensures.passes c.in-Some.first w.0 w.1 w.2 (full_on earlier c.args.self.now.state long _ ∙ sym c.if-is_log_full.ensures)
     (none_told ((e : ℕ) → WaitsFor s c.args.txn e → take_latched s e ≡ true) c.in-Ok-None.field-0 c.in-Ok-None.field-0-is c.in-Ok-None.ensures.latched))
 
 pub returns-in-Ok-None-clause-latched : goal.returns-in-Ok-None-clause-latched
-returns-in-Ok-None-clause-latched g c k =
-    let s = c.args.self.now.state in
+returns-in-Ok-None-clause-latched g c earlier long k =
+    let s = on earlier c.args.self.now.state in
     let w : WaitsFor s c.args.txn c.in-Some.first = c.in-Some.ensures.waits in
     any_latches s k c.args.txn c.in-Some.first w
     (none_told ((e : ℕ) → WaitsFor s c.args.txn e → take_latched s e ≡ true) c.in-Ok-None.field-0 c.in-Ok-None.field-0-is c.in-Ok-None.ensures.latched)
 
 pub returns-in-Ok-clause-latched : goal.returns-in-Ok-clause-latched
-returns-in-Ok-clause-latched g c k =
-    let s = c.args.self.now.state in
+returns-in-Ok-clause-latched g c earlier long k =
+    let s = on earlier c.args.self.now.state in
     any_unlatched s k c.args.txn c.in-Ok-Some.sender
     (some_told (λ p. WaitsFor s c.args.txn p.0) c.in-Ok-Some.field-0 _ c.in-Ok-Some.field-0-is c.in-Ok-Some.ensures.waits)
     (some_told (λ p. take_latched s p.0 ≡ false) c.in-Ok-Some.field-0 _ c.in-Ok-Some.field-0-is c.in-Ok-Some.ensures.unlatched)
 
 pub returns-in-Err-start_take-clause-answered : goal.returns-in-Err-start_take-clause-answered
-returns-in-Err-start_take-clause-answered g c h k =
+returns-in-Err-start_take-clause-answered g c h earlier long k =
     let same = state_is c.in-Ok-Some.ensures.same in
-    subst (λ (x : State). IsModelStep x (Start_receive c.args.txn) (Gave_refusal c.in-Err-start_take.refusal) c.start_take.new.self.state × IsCausedIn x (Start_receive c.args.txn) c.in-Err-start_take.refusal) same
-    (c.in-Err-start_take.ensures.answered (Start_receive c.args.txn) (inl refl) h (subst (λ (x : State). IsSound x) (sym same) k))
+    subst (λ (x : State). IsModelStep (on earlier x) (Start_receive c.args.txn) (Gave_refusal c.in-Err-start_take.refusal) (on earlier c.start_take.new.self.state) × IsCausedIn (on earlier x) (Start_receive c.args.txn) c.in-Err-start_take.refusal) same
+    (c.in-Err-start_take.ensures.answered (Start_receive c.args.txn) (inl refl) h earlier (subst (IsEarlier earlier) (sym same) long) (subst (λ (x : State). IsSound (on earlier x)) (sym same) k))
 
 pub returns-in-Err-clause-answered : goal.returns-in-Err-clause-answered
-returns-in-Err-clause-answered g c h k =
-    let s = c.args.self.now.state in
-    let w : WaitsFor s c.args.txn c.in-Some.first = c.in-Some.ensures.waits in
-    rw (c.in-Err.ensures.refused k, c.in-Err.ensures.same)
-    (take_memory s c.args.txn c.in_ok-number.ensures.passes c.in-Some.first w.0 w.1 w.2 (sym c.if-is_log_full.ensures) (Start_receive c.args.txn) (inl refl) k)
+returns-in-Err-clause-answered g c h earlier long k =
+    let s = on earlier c.args.self.now.state in
+    let w : WaitsFor c.args.self.now.state c.args.txn c.in-Some.first = c.in-Some.ensures.waits in
+    rw (c.in-Err.ensures.refused (earlier, long, k), c.in-Err.ensures.same)
+    (take_memory s c.args.txn c.in_ok-number.ensures.passes c.in-Some.first w.0 w.1 w.2 (full_on earlier c.args.self.now.state long 4 ∙ sym c.if-is_log_full.ensures) (Start_receive c.args.txn) (inl refl) k)

@@ -13,20 +13,22 @@ use Rattle.rq_model.specs.Replay.Reply.{Gave_sub, Gave_refusal}
 use Rattle.rq_sound.specs.Sound.{IsSound}
 use Rattle.rq_sound.specs.ModelSteps.{IsModelStep}
 use Rattle.rq_planner.proofs.Options.{some_told}
+use Rattle.rq_engine.specs.Earlier.{on, IsEarlier}
+use Rattle.rq_engine.proofs.Earlier.{full_on}
 use Rattle.rq_engine.proofs.engine.Engine.start_receive_from.Goals as goal
 
 pub returns-then-not-may_receive-clause-answered : goal.returns-then-not-may_receive-clause-answered
-returns-then-not-may_receive-clause-answered g c h =
+returns-then-not-may_receive-clause-answered g c h earlier long =
     let n : c.senders.result ≡ sender_count c.args.self.now.state.sizes = c.senders.ensures.number ∙ ap sender_count (c.layout.ensures.sizes ∙ ap (λ (s : State). s.sizes) (state_is c.self.view_is)) in
     let lt = c.if-sender-senders.false in
-    receiver_busy c.args.self.now.state c.args.txn c.in_ok-number.ensures.passes c.args.sender (omega (arith, n, lt))
+    receiver_busy (on earlier c.args.self.now.state) c.args.txn c.in_ok-number.ensures.passes c.args.sender (omega (arith, n, lt))
     (ap (λ (s : State). is_free_for c.args.txn c.args.sender s.ends.receiving) (sym (state_is c.self.view_is)) ∙ sym c.if-not-may_receive.ensures)
 
 pub returns-then-count-eq0-clause-answered : goal.returns-then-count-eq0-clause-answered
-returns-then-count-eq0-clause-answered g c h =
+returns-then-count-eq0-clause-answered g c h earlier long =
     let n : c.senders.result ≡ sender_count c.args.self.now.state.sizes = c.senders.ensures.number ∙ ap sender_count (c.layout.ensures.sizes ∙ ap (λ (s : State). s.sizes) (state_is c.self.view_is)) in
     let lt = c.if-sender-senders.false in
-    none_from_done c.args.self.now.state c.args.txn c.in_ok-number.ensures.passes c.args.sender (omega (arith, n, lt))
+    none_from_done (on earlier c.args.self.now.state) c.args.txn c.in_ok-number.ensures.passes c.args.sender (omega (arith, n, lt))
     (ap (λ (s : State). is_free_for c.args.txn c.args.sender s.ends.receiving) (sym (state_is c.self.view_is)) ∙ sym c.if-not-may_receive.ensures)
     (ap (λ (s : State). waits s.waiting c.args.sender) (sym (state_is c.self.view_is)) ∙ sym c.count.ensures ∙ c.if-count-eq0.true)
 
@@ -42,8 +44,8 @@ returns-then-count-eq0-clause-lists g c =
     )
 
 pub returns-then-is_log_full-clause-answered : goal.returns-then-is_log_full-clause-answered
-returns-then-is_log_full-clause-answered g c h =
-    let s = c.args.self.now.state in
+returns-then-is_log_full-clause-answered g c h earlier long =
+    let s = on earlier c.args.self.now.state in
     let n : c.senders.result ≡ sender_count s.sizes = c.senders.ensures.number ∙ ap sender_count (c.layout.ensures.sizes ∙ ap (λ (x : State). x.sizes) (state_is c.self.view_is)) in
     let lt = c.if-sender-senders.false in
     let below : c.args.sender < sender_count s.sizes = omega (arith, n, lt) in
@@ -51,11 +53,11 @@ returns-then-is_log_full-clause-answered g c h =
     let count : waits s.waiting c.args.sender ≡ c.count.result = ap (λ (x : State). waits x.waiting c.args.sender) (sym (state_is c.self.view_is)) ∙ sym c.count.ensures in
     let some = c.if-count-eq0.false in
     let wait : 1 ≤ waits s.waiting c.args.sender = omega (arith, count, some) in
-    log_is_full s c.args.txn c.in_ok-number.ensures.passes c.args.sender below free wait (sym c.if-is_log_full.ensures) (Start_receive_from c.args.txn c.args.sender) (inr refl)
+    log_is_full s c.args.txn c.in_ok-number.ensures.passes c.args.sender below free wait (full_on earlier c.args.self.now.state long _ ∙ sym c.if-is_log_full.ensures) (Start_receive_from c.args.txn c.args.sender) (inr refl)
 
 pub returns-in-Ok-None-clause-answered : goal.returns-in-Ok-None-clause-answered
-returns-in-Ok-None-clause-answered g c h =
-    let s = c.args.self.now.state in
+returns-in-Ok-None-clause-answered g c h earlier long =
+    let s = on earlier c.args.self.now.state in
     let n : c.senders.result ≡ sender_count s.sizes = c.senders.ensures.number ∙ ap sender_count (c.layout.ensures.sizes ∙ ap (λ (x : State). x.sizes) (state_is c.self.view_is)) in
     let lt = c.if-sender-senders.false in
     let below : c.args.sender < sender_count s.sizes = omega (arith, n, lt) in
@@ -63,33 +65,33 @@ returns-in-Ok-None-clause-answered g c h =
     let count : waits s.waiting c.args.sender ≡ c.count.result = ap (λ (x : State). waits x.waiting c.args.sender) (sym (state_is c.self.view_is)) ∙ sym c.count.ensures in
     let some = c.if-count-eq0.false in
     let wait : 1 ≤ waits s.waiting c.args.sender = omega (arith, count, some) in
-    rw (c.in-Ok-None.ensures.same) (from_refused s c.args.txn c.in_ok-number.ensures.passes c.args.sender below free wait (sym c.if-is_log_full.ensures)
+    rw (c.in-Ok-None.ensures.same) (from_refused s c.args.txn c.in_ok-number.ensures.passes c.args.sender below free wait (full_on earlier c.args.self.now.state long _ ∙ sym c.if-is_log_full.ensures)
     (none_told (take_latched s c.args.sender ≡ true) c.in-Ok-None.field-0 c.in-Ok-None.field-0-is c.in-Ok-None.ensures.latched))
 
 pub returns-in-Ok-None-clause-latched : goal.returns-in-Ok-None-clause-latched
-returns-in-Ok-None-clause-latched g c k =
-    let s = c.args.self.now.state in
+returns-in-Ok-None-clause-latched g c earlier long k =
+    let s = on earlier c.args.self.now.state in
     from_latched s k c.args.txn c.args.sender (none_told (take_latched s c.args.sender ≡ true) c.in-Ok-None.field-0 c.in-Ok-None.field-0-is c.in-Ok-None.ensures.latched)
 
 pub returns-in-Ok-clause-latched : goal.returns-in-Ok-clause-latched
-returns-in-Ok-clause-latched g c k =
-    let s = c.args.self.now.state in
+returns-in-Ok-clause-latched g c earlier long k =
+    let s = on earlier c.args.self.now.state in
     from_unlatched s k c.args.txn c.args.sender (some_told (λ _. take_latched s c.args.sender ≡ false) c.in-Ok-Some.field-0 _ c.in-Ok-Some.field-0-is c.in-Ok-Some.ensures.unlatched)
 
 pub returns-in-Err-start_take-clause-answered : goal.returns-in-Err-start_take-clause-answered
-returns-in-Err-start_take-clause-answered g c h k =
+returns-in-Err-start_take-clause-answered g c h earlier long k =
     let same = state_is c.in-Ok-Some.ensures.same in
-    subst (λ (x : State). IsModelStep x (Start_receive_from c.args.txn c.args.sender) (Gave_refusal c.in-Err-start_take.refusal) c.start_take.new.self.state × IsCausedIn x (Start_receive_from c.args.txn c.args.sender) c.in-Err-start_take.refusal) same
-    (c.in-Err-start_take.ensures.answered (Start_receive_from c.args.txn c.args.sender) (inr refl) h (subst (λ (x : State). IsSound x) (sym same) k))
+    subst (λ (x : State). IsModelStep (on earlier x) (Start_receive_from c.args.txn c.args.sender) (Gave_refusal c.in-Err-start_take.refusal) (on earlier c.start_take.new.self.state) × IsCausedIn (on earlier x) (Start_receive_from c.args.txn c.args.sender) c.in-Err-start_take.refusal) same
+    (c.in-Err-start_take.ensures.answered (Start_receive_from c.args.txn c.args.sender) (inr refl) h earlier (subst (IsEarlier earlier) (sym same) long) (subst (λ (x : State). IsSound (on earlier x)) (sym same) k))
 
 pub returns-in-Ok-clause-answered : goal.returns-in-Ok-clause-answered
-returns-in-Ok-clause-answered g c h k =
+returns-in-Ok-clause-answered g c h earlier long k =
     let same = state_is c.in-Ok-Some.ensures.same in
-    subst (λ (x : State). IsModelStep x (Start_receive_from c.args.txn c.args.sender) (Gave_sub c.in-Ok.sub.txn c.in-Ok.sub.number) c.start_take.new.self.state) same
-    (c.in-Ok.ensures.answered (Start_receive_from c.args.txn c.args.sender) (inr refl) h (subst (λ (x : State). IsSound x) (sym same) k))
+    subst (λ (x : State). IsModelStep (on earlier x) (Start_receive_from c.args.txn c.args.sender) (Gave_sub c.in-Ok.sub.txn c.in-Ok.sub.number) (on earlier c.start_take.new.self.state)) same
+    (c.in-Ok.ensures.answered (Start_receive_from c.args.txn c.args.sender) (inr refl) h earlier (subst (IsEarlier earlier) (sym same) long) (subst (λ (x : State). IsSound (on earlier x)) (sym same) k))
 
 pub returns-in-Err-clause-answered : goal.returns-in-Err-clause-answered
-returns-in-Err-clause-answered g c h k =
+returns-in-Err-clause-answered g c h earlier long k =
     let s = c.args.self.now.state in
     let n : c.senders.result ≡ sender_count s.sizes = c.senders.ensures.number ∙ ap sender_count (c.layout.ensures.sizes ∙ ap (λ (x : State). x.sizes) (state_is c.self.view_is)) in
     let lt = c.if-sender-senders.false in
@@ -98,5 +100,5 @@ returns-in-Err-clause-answered g c h k =
     let count : waits s.waiting c.args.sender ≡ c.count.result = ap (λ (x : State). waits x.waiting c.args.sender) (sym (state_is c.self.view_is)) ∙ sym c.count.ensures in
     let some = c.if-count-eq0.false in
     let wait : 1 ≤ waits s.waiting c.args.sender = omega (arith, count, some) in
-    rw (c.in-Err.ensures.refused k wait, c.in-Err.ensures.same)
-    (take_memory s c.args.txn c.in_ok-number.ensures.passes c.args.sender below free wait (sym c.if-is_log_full.ensures) (Start_receive_from c.args.txn c.args.sender) (inr refl) k)
+    rw (c.in-Err.ensures.refused (earlier, long, k) wait, c.in-Err.ensures.same)
+    (take_memory (on earlier s) c.args.txn c.in_ok-number.ensures.passes c.args.sender below free wait (full_on earlier s long 4 ∙ sym c.if-is_log_full.ensures) (Start_receive_from c.args.txn c.args.sender) (inr refl) k)

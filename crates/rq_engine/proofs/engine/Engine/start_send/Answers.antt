@@ -13,36 +13,37 @@ use Rattle.rq_engine.specs.Sends.{FitsPlan, HasRoom, SendIsLatched, TakesLowest,
 use Rattle.rq_store.specs.Plans.{IsSendPlan}
 use Rattle.rq_planner.proofs.Options.{some_told}
 use Rattle.rq_engine.proofs.Opened.{none_told, state_is}
+use Rattle.rq_engine.specs.Earlier.{on}
 use Rattle.rq_engine.proofs.engine.Engine.start_send.Goals as goal
 
 pub returns-in-Ok-clause-answered : goal.returns-in-Ok-clause-answered
-returns-in-Ok-clause-answered g c h =
-    let s = c.args.self.now.state in
+returns-in-Ok-clause-answered g c h earlier long =
+    let s = on earlier c.args.self.now.state in
     let plan = some_told (λ p. (number : ℕ) → IsSendPlan s.sizes (slots_in s.sizes s.images) (under_plan number p) c.args.sender c.args.tag c.args.body.now) c.in_ok-plan_send.field-0 _ c.in-Some.is c.in_ok-plan_send.ensures.plan in
     let off = some_told (λ p. AreUnlatched s p.writes.items) c.in_ok-plan_send.field-0 _ c.in-Some.is c.in_ok-plan_send.ensures.free in
     send_done s _ c.args.txn c.in_ok-number.number c.args.sender c.args.tag c.args.body.now c.in-Some.plan
     c.in_ok-number.ensures.ready c.in_ok-number.ensures.passes off (plan c.in_ok-number.number) c.in_ok-check_send.ensures.free c.in_ok-check_send.ensures.room
-    (λ k. c.in_ok-check_send.ensures.passes k c.in_ok-number.ensures.passes)
-    (ap (λ (x : State). record x { cells_in_use = x.cells_in_use + 1 }) ((state_is c.self.view_is) ∙ c.in-Ok.ensures.started ∙ ap (λ (x : State). record x { rows = change_row c.args.txn (row_started (under_plan c.in_ok-number.number c.in-Some.plan)) x.rows; ends = with_end c.args.txn (Sending c.args.sender) x.ends }) (state_is c.in_ok-plan_send.ensures.same)))
+    (λ k. c.in_ok-check_send.ensures.passes earlier long k c.in_ok-number.ensures.passes)
+    (ap (on earlier) (ap (λ (x : State). record x { cells_in_use = x.cells_in_use + 1 }) ((state_is c.self.view_is) ∙ c.in-Ok.ensures.started ∙ ap (λ (x : State). record x { rows = change_row c.args.txn (row_started (under_plan c.in_ok-number.number c.in-Some.plan)) x.rows; ends = with_end c.args.txn (Sending c.args.sender) x.ends }) (state_is c.in_ok-plan_send.ensures.same))))
 
 pub returns-in-Err-clause-answered : goal.returns-in-Err-clause-answered
-returns-in-Err-clause-answered g c h k =
-    rw (c.in-Err.ensures.refusal, c.in-Err.ensures.refused, c.in_ok-plan_send.ensures.same) (no_memory c.args.self.now.state _ c.in_ok-number.ensures.running (λ k. c.in_ok-check_send.ensures.passes k c.in_ok-number.ensures.passes) (λ k. refl) k)
+returns-in-Err-clause-answered g c h earlier long k =
+    rw (c.in-Err.ensures.refusal, c.in-Err.ensures.refused, c.in_ok-plan_send.ensures.same) (no_memory (on earlier c.args.self.now.state) _ c.in_ok-number.ensures.running (λ k. c.in_ok-check_send.ensures.passes earlier long k c.in_ok-number.ensures.passes) (λ k. refl) k)
 
 pub returns-in-None-clause-answered : goal.returns-in-None-clause-answered
-returns-in-None-clause-answered g c h =
-    let s = c.args.self.now.state in
-    rw (c.in_ok-plan_send.ensures.same) (send_refused s c.args.txn c.args.sender c.args.tag c.args.body.now (λ k. c.in_ok-check_send.ensures.passes k c.in_ok-number.ensures.passes) c.in_ok-check_send.ensures.room
+returns-in-None-clause-answered g c h earlier long =
+    let s = on earlier c.args.self.now.state in
+    rw (c.in_ok-plan_send.ensures.same) (send_refused s c.args.txn c.args.sender c.args.tag c.args.body.now (λ k. c.in_ok-check_send.ensures.passes earlier long k c.in_ok-number.ensures.passes) c.in_ok-check_send.ensures.room
     (none_told (SendIsLatched s c.args.sender) c.in_ok-plan_send.field-0 c.in-None.is c.in_ok-plan_send.ensures.latched))
 
 pub returns-in-None-clause-latched : goal.returns-in-None-clause-latched
-returns-in-None-clause-latched g c k =
-    let s = c.args.self.now.state in
+returns-in-None-clause-latched g c earlier long k =
+    let s = on earlier c.args.self.now.state in
     send_latched s k c.args.txn c.args.sender c.args.tag c.args.body.now (none_told (SendIsLatched s c.args.sender) c.in_ok-plan_send.field-0 c.in-None.is c.in_ok-plan_send.ensures.latched)
 
 pub returns-in-Ok-clause-latched : goal.returns-in-Ok-clause-latched
-returns-in-Ok-clause-latched g c k =
-    let s = c.args.self.now.state in
+returns-in-Ok-clause-latched g c earlier long k =
+    let s = on earlier c.args.self.now.state in
     send_unlatched s k c.args.txn c.args.sender c.args.tag c.args.body.now (some_told (λ _. SendIsLatched s c.args.sender → ⊥) c.in_ok-plan_send.field-0 _ c.in-Some.is c.in_ok-plan_send.ensures.unlatched)
 
 pub returns-in-Ok-clause-lowest : goal.returns-in-Ok-clause-lowest

@@ -1,18 +1,20 @@
-use Rattle.std.proofs.Common.{refl, arith}
+use Rattle.std.proofs.Common.{refl, ap, ◌∙◌, arith}
 use Rattle.rq_engine.proofs.SendCalls.{has_room}
 use Rattle.rq_engine.proofs.TakeCalls.{take_done, take_memory}
 use Rattle.rq_engine.specs.Sends.{under_plan}
+use Rattle.rq_engine.specs.Earlier.{on}
+use Rattle.rq_engine.proofs.Earlier.{full_on}
 use Rattle.rq_engine.proofs.engine.Engine.start_take.Goals as goal
 
 pub returns-in-Err-clause-answered : goal.returns-in-Err-clause-answered
-returns-in-Err-clause-answered g c call is h k =
-    rw (c.in-Err.ensures.refusal, c.in-Err.ensures.refused) (take_memory c.args.self.now.state c.args.txn c.requires.passes c.args.sender c.requires.waits.0 c.requires.waits.1 c.requires.waits.2 c.requires.log call is k)
+returns-in-Err-clause-answered g c call is h earlier long k =
+    rw (c.in-Err.ensures.refusal, c.in-Err.ensures.refused) (take_memory (on earlier c.args.self.now.state) c.args.txn c.requires.passes c.args.sender c.requires.waits.0 c.requires.waits.1 c.requires.waits.2 (full_on earlier c.args.self.now.state long _ ∙ c.requires.log) call is k)
 
 pub returns-in-Ok-clause-answered : goal.returns-in-Ok-clause-answered
-returns-in-Ok-clause-answered g c call is h =
+returns-in-Ok-clause-answered g c call is h earlier long =
     let w = c.requires.waits in
-    take_done c.args.self.now.state c.args.txn c.requires.passes c.args.sender w.0 w.1 w.2 c.requires.log
-    _ c.args.number c.args.plan c.requires.ready c.requires.unlatched c.requires.plan c.in-Ok.ensures.started call is
+    take_done (on earlier c.args.self.now.state) c.args.txn c.requires.passes c.args.sender w.0 w.1 w.2 (full_on earlier c.args.self.now.state long _ ∙ c.requires.log)
+    _ c.args.number c.args.plan c.requires.ready c.requires.unlatched c.requires.plan (ap (on earlier) c.in-Ok.ensures.started) call is
 
 pub returns-in-Ok-clause-lists : goal.returns-in-Ok-clause-lists
 returns-in-Ok-clause-lists g c = (

@@ -25,20 +25,22 @@ use Rattle.rq_engine.proofs.Inverses.{cost_is, few_writes}
 use Rattle.rq_engine.proofs.Latches.{memory_latched, undo_latched, undo_unlatched}
 use Rattle.rq_engine.proofs.Opened.{none_told, state_is}
 use Rattle.rq_engine.proofs.SendCalls.{has_room}
+use Rattle.rq_engine.specs.Earlier.{on}
+use Rattle.rq_engine.proofs.Earlier.{full_on}
 use Rattle.rq_engine.proofs.engine.Engine.undo_next.Goals as goal
 
 pub returns-in_default-clause-answered : goal.returns-in_default-clause-answered
-returns-in_default-clause-answered g c h =
-    let s = c.args.self.now.state in
+returns-in_default-clause-answered g c h earlier long =
+    let s = on earlier c.args.self.now.state in
     none_done s c.args.txn c.in_ok-number.number c.in_ok-number.ensures.running
     (subst (λ (o : Option Finished). IsTurnedBack s c.args.txn c.in_ok-number.number o) c.in_default.is c.in_ok-number.ensures.ready)
 
 pub returns-then-is_log_full-clause-answered : goal.returns-then-is_log_full-clause-answered
-returns-then-is_log_full-clause-answered g c h =
-    let s = c.args.self.now.state in
+returns-then-is_log_full-clause-answered g c h earlier long =
+    let s = on earlier c.args.self.now.state in
     let f = c.in-Some.done in
     let back : IsTurnedBack s c.args.txn c.in_ok-number.number (Some f) = subst (λ (o : Option Finished). IsTurnedBack s c.args.txn c.in_ok-number.number o) c.in-Some.is c.in_ok-number.ensures.ready in
-    undo_full s c.args.txn c.in_ok-number.number f c.in_ok-number.ensures.passes back (ap (log_full (ledger_of s)) (sym c.undo_records.ensures) ∙ sym c.if-is_log_full.ensures)
+    undo_full s c.args.txn c.in_ok-number.number f c.in_ok-number.ensures.passes back (ap (log_full (ledger_of s)) (sym c.undo_records.ensures) ∙ full_on earlier c.args.self.now.state long _ ∙ sym c.if-is_log_full.ensures)
 
 pub start_undo-requires-clause-count : goal.start_undo-requires-clause-count
 start_undo-requires-clause-count g c =
@@ -58,37 +60,37 @@ start_undo-requires-clause-log g c =
     subst (λ (x : State). HasRoom x c.in-Ok-Some.writes.items) (sym (state_is c.in-Ok-Some.ensures.same)) (has_room s c.in-Ok-Some.writes.items (undo_cost (Some (op_done f))) room (few_writes s.sizes (slots_in s.sizes s.images) c.in-Ok-Some.writes.items f.deed plan))
 
 pub returns-in-Ok-None-clause-answered : goal.returns-in-Ok-None-clause-answered
-returns-in-Ok-None-clause-answered g c h =
-    let s = c.args.self.now.state in
+returns-in-Ok-None-clause-answered g c h earlier long =
+    let s = on earlier c.args.self.now.state in
     let f = c.in-Some.done in
     let back : IsTurnedBack s c.args.txn c.in_ok-number.number (Some f) = subst (λ (o : Option Finished). IsTurnedBack s c.args.txn c.in_ok-number.number o) c.in-Some.is c.in_ok-number.ensures.ready in
-    let room : log_full (ledger_of s) (undo_cost (Some (op_done f))) ≡ false = ap (log_full (ledger_of s)) (sym c.undo_records.ensures) ∙ sym c.if-is_log_full.ensures in
+    let room : log_full (ledger_of s) (undo_cost (Some (op_done f))) ≡ false = ap (log_full (ledger_of s)) (sym c.undo_records.ensures) ∙ full_on earlier c.args.self.now.state long _ ∙ sym c.if-is_log_full.ensures in
     rw (c.in-Ok-None.ensures.same) (undo_refused s c.args.txn c.in_ok-number.number f c.in_ok-number.ensures.passes back (may_be_undone s c.args.txn c.in_ok-number.number f c.in_ok-number.ensures.passes back) room
     (none_told (UndoIsLatched s f.deed) c.in-Ok-None.field-0 c.in-Ok-None.field-0-is c.in-Ok-None.ensures.latched))
 
 pub returns-in-Ok-None-clause-latched : goal.returns-in-Ok-None-clause-latched
-returns-in-Ok-None-clause-latched g c k =
-    let s = c.args.self.now.state in
+returns-in-Ok-None-clause-latched g c earlier long k =
+    let s = on earlier c.args.self.now.state in
     let f = c.in-Some.done in
     let back : IsTurnedBack s c.args.txn c.in_ok-number.number (Some f) = subst (λ (o : Option Finished). IsTurnedBack s c.args.txn c.in_ok-number.number o) c.in-Some.is c.in_ok-number.ensures.ready in
     undo_latched s k c.args.txn f (turned_newest s c.args.txn c.in_ok-number.number (Some f) back)
     (none_told (UndoIsLatched s f.deed) c.in-Ok-None.field-0 c.in-Ok-None.field-0-is c.in-Ok-None.ensures.latched)
 
 pub returns-in-Ok-clause-answered : goal.returns-in-Ok-clause-answered
-returns-in-Ok-clause-answered g c h =
-    let s = c.args.self.now.state in
+returns-in-Ok-clause-answered g c h earlier long =
+    let s = on earlier c.args.self.now.state in
     let f = c.in-Some.done in
     let back : IsTurnedBack s c.args.txn c.in_ok-number.number (Some f) = subst (λ (o : Option Finished). IsTurnedBack s c.args.txn c.in_ok-number.number o) c.in-Some.is c.in_ok-number.ensures.ready in
-    let room : log_full (ledger_of s) (undo_cost (Some (op_done f))) ≡ false = ap (log_full (ledger_of s)) (sym c.undo_records.ensures) ∙ sym c.if-is_log_full.ensures in
+    let room : log_full (ledger_of s) (undo_cost (Some (op_done f))) ≡ false = ap (log_full (ledger_of s)) (sym c.undo_records.ensures) ∙ full_on earlier c.args.self.now.state long _ ∙ sym c.if-is_log_full.ensures in
     let plan : IsPlannedFrom s.sizes (slots_in s.sizes s.images) c.in-Ok-Some.writes.items (Undid f.deed) = some_told (λ (ws : Vec SlotWrite). IsPlannedFrom s.sizes (slots_in s.sizes s.images) ws.items (Undid f.deed)) c.in-Ok-Some.field-0 _ c.in-Ok-Some.field-0-is c.in-Ok-Some.ensures.plan in
     let off = some_told (λ (ws : Vec SlotWrite). AreUnlatched s ws.items) c.in-Ok-Some.field-0 _ c.in-Ok-Some.field-0-is c.in-Ok-Some.ensures.free in
     let u : Under = record { number = c.in_ok-number.number; writes = c.in-Ok-Some.writes.items; made = 0; aim = Undoing f.lsn f.deed } in
     undo_done s c.args.txn c.in_ok-number.number f c.in_ok-number.ensures.passes back _ u c.in_ok-number.ensures.running refl off (record { made = refl; aim = refl; plan = plan }) room
-    (c.in-Ok.ensures.started ∙ ap (λ (x : State). record x { rows = change_row c.args.txn (row_started u) x.rows }) (state_is c.in-Ok-Some.ensures.same))
+    (ap (on earlier) (c.in-Ok.ensures.started ∙ ap (λ (x : State). record x { rows = change_row c.args.txn (row_started u) x.rows }) (state_is c.in-Ok-Some.ensures.same)))
 
 pub returns-in-Ok-clause-latched : goal.returns-in-Ok-clause-latched
-returns-in-Ok-clause-latched g c k =
-    let s = c.args.self.now.state in
+returns-in-Ok-clause-latched g c earlier long k =
+    let s = on earlier c.args.self.now.state in
     let f = c.in-Some.done in
     let back : IsTurnedBack s c.args.txn c.in_ok-number.number (Some f) = subst (λ (o : Option Finished). IsTurnedBack s c.args.txn c.in_ok-number.number o) c.in-Some.is c.in_ok-number.ensures.ready in
     undo_unlatched s k c.args.txn f (turned_newest s c.args.txn c.in_ok-number.number (Some f) back)
@@ -113,28 +115,28 @@ returns-in-Ok-clause-lists g c =
     )
 
 pub returns-in-Err-start_undo-clause-answered : goal.returns-in-Err-start_undo-clause-answered
-returns-in-Err-start_undo-clause-answered g c h k =
-    let s = c.args.self.now.state in
+returns-in-Err-start_undo-clause-answered g c h earlier long k =
+    let s = on earlier c.args.self.now.state in
     let f = c.in-Some.done in
     let back : IsTurnedBack s c.args.txn c.in_ok-number.number (Some f) = subst (λ (o : Option Finished). IsTurnedBack s c.args.txn c.in_ok-number.number o) c.in-Some.is c.in_ok-number.ensures.ready in
-    let room : log_full (ledger_of s) (undo_cost (Some (op_done f))) ≡ false = ap (log_full (ledger_of s)) (sym c.undo_records.ensures) ∙ sym c.if-is_log_full.ensures in
+    let room : log_full (ledger_of s) (undo_cost (Some (op_done f))) ≡ false = full_on earlier c.args.self.now.state long _ ∙ ap (log_full (ledger_of c.args.self.now.state)) (sym c.undo_records.ensures) ∙ sym c.if-is_log_full.ensures in
     rw (c.in-Err-start_undo.ensures.refusal, c.in-Err-start_undo.ensures.refused, c.in-Ok-Some.ensures.same) (undo_memory s c.args.txn c.in_ok-number.number f c.in_ok-number.ensures.passes back c.in_ok-number.ensures.running room k)
 
 pub returns-in-Err-clause-answered : goal.returns-in-Err-clause-answered
-returns-in-Err-clause-answered g c h k =
-    let s = c.args.self.now.state in
+returns-in-Err-clause-answered g c h earlier long k =
+    let s = on earlier c.args.self.now.state in
     let f = c.in-Some.done in
     let back : IsTurnedBack s c.args.txn c.in_ok-number.number (Some f) = subst (λ (o : Option Finished). IsTurnedBack s c.args.txn c.in_ok-number.number o) c.in-Some.is c.in_ok-number.ensures.ready in
-    let e = c.in-Err.ensures.refused k (is_newest s c.args.txn c.in_ok-number.number f c.in_ok-number.ensures.passes back) in
-    let room : log_full (ledger_of s) (undo_cost (Some (op_done f))) ≡ false = ap (log_full (ledger_of s)) (sym c.undo_records.ensures) ∙ sym c.if-is_log_full.ensures in
+    let e = c.in-Err.ensures.refused (earlier, long, k) (is_newest c.args.self.now.state c.args.txn c.in_ok-number.number f c.in_ok-number.ensures.passes back) in
+    let room : log_full (ledger_of s) (undo_cost (Some (op_done f))) ≡ false = full_on earlier c.args.self.now.state long _ ∙ ap (log_full (ledger_of c.args.self.now.state)) (sym c.undo_records.ensures) ∙ sym c.if-is_log_full.ensures in
     rw (c.in-Err.ensures.same) (subst (λ (r : Refusal). IsModelStep s (Undo_next c.args.txn) (Gave_refusal r) s × IsCausedIn s (Undo_next c.args.txn) r) (sym e) (undo_memory s c.args.txn c.in_ok-number.number f c.in_ok-number.ensures.passes back c.in_ok-number.ensures.running room k))
 
 pub returns-in-Err-clause-latched : goal.returns-in-Err-clause-latched
-returns-in-Err-clause-latched g c k =
-    let s = c.args.self.now.state in
+returns-in-Err-clause-latched g c earlier long k =
+    let s = on earlier c.args.self.now.state in
     let f = c.in-Some.done in
     let back : IsTurnedBack s c.args.txn c.in_ok-number.number (Some f) = subst (λ (o : Option Finished). IsTurnedBack s c.args.txn c.in_ok-number.number o) c.in-Some.is c.in_ok-number.ensures.ready in
-    memory_latched (IsLatched s (Undo_next c.args.txn)) _ (c.in-Err.ensures.refused k (is_newest s c.args.txn c.in_ok-number.number f c.in_ok-number.ensures.passes back))
+    memory_latched (IsLatched s (Undo_next c.args.txn)) _ (c.in-Err.ensures.refused (earlier, long, k) (is_newest c.args.self.now.state c.args.txn c.in_ok-number.number f c.in_ok-number.ensures.passes back))
 
 pub start_undo-requires-clause-ready : goal.start_undo-requires-clause-ready
 start_undo-requires-clause-ready g c =
