@@ -7,7 +7,7 @@ use Rattle.rq_model.proofs.Lists.{In-map, same_is, In-last, In-reverse, In-to}
 use Rattle.rq_views.specs.Items.{items, layout_of}
 use Rattle.rq_views.specs.Legal.{Placed, open_deeds, rest_placed}
 use Rattle.rq_views.specs.Log.{HasBefores, Item, Write}
-use Rattle.rq_views.specs.Log.Item.{PageOp, PageUndo, OpEnd, OpVoid, CompEnd, Commit, AbortEnd, Restart}
+use Rattle.rq_views.specs.Log.Item.{PageOp, OpEnd, CompEnd, Commit}
 use Rattle.rq_views.specs.Plans.{IsPlan}
 use Rattle.rq_views.specs.Plans.Turn.{Undid}
 use Rattle.rq_level.specs.Writes.{writes_of}

@@ -1,6 +1,5 @@
 -- Audits that replay, engines that were sound when they were shared, and marks that were published.
 use Rattle.std.proofs.Common.{◌≡◌, ◌≤◌, [], ◌∷◌, refl, ap, subst, arith}
-use mathlib.Core.Option.{none}
 use Rattle.rq_model.specs.History.{Entry}
 use Rattle.rq_model.specs.History.Call.{Begin}
 use Rattle.rq_model.specs.History.Entry.{Begun, Started}

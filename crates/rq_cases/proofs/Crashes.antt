@@ -1,5 +1,5 @@
 -- Runs of calls of both devices, crashes that a course may meet, and pages and logs over their devices.
-use Rattle.std.proofs.Common.{◌≡◌, ◌≢◌, ⊎_elim, ℕ, ◌≤◌, List, [], ◌∷◌, drop, refl, sym, ap, ◌∙◌, arith}
+use Rattle.std.proofs.Common.{◌≡◌, ◌≢◌, ⊎_elim, ℕ, ◌≤◌, List, [], drop, refl, sym, ap, ◌∙◌, arith}
 use Rattle.rq_model.specs.Incarnations.{Ties}
 use Rattle.rq_model.specs.History.{Entry}
 use Rattle.rq_model.specs.History.Call.{Force}

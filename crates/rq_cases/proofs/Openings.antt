@@ -5,7 +5,7 @@ use Rattle.std.proofs.lemmas.List.{append-nil, length-take-le, take-append-drop}
 use Rattle.rq_bytes.specs.Number.{number}
 use Rattle.rq_bytes.proofs.Strings.{length-number}
 use Rattle.rq_model.specs.declared.record.Record.{Record}
-use Rattle.rq_model.specs.declared.record.Record.TheVariants.{PageOp, PageUndo, OpEnd, OpVoid, CompEnd, Commit, Restart, AbortEnd, Base}
+use Rattle.rq_model.specs.declared.record.Record.TheVariants.{OpEnd, Commit, Restart}
 use Rattle.rq_record.specs.Spelling.{fields, kind_number, spelling}
 use Rattle.rq_record.proofs.Whole.{long_spelling}
 use Rattle.rq_model.specs.declared.refusal.Refusal.TheVariants as why
@@ -37,7 +37,7 @@ use Rattle.rq_core.proofs.Arms.{refused_stays}
 use Rattle.rq_core.proofs.Judged.{refused_over}
 use Rattle.rq_cases.specs.Opened.{AreNewPages, IsNewLog}
 use Rattle.rq_cases.specs.Openings.{BeginningsAreJudged, Checked, ChecksAreJudged, RefusalsAreJudged, log_next}
-use Rattle.rq_cases.specs.Reading.{no_cells, superblock}
+use Rattle.rq_cases.specs.Reading.{no_cells}
 use Rattle.rq_cases.specs.Restarting.{read_pages}
 use Rattle.rq_cases.specs.Run.{forced, log_1, log_4, log_5}
 use Rattle.rq_cases.specs.Store.{formatted_pages, sizes}

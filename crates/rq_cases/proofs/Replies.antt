@@ -19,8 +19,7 @@ use Rattle.rq_core.specs.Worked.{hello}
 use Rattle.rq_cases.specs.Audits.{beyond}
 use Rattle.rq_cases.specs.Opened.{IsNewLog, over}
 use Rattle.rq_cases.specs.Replies.{ReceiptsAreJudged, asked_commit, asked_force, asked_receipt, of_send}
-use Rattle.rq_cases.specs.Run.{committed, forced, log_1, log_5, take_started}
-use Rattle.rq_cases.specs.Store.{sizes}
+use Rattle.rq_cases.specs.Run.{forced, log_1, log_5, take_started}
 use Rattle.rq_cases.proofs.Audits.{audits, left_out_of, unsound}
 use Rattle.rq_cases.proofs.Bytes.{first_spelled, records_spelled, the_log}
 use Rattle.rq_cases.proofs.Held.{log_left, only_records}

@@ -1,6 +1,6 @@
 -- Runs of calls of both devices, crashes that a course may meet, and pages and logs over their devices: over the worked
 -- run, and what isn't so.
-use Rattle.std.specs.Prelude.{◌≢◌, ℕ, ◌<◌, List, [], ◌∷◌, length}
+use Rattle.std.specs.Prelude.{◌≢◌, ℕ, ◌<◌, List, ◌∷◌, length}
 use Rattle.rq_model.specs.declared.record.Record.{Record}
 use Rattle.rq_model.specs.History.Call.{Begin, Force}
 use Rattle.rq_model.specs.Replay.Reply.{Gave_forced}

@@ -1,5 +1,5 @@
 -- Courses, happening by happening.
-use Rattle.std.proofs.Common.{◌≡◌, ℕ, suc, ◌+◌, ◌<◌, List, [], ◌∷◌, ◌++◌, length, take, map, refl, sym, ◌∙◌, ap, arith, append_assoc, get_or, ◌≤◌, Some, option_map}
+use Rattle.std.proofs.Common.{◌≡◌, ℕ, suc, ◌<◌, List, [], ◌∷◌, ◌++◌, length, take, map, refl, sym, ◌∙◌, ap, arith, append_assoc, get_or, ◌≤◌, Some, option_map}
 use Rattle.std.proofs.lemmas.List.{append-nil, length-take-le, length-map, reverse-append}
 use Rattle.std.proofs.lemmas.Option.{slice_get-map, slice_get-get_or}
 use Rattle.rq_model.specs.History.{Call}

@@ -1,5 +1,5 @@
 -- What is so of the devices of a world.
-use Rattle.std.proofs.Common.{◌≡◌, ℕ, List, [], ◌++◌, sym, ◌∙◌, ap, subst}
+use Rattle.std.proofs.Common.{◌≡◌, ℕ, List, [], sym, ◌∙◌, ap, subst}
 use Rattle.std.proofs.lemmas.List.{append-nil}
 use Rattle.rq_disk.specs.Device.{Leaves, Only}
 use Rattle.rq_disk.specs.Memory.{LogState, MayBe, MayLeave, fresh_log, log_reads, log_seen, pages_seen, reads}

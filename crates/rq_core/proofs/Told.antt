@@ -11,7 +11,6 @@ use Rattle.rq_page.specs.Sizes.{Sizes}
 use Rattle.rq_store.specs.State.{size_of}
 use Rattle.rq_engine.specs.Applied.{Applied}
 use Rattle.rq_engine.specs.declared.event.Event.{Event}
-use Rattle.rq_engine.specs.declared.event.Event.TheVariants as event
 use Rattle.rq_engine.specs.declared.event.Reply.{Reply}
 use Rattle.rq_restart.specs.Once.{AsManyAsTheLog, OneLogEach, OneSizeEach}
 use Rattle.rq_core.specs.Devices.{mem_pages, mem_log}

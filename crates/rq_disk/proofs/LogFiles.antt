@@ -12,25 +12,14 @@ use Rattle.rq_disk.proofs.SinceCalls.{goes_on}
 was_so_long : (held : List ℕ) (first : ℕ) (calls : List FileCall) → LogAgrees held first calls → length held ≡ first
 was_so_long held first [] agree = agree
 was_so_long held first (Gave at bytes ∷ calls) agree = was_so_long held first calls agree.1
-was_so_long held first (Denied at ∷ calls) agree = was_so_long held first calls agree
-was_so_long held first (Took at bytes ∷ calls) agree = was_so_long held first calls agree
-was_so_long held first (Tried at bytes ∷ calls) agree = was_so_long held first calls agree
-was_so_long held first (Cut len ∷ calls) agree = was_so_long held first calls agree
-was_so_long held first (Uncut len ∷ calls) agree = was_so_long held first calls agree
-was_so_long held first (Synced ∷ calls) agree = was_so_long held first calls agree
-was_so_long held first (Missed ∷ calls) agree = was_so_long held first calls agree
+was_so_long held first (_ ∷ calls) agree = was_so_long held first calls agree
 
 -- it has as many bytes as end there
 is_so_long : (held : List ℕ) (calls : List FileCall) → length (log_bytes held calls) ≡ end_of (length held) calls
 is_so_long held [] = refl
-is_so_long held (Gave at bytes ∷ calls) = is_so_long held calls
-is_so_long held (Denied at ∷ calls) = is_so_long held calls
 is_so_long held (Took at bytes ∷ calls) = omega (arith, length-append (log_bytes held calls) bytes, is_so_long held calls)
-is_so_long held (Tried at bytes ∷ calls) = is_so_long held calls
 is_so_long held (Cut len ∷ calls) = length-take len (log_bytes held calls) ∙ ap (min len) (is_so_long held calls)
-is_so_long held (Uncut len ∷ calls) = is_so_long held calls
-is_so_long held (Synced ∷ calls) = is_so_long held calls
-is_so_long held (Missed ∷ calls) = is_so_long held calls
+is_so_long held (_ ∷ calls) = is_so_long held calls
 
 module _ (calls later : List FileCall) (at : ℕ) (bytes : List ℕ) where
   begins_at_end : (first : ℕ) → at ≡ end_of first calls → writes_at_end first calls ≡ true → ((at == end_of first calls) && writes_at_end first calls) ≡ true

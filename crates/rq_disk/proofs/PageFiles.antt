@@ -48,11 +48,7 @@ synced held calls p c false iff = nothing_more
 
 pub page_files_leave : PageFilesLeave
 page_files_leave held [] p c = nothing_more
-page_files_leave held (Gave at bytes ∷ calls) p c = page_files_leave held calls p c
-page_files_leave held (Denied at ∷ calls) p c = page_files_leave held calls p c
 page_files_leave held (Took at bytes ∷ calls) p c = one_more (page_files_leave held calls p c)
 page_files_leave held (Tried at bytes ∷ calls) p c = one_more (page_files_leave held calls p c)
-page_files_leave held (Cut len ∷ calls) p c = page_files_leave held calls p c
-page_files_leave held (Uncut len ∷ calls) p c = page_files_leave held calls p c
 page_files_leave held (Synced ∷ calls) p c = synced held calls p c (has_failed calls) (page_files_leave held calls p c)
-page_files_leave held (Missed ∷ calls) p c = page_files_leave held calls p c
+page_files_leave held (_ ∷ calls) p c = page_files_leave held calls p c

@@ -1,5 +1,5 @@
 -- With the earlier records that stand in it, a store is itself: what is said for all of them is so of the store.
-use Rattle.std.proofs.Common.{◌≡◌, ℕ, List, Ok, Err, refl, sym, ap, subst}
+use Rattle.std.proofs.Common.{◌≡◌, List, Ok, Err, refl, sym, ap, subst}
 use Rattle.rq_disk.specs.declared.device.LogDevice as log_device
 use Rattle.rq_disk.specs.declared.device.PageDevice as page_device
 use Rattle.rq_log.specs.Spelled.{AreSpelled, IsBeginning}
@@ -16,7 +16,7 @@ use Rattle.rq_engine.specs.declared.event.Reply.{Reply}
 use Rattle.rq_engine.specs.Answers.{AnswersLegally, IsCausedIn}
 use Rattle.rq_engine.specs.Applied.{Applied, LatchedSay}
 use Rattle.rq_engine.specs.Crash.{AreFit, LeavesCut}
-use Rattle.rq_engine.specs.Earlier.{IsEarlier, IsSpelledAlike, on, over, rebased, unknown}
+use Rattle.rq_engine.specs.Earlier.{IsEarlier, IsSpelledAlike, on, over, unknown}
 use Rattle.rq_engine.specs.Opened.{OpenStore, AreHonest}
 use Rattle.rq_engine.specs.Says.{RefusedForCause, call_of, gave}
 use Rattle.rq_engine.proofs.Earlier.{own}

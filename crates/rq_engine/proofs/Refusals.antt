@@ -6,7 +6,7 @@ use Rattle.rq_model.specs.declared.refusal.Refusal.{Refusal}
 use Rattle.rq_model.specs.declared.refusal.Refusal.TheVariants as why
 use Rattle.rq_model.specs.Vocabulary.{is_some}
 use Rattle.rq_model.specs.History.{Call}
-use Rattle.rq_model.specs.History.Call.{Begin, Commit, Start_send, Step, Finish, Acknowledge, Force, Hand_over, Show, Start_receive, Start_receive_from, Start_close, Start_abort, Undo_next, End_abort, Write_page, Last_tag}
+use Rattle.rq_model.specs.History.Call.{Begin, Commit}
 use Rattle.rq_model.specs.History.Entry.{Refused}
 use Rattle.rq_model.specs.Ledger.{Ledger, runs, after, found}
 use Rattle.rq_model.specs.Legal.{LegalRefusal, OnFound}

@@ -2,7 +2,7 @@
 use Rattle.std.proofs.Common.{◌≡◌, List, [], ◌∷◌, ◌++◌, refl, sym, ◌∙◌, ap, subst, false}
 use Rattle.rq_model.specs.declared.refusal.Refusal.TheVariants.{Failed}
 use Rattle.rq_model.specs.History.{Entry, Call}
-use Rattle.rq_model.specs.History.Call.{Begin, Start_send, Start_receive, Start_receive_from, Start_close, Step, Finish, Commit, Acknowledge, Start_abort, Undo_next, End_abort, Hand_over, Force, Write_page, Last_tag, Show}
+use Rattle.rq_model.specs.History.Call.{Begin}
 use Rattle.rq_model.specs.History.Entry.{Refused}
 use Rattle.rq_model.specs.Ledger.{Ledger, runs, ledger, after}
 use Rattle.rq_model.specs.Legal.{Legal, IsLegal}

@@ -6,7 +6,7 @@ use Rattle.rq_model.specs.declared.txn.Txn.{Txn}
 use Rattle.rq_model.specs.declared.refusal.Refusal.{Refusal}
 use Rattle.rq_model.specs.declared.refusal.Refusal.TheVariants.{DiskWrite}
 use Rattle.rq_model.specs.Vocabulary.{Op, In, same_txn, taken_from, sent_for, ends, has_txn}
-use Rattle.rq_model.specs.History.Entry.{Begun, Started, None_free, None_from, Stepped, Ready, Did, Undid, Committed, Acknowledged, Aborting, None_left, Aborted, Handed_over, Forced, Wrote, Told, Shown, Refused, Crash, Restarted}
+use Rattle.rq_model.specs.History.Entry.{Committed, Forced, Refused, Crash, Restarted}
 use Rattle.rq_model.specs.Legal.{Legal, IsLegal}
 use Rattle.rq_model.specs.Tests.{Size}
 use Rattle.rq_model.proofs.Lists.{same_is, In-to, In-map}

@@ -3,7 +3,7 @@ use Rattle.std.proofs.Common.{◌≡◌, ℕ, ◌<◌, ◌≤◌, List, [], ◌�
 use Rattle.std.proofs.lemmas.Bool.{cases_Bool, or_cases, or_parts, or_left, or_right, or_from, and_parts, and_from, false≢true, false_from_ne_true, not-true}
 use Rattle.rq_model.specs.declared.txn.Txn.{Txn}
 use Rattle.rq_model.specs.declared.record.Record.{Record}
-use Rattle.rq_model.specs.declared.record.Record.TheVariants.{PageOp, PageUndo, OpEnd, OpVoid, CompEnd, Commit, Restart, AbortEnd, Base}
+use Rattle.rq_model.specs.declared.record.Record.TheVariants.{OpEnd, Commit, AbortEnd}
 use Rattle.rq_model.specs.Vocabulary.{same_txn}
 use Rattle.rq_model.specs.Content.{Said, Ending, ending, ends_txn, has_commit, has_end, kept, deeds, added, removed, removed_one}
 use Rattle.rq_model.specs.Rules.{uses_receive, any_use, holds, EndingMay, KeepsRules}

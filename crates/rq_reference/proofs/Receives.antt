@@ -225,9 +225,7 @@ with_work m n left s r j = record (open_of m) { number = n; under = Some j; left
 
 started_cases : (m : OpenTxn) (n w : ℕ) (j : Job) → with_work m n w (sending_with j m.sending.items) (receiving_with j m.receiving.items) j ≡ started n w j (open_of m)
 started_cases m n w (Sending x) = refl
-started_cases m n w (Taking s) = refl
-started_cases m n w (Ending s) = refl
-started_cases m n w Undoing = refl
+started_cases m n w _ = refl
 
 pub started_is : (m : OpenTxn) (n left w : ℕ) (s r : List ℕ) (j : Job) → left ≡ w → s ≡ sending_with j m.sending.items → r ≡ receiving_with j m.receiving.items
     → with_work m n left s r j ≡ started n w j (open_of m)
@@ -236,9 +234,7 @@ started_is m n left w s r j e g h =
 
 pub kept_txn : (n w : ℕ) (j : Job) (o : Open) → (started n w j o).txn ≡ o.txn
 kept_txn n w (Sending x) o = refl
-kept_txn n w (Taking s) o = refl
-kept_txn n w (Ending s) o = refl
-kept_txn n w Undoing o = refl
+kept_txn n w _ o = refl
 
 -- a row whose operation is finished
 abbrev pub finished_one : Option Act → Open → Open

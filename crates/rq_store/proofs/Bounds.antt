@@ -17,7 +17,7 @@ use Rattle.rq_page.specs.Slots.{Slot, held_in, held_for, IsSlotOf, IsSlotFor}
 use Rattle.rq_page.specs.Slots.Slot.{Free, Used, Sender}
 use Rattle.rq_page.specs.Formatted.{count_in}
 use Rattle.rq_views.specs.Log.{Item, Places, Slots, Write, put, rest_of, IsNewest, same_op, state_of}
-use Rattle.rq_views.specs.Log.Item.{PageOp, PageUndo, OpEnd, OpVoid, CompEnd, Commit, AbortEnd, Restart}
+use Rattle.rq_views.specs.Log.Item.{PageOp, PageUndo, OpEnd, OpVoid, CompEnd}
 use Rattle.rq_views.specs.Plans.{Turn, IsPlan, relinked}
 use Rattle.rq_views.specs.Plans.Turn.{Did, Undid}
 use Rattle.rq_views.specs.Legal.{IsLegalLog, onto}

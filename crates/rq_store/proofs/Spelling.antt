@@ -8,7 +8,7 @@ use Rattle.rq_page.proofs.Spellings.{spelling_tells}
 use Rattle.rq_views.specs.InStore.{InStore, InStoreOne}
 use Rattle.rq_views.specs.Items.{items, item_of, told_deed}
 use Rattle.rq_views.specs.Log.{Item}
-use Rattle.rq_views.specs.Log.Item.{PageOp, PageUndo, OpEnd, OpVoid, CompEnd, Commit, AbortEnd, Restart}
+use Rattle.rq_views.specs.Log.Item.{PageOp, PageUndo, OpEnd}
 use Rattle.rq_views.specs.Plans.{deed_sender}
 use Rattle.rq_store.specs.Whole.{BeforesAreSlots, IsBefore}
 use Rattle.rq_store.specs.Worked.{record_of, spelled_log}

@@ -7,7 +7,7 @@ use Rattle.rq_model.specs.declared.txn.Txn.{Txn}
 use Rattle.rq_model.specs.Vocabulary.{In, same_txn}
 use Rattle.rq_model.proofs.Lists.{In-filter, same_is, same_self}
 use Rattle.rq_views.specs.Log.{Item}
-use Rattle.rq_views.specs.Log.Item.{PageOp, PageUndo, OpEnd, OpVoid, CompEnd, Commit, AbortEnd, Restart}
+use Rattle.rq_views.specs.Log.Item.{OpEnd, CompEnd, Commit}
 use Rattle.rq_views.specs.Legal.{Placed, open_deeds, rest_placed}
 use Rattle.rq_views.specs.Claims.{takes_of, takes_placed}
 

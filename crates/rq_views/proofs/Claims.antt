@@ -13,7 +13,7 @@ use Rattle.rq_model.specs.Tests.{below}
 use Rattle.rq_model.proofs.Counts.{sum_none}
 use Rattle.rq_page.specs.Sizes.{Sizes, cell_count, sender_count}
 use Rattle.rq_views.specs.Log.{Item, state_of}
-use Rattle.rq_views.specs.Log.Item.{PageOp, PageUndo, OpEnd, OpVoid, CompEnd, Commit, AbortEnd, Restart}
+use Rattle.rq_views.specs.Log.Item.{OpEnd, CompEnd, Commit}
 use Rattle.rq_views.specs.InStore.{InStore}
 use Rattle.rq_views.specs.Items.{items, layout_of, told_deed, operation}
 use Rattle.rq_views.specs.Legal.{IsLegalLog, Placed, Undoes, open_deeds, undoing, view, view_after}

@@ -7,7 +7,7 @@ use Rattle.std.proofs.lemmas.Bool.{cases_Bool, cond-true, cond-false, false≢tr
 use Rattle.rq_views.specs.Chain.{View}
 use Rattle.rq_views.specs.Log.{Item}
 use Rattle.rq_model.specs.declared.record.Deed.TheVariants.{Append, UnlinkHead, Close}
-use Rattle.rq_views.specs.Log.Item.{PageOp, PageUndo, OpEnd, OpVoid, CompEnd, Commit, AbortEnd, Restart}
+use Rattle.rq_views.specs.Log.Item.{OpEnd, CompEnd, Commit}
 use Rattle.rq_views.specs.Plans.{with_turn}
 use Rattle.rq_views.specs.Plans.Turn.{Did, Undid}
 use Rattle.rq_views.specs.Legal.{Placed, open_deeds, view, view_after, no_view, undoing}

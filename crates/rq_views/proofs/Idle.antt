@@ -4,7 +4,7 @@ use Rattle.std.proofs.Common.{◌≡◌, ℕ, ◌&&◌, inl, inr, List, [], ◌�
 use Rattle.std.specs.Prelude.{not}
 use Rattle.std.proofs.lemmas.Bool.{cases_Bool, cond-true, cond-false, and_parts, and_cases, and_left, and_right, or_cases, or_parts, or_from, not-false, false≢true, true≢false}
 use Rattle.rq_views.specs.Log.{Write, Places, LogState, Item, act, same_op, writes_after, stands_after, state_of}
-use Rattle.rq_views.specs.Log.Item.{PageOp, PageUndo, OpEnd, OpVoid, CompEnd, Commit, AbortEnd, Restart}
+use Rattle.rq_views.specs.Log.Item.{PageOp, PageUndo, OpEnd, OpVoid, CompEnd}
 use Rattle.rq_views.specs.Legal.{of_op, is_of, began, is_end, over, under_way, is_undo, turned_back, on_page, crossed, MayFollow, IsLegalLog}
 use Rattle.rq_views.proofs.Overlay.{Good, same_is}
 use Rattle.rq_views.proofs.Views.{good}

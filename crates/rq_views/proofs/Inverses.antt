@@ -4,7 +4,7 @@ use Rattle.std.proofs.lemmas.Bool.{false≢true, true≢false}
 use Rattle.rq_model.specs.declared.record.Deed.TheVariants.{Append, UnlinkHead, Close}
 use Rattle.rq_views.specs.Chain.{View, Taking, Sending, AreTaken, AreSent, view_appended, view_tail_unlinked, view_put_back, all_but_last}
 use Rattle.rq_views.specs.Chain.Taking.{Took, PutBack}
-use Rattle.rq_views.specs.Chain.Sending.{Sent, TailUnlinked, Closed, Reopened}
+use Rattle.rq_views.specs.Chain.Sending.{TailUnlinked}
 use Rattle.rq_views.specs.Plans.{Turn, with_turn, view_head_unlinked}
 use Rattle.rq_views.specs.Plans.Turn.{Did, Undid}
 use Rattle.rq_views.specs.Inverses.{inverse, is_of_receiver, CanBeDone, InversesLeaveTheOthers}

@@ -8,7 +8,7 @@ use Rattle.rq_model.specs.Vocabulary.{same_txn}
 use Rattle.rq_model.proofs.Lists.{same_is}
 use Rattle.rq_model.specs.declared.record.Deed.TheVariants.{Append, UnlinkHead, Close}
 use Rattle.rq_views.specs.Log.{Item, Places, IsNewest, same_op, state_of}
-use Rattle.rq_views.specs.Log.Item.{PageOp, PageUndo, OpEnd, OpVoid, CompEnd, Commit, AbortEnd, Restart}
+use Rattle.rq_views.specs.Log.Item.{PageOp, PageUndo, OpEnd, OpVoid, CompEnd}
 use Rattle.rq_views.specs.Legal.{Placed, IsLegalLog, Undoes, of_op, is_of, began, open_deeds}
 use Rattle.rq_views.specs.Plans.{Turn, IsPlan}
 use Rattle.rq_views.specs.Plans.Turn.{Did, Undid}

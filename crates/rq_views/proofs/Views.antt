@@ -7,7 +7,7 @@ use Rattle.std.proofs.lemmas.Bool.{cases_eq, cond-true, cond-false, eq-eqb}
 use Rattle.rq_views.specs.Chain.{View}
 use Rattle.rq_views.specs.Log.{Slots, Write, applied, HasBefores, Places, Item, act, state_of, MayAct}
 use Rattle.rq_model.specs.declared.record.Deed.TheVariants.{Append, UnlinkHead, Close}
-use Rattle.rq_views.specs.Log.Item.{PageOp, PageUndo, OpEnd, OpVoid, CompEnd, Commit, AbortEnd, Restart}
+use Rattle.rq_views.specs.Log.Item.{PageOp, PageUndo, OpEnd, OpVoid, CompEnd}
 use Rattle.rq_views.specs.Plans.{ShowsAt, Spares, LinksTo, relinked, Turn, IsPlan, turn_sender, with_turn}
 use Rattle.rq_views.specs.Plans.Turn.{Did, Undid}
 use Rattle.rq_views.specs.Legal.{Placed, open_deeds, undoing, view_after, view, Undoes, MayFollow, IsLegalLog, IsLayout}

@@ -103,24 +103,15 @@ send_back s t b is =
 
 -- the fields of a request are read as that request
 read_back : (r : Request) → IsRequest r → request_in (request_kind r) (request_fields r) ≡ Some r
-read_back Begin is = refl
 read_back (Send sender tag body) is = send_back sender tag body is
-read_back Receive is = refl
 read_back (ReceiveFrom sender) is = rw (four sender, alone sender is) refl
 read_back (Close sender) is = rw (four sender, alone sender is) refl
-read_back Commit is = refl
-read_back Abort is = refl
 read_back (LastTag sender) is = rw (four sender, alone sender is) refl
+read_back _ is = refl
 
 in_range : (r : Request) → (0 < request_kind r) × (request_kind r < 9)
 in_range Begin = (omega arith, omega arith)
-in_range (Send sender tag body) = (omega arith, omega arith)
-in_range Receive = (omega arith, omega arith)
-in_range (ReceiveFrom sender) = (omega arith, omega arith)
-in_range (Close sender) = (omega arith, omega arith)
-in_range Commit = (omega arith, omega arith)
-in_range Abort = (omega arith, omega arith)
-in_range (LastTag sender) = (omega arith, omega arith)
+in_range _ = (omega arith, omega arith)
 
 short_fields : (r : Request) → IsRequest r → length (request_fields r) ≤ 511
 short_fields Begin is = omega arith
