@@ -12,9 +12,10 @@ use rq_levels::sets_of_levels;
 use rq_page::layout::Layout;
 use rq_script::{run_script, sets_wanted};
 use serving::run_serve;
-use std::fs::File;
+use std::fs::{File, OpenOptions};
 use std::io::{self, Read, Write};
 use std::net::{Net, TcpListener, TcpStream};
+use std::os::fd::AsRawFd;
 use std::process::ExitCode;
 use std::rt::{Env, Files};
 use std::sync::Wait;
@@ -22,9 +23,30 @@ use std::thread::Threads;
 use std::time::Clock;
 
 fn main(rt: HostRuntime) -> ExitCode {
+    let _held = closed_streams(&rt);
     match run(&rt) {
         Ok(status) => ExitCode::from(status),
         Err(_) => ExitCode::from(1),
+    }
+}
+
+// Takes the numbers of the standard streams that are closed, until the program ends. Else a file of a store gets one, and what
+// is printed is written there.
+fn closed_streams<R: Files<File = File>>(rt: &R) -> [Option<File>; 3] {
+    [closed_stream(rt), closed_stream(rt), closed_stream(rt)]
+}
+
+// The lowest number that is free, where it is a standard stream's.
+fn closed_stream<R: Files<File = File>>(rt: &R) -> Option<File> {
+    let file = OpenOptions::new()
+        .read(true)
+        .write(true)
+        .open(rt, "/dev/null")
+        .ok()?;
+    if file.as_raw_fd() <= 2 {
+        Some(file)
+    } else {
+        None
     }
 }
 
