@@ -63,13 +63,13 @@ class Load:
         except ConnectionError:
             pass
 
-    def round(self, server, seconds):
-        """Runs until the server is killed, after so many seconds."""
+    def round(self, server, seconds, end):
+        """Runs until the server ends, after so many seconds."""
         works = [(work, server, group) for group in range(GROUPS) for work in (self.send, self.move)]
         with ThreadPoolExecutor(len(works)) as pool:
             running = [pool.submit(self.until_killed, *work) for work in works]
             time.sleep(seconds)
-            server.kill()
+            end()
             for done in running:
                 done.result()
 
@@ -132,7 +132,7 @@ class Kills:
             self.kill_at_start()
         with self.running() as server:
             self.load.look(server)
-            self.load.round(server, self.random.uniform(0.02, 0.3))
+            self.load.round(server, self.random.uniform(0.02, 0.3), server.kill)
         self.kills += 1
 
     def kill_at_start(self):

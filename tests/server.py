@@ -703,10 +703,12 @@ def few_descriptors(program, _):
         waiting = [server.raw() for _ in range(30)]
         for stream in waiting:
             stream.sendall(BEGIN)
+        told = [b"no more files may be opened: connections wait until others end"]
+        wait_until(lambda: server.tells()[1:] == told)
         for stream in waiting:  # each is answered at last, as those before it end
             assert read_bytes(stream, len(BEGUN) + 8).startswith(BEGUN)
             stream.close()
-        assert server.tells()[1:] == [b"no more files may be opened: connections wait until others end"]
+        assert server.tells()[1:] == told
 
 
 def many_connections(program, _):

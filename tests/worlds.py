@@ -1,8 +1,8 @@
 #!/usr/bin/env python3
 """Lets anything happen to a store: draws happenings from seeds, runs them by the proved program, and compares each entry with the
 reference. The happenings of tests/worlds come first: each NAME.happenings comes to what stands in NAME.expected; and then those of
-them in which each device call fails in turn. Where `rt ci` left the program as Rattle's own compiler builds it too, that one runs
-these as well.
+them in which each device call fails in turn. (tests/stops.py stops the machine at each.) Where `rt ci` left the program as Rattle's
+own compiler builds it too, that one runs these as well.
 
     python3 tests/worlds.py [--program PROGRAM] [--first SEED] [--courses N] [--keep FOLDER] [--counts]
 
@@ -257,13 +257,14 @@ def renumbered(line, at, end):
 # ---- lists of tests/worlds in which each device call fails in turn
 
 
-IMAGES = b"-", b"0,0,0,0,0,0"
+IMAGES = b"-", b",".join([b"0"] * 16)
 
 
 def is_plain(lines):
-    """Whether nothing fails or stops, and the store is shown at last behind a crash."""
+    """Whether nothing fails, nothing stops but in a restart, and the store is shown behind the last crash."""
     names = [line.split(b" ")[0] for line in lines]
-    return names[-1:] == [b"content"] and b"crash" in names and not {b"fail", b"stop-in", b"restart-stop"} & set(names)
+    crashes = [at for at, name in enumerate(names) if name == b"crash"]
+    return bool(crashes) and b"content" in names[crashes[-1] :] and not {b"fail", b"stop-in"} & set(names)
 
 
 def failing(lines, n, images):

@@ -1,0 +1,696 @@
+#!/usr/bin/env python3
+"""Uses `rqm` as nobody should: signals at any moment, streams that are closed or full, little memory, few files, a small disk, files that
+are mixed up or gone, calls that come short, clients that say anything. Each time the answer is one of docs/OPERATING.md, a client that
+behaves is served, and what was acknowledged is there at the next start.
+
+    python3 tests/hostile.py [--program PROGRAM] [--seed N] [--rounds N] [--minutes M] [NAME..]
+
+A name is one of the tests below, as `signals`; without one all are run, but for `long_sessions`. One needs the rights of root, and says
+where it does not have them.
+"""
+import argparse
+import itertools
+import os
+import pathlib
+import random
+import resource
+import shutil
+import signal
+import socket
+import struct
+import subprocess
+import sys
+import tempfile
+import threading
+import time
+from concurrent.futures import ThreadPoolExecutor
+from contextlib import contextmanager
+
+import opening
+from cases import built
+from damaged import formatted
+from files import files_of, folder_of, format_store
+from kill import Kills
+from server import (
+    LENGTHS, LONGEST, Client, Connection, NotStarted, Server, compare, everything, in_threads, raises, read_to_end, reset, serving,
+    store, wait_until,
+)  # fmt: skip
+from shim import failing
+
+sys.dont_write_bytecode = True
+from rqm import Failed, Full, Lost, NoMemory, Refused  # noqa: E402, where `server` finds it
+
+# What a server may print in place of where it listens.
+FAULTS = [b"fault open\n", b"fault 1 NoMemory\n", b"fault 3 DiskRead\n", b"fault 15 DiskWrite\n", b"fault 16 Damaged\n"]
+
+
+class Skipped(Exception):
+    """Why a test is not run."""
+
+
+def as_root():
+    if os.geteuid() != 0:
+        raise Skipped("it needs the rights of root")
+
+
+# ---- signals
+
+
+class Ends(Kills):
+    """A store whose servers are ended by any of the signals that end a program."""
+
+    def round(self):
+        with self.running() as server:
+            self.load.look(server)
+            number = self.random.choice([signal.SIGTERM, signal.SIGINT, signal.SIGHUP, signal.SIGKILL])
+            self.load.round(server, self.random.uniform(0.02, 0.2), lambda: ended_by(server, number))
+        self.kills += 1
+
+
+def ended_by(server, number):
+    server.process.send_signal(number)
+    assert server.process.wait(LONGEST) == -number, (number, server.process.returncode)
+
+
+def signals(program, chosen):
+    """Ended by any signal under load, again and again: nothing that was acknowledged is lost."""
+    with store(program, 1, 400) as folder:
+        ends = Ends(program, folder, chosen.seed)
+        for _ in range(chosen.rounds):
+            ends.round()
+        with ends.running() as server:
+            ends.load.look(server, is_last=True)
+
+
+def pauses(program, chosen):
+    """Stopped and continued under load, also while it waits for clients: no connection is lost by it."""
+    draw = random.Random(chosen.seed)
+    for workers in (1, 3):
+        with store(program, 1, 400) as folder, serving(program, folder, "--workers", workers) as server, server.connect() as idle:
+            ends = Ends(program, folder, chosen.seed)
+
+            def pause():
+                for _ in range(chosen.rounds):
+                    time.sleep(draw.uniform(0, 0.02))
+                    server.process.send_signal(signal.SIGSTOP)
+                    time.sleep(draw.uniform(0, 0.02))
+                    server.process.send_signal(signal.SIGCONT)
+                time.sleep(0.1)
+                wait_until(lambda: idle.last_tag(0).sent > 0)
+                assert server.process.poll() is None
+                server.kill()
+
+            pause_idle(server, idle)
+            ends.load.round(server, 0, pause)
+            assert len(server.tells()) == 1, server.tells()
+            with ends.running() as again:
+                ends.load.look(again, is_last=True)
+
+
+def pause_idle(server, idle):
+    """Nobody says anything."""
+    for _ in range(20):
+        server.process.send_signal(signal.SIGSTOP)
+        time.sleep(0.005)
+        server.process.send_signal(signal.SIGCONT)
+        time.sleep(0.005)
+    assert idle.last_tag(0).sent == 0
+
+
+# ---- standard streams
+
+
+def closed_streams(program, _):
+    """Without any of its three streams: what would be printed goes nowhere, and never into a file of the store."""
+    for closed in itertools.chain(*(itertools.combinations((0, 1, 2), count) for count in (1, 2, 3))):
+        with folder_of() as folder:
+            command = [program, "format", str(folder), "--directory", "1", "--cells", "2"]
+            assert without(closed, command).wait(LONGEST) == 0, closed
+            assert files_of(folder) == {"pages": bytes(formatted(1, 2)), "log": b""}, closed
+            port = free_port()
+            server = without(closed, [program, "serve", str(folder), "--port", str(port)])
+            try:
+                with connected(server, port) as connection, connection.transaction() as transaction:
+                    transaction.send(0, 7, b"hello")
+            finally:
+                server.kill()
+                server.wait()
+            left = files_of(folder)
+            made = opening.Opening(left["pages"], left["log"])
+            assert made.pages.content()[0] == (1, 7, 0, False, [(7, b"hello")]), closed
+            assert without(closed, [program, "inspect", str(folder)]).wait(LONGEST) == 0, closed
+
+
+def without(closed, command):
+    def close():
+        for number in closed:
+            os.close(number)
+
+    return subprocess.Popen(command, stdin=subprocess.DEVNULL, stdout=subprocess.DEVNULL, stderr=subprocess.DEVNULL, preexec_fn=close)
+
+
+def free_port():
+    with socket.create_server(("127.0.0.1", 0)) as taken:
+        return taken.getsockname()[1]
+
+
+def connected(server, port):
+    until = time.monotonic() + LONGEST
+    while True:
+        try:
+            return Connection(port, timeout=LONGEST)
+        except ConnectionError:
+            assert server.poll() is None and time.monotonic() < until, server.returncode
+            time.sleep(0.01)
+
+
+def full_streams(program, _):
+    """Where a line cannot be printed, the program ends with status 1 and leaves a store that opens."""
+    script = b"".join(b"begin\n" for _ in range(2000))
+    for name in ("full", "pipe"):
+        with folder_of() as folder:
+            words = ["--directory", "1", "--cells", "2"]
+            for command, given in (
+                (["format", str(folder), *words], b""), (["inspect", str(folder)], b""), (["serve", str(folder), "--port", "0"], b""),
+                (["run", *words], script),
+            ):  # fmt: skip
+                with unwritable(name) as out:
+                    ran = subprocess.run([program, *command], input=given, stdout=out, stderr=subprocess.DEVNULL, timeout=LONGEST)
+                assert ran.returncode == 1, (name, command, ran.returncode)
+            with serving(program, folder) as server, server.connect() as connection:
+                assert everything(connection) == {}
+
+
+@contextmanager
+def unwritable(name):
+    """A stream that takes nothing: a full disk, or a pipe that nobody reads."""
+    if name == "full":
+        with open("/dev/full", "wb") as full:
+            yield full
+    else:
+        reader, writer = os.pipe()
+        os.close(reader)
+        yield writer
+        os.close(writer)
+
+
+# ---- little of what the system gives
+
+
+def limited(program, folder, *limits):
+    """What a server comes to under limits, once it listens or ends: what it prints first, and its status then."""
+
+    def limit():
+        for kind, most in limits:
+            resource.setrlimit(kind, (most, most))
+
+    with tempfile.TemporaryFile() as told:
+        command = [program, "serve", str(folder), "--port", "0"]
+        process = subprocess.Popen(command, stdout=subprocess.PIPE, stderr=told, preexec_fn=limit)
+        line = process.stdout.readline()
+        if line.startswith(b"listening "):
+            process.kill()
+        rest, _ = process.communicate(timeout=LONGEST)
+        return line + rest, process.returncode
+
+
+def little_at_start(program, _):
+    """Whatever little memory or few files there are: it listens, or says why not, with status 1. What it cannot be loaded with is the
+    loader's to say, with 127."""
+    seen = set()
+    with store(program, 1, 400) as folder:
+        before = files_of(folder)
+        for kind, sizes in ((resource.RLIMIT_AS, memory_sizes()), (resource.RLIMIT_NOFILE, range(3, 24))):
+            for most in sizes:
+                line, status = limited(program, folder, (kind, most))
+                seen.add((kind, line if line in FAULTS else line[:9], status))
+                if line.startswith(b"listening "):
+                    continue
+                is_unloaded = most < (2**23 if kind == resource.RLIMIT_AS else 5) and not line and status in (1, 127, -signal.SIGKILL)
+                assert (line in FAULTS and status == 1) or is_unloaded, (kind, most, line, status)
+        left = files_of(folder)
+        opening.Opening(left["pages"], left["log"])
+        assert left["pages"] == before["pages"]
+    assert (resource.RLIMIT_AS, b"fault 1 NoMemory\n", 1) in seen and (resource.RLIMIT_AS, b"listening", -signal.SIGKILL) in seen, seen
+
+
+def memory_sizes():
+    return [*range(2**21, 2**25, 2**19), *range(2**25, 2**28, 2**23), 2**30, 2**32]
+
+
+def little_under_load(program, _):
+    """A server that gets no more memory answers NoMemory, or takes no connection, and goes on; it does not end. What was acknowledged is
+    there at the next start."""
+    refused = 0
+    words = {"MALLOC_ARENA_MAX": "1"}  # what is wanted is asked of the system at once
+    for more in (0, 2**16):
+        with store(program, 4, 2000) as folder, serving(program, folder, "--workers", 2, environment=words) as server:
+            acknowledged, streams = {}, []
+            with server.connect() as connection:
+                send_many(connection, acknowledged, 0, range(1, 2))
+                pages = int(pathlib.Path(f"/proc/{server.process.pid}/statm").read_text().split()[0])
+                most = pages * resource.getpagesize() + more
+                resource.prlimit(server.process.pid, resource.RLIMIT_AS, (most, most))
+                refused += sum(wants_more(server, acknowledged, streams, sender) for sender in range(1, 6))
+                assert connection.last_tag(0) == (1, 1) and server.process.poll() is None, server.process.returncode
+            server.kill()
+            for stream in streams:
+                stream.close()
+            with serving(program, folder) as again, again.connect() as connection:
+                held = everything(connection)
+            for sender, tags in acknowledged.items():
+                assert [tag for tag, _ in held.get(sender, [])] == tags, (more, sender)
+    assert refused > 5, refused
+    return f"{refused} refused"
+
+
+def send_many(connection, acknowledged, sender, tags):
+    with connection.transaction() as transaction:
+        for tag in tags:
+            transaction.send(sender, tag, b"x" * 216)
+    acknowledged.setdefault(sender, []).extend(tags)
+
+
+def wants_more(server, acknowledged, streams, sender):
+    """One more connection, with a transaction that is committed and one that stays open. Whether memory was wanting for one."""
+    try:
+        connection = server.connect()
+        streams.append(connection)
+        connection.patience = 0
+        send_many(connection, acknowledged, sender, range(1, 100))
+        left_open = connection.transaction()
+        for tag in range(100, 300):
+            left_open.send(sender, tag, b"y" * 216)
+    except NoMemory:
+        return True
+    except (Lost, OSError):
+        return True  # no connection could be kept
+    return False
+
+
+# ---- files
+
+
+def other_files(program, _):
+    """The pages of one store beside the log of another, or one of them as it was before: what opens is what the bytes say, and the
+    rest is refused. So are pages of any other length."""
+    with store(program, 1, 2) as one, store(program, 1, 2) as other:
+        kept = []
+        for count, folder in enumerate((one, other, one, other), 1):
+            with serving(program, folder) as server, server.connect() as connection:
+                for tag in range(count):
+                    with connection.transaction() as transaction:
+                        transaction.send(tag % 3, 10 * count + tag, b"of %d" % count)
+                        if tag % 2:
+                            transaction.receive()
+                time.sleep(1.2 if count > 2 else 0.1)  # until pages are written
+            kept.append(files_of(folder))
+    mixed = [(a["pages"], b["log"]) for a in kept for b in kept]
+    mixed += [(kept[3]["pages"][:size], kept[3]["log"]) for size in (0, 1, 4095, 4096, 4097, 8192, 16383)]
+    mixed += [(kept[3]["pages"] + b"x" * size, kept[3]["log"]) for size in (1, 4096, 9000)]
+    mixed += [(b["log"], b["pages"]) for b in kept]
+    came = set()
+    for pages, log in mixed:
+        said, made, _ = opening.said_of(pages, log)
+        came.add(said.split(" ")[0])
+        with folder_of(pages=pages, log=log) as folder:
+            if made:
+                with serving(program, folder) as server, server.connect() as connection:
+                    left = {sender: held[4] for sender, held in made.pages.content().items() if held[4]}
+                    assert everything(connection) == left, said
+            else:
+                line = b"fault 16 Damaged\n" if said.startswith("damaged") else said.encode() + b"\n"
+                assert limited(program, folder) == (line, 1), said
+                assert files_of(folder) == {"pages": pages, "log": log}
+    assert came == {"restarted", "damaged", "fault"}, came
+
+
+def no_rights(program, _):
+    """Files and folders that may not be written are told, and stay. In a folder that may not be written a store is served, and none is
+    made."""
+
+    def nobody():
+        if os.geteuid() == 0:
+            os.setgid(65534)
+            os.setuid(65534)
+
+    with folder_of(pages=formatted(), log=b"") as folder:
+        if os.geteuid() == 0:
+            os.chown(folder, 65534, 65534)
+            for file in folder.iterdir():
+                os.chown(file, 65534, 65534)
+        mine = pathlib.Path(shutil.copy(program, folder.parent / f"{folder.name}-program"))
+        mine.chmod(0o755)
+        try:
+            for mode in ({"pages": 0o444}, {"log": 0o444}, {"pages": 0}, {".": 0}):
+                for name, bits in mode.items():
+                    (folder / name).chmod(bits)
+                ran = subprocess.run([mine, "serve", folder, "--port", "0"], capture_output=True, preexec_fn=nobody, timeout=LONGEST)
+                told = b"the store cannot be opened: Permission denied (os error 13)\n"
+                assert (ran.stdout, ran.stderr, ran.returncode) == (b"fault open\n", told, 1), (mode, ran)
+                for name in mode:
+                    (folder / name).chmod(0o755 if name == "." else 0o644)
+            (folder / "new").mkdir(0o555)
+            if os.geteuid() == 0:
+                os.chown(folder / "new", 65534, 65534)
+            command = [mine, "format", folder / "new", "--directory", "1", "--cells", "1"]
+            ran = subprocess.run(command, capture_output=True, preexec_fn=nobody, timeout=LONGEST)
+            assert (ran.stdout, ran.returncode) == (b"fault open\n", 1), ran
+            folder.chmod(0o555)
+            command = [mine, "serve", folder, "--port", "0", "--until-input-ends"]
+            ran = subprocess.run(command, input=b"", capture_output=True, preexec_fn=nobody, timeout=LONGEST)
+            assert ran.stdout.endswith(b"served 0\n") and ran.returncode == 0, ran
+            folder.chmod(0o755)
+        finally:
+            mine.unlink()
+
+
+def vanished_folder(program, _):
+    """A folder that is removed under a server: it serves on as long as it runs, from files without a name. The next start tells."""
+    with store(program, 1, 10) as folder:
+        with serving(program, folder) as server, server.connect() as connection:
+            with connection.transaction() as transaction:
+                transaction.send(0, 1, b"before")
+            shutil.rmtree(folder)
+            for tag in range(2, 100):
+                with connection.transaction() as transaction:
+                    transaction.send(0, tag, b"behind")
+                    assert transaction.receive_from(0)
+            assert len(server.tells()) == 1, server.tells()
+            assert not folder.exists()
+        raises(NotStarted, lambda: Server(program, folder))
+        assert limited(program, folder) == (b"fault open\n", 1)
+        folder.mkdir()
+        assert limited(program, folder) == (b"fault open\n", 1)
+        assert format_store(program, folder) == (b"formatted 1 2\n", 0)
+
+
+def small_disk(program, _):
+    """A disk that gets full under load: the store fails, and says so. What was acknowledged is there, once there is room, and before."""
+    as_root()
+    for size in (40, 64, 100, 200):
+        with tempfile.TemporaryDirectory(prefix="rqm-disk-") as top:
+            if subprocess.run(["mount", "-t", "tmpfs", "-o", f"size={size}k", "none", top], stderr=subprocess.DEVNULL).returncode:
+                raise Skipped("nothing may be mounted here")
+            try:
+                fill_disk(program, pathlib.Path(top), size)
+            finally:
+                subprocess.run(["umount", top], check=True)
+
+
+def fill_disk(program, top, size):
+    (top / "store").mkdir()
+    assert format_store(program, top / "store", 1, 7) == (b"formatted 1 7\n", 0) or size < 40
+    acknowledged = []
+    with serving(program, top / "store") as server, server.connect() as connection:
+        for tag in itertools.count(1):
+            try:
+                with connection.transaction() as transaction:
+                    transaction.send(0, tag, b"x" * 100)
+                acknowledged.append(tag)
+            except (Refused, Lost) as refused:
+                assert refused.number in (2, 15), refused
+                break
+        raises(Failed, connection.transaction)
+        assert len(server.tells()) == 2
+    line, status = limited(program, top / "store")  # what a start needs may find no room
+    assert line.startswith(b"listening ") or (line, status) == (b"fault 15 DiskWrite\n", 1), (line, status)
+    subprocess.run(["mount", "-o", f"remount,size={size + 500}k", str(top)], check=True)
+    with serving(program, top / "store") as server, server.connect() as connection:
+        tags = [tag for tag, _ in everything(connection).get(0, [])]
+        assert acknowledged and tags[: len(acknowledged)] == acknowledged and len(tags) <= len(acknowledged) + 1, (size, tags)
+
+
+# ---- calls that come short, are interrupted, or tell another time
+
+
+SHIM = """#define _GNU_SOURCE
+#include <dlfcn.h>
+#include <errno.h>
+#include <fcntl.h>
+#include <stdatomic.h>
+#include <stdlib.h>
+#include <sys/socket.h>
+#include <sys/types.h>
+#include <sys/uio.h>
+#include <time.h>
+#include <unistd.h>
+
+#define NEXT(name) ((__typeof__(&name)) dlsym(RTLD_NEXT, #name))
+
+/* Of three calls one is interrupted, and one does a part: a seventh, or at least a byte. Sockets are never interrupted, since they
+   do not wait. */
+static atomic_ulong made;
+static size_t part(size_t size) { return ++made % 3 == 1 && size > 1 ? (size + 6) / 7 : size; }
+static int stops(void) { if (++made % 3) return 0; errno = EINTR; return 1; }
+
+#define WRITE(name, offset) ssize_t name(int file, const void *bytes, size_t size, offset at) { \\
+    return stops() ? -1 : NEXT(name)(file, bytes, part(size), at); }
+#define READ(name, offset) ssize_t name(int file, void *bytes, size_t size, offset at) { \\
+    return stops() ? -1 : NEXT(name)(file, bytes, part(size), at); }
+#define SYNC(name) int name(int file) { return stops() ? -1 : NEXT(name)(file); }
+WRITE(pwrite, off_t)
+WRITE(pwrite64, off64_t)
+READ(pread, off_t)
+READ(pread64, off64_t)
+SYNC(fsync)
+SYNC(fdatasync)
+ssize_t send(int stream, const void *bytes, size_t size, int flags) { return NEXT(send)(stream, bytes, part(size), flags); }
+ssize_t recv(int stream, void *bytes, size_t size, int flags) { return NEXT(recv)(stream, bytes, part(size), flags); }
+
+/* The clock of the day jumps by years, forth and back; whoever asks for it makes the file ASKED. */
+int clock_gettime(clockid_t clock, struct timespec *now) {
+    static atomic_long asked;
+    int answer = NEXT(clock_gettime)(clock, now);
+    const char *path = getenv("ASKED");
+    if (clock != CLOCK_MONOTONIC && clock != CLOCK_BOOTTIME && clock != CLOCK_MONOTONIC_COARSE) {
+        now->tv_sec += (++asked % 2 ? 1 : -1) * 100000000L;
+        if (path) close(open(path, O_WRONLY | O_CREAT, 0666));
+    }
+    return answer;
+}
+"""
+
+
+def short_calls(program, chosen):
+    """Where the system does a part of each call, or interrupts it, and the clock of the day jumps: all is as it would be. Nobody asks
+    for that clock."""
+    with failing(SHIM) as (beside, words):
+        words["ASKED"] = str(beside / "asked")
+        with store(program, 1, 400) as folder:
+            load = Kills(program, folder, chosen.seed).load
+            for _ in range(6):
+                with serving(program, folder, environment=words) as server:
+                    load.look(server)
+                    load.round(server, 0.4, server.kill)
+            with serving(program, folder, environment=words) as server:
+                load.look(server, is_last=True)
+            assert sum(load.sent) > 50, load.sent
+            assert not (beside / "asked").exists(), "the clock of the day was asked for"
+
+
+# ---- clients
+
+
+def any_frames(program, chosen):
+    """Clients that say frames with other bytes, or anything, in pieces, and break off: each is answered by the protocol, and one that
+    behaves is served all the time, in time."""
+    answered = faults = 0
+    with store(program, 2, 20) as folder, serving(program, folder, "--workers", 2) as server:
+        stop, good = threading.Event(), ThreadPoolExecutor(1)
+        served = good.submit(behave, server, stop)
+        try:
+            with ThreadPoolExecutor(3) as pool:
+                seeds = range(chosen.seed, chosen.seed + 60 * chosen.rounds)
+                for count, is_fault in pool.map(lambda seed: misbehave(server, random.Random(seed)), seeds):
+                    answered += count
+                    faults += is_fault
+        finally:
+            stop.set()
+        sent, longest = served.result()
+        assert longest < LONGEST, longest
+        assert len(server.tells()) == 1, server.tells()
+        with server.connect() as connection:
+            assert connection.last_tag(29) == (sent, sent)
+    assert sent > chosen.rounds and answered > 100 * chosen.rounds and faults > 10 * chosen.rounds, (sent, answered, faults)
+    return f"{answered} answers, {faults} faults, {sent} commits beside them, the slowest {1000 * longest:.0f} ms"
+
+
+def behave(server, stop):
+    """Sends until it is told to stop: how often, and how long the slowest took."""
+    sent, longest = 0, 0
+    with server.connect() as connection:
+        while not stop.is_set():
+            before = time.monotonic()
+            try:
+                with connection.transaction() as transaction:
+                    transaction.send(29, sent + 1, b"good")
+                sent += 1
+            except Full:
+                everything(connection)
+            longest = max(longest, time.monotonic() - before)
+    return sent, longest
+
+
+def drawn_frame(draw):
+    kind = draw.choice([1, 1, 2, 2, 2, 3, 3, 4, 5, 6, 6, 7, 8])
+    sender = draw.choice([0, 1, 2, 15, 28, 30, 2**32 - 1]).to_bytes(4, "big")
+    fields = sender if LENGTHS.get(kind) == 5 else b""
+    if kind == 2:
+        fields = sender + draw.randbytes(8) + draw.randbytes(draw.choice([0, 5, 216, 217, 499]))
+    if kind == 5 and draw.randrange(8):
+        kind, fields = 3, b""  # a close is for good
+    return struct.pack(">HB", 1 + len(fields), kind) + fields
+
+
+def drawn_stream(draw):
+    """Frames, some of whose bytes are others."""
+    said = bytearray(b"".join(drawn_frame(draw) for _ in range(draw.randrange(1, 25))))
+    for _ in range(draw.choice([0, 0, 1, 1, 3])):
+        at = draw.randrange(len(said))
+        kind = draw.randrange(4)
+        if kind == 0:
+            said[at] = draw.randrange(256)
+        elif kind == 1:
+            del said[at : at + draw.randrange(1, 9)]
+        elif kind == 2:
+            said[at:at] = draw.randbytes(draw.randrange(1, 9))
+        else:
+            said[at:at] = said[:at][-40:]
+        said = said or bytearray(b"\0")
+    return bytes(said) if draw.randrange(12) else draw.randbytes(draw.randrange(1, 3000))
+
+
+def requests_in(said):
+    """The kinds of the whole requests in front of the first fault, whether one is for sender 29, and whether there is a fault."""
+    at, kinds, is_good = 0, [], False
+    while len(said) - at >= 2:
+        length = int.from_bytes(said[at : at + 2], "big")
+        if not 1 <= length <= 512:
+            return kinds, is_good, True
+        if len(said) - at > 2 and not 1 <= said[at + 2] <= 8:
+            return kinds, is_good, True
+        if at + 2 + length > len(said):
+            return kinds, is_good, False
+        kind = said[at + 2]
+        if length < 13 if kind == 2 else length != LENGTHS[kind]:
+            return kinds, is_good, True
+        is_good |= kind in (2, 5) and said[at + 3 : at + 7] == b"\0\0\0\x1d"
+        kinds.append(kind)
+        at += 2 + length
+    return kinds, is_good, False
+
+
+# What a request of each kind may be answered with, beside a refusal.
+DONE = {1: (129,), 2: (130,), 3: (131, 132), 4: (131, 132), 5: (133,), 6: (134,), 7: (135,), 8: (136,)}
+SIZES = {129: 17, 130: 1, 132: 1, 133: 1, 134: 9, 135: 1, 136: 17, 255: 2}
+
+# The refusals that a store which works may give.
+GIVEN = {4, 5, 6, 7, 8, 9, 10, 11, 12, 13, 14, 17}
+
+
+def misbehave(server, draw):
+    """Says a stream, in pieces. How many answers came, and whether it had a fault."""
+    said = drawn_stream(draw)
+    kinds, is_good, is_fault = requests_in(said)
+    if is_good:
+        return 0, False  # nobody disturbs the sender of the one who behaves
+    breaks_off = draw.randrange(6) == 0
+    with server.raw() as stream:
+        rest = said
+        try:
+            while rest:
+                size = draw.choice([1, 3, draw.randrange(1, 60), len(rest)])
+                stream.sendall(rest[:size])
+                rest = rest[size:]
+                if draw.randrange(8) == 0:
+                    time.sleep(0.0005)
+            if breaks_off:
+                reset(stream)
+                return 0, False
+            stream.shutdown(socket.SHUT_WR)
+        except (BrokenPipeError, ConnectionResetError):
+            assert is_fault, said.hex()  # the server has ended the connection behind it
+        except OSError:
+            assert is_fault, said.hex()
+        answers = read_to_end(stream)
+    at, count = 0, 0
+    while at < len(answers):
+        length, kind = int.from_bytes(answers[at : at + 2], "big"), answers[at + 2]
+        assert count < len(kinds) and kind in (*DONE[kinds[count]], 255), (said.hex(), answers.hex())
+        assert length == SIZES.get(kind, length) and (kind != 131 or 13 <= length <= 229), (said.hex(), answers.hex())
+        assert kind != 255 or answers[at + 3] in GIVEN, (said.hex(), answers.hex())
+        at, count = at + 2 + length, count + 1
+    # behind a fault the end of the connection may overtake what was said
+    assert at == len(answers) and (count == len(kinds) or is_fault), (said.hex(), answers.hex())
+    return count, is_fault
+
+
+class Drainer(Client):
+    """A client that receives where the store is full."""
+
+    is_full = False
+
+    def step(self, transaction, step, body, taken):
+        goes_on = super().step(transaction, step, body, taken)
+        self.is_full |= step == "send" and not goes_on
+        return goes_on
+
+    def one(self, breaks_off):
+        super().one(breaks_off)
+        if self.is_full:
+            self.is_full, transaction = False, self.connection.transaction()
+            messages = [transaction.receive() for _ in range(3)]
+            self.taken.append((transaction.commit(), [message for message in messages if message]))
+
+
+def long_sessions(program, chosen):
+    """Random sessions of 64 clients, half of whose transactions break off, for so many minutes: what the store then holds, with what
+    was received and committed, is what was sent and committed. So it is behind a kill."""
+    with store(program, 5, 20) as folder, serving(program, folder, "--workers", 1) as server:
+        clients = [Drainer(server, number, chosen.seed) for number in range(64)]
+        until = time.monotonic() + 60 * chosen.minutes
+
+        def run(client):
+            while time.monotonic() < until:
+                client.one(client.random.random() < 0.5)
+            client.connection.close()
+
+        in_threads([lambda client=client: run(client) for client in clients])
+        server.kill()
+        with serving(program, folder) as again, again.connect() as connection:
+            tags = [connection.last_tag(client.number) for client in clients]
+            held = everything(connection)
+        compare(clients, tags, held)
+        sent, broken = sum(len(client.sent) for client in clients), sum(client.broken for client in clients)
+        assert broken > 1000 * chosen.minutes and sent > 1000 * chosen.minutes, (broken, sent)
+        return f"{sent} commits, {broken} broken off, a log of {(folder / 'log').stat().st_size >> 20} MB"
+
+
+TESTS = [
+    signals, pauses, closed_streams, full_streams, little_at_start, little_under_load, other_files, no_rights, vanished_folder,
+    small_disk, short_calls, any_frames,
+]  # fmt: skip
+
+
+def main():
+    words = argparse.ArgumentParser(description="Uses rqm as nobody should.")
+    words.add_argument("--program", help="a program that was built elsewhere")
+    words.add_argument("--seed", type=int, default=0, help="from which moments and bytes are drawn")
+    words.add_argument("--rounds", type=int, default=10, help="how often a server is ended, and a sixtieth of the hostile clients")
+    words.add_argument("--minutes", type=float, default=10, help="how long `long_sessions` takes")
+    words.add_argument("names", nargs="*", metavar="NAME", help="these tests alone")
+    chosen = words.parse_args()
+    program = built(chosen.program, "rqm")
+    known = {test.__name__: test for test in [*TESTS, long_sessions]}
+    for name in chosen.names or [test.__name__ for test in TESTS]:
+        before = time.monotonic()
+        try:
+            told = known[name](program, chosen)
+        except Skipped as why:
+            told = f"not run: {why}"
+        print(f"{name}: {time.monotonic() - before:.1f} s" + (f", {told}" if told else ""), flush=True)
+
+
+if __name__ == "__main__":
+    main()

@@ -1,0 +1,193 @@
+#!/usr/bin/env python3
+"""Stops the machine at each device call of some lists of happenings, then at each device call of the restart behind that, and so on to
+a depth of three restarts; then comes a whole one. What the store then holds is compared with the reference, and with what was
+acknowledged. A stop leaves none of the records that are not forced, all, or a torn one; of each page the synced image or the newest.
+
+    python3 tests/stops.py [--program PROGRAM] [--drawn N] [--first SEED] [NAME..]
+
+A name is one of `BASES`, lists of tests/worlds. Where two ways lead to the same store, one is gone on with. Beside these, so many ways
+are drawn, from any of all, whose stops leave any number of records and bytes.
+"""
+import argparse
+import itertools
+import os
+import random
+import re
+import subprocess
+import sys
+from collections import Counter
+from concurrent.futures import ThreadPoolExecutor
+
+from cases import MOST_SECONDS, built
+from reference import ALL, Deed
+from world_reference import World, picked_at
+from worlds import Worlds
+
+BASES = [
+    "restarts-that-are-stopped-go-on", "a-lost-receive-from-a-full-store-is-undone",
+    "five-senders-on-five-directory-pages-and-a-forced-send", "commits-are-acknowledged-and-pages-written-amid-what-is-lost",
+]  # fmt: skip
+
+# How many restarts are stopped one after the other, and what a stop leaves of the records and of the images.
+DEPTH, KEEPS, IMAGES = 3, ("0", str(ALL), "0+20"), (",".join("0" * 16), "-")
+
+# A restart writes no page: of each, one image is left before and behind it.
+RESTART_IMAGES = ("-",)
+
+LAST = [b"restart", b"content"]
+
+
+class Base:
+    """A list, as far as it goes by itself: `calls` has how many device calls each happening makes."""
+
+    def __init__(self, name):
+        self.name, self.sizes = name, [int(word) for word in Worlds.cases.words_of(name)]
+        self.lines, self.printed = Worlds.cases.lines_of(name)
+        world, self.calls = World(*self.sizes), []
+        for at, line in enumerate(self.lines):
+            before = world.store.devices.calls
+            world.happen(line, picked_at(self.lines, self.printed, at))
+            self.calls.append(world.store.devices.calls - before)
+        assert world.printed == self.printed, name
+
+    def stops(self):
+        """The list up to each of its device calls, in which the machine stops: every choice of what that leaves."""
+        for at, line in enumerate(self.lines):
+            for call in range(1, self.calls[at] + 1):
+                for kept in choices(IMAGES):
+                    yield self.lines[:at] + [stopped(line, call, kept)]
+
+    def told(self, lines):
+        """The reference behind these lines. Of a receive it tells which group the list's own took."""
+        world = World(*self.sizes)
+        for at, line in enumerate(lines):
+            is_own = at < len(self.lines) and line == self.lines[at]
+            world.happen(line, picked_at(self.lines, self.printed, at) if is_own else None)
+        return world
+
+
+def choices(images):
+    return [f"{keep} {image}" for keep in KEEPS for image in images]
+
+
+def stopped(line, call, kept):
+    """A happening in whose device call of this number the machine stops."""
+    if line.startswith(b"restart"):
+        return f"restart-stop {call} {kept}".encode()
+    return f"stop-in {call} {kept} ".encode() + line
+
+
+def key(world):
+    """What there is to know of a store that has crashed: its records, a torn one, and the images of its pages."""
+    devices = world.store.devices
+    records = tuple(tuple(spelled(field) for field in record) for record in devices.records)
+    return records, devices.torn, tuple(tuple(page.images) for page in devices.pages)
+
+
+def spelled(field):
+    return (field.kind, field.sender, field.tag, field.body, field.cell) if isinstance(field, Deed) else field
+
+
+def ways(base):
+    """Lists that stop in the base and in the restarts behind it, and never open the store. Of each depth, from none to three stopped
+    restarts."""
+    seen, level = set(), list(base.stops())
+    for depth in range(DEPTH + 1):
+        further = []
+        for lines in level:
+            world = base.told(lines)
+            yield depth, lines
+            state = key(world)
+            if depth < DEPTH and state not in seen:
+                seen.add(state)
+                further.append((lines, calls_of_restart(world)))
+        level = [lines + [stopped(b"restart", call, kept)] for lines, calls in further
+                 for call in range(1, calls + 1) for kept in choices(RESTART_IMAGES)]  # fmt: skip
+
+
+def drawn_way(base, stops, seed):
+    """A stop in the base, and then in each of three restarts."""
+    draw = random.Random(seed)
+    lines = draw.choice(stops)
+    for _ in range(DEPTH):
+        calls = calls_of_restart(base.told(lines))
+        kept = f"{draw.choice([0, draw.randrange(20), ALL])}+{draw.choice([0, draw.randrange(546), ALL])} -"
+        # most times in its append, which may leave any of its records
+        call = calls - 1 if draw.randrange(2) else draw.randrange(1, calls + 1)
+        lines = lines + [stopped(b"restart", call, kept)]
+    return lines
+
+
+def calls_of_restart(world):
+    """How many device calls a restart makes: its reads, a cut where a torn end is left, an append and a force."""
+    devices = world.store.devices
+    return devices.reads() + (1 if devices.torn else 0) + 2
+
+
+def fault(program, base, lines):
+    """What is wrong with what a list comes to with a whole restart behind it; None where nothing is."""
+    lines = lines + LAST
+    given = b"".join(line + b"\n" for line in lines)
+    ran = subprocess.run([program, *map(str, base.sizes)], input=given, capture_output=True, timeout=MOST_SECONDS)
+    printed, world = ran.stdout.split(b"\n")[:-1], base.told(lines)
+    replay = f"{base.name}: {program} {' '.join(map(str, base.sizes))} < the list\n" + given.decode()
+    if (printed, ran.returncode) != (world.printed, 0):
+        return f"{replay}  printed {printed[-3:]}, status {ran.returncode}, wanted {world.printed[-3:]}"
+    if not printed[-2].startswith(b"restarted "):
+        return f"{replay}  is not open: {printed[-2]}"
+    lost = [sender for sender, count in acknowledged(lines, printed).items() if sent_in(printed[-1], sender) < count]
+    return f"{replay}  lacks what was acknowledged of the senders {lost}" if lost else None
+
+
+def acknowledged(lines, printed):
+    """By sender, how many sends are committed of which a receipt was given, by what was printed alone."""
+    sends, commits, given = {}, {}, Counter()
+    for line, said in zip(lines, printed):
+        words = line.split(b" ")
+        if words[0] == b"start-send" and said.startswith(b"started "):
+            sends[said.removeprefix(b"started ")] = int(words[2])
+        if words[0] == b"finish" and said == b"sent":
+            commits.setdefault(words[1], []).append(sends[b" ".join(words[1:])])
+        receipt = re.fullmatch(rb"receipt ([0-9.]+) [0-9]+", said)
+        if receipt:
+            given.update(commits.pop(receipt[1], []))
+    return given
+
+
+def sent_in(content, sender):
+    """How many committed sends of a sender a line of content tells."""
+    group = re.search(rb" / %d ([0-9]+) " % sender, content)
+    return int(group[1]) if group else 0
+
+
+def run(program, name, seeds):
+    """Tries a base in all ways, and in those of these seeds; whether each came to what it should."""
+    base, counts, faults = Base(name), Counter(), []
+    stops = list(base.stops())
+    with ThreadPoolExecutor(os.cpu_count()) as pool:
+        tried = [pool.map(lambda way: (way[0], fault(program, base, way[1])), ways(base))]
+        tried.append(pool.map(lambda seed: ("drawn", fault(program, base, drawn_way(base, stops, seed))), seeds))
+        for depth, wrong in itertools.chain(*tried):
+            counts[depth] += 1
+            faults += [wrong] if wrong else []
+    print("".join(f"{wrong}\n" for wrong in faults[:3]), end="")
+    depths = ", ".join(str(counts[depth]) for depth in [*range(DEPTH + 1), "drawn"])
+    print(f"{sum(counts.values()) - len(faults)} of {depths} ways with 0 to {DEPTH} stopped restarts, and drawn, hold what they should ({name})")
+    return not faults and all(counts[depth] for depth in range(DEPTH + 1))
+
+
+def main():
+    words = argparse.ArgumentParser(description="Stops the machine at each device call, and in the restarts behind it.")
+    words.add_argument("--program", help="a program that was built elsewhere")
+    words.add_argument("--drawn", type=int, default=200, metavar="N", help="how many ways are drawn for each list")
+    words.add_argument("--first", type=int, default=0, metavar="SEED", help="the first of their seeds")
+    words.add_argument("names", nargs="*", metavar="NAME", help="these lists alone")
+    chosen = words.parse_args()
+    program = built(chosen.program, "happenings")
+    seeds = range(chosen.first, chosen.first + chosen.drawn)
+    ran = [run(program, name, seeds) for name in chosen.names or BASES]
+    sys.exit(0 if all(ran) else 1)
+
+
+if __name__ == "__main__":
+    main()
