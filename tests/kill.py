@@ -31,6 +31,7 @@ class Load:
     def __init__(self):
         # the last tag of each sender that is known to be committed, and the next that has to come out of each group
         self.sent = [0] * GROUPS
+        self.lost = []  # connections that ended before their work
         self.next_out = [1] * GROUPS
 
     def send(self, server, group):
@@ -60,8 +61,8 @@ class Load:
     def until_killed(self, work, *words):
         try:
             work(*words)
-        except ConnectionError:
-            pass
+        except ConnectionError as error:
+            self.lost.append(error)
 
     def round(self, server, seconds, end):
         """Runs until the server ends, after so many seconds."""

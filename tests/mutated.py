@@ -15,6 +15,7 @@ import re
 import subprocess
 import sys
 import tempfile
+import threading
 from collections import Counter
 from concurrent.futures import ThreadPoolExecutor
 
@@ -52,6 +53,8 @@ def served(program, folder, work):
     """Serves a store until this work with a connection is done, and then ends cleanly: what was printed, and the exit status."""
     command = [program, "serve", str(folder), "--port", "0", "--workers", "1", "--until-input-ends"]
     server = subprocess.Popen(command, stdin=subprocess.PIPE, stdout=subprocess.PIPE, stderr=subprocess.PIPE)
+    slow = threading.Timer(LONGEST, server.kill)
+    slow.start()
     try:
         line = server.stdout.readline()
         if line.startswith(b"listening ") and work:
@@ -60,6 +63,7 @@ def served(program, folder, work):
         printed, told = server.communicate(timeout=LONGEST)
         return line + printed, told, server.returncode
     finally:
+        slow.cancel()
         server.kill()
         server.wait()
 
@@ -240,7 +244,7 @@ class Mutation:
 
     def kind(self):
         """Another kind, cut or filled to its length."""
-        at, kind = self.place(), self.random.choice([1, 2, 3, 4, 5, 6, 7, 8])
+        at, kind = self.place(), self.random.choice([1, 2, 3, 4, 5, 6, 7, 8, 9])
         _, widths, room = KINDS[kind]
         fields = self.records[at][5:].ljust(600, b"\0")[: sum(widths) + (34 if room is None else room)]
         self.records[at] = (1 + len(fields)).to_bytes(4, "big") + bytes([kind]) + fields
@@ -299,15 +303,16 @@ class Mutation:
 
 class Looks:
     def __init__(self, rqm, bench, top):
-        self.rqm, self.bench, self.top = rqm, bench, pathlib.Path(top)
+        self.rqm, self.bench, self.top, self.counting = rqm, bench, pathlib.Path(top), threading.Lock()
 
     def faults(self, pages, log, met):
         """What is wrong with what the programs say of these files."""
         said, made, left = opening.said_of(pages, log)
-        met[" ".join(said.split(" ")[:2]) if said.startswith("damaged") else "opened" if made else said] += 1
-        met["opened with undoing"] += bool(made and made.unfinished + made.lost)
         lines, status = wanted(log)
-        met["torn"] += any(line.startswith("torn ") for line in lines)
+        with self.counting:
+            met[" ".join(said.split(" ")[:2]) if said.startswith("damaged") else "opened" if made else said] += 1
+            met["opened with undoing"] += bool(made and made.unfinished + made.lost)
+            met["torn"] += any(line.startswith("torn ") for line in lines)
         with tempfile.TemporaryDirectory(dir=self.top) as held:
             folder = pathlib.Path(held)
             put_files(folder, pages, log)
