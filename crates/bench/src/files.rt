@@ -1,13 +1,13 @@
 //! Records of 600 bytes, appended to a log in a file that is forced every 64.
 use crate::words::number;
-use rq_disk::{DeviceFailed, FileLog, LogDevice, Unknown};
+use rq_disk::{DeviceFailed, FileLog, Fixed, LogDevice, NotedFile, Unknown};
 use std::fs::{File, OpenOptions};
 use std::io;
 use std::io::Write;
 use std::rt::Files;
 
 /// What is appended: 150 records, each of a length field alone.
-const RECORDS: [u8; 600] = [0; 600];
+pub const RECORDS: [u8; 600] = [0; 600];
 
 const APPENDS_A_FORCE: u32 = 64;
 
@@ -22,7 +22,7 @@ pub fn run<R: Print + Files<File = File>>(rt: &R, words: &[String]) -> io::Resul
         .create(true)
         .truncate(true)
         .open(rt, path)?;
-    let mut log = FileLog::<Unknown>::open(file)?;
+    let mut log = FileLog::<Unknown, NotedFile>::open(file, Fixed)?;
     let Ok(()) = append_all(&mut log, count) else {
         return Err(io::ErrorKind::Other.into());
     };
@@ -40,6 +40,7 @@ fn append_all<L: LogDevice>(log: &mut L, count: u32) -> Result<(), DeviceFailed>
     log.force()
 }
 
-fn append<L: LogDevice>(log: &mut L) -> Result<(), DeviceFailed> {
+/// Appends these records.
+pub fn append<L: LogDevice>(log: &mut L) -> Result<(), DeviceFailed> {
     log.append(&RECORDS)
 }

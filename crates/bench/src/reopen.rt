@@ -1,9 +1,9 @@
 //! A store in a folder: made with a log of messages, and opened.
 use crate::transactions::Queue;
 use crate::words::{number, sizes};
-use rq_disk::{FileLog, FilePages, Unknown};
+use rq_disk::{FilePages, Unknown};
 use rq_engine::engine::Engine;
-use rq_files::{Fault, format_folder, open_folder};
+use rq_files::{Fault, FolderLog, format_folder, open_folder};
 use rq_levels::{StoreLevel, levels_of_store};
 use rq_model::refusal::{Damage, Refusal};
 use rq_page::layout::Layout;
@@ -14,7 +14,7 @@ use std::io::Write;
 use std::rt::Files;
 
 /// An engine over files.
-type Store = Engine<FilePages<Unknown>, FileLog<Unknown>, StoreLevel>;
+type Store<'a, R> = Engine<FilePages<Unknown>, FolderLog<'a, Unknown, R>, StoreLevel>;
 
 /// How many messages go from one force to the next.
 const MESSAGES_A_FORCE: u32 = 256;
@@ -94,10 +94,10 @@ fn report_of<R: AllocGlobal + Files<File = File>>(rt: &R, folder: &str) -> Resul
     }
 }
 
-fn opened<R: AllocGlobal + Files<File = File>>(
-    rt: &R,
+fn opened<'a, R: AllocGlobal + Files<File = File>>(
+    rt: &'a R,
     folder: &str,
-) -> Result<(Store, Report), Fault> {
+) -> Result<(Store<'a, R>, Report), Fault> {
     let (pages, log) = match open_folder(rt, folder, Unknown) {
         Ok(files) => files,
         Err(not_opened) => return Err(not_opened.fault),

@@ -4,7 +4,7 @@ use Rattle.std.proofs.lemmas.List.{length-take}
 use Rattle.std.proofs.lemmas.Bool.Decides.{nat_tests}
 use Rattle.rq_disk.specs.Device.{Appended, Elapses, ElapsesThrough, IsCutBetween, Stays}
 use Rattle.rq_disk.specs.FileCalls.{FileCall, has_failed, after_sync}
-use Rattle.rq_disk.specs.FileCalls.FileCall.{Gave, Denied, Took, Tried, Cut, Uncut, Synced, Missed}
+use Rattle.rq_disk.specs.FileCalls.FileCall.{Gave, Denied, Took, Tried, Cut, Uncut, Replaced, Unreplaced, Synced, Missed}
 use Rattle.rq_disk.specs.LogFile.{log_bytes, log_may_leave, end_of, writes_at_end, LogAgrees, LogLeftSince, log_all}
 use Rattle.rq_disk.proofs.SinceCalls.{goes_on}
 
@@ -19,6 +19,7 @@ is_so_long : (held : List ℕ) (calls : List FileCall) → length (log_bytes hel
 is_so_long held [] = refl
 is_so_long held (Took at bytes ∷ calls) = omega (arith, length-append (log_bytes held calls) bytes, is_so_long held calls)
 is_so_long held (Cut len ∷ calls) = length-take len (log_bytes held calls) ∙ ap (min len) (is_so_long held calls)
+is_so_long held (Replaced bytes ∷ calls) = refl
 is_so_long held (_ ∷ calls) = is_so_long held calls
 
 module _ (calls later : List FileCall) (at : ℕ) (bytes : List ℕ) where

@@ -3,7 +3,7 @@ use Rattle.std.proofs.Common.{◌≡◌, ◌⊎◌, ◌↔◌, ℕ, Bool, true, 
 use Rattle.std.specs.Prelude.{if◌then◌else◌}
 use Rattle.rq_disk.specs.Device.{Images, Leaves, NoMore, Elapses, Stays}
 use Rattle.rq_disk.specs.FileCalls.{FileCall, has_failed, after_sync}
-use Rattle.rq_disk.specs.FileCalls.FileCall.{Gave, Denied, Took, Tried, Cut, Uncut, Synced, Missed}
+use Rattle.rq_disk.specs.FileCalls.FileCall.{Gave, Denied, Took, Tried, Cut, Uncut, Replaced, Unreplaced, Synced, Missed}
 use Rattle.rq_disk.specs.PageFile.{images_now, page_may_be, PagesLeftSince, page_seen, before_sync, WasWrittenSince, PageFilesLeave}
 use Rattle.rq_disk.proofs.SinceCalls.{goes_on}
 

@@ -17,6 +17,7 @@ pub data LogAsk : Type 0 where
   Appends : (bytes : List ℕ) → LogAsk
   Forces : LogAsk
   Cuts : (len : ℕ) → LogAsk
+  Replaces : (bytes : List ℕ) → LogAsk
 
 -- what a crash leaves of all pages, where each page by itself has one of its images
 abbrev pub Leaves : (ℕ → List ℕ → Type 0) → Images → Type 0
@@ -45,6 +46,10 @@ IsCutBetween seen len c = (n : ℕ) × (len ≤ n) × (c ≡ take n seen)
 -- a log that may be left is one that might have been, or such
 abbrev pub CutOff : List ℕ → ℕ → (List ℕ → Type 0) → (List ℕ → Type 0) → Type 0
 CutOff seen len old new = (c : List ℕ) → new c → old c ⊎ IsCutBetween seen len c
+
+-- a log that may be left is one that might have been, or exactly these bytes
+abbrev pub Replaced : List ℕ → (List ℕ → Type 0) → (List ℕ → Type 0) → Type 0
+Replaced bytes old new = (c : List ℕ) → new c → old c ⊎ (c ≡ bytes)
 
 -- nothing else may be left
 abbrev pub Only : List ℕ → (List ℕ → Type 0) → Type 0

@@ -14,12 +14,16 @@ pub data FileCall : Type 0 where
   Cut : (len : ℕ) → FileCall
   -- it was to lose that, and failed: it may have lost it
   Uncut : (len : ℕ) → FileCall
+  -- another took its place, which has these bytes alone, all durable
+  Replaced : (bytes : List ℕ) → FileCall
+  -- another was to take its place, and that failed: it may have
+  Unreplaced : (bytes : List ℕ) → FileCall
   -- all that was written is durable
   Synced : FileCall
   -- a sync that failed
   Missed : FileCall
 
--- whether a write, a cut or a sync has failed
+-- whether a call has failed that was no read
 abbrev pub has_failed : List FileCall → Bool
 has_failed [] = false
 has_failed (FileCall.Gave at bytes ∷ calls) = has_failed calls
@@ -28,10 +32,12 @@ has_failed (FileCall.Took at bytes ∷ calls) = has_failed calls
 has_failed (FileCall.Tried at bytes ∷ calls) = true
 has_failed (FileCall.Cut len ∷ calls) = has_failed calls
 has_failed (FileCall.Uncut len ∷ calls) = true
+has_failed (FileCall.Replaced bytes ∷ calls) = has_failed calls
+has_failed (FileCall.Unreplaced bytes ∷ calls) = true
 has_failed (FileCall.Synced ∷ calls) = has_failed calls
 has_failed (FileCall.Missed ∷ calls) = true
 
--- It asked the file nothing, since a write, a cut or a sync has failed before.
+-- It asked the file nothing, since such a call has failed before.
 abbrev pub IsOver : (old new : List FileCall) → Type 0
 IsOver old new = (new ≡ old) × (has_failed old ≡ true)
 

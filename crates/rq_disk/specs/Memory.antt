@@ -7,7 +7,7 @@ use Rattle.std.proofs.Math.Seq.{take-length}
 use Rattle.rq_disk.specs.Device.{Images, Leaves}
 use Rattle.rq_disk.specs.Records.{torn_records}
 use Rattle.rq_disk.specs.declared.mem_log.LogCall.{LogCall}
-use Rattle.rq_disk.specs.declared.mem_log.LogCall.TheVariants.{Append, Force, Cut}
+use Rattle.rq_disk.specs.declared.mem_log.LogCall.TheVariants.{Append, Force, Cut, Replace}
 use Rattle.rq_disk.specs.declared.mem_pages.PageCall.{PageCall}
 use Rattle.rq_disk.specs.declared.mem_pages.PageCall.TheVariants.{Write, Sync}
 
@@ -99,6 +99,7 @@ abbrev pub after_log_call : LogState → LogCall → LogState
 after_log_call s (Append run) = record { forced = s.forced; handed = s.handed ++ run.items }
 after_log_call s Force = record { forced = log_reads s; handed = [] }
 after_log_call s (Cut len) = record { forced = take len (log_reads s); handed = [] }
+after_log_call s (Replace run) = fresh_log run.items
 
 abbrev pub after_log_calls : LogState → List LogCall → LogState
 after_log_calls s [] = s

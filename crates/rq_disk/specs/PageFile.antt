@@ -4,7 +4,7 @@ use Rattle.std.proofs.Common.{inl, inr, sym, subst}
 use Rattle.std.proofs.lemmas.Bool.{cases_eq}
 use Rattle.rq_disk.specs.Device.{Images, Leaves, PageAsk}
 use Rattle.rq_disk.specs.FileCalls.{FileCall, HasErred, has_failed, after_sync, after_sync_now}
-use Rattle.rq_disk.specs.FileCalls.FileCall.{Gave, Denied, Took, Tried, Cut, Uncut, Synced, Missed}
+use Rattle.rq_disk.specs.FileCalls.FileCall.{Gave, Denied, Took, Tried, Cut, Uncut, Replaced, Unreplaced, Synced, Missed}
 use Rattle.rq_disk.specs.Memory.{if_yes, if_no}
 
 -- The page that begins at a place. A place where none begins counts as a page that no device has.
@@ -15,7 +15,7 @@ page_at at = if at % 4096 == 0 then at / 4096 else 2 ^ 64
 abbrev pub is_page : ℕ → List ℕ → Bool
 is_page at bytes = (at % 4096 == 0) && (length bytes == 4096)
 
--- each read and each write was of one page, one that failed too, and nothing was cut
+-- each read and each write was of one page, one that failed too, and nothing was cut or replaced
 abbrev pub are_whole : List FileCall → Bool
 are_whole [] = true
 are_whole (Gave at bytes ∷ calls) = is_page at bytes && are_whole calls
@@ -24,6 +24,8 @@ are_whole (Took at bytes ∷ calls) = is_page at bytes && are_whole calls
 are_whole (Tried at bytes ∷ calls) = is_page at bytes && are_whole calls
 are_whole (Cut len ∷ calls) = false
 are_whole (Uncut len ∷ calls) = false
+are_whole (Replaced bytes ∷ calls) = false
+are_whole (Unreplaced bytes ∷ calls) = false
 are_whole (Synced ∷ calls) = are_whole calls
 are_whole (Missed ∷ calls) = are_whole calls
 
@@ -36,6 +38,8 @@ images_now held (Took at bytes ∷ calls) = λ p. if p == page_at at then bytes 
 images_now held (Tried at bytes ∷ calls) = images_now held calls
 images_now held (Cut len ∷ calls) = images_now held calls
 images_now held (Uncut len ∷ calls) = images_now held calls
+images_now held (Replaced bytes ∷ calls) = images_now held calls
+images_now held (Unreplaced bytes ∷ calls) = images_now held calls
 images_now held (Synced ∷ calls) = images_now held calls
 images_now held (Missed ∷ calls) = images_now held calls
 
@@ -49,6 +53,8 @@ page_may_be held (Took at bytes ∷ calls) p c = page_may_be held calls p c ⊎ 
 page_may_be held (Tried at bytes ∷ calls) p c = page_may_be held calls p c ⊎ ((p ≡ page_at at) × (c ≡ bytes))
 page_may_be held (Cut len ∷ calls) p c = page_may_be held calls p c
 page_may_be held (Uncut len ∷ calls) p c = page_may_be held calls p c
+page_may_be held (Replaced bytes ∷ calls) p c = page_may_be held calls p c
+page_may_be held (Unreplaced bytes ∷ calls) p c = page_may_be held calls p c
 page_may_be held (Synced ∷ calls) p c =
     after_sync (has_failed calls) (page_may_be held calls p c) (c ≡ images_now held calls p)
 page_may_be held (Missed ∷ calls) p c = page_may_be held calls p c
@@ -62,6 +68,8 @@ before_sync (Took at bytes ∷ calls) = before_sync calls
 before_sync (Tried at bytes ∷ calls) = before_sync calls
 before_sync (Cut len ∷ calls) = before_sync calls
 before_sync (Uncut len ∷ calls) = before_sync calls
+before_sync (Replaced bytes ∷ calls) = before_sync calls
+before_sync (Unreplaced bytes ∷ calls) = before_sync calls
 before_sync (Synced ∷ calls) = if has_failed calls then before_sync calls else calls
 before_sync (Missed ∷ calls) = before_sync calls
 
@@ -74,6 +82,8 @@ WasWrittenSince (Took at bytes ∷ calls) p c = ((p ≡ page_at at) × (c ≡ by
 WasWrittenSince (Tried at bytes ∷ calls) p c = ((p ≡ page_at at) × (c ≡ bytes)) ⊎ WasWrittenSince calls p c
 WasWrittenSince (Cut len ∷ calls) p c = WasWrittenSince calls p c
 WasWrittenSince (Uncut len ∷ calls) p c = WasWrittenSince calls p c
+WasWrittenSince (Replaced bytes ∷ calls) p c = WasWrittenSince calls p c
+WasWrittenSince (Unreplaced bytes ∷ calls) p c = WasWrittenSince calls p c
 WasWrittenSince (Synced ∷ calls) p c = after_sync (has_failed calls) (WasWrittenSince calls p c) ⊥
 WasWrittenSince (Missed ∷ calls) p c = WasWrittenSince calls p c
 
@@ -93,6 +103,8 @@ PagesAgree held (Took at bytes ∷ calls) = PagesAgree held calls
 PagesAgree held (Tried at bytes ∷ calls) = PagesAgree held calls
 PagesAgree held (Cut len ∷ calls) = PagesAgree held calls
 PagesAgree held (Uncut len ∷ calls) = PagesAgree held calls
+PagesAgree held (Replaced bytes ∷ calls) = PagesAgree held calls
+PagesAgree held (Unreplaced bytes ∷ calls) = PagesAgree held calls
 PagesAgree held (Synced ∷ calls) = PagesAgree held calls
 PagesAgree held (Missed ∷ calls) = PagesAgree held calls
 
@@ -122,6 +134,8 @@ page_seen held (Took at bytes ∷ calls) p = elim (cases_eq p (page_at at)) [
 page_seen held (Tried at bytes ∷ calls) p = inl (page_seen held calls p)
 page_seen held (Cut len ∷ calls) p = page_seen held calls p
 page_seen held (Uncut len ∷ calls) p = page_seen held calls p
+page_seen held (Replaced bytes ∷ calls) p = page_seen held calls p
+page_seen held (Unreplaced bytes ∷ calls) p = page_seen held calls p
 page_seen held (Synced ∷ calls) p =
     after_sync_now (has_failed calls) (page_may_be held calls p (images_now held calls p))
     (images_now held calls p ≡ images_now held calls p) (page_seen held calls p) refl

@@ -8,11 +8,11 @@ use Rattle.rq_disk.specs.declared.storage.Storage as storage
 use Rattle.rq_disk.specs.declared.storage.NotedFile.{NotedFile}
 
 -- its calls, the newest first
-abbrev pub file_calls : NotedFile → List FileCall
+abbrev pub file_calls : {X : Type 0} → NotedFile X → List FileCall
 file_calls f = f.calls
 
 -- how many bytes it was told to have when it was opened
-abbrev pub opened_len : NotedFile → ℕ
+abbrev pub opened_len : {X : Type 0} → NotedFile X → ℕ
 opened_len f = f.len
 
 -- how many pages a file has

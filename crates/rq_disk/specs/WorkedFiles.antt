@@ -2,7 +2,7 @@
 use Rattle.std.specs.Prelude.{◌≡◌, ℕ, List, [], ◌∷◌, length, true, false}
 use Rattle.rq_disk.specs.Device.{Images, LogAsk as Logs, PageAsk as Pages}
 use Rattle.rq_disk.specs.FileCalls.{has_failed}
-use Rattle.rq_disk.specs.FileCalls.FileCall.{Gave, Denied, Took, Tried, Cut, Uncut, Synced, Missed}
+use Rattle.rq_disk.specs.FileCalls.FileCall.{Gave, Denied, Took, Tried, Cut, Uncut, Replaced, Unreplaced, Synced, Missed}
 use Rattle.rq_disk.specs.LogFile.{LogAgrees, LogErred, log_may_leave}
 use Rattle.rq_disk.specs.PageFile.{are_whole, PageErred, PagesAgree, page_may_be}
 
@@ -59,6 +59,12 @@ pub record FilesAreJudged : Type 0 where
   pub log_cut_stays : log_may_leave (9 ∷ []) (Synced ∷ Cut 2 ∷ Took 1 empty ∷ []) (9 ∷ empty) → ⊥
   pub log_cut_part : log_may_leave (9 ∷ []) (Uncut 2 ∷ Synced ∷ Took 1 empty ∷ []) (9 ∷ 0 ∷ 0 ∷ [])
   pub log_cut_less : log_may_leave (9 ∷ []) (Cut 2 ∷ Synced ∷ Took 1 empty ∷ []) (9 ∷ []) → ⊥
+  -- what takes its place is left alone, with nothing else, and later writes go behind it; where that failed, the old or the new
+  pub log_replaced : LogAgrees (9 ∷ []) 1 (Gave 0 (0 ∷ 0 ∷ 0 ∷ 0 ∷ 7 ∷ []) ∷ Took 4 seven ∷ Replaced empty ∷ Took 1 seven ∷ [])
+  pub log_replaced_stays : log_may_leave (9 ∷ []) (Replaced empty ∷ Took 1 seven ∷ []) (9 ∷ []) → ⊥
+  pub log_unreplaced_old : log_may_leave (9 ∷ []) (Unreplaced empty ∷ Took 1 seven ∷ []) (9 ∷ seven)
+  pub log_unreplaced_new : log_may_leave (9 ∷ []) (Unreplaced empty ∷ Took 1 seven ∷ []) empty
+  pub log_unreplaced_part : log_may_leave (9 ∷ []) (Unreplaced empty ∷ Took 1 seven ∷ []) (0 ∷ 0 ∷ []) → ⊥
   -- which calls end a device
   pub ends : has_failed (Gave 0 seven ∷ Missed ∷ Took 0 seven ∷ []) ≡ true
   pub goes_on : has_failed (Synced ∷ Gave 0 seven ∷ Denied 0 ∷ Took 0 seven ∷ []) ≡ false

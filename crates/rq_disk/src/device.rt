@@ -5,7 +5,7 @@
 //! nothing, or the device has stopped in it, its work done or not: each clause on what a crash leaves stands
 //! on every answer.
 ghost use Rattle.std.specs.Prelude.{◌≡◌, ◌≢◌, ◌⊎◌, ◌≤◌, ◌-◌, ◌++◌, List, ℕ, length, take, drop, min, IfOk, OnOk, OnErr, IsErr};
-ghost use Rattle.rq_disk.specs.Device.{Images, PageAsk, LogAsk, Leaves, Holds, Written, NoMore, Appended, CutOff, IsCutBetween, Only, Elapses, ElapsesThrough, FailureIsCounted, Stays};
+ghost use Rattle.rq_disk.specs.Device.{Images, PageAsk, LogAsk, Leaves, Holds, Written, NoMore, Appended, CutOff, Replaced, IsCutBetween, Only, Elapses, ElapsesThrough, FailureIsCounted, Stays};
 ghost use Rattle.rq_disk.specs.Records.{AreRecords};
 
 use thiserror::Error;
@@ -107,8 +107,8 @@ pub trait PageDevice {
     ghost only_now: { (d : Self) (c : Images) → left_since d (moment d) c → Leaves (may_be d) c };
 }
 
-/// A device of a log: bytes that grow at the end, whole records at a time, and may be cut off there. What was appended is
-/// durable once forced. A record is a big-endian `u32` length and that many bytes.
+/// A device of a log: bytes that grow at the end, whole records at a time, and may be cut off there, or be replaced. What was
+/// appended is durable once forced. A record is a big-endian `u32` length and that many bytes.
 pub trait LogDevice {
     /// The bytes that reads give.
     ghost seen: { Self → List ℕ };
@@ -202,6 +202,23 @@ pub trait LogDevice {
             Stays (seen self.old) (seen self.new) (may_leave self.old) (may_leave self.new) }
         ensures cause { FailureIsCounted (faults self.old) (faults self.new) result }
         ensures excused { OnErr result (excuse (LogAsk.Cuts len) self.old self.new) };
+
+    /// Puts whole records in the place of all that is there, and makes them durable. A crash in it leaves what it might have left
+    /// before, or exactly these.
+    fn replace(&mut self, bytes: &[u8]) -> Result<(), DeviceFailed>
+        requires { (n : ℕ) × AreRecords n bytes.now }
+        ensures left { OnOk result (seen self.new ≡ bytes.now) }
+        ensures durable { OnOk result (Only bytes.now (may_leave self.new)) }
+        ensures crash { Replaced bytes.now (may_leave self.old) (may_leave self.new) }
+        ensures time { Elapses (moment self.old) (moment self.new) (left_since self.old) (left_since self.new)
+            (may_leave self.new) }
+        ensures honest { honest self.new → honest self.old }
+        ensures failed { honest self.new → OnErr result
+            (stopped self.new ⊎ Stays (seen self.old) (seen self.new) (may_leave self.old) (may_leave self.new)) }
+        ensures still { honest self.new → stopped self.old → IsErr result × stopped self.new ×
+            Stays (seen self.old) (seen self.new) (may_leave self.old) (may_leave self.new) }
+        ensures cause { FailureIsCounted (faults self.old) (faults self.new) result }
+        ensures excused { OnErr result (excuse (LogAsk.Replaces bytes.now) self.old self.new) };
 
     /// A crash may leave what reads give.
     ghost seen_may_be_left: { (d : Self) → may_leave d (seen d) };

@@ -6,13 +6,13 @@ ghost use Rattle.rq_disk.specs.Device.{Only};
 
 use crate::contents::FileContents;
 use crate::device::{DeviceFailed, LogDevice};
-use crate::storage::{NotedFile, Storage};
+use crate::storage::{Exchange, NotedFile, Storage};
 use std::fs::File;
 use std::io;
 use std::marker::PhantomData;
 
-/// A log in a file that held what `S` says when it was opened. After an append, a force or a cut that failed every call
-/// fails, until the file is opened again.
+/// A log in a file that held what `S` says when it was opened. Once a call other than a read has failed, every call fails, until
+/// the file is opened again.
 #[derive(Drop)]
 pub struct FileLog<S: FileContents, F: Storage = NotedFile> {
     file: F,
@@ -20,7 +20,7 @@ pub struct FileLog<S: FileContents, F: Storage = NotedFile> {
     first: u64,
     // its length, where the next append goes
     end: u64,
-    // an append, a force or a cut has failed
+    // a call other than a read has failed
     broken: bool,
     failures: u64,
     held: PhantomData<S>,
@@ -123,6 +123,20 @@ impl<S: FileContents, F: Storage> LogDevice for FileLog<S, F> {
         }
         Ok(())
     }
+
+    fn replace(&mut self, bytes: &[u8]) -> Result<(), DeviceFailed> {
+        if self.broken {
+            self.failures = self.failures.wrapping_add(1);
+            return Err(DeviceFailed);
+        }
+        if self.file.exchange(bytes).is_err() {
+            self.broken = true;
+            self.failures = self.failures.wrapping_add(1);
+            return Err(DeviceFailed);
+        }
+        self.end = bytes.len() as u64;
+        Ok(())
+    }
 }
 
 // How many bytes there are from `at` on, before `end`, and at most `most`.
@@ -156,22 +170,22 @@ impl<S: FileContents, F: Storage> FileLog<S, F> {
     }
 }
 
-impl<S: FileContents> FileLog<S> {
+impl<S: FileContents, X: Exchange> FileLog<S, NotedFile<X>> {
     ghost use Rattle.rq_disk.specs.Stored.{first_len};
 
-    /// The log in a file, which is locked and forced first.
+    /// The log in a file, which is locked and forced first. `by` puts another in its place.
     ///
     /// # Errors
     /// `WouldBlock` where another opening has the file; those of the system.
-    pub fn open(file: File) -> io::Result<FileLog<S>>
-        ensures seen { IfOk result (λ d. ⟦<FileLog<S> as LogDevice>⟧.seen d ≡ S.bytes) }
-        ensures durable { IfOk result (λ d. Only S.bytes (⟦<FileLog<S> as LogDevice>⟧.may_leave d)) }
-        ensures honest { IfOk result (λ d. ⟦<FileLog<S> as LogDevice>⟧.honest d ↔ (length S.bytes ≡ first_len d)) }
-        ensures runs { IfOk result (λ d. ⟦<FileLog<S> as LogDevice>⟧.stopped d → ⊥) }
-        ensures moment { IfOk result (λ d. ⟦<FileLog<S> as LogDevice>⟧.moment d ≡ 0) }
-        ensures failures { IfOk result (λ d. ⟦<FileLog<S> as LogDevice>⟧.faults d ≡ 0) }
+    pub fn open(file: File, by: X) -> io::Result<FileLog<S, NotedFile<X>>>
+        ensures seen { IfOk result (λ d. ⟦<FileLog<S, NotedFile<X>> as LogDevice>⟧.seen d ≡ S.bytes) }
+        ensures durable { IfOk result (λ d. Only S.bytes (⟦<FileLog<S, NotedFile<X>> as LogDevice>⟧.may_leave d)) }
+        ensures honest { IfOk result (λ d. ⟦<FileLog<S, NotedFile<X>> as LogDevice>⟧.honest d ↔ (length S.bytes ≡ first_len d)) }
+        ensures runs { IfOk result (λ d. ⟦<FileLog<S, NotedFile<X>> as LogDevice>⟧.stopped d → ⊥) }
+        ensures moment { IfOk result (λ d. ⟦<FileLog<S, NotedFile<X>> as LogDevice>⟧.moment d ≡ 0) }
+        ensures failures { IfOk result (λ d. ⟦<FileLog<S, NotedFile<X>> as LogDevice>⟧.faults d ≡ 0) }
     {
-        let (file, len) = NotedFile::open(file)?;
+        let (file, len) = NotedFile::open(file, by)?;
         Ok(FileLog::new(file, len))
     }
 }

@@ -6,7 +6,7 @@ ghost use Rattle.rq_disk.specs.PageFile.{are_whole};
 
 use crate::contents::FileContents;
 use crate::device::{DeviceFailed, PAGE, PageDevice};
-use crate::storage::{NotedFile, Storage};
+use crate::storage::{Fixed, NotedFile, Storage};
 use std::fs::File;
 use std::io;
 use std::marker::PhantomData;
@@ -147,7 +147,7 @@ impl<S: FileContents> FilePages<S> {
         ensures failures { IfOk result (λ d. ⟦<FilePages<S> as PageDevice>⟧.faults d ≡ 0) }
         ensures count { IfOk result (λ d. file_page_count d ≡ min (opened_len d.file / 4096) (2 ^ 32 - 1)) }
     {
-        let (file, len) = NotedFile::open(file)?;
+        let (file, len) = NotedFile::open(file, Fixed)?;
         let count = std::cmp::min(len / PAGE as u64, u64::from(u32::MAX)) as u32;
         Ok(FilePages::new(file, count))
     }

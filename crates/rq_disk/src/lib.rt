@@ -23,5 +23,5 @@ pub use file_pages::FilePages;
 pub use mem_log::MemLog;
 pub use mem_pages::MemPages;
 pub use noted::Calls;
-pub use storage::{NotedFile, Storage};
+pub use storage::{Exchange, Fixed, NotedFile, Storage};
 pub use switch::{CallKind, Mishap, Switch};

@@ -15,6 +15,7 @@ pub enum LogCall {
     Append(Vec<u8>),
     Force,
     Cut(u64),
+    Replace(Vec<u8>),
 }
 
 /// A log in memory.
@@ -130,6 +131,23 @@ impl LogDevice for MemLog {
             }
         }
     }
+
+    fn replace(&mut self, bytes: &[u8]) -> Result<(), DeviceFailed> {
+        if self.switch.fails_any() || self.stopped {
+            self.failures = self.failures.wrapping_add(1);
+            return Err(DeviceFailed);
+        }
+        match put_run(self.alloc, &mut self.calls, &mut self.bytes, bytes) {
+            Ok(()) => {
+                self.forced = self.bytes.len();
+                Ok(())
+            }
+            Err(_) => {
+                self.failures = self.failures.wrapping_add(1);
+                Err(DeviceFailed)
+            }
+        }
+    }
 }
 
 // Notes a cut, or nothing.
@@ -173,6 +191,24 @@ fn add_run(
     calls.try_reserve(1)?;
     all.extend_from_slice(run)?;
     calls.push(LogCall::Append(copy))?;
+    Ok(())
+}
+
+// Puts a run in the place of all and notes it, or neither.
+fn put_run(
+    alloc: Global,
+    calls: &mut Vec<LogCall>,
+    all: &mut Vec<u8>,
+    run: &[u8],
+) -> Result<(), AllocError>
+    ensures ok { OnOk result ((v : _) × (v.items ≡ run.now)
+        × (calls.new.items ≡ calls.old.items ++ LogCall.Replace v ∷ []) × (all.new.items ≡ run.now)) }
+    ensures err { OnErr result ((calls.new.items ≡ calls.old.items) × (all.new.items ≡ all.old.items)) }
+{
+    let copy = run.to_vec(alloc)?;
+    let fresh = run.to_vec(alloc)?;
+    calls.push(LogCall::Replace(copy))?;
+    *all = fresh;
     Ok(())
 }
 

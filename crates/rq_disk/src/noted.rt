@@ -1,13 +1,13 @@
 //! The calls of a file, as contracts alone see them: they have no bytes.
 ghost use Rattle.std.specs.Prelude.{◌≡◌, [], ◌∷◌};
-ghost use Rattle.rq_disk.specs.FileCalls.FileCall.{Gave, Denied, Took, Tried, Cut, Uncut, Synced, Missed};
+ghost use Rattle.rq_disk.specs.FileCalls.FileCall.{Gave, Denied, Took, Tried, Cut, Uncut, Replaced, Unreplaced, Synced, Missed};
 
 use rq_bytes::GhostList;
 use std::marker::Model;
 use std::snapshot::Snapshot;
 
 /// A call of a file: what it gave or wrote, from a place on; a read or a write there that failed, with what was to be
-/// written; a cut or a sync, which was made or failed.
+/// written; a cut, what took its place or a sync, which was made or failed.
 #[derive(Drop)]
 pub(crate) enum Note {
     Gave(u64, Snapshot<GhostList<u8>>),
@@ -16,6 +16,8 @@ pub(crate) enum Note {
     Tried(u64, Snapshot<GhostList<u8>>),
     Cut(u64),
     Uncut(u64),
+    Replaced(Snapshot<GhostList<u8>>),
+    Unreplaced(Snapshot<GhostList<u8>>),
     Synced,
     Missed,
 }
@@ -87,6 +89,20 @@ impl Calls {
         ensures { self.new ≡ Uncut len ∷ self.old }
     {
         GhostList::push(&mut self.notes, &Note::Uncut(len));
+    }
+
+    /// Another took its place, which has these bytes alone.
+    pub fn replaced(&mut self, bytes: &[u8])
+        ensures { self.new ≡ Replaced bytes.now ∷ self.old }
+    {
+        GhostList::push(&mut self.notes, &Note::Replaced(listed(bytes)));
+    }
+
+    /// Another failed to take its place.
+    pub fn unreplaced(&mut self, bytes: &[u8])
+        ensures { self.new ≡ Unreplaced bytes.now ∷ self.old }
+    {
+        GhostList::push(&mut self.notes, &Note::Unreplaced(listed(bytes)));
     }
 
     /// It was synced.

@@ -2,11 +2,12 @@
 //! see the notes.
 ghost use Rattle.std.specs.Prelude.{◌≡◌, [], ◌∷◌, ℕ, List, IfOk, OnOk, OnErr};
 ghost use Rattle.rq_disk.specs.FileCalls.{FileCall};
-ghost use Rattle.rq_disk.specs.FileCalls.FileCall.{Gave, Denied, Took, Tried, Cut, Uncut, Synced, Missed};
+ghost use Rattle.rq_disk.specs.FileCalls.FileCall.{Gave, Denied, Took, Tried, Cut, Uncut, Replaced, Unreplaced, Synced, Missed};
 
 use crate::noted::Calls;
 use std::fs::File;
 use std::io;
+use std::io::ErrorKind;
 use std::os::unix::fs::FileExt;
 
 /// A file that is read and written by places.
@@ -35,6 +36,13 @@ pub trait Storage {
         ensures uncut { OnErr result (calls self.new ≡ Uncut len ∷ calls self.old) }
         ensures opened { opened self.new ≡ opened self.old };
 
+    /// Goes on with another file in its place, which has these bytes alone, all durable. Where it errs, a later opening may find
+    /// either.
+    fn exchange(&mut self, bytes: &[u8]) -> io::Result<()>
+        ensures replaced { OnOk result (calls self.new ≡ Replaced bytes.now ∷ calls self.old) }
+        ensures unreplaced { OnErr result (calls self.new ≡ Unreplaced bytes.now ∷ calls self.old) }
+        ensures opened { opened self.new ≡ opened self.old };
+
     /// Makes all that was written durable.
     fn sync(&mut self) -> io::Result<()>
         ensures synced { OnOk result (calls self.new ≡ Synced ∷ calls self.old) }
@@ -42,16 +50,34 @@ pub trait Storage {
         ensures opened { opened self.new ≡ opened self.old };
 }
 
-/// A file of the system, locked for this opening alone.
+/// What puts another file in the place of one.
+pub trait Exchange: Drop {
+    /// Puts a file that has these bytes alone where `old` stands, and answers it, locked. All of that is durable. Where it errs,
+    /// either file may stand there.
+    fn exchange(&self, old: &File, bytes: &[u8]) -> io::Result<File>;
+}
+
+/// Puts none there.
 #[derive(Drop)]
-pub struct NotedFile {
+pub struct Fixed;
+
+impl Exchange for Fixed {
+    fn exchange(&self, _old: &File, _bytes: &[u8]) -> io::Result<File> {
+        Err(ErrorKind::Unsupported.into())
+    }
+}
+
+/// A file of the system, locked for this opening alone. `X` puts another in its place.
+#[derive(Drop)]
+pub struct NotedFile<X: Exchange = Fixed> {
     file: File,
+    by: X,
     // its length when it was opened
     len: u64,
     calls: Calls,
 }
 
-impl Storage for NotedFile {
+impl<X: Exchange> Storage for NotedFile<X> {
     ghost calls = { λ f. f.calls };
 
     ghost opened = { λ f. f.len };
@@ -83,6 +109,20 @@ impl Storage for NotedFile {
         done
     }
 
+    fn exchange(&mut self, bytes: &[u8]) -> io::Result<()> {
+        match self.by.exchange(&self.file, bytes) {
+            Ok(file) => {
+                self.file = file;
+                self.calls.replaced(bytes);
+                Ok(())
+            }
+            Err(error) => {
+                self.calls.unreplaced(bytes);
+                Err(error)
+            }
+        }
+    }
+
     fn sync(&mut self) -> io::Result<()> {
         let done = self.file.sync_data();
         match done {
@@ -101,7 +141,7 @@ fn shorten(file: &File, len: u64) -> io::Result<()> {
     Ok(())
 }
 
-impl NotedFile {
+impl<X: Exchange> NotedFile<X> {
     ghost use Rattle.rq_disk.specs.Stored.{file_calls, opened_len};
 
     /// Locks a file and syncs it; beside it, its length in bytes. The lock is the system's advisory one: it ends with
@@ -109,7 +149,7 @@ impl NotedFile {
     ///
     /// # Errors
     /// `WouldBlock` where another opening holds the lock; those of the system.
-    pub fn open(file: File) -> io::Result<(NotedFile, u64)>
+    pub fn open(file: File, by: X) -> io::Result<(NotedFile<X>, u64)>
         ensures calls { IfOk result (λ opened. file_calls opened.0 ≡ []) }
         ensures len { IfOk result (λ opened. opened_len opened.0 ≡ opened.1) }
     {
@@ -117,6 +157,14 @@ impl NotedFile {
         file.sync_all()?;
         let len = file.metadata()?.len();
         let calls = Calls::none();
-        Ok((NotedFile { file, len, calls }, len))
+        Ok((
+            NotedFile {
+                file,
+                by,
+                len,
+                calls,
+            },
+            len,
+        ))
     }
 }

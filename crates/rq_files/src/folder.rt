@@ -4,6 +4,7 @@ ghost use Rattle.rq_disk.specs.Device.{Only};
 ghost use Rattle.rq_disk.specs.Stored.{first_len};
 
 use crate::fault::{Fault, NotOpened};
+use crate::renaming::{FolderLog, InFolder, LogPaths, Renames};
 use rq_disk::{FileContents, FileLog, FilePages, LogDevice, PAGE, PageDevice, Unknown};
 use rq_model::refusal::Refusal;
 use rq_page::layout::Layout;
@@ -17,7 +18,7 @@ use std::{fs, io};
 const PAGES: &str = "pages";
 
 /// The file of a store's log.
-const LOG: &str = "log";
+pub(crate) const LOG: &str = "log";
 
 /// Makes the files of an empty store in a folder and prints so, or why not. Answers the exit status: 0, or 1 after a
 /// fault.
@@ -55,7 +56,7 @@ fn print_formatted<W: Write>(writer: &mut W, layout: &Layout) -> io::Result<()> 
 }
 
 /// Makes the pages and the empty log of a store in a folder, which is there. All of it is durable then, the names of
-/// both files too.
+/// both files too. What else is there stays, as a `log.new` that a crash left.
 ///
 /// # Errors
 /// `Exists` where either name is taken; `Open` where a file or its lock, or the folder, cannot be had, as where no folder
@@ -86,11 +87,11 @@ pub fn format_folder<R: Files<File = File> + AllocGlobal>(
 ///
 /// # Errors
 /// `Open` where a file or its lock cannot be had, `Refused` with `DiskWrite` where it cannot be synced, and with `NoMemory`.
-pub fn open_folder<S: FileContents, R: Files<File = File> + AllocGlobal>(
-    rt: &R,
+pub fn open_folder<'a, S: FileContents, R: Files<File = File> + AllocGlobal + Renames>(
+    rt: &'a R,
     folder: &str,
     _held: S,
-) -> Result<(FilePages<S>, FileLog<S>), NotOpened>
+) -> Result<(FilePages<S>, FolderLog<'a, S, R>), NotOpened>
     ensures pages { IfOk result (λ d. ⟦<FilePages<S> as PageDevice>⟧.seen d.0 ≡ S.pages) }
     ensures pages_durable { IfOk result (λ d. (p : ℕ)
         → Only (S.pages p) (⟦<FilePages<S> as PageDevice>⟧.may_be d.0 p)) }
@@ -98,43 +99,40 @@ pub fn open_folder<S: FileContents, R: Files<File = File> + AllocGlobal>(
     ensures pages_run { IfOk result (λ d. ⟦<FilePages<S> as PageDevice>⟧.stopped d.0 → ⊥) }
     ensures pages_moment { IfOk result (λ d. ⟦<FilePages<S> as PageDevice>⟧.moment d.0 ≡ 0) }
     ensures pages_failures { IfOk result (λ d. ⟦<FilePages<S> as PageDevice>⟧.faults d.0 ≡ 0) }
-    ensures log { IfOk result (λ d. ⟦<FileLog<S> as LogDevice>⟧.seen d.1 ≡ S.bytes) }
-    ensures log_durable { IfOk result (λ d. Only S.bytes (⟦<FileLog<S> as LogDevice>⟧.may_leave d.1)) }
-    ensures log_honest { IfOk result (λ d. ⟦<FileLog<S> as LogDevice>⟧.honest d.1
+    ensures log { IfOk result (λ d. ⟦<FolderLog<'a, S, R> as LogDevice>⟧.seen d.1 ≡ S.bytes) }
+    ensures log_durable { IfOk result (λ d. Only S.bytes (⟦<FolderLog<'a, S, R> as LogDevice>⟧.may_leave d.1)) }
+    ensures log_honest { IfOk result (λ d. ⟦<FolderLog<'a, S, R> as LogDevice>⟧.honest d.1
         ↔ (length S.bytes ≡ first_len d.1)) }
-    ensures log_runs { IfOk result (λ d. ⟦<FileLog<S> as LogDevice>⟧.stopped d.1 → ⊥) }
-    ensures log_moment { IfOk result (λ d. ⟦<FileLog<S> as LogDevice>⟧.moment d.1 ≡ 0) }
-    ensures log_failures { IfOk result (λ d. ⟦<FileLog<S> as LogDevice>⟧.faults d.1 ≡ 0) }
+    ensures log_runs { IfOk result (λ d. ⟦<FolderLog<'a, S, R> as LogDevice>⟧.stopped d.1 → ⊥) }
+    ensures log_moment { IfOk result (λ d. ⟦<FolderLog<'a, S, R> as LogDevice>⟧.moment d.1 ≡ 0) }
+    ensures log_failures { IfOk result (λ d. ⟦<FolderLog<'a, S, R> as LogDevice>⟧.faults d.1 ≡ 0) }
 {
-    let pages = opened(rt, folder, PAGES)?;
-    let log = opened(rt, folder, LOG)?;
-    let pages = match FilePages::open(pages) {
-        Ok(pages) => pages,
-        Err(error) => return Err(not_synced(error)),
-    };
-    match FileLog::open(log) {
+    let pages = opened(rt, &path_of(rt, folder, PAGES).map_err(no_memory)?)?;
+    let pages = FilePages::open(pages).map_err(not_synced)?;
+    // behind the lock of the pages: whoever has that one may put another file in the place of the log
+    let paths = LogPaths::of(rt, folder).map_err(no_memory)?;
+    let log = opened(rt, &paths.log)?;
+    match FileLog::open(log, InFolder::new(rt, paths)) {
         Ok(log) => Ok((pages, log)),
         Err(error) => Err(not_synced(error)),
     }
 }
 
-fn opened<R: Files<File = File> + AllocGlobal>(
-    rt: &R,
-    folder: &str,
-    name: &str,
-) -> Result<File, NotOpened> {
-    let Ok(path) = Path::new(folder).join(rt.alloc(), name) else {
-        return Err(NotOpened {
-            fault: Fault::Refused(Refusal::NoMemory),
-            error: ErrorKind::OutOfMemory.into(),
-        });
-    };
-    match OpenOptions::new().read(true).write(true).open(rt, &path) {
+fn opened<R: Files<File = File>>(rt: &R, path: &PathBuf) -> Result<File, NotOpened> {
+    match OpenOptions::new().read(true).write(true).open(rt, path) {
         Ok(file) => Ok(file),
         Err(error) => Err(NotOpened {
             fault: Fault::Open,
             error,
         }),
+    }
+}
+
+// Of a path that could not be made.
+fn no_memory(fault: Fault) -> NotOpened {
+    NotOpened {
+        fault,
+        error: ErrorKind::OutOfMemory.into(),
     }
 }
 
@@ -153,7 +151,7 @@ pub(crate) fn log_path<R: AllocGlobal>(rt: &R, folder: &str) -> Result<PathBuf, 
     path_of(rt, folder, LOG)
 }
 
-fn path_of<R: AllocGlobal>(rt: &R, folder: &str, name: &str) -> Result<PathBuf, Fault> {
+pub(crate) fn path_of<R: AllocGlobal>(rt: &R, folder: &str, name: &str) -> Result<PathBuf, Fault> {
     match Path::new(folder).join(rt.alloc(), name) {
         Ok(path) => Ok(path),
         Err(_) => Err(Fault::Refused(Refusal::NoMemory)),

@@ -4,7 +4,9 @@
 mod fault;
 mod folder;
 mod looking;
+mod renaming;
 
 pub use fault::{Fault, NotOpened};
 pub use folder::{format_folder, open_folder, run_format};
 pub use looking::{ReadFile, look_at_log};
+pub use renaming::{FolderLog, InFolder, LogPaths, Renames};

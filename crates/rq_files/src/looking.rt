@@ -45,6 +45,11 @@ impl Storage for ReadFile {
         Err(ErrorKind::PermissionDenied.into())
     }
 
+    fn exchange(&mut self, bytes: &[u8]) -> io::Result<()> {
+        self.calls.unreplaced(bytes);
+        Err(ErrorKind::PermissionDenied.into())
+    }
+
     fn sync(&mut self) -> io::Result<()> {
         self.calls.missed();
         Err(ErrorKind::PermissionDenied.into())

@@ -7,7 +7,7 @@ mod serving;
 
 use args::Args;
 use inspect::run_inspect;
-use rq_files::run_format;
+use rq_files::{Renames, run_format};
 use rq_levels::sets_of_levels;
 use rq_page::layout::Layout;
 use rq_script::{run_script, sets_wanted};
@@ -58,6 +58,7 @@ fn run<
         + Env
         + Files<File = File>
         + Net<Listener = TcpListener, Stream = TcpStream>
+        + Renames
         + Wait
         + Threads
         + Clock

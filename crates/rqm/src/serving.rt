@@ -5,9 +5,9 @@ ghost use Rattle.rq_shared.specs.Entries.{WasSound};
 ghost use Rattle.rqm.specs.Holding.{HoldStore};
 
 use crate::args::Serve;
-use rq_disk::{FileContents, FileLog, FilePages, LogDevice, PAGE, PageDevice, Unknown};
+use rq_disk::{FileContents, FilePages, LogDevice, PAGE, PageDevice, Unknown};
 use rq_engine::engine::Engine;
-use rq_files::{Fault, NotOpened, open_folder};
+use rq_files::{Fault, FolderLog, NotOpened, Renames, open_folder};
 use rq_levels::{StoreLevel, levels_of_store};
 use rq_model::refusal::Refusal;
 use rq_restart::restart::{Report, restart};
@@ -26,7 +26,7 @@ use std::time::{Clock, Instant};
 use std::{fs, io};
 
 /// A store in files that held `S` as they were opened.
-type Store<S> = Engine<FilePages<S>, FileLog<S>, StoreLevel>;
+type Store<'a, S, R> = Engine<FilePages<S>, FolderLog<'a, S, R>, StoreLevel>;
 
 /// Opens the store of a folder and serves it, and prints where and how many sessions there were, or why not. Answers the exit
 /// status: 0, or 1 after a fault.
@@ -40,6 +40,7 @@ pub fn run_serve<
         + Clock
         + Files<File = File>
         + Net<Listener = TcpListener, Stream = TcpStream>
+        + Renames
         + Wait
         + Threads
         + Sync,
@@ -58,14 +59,16 @@ fn tell_fault<R: Print>(rt: &R, fault: Fault) -> io::Result<u8> {
 
 // The faults come in this order: those of the folder and its files, of the restart, of the port.
 fn opened_and_bound<
+    'a,
     S: FileContents,
     R: AllocGlobal
         + Eprint
         + Clock
         + Files<File = File>
-        + Net<Listener = TcpListener, Stream = TcpStream>,
->(rt: &R, asked: &Serve, held: S) -> Result<(Store<S>, TcpListener, Plan), Fault>
-    ensures { IfOk result (λ o. WasSound ⟦<FilePages<S> as PageDevice>⟧ ⟦<FileLog<S> as LogDevice>⟧
+        + Net<Listener = TcpListener, Stream = TcpStream>
+        + Renames,
+>(rt: &'a R, asked: &Serve, held: S) -> Result<(Store<'a, S, R>, TcpListener, Plan), Fault>
+    ensures { IfOk result (λ o. WasSound ⟦<FilePages<S> as PageDevice>⟧ ⟦<FolderLog<'a, S, R> as LogDevice>⟧
         (HoldStore S.pages S.bytes) o.0) }
 {
     let folder = asked.folder.as_str();
@@ -84,12 +87,12 @@ fn opened_and_bound<
     }
 }
 
-fn opened<S: FileContents, R: AllocGlobal + Eprint + Files<File = File>>(
-    rt: &R,
+fn opened<'a, S: FileContents, R: AllocGlobal + Eprint + Files<File = File> + Renames>(
+    rt: &'a R,
     folder: &str,
     held: S,
-) -> Result<(Store<S>, Report), Fault>
-    ensures { IfOk result (λ o. WasSound ⟦<FilePages<S> as PageDevice>⟧ ⟦<FileLog<S> as LogDevice>⟧
+) -> Result<(Store<'a, S, R>, Report), Fault>
+    ensures { IfOk result (λ o. WasSound ⟦<FilePages<S> as PageDevice>⟧ ⟦<FolderLog<'a, S, R> as LogDevice>⟧
         (HoldStore S.pages S.bytes) o.0) }
 {
     let (pages, log) = match open_folder(rt, folder, held) {
@@ -171,17 +174,19 @@ fn pages_in<R: AllocGlobal + Eprint + Files<File = File>>(
 
 // Serves an engine, and prints where and how many sessions there were.
 fn served<
+    'a,
     S: FileContents + Send,
     R: AllocGlobal
         + Print
         + Eprint
         + Clock
         + Net<Listener = TcpListener, Stream = TcpStream>
+        + Renames
         + Wait
         + Threads
         + Sync,
->(rt: &R, engine: Store<S>, listener: TcpListener, plan: Plan) -> io::Result<u8>
-    requires { WasSound ⟦<FilePages<S> as PageDevice>⟧ ⟦<FileLog<S> as LogDevice>⟧ (HoldStore S.pages S.bytes) engine }
+>(rt: &'a R, engine: Store<'a, S, R>, listener: TcpListener, plan: Plan) -> io::Result<u8>
+    requires { WasSound ⟦<FilePages<S> as PageDevice>⟧ ⟦<FolderLog<'a, S, R> as LogDevice>⟧ (HoldStore S.pages S.bytes) engine }
 {
     let served = shared_by_brand(rt, rt.alloc(), engine, listener, plan);
     print_served(rt, served)
@@ -206,17 +211,21 @@ fn print_served<R: Print>(rt: &R, served: Result<u64, Stopped>) -> io::Result<u8
 }
 
 // Shares an engine under a name of its own.
-fn shared_by_brand<S: FileContents + Send, R: Wait + Threads + Clock + Net + Print + Eprint + Sync>(
-    rt: &R,
+fn shared_by_brand<
+    'a,
+    S: FileContents + Send,
+    R: Wait + Threads + Clock + Net + Print + Eprint + Renames + Sync,
+>(
+    rt: &'a R,
     alloc: Global,
-    engine: Store<S>,
+    engine: Store<'a, S, R>,
     listener: TcpListener,
     plan: Plan,
 ) -> Result<u64, Stopped>
-    requires { WasSound ⟦<FilePages<S> as PageDevice>⟧ ⟦<FileLog<S> as LogDevice>⟧ (HoldStore S.pages S.bytes) engine }
+    requires { WasSound ⟦<FilePages<S> as PageDevice>⟧ ⟦<FolderLog<'a, S, R> as LogDevice>⟧ (HoldStore S.pages S.bytes) engine }
 {
     let taking = Blank::new(1024);
-    share::<FilePages<S>, FileLog<S>, Brand, R>(
+    share::<FilePages<S>, FolderLog<'a, S, R>, Brand, R>(
         rt,
         alloc,
         engine,

@@ -45,6 +45,17 @@ returns c = record {
     | inl held ↦ (let e : 1 ≡ 5 = ap length held in omega (arith, e))
     | inr cut ↦ (let e : 1 ≡ length (take cut.0 (9 ∷ empty)) = ap length cut.2 in omega (arith, e, cut.1, length-take cut.0 (9 ∷ empty)))
   ];
+  log_replaced = (refl, refl);
+  log_replaced_stays = λ a. (let e : 1 ≡ 4 = ap length a in omega (arith, e));
+  log_unreplaced_old = inl (inr (1, refl));
+  log_unreplaced_new = inr refl;
+  log_unreplaced_part = λ a. elim a [
+    | inl old ↦ elim old [
+      | inl held ↦ (let e : 2 ≡ 1 = ap length held in omega (arith, e))
+      | inr took ↦ (let e : 0 ≡ 9 = ap (λ (l : List ℕ). get_or l 0 0) took.1 in omega (arith, e))
+    ]
+    | inr new ↦ (let e : 2 ≡ 4 = ap length new in omega (arith, e))
+  ];
   ends = refl;
   goes_on = refl;
   erred_behind = inr (inl (refl, refl));
