@@ -27,6 +27,7 @@ ROWS = [
     (["beside", "commit", "2", "4", "begun", "8", "0", "10"], b"", "10 transactions\n"),
     (["make", ".", "1", "1", "10"], b"", "10 messages\n"),
     (["open", "."], b"", "restarted 2 unfinished 0 lost 0, 82 records\n"),
+    (["replace", "."], b"\n\n", "600 zeros\n" * 2),
     (["calls", "1", "2"], b"", "7168 calls\n"),
     (["calls", "4", "2"], b"", "7168 calls\n"),
 ]
@@ -38,6 +39,7 @@ REFUSED = [
     (["decode"], LOG[:-1]),
     (["feed"], b"\0\0"),
     (["append", "appended"], b""),
+    (["replace", "none"], b"\n"),
     (["beside", "sent", "1", "1", "begun", "0", "0", "1"], b""),
     (["make", "none", "1", "1", "1"], b""),
     (["calls", "2", "1"], b""),

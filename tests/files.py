@@ -5,17 +5,20 @@ where no store is made, and what is left where each call on the files fails in t
     python3 tests/files.py [--program PROGRAM] [NAME..]
 
 A name is one of the tests below, as `made`; without one all are run. Where `rt ci` left the program as Rattle's own compiler
-builds it too, that one runs those of `TWICE` as well.
+builds it too, that one runs those of `TWICE` as well. Logs are replaced by the program of `crates/bench`.
 """
 import argparse
 import os
 import pathlib
+import resource
+import signal
+import stat
 import subprocess
 import tempfile
 import time
 from contextlib import contextmanager
 
-from cases import built_twice
+from cases import built, built_twice
 from damaged import (
     FREE, MESSAGE, ONE_COMMITTED, ONE_SENT, PAGE, cell, end, formatted, group, received, sent, small, write,
 )  # fmt: skip
@@ -27,8 +30,11 @@ SHIM = """#define _GNU_SOURCE
 #include <dlfcn.h>
 #include <errno.h>
 #include <fcntl.h>
+#include <stdarg.h>
 #include <stdatomic.h>
+#include <stdio.h>
 #include <stdlib.h>
+#include <sys/file.h>
 #include <sys/stat.h>
 #include <unistd.h>
 
@@ -40,6 +46,11 @@ static int fails(void) {
     close(open(told, O_WRONLY | O_CREAT, 0666));
     errno = EIO;
     return 1;
+}
+
+/* Where NAMES is set, calls that open, lock, rename or say who may read fail like that too. */
+static int name_fails(void) {
+    return getenv("NAMES") && fails();
 }
 
 #define NEXT(name) ((__typeof__(&name)) dlsym(RTLD_NEXT, #name))
@@ -79,6 +90,26 @@ READ(pread, off_t)
 READ(pread64, off64_t)
 SYNC(fsync)
 SYNC(fdatasync)
+
+int open(const char *path, int how, ...) {
+    va_list rest;
+    va_start(rest, how);
+    mode_t mode = how & O_CREAT ? va_arg(rest, mode_t) : 0;
+    va_end(rest);
+    return name_fails() ? -1 : NEXT(open)(path, how, mode);
+}
+int flock(int file, int how) {
+    return name_fails() ? -1 : NEXT(flock)(file, how);
+}
+int fchmod(int file, mode_t mode) {
+    return name_fails() ? -1 : NEXT(fchmod)(file, mode);
+}
+int rename(const char *from, const char *to) {
+    if (!name_fails()) return NEXT(rename)(from, to);
+    if (getenv("IN_PART")) NEXT(rename)(from, to);
+    errno = EIO;
+    return -1;
+}
 """
 
 
@@ -342,6 +373,104 @@ def torn_ends(program):
         assert cut, "no cut failed"
 
 
+# ---- logs that are replaced
+
+# no zero is in it
+OLD = b"old" * 1000
+
+
+def replace(folder, times, *, limit=None, **words):
+    """What is printed where a log is replaced so often by 600 zeros, and 600 more are appended each time; and the exit status."""
+    command = [built(None, "bench"), "replace", str(folder)]
+    words = dict(os.environ, **words)
+    ended = subprocess.run(command, input=b"\n" * times, stdout=subprocess.PIPE, env=words, preexec_fn=limit, timeout=LONGEST)
+    return ended.stdout, ended.returncode
+
+
+def replaced(_):
+    """The new log is read, what is appended goes behind it, and nothing of the old one is left. Who may read it stays. What a crash left
+    where the new one is made does no harm."""
+    for left in ({}, {"log.new": b"left" * 1000}):
+        with folder_of(pages=formatted(), log=OLD, **left) as folder:
+            (folder / "log").chmod(0o640)
+            for times in (1, 2):
+                assert replace(folder, times) == (b"600 zeros\n" * times, 0)
+                assert files_of(folder) == {"pages": bytes(formatted()), "log": bytes(1200)}
+                assert stat.S_IMODE((folder / "log").stat().st_mode) == 0o640
+
+
+def left_behind(program):
+    """What a crash left where a new log is made: a format makes its store beside it, which is opened, and neither looks at it."""
+    with folder_of(**{"log.new": OLD}) as folder:
+        assert format_store(program, folder) == (b"formatted 1 2\n", 0)
+        Server(program, folder).kill()
+        assert files_of(folder) == {"pages": bytes(formatted(1, 2)), "log": record(7, [1]), "log.new": OLD}
+
+
+def not_replaced(_):
+    """Where a call fails, the log is the old one or the new one, whole, and it is replaced the next time."""
+    came = set()
+    for words, told in each_call(14):
+        with folder_of(pages=formatted(), log=OLD) as folder:
+            assert replace(folder, 1, NAMES="1", **words) == ((b"", 1) if told.exists() else (b"600 zeros\n", 0)), words
+            files = files_of(folder)
+            is_old = files["log"] == OLD
+            assert is_old or files["log"] in (bytes(600), bytes(900), bytes(1200)), words
+            came.add((is_old, "log.new" in files))
+            assert replace(folder, 1) == (b"600 zeros\n", 0), words
+            assert files_of(folder) == {"pages": bytes(formatted()), "log": bytes(1200)}, words
+    assert came == {(True, False), (True, True), (False, False)}, came
+
+
+def no_room(_):
+    """Where no new log can be made, or not all of it be written, the old one stays."""
+
+    def limit():
+        signal.signal(signal.SIGXFSZ, signal.SIG_IGN)
+        resource.setrlimit(resource.RLIMIT_FSIZE, (300, 300))
+
+    with folder_of(pages=formatted(), log=OLD) as folder:
+        (folder / "log.new").mkdir()
+        assert replace(folder, 1) == (b"", 1)
+        (folder / "log.new").rmdir()
+        assert files_of(folder) == {"pages": bytes(formatted()), "log": OLD}
+        assert replace(folder, 1, limit=limit) == (b"", 1)
+        assert files_of(folder) == {"pages": bytes(formatted()), "log": OLD, "log.new": bytes(300)}
+
+
+def replaced_while_open(program):
+    """Whoever replaces a log has the store to itself all the while. Where another folder has the name by then, its log stays."""
+    with folder_of() as top:
+        folder, other = top / "store", {"pages": bytes(formatted()), "log": b"other"}
+        make_folder(folder, pages=formatted(), log=OLD)
+        command = [built(None, "bench"), "replace", str(folder)]
+        with subprocess.Popen(command, stdin=subprocess.PIPE, stdout=subprocess.PIPE) as process:
+            for _ in range(2):
+                process.stdin.write(b"\n")
+                process.stdin.flush()
+                assert process.stdout.readline() == b"600 zeros\n"
+                assert why_refused(program, folder) == b"fault open\n"
+            folder.rename(top / "aside")
+            make_folder(folder, **other)
+            assert process.communicate(b"\n", timeout=LONGEST) == (b"", None) and process.returncode == 1
+        assert files_of(folder) == other
+        assert files_of(top / "aside") == {"pages": other["pages"], "log": bytes(1200)}
+
+
+def why_refused(program, folder):
+    try:
+        Server(program, folder).kill()
+    except NotStarted as refused:
+        return refused.line
+    return None
+
+
+def make_folder(folder, **files):
+    folder.mkdir()
+    for name, held in files.items():
+        (folder / name).write_bytes(held)
+
+
 def last_force(program):
     """A server that ends by itself tells where its last force is refused, since a call failed there or before it."""
     refused_forces = 0
@@ -387,7 +516,10 @@ def is_failed(server):
     return False
 
 
-TESTS = [made, there, no_folder, open_once, messages, log_of_all, formats, courses, torn_ends, last_force]
+TESTS = [
+    made, there, no_folder, open_once, messages, log_of_all, formats, courses, torn_ends, last_force,
+    replaced, left_behind, not_replaced, no_room, replaced_while_open,
+]  # fmt: skip
 
 # What looks at the bytes of each file.
 TWICE = [made, messages]

@@ -5,6 +5,7 @@
 //! | `decode ROUNDS` | decodes a log that comes by standard input |
 //! | `feed ROUNDS` | reads the requests of a stream that comes by standard input |
 //! | `append FILE RECORDS` | appends to a log in a file |
+//! | `replace FOLDER` | replaces the log of a store in a folder, once for each line of standard input |
 //! | `beside KIND DIRECTORY CELLS OTHER OPEN MESSAGES TRANSACTIONS` | goes through transactions beside others that stay open |
 //! | `make FOLDER DIRECTORY CELLS MESSAGES` | makes a store in a folder |
 //! | `open FOLDER` | opens it, or says why not |
@@ -17,6 +18,7 @@ mod feed;
 mod files;
 mod others;
 mod reopen;
+mod replacing;
 mod rounds;
 mod store;
 mod tally;
@@ -48,6 +50,7 @@ fn run<R: Print + Eprint + Input + AllocGlobal + Env + Files<File = File> + Thre
         Some(Verb::Decode) => decode::run(rt, &words),
         Some(Verb::Feed) => feed::run(rt, &words),
         Some(Verb::Append) => files::run(rt, &words),
+        Some(Verb::Replace) => replacing::run(rt, &words),
         Some(Verb::Beside) => beside::run(rt, &words),
         Some(Verb::Make) => reopen::make(rt, &words),
         Some(Verb::Open) => reopen::open(rt, &words),

@@ -10,16 +10,18 @@ pub enum Verb {
     Decode,
     Feed,
     Append,
+    Replace,
     Beside,
     Make,
     Open,
     Calls,
 }
 
-const VERBS: [(&str, Verb); 7] = [
+const VERBS: [(&str, Verb); 8] = [
     ("decode", Verb::Decode),
     ("feed", Verb::Feed),
     ("append", Verb::Append),
+    ("replace", Verb::Replace),
     ("beside", Verb::Beside),
     ("make", Verb::Make),
     ("open", Verb::Open),
