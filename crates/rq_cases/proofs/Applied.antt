@@ -6,7 +6,6 @@ use Rattle.rq_disk.specs.declared.mem_log.MemLog.{MemLog}
 use Rattle.rq_disk.specs.declared.mem_pages.MemPages.{MemPages}
 use Rattle.rq_log.specs.Spelled.{EndsWith, spelled}
 use Rattle.rq_page.specs.Pages.{lsn_of}
-use Rattle.rq_log.proofs.Runs.{AreSpelled-drop}
 use Rattle.rq_store.specs.State.{State}
 use Rattle.rq_engine.specs.declared.event.Event.TheVariants as event
 use Rattle.rq_engine.specs.declared.event.Reply.TheVariants as reply
@@ -20,6 +19,12 @@ use Rattle.rq_cases.proofs.Bytes.{first_spelled, records_spelled, spells_one, th
 use Rattle.rq_cases.proofs.Held.{pages_now, pages_fit, leaves_beginning, runs_through, forced_reads, forced_only}
 use Rattle.rq_cases.proofs.Images.{lsn_is}
 use Rattle.rq_cases.proofs.Pages.{cells_1_long}
+use Rattle.rq_cases.proofs.Bytes.{first_plain}
+use Rattle.rq_cases.proofs.Bytes.{records_plain}
+use Rattle.rq_cases.proofs.Bytes.{drop_spelled}
+use Rattle.std.proofs.Common.{subst}
+use Rattle.rq_model.proofs.Bases.{all_stand, plain_drop}
+use Rattle.rq_log.specs.Spelled.{EndsWithAll}
 use Rattle.rq_cases.proofs.Running as running
 
 cell_page_lsn : lsn_of (page_image 2 2 2 cells_1) ≡ 2
@@ -45,22 +50,23 @@ module _ (pages : MemPages) (old new : MemLog) (p : AreNewPages pages formatted_
     writes = tt;
     pages = refl;
     log = record {
-      handed = record { faults = f.failures; reads = λ h. forced_reads log_5 1 4 records_spelled (omega arith) old new l f };
-      durable = λ h. forced_only log_5 1 4 records_spelled (omega arith) old new l f;
+      handed = record { faults = f.failures; reads = λ h. forced_reads log_5 records_plain 1 4 records_spelled (omega arith) old new l f };
+      durable = λ h. forced_only log_5 records_plain 1 4 records_spelled (omega arith) old new l f;
     };
     honest = λ h. h;
-    any_moment = λ h. runs_through log_5 1 4 records_spelled (omega arith) old new l f;
+    any_moment = λ h. runs_through log_5 records_plain 1 4 records_spelled (omega arith) old new l f;
     fit = λ h earlier long k fit. pages_fit pages p log_5 (5, refl);
-    crash = λ h earlier long k fit alike.
+    crash = λ h earlier long k fit.
         runs_through_cuts mem_pages mem_log pages_now (over committed pages old) (over forced pages new) k fit event.Force
-        (reply.Forced 5) records_spelled tt refl (leaves_beginning old log_1 l log_5 1 4 (omega arith) refl)
-        (runs_through log_5 1 4 records_spelled (omega arith) old new l f);
+        (reply.Forced 5) (records_spelled, λ some. some) tt refl (leaves_beginning old log_1 l log_5 records_plain 1 4 (omega arith) refl)
+        (runs_through log_5 records_plain 1 4 records_spelled (omega arith) old new l f);
   }
 
 -- a log of five records, of which a crash leaves one at least
-nothing_left : (lost : ℕ) → lost + 1 ≤ 5 → EndsWith (drop lost log_5) [] → ⊥
+nothing_left : (lost : ℕ) → lost + 1 ≤ 5 → EndsWithAll (drop lost log_5) [] → ⊥
 nothing_left lost le e =
-    let none : drop lost log_5 ≡ [] = sym (the_log [] (drop lost log_5) [] tt (AreSpelled-drop lost log_5 records_spelled) refl e) in
+    let ends : EndsWith (drop lost log_5) [] = subst (λ (l : List Record). EndsWithAll l []) (sym (all_stand (drop lost log_5) (plain_drop lost log_5 records_plain))) e in
+    let none : drop lost log_5 ≡ [] = sym (the_log [] tt (drop lost log_5) [] tt (drop_spelled lost) refl ends) in
     let n : length (drop lost log_5) ≡ 0 = ap (λ (l : List Record). length l) none in
     let m = length-drop lost log_5 in
     omega (arith, n, m, le)
@@ -86,7 +92,7 @@ applied = record {
   failed_without_a_failure = λ pages log new low same a. (let f = a.log.1 in omega (arith, low, same, f));
   forced_nothing = λ pages log new may a.
       (let e : spelled log_1 ≡ spelled log_5 = a.log.durable tt (spelled log_1) may in
-      let f : 1 ≡ 5 = ap (λ (l : List Record). length l) (spells_one log_1 log_5 first_spelled records_spelled e) in
+      let f : 1 ≡ 5 = ap (λ (l : List Record). length l) (spells_one log_1 first_plain log_5 first_spelled records_spelled e) in
       omega (arith, f));
   left_nothing_meanwhile = λ pages log new left a.
       (let b = (a.any_moment tt).each [] left in nothing_left b.0 b.1 b.2);

@@ -69,7 +69,9 @@ use Rattle.rq_restart.proofs.Aborts.{aborting_none, behind_none, active_lost}
 use Rattle.rq_analysis.specs.Recovered.IsRecovered.{NoneLost}
 use Rattle.rq_analysis.specs.Recovered.IsRecovering.{Undoing}
 use Rattle.rq_log.proofs.Runs.{ends_all}
-use Rattle.rq_restart.proofs.Parsing.{are_first}
+use Rattle.rq_restart.proofs.Parsing.{front_first}
+use Rattle.rq_restart.proofs.Repeated.{repeated_plain}
+use Rattle.rq_model.specs.Bases.{standing}
 use Rattle.rq_core.specs.Devices.{mem_log, mem_pages}
 use Rattle.rq_core.specs.Worked.{hello}
 use Rattle.rq_cases.specs.Aborts.{close_turned, turned, undone}
@@ -88,6 +90,9 @@ use Rattle.rq_cases.proofs.Held.{leaves_beginning, log_seen, pages_fit, pages_no
 use Rattle.rq_cases.proofs.Openings.{formatted_are, only_read}
 use Rattle.rq_cases.proofs.Pages.{are_formatted, range}
 use Rattle.rq_cases.proofs.Restarting.{counted_read, pages_seen_are}
+use Rattle.rq_model.specs.Incarnations.{AreBased}
+use Rattle.rq_model.specs.Bases.{gone as gone_of}
+use Rattle.rq_model.proofs.Bases.{none_gone}
 use Rattle.rq_cases.proofs.Running.{first_sound, send_plan}
 
 -- what such a log is of
@@ -112,6 +117,10 @@ length_is (suc n) = (let e = length_is n in omega (arith, e))
 all_new : (n : ℕ) → drop n (restarts n) ≡ []
 all_new zero = refl
 all_new (suc n) = all_new n
+
+restarts_plain : (n : ℕ) → AreBased (restarts n)
+restarts_plain zero = tt
+restarts_plain (suc n) = (tt, restarts_plain n)
 
 are_spelled : (n : ℕ) → n < 2 ^ 64 → AreSpelled (restarts n)
 are_spelled zero low = tt
@@ -258,8 +267,9 @@ module _ (n : ℕ) where
         → Makes (over s pages log) (event.Commit t) (reply.Committed number) (over (one_committed n) pages log)
     commit_whole number le of at =
         let length_of = length_is n in
+        let none_away : 0 < s.forced → gone_of s.records < s.forced = λ some. (let none = none_gone s.records (restarts_plain (suc n)) in omega (arith, none, some)) in
         let told : AreSpelled s.records = are_spelled (suc n) (omega (arith, le)) in
-        let here = same_beginning log (restarts (suc n)) h.1 s.records s.forced 0 (omega arith) refl in
+        let here = same_beginning log (restarts (suc n)) h.1 s.records (restarts_plain (suc n)) s.forced 0 (omega arith) refl in
         let next : number.lsn ≡ length s.records + 1 = omega (arith, at, length_of) in
         let is : commit_number number ≡ record { txn = t; lsn = length s.records + 1 } = (λ i. record { txn = of i; lsn = next i }) in
         let taken : sum_by takes_one (done_by s t) ≡ 0 = ap (sum_by takes_one) none_done in
@@ -295,17 +305,18 @@ module _ (n : ℕ) where
               committed_over earlier (λ a b. AreFit mem_pages (over a pages log) → AreFit mem_pages (over b pages log))
               (λ fits. fit_kept mem_pages mem_log pages_now (over s pages log) (over (one_committed n) pages log) (begun_sound n) fits
               (event.Commit t) (reply.Committed number) (Commit t) _ refl steps tt refl);
-          crash = λ honest earlier long k fits alike.
+          crash = λ honest earlier long k fits.
               committed_over earlier (λ a b. AreFit mem_pages (over a pages log) → RunsThroughCuts mem_pages mem_log (over a pages log) (over b pages log))
               (λ fits. runs_through_cuts mem_pages mem_log pages_now (over s pages log) (over (one_committed n) pages log) (begun_sound n) fits
-              (event.Commit t) (reply.Committed number) told tt refl
-              (leaves_beginning log (restarts (suc n)) h.1 s.records s.forced 0 (omega arith) refl) here) fits;
+              (event.Commit t) (reply.Committed number) (told, none_away) tt refl
+              (leaves_beginning log (restarts (suc n)) h.1 s.records (restarts_plain (suc n)) s.forced 0 (omega arith) refl) here) fits;
         }
 
     refused_whole : 2 ^ 50 ≤ n + 1 → n + 1 < 2 ^ 64 → Makes (over s pages log) (event.Commit t) (reply.Refused why.LogFull) (over s pages log)
     refused_whole le low =
+        let none_away : 0 < s.forced → gone_of s.records < s.forced = λ some. (let none = none_gone s.records (restarts_plain (suc n)) in omega (arith, none, some)) in
         let told : AreSpelled s.records = are_spelled (suc n) (omega (arith, low)) in
-        let here = same_beginning log (restarts (suc n)) h.1 s.records s.forced 0 (omega arith) refl in
+        let here = same_beginning log (restarts (suc n)) h.1 s.records (restarts_plain (suc n)) s.forced 0 (omega arith) refl in
         record {
           steps = λ honest earlier long k.
               begun_over earlier (λ a. IsModelStep a (Commit t) (Gave_refusal why.LogFull) a) (refuse_full s t ready (commit_full le) (begun_sound n)).0;
@@ -324,11 +335,11 @@ module _ (n : ℕ) where
           honest = λ honest. honest;
           any_moment = λ honest. here;
           fit = λ honest earlier long k fits. fits;
-          crash = λ honest earlier long k fits alike.
+          crash = λ honest earlier long k fits.
               begun_over earlier (λ a. AreFit mem_pages (over a pages log) → RunsThroughCuts mem_pages mem_log (over a pages log) (over a pages log))
               (λ fits. runs_through_cuts mem_pages mem_log pages_now (over s pages log) (over s pages log) (begun_sound n) fits (event.Commit t)
-              (reply.Refused why.LogFull) told tt refl
-              (leaves_beginning log (restarts (suc n)) h.1 s.records s.forced 0 (omega arith) refl) here) fits;
+              (reply.Refused why.LogFull) (told, none_away) tt refl
+              (leaves_beginning log (restarts (suc n)) h.1 s.records (restarts_plain (suc n)) s.forced 0 (omega arith) refl) here) fits;
         }
 
 -- what a refusal tells of the tests
@@ -412,7 +423,7 @@ module _ (n : ℕ) (pages : MemPages) (log : MemLog) (h : Hold pages formatted_p
     seen = λ honest p below. sym (ap (λ (seen : Images). seen p) (pages_seen_are pages formatted_pages h.0));
     older = restarts n;
     are_spelled = are_spelled n (omega (arith, low));
-    reads = λ honest. ends_all (restarts n) (mem_log.seen log) (log_seen log (restarts n) h.1);
+    reads = λ honest. ends_all (standing (restarts n)) (mem_log.seen log) (log_seen log (restarts n) h.1);
     rolled_back = restarts n;
     rolled_back_on = record { read_and_redone = (read_pages, gone n); rolls_back = rolls_back n; planned = tt; repeated = repeats n; linked = linked n; recovered = λ left. NoneLost (undoes n) (lost_none n left.whole) };
     begun = refl;
@@ -431,7 +442,7 @@ module _ (n : ℕ) (pages : MemPages) (log : MemLog) (h : Hold pages formatted_p
         inr (
           restarts n,
           are_spelled n low,
-          λ honest. ends_all (restarts n) (mem_log.seen log) (log_seen log (restarts n) h.1),
+          λ honest. ends_all (standing (restarts n)) (mem_log.seen log) (log_seen log (restarts n) h.1),
           (
             record {
               undone = restarts n;
@@ -453,13 +464,13 @@ module _ (n : ℕ) (pages : MemPages) (log : MemLog) (h : Hold pages formatted_p
   fits_restart z first new low (inl l) = ⊎_elim
       (λ s.
       let more = s.1 tt in
-      let f = are_first (restarts n) l.front (mem_log.seen log) more.0 (are_spelled n (omega (arith, low))) l.are_spelled (ends_all (restarts n) (mem_log.seen log) (log_seen log (restarts n) h.1)) more.2 in
+      let f = front_first (restarts n) (mem_log.seen log) (restarts_plain n) (are_spelled n (omega (arith, low))) (ends_all (standing (restarts n)) (mem_log.seen log) (log_seen log (restarts n) h.1)) l.front more.0 (repeated_plain z l.front first l.mid l.repeated) l.are_spelled more.2 in
       let e = length_is n in
       let many = s.0 in
       omega (arith, f.1, e, many, low))
       (⊎_elim (λ w. (let e = w.0 in cc e)) (λ b. (let e = b.told in cc e))) l.why
   fits_restart z first new low (inr r) =
-      let same : restarts n ≡ r.0 = the_log (restarts n) r.0 (mem_log.seen log) (are_spelled n (omega (arith, low))) r.1 (log_seen log (restarts n) h.1) (r.2 tt) in
+      let same : restarts n ≡ r.0 = the_log (restarts n) (restarts_plain n) r.0 (mem_log.seen log) (are_spelled n (omega (arith, low))) r.1 (log_seen log (restarts n) h.1) (r.2 tt) in
       let e = length_is n in
       let d : length (restarts n) ≡ length r.0 = ap (λ (x : List Record). length x) same in
       let b = r.3.0 in

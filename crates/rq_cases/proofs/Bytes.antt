@@ -19,7 +19,6 @@ use Rattle.rq_record.specs.Spelling.{FitsTxn, IsImage, IsRecord, IsTxnInRange, s
 use Rattle.rq_record.proofs.Whole.{framed_whole, long_spelling, short_spelling}
 use Rattle.rq_record.proofs.Readers.{AreBytes-append, AreBytes-zeros}
 use Rattle.rq_log.specs.Spelled.{AreSpelled, EndsWith, spelled}
-use Rattle.rq_log.proofs.Parsing.{one_log}
 use Rattle.rq_log.proofs.Runs.{ends_all}
 use Rattle.rq_store.specs.Steps.{op_end, page_op}
 use Rattle.rq_cases.specs.Run.{log_1, log_5, no_record}
@@ -27,6 +26,17 @@ use Rattle.rq_store.specs.Fitting.{image_in}
 use Rattle.rq_cases.specs.Sound.{IsImageOfPage}
 use Rattle.rq_cases.specs.Store.{cells_0, count_sent, fill_cell, formatted_pages, groups_0, joined, page_image, part, sizes}
 use Rattle.rq_cases.proofs.Images.{length-free, part_long}
+use Rattle.rq_log.proofs.Parsing.{one_based}
+use Rattle.rq_model.specs.Bases.{standing}
+use Rattle.rq_model.specs.Incarnations.{AreBased}
+use Rattle.rq_log.specs.Spelled.{AreAllSpelled}
+use Rattle.rq_log.specs.Spelled.{EndsWithAll}
+use Rattle.rq_log.specs.Spelled.{spelled_all}
+use Rattle.rq_model.proofs.Bases.{all_stand}
+use Rattle.rq_model.proofs.Bases.{plain_drop}
+use Rattle.rq_log.proofs.Runs.{AreAllSpelled-drop}
+use Rattle.std.specs.Prelude.{drop}
+use Rattle.std.proofs.Common.{subst}
 use Rattle.rq_cases.proofs.Pages.{cells_0_long, groups_0_long, first_long}
 
 are_cons : (x : ℕ) (xs : List ℕ) → x < 256 → AreBytes xs → AreBytes (x ∷ xs)
@@ -141,28 +151,42 @@ records_spelled = ((in_range, fits), (end_is, (count_is, (fill_is, first_spelled
 long_number : (rest : List ℕ) → big_number 4 (no_record ++ rest) ≡ 2 ^ 24
 long_number rest = refl
 
+-- no Base stands in them
+pub first_plain : AreBased log_1
+first_plain = (tt, tt)
+
+pub records_plain : AreBased log_5
+records_plain = (tt, (tt, (tt, (tt, first_plain))))
+
+-- what is left of them where the newest are cut off
+pub drop_spelled : (n : ℕ) → AreSpelled (drop n log_5)
+drop_spelled n = subst AreAllSpelled (sym (all_stand (drop n log_5) (plain_drop n log_5 records_plain))) (AreAllSpelled-drop n log_5 records_spelled)
+
 -- what begins no record is no log
-pub short_log : (log : List Record) → AreSpelled log → EndsWith log no_record → ⊥
-short_log [] told ends =
+short_all : (log : List Record) → AreAllSpelled log → EndsWithAll log no_record → ⊥
+short_all [] told ends =
     let b = ends.1 in
     let size = framed_whole b.0 b.2 in
     let short = short_spelling b.0 b.2 in
     let n : big_number 4 (spelling b.0) ≡ 2 ^ 24 = ap (big_number 4) (b.4 ∙ ap (λ l. l ++ b.1) (sym ends.2)) ∙ long_number b.1 in
     omega (arith, size, short, n)
-short_log (r ∷ older) told ends =
-    let n : 4 ≡ length (spelled (r ∷ older) ++ ends.0) = ap length ends.2 in
+short_all (r ∷ older) told ends =
+    let n : 4 ≡ length (spelled_all (r ∷ older) ++ ends.0) = ap length ends.2 in
     let long = long_spelling r told.0 in
-    let all = length-append (spelled older) (spelling r) in
-    let both = length-append (spelled (r ∷ older)) ends.0 in
+    let all = length-append (spelled_all older) (spelling r) in
+    let both = length-append (spelled_all (r ∷ older)) ends.0 in
     omega (arith, n, long, all, both)
 
+pub short_log : (log : List Record) → AreSpelled log → EndsWith log no_record → ⊥
+short_log log told ends = short_all (standing log) told ends
+
 -- the log that these bytes spell is the one that they tell
-pub the_log : (a b : List Record) (bytes : List ℕ) → AreSpelled a → AreSpelled b → bytes ≡ spelled a → EndsWith b bytes → a ≡ b
-the_log a b bytes h k e ends = one_log a b bytes h k (ends_all a bytes e) ends
+pub the_log : (a : List Record) → AreBased a → (b : List Record) (bytes : List ℕ) → AreSpelled a → AreSpelled b → bytes ≡ spelled a → EndsWith b bytes → a ≡ b
+the_log a plain b bytes h k e ends = sym (one_based b a bytes plain k h ends (ends_all (standing a) bytes e))
 
 -- what spells one log spells no other
-pub spells_one : (a b : List Record) → AreSpelled a → AreSpelled b → spelled a ≡ spelled b → a ≡ b
-spells_one a b h k e = the_log a b (spelled a) h k refl (ends_all b (spelled a) e)
+pub spells_one : (a : List Record) → AreBased a → (b : List Record) → AreSpelled a → AreSpelled b → spelled a ≡ spelled b → a ≡ b
+spells_one a plain b h k e = the_log a plain b (spelled a) h k refl (ends_all (standing b) (spelled a) e)
 
 -- the formatted pages are pages of bytes
 header_bytes_are : (lsn page kind : ℕ) → kind < 256 → AreBytes (header_bytes lsn page kind)

@@ -1,5 +1,5 @@
 -- What devices in memory hold and may leave, as the worked run finds them.
-use Rattle.std.proofs.Common.{◌≡◌, ℕ, zero, suc, ◌+◌, ◌≤◌, List, [], ◌∷◌, ◌++◌, length, take, drop, sym, ap, ◌∙◌, subst, inl, inr, arith}
+use Rattle.std.proofs.Common.{◌≡◌, ℕ, zero, suc, ◌+◌, ◌-◌, ◌≤◌, List, [], ◌∷◌, ◌++◌, length, take, drop, sym, ap, ◌∙◌, subst, inl, inr, arith}
 use Rattle.std.proofs.lemmas.List.{append-nil, nil_from_length}
 use Rattle.std.specs.Prelude.{Vec}
 use Rattle.std.specs.declared.alloc.Global.{Global}
@@ -14,7 +14,11 @@ use Rattle.rq_disk.specs.declared.mem_pages.MemPages.{MemPages}
 use Rattle.rq_disk.specs.declared.mem_pages.PageCall.{PageCall}
 use Rattle.rq_disk.proofs.KeptLog.{fresh_only}
 use Rattle.rq_log.specs.Crash.{LeavesOnly}
-use Rattle.rq_log.specs.Spelled.{AreSpelled, spelled, IsBeginning}
+use Rattle.rq_model.specs.Incarnations.{AreBased}
+use Rattle.rq_model.specs.Bases.{gone}
+use Rattle.rq_model.proofs.Bases.{all_stand, none_gone, plain_drop}
+use Rattle.rq_log.specs.Spelled.{AreFirst, AreSpelled, spelled, spelled_all, IsBeginning}
+use Rattle.rq_log.proofs.Parsing.{told_all}
 use Rattle.rq_log.proofs.Moments.{started}
 use Rattle.rq_log.proofs.Runs.{all_of, ends_all, go_on_all, go_on_newer, some_newer, spelled_whole}
 use Rattle.rq_store.specs.Fitting.{AllFit, image_in}
@@ -32,6 +36,12 @@ pages_now d c left = pages_only d.first.items d.calls.items c left
 
 pub log_now : (d : MemLog) (c : List ℕ) → mem_log.left_since d (mem_log.moment d) c → mem_log.may_leave d c
 log_now d c left = log_only d.start.value.items d.calls.items c left
+
+-- a beginning of a log without a Base
+first_is : (all : List Record) (kept : ℕ) (c : List ℕ) → AreBased all → AreFirst all kept c → IsBeginning all kept c
+first_is all kept c plain first =
+    let e : kept ≡ kept - gone all = (let none = none_gone all plain in omega (arith, none)) in
+    subst (λ (l : List Record). AreFirst l (kept - gone all) c) (sym (all_stand all plain)) (subst (λ (n : ℕ). AreFirst all n c) e first)
 
 -- pages that are formatted, with no call since
 module _ (d : MemPages) (n : AreNewPages d formatted_pages) where
@@ -66,11 +76,11 @@ module _ (d : MemLog) (records : List Record) (n : IsNewLog d records) where
   only_records c may = fresh_only (spelled records) c (subst (λ (s : LogState). MayLeave s c) n.log may)
 
   -- of a longer log it leaves a beginning, now and at each moment since
-  module _ (all : List Record) (kept lost : ℕ) (some : lost + kept ≤ length all) (drops : drop lost all ≡ records) where
+  module _ (all : List Record) (plain : AreBased all) (kept lost : ℕ) (some : lost + kept ≤ length all) (drops : drop lost all ≡ records) where
     pub leaves_beginning : (c : List ℕ) → mem_log.may_leave d c → IsBeginning all kept c
     leaves_beginning c may =
-        let is = only_records c may ∙ ap spelled (sym drops) in
-        (lost, some, ends_all (drop lost all) c is, λ forced. go_on_newer lost all c (go_on_all (drop lost all) c is))
+        let is = only_records c may ∙ ap spelled (sym drops) ∙ ap spelled_all (all_stand (drop lost all) (plain_drop lost all plain)) in
+        first_is all kept c plain (lost, some, ends_all (drop lost all) c is, λ forced. go_on_newer lost all c (go_on_all (drop lost all) c is))
 
     pub same_beginning : LeavesOnly mem_log d d (IsBeginning all kept)
     same_beginning = started mem_log d (IsBeginning all kept) (λ c left. leaves_beginning c (log_now d c left))
@@ -79,62 +89,65 @@ module _ (d : MemLog) (records : List Record) (n : IsNewLog d records) where
 abbrev forced_after : Vec ℕ Global → List LogCall
 forced_after run = Append run ∷ Force ∷ []
 
-module _ (all : List Record) (kept count : ℕ) (told : AreSpelled all) (le : count + kept ≤ length all) where
+module _ (all : List Record) (plain : AreBased all) (kept count : ℕ) (told : AreSpelled all) (le : count + kept ≤ length all) where
   abbrev older : List Record
   older = drop count all
 
   abbrev log_then : Vec ℕ Global → LogState
-  log_then run = log_after (spelled older) (forced_after run)
+  log_then run = log_after (spelled_all older) (forced_after run)
 
-  module _ (run : Vec ℕ Global) (items : run.items ≡ spelled (take count all)) where
-    all_bytes : spelled older ++ run.items ≡ spelled all
-    all_bytes = ap (λ l. spelled older ++ l) items ∙ spelled_whole count all
+  module _ (run : Vec ℕ Global) (items : run.items ≡ spelled_all (take count all)) where
+    all_bytes : spelled_all older ++ run.items ≡ spelled_all all
+    all_bytes = ap (λ l. spelled_all older ++ l) items ∙ spelled_whole count all
 
     -- after each of both calls
-    after_some : (k : ℕ) → k ≤ 2 → (c : List ℕ) → MayLeave (log_after (spelled older) (take k (forced_after run))) c
+    after_some : (k : ℕ) → k ≤ 2 → (c : List ℕ) → MayLeave (log_after (spelled_all older) (take k (forced_after run))) c
         → IsBeginning all kept c
     after_some zero low c may =
-        let is = fresh_only (spelled older) c may in
-        (count, le, ends_all older c is, λ forced. go_on_newer count all c (go_on_all older c is))
+        let is = fresh_only (spelled_all older) c may in
+        first_is all kept c plain (count, le, ends_all older c is, λ forced. go_on_newer count all c (go_on_all older c is))
     after_some (suc zero) low c may =
-        subst (IsBeginning all kept) (sym (may.1 ∙ ap (λ l. spelled older ++ take may.0 l) items))
-        (some_newer all kept count may.0 told le)
+        subst (IsBeginning all kept) (sym (may.1 ∙ ap (λ l. spelled_all older ++ take may.0 l) items))
+        (first_is all kept (spelled_all older ++ take may.0 (spelled_all (take count all))) plain (some_newer all kept count may.0 (told_all all plain told) le))
     after_some (suc (suc zero)) low c may =
-        all_of all kept c (omega (arith, le)) (fresh_only (spelled older ++ run.items) c may ∙ all_bytes)
+        first_is all kept c plain (all_of all kept c (omega (arith, le)) (fresh_only (spelled_all older ++ run.items) c may ∙ all_bytes))
     after_some (suc (suc (suc k))) low c may = absurd (omega (arith, low))
 
-    since_some : (t : ℕ) (c : List ℕ) → LogSince (spelled older) (forced_after run) t c → IsBeginning all kept c
+    since_some : (t : ℕ) (c : List ℕ) → LogSince (spelled_all older) (forced_after run) t c → IsBeginning all kept c
     since_some t c since = after_some since.0 since.2 c since.3
 
-    was_before : (t : ℕ) (c : List ℕ) → LogSince (spelled older) [] t c
-        → LogSince (spelled older) (forced_after run) t c
+    was_before : (t : ℕ) (c : List ℕ) → LogSince (spelled_all older) [] t c
+        → LogSince (spelled_all older) (forced_after run) t c
     was_before t c since = at since.0 since.1 since.2 since.3 where
-      at : (k : ℕ) → t ≤ k → k ≤ 0 → MayLeave (log_after (spelled older) (take k [])) c
-          → LogSince (spelled older) (forced_after run) t c
+      at : (k : ℕ) → t ≤ k → k ≤ 0 → MayLeave (log_after (spelled_all older) (take k [])) c
+          → LogSince (spelled_all older) (forced_after run) t c
       at zero up low may = (0, up, omega arith, may)
       at (suc k) up low may = absurd (omega (arith, low))
 
-    reads_all : log_reads (log_then run) ≡ spelled all
-    reads_all = append-nil (spelled older ++ run.items) ∙ all_bytes
+    reads_all : log_reads (log_then run) ≡ spelled_all all
+    reads_all = append-nil (spelled_all older ++ run.items) ∙ all_bytes
 
-    only_all : (c : List ℕ) → MayLeave (log_then run) c → c ≡ spelled all
-    only_all c may = fresh_only (spelled older ++ run.items) c may ∙ all_bytes
+    only_all : (c : List ℕ) → MayLeave (log_then run) c → c ≡ spelled_all all
+    only_all c may = fresh_only (spelled_all older ++ run.items) c may ∙ all_bytes
 
-  module _ (old new : MemLog) (n : IsNewLog old older) (f : IsForcedSince old new (spelled (take count all))) where
+  module _ (old new : MemLog) (n : IsNewLog old older) (f : IsForcedSince old new (spelled_all (take count all))) where
     abbrev calls_are : List LogCall
     calls_are = forced_after f.run
 
-    bytes_are : new.start.value.items ≡ spelled older
-    bytes_are = f.first ∙ new_bytes old older n
+    old_bytes : old.start.value.items ≡ spelled_all older
+    old_bytes = new_bytes old older n ∙ ap spelled_all (all_stand older (plain_drop count all plain))
+
+    bytes_are : new.start.value.items ≡ spelled_all older
+    bytes_are = f.first ∙ old_bytes
 
     log_forced : log_of new ≡ log_then f.run
     log_forced = λ i. log_after (bytes_are i) (f.calls i)
 
-    since_new : (t : ℕ) → (λ c. mem_log.left_since new t c) ≡ LogSince (spelled older) calls_are t
+    since_new : (t : ℕ) → (λ c. mem_log.left_since new t c) ≡ LogSince (spelled_all older) calls_are t
     since_new t = λ i. LogSince (bytes_are i) (f.calls i) t
 
-    since_old : (t : ℕ) → (λ c. mem_log.left_since old t c) ≡ LogSince (spelled older) [] t
-    since_old t = λ i. LogSince (new_bytes old older n i) (new_calls old older n i) t
+    since_old : (t : ℕ) → (λ c. mem_log.left_since old t c) ≡ LogSince (spelled_all older) [] t
+    since_old t = λ i. LogSince (old_bytes i) (new_calls old older n i) t
 
     each_beginning : (t : ℕ) (c : List ℕ) → mem_log.left_since new t c → IsBeginning all kept c
     each_beginning t c left = since_some f.run f.items t c (subst (λ (Q : List ℕ → Type 0). Q c) (since_new t) left)
@@ -149,10 +162,10 @@ module _ (all : List Record) (kept count : ℕ) (told : AreSpelled all) (le : co
     }
 
     pub forced_reads : mem_log.seen new ≡ spelled all
-    forced_reads = ap log_reads log_forced ∙ reads_all f.run f.items
+    forced_reads = ap log_reads log_forced ∙ reads_all f.run f.items ∙ ap spelled_all (sym (all_stand all plain))
 
     pub forced_only : Only (spelled all) (mem_log.may_leave new)
-    forced_only c may = only_all f.run f.items c (subst (λ (s : LogState). MayLeave s c) log_forced may)
+    forced_only c may = only_all f.run f.items c (subst (λ (s : LogState). MayLeave s c) log_forced may) ∙ ap spelled_all (sym (all_stand all plain))
 
 -- pages of which one was written
 module _ (old new : MemPages) (page : ℕ) (image : List ℕ) (w : IsWrittenSince old new page image) where

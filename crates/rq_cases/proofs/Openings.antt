@@ -30,7 +30,7 @@ use Rattle.rq_restart.specs.Checked.{as_read}
 use Rattle.rq_restart.proofs.Begun.{rolled_back_extends}
 use Rattle.rq_restart.specs.Repeating.{Paged, Repeats}
 use Rattle.rq_restart.specs.Restarting.{IsBegunOn, LogStops}
-use Rattle.rq_log.proofs.Parsing.{one_log}
+use Rattle.rq_log.proofs.Parsing.{one_based}
 use Rattle.rq_restart.specs.Underway.{IsGoneOnWith, OfStores}
 use Rattle.rq_core.specs.Devices.{mem_log, mem_pages}
 use Rattle.rq_core.proofs.Arms.{refused_stays}
@@ -45,12 +45,17 @@ use Rattle.rq_cases.specs.Worlds.{Hold, crashed}
 use Rattle.rq_cases.proofs.Bytes.{first_spelled, records_spelled, spells_one, the_log}
 use Rattle.rq_cases.proofs.Held.{log_now, log_seen, only_records}
 use Rattle.rq_cases.proofs.Reading.{first_block, no_header}
-use Rattle.rq_restart.proofs.Paths.{kept, kept_extends, kept_spelled, older_spelled}
+use Rattle.rq_restart.proofs.Paths.{kept, kept_extends}
 use Rattle.rq_model.specs.Commits.{committed_of}
 use Rattle.rq_model.specs.Ledger.{Done}
 use Rattle.rq_model.proofs.Cuts.{extends_commits}
 use Rattle.rq_cases.proofs.Restarting.{begun_commit, formatted_fit, is_restart, made_there, no_cell_lsn, open_4, pages_seen_are, same_log, rest_of}
 use Rattle.rq_cases.proofs.Running as running
+use Rattle.rq_cases.proofs.Bytes.{first_plain}
+use Rattle.rq_cases.proofs.Bytes.{records_plain}
+use Rattle.rq_model.specs.Incarnations.{AreBased}
+use Rattle.rq_model.proofs.Bases.{added_stand}
+use Rattle.rq_log.specs.Spelled.{spelled_all}
 use Rattle.rq_cases.proofs.Worlds.{leaves_store, shuts, shuts_with_less}
 
 abbrev begins : List Record → ℕ
@@ -103,7 +108,7 @@ checks = record {
       open_4 (same_log k.rolled_back log_4 k.rolled_back_on.rolls_back.ended (sym (read_is pages log new last (Restart 2 ∷ log_4) k (Restart 2) log_4 refl)));
   another_log = λ pages log new last n k.
       (let same : log_5 ≡ k.rolled_back = read_is pages log new last log_next k (Restart 2) log_5 refl in
-      let older : log_1 ≡ k.older = the_log log_1 k.older (mem_log.seen log) first_spelled k.are_spelled (log_seen log log_1 n) (k.reads tt) in
+      let older : log_1 ≡ k.older = the_log log_1 first_plain k.older (mem_log.seen log) first_spelled k.are_spelled (log_seen log log_1 n) (k.reads tt) in
       let c : committed_of log_5 ≡ committed_of log_1 = ap committed_of same ∙ extends_commits k.older k.rolled_back (rolled_back_extends k.older k.rolled_back k.rolled_back_on.rolls_back) ∙ ap committed_of (sym older) in
       let f : 1 ≡ 0 = ap (λ (l : List Done). length l) c in
       omega (arith, f));
@@ -150,16 +155,16 @@ next_spelled = ((omega arith, omega arith), records_spelled)
 commit_spelled : AreSpelled (Commit t1 ∷ log_1)
 commit_spelled = (records_spelled.0, first_spelled)
 
-same_length : (a b : List Record) → AreSpelled a → AreSpelled b → spelled a ≡ spelled b → length a ≡ length b
-same_length a b h k e = ap (λ (l : List Record). length l) (spells_one a b h k e)
+same_length : (a : List Record) → AreBased a → (b : List Record) → AreSpelled a → AreSpelled b → spelled a ≡ spelled b → length a ≡ length b
+same_length a plain b h k e = ap (λ (l : List Record). length l) (spells_one a plain b h k e)
 
 -- what is left then is no log with less than was read
 begun_with_less : (read : List ℕ) → read ≡ spelled log_5 → IsBegunOn sizes (image_in formatted_pages) read (spelled log_4) → ⊥
 begun_with_less read is b =
     let bytes = spelled log_4 in
     let left : Type 0 = IsLeft sizes (image_in formatted_pages) b.older in
-    let older : log_5 ≡ b.older = the_log log_5 b.older read records_spelled (older_spelled sizes left b.older read bytes b.begun) is b.reads in
-    let now : log_4 ≡ kept sizes left b.older read bytes b.begun = the_log log_4 (kept sizes left b.older read bytes b.begun) bytes records_spelled.1 (kept_spelled sizes left b.older read bytes b.begun) refl b.begun.is in
+    let older : log_5 ≡ b.older = the_log log_5 records_plain b.older read records_spelled b.begun.told is b.reads in
+    let now : log_4 ≡ kept sizes left b.older read bytes b.begun = the_log log_4 records_plain.1 (kept sizes left b.older read bytes b.begun) bytes records_spelled.1 b.begun.left_told refl b.begun.is in
     let more = kept_extends sizes left b.older read bytes b.begun in
     let a = length-append more.0 b.older in
     let c : length (more.0 ++ b.older) ≡ 4 = ap (λ (l : List Record). length l) (more.1 ∙ sym now) in
@@ -181,7 +186,7 @@ no_commit_behind (r ∷ more) now plain e f =
 commit_behind : (log : MemLog) → IsNewLog log log_1 → (now : List Record) → now ≡ Commit t1 ∷ log_1
     → mem_log.may_leave log (spelled (Commit t1 ∷ log_1)) ⊎ IsGoneOnWith log_1 (mem_log.seen log) now (spelled (Commit t1 ∷ log_1)) → ⊥
 commit_behind log n now is (inl may) =
-    (let e : 2 ≡ 1 = same_length (Commit t1 ∷ log_1) log_1 commit_spelled first_spelled (only_records log log_1 n (spelled (Commit t1 ∷ log_1)) may) in omega (arith, e))
+    (let e : 2 ≡ 1 = same_length (Commit t1 ∷ log_1) (tt, first_plain) log_1 commit_spelled first_spelled (only_records log log_1 n (spelled (Commit t1 ∷ log_1)) may) in omega (arith, e))
 commit_behind log n now is (inr on) = no_commit_behind on.more.0 now on.more.2 on.more.1 is
 
 -- a record's fifth byte is its kind
@@ -228,13 +233,13 @@ not_plain (Commit t) plain e = cc plain
 not_plain _ plain e = omega (arith, e)
 
 -- the oldest of plain records is no commit
-none_commits : (r : Record) (more : List Record) (behind : List ℕ) → ArePlain (r ∷ more) → fifth (spelled (r ∷ more) ++ behind) ≡ 6 → ⊥
+none_commits : (r : Record) (more : List Record) (behind : List ℕ) → ArePlain (r ∷ more) → fifth (spelled_all (r ∷ more) ++ behind) ≡ 6 → ⊥
 none_commits r [] behind plain e = not_plain r plain.0 (sym (fifth_kind r behind) ∙ e)
-none_commits r (s ∷ more) behind plain e = none_commits s more (spelling r ++ behind) plain.1 (ap fifth (sym (append_assoc (spelled (s ∷ more)) (spelling r) behind)) ∙ e)
+none_commits r (s ∷ more) behind plain e = none_commits s more (spelling r ++ behind) plain.1 (ap fifth (sym (append_assoc (spelled_all (s ∷ more)) (spelling r) behind)) ∙ e)
 
-torn_behind : (more : List Record) (rest : List ℕ) → ArePlain more → spelled more ≡ torn_end ++ rest → ⊥
+torn_behind : (more : List Record) (rest : List ℕ) → ArePlain more → spelled_all more ≡ torn_end ++ rest → ⊥
 torn_behind [] rest plain e = (let n = ap length e in let m = length-append torn_end rest in let long = torn_long in omega (arith, n, m, long))
-torn_behind (r ∷ more) rest plain e = none_commits r more [] plain (ap fifth (append-nil (spelled (r ∷ more)) ∙ e) ∙ torn_kind rest)
+torn_behind (r ∷ more) rest plain e = none_commits r more [] plain (ap fifth (append-nil (spelled_all (r ∷ more)) ∙ e) ∙ torn_kind rest)
 
 abbrev torn_commit : List ℕ
 torn_commit = spelled log_1 ++ torn_end
@@ -257,8 +262,8 @@ torn_commit_behind log n now (inr on) = elim on.first [
       let rest = whole.3.0 in
       let front = spelled log_1 in
       torn_behind more.0 rest more.2 (
-      sym (drop-append_seam front (spelled more.0))
-      ∙ ap (drop (length front)) (sym (spelled-append more.0 log_1) ∙ ap spelled more.1 ∙ whole.3.1 ∙ append_assoc front torn_end rest)
+      sym (drop-append_seam front (spelled_all more.0))
+      ∙ ap (drop (length front)) (sym (spelled-append more.0 log_1) ∙ ap spelled_all (sym (added_stand more.0 log_1 more.2)) ∙ ap spelled more.1 ∙ whole.3.1 ∙ append_assoc front torn_end rest)
       ∙ drop-append_seam front (torn_end ++ rest)
       )
 ]
@@ -277,30 +282,30 @@ beginnings = record {
   ready_and_failed = λ i log fails r. (let f = sym fails ∙ r.running in cc f);
   ready_and_too_long = λ i log long r. (let f = r.count in omega (arith, f, long));
   ready_behind_its_device = λ d n r.
-      (let f : 5 ≡ 6 = same_length log_5 log_next records_spelled next_spelled (sym (log_seen d log_5 n) ∙ r.reads tt) in omega (arith, f));
+      (let f : 5 ≡ 6 = same_length log_5 records_plain log_next records_spelled next_spelled (sym (log_seen d log_5 n) ∙ r.reads tt) in omega (arith, f));
   ready_and_not_forced = λ d may r.
-      (let f : 5 ≡ 6 = same_length log_5 log_next records_spelled next_spelled (r.durable tt (spelled log_5) may) in omega (arith, f));
+      (let f : 5 ≡ 6 = same_length log_5 records_plain log_next records_spelled next_spelled (r.durable tt (spelled log_5) may) in omega (arith, f));
   record_lost = λ old new n left b.
       ⊎_elim
-      (λ may. (let f : 4 ≡ 5 = same_length log_4 log_5 records_spelled.1 records_spelled (only_records old log_5 n (spelled log_4) may) in omega (arith, f)))
+      (λ may. (let f : 4 ≡ 5 = same_length log_4 records_plain.1 log_5 records_spelled.1 records_spelled (only_records old log_5 n (spelled log_4) may) in omega (arith, f)))
       (begun_with_less (mem_log.seen old) (log_seen old log_5 n)) ((b tt).each (spelled log_4) left);
   commit_added = λ old new n left b.
       ⊎_elim
-      (λ may. (let f : 2 ≡ 1 = same_length (Commit t1 ∷ log_1) log_1 commit_spelled first_spelled (only_records old log_1 n (spelled (Commit t1 ∷ log_1)) may) in omega (arith, f)))
+      (λ may. (let f : 2 ≡ 1 = same_length (Commit t1 ∷ log_1) (tt, first_plain) log_1 commit_spelled first_spelled (only_records old log_1 n (spelled (Commit t1 ∷ log_1)) may) in omega (arith, f)))
       (λ k. begun_commit (subst (λ read. IsBegunOn sizes (image_in formatted_pages) read (spelled (Commit t1 ∷ log_1))) (log_seen old log_1 n) k))
       ((b tt).each (spelled (Commit t1 ∷ log_1)) left);
   of_stores = λ pages log new h seen honest z read told is each.
-      sym (the_log log_5 read (mem_log.seen log) records_spelled told (log_seen log log_5 h.1) is);
+      sym (the_log log_5 records_plain read (mem_log.seen log) records_spelled told (log_seen log log_5 h.1) is);
   of_other_stores = λ pages log new h q.
       (let e : 5 ≡ 4 = ap (λ (l : List Record). length l) (told_of (λ z read. read ≡ log_4) pages log new h q) in omega (arith, e));
   of_no_store = λ pages log new h q. told_of (λ z read. ⊥) pages log new h q;
   goes_on_with_a_commit = λ log images n k.
-      commit_behind log n k.0 (sym (the_log (Commit t1 ∷ log_1) k.0 (spelled (Commit t1 ∷ log_1)) commit_spelled k.1.are_spelled refl k.1.is)) k.2;
+      commit_behind log n k.0 (sym (the_log (Commit t1 ∷ log_1) (tt, first_plain) k.0 (spelled (Commit t1 ∷ log_1)) commit_spelled k.1.are_spelled refl k.1.is)) k.2;
   goes_on_with_a_torn_commit = λ log images n k. torn_commit_behind log n k.0 k.2;
   shut_for_damage = λ pages new_pages log new_log d h s.
-      (refused_over one_log sizes crashed pages new_pages log new_log (why.Damaged d) (shuts pages log h) s).cause tt;
+      (refused_over one_based sizes crashed pages new_pages log new_log (why.Damaged d) (shuts pages log h) s).cause tt;
   shut_with_less = λ pages new_pages log new_log r h n s.
-      shuts_with_less new_pages new_log n (refused_stays one_log sizes crashed pages log r new_pages new_log s (shuts pages log h));
+      shuts_with_less new_pages new_log n (refused_stays one_based sizes crashed pages log r new_pages new_log s (shuts pages log h));
   refuses_without_reason = λ r.
       (let s = (r running.force.sound).0 in
       let e = subst (Legal (size_of sizes) (ledger_of forced)) s.says s.legal in

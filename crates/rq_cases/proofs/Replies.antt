@@ -10,7 +10,7 @@ use Rattle.rq_disk.specs.declared.mem_log.MemLog.{MemLog}
 use Rattle.rq_disk.specs.declared.mem_pages.MemPages.{MemPages}
 use Rattle.rq_log.specs.Spelled.{EndsWith, spelled}
 use Rattle.rq_views.specs.WorkedItems.{t1}
-use Rattle.rq_log.proofs.Runs.{AreSpelled-drop, ends_all}
+use Rattle.rq_log.proofs.Runs.{ends_all}
 use Rattle.rq_sound.specs.Sound.{IsSound}
 use Rattle.rq_engine.specs.Opened.{OpenStore}
 use Rattle.rq_shared.specs.Entries.{Noted}
@@ -21,8 +21,10 @@ use Rattle.rq_cases.specs.Opened.{IsNewLog, over}
 use Rattle.rq_cases.specs.Replies.{ReceiptsAreJudged, asked_commit, asked_force, asked_receipt, of_send}
 use Rattle.rq_cases.specs.Run.{forced, log_1, log_5, take_started}
 use Rattle.rq_cases.proofs.Audits.{audits, left_out_of, unsound}
-use Rattle.rq_cases.proofs.Bytes.{first_spelled, records_spelled, the_log}
+use Rattle.rq_cases.proofs.Bytes.{first_spelled, the_log}
 use Rattle.rq_cases.proofs.Held.{log_left, only_records}
+use Rattle.rq_cases.proofs.Bytes.{first_plain}
+use Rattle.rq_cases.proofs.Bytes.{drop_spelled}
 use Rattle.rq_cases.proofs.Running as running
 
 -- the commit of the send
@@ -31,7 +33,7 @@ done = record { txn = t1; lsn = 5; ops = Send hello ∷ [] }
 
 taken_away : (log : MemLog) → IsNewLog log log_1 → (commit : Done) (lost : ℕ) → EndsWith (drop lost log_5) (spelled log_1) → In commit (committed_of (drop lost log_5)) → ⊥
 taken_away log n commit lost e i =
-    let same : drop lost log_5 ≡ log_1 = sym (the_log log_1 (drop lost log_5) (spelled log_1) first_spelled (AreSpelled-drop lost log_5 records_spelled) refl e) in
+    let same : drop lost log_5 ≡ log_1 = sym (the_log log_1 first_plain (drop lost log_5) (spelled log_1) first_spelled (drop_spelled lost) refl e) in
     subst (λ (l : List Record). In commit (committed_of l)) same i
 
 -- what no entry of an audit gave

@@ -22,7 +22,7 @@ use Rattle.rq_restart.specs.Repeating.{ArePagesCounted, Paged, Repeats}
 use Rattle.rq_restart.specs.Restarting.{IsBegunOn, IsLeftOn}
 use Rattle.rq_restart.proofs.Begun.{rolled_back_incarnation}
 use Rattle.rq_analysis.proofs.Recovering.{recovered_from}
-use Rattle.rq_restart.proofs.Paths.{kept, kept_extends, kept_spelled, older_spelled}
+use Rattle.rq_restart.proofs.Paths.{kept, kept_extends}
 use Rattle.rq_model.specs.Commits.{committed_of}
 use Rattle.rq_model.specs.Incarnations.{InOrder, incarnation_of}
 use Rattle.rq_model.specs.declared.refusal.Refusal.TheVariants as why
@@ -38,6 +38,8 @@ use Rattle.rq_cases.proofs.Bytes.{first_spelled, records_spelled, the_log}
 use Rattle.rq_cases.proofs.Held.{log_seen}
 use Rattle.rq_cases.proofs.Images.{lsn_is, slot_is}
 use Rattle.rq_cases.proofs.Pages.{are_formatted, cells_0_long, groups_0_long, groups_1_long, range}
+use Rattle.rq_cases.proofs.Bytes.{first_plain}
+use Rattle.rq_cases.proofs.Bytes.{records_plain}
 use Rattle.rq_cases.proofs.Running as running
 
 -- what the devices read
@@ -141,9 +143,9 @@ begun_open : IsBegunOn sizes (image_in formatted_pages) (spelled log_4) (spelled
 begun_open b =
     let bytes = spelled (Restart 2 ∷ log_4) in
     let left : Type 0 = IsLeft sizes (image_in formatted_pages) b.older in
-    let older : log_4 ≡ b.older = the_log log_4 b.older (spelled log_4) records_spelled.1 (older_spelled sizes left b.older (spelled log_4) bytes b.begun) refl b.reads in
+    let older : log_4 ≡ b.older = the_log log_4 records_plain.1 b.older (spelled log_4) records_spelled.1 b.begun.told refl b.reads in
     let now : Restart 2 ∷ log_4 ≡ kept sizes left b.older (spelled log_4) bytes b.begun =
-    the_log (Restart 2 ∷ log_4) (kept sizes left b.older (spelled log_4) bytes b.begun) bytes ((omega arith, omega arith), records_spelled.1) (kept_spelled sizes left b.older (spelled log_4) bytes b.begun) refl b.begun.is in
+    the_log (Restart 2 ∷ log_4) (tt, records_plain.1) (kept sizes left b.older (spelled log_4) bytes b.begun) bytes ((omega arith, omega arith), records_spelled.1) b.begun.left_told refl b.begun.is in
     let here : left = subst (IsLeft sizes (image_in formatted_pages)) older (record { whole = whole_4; fits = formatted_fit_4 }) in
     let from = recovered_from sizes b.older b.begun.rolled_back here.whole (b.begun.recovered here) in
     let one : incarnation_of b.begun.rolled_back ≡ 1 = rolled_back_incarnation b.older b.begun.rolled_back b.begun.rolls_back ∙ ap incarnation_of (sym older) in
@@ -161,8 +163,8 @@ pub begun_commit : IsBegunOn sizes (image_in formatted_pages) (spelled log_1) (s
 begun_commit b =
     let bytes = spelled (Commit t1 ∷ log_1) in
     let left : Type 0 = IsLeft sizes (image_in formatted_pages) b.older in
-    let older : log_1 ≡ b.older = the_log log_1 b.older (spelled log_1) first_spelled (older_spelled sizes left b.older (spelled log_1) bytes b.begun) refl b.reads in
-    let now : Commit t1 ∷ log_1 ≡ kept sizes left b.older (spelled log_1) bytes b.begun = the_log (Commit t1 ∷ log_1) (kept sizes left b.older (spelled log_1) bytes b.begun) bytes (records_spelled.0, first_spelled) (kept_spelled sizes left b.older (spelled log_1) bytes b.begun) refl b.begun.is in
+    let older : log_1 ≡ b.older = the_log log_1 first_plain b.older (spelled log_1) first_spelled b.begun.told refl b.reads in
+    let now : Commit t1 ∷ log_1 ≡ kept sizes left b.older (spelled log_1) bytes b.begun = the_log (Commit t1 ∷ log_1) (tt, first_plain) (kept sizes left b.older (spelled log_1) bytes b.begun) bytes (records_spelled.0, first_spelled) b.begun.left_told refl b.begun.is in
     let same : committed_of (Commit t1 ∷ log_1) ≡ committed_of log_1 = ap committed_of now ∙ extends_commits b.older (kept sizes left b.older (spelled log_1) bytes b.begun) (kept_extends sizes left b.older (spelled log_1) bytes b.begun) ∙ ap committed_of (sym older) in
     let count : 1 ≡ 0 = ap length same in
     omega (arith, count)
@@ -181,7 +183,7 @@ restarts = record {
   one_lost = λ records. record { incarnation_is = refl; records_are = refl; unfinished_are = λ w. refl; lost_are = λ w. refl };
   none_lost = λ records i n undone r. (let e : 0 ≡ 1 = r.lost_are whole_4 in omega (arith, e));
   read_as_less = λ d new n r.
-      (let e : 5 ≡ 4 = ap (λ (l : List Record). length l) (the_log log_5 log_4 (mem_log.seen d) records_spelled r.are_spelled (log_seen d log_5 n) r.reads) in omega (arith, e));
+      (let e : 5 ≡ 4 = ap (λ (l : List Record). length l) (the_log log_5 records_plain log_4 (mem_log.seen d) records_spelled r.are_spelled (log_seen d log_5 n) r.reads) in omega (arith, e));
   left_ahead = not_left;
   transaction_open = open_4;
   begun_where_one_is_open = begun_open;

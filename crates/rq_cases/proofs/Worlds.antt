@@ -55,6 +55,10 @@ use Rattle.rq_cases.proofs.Bytes.{fill_is, first_spelled, records_spelled, short
 use Rattle.rq_cases.proofs.Held.{leaves_beginning, log_left, only_records, pages_fit, pages_now}
 use Rattle.rq_cases.proofs.Pages.{are_formatted, range}
 use Rattle.rq_cases.proofs.Running as running
+use Rattle.rq_cases.proofs.Bytes.{first_plain}
+use Rattle.rq_cases.proofs.Bytes.{records_plain}
+use Rattle.rq_log.proofs.Parsing.{one_based}
+use Rattle.rq_model.specs.Bases.{standing}
 use Rattle.rq_cases.proofs.Restarting.{group_lsn, whole_5}
 
 -- the worked courses tell their histories
@@ -120,7 +124,7 @@ module _ (pages : MemPages) (log : MemLog) where
   shuts_with_less n s =
       let x = s.left (mem_pages.seen pages) (spelled log_1) (some_pages pages) (log_left log log_1 n) in
       let store : IsStore sizes x.0 (mem_pages.seen pages) (spelled log_1) = x.2 in
-      let same : x.0 ≡ log_1 = sym (the_log log_1 x.0 (spelled log_1) first_spelled store.are_spelled refl store.is) in
+      let same : x.0 ≡ log_1 = sym (the_log log_1 first_plain x.0 (spelled log_1) first_spelled store.are_spelled refl store.is) in
       let count : length x.0 ≡ 1 = ap (λ (l : List Record). length l) same in
       let more : length (x.1.0 ++ s.older) ≡ length x.0 = ap (λ (l : List Record). length l) x.1.1 in
       let joined = length-append x.1.0 s.older in
@@ -130,7 +134,7 @@ module _ (pages : MemPages) (log : MemLog) where
   fresh_with_one : IsNewLog log log_1 → EachPair mem_pages mem_log pages log (IsStore sizes []) → ⊥
   fresh_with_one n s =
       let store = s (mem_pages.seen pages) (spelled log_1) (some_pages pages) (log_left log log_1 n) in
-      let same : log_1 ≡ [] = the_log log_1 [] (spelled log_1) first_spelled tt refl store.is in
+      let same : log_1 ≡ [] = the_log log_1 first_plain [] (spelled log_1) first_spelled tt refl store.is in
       let count : 1 ≡ 0 = ap (λ (l : List Record). length l) same in
       omega (arith, count)
 
@@ -167,8 +171,8 @@ worlds = record {
 pub leaves : (pages : MemPages) (log : MemLog) → Hold pages formatted_pages log log_1 → LeavesCut mem_pages mem_log (over committed pages log)
 leaves pages log h =
     leaves_cut mem_pages mem_log pages_now (over committed pages log)
-    (λ honest c may. leaves_beginning log log_1 h.1 log_5 1 4 (omega arith) refl c may)
-    records_spelled tt running.commit_send.sound (pages_fit pages h.0 log_1 (1, refl))
+    (λ honest c may. leaves_beginning log log_1 h.1 log_5 records_plain 1 4 (omega arith) refl c may)
+    (records_spelled, λ some. some) tt running.commit_send.sound (pages_fit pages h.0 log_1 (1, refl))
 
 -- the formatted pages with the first records, all or only the first
 pub formatted_fit : (log : List Record) → Continues [] log → FitsLog sizes (image_in formatted_pages) log
@@ -251,7 +255,7 @@ cut_all = record {
 -- how many records are left where these bytes are
 kept_count : (s : State) (images : Images) (records : List Record) → AreSpelled records → (c : IsCut s images (spelled records)) → length s.records - c.lost ≡ length records
 kept_count s images records told c =
-    sym (length-drop c.lost s.records) ∙ ap (λ (l : List Record). length l) (sym (the_log records (drop c.lost s.records) (spelled records) told c.told refl c.spells))
+    sym (length-drop c.lost s.records) ∙ ap (λ (l : List Record). length l) (sym (one_based records (drop c.lost s.records) (spelled records) c.store.whole.based told c.told (ends_all (standing records) (spelled records) refl) c.spells))
 
 pub cuts : CutsAreJudged
 cuts = record {
@@ -288,7 +292,7 @@ pub forced_is_left : (course : Course) (h : List Entry) (pages : MemPages) (log 
     → LeavesStores mem_pages mem_log sizes h pages log → AreSpelled records → length records < n → mem_log.may_leave log (spelled records) → ⊥
 forced_is_left course h pages log records n tells legal leaves told few may =
     let x = leaves (mem_pages.seen pages) (spelled records) (some_pages pages) may in
-    let same : x.0 ≡ records = sym (the_log records x.0 (spelled records) told x.1.are_spelled refl x.1.is) in
+    let same : x.0 ≡ records = sym (one_based records x.0 (spelled records) x.1.left.whole.based told x.1.are_spelled (ends_all (standing records) (spelled records) refl) x.1.is) in
     let count : length x.0 ≡ length records = ap (λ (l : List Record). length l) same in
     let older : List Entry = tells.0 in
     let is : h ≡ Forced n ∷ older = tells.2.3 ∙ ap (λ (e : Entry). e ∷ older) tells.2.1 in
@@ -320,6 +324,6 @@ module _ (fifo : (h : List Entry) → IsLegal small h → FifoThroughout h) (sta
     left = λ pages log h images bytes a b. (log_5, leaves_store pages log h images bytes a b, refl);
     leaves_another_count = λ x course pages log n other l left.
         (let y = left (mem_pages.seen pages) (spelled log_5) (some_pages pages) (log_left log log_5 l) in
-        let same : y.0 ≡ log_5 = sym (the_log log_5 y.0 (spelled log_5) records_spelled y.1.are_spelled refl y.1.is) in
+        let same : y.0 ≡ log_5 = sym (the_log log_5 records_plain y.0 (spelled log_5) records_spelled y.1.are_spelled refl y.1.is) in
         other (sym y.2 ∙ ap (λ (l : List Record). length l) same));
   }

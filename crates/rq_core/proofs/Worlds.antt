@@ -210,7 +210,7 @@ module _ {P L : Type 0} (p : page_device.Ghosts P) (l : log_device.Ghosts L) (ho
         let now = pick.0 in
         let store : IsStore z now (p.seen new_pages) seen = pick.1 in
         let ends : EndsInCrash (size_of z) h now = pick.2 in
-        let m : count ≡ length now = tally now seen count store.are_spelled store.is c.holds in
+        let m : count ≡ length now = tally now seen count store.left.whole.based store.are_spelled store.is c.holds in
         let e : crash_to now h ≡ Crash_entry (kept_in count (ledger h).committed) count = ap (λ n. Crash_entry (kept_in n (ledger h).committed) n) (sym m) in
         record {
           history = crash_to now h ∷ h;
@@ -224,13 +224,13 @@ module _ {P L : Type 0} (p : page_device.Ghosts P) (l : log_device.Ghosts L) (ho
             left = λ images bytes a b.
                 let other = can.leaves images bytes (c.pages_left images a) (c.log_left bytes b) in
                 let there : IsStore z other.0 images bytes = other.1 in
-                let same : other.0 ≡ now = one other.0 now bytes there.are_spelled store.are_spelled there.is (subst (EndsWith now) (sym (c.log_only bytes b)) store.is) in
+                let same : other.0 ≡ now = one other.0 now bytes store.left.whole.based there.are_spelled store.are_spelled there.is (subst (EndsWith now) (sym (c.log_only bytes b)) store.is) in
                 (now, ([], refl, tt), subst (λ log. IsStore z log images bytes) same there);
           };
           counted = λ images bytes a b.
               let other = can.leaves images bytes (c.pages_left images a) (c.log_left bytes b) in
               let there : IsStore z other.0 images bytes = other.1 in
-              let same : other.0 ≡ now = one other.0 now bytes there.are_spelled store.are_spelled there.is (subst (EndsWith now) (sym (c.log_only bytes b)) store.is) in
+              let same : other.0 ≡ now = one other.0 now bytes store.left.whole.based there.are_spelled store.are_spelled there.is (subst (EndsWith now) (sym (c.log_only bytes b)) store.is) in
               (now, subst (λ log. IsStore z log images bytes) same there, sym m);
         }
 
@@ -257,7 +257,7 @@ module _ {P L : Type 0} (p : page_device.Ghosts P) (l : log_device.Ghosts L) (ho
       at q c may =
           let x = s.left (with_image (p.seen pages) q c) (l.seen log) (leaves_image pages q c may) (some_l log) in
           let store : IsStore z x.0 (with_image (p.seen pages) q c) (l.seen log) = x.2 in
-          let same : x.0 ≡ now = one x.0 now (l.seen log) store.are_spelled told store.is reads in
+          let same : x.0 ≡ now = sym (one now x.0 (l.seen log) store.left.whole.based told store.are_spelled reads store.is) in
           subst (FitsLog z (with_image (p.seen pages) q c)) same store.left.fits
 
     -- what was added to a log, and then more
@@ -341,7 +341,7 @@ module _ {P L : Type 0} (p : page_device.Ghosts P) (l : log_device.Ghosts L) (ho
           over images bytes now store (inl was) =
               let y = s.left (p.seen pages) bytes (some_p pages) was in
               let there : IsStore z y.0 (p.seen pages) bytes = y.2 in
-              subst (Extends s.older) (one y.0 now bytes there.are_spelled store.are_spelled there.is store.is) y.1
+              subst (Extends s.older) (one y.0 now bytes store.left.whole.based there.are_spelled store.are_spelled there.is store.is) y.1
           over images bytes now store (inr on) = extends_join s.older r.read now r.more on.more
 
   -- the headline, where an open store is given up, and where one is shut

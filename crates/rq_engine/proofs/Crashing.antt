@@ -1,5 +1,5 @@
 -- Pages that a crash leaves fit the log that it leaves.
-use Rattle.std.proofs.Common.{◌≡◌, ℕ, zero, suc, ◌-◌, ◌<◌, ◌≤◌, List, drop, refl, sym, subst, Result, Ok, Err, ◌⊎◌, ⊎_elim, inl, inr, arith, length, take, ap, ◌∙◌, ◌≡◌}
+use Rattle.std.proofs.Common.{◌≡◌, ℕ, zero, suc, ◌+◌, ◌-◌, ◌<◌, ◌≤◌, List, drop, refl, sym, subst, Result, Ok, Err, ◌⊎◌, ⊎_elim, inl, inr, arith, length, take, ap, ◌∙◌, ◌≡◌}
 use Rattle.std.proofs.lemmas.List.{drop_all, length-drop, take-append-drop}
 use Rattle.rq_model.specs.Commits.{committed_of}
 use Rattle.rq_model.specs.Incarnations.{incarnation_of}
@@ -18,7 +18,9 @@ use Rattle.rq_page.specs.Formatted.{IsFormatted, IsHeaderOf}
 use Rattle.rq_disk.specs.Device.{Images, Leaves}
 use Rattle.rq_disk.specs.declared.device.LogDevice as log_device
 use Rattle.rq_disk.specs.declared.device.PageDevice as page_device
-use Rattle.rq_log.specs.Spelled.{AreSpelled, IsBeginning}
+use Rattle.rq_model.specs.Bases.{gone, standing}
+use Rattle.rq_model.proofs.Bases.{drop_standing, length_standing}
+use Rattle.rq_log.specs.Spelled.{AreAllSpelled, AreSpelled, EndsWithAll, IsBeginning}
 use Rattle.rq_log.specs.Crash.{LeavesOnly}
 use Rattle.rq_pool.specs.declared.Written.{Written}
 use Rattle.rq_pool.specs.declared.Written.TheVariants as out
@@ -36,11 +38,11 @@ use Rattle.rq_engine.specs.declared.event.Reply.{Reply}
 use Rattle.rq_engine.specs.Opened.{AreHonest, OpenStore, WritesWhen, state_after}
 use Rattle.rq_engine.specs.Says.{PagesSay, WritesSay, written_by}
 use Rattle.rq_engine.specs.Crash.{AreFit, IsCut, KeepsFit, LeavesCut, RunsThroughCuts, StaysFit, commits_left}
-use Rattle.rq_engine.specs.Earlier.{on, over, rebased, IsSpelledAlike}
+use Rattle.rq_engine.specs.Earlier.{on, over, rebased, IsEarlier}
 use Rattle.rq_engine.specs.Devices.Path.{Start, Pages, Log}
-use Rattle.rq_engine.proofs.Earlier.{long_on}
+use Rattle.rq_engine.proofs.Earlier.{beginning_on, long_on, standing_on, told_on}
 use Rattle.rq_log.proofs.Moments.{started, weaker}
-use Rattle.rq_log.proofs.Runs.{AreSpelled-drop}
+use Rattle.rq_log.proofs.Runs.{AreAllSpelled-drop}
 
 -- the commits that a cut leaves
 pub commits_of_cut : (lost : ℕ) (log : List Record) → take (commits_left log lost) (committed_of log) ≡ committed_of (drop lost log)
@@ -54,24 +56,35 @@ some_forced zero i log e some =
     absurd (omega (arith, e, some, none))
 some_forced (suc n) i log e some = omega arith
 
+-- its records have spellings, and a Base is forced once anything is
+abbrev IsOnDevice : State → Type 0
+IsOnDevice s = AreSpelled s.records × (0 < s.forced → gone s.records < s.forced)
+
+on_device : (e : List Record) (s : State) → IsEarlier e s → IsOnDevice s → IsOnDevice (on e s)
+on_device e s long told = (told_on e s.records told.0 long, λ some. subst (λ (n : ℕ). n < s.forced) (sym (standing_on e s.records told.0 long).1) (told.1 some))
+
 -- the log's first records, and pages that fit those that are forced
-cut : (s : State) → IsSound s → AreSpelled s.records → (images : Images) (bytes : List ℕ) → FitsLog s.sizes images (oldest s.forced s.records) → IsBeginning s.records s.forced bytes → IsCut s images bytes
+cut : (s : State) → IsSound s → IsOnDevice s → (images : Images) (bytes : List ℕ) → FitsLog s.sizes images (oldest s.forced s.records) → IsBeginning s.records s.forced bytes → IsCut s images bytes
 cut s k told images bytes fits b =
+    let based = told.1 (some_forced s.forced s.incarnation s.records k.begun k.some) in
+    let all = length_standing s.records in
+    let within : b.0 + s.forced ≤ length s.records = (let le = b.1 in omega (arith, le, all, based)) in
+    let stand = drop_standing b.0 s.records (omega (arith, within, based)) in
     let whole = whole_dropped s.sizes b.0 s.records k.log in
     record {
       lost = b.0;
-      forced = b.1;
-      incarnation = begun_cut b.0 s.forced s.incarnation s.records b.1 whole.order k.begun;
-      told = AreSpelled-drop b.0 s.records told;
-      spells = b.2;
-      begins = b.3 (some_forced s.forced s.incarnation s.records k.begun k.some);
-      store = record { whole = whole; fits = fits_log_longer s.sizes images (oldest s.forced s.records) (drop b.0 s.records) (longer_continues b.0 s.forced s.records b.1) fits };
-      durable = kept_less s.forced (length (drop b.0 s.records)) (committed_of s.records) (let n = length-drop b.0 s.records in let f = b.1 in omega (arith, n, f));
+      forced = within;
+      incarnation = begun_cut b.0 s.forced s.incarnation s.records within whole.order k.begun;
+      told = subst AreAllSpelled (sym stand) (AreAllSpelled-drop b.0 (standing s.records) told.0);
+      spells = subst (λ (l : List Record). EndsWithAll l bytes) (sym stand) b.2;
+      begins = b.3 (omega (arith, based));
+      store = record { whole = whole; fits = fits_log_longer s.sizes images (oldest s.forced s.records) (drop b.0 s.records) (longer_continues b.0 s.forced s.records within) fits };
+      durable = kept_less s.forced (length (drop b.0 s.records)) (committed_of s.records) (let n = length-drop b.0 s.records in omega (arith, n, within));
       content = λ g. content_is g (drop b.0 s.records) whole.rules ∙ ap (λ c. group_in c g) (sym (commits_of_cut b.0 s.records));
     }
 
 module _ {P L : Type 0} (p : page_device.Ghosts P) (l : log_device.Ghosts L) (only_now : (d : P) (c : Images) → p.left_since d (p.moment d) c → Leaves (p.may_be d) c) where
-  pub leaves_cut : (s : OpenStore P L) → (l.honest s.log → (c : List ℕ) → l.may_leave s.log c → IsBeginning s.state.records s.state.forced c) → AreSpelled s.state.records → l.honest s.log → IsSound s.state → AreFit p s → LeavesCut p l s
+  pub leaves_cut : (s : OpenStore P L) → (l.honest s.log → (c : List ℕ) → l.may_leave s.log c → IsBeginning s.state.records s.state.forced c) → IsOnDevice s.state → l.honest s.log → IsSound s.state → AreFit p s → LeavesCut p l s
   leaves_cut s log told h k fit images bytes there left = cut s.state k told images bytes (fits_log (p.may_be s.pages) s.state.sizes (oldest s.state.forced s.state.records) images fit there) (log h bytes left)
 
   module _ (old new : OpenStore P L) (k : IsSound old.state) (fit : AreFit p old) where
@@ -132,7 +145,7 @@ module _ {P L : Type 0} (p : page_device.Ghosts P) (l : log_device.Ghosts L) (on
         (goes e r when say).now)
 
     -- at each moment a crash leaves a cut of the older records, whichever device the call changes
-    through : Goes → AreSpelled old.state.records → ((c : List ℕ) → l.may_leave old.log c → IsBeginning old.state.records old.state.forced c)
+    through : Goes → IsOnDevice old.state → ((c : List ℕ) → l.may_leave old.log c → IsBeginning old.state.records old.state.forced c)
         → LeavesOnly l old.log new.log (IsBeginning old.state.records old.state.forced) → RunsThroughCuts p l old new
     through g told log run =
         let cut_of : (images : Images) (bytes : List ℕ) → FitsLog z images kept → IsBeginning old.state.records old.state.forced bytes → IsCut old.state images bytes =
@@ -142,13 +155,13 @@ module _ {P L : Type 0} (p : page_device.Ghosts P) (l : log_device.Ghosts L) (on
         (weaker l old.log new.log (IsBeginning old.state.records old.state.forced) (λ bytes. (images : Images) → Leaves (p.may_be new.pages) images → IsCut old.state images bytes) run
         (λ bytes b images a. cut_of images bytes (fits_log (p.may_be new.pages) z kept images g.now a) b))
 
-    pub runs_through_cuts : (e : Event) (r : Reply) → AreSpelled old.state.records → WritesSay old e r → PagesSay p old new e r
+    pub runs_through_cuts : (e : Event) (r : Reply) → IsOnDevice old.state → WritesSay old e r → PagesSay p old new e r
         → ((c : List ℕ) → l.may_leave old.log c → IsBeginning old.state.records old.state.forced c)
         → LeavesOnly l old.log new.log (IsBeginning old.state.records old.state.forced) → RunsThroughCuts p l old new
     runs_through_cuts e r told when say log run = through (goes e r when say) told log run
 
     -- a call that writes no record
-    module _ (sizes : new.state.sizes ≡ z) (records : new.state.records ≡ old.state.records) (told : AreSpelled old.state.records)
+    module _ (sizes : new.state.sizes ≡ z) (records : new.state.records ≡ old.state.records) (told : IsOnDevice old.state)
         (log : (c : List ℕ) → l.may_leave old.log c → IsBeginning old.state.records old.state.forced c) where
       stays_fit : Goes → old.state.forced ≤ new.state.forced → new.state.forced ≤ length old.state.records
           → LeavesOnly l old.log new.log (IsBeginning old.state.records old.state.forced) → StaysFit p l old new
@@ -172,7 +185,7 @@ KeepsFitAlone p l old new = AreHonest p l new → IsSound old.state → AreFit p
 
 -- calls that write no record, of devices whose crashes leave nothing else while no call is made
 module _ {P L : Type 0} (p : page_device.Ghosts P) (l : log_device.Ghosts L) (only_pages : (d : P) (c : Images) → p.left_since d (p.moment d) c → Leaves (p.may_be d) c)
-    (only_log : (d : L) (c : List ℕ) → l.left_since d (l.moment d) c → l.may_leave d c) (old new : OpenStore P L) (told : AreSpelled old.state.records)
+    (only_log : (d : L) (c : List ℕ) → l.left_since d (l.moment d) c → l.may_leave d c) (old new : OpenStore P L) (told : IsOnDevice old.state)
     (leaves : l.honest old.log → (c : List ℕ) → l.may_leave old.log c → IsBeginning old.state.records old.state.forced c) where
   -- no call of the log's device is made
   log_still : l.honest old.log → new.log ≡ old.log → LeavesOnly l old.log new.log (IsBeginning old.state.records old.state.forced)
@@ -222,28 +235,35 @@ pub pages_over : {P L : Type 0} (p : page_device.Ghosts P) (x : List Record) (ol
 pages_over p x old new (event.WritePage page) r h = h
 pages_over p x old new _ r h = h
 
--- over any earlier records with the same bytes
+-- over any earlier records
 module _ {P L : Type 0} (p : page_device.Ghosts P) (l : log_device.Ghosts L) (only_now : (d : P) (c : Images) → p.left_since d (p.moment d) c → Leaves (p.may_be d) c) where
-  pub leaves_cut_over : (s : OpenStore P L) (x : List Record) → (l.honest s.log → (c : List ℕ) → l.may_leave s.log c → IsBeginning s.state.records s.state.forced c) → l.honest s.log → IsSound (on x s.state) → AreFit p (over x s) → IsSpelledAlike x s.state → LeavesCut p l (over x s)
-  leaves_cut_over s x log h k fit alike = leaves_cut p l only_now (over x s) (λ q c m. alike.1 c (log q c m)) alike.0 h k fit
+  pub leaves_cut_over : (s : OpenStore P L) (x : List Record) → (l.honest s.log → (c : List ℕ) → l.may_leave s.log c → IsBeginning s.state.records s.state.forced c) → IsOnDevice s.state → l.honest s.log → IsEarlier x s.state → IsSound (on x s.state) → AreFit p (over x s) → LeavesCut p l (over x s)
+  leaves_cut_over s x log told h long k fit = leaves_cut p l only_now (over x s) (λ q c m. beginning_on x s.state.records s.state.forced c told.0 long (log q c m)) (on_device x s.state long told) h k fit
 
-  pub cuts_over : (old new : OpenStore P L) (x : List Record) → IsSound (on x old.state) → AreFit p (over x old) → IsSpelledAlike x old.state → (e : Event) (r : Reply) → WritesSay old e r → PagesSay p old new e r
+  pub cuts_over : (old new : OpenStore P L) (x : List Record) → IsOnDevice old.state → IsEarlier x old.state → IsSound (on x old.state) → AreFit p (over x old) → (e : Event) (r : Reply) → WritesSay old e r → PagesSay p old new e r
       → ((c : List ℕ) → l.may_leave old.log c → IsBeginning old.state.records old.state.forced c)
       → LeavesOnly l old.log new.log (IsBeginning old.state.records old.state.forced) → RunsThroughCuts p l (over x old) (over x new)
-  cuts_over old new x k fit alike e r when say log run =
-      runs_through_cuts p l only_now (over x old) (over x new) k fit e r alike.0 (writes_over x old e r when) (pages_over p x old new e r say)
-      (λ c m. alike.1 c (log c m)) (weaker l old.log new.log (IsBeginning old.state.records old.state.forced) (IsBeginning (rebased x old.state.records) old.state.forced) run (λ c b. alike.1 c b))
+  cuts_over old new x told long k fit e r when say log run =
+      let on_x : (c : List ℕ) → IsBeginning old.state.records old.state.forced c → IsBeginning (rebased x old.state.records) old.state.forced c = λ c. beginning_on x old.state.records old.state.forced c told.0 long in
+      runs_through_cuts p l only_now (over x old) (over x new) k fit e r (on_device x old.state long told) (writes_over x old e r when) (pages_over p x old new e r say)
+      (λ c m. on_x c (log c m)) (weaker l old.log new.log (IsBeginning old.state.records old.state.forced) (IsBeginning (rebased x old.state.records) old.state.forced) run on_x)
 
--- calls that write no record, over any earlier records with the same bytes
+-- calls that write no record, over any earlier records
 module _ {P L : Type 0} (p : page_device.Ghosts P) (l : log_device.Ghosts L) (only_pages : (d : P) (c : Images) → p.left_since d (p.moment d) c → Leaves (p.may_be d) c)
-    (only_log : (d : L) (c : List ℕ) → l.left_since d (l.moment d) c → l.may_leave d c) (old new : OpenStore P L)
+    (only_log : (d : L) (c : List ℕ) → l.left_since d (l.moment d) c → l.may_leave d c) (old new : OpenStore P L) (told : IsOnDevice old.state)
     (leaves : l.honest old.log → (c : List ℕ) → l.may_leave old.log c → IsBeginning old.state.records old.state.forced c) where
-  module _ (x : List Record) (alike : IsSpelledAlike x old.state) where
+  module _ (x : List Record) (long : IsEarlier x old.state) where
+    told_over : IsOnDevice (on x old.state)
+    told_over = on_device x old.state long told
+
+    begins_over : (c : List ℕ) → IsBeginning old.state.records old.state.forced c → IsBeginning (rebased x old.state.records) old.state.forced c
+    begins_over c = beginning_on x old.state.records old.state.forced c told.0 long
+
     leaves_over : l.honest old.log → (c : List ℕ) → l.may_leave old.log c → IsBeginning (rebased x old.state.records) old.state.forced c
-    leaves_over h c m = alike.1 c (leaves h c m)
+    leaves_over h c m = begins_over c (leaves h c m)
 
     run_over : LeavesOnly l old.log new.log (IsBeginning old.state.records old.state.forced) → LeavesOnly l old.log new.log (IsBeginning (rebased x old.state.records) old.state.forced)
-    run_over run = weaker l old.log new.log (IsBeginning old.state.records old.state.forced) (IsBeginning (rebased x old.state.records) old.state.forced) run (λ c b. alike.1 c b)
+    run_over run = weaker l old.log new.log (IsBeginning old.state.records old.state.forced) (IsBeginning (rebased x old.state.records) old.state.forced) run begins_over
 
   -- one of the log's device, from a store that is the older one
   pub log_fit : (met : OpenStore P L) → met ≡ old → new.pages ≡ met.pages → new.state.sizes ≡ met.state.sizes → new.state.records ≡ met.state.records
@@ -252,21 +272,23 @@ module _ {P L : Type 0} (p : page_device.Ghosts P) (l : log_device.Ghosts L) (on
   log_fit met same = subst (λ (s : OpenStore P L). new.pages ≡ s.pages → new.state.sizes ≡ s.state.sizes → new.state.records ≡ s.state.records
       → (new.state.forced ≡ s.state.forced) ⊎ (new.state.forced ≡ length s.state.records) → (l.honest new.log → l.honest s.log)
       → (l.honest new.log → LeavesOnly l s.log new.log (IsBeginning s.state.records s.state.forced)) → KeepsFit p l old new) (sym same)
-      (λ pages sizes records forced honest run h x long k fit alike.
-      log_fits p l only_pages only_log (over x old) (over x new) alike.0 (leaves_over x alike) (over x old) refl pages sizes (ap (rebased x) records)
-      (⊎_elim (λ e. inl e) (λ e. inr (e ∙ sym (long_on x old.state long))) forced) honest (λ q. run_over x alike (run q)) h k fit)
+      (λ pages sizes records forced honest run h x long k fit.
+      log_fits p l only_pages only_log (over x old) (over x new) (told_over x long) (leaves_over x long) (over x old) refl pages sizes (ap (rebased x) records)
+      (⊎_elim (λ e. inl e) (λ e. inr (e ∙ sym (long_on x old.state long))) forced) honest (λ q. run_over x long (run q)) h k fit)
 
   -- one of the pages' device
   pub page_fit : (page : ℕ) (r : Result Written Refusal) → WritesWhen old page r → DeviceAfter p page (image_at old.state.images page) old.pages new.pages r
       → new.state ≡ state_after old.state r → new.log ≡ old.log → KeepsFit p l old new
-  page_fit page r when after state log h x long k fit alike =
-      page_fits p l only_pages only_log (over x old) (over x new) alike.0 (leaves_over x alike) page r (when_over x old page r when) after
+  page_fit page r when after state log h x long k fit =
+      page_fits p l only_pages only_log (over x old) (over x new) (told_over x long) (leaves_over x long) page r (when_over x old page r when) after
       (ap (on x) state ∙ after_over x old.state r) log h k fit
 
 -- no call is made
 pub none_fit : {P L : Type 0} (p : page_device.Ghosts P) (l : log_device.Ghosts L) (only_pages : (d : P) (c : Images) → p.left_since d (p.moment d) c → Leaves (p.may_be d) c)
-    (only_log : (d : L) (c : List ℕ) → l.left_since d (l.moment d) c → l.may_leave d c) (s : OpenStore P L)
+    (only_log : (d : L) (c : List ℕ) → l.left_since d (l.moment d) c → l.may_leave d c) (s : OpenStore P L) → IsOnDevice s.state
     → (l.honest s.log → (c : List ℕ) → l.may_leave s.log c → IsBeginning s.state.records s.state.forced c) → KeepsFit p l s s
-none_fit p l only_pages only_log s leaves h x long k fit alike =
-    log_fits p l only_pages only_log (over x s) (over x s) alike.0 (leaves_over p l only_pages only_log s s leaves x alike) (over x s) refl refl refl refl (inl refl) (λ q. q)
-    (λ q. log_still p l only_pages only_log (over x s) (over x s) alike.0 (leaves_over p l only_pages only_log s s leaves x alike) q refl) h k fit
+none_fit p l only_pages only_log s told leaves h x long k fit =
+    let told_x = told_over p l only_pages only_log s s told leaves x long in
+    let leaves_x = leaves_over p l only_pages only_log s s told leaves x long in
+    log_fits p l only_pages only_log (over x s) (over x s) told_x leaves_x (over x s) refl refl refl refl (inl refl) (λ q. q)
+    (λ q. log_still p l only_pages only_log (over x s) (over x s) told_x leaves_x q refl) h k fit

@@ -1,8 +1,10 @@
 -- The store with other earlier records.
-use Rattle.std.proofs.Common.{◌≡◌, ℕ, ◌+◌, ◌/◌, ◌%◌, ◌^◌, false, zero, suc, List, [], ◌∷◌, length, refl, sym, ◌∙◌, ap, subst, Bool, nat_lt, arith}
+use Rattle.std.proofs.Common.{◌≡◌, ℕ, ◌+◌, ◌-◌, ◌/◌, ◌%◌, ◌^◌, false, zero, suc, List, [], ◌∷◌, length, refl, sym, ◌∙◌, ap, subst, Bool, nat_lt, arith}
 use Rattle.std.specs.List.{sum_by}
 use Rattle.rq_model.specs.declared.record.Record.{Record}
-use Rattle.rq_model.specs.declared.record.Record.TheVariants.{Restart}
+use Rattle.rq_model.specs.declared.record.Record.TheVariants.{Base, Restart}
+use Rattle.rq_model.specs.Bases.{gone, standing}
+use Rattle.rq_log.specs.Spelled.{AreAllSpelled, AreFirst, AreSpelled, IsBeginning}
 use Rattle.rq_model.specs.Tests.{log_full, owed}
 use Rattle.rq_model.specs.History.{Call}
 use Rattle.rq_model.specs.Replay.{Reply as Gave}
@@ -40,6 +42,26 @@ own_one r log rest h = ap (λ (l : List Record). r ∷ l) h
 pub own : (log : List Record) → rebased (unknown log) log ≡ log
 own [] = refl
 own (r ∷ log) = own_one r log (unknown log) (own log)
+
+-- what stands of it on a device is the same
+standing_one : (e : List Record) (r : Record) (log : List Record) → AreSpelled (r ∷ log) → length e ≡ length (unknown (r ∷ log)) → (AreSpelled log → length e ≡ length (unknown log) → (standing (rebased e log) ≡ standing log) × (gone (rebased e log) ≡ gone log))
+    → (standing (rebased e (r ∷ log)) ≡ standing (r ∷ log)) × (gone (rebased e (r ∷ log)) ≡ gone (r ∷ log))
+standing_one e (Restart zero) log told h ih = absurd (omega (arith, told.0.0))
+standing_one e (Restart (suc i)) log told h ih = let k = ih told.1 h in (ap (λ (l : List Record). Restart (suc i) ∷ l) k.0, k.1)
+standing_one e (Base many i) log told h ih = (refl, long e log h)
+standing_one e r log told h ih = let k = ih told.1 h in (ap (λ (l : List Record). r ∷ l) k.0, k.1)
+
+pub standing_on : (e log : List Record) → AreSpelled log → length e ≡ length (unknown log) → (standing (rebased e log) ≡ standing log) × (gone (rebased e log) ≡ gone log)
+standing_on e [] told h = (refl, refl)
+standing_on e (r ∷ log) told h = standing_one e r log told h (standing_on e log)
+
+pub told_on : (e log : List Record) → AreSpelled log → length e ≡ length (unknown log) → AreSpelled (rebased e log)
+told_on e log told h = subst AreAllSpelled (sym (standing_on e log told h).0) told
+
+pub beginning_on : (e log : List Record) (forced : ℕ) (bytes : List ℕ) → AreSpelled log → length e ≡ length (unknown log) → IsBeginning log forced bytes → IsBeginning (rebased e log) forced bytes
+beginning_on e log forced bytes told h b =
+    let same = standing_on e log told h in
+    subst (λ (l : List Record). AreFirst l (forced - gone (rebased e log)) bytes) (sym same.0) (subst (λ (n : ℕ). AreFirst (standing log) (forced - n) bytes) (sym same.1) b)
 
 -- its log is as long, and as full
 pub long_on : (e : List Record) (s : State) → IsEarlier e s → length (on e s).records ≡ length s.records

@@ -24,6 +24,11 @@ pub free_first : (ws : List ℕ) (hs : List Held) (from : ℕ) (o : Option ℕ) 
 free_first ws hs from None f = f
 free_first ws hs from (Some s) f = (f.0, f.4)
 
+-- one of which a message waits that is free for a transaction
+pub some_waits : (n : ℕ) (ws : List ℕ) (hs : List Held) (t : Txn) (o : Option ℕ) → length ws ≡ n → IfSome o (λ s. (s < length ws) × (1 ≤ waits ws s) × (is_free_for t s hs ≡ true)) → IfSome o (λ s. (s < n) × (is_free_for t s hs ≡ true) × (1 ≤ waits ws s))
+some_waits n ws hs t None e f = f
+some_waits n ws hs t (Some s) e f = (let below = f.0 in omega (arith, below, e), f.2, f.1)
+
 -- where none of which a message waits is free for a transaction, none is in the store
 pub none_waits : (n : ℕ) (ws : List ℕ) (hs : List Held) (t : Txn) (o : Option ℕ) → length ws ≡ n → IfNone o ((s : ℕ) → s < length ws → is_free_for t s hs ≡ true → waits ws s ≡ 0) → IfNone o ((s : ℕ) → s < n → is_free_for t s hs ≡ true → waits ws s ≡ 0)
 none_waits n ws hs t None e f = λ s low free. f s (omega (arith, low, e)) free

@@ -2,7 +2,6 @@
 use Rattle.std.proofs.Common.{◌≡◌, List, Ok, Err, refl, sym, ap, subst}
 use Rattle.rq_disk.specs.declared.device.LogDevice as log_device
 use Rattle.rq_disk.specs.declared.device.PageDevice as page_device
-use Rattle.rq_log.specs.Spelled.{AreSpelled, IsBeginning}
 use Rattle.rq_model.specs.declared.record.Record.{Record}
 use Rattle.rq_model.specs.declared.refusal.Refusal.{Refusal}
 use Rattle.rq_model.specs.History.{Call}
@@ -16,7 +15,7 @@ use Rattle.rq_engine.specs.declared.event.Reply.{Reply}
 use Rattle.rq_engine.specs.Answers.{AnswersLegally, IsCausedIn}
 use Rattle.rq_engine.specs.Applied.{Applied, LatchedSay}
 use Rattle.rq_engine.specs.Crash.{AreFit, LeavesCut}
-use Rattle.rq_engine.specs.Earlier.{IsEarlier, IsSpelledAlike, on, over, unknown}
+use Rattle.rq_engine.specs.Earlier.{IsEarlier, on, over, unknown}
 use Rattle.rq_engine.specs.Opened.{OpenStore, AreHonest}
 use Rattle.rq_engine.specs.Says.{RefusedForCause, call_of, gave}
 use Rattle.rq_engine.proofs.Earlier.{own}
@@ -49,11 +48,10 @@ err_own p l old new c gives r a h k =
 
 module _ {P L : Type 0} (p : page_device.Ghosts P) (l : log_device.Ghosts L) where
   -- what a crash now leaves
-  pub cut_own : (s : OpenStore P L) → ((e : List Record) → IsEarlier e s.state → IsSound (on e s.state) → AreFit p (over e s) → IsSpelledAlike e s.state → LeavesCut p l (over e s))
-      → AreSpelled s.state.records → IsSound s.state → AreFit p s → LeavesCut p l s
-  cut_own s cut told k fit =
-      subst (LeavesCut p l) (own_store s) (cut (unknown s.state.records) refl (own_sound s.state k) (subst (AreFit p) (sym (own_store s)) fit)
-      (subst AreSpelled (sym (own s.state.records)) told, λ bytes b. subst (λ (x : List Record). IsBeginning x s.state.forced bytes) (sym (own s.state.records)) b))
+  pub cut_own : (s : OpenStore P L) → ((e : List Record) → IsEarlier e s.state → IsSound (on e s.state) → AreFit p (over e s) → LeavesCut p l (over e s))
+      → IsSound s.state → AreFit p s → LeavesCut p l s
+  cut_own s cut k fit =
+      subst (LeavesCut p l) (own_store s) (cut (unknown s.state.records) refl (own_sound s.state k) (subst (AreFit p) (sym (own_store s)) fit))
 
   module _ (old new : OpenStore P L) (e : Event) (r : Reply) (a : Applied p l old e r new) where
     new_is : over (unknown old.state.records) new ≡ new

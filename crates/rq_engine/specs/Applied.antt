@@ -17,7 +17,7 @@ use Rattle.rq_sound.specs.Latching.{IsLatched}
 use Rattle.rq_sound.specs.Sound.{IsSound}
 use Rattle.rq_sound.specs.ModelSteps.{IsModelStep}
 use Rattle.rq_model.specs.declared.record.Record.{Record}
-use Rattle.rq_engine.specs.Earlier.{on, over, unknown, IsEarlier, IsSpelledAlike}
+use Rattle.rq_engine.specs.Earlier.{on, over, unknown, IsEarlier}
 use Rattle.rq_engine.specs.declared.event.Event.{Event}
 use Rattle.rq_engine.specs.declared.event.Event.TheVariants as event
 use Rattle.rq_engine.specs.declared.event.Progress.{Progress}
@@ -127,4 +127,4 @@ pub record Applied {P L : Type 0} (p : page_device.Ghosts P) (l : log_device.Gho
   pub fit : AreHonest p l new → (earlier : List Record) → IsEarlier earlier old.state → IsSound (on earlier old.state)
       → AreFit p (over earlier old) → AreFit p (over earlier new)
   pub crash : AreHonest p l new → (earlier : List Record) → IsEarlier earlier old.state → IsSound (on earlier old.state)
-      → AreFit p (over earlier old) → IsSpelledAlike earlier old.state → RunsThroughCuts p l (over earlier old) (over earlier new)
+      → AreFit p (over earlier old) → RunsThroughCuts p l (over earlier old) (over earlier new)

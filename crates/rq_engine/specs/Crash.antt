@@ -15,7 +15,7 @@ use Rattle.rq_store.specs.Opening.{IsLeft}
 use Rattle.rq_engine.specs.Devices.{EachPair, Path}
 use Rattle.rq_sound.specs.Sound.{IsSound}
 use Rattle.rq_engine.specs.Opened.{AreHonest, OpenStore}
-use Rattle.rq_engine.specs.Earlier.{IsEarlier, IsSpelledAlike, on, over}
+use Rattle.rq_engine.specs.Earlier.{IsEarlier, on, over}
 
 -- whatever images a crash now may leave of the pages, they fit the forced records
 abbrev pub AreFit : {P L : Type 0} → page_device.Ghosts P → OpenStore P L → Type 0
@@ -57,4 +57,4 @@ pub record StaysFit {P L : Type 0} (p : page_device.Ghosts P) (l : log_device.Gh
 
 abbrev pub KeepsFit : {P L : Type 0} → page_device.Ghosts P → log_device.Ghosts L → OpenStore P L → OpenStore P L → Type 0
 KeepsFit p l old new = AreHonest p l new → (e : List Record) → IsEarlier e old.state → IsSound (on e old.state)
-    → AreFit p (over e old) → IsSpelledAlike e old.state → StaysFit p l (over e old) (over e new)
+    → AreFit p (over e old) → StaysFit p l (over e old) (over e new)

@@ -1,11 +1,10 @@
 -- Other records in place of those of which nothing is known. A store that was opened over a log that tells only how many
 -- records stood before it has a mark for each of those, which no log has: a Restart of incarnation 0.
-use Rattle.std.specs.Prelude.{◌≡◌, ℕ, zero, List, [], ◌∷◌, length}
+use Rattle.std.specs.Prelude.{◌≡◌, zero, List, [], ◌∷◌, length}
 use Rattle.rq_model.specs.declared.record.Record.{Record}
 use Rattle.rq_model.specs.declared.record.Record.TheVariants.{Restart}
 use Rattle.rq_store.specs.State.{State}
 use Rattle.rq_sound.specs.Sound.{IsSound}
-use Rattle.rq_log.specs.Spelled.{AreSpelled, IsBeginning}
 use Rattle.rq_engine.specs.Opened.{OpenStore}
 
 abbrev pub unknown_one : Record → List Record → List Record → List Record
@@ -40,8 +39,3 @@ IsSoundOver s = (e : List Record) × IsEarlier e s × IsSound (on e s)
 
 abbrev pub over : {P L : Type 0} → List Record → OpenStore P L → OpenStore P L
 over e s = record s { state = on e s.state }
-
--- with these its log has the same bytes, whatever is cut off it
-abbrev pub IsSpelledAlike : List Record → State → Type 0
-IsSpelledAlike e s = AreSpelled (rebased e s.records)
-    × ((bytes : List ℕ) → IsBeginning s.records s.forced bytes → IsBeginning (rebased e s.records) s.forced bytes)

@@ -4,6 +4,7 @@ ghost use Rattle.rq_model.specs.History.Call.{Begin, Commit, Acknowledge, Hand_o
 ghost use Rattle.rq_model.specs.Replay.{receipt};
 ghost use Rattle.rq_model.specs.Replay.Reply.{Gave_txn, Gave_commit, Gave_forced, Gave_handed_over, Gave_receipt};
 ghost use Rattle.rq_model.specs.declared.record.Record.TheVariants.{Commit as Commit_record};
+ghost use Rattle.rq_model.specs.Bases.{gone};
 ghost use Rattle.rq_disk.specs.Device.{Only};
 ghost use Rattle.rq_log.specs.Crash.{LeavesOnly};
 ghost use Rattle.rq_log.specs.Logged.{WasDurable};
@@ -12,7 +13,7 @@ ghost use Rattle.rq_page.specs.Sizes.{sender_count};
 ghost use Rattle.rq_groups.specs.Sent.{sent_count};
 ghost use Rattle.rq_groups.specs.Waiting.{waits};
 ghost use Rattle.rq_sound.specs.Sound.{IsSound};
-ghost use Rattle.rq_engine.specs.Earlier.{on, over, IsEarlier, IsSpelledAlike};
+ghost use Rattle.rq_engine.specs.Earlier.{on, over, IsEarlier};
 ghost use Rattle.rq_model.specs.declared.record.Record.{Record};
 ghost use Rattle.rq_planner.specs.Answered.{KnowsCells};
 ghost use Rattle.rq_engine.specs.Opened.{LeavesDevices, NotWritten};
@@ -199,14 +200,15 @@ impl<P: PageDevice, L: LogDevice, B: Level> Engine<P, L, B> {
     ghost use Rattle.rq_model.specs.Tests.{IsUnready};
     ghost use Rattle.rq_model.specs.Tests.{NoneHolds, ready_tests};
 
-    /// What a crash at this moment leaves of the log, and of both devices, and that each record has a spelling, for
-    /// proofs: it runs no code.
+    /// What a crash at this moment leaves of the log, and of both devices, that each record has a spelling, and that a Base
+    /// is forced, for proofs: it runs no code.
     pub fn shows_kept(&self)
         ensures leaves { L.honest self.now.log → (c : List ℕ) → L.may_leave self.now.log c
             → IsBeginning self.now.state.records self.now.state.forced c }
         ensures spelled { AreSpelled self.now.state.records }
+        ensures based { 0 < self.now.state.forced → gone self.now.state.records < self.now.state.forced }
         ensures cut { L.honest self.now.log → (e : List Record) → IsEarlier e self.now.state
-            → IsSound (on e self.now.state) → AreFit P.PageDevice (over e self.now) → IsSpelledAlike e self.now.state
+            → IsSound (on e self.now.state) → AreFit P.PageDevice (over e self.now)
             → LeavesCut P.PageDevice L.LogDevice (over e self.now) }
     {
         self.log.shows_kept();

@@ -8,11 +8,20 @@ use Rattle.rq_disk.specs.Device.{Appended, CutOff, ElapsesThrough, IsCutBetween,
 use Rattle.rq_disk.specs.declared.device.LogDevice.{Ghosts}
 use Rattle.rq_disk.specs.Records.{AreRecords}
 use Rattle.rq_record.specs.Spelling.{IsRecord, spelling}
-use Rattle.rq_log.specs.Spelled.{spelled, AreSpelled, EndsWith, GoOnTo, HoldsTo, IsBeginning}
+use Rattle.rq_log.specs.Spelled.{spelled, spelled_all, AreSpelled, EndsWith, AreFirst, AreAllSpelled, EndsWithAll, GoOnTo, HoldsTo, IsBeginning}
 use Rattle.rq_log.specs.Crash.{LeavesOnly}
 use Rattle.rq_log.specs.Reading.{IsRead}
-use Rattle.rq_log.specs.Logged.{Logged, WasCut, WasDurable, WasLeftOrGoesOn, Keeps}
-use Rattle.rq_log.proofs.Runs.{spelled_records, AreSpelled-take, appended, one_newer, all_of, nothing_newer, spelled_whole, goes_on, go_on_all, go_on_newer, ends_all, holds_ends, holds_whole}
+use Rattle.rq_model.specs.Bases.{gone, is_base, standing}
+use Rattle.rq_model.proofs.Bases.{gone_less, gone_plain, length_standing, standing_plain}
+use Rattle.rq_log.specs.Logged.{Logged, held, kept, WasCut, WasDurable, WasLeftOrGoesOn, Keeps}
+use Rattle.rq_log.proofs.Runs.{spelled_records, AreAllSpelled-take, appended, one_newer, all_of, nothing_newer, spelled_whole, goes_on, go_on_all, go_on_newer, ends_all, holds_ends, holds_whole}
+
+-- of those that stand so many are forced at most
+within : (n : ℕ) (records : List Record) → n ≤ length records → n - gone records ≤ length (standing records)
+within n records le = let whole = length_standing records in omega (arith, le, whole)
+
+all_held : (n : ℕ) (records : List Record) → n ≤ length records → 0 + (n - gone records) ≤ length (standing records)
+all_held n records le = let e = within n records le in omega (arith, e)
 
 none_torn : (end : ℕ) → None ≡ Some end → ⊥
 none_torn end e = cc
@@ -22,29 +31,37 @@ module _ {L : Type 0} (g : Ghosts L) where
   pub whole : {total : ℕ} (log : Logged L) (last : ℕ) (buffer : List ℕ) (capacity : ℕ) → Keeps g log last total buffer capacity → log.failed ≡ false → (n : ℕ) × AreRecords n buffer
   whole log last buffer capacity k running =
       let b = k.buffered running in
-      let newer = take b.0 log.records in
-      (length newer, subst (AreRecords (length newer)) (sym b.3) (spelled_records newer (AreSpelled-take b.0 log.records k.is_log.spelled)))
+      let newer = take b.0 (held log) in
+      (length newer, subst (AreRecords (length newer)) (sym b.3) (spelled_records newer (AreAllSpelled-take b.0 (held log) k.is_log.spelled)))
 
   -- one record more
   pub with_record : {total : ℕ} (log : Logged L) (last : ℕ) (buffer : List ℕ) (capacity : ℕ) → Keeps g log last total buffer capacity → log.failed ≡ false
       → (r : Record) → IsRecord r → (size : ℕ) → size ≡ length (spelling r) → size ≤ log.reserved
-      → (records : List Record) → records ≡ r ∷ log.records → (bytes : List ℕ) → bytes ≡ buffer ++ spelling r → (room : ℕ) → capacity ≤ room → (sum : ℕ) → sum ≡ min (total + size) (2 ^ 64 - 1)
+      → is_base r ≡ false → (records : List Record) → records ≡ r ∷ log.records → (bytes : List ℕ) → bytes ≡ buffer ++ spelling r → (room : ℕ) → capacity ≤ room → (sum : ℕ) → sum ≡ min (total + size) (2 ^ 64 - 1)
       → Keeps g (record { records = records; forced = log.forced; pending = length bytes; reserved = log.reserved - size; torn_at = log.torn_at; failed = log.failed; device = log.device; settled = log.settled }) (last + 1) sum bytes room
-  with_record log last buffer capacity k running r is size measured fits records grown bytes longer room le sum added =
+  with_record log last buffer capacity k running r is size measured fits plain records grown bytes longer room le sum added =
       let b = k.buffered running in
+      let stands = standing_plain r log.records plain in
+      let away = gone_plain r log.records plain in
       let total : length bytes ≡ length buffer + size = ap length longer ∙ length-append buffer (spelling r) ∙ ap (λ (n : ℕ). length buffer + n) (sym measured) in
       subst (λ (rs : List Record). Keeps g (record { records = rs; forced = log.forced; pending = length bytes; reserved = log.reserved - size; torn_at = log.torn_at; failed = log.failed; device = log.device; settled = log.settled }) (last + 1) sum bytes room) (sym grown)
       (record {
         is_log = record {
-          spelled = (is, k.is_log.spelled);
+          spelled = subst AreAllSpelled (sym stands) (is, k.is_log.spelled);
           order = (let o = k.is_log.order in omega arith);
-          leaves = λ h was c left. one_newer r log.records log.forced c (k.is_log.leaves h was c left);
+          based = λ some. subst (λ (n : ℕ). n < log.forced) (sym away) (k.is_log.based some);
+          leaves = λ h was c left. subst (λ (rs : List Record). AreFirst rs (log.forced - gone (r ∷ log.records)) c) (sym stands) (subst (λ (n : ℕ). AreFirst (r ∷ held log) (log.forced - n) c) (sym away) (one_newer r (held log) (kept log) c (k.is_log.leaves h was c left)));
         };
         count = (let n = k.count in omega arith);
-        total = (λ few. let more = length-append (spelled log.records) (spelling r) in let n = k.total (omega (arith, few, more)) in omega (arith, n, added, more, measured, few));
+        total = (λ few. let more = ap (λ rs. length (spelled_all rs)) stands ∙ length-append (spelled log.records) (spelling r) in let n = k.total (omega (arith, few, more)) in omega (arith, n, added, more, measured, few));
         room = (let n = k.room in omega arith);
-        whole = k.whole;
-        buffered = λ _. (suc b.0, omega (arith, b.1), b.2, longer ∙ ap (λ (l : List ℕ). l ++ spelling r) b.3);
+        whole = λ some. k.whole (subst (λ (n : ℕ). 0 < log.forced - n) away some);
+        buffered = λ _. (
+          suc b.0,
+          (let long = ap length stands in omega (arith, b.1, long, away)),
+          (λ h. subst (λ (rs : List Record). HoldsTo log.torn_at (drop (suc b.0) rs) (g.seen log.device)) (sym stands) (b.2 h)),
+          longer ∙ ap (λ (l : List ℕ). l ++ spelling r) b.3 ∙ ap (λ (rs : List Record). spelled_all (take (suc b.0) rs)) (sym stands),
+        );
       })
 
   -- what an append of the buffer leaves
@@ -52,24 +69,24 @@ module _ {L : Type 0} (g : Ghosts L) where
       → (device : L) → Appended (g.seen log.device) buffer (g.may_leave log.device) (g.may_leave device) → g.honest log.device → WasDurable g log → (c : List ℕ) → g.may_leave device c → IsBeginning log.records log.forced c
   append_leaves log last buffer capacity k running untorn device crash h was =
       let b = k.buffered running in
-      appended log.records log.forced b.0 (g.seen log.device) buffer (g.may_leave log.device) (g.may_leave device) k.is_log.spelled b.1 (holds_whole log.torn_at (drop b.0 log.records) (g.seen log.device) untorn (b.2 h)) b.3 (k.is_log.leaves h was) crash
+      appended (held log) (kept log) b.0 (g.seen log.device) buffer (g.may_leave log.device) (g.may_leave device) k.is_log.spelled b.1 (holds_whole log.torn_at (drop b.0 (held log)) (g.seen log.device) untorn (b.2 h)) b.3 (k.is_log.leaves h was) crash
 
   -- the same, whatever a crash might have left before
   pub append_adds : {total : ℕ} (log : Logged L) (last : ℕ) (buffer : List ℕ) (capacity : ℕ) → Keeps g log last total buffer capacity → log.failed ≡ false → log.torn_at ≡ None
       → (device : L) → Appended (g.seen log.device) buffer (g.may_leave log.device) (g.may_leave device) → g.honest log.device → (c : List ℕ) → g.may_leave device c → WasLeftOrGoesOn g log c
   append_adds log last buffer capacity k running untorn device crash h c left =
       let b = k.buffered running in
-      ⊎_elim (λ was. inl was) (λ added. inr (goes_on log.records log.forced b.0 added.0 (g.seen log.device) buffer c k.is_log.spelled b.1 (holds_whole log.torn_at (drop b.0 log.records) (g.seen log.device) untorn (b.2 h)) b.3 added.1)) (crash c left)
+      ⊎_elim (λ was. inl was) (λ added. inr (goes_on (held log) (kept log) b.0 added.0 (g.seen log.device) buffer c k.is_log.spelled b.1 (holds_whole log.torn_at (drop b.0 (held log)) (g.seen log.device) untorn (b.2 h)) b.3 added.1)) (crash c left)
 
   pub reads_all : {total : ℕ} (log : Logged L) (last : ℕ) (buffer : List ℕ) (capacity : ℕ) → Keeps g log last total buffer capacity → log.failed ≡ false → log.torn_at ≡ None → g.honest log.device → g.seen log.device ++ buffer ≡ spelled log.records
   reads_all log last buffer capacity k running untorn h =
       let b = k.buffered running in
-      ap (λ (l : List ℕ). l ++ buffer) (holds_whole log.torn_at (drop b.0 log.records) (g.seen log.device) untorn (b.2 h)) ∙ ap (λ (l : List ℕ). spelled (drop b.0 log.records) ++ l) b.3 ∙ spelled_whole b.0 log.records
+      ap (λ (l : List ℕ). l ++ buffer) (holds_whole log.torn_at (drop b.0 (held log)) (g.seen log.device) untorn (b.2 h)) ∙ ap (λ (l : List ℕ). spelled_all (drop b.0 (held log)) ++ l) b.3 ∙ spelled_whole b.0 (held log)
 
   pub nothing_buffered : {total : ℕ} (log : Logged L) (last : ℕ) (buffer : List ℕ) (capacity : ℕ) → Keeps g log last total buffer capacity → log.failed ≡ false → log.torn_at ≡ None → length buffer ≡ 0 → g.honest log.device → g.seen log.device ≡ spelled log.records
   nothing_buffered log last buffer capacity k running untorn none h =
       let b = k.buffered running in
-      nothing_newer b.0 log.records (g.seen log.device) buffer (holds_whole log.torn_at (drop b.0 log.records) (g.seen log.device) untorn (b.2 h)) b.3 none
+      nothing_newer b.0 (held log) (g.seen log.device) buffer (holds_whole log.torn_at (drop b.0 (held log)) (g.seen log.device) untorn (b.2 h)) b.3 none
 
   -- the buffer is handed over
   pub handed : {total : ℕ} (log : Logged L) (last : ℕ) (buffer : List ℕ) (capacity : ℕ) → Keeps g log last total buffer capacity → log.failed ≡ false → log.torn_at ≡ None
@@ -79,13 +96,14 @@ module _ {L : Type 0} (g : Ghosts L) where
     is_log = record {
       spelled = k.is_log.spelled;
       order = k.is_log.order;
+      based = k.is_log.based;
       leaves = λ h. append_leaves log last buffer capacity k running untorn device crash (falls h);
     };
     count = k.count;
     total = k.total;
     room = omega (arith, le, ap length none);
     whole = k.whole;
-    buffered = λ _. (0, (let o = k.is_log.order in omega (arith, o)), λ h. subst (λ (t : Option ℕ). HoldsTo t log.records (g.seen device)) (sym untorn) (added ∙ reads_all log last buffer capacity k running untorn (falls h)), none);
+    buffered = λ _. (0, all_held log.forced log.records k.is_log.order, λ h. subst (λ (t : Option ℕ). HoldsTo t (held log) (g.seen device)) (sym untorn) (added ∙ reads_all log last buffer capacity k running untorn (falls h)), none);
   }
 
   -- an append of the buffer has failed
@@ -95,6 +113,7 @@ module _ {L : Type 0} (g : Ghosts L) where
     is_log = record {
       spelled = k.is_log.spelled;
       order = k.is_log.order;
+      based = k.is_log.based;
       leaves = leaves;
     };
     count = k.count;
@@ -112,13 +131,14 @@ module _ {L : Type 0} (g : Ghosts L) where
     is_log = record {
       spelled = k.is_log.spelled;
       order = (let n = k.count in omega arith);
-      leaves = λ h was c left. all_of log.records last c (let n = k.count in omega arith) (durable c left ∙ nothing_buffered log last buffer capacity k running untorn none (falls h));
+      based = λ some. subst (λ (n : ℕ). gone log.records < n) (sym k.count) (gone_less log.records (subst (λ (n : ℕ). 0 < n) k.count some));
+      leaves = λ h was c left. all_of (held log) (last - gone log.records) c (within last log.records (let n = k.count in omega arith)) (durable c left ∙ nothing_buffered log last buffer capacity k running untorn none (falls h));
     };
     count = k.count;
     total = k.total;
     room = k.room;
     whole = λ some. untorn;
-    buffered = λ _. (0, (let n = k.count in omega arith), λ h. subst (λ (t : Option ℕ). HoldsTo t log.records (g.seen device)) (sym untorn) (same ∙ nothing_buffered log last buffer capacity k running untorn none (falls h)), nil_from_length buffer none);
+    buffered = λ _. (0, all_held last log.records (let n = k.count in omega arith), λ h. subst (λ (t : Option ℕ). HoldsTo t (held log) (g.seen device)) (sym untorn) (same ∙ nothing_buffered log last buffer capacity k running untorn none (falls h)), nil_from_length buffer none);
   }
 
   -- an honest device reads as some of the first records
@@ -127,47 +147,48 @@ module _ {L : Type 0} (g : Ghosts L) where
       let b = k.buffered running in (
         b.0,
         b.1,
-        holds_ends log.torn_at (drop b.0 log.records) (g.seen log.device) (b.2 h),
-        λ some. go_on_newer b.0 log.records (g.seen log.device) (go_on_all (drop b.0 log.records) (g.seen log.device) (holds_whole log.torn_at (drop b.0 log.records) (g.seen log.device) (k.whole some) (b.2 h))),
+        holds_ends log.torn_at (drop b.0 (held log)) (g.seen log.device) (b.2 h),
+        λ some. go_on_newer b.0 (held log) (g.seen log.device) (go_on_all (drop b.0 (held log)) (g.seen log.device) (holds_whole log.torn_at (drop b.0 (held log)) (g.seen log.device) (k.whole some) (b.2 h))),
       )
 
   -- a log with these records, all that its device holds
-  pub of_these : (records : List Record) (device settled : L) (last size : ℕ) (torn_at : Option ℕ) (buffer : List ℕ) (capacity : ℕ) → AreSpelled records → last ≡ length records → size ≡ length (spelled records) → IsRead g settled device → (g.honest device → HoldsTo torn_at records (g.seen settled)) → buffer ≡ []
+  pub of_these : (records : List Record) (device settled : L) (last size : ℕ) (torn_at : Option ℕ) (buffer : List ℕ) (capacity : ℕ) → AreSpelled records → last ≡ length records → size ≡ length (spelled records) → IsRead g settled device → (g.honest device → HoldsTo torn_at (standing records) (g.seen settled)) → buffer ≡ []
       → Keeps g (record { records = records; forced = 0; pending = length buffer; reserved = 0; torn_at = torn_at; failed = false; device = device; settled = settled }) last size buffer capacity
   of_these records device settled last size torn_at buffer capacity are count long read holds none = record {
     is_log = record {
       spelled = are;
       order = omega arith;
-      leaves = λ h was c left. (0, omega arith, subst (EndsWith records) (sym (was c (read.leaves c left))) (holds_ends torn_at records (g.seen settled) (holds h)), λ some. absurd (omega (arith, some)));
+      based = λ some. absurd (omega (arith, some));
+      leaves = λ h was c left. (0, all_held 0 records (omega arith), subst (EndsWith records) (sym (was c (read.leaves c left))) (holds_ends torn_at (standing records) (g.seen settled) (holds h)), λ some. absurd (omega (arith, some)));
     };
     count = count;
     total = λ _. long;
     room = omega (arith, ap length none);
     whole = λ some. absurd (omega (arith, some));
-    buffered = λ _. (0, omega arith, λ h. subst (HoldsTo torn_at records) (sym read.same) (holds h), none);
+    buffered = λ _. (0, all_held 0 records (omega arith), λ h. subst (HoldsTo torn_at (standing records)) (sym read.same) (holds h), none);
   }
 
   -- a beginning of bytes that end with records is these with a torn end, if it holds them
-  cut_ends : (records : List Record) (seen c : List ℕ) (n : ℕ) → EndsWith records seen → length (spelled records) ≤ n → c ≡ take n seen → EndsWith records c
+  cut_ends : (records : List Record) (seen c : List ℕ) (n : ℕ) → EndsWithAll records seen → length (spelled_all records) ≤ n → c ≡ take n seen → EndsWithAll records c
   cut_ends records seen c n ends le is =
-      let m : ℕ = n - length (spelled records) in
-      let e : n ≡ length (spelled records) + m = omega (arith, le) in
+      let m : ℕ = n - length (spelled_all records) in
+      let e : n ≡ length (spelled_all records) + m = omega (arith, le) in
       let end : List ℕ = ends.0 in
       let b = ends.1 in
       let sum = length-append (drop m end) b.1 in
       let more : 0 < length b.1 = b.3 in (
         take m end,
         (b.0, drop m end ++ b.1, b.2, omega (arith, sum, more), b.4 ∙ ap (λ (l : List ℕ). l ++ b.1) (sym (take-append-drop m end)) ∙ append_assoc (take m end) (drop m end) b.1),
-        is ∙ ap (λ (k : ℕ). take k seen) e ∙ ap (take (length (spelled records) + m)) ends.2 ∙ take-append-add (spelled records) end m,
+        is ∙ ap (λ (k : ℕ). take k seen) e ∙ ap (take (length (spelled_all records) + m)) ends.2 ∙ take-append-add (spelled_all records) end m,
       )
 
   cut_first : (seen c : List ℕ) (n : ℕ) → c ≡ take n seen → GoOnTo c seen
   cut_first seen c n is = (drop n seen, sym (take-append-drop n seen) ∙ ap (λ (l : List ℕ). l ++ drop n seen) (sym is))
 
   -- what a cut behind the records leaves at each moment: what might be left before, or these with a torn end
-  pub cut_run : (records : List Record) (old new : L) (n : ℕ) (P : List ℕ → Type 0) → ((c : List ℕ) → g.left_since old (g.moment old) c → g.may_leave old c) → EndsWith records (g.seen old) → n ≡ length (spelled records)
+  pub cut_run : (records : List Record) (old new : L) (n : ℕ) (P : List ℕ → Type 0) → ((c : List ℕ) → g.left_since old (g.moment old) c → g.may_leave old c) → EndsWithAll records (g.seen old) → n ≡ length (spelled_all records)
       → CutOff (g.seen old) n (g.may_leave old) (g.may_leave new) → ElapsesThrough (g.moment old) (g.moment new) (g.left_since old) (g.left_since new) (g.may_leave new) (IsCutBetween (g.seen old) n)
-      → ((c : List ℕ) → g.may_leave old c → P c) → ((c : List ℕ) → EndsWith records c → GoOnTo c (g.seen old) → P c) → LeavesOnly g old new P
+      → ((c : List ℕ) → g.may_leave old c → P c) → ((c : List ℕ) → EndsWithAll records c → GoOnTo c (g.seen old) → P c) → LeavesOnly g old new P
   cut_run records old new n P only_now ends is crash time before short =
       let inside : (c : List ℕ) → IsCutBetween (g.seen old) n c → P c = λ c between. short c (cut_ends records (g.seen old) c between.0 ends (let le = between.1 in omega (arith, le, is)) between.2) (cut_first (g.seen old) c between.0 between.2) in
       let now : (c : List ℕ) → g.may_leave new c → P c = λ c may. ⊎_elim (before c) (inside c) (crash c may) in
@@ -184,33 +205,33 @@ module _ {L : Type 0} (g : Ghosts L) where
     newer = (k.buffered running).0
 
     abbrev older : List Record
-    older = drop newer log.records
+    older = drop newer (held log)
 
-    held : g.honest log.device → EndsWith older (g.seen log.device) × (end ≡ length (spelled older)) × (end < length (g.seen log.device))
-    held h = subst (λ (t : Option ℕ). HoldsTo t older (g.seen log.device)) torn ((k.buffered running).2 h)
+    reads : g.honest log.device → EndsWithAll older (g.seen log.device) × (end ≡ length (spelled_all older)) × (end < length (g.seen log.device))
+    reads h = subst (λ (t : Option ℕ). HoldsTo t older (g.seen log.device)) torn ((k.buffered running).2 h)
 
-    short_begins : (c : List ℕ) → EndsWith older c → IsBeginning log.records log.forced c
+    short_begins : (c : List ℕ) → EndsWithAll older c → IsBeginning log.records log.forced c
     short_begins c ends = (newer, (k.buffered running).1, ends, λ some. absurd (none_torn end (sym (k.whole some) ∙ torn)))
 
     cut_leaves : g.honest log.device → WasDurable g log → (c : List ℕ) → g.may_leave device c → IsBeginning log.records log.forced c
-    cut_leaves h was c may = ⊎_elim (k.is_log.leaves h was c) (λ between. short_begins c (cut_ends older (g.seen log.device) c between.0 (held h).0 (let le = between.1 in let e = (held h).1 in omega (arith, le, e)) between.2)) (crash c may)
+    cut_leaves h was c may = ⊎_elim (k.is_log.leaves h was c) (λ between. short_begins c (cut_ends older (g.seen log.device) c between.0 (reads h).0 (let le = between.1 in let e = (reads h).1 in omega (arith, le, e)) between.2)) (crash c may)
 
     -- at each moment
     pub cut_moments : ((c : List ℕ) → g.left_since log.device (g.moment log.device) c → g.may_leave log.device c) → ElapsesThrough (g.moment log.device) (g.moment device) (g.left_since log.device) (g.left_since device) (g.may_leave device) (IsCutBetween (g.seen log.device) end)
         → g.honest device → WasDurable g log → LeavesOnly g log.device device (IsBeginning log.records log.forced)
-    cut_moments only_now time h was = cut_run older log.device device end (IsBeginning log.records log.forced) only_now (held (falls h)).0 (held (falls h)).1 crash time (k.is_log.leaves (falls h) was) (λ c ends first. short_begins c ends)
+    cut_moments only_now time h was = cut_run older log.device device end (IsBeginning log.records log.forced) only_now (reads (falls h)).0 (reads (falls h)).1 crash time (k.is_log.leaves (falls h) was) (λ c ends first. short_begins c ends)
 
     pub cut_adds : ((c : List ℕ) → g.left_since log.device (g.moment log.device) c → g.may_leave log.device c) → ElapsesThrough (g.moment log.device) (g.moment device) (g.left_since log.device) (g.left_since device) (g.may_leave device) (IsCutBetween (g.seen log.device) end)
         → g.honest device → LeavesOnly g log.device device (WasLeftOrGoesOn g log)
-    cut_adds only_now time h = cut_run older log.device device end (WasLeftOrGoesOn g log) only_now (held (falls h)).0 (held (falls h)).1 crash time (λ c was. inl was)
-        (λ c ends first. inr (record { behind = newer; within = (k.buffered running).1; reads = (held (falls h)).0; lost = newer; some = omega arith; is = ends; from = inr first }))
+    cut_adds only_now time h = cut_run older log.device device end (WasLeftOrGoesOn g log) only_now (reads (falls h)).0 (reads (falls h)).1 crash time (λ c was. inl was)
+        (λ c ends first. inr (record { behind = newer; within = (k.buffered running).1; reads = (reads (falls h)).0; lost = newer; some = omega arith; is = ends; from = inr first }))
 
     -- the cut is made
-    cut_reads : g.seen device ≡ take end (g.seen log.device) → g.honest log.device → g.seen device ≡ spelled older
-    cut_reads is h = is ∙ ap (λ (n : ℕ). take n (g.seen log.device)) (held h).1 ∙ ap (take (length (spelled older))) (held h).0.2 ∙ take-append_seam (spelled older) (held h).0.0
+    cut_reads : g.seen device ≡ take end (g.seen log.device) → g.honest log.device → g.seen device ≡ spelled_all older
+    cut_reads is h = is ∙ ap (λ (n : ℕ). take n (g.seen log.device)) (reads h).1 ∙ ap (take (length (spelled_all older))) (reads h).0.2 ∙ take-append_seam (spelled_all older) (reads h).0.0
 
     pub was_cut : g.seen device ≡ take end (g.seen log.device) → g.honest device → WasCut g log device
-    was_cut is h = (newer, (k.buffered running).1, (held (falls h)).0, cut_reads is (falls h))
+    was_cut is h = (newer, (k.buffered running).1, (reads (falls h)).0, cut_reads is (falls h))
 
     pub cut_kept : g.seen device ≡ take end (g.seen log.device)
         → Keeps g (record { records = log.records; forced = log.forced; pending = length buffer; reserved = log.reserved; torn_at = None; failed = log.failed; device = device; settled = log.settled }) last total buffer capacity
@@ -218,6 +239,7 @@ module _ {L : Type 0} (g : Ghosts L) where
       is_log = record {
         spelled = k.is_log.spelled;
         order = k.is_log.order;
+        based = k.is_log.based;
         leaves = λ h. cut_leaves (falls h);
       };
       count = k.count;
@@ -235,5 +257,5 @@ module _ {L : Type 0} (g : Ghosts L) where
   pub none_cut : {total : ℕ} (log : Logged L) (last : ℕ) (buffer : List ℕ) (capacity : ℕ) → Keeps g log last total buffer capacity → log.failed ≡ false → log.torn_at ≡ None → g.honest log.device → WasCut g log log.device
   none_cut log last buffer capacity k running untorn h =
       let b = k.buffered running in
-      let whole = holds_whole log.torn_at (drop b.0 log.records) (g.seen log.device) untorn (b.2 h) in
-      (b.0, b.1, ends_all (drop b.0 log.records) (g.seen log.device) whole, whole)
+      let whole = holds_whole log.torn_at (drop b.0 (held log)) (g.seen log.device) untorn (b.2 h) in
+      (b.0, b.1, ends_all (drop b.0 (held log)) (g.seen log.device) whole, whole)

@@ -6,13 +6,13 @@ use Rattle.rq_model.specs.declared.record.Record.{Record}
 use Rattle.rq_record.specs.Decoding.{IsFront}
 use Rattle.rq_record.specs.Spelling.{HoldsRecord, IsRecord, spelling}
 use Rattle.rq_record.proofs.Whole.{long_spelling, one_spelling, short_spelling}
-use Rattle.rq_log.specs.Places.{IsPlace, NoneHeldFor, NoneReadFor, NotToldFor, StandsAt}
+use Rattle.rq_log.specs.Places.{IsPlace, IsPlaceAmong, NoneHeldFor, NoneReadFor, NotToldFor, StandsAmong}
 use Rattle.rq_model.specs.declared.refusal.Refusal.{Refusal}
 use Rattle.rq_model.specs.declared.refusal.Refusal.TheVariants as why
 use Rattle.rq_model.specs.declared.refusal.Damage.TheVariants as damage
 use Rattle.rq_disk.specs.declared.device.LogDevice.{Ghosts}
-use Rattle.rq_log.specs.Spelled.{spelled, AreSpelled, EndsWith}
-use Rattle.rq_log.specs.Logged.{Logged, Keeps}
+use Rattle.rq_log.specs.Spelled.{spelled, spelled_all, AreAllSpelled, EndsWithAll}
+use Rattle.rq_log.specs.Logged.{Logged, held, Keeps}
 use Rattle.rq_log.proofs.Runs.{holds_ends, spelled-append, spelled_whole}
 use Rattle.std.proofs.lemmas.Bool.{cases_lt}
 
@@ -24,28 +24,28 @@ one_front r s used bytes rest front is e =
     let size : used ≡ length (spelling s) = sym (length-take-le used bytes front.1) ∙ ap length front.2 ∙ ap (λ x. length (spelling x)) same in
     (same, size)
 
-AreSpelled-behind : (newer older : List Record) → AreSpelled (newer ++ older) → AreSpelled older
-AreSpelled-behind [] older are = are
-AreSpelled-behind (r ∷ newer) older are = AreSpelled-behind newer older are.1
+AreAllSpelled-behind : (newer older : List Record) → AreAllSpelled (newer ++ older) → AreAllSpelled older
+AreAllSpelled-behind [] older are = are
+AreAllSpelled-behind (r ∷ newer) older are = AreAllSpelled-behind newer older are.1
 
 -- the next record stands at the place where the older ones end
-next_stands : (newer older : List Record) (r : Record) → drop (length (spelled older)) (spelled (newer ++ (r ∷ older))) ≡ spelling r ++ spelled newer
+next_stands : (newer older : List Record) (r : Record) → drop (length (spelled_all older)) (spelled_all (newer ++ (r ∷ older))) ≡ spelling r ++ spelled_all newer
 next_stands newer older r =
-    ap (drop (length (spelled older))) (spelled-append newer (r ∷ older) ∙ append_assoc (spelled older) (spelling r) (spelled newer))
-    ∙ drop-append_seam (spelled older) (spelling r ++ spelled newer)
+    ap (drop (length (spelled_all older))) (spelled-append newer (r ∷ older) ∙ append_assoc (spelled_all older) (spelling r) (spelled_all newer))
+    ∙ drop-append_seam (spelled_all older) (spelling r ++ spelled_all newer)
 
-next_longer : (newer older : List Record) (r : Record) → length (spelled (r ∷ older)) ≤ length (spelled (newer ++ (r ∷ older)))
-next_longer newer older r = let a = ap length (spelled-append newer (r ∷ older)) in let b = length-append (spelled (r ∷ older)) (spelled newer) in omega (arith, a, b)
+next_longer : (newer older : List Record) (r : Record) → length (spelled_all (r ∷ older)) ≤ length (spelled_all (newer ++ (r ∷ older)))
+next_longer newer older r = let a = ap length (spelled-append newer (r ∷ older)) in let b = length-append (spelled_all (r ∷ older)) (spelled_all newer) in omega (arith, a, b)
 
-older_shorter : (count : ℕ) (rs : List Record) → length (spelled (drop count rs)) ≤ length (spelled rs)
+older_shorter : (count : ℕ) (rs : List Record) → length (spelled_all (drop count rs)) ≤ length (spelled_all rs)
 older_shorter zero rs = omega arith
 older_shorter (suc count) [] = omega arith
-older_shorter (suc count) (r ∷ rs) = let a = older_shorter count rs in let b = length-append (spelled rs) (spelling r) in omega (arith, a, b)
+older_shorter (suc count) (r ∷ rs) = let a = older_shorter count rs in let b = length-append (spelled_all rs) (spelling r) in omega (arith, a, b)
 
 -- of those that are handed over it stands there whole
-next_handed : (count : ℕ) (newer older : List Record) (r : Record) → length (spelled older) < length (spelled (drop count (newer ++ (r ∷ older))))
-    → (rest : List ℕ) × (drop (length (spelled older)) (spelled (drop count (newer ++ (r ∷ older)))) ≡ spelling r ++ rest)
-next_handed zero newer older r less = (spelled newer, next_stands newer older r)
+next_handed : (count : ℕ) (newer older : List Record) (r : Record) → length (spelled_all older) < length (spelled_all (drop count (newer ++ (r ∷ older))))
+    → (rest : List ℕ) × (drop (length (spelled_all older)) (spelled_all (drop count (newer ++ (r ∷ older)))) ≡ spelling r ++ rest)
+next_handed zero newer older r less = (spelled_all newer, next_stands newer older r)
 next_handed (suc count) [] older r less = let a = older_shorter count older in absurd (omega (arith, a, less))
 next_handed (suc count) (n ∷ newer) older r less = next_handed count newer older r less
 
@@ -55,39 +55,39 @@ last_of a [] older = ([], a, refl)
 last_of a (b ∷ newer) older = let p = last_of b newer older in (a ∷ p.0, p.1, ap (λ l. a ∷ l) p.2)
 
 -- behind a place that is not the end a record stands
-next_at : (records : List Record) (place : ℕ) → IsPlace records place → place ≢ length (spelled records)
-    → (newer : List Record) × (older : List Record) × (r : Record) × (records ≡ newer ++ (r ∷ older)) × (place ≡ length (spelled older))
-next_at records place ([], older, e, at) behind = absurd (behind (at ∙ ap (λ l. length (spelled l)) (sym e)))
+next_at : (records : List Record) (place : ℕ) → IsPlaceAmong records place → place ≢ length (spelled_all records)
+    → (newer : List Record) × (older : List Record) × (r : Record) × (records ≡ newer ++ (r ∷ older)) × (place ≡ length (spelled_all older))
+next_at records place ([], older, e, at) behind = absurd (behind (at ∙ ap (λ l. length (spelled_all l)) (sym e)))
 next_at records place (a ∷ newer, older, e, at) behind =
     let p = last_of a newer older in
     (p.0, older, p.1, e ∙ p.2, at)
 
 -- at the end there is none
-pub stands_none : (records : List Record) (place : ℕ) → AreSpelled records → place ≡ length (spelled records) → StandsAt records place None
+pub stands_none : (records : List Record) (place : ℕ) → AreAllSpelled records → place ≡ length (spelled_all records) → StandsAmong records place None
 stands_none records place are at = record {
   next = λ newer older r is from. absurd (
-      let a = long_spelling r (AreSpelled-behind newer (r ∷ older) (subst AreSpelled is are)).0 in
+      let a = long_spelling r (AreAllSpelled-behind newer (r ∷ older) (subst AreAllSpelled is are)).0 in
       let b = next_longer newer older r in
-      let c = ap (λ l. length (spelled l)) is in
-      let d = length-append (spelled older) (spelling r) in
+      let c = ap (λ l. length (spelled_all l)) is in
+      let d = length-append (spelled_all older) (spelling r) in
       omega (arith, a, b, c, d, at, from)
       );
   none = (λ _. at, λ _. refl);
 }
 
 -- elsewhere it is what stands in front of bytes in which each record of that place stands
-stands_some : (records : List Record) (place : ℕ) (r : Record) (used next : ℕ) (bytes : List ℕ) → AreSpelled records → place ≢ length (spelled records) → IsFront r used bytes
-    → ((newer older : List Record) (s : Record) → records ≡ newer ++ (s ∷ older) → place ≡ length (spelled older) → (rest : List ℕ) × (bytes ≡ spelling s ++ rest))
-    → next ≡ min (place + used) (2 ^ 64 - 1) → length (spelled records) < 2 ^ 64 → StandsAt records place (Some (r, next))
+stands_some : (records : List Record) (place : ℕ) (r : Record) (used next : ℕ) (bytes : List ℕ) → AreAllSpelled records → place ≢ length (spelled_all records) → IsFront r used bytes
+    → ((newer older : List Record) (s : Record) → records ≡ newer ++ (s ∷ older) → place ≡ length (spelled_all older) → (rest : List ℕ) × (bytes ≡ spelling s ++ rest))
+    → next ≡ min (place + used) (2 ^ 64 - 1) → length (spelled_all records) < 2 ^ 64 → StandsAmong records place (Some (r, next))
 stands_some records place r used next bytes are behind front there goes few = record {
   next = λ newer older s is from.
-      let fit = (AreSpelled-behind newer (s ∷ older) (subst AreSpelled is are)).0 in
+      let fit = (AreAllSpelled-behind newer (s ∷ older) (subst AreAllSpelled is are)).0 in
       let stands = there newer older s is from in
       let same = one_front r s used bytes stands.0 front fit stands.1 in
-      let size = length-append (spelled older) (spelling s) in
+      let size = length-append (spelled_all older) (spelling s) in
       let longer = next_longer newer older s in
-      let all = ap (λ l. length (spelled l)) is in
-      let behind : next ≡ length (spelled older ++ spelling s) = omega (arith, size, from, same.1, goes, longer, all, few) in
+      let all = ap (λ l. length (spelled_all l)) is in
+      let behind : next ≡ length (spelled_all older ++ spelling s) = omega (arith, size, from, same.1, goes, longer, all, few) in
       ap (λ x. Some (x, next)) same.0 ∙ ap (λ n. Some (s, n)) behind;
   none = (λ e. absurd cc, λ at. absurd (behind at));
 }
@@ -133,53 +133,53 @@ module _ {L : Type 0} (g : Ghosts L) where
   module _ {total : ℕ} (log : Logged L) (last : ℕ) (buffer : List ℕ) (capacity : ℕ) (k : Keeps g log last total buffer capacity) (running : log.failed ≡ false) (handed place : ℕ) (is : handed ≡ total - length buffer) (behind : place ≢ total)
       (h : g.honest log.device) (few : length (spelled log.records) < 2 ^ 64) where
     abbrev older : List Record
-    older = drop (k.buffered running).0 log.records
+    older = drop (k.buffered running).0 (held log)
 
-    ends : EndsWith older (g.seen log.device)
+    ends : EndsWithAll older (g.seen log.device)
     ends = holds_ends log.torn_at older (g.seen log.device) ((k.buffered running).2 h)
 
-    whole : spelled older ++ buffer ≡ spelled log.records
-    whole = ap (λ (l : List ℕ). spelled older ++ l) (k.buffered running).3 ∙ spelled_whole (k.buffered running).0 log.records
+    whole : spelled_all older ++ buffer ≡ spelled log.records
+    whole = ap (λ (l : List ℕ). spelled_all older ++ l) (k.buffered running).3 ∙ spelled_whole (k.buffered running).0 (held log)
 
-    seen : handed ≡ length (spelled older)
-    seen = let size = k.total few in let sum = length-append (spelled older) buffer in let e = ap length whole in omega (arith, is, size, sum, e)
+    seen : handed ≡ length (spelled_all older)
+    seen = let size = k.total few in let sum = length-append (spelled_all older) buffer in let e = ap length whole in omega (arith, is, size, sum, e)
 
     on_it : handed ≤ length (g.seen log.device)
-    on_it = let sum = length-append (spelled older) ends.0 in let e = ap length ends.2 in let n = seen in omega (arith, sum, e, n)
+    on_it = let sum = length-append (spelled_all older) ends.0 in let e = ap length ends.2 in let n = seen in omega (arith, sum, e, n)
 
     not_end : place ≢ length (spelled log.records)
     not_end e = behind (e ∙ sym (k.total few))
 
     -- a record of that place stands on the device, whole
-    on_device_there : place < handed → (newer old : List Record) (s : Record) → log.records ≡ newer ++ (s ∷ old) → place ≡ length (spelled old) → (rest : List ℕ) × (drop place (g.seen log.device) ≡ spelling s ++ rest)
+    on_device_there : place < handed → (newer old : List Record) (s : Record) → (held log) ≡ newer ++ (s ∷ old) → place ≡ length (spelled_all old) → (rest : List ℕ) × (drop place (g.seen log.device) ≡ spelling s ++ rest)
     on_device_there less newer old s e at =
-        let n = next_handed (k.buffered running).0 newer old s (subst (λ l. length (spelled old) < length (spelled (drop (k.buffered running).0 l))) e (subst (λ m. m < length (spelled older)) at (subst (λ m. place < m) seen less))) in (
+        let n = next_handed (k.buffered running).0 newer old s (subst (λ l. length (spelled_all old) < length (spelled_all (drop (k.buffered running).0 l))) e (subst (λ m. m < length (spelled_all older)) at (subst (λ m. place < m) seen less))) in (
           n.0 ++ ends.0,
-          ap (drop place) ends.2 ∙ drop-append-le place (spelled older) ends.0 (let m = seen in omega (arith, less, m))
-              ∙ ap (λ l. l ++ ends.0) (ap (λ m. drop m (spelled older)) at ∙ ap (λ l. drop (length (spelled old)) (spelled (drop (k.buffered running).0 l))) e ∙ n.1) ∙ append_assoc (spelling s) n.0 ends.0,
+          ap (drop place) ends.2 ∙ drop-append-le place (spelled_all older) ends.0 (let m = seen in omega (arith, less, m))
+              ∙ ap (λ l. l ++ ends.0) (ap (λ m. drop m (spelled_all older)) at ∙ ap (λ l. drop (length (spelled_all old)) (spelled_all (drop (k.buffered running).0 l))) e ∙ n.1) ∙ append_assoc (spelling s) n.0 ends.0,
         )
 
     -- or in the buffer
-    buffered_there : handed ≤ place → (newer old : List Record) (s : Record) → log.records ≡ newer ++ (s ∷ old) → place ≡ length (spelled old) → (rest : List ℕ) × (drop (place - handed) buffer ≡ spelling s ++ rest)
+    buffered_there : handed ≤ place → (newer old : List Record) (s : Record) → (held log) ≡ newer ++ (s ∷ old) → place ≡ length (spelled_all old) → (rest : List ℕ) × (drop (place - handed) buffer ≡ spelling s ++ rest)
     buffered_there le newer old s e at = (
-      spelled newer,
-      ap (λ n. drop (place - n) buffer) seen ∙ behind_seen (spelled older) buffer place (let m = seen in omega (arith, le, m)) ∙ ap (drop place) whole
-          ∙ ap (λ n. drop n (spelled log.records)) at ∙ ap (λ l. drop (length (spelled old)) (spelled l)) e ∙ next_stands newer old s,
+      spelled_all newer,
+      ap (λ n. drop (place - n) buffer) seen ∙ behind_seen (spelled_all older) buffer place (let m = seen in omega (arith, le, m)) ∙ ap (drop place) whole
+          ∙ ap (λ n. drop n (spelled log.records)) at ∙ ap (λ l. drop (length (spelled_all old)) (spelled_all l)) e ∙ next_stands newer old s,
     )
 
     pub told : (next : ℕ) (r : Record) (used : ℕ) → (place < handed → IsFront r used (drop place (g.seen log.device))) → (handed ≤ place → IsFront r used (drop (place - handed) buffer)) → next ≡ min (place + used) (2 ^ 64 - 1)
-        → StandsAt log.records place (Some (r, next))
+        → StandsAmong (held log) place (Some (r, next))
     told next r used on_device buffered goes = ⊎_elim
-        (λ less. stands_some log.records place r used next (drop place (g.seen log.device)) k.is_log.spelled not_end (on_device less) (on_device_there less) goes few)
-        (λ le. stands_some log.records place r used next (drop (place - handed) buffer) k.is_log.spelled not_end (buffered le) (buffered_there le) goes few)
+        (λ less. stands_some (held log) place r used next (drop place (g.seen log.device)) k.is_log.spelled not_end (on_device less) (on_device_there less) goes few)
+        (λ le. stands_some (held log) place r used next (drop (place - handed) buffer) k.is_log.spelled not_end (buffered le) (buffered_there le) goes few)
         (cases_lt place handed)
 
     -- where none does, the place is none of the log's
-    not_there : (bytes : List ℕ) → ((newer old : List Record) (s : Record) → log.records ≡ newer ++ (s ∷ old) → place ≡ length (spelled old) → (rest : List ℕ) × (bytes ≡ spelling s ++ rest)) → (HoldsRecord bytes → ⊥) → IsPlace log.records place → ⊥
+    not_there : (bytes : List ℕ) → ((newer old : List Record) (s : Record) → (held log) ≡ newer ++ (s ∷ old) → place ≡ length (spelled_all old) → (rest : List ℕ) × (bytes ≡ spelling s ++ rest)) → (HoldsRecord bytes → ⊥) → IsPlaceAmong (held log) place → ⊥
     not_there bytes there none at =
-        let p = next_at log.records place at not_end in
+        let p = next_at (held log) place at not_end in
         let n = there p.0 p.1 p.2 p.3 p.4 in
-        none (p.2, n.0, (AreSpelled-behind p.0 (p.2 ∷ p.1) (subst AreSpelled p.3 k.is_log.spelled)).0, n.1)
+        none (p.2, n.0, (AreAllSpelled-behind p.0 (p.2 ∷ p.1) (subst AreAllSpelled p.3 k.is_log.spelled)).0, n.1)
 
   -- and where none does, the place is none of the log's
   pub why_not_told : {total : ℕ} (log : Logged L) (last : ℕ) (buffer : List ℕ) (capacity : ℕ) → Keeps g log last total buffer capacity → log.failed ≡ false → (handed place : ℕ) → handed ≡ total - length buffer → place ≢ total

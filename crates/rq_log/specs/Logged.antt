@@ -1,12 +1,13 @@
 -- What contracts see of a log.
-use Rattle.std.specs.Prelude.{◌≡◌, ◌⊎◌, ℕ, ◌+◌, ◌^◌, ◌<◌, ◌≤◌, Bool, false, Option, None, List, length, drop, take}
+use Rattle.std.specs.Prelude.{◌≡◌, ◌⊎◌, ℕ, ◌+◌, ◌-◌, ◌^◌, ◌<◌, ◌≤◌, Bool, false, Option, None, List, length, drop, take}
 use Rattle.rq_model.specs.declared.record.Record.{Record}
+use Rattle.rq_model.specs.Bases.{standing, gone}
 use Rattle.rq_disk.specs.Device.{Only}
 use Rattle.rq_disk.specs.declared.device.LogDevice.{Ghosts}
-use Rattle.rq_log.specs.Spelled.{spelled, AreSpelled, EndsWith, HoldsTo, IsBeginning, GoesOn}
+use Rattle.rq_log.specs.Spelled.{spelled, spelled_all, AreSpelled, EndsWithAll, HoldsTo, IsBeginning, GoesOn}
 
 pub record Logged (L : Type 0) : Type 0 where
-  -- the records, the newest first; those that are not handed over yet are among them
+  -- the records, the newest first; those that are not handed over yet are among them, and those that a Base stands for
   pub records : List Record
   -- how many of them, from the oldest on, are forced
   pub forced : ℕ
@@ -22,6 +23,14 @@ pub record Logged (L : Type 0) : Type 0 where
   -- the device as it was when the records were read of it, or when they were last forced
   pub settled : L
 
+-- what stands on a device, or is to
+abbrev pub held : {L : Type 0} → Logged L → List Record
+held log = standing log.records
+
+-- how many of those are forced
+abbrev pub kept : {L : Type 0} → Logged L → ℕ
+kept log = log.forced - gone log.records
+
 module _ {L : Type 0} (g : Ghosts L) where
   -- at that moment a crash would have left what the device reads as, and nothing else
   abbrev pub WasDurable : Logged L → Type 0
@@ -34,24 +43,26 @@ module _ {L : Type 0} (g : Ghosts L) where
   -- a crash might have left it of the log before, or it is what was read then with the first of the records that were
   -- not handed over
   abbrev pub WasLeftOrGoesOn : Logged L → List ℕ → Type 0
-  WasLeftOrGoesOn log c = g.may_leave log.device c ⊎ GoesOn log.records log.forced (g.seen log.device) c
+  WasLeftOrGoesOn log c = g.may_leave log.device c ⊎ GoesOn (held log) (kept log) (g.seen log.device) c
 
   -- the first held some of the records, with a torn end perhaps, and the second these alone
   abbrev pub WasCut : Logged L → L → Type 0
-  WasCut log device = (count : ℕ) × (count + log.forced ≤ length log.records)
-      × EndsWith (drop count log.records) (g.seen log.device) × (g.seen device ≡ spelled (drop count log.records))
+  WasCut log device = (count : ℕ) × (count + kept log ≤ length (held log))
+      × EndsWithAll (drop count (held log)) (g.seen log.device) × (g.seen device ≡ spelled_all (drop count (held log)))
 
   -- what is so of each log
   pub record IsLog (log : Logged L) : Type 0 where
     pub spelled : AreSpelled log.records
     pub order : log.forced ≤ length log.records
+    -- what a Base stands for is forced, and so is the Base, once anything is
+    pub based : 0 < log.forced → gone log.records < log.forced
     pub leaves : g.honest log.device → WasDurable log → LeavesBeginnings log
 
   -- the newest records stand in a buffer, and an honest device holds the others
   abbrev pub IsBuffered : Logged L → List ℕ → Type 0
-  IsBuffered log buffer = (count : ℕ) × (count + log.forced ≤ length log.records)
-      × (g.honest log.device → HoldsTo log.torn_at (drop count log.records) (g.seen log.device))
-      × (buffer ≡ spelled (take count log.records))
+  IsBuffered log buffer = (count : ℕ) × (count + kept log ≤ length (held log))
+      × (g.honest log.device → HoldsTo log.torn_at (drop count (held log)) (g.seen log.device))
+      × (buffer ≡ spelled_all (take count (held log)))
 
   -- what is so of its fields
   pub record Keeps (log : Logged L) (last size : ℕ) (buffer : List ℕ) (capacity : ℕ) : Type 0 where
@@ -60,5 +71,5 @@ module _ {L : Type 0} (g : Ghosts L) where
     pub total : length (spelled log.records) < 2 ^ 64 → size ≡ length (spelled log.records)
     pub room : length buffer + log.reserved ≤ capacity
     -- a force is behind the cut
-    pub whole : 0 < log.forced → log.torn_at ≡ None
+    pub whole : 0 < kept log → log.torn_at ≡ None
     pub buffered : log.failed ≡ false → IsBuffered log buffer

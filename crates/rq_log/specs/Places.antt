@@ -6,19 +6,27 @@ use Rattle.rq_model.specs.declared.refusal.Refusal.TheVariants as why
 use Rattle.rq_model.specs.declared.refusal.Damage.TheVariants as damage
 use Rattle.rq_disk.specs.declared.device.LogDevice.{Ghosts}
 use Rattle.rq_record.specs.Spelling.{HoldsRecord}
-use Rattle.rq_log.specs.Spelled.{spelled}
+use Rattle.rq_model.specs.Bases.{standing}
+use Rattle.rq_log.specs.Spelled.{spelled, spelled_all}
 
 -- the first of these records end there
-abbrev pub IsPlace : List Record → ℕ → Type 0
-IsPlace records place = (newer : List Record) × (older : List Record) × (records ≡ newer ++ older)
-    × (place ≡ length (spelled older))
+abbrev pub IsPlaceAmong : List Record → ℕ → Type 0
+IsPlaceAmong records place = (newer : List Record) × (older : List Record) × (records ≡ newer ++ older)
+    × (place ≡ length (spelled_all older))
 
 -- It is what stands at a place: behind the records that end there the next one, with the place where that ends; none
 -- exactly at the end of all.
-pub record StandsAt (records : List Record) (place : ℕ) (found : Option (Record × ℕ)) : Type 0 where
-  pub next : (newer older : List Record) (r : Record) → records ≡ newer ++ (r ∷ older) → place ≡ length (spelled older)
-      → found ≡ Some (r, length (spelled (r ∷ older)))
-  pub none : (found ≡ None) ↔ (place ≡ length (spelled records))
+pub record StandsAmong (records : List Record) (place : ℕ) (found : Option (Record × ℕ)) : Type 0 where
+  pub next : (newer older : List Record) (r : Record) → records ≡ newer ++ (r ∷ older) → place ≡ length (spelled_all older)
+      → found ≡ Some (r, length (spelled_all (r ∷ older)))
+  pub none : (found ≡ None) ↔ (place ≡ length (spelled_all records))
+
+-- the same of what stands of a log on a device
+abbrev pub IsPlace : List Record → ℕ → Type 0
+IsPlace log place = IsPlaceAmong (standing log) place
+
+abbrev pub StandsAt : List Record → ℕ → Option (Record × ℕ) → Type 0
+StandsAt log place found = StandsAmong (standing log) place found
 
 module _ {L : Type 0} (g : Ghosts L) where
   -- why no record was read at the front of bytes

@@ -1,17 +1,18 @@
 -- What is read of a device.
-use Rattle.std.specs.Prelude.{◌≡◌, ◌≢◌, ◌⊎◌, ℕ, ◌+◌, ◌%◌, ◌^◌, ◌≤◌, Bool, true, List, [], ◌++◌, length, drop}
+use Rattle.std.specs.Prelude.{◌≡◌, ◌≢◌, ◌⊎◌, ℕ, ◌+◌, ◌%◌, ◌^◌, ◌≤◌, Bool, true, false, List, [], ◌++◌, length, drop}
 use Rattle.rq_model.specs.declared.record.Record.{Record}
 use Rattle.rq_model.specs.declared.refusal.Refusal.{Refusal}
 use Rattle.rq_model.specs.declared.refusal.Refusal.TheVariants as why
 use Rattle.rq_model.specs.declared.refusal.Damage.TheVariants as damage
 use Rattle.rq_disk.specs.declared.device.LogDevice.{Ghosts}
 use Rattle.rq_record.specs.Spelling.{HoldsRecord, BeginsRecord}
+use Rattle.rq_model.specs.Bases.{IsMarked, is_base, with_next}
 use Rattle.rq_log.specs.Crash.{LeavesOnly}
 use Rattle.rq_log.specs.Spelled.{spelled, AreSpelled}
 
 -- a device that is read record by record
 pub record LogRead (L : Type 0) : Type 0 where
-  -- the records that were read, the newest first
+  -- the records that were read, the newest first, and those that a Base among them stands for
   pub records : List Record
   -- how many bytes behind them were read too
   pub left : ℕ
@@ -35,12 +36,18 @@ pub record EndsShort (records : List Record) (left : ℕ) (bytes : List ℕ) : T
   pub long : length end ≡ left
   pub is : bytes ≡ spelled records ++ end
 
--- behind these records no record stands, nor a proper beginning of one
+-- behind these records no record stands, nor a proper beginning of one; or a Base does, which has to be the first
 pub record IsDamagedBehind (records : List Record) (bytes : List ℕ) : Type 0 where
   pub rest : List ℕ
-  pub bad : HoldsRecord rest → ⊥
+  pub bad : (h : HoldsRecord rest) → (is_base h.0 ≡ true) × (records ≢ [])
   pub no_beginning : BeginsRecord rest → ⊥
   pub is : bytes ≡ spelled records ++ rest
+
+-- what a record that is read behind so many counts: one more, or, if it is a Base, which has to be the first, all that it stands for
+pub record IsReadBehind (last : ℕ) (r : Record) (lsn : ℕ) : Type 0 where
+  pub first : (is_base r ≡ false) ⊎ (last ≡ 0)
+  pub counts : (log : List Record) → length log ≡ last → lsn ≡ length (with_next r log)
+  pub few : lsn ≤ 2 ^ 50
 
 -- bytes of a device: those that were read and are not taken, and how many were read
 pub record Streamed (L : Type 0) : Type 0 where
@@ -74,6 +81,7 @@ module _ {L : Type 0} (g : Ghosts L) where
   -- what is so of each device that is read
   pub record IsReading (r : LogRead L) : Type 0 where
     pub are_spelled : AreSpelled r.records
+    pub marked : IsMarked r.records
     pub begins : g.honest r.device → BeginsWith r.records (g.seen r.first)
     pub read : IsRead r.first r.device
 
@@ -95,6 +103,7 @@ module _ {L : Type 0} (g : Ghosts L) where
   -- what is so of the fields of a reader
   pub record KeepsRead (records : List Record) (s : Streamed L) (first : L) (last : ℕ) : Type 0 where
     pub are_spelled : AreSpelled records
+    pub marked : IsMarked records
     pub count : last ≡ length records
     pub few : last ≤ 2 ^ 50
     pub place : s.at ≡ length (spelled records) + length s.unread

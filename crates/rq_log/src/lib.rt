@@ -2,6 +2,7 @@
 #![tactic(auto)]
 
 ghost use Rattle.std.specs.Prelude.{◌≡◌, ◌+◌, ◌-◌, ◌^◌, ◌<◌, ◌≤◌, ◌∷◌, None, OnOk, OnErr, IfOk, IfErr, IsErrOf, true, false, length};
+ghost use Rattle.rq_model.specs.Bases.{is_base, standing};
 ghost use Rattle.rq_disk.specs.Device.{Only, FailureIsCounted};
 ghost use Rattle.rq_record.specs.Spelling.{IsInRange, spelling};
 ghost use Rattle.rq_log.specs.Crash.{LeavesOnly};
@@ -9,11 +10,12 @@ ghost use Rattle.rq_log.specs.Logged.{IsLog, WasCut, WasDurable, WasLeftOrGoesOn
 ghost use Rattle.rq_log.specs.Spelled.{spelled, AreSpelled, HoldsTo, IsBeginning};
 
 mod looking;
+mod past;
 mod reading;
 mod stream;
 
+use crate::past::Past;
 pub use crate::reading::LogReader;
-use rq_bytes::GhostList;
 use rq_disk::LogDevice;
 use rq_model::record::Record;
 use rq_model::refusal::{NoMemory, Refusal};
@@ -29,7 +31,7 @@ pub struct Log<L: LogDevice> {
     device: L,
     // the device as it was when its records were read, or when they were last forced
     settled: Snapshot<L>,
-    past: Snapshot<GhostList<Record>>,
+    past: Past,
     buffer: Vec<u8>,
     reserved: usize,
     last: Lsn,
@@ -48,7 +50,7 @@ impl<L: LogDevice> Model for Log<L> {
     ghost Value = { Logged L };
 
     ghost view = { λ l. record {
-      records = l.past.value;
+      records = l.past;
       forced = l.forced;
       pending = length l.buffer.items;
       reserved = l.reserved;
@@ -59,7 +61,7 @@ impl<L: LogDevice> Model for Log<L> {
     } };
 
     ghost invariant = { λ l. Keeps L.LogDevice (record {
-      records = l.past.value;
+      records = l.past;
       forced = l.forced;
       pending = length l.buffer.items;
       reserved = l.reserved;
@@ -86,18 +88,18 @@ impl<L: LogDevice + Drop> Log<L> {
         alloc: Global,
         device: L,
         settled: Snapshot<L>,
-        past: Snapshot<GhostList<Record>>,
+        past: Past,
         last: Lsn,
         size: u64,
         torn_at: Option<u64>,
     ) -> Log<L>
-        requires spelled { AreSpelled past.value }
-        requires count { last ≡ length past.value }
-        requires size { size ≡ length (spelled past.value) }
+        requires spelled { AreSpelled past }
+        requires count { last ≡ length past }
+        requires size { size ≡ length (spelled past) }
         requires read { IsRead L.LogDevice settled.value device }
-        requires holds { L.honest device → HoldsTo torn_at past.value (L.seen settled.value) }
+        requires holds { L.honest device → HoldsTo torn_at (standing past) (L.seen settled.value) }
         ensures { result ≡ record {
-          records = past.value;
+          records = past;
           forced = 0;
           pending = 0;
           reserved = 0;
@@ -198,6 +200,7 @@ impl<L: LogDevice> Log<L> {
         requires room { length (spelling added.now) ≤ self.old.reserved }
         requires count { length self.old.records < 2 ^ 64 - 1 }
         requires running { self.old.failed ≡ false }
+        requires plain { is_base added.now ≡ false }
         // The log with the record.
         ensures lsn { result ≡ length self.new.records }
         ensures records { self.new.records ≡ added.now ∷ self.old.records }
@@ -215,7 +218,7 @@ impl<L: LogDevice> Log<L> {
         self.reserved -= spelled;
         self.size = self.size.saturating_add(spelled as u64);
         encode(added, &mut self.buffer).unwrap();
-        GhostList::push(&mut self.past, added);
+        self.past.add(added);
         self.last += 1;
         self.last
     }

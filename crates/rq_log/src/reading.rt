@@ -1,11 +1,13 @@
 //! Reads the records of a device, one after the other.
-ghost use Rattle.std.specs.Prelude.{◌≡◌, ◌^◌, ◌≤◌, ◌∷◌, None, IfOk, IfErr, IfSome, IfNone, OnOk, OnErr, length};
+ghost use Rattle.std.specs.Prelude.{◌≡◌, ◌≢◌, ◌⊎◌, ◌^◌, ◌<◌, ◌≤◌, None, IfOk, IfErr, IfSome, IfNone, OnOk, OnErr, [], length, true, false};
 ghost use Rattle.std.specs.Bool.{OnTrue, OnFalse};
-ghost use Rattle.rq_log.specs.Reading.{EndsShort, IsReading, StopsFor};
+ghost use Rattle.rq_model.specs.Bases.{is_base, with_next};
+ghost use Rattle.rq_record.specs.Spelling.{IsInRange};
+ghost use Rattle.rq_log.specs.Reading.{EndsShort, IsReadBehind, IsReading, StopsFor};
 
+use crate::past::Past;
 use crate::stream::Stream;
 use crate::{Log, RefusedLog};
-use rq_bytes::GhostList;
 use rq_disk::LogDevice;
 use rq_model::limits::LOG_LIMIT;
 use rq_model::record::Record;
@@ -22,7 +24,7 @@ pub struct LogReader<L: LogDevice> {
     stream: Stream<L>,
     // the device as it was before
     first: Snapshot<L>,
-    past: Snapshot<GhostList<Record>>,
+    past: Past,
     last: Lsn,
 }
 
@@ -33,13 +35,13 @@ impl<L: LogDevice> Model for LogReader<L> {
     ghost Value = { LogRead L };
 
     ghost view = { λ r. record {
-      records = r.past.value;
+      records = r.past;
       left = length r.stream.unread;
       device = r.stream.device;
       first = r.first.value;
     } };
 
-    ghost invariant = { λ r. KeepsRead L.LogDevice r.past.value r.stream r.first.value r.last };
+    ghost invariant = { λ r. KeepsRead L.LogDevice r.past r.stream r.first.value r.last };
 }
 
 impl<L: LogDevice + Drop> LogReader<L> {
@@ -58,7 +60,7 @@ impl<L: LogDevice + Drop> LogReader<L> {
         Ok(LogReader {
             stream,
             first,
-            past: GhostList::empty(),
+            past: Past::none(),
             last: 0,
         })
     }
@@ -122,7 +124,7 @@ impl<L: LogDevice> LogReader<L> {
         self.stream.unread().len()
     }
 
-    /// The LSN of the last record that was read: how many were.
+    /// The LSN of the last record that was read: how many were, with those that a Base stands for.
     pub fn last(&self) -> Lsn
         ensures { result ≡ length self.now.records }
     {
@@ -135,7 +137,7 @@ impl<L: LogDevice> LogReader<L> {
     /// Those of `next_into`.
     pub fn next(&mut self) -> Result<Option<Record>, Refusal>
         // What is read then.
-        ensures some { IfOk result (λ next. IfSome next (λ r. self.new.records ≡ r ∷ self.old.records)) }
+        ensures some { IfOk result (λ next. IfSome next (λ r. self.new.records ≡ with_next r self.old.records)) }
         ensures none { IfOk result (λ next. IfNone next ((self.new.records ≡ self.old.records)
             × (L.honest self.new.device → EndsShort self.new.records self.new.left (L.seen self.new.first)))) }
         ensures bound { IfOk result (λ next. IfNone next (2 ^ 50 ≤ length self.old.records → self.new.left ≡ 0)) }
@@ -161,10 +163,12 @@ impl<L: LogDevice> LogReader<L> {
     ///
     /// # Errors
     /// `Damaged` with the LSN of the next record, where what is left begins with no record, nor is a proper beginning of
-    /// one; `DiskRead`; `LogFull` where bytes are left behind as many records as a log may have.
+    /// one, or with a Base behind others; `DiskRead`; `LogFull` where bytes are left behind as many records as a log may
+    /// have.
     pub fn next_into(&mut self, into: &mut Record) -> Result<bool, Refusal>
         // What is read then.
-        ensures some { IfOk result (λ found. OnTrue found (self.new.records ≡ into.new ∷ self.old.records)) }
+        ensures some { IfOk result (λ found. OnTrue found (self.new.records ≡ with_next into.new self.old.records)) }
+        ensures oldest { IfOk result (λ found. OnTrue found ((is_base into.new ≡ false) ⊎ (self.old.records ≡ []))) }
         ensures none { IfOk result (λ found. OnFalse found ((self.new.records ≡ self.old.records)
             × (L.honest self.new.device → EndsShort self.new.records self.new.left (L.seen self.new.first)))) }
         ensures bound { IfOk result (λ found. OnFalse found (2 ^ 50 ≤ length self.old.records → self.new.left ≡ 0)) }
@@ -185,7 +189,8 @@ impl<L: LogDevice> LogReader<L> {
     // Reads the next record; what it says but what is so of each reader.
     fn read_next(&mut self, into: &mut Record) -> Result<bool, Refusal>
         // What is read then.
-        ensures some { IfOk result (λ found. OnTrue found (self.new.records ≡ into.new ∷ self.old.records)) }
+        ensures some { IfOk result (λ found. OnTrue found (self.new.records ≡ with_next into.new self.old.records)) }
+        ensures oldest { IfOk result (λ found. OnTrue found ((is_base into.new ≡ false) ⊎ (self.old.records ≡ []))) }
         ensures none { IfOk result (λ found. OnFalse found ((self.new.records ≡ self.old.records)
             × (L.honest self.new.device → EndsShort self.new.records self.new.left (L.seen self.new.first)))) }
         ensures bound { IfOk result (λ found. OnFalse found (2 ^ 50 ≤ length self.old.records → self.new.left ≡ 0)) }
@@ -205,13 +210,30 @@ impl<L: LogDevice> LogReader<L> {
         }
         match decode_into(self.stream.unread(), into) {
             Decoded::Record(used) => {
+                let Some(lsn) = lsn_behind(self.last, into) else {
+                    return Err(Refusal::Damaged(Damage::Record(self.last + 1)));
+                };
                 self.stream.skip(used);
-                GhostList::push(&mut self.past, into);
-                self.last += 1;
+                self.past.add(into);
+                self.last = lsn;
                 Ok(true)
             }
             Decoded::Short => Ok(false),
             Decoded::Bad => Err(Refusal::Damaged(Damage::Record(self.last + 1))),
         }
+    }
+}
+
+// The LSN of a record that was read behind so many, unless it is a Base and not the first.
+fn lsn_behind(last: Lsn, record: &Record) -> Option<Lsn>
+    requires few { last < 2 ^ 50 }
+    requires range { IsInRange record.now }
+    ensures some { IfSome result (λ lsn. IsReadBehind last record.now lsn) }
+    ensures none { IfNone result ((is_base record.now ≡ true) × (last ≢ 0)) }
+{
+    match record {
+        Record::Base { .. } if last > 0 => None,
+        Record::Base { records, .. } => Some(*records + 1),
+        _ => Some(last + 1),
     }
 }

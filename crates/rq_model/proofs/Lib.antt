@@ -20,3 +20,4 @@ pub mod Bridges
 pub mod Sent
 pub mod JudgedRefusals
 pub mod JudgedLogs
+pub mod Bases

@@ -52,10 +52,11 @@ abbrev pub AreBased : List Record → Type 0
 AreBased [] = Unit {0}
 AreBased (r ∷ log) = IsBased r × AreBased log
 
--- what a restart adds: no Commit and no OpEnd
+-- what a restart adds: no Commit, no OpEnd and no Base
 abbrev pub is_plain : Record → Bool
 is_plain (Commit t) = false
 is_plain (OpEnd t n level deed) = false
+is_plain (Base many i) = false
 is_plain _ = true
 
 abbrev pub ArePlain : List Record → Type 0

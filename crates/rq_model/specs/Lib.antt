@@ -10,6 +10,7 @@ pub mod Replay
 pub mod Causes
 pub mod Counts
 pub mod Incarnations
+pub mod Bases
 pub mod Promises
 pub mod Worked
 pub mod WorkedRefusals

@@ -36,7 +36,10 @@ use Rattle.rq_restart.specs.Aborting.IsBadStep.{BadDue, BadRecord}
 use Rattle.rq_restart.specs.Repeating.{ArePagesCounted, Belongs, IsRecordRedone, Paged, paged, slots_on}
 use Rattle.rq_restart.specs.Undoing.{StepStops}
 use Rattle.rq_log.specs.Spelled.{AreSpelled}
-use Rattle.rq_log.proofs.Runs.{AreSpelled-drop}
+use Rattle.rq_model.specs.Incarnations.{AreBased}
+use Rattle.rq_log.specs.Spelled.{AreAllSpelled}
+use Rattle.rq_log.proofs.Runs.{AreAllSpelled-drop}
+use Rattle.rq_log.proofs.Parsing.{told_all}
 use Rattle.rq_restart.proofs.Repeated.{counted_more}
 
 -- ---- rounds
@@ -168,11 +171,11 @@ rounds_extend log (r ∷ rs) = round_extends log (after_rounds rs log) r (rounds
 pub aborting_extends : (log now : List Record) → AbortsBehind log now → Extends log now
 aborting_extends log now a = subst (Extends log) a.are (rounds_extend log a.rounds)
 
--- the log before them was spelled
-pub spelled_before : (log now : List Record) → AbortsBehind log now → AreSpelled now → AreSpelled log
-spelled_before log now a h =
+-- the log before them was spelled, where no Base is in them
+pub spelled_before : (log now : List Record) → AbortsBehind log now → AreBased now → AreSpelled now → AreAllSpelled log
+spelled_before log now a plain h =
     let e = aborting_extends log now a in
-    subst AreSpelled (drop_at e.0 log (length e.0) refl) (AreSpelled-drop (length e.0) (e.0 ++ log) (subst AreSpelled (sym e.1) h))
+    subst AreAllSpelled (drop_at e.0 log (length e.0) refl) (AreAllSpelled-drop (length e.0) (e.0 ++ log) (subst AreAllSpelled (sym e.1) (told_all now plain h)))
 
 same_writes : (t : Txn) (n : ℕ) (ws : List SlotWrite) (log : List Record) → incarnation_of (with_writes t n ws log) ≡ incarnation_of log
 same_writes t n [] log = refl

@@ -1,5 +1,5 @@
 -- What undoing leaves of a store that was left as a crash may leave one.
-use Rattle.std.proofs.Common.{◌≡◌, ◌⊎◌, ℕ, suc, ◌+◌, ◌-◌, ◌≤◌, ◌^◌, ◌++◌, false, List, [], ◌∷◌, length, drop, inl, inr, refl, sym, ◌∙◌, ap, subst, arith}
+use Rattle.std.proofs.Common.{◌≡◌, ◌⊎◌, ℕ, suc, ◌+◌, ◌-◌, ◌≤◌, ◌^◌, ◌++◌, false, List, [], ◌∷◌, length, drop, inl, inr, refl, sym, ⊎_elim, ◌∙◌, ap, subst, arith}
 use Rattle.std.proofs.lemmas.List.{length-drop, length-map}
 use Rattle.rq_model.specs.declared.record.Record.{Record}
 use Rattle.rq_model.specs.declared.refusal.Refusal.{Refusal}
@@ -31,7 +31,6 @@ use Rattle.rq_analysis.proofs.Noting.{few_incarnations, noted_incarnation, noted
 use Rattle.rq_analysis.proofs.Undos.{undo_keeps_whole, undoing_extends}
 use Rattle.rq_analysis.specs.Recovered.{IsRecovered, IsRecoveredFrom}
 use Rattle.rq_analysis.proofs.Recovering.{recovered_from}
-use Rattle.rq_log.proofs.Runs.{AreSpelled-drop}
 use Rattle.rq_analysis.proofs.Whole.{whole_logs}
 use Rattle.rq_restart.specs.Aborting.IsAborting.{Between}
 use Rattle.rq_restart.specs.RolledBack.{ArePlannedFrom, IsRolledBack}
@@ -42,7 +41,12 @@ use Rattle.rq_restart.specs.Undoing.{IsBadUndo}
 use Rattle.rq_restart.proofs.Aborts.{aborting_extends, aborting_incarnation}
 use Rattle.rq_restart.proofs.Lefts.{front_continues, left_longer, left_undoing}
 use Rattle.rq_restart.proofs.RollingBack.{recovered_on}
-use Rattle.rq_log.proofs.Parsing.{one_log}
+use Rattle.rq_model.specs.Incarnations.{AreBased}
+use Rattle.rq_model.specs.Bases.{gone, standing}
+use Rattle.rq_model.proofs.Bases.{all_stand, plain_drop}
+use Rattle.rq_log.specs.Spelled.{spelled_all, AreAllSpelled, EndsWithAll}
+use Rattle.rq_log.proofs.Runs.{AreAllSpelled-drop}
+use Rattle.rq_log.proofs.Parsing.{one_based, told_all}
 use Rattle.rq_restart.proofs.Repeated.{all_up_to, repeated_order, up_to}
 
 -- it extends the log, and is of its incarnation
@@ -131,24 +135,31 @@ module _ (log rolled_back : List Record) (m : IsRolledBack log rolled_back) (h :
   not_begun z first now_paged _ before now untouched repeated planned recovered b = absurd b
 
 -- the records behind, as they were forced
-pub begun_behind : (z : Sizes) (left : Type 0) (log rolled_back : List Record) (r : Record) (kept : ℕ) (seen bytes : List ℕ) → IsRolledBack log rolled_back → (left → IsRecovered z log rolled_back) → r ≡ next_restart rolled_back → AreSpelled log → EndsWith log seen → AreSpelled (r ∷ rolled_back)
-    → GoesOn (r ∷ rolled_back) kept seen bytes → IsBegunBehind z left log seen bytes
-begun_behind z left log rolled_back r kept seen bytes m recovered is are read now on =
-    let n : ℕ = length (drop on.behind (r ∷ rolled_back)) in
-    let same : drop on.behind (r ∷ rolled_back) ≡ log = one_log (drop on.behind (r ∷ rolled_back)) log seen (AreSpelled-drop on.behind (r ∷ rolled_back) now) are on.reads read in
-    let a : n ≡ length log = ap length same in
-    let b : n ≡ length (r ∷ rolled_back) - on.behind = length-drop on.behind (r ∷ rolled_back) in
+pub begun_behind : (z : Sizes) (left : Type 0) (log rolled_back : List Record) (r : Record) (kept : ℕ) (seen bytes : List ℕ) → IsRolledBack log rolled_back → (left → IsRecovered z log rolled_back) → r ≡ next_restart rolled_back → AreBased (r ∷ rolled_back) → AreSpelled log → EndsWith log seen → AreSpelled (r ∷ rolled_back)
+    → GoesOn (standing (r ∷ rolled_back)) (kept - gone (r ∷ rolled_back)) seen bytes → IsBegunBehind z left log seen bytes
+begun_behind z left log rolled_back r kept seen bytes m recovered is plain are read now goes =
+    let all : List Record = r ∷ rolled_back in
+    let on : GoesOn all (kept - gone all) seen bytes = subst (λ (l : List Record). GoesOn l (kept - gone all) seen bytes) (all_stand all plain) goes in
+    let whole : (n : ℕ) → standing (drop n all) ≡ drop n all = λ (n : ℕ). all_stand (drop n all) (plain_drop n all plain) in
+    let told : (n : ℕ) → AreSpelled (drop n all) = λ (n : ℕ). subst AreAllSpelled (sym (whole n)) (AreAllSpelled-drop n all (told_all all plain now)) in
+    let ends : (n : ℕ) (b : List ℕ) → EndsWithAll (drop n all) b → EndsWith (drop n all) b = λ (n : ℕ) (b : List ℕ) e. subst (λ (l : List Record). EndsWithAll l b) (sym (whole n)) e in
+    let n : ℕ = length (drop on.behind all) in
+    let same : log ≡ drop on.behind all = one_based log (drop on.behind all) seen (plain_drop on.behind all plain) are (told on.behind) read (ends on.behind seen on.reads) in
+    let a : length log ≡ n = ap length same in
+    let b : n ≡ length all - on.behind = length-drop on.behind all in
     let c = on.within in
     let d = on.some in
     record {
       rolled_back = rolled_back;
       rolls_back = m;
       recovered = recovered;
-      are_spelled = subst (λ q. AreSpelled (q ∷ rolled_back)) is now;
+      told = are;
+      are_spelled = subst (λ (q : Record). AreSpelled (q ∷ rolled_back)) is now;
       lacks = on.lost;
       some = omega (arith, a, b, c, d);
-      is = subst (λ q. EndsWith (drop on.lost (q ∷ rolled_back)) bytes) is on.is;
-      from = subst (λ q. GoOnTo bytes (spelled (q ∷ rolled_back)) ⊎ GoOnTo bytes seen) is on.from;
+      left_told = subst (λ (q : Record). AreSpelled (drop on.lost (q ∷ rolled_back))) is (told on.lost);
+      is = subst (λ (q : Record). EndsWith (drop on.lost (q ∷ rolled_back)) bytes) is (ends on.lost bytes on.is);
+      from = subst (λ (q : Record). GoOnTo bytes (spelled (q ∷ rolled_back)) ⊎ GoOnTo bytes seen) is (⊎_elim (λ first. inl (subst (λ (l : List Record). GoOnTo bytes (spelled_all l)) (sym (all_stand all plain)) first)) (λ was. inr was) on.from);
     }
 
 -- ---- what is opened

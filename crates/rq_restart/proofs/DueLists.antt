@@ -8,7 +8,7 @@ use Rattle.rq_model.specs.Content.{commits_txn, ends_txn, has_end}
 use Rattle.rq_model.specs.Vocabulary.{In, has_txn, same_txn}
 use Rattle.rq_model.proofs.Lists.{In-filter, same_is, same_self}
 use Rattle.rq_record.specs.Spelling.{IsTxnInRange}
-use Rattle.rq_log.specs.Spelled.{AreSpelled}
+use Rattle.rq_log.specs.Spelled.{AreAllSpelled}
 use Rattle.rq_analysis.specs.OpenWorkView.{open_work_of, with_txn, without_txn}
 use Rattle.rq_analysis.specs.declared.dues.PendingUndo.{PendingUndo}
 use Rattle.rq_analysis.specs.Choices.{least_free, lesser_in}
@@ -44,8 +44,8 @@ due_told P Q older one (AbortEnd t ∷ log) q d i = due_told P Q older one log (
 abbrev IsDueInRange : PendingUndo → Type 0
 IsDueInRange d = IsTxnInRange d.txn × (0 < d.lsn)
 
-pub due_range : (log : List Record) → AreSpelled log → (d : PendingUndo) → In d (dues log) → IsDueInRange d
-due_range log a d i = due_told IsDueInRange AreSpelled (λ r older h. h.1) (λ t n level deed older h. (h.0.0.0, omega arith)) log a d i
+pub due_range : (log : List Record) → AreAllSpelled log → (d : PendingUndo) → In d (dues log) → IsDueInRange d
+due_range log a d i = due_told IsDueInRange AreAllSpelled (λ r older h. h.1) (λ t n level deed older h. (h.0.0.0, omega arith)) log a d i
 
 -- transactions without an end are in range
 with_in : (t : Txn) (ts : List Txn) (x : Txn) → In x (with_txn t ts) → (x ≡ t) ⊎ In x ts
@@ -57,7 +57,7 @@ with_in t ts x i = elim (cases_Bool (has_txn t ts)) [
   by [] j = elim j [ inl e ↦ inl e | inr k ↦ absurd k ]
   by (u ∷ us) j = elim j [ inl e ↦ inr (inl e) | inr k ↦ elim (by us k) [ inl e ↦ inl e | inr m ↦ inr (inr m) ] ]
 
-pub active_range : (log : List Record) → AreSpelled log → (t : Txn) → In t (open_work_of log).active → IsTxnInRange t
+pub active_range : (log : List Record) → AreAllSpelled log → (t : Txn) → In t (open_work_of log).active → IsTxnInRange t
 active_range [] a t i = absurd i
 active_range (OpEnd u n level deed ∷ log) a t i = elim (with_in u (open_work_of log).active t i) [
   | inl e ↦ subst IsTxnInRange (sym e) a.0.0.0

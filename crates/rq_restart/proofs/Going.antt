@@ -1,13 +1,12 @@
 -- Going through a log, one record after the other.
-use Rattle.std.proofs.Common.{◌≡◌, ◌⊎◌, inl, inr, ℕ, ◌+◌, ◌-◌, ◌%◌, ◌^◌, ◌≤◌, List, ◌∷◌, ◌++◌, length, drop, refl, sym, ◌∙◌, ap, subst, arith, append_assoc}
+use Rattle.std.proofs.Common.{◌≡◌, ◌⊎◌, inl, inr, ℕ, ◌+◌, ◌-◌, ◌%◌, ◌^◌, ◌≤◌, List, ◌∷◌, length, drop, refl, sym, ◌∙◌, ap, subst, arith}
 use Rattle.std.proofs.lemmas.List.{drop-drop}
 use Rattle.rq_model.specs.declared.refusal.Refusal.{Refusal}
 use Rattle.rq_model.specs.declared.refusal.Refusal.TheVariants as why
 use Rattle.rq_model.specs.declared.refusal.Damage.TheVariants as damage
 use Rattle.rq_disk.specs.declared.device.LogDevice.{Ghosts}
-use Rattle.rq_record.specs.Spelling.{spelling}
 use Rattle.rq_log.specs.Reading.{BeginsWith, HasMoreBehind, IsDamagedBehind, IsRead, StopsFor}
-use Rattle.rq_log.specs.Spelled.{spelled, AreSpelled}
+use Rattle.rq_log.specs.Spelled.{AreSpelled}
 use Rattle.rq_model.specs.declared.record.Record.{Record}
 use Rattle.rq_page.specs.Sizes.{Sizes}
 use Rattle.rq_store.specs.Opening.{FitsUpTo, IsLeft}
@@ -24,6 +23,7 @@ use Rattle.rq_restart.specs.declared.analysis.Analysis.{Analysis}
 use Rattle.rq_restart.specs.Found.{IsAnalysisOf, MayComeNext, analysis_after}
 use Rattle.rq_restart.specs.Refused.{IsBadNext, IsStoppedBehind, IsWanting, NotRepeated}
 use Rattle.rq_restart.specs.Repeating.{Belongs, Paged, Repeats}
+use Rattle.rq_record.specs.Spelling.{IsRecord}
 use Rattle.rq_restart.proofs.Repeated.{up_to}
 
 -- what is found with one record more
@@ -36,10 +36,6 @@ found_next f k log r lsn place are may e = record {
   order = (may.next, are.order);
   follow = (may.follows, are.follow);
 }
-
--- bytes that begin with a record more begin without it
-begins_before : (r : Record) (front : List Record) (bytes : List ℕ) → BeginsWith (r ∷ front) bytes → BeginsWith front bytes
-begins_before r front bytes h = (spelling r ++ h.0, h.1 ∙ append_assoc (spelled front) (spelling r) h.0)
 
 -- why no more was read of a device that was only read before
 stops_from : {L : Type 0} (g : Ghosts L) (old met new : L) (front : List Record) → g.seen met ≡ g.seen old → g.faults met ≡ g.faults old → (e : Refusal) → StopsFor g e front met new → StopsFor g e front old new
@@ -63,12 +59,12 @@ module _ {L : Type 0} (g : Ghosts L) (z : Sizes) (first : Paged) (old new : L) w
   }
 
   -- the record that was read was not repeated
-  pub stopped_next : (front : List Record) (r : Record) (mid : Paged) (e : Refusal) → AreSpelled (r ∷ front) → (g.honest new → BeginsWith (r ∷ front) (g.seen old)) → Repeats z front first mid → IsRead g old new → g.faults new ≡ g.faults old
+  pub stopped_next : (front : List Record) (r : Record) (mid : Paged) (e : Refusal) → IsRecord r → AreSpelled front → (g.honest new → BeginsWith (r ∷ front) (g.seen old)) → (g.honest new → BeginsWith front (g.seen old)) → Repeats z front first mid → IsRead g old new → g.faults new ≡ g.faults old
       → NotRepeated z front r mid e → IsStoppedBehind g z first e old new
-  stopped_next front r mid e are begins repeated read counted not = record {
+  stopped_next front r mid e is are begins before repeated read counted not = record {
     front = front;
-    are_spelled = are.1;
-    begins = λ h. begins_before r front (g.seen old) (begins h);
+    are_spelled = are;
+    begins = before;
     mid = mid;
     repeated = repeated;
     why = by e not;
@@ -78,7 +74,7 @@ module _ {L : Type 0} (g : Ghosts L) (z : Sizes) (first : Paged) (old new : L) w
     by why.NoMemory h = inr (inl (refl, counted))
     by (why.Damaged (damage.Record lsn)) h = inr (inr (record {
       newest = r;
-      is_record = are.0;
+      is_record = is;
       begins = begins;
       told = ap (λ n. why.Damaged (damage.Record n)) h.0;
       bad = h.1;

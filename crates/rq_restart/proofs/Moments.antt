@@ -1,5 +1,5 @@
 -- What a crash at any moment of a restart leaves of the log.
-use Rattle.std.proofs.Common.{inl, inr, ◌⊎◌, ⊎_elim, Result, Ok, Err, IfErr, ◌≡◌, ℕ, List, ◌∷◌, refl, subst, [], ap, sym}
+use Rattle.std.proofs.Common.{inl, inr, ◌⊎◌, ⊎_elim, Result, Ok, Err, IfErr, ◌≡◌, ℕ, ◌-◌, List, ◌∷◌, refl, subst, [], ap, sym}
 use Rattle.rq_model.specs.declared.record.Record.{Record}
 use Rattle.rq_disk.specs.declared.device.LogDevice.{Ghosts}
 use Rattle.rq_log.specs.Crash.{LeavesOnly}
@@ -17,6 +17,8 @@ use Rattle.rq_disk.specs.Device.{Images}
 use Rattle.rq_page.specs.Sizes.{Sizes}
 use Rattle.rq_analysis.specs.Recovered.{IsRecovered}
 use Rattle.rq_restart.specs.RolledBack.{IsRolledBack}
+use Rattle.rq_model.specs.Incarnations.{AreBased}
+use Rattle.rq_model.specs.Bases.{gone, standing}
 use Rattle.rq_restart.proofs.Begun.{begun_behind}
 
 module _ {L : Type 0} (g : Ghosts L) (only_now : (d : L) (c : List ℕ) → g.left_since d (g.moment d) c → g.may_leave d c) where
@@ -47,18 +49,18 @@ left_alone g only_now z pages old new same = record {
 -- records are forced behind what was read
 pub forced_behind : {L : Type 0} (g : Ghosts L) (old new : L) (log : Logged L) (kept : ℕ) (records : List Record) → log.device ≡ old → log.records ≡ records → log.forced ≡ kept → AreSpelled records → LeavesOnly g log.device new (WasLeftOrGoesOn g log) → LeavesOnly g old new (WasLeftOrForced g old records kept)
 forced_behind g old new log kept records same grown forced are run =
-    weaker g old new (λ c. g.may_leave old c ⊎ GoesOn records kept (g.seen old) c) (WasLeftOrForced g old records kept) there
+    weaker g old new (λ c. g.may_leave old c ⊎ GoesOn (standing records) (kept - gone records) (g.seen old) c) (WasLeftOrForced g old records kept) there
     (λ c. ⊎_elim (λ was. inl was) (λ on. inr (are, on))) where
-      there : LeavesOnly g old new (λ c. g.may_leave old c ⊎ GoesOn records kept (g.seen old) c)
-      there = subst (λ n. LeavesOnly g old new (λ c. g.may_leave old c ⊎ GoesOn records n (g.seen old) c)) forced
-          (subst (λ rs. LeavesOnly g old new (λ c. g.may_leave old c ⊎ GoesOn rs log.forced (g.seen old) c)) grown (subst (λ d. LeavesOnly g d new (λ c. g.may_leave d c ⊎ GoesOn log.records log.forced (g.seen d) c)) same run))
+      there : LeavesOnly g old new (λ c. g.may_leave old c ⊎ GoesOn (standing records) (kept - gone records) (g.seen old) c)
+      there = subst (λ n. LeavesOnly g old new (λ c. g.may_leave old c ⊎ GoesOn (standing records) (n - gone records) (g.seen old) c)) forced
+          (subst (λ rs. LeavesOnly g old new (λ c. g.may_leave old c ⊎ GoesOn (standing rs) (log.forced - gone rs) (g.seen old) c)) grown (subst (λ d. LeavesOnly g d new (λ c. g.may_leave d c ⊎ GoesOn (standing log.records) (log.forced - gone log.records) (g.seen d) c)) same run))
 
 -- they undo what has no end, and begin the next incarnation
-pub begun_moment : {L : Type 0} (g : Ghosts L) (z : Sizes) (left : Type 0) (older rolled_back : List Record) (r : Record) (kept : ℕ) (old mid new : L) → mid ≡ old → IsRolledBack older rolled_back → (left → IsRecovered z older rolled_back) → r ≡ next_restart rolled_back → AreSpelled older → EndsWith older (g.seen old)
+pub begun_moment : {L : Type 0} (g : Ghosts L) (z : Sizes) (left : Type 0) (older rolled_back : List Record) (r : Record) (kept : ℕ) (old mid new : L) → mid ≡ old → IsRolledBack older rolled_back → (left → IsRecovered z older rolled_back) → r ≡ next_restart rolled_back → AreBased (r ∷ rolled_back) → AreSpelled older → EndsWith older (g.seen old)
     → LeavesOnly g mid new (WasLeftOrForced g mid (r ∷ rolled_back) kept) → LeavesOnly g old new (WasLeftOrBegun g z left old older)
-begun_moment g z left older rolled_back r kept old mid new same m recovered is are read run =
+begun_moment g z left older rolled_back r kept old mid new same m recovered is plain are read run =
     weaker g old new (WasLeftOrForced g old (r ∷ rolled_back) kept) (WasLeftOrBegun g z left old older) (subst (λ d. LeavesOnly g d new (WasLeftOrForced g d (r ∷ rolled_back) kept)) same run)
-    (λ c. ⊎_elim (λ was. inl was) (λ on. inr (begun_behind z left older rolled_back r kept (g.seen old) c m recovered is are read on.0 on.1)))
+    (λ c. ⊎_elim (λ was. inl was) (λ on. inr (begun_behind z left older rolled_back r kept (g.seen old) c m recovered is plain are read on.0 on.1)))
 
 -- beside these pages
 module _ {L : Type 0} (g : Ghosts L) (z : Sizes) (images : Images) where

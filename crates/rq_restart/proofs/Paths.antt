@@ -1,5 +1,5 @@
 -- A restart whose pages are only read, and whose log has records more.
-use Rattle.std.proofs.lemmas.List.{drop_at, length-append}
+use Rattle.std.proofs.lemmas.List.{length-append}
 use Rattle.std.proofs.Common.{◌≡◌, ◌⊎◌, ℕ, zero, suc, ◌+◌, ◌++◌, drop, List, [], ◌∷◌, length, inl, inr, ⊎_elim, refl, sym, ◌∙◌, ap, subst, arith, ◌≤◌, Result, Ok, Err, IfOk, IfErr}
 use Rattle.rq_model.specs.declared.record.Record.{Record}
 use Rattle.rq_model.specs.Incarnations.{Extends}
@@ -22,7 +22,6 @@ use Rattle.rq_store.proofs.Opening.{opened_after}
 use Rattle.rq_engine.specs.Opened.{OpenStore, pooled}
 use Rattle.rq_engine.specs.Devices.{EachPair, Path}
 use Rattle.rq_engine.specs.Devices.Path.{Start, Pages, Log}
-use Rattle.rq_log.proofs.Runs.{AreSpelled-drop}
 use Rattle.rq_analysis.specs.Recovered.{IsRecovered}
 use Rattle.rq_analysis.proofs.Recovering.{recovered_from}
 use Rattle.rq_analysis.proofs.Stopping.{plain_drop}
@@ -34,7 +33,8 @@ use Rattle.rq_restart.specs.Underway.{IsSomeStore, IsLeftOrGoesOn, pages_left, l
 use Rattle.rq_restart.proofs.Begun.{rolled_back_extends, rolled_back_incarnation}
 use Rattle.rq_restart.proofs.Lefts.{front_continues, left_longer}
 use Rattle.rq_restart.proofs.Loading.{one_size}
-use Rattle.rq_log.proofs.Parsing.{one_log}
+use Rattle.rq_log.proofs.Parsing.{one_based}
+use Rattle.rq_model.specs.Incarnations.{AreBased}
 use Rattle.rq_restart.proofs.Restarts.{left_read, told_on}
 
 -- the front of a log with another behind
@@ -69,12 +69,6 @@ module _ (z : Sizes) (left : Type 0) (older : List Record) (read bytes : List �
   pub kept_extends : Extends older kept
   kept_extends = (drop b.lacks behind, is_kept, plain_drop b.lacks behind (refl, more.2))
 
-  pub older_spelled : AreSpelled older
-  older_spelled = subst AreSpelled (drop_at behind older (length behind) refl) (AreSpelled-drop (length behind) (behind ++ older) (subst AreSpelled (sym all) b.are_spelled))
-
-  pub kept_spelled : AreSpelled kept
-  kept_spelled = AreSpelled-drop b.lacks (next_restart b.rolled_back ∷ b.rolled_back) b.are_spelled
-
   pub kept_left : (images : Images) → IsLeft z images older → left → IsLeft z images kept
   kept_left images there l =
       let from = recovered_from z older b.rolled_back there.whole (b.recovered l) in
@@ -105,15 +99,15 @@ module _ {P L : Type 0} (p : page_device.Ghosts P) (l : log_device.Ghosts L) (pa
       let older = on.older in
       let left : Type 0 = IsLeft z (image_in b.images) older in
       let s = was images (l.seen log) a (log_some log) in
-      let are_older = older_spelled z left older seen_log bytes on.begun in
-      let same : s.0 ≡ older = one_log s.0 older (l.seen log) s.1.are_spelled are_older s.1.is on.reads in
-      let same_first : first.0 ≡ older = one_log first.0 older (l.seen log) first.1.are_spelled are_older first.1.is on.reads in
-      let is_read : older ≡ read = one_log older read (l.seen log) are_older are on.reads reads in
+      let are_older = on.begun.told in
+      let same : s.0 ≡ older = sym (one_based older s.0 (l.seen log) s.1.left.whole.based are_older s.1.are_spelled on.reads s.1.is) in
+      let same_first : first.0 ≡ older = sym (one_based older first.0 (l.seen log) first.1.left.whole.based are_older first.1.are_spelled on.reads first.1.is) in
+      let is_read : older ≡ read = sym (one_based read older (l.seen log) (subst AreBased same s.1.left.whole.based) are are_older reads on.reads) in
       let there : left = left_read z seen b.images older seen_here (subst (IsLeft z seen) same_first first.1.left) in (
         kept z left older seen_log bytes on.begun,
         record {
           range = s.1.range;
-          are_spelled = kept_spelled z left older seen_log bytes on.begun;
+          are_spelled = on.begun.left_told;
           is = on.begun.is;
           left = kept_left z left older seen_log bytes on.begun images (subst (IsLeft z images) same s.1.left) there;
         },
@@ -155,7 +149,7 @@ module _ {P L : Type 0} (p : page_device.Ghosts P) (l : log_device.Ghosts L) (pa
       → WasChecked p l pages log o.0.state.sizes (paged (pooled o.0)) o.0.state.records o.0.pages o.0.log → IsRecovered o.0.state.sizes older (drop 1 o.0.state.records)
   opened_recovered o older read on checked =
       let z = o.0.state.sizes in
-      let same : checked.older ≡ older = one_log checked.older older (l.seen log) checked.are_spelled read.are_spelled (checked.reads read.honest) read.reads in
+      let same : checked.older ≡ older = one_based checked.older older (l.seen log) on.left.whole.based checked.are_spelled read.are_spelled (checked.reads read.honest) read.reads in
       let left : IsLeft z (image_in checked.images) checked.older = left_read z (p.seen pages) checked.images checked.older (checked.seen on.honest) (subst (IsLeft z (p.seen pages)) (sym same) on.left) in
       subst (IsRecovered z older) (sym (ap (drop 1) checked.begun)) (subst (λ l. IsRecovered z l checked.rolled_back) same (checked.rolled_back_on.recovered left))
 

@@ -3,7 +3,7 @@ use Rattle.std.proofs.Common.{◌≡◌, ℕ, zero, suc, ◌+◌, ◌-◌, ◌<�
 use Rattle.std.proofs.lemmas.Bool.{cases_eq, cases_lt}
 use Rattle.std.proofs.lemmas.List.{length-drop}
 use Rattle.rq_model.specs.declared.record.Record.{Record}
-use Rattle.rq_model.specs.Incarnations.{InOrder}
+use Rattle.rq_model.specs.Incarnations.{AreBased, InOrder}
 use Rattle.rq_page.specs.Sizes.{Sizes}
 use Rattle.rq_page.specs.Pages.{IsWritten, lsn_of, slot_of}
 use Rattle.rq_page.specs.Formatted.{count_in}
@@ -12,6 +12,7 @@ use Rattle.rq_store.specs.Opening.{FitsUpTo, IsCounted, IsLeft, IsSoundWrite, Re
 use Rattle.rq_store.specs.Fitting.{ToldWrite, oldest, told_by}
 use Rattle.rq_store.proofs.Fitting.{oldest_all}
 use Rattle.rq_store.proofs.Redoing.{oldest_store, redo_none, redo_one}
+use Rattle.rq_analysis.specs.Rules.{FollowAll}
 use Rattle.rq_restart.specs.Repeating.{ArePagesCounted, IsRecordRedone, Paged, Repeats}
 
 -- the next of a log's first records
@@ -82,3 +83,12 @@ counted_more z log r old new one all p low high = by (told_by r) one.redone one.
 pub repeated_order : (z : Sizes) (log : List Record) (first last : Paged) → Repeats z log first last → InOrder log
 repeated_order z [] first last r = tt
 repeated_order z (q ∷ log) first last r = (r.2.belongs.next, repeated_order z log first r.0 r.1)
+
+-- and no Base is in it
+pub repeated_plain : (z : Sizes) (log : List Record) (first last : Paged) → Repeats z log first last → AreBased log
+repeated_plain z [] first last r = tt
+repeated_plain z (q ∷ log) first last r = (r.2.belongs.follows.belongs, repeated_plain z log first r.0 r.1)
+
+pub follow_plain : (log : List Record) → FollowAll log → AreBased log
+follow_plain [] f = tt
+follow_plain (q ∷ log) f = (f.0.belongs, follow_plain log f.1)

@@ -9,7 +9,7 @@ use Rattle.rq_model.specs.declared.txn.Sub.{Sub}
 use Rattle.rq_model.specs.Vocabulary.{In}
 use Rattle.rq_page.specs.Sizes.{Sizes}
 use Rattle.rq_record.specs.Spelling.{IsInRange, IsSlotNumber, IsTxnInRange}
-use Rattle.rq_log.specs.Spelled.{AreSpelled}
+use Rattle.rq_log.specs.Spelled.{AreAllSpelled}
 use Rattle.rq_views.specs.Items.{operation}
 use Rattle.rq_store.specs.Opening.{MayRedo, Redoes}
 use Rattle.rq_store.specs.Fitting.{told_by}
@@ -29,7 +29,7 @@ use Rattle.rq_restart.proofs.Repeated.{counted_more}
 abbrev IsOpInRange : Sub → Type 0
 IsOpInRange o = IsTxnInRange o.txn × (0 < o.number)
 
-noted_range : (log : List Record) → AreSpelled log → (o : Sub) → In o (open_work_of log).unfinished → IsOpInRange o
+noted_range : (log : List Record) → AreAllSpelled log → (o : Sub) → In o (open_work_of log).unfinished → IsOpInRange o
 noted_range [] a o h = absurd h
 noted_range (PageOp t n page slot before after ∷ log) a o h = elim (in_with (operation t n) (open_work_of log).unfinished o h) [
   | inl e ↦ subst IsOpInRange (sym e) (a.0.0.0, a.0.0.1)
@@ -43,7 +43,7 @@ noted_range (_ ∷ log) a o h = noted_range log a.1 o h
 abbrev IsUndoableInRange : UndoableWrite → Type 0
 IsUndoableInRange p = IsOpInRange p.by × (0 < p.lsn) × IsSlotNumber p.slot
 
-undoable_range : (log : List Record) → AreSpelled log → (p : UndoableWrite) → In p (open_work_of log).undoable → IsUndoableInRange p
+undoable_range : (log : List Record) → AreAllSpelled log → (p : UndoableWrite) → In p (open_work_of log).undoable → IsUndoableInRange p
 undoable_range [] a p h = absurd h
 undoable_range (PageOp t n page slot before after ∷ log) a p h = elim h [
   | inl e ↦ subst IsUndoableInRange (sym e) ((a.0.0.0, a.0.0.1), omega arith, a.0.0.2)
@@ -60,7 +60,7 @@ pub undo_reads : (h : OpenWorkView) (r : Record) → IsNextUndo h r → CanBeRea
 undo_reads h r (Voids o spent least e) = subst CanBeRead (sym e) tt
 undo_reads h r (Undoes p ps none first e) = subst CanBeRead (sym e) tt
 
-pub undo_range : (log : List Record) (h : OpenWorkView) (r : Record) → h ≡ open_work_of log → AreSpelled log → IsNextUndo h r → IsInRange r
+pub undo_range : (log : List Record) (h : OpenWorkView) (r : Record) → h ≡ open_work_of log → AreAllSpelled log → IsNextUndo h r → IsInRange r
 undo_range log h r e a next = by (subst (λ k. IsNextUndo k r) e next) where
   by : IsNextUndo (open_work_of log) r → IsInRange r
   by (Voids o s least is) = rw is (noted_range log a o (sub_in o (open_work_of log).unfinished s.unfinished))

@@ -1,5 +1,5 @@
 -- What a restart finds.
-use Rattle.std.specs.Prelude.{◌≡◌, ◌⊎◌, ℕ, ◌+◌, ◌%◌, ◌^◌, ◌<◌, ◌≤◌, false, List, ◌∷◌, drop, length}
+use Rattle.std.specs.Prelude.{◌≡◌, ◌⊎◌, ℕ, ◌+◌, ◌-◌, ◌%◌, ◌^◌, ◌<◌, ◌≤◌, false, List, ◌∷◌, drop, length}
 use Rattle.rq_model.specs.declared.record.Record.{Record}
 use Rattle.rq_model.specs.declared.refusal.Refusal.{Refusal}
 use Rattle.rq_model.specs.declared.refusal.Refusal.TheVariants as why
@@ -28,6 +28,7 @@ use Rattle.rq_restart.specs.RolledBack.{IsAtBound, IsRolledBack, IsRolledBackOn}
 use Rattle.rq_restart.specs.Repeating.{Paged, Repeats}
 use Rattle.rq_restart.specs.declared.restart.Report.{Report}
 use Rattle.rq_restart.specs.Checked.{as_read}
+use Rattle.rq_model.specs.Bases.{gone, standing}
 use Rattle.rq_restart.specs.Refused.{IsStoppedBehind, WhyShut}
 
 -- Behind the log that was read stand the records by which what has no end is undone, and then one that begins the
@@ -99,10 +100,12 @@ pub record IsBegunBehind (z : Sizes) (left : Type 0) (older : List Record) (read
   pub rolled_back : List Record
   pub rolls_back : IsRolledBack older rolled_back
   pub recovered : left → IsRecovered z older rolled_back
+  pub told : AreSpelled older
   pub are_spelled : AreSpelled (next_restart rolled_back ∷ rolled_back)
   -- so many of the newest lack
   pub lacks : ℕ
   pub some : lacks + length older ≤ length rolled_back + 1
+  pub left_told : AreSpelled (drop lacks (next_restart rolled_back ∷ rolled_back))
   pub is : EndsWith (drop lacks (next_restart rolled_back ∷ rolled_back)) bytes
   pub from : GoOnTo bytes (spelled (next_restart rolled_back ∷ rolled_back)) ⊎ GoOnTo bytes read
 
@@ -119,7 +122,8 @@ module _ {L : Type 0} (g : log_device.Ghosts L) where
 
   -- the same of these records, of which so many were forced
   abbrev pub WasLeftOrForced : L → List Record → ℕ → List ℕ → Type 0
-  WasLeftOrForced old records kept c = g.may_leave old c ⊎ (AreSpelled records × GoesOn records kept (g.seen old) c)
+  WasLeftOrForced old records kept c = g.may_leave old c ⊎ (AreSpelled records
+      × GoesOn (standing records) (kept - gone records) (g.seen old) c)
 
   -- Behind the log that was read the next incarnation was begun, as the report says, and the tables tell what these pages
   -- do: an engine may be opened over it.

@@ -1,6 +1,7 @@
 //! Going through a log: each slot write that is not on its page yet is made there.
 ghost use Rattle.std.specs.Prelude.{◌≡◌, ◌↔◌, ◌≤◌, ◌<◌, ◌+◌, ◌∷◌, [], ℕ, List, IsTrue, None, false, IfOk, IfErr, IfSome, IfNone, OnOk, length};
 ghost use Rattle.rq_model.specs.declared.record.Record.{Record as AnyRecord};
+ghost use Rattle.rq_model.specs.Bases.{is_base};
 ghost use Rattle.rq_log.specs.Reading.{EndsShort};
 ghost use Rattle.rq_page.specs.Sizes.{page_count};
 ghost use Rattle.rq_page.specs.Pages.{lsn_of, slot_of};
@@ -131,12 +132,22 @@ pub(crate) fn repeat_history<P: PageDevice + Drop, L: LogDevice, B: Level>(
     reader.shows_read();
     let mut record = Record::Restart { incarnation: 0 };
     while reader.next_into(&mut record)? {
+        if stands_for_others(&record) {
+            return Err(Refusal::Damaged(Damage::Record(1)));
+        }
         match check_and_redo(pages, &mut log_scan, levels, reader.last(), &record) {
             Ok(()) => {}
             Err(refusal) => return Err(refusal),
         }
     }
     Ok(log_scan)
+}
+
+// Whether a record is a Base: no store's log has one so far.
+fn stands_for_others(record: &Record) -> bool
+    ensures { result ≡ is_base «record».now }
+{
+    matches!(record, Record::Base { .. })
 }
 
 // Checks the next record, which has this LSN, and makes what it writes where its page is older.

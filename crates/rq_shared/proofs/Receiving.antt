@@ -1,5 +1,5 @@
 -- A commit that an audit acknowledges is in every log that a crash may leave.
-use Rattle.std.proofs.Common.{◌≡◌, ℕ, ◌+◌, ◌≤◌, List, [], ◌∷◌, ◌++◌, length, take, drop, map, Some, None, Bool, true, false, refl, sym, ◌∙◌, ap, subst, ⊎_elim, arith, nat_lt, nat_eq, not}
+use Rattle.std.proofs.Common.{◌≡◌, ℕ, ◌+◌, ◌<◌, ◌≤◌, List, [], ◌∷◌, ◌++◌, length, take, drop, map, Some, None, Bool, true, false, refl, sym, ◌∙◌, ap, subst, ⊎_elim, arith, nat_lt, nat_eq, not}
 use Rattle.std.proofs.lemmas.Bool.{and_parts, true≢false, not-true}
 use Rattle.std.proofs.lemmas.Bool.Decides.{nat_tests}
 use Rattle.std.proofs.lemmas.List.{length-append, length-drop, take-append-drop}
@@ -21,7 +21,9 @@ use Rattle.rq_model.proofs.Same.{In-append}
 use Rattle.rq_model.proofs.Lists.{In-left, In-last, In-to, In-reverse}
 use Rattle.rq_disk.specs.declared.device.LogDevice as log_device
 use Rattle.rq_disk.specs.declared.device.PageDevice as page_device
+use Rattle.rq_model.specs.Bases.{gone}
 use Rattle.rq_log.specs.Spelled.{IsBeginning}
+use Rattle.rq_log.proofs.Runs.{first_of_log}
 use Rattle.rq_store.specs.State.{ledger_of, size_of}
 use Rattle.rq_sound.specs.Sound.{IsSound}
 use Rattle.rq_engine.specs.Opened.{OpenStore, AreHonest}
@@ -145,18 +147,30 @@ in_older (Commit_record t ∷ newer) older d i low =
     (In-append (committed_of (newer ++ older)) (record { txn = t; lsn = length (newer ++ older) + 1; ops = told t (newer ++ older) }) d i)
 in_older (r ∷ newer) older d i low = in_older newer older d i low
 
-survives : (records : List Record) (forced : ℕ) (d : Done) (bytes : List ℕ) → In d (committed_of records) → d.lsn ≤ forced → IsBeginning records forced bytes → KeepsCommit records d bytes
-survives records forced d bytes i low b =
-    let rest = drop b.0 records in
-    let count = length-drop b.0 records in
-    let room = b.1 in
-    let all : In d (committed_of (take b.0 records ++ rest)) = subst (λ log. In d (committed_of log)) (sym (take-append-drop b.0 records)) i in
-    (b.0, b.2, in_older (take b.0 records) rest d all (omega (arith, low, count, room)))
+-- a commit has its record
+commit_placed : (log : List Record) (d : Done) → In d (committed_of log) → 1 ≤ d.lsn
+commit_placed [] d i = absurd i
+commit_placed (Commit_record t ∷ log) d i =
+    ⊎_elim
+    (λ (was : In d (committed_of log)). commit_placed log d was)
+    (λ (is : d ≡ record { txn = t; lsn = length log + 1; ops = told t log }). let at : d.lsn ≡ length log + 1 = ap (λ (x : Done). x.lsn) is in omega (arith, at))
+    (In-append (committed_of log) (record { txn = t; lsn = length log + 1; ops = told t log }) d i)
+commit_placed (r ∷ log) d i = commit_placed log d i
+
+survives : (records : List Record) (forced : ℕ) (d : Done) (bytes : List ℕ) → (0 < forced → gone records < forced) → In d (committed_of records) → d.lsn ≤ forced → IsBeginning records forced bytes → KeepsCommit records d bytes
+survives records forced d bytes based i low b =
+    let placed = commit_placed records d i in
+    let f = first_of_log records forced bytes (based (omega (arith, placed, low))) b in
+    let rest = drop f.0 records in
+    let count = length-drop f.0 records in
+    let room = f.1 in
+    let all : In d (committed_of (take f.0 records ++ rest)) = subst (λ log. In d (committed_of log)) (sym (take-append-drop f.0 records)) i in
+    (f.0, f.2, in_older (take f.0 records) rest d all (omega (arith, low, count, room)))
 
 module _ {P L : Type 0} (p : page_device.Ghosts P) (l : log_device.Ghosts L) where
   pub receipts_are_durable : (base engine : OpenStore P L) (audit : List Noted) → Follows p l base audit engine → AreHonest p l engine → IsSound base.state
-      → ((bytes : List ℕ) → l.may_leave engine.log bytes → IsBeginning engine.state.records engine.state.forced bytes) → (n : Number) → IsReceiptOf audit n → IsDurable l engine n
-  receipts_are_durable base engine audit f honest sound leaves n r =
+      → (0 < engine.state.forced → gone engine.state.records < engine.state.forced) → ((bytes : List ℕ) → l.may_leave engine.log bytes → IsBeginning engine.state.records engine.state.forced bytes) → (n : Number) → IsReceiptOf audit n → IsDurable l engine n
+  receipts_are_durable base engine audit f honest sound based leaves n r =
       let on = (f.replays honest sound).1 in
       let z = size_of base.state.sizes in
       let from = ledger_of base.state in
@@ -169,5 +183,5 @@ module _ {P L : Type 0} (p : page_device.Ghosts P) (l : log_device.Ghosts L) whe
         txn = c.1;
         lsn = c.2;
         stands = c.3;
-        survives = λ bytes m. survives engine.state.records engine.state.forced c.0 bytes c.3 (omega (arith, low, at)) (leaves bytes m);
+        survives = λ bytes m. survives engine.state.records engine.state.forced c.0 bytes based c.3 (omega (arith, low, at)) (leaves bytes m);
       }

@@ -1,5 +1,6 @@
 //! The kept engine: each call leaves one entry, and answers a stamp that says the same.
 ghost use Rattle.std.specs.Prelude.{◌≡◌, ◌≢◌, ℕ, List, ◌+◌, ◌<◌, [], ◌∷◌, ◌++◌, ◌↔◌, Err, IfErr, IfOk, OnOk, OnErr, IsTrue, true, map, length, vec_len, vec_capacity};
+ghost use Rattle.rq_model.specs.Bases.{gone};
 ghost use Rattle.rq_log.specs.Places.{StandsAt};
 ghost use Rattle.rq_log.specs.Reading.{IsRead};
 ghost use Rattle.rq_log.specs.Spelled.{IsBeginning};
@@ -228,10 +229,13 @@ impl<P: PageDevice + Drop, L: LogDevice + Drop, B: Level> Kept<P, L, B> {
         self.audit.as_slice()
     }
 
-    /// What a crash at this moment leaves of the log, and that the entries replay, for proofs: it runs no code.
+    /// What a crash at this moment leaves of the log, that a Base is forced, and that the entries replay, for proofs: it runs no
+    /// code.
     pub fn shows_kept(&self)
         ensures leaves { L.honest self.now.engine.log → (bytes : List ℕ) → L.may_leave self.now.engine.log bytes
             → IsBeginning self.now.engine.state.records self.now.engine.state.forced bytes }
+        ensures based { 0 < self.now.engine.state.forced
+            → gone self.now.engine.state.records < self.now.engine.state.forced }
         ensures replays { Follows P.PageDevice L.LogDevice self.now.base self.now.audit self.now.engine }
     {
         self.engine.shows_kept();

@@ -21,8 +21,8 @@ returns c = record {
   another_changed = λ z old new q past other kept. other (kept q past);
   ran = λ d runs h s. runs s;
   ran_while_stopped = λ old new h s r. r h s;
-  no_bytes = λ log told ends. c.one_log.ensures log [] [] told tt ends (ends_all [] [] refl);
-  two_logs = λ a b bytes h k other x y. other (c.one_log.ensures a b bytes h k x y);
-  another_count = λ log bytes n told other ends holds. other (c.records_are_the_log.ensures log bytes n told ends holds);
+  no_bytes = λ log told ends. c.one_log.ensures log [] [] tt told tt ends (ends_all [] [] refl);
+  two_logs = λ a b bytes plain h k other x y. other (c.one_log.ensures a b bytes plain h k x y);
+  another_count = λ log bytes n plain told other ends holds. other (c.records_are_the_log.ensures log bytes n plain told ends holds);
   two_sizes = λ a b image other h k. other (c.one_size.ensures a b image h k);
 }

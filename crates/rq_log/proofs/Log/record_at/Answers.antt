@@ -1,4 +1,5 @@
 use Rattle.std.proofs.Common.{◌≡◌, ◌-◌, length, ap, ◌∙◌}
+use Rattle.rq_model.specs.Bases.{standing}
 use Rattle.rq_log.proofs.Places.{stands_none, told, why_not_told}
 use Rattle.rq_log.proofs.Log.record_at.Goals as goal
 use Rattle.rq_log.proofs.Log.record_at.Goals.{in-Ok, in-Err}
@@ -6,7 +7,7 @@ use Rattle.rq_log.proofs.Log.record_at.Goals.{in-Ok, in-Err}
 pub returns-then-place-self-clause-found : goal.returns-then-place-self-clause-found
 returns-then-place-self-clause-found g c =
     let k = c.self.invariant in
-    rw (← c.self.view_is) (λ h few. stands_none c.self.inside.past.value c.args.place k.is_log.spelled (c.if-place-self.true ∙ k.total few))
+    rw (← c.self.view_is) (λ h few. stands_none (standing c.self.inside.past) c.args.place k.is_log.spelled (c.if-place-self.true ∙ k.total few))
 
 pub returns-clause-found : goal.returns-clause-found
 returns-clause-found g c = elim c.match-record_in.branch [

@@ -10,13 +10,15 @@ use Rattle.rq_restart.specs.Undoing.{StepStops}
 use Rattle.rq_restart.proofs.Aborts.{aborting_join, aborting_none, aborts_end, aborts_join, ended_less, gone_join, nothing_gone, one_gone, one_stops, stops_join}
 use Rattle.rq_restart.proofs.DueLists.{active_range}
 use Rattle.rq_restart.proofs.Rounds.{end_belongs, end_shown, least_in, least_of, shown_way}
+use Rattle.rq_restart.proofs.Repeated.{follow_plain}
+use Rattle.rq_log.proofs.Parsing.{told_all}
 use Rattle.rq_restart.proofs.aborting.end_idle.Goals as goal
 
 pub append-requires-clause-range : goal.append-requires-clause-range
 append-requires-clause-range g c = λ are.
     let kept = c.loop-txn.invariant in
     let e : least_free c.loop-txn.analysis.dues c.loop-txn.analysis.open_work.active ≡ Some c.in-Some.txn = ap (least_free c.loop-txn.analysis.dues) (sym c.active.ensures) ∙ sym c.in-Some.ensures in
-    active_range c.loop-txn.log.records are c.in-Some.txn (least_in c.loop-txn.log.records c.loop-txn.analysis kept.found c.in-Some.txn e)
+    active_range c.loop-txn.log.records (told_all c.loop-txn.log.records (follow_plain c.loop-txn.log.records kept.found.follow) are) c.in-Some.txn (least_in c.loop-txn.log.records c.loop-txn.analysis kept.found c.in-Some.txn e)
 
 pub loop-txn-init : goal.loop-txn-init
 loop-txn-init g c = record {

@@ -17,6 +17,8 @@ use Rattle.rq_restart.specs.Undoing.{StepStops}
 use Rattle.rq_restart.proofs.Aborts.{aborting_none, all_made, closing_aborts, gone_join, making_aborts, none_gone, one_gone, one_stops, planned_here, stops_before, stops_join}
 use Rattle.rq_restart.proofs.DueLists.{due_range, due_active}
 use Rattle.rq_restart.proofs.Rounds.{bad_due, begin_shown, close_belongs, close_rest, close_shown, few_operations, plan_stops, shown_way, taken_next, within_way}
+use Rattle.rq_restart.proofs.Repeated.{follow_plain}
+use Rattle.rq_log.proofs.Parsing.{told_all}
 use Rattle.rq_restart.proofs.aborting.undo_due.Goals as goal
 
 pub returns-in_err-writes-clause-stops : goal.returns-in_err-writes-clause-stops
@@ -46,7 +48,7 @@ pub make_all-requires-clause-txn : goal.make_all-requires-clause-txn
 make_all-requires-clause-txn g c =
     let d = c.args.due.now in
     let there : In d (dues c.args.log.now.records) = subst (In d) (sym c.requires.first.1 ∙ c.requires.found.dues) (inl refl) in
-    (due_range c.args.log.now.records c.shows_kept.ensures.log.spelled d there).0
+    (due_range c.args.log.now.records (told_all c.args.log.now.records (follow_plain c.args.log.now.records c.requires.found.follow) c.shows_kept.ensures.log.spelled) d there).0
 
 pub returns-in_err-make_all-clause-stops : goal.returns-in_err-make_all-clause-stops
 returns-in_err-make_all-clause-stops g c =
@@ -71,7 +73,7 @@ pub append-requires-clause-range : goal.append-requires-clause-range
 append-requires-clause-range g c = λ are.
     let d = c.args.due.now in
     let there : In d (dues c.args.log.now.records) = subst (In d) (sym c.requires.first.1 ∙ c.requires.found.dues) (inl refl) in
-    let k = due_range c.args.log.now.records c.shows_kept.ensures.log.spelled d there in
+    let k = due_range c.args.log.now.records (told_all c.args.log.now.records (follow_plain c.args.log.now.records c.requires.found.follow) c.shows_kept.ensures.log.spelled) d there in
     (k.0, (omega arith), k.1)
 
 pub returns-then-last-ge-LOG_LIMIT-clause-stops : goal.returns-then-last-ge-LOG_LIMIT-clause-stops

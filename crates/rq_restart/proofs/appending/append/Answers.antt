@@ -1,5 +1,6 @@
 use Rattle.std.proofs.Common.{◌≡◌, ◌∷◌, ◌+◌, rules, ap, refl, subst, sym}
 use Rattle.std.proofs.lemmas.Bool.{false≢true}
+use Rattle.rq_model.proofs.Bases.{plain_of}
 use Rattle.rq_restart.specs.Found.{IsAnalysisOf}
 use Rattle.rq_restart.specs.Repeating.{paged}
 use Rattle.rq_restart.proofs.Going.{found_next}
@@ -9,6 +10,9 @@ use Rattle.rq_restart.proofs.appending.append.Goals.{then-not-is_next-via-then-n
 
 pub append-requires-clause-record : goal.append-requires-clause-record
 append-requires-clause-record g c = c.requires.range c.shows_kept.ensures.log.spelled
+
+pub append-requires-clause-plain : goal.append-requires-clause-plain
+append-requires-clause-plain g c = plain_of c.args.undo.now ((c.in_ok-is_next.ensures.next c.args.log.now.records c.requires.found (λ y. c.requires.readable, λ q. refl)).0 c.if-not-is_next.false).follows.belongs
 
 pub returns-then-not-is_next-clause-stops : goal.returns-then-not-is_next-clause-stops
 returns-then-not-is_next-clause-stops g c =

@@ -1,5 +1,5 @@
-use Rattle.rq_log.proofs.Parsing.{one_log}
+use Rattle.rq_log.proofs.Parsing.{one_based}
 use Rattle.rq_restart.proofs.laws.one_log.Goals as goal
 
 pub returns : goal.returns
-returns c = one_log
+returns c = one_based

@@ -1,13 +1,18 @@
-use Rattle.std.proofs.Common.{rules, ◌≡◌, ◌+◌, ◌∷◌, List, length, ap, subst, sym, ◌∙◌, arith}
+use Rattle.std.proofs.Common.{rules, ◌≡◌, ◌+◌, inl, inr, ⊎_elim, true, false, [], ◌∷◌, ◌++◌, List, length, ap, refl, subst, sym, ◌∙◌, arith}
+use Rattle.rq_model.specs.Bases.{is_base, standing, with_next}
+use Rattle.rq_model.proofs.Bases.{base_alone, next_plain, next_stands, plain_of, standing_plain}
+use Rattle.rq_model.specs.declared.refusal.Refusal.TheVariants as why
+use Rattle.rq_model.specs.declared.refusal.Damage.TheVariants as damage
 use Rattle.rq_model.specs.declared.record.Record.{Record}
 use Rattle.rq_page.specs.Sizes.{Sizes}
 use Rattle.rq_log.specs.Reading.{BeginsWith}
-use Rattle.rq_log.specs.Spelled.{AreSpelled}
+use Rattle.rq_log.specs.Spelled.{spelled_all, AreAllSpelled, AreSpelled}
 use Rattle.rq_restart.specs.Found.{IsAnalysisOf}
 use Rattle.rq_restart.specs.Overwritten.{AreKept}
 use Rattle.rq_restart.specs.Refused.{IsStoppedBehind, NotRepeated}
 use Rattle.rq_restart.specs.Repeating.{IsRecordRedone, Repeats, paged}
 use Rattle.rq_restart.proofs.Going.{stopped_here, stopped_next}
+use Rattle.rq_log.proofs.Keeping.{front_begins}
 use Rattle.rq_restart.proofs.redo.repeat_history.Goals as goal
 
 pub loop-log_scan-preserved : goal.loop-log_scan-preserved
@@ -16,7 +21,8 @@ loop-log_scan-preserved g c =
     let front = c.loop-log_scan.reader.records in
     let r = c.next_into.new.into in
     let so_far = c.loop-log_scan.invariant in
-    let grown : c.next_into.new.self.records ≡ r ∷ front = rw c.if-branch.true at c.in_ok-next_into.ensures.some in
+    let plain : is_base r ≡ false = sym c.stands_for_others.ensures ∙ c.if-stands_for_others.false in
+    let grown : c.next_into.new.self.records ≡ r ∷ front = (rw c.if-branch.true at c.in_ok-next_into.ensures.some) ∙ next_plain r front plain in
     let size : length c.next_into.new.self.records ≡ length front + 1 = (let e = ap length grown in omega (arith, e)) in
     let place : c.last.result ≡ length front + 1 = c.last.ensures ∙ size in
     let made = c.in-Ok.ensures in
@@ -42,7 +48,8 @@ returns-in-Err-clause-stopped g c =
     let front = c.loop-log_scan.reader.records in
     let r = c.next_into.new.into in
     let so_far = c.loop-log_scan.invariant in
-    let grown : c.next_into.new.self.records ≡ r ∷ front = rw c.if-branch.true at c.in_ok-next_into.ensures.some in
+    let plain : is_base r ≡ false = sym c.stands_for_others.ensures ∙ c.if-stands_for_others.false in
+    let grown : c.next_into.new.self.records ≡ r ∷ front = (rw c.if-branch.true at c.in_ok-next_into.ensures.some) ∙ next_plain r front plain in
     let size : length c.next_into.new.self.records ≡ length front + 1 = (let e = ap length grown in omega (arith, e)) in
     let place : c.last.result ≡ length front + 1 = c.last.ensures ∙ size in
     let now = c.next_into.ensures.reading in
@@ -50,7 +57,30 @@ returns-in-Err-clause-stopped g c =
     let begins : l.honest c.next_into.new.self.device → BeginsWith (r ∷ front) (l.seen first) = λ h. subst (λ (rs : List Record). BeginsWith rs (l.seen first)) grown (now.begins h) in
     let counted : l.faults c.next_into.new.self.device ≡ l.faults first = c.in_ok-next_into.ensures.cause ∙ so_far.counted ∙ ap l.faults (sym (c.next_into.ensures.first ∙ so_far.first)) in
     let not : NotRepeated z front r (paged c.loop-log_scan.pages) c.in-Err.refusal = subst (λ (y : Sizes). NotRepeated y front r (paged c.loop-log_scan.pages) c.in-Err.refusal) so_far.sizes (c.in-Err.ensures.not front place so_far.found) in
-    stopped_next l z (paged c.args.pages.now) first c.next_into.new.self.device front r (paged c.loop-log_scan.pages) c.in-Err.refusal (subst AreSpelled grown now.are_spelled) begins so_far.repeated now.read counted not
+    let told : AreAllSpelled (r ∷ standing front) = subst AreAllSpelled (standing_plain r front plain) (subst AreSpelled grown now.are_spelled) in
+    stopped_next l z (paged c.args.pages.now) first c.next_into.new.self.device front r (paged c.loop-log_scan.pages) c.in-Err.refusal told.0 told.1 begins (λ h. front_begins r front (l.seen first) (inl plain) (subst (λ (rs : List Record). BeginsWith rs (l.seen first)) (sym (next_plain r front plain)) (begins h))) so_far.repeated now.read counted not
+
+-- a Base is the first that was read, and belongs to no store
+pub returns-then-stands_for_others-clause-stopped : goal.returns-then-stands_for_others-clause-stopped
+returns-then-stands_for_others-clause-stopped g c =
+    let l = g.L.LogDevice in
+    let z = c.args.pages.now.sizes in
+    let front = c.loop-log_scan.reader.records in
+    let r = c.next_into.new.into in
+    let so_far = c.loop-log_scan.invariant in
+    let base : is_base r ≡ true = sym c.stands_for_others.ensures ∙ c.if-stands_for_others.true in
+    let none : front ≡ [] = ⊎_elim (λ plain. absurd (let bad : true ≡ false = sym base ∙ plain in cc bad)) (λ e. e) (rw c.if-branch.true at c.in_ok-next_into.ensures.oldest) in
+    let grown : c.next_into.new.self.records ≡ with_next r [] = (rw c.if-branch.true at c.in_ok-next_into.ensures.some) ∙ ap (with_next r) none in
+    let stands : standing c.next_into.new.self.records ≡ r ∷ [] = ap standing grown ∙ next_stands r [] (inr refl) in
+    let now = c.next_into.ensures.reading in
+    let first = c.next_into.new.self.first in
+    let alone : standing (r ∷ []) ≡ r ∷ [] = base_alone r in
+    let begins : l.honest c.next_into.new.self.device → BeginsWith (r ∷ []) (l.seen first) = λ h. (let b = now.begins h in (b.0, b.1 ∙ ap (λ rs. spelled_all rs ++ b.0) (stands ∙ sym alone))) in
+    let told : AreAllSpelled (r ∷ []) = subst AreAllSpelled stands now.are_spelled in
+    let counted : l.faults c.next_into.new.self.device ≡ l.faults first = c.in_ok-next_into.ensures.cause ∙ so_far.counted ∙ ap l.faults (sym (c.next_into.ensures.first ∙ so_far.first)) in
+    let repeated : Repeats z [] (paged c.args.pages.now) (paged c.loop-log_scan.pages) = subst (λ rs. Repeats z rs (paged c.args.pages.now) (paged c.loop-log_scan.pages)) none so_far.repeated in
+    stopped_next l z (paged c.args.pages.now) first c.next_into.new.self.device [] r (paged c.loop-log_scan.pages) (why.Damaged (damage.Record 1)) told.0 tt begins (λ h. (l.seen first, refl)) repeated now.read counted
+    (refl, λ b. absurd (let bad : true ≡ false = sym base ∙ plain_of r b.follows.belongs in cc bad))
 
 pub returns-in_err-next_into-clause-stopped : goal.returns-in_err-next_into-clause-stopped
 returns-in_err-next_into-clause-stopped g c =

@@ -13,19 +13,20 @@ use Rattle.rq_restart.specs.Repeating.{Repeats, paged}
 use Rattle.rq_restart.specs.Overwritten.{AreKept}
 use Rattle.rq_restart.proofs.Restarts.{shut_by, shut_left}
 use Rattle.rq_restart.proofs.Moments.{only_read, read_first}
+use Rattle.rq_restart.proofs.Repeated.{follow_plain}
 use Rattle.rq_restart.proofs.Parsing.{log_is, stopped_shut}
 use Rattle.rq_restart.proofs.restart.restart_log.Goals as goal
 
 pub returns-in-Ok-finish_restart-clause-begun : goal.returns-in-Ok-finish_restart-clause-begun
 returns-in-Ok-finish_restart-clause-begun g c = λ older r.
     let read = c.in-Ok.ensures in
-    let same : c.in-Ok.log.records ≡ older = log_is older c.in-Ok.log.records c.in-Ok.log.records _ r.are_spelled r.reads refl read.spelled (read.whole (c.finish_restart.ensures.left.honest r.honest)) in
+    let same : c.in-Ok.log.records ≡ older = log_is older c.in-Ok.log.records c.in-Ok.log.records _ (follow_plain c.in-Ok.log.records read.found.follow) r.are_spelled r.reads refl read.spelled (read.whole (c.finish_restart.ensures.left.honest r.honest)) in
     subst (λ l. IsBegun l c.finish_restart.new.log) same c.in-Ok-finish_restart.ensures.restarted.begun
 
 pub returns-in-Ok-finish_restart-clause-report : goal.returns-in-Ok-finish_restart-clause-report
 returns-in-Ok-finish_restart-clause-report g c = λ older r.
     let read = c.in-Ok.ensures in
-    let same : c.in-Ok.log.records ≡ older = log_is older c.in-Ok.log.records c.in-Ok.log.records _ r.are_spelled r.reads refl read.spelled (read.whole (c.finish_restart.ensures.left.honest r.honest)) in
+    let same : c.in-Ok.log.records ≡ older = log_is older c.in-Ok.log.records c.in-Ok.log.records _ (follow_plain c.in-Ok.log.records read.found.follow) r.are_spelled r.reads refl read.spelled (read.whole (c.finish_restart.ensures.left.honest r.honest)) in
     let t = c.in-Ok-finish_restart.report in
     let z = c.finish_restart.new.pages.sizes in
     let now = c.finish_restart.new.log.records in
@@ -34,7 +35,7 @@ returns-in-Ok-finish_restart-clause-report g c = λ older r.
 pub returns-in-Ok-finish_restart-clause-sound : goal.returns-in-Ok-finish_restart-clause-sound
 returns-in-Ok-finish_restart-clause-sound g c = λ older r.
     let read = c.in-Ok.ensures in
-    let same : c.in-Ok.log.records ≡ older = log_is older c.in-Ok.log.records c.in-Ok.log.records _ r.are_spelled r.reads refl read.spelled (read.whole (c.finish_restart.ensures.left.honest r.honest)) in
+    let same : c.in-Ok.log.records ≡ older = log_is older c.in-Ok.log.records c.in-Ok.log.records _ (follow_plain c.in-Ok.log.records read.found.follow) r.are_spelled r.reads refl read.spelled (read.whole (c.finish_restart.ensures.left.honest r.honest)) in
     let mid = c.read_and_redo.new.pages in
     let first = paged c.args.pages in
     let sizes = c.read_and_redo.ensures.sizes in
@@ -48,7 +49,7 @@ returns-in-Ok-finish_restart-clause-sound g c = λ older r.
 pub returns-in-Ok-clause-err : goal.returns-in-Ok-clause-err
 returns-in-Ok-clause-err g c = λ older r.
     let read = c.in-Ok.ensures in
-    let same : c.in-Ok.log.records ≡ older = log_is older c.in-Ok.log.records c.in-Ok.log.records _ r.are_spelled r.reads refl read.spelled (read.whole (c.finish_restart.ensures.left.honest (subst g.L.LogDevice.honest c.give_back-in-Err-finish_restart.ensures r.honest))) in
+    let same : c.in-Ok.log.records ≡ older = log_is older c.in-Ok.log.records c.in-Ok.log.records _ (follow_plain c.in-Ok.log.records read.found.follow) r.are_spelled r.reads refl read.spelled (read.whole (c.finish_restart.ensures.left.honest (subst g.L.LogDevice.honest c.give_back-in-Err-finish_restart.ensures r.honest))) in
     let mid = c.read_and_redo.new.pages in
     let first = paged c.args.pages in
     let sizes = c.read_and_redo.ensures.sizes in

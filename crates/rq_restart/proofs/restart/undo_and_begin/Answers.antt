@@ -8,6 +8,7 @@ use Rattle.rq_restart.specs.Restarting.{AreTold, Reports}
 use Rattle.rq_restart.proofs.Begun.{begins, begun_is, last_is, not_begun, reports}
 use Rattle.rq_restart.proofs.Counting.{are_told}
 use Rattle.rq_restart.proofs.Moments.{begun_moment, left_alone}
+use Rattle.rq_restart.proofs.Repeated.{follow_plain}
 use Rattle.rq_restart.proofs.restart.undo_and_begin.Goals as goal
 
 pub returns-in-Ok-clause-restarted : goal.returns-in-Ok-clause-restarted
@@ -55,7 +56,7 @@ returns-in-Ok-clause-left g c =
     record {
       honest = λ h. subst g.L.LogDevice.honest rollback.log.0 (c.begin_incarnation.ensures.honest h);
       any_moment = λ first before h are read. begun_moment g.L.LogDevice z (IsLeft z first.image older) older rolled_back (records.Restart (c.incarnation.result + 1)) c.undo_all.new.log.forced c.args.log.now.device c.undo_all.new.log.device c.begin_incarnation.new.log.device rollback.log.0 rollback.rolls_back.is (rollback.rolls_back.recovered first before)
-          restart are read (c.begin_incarnation.ensures.any_moment h);
+          restart (tt, follow_plain rolled_back rollback.found.follow) are read (c.begin_incarnation.ensures.any_moment h);
     }
 
 pub returns-in-Err-clause-left : goal.returns-in-Err-clause-left
@@ -68,7 +69,7 @@ returns-in-Err-clause-left g c =
     record {
       honest = λ h. subst g.L.LogDevice.honest rollback.log.0 (c.begin_incarnation.ensures.honest h);
       any_moment = λ first before h are read. begun_moment g.L.LogDevice z (IsLeft z first.image older) older rolled_back (records.Restart (c.incarnation.result + 1)) c.undo_all.new.log.forced c.args.log.now.device c.undo_all.new.log.device c.begin_incarnation.new.log.device rollback.log.0 rollback.rolls_back.is (rollback.rolls_back.recovered first before)
-          restart are read (c.begin_incarnation.ensures.any_moment h);
+          restart (tt, follow_plain rolled_back rollback.found.follow) are read (c.begin_incarnation.ensures.any_moment h);
     }
 
 pub returns-in-Err-clause-stops : goal.returns-in-Err-clause-stops

@@ -25,7 +25,7 @@ returns-clause-applied g c =
       fit = λ h earlier long k fit.
           fit_kept g.P.PageDevice g.L.LogDevice g.met.P.PageDevice.only_now (over earlier c.args.self.now) (over earlier c.call.new.self) k fit
           c.args.event.now c.call.result _ _ told.sizes (told.answered h earlier long k) (writes_over earlier c.args.self.now c.args.event.now c.call.result told.writes) (pages_over g.P.PageDevice earlier c.args.self.now c.call.new.self c.args.event.now c.call.result told.pages);
-      crash = λ h earlier long k fit alike.
-          cuts_over g.P.PageDevice g.L.LogDevice g.met.P.PageDevice.only_now c.args.self.now c.call.new.self earlier k fit alike
+      crash = λ h earlier long k fit.
+          cuts_over g.P.PageDevice g.L.LogDevice g.met.P.PageDevice.only_now c.args.self.now c.call.new.self earlier (c.shows_kept.ensures.spelled, c.shows_kept.ensures.based) long k fit
           c.args.event.now c.call.result told.writes told.pages (c.shows_kept.ensures.leaves (told.honest h).1) (told.any_moment h.1);
     }

@@ -32,14 +32,14 @@ returns-in-Err-clause-answered g c h earlier long k =
 
 pub returns-in_err-check_running-clause-fit : goal.returns-in_err-check_running-clause-fit
 returns-in_err-check_running-clause-fit g c =
-    none_fit g.P.PageDevice g.L.LogDevice g.met.P.PageDevice.only_now g.met.L.LogDevice.only_now c.args.self.now c.shows_kept.ensures.leaves
+    none_fit g.P.PageDevice g.L.LogDevice g.met.P.PageDevice.only_now g.met.L.LogDevice.only_now c.args.self.now (c.shows_kept.ensures.spelled, c.shows_kept.ensures.based) c.shows_kept.ensures.leaves
 
 pub returns-in-Ok-clause-fit : goal.returns-in-Ok-clause-fit
 returns-in-Ok-clause-fit g c =
-    log_fit g.P.PageDevice g.L.LogDevice g.met.P.PageDevice.only_now g.met.L.LogDevice.only_now c.args.self.now _ c.shows_kept.ensures.leaves
+    log_fit g.P.PageDevice g.L.LogDevice g.met.P.PageDevice.only_now g.met.L.LogDevice.only_now c.args.self.now _ (c.shows_kept.ensures.spelled, c.shows_kept.ensures.based) c.shows_kept.ensures.leaves
     _ c.self.view_is refl refl c.in-Ok.ensures.records (inr (c.in-Ok.ensures.ok.1 ∙ c.in-Ok.ensures.ok.0 ∙ ap length c.in-Ok.ensures.records)) c.in-Ok.ensures.honest (λ h. c.in-Ok.ensures.any_moment h c.self.invariant.durable)
 
 pub returns-in-Err-clause-fit : goal.returns-in-Err-clause-fit
 returns-in-Err-clause-fit g c =
-    log_fit g.P.PageDevice g.L.LogDevice g.met.P.PageDevice.only_now g.met.L.LogDevice.only_now c.args.self.now _ c.shows_kept.ensures.leaves
+    log_fit g.P.PageDevice g.L.LogDevice g.met.P.PageDevice.only_now g.met.L.LogDevice.only_now c.args.self.now _ (c.shows_kept.ensures.spelled, c.shows_kept.ensures.based) c.shows_kept.ensures.leaves
     _ c.self.view_is refl refl c.in-Err.ensures.records (inl c.in-Err.ensures.as_before.0) c.in-Err.ensures.honest (λ h. c.in-Err.ensures.any_moment h c.self.invariant.durable)

@@ -3,6 +3,6 @@ use Rattle.rq_engine.proofs.engine.Engine.shows_kept.Goals as goal
 
 pub returns-clause-cut : goal.returns-clause-cut
 returns-clause-cut g c =
-    λ h earlier long k fit alike.
+    λ h earlier long k fit.
     leaves_cut_over g.P.PageDevice g.L.LogDevice g.met.P.PageDevice.only_now c.args.self.now earlier
-    (rw (← c.self.view_is) (λ h. c.shows_kept.ensures.log.leaves h c.self.invariant.durable)) h k fit alike
+    (rw (← c.self.view_is) (λ h. c.shows_kept.ensures.log.leaves h c.self.invariant.durable)) (rw (← c.self.view_is) (c.shows_kept.ensures.log.spelled, c.shows_kept.ensures.log.based)) h long k fit

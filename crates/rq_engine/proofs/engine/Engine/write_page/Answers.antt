@@ -25,16 +25,16 @@ returns-in-Err-DiskWrite-clause-answered g c h earlier long k =
 
 pub returns-in_err-check_running-clause-fit : goal.returns-in_err-check_running-clause-fit
 returns-in_err-check_running-clause-fit g c =
-    none_fit g.P.PageDevice g.L.LogDevice g.met.P.PageDevice.only_now g.met.L.LogDevice.only_now c.args.self.now c.shows_kept.ensures.leaves
+    none_fit g.P.PageDevice g.L.LogDevice g.met.P.PageDevice.only_now g.met.L.LogDevice.only_now c.args.self.now (c.shows_kept.ensures.spelled, c.shows_kept.ensures.based) c.shows_kept.ensures.leaves
 
 pub returns-in-Ok-clause-fit : goal.returns-in-Ok-clause-fit
 returns-in-Ok-clause-fit g c =
-    page_fit g.P.PageDevice g.L.LogDevice g.met.P.PageDevice.only_now g.met.L.LogDevice.only_now c.args.self.now _ c.shows_kept.ensures.leaves
+    page_fit g.P.PageDevice g.L.LogDevice g.met.P.PageDevice.only_now g.met.L.LogDevice.only_now c.args.self.now _ (c.shows_kept.ensures.spelled, c.shows_kept.ensures.based) c.shows_kept.ensures.leaves
     c.args.page (Ok c.in-Ok.written) (search rules) (search rules) (search rules) (search rules)
 
 pub returns-in-Err-DiskWrite-clause-fit : goal.returns-in-Err-DiskWrite-clause-fit
 returns-in-Err-DiskWrite-clause-fit g c =
-    page_fit g.P.PageDevice g.L.LogDevice g.met.P.PageDevice.only_now g.met.L.LogDevice.only_now c.args.self.now _ c.shows_kept.ensures.leaves
+    page_fit g.P.PageDevice g.L.LogDevice g.met.P.PageDevice.only_now g.met.L.LogDevice.only_now c.args.self.now _ (c.shows_kept.ensures.spelled, c.shows_kept.ensures.based) c.shows_kept.ensures.leaves
     c.args.page (Err why.DiskWrite) (search rules) (search rules) (search rules) (search rules)
 
 pub returns-in-Err : goal.returns-in-Err
@@ -49,6 +49,6 @@ returns-in-Err g c = record {
   log = search rules;
   refused = search rules;
   failed = search rules;
-  fit = page_fit g.P.PageDevice g.L.LogDevice g.met.P.PageDevice.only_now g.met.L.LogDevice.only_now c.args.self.now _ c.shows_kept.ensures.leaves
+  fit = page_fit g.P.PageDevice g.L.LogDevice g.met.P.PageDevice.only_now g.met.L.LogDevice.only_now c.args.self.now _ (c.shows_kept.ensures.spelled, c.shows_kept.ensures.based) c.shows_kept.ensures.leaves
       c.args.page (Err c.in-Err.refusal) (search rules) (search rules) (search rules) (search rules);
 }

@@ -1,0 +1,165 @@
+-- What stands of a log that a Base begins.
+use Rattle.std.proofs.Common.{◌≡◌, ℕ, zero, suc, ◌+◌, ◌<◌, ◌≤◌, ◌⊎◌, inl, inr, true, false, List, [], ◌∷◌, ◌++◌, length, drop, refl, sym, ◌∙◌, ap, arith, length-append}
+use Rattle.rq_model.specs.declared.record.Record.{Record}
+use Rattle.rq_model.specs.declared.record.Record.TheVariants.{Base}
+use Rattle.rq_model.specs.Incarnations.{AreBased, ArePlain, IsBased, is_plain}
+use Rattle.rq_model.specs.Bases.{IsMarked, is_base, standing, gone, marks, with_next}
+
+pub standing_plain : (r : Record) (log : List Record) → is_base r ≡ false → standing (r ∷ log) ≡ r ∷ standing log
+standing_plain (Base many i) log e = absurd cc
+standing_plain _ log e = refl
+
+pub gone_plain : (r : Record) (log : List Record) → is_base r ≡ false → gone (r ∷ log) ≡ gone log
+gone_plain (Base many i) log e = absurd cc
+gone_plain _ log e = refl
+
+pub next_plain : (r : Record) (log : List Record) → is_base r ≡ false → with_next r log ≡ r ∷ log
+next_plain (Base many i) log e = absurd cc
+next_plain _ log e = refl
+
+one_long : (r : Record) (log : List Record) → length (standing log) + gone log ≡ length log → length (standing (r ∷ log)) + gone (r ∷ log) ≡ length (r ∷ log)
+one_long (Base many i) log e = omega arith
+one_long _ log e = omega (arith, e)
+
+-- what stands and what is gone is all
+pub length_standing : (log : List Record) → length (standing log) + gone log ≡ length log
+length_standing [] = refl
+length_standing (r ∷ log) = one_long r log (length_standing log)
+
+-- what stands if the newest records are cut off, and the Base is not
+module _ (k : ℕ) (log : List Record) where
+  drop_one : (r : Record) → suc k + gone (r ∷ log) < length (r ∷ log) → (k + gone log < length log → standing (drop k log) ≡ drop k (standing log)) → standing (drop (suc k) (r ∷ log)) ≡ drop (suc k) (standing (r ∷ log))
+  drop_one (Base many i) low e = absurd (omega (arith, low))
+  drop_one _ low e = e (omega (arith, low))
+
+  gone_one : (r : Record) → suc k + gone (r ∷ log) < length (r ∷ log) → (k + gone log < length log → gone (drop k log) ≡ gone log) → gone (drop (suc k) (r ∷ log)) ≡ gone (r ∷ log)
+  gone_one (Base many i) low e = absurd (omega (arith, low))
+  gone_one _ low e = e (omega (arith, low))
+
+pub drop_standing : (k : ℕ) (log : List Record) → k + gone log < length log → standing (drop k log) ≡ drop k (standing log)
+drop_standing zero log low = refl
+drop_standing (suc k) [] low = absurd (omega (arith, low))
+drop_standing (suc k) (r ∷ log) low = drop_one k log r low (drop_standing k log)
+
+pub drop_gone : (k : ℕ) (log : List Record) → k + gone log < length log → gone (drop k log) ≡ gone log
+drop_gone zero log low = refl
+drop_gone (suc k) [] low = absurd (omega (arith, low))
+drop_gone (suc k) (r ∷ log) low = gone_one k log r low (drop_gone k log)
+
+again_one : (r : Record) (log : List Record) → standing (standing log) ≡ standing log → standing (standing (r ∷ log)) ≡ standing (r ∷ log)
+again_one (Base many i) log e = refl
+again_one r log e = ap (λ l. r ∷ l) e
+
+-- all of it stands
+pub standing_again : (log : List Record) → standing (standing log) ≡ standing log
+standing_again [] = refl
+standing_again (r ∷ log) = again_one r log (standing_again log)
+
+few_one : (x : Record) (log : List Record) (n : ℕ) → length (standing log) ≤ n + 1 → length (standing (x ∷ log)) ≤ suc n + 1
+few_one (Base many i) log n e = omega arith
+few_one _ log n e = omega (arith, e)
+
+few_stand : (newer older : List Record) (r : Record) → is_base r ≡ true → length (standing (newer ++ (r ∷ older))) ≤ length newer + 1
+few_stand [] older (Base many i) e = omega arith
+few_stand [] older _ e = absurd cc
+few_stand (x ∷ newer) older r e = few_one x (newer ++ (r ∷ older)) (length newer) (few_stand newer older r e)
+
+-- so a Base is the oldest of what stands
+pub base_first : (newer older : List Record) (r : Record) → standing (newer ++ (r ∷ older)) ≡ newer ++ (r ∷ older) → is_base r ≡ true → older ≡ []
+base_first newer [] r e is = refl
+base_first newer (x ∷ older) r e is =
+    let few = few_stand newer (x ∷ older) r is in
+    let sum = length-append newer (r ∷ (x ∷ older)) in
+    let same = ap length e in
+    absurd (omega (arith, few, sum, same))
+
+pub length_marks : (n : ℕ) → length (marks n) ≡ n
+length_marks zero = refl
+length_marks (suc n) = ap suc (length_marks n)
+
+-- the next that is read stands behind what was read
+pub next_stands : (r : Record) (log : List Record) → (is_base r ≡ false) ⊎ (log ≡ []) → standing (with_next r log) ≡ r ∷ standing log
+next_stands (Base many i) log (inl e) = absurd cc
+next_stands (Base many i) log (inr none) = ap (λ l. Base many i ∷ standing l) (sym none)
+next_stands _ log e = refl
+
+pub none_stand : (log : List Record) → standing log ≡ [] → length log ≡ 0
+none_stand [] e = refl
+none_stand (r ∷ log) e = absurd (some r log e)
+  where
+    some : (r : Record) (log : List Record) → standing (r ∷ log) ≡ [] → ⊥
+    some (Base many i) log e = cc
+    some _ log e = cc
+
+gone_few : (r : Record) (log : List Record) → length (standing log) + gone log ≡ length log → gone (r ∷ log) < length (r ∷ log)
+gone_few (Base many i) log e = omega arith
+gone_few _ log e = omega (arith, e)
+
+-- where there is a record, one stands
+pub gone_less : (log : List Record) → 0 < length log → gone log < length log
+gone_less [] some = absurd (omega (arith, some))
+gone_less (r ∷ log) some = gone_few r log (length_standing log)
+
+pub plain_of : (r : Record) → IsBased r → is_base r ≡ false
+plain_of (Base many i) none = absurd none
+plain_of _ none = refl
+
+-- a log without one stands whole
+pub all_stand : (log : List Record) → AreBased log → standing log ≡ log
+all_stand [] plain = refl
+all_stand (r ∷ log) plain = standing_plain r log (plain_of r plain.0) ∙ ap (λ l. r ∷ l) (all_stand log plain.1)
+
+pub none_gone : (log : List Record) → AreBased log → gone log ≡ 0
+none_gone [] plain = refl
+none_gone (r ∷ log) plain = gone_plain r log (plain_of r plain.0) ∙ none_gone log plain.1
+
+plain_one : (r : Record) (log : List Record) → AreBased (standing (r ∷ log)) → (AreBased (standing log) → AreBased log) → AreBased (r ∷ log)
+plain_one (Base many i) log plain older = absurd plain.0
+plain_one _ log plain older = (plain.0, older plain.1)
+
+-- where none stands, there is none
+pub none_stands : (log : List Record) → AreBased (standing log) → AreBased log
+none_stands [] plain = tt
+none_stands (r ∷ log) plain = plain_one r log plain (none_stands log)
+
+pub plain_drop : (n : ℕ) (log : List Record) → AreBased log → AreBased (drop n log)
+plain_drop zero log plain = plain
+plain_drop (suc n) [] plain = tt
+plain_drop (suc n) (r ∷ log) plain = plain_drop n log plain.1
+
+pub base_alone : (r : Record) → standing (r ∷ []) ≡ r ∷ []
+base_alone (Base many i) = refl
+base_alone _ = refl
+
+-- a log that is read record by record is marked
+pub next_marked : (r : Record) (log : List Record) → (is_base r ≡ false) ⊎ (log ≡ []) → IsMarked log → IsMarked (with_next r log)
+next_marked (Base many i) log first marked = refl
+next_marked _ log first marked = marked
+
+base_stands : (many i : ℕ) (log : List Record) (q : Record) (other : List Record) → Base many i ∷ [] ≡ standing (q ∷ other) → log ≡ marks many → IsMarked (q ∷ other) → Base many i ∷ log ≡ q ∷ other
+base_stands many i log (Base n j) other e marked as_well =
+    let same : Base many i ≡ Base n j = cc in
+    let count : many ≡ n = cc in
+    ap (λ l. Base many i ∷ l) (marked ∙ ap marks count ∙ sym as_well) ∙ ap (λ r. r ∷ other) same
+base_stands many i log q other e marked as_well = absurd (let bad : Base many i ∷ [] ≡ q ∷ standing other = e in cc bad)
+
+-- and is known by what stands of it
+pub one_marked : (a b : List Record) → IsMarked a → IsMarked b → standing a ≡ standing b → a ≡ b
+one_marked [] [] marked as_well e = refl
+one_marked [] (q ∷ b) marked as_well e = absurd (let none = none_stand (q ∷ b) (sym e) in omega (arith, none))
+one_marked (r ∷ a) [] marked as_well e = absurd (let none = none_stand (r ∷ a) e in omega (arith, none))
+one_marked (Base many i ∷ a) (q ∷ b) marked as_well e = base_stands many i a q b e marked as_well
+one_marked (r ∷ a) (Base many i ∷ b) marked as_well e = sym (base_stands many i b r a (sym e) as_well marked)
+one_marked (r ∷ a) (q ∷ b) marked as_well e =
+    let same : r ≡ q = cc in
+    let rest : standing a ≡ standing b = cc in
+    ap (λ x. x ∷ a) same ∙ ap (λ l. q ∷ l) (one_marked a b marked as_well rest)
+
+added_plain : (r : Record) → is_plain r ≡ true → is_base r ≡ false
+added_plain (Base many i) plain = absurd cc
+added_plain _ plain = refl
+
+-- what a restart adds stands
+pub added_stand : (more log : List Record) → ArePlain more → standing (more ++ log) ≡ more ++ standing log
+added_stand [] log plain = refl
+added_stand (r ∷ more) log plain = standing_plain r (more ++ log) (added_plain r plain.0) ∙ ap (λ l. r ∷ l) (added_stand more log plain.1)
