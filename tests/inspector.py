@@ -127,14 +127,14 @@ def least_bases(begun):
 # ---- what is to be printed
 
 
-def report_of(records):
+def report_of(records, count):
     """The four lines behind those of the records, by what each operation and each transaction has."""
     of = {name: [tuple(numbers) for known, numbers in records if known == name] for name, *_ in KINDS.values()}
     begun = {numbers[:3] for numbers in of["page-op"]}
     ended = {numbers[:3] for name in ("op-end", "op-void", "comp-end") for numbers in of[name]}
     worked = {numbers[:2] for numbers in of["op-end"]}
     over = {numbers[:2] for name in ("commit", "abort-end") for numbers in of[name]}
-    yield f"records {len(records)}"
+    yield f"records {count}"
     yield counted("unfinished", [f"{i}.{c}/{n}" for i, c, n in sorted(begun - ended)])
     yield counted("lost", [f"{i}.{c}" for i, c in sorted(worked - over)])
     yield counted("committed", [f"{i}.{c}" for i, c in of["commit"]])
@@ -146,18 +146,22 @@ def counted(word, names):
 
 def wanted(log):
     """The lines that a log has, and the exit status."""
-    lines, records, at = [], [], 0
+    lines, records, at, count = [], [], 0, 0
     while at < len(log):
+        if count == 2**50:
+            return [*lines, "fault 19 LogFull"], 1
         found = front(log, at)
         if found is None and is_torn(log[at:]):
-            return [*lines, f"torn {len(log) - at} bytes", *report_of(records)], 0
-        if found is None:
-            return [*lines, f"damaged record {len(records) + 1}"], 1
+            return [*lines, f"torn {len(log) - at} bytes", *report_of(records, count)], 0
+        if found is None or found[0] == "base" and records:
+            return [*lines, f"damaged record {count + 1}"], 1
         name, numbers, end = found
+        # a base is of as many records as it says
+        count = numbers[0] + 1 if name == "base" else count + 1
         records.append((name, numbers))
-        lines.append(f"{len(records)} {name} " + LINES[name].format(*numbers, bytes=end - at - 30))
+        lines.append(f"{count} {name} " + LINES[name].format(*numbers, bytes=end - at - 30))
         at = end
-    return [*lines, *report_of(records)], 0
+    return [*lines, *report_of(records, count)], 0
 
 
 # ---- runs
@@ -233,6 +237,14 @@ def look_at_worked_bytes(looks):
     lines = ["1 restart 1", "2 op-end 1.1/1 level 1 deed 34 bytes", "3 commit 1.1", "4 op-void 1.1/1", "5 comp-end 1.2/5 of 13",
              "6 abort-end 1.2", "records 6", "unfinished 0", "lost 0", "committed 1 1.1"]  # fmt: skip
     looks.look_at("worked bytes", restart + end + commit + void + undone + b"\0\0\0\x11\x08" + one + two, lines, 0)
+    base = bytes.fromhex("00000011" "09" "0000000000000005" "0000000000000001")
+    looks.look_at("a base after five records", base, ["6 base 5 1", "records 6", "unfinished 0", "lost 0", "committed 0"], 0)
+    looks.look_at("a base, and more", base + b"\0\0\0\x09\x07" + two + commit[:5] + two + one,
+                  ["6 base 5 1", "7 restart 2", "8 commit 2.1", "records 8", "unfinished 0", "lost 0", "committed 1 2.1"], 0)  # fmt: skip
+    looks.look_at("a base behind a record", restart + base, ["1 restart 1", "damaged record 2"], 1)
+    most = b"\0\0\0\x11\x09" + (2**50 - 1).to_bytes(8, "big") + one
+    looks.look_at("a base of all records but one", most, [f"{2**50} base {2**50 - 1} 1", f"records {2**50}", "unfinished 0", "lost 0", "committed 0"], 0)
+    looks.look_at("more behind it", most + restart, [f"{2**50} base {2**50 - 1} 1", "fault 19 LogFull"], 1)
     looks.look_at("no bytes", b"", ["records 0", "unfinished 0", "lost 0", "committed 0"], 0)
     looks.look_at("another kind than the length says", restart + b"\0\0\0\x09\x06", ["1 restart 1", "damaged record 2"], 1)
     looks.look_at("a record that is cut", restart + commit[:20],

@@ -1,4 +1,5 @@
 pub mod Keyed
+pub mod Reading
 pub mod Stopped
 pub mod Texts
 pub mod Told

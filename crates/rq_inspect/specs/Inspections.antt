@@ -2,6 +2,8 @@
 use Rattle.std.specs.Prelude.{◌≡◌, ◌⊎◌, ℕ, ◌+◌, ◌%◌, ◌^◌, ◌≤◌, List, [], ◌∷◌, ◌++◌, Option, length}
 use Rattle.std.specs.Io.KnownBytes.{Appends}
 use Rattle.rq_model.specs.declared.record.Record.{Record}
+use Rattle.rq_model.specs.declared.record.Record.TheVariants.{Base}
+use Rattle.rq_model.specs.Bases.{IsMarked}
 use Rattle.rq_model.specs.declared.refusal.Refusal.{Refusal}
 use Rattle.rq_model.specs.declared.refusal.Refusal.TheVariants as why
 use Rattle.rq_model.specs.declared.refusal.Damage.TheVariants as damage
@@ -13,10 +15,15 @@ use Rattle.rq_inspect.specs.declared.inspecting.Stop.TheVariants as stops
 use Rattle.rq_inspect.specs.Lines.{line_of, torn_text}
 use Rattle.rq_inspect.specs.Reports.{IsReport, Reported, Tells, report_text}
 
+-- a Base comes first
+abbrev pub lines_one : Record → List ℕ → List ℕ → List ℕ
+lines_one (Base many i) older line = line
+lines_one r older line = older ++ line
+
 -- the line of each record, the oldest one's first
 abbrev pub lines : List Record → List ℕ
 lines [] = []
-lines (r ∷ log) = lines log ++ line_of (length log + 1) r
+lines (r ∷ log) = lines_one r (lines log) (line_of (length log + 1) r)
 
 -- the same, and a line more where bytes that are no record stand behind them, so many
 abbrev pub listed_text : List Record → ℕ → List ℕ
@@ -27,6 +34,7 @@ listed_text log left = lines log ++ torn_text left
 pub record IsInspected (bytes : List ℕ) (old new : Option (List ℕ)) : Type 0 where
   pub log : List Record
   pub are_spelled : AreSpelled log
+  pub marked : IsMarked log
   pub left : ℕ
   pub is : EndsShort log left bytes
   pub report : Reported
@@ -38,6 +46,7 @@ pub record IsInspected (bytes : List ℕ) (old new : Option (List ℕ)) : Type 0
 pub record IsBegun (bytes : List ℕ) (Written : List ℕ → Type 0) : Type 0 where
   pub log : List Record
   pub are_spelled : AreSpelled log
+  pub marked : IsMarked log
   pub begins : BeginsWith log bytes
   pub written : Written (lines log) ⊎ ((left : ℕ) × EndsShort log left bytes × Written (listed_text log left))
 
@@ -46,6 +55,7 @@ pub record IsBegun (bytes : List ℕ) (Written : List ℕ → Type 0) : Type 0 w
 pub record IsCutShort (bytes : List ℕ) (Written : List ℕ → Type 0) (lsn : ℕ) : Type 0 where
   pub log : List Record
   pub are_spelled : AreSpelled log
+  pub marked : IsMarked log
   pub next : lsn ≡ length log + 1
   pub damaged : IsDamagedBehind log bytes
   pub written : Written (lines log)
@@ -54,6 +64,7 @@ pub record IsCutShort (bytes : List ℕ) (Written : List ℕ → Type 0) (lsn : 
 pub record IsOverfull (bytes : List ℕ) : Type 0 where
   pub log : List Record
   pub are_spelled : AreSpelled log
+  pub marked : IsMarked log
   pub full : 2 ^ 50 ≤ length log
   pub more : HasMoreBehind log bytes
 
@@ -97,6 +108,7 @@ module _ {L : Type 0} (g : Ghosts L) where
 pub record IsListed (bytes : List ℕ) (old new : Option (List ℕ)) (report : Reported) : Type 0 where
   pub log : List Record
   pub are_spelled : AreSpelled log
+  pub marked : IsMarked log
   pub left : ℕ
   pub is : EndsShort log left bytes
   pub told : Tells log [] report

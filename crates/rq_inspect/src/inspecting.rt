@@ -1,7 +1,8 @@
 //! A log as it is read: its lines, and then its report.
-ghost use Rattle.std.specs.Prelude.{◌≡◌, ◌+◌, ◌++◌, [], ◌∷◌, OnOk, OnErr, IfErr, List, ℕ, Option, length};
+ghost use Rattle.std.specs.Prelude.{◌≡◌, ◌⊎◌, ◌++◌, [], false, OnOk, OnErr, IfErr, List, ℕ, Option, length};
 ghost use Rattle.std.specs.Io.KnownBytes.{Appends};
 ghost use Rattle.rq_model.specs.declared.record.Record.{Record};
+ghost use Rattle.rq_model.specs.Bases.{IsMarked, is_base, with_next};
 ghost use Rattle.rq_log.specs.Reading.{EndsShort, IsRead};
 ghost use Rattle.rq_log.specs.Spelled.{AreSpelled, EndsWith};
 ghost use Rattle.rq_inspect.specs.Inspections.{IsInspected, IsListed, IsReported, IsStopped, IsUnprinted, IsUnread, IsUnreported, IsWrittenBut, listed_text};
@@ -94,7 +95,7 @@ fn report_on<L: LogDevice + Drop, W: Write>(
     writer: &mut W,
 ) -> (L, Result<(), Stop>)
     ensures whole { OnOk result.1 (L.honest result.0 → (older : List Record) → AreSpelled older
-        → EndsWith older (L.seen log) → Tells older [] report
+        → IsMarked older → EndsWith older (L.seen log) → Tells older [] report
         → IsReported older (W.contents writer.old) (W.contents writer.new)) }
     ensures unreported { IfErr result.1 (λ stop. IsUnreported L.LogDevice stop log result.0
         (W.contents writer.old) (W.contents writer.new)) }
@@ -119,7 +120,7 @@ fn strike_out<L: LogDevice + Drop>(
     report: &mut Report,
 ) -> (L, Result<(), Refusal>)
     ensures whole { OnOk result.1 (L.honest result.0 → (older : List Record) → AreSpelled older
-        → EndsWith older (L.seen log) → Tells older [] report.old → Tells older older report.new) }
+        → IsMarked older → EndsWith older (L.seen log) → Tells older [] report.old → Tells older older report.new) }
     ensures unread { IfErr result.1 (λ e. IsUnread L.LogDevice e log result.0) }
     ensures cause { OnOk result.1 (L.faults result.0 ≡ L.faults log) }
     ensures read { IsRead L.LogDevice log result.0 }
@@ -209,6 +210,7 @@ fn go_through<L: LogDevice, W: Write>(
         (λ text. IsWrittenBut (W.contents writer.old) (W.contents writer.new) piece.new.items text)) }
     ensures cause { OnOk result (L.faults reader.new.device ≡ L.faults reader.old.first) }
     ensures spelled { AreSpelled reader.new.records }
+    ensures marked { IsMarked reader.new.records }
     ensures first { reader.new.first ≡ reader.old.first }
 {
     reader.shows_read();
@@ -240,8 +242,9 @@ fn take_in(
     lsn: Lsn,
     record: &Record,
 ) -> Result<(), NoMemory>
-    ensures told { OnOk result ((log : List Record) → lsn ≡ length log + 1 → Tells log [] report.old
-        → Tells («record».now ∷ log) [] report.new) }
+    ensures told { OnOk result ((log : List Record) → (is_base «record».now ≡ false) ⊎ (log ≡ [])
+        → lsn ≡ length (with_next «record».now log) → Tells log [] report.old
+        → Tells (with_next «record».now log) [] report.new) }
     ensures text { OnOk result (piece.new.items ≡ piece.old.items ++ line_of lsn «record».now) }
     ensures err { OnErr result (piece.new.items ≡ piece.old.items) }
 {

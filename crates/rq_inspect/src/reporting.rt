@@ -1,7 +1,8 @@
 //! What the records of a log come to.
-ghost use Rattle.std.specs.Prelude.{◌≡◌, ◌+◌, ◌++◌, ◌||◌, ◌&&◌, not, false, ℕ, List, [], ◌∷◌, OnOk, OnErr, codes, length};
+ghost use Rattle.std.specs.Prelude.{◌≡◌, ◌⊎◌, ◌+◌, ◌++◌, ◌||◌, ◌&&◌, not, false, ℕ, List, [], ◌∷◌, OnOk, OnErr, codes, length};
 ghost use Rattle.rq_model.specs.declared.txn.Txn.{Txn};
 ghost use Rattle.rq_model.specs.declared.record.Record.{Record};
+ghost use Rattle.rq_model.specs.Bases.{is_base, with_next};
 ghost use Rattle.rq_model.specs.Vocabulary.{same_txn};
 ghost use Rattle.rq_inspect.specs.Keys.{is_operation, names_operation, names_txn, txn_of};
 ghost use Rattle.rq_inspect.specs.Lines.{txn_text};
@@ -62,8 +63,9 @@ impl Report {
     /// # Errors
     /// `NoMemory`: nothing changed.
     pub fn note(&mut self, lsn: Lsn, record: &Record) -> Result<(), NoMemory>
-        ensures noted { OnOk result ((log : List Record) → lsn ≡ length log + 1 → Tells log [] self.old
-            → Tells («record».now ∷ log) [] self.new) }
+        ensures noted { OnOk result ((log : List Record) → (is_base «record».now ≡ false) ⊎ (log ≡ [])
+            → lsn ≡ length (with_next «record».now log) → Tells log [] self.old
+            → Tells (with_next «record».now log) [] self.new) }
         ensures err { OnErr result (self.new ≡ self.old) }
     {
         self.begin(record)?;
@@ -81,7 +83,8 @@ impl Report {
 
     /// Takes a record of the second reading.
     pub fn strike(&mut self, record: &Record)
-        ensures { (log again : List Record) → Tells log again self.old → Tells log («record».now ∷ again) self.new }
+        ensures { (log again : List Record) → (is_base «record».now ≡ false) ⊎ (again ≡ []) → Tells log again self.old
+            → Tells log (with_next «record».now again) self.new }
     {
         self.end(record);
     }

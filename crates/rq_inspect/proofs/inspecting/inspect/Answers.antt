@@ -13,10 +13,11 @@ returns-in-Ok-clause-whole g c =
     let listed = rw c.in-Ok.is at c.list-log.ensures.whole in
     on_ok_weaker c.report_on.result.1 (λ reported honest.
     let l = listed (c.report_on.ensures.read.honest honest) in
-    let r = reported honest l.log l.are_spelled (subst (EndsWith l.log) (sym c.list-log.ensures.read.same) (l.is.end, l.is.short, l.is.is)) l.told in
+    let r = reported honest l.log l.are_spelled l.marked (subst (EndsWith l.log) (sym c.list-log.ensures.read.same) (l.is.end, l.is.short, l.is.is)) l.told in
     record {
       log = l.log;
       are_spelled = l.are_spelled;
+      marked = l.marked;
       left = l.left;
       is = l.is;
       report = r.report;

@@ -5,9 +5,9 @@ use Rattle.rq_inspect.proofs.inspecting.report_on.Goals as goal
 pub returns-in-Ok-clause-whole : goal.returns-in-Ok-clause-whole
 returns-in-Ok-clause-whole g c =
     let struck = rw c.in-Ok.is at c.strike_out-log.ensures.whole in
-    on_ok_weaker c.write_report.result (λ written honest older are is told. record {
+    on_ok_weaker c.write_report.result (λ written honest older are marked is told. record {
       report = c.strike_out-log.new.report;
-      told = c.shows_told.ensures older (struck honest older are is told);
+      told = c.shows_told.ensures older (struck honest older are marked is told);
       written = written;
     }) c.write_report.ensures.told
 
