@@ -1,11 +1,12 @@
 -- What slots hold that were given.
-use Rattle.std.proofs.Common.{◌≡◌, ℕ, ◌/◌, ◌%◌, ◌<◌, List, [], ◌∷◌, Bool, true, false, cond, nat_eq, Option, None, Some, refl, sym, ap, ◌∙◌, subst}
+use Rattle.std.proofs.Common.{◌≡◌, ℕ, ◌/◌, ◌%◌, ◌<◌, List, [], ◌∷◌, Bool, true, false, cond, nat_eq, Option, None, Some, slice_index, refl, sym, ap, ◌∙◌, subst}
 use Rattle.std.proofs.lemmas.List.Elements.{All-head, All-tail}
 use Rattle.std.proofs.lemmas.Bool.{eqb-true}
 use Rattle.rq_page.specs.Sizes.{Sizes, IsCellAddress, directory_at, sender_at, sender_count}
 use Rattle.rq_page.specs.Kinds.{kind_of}
-use Rattle.rq_page.specs.Cells.{cell_bytes, free_bytes, IsCell}
+use Rattle.rq_page.specs.Cells.{cell_bytes, cell_in, free_bytes, IsCell}
 use Rattle.rq_page.specs.Directories.{directory_bytes, directory_in}
+use Rattle.rq_page.proofs.CellBytes.{cell_in-cell_bytes}
 use Rattle.rq_page.proofs.DirectoryBytes.{directory_in-directory_bytes}
 use Rattle.rq_page.specs.Slots.{Slot, Free, Used, Sender, held_in, slot_bytes, MayHold, IsCellOf, IsDirectoryOf, IsSlotOf}
 use Rattle.rq_page.specs.declared.cell.Cell.{Cell}
@@ -86,6 +87,18 @@ cell_held z a bytes is slot =
     let there : MayHold (Some kind.Cells) z (a / 16) (a % 16) (held_in z (a / 16) bytes) =
     subst (λ (k : Option PageKind). MayHold k z (a / 16) (a % 16) (held_in z (a / 16) bytes)) known may.0 in
     cell_as z a (a % 16) bytes (held_in z (a / 16) bytes) refl may.1 there
+
+-- what is known of a used cell's bytes
+pub record IsSpelled (z : Sizes) (bytes : List ℕ) : Type 0 where
+  pub fits : IsCellOf z (cell_in bytes)
+  pub spells : cell_bytes (cell_in bytes) ≡ bytes
+
+pub used_told : (z : Sizes) (a : ℕ) (bytes : List ℕ) → IsCellTold z a bytes → (slice_index bytes 0 ≡ 0 → ⊥) → IsSpelled z bytes
+unfolding free_bytes
+used_told z a bytes (ToldFree h p) used = absurd (used (ap (λ b. slice_index b 0) (sym p)))
+used_told z a bytes (ToldUsed c h fits p) used =
+    let same : c ≡ cell_in bytes = sym (ap cell_in (sym p) ∙ cell_in-cell_bytes c fits.numbers) in
+    record { fits = subst (IsCellOf z) same fits; spells = ap cell_bytes (sym same) ∙ p }
 
 -- a slot that was given holds what its bytes say
 pub holds : (z : Sizes) (given : List Given) (a : ℕ) (x : Slot) (bytes : List ℕ) → given_at a given ≡ Some bytes → held_in z (a / 16) bytes ≡ x → GivenHolds z given a x

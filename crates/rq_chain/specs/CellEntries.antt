@@ -5,29 +5,38 @@ use Rattle.rq_page.specs.declared.cell.CellSlot.{CellSlot}
 use Rattle.rq_page.specs.declared.cell.CellSlot.TheVariants as cells
 use Rattle.rq_page.specs.Sizes.{Sizes, IsCellAddress, directory_at, sender_count}
 use Rattle.rq_page.specs.Slots.{IsCellOf, IsDirectoryOf}
+use Rattle.rq_page.specs.Cells.{cell_in, cell_bytes}
+use Rattle.rq_level.specs.declared.slots.Given.{Given}
 use Rattle.rq_chain.specs.declared.CellEntry.{CellEntry}
 use Rattle.rq_chain.specs.declared.DirectoryEntry.{DirectoryEntry}
 
 -- the cell beside, if there is one
-abbrev pub cell_beside : Option CellEntry → Option Cell
+abbrev pub cell_beside : Option Given → Option Cell
 cell_beside None = None
-cell_beside (Some n) = Some n.cell
+cell_beside (Some n) = Some (cell_in n.bytes)
 
 -- the cell that a cell's slot holds, if it holds one
 abbrev pub used_of : CellSlot → Option Cell
 used_of cells.Free = None
 used_of (cells.Used c) = Some c
 
--- the neighbour stands at this address, which is a cell's, and is a cell of the store
+-- it stands at this address, which is a cell's, and is a cell of the store
 pub record IsCellEntryAt (z : Sizes) (a : ℕ) (n : CellEntry) : Type 0 where
   pub at : n.at ≡ a
   pub address : IsCellAddress z a
   pub cell : IsCellOf z n.cell
 
+-- the neighbour stands at this address, which is a cell's, and its bytes spell a cell of the store
+pub record IsNeighbourAt (z : Sizes) (a : ℕ) (n : Given) : Type 0 where
+  pub at : n.at ≡ a
+  pub address : IsCellAddress z a
+  pub cell : IsCellOf z (cell_in n.bytes)
+  pub spells : cell_bytes (cell_in n.bytes) ≡ n.bytes
+
 -- the neighbour that a link names: none where it is 0
-abbrev pub IsCellEntry : Sizes → ℕ → Option CellEntry → Type 0
-IsCellEntry z a None = a ≡ 0
-IsCellEntry z a (Some n) = IsCellEntryAt z a n
+abbrev pub IsNeighbour : Sizes → ℕ → Option Given → Type 0
+IsNeighbour z a None = a ≡ 0
+IsNeighbour z a (Some n) = IsNeighbourAt z a n
 
 -- the group stands where its sender's directory slot is, and may stand there
 pub record IsGroupOf (z : Sizes) (g : DirectoryEntry) : Type 0 where

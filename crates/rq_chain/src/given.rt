@@ -1,15 +1,15 @@
 //! What stands in slots that were given.
 ghost use Rattle.std.specs.Prelude.{◌≡◌, ◌<◌, IfSome, IfNone, None, Some, Option};
 ghost use Rattle.rq_page.specs.Sizes.{IsCellAddress, IsLink, directory_at, sender_count};
-ghost use Rattle.rq_page.specs.Cells.{cell_bytes, free_bytes, IsCell};
+ghost use Rattle.rq_page.specs.Cells.{cell_bytes, cell_in, free_bytes, IsCell};
 ghost use Rattle.rq_page.specs.Slots.{Used, Sender};
-ghost use Rattle.rq_chain.specs.CellEntries.{used_of, cell_beside, IsCellEntry, IsCellEntryAt, IsGroupOf};
+ghost use Rattle.rq_chain.specs.CellEntries.{used_of, cell_beside, IsCellEntryAt, IsGroupOf, IsNeighbour, IsNeighbourAt};
 ghost use Rattle.rq_page.specs.declared.cell.Cell.{Cell};
 ghost use Rattle.rq_level.specs.Given.{given_at, AreGiven, GivenHolds};
 ghost use Rattle.rq_level.specs.ChainPlans.{Beside};
 
 use crate::{CellEntry, DirectoryEntry};
-use rq_level::Slots;
+use rq_level::{Given, Slots};
 use rq_model::record::Slot;
 use rq_page::addr::Addr;
 use rq_page::cell::{Cell, CellSlot};
@@ -72,20 +72,35 @@ fn used(held: &CellSlot) -> Option<Cell>
 }
 
 /// The cell that a link names: none where it names none. Not there where its slot was not given or is free.
-pub(crate) fn beside_given(layout: &Layout, given: &Slots, at: Addr) -> Option<Option<CellEntry>>
+pub(crate) fn beside_given(layout: &Layout, given: &Slots, at: Addr) -> Option<Option<Given>>
     requires at { IsLink layout.now at }
     requires given { AreGiven layout.now given.now }
-    ensures neighbour { IfSome result (λ b. IsCellEntry layout.now at b) }
+    ensures neighbour { IfSome result (λ b. IsNeighbour layout.now at b) }
     ensures beside { IfSome result (λ b. Beside layout.now given.now at (cell_beside b)) }
     ensures none { IfNone result ((c : Option Cell) → Beside layout.now given.now at c → ⊥) }
 {
     if at.is_none() {
         return Some(None);
     }
-    match cell_given(layout, given, at) {
+    match neighbour_given(layout, given, at) {
         Some(cell) => Some(Some(cell)),
         None => None,
     }
+}
+
+// The slot at an address of a cell page, where it was given and is used.
+fn neighbour_given(layout: &Layout, given: &Slots, at: Addr) -> Option<Given>
+    requires at { IsCellAddress layout.now at }
+    requires given { AreGiven layout.now given.now }
+    ensures cell { IfSome result (λ n. IsNeighbourAt layout.now at n) }
+    ensures holds { IfSome result (λ n. GivenHolds layout.now given.now at (Used (cell_in n.bytes))) }
+    ensures none { IfNone result ((c : Cell) → GivenHolds layout.now given.now at (Used c) → ⊥) }
+{
+    let bytes = given.get(at)?;
+    if bytes[0] == 0 {
+        return None;
+    }
+    Some(Given { at, bytes: *bytes })
 }
 
 /// The cell of a group's last message, or none.

@@ -121,7 +121,7 @@ impl ChainLevel {
     // The plan of what is asked.
     fn plan_doing(
         &mut self,
-        alloc: Global,
+        room: Vec<SlotWrite>,
         layout: &Layout,
         doing: &Doing,
         given: &Slots,
@@ -132,17 +132,17 @@ impl ChainLevel {
     {
         match doing {
             Doing::Send { sender, tag, body } => {
-                self.plan_send(alloc, layout, given, latched, *sender, *tag, body)
+                self.plan_send(room, layout, given, latched, *sender, *tag, body)
             }
-            Doing::Receive { sender } => self.plan_receive(alloc, layout, given, *sender),
-            Doing::Close { sender } => self.plan_close(alloc, layout, given, *sender),
+            Doing::Receive { sender } => self.plan_receive(room, layout, given, *sender),
+            Doing::Close { sender } => self.plan_close(room, layout, given, *sender),
         }
     }
 
     // The plan of a send.
     fn plan_send(
         &mut self,
-        alloc: Global,
+        room: Vec<SlotWrite>,
         layout: &Layout,
         given: &Slots,
         latched: &PageSet,
@@ -171,7 +171,7 @@ impl ChainLevel {
         let Some(free) = self.lowest(layout, latched) else {
             return Err(self.no_cell(layout, sender));
         };
-        let Ok(ChainPlan { writes, deed }) = append(alloc, layout, &group, tail, free, tag, body)
+        let Ok(ChainPlan { writes, deed }) = append(room, layout, &group, tail, free, tag, body)
         else {
             return Err(Refusal::NoMemory);
         };
@@ -186,7 +186,7 @@ impl ChainLevel {
     // The plan of a receive.
     fn plan_receive(
         &self,
-        alloc: Global,
+        room: Vec<SlotWrite>,
         layout: &Layout,
         given: &Slots,
         sender: u32,
@@ -211,7 +211,7 @@ impl ChainLevel {
         let Some(next) = beside_given(layout, given, next_of(&head)) else {
             return Err(damaged);
         };
-        let Ok(ChainPlan { writes, deed }) = unlink_head(alloc, layout, &group, &head, next) else {
+        let Ok(ChainPlan { writes, deed }) = unlink_head(room, layout, &group, &head, next) else {
             return Err(Refusal::NoMemory);
         };
         Ok(Plan {
@@ -224,7 +224,7 @@ impl ChainLevel {
     // The plan of a close.
     fn plan_close(
         &self,
-        alloc: Global,
+        room: Vec<SlotWrite>,
         layout: &Layout,
         given: &Slots,
         sender: u32,
@@ -233,7 +233,7 @@ impl ChainLevel {
         ensures ok { IfOk result (λ p. IsClosed layout.now self.now given.now sender p self.now) }
         ensures err { IfErr result (λ r. RefusesOther sender (CanMark layout.now given.now sender true) r) }
     {
-        let writes = closed_writes(alloc, layout, given, sender, true)?;
+        let writes = closed_writes(room, layout, given, sender, true)?;
         Ok(Plan {
             writes,
             deed: encode_deed(&Deed::Close { sender }),
@@ -244,7 +244,7 @@ impl ChainLevel {
     // The plan of what takes back a deed's operation.
     fn plan_undo(
         &mut self,
-        alloc: Global,
+        room: Vec<SlotWrite>,
         layout: &Layout,
         deed: &Deed,
         given: &Slots,
@@ -259,23 +259,21 @@ impl ChainLevel {
                 sequence,
                 previous,
                 ..
-            } => unlinked_tail(alloc, layout, given, *sender, *sequence, *previous),
+            } => unlinked_tail(room, layout, given, *sender, *sequence, *previous),
             Deed::UnlinkHead {
                 sender,
                 sequence,
                 tag,
                 body,
-            } => self.plan_return(
-                alloc, layout, given, latched, *sender, *sequence, *tag, body,
-            ),
-            Deed::Close { sender } => reopened(alloc, layout, given, *sender),
+            } => self.plan_return(room, layout, given, latched, *sender, *sequence, *tag, body),
+            Deed::Close { sender } => reopened(room, layout, given, *sender),
         }
     }
 
     // The plan of the inverse of a receive.
     fn plan_return(
         &mut self,
-        alloc: Global,
+        room: Vec<SlotWrite>,
         layout: &Layout,
         given: &Slots,
         latched: &PageSet,
@@ -307,7 +305,7 @@ impl ChainLevel {
         let Some(free) = self.lowest(layout, latched) else {
             return Err(self.no_cell(layout, sender));
         };
-        let Ok(writes) = put_back(alloc, layout, &group, head, free, tag, body) else {
+        let Ok(writes) = put_back(room, layout, &group, head, free, tag, body) else {
             return Err(Refusal::NoMemory);
         };
         self.reserve(layout, free);
@@ -348,7 +346,7 @@ impl Level for ChainLevel {
 
     fn plan(
         &mut self,
-        alloc: Global,
+        room: Vec<SlotWrite>,
         op: &Op,
         given: &Slots,
         latched: &PageSet,
@@ -362,12 +360,12 @@ impl Level for ChainLevel {
         let Some(doing) = read_doing(op.bytes()) else {
             return Err(Refusal::Damaged(Damage::Page(0)));
         };
-        self.plan_doing(alloc, &layout, &doing, given, latched)
+        self.plan_doing(room, &layout, &doing, given, latched)
     }
 
     fn undo(
         &mut self,
-        alloc: Global,
+        room: Vec<SlotWrite>,
         record: &Record,
         given: &Slots,
         latched: &PageSet,
@@ -381,7 +379,7 @@ impl Level for ChainLevel {
         let Some(deed) = decode_deed(deed.as_slice()) else {
             return Err(Refusal::Damaged(Damage::Page(0)));
         };
-        self.plan_undo(alloc, &layout, &deed, given, latched)
+        self.plan_undo(room, &layout, &deed, given, latched)
     }
 
     fn redo(&mut self, page: &mut Page, lsn: Lsn, record: &Record) -> bool {
@@ -402,7 +400,7 @@ fn damage_of(sender: u32) -> Damage
 
 // The write that closes a group or opens it again, where it is not so already.
 fn closed_writes(
-    alloc: Global,
+    room: Vec<SlotWrite>,
     layout: &Layout,
     given: &Slots,
     sender: u32,
@@ -422,25 +420,30 @@ fn closed_writes(
     if group.directory.closed == closed {
         return Err(damaged);
     }
-    match set_closed(alloc, layout, &group, closed) {
+    match set_closed(room, layout, &group, closed) {
         Ok(writes) => Ok(writes),
         Err(NoMemory) => Err(Refusal::NoMemory),
     }
 }
 
 // The plan of the inverse of a close.
-fn reopened(alloc: Global, layout: &Layout, given: &Slots, sender: u32) -> Result<Plan, Refusal>
+fn reopened(
+    room: Vec<SlotWrite>,
+    layout: &Layout,
+    given: &Slots,
+    sender: u32,
+) -> Result<Plan, Refusal>
     requires { AreGiven layout.now given.now }
     ensures ok { IfOk result (λ p. (k : LevelState) → IsReopened layout.now k given.now sender p k) }
     ensures err { IfErr result (λ r. RefusesOther sender (CanMark layout.now given.now sender false) r) }
 {
-    let writes = closed_writes(alloc, layout, given, sender, false)?;
+    let writes = closed_writes(room, layout, given, sender, false)?;
     Ok(inverse(writes))
 }
 
 // The plan of the inverse of a send.
 fn unlinked_tail(
-    alloc: Global,
+    room: Vec<SlotWrite>,
     layout: &Layout,
     given: &Slots,
     sender: u32,
@@ -474,7 +477,7 @@ fn unlinked_tail(
     let Some(front) = beside_given(layout, given, front_of(&tail)) else {
         return Err(damaged);
     };
-    match unlink_tail(alloc, layout, &group, &tail, front, previous) {
+    match unlink_tail(room, layout, &group, &tail, front, previous) {
         Ok(writes) => Ok(inverse(writes)),
         Err(NoMemory) => Err(Refusal::NoMemory),
     }

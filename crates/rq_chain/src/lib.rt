@@ -28,7 +28,7 @@ pub struct ChainPlan {
     pub deed: Deed,
 }
 
-/// The cell beside the one that an operation writes: where it stands, and what it holds.
+/// A used cell: where it stands, and what it holds.
 #[derive(Clone, Copy)]
 pub struct CellEntry {
     pub at: Addr,

@@ -1,16 +1,17 @@
 //! The plans of chain operations.
 ghost use Rattle.std.specs.Prelude.{◌≡◌, ◌+◌, ◌-◌, ◌^◌, ◌<◌, IfOk, reverse, length, MatchOption, [], ◌∷◌};
+ghost use Rattle.rq_page.specs.Cells.{cell_in};
 ghost use Rattle.rq_page.specs.Sizes.{IsCellAddress};
 ghost use Rattle.rq_page.specs.Slots.{IsCellOf, IsDirectoryOf, Used};
 ghost use Rattle.rq_views.specs.Chain.{directory_appended};
 ghost use Rattle.rq_views.specs.Items.{layout_of};
 ghost use Rattle.rq_views.specs.Plans.{append_writes, unlink_head_writes, unlink_tail_writes, put_back_writes, directory_write, directory_head_unlinked, directory_tail_unlinked, directory_put_back, with_next, with_prev};
 ghost use Rattle.rq_level.specs.Writes.{write_of, writes_of, IsSlotWrite, AreSlotWrites, IsFirstAt};
-ghost use Rattle.rq_chain.specs.CellEntries.{cell_beside, IsCellEntry, IsCellEntryAt, IsGroupOf};
+ghost use Rattle.rq_chain.specs.CellEntries.{cell_beside, IsCellEntryAt, IsGroupOf, IsNeighbour, IsNeighbourAt};
 
-use crate::writes::{cell_write, group_write, listed};
+use crate::writes::{beside_write, cell_write, followed, group_write, pair, preceded, triple};
 use crate::{CellEntry, ChainPlan, DirectoryEntry};
-use rq_level::SlotWrite;
+use rq_level::{Given, SlotWrite, only};
 use rq_model::message::{BODY_LIMIT, Body};
 use rq_model::record::Deed;
 use rq_model::refusal::NoMemory;
@@ -18,21 +19,20 @@ use rq_page::addr::Addr;
 use rq_page::cell::{Cell, CellSlot};
 use rq_page::directory::Directory;
 use rq_page::layout::Layout;
-use std::alloc::Global;
 
 /// Puts a message at the end of a chain: into the free cell, which the tail, if there is one, then names.
 pub fn append(
-    alloc: Global,
+    room: Vec<SlotWrite>,
     layout: &Layout,
     group: &DirectoryEntry,
-    tail: Option<CellEntry>,
+    tail: Option<Given>,
     free: Addr,
     tag: u64,
     body: &Body,
 ) -> Result<ChainPlan, NoMemory>
     requires room { group.now.directory.sent < 2 ^ 64 - 1 }
     requires group { IsGroupOf layout.now group.now }
-    requires tail { IsCellEntry layout.now group.now.directory.tail tail }
+    requires tail { IsNeighbour layout.now group.now.directory.tail tail }
     requires free { IsCellAddress layout.now free }
     ensures writes { IfOk result (λ plan. reverse (writes_of layout.now plan.writes.items)
         ≡ append_writes (layout_of layout.now) group.now.sender group.now.directory free tag body.now (cell_beside tail)) }
@@ -47,8 +47,8 @@ pub fn append(
     let first = cell_write(layout, free, &CellSlot::Free, &CellSlot::Used(new));
     let last = group_write(layout, group, &appended(layout, group, free, tag));
     let writes = match &tail {
-        None => listed(alloc, &[first, last])?,
-        Some(before) => listed(alloc, &[first, link_write(layout, before, free), last])?,
+        None => pair(room, first, last)?,
+        Some(before) => triple(room, first, link_write(layout, before, free), last)?,
     };
     let deed = Deed::Append {
         sender: group.sender,
@@ -62,16 +62,16 @@ pub fn append(
 
 /// Takes the first message off a chain: frees its cell, and has the next one, if there is one, come first.
 pub fn unlink_head(
-    alloc: Global,
+    room: Vec<SlotWrite>,
     layout: &Layout,
     group: &DirectoryEntry,
     head: &CellEntry,
-    next: Option<CellEntry>,
+    next: Option<Given>,
 ) -> Result<ChainPlan, NoMemory>
     requires some { group.now.directory.received < group.now.directory.sent }
     requires group { IsGroupOf layout.now group.now }
     requires head { IsCellEntryAt layout.now group.now.directory.head head.now }
-    requires next { IsCellEntry layout.now head.now.cell.next next }
+    requires next { IsNeighbour layout.now head.now.cell.next next }
     ensures writes { IfOk result (λ plan. reverse (writes_of layout.now plan.writes.items)
         ≡ unlink_head_writes (layout_of layout.now) group.now.sender group.now.directory head.now.cell
         (cell_beside next)) }
@@ -84,8 +84,8 @@ pub fn unlink_head(
     let first = cell_write(layout, head.at, &CellSlot::Used(head.cell), &CellSlot::Free);
     let last = group_write(layout, group, &head_unlinked(layout, group, &head.cell));
     let writes = match &next {
-        None => listed(alloc, &[first, last])?,
-        Some(after) => listed(alloc, &[first, unlink_write(layout, after), last])?,
+        None => pair(room, first, last)?,
+        Some(after) => triple(room, first, unlink_write(layout, after), last)?,
     };
     let deed = Deed::UnlinkHead {
         sender: group.sender,
@@ -98,17 +98,17 @@ pub fn unlink_head(
 
 /// Takes the last message off a chain: frees its cell, and has the one before it, if there is one, come last.
 pub fn unlink_tail(
-    alloc: Global,
+    room: Vec<SlotWrite>,
     layout: &Layout,
     group: &DirectoryEntry,
     tail: &CellEntry,
-    front: Option<CellEntry>,
+    front: Option<Given>,
     previous: u64,
 ) -> Result<Vec<SlotWrite>, NoMemory>
     requires some { group.now.directory.received < group.now.directory.sent }
     requires group { IsGroupOf layout.now group.now }
     requires tail { IsCellEntryAt layout.now group.now.directory.tail tail.now }
-    requires front { IsCellEntry layout.now tail.now.cell.prev front }
+    requires front { IsNeighbour layout.now tail.now.cell.prev front }
     ensures writes { IfOk result (λ writes. reverse (writes_of layout.now writes.items)
         ≡ unlink_tail_writes (layout_of layout.now) group.now.sender group.now.directory tail.now.cell previous
         (cell_beside front)) }
@@ -118,25 +118,25 @@ pub fn unlink_tail(
     let after = tail_unlinked(layout, group, &tail.cell, previous);
     let last = group_write(layout, group, &after);
     let writes = match &front {
-        None => listed(alloc, &[first, last])?,
-        Some(before) => listed(alloc, &[first, cut_write(layout, before), last])?,
+        None => pair(room, first, last)?,
+        Some(before) => triple(room, first, cut_write(layout, before), last)?,
     };
     Ok(writes)
 }
 
 /// Puts a message back in front of a chain: into the free cell, which the head, if there is one, then follows.
 pub fn put_back(
-    alloc: Global,
+    room: Vec<SlotWrite>,
     layout: &Layout,
     group: &DirectoryEntry,
-    head: Option<CellEntry>,
+    head: Option<Given>,
     free: Addr,
     tag: u64,
     body: &Body,
 ) -> Result<Vec<SlotWrite>, NoMemory>
     requires some { 0 < group.now.directory.received }
     requires group { IsGroupOf layout.now group.now }
-    requires head { IsCellEntry layout.now group.now.directory.head head }
+    requires head { IsNeighbour layout.now group.now.directory.head head }
     requires free { IsCellAddress layout.now free }
     ensures writes { IfOk result (λ writes. reverse (writes_of layout.now writes.items)
         ≡ put_back_writes (layout_of layout.now) group.now.sender group.now.directory free tag body.now (cell_beside head)) }
@@ -146,15 +146,15 @@ pub fn put_back(
     let first = cell_write(layout, free, &CellSlot::Free, &CellSlot::Used(new));
     let last = group_write(layout, group, &returned(layout, group, free));
     let writes = match &head {
-        None => listed(alloc, &[first, last])?,
-        Some(after) => listed(alloc, &[first, lead_write(layout, after, free), last])?,
+        None => pair(room, first, last)?,
+        Some(after) => triple(room, first, lead_write(layout, after, free), last)?,
     };
     Ok(writes)
 }
 
 /// Closes a group, or opens it again.
 pub fn set_closed(
-    alloc: Global,
+    room: Vec<SlotWrite>,
     layout: &Layout,
     group: &DirectoryEntry,
     closed: bool,
@@ -166,7 +166,7 @@ pub fn set_closed(
     ensures slots { IfOk result (λ writes. AreSlotWrites layout.now writes.items) }
 {
     let write = group_write(layout, group, &with_closed(layout, group, closed));
-    listed(alloc, &[write])
+    only(room, write)
 }
 
 // The cell of a group's next message.
@@ -328,89 +328,57 @@ fn with_closed(layout: &Layout, group: &DirectoryEntry, closed: bool) -> Directo
 }
 
 // The write that has a cell followed by another one.
-fn link_write(layout: &Layout, before: &CellEntry, next: Addr) -> SlotWrite
-    requires before { IsCellEntryAt layout.now before.now.at before.now }
+fn link_write(layout: &Layout, before: &Given, next: Addr) -> SlotWrite
+    requires before { IsNeighbourAt layout.now before.now.at before.now }
     requires next { IsCellAddress layout.now next }
     ensures write { write_of layout.now result ≡ record {
       at = before.now.at;
-      before = Used before.now.cell;
-      after = Used (with_next next before.now.cell);
+      before = Used (cell_in before.now.bytes);
+      after = Used (with_next next (cell_in before.now.bytes));
     } }
     ensures slots { IsSlotWrite layout.now result }
 {
     prove!(next.page() < layout.pages() as u64);
-    let linked = CellSlot::Used(followed(&before.cell, next));
-    cell_write(layout, before.at, &CellSlot::Used(before.cell), &linked)
+    beside_write(layout, before, followed(&before.bytes, next))
 }
 
 // The write that has no cell before a cell.
-fn unlink_write(layout: &Layout, after: &CellEntry) -> SlotWrite
-    requires after { IsCellEntryAt layout.now after.now.at after.now }
+fn unlink_write(layout: &Layout, after: &Given) -> SlotWrite
+    requires after { IsNeighbourAt layout.now after.now.at after.now }
     ensures write { write_of layout.now result ≡ record {
       at = after.now.at;
-      before = Used after.now.cell;
-      after = Used (with_prev 0 after.now.cell);
+      before = Used (cell_in after.now.bytes);
+      after = Used (with_prev 0 (cell_in after.now.bytes));
     } }
     ensures slots { IsSlotWrite layout.now result }
 {
-    let unlinked = CellSlot::Used(preceded(&after.cell, Addr::NONE));
-    cell_write(layout, after.at, &CellSlot::Used(after.cell), &unlinked)
+    beside_write(layout, after, preceded(&after.bytes, Addr::NONE))
 }
 
 // The write that has no cell behind a cell.
-fn cut_write(layout: &Layout, before: &CellEntry) -> SlotWrite
-    requires before { IsCellEntryAt layout.now before.now.at before.now }
+fn cut_write(layout: &Layout, before: &Given) -> SlotWrite
+    requires before { IsNeighbourAt layout.now before.now.at before.now }
     ensures write { write_of layout.now result ≡ record {
       at = before.now.at;
-      before = Used before.now.cell;
-      after = Used (with_next 0 before.now.cell);
+      before = Used (cell_in before.now.bytes);
+      after = Used (with_next 0 (cell_in before.now.bytes));
     } }
     ensures slots { IsSlotWrite layout.now result }
 {
-    let cut = CellSlot::Used(followed(&before.cell, Addr::NONE));
-    cell_write(layout, before.at, &CellSlot::Used(before.cell), &cut)
+    beside_write(layout, before, followed(&before.bytes, Addr::NONE))
 }
 
 // The write that has another cell before a cell.
-fn lead_write(layout: &Layout, after: &CellEntry, first: Addr) -> SlotWrite
-    requires after { IsCellEntryAt layout.now after.now.at after.now }
+fn lead_write(layout: &Layout, after: &Given, first: Addr) -> SlotWrite
+    requires after { IsNeighbourAt layout.now after.now.at after.now }
     requires first { IsCellAddress layout.now first }
     ensures write { write_of layout.now result ≡ record {
       at = after.now.at;
-      before = Used after.now.cell;
-      after = Used (with_prev first after.now.cell);
+      before = Used (cell_in after.now.bytes);
+      after = Used (with_prev first (cell_in after.now.bytes));
     } }
     ensures slots { IsSlotWrite layout.now result }
 {
     prove!(first.page() < layout.pages() as u64);
-    let led = CellSlot::Used(preceded(&after.cell, first));
-    cell_write(layout, after.at, &CellSlot::Used(after.cell), &led)
-}
-
-// The cell, followed by another one.
-fn followed(cell: &Cell, next: Addr) -> Cell
-    ensures { result ≡ with_next next cell.now }
-{
-    Cell {
-        sender: cell.sender,
-        sequence: cell.sequence,
-        tag: cell.tag,
-        next,
-        prev: cell.prev,
-        body: cell.body,
-    }
-}
-
-// The cell, preceded by another one.
-fn preceded(cell: &Cell, prev: Addr) -> Cell
-    ensures { result ≡ with_prev prev cell.now }
-{
-    Cell {
-        sender: cell.sender,
-        sequence: cell.sequence,
-        tag: cell.tag,
-        next: cell.next,
-        prev,
-        body: cell.body,
-    }
+    beside_write(layout, after, preceded(&after.bytes, first))
 }

@@ -1,22 +1,27 @@
 //! Writes of single slots.
-ghost use Rattle.std.specs.Prelude.{◌≡◌, IfOk};
+ghost use Rattle.std.specs.Prelude.{◌≡◌, ◌≤◌, ◌++◌, [], ◌∷◌, IfOk};
+ghost use Rattle.rq_bytes.specs.Number.{with_number};
+ghost use Rattle.rq_page.specs.Cells.{cell_bytes, cell_in};
 ghost use Rattle.rq_page.specs.Sizes.{IsCellAddress};
-ghost use Rattle.rq_page.specs.Slots.{MayStand, IsDirectoryOf, of_cell_slot};
+ghost use Rattle.rq_page.specs.declared.cell.Cell.{Cell};
+ghost use Rattle.rq_page.specs.Slots.{IsCellOf, IsDirectoryOf, MayStand, Used, of_cell_slot};
 ghost use Rattle.rq_views.specs.Items.{layout_of};
-ghost use Rattle.rq_views.specs.Plans.{directory_write};
+ghost use Rattle.rq_views.specs.Plans.{directory_write, with_next, with_prev};
 ghost use Rattle.rq_level.specs.Writes.{write_of, IsSlotWrite};
-ghost use Rattle.rq_chain.specs.CellEntries.{IsGroupOf};
+ghost use Rattle.rq_chain.specs.CellEntries.{IsGroupOf, IsNeighbourAt};
 
 use crate::DirectoryEntry;
-use rq_level::SlotWrite;
+use rq_bytes::Fields;
+use rq_level::{Given, SlotWrite, only};
+use rq_model::record::Slot;
 use rq_model::refusal::NoMemory;
 use rq_page::addr::Addr;
 use rq_page::cell::CellSlot;
 use rq_page::directory::{Directory, DirectorySlot};
 use rq_page::layout::Layout;
-use std::alloc::Global;
 
 /// The write of a cell's slot.
+#[inline(always)]
 pub(crate) fn cell_write(
     layout: &Layout,
     at: Addr,
@@ -42,6 +47,7 @@ pub(crate) fn cell_write(
 }
 
 /// The write that has a group's directory slot say something else.
+#[inline(always)]
 pub(crate) fn group_write(layout: &Layout, group: &DirectoryEntry, after: &Directory) -> SlotWrite
     requires group { IsGroupOf layout.now group.now }
     requires after { IsDirectoryOf layout.now group.now.sender
@@ -68,12 +74,86 @@ fn directory_slot(sender: u32, directory: &Directory) -> DirectorySlot
     }
 }
 
-/// These writes as a vector.
-pub(crate) fn listed(alloc: Global, writes: &[SlotWrite]) -> Result<Vec<SlotWrite>, NoMemory>
-    ensures { IfOk result (λ all. all.items ≡ writes.now) }
+/// The write that has the slot of a cell beside spell something else.
+#[inline(always)]
+pub(crate) fn beside_write(layout: &Layout, beside: &Given, after: Slot) -> SlotWrite
+    requires beside { IsNeighbourAt layout.now beside.now.at beside.now }
+    ensures write { (c : Cell) → IsCellOf layout.now c → after ≡ cell_bytes c → write_of layout.now result ≡ record {
+      at = beside.now.at;
+      before = Used (cell_in beside.now.bytes);
+      after = Used c;
+    } }
+    ensures slots { (c : Cell) → IsCellOf layout.now c → after ≡ cell_bytes c → IsSlotWrite layout.now result }
 {
-    match Vec::from_slice(alloc, writes) {
-        Ok(all) => Ok(all),
+    prove!(beside.at.page() < layout.pages() as u64);
+    SlotWrite {
+        at: beside.at,
+        before: beside.bytes,
+        after,
+    }
+}
+
+/// The bytes of a cell's slot, followed by another one.
+#[inline(always)]
+pub(crate) fn followed(bytes: &Slot, next: Addr) -> Slot
+    ensures { (c : Cell) → cell_bytes c ≡ bytes.now → result ≡ cell_bytes (with_next next c) }
+{
+    relinked(bytes, 24, next)
+}
+
+/// The bytes of a cell's slot, preceded by another one.
+#[inline(always)]
+pub(crate) fn preceded(bytes: &Slot, prev: Addr) -> Slot
+    ensures { (c : Cell) → cell_bytes c ≡ bytes.now → result ≡ cell_bytes (with_prev prev c) }
+{
+    relinked(bytes, 32, prev)
+}
+
+// The bytes of a slot, with a link at a place.
+#[inline(always)]
+fn relinked(bytes: &Slot, at: usize, link: Addr) -> Slot
+    requires { at ≤ 248 }
+    ensures { result ≡ with_number 8 at link bytes.now }
+{
+    let mut out = *bytes;
+    Fields::put_u64(&mut out, at, link.number());
+    out
+}
+
+/// Two writes in a vector, in place of what stands there.
+#[inline(always)]
+pub(crate) fn pair(
+    room: Vec<SlotWrite>,
+    first: SlotWrite,
+    last: SlotWrite,
+) -> Result<Vec<SlotWrite>, NoMemory>
+    ensures { IfOk result (λ all. all.items ≡ first ∷ last ∷ []) }
+{
+    let writes = only(room, first)?;
+    and(writes, last)
+}
+
+/// Three writes in a vector, in place of what stands there.
+#[inline(always)]
+pub(crate) fn triple(
+    room: Vec<SlotWrite>,
+    first: SlotWrite,
+    second: SlotWrite,
+    last: SlotWrite,
+) -> Result<Vec<SlotWrite>, NoMemory>
+    ensures { IfOk result (λ all. all.items ≡ first ∷ second ∷ last ∷ []) }
+{
+    let writes = pair(room, first, second)?;
+    and(writes, last)
+}
+
+// One write more.
+#[inline(always)]
+fn and(mut writes: Vec<SlotWrite>, last: SlotWrite) -> Result<Vec<SlotWrite>, NoMemory>
+    ensures { IfOk result (λ all. all.items ≡ writes.items ++ last ∷ []) }
+{
+    match writes.push(last) {
+        Ok(()) => Ok(writes),
         Err(_) => Err(NoMemory),
     }
 }

@@ -46,7 +46,7 @@ impl<P: PageDevice, L: LogDevice, B: Level> Engine<P, L, B> {
         ensures refusal { IfErr result (λ r. Idle self.old.state sub r) }
     {
         match self.next_write(sub) {
-            Ok(Some(write)) => Ok(Progress::Done(self.make(sub, &write))),
+            Ok(Some(write)) => Ok(Progress::Done(self.make(sub, write))),
             Ok(None) => Ok(Progress::Ready),
             Err(refusal) => Err(refusal),
         }
@@ -107,6 +107,7 @@ impl<P: PageDevice, L: LogDevice, B: Level> Engine<P, L, B> {
     }
 
     // What the operation is for, where all its writes are made.
+    #[inline(always)]
     fn ready_aim(&self, sub: Sub) -> Result<Aim, Refusal>
         ensures ready { IfOk result (λ aim. IsUnderWay self.now.state sub
             (λ r u. (length u.writes ≤ u.made) × (u.aim ≡ aim))) }
@@ -124,32 +125,34 @@ impl<P: PageDevice, L: LogDevice, B: Level> Engine<P, L, B> {
     }
 
     // Makes a slot write, with its record.
-    fn make(&mut self, sub: Sub, write: &SlotWrite) -> Lsn
+    fn make(&mut self, sub: Sub, write: SlotWrite) -> Lsn
         requires running { self.old.state.failed ≡ false }
-        requires next { IsUnderWay self.old.state sub (λ r u. slice_get u.writes u.made ≡ Some write.now) }
+        requires next { IsUnderWay self.old.state sub (λ r u. slice_get u.writes u.made ≡ Some write) }
         ensures lsn { result ≡ length self.old.state.records + 1 }
-        ensures made { IsMade self.old.state sub write.now self.new.state }
+        ensures made { IsMade self.old.state sub write self.new.state }
         ensures changed { IsStamped self.old result self.new }
         ensures devices { (self.new.pages ≡ self.old.pages) × (self.new.log ≡ self.old.log) }
     {
+        let SlotWrite { at, before, after } = write;
         let record = Record::PageOp {
             txn: sub.txn,
             operation: sub.number,
-            page: write.at.page() as u32,
-            slot: write.at.slot(),
-            before: write.before,
-            after: write.after,
+            page: at.page() as u32,
+            slot: at.slot(),
+            before,
+            after,
         };
         shows_size(&record);
         let lsn = self.log.append(&record);
-        self.pages.set_slot(write.at, &write.after, lsn);
-        self.planner.noted(write.at, &write.after);
+        self.pages.set_slot(at, &after, lsn);
+        self.planner.noted(at, &after);
         self.transactions.step(sub.txn);
         self.owed -= 1;
         lsn
     }
 
     // Ends a deed, with its record.
+    #[inline(always)]
     fn end(&mut self, sub: Sub, deed: &ToldDeed)
         requires running { self.old.state.failed ≡ false }
         requires ready { IsUnderWay self.old.state sub (λ r u. (length u.writes ≤ u.made) × (u.aim ≡ Aim.Doing deed.now)) }
@@ -205,6 +208,7 @@ impl<P: PageDevice, L: LogDevice, B: Level> Engine<P, L, B> {
 }
 
 // What the end of a deed answers: the reply of its plan.
+#[inline(always)]
 fn done(deed: &ToldDeed) -> Outcome
     ensures reply { result ≡ answer_of deed.now }
     ensures gave { outcome_of result ≡ gave_done deed.now }

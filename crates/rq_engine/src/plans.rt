@@ -30,6 +30,7 @@ pub(crate) struct Planned {
 
 impl<P: PageDevice, L: LogDevice, B: Level> Engine<P, L, B> {
     // The plan of an operation that is to be done; none where it needs a page that others have latched.
+    #[inline(always)]
     pub(crate) fn plan_deed(&mut self, op: &Op) -> Result<Option<Planned>, Refusal>
         requires forward { op.now.undo ≡ false }
         requires asked { IsToDo self.old.state.sizes (asked_by op.now) }
@@ -54,14 +55,15 @@ impl<P: PageDevice, L: LogDevice, B: Level> Engine<P, L, B> {
     }
 
     // What the level plans for an operation that is to be done.
+    #[inline(always)]
     fn plan_op(&mut self, op: &Op) -> Result<Option<Plan>, Refusal>
         requires forward { op.now.undo ≡ false }
         requires asked { IsOfStore self.old.state.sizes (asked_by op.now) }
         ensures same { self.new ≡ self.old }
         ensures planned { IsPlanned (known_part self.old.state) (asked_by op.now) result }
     {
-        self.planner
-            .plan(self.alloc, &self.pages, &self.transactions, op)
+        let room = self.transactions.spare();
+        self.planner.plan(room, &self.pages, &self.transactions, op)
     }
 
     // What the level plans to take back the deed that the bytes tell.
@@ -70,8 +72,10 @@ impl<P: PageDevice, L: LogDevice, B: Level> Engine<P, L, B> {
         ensures same { self.new ≡ self.old }
         ensures planned { IsPlanned (known_part self.old.state) (asked_back deed.now) result }
     {
+        let room = self.transactions.spare();
         self.planner.plan_inverse(
             self.alloc,
+            room,
             &self.pages,
             &self.transactions,
             CHAIN_LEVEL,
@@ -81,6 +85,7 @@ impl<P: PageDevice, L: LogDevice, B: Level> Engine<P, L, B> {
 }
 
 // A plan as it is kept until its operation ends: with the bytes of its deed, by which the engine counts.
+#[inline(always)]
 fn with_deed(plan: Plan) -> Planned
     requires few { length plan.writes.items ≤ 3 }
     requires told { IsTold plan.deed }

@@ -111,6 +111,7 @@ impl<P: PageDevice, L: LogDevice, B: Level> Engine<P, L, B> {
     }
 
     // The plan of a send, from the slots as they are; none where it needs a page that others have latched.
+    #[inline(always)]
     fn plan_send(&mut self, sender: u32, tag: u64, body: &[u8]) -> Result<Option<Planned>, Refusal>
         requires sender { sender < sender_count self.old.state.sizes }
         requires short { length body.now ≤ 216 }

@@ -23,6 +23,7 @@ pub(crate) const CLOSE_RECORDS: u64 = 2;
 
 impl<P: PageDevice, L: LogDevice, B: Level> Engine<P, L, B> {
     // Takes the lock and the room of an operation, and lets it begin; where that is refused, the lock is given back.
+    #[inline(always)]
     pub(crate) fn start(
         &mut self,
         txn: Txn,
@@ -61,6 +62,7 @@ impl<P: PageDevice, L: LogDevice, B: Level> Engine<P, L, B> {
     }
 
     // Takes the room of an operation, and lets it begin.
+    #[inline(always)]
     pub(crate) fn launch(
         &mut self,
         txn: Txn,

@@ -2,10 +2,10 @@
 ghost use Rattle.std.specs.Prelude.{◌≡◌, ◌-◌, ◌<◌, ◌^◌, IfOk, reverse};
 ghost use Rattle.rq_page.specs.Sizes.{IsCellAddress};
 ghost use Rattle.rq_level.specs.Writes.{writes_of};
-ghost use Rattle.rq_chain.specs.CellEntries.{IsGroupOf, IsCellEntry, IsCellEntryAt};
+ghost use Rattle.rq_chain.specs.CellEntries.{IsGroupOf, IsCellEntryAt, IsNeighbour};
 
 use rq_chain::{CellEntry, ChainPlan, DirectoryEntry, append, put_back, unlink_head};
-use rq_level::SlotWrite;
+use rq_level::{Given, SlotWrite};
 use rq_model::message::Body;
 use rq_model::refusal::NoMemory;
 use rq_page::addr::Addr;
@@ -18,8 +18,8 @@ pub fn sends(
     alloc: Global,
     layout: &Layout,
     group: &DirectoryEntry,
-    tail: Option<CellEntry>,
-    tail_again: Option<CellEntry>,
+    tail: Option<Given>,
+    tail_again: Option<Given>,
     free: Addr,
     tag: u64,
     body: Body,
@@ -27,7 +27,7 @@ pub fn sends(
 ) -> (Result<ChainPlan, NoMemory>, Result<ChainPlan, NoMemory>)
     requires room { group.now.directory.sent < 2 ^ 64 - 1 }
     requires group { IsGroupOf layout.now group.now }
-    requires tail { IsCellEntry layout.now group.now.directory.tail tail }
+    requires tail { IsNeighbour layout.now group.now.directory.tail tail }
     requires again { tail_again ≡ tail }
     requires body { body_again ≡ body }
     requires free { IsCellAddress layout.now free }
@@ -35,8 +35,16 @@ pub fn sends(
         × (reverse (writes_of layout.now a.writes.items) ≡ reverse (writes_of layout.now b.writes.items)))) }
 {
     (
-        append(alloc, layout, group, tail, free, tag, &body),
-        append(alloc, layout, group, tail_again, free, tag, &body_again),
+        append(Vec::new(alloc), layout, group, tail, free, tag, &body),
+        append(
+            Vec::new(alloc),
+            layout,
+            group,
+            tail_again,
+            free,
+            tag,
+            &body_again,
+        ),
     )
 }
 
@@ -47,20 +55,20 @@ pub fn takes(
     layout: &Layout,
     group: &DirectoryEntry,
     head: &CellEntry,
-    next: Option<CellEntry>,
-    next_again: Option<CellEntry>,
+    next: Option<Given>,
+    next_again: Option<Given>,
 ) -> (Result<ChainPlan, NoMemory>, Result<ChainPlan, NoMemory>)
     requires some { group.now.directory.received < group.now.directory.sent }
     requires group { IsGroupOf layout.now group.now }
     requires head { IsCellEntryAt layout.now group.now.directory.head head.now }
-    requires next { IsCellEntry layout.now head.now.cell.next next }
+    requires next { IsNeighbour layout.now head.now.cell.next next }
     requires again { next_again ≡ next }
     ensures { IfOk result.0 (λ a. IfOk result.1 (λ b. (a.deed ≡ b.deed)
         × (reverse (writes_of layout.now a.writes.items) ≡ reverse (writes_of layout.now b.writes.items)))) }
 {
     (
-        unlink_head(alloc, layout, group, head, next),
-        unlink_head(alloc, layout, group, head, next_again),
+        unlink_head(Vec::new(alloc), layout, group, head, next),
+        unlink_head(Vec::new(alloc), layout, group, head, next_again),
     )
 }
 
@@ -69,8 +77,8 @@ pub fn puts_back(
     alloc: Global,
     layout: &Layout,
     group: &DirectoryEntry,
-    head: Option<CellEntry>,
-    head_again: Option<CellEntry>,
+    head: Option<Given>,
+    head_again: Option<Given>,
     free: Addr,
     tag: u64,
     body: Body,
@@ -81,7 +89,7 @@ pub fn puts_back(
 )
     requires some { 0 < group.now.directory.received }
     requires group { IsGroupOf layout.now group.now }
-    requires head { IsCellEntry layout.now group.now.directory.head head }
+    requires head { IsNeighbour layout.now group.now.directory.head head }
     requires again { head_again ≡ head }
     requires body { body_again ≡ body }
     requires free { IsCellAddress layout.now free }
@@ -89,7 +97,15 @@ pub fn puts_back(
         (λ b. reverse (writes_of layout.now a.items) ≡ reverse (writes_of layout.now b.items))) }
 {
     (
-        put_back(alloc, layout, group, head, free, tag, &body),
-        put_back(alloc, layout, group, head_again, free, tag, &body_again),
+        put_back(Vec::new(alloc), layout, group, head, free, tag, &body),
+        put_back(
+            Vec::new(alloc),
+            layout,
+            group,
+            head_again,
+            free,
+            tag,
+            &body_again,
+        ),
     )
 }

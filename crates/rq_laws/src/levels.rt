@@ -72,8 +72,8 @@ pub fn plans<B: Level>(
     ensures kept { IfOk result.0 (λ _. IfOk result.1 (λ _. B.kept first.new ≡ B.kept second.new)) }
 {
     (
-        first.plan(alloc, op, given, latched),
-        second.plan(alloc, op, given, latched),
+        first.plan(Vec::new(alloc), op, given, latched),
+        second.plan(Vec::new(alloc), op, given, latched),
     )
 }
 
@@ -94,7 +94,7 @@ pub fn undoes<B: Level>(
     ensures kept { IfOk result.0 (λ _. IfOk result.1 (λ _. B.kept first.new ≡ B.kept second.new)) }
 {
     (
-        first.undo(alloc, record, given, latched),
-        second.undo(alloc, record, given, latched),
+        first.undo(Vec::new(alloc), record, given, latched),
+        second.undo(Vec::new(alloc), record, given, latched),
     )
 }

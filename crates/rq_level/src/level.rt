@@ -6,13 +6,12 @@ ghost use Rattle.rq_level.specs.Meaning.{meaning_of, wish, AreOf, redo_of, Appli
 
 use crate::op::Op;
 use crate::slots::{PageSet, Slots};
-use crate::writes::Plan;
+use crate::writes::{Plan, SlotWrite};
 use rq_model::record::{Record, Slot};
 use rq_model::refusal::Refusal;
 use rq_model::txn::Lsn;
 use rq_page::addr::Addr;
 use rq_page::page::Page;
-use std::alloc::Global;
 
 /// What a level asks for before it plans an operation.
 #[derive(Clone, Copy, PartialEq, Eq)]
@@ -45,9 +44,10 @@ pub trait Level: Drop {
         ensures { result ≡ wish ((meaning_of (level self.now)).want op.now given.now) };
 
     /// Plans an operation that is to be done, from the slots that it wanted. It takes no free cell on a latched page.
+    /// The writes are put into `room`, in place of what stands there.
     fn plan(
         &mut self,
-        alloc: Global,
+        room: Vec<SlotWrite>,
         op: &Op,
         given: &Slots,
         latched: &PageSet,
@@ -56,10 +56,10 @@ pub trait Level: Drop {
         ensures same { level self.new ≡ level self.old }
         ensures answer { (meaning_of (level self.old)).plans (kept self.old) op.now given.now latched.now.pages result (kept self.new) };
 
-    /// Plans what takes back the operation that the record tells.
+    /// Plans what takes back the operation that the record tells, with its writes put into `room` likewise.
     fn undo(
         &mut self,
-        alloc: Global,
+        room: Vec<SlotWrite>,
         record: &Record,
         given: &Slots,
         latched: &PageSet,
@@ -100,22 +100,22 @@ impl Level for Box<dyn Level + Send> {
 
     fn plan(
         &mut self,
-        alloc: Global,
+        room: Vec<SlotWrite>,
         op: &Op,
         given: &Slots,
         latched: &PageSet,
     ) -> Result<Plan, Refusal> {
-        (**self).plan(alloc, op, given, latched)
+        (**self).plan(room, op, given, latched)
     }
 
     fn undo(
         &mut self,
-        alloc: Global,
+        room: Vec<SlotWrite>,
         record: &Record,
         given: &Slots,
         latched: &PageSet,
     ) -> Result<Plan, Refusal> {
-        (**self).undo(alloc, record, given, latched)
+        (**self).undo(room, record, given, latched)
     }
 
     fn redo(&mut self, page: &mut Page, lsn: Lsn, record: &Record) -> bool {

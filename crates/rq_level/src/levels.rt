@@ -6,13 +6,12 @@ ghost use Rattle.rq_level.specs.Meaning.{meaning_of, wish, AreOf, redo_of, Appli
 use crate::level::{Level, Want};
 use crate::op::Op;
 use crate::slots::{PageSet, Slots};
-use crate::writes::Plan;
+use crate::writes::{Plan, SlotWrite};
 use rq_model::record::{Record, Slot};
 use rq_model::refusal::Refusal;
 use rq_model::txn::Lsn;
 use rq_page::addr::Addr;
 use rq_page::page::Page;
-use std::alloc::Global;
 use std::marker::Model;
 
 /// The levels of a store, numbered from 0 in order. Contracts see what each keeps.
@@ -68,7 +67,7 @@ impl<B: Level> Levels<B> {
     /// Plans an operation that is to be done.
     pub fn plan(
         &mut self,
-        alloc: Global,
+        room: Vec<SlotWrite>,
         level: usize,
         op: &Op,
         given: &Slots,
@@ -80,13 +79,13 @@ impl<B: Level> Levels<B> {
         ensures others { self.new ≡ slice_set self.old level (kept_at self.new level) }
     {
         let it = &mut self.all[level];
-        it.plan(alloc, op, given, latched)
+        it.plan(room, op, given, latched)
     }
 
     /// Plans what takes back the operation that the record tells.
     pub fn undo(
         &mut self,
-        alloc: Global,
+        room: Vec<SlotWrite>,
         level: usize,
         record: &Record,
         given: &Slots,
@@ -98,7 +97,7 @@ impl<B: Level> Levels<B> {
         ensures others { self.new ≡ slice_set self.old level (kept_at self.new level) }
     {
         let it = &mut self.all[level];
-        it.undo(alloc, record, given, latched)
+        it.undo(room, record, given, latched)
     }
 
     /// Has the level apply a record to its page, where the page is older.

@@ -14,4 +14,4 @@ pub use level::{Level, Want, applied_twice_is_once, levels_are_lawful, redo_page
 pub use levels::Levels;
 pub use op::Op;
 pub use slots::{Given, PageSet, Slots};
-pub use writes::{Outcome, Plan, SlotWrite};
+pub use writes::{Outcome, Plan, SlotWrite, only};

@@ -1,8 +1,9 @@
 //! Writes of slots, and plans of them.
-ghost use Rattle.std.specs.Prelude.{◌<◌, ◌^◌, ◌/◌, ◌%◌};
+ghost use Rattle.std.specs.Prelude.{◌≡◌, ◌<◌, ◌^◌, ◌/◌, ◌%◌, [], ◌∷◌, IfOk};
 
 use rq_model::message::Message;
 use rq_model::record::{DeedBytes, Slot};
+use rq_model::refusal::NoMemory;
 use rq_page::addr::Addr;
 
 /// A write of a slot: where, what stands there before it and what after it.
@@ -34,4 +35,16 @@ pub struct Plan {
     pub writes: Vec<SlotWrite>,
     pub deed: DeedBytes,
     pub reply: Option<Outcome>,
+}
+
+/// A write in a vector, in place of what stands there.
+#[inline(always)]
+pub fn only(mut room: Vec<SlotWrite>, write: SlotWrite) -> Result<Vec<SlotWrite>, NoMemory>
+    ensures { IfOk result (λ all. all.items ≡ write ∷ []) }
+{
+    room.clear();
+    match room.push(write) {
+        Ok(()) => Ok(room),
+        Err(_) => Err(NoMemory),
+    }
 }

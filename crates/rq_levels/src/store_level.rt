@@ -2,7 +2,7 @@
 ghost use Rattle.std.specs.Prelude.{◌≡◌, IfOk, length};
 
 use rq_chain::ChainLevel;
-use rq_level::{Level, Op, PageSet, Plan, Slots, Want};
+use rq_level::{Level, Op, PageSet, Plan, SlotWrite, Slots, Want};
 use rq_model::record::{Record, Slot};
 use rq_model::refusal::Refusal;
 use rq_model::txn::Lsn;
@@ -51,27 +51,27 @@ impl Level for StoreLevel {
 
     fn plan(
         &mut self,
-        alloc: Global,
+        room: Vec<SlotWrite>,
         op: &Op,
         given: &Slots,
         latched: &PageSet,
     ) -> Result<Plan, Refusal> {
         match self {
-            StoreLevel::Slots(level) => level.plan(alloc, op, given, latched),
-            StoreLevel::Chains(level) => level.plan(alloc, op, given, latched),
+            StoreLevel::Slots(level) => level.plan(room, op, given, latched),
+            StoreLevel::Chains(level) => level.plan(room, op, given, latched),
         }
     }
 
     fn undo(
         &mut self,
-        alloc: Global,
+        room: Vec<SlotWrite>,
         record: &Record,
         given: &Slots,
         latched: &PageSet,
     ) -> Result<Plan, Refusal> {
         match self {
-            StoreLevel::Slots(level) => level.undo(alloc, record, given, latched),
-            StoreLevel::Chains(level) => level.undo(alloc, record, given, latched),
+            StoreLevel::Slots(level) => level.undo(room, record, given, latched),
+            StoreLevel::Chains(level) => level.undo(room, record, given, latched),
         }
     }
 

@@ -5,13 +5,12 @@ ghost use Rattle.rq_level.specs.Ops.{overwrite_in};
 ghost use Rattle.rq_level.specs.PagePlans.{IsWritePlan, PlansWrite, TakesBack, is_slot_number};
 
 use byteorder::{BigEndian, ByteOrder};
-use rq_level::{Level, Op, PageSet, Plan, SlotWrite, Slots, Want, redo_page};
+use rq_level::{Level, Op, PageSet, Plan, SlotWrite, Slots, Want, only, redo_page};
 use rq_model::record::{DeedBytes, Record, Slot};
 use rq_model::refusal::{Damage, NoMemory, Refusal};
 use rq_model::txn::Lsn;
 use rq_page::addr::Addr;
 use rq_page::page::Page;
-use std::alloc::Global;
 
 // An address, and the bytes of a slot.
 const OVERWRITE: usize = 8 + 256;
@@ -50,7 +49,7 @@ impl Level for PageLevel {
 
     fn plan(
         &mut self,
-        alloc: Global,
+        room: Vec<SlotWrite>,
         op: &Op,
         given: &Slots,
         _latched: &PageSet,
@@ -58,12 +57,12 @@ impl Level for PageLevel {
         if op.is_undo() {
             return Err(Refusal::Damaged(Damage::Page(0)));
         }
-        plan_overwrite(alloc, op.bytes(), given)
+        plan_overwrite(room, op.bytes(), given)
     }
 
     fn undo(
         &mut self,
-        alloc: Global,
+        room: Vec<SlotWrite>,
         record: &Record,
         _given: &Slots,
         _latched: &PageSet,
@@ -75,7 +74,7 @@ impl Level for PageLevel {
                 before,
                 after,
                 ..
-            } => take_back(alloc, *page, *slot, before, after),
+            } => take_back(room, *page, *slot, before, after),
             _ => Err(Refusal::Damaged(Damage::Page(0))),
         }
     }
@@ -110,7 +109,7 @@ fn read_overwrite(bytes: &[u8]) -> Option<(Addr, &[u8; 256])>
 }
 
 // The plan of writing over a slot.
-fn plan_overwrite(alloc: Global, bytes: &[u8], given: &Slots) -> Result<Plan, Refusal>
+fn plan_overwrite(room: Vec<SlotWrite>, bytes: &[u8], given: &Slots) -> Result<Plan, Refusal>
     ensures { (k : LevelState) → PlansWrite k (overwrite_in bytes.now) given.now result k }
 {
     let Some((at, after)) = read_overwrite(bytes) else {
@@ -118,13 +117,13 @@ fn plan_overwrite(alloc: Global, bytes: &[u8], given: &Slots) -> Result<Plan, Re
     };
     match given.get(at) {
         None => Err(Refusal::Damaged(Damage::Page(0))),
-        Some(before) => Ok(one_write(alloc, at, before, after)?),
+        Some(before) => Ok(one_write(room, at, before, after)?),
     }
 }
 
 // The plan of taking a slot write back.
 fn take_back(
-    alloc: Global,
+    room: Vec<SlotWrite>,
     page: u32,
     slot: u8,
     before: &Slot,
@@ -135,14 +134,14 @@ fn take_back(
     if slot == 0 || slot > 15 {
         return Err(Refusal::Damaged(Damage::Page(page)));
     }
-    match one_write(alloc, Addr::new(page, slot), after, before) {
+    match one_write(room, Addr::new(page, slot), after, before) {
         Ok(plan) => Ok(plan),
         Err(NoMemory) => Err(Refusal::NoMemory),
     }
 }
 
 // The plan of one write.
-fn one_write(alloc: Global, at: Addr, before: &Slot, after: &Slot) -> Result<Plan, NoMemory>
+fn one_write(room: Vec<SlotWrite>, at: Addr, before: &Slot, after: &Slot) -> Result<Plan, NoMemory>
     requires page { at / 16 < 2 ^ 32 }
     requires slot { 0 < at % 16 }
     ensures { IfOk result (λ p. IsWritePlan at before.now after.now p) }
@@ -152,7 +151,7 @@ fn one_write(alloc: Global, at: Addr, before: &Slot, after: &Slot) -> Result<Pla
         before: *before,
         after: *after,
     };
-    match Vec::from_slice(alloc, &[write]) {
+    match only(room, write) {
         Ok(writes) => Ok(Plan {
             writes,
             deed: DeedBytes::new(&[]).unwrap(),

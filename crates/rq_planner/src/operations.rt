@@ -2,13 +2,12 @@
 ghost use Rattle.rq_planner.specs.Handed.{HasRoom};
 
 use crate::handed::StoreLevels;
-use rq_level::{Level, Levels, Op, PageSet, Plan, Slots, Want};
+use rq_level::{Level, Levels, Op, PageSet, Plan, SlotWrite, Slots, Want};
 use rq_model::record::{Record, Slot};
 use rq_model::refusal::Refusal;
 use rq_model::txn::Lsn;
 use rq_page::addr::Addr;
 use rq_page::page::Page;
-use std::alloc::Global;
 use std::marker::Model;
 
 // The number of the level that plans operations.
@@ -62,22 +61,22 @@ impl<B: Level> Level for Operations<B> {
 
     fn plan(
         &mut self,
-        alloc: Global,
+        room: Vec<SlotWrite>,
         op: &Op,
         given: &Slots,
         latched: &PageSet,
     ) -> Result<Plan, Refusal> {
-        self.levels.plan(alloc, OPERATIONS, op, given, latched)
+        self.levels.plan(room, OPERATIONS, op, given, latched)
     }
 
     fn undo(
         &mut self,
-        alloc: Global,
+        room: Vec<SlotWrite>,
         record: &Record,
         given: &Slots,
         latched: &PageSet,
     ) -> Result<Plan, Refusal> {
-        self.levels.undo(alloc, OPERATIONS, record, given, latched)
+        self.levels.undo(room, OPERATIONS, record, given, latched)
     }
 
     fn redo(&mut self, page: &mut Page, lsn: Lsn, record: &Record) -> bool {

@@ -80,13 +80,14 @@ impl<B: Level> Planner<B> {
     }
 
     /// The plan of an operation, from the slots as they are; `None` where it needs a page that an operation under way has
-    /// latched, or a cell of which none is free on another page, and only there.
+    /// latched, or a cell of which none is free on another page, and only there. Its writes are put into `room`.
     ///
     /// # Errors
     /// `NoMemory`; of a store that is not sound, or where the operation may not be done, also `Damaged`.
+    #[inline(always)]
     pub fn plan<P: PageDevice>(
         &mut self,
-        alloc: Global,
+        room: Vec<SlotWrite>,
         pages: &Pages<P>,
         transactions: &Transactions,
         op: &Op,
@@ -98,7 +99,7 @@ impl<B: Level> Planner<B> {
         ensures planned { IsPlanned (known_from pages.now transactions.now) (asked_by op.now) result }
     {
         match plan(
-            alloc,
+            room,
             pages,
             transactions,
             &mut self.level,
@@ -118,9 +119,11 @@ impl<B: Level> Planner<B> {
     ///
     /// # Errors
     /// `NoMemory`; of a store that is not sound, or where the operation may not be undone, also `Damaged`.
+    #[inline(always)]
     pub fn plan_inverse<P: PageDevice>(
         &mut self,
         alloc: Global,
+        room: Vec<SlotWrite>,
         pages: &Pages<P>,
         transactions: &Transactions,
         level: u8,
@@ -135,6 +138,7 @@ impl<B: Level> Planner<B> {
     {
         match plan_inverse(
             alloc,
+            room,
             pages,
             transactions,
             &mut self.level,
@@ -177,6 +181,7 @@ impl<B: Level> Planner<B> {
         let nobody = Transactions::new(alloc);
         match plan_inverse(
             alloc,
+            Vec::new(alloc),
             pages,
             &nobody,
             &mut self.level,

@@ -9,7 +9,7 @@ ghost use Rattle.rq_views.specs.Stored.{slots_in};
 
 use crate::gathering::gather;
 use rq_disk::PageDevice;
-use rq_level::{Level, Op, Plan, Slots};
+use rq_level::{Level, Op, Plan, SlotWrite, Slots};
 use rq_model::record::{DeedBytes, Record};
 use rq_model::refusal::Refusal;
 use rq_model::txn::Txn;
@@ -23,8 +23,9 @@ use std::alloc::Global;
 /// # Errors
 /// `NoMemory`; of a store that is not sound, or where the operation may not be done, also `Damaged`.
 #[tactic(auto, using(crate::proofs::Replies::held_read, crate::proofs::Replies::memory_causes))]
+#[inline(always)]
 pub fn plan<P: PageDevice, B: Level>(
-    alloc: Global,
+    room: Vec<SlotWrite>,
     pages: &Pages<P>,
     transactions: &Transactions,
     level: &mut B,
@@ -40,7 +41,7 @@ pub fn plan<P: PageDevice, B: Level>(
         (B.kept level.new) }
 {
     match gather(pages, transactions, level, op, slots) {
-        Ok(true) => found(level.plan(alloc, op, slots, transactions.latched())),
+        Ok(true) => found(level.plan(room, op, slots, transactions.latched())),
         Ok(false) => Ok(None),
         Err(refusal) => Err(refusal),
     }
@@ -51,8 +52,10 @@ pub fn plan<P: PageDevice, B: Level>(
 /// # Errors
 /// `NoMemory`; of a store that is not sound, or where the operation may not be undone, also `Damaged`.
 #[tactic(auto, using(crate::proofs::Replies::held_read, crate::proofs::Replies::memory_causes))]
+#[inline(always)]
 pub fn plan_inverse<P: PageDevice, B: Level>(
     alloc: Global,
+    room: Vec<SlotWrite>,
     pages: &Pages<P>,
     transactions: &Transactions,
     level: &mut B,
@@ -83,13 +86,14 @@ pub fn plan_inverse<P: PageDevice, B: Level>(
         deed: *deed,
     };
     match gather(pages, transactions, level, &op, slots) {
-        Ok(true) => found(level.undo(alloc, &end, slots, transactions.latched())),
+        Ok(true) => found(level.undo(room, &end, slots, transactions.latched())),
         Ok(false) => Ok(None),
         Err(refusal) => Err(refusal),
     }
 }
 
 // What a level answers, with none where it is for latches.
+#[inline(always)]
 fn found(answer: Result<Plan, Refusal>) -> Result<Option<Plan>, Refusal>
     ensures { result ≡ unless_latched answer }
 {

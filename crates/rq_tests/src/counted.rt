@@ -4,7 +4,7 @@ ghost use Rattle.rq_levels.specs.Words.{kept_of, number_of};
 ghost use Rattle.rq_planner.specs.Handed.{HasRoom};
 
 use rq_chain::ChainLevel;
-use rq_level::{Level, Op, PageSet, Plan, Slots, Want};
+use rq_level::{Level, Op, PageSet, Plan, SlotWrite, Slots, Want};
 use rq_levels::StoreLevel;
 use rq_model::record::{Record, Slot};
 use rq_model::refusal::Refusal;
@@ -82,22 +82,22 @@ impl Level for Counted {
 
     fn plan(
         &mut self,
-        alloc: Global,
+        room: Vec<SlotWrite>,
         op: &Op,
         given: &Slots,
         latched: &PageSet,
     ) -> Result<Plan, Refusal> {
-        self.level.plan(alloc, op, given, latched)
+        self.level.plan(room, op, given, latched)
     }
 
     fn undo(
         &mut self,
-        alloc: Global,
+        room: Vec<SlotWrite>,
         record: &Record,
         given: &Slots,
         latched: &PageSet,
     ) -> Result<Plan, Refusal> {
-        self.level.undo(alloc, record, given, latched)
+        self.level.undo(room, record, given, latched)
     }
 
     fn redo(&mut self, page: &mut Page, lsn: Lsn, record: &Record) -> bool {

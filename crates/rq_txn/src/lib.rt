@@ -77,6 +77,7 @@ impl Transaction {
     ghost use Rattle.rq_txn.specs.Tallies.{HasRoom, IsCounted, Latches, Moves};
 
     // The operation is under way, in place of one that was.
+    #[inline(always)]
     fn start(&mut self, operation: Operation, tally: &mut Tally) -> Result<(), NoMemory>
         requires counted { IsCounted (row_of self.old).under tally.old }
         requires room { HasRoom tally.old }
@@ -104,6 +105,7 @@ impl Transaction {
     }
 
     // The operation under way is finished.
+    #[inline(always)]
     fn finish(&mut self, finished: Finished, tally: &mut Tally)
         requires busy { IsSome self.old.under_way }
         requires counted { IsCounted (row_of self.old).under tally.old }
@@ -122,6 +124,7 @@ impl Transaction {
     }
 
     // It is no more, nor is its operation under way.
+    #[inline(always)]
     fn end(self, tally: &mut Tally)
         requires { IsCounted (row_of self).under tally.old }
         ensures { Moves (row_of self).under None tally.old tally.new }
@@ -265,10 +268,18 @@ impl Transactions {
         self.finished(txn).last().copied()
     }
 
+    /// A vector for the writes of the next operation. It may have room for them.
+    pub fn spare(&mut self) -> Vec<SlotWrite>
+        ensures { self.new ≡ self.old }
+    {
+        self.tally.spare(self.alloc)
+    }
+
     /// Puts an operation of the transaction under way, with room for its end.
     ///
     /// # Errors
     /// `NoMemory`: nothing changed.
+    #[inline(always)]
     pub fn start(&mut self, txn: Txn, operation: Operation) -> Result<(), NoMemory>
         ensures ok { OnOk result (self.new ≡ change_row txn (row_started (under_of operation)) self.old) }
         ensures err { OnErr result (self.new ≡ self.old) }
@@ -291,6 +302,7 @@ impl Transactions {
     }
 
     /// The transaction's operation under way is finished, and came to this.
+    #[inline(always)]
     pub fn note(&mut self, txn: Txn, finished: Finished)
         requires { IfSome (found_row txn self.old) (λ row. IsSome row.under) }
         ensures { self.new ≡ change_row txn (row_finished finished) self.old }
@@ -319,6 +331,7 @@ impl Transactions {
     }
 
     /// Takes the transaction out.
+    #[inline(always)]
     pub fn end(&mut self, txn: Txn)
         ensures { self.new ≡ without_row txn self.old }
     {

@@ -9,12 +9,15 @@ use crate::counts::Counts;
 use rq_level::{PageSet, SlotWrite};
 use rq_model::refusal::NoMemory;
 use std::alloc::Global;
+use std::mem;
 
 /// How many operations are under way, how many of them have latched each page, and which pages some have latched.
 #[derive(Drop)]
 pub struct Tally {
     operations: usize,
     latched: Counts,
+    // A vector in which the writes of an operation stood.
+    spare: Vec<SlotWrite>,
 }
 
 impl Tally {
@@ -26,6 +29,7 @@ impl Tally {
         Tally {
             operations: 0,
             latched: Counts::new(alloc),
+            spare: Vec::new(alloc),
         }
     }
 
@@ -78,6 +82,7 @@ impl Tally {
     }
 
     /// The operation is no longer under way, where there was one.
+    #[inline(always)]
     pub fn release(&mut self, was: Option<Operation>)
         requires { IsCounted (under_way_of was) self.old }
         ensures { Moves (under_way_of was) None self.old self.new }
@@ -85,7 +90,15 @@ impl Tally {
         if let Some(operation) = was {
             self.unlatch(&operation.writes);
             self.operations -= 1;
+            self.spare = operation.writes;
         }
+    }
+
+    /// A vector for the writes of an operation. It may have room for them.
+    pub fn spare(&mut self, alloc: Global) -> Vec<SlotWrite>
+        ensures { Latches [] self.old self.new }
+    {
+        mem::replace(&mut self.spare, Vec::new(alloc))
     }
 
     // One operation more has latched the pages of these writes.

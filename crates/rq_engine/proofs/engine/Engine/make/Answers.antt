@@ -17,65 +17,65 @@ use Rattle.rq_engine.proofs.engine.Engine.make.Goals as goal
 
 pub append-lsn-requires-clause-record : goal.append-lsn-requires-clause-record
 append-lsn-requires-clause-record g c =
-    let h = subst (λ (s : State). IsUnderWay s c.args.sub (Next c.args.write.now)) (sym (state_is c.self.view_is)) c.requires.next in
-    let r = going_range _ _ _ _ c.self.invariant.kept c.args.sub (Next c.args.write.now) h in
-    let p = (next_slot _ _ _ _ c.self.invariant.kept c.args.sub c.args.write.now h).place.slot in
-    let e : c.slot.result ≡ c.args.write.now.at % 16 = c.slot.ensures in
+    let h = subst (λ (s : State). IsUnderWay s c.args.sub (Next c.args.write)) (sym (state_is c.self.view_is)) c.requires.next in
+    let r = going_range _ _ _ _ c.self.invariant.kept c.args.sub (Next c.args.write) h in
+    let p = (next_slot _ _ _ _ c.self.invariant.kept c.args.sub c.args.write h).place.slot in
+    let e : c.slot.result ≡ c.args.write.at % 16 = c.slot.ensures in
     (r.0, r.1, (omega (arith, p, e), omega (arith, e)))
 
 pub append-lsn-requires-clause-room : goal.append-lsn-requires-clause-room
 append-lsn-requires-clause-room g c =
-    let h = subst (λ (s : State). IsUnderWay s c.args.sub (Next c.args.write.now)) (sym (state_is c.self.view_is)) c.requires.next in
-    let r = next_room _ _ _ _ c.self.invariant.kept c.args.sub c.args.write.now h in
+    let h = subst (λ (s : State). IsUnderWay s c.args.sub (Next c.args.write)) (sym (state_is c.self.view_is)) c.requires.next in
+    let r = next_room _ _ _ _ c.self.invariant.kept c.args.sub c.args.write h in
     let e = c.shows_size.ensures in
     omega (arith, r, e)
 
 pub set_slot-requires-clause-place : goal.set_slot-requires-clause-place
 set_slot-requires-clause-place g c =
-    let h = subst (λ (s : State). IsUnderWay s c.args.sub (Next c.args.write.now)) (sym (state_is c.self.view_is)) c.requires.next in
-    (next_slot _ _ _ _ c.self.invariant.kept c.args.sub c.args.write.now h).place
+    let h = subst (λ (s : State). IsUnderWay s c.args.sub (Next c.args.write)) (sym (state_is c.self.view_is)) c.requires.next in
+    (next_slot _ _ _ _ c.self.invariant.kept c.args.sub c.args.write h).place
 
 pub set_slot-requires-clause-image : goal.set_slot-requires-clause-image
 set_slot-requires-clause-image g c =
-    let h = subst (λ (s : State). IsUnderWay s c.args.sub (Next c.args.write.now)) (sym (state_is c.self.view_is)) c.requires.next in
-    (next_slot _ _ _ _ c.self.invariant.kept c.args.sub c.args.write.now h).after
+    let h = subst (λ (s : State). IsUnderWay s c.args.sub (Next c.args.write)) (sym (state_is c.self.view_is)) c.requires.next in
+    (next_slot _ _ _ _ c.self.invariant.kept c.args.sub c.args.write h).after
 
 pub step-requires : goal.step-requires
 step-requires g c =
-    let h = subst (λ (s : State). IsUnderWay s c.args.sub (Next c.args.write.now)) (sym (state_is c.self.view_is)) c.requires.next in
-    next_more _ _ _ _ c.self.invariant.kept c.args.sub c.args.write.now h
+    let h = subst (λ (s : State). IsUnderWay s c.args.sub (Next c.args.write)) (sym (state_is c.self.view_is)) c.requires.next in
+    next_more _ _ _ _ c.self.invariant.kept c.args.sub c.args.write h
 
 pub overflow_sub-self : goal.overflow_sub-self
 overflow_sub-self g c =
-    let h = subst (λ (s : State). IsUnderWay s c.args.sub (Next c.args.write.now)) (sym (state_is c.self.view_is)) c.requires.next in
-    going_owed _ _ _ _ c.self.invariant.kept c.args.sub (Next c.args.write.now) h
+    let h = subst (λ (s : State). IsUnderWay s c.args.sub (Next c.args.write)) (sym (state_is c.self.view_is)) c.requires.next in
+    going_owed _ _ _ _ c.self.invariant.kept c.args.sub (Next c.args.write) h
 
 pub invariant_of-self : goal.invariant_of-self
 invariant_of-self g c =
-    let h = subst (λ (s : State). IsUnderWay s c.args.sub (Next c.args.write.now)) (sym (state_is c.self.view_is)) c.requires.next in
+    let h = subst (λ (s : State). IsUnderWay s c.args.sub (Next c.args.write)) (sym (state_is c.self.view_is)) c.requires.next in
     let room : c.append-lsn.new.self.reserved + 546 ≡ c.self.inside.log.reserved = (let a = c.append-lsn.ensures.reserved in let b = c.shows_size.ensures in omega (arith, a, b)) in
     let failed : c.self.inside.log.failed ≡ c.append-lsn.new.self.failed = c.self.invariant.kept.fails (ap (λ (s : State). s.failed) (state_is c.self.view_is) ∙ c.requires.running) ∙ sym c.append-lsn.ensures.failed in
     record {
       kept = rw (c.step.ensures, c.set_slot.ensures.sizes, c.append-lsn.ensures.records, c.append-lsn.ensures.forced, sym failed)
-          (next_kept _ _ _ _ c.self.invariant.kept c.args.sub c.args.write.now h _ c.set_slot.new.self.images c.append-lsn.new.self.reserved room);
+          (next_kept _ _ _ _ c.self.invariant.kept c.args.sub c.args.write h _ c.set_slot.new.self.images c.append-lsn.new.self.reserved room);
       durable = rw (c.append-lsn.ensures.settled) c.self.invariant.durable;
       cells = rw (c.noted.ensures, c.set_slot.ensures.sizes)
-          (knows_written c.self.inside.pages.sizes c.self.inside.pages.images c.set_slot.new.self.images c.self.inside.planner c.args.write.now.at c.args.write.now.after
-          (next_slot _ _ _ _ c.self.invariant.kept c.args.sub c.args.write.now h).place c.set_slot.ensures.slots c.self.invariant.cells);
+          (knows_written c.self.inside.pages.sizes c.self.inside.pages.images c.set_slot.new.self.images c.self.inside.planner c.args.write.at c.args.write.after
+          (next_slot _ _ _ _ c.self.invariant.kept c.args.sub c.args.write h).place c.set_slot.ensures.slots c.self.invariant.cells);
     }
 
 pub returns-clause-made : goal.returns-clause-made
 returns-clause-made g c =
-    let h = subst (λ (s : State). IsUnderWay s c.args.sub (Next c.args.write.now)) (sym (state_is c.self.view_is)) c.requires.next in
+    let h = subst (λ (s : State). IsUnderWay s c.args.sub (Next c.args.write)) (sym (state_is c.self.view_is)) c.requires.next in
     let stamp : c.append-lsn.result ≡ length c.self.inside.log.records + 1 = (let l = c.append-lsn.ensures.lsn in let r = ap length c.append-lsn.ensures.records in omega (arith, l, r)) in
     record {
       state = rw (c.step.ensures, c.set_slot.ensures.sizes, c.append-lsn.ensures.records, c.append-lsn.ensures.forced, c.page.ensures, c.slot.ensures)
-          (ap (λ (s : State). record s { rows = change_row c.args.sub.txn row_stepped s.rows; images = c.set_slot.new.self.images; records = page_op c.args.sub.txn c.args.sub.number c.args.write.now ∷ s.records }) (state_is c.self.view_is));
-      before = subst (λ (s : State). IsSlotOf s.sizes (c.args.write.now.at / 16) (c.args.write.now.at % 16) c.args.write.now.before) (state_is c.self.view_is) (next_slot _ _ _ _ c.self.invariant.kept c.args.sub c.args.write.now h).before;
-      slot = subst (λ (s : State). IsSlotOf s.sizes (c.args.write.now.at / 16) (c.args.write.now.at % 16) c.args.write.now.after) (state_is c.self.view_is) (next_slot _ _ _ _ c.self.invariant.kept c.args.sub c.args.write.now h).after;
-      slots = λ a. subst (λ (s : State). slots_in s.sizes c.set_slot.new.self.images a ≡ put (slots_in s.sizes s.images) c.args.write.now.at (held_in s.sizes (c.args.write.now.at / 16) c.args.write.now.after) a) (state_is c.self.view_is) (c.set_slot.ensures.slots a);
-      put_in = subst (λ (s : State). IsPutIn s c.args.write.now c.set_slot.new.self.images) (state_is c.self.view_is) (record {
-        page = subst (λ n. IsWritten (image_in c.self.inside.pages.images (c.args.write.now.at / 16)) (image_in c.set_slot.new.self.images (c.args.write.now.at / 16)) (c.args.write.now.at % 16) c.args.write.now.after n) stamp c.set_slot.ensures.page;
+          (ap (λ (s : State). record s { rows = change_row c.args.sub.txn row_stepped s.rows; images = c.set_slot.new.self.images; records = page_op c.args.sub.txn c.args.sub.number c.args.write ∷ s.records }) (state_is c.self.view_is));
+      before = subst (λ (s : State). IsSlotOf s.sizes (c.args.write.at / 16) (c.args.write.at % 16) c.args.write.before) (state_is c.self.view_is) (next_slot _ _ _ _ c.self.invariant.kept c.args.sub c.args.write h).before;
+      slot = subst (λ (s : State). IsSlotOf s.sizes (c.args.write.at / 16) (c.args.write.at % 16) c.args.write.after) (state_is c.self.view_is) (next_slot _ _ _ _ c.self.invariant.kept c.args.sub c.args.write h).after;
+      slots = λ a. subst (λ (s : State). slots_in s.sizes c.set_slot.new.self.images a ≡ put (slots_in s.sizes s.images) c.args.write.at (held_in s.sizes (c.args.write.at / 16) c.args.write.after) a) (state_is c.self.view_is) (c.set_slot.ensures.slots a);
+      put_in = subst (λ (s : State). IsPutIn s c.args.write c.set_slot.new.self.images) (state_is c.self.view_is) (record {
+        page = subst (λ n. IsWritten (image_in c.self.inside.pages.images (c.args.write.at / 16)) (image_in c.set_slot.new.self.images (c.args.write.at / 16)) (c.args.write.at % 16) c.args.write.after n) stamp c.set_slot.ensures.page;
         others = c.set_slot.ensures.others;
         superblock = subst (λ (z : Sizes). IsFormatted z 0 (image_in c.set_slot.new.self.images 0)) c.set_slot.ensures.sizes c.set_slot.ensures.pool.superblock;
         headers = subst (λ (z : Sizes). (p : ℕ) → 1 ≤ p → p < page_count z → IsHeaderOf z p (image_in c.set_slot.new.self.images p)) c.set_slot.ensures.sizes c.set_slot.ensures.pool.headers;
@@ -84,7 +84,7 @@ returns-clause-made g c =
 
 pub returns-clause-changed : goal.returns-clause-changed
 returns-clause-changed g c = (
-  c.args.write.now.at / 16,
+  c.args.write.at / 16,
   c.set_slot.ensures.page.lsn,
-  c.set_slot.ensures.changed ∙ ap (λ (b : List Bool). slice_set b (c.args.write.now.at / 16) true) (changed_is c.self.view_is),
+  c.set_slot.ensures.changed ∙ ap (λ (b : List Bool). slice_set b (c.args.write.at / 16) true) (changed_is c.self.view_is),
 )
