@@ -32,8 +32,8 @@ from damaged import formatted
 from files import files_of, folder_of, format_store
 from kill import Kills
 from server import (
-    LENGTHS, LONGEST, Client, Connection, NotStarted, Server, compare, everything, in_threads, raises, read_to_end, reset, serving,
-    store, wait_until,
+    LENGTHS, LONGEST, Client, Connection, NotStarted, Server, compare, everything, in_threads, raises, read_to_end,
+    reset, serving, store, wait_until,
 )  # fmt: skip
 from shim import failing
 
@@ -56,15 +56,17 @@ def as_root():
 # ---- signals
 
 
-class Ends(Kills):
-    """A store whose servers are ended by any of the signals that end a program."""
+ENDING = [signal.SIGTERM, signal.SIGINT, signal.SIGHUP, signal.SIGKILL]
 
-    def round(self):
+
+class Ends(Kills):
+    """A store whose servers are ended by the signals that end a program."""
+
+    def round(self, number):
+        self.kill_at_start(number)
         with self.running() as server:
             self.load.look(server)
-            number = self.random.choice([signal.SIGTERM, signal.SIGINT, signal.SIGHUP, signal.SIGKILL])
             self.load.round(server, self.random.uniform(0.02, 0.2), lambda: ended_by(server, number))
-        self.kills += 1
 
 
 def ended_by(server, number):
@@ -73,11 +75,11 @@ def ended_by(server, number):
 
 
 def signals(program, chosen):
-    """Ended by any signal under load, again and again: nothing that was acknowledged is lost."""
+    """Ended by each signal in turn, at a start and under load, again and again: nothing that was acknowledged is lost."""
     with store(program, 1, 400) as folder:
         ends = Ends(program, folder, chosen.seed)
-        for _ in range(chosen.rounds):
-            ends.round()
+        for number in itertools.islice(itertools.cycle(ENDING), max(chosen.rounds, 12)):
+            ends.round(number)
         with ends.running() as server:
             ends.load.look(server, is_last=True)
 
@@ -127,10 +129,9 @@ def closed_streams(program, _):
             command = [program, "format", str(folder), "--directory", "1", "--cells", "2"]
             assert without(closed, command).wait(LONGEST) == 0, closed
             assert files_of(folder) == {"pages": bytes(formatted(1, 2)), "log": b""}, closed
-            port = free_port()
-            server = without(closed, [program, "serve", str(folder), "--port", str(port)])
+            server = without(closed, [program, "serve", str(folder), "--port", "0"])
             try:
-                with connected(server, port) as connection, connection.transaction() as transaction:
+                with Connection(port_of(server), timeout=LONGEST) as connection, connection.transaction() as transaction:
                     transaction.send(0, 7, b"hello")
             finally:
                 server.kill()
@@ -149,19 +150,17 @@ def without(closed, command):
     return subprocess.Popen(command, stdin=subprocess.DEVNULL, stdout=subprocess.DEVNULL, stderr=subprocess.DEVNULL, preexec_fn=close)
 
 
-def free_port():
-    with socket.create_server(("127.0.0.1", 0)) as taken:
-        return taken.getsockname()[1]
-
-
-def connected(server, port):
+def port_of(server):
+    """Where a process listens, as the system tells it."""
     until = time.monotonic() + LONGEST
     while True:
-        try:
-            return Connection(port, timeout=LONGEST)
-        except ConnectionError:
-            assert server.poll() is None and time.monotonic() < until, server.returncode
-            time.sleep(0.01)
+        held = {os.readlink(file) for file in pathlib.Path(f"/proc/{server.pid}/fd").iterdir() if file.is_symlink()}
+        for line in pathlib.Path("/proc/net/tcp").read_text().splitlines()[1:]:
+            _, address, _, state, *_, inode = line.split()[:10]
+            if state == "0A" and f"socket:[{inode}]" in held:
+                return int(address[-4:], 16)
+        assert server.poll() is None and time.monotonic() < until, server.returncode
+        time.sleep(0.01)
 
 
 def full_streams(program, _):
@@ -288,6 +287,21 @@ def wants_more(server, acknowledged, streams, sender):
     return False
 
 
+def file_limit(program, chosen):
+    """Where the system ends whom makes a file longer than it may be: what was acknowledged is there at the next start."""
+    with store(program, 1, 40) as folder:
+        ends = Ends(program, folder, chosen.seed)
+        for longest in (200_000, 300_000):
+            with ends.running() as server:
+                ends.load.look(server)
+                resource.prlimit(server.process.pid, resource.RLIMIT_FSIZE, (longest, longest))
+                ends.load.round(server, 0, lambda server=server: server.process.wait(LONGEST))
+                assert server.process.returncode == -signal.SIGXFSZ, server.process.returncode
+            assert (folder / "log").stat().st_size <= longest
+        with ends.running() as server:
+            ends.load.look(server, is_last=True)
+
+
 # ---- files
 
 
@@ -327,6 +341,18 @@ def other_files(program, _):
     assert came == {"restarted", "damaged", "fault"}, came
 
 
+@contextmanager
+def entered_by_all():
+    """A folder that others may enter, wherever temporary files go."""
+    for place in map(pathlib.Path, (tempfile.gettempdir(), "/tmp", "/var/tmp", "/dev/shm")):
+        if all(path.is_dir() and path.stat().st_mode & 1 for path in (place, *place.parents)):
+            with tempfile.TemporaryDirectory(prefix="rqm-rights-", dir=place) as top:
+                os.chmod(top, 0o755)
+                yield pathlib.Path(top)
+                return
+    raise Skipped("others may enter no folder for temporary files")
+
+
 def no_rights(program, _):
     """Files and folders that may not be written are told, and stay. In a folder that may not be written a store is served, and none is
     made."""
@@ -336,35 +362,35 @@ def no_rights(program, _):
             os.setgid(65534)
             os.setuid(65534)
 
-    with folder_of(pages=formatted(), log=b"") as folder:
+    with entered_by_all() as top:
+        folder = top / "store"
+        folder.mkdir()
+        (folder / "pages").write_bytes(formatted())
+        (folder / "log").write_bytes(b"")
         if os.geteuid() == 0:
-            os.chown(folder, 65534, 65534)
-            for file in folder.iterdir():
-                os.chown(file, 65534, 65534)
-        mine = pathlib.Path(shutil.copy(program, folder.parent / f"{folder.name}-program"))
+            for path in (folder, *folder.iterdir()):
+                os.chown(path, 65534, 65534)
+        mine = pathlib.Path(shutil.copy(program, top / "program"))
         mine.chmod(0o755)
-        try:
-            for mode in ({"pages": 0o444}, {"log": 0o444}, {"pages": 0}, {".": 0}):
-                for name, bits in mode.items():
-                    (folder / name).chmod(bits)
-                ran = subprocess.run([mine, "serve", folder, "--port", "0"], capture_output=True, preexec_fn=nobody, timeout=LONGEST)
-                told = b"the store cannot be opened: Permission denied (os error 13)\n"
-                assert (ran.stdout, ran.stderr, ran.returncode) == (b"fault open\n", told, 1), (mode, ran)
-                for name in mode:
-                    (folder / name).chmod(0o755 if name == "." else 0o644)
-            (folder / "new").mkdir(0o555)
-            if os.geteuid() == 0:
-                os.chown(folder / "new", 65534, 65534)
-            command = [mine, "format", folder / "new", "--directory", "1", "--cells", "1"]
-            ran = subprocess.run(command, capture_output=True, preexec_fn=nobody, timeout=LONGEST)
-            assert (ran.stdout, ran.returncode) == (b"fault open\n", 1), ran
-            folder.chmod(0o555)
-            command = [mine, "serve", folder, "--port", "0", "--until-input-ends"]
-            ran = subprocess.run(command, input=b"", capture_output=True, preexec_fn=nobody, timeout=LONGEST)
-            assert ran.stdout.endswith(b"served 0\n") and ran.returncode == 0, ran
-            folder.chmod(0o755)
-        finally:
-            mine.unlink()
+        for mode in ({"pages": 0o444}, {"log": 0o444}, {"pages": 0}, {".": 0}):
+            for name, bits in mode.items():
+                (folder / name).chmod(bits)
+            ran = subprocess.run([mine, "serve", folder, "--port", "0"], capture_output=True, preexec_fn=nobody, timeout=LONGEST)
+            told = b"the store cannot be opened: Permission denied (os error 13)\n"
+            assert (ran.stdout, ran.stderr, ran.returncode) == (b"fault open\n", told, 1), (mode, ran)
+            for name in mode:
+                (folder / name).chmod(0o755 if name == "." else 0o644)
+        (folder / "new").mkdir(0o555)
+        if os.geteuid() == 0:
+            os.chown(folder / "new", 65534, 65534)
+        command = [mine, "format", folder / "new", "--directory", "1", "--cells", "1"]
+        ran = subprocess.run(command, capture_output=True, preexec_fn=nobody, timeout=LONGEST)
+        assert (ran.stdout, ran.returncode) == (b"fault open\n", 1), ran
+        folder.chmod(0o555)
+        command = [mine, "serve", folder, "--port", "0", "--until-input-ends"]
+        ran = subprocess.run(command, input=b"", capture_output=True, preexec_fn=nobody, timeout=LONGEST)
+        assert ran.stdout.endswith(b"served 0\n") and ran.returncode == 0, ran
+        folder.chmod(0o755)
 
 
 def vanished_folder(program, _):
@@ -682,8 +708,8 @@ def long_sessions(program, chosen):
 
 
 TESTS = [
-    signals, pauses, closed_streams, full_streams, little_at_start, little_under_load, other_files, no_rights, vanished_folder,
-    small_disk, short_calls, any_frames,
+    signals, pauses, closed_streams, full_streams, little_at_start, little_under_load, file_limit,
+    other_files, no_rights, vanished_folder, small_disk, short_calls, any_frames,
 ]  # fmt: skip
 
 

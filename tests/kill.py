@@ -9,6 +9,7 @@ it off. How often that came is said.
 """
 import argparse
 import random
+import signal
 import subprocess
 import sys
 import time
@@ -136,13 +137,13 @@ class Kills:
             self.load.round(server, self.random.uniform(0.02, 0.3), server.kill)
         self.kills += 1
 
-    def kill_at_start(self):
-        """Kills a server that has hardly begun to open the store."""
+    def kill_at_start(self, number=signal.SIGKILL):
+        """Ends a server that has hardly begun to open the store."""
         command = [self.program, "serve", str(self.folder), "--port", "0"]
         opening = subprocess.Popen(command, stdout=subprocess.DEVNULL, stderr=subprocess.DEVNULL)
         time.sleep(self.random.uniform(0, 0.05))
-        opening.kill()
-        opening.wait()
+        opening.send_signal(number)
+        assert opening.wait() == -number, (number, opening.returncode)
         self.kills += 1
 
 

@@ -5,8 +5,9 @@ acknowledged. A stop leaves none of the records that are not forced, all, or a t
 
     python3 tests/stops.py [--program PROGRAM] [--drawn N] [--first SEED] [NAME..]
 
-A name is one of `BASES`, lists of tests/worlds. Where two ways lead to the same store, one is gone on with. Beside these, so many ways
-are drawn, from any of all, whose stops leave any number of records and bytes.
+A name is one of `BASES`, lists of tests/worlds. One that commits and acknowledges nothing is tried a second time, with a force and a
+receipt behind each commit. Where two ways lead to the same store, one is gone on with. Beside these, so many ways are drawn, from any of
+all, whose stops leave any number of records and bytes.
 """
 import argparse
 import itertools
@@ -38,17 +39,22 @@ LAST = [b"restart", b"content"]
 
 
 class Base:
-    """A list, as far as it goes by itself: `calls` has how many device calls each happening makes."""
+    """A list, as far as it goes by itself: `calls` has how many device calls each happening makes. It is given a receipt of each commit
+    where that is asked for."""
 
-    def __init__(self, name):
+    def __init__(self, program, name, is_acknowledged):
         self.name, self.sizes = name, [int(word) for word in Worlds.cases.words_of(name)]
         self.lines, self.printed = Worlds.cases.lines_of(name)
+        if is_acknowledged:
+            self.name, self.lines = f"{name}, acknowledged", with_receipts(self.lines)
+            self.printed = printed_by(program, self.sizes, self.lines)[0]
+            assert acknowledged(self.lines, self.printed), name
         world, self.calls = World(*self.sizes), []
         for at, line in enumerate(self.lines):
             before = world.store.devices.calls
             world.happen(line, picked_at(self.lines, self.printed, at))
             self.calls.append(world.store.devices.calls - before)
-        assert world.printed == self.printed, name
+        assert world.printed == self.printed, self.name
 
     def stops(self):
         """The list up to each of its device calls, in which the machine stops: every choice of what that leaves."""
@@ -64,6 +70,29 @@ class Base:
             is_own = at < len(self.lines) and line == self.lines[at]
             world.happen(line, picked_at(self.lines, self.printed, at) if is_own else None)
         return world
+
+
+def with_receipts(lines):
+    """The lines with a force and a receipt behind each commit."""
+    made = []
+    for line in lines:
+        made.append(line)
+        if line.startswith(b"commit "):
+            made += [b"force", b"ack %d" % len(made)]
+    return made
+
+
+def lacks_receipts(name):
+    """Whether a list commits, and is given no receipt."""
+    lines = Worlds.cases.lines_of(name)[0]
+    return any(line.startswith(b"commit ") for line in lines) and not any(line.startswith(b"ack ") for line in lines)
+
+
+def printed_by(program, sizes, lines):
+    """What the program prints for these lines, and its status."""
+    given = b"".join(line + b"\n" for line in lines)
+    ran = subprocess.run([program, *map(str, sizes)], input=given, capture_output=True, timeout=MOST_SECONDS)
+    return ran.stdout.split(b"\n")[:-1], ran.returncode
 
 
 def choices(images):
@@ -127,12 +156,11 @@ def calls_of_restart(world):
 def fault(program, base, lines):
     """What is wrong with what a list comes to with a whole restart behind it; None where nothing is."""
     lines = lines + LAST
-    given = b"".join(line + b"\n" for line in lines)
-    ran = subprocess.run([program, *map(str, base.sizes)], input=given, capture_output=True, timeout=MOST_SECONDS)
-    printed, world = ran.stdout.split(b"\n")[:-1], base.told(lines)
-    replay = f"{base.name}: {program} {' '.join(map(str, base.sizes))} < the list\n" + given.decode()
-    if (printed, ran.returncode) != (world.printed, 0):
-        return f"{replay}  printed {printed[-3:]}, status {ran.returncode}, wanted {world.printed[-3:]}"
+    (printed, status), world = printed_by(program, base.sizes, lines), base.told(lines)
+    given = b"".join(line + b"\n" for line in lines).decode()
+    replay = f"{base.name}: {program} {' '.join(map(str, base.sizes))} < the list\n{given}"
+    if (printed, status) != (world.printed, 0):
+        return f"{replay}  printed {printed[-3:]}, status {status}, wanted {world.printed[-3:]}"
     if not printed[-2].startswith(b"restarted "):
         return f"{replay}  is not open: {printed[-2]}"
     lost = [sender for sender, count in acknowledged(lines, printed).items() if sent_in(printed[-1], sender) < count]
@@ -160,9 +188,9 @@ def sent_in(content, sender):
     return int(group[1]) if group else 0
 
 
-def run(program, name, seeds):
+def run(program, base, seeds):
     """Tries a base in all ways, and in those of these seeds; whether each came to what it should."""
-    base, counts, faults = Base(name), Counter(), []
+    counts, faults = Counter(), []
     stops = list(base.stops())
     with ThreadPoolExecutor(os.cpu_count()) as pool:
         tried = [pool.map(lambda way: (way[0], fault(program, base, way[1])), ways(base))]
@@ -172,7 +200,8 @@ def run(program, name, seeds):
             faults += [wrong] if wrong else []
     print("".join(f"{wrong}\n" for wrong in faults[:3]), end="")
     depths = ", ".join(str(counts[depth]) for depth in [*range(DEPTH + 1), "drawn"])
-    print(f"{sum(counts.values()) - len(faults)} of {depths} ways with 0 to {DEPTH} stopped restarts, and drawn, hold what they should ({name})")
+    right = sum(counts.values()) - len(faults)
+    print(f"{right} of {depths} ways with 0 to {DEPTH} stopped restarts, and drawn, hold what they should ({base.name})")
     return not faults and all(counts[depth] for depth in range(DEPTH + 1))
 
 
@@ -185,7 +214,9 @@ def main():
     chosen = words.parse_args()
     program = built(chosen.program, "happenings")
     seeds = range(chosen.first, chosen.first + chosen.drawn)
-    ran = [run(program, name, seeds) for name in chosen.names or BASES]
+    bases = [Base(program, name, False) for name in chosen.names or BASES]
+    bases += [Base(program, base.name, True) for base in bases if lacks_receipts(base.name)]
+    ran = [run(program, base, seeds) for base in bases]
     sys.exit(0 if all(ran) else 1)
 
 
