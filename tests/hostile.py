@@ -305,6 +305,37 @@ def file_limit(program, chosen):
 # ---- files
 
 
+def no_files(program, _):
+    """Where a pipe, a device, a folder or anything else stands in place of a file, nobody opens it and waits, and it stays."""
+    words = ["--directory", "1", "--cells", "1"]
+    for name, (what, make) in itertools.product(("pages", "log"), NO_FILES.items()):
+        with folder_of(pages=formatted(), log=b"") as folder:
+            path = folder / name
+            path.unlink()
+            make(path)
+            before = os.lstat(path).st_mode
+            for command, printed in (
+                (["serve", folder, "--port", "0"], b"fault open\n"), (["format", folder, *words], b"fault exists\n"),
+                (["inspect", folder], b"fault open\n" if name == "log" else b"records 0\nunfinished 0\nlost 0\ncommitted 0\n"),
+            ):  # fmt: skip
+                ran = subprocess.run([program, *command], stdin=subprocess.DEVNULL, capture_output=True, timeout=LONGEST)
+                assert (ran.stdout, ran.returncode) == (printed, int(printed.startswith(b"fault"))), (name, what, command, ran)
+            assert os.lstat(path).st_mode == before, (name, what)
+
+
+def bind_socket(path):
+    with socket.socket(socket.AF_UNIX) as stream:
+        stream.bind(str(path))
+
+
+NO_FILES = {
+    "a pipe": os.mkfifo, "a folder": os.mkdir, "a socket": bind_socket, "a device": lambda path: path.symlink_to("/dev/null"),
+    "a device that is full": lambda path: path.symlink_to("/dev/full"), "a device of zeros": lambda path: path.symlink_to("/dev/zero"),
+    "a terminal": lambda path: path.symlink_to("/dev/ptmx"), "a link to itself": lambda path: path.symlink_to(path),
+    "a link to nothing": lambda path: path.symlink_to(path.parent / "none"),
+}  # fmt: skip
+
+
 def other_files(program, _):
     """The pages of one store beside the log of another, or one of them as it was before: what opens is what the bytes say, and the
     rest is refused. So are pages of any other length."""
@@ -708,7 +739,7 @@ def long_sessions(program, chosen):
 
 
 TESTS = [
-    signals, pauses, closed_streams, full_streams, little_at_start, little_under_load, file_limit,
+    signals, pauses, closed_streams, full_streams, little_at_start, little_under_load, file_limit, no_files,
     other_files, no_rights, vanished_folder, small_disk, short_calls, any_frames,
 ]  # fmt: skip
 

@@ -119,7 +119,7 @@ pub fn open_folder<'a, S: FileContents, R: Files<File = File> + AllocGlobal + Re
 }
 
 fn opened<R: Files<File = File>>(rt: &R, path: &PathBuf) -> Result<File, NotOpened> {
-    match OpenOptions::new().read(true).write(true).open(rt, path) {
+    match open_file(rt, path, OpenOptions::new().read(true).write(true)) {
         Ok(file) => Ok(file),
         Err(error) => Err(NotOpened {
             fault: Fault::Open,
@@ -133,6 +133,20 @@ fn no_memory(fault: Fault) -> NotOpened {
     NotOpened {
         fault,
         error: ErrorKind::OutOfMemory.into(),
+    }
+}
+
+/// Opens the file at a path. Anything else that stands there is `Unsupported`, and is not opened: a pipe would have its opener
+/// wait, and what is written to a device is lost.
+pub(crate) fn open_file<R: Files<File = File>>(
+    rt: &R,
+    path: &PathBuf,
+    how: &OpenOptions,
+) -> io::Result<File> {
+    if fs::metadata(rt, path)?.is_file() {
+        how.open(rt, path)
+    } else {
+        Err(ErrorKind::Unsupported.into())
     }
 }
 

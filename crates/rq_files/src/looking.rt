@@ -4,9 +4,9 @@ ghost use Rattle.rq_disk.specs.Device.{Only};
 ghost use Rattle.rq_disk.specs.Stored.{first_len};
 
 use crate::fault::Fault;
-use crate::folder::log_path;
+use crate::folder::{log_path, open_file};
 use rq_disk::{Calls, FileContents, FileLog, LogDevice, Storage};
-use std::fs::{File, Files};
+use std::fs::{File, Files, OpenOptions};
 use std::io;
 use std::io::ErrorKind;
 use std::os::unix::fs::FileExt;
@@ -75,7 +75,7 @@ pub fn look_at_log<S: FileContents, R: Files<File = File> + AllocGlobal>(
     ensures failures { IfOk result (λ d. ⟦<FileLog<S, ReadFile> as LogDevice>⟧.faults d ≡ 0) }
 {
     let path = log_path(rt, folder)?;
-    let Ok(file) = File::open(rt, &path) else {
+    let Ok(file) = open_file(rt, &path, OpenOptions::new().read(true)) else {
         return Err(Fault::Open);
     };
     match file.metadata() {
