@@ -336,6 +336,25 @@ NO_FILES = {
 }  # fmt: skip
 
 
+def long_pages(program, _):
+    """A terabyte of holes behind the pages: the store is served as ever, and its pages are written, round by round."""
+    with store(program, 1, 2) as folder:
+        os.truncate(folder / "pages", 2**40)
+        with serving(program, folder) as server, server.connect() as connection:
+            for tag in range(1, 4):
+                with connection.transaction() as transaction:
+                    transaction.send(0, tag, b"hello")
+                wait_until(lambda tag=tag: sent_on_disk(folder) == tag)
+        with serving(program, folder) as server, server.connect() as connection:
+            assert connection.last_tag(0) == (3, 3)
+
+
+def sent_on_disk(folder):
+    """How many messages of sender 0 its slot in the file of pages tells."""
+    with open(folder / "pages", "rb") as pages:
+        return int.from_bytes(pages.read(3 * 4096)[4096 + 256 + 8 :][:8], "big")
+
+
 def other_files(program, _):
     """The pages of one store beside the log of another, or one of them as it was before: what opens is what the bytes say, and the
     rest is refused. So are pages of any other length."""
@@ -739,7 +758,7 @@ def long_sessions(program, chosen):
 
 
 TESTS = [
-    signals, pauses, closed_streams, full_streams, little_at_start, little_under_load, file_limit, no_files,
+    signals, pauses, closed_streams, full_streams, little_at_start, little_under_load, file_limit, no_files, long_pages,
     other_files, no_rights, vanished_folder, small_disk, short_calls, any_frames,
 ]  # fmt: skip
 

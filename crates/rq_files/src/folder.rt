@@ -165,6 +165,11 @@ pub(crate) fn log_path<R: AllocGlobal>(rt: &R, folder: &str) -> Result<PathBuf, 
     path_of(rt, folder, LOG)
 }
 
+/// Where its pages are.
+pub(crate) fn pages_path<R: AllocGlobal>(rt: &R, folder: &str) -> Result<PathBuf, Fault> {
+    path_of(rt, folder, PAGES)
+}
+
 pub(crate) fn path_of<R: AllocGlobal>(rt: &R, folder: &str, name: &str) -> Result<PathBuf, Fault> {
     match Path::new(folder).join(rt.alloc(), name) {
         Ok(path) => Ok(path),

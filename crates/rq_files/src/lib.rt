@@ -8,5 +8,5 @@ mod renaming;
 
 pub use fault::{Fault, NotOpened};
 pub use folder::{format_folder, open_folder, run_format};
-pub use looking::{ReadFile, look_at_log};
+pub use looking::{ReadFile, look_at_layout, look_at_log};
 pub use renaming::{FolderLog, InFolder, LogPaths, Renames};

@@ -1,11 +1,14 @@
-//! The log of a store that is looked at, and not opened.
+//! A store that is looked at, and not opened.
 ghost use Rattle.std.specs.Prelude.{◌≡◌, ◌↔◌, [], IfOk, length};
 ghost use Rattle.rq_disk.specs.Device.{Only};
 ghost use Rattle.rq_disk.specs.Stored.{first_len};
 
 use crate::fault::Fault;
-use crate::folder::{log_path, open_file};
+use crate::folder::{log_path, open_file, pages_path};
 use rq_disk::{Calls, FileContents, FileLog, LogDevice, Storage};
+use rq_model::refusal::{Damage, Refusal};
+use rq_page::layout::Layout;
+use rq_page::page::{PAGE_BYTES, Page};
 use std::fs::{File, Files, OpenOptions};
 use std::io;
 use std::io::ErrorKind;
@@ -95,4 +98,27 @@ fn log_in<S: FileContents>(file: File, len: u64) -> FileLog<S, ReadFile>
 {
     let calls = Calls::none();
     FileLog::new(ReadFile { file, len, calls }, len)
+}
+
+/// How large the store in a folder is, as the first of its pages tells. The file of pages may be longer.
+///
+/// # Errors
+/// `Open` where it is no file that can be read; `Refused` with `NoMemory` where its path cannot be made, with `DiskRead` where that
+/// page cannot be read, and with `Damaged` where it tells nothing.
+pub fn look_at_layout<R: Files<File = File> + AllocGlobal>(
+    rt: &R,
+    folder: &str,
+) -> Result<Layout, Fault> {
+    let path = pages_path(rt, folder)?;
+    let Ok(file) = open_file(rt, &path, OpenOptions::new().read(true)) else {
+        return Err(Fault::Open);
+    };
+    let mut first = [0; PAGE_BYTES];
+    if file.read_exact_at(&mut first, 0).is_err() {
+        return Err(Fault::Refused(Refusal::DiskRead));
+    }
+    match Layout::check_superblock(&Page::from_image(&first)) {
+        Some(layout) => Ok(layout),
+        None => Err(Fault::Refused(Refusal::Damaged(Damage::Page(0)))),
+    }
 }

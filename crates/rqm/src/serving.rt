@@ -5,9 +5,9 @@ ghost use Rattle.rq_shared.specs.Entries.{WasSound};
 ghost use Rattle.rqm.specs.Holding.{HoldStore};
 
 use crate::args::Serve;
-use rq_disk::{FileContents, FilePages, LogDevice, PAGE, PageDevice, Unknown};
+use rq_disk::{FileContents, FilePages, LogDevice, PageDevice, Unknown};
 use rq_engine::engine::Engine;
-use rq_files::{Fault, FolderLog, NotOpened, Renames, open_folder};
+use rq_files::{Fault, FolderLog, NotOpened, Renames, look_at_layout, open_folder};
 use rq_levels::{StoreLevel, levels_of_store};
 use rq_model::refusal::Refusal;
 use rq_restart::restart::{Report, restart};
@@ -16,14 +16,13 @@ use rq_shared::shared::Shared;
 use rq_shared::sharing::Sharing;
 use std::alloc::Global;
 use std::fs::{File, Files};
+use std::io::{self, ErrorKind};
 use std::marker::Brand;
 use std::net::{Ipv4Addr, Net, SocketAddr, TcpListener, TcpStream};
-use std::path::Path;
 use std::sync::Wait;
 use std::sync::ledger::Blank;
 use std::thread::Threads;
 use std::time::{Clock, Instant};
-use std::{fs, io};
 
 /// A store in files that held `S` as they were opened.
 type Store<'a, S, R> = Engine<FilePages<S>, FolderLog<'a, S, R>, StoreLevel>;
@@ -72,15 +71,15 @@ fn opened_and_bound<
         (HoldStore S.pages S.bytes) o.0) }
 {
     let folder = asked.folder.as_str();
+    let began = Instant::now(rt);
+    let (engine, report) = opened(rt, folder, held)?;
+    tell_opened(rt, &report, millis_since(rt, began));
     let plan = Plan {
         workers: asked.workers,
         sessions: asked.sessions,
         ends_with_input: asked.until_input_ends,
-        pages: pages_in(rt, folder)?,
+        pages: look_at_layout(rt, folder)?.pages(),
     };
-    let began = Instant::now(rt);
-    let (engine, report) = opened(rt, folder, held)?;
-    tell_opened(rt, &report, millis_since(rt, began));
     match bound(rt, asked.port) {
         Ok(listener) => Ok((engine, listener, plan)),
         Err(fault) => Err(fault),
@@ -113,10 +112,12 @@ fn opened<'a, S: FileContents, R: AllocGlobal + Eprint + Files<File = File> + Re
 
 // Tells who runs the server why the store was not opened.
 fn tell_not_opened<R: Eprint>(rt: &R, error: &io::Error) {
-    let _ = if error.kind() == io::ErrorKind::WouldBlock {
-        eprintln!(rt; "another program has the store open")
-    } else {
-        eprintln!(rt; "the store cannot be opened: {error}")
+    let _ = match error.kind() {
+        ErrorKind::WouldBlock => eprintln!(rt; "another program has the store open"),
+        ErrorKind::Unsupported => eprintln!(rt;
+            "the store cannot be opened: its pages or its log are no file"
+        ),
+        _ => eprintln!(rt; "the store cannot be opened: {error}"),
     };
 }
 
@@ -149,24 +150,6 @@ fn bound<R: Eprint + Net<Listener = TcpListener, Stream = TcpStream>>(
         Ok(listener) => Ok(listener),
         Err(error) => {
             let _ = eprintln!(rt; "port {port} cannot be had: {error}");
-            Err(Fault::Open)
-        }
-    }
-}
-
-// How many pages the file of a store has, those behind its last page too: asking for one of these does nothing. Where it is not
-// there, it cannot be opened either.
-fn pages_in<R: AllocGlobal + Eprint + Files<File = File>>(
-    rt: &R,
-    folder: &str,
-) -> Result<u32, Fault> {
-    let Ok(path) = Path::new(folder).join(rt.alloc(), "pages") else {
-        return Err(Fault::Refused(Refusal::NoMemory));
-    };
-    match fs::metadata(rt, &path) {
-        Ok(known) => Ok(u32::try_from(known.len() / PAGE as u64).unwrap_or(u32::MAX)),
-        Err(error) => {
-            tell_not_opened(rt, &error);
             Err(Fault::Open)
         }
     }
