@@ -32,13 +32,13 @@ from damaged import formatted
 from files import files_of, folder_of, format_store
 from kill import Kills
 from server import (
-    LENGTHS, LONGEST, Client, Connection, NotStarted, Server, compare, everything, in_threads, raises, read_to_end,
+    BEGIN, LENGTHS, LONGEST, Client, Connection, NotStarted, Server, compare, everything, in_threads, raises, read_bytes, read_to_end,
     reset, serving, store, wait_until,
 )  # fmt: skip
 from shim import failing
 
 sys.dont_write_bytecode = True
-from rqm import Failed, Full, Lost, NoMemory, Refused  # noqa: E402, where `server` finds it
+from rqm import Failed, Full, Latched, Lost, NoMemory, Passing, Refused  # noqa: E402, where `server` finds it
 
 # What a server may print in place of where it listens.
 FAULTS = [b"fault open\n", b"fault 1 NoMemory\n", b"fault 3 DiskRead\n", b"fault 15 DiskWrite\n", b"fault 16 Damaged\n"]
@@ -280,11 +280,113 @@ def wants_more(server, acknowledged, streams, sender):
         left_open = connection.transaction()
         for tag in range(100, 300):
             left_open.send(sender, tag, b"y" * 216)
-    except NoMemory:
+    except (NoMemory, Latched):  # Latched by another that waits for memory
         return True
     except (Lost, OSError):
         return True  # no connection could be kept
     return False
+
+
+# No allocation that is large is made while the file WANTING is there.
+LARGE = """#define _GNU_SOURCE
+#include <dlfcn.h>
+#include <errno.h>
+#include <stddef.h>
+#include <stdlib.h>
+#include <unistd.h>
+
+static int wants(size_t size) {
+    const char *path = getenv("WANTING");
+    if (size <= 512 || !path || access(path, F_OK)) return 0;
+    errno = ENOMEM;
+    return 1;
+}
+
+void *malloc(size_t size) {
+    static void *(*next)(size_t);
+    if (!next) next = (void *(*)(size_t)) dlsym(RTLD_NEXT, "malloc");
+    return wants(size) ? NULL : next(size);
+}
+
+void *realloc(void *old, size_t size) {
+    static void *(*next)(void *, size_t);
+    if (!next) next = (void *(*)(void *, size_t)) dlsym(RTLD_NEXT, "realloc");
+    return wants(size) ? NULL : next(old, size);
+}
+"""
+
+
+def held_calls(program, _):
+    """An operation under way that gets no memory is held: others are answered meanwhile, and it goes on once there is some. So does what
+    a connection leaves that is lost meanwhile, and a server ends."""
+    with failing(LARGE) as (beside, words):
+        wanting = beside / "wanting"
+        words["WANTING"] = str(wanting)
+        for workers, is_lost in ((1, False), (3, True)):
+            with store(program, 1, 40) as folder:
+                reader, writer = os.pipe()
+                with serving(program, folder, "--workers", workers, "--until-input-ends", environment=words, stdin=reader) as server:
+                    os.close(reader)
+                    try:
+                        hold_one(server, wanting, is_lost, lambda writer=writer: os.close(writer))
+                    finally:
+                        wanting.unlink(missing_ok=True)
+
+
+def hold_one(server, wanting, is_lost, end):
+    with server.connect() as other, server.raw() as stream, ThreadPoolExecutor(1) as pool:
+        other.patience = 0
+        assert other.last_tag(0) == (0, 0)
+        stream.sendall(BEGIN + 300 * frame_of(2, bytes(12)))
+        read_bytes(stream, 19 + 300 * 3)
+        wanting.touch()
+        stream.sendall(frame_of(7))
+        if is_lost:
+            time.sleep(0.1)
+            reset(stream)
+        refused = sum(is_refused(other) for _ in range(30))
+        assert refused > 20, refused
+        aborted = None if is_lost else pool.submit(read_bytes, stream, 3)
+        assert is_lost or not aborted.done()
+        wanting.unlink()
+        assert is_lost or aborted.result() == frame_of(135)
+        wait_until(lambda: is_free(other))
+        assert everything(other) == {}
+        # the same, and the server ends
+        held = other.transaction()
+        for tag in range(300):
+            held.send(0, tag)
+        wanting.touch()
+        end()
+        assert server.ended() == (1, b"fault 1 NoMemory\n")  # of the last force
+        wanting.unlink()
+
+
+def frame_of(kind, fields=b""):
+    return struct.pack(">HB", 1 + len(fields), kind) + fields
+
+
+def is_refused(connection):
+    """Whether memory is wanting for a call, which is answered in time."""
+    before = time.monotonic()
+    try:
+        connection.last_tag(0)
+        return False
+    except NoMemory:
+        return True
+    finally:
+        assert time.monotonic() - before < 1, time.monotonic() - before
+
+
+def is_free(connection):
+    """Whether nobody sends for sender 0."""
+    try:
+        with connection.transaction() as transaction:
+            transaction.send(0, 1)
+            transaction.abort()
+        return True
+    except Passing:
+        return False
 
 
 def file_limit(program, chosen):
@@ -758,7 +860,7 @@ def long_sessions(program, chosen):
 
 
 TESTS = [
-    signals, pauses, closed_streams, full_streams, little_at_start, little_under_load, file_limit, no_files, long_pages,
+    signals, pauses, closed_streams, full_streams, little_at_start, little_under_load, held_calls, file_limit, no_files, long_pages,
     other_files, no_rights, vanished_folder, small_disk, short_calls, any_frames,
 ]  # fmt: skip
 

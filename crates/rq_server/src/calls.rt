@@ -29,7 +29,7 @@ impl<'a> MarkReader<'a> {
 }
 
 /// What a worker calls the store by: its steps, the mark, and what it tells the other threads. Workers take turns: one that has
-/// its turn meets no operation of another under way.
+/// its turn meets no operation of another under way, but one that is held.
 #[derive(Drop)]
 pub(crate) struct Calls<'a, S: Steps> {
     pub(crate) steps: S,
@@ -53,11 +53,16 @@ impl<'a, S: Steps> Calls<'a, S> {
         }
     }
 
+    /// Forces, which frees the memory of what is buffered.
+    pub(crate) fn force(&mut self) {
+        let stamped = self.steps.force();
+        self.steps.seen(stamped);
+    }
+
     /// Forces, where the log is not forced as far as this.
     pub(crate) fn force_up_to(&mut self, lsn: Lsn) {
         if self.reader.read() < lsn {
-            let stamped = self.steps.force();
-            self.steps.seen(stamped);
+            self.force();
         }
     }
 

@@ -1,5 +1,5 @@
 //! One connection with its session.
-use crate::gates::Yielding;
+use crate::gates::Open;
 use bytes::BytesMut;
 use mio::net::TcpStream;
 use rq_model::txn::Lsn;
@@ -27,13 +27,17 @@ const PIECES_AWAY: u32 = 256;
 pub(crate) struct Connection {
     pub(crate) stream: TcpStream,
     frames: Frames,
-    serving: ServedSession<Yielding>,
+    serving: ServedSession<Open>,
     line: Line,
     // the client says no more than what is here already
     is_last: bool,
     asked: VecDeque<Request>,
     awaited: Option<Lsn>,
+    // a call is to be made again
+    is_held: bool,
     answers: BytesMut,
+    // its transaction is being aborted, and no request is carried out
+    is_lost: bool,
     // nothing more is carried out
     session_is_over: bool,
     // since when, and how many pieces more, what comes is read away
@@ -60,12 +64,14 @@ impl Connection {
         Connection {
             stream,
             frames: Frames::new(alloc),
-            serving: ServedSession::new(Yielding::new()),
+            serving: ServedSession::new(Open::new()),
             line: Line::Quiet,
             is_last: false,
             asked: VecDeque::new(alloc),
             awaited: None,
+            is_held: false,
             answers: BytesMut::new(alloc),
+            is_lost: false,
             session_is_over: false,
             parted: None,
             pieces_left: PIECES_AWAY,
@@ -75,6 +81,11 @@ impl Connection {
     /// The commit that waits for its receipt.
     pub(crate) fn awaited(&self) -> Option<Lsn> {
         self.awaited
+    }
+
+    /// Whether a call is to be made again, once others had their turn.
+    pub(crate) fn is_held(&self) -> bool {
+        self.is_held
     }
 
     /// Whether nothing is left to be read, carried out or written.
@@ -153,15 +164,16 @@ impl Connection {
         }
     }
 
-    /// Carries out what was asked, up to a commit that waits for its receipt, and as much as a round takes. For a client that does not
-    /// read its answers nothing is carried out but its end.
+    /// Carries out what was asked, up to a commit that waits for its receipt or a call that is to be made again, and as much as a
+    /// round takes. For a client that does not read its answers nothing is begun but its end.
     pub(crate) fn carry_out<S: Steps, R: Wait>(&mut self, rt: &R, steps: &mut S) {
+        self.go_on(rt, steps);
         if self.is_held_up() {
             self.lose_if_ended(rt, steps);
             return;
         }
         for _ in 0..REQUESTS_A_ROUND {
-            if self.session_is_over || self.awaited.is_some() {
+            if self.session_is_over || self.awaited.is_some() || self.is_held {
                 return;
             }
             let Some(request) = self.asked.pop_front() else {
@@ -171,6 +183,14 @@ impl Connection {
             self.take_down(came);
         }
         self.lose_if_ended(rt, steps);
+    }
+
+    /// Makes the call again that is to be, where there is one.
+    pub(crate) fn go_on<S: Steps, R: Wait>(&mut self, rt: &R, steps: &mut S) {
+        if self.is_held {
+            let came = self.serving.go_on(rt, steps);
+            self.take_down(came);
+        }
     }
 
     /// Asks for the receipt of the commit that waits for it.
@@ -186,6 +206,7 @@ impl Connection {
     // Puts what came of a request behind the other answers. An answer that there is no memory for is the last.
     fn take_down(&mut self, came: Served) {
         self.awaited = None;
+        self.is_held = false;
         match came {
             Served::Answered(one) => {
                 if answer(&one, &mut self.answers).is_err() {
@@ -194,6 +215,7 @@ impl Connection {
                 }
             }
             Served::Waits(lsn) => self.awaited = Some(lsn),
+            Served::Held => self.is_held = true,
             Served::Ended => self.session_is_over = true,
         }
     }
@@ -201,17 +223,20 @@ impl Connection {
     // Where all is carried out, and nothing more will be asked, the session is lost.
     fn lose_if_ended<S: Steps, R: Wait>(&mut self, rt: &R, steps: &mut S) {
         let is_ended = matches!(self.line, Line::Deaf | Line::Ended);
-        if is_ended && self.asked.is_empty() && self.awaited.is_none() {
+        if is_ended && self.asked.is_empty() && self.awaited.is_none() && !self.is_held {
             self.lose(rt, steps);
         }
     }
 
-    /// Ends the session: its transaction is aborted.
+    /// Ends the session, where it has not: its transaction is aborted. Where that is held it ends later.
     pub(crate) fn lose<S: Steps, R: Wait>(&mut self, rt: &R, steps: &mut S) {
-        if !self.session_is_over {
-            self.serving.lose(rt, steps);
-            self.session_is_over = true;
+        if self.is_lost || self.session_is_over {
+            return;
         }
+        self.is_lost = true;
+        self.asked.clear();
+        let came = self.serving.lose(rt, steps);
+        self.take_down(came);
     }
 
     /// Tells the client that nothing more is written, once all is of a connection that is not heard any more. What it still says is

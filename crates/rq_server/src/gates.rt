@@ -3,10 +3,9 @@ ghost use Rattle.std.specs.Prelude.{◌≡◌};
 
 use crate::notices::Notices;
 use rq_bytes::GhostList;
-use rq_workers::gate::{BEFORE_AGAIN, Gate};
+use rq_workers::gate::Gate;
 use std::snapshot::Snapshot;
 use std::sync::Wait;
-use std::thread;
 
 /// How many milliseconds lie between two forces of what nobody waits for, and between two rounds of page writes.
 const ROUND_MILLIS: u64 = 1000;
@@ -17,27 +16,24 @@ const PARTS: u32 = 100;
 /// How many milliseconds lie between two parts of a round of page writes.
 const PART_MILLIS: u64 = 10;
 
-/// Lets a session through. Before a call is made again other threads run.
+/// Lets a session through.
 #[derive(Drop)]
-pub(crate) struct Yielding {
+pub(crate) struct Open {
     answers: Snapshot<GhostList<(u32, bool)>>,
 }
 
-impl Yielding {
+impl Open {
     pub(crate) fn new() -> Self {
-        Yielding {
+        Open {
             answers: GhostList::empty(),
         }
     }
 }
 
-impl Gate for Yielding {
+impl Gate for Open {
     ghost answers = { λ gate. gate.answers.value };
 
     fn pass(&mut self, point: u32) -> bool {
-        if point == BEFORE_AGAIN {
-            thread::yield_now();
-        }
         GhostList::push(&mut self.answers, &(point, true));
         true
     }

@@ -33,8 +33,12 @@ const INPUT: usize = 0xFFFF_FFFE;
 
 const STANDARD_INPUT: i32 = 0;
 
-/// How many milliseconds pass before a connection that the system had no room for is tried again, or a force that was refused.
+/// How many milliseconds pass before a connection that the system had no room for is tried again, or a call that is held, or a force
+/// that was refused.
 const AGAIN_MILLIS: u64 = 10;
+
+/// How often a call that is held is made again where all sessions are lost.
+const LAST_TRIES: u32 = 100;
 
 /// How many milliseconds a worker sleeps at most, where there is an end to the sessions that another may come to, or something is
 /// read away.
@@ -102,8 +106,10 @@ struct Parted {
 #[derive(Drop)]
 pub(crate) struct Connections {
     connections: Slab<Connection>,
-    // the tokens of the round
+    // the tokens of those that were reported
     active: Vec<usize>,
+    // a call of one is to be made again: rounds go over all of them
+    is_held: bool,
     // those that parted, the eldest first, and some that have ended since
     parted: VecDeque<Parted>,
     // where bytes are read into
@@ -121,6 +127,7 @@ impl Connections {
         Ok(Connections {
             connections: Slab::new(alloc),
             active: Vec::with_capacity(alloc, REPORTS)?,
+            is_held: false,
             parted: VecDeque::new(alloc),
             piece: vec![in alloc; 0; PIECE]?,
             queue: Queue::Waiting,
@@ -176,6 +183,7 @@ impl Connections {
         match self.queue {
             Queue::Waiting => Some(Duration::from_millis(0)),
             Queue::Stuck => Some(Duration::from_millis(AGAIN_MILLIS)),
+            Queue::Empty if self.is_held => Some(Duration::from_millis(AGAIN_MILLIS)),
             Queue::Empty if wakes => Some(Duration::from_millis(LIMITED_MILLIS)),
             Queue::Empty => None,
         }
@@ -207,21 +215,40 @@ impl Connections {
     }
 
     fn round<S: Steps, R: Wait + Clock>(&mut self, rt: &R, poll: &Poll, calls: &mut Calls<'_, S>) {
-        if self.active.is_empty() {
+        if self.active.is_empty() && !self.is_held {
             return;
         }
         self.hear();
         let is_forced = self.take_turn(rt, calls);
         self.answer(rt, poll, calls);
+        self.is_held = self.is_any_held();
         calls.note_round();
         if !is_forced {
             calls.pause(rt, AGAIN_MILLIS);
         }
     }
 
+    // How many connections a round goes over.
+    fn count(&self) -> usize {
+        if self.is_held {
+            self.connections.capacity()
+        } else {
+            self.active.len()
+        }
+    }
+
+    // The token of one of them.
+    fn token_at(&self, at: usize) -> usize {
+        if self.is_held {
+            at
+        } else {
+            self.active.get(at).copied().unwrap_or(DOOR)
+        }
+    }
+
     fn hear(&mut self) {
-        for at in 0..self.active.len() {
-            let token = self.active.get(at).copied().unwrap_or(DOOR);
+        for at in 0..self.count() {
+            let token = self.token_at(at);
             if let Some(connection) = self.connections.get_mut(token) {
                 connection.hear(&mut self.piece);
             }
@@ -229,11 +256,15 @@ impl Connections {
     }
 
     // Carries out what was asked, up to commits that wait, and forces once for all of these. Whether none waits any more: one does
-    // where there was no memory for the force.
+    // where there was no memory for the force. A call that is held is made again behind a force, which frees memory.
     fn take_turn<S: Steps, R: Wait>(&mut self, rt: &R, calls: &mut Calls<'_, S>) -> bool {
         let turns = calls.turns;
         let _turn = turns.lock(rt);
         self.carry_out(rt, calls);
+        if self.is_any_held() {
+            calls.force();
+            self.go_on(rt, calls);
+        }
         if let Some(lsn) = self.last_awaited() {
             calls.force_up_to(lsn);
             self.ask_receipts(rt, calls);
@@ -242,19 +273,39 @@ impl Connections {
     }
 
     fn carry_out<S: Steps, R: Wait>(&mut self, rt: &R, calls: &mut Calls<'_, S>) {
-        for at in 0..self.active.len() {
-            let token = self.active.get(at).copied().unwrap_or(DOOR);
+        for at in 0..self.count() {
+            let token = self.token_at(at);
             if let Some(connection) = self.connections.get_mut(token) {
                 connection.carry_out(rt, &mut calls.steps);
             }
         }
     }
 
+    fn go_on<S: Steps, R: Wait>(&mut self, rt: &R, calls: &mut Calls<'_, S>) {
+        for at in 0..self.count() {
+            let token = self.token_at(at);
+            if let Some(connection) = self.connections.get_mut(token) {
+                connection.go_on(rt, &mut calls.steps);
+            }
+        }
+    }
+
+    // Whether a call of one of them is held.
+    fn is_any_held(&self) -> bool {
+        let mut is_any_held = false;
+        for at in 0..self.count() {
+            if let Some(connection) = self.connections.get(self.token_at(at)) {
+                is_any_held |= connection.is_held();
+            }
+        }
+        is_any_held
+    }
+
     // The last of the commits that wait.
     fn last_awaited(&self) -> Option<Lsn> {
         let mut last = None;
-        for token in &self.active {
-            if let Some(connection) = self.connections.get(*token) {
+        for at in 0..self.count() {
+            if let Some(connection) = self.connections.get(self.token_at(at)) {
                 last = later(last, connection.awaited());
             }
         }
@@ -262,8 +313,8 @@ impl Connections {
     }
 
     fn ask_receipts<S: Steps, R: Wait>(&mut self, rt: &R, calls: &mut Calls<'_, S>) {
-        for at in 0..self.active.len() {
-            let token = self.active.get(at).copied().unwrap_or(DOOR);
+        for at in 0..self.count() {
+            let token = self.token_at(at);
             if let Some(connection) = self.connections.get_mut(token) {
                 connection.ask_receipt(rt, &mut calls.steps);
             }
@@ -272,8 +323,8 @@ impl Connections {
 
     // Writes the answers, and ends the connections that are over.
     fn answer<S: Steps, R: Wait + Clock>(&mut self, rt: &R, poll: &Poll, calls: &mut Calls<'_, S>) {
-        for at in 0..self.active.len() {
-            let token = self.active.get(at).copied().unwrap_or(DOOR);
+        for at in 0..self.count() {
+            let token = self.token_at(at);
             match self.answer_one(rt, poll, calls, token) {
                 Fate::Ends => self.end(token),
                 Fate::Parts => self.await_end(token),
@@ -334,15 +385,32 @@ impl Connections {
         }
     }
 
-    // All sessions are lost.
+    // All sessions are lost. What is held for long is left as it is: the next start undoes it.
     fn lose_all<S: Steps, R: Wait>(&mut self, rt: &R, calls: &mut Calls<'_, S>) {
+        for _ in 0..LAST_TRIES {
+            if self.lose_each(rt, calls) {
+                return;
+            }
+            calls.pause(rt, AGAIN_MILLIS);
+        }
+    }
+
+    // Whether each is over then, and nothing is held.
+    fn lose_each<S: Steps, R: Wait>(&mut self, rt: &R, calls: &mut Calls<'_, S>) -> bool {
         let turns = calls.turns;
         let _turn = turns.lock(rt);
+        let mut is_any_held = false;
         for token in 0..self.connections.capacity() {
             if let Some(connection) = self.connections.get_mut(token) {
+                connection.go_on(rt, &mut calls.steps);
                 connection.lose(rt, &mut calls.steps);
+                is_any_held |= connection.is_held();
             }
         }
+        if is_any_held {
+            calls.force();
+        }
+        !is_any_held
     }
 
     fn end(&mut self, token: usize) {
@@ -417,7 +485,11 @@ fn fate_of<S: Steps, R: Wait + Clock>(
     let turns = calls.turns;
     let _turn = turns.lock(rt);
     connection.lose(rt, &mut calls.steps);
-    Fate::Ends
+    if connection.is_held() {
+        Fate::Stays
+    } else {
+        Fate::Ends
+    }
 }
 
 fn fate_behind_answers<R: Clock>(rt: &R, connection: &mut Connection) -> Fate {

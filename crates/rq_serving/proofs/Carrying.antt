@@ -79,6 +79,7 @@ module _ {G S : Type 0} (answers_by : G → List (ℕ × Bool)) (made_by handed_
     says = says_nothing g;
     lost = refl;
     turns = (refl, refl);
+    goes_on = tt;
   }
 
   -- the session is the same
@@ -119,9 +120,9 @@ module _ {G S : Type 0} (answers_by : G → List (ℕ × Bool)) (made_by handed_
   pub one_more : (g h i k : Asking G) (old mid new : S) (b m m_too after : Session) (first a next : Action) (ask : Ask) (e : Event)
       → IsGoing answers_by made_by handed_to g h old mid b first m a → Asks answers_by h i (is_again a) 4
       → m_too ≡ m → IsAsked a ask × (may_call i.stopped ask ≡ true) → call_of e ≡ asked ask
-      → IsCall answers_by made_by handed_to i k mid new e m_too (Some next) after
+      → IsCall answers_by made_by handed_to i k mid new e m_too (Some next) after → is_again next ≡ false
       → IsGoing answers_by made_by handed_to g k old new b first after next
-  one_more g h i k old mid new b m m_too after first a next ask e was before is may calls c =
+  one_more g h i k old mid new b m m_too after first a next ask e was before is may calls c goes =
       let going = stays g h old mid b first m m_too a was is in record {
         rounds = round a c.stamp before.said c.asks.said ∷ going.rounds;
         made = c.made ∙ ap (λ l. c.stamp ∷ l) going.made;
@@ -136,14 +137,16 @@ module _ {G S : Type 0} (answers_by : G → List (ℕ × Bool)) (made_by handed_
               (told_by (gave c.stamp.reply)) next after
               (is_made g h i k old mid new b m_too after first a (Some next) ask e going before may.0 may.1 calls c) refl c.tells
               going.lost,
+          going.goes_on,
         );
+        goes_on = goes;
       }
 
-  pub comes : (g h i : Asking G) (old mid : S) (b m m_too : Session) (first next : Action) (c : Served)
+  pub comes : (g h i : Asking G) (old mid : S) (b m m_too : Session) (first next : Action) (held : Option Ask) (c : Served)
       → IsGoing answers_by made_by handed_to g h old mid b first m next → Asks answers_by h i (is_again next) 4
-      → m_too ≡ m → IsCome i.stopped next c
-      → IsCarried answers_by made_by handed_to g i old mid b first m_too c
-  comes g h i old mid b m m_too first next c was last is come =
+      → m_too ≡ m → IsCome i.stopped next c → held ≡ None
+      → IsCarried answers_by made_by handed_to g i old mid b first m_too held c
+  comes g h i old mid b m m_too first next held c was last is come none =
       let going = stays g h old mid b first m m_too next was is in record {
         rounds = going.rounds;
         last = last.said;
@@ -151,15 +154,43 @@ module _ {G S : Type 0} (answers_by : G → List (ℕ × Bool)) (made_by handed_
         handed = going.handed;
         says = says_more g h i (said_in going.rounds) last.said going.says last.says;
         lost = going.lost;
-        goes = inl (next, going.turns, last.at, come);
+        goes = inl (next, going.turns, last.at, come, none);
+      }
+
+  pub holds : (g h i k : Asking G) (old mid new : S) (b m m_too after : Session) (first a : Action) (ask again : Ask) (e : Event)
+      → IsGoing answers_by made_by handed_to g h old mid b first m a → Asks answers_by h i (is_again a) 4
+      → m_too ≡ m → IsAsked a ask × (may_call i.stopped ask ≡ true) → call_of e ≡ asked ask
+      → IsCall answers_by made_by handed_to i k mid new e m_too (Some (Again again)) after
+      → IsCarried answers_by made_by handed_to g k old new b first after (Some again) came.Held
+  holds g h i k old mid new b m m_too after first a ask again e was before is may calls c =
+      let going = stays g h old mid b first m m_too a was is in
+      let turns : Turns b.lost g.stopped b.stage first (round a c.stamp before.said c.asks.said ∷ going.rounds) after.stage
+          (Again again) = (
+        m_too.stage,
+        a,
+        going.turns,
+        turn b.lost (has_stopped going.rounds g.stopped) m_too a (round a c.stamp before.said c.asks.said)
+            (told_by (gave c.stamp.reply)) (Again again) after
+            (is_made g h i k old mid new b m_too after first a (Some (Again again)) ask e going before may.0 may.1 calls c) refl
+            c.tells going.lost,
+        going.goes_on,
+      ) in record {
+        rounds = round a c.stamp before.said c.asks.said ∷ going.rounds;
+        last = [];
+        made = c.made ∙ ap (λ l. c.stamp ∷ l) going.made;
+        handed = c.handed ∙ ap (λ l. c.stamp ∷ l) going.handed;
+        says = all_said g h i k old mid new b m_too after first a (Some (Again again)) e going before c;
+        lost = still_lost m_too (told_by (gave c.stamp.reply)) (Some (Again again)) after c.tells ∙ going.lost;
+        goes = inr (refl, inr (again, turns, refl, refl));
       }
 
   pub strays : (g h i k : Asking G) (old mid new : S) (b m m_too after : Session) (first a : Action) (ask : Ask) (e : Event)
+      (held : Option Ask)
       → IsGoing answers_by made_by handed_to g h old mid b first m a → Asks answers_by h i (is_again a) 4
       → m_too ≡ m → IsAsked a ask × (may_call i.stopped ask ≡ true) → call_of e ≡ asked ask
-      → IsCall answers_by made_by handed_to i k mid new e m_too None after
-      → IsCarried answers_by made_by handed_to g k old new b first after came.Ended
-  strays g h i k old mid new b m m_too after first a ask e was before is may calls c =
+      → IsCall answers_by made_by handed_to i k mid new e m_too None after → held ≡ None
+      → IsCarried answers_by made_by handed_to g k old new b first after held came.Ended
+  strays g h i k old mid new b m m_too after first a ask e held was before is may calls c empty =
       let going = stays g h old mid b first m m_too a was is in
       let none = told_nothing m_too (told_by (gave c.stamp.reply)) after c.tells in
       let at = ap (λ (x : Session). x.stage) none.1 in record {
@@ -171,12 +202,16 @@ module _ {G S : Type 0} (answers_by : G → List (ℕ × Bool)) (made_by handed_
         lost = still_lost m_too (told_by (gave c.stamp.reply)) None after c.tells ∙ going.lost;
         goes = inr (
           refl,
-          (
-            a,
-            subst (λ (t : Stage). Turns b.lost g.stopped b.stage first going.rounds t a) (sym at) going.turns,
-            is_made g h i k old mid new b m_too after first a None ask e going before may.0 may.1 calls c,
-            none.0,
-            refl,
+          inl (
+            (
+              a,
+              subst (λ (t : Stage). Turns b.lost g.stopped b.stage first going.rounds t a) (sym at) going.turns,
+              is_made g h i k old mid new b m_too after first a None ask e going before may.0 may.1 calls c,
+              going.goes_on,
+              none.0,
+              refl,
+            ),
+            empty,
           ),
         );
       }

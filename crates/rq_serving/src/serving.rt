@@ -1,5 +1,6 @@
 //! A session that is served: its calls are made through a step interface, and a gate is asked where others may go on.
 ghost use Rattle.std.specs.Prelude.{◌≡◌, ◌∷◌, ◌||◌, IfOk, IfErr, IfSome, IfNone, None, true, false, not};
+ghost use Rattle.rq_session.specs.declared.calls.Action.TheVariants.{Again};
 ghost use Rattle.rq_session.specs.declared.stage.OwnTxn.TheVariants.{Free};
 ghost use Rattle.rq_session.specs.declared.stage.Stage.TheVariants.{Rest};
 ghost use Rattle.rq_session.specs.Laws.{awaited};
@@ -26,8 +27,11 @@ pub enum Served {
     Answered(Answer),
     /// The commit with this LSN waits for its receipt, and with it the request for its answer.
     Waits(Lsn),
+    /// A call was refused that passes by itself: it is held, to be made again (`go_on`).
+    Held,
     /// The session has ended, or the gate has said no and the next call would be none of an operation under way; or there
-    /// was nothing to be done: a request came while a commit waits, or a receipt was asked for where none does.
+    /// was nothing to be done: a request came while a commit waits or a call is held, a receipt was asked for where no commit
+    /// waits, or the session was to go on with no call held.
     Ended,
 }
 
@@ -40,12 +44,14 @@ pub struct ServedSession<G: Gate> {
     session: Session,
     // the commit that was answered last
     number: Option<CommitNo>,
+    // the call that is to be made again
+    held: Option<Ask>,
 }
 
 impl<G: Gate> ServedSession<G> {
     /// A new session.
     pub fn new(gate: G) -> Self
-        ensures given { (result.gate.gate ≡ gate) × (result.number ≡ None) }
+        ensures given { (result.gate.gate ≡ gate) × (result.number ≡ None) × (result.held ≡ None) }
         ensures goes_on { result.gate.stopped ≡ false }
         ensures session { (result.session.stage ≡ Rest Free) × (result.session.lost ≡ false) }
     {
@@ -53,6 +59,7 @@ impl<G: Gate> ServedSession<G> {
             gate: Asking::new(gate),
             session: Session::new(),
             number: None,
+            held: None,
         }
     }
 
@@ -64,9 +71,10 @@ impl<G: Gate> ServedSession<G> {
     }
 
     /// Carries a request out: makes the calls that the session asks for, one after the other, until there is an answer,
-    /// or a commit waits for its receipt, or the session ends, or the gate has said no and no operation is under way.
+    /// or a commit waits for its receipt, or a call is held, or the session ends, or the gate has said no and no operation is
+    /// under way.
     pub fn request<S: Steps, R: Wait>(&mut self, rt: &R, steps: &mut S, request: Request) -> Served
-        ensures served { IsServed G.answers S.made S.told self.old.gate self.new.gate steps.old steps.new self.old.session request self.new.session result }
+        ensures served { IsServed G.answers S.made S.told self.old.gate self.new.gate steps.old steps.new self.old.session self.old.held request self.new.session self.new.held result }
         ensures number { KeepsNumber self.old.session.stage self.old.number self.new.session.stage self.new.number }
     {
         if let Some(ask) = self.session.input(request) {
@@ -82,10 +90,10 @@ impl<G: Gate> ServedSession<G> {
     /// again. Where none waits there is nothing to ask.
     pub fn ask_receipt<S: Steps, R: Wait>(&mut self, rt: &R, steps: &mut S) -> Served
         ensures some { IfSome (awaited self.old.session.stage) (λ commit. IfSome self.old.number (λ number. IsAskedFor
-            G.answers S.made S.told self.old.gate self.new.gate steps.old steps.new number self.old.session
-            self.new.session result)) }
-        ensures none { IfNone (awaited self.old.session.stage) ((result ≡ Served.Ended) × (self.new.gate ≡ self.old.gate)
-            × (steps.new ≡ steps.old) × (self.new.session ≡ self.old.session)) }
+            G.answers S.made S.told self.old.gate self.new.gate steps.old steps.new number self.old.session self.old.held
+            self.new.session self.new.held result)) }
+        ensures none { IfNone (awaited self.old.session.stage) ((result ≡ Served.Ended) × (self.new ≡ self.old)
+            × (steps.new ≡ steps.old)) }
         ensures number { KeepsNumber self.old.session.stage self.old.number self.new.session.stage self.new.number }
     {
         if self.session.awaited().is_none() {
@@ -97,10 +105,24 @@ impl<G: Gate> ServedSession<G> {
         }
     }
 
-    /// Finishes the operation under way and aborts the transaction, once the connection has ended or was at fault. Where
-    /// the gate has said no the transaction stays as it is then.
+    /// Makes the call again that is held, and carries the session on with what that told. The caller lets others go on before.
+    /// Where none is held there is nothing to be done.
+    pub fn go_on<S: Steps, R: Wait>(&mut self, rt: &R, steps: &mut S) -> Served
+        ensures some { IfSome self.old.held (λ ask. IsCarried G.answers S.made S.told self.old.gate self.new.gate
+            steps.old steps.new self.old.session (Again ask) self.new.session self.new.held result) }
+        ensures none { IfNone self.old.held ((result ≡ Served.Ended) × (self.new ≡ self.old) × (steps.new ≡ steps.old)) }
+        ensures number { KeepsNumber self.old.session.stage self.old.number self.new.session.stage self.new.number }
+    {
+        match self.held.take() {
+            Some(ask) => self.carried(rt, steps, Action::Again(ask)),
+            None => Served::Ended,
+        }
+    }
+
+    /// Finishes the operation under way and aborts the transaction, once the connection has ended or was at fault; as far as a
+    /// call is held, `go_on` goes on with that. Where the gate has said no the transaction stays as it is then.
     pub fn lose<S: Steps, R: Wait>(&mut self, rt: &R, steps: &mut S) -> Served
-        ensures lost { IsLost G.answers S.made S.told self.old.gate self.new.gate steps.old steps.new self.old.session self.new.session result }
+        ensures lost { IsLost G.answers S.made S.told self.old.gate self.new.gate steps.old steps.new self.old.session self.new.session self.new.held result }
         ensures number { KeepsNumber self.old.session.stage self.old.number self.new.session.stage self.new.number }
     {
         let action = self.session.lost();
@@ -114,7 +136,7 @@ impl<G: Gate> ServedSession<G> {
         ensures stopped { self.new.gate.stopped ≡ (not result || self.old.gate.stopped) }
         ensures force { result ≡ true → IsForce S.made S.forced S.told steps.old steps.new }
         ensures none { result ≡ false → steps.new ≡ steps.old }
-        ensures same { (self.new.session ≡ self.old.session) × (self.new.number ≡ self.old.number) }
+        ensures same { (self.new.session ≡ self.old.session) × (self.new.number ≡ self.old.number) × (self.new.held ≡ self.old.held) }
     {
         if !self.gate.asks(BEFORE_FORCE) {
             return false;
@@ -132,13 +154,14 @@ impl<G: Gate> ServedSession<G> {
             gate,
             session: _,
             number: _,
+            held: _,
         } = self;
         gate.into_gate()
     }
 
     // Asks once for the receipt of a commit, and goes on with what that told.
     fn asked_for<S: Steps, R: Wait>(&mut self, rt: &R, steps: &mut S, number: CommitNo) -> Served
-        ensures asked { IsAskedFor G.answers S.made S.told self.old.gate self.new.gate steps.old steps.new number self.old.session self.new.session result }
+        ensures asked { IsAskedFor G.answers S.made S.told self.old.gate self.new.gate steps.old steps.new number self.old.session self.old.held self.new.session self.new.held result }
         ensures number { KeepsNumber self.old.session.stage self.old.number self.new.session.stage self.new.number }
     {
         match self.called(steps, Event::Acknowledged(number)) {
@@ -147,20 +170,28 @@ impl<G: Gate> ServedSession<G> {
         }
     }
 
-    // Does what is to be done, until the session asks for nothing more.
+    // Does what is to be done, until the session asks for nothing more, or for a call to be made again.
     fn carried<S: Steps, R: Wait>(&mut self, rt: &R, steps: &mut S, first: Action) -> Served
-        ensures carried { IsCarried G.answers S.made S.told self.old.gate self.new.gate steps.old steps.new self.old.session first self.new.session result }
+        ensures carried { IsCarried G.answers S.made S.told self.old.gate self.new.gate steps.old steps.new self.old.session first self.new.session self.new.held result }
         ensures number { KeepsNumber self.old.session.stage self.old.number self.new.session.stage self.new.number }
     {
+        self.held = None;
         let mut action = first;
         for _ in rt.forever() {
             let ask = match self.asked(action) {
                 Ok(ask) => ask,
                 Err(came) => return came,
             };
-            action = match self.called(steps, event_of(ask)) {
-                Some(action) => action,
+            let next = match self.called(steps, event_of(ask)) {
+                Some(next) => next,
                 None => return Served::Ended,
+            };
+            action = match to_be_done_now(next) {
+                Ok(action) => action,
+                Err(ask) => {
+                    self.held = Some(ask);
+                    return Served::Held;
+                }
             };
         }
         unreachable!()
@@ -172,7 +203,7 @@ impl<G: Gate> ServedSession<G> {
         ensures asks { IfOk result (λ ask. IsAsked action ask × (may_call self.new.gate.stopped ask ≡ true)) }
         ensures came { IfErr result (λ came. IsCome self.new.gate.stopped action came) }
         ensures gate { Asks G.answers self.old.gate self.new.gate (is_again action) 4 }
-        ensures same { (self.new.session ≡ self.old.session) × (self.new.number ≡ self.old.number) }
+        ensures same { (self.new.session ≡ self.old.session) × (self.new.number ≡ self.old.number) × (self.new.held ≡ self.old.held) }
     {
         self.gate.asks_where(is_to_be_again(&action), BEFORE_AGAIN);
         to_be_made(action, self.gate.has_stopped())
@@ -184,6 +215,7 @@ impl<G: Gate> ServedSession<G> {
         ensures call { IsCall G.answers S.made S.told self.old.gate self.new.gate steps.old steps.new event
             self.old.session result self.new.session }
         ensures number { KeepsNumber self.old.session.stage self.old.number self.new.session.stage self.new.number }
+        ensures held { self.new.held ≡ self.old.held }
     {
         let stamped = steps.call(event);
         let told = told_of(stamped.reply());
@@ -219,6 +251,20 @@ fn to_be_made(action: Action, has_stopped: bool) -> Result<Ask, Served>
         Action::Await(commit) => Err(Served::Waits(commit.lsn)),
         Action::Answer(answer) => Err(Served::Answered(answer)),
         Action::End => Err(Served::Ended),
+    }
+}
+
+// What is to be done now, or the call that is to be made again.
+fn to_be_done_now(action: Action) -> Result<Action, Ask>
+    ensures now { IfOk result (λ same. (same ≡ action) × (is_again same ≡ false)) }
+    ensures again { IfErr result (λ ask. action ≡ Again ask) }
+{
+    match action {
+        Action::Again(ask) => Err(ask),
+        Action::Do(ask) => Ok(Action::Do(ask)),
+        Action::Await(commit) => Ok(Action::Await(commit)),
+        Action::Answer(answer) => Ok(Action::Answer(answer)),
+        Action::End => Ok(Action::End),
     }
 }
 

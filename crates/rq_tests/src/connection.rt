@@ -83,7 +83,25 @@ fn request<G: Gate, S: Steps, R: Wait>(
     steps: &mut S,
     request: Request,
 ) -> Served {
-    serving.request(rt, steps, request)
+    let came = serving.request(rt, steps, request);
+    settled(rt, serving, steps, came)
+}
+
+// What comes once no call is held any more.
+fn settled<G: Gate, S: Steps, R: Wait>(
+    rt: &R,
+    serving: &mut ServedSession<G>,
+    steps: &mut S,
+    came: Served,
+) -> Served {
+    let mut came = came;
+    for _ in rt.forever() {
+        if !matches!(came, Served::Held) {
+            return came;
+        }
+        came = serving.go_on(rt, steps);
+    }
+    unreachable!()
 }
 
 fn ask_receipt<G: Gate, S: Steps, R: Wait>(
@@ -96,7 +114,8 @@ fn ask_receipt<G: Gate, S: Steps, R: Wait>(
 
 // Whether the session has ended once its connection is lost.
 fn lose<G: Gate, S: Steps, R: Wait>(rt: &R, serving: &mut ServedSession<G>, steps: &mut S) -> bool {
-    matches!(serving.lose(rt, steps), Served::Ended)
+    let came = serving.lose(rt, steps);
+    matches!(settled(rt, serving, steps, came), Served::Ended)
 }
 
 // A force, as a log writer makes one while a commit waits: whether it was made.
