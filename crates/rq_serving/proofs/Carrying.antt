@@ -164,18 +164,18 @@ module _ {G S : Type 0} (answers_by : G → List (ℕ × Bool)) (made_by handed_
       → IsCarried answers_by made_by handed_to g k old new b first after (Some again) came.Held
   holds g h i k old mid new b m m_too after first a ask again e was before is may calls c =
       let going = stays g h old mid b first m m_too a was is in
-      let turns : Turns b.lost g.stopped b.stage first (round a c.stamp before.said c.asks.said ∷ going.rounds) after.stage
-          (Again again) = (
+      let called = round a c.stamp before.said c.asks.said in
+      let turns : Turns b.lost g.stopped b.stage first (called ∷ going.rounds) after.stage (Again again) = (
         m_too.stage,
         a,
         going.turns,
-        turn b.lost (has_stopped going.rounds g.stopped) m_too a (round a c.stamp before.said c.asks.said)
+        turn b.lost (has_stopped going.rounds g.stopped) m_too a called
             (told_by (gave c.stamp.reply)) (Again again) after
             (is_made g h i k old mid new b m_too after first a (Some (Again again)) ask e going before may.0 may.1 calls c) refl
             c.tells going.lost,
         going.goes_on,
       ) in record {
-        rounds = round a c.stamp before.said c.asks.said ∷ going.rounds;
+        rounds = called ∷ going.rounds;
         last = [];
         made = c.made ∙ ap (λ l. c.stamp ∷ l) going.made;
         handed = c.handed ∙ ap (λ l. c.stamp ∷ l) going.handed;
