@@ -70,18 +70,27 @@ fn opened_and_bound<
     ensures { IfOk result (λ o. WasSound ⟦<FilePages<S> as PageDevice>⟧ ⟦<FolderLog<'a, S, R> as LogDevice>⟧
         (HoldStore S.pages S.bytes) o.0) }
 {
-    let folder = asked.folder.as_str();
     let began = Instant::now(rt);
-    let (engine, report) = opened(rt, folder, held)?;
+    let (engine, report) = opened(rt, asked.folder.as_str(), held)?;
     tell_opened(rt, &report, millis_since(rt, began));
+    match listening(rt, asked) {
+        Ok((listener, plan)) => Ok((engine, listener, plan)),
+        Err(fault) => Err(fault),
+    }
+}
+
+// Where the store of a folder, which is open, is served, and how.
+fn listening<
+    R: AllocGlobal + Eprint + Files<File = File> + Net<Listener = TcpListener, Stream = TcpStream>,
+>(rt: &R, asked: &Serve) -> Result<(TcpListener, Plan), Fault> {
     let plan = Plan {
         workers: asked.workers,
         sessions: asked.sessions,
         ends_with_input: asked.until_input_ends,
-        pages: look_at_layout(rt, folder)?.pages(),
+        pages: look_at_layout(rt, asked.folder.as_str())?.pages(),
     };
     match bound(rt, asked.port) {
-        Ok(listener) => Ok((engine, listener, plan)),
+        Ok(listener) => Ok((listener, plan)),
         Err(fault) => Err(fault),
     }
 }
