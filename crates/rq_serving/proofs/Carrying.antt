@@ -154,7 +154,14 @@ module _ {G S : Type 0} (answers_by : G → List (ℕ × Bool)) (made_by handed_
         handed = going.handed;
         says = says_more g h i (said_in going.rounds) last.said going.says last.says;
         lost = going.lost;
-        goes = inl (next, going.turns, last.at, come, none);
+        goes = inl (record {
+          next = next;
+          turns = going.turns;
+          not_again = going.goes_on;
+          asks = last.at;
+          comes = come;
+          none = none;
+        });
       }
 
   pub holds : (g h i k : Asking G) (old mid new : S) (b m m_too after : Session) (first a : Action) (ask again : Ask) (e : Event)

@@ -1,3 +1,4 @@
 mod Owning
 mod Gates
 mod Carrying
+mod Holding

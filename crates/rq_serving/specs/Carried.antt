@@ -122,9 +122,9 @@ pub record IsTurn (lost stopped : Bool) (from : Stage) (first : Action) (r : Rou
   pub action : next ≡ (after_told lost from told).action
 
 -- behind these rounds nothing is done that is to be made again: others go on before that
-abbrev pub IsFirst : List Round → Action → Type 0
-IsFirst [] a = Unit {0}
-IsFirst (r ∷ older) a = is_again a ≡ false
+abbrev pub DoesNothingAgain : List Round → Action → Type 0
+DoesNothingAgain [] a = Unit {0}
+DoesNothingAgain (r ∷ older) a = is_again a ≡ false
 
 -- these rounds, the newest first, led from one stage to another, each turn by the next; whether the gate had said no
 -- before is told
@@ -132,13 +132,24 @@ abbrev pub Turns : (lost stopped : Bool) → Stage → Action → List Round →
 Turns lost stopped from first [] to next = (to ≡ from) × (next ≡ first)
 Turns lost stopped from first (r ∷ older) to next =
     (mid : Stage) × (a : Action) × Turns lost stopped from first older mid a
-    × IsTurn lost (has_stopped older stopped) mid a r to next × IsFirst older a
+    × IsTurn lost (has_stopped older stopped) mid a r to next × DoesNothingAgain older a
+
+-- These rounds led to an action for which no call was made, and this came of it. Behind a round that is no call to be made again,
+-- since such a call is held. Without rounds it may be one: then others went on before, and the gate was asked. No call is held.
+pub record CallsNoMore (lost stopped now_stopped : Bool) (from : Stage) (first : Action) (rounds : List Round) (last : List (ℕ × Bool))
+    (to : Stage) (held : Option Ask) (c : Served) : Type 0 where
+  pub next : Action
+  pub turns : Turns lost stopped from first rounds to next
+  pub not_again : DoesNothingAgain rounds next
+  pub asks : IsAskedAt (is_again next) 4 last
+  pub comes : IsCome now_stopped next c
+  pub none : held ≡ None
 
 -- the last call was answered as none of a session is: it ends, and stands where it stood before that call
 abbrev pub IsStray : (lost stopped : Bool) → Stage → Action → List Round → Stage → Served → Type 0
 IsStray lost stopped from first [] to c = ⊥
 IsStray lost stopped from first (r ∷ older) to c =
-    (a : Action) × Turns lost stopped from first older to a × IsMade (has_stopped older stopped) a r × IsFirst older a
+    (a : Action) × Turns lost stopped from first older to a × IsMade (has_stopped older stopped) a r × DoesNothingAgain older a
     × (told_by (gave r.stamp.reply) ≡ None) × (c ≡ came.Ended)
 
 -- the last call is to be made again, and is held until then
@@ -157,10 +168,10 @@ pub record IsGoing {G S : Type 0} (answers_by : G → List (ℕ × Bool)) (made_
   pub says : Says answers_by gate asked_gate (said_in rounds)
   pub lost : after.lost ≡ before.lost
   pub turns : Turns before.lost gate.stopped before.stage first rounds after.stage next
-  pub goes_on : IsFirst rounds next
+  pub goes_on : DoesNothingAgain rounds next
 
--- It was carried on so until this came, and this call is held then. Where a call was to be made again, and the gate said no, it
--- was asked once more than in these rounds.
+-- It was carried on so until this came, and this call is held then. Where the first call was to be made again, and the gate's no
+-- kept it from that, the gate was asked once more than in the rounds, of which there are none.
 pub record IsCarried {G S : Type 0} (answers_by : G → List (ℕ × Bool)) (made_by handed_to : S → List Stamped)
     (gate asked_gate : Asking G) (old new : S) (before : Session) (first : Action) (after : Session) (held : Option Ask)
     (c : Served) : Type 0 where
@@ -170,48 +181,54 @@ pub record IsCarried {G S : Type 0} (answers_by : G → List (ℕ × Bool)) (mad
   pub handed : handed_to new ≡ stamps_in rounds ++ handed_to old
   pub says : Says answers_by gate asked_gate (last ++ said_in rounds)
   pub lost : after.lost ≡ before.lost
-  pub goes : ((next : Action) × Turns before.lost gate.stopped before.stage first rounds after.stage next
-      × IsAskedAt (is_again next) 4 last × IsCome asked_gate.stopped next c × (held ≡ None))
+  pub goes : CallsNoMore before.lost gate.stopped asked_gate.stopped before.stage first rounds last after.stage held c
       ⊎ ((last ≡ []) × ((IsStray before.lost gate.stopped before.stage first rounds after.stage c × (held ≡ None))
       ⊎ IsHeld before.lost gate.stopped before.stage first rounds after.stage held c))
 
--- what came of a request: it was carried on with the call that it asks for, or had its answer with no call
+-- what came of a request: it was carried on with the call that it asks for, where none was held, or had its answer with no call
 abbrev pub IsServed : {G S : Type 0} → (G → List (ℕ × Bool)) → (S → List Stamped) → (S → List Stamped) → Asking G
     → Asking G → S → S → Session → Option Ask → Request → Session → Option Ask → Served → Type 0
 IsServed answers_by made_by handed_to gate asked_gate old new before was_held request after held c =
     let n = taken before.stage request in
-    ((ask : Ask) × (mid : Session) × (call_in n.action ≡ Some ask) × (mid.lost ≡ before.lost) × (mid.stage ≡ n.stage)
+    ((ask : Ask) × (mid : Session) × (call_in n.action ≡ Some ask) × (was_held ≡ None) × (mid.lost ≡ before.lost) × (mid.stage ≡ n.stage)
     × IsCarried answers_by made_by handed_to gate asked_gate old new mid (Do ask) after held c)
     ⊎ ((call_in n.action ≡ None) × (new ≡ old) × (asked_gate ≡ gate) × (after.lost ≡ before.lost)
     × (after.stage ≡ n.stage) × (held ≡ was_held) × (c ≡ came_with (answer_in n.action)))
 
+-- the session was carried on with what it is to do; where that is the call that was held, it stays held, and nothing is done
+abbrev pub CarriesOrHolds : {G S : Type 0} → (G → List (ℕ × Bool)) → (S → List Stamped) → (S → List Stamped) → Asking G
+    → Asking G → S → S → Session → Option Ask → Action → Session → Option Ask → Served → Type 0
+CarriesOrHolds answers_by made_by handed_to gate asked_gate old new before None first after held c =
+    IsCarried answers_by made_by handed_to gate asked_gate old new before first after held c
+CarriesOrHolds answers_by made_by handed_to gate asked_gate old new before (Some ask) first after held c =
+    (first ≡ Do ask) × (new ≡ old) × (asked_gate ≡ gate) × (after ≡ before) × (held ≡ Some ask) × (c ≡ came.Held)
+
 -- what came of a connection that was lost
 abbrev pub IsLost : {G S : Type 0} → (G → List (ℕ × Bool)) → (S → List Stamped) → (S → List Stamped) → Asking G
-    → Asking G → S → S → Session → Session → Option Ask → Served → Type 0
-IsLost answers_by made_by handed_to gate asked_gate old new before after held c =
+    → Asking G → S → S → Session → Option Ask → Session → Option Ask → Served → Type 0
+IsLost answers_by made_by handed_to gate asked_gate old new before was_held after held c =
     let n = after_loss before.stage in
     (mid : Session) × (mid.lost ≡ true) × (mid.stage ≡ n.stage)
-    × IsCarried answers_by made_by handed_to gate asked_gate old new mid n.action after held c
+    × CarriesOrHolds answers_by made_by handed_to gate asked_gate old new mid was_held n.action after held c
 
--- the session was carried on with what it is to do; where that is nothing, it ended
+-- the session was carried on with what it is to do; where that is nothing, it ended, and no call is held
 abbrev pub CarriesOn : {G S : Type 0} → (G → List (ℕ × Bool)) → (S → List Stamped) → (S → List Stamped) → Asking G
-    → Asking G → S → S → Session → Option Ask → Option Action → Session → Option Ask → Served → Type 0
-CarriesOn answers_by made_by handed_to gate asked_gate old new before was_held (Some first) after held c =
+    → Asking G → S → S → Session → Option Action → Session → Option Ask → Served → Type 0
+CarriesOn answers_by made_by handed_to gate asked_gate old new before (Some first) after held c =
     IsCarried answers_by made_by handed_to gate asked_gate old new before first after held c
-CarriesOn answers_by made_by handed_to gate asked_gate old new before was_held None after held c =
-    (new ≡ old) × (asked_gate ≡ gate) × (after ≡ before) × (held ≡ was_held) × (c ≡ came.Ended)
+CarriesOn answers_by made_by handed_to gate asked_gate old new before None after held c =
+    (new ≡ old) × (asked_gate ≡ gate) × (after ≡ before) × (held ≡ None) × (c ≡ came.Ended)
 
 -- What came of asking for the receipt of a commit: it was asked for once, whatever the gate has said, and the session
 -- carried on with what that told.
 pub record IsAskedFor {G S : Type 0} (answers_by : G → List (ℕ × Bool)) (made_by handed_to : S → List Stamped)
-    (gate asked_gate : Asking G) (old new : S) (number : CommitNo) (before : Session) (was_held : Option Ask)
-    (after : Session) (held : Option Ask) (c : Served) : Type 0 where
+    (gate asked_gate : Asking G) (old new : S) (number : CommitNo) (before after : Session) (held : Option Ask) (c : Served) : Type 0 where
   pub mid : S
   pub mid_gate : Asking G
   pub next : Option Action
   pub told : Session
   pub asks : IsCall answers_by made_by handed_to gate mid_gate old mid (Acknowledged number) before next told
-  pub goes : CarriesOn answers_by made_by handed_to mid_gate asked_gate mid new told was_held next after held c
+  pub goes : CarriesOn answers_by made_by handed_to mid_gate asked_gate mid new told next after held c
 
 -- a force was made, and its stamp handed on
 pub record IsForce {S : Type 0} (made_by forced_by handed_to : S → List Stamped) (old new : S) : Type 0 where

@@ -1,3 +1,4 @@
 pub mod Asking
 pub mod Translation
+pub mod Held
 pub mod Carried

@@ -5,6 +5,7 @@ ghost use Rattle.rq_session.specs.declared.stage.OwnTxn.TheVariants.{Free};
 ghost use Rattle.rq_session.specs.declared.stage.Stage.TheVariants.{Rest};
 ghost use Rattle.rq_session.specs.Laws.{awaited};
 ghost use Rattle.rq_serving.specs.Asking.{Asks};
+ghost use Rattle.rq_serving.specs.Held.{IsHeldAt, IsHeldAt-prop};
 ghost use Rattle.rq_serving.specs.Carried.{IsAsked, IsAskedFor, IsCall, IsCarried, IsCome, IsForce, IsLost, IsServed, KeepsNumber, NumberAfter, is_again, may_call, was_written};
 ghost use Rattle.rq_engine.specs.Says.{gave};
 ghost use Rattle.rq_serving.specs.Translation.{told_by};
@@ -46,6 +47,8 @@ pub struct ServedSession<G: Gate> {
     number: Option<CommitNo>,
     // the call that is to be made again
     held: Option<Ask>,
+    // it is the one that the session asked for last, one of an operation or an abort under way
+    ghost held_at: { IsHeldAt session.stage held } by { IsHeldAt-prop held-code session.stage held },
 }
 
 impl<G: Gate> ServedSession<G> {
@@ -89,8 +92,8 @@ impl<G: Gate> ServedSession<G> {
     /// Asks whether the commit that waits is durable, also where the gate has said no. The caller waits before it asks
     /// again. Where none waits there is nothing to ask.
     pub fn ask_receipt<S: Steps, R: Wait>(&mut self, rt: &R, steps: &mut S) -> Served
-        ensures some { IfSome (awaited self.old.session.stage) (λ commit. IfSome self.old.number (λ number. IsAskedFor
-            G.answers S.made S.told self.old.gate self.new.gate steps.old steps.new number self.old.session self.old.held
+        ensures some { IfSome (awaited self.old.session.stage) (λ commit. IfSome self.old.number (λ number. (self.old.held ≡ None)
+            × IsAskedFor G.answers S.made S.told self.old.gate self.new.gate steps.old steps.new number self.old.session
             self.new.session self.new.held result)) }
         ensures none { IfNone (awaited self.old.session.stage) ((result ≡ Served.Ended) × (self.new ≡ self.old)
             × (steps.new ≡ steps.old)) }
@@ -119,13 +122,16 @@ impl<G: Gate> ServedSession<G> {
         }
     }
 
-    /// Finishes the operation under way and aborts the transaction, once the connection has ended or was at fault; as far as a
-    /// call is held, `go_on` goes on with that. Where the gate has said no the transaction stays as it is then.
+    /// Finishes the operation under way and aborts the transaction, once the connection has ended or was at fault. A call that is
+    /// held stays so, and `go_on` goes on with it. Where the gate has said no the transaction stays as it is then.
     pub fn lose<S: Steps, R: Wait>(&mut self, rt: &R, steps: &mut S) -> Served
-        ensures lost { IsLost G.answers S.made S.told self.old.gate self.new.gate steps.old steps.new self.old.session self.new.session self.new.held result }
+        ensures lost { IsLost G.answers S.made S.told self.old.gate self.new.gate steps.old steps.new self.old.session self.old.held self.new.session self.new.held result }
         ensures number { KeepsNumber self.old.session.stage self.old.number self.new.session.stage self.new.number }
     {
         let action = self.session.lost();
+        if self.held.is_some() {
+            return Served::Held;
+        }
         self.carried(rt, steps, action)
     }
 
@@ -161,7 +167,7 @@ impl<G: Gate> ServedSession<G> {
 
     // Asks once for the receipt of a commit, and goes on with what that told.
     fn asked_for<S: Steps, R: Wait>(&mut self, rt: &R, steps: &mut S, number: CommitNo) -> Served
-        ensures asked { IsAskedFor G.answers S.made S.told self.old.gate self.new.gate steps.old steps.new number self.old.session self.old.held self.new.session self.new.held result }
+        ensures asked { IsAskedFor G.answers S.made S.told self.old.gate self.new.gate steps.old steps.new number self.old.session self.new.session self.new.held result }
         ensures number { KeepsNumber self.old.session.stage self.old.number self.new.session.stage self.new.number }
     {
         match self.called(steps, Event::Acknowledged(number)) {
@@ -209,14 +215,15 @@ impl<G: Gate> ServedSession<G> {
         to_be_made(action, self.gate.has_stopped())
     }
 
-    // Makes a call, and tells the session what came of it: what is to be done next. None where no call of a session is
-    // answered so. Behind a slot that was written the gate is asked.
+    // Makes a call, none being held any more, and tells the session what came of it: what is to be done next. None where no call
+    // of a session is answered so. Behind a slot that was written the gate is asked.
     fn called<S: Steps>(&mut self, steps: &mut S, event: Event) -> Option<Action>
         ensures call { IsCall G.answers S.made S.told self.old.gate self.new.gate steps.old steps.new event
             self.old.session result self.new.session }
         ensures number { KeepsNumber self.old.session.stage self.old.number self.new.session.stage self.new.number }
-        ensures held { self.new.held ≡ self.old.held }
+        ensures held { self.new.held ≡ None }
     {
+        self.held = None;
         let stamped = steps.call(event);
         let told = told_of(stamped.reply());
         self.number = number_after(self.number, stamped.reply());

@@ -3,6 +3,7 @@ use Rattle.std.specs.Prelude.{Option, Some}
 use Rattle.rq_session.specs.declared.calls.Action.{Action}
 use Rattle.rq_session.specs.declared.session.Session.{Session}
 use Rattle.rq_serving.specs.Carried.{IsCall}
+use Rattle.rq_serving.proofs.Holding.{told_again}
 use Rattle.rq_serving.proofs.Carrying.{begins, one_more, comes, holds, strays, keeps_on, stays_kept}
 use Rattle.rq_serving.proofs.serving.ServedSession.carried.Goals as goal
 
@@ -27,7 +28,7 @@ returns-in-None-called-clause-carried g c =
     let called = subst (λ (o : Option Action). IsCall g.G.Gate.answers g.S.Steps.made g.S.Steps.told c.asked.new.self.gate c.called.new.self.gate c.loop.steps c.called.new.steps c.event_of.result c.asked.new.self.session o c.called.new.self.session) c.in-None-called.is c.called.ensures.call in
     strays g.G.Gate.answers g.S.Steps.made g.S.Steps.told _ _ _ _ _ _ _ _ _ _ _ _ _ c.in-Ok.ask c.event_of.result _
     c.loop.invariant.0 c.asked.ensures.gate same.0 c.in-Ok.ensures.asks c.event_of.ensures called
-    (c.called.ensures.held ∙ (same.2 ∙ c.loop.invariant.2))
+    c.called.ensures.held
 
 pub returns-in-None-called-clause-number : goal.returns-in-None-called-clause-number
 returns-in-None-called-clause-number g c =
@@ -42,6 +43,11 @@ returns-in-Err-to_be_done_now-clause-carried g c =
     let again = subst (λ (a : Action). IsCall g.G.Gate.answers g.S.Steps.made g.S.Steps.told c.asked.new.self.gate c.called.new.self.gate c.loop.steps c.called.new.steps c.event_of.result c.asked.new.self.session (Some a) c.called.new.self.session) c.in-Err-to_be_done_now.ensures.again called in
     holds g.G.Gate.answers g.S.Steps.made g.S.Steps.told _ _ _ _ _ _ _ _ _ _ _ _ _ c.in-Ok.ask _ c.event_of.result
     c.loop.invariant.0 c.asked.ensures.gate same.0 c.in-Ok.ensures.asks c.event_of.ensures again
+
+pub invariant_of-self-in-Err-to_be_done_now : goal.invariant_of-self-in-Err-to_be_done_now
+invariant_of-self-in-Err-to_be_done_now g c =
+    let called = subst (λ (o : Option Action). IsCall g.G.Gate.answers g.S.Steps.made g.S.Steps.told c.asked.new.self.gate c.called.new.self.gate c.loop.steps c.called.new.steps c.event_of.result c.asked.new.self.session o c.called.new.self.session) c.in-Some-called.is c.called.ensures.call in
+    record { held_at = told_again _ _ _ _ _ called.tells c.in-Err-to_be_done_now.ensures.again }
 
 pub returns-in-Err-to_be_done_now-clause-number : goal.returns-in-Err-to_be_done_now-clause-number
 returns-in-Err-to_be_done_now-clause-number g c =
@@ -59,5 +65,5 @@ loop-preserved g c =
           c.loop.invariant.0 c.asked.ensures.gate same.0 c.in-Ok.ensures.asks c.event_of.ensures goes now.1,
       keeps_on _ _ _ _ _ _ (stays_kept _ _ _ _ _ _ c.loop.invariant.1 (ap (λ (x : Session). x.stage) same.0) same.1)
           c.called.ensures.number,
-      c.called.ensures.held ∙ (same.2 ∙ c.loop.invariant.2),
+      c.called.ensures.held,
     )
