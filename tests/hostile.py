@@ -84,6 +84,33 @@ def signals(program, chosen):
             ends.load.look(server, is_last=True)
 
 
+# What changes nothing: the system ignores these, and the program that of a stream that nobody reads.
+IGNORED = {signal.SIGCHLD, signal.SIGCONT, signal.SIGURG, signal.SIGWINCH, signal.SIGPIPE}
+STOPPING = {signal.SIGSTOP, signal.SIGTSTP, signal.SIGTTIN, signal.SIGTTOU}
+
+
+def any_signal(program, _):
+    """Each other signal ends a server, beside an open transaction, or changes nothing: what was acknowledged is there, and no more."""
+    resource.setrlimit(resource.RLIMIT_CORE, (0, resource.getrlimit(resource.RLIMIT_CORE)[1]))
+    numbers = sorted(signal.valid_signals() - STOPPING - set(ENDING))
+    with store(program, 1, 10) as folder:
+        for at, number in enumerate(numbers):
+            with serving(program, folder) as server, server.connect() as connection:
+                assert connection.last_tag(0) == (at, at), number
+                with connection.transaction() as transaction:
+                    transaction.send(0, at + 1, b"kept")
+                left_open = connection.transaction()
+                left_open.send(1, 1, b"not committed")
+                server.process.send_signal(number)
+                if number in IGNORED:
+                    assert left_open.receive_from(1) is None and server.process.poll() is None, number
+                else:
+                    assert server.process.wait(LONGEST) == -number, (number, server.process.returncode)
+        with serving(program, folder) as server, server.connect() as connection:
+            assert everything(connection) == {0: [(tag, b"kept") for tag in range(1, len(numbers) + 1)]}
+    return f"{len(numbers)} signals"
+
+
 def pauses(program, chosen):
     """Stopped and continued under load, also while it waits for clients: no connection is lost by it."""
     draw = random.Random(chosen.seed)
@@ -457,6 +484,41 @@ def sent_on_disk(folder):
         return int.from_bytes(pages.read(3 * 4096)[4096 + 256 + 8 :][:8], "big")
 
 
+def two_programs(program, chosen):
+    """Of programs that begin at once in one folder one makes the store, and one serves it; a format refuses a store that is served, and an
+    inspection reads it meanwhile. The others wait for nobody, and change nothing."""
+    draw, words = random.Random(chosen.seed), ["--directory", "1", "--cells", "20"]
+
+    def started(command):
+        time.sleep(draw.uniform(0, 0.003))
+        return subprocess.Popen([program, *command], stdin=subprocess.DEVNULL, stdout=subprocess.PIPE, stderr=subprocess.DEVNULL)
+
+    for _ in range(chosen.rounds):
+        with folder_of() as folder, ThreadPoolExecutor(6) as pool:
+            at_once = list(pool.map(started, [["format", str(folder), *words]] * 6))
+            made = sorted(each.communicate(timeout=LONGEST)[0] for each in at_once)
+            assert made == [b"fault exists\n"] * 5 + [b"formatted 1 20\n"], made
+            assert files_of(folder) == {"pages": bytes(formatted(1, 20)), "log": b""}
+            servers = list(pool.map(started, [["serve", str(folder), "--port", "0"]] * 6))
+            lines = [server.stdout.readline() for server in servers]
+            try:
+                (one,) = [at for at, line in enumerate(lines) if line != b"fault open\n"]
+                assert [server.wait(LONGEST) for at, server in enumerate(servers) if at != one] == [1] * 5, lines
+                with Connection(int(lines[one].split(b":")[1]), timeout=LONGEST) as connection:
+                    for tag in range(1, 30):
+                        with connection.transaction() as transaction:
+                            transaction.send(0, tag, b"")
+                        look = started(["format", str(folder), *words] if tag % 2 else ["inspect", str(folder)])
+                        said = look.communicate(timeout=LONGEST)[0]
+                        assert said == b"fault exists\n" if tag % 2 else b"\ncommitted %d 1.1" % tag in said, said
+            finally:
+                for server in servers:
+                    server.kill()
+                    server.communicate()
+            with serving(program, folder) as server, server.connect() as connection:
+                assert everything(connection) == {0: [(tag, b"") for tag in range(1, 30)]}
+
+
 def other_files(program, _):
     """The pages of one store beside the log of another, or one of them as it was before: what opens is what the bytes say, and the
     rest is refused. So are pages of any other length."""
@@ -538,11 +600,20 @@ def no_rights(program, _):
         command = [mine, "format", folder / "new", "--directory", "1", "--cells", "1"]
         ran = subprocess.run(command, capture_output=True, preexec_fn=nobody, timeout=LONGEST)
         assert (ran.stdout, ran.returncode) == (b"fault open\n", 1), ran
-        folder.chmod(0o555)
-        command = [mine, "serve", folder, "--port", "0", "--until-input-ends"]
-        ran = subprocess.run(command, input=b"", capture_output=True, preexec_fn=nobody, timeout=LONGEST)
-        assert ran.stdout.endswith(b"served 0\n") and ran.returncode == 0, ran
-        folder.chmod(0o755)
+        command = [mine, "serve", folder, "--port", "0"]
+        for before, behind in ((0o555, 0o555), (0o755, 0o555), (0o755, 0)):
+            folder.chmod(before)
+            server = subprocess.Popen(command, stdout=subprocess.PIPE, stderr=subprocess.DEVNULL, preexec_fn=nobody)
+            try:
+                port = int(server.stdout.readline().split(b":")[1])
+                folder.chmod(behind)
+                with Connection(port, timeout=LONGEST) as connection, connection.transaction() as transaction:
+                    transaction.send(0, 1, b"")
+                    transaction.receive()
+            finally:
+                server.kill()
+                server.communicate()
+                folder.chmod(0o755)
 
 
 def vanished_folder(program, _):
@@ -563,6 +634,24 @@ def vanished_folder(program, _):
         folder.mkdir()
         assert limited(program, folder) == (b"fault open\n", 1)
         assert format_store(program, folder) == (b"formatted 1 2\n", 0)
+
+
+def moved_folder(program, _):
+    """A folder that is moved under a server: it serves on from there, where nobody else opens the store, and another in its old place is
+    another's."""
+    with store(program, 1, 10) as folder, folder_of() as top:
+        with serving(program, folder) as server, server.connect() as connection:
+            send_many(connection, {}, 0, range(1, 3))
+            moved = folder.rename(top / "moved")
+            raises(NotStarted, lambda: Server(program, moved))
+            folder.mkdir()
+            assert format_store(program, folder, 1, 10) == (b"formatted 1 10\n", 0)
+            with serving(program, folder) as other, other.connect() as beside:
+                send_many(beside, {}, 1, range(1, 2))
+                send_many(connection, {}, 0, range(3, 5))
+        for where, left in ((moved, {0: [1, 2, 3, 4]}), (folder, {1: [1]})):
+            with serving(program, where) as server, server.connect() as connection:
+                assert {sender: [tag for tag, _ in held] for sender, held in everything(connection).items()} == left, where
 
 
 def small_disk(program, _):
@@ -756,23 +845,20 @@ def drawn_stream(draw):
 
 
 def requests_in(said):
-    """The kinds of the whole requests in front of the first fault, whether one is for sender 29, and whether there is a fault."""
-    at, kinds, is_good = 0, [], False
+    """The whole requests in front of the first fault, each as its kind and fields; where they end, and whether a fault stands there."""
+    at, requests = 0, []
     while len(said) - at >= 2:
         length = int.from_bytes(said[at : at + 2], "big")
-        if not 1 <= length <= 512:
-            return kinds, is_good, True
-        if len(said) - at > 2 and not 1 <= said[at + 2] <= 8:
-            return kinds, is_good, True
+        if not 1 <= length <= 512 or (len(said) - at > 2 and not 1 <= said[at + 2] <= 8):
+            return requests, at, True
         if at + 2 + length > len(said):
-            return kinds, is_good, False
+            break
         kind = said[at + 2]
         if length < 13 if kind == 2 else length != LENGTHS[kind]:
-            return kinds, is_good, True
-        is_good |= kind in (2, 5) and said[at + 3 : at + 7] == b"\0\0\0\x1d"
-        kinds.append(kind)
+            return requests, at, True
+        requests.append((kind, said[at + 3 : at + 2 + length]))
         at += 2 + length
-    return kinds, is_good, False
+    return requests, at, False
 
 
 # What a request of each kind may be answered with, beside a refusal.
@@ -786,8 +872,8 @@ GIVEN = {4, 5, 6, 7, 8, 9, 10, 11, 12, 13, 14, 17}
 def misbehave(server, draw):
     """Says a stream, in pieces. How many answers came, and whether it had a fault."""
     said = drawn_stream(draw)
-    kinds, is_good, is_fault = requests_in(said)
-    if is_good:
+    requests, _, is_fault = requests_in(said)
+    if any(kind in (2, 5) and fields.startswith(b"\0\0\0\x1d") for kind, fields in requests):
         return 0, False  # nobody disturbs the sender of the one who behaves
     breaks_off = draw.randrange(6) == 0
     with server.raw() as stream:
@@ -809,12 +895,12 @@ def misbehave(server, draw):
     at, count = 0, 0
     while at < len(answers):
         length, kind = int.from_bytes(answers[at : at + 2], "big"), answers[at + 2]
-        assert count < len(kinds) and kind in (*DONE[kinds[count]], 255), (said.hex(), answers.hex())
+        assert count < len(requests) and kind in (*DONE[requests[count][0]], 255), (said.hex(), answers.hex())
         assert length == SIZES.get(kind, length) and (kind != 131 or 13 <= length <= 229), (said.hex(), answers.hex())
         assert kind != 255 or answers[at + 3] in GIVEN, (said.hex(), answers.hex())
         at, count = at + 2 + length, count + 1
     # behind a fault the end of the connection may overtake what was said
-    assert at == len(answers) and (count == len(kinds) or is_fault), (said.hex(), answers.hex())
+    assert at == len(answers) and (count == len(requests) or is_fault), (said.hex(), answers.hex())
     return count, is_fault
 
 
@@ -860,8 +946,8 @@ def long_sessions(program, chosen):
 
 
 TESTS = [
-    signals, pauses, closed_streams, full_streams, little_at_start, little_under_load, held_calls, file_limit, no_files, long_pages,
-    other_files, no_rights, vanished_folder, small_disk, short_calls, any_frames,
+    signals, any_signal, pauses, closed_streams, full_streams, little_at_start, little_under_load, held_calls, file_limit, no_files,
+    long_pages, two_programs, other_files, no_rights, vanished_folder, moved_folder, small_disk, short_calls, any_frames,
 ]  # fmt: skip
 
 
@@ -873,6 +959,9 @@ def main():
     words.add_argument("--minutes", type=float, default=10, help="how long `long_sessions` takes")
     words.add_argument("names", nargs="*", metavar="NAME", help="these tests alone")
     chosen = words.parse_args()
+    for number in ENDING + [signal.SIGQUIT]:
+        if signal.getsignal(number) == signal.SIG_IGN:  # as of what a shell runs in the background: programs would inherit it
+            signal.signal(number, signal.SIG_DFL)
     program = built(chosen.program, "rqm")
     known = {test.__name__: test for test in [*TESTS, long_sessions]}
     for name in chosen.names or [test.__name__ for test in TESTS]:

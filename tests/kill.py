@@ -17,7 +17,7 @@ from concurrent.futures import ThreadPoolExecutor
 from contextlib import contextmanager
 
 from cases import built
-from server import Server, everything, store, torn_end
+from server import LONGEST, Server, everything, store, torn_end
 
 sys.dont_write_bytecode = True
 from rqm import Full  # noqa: E402, where `server` finds it
@@ -143,7 +143,7 @@ class Kills:
         opening = subprocess.Popen(command, stdout=subprocess.DEVNULL, stderr=subprocess.DEVNULL)
         time.sleep(self.random.uniform(0, 0.05))
         opening.send_signal(number)
-        assert opening.wait() == -number, (number, opening.returncode)
+        assert opening.wait(LONGEST) == -number, (number, opening.returncode)
         self.kills += 1
 
 
