@@ -18,8 +18,8 @@ use Rattle.rq_page.specs.Formatted.{IsFormatted, IsHeaderOf}
 use Rattle.rq_disk.specs.Device.{Images, Leaves}
 use Rattle.rq_disk.specs.declared.device.LogDevice as log_device
 use Rattle.rq_disk.specs.declared.device.PageDevice as page_device
-use Rattle.rq_model.specs.Bases.{gone, standing}
-use Rattle.rq_model.proofs.Bases.{drop_standing, length_standing}
+use Rattle.rq_model.specs.Bases.{base_lsn, gone, standing}
+use Rattle.rq_model.proofs.Bases.{base_among, drop_standing, length_standing}
 use Rattle.rq_log.specs.Spelled.{AreAllSpelled, AreSpelled, EndsWithAll, IsBeginning}
 use Rattle.rq_log.specs.Crash.{LeavesOnly}
 use Rattle.rq_pool.specs.declared.Written.{Written}
@@ -27,9 +27,11 @@ use Rattle.rq_pool.specs.declared.Written.TheVariants as out
 use Rattle.rq_pool.specs.Pooled.{image_at}
 use Rattle.rq_pool.specs.Writing.{DeviceAfter, MayHaveWritten}
 use Rattle.rq_store.specs.State.{State}
-use Rattle.rq_store.specs.Fitting.{oldest, FitsPage, FitsLog, AllFit, image_in}
+use Rattle.rq_store.specs.Fitting.{oldest, AllHoldBase, HoldsBase, FitsPage, FitsLog, AllFit, image_in}
+use Rattle.rq_store.specs.Steps.{Continues}
 use Rattle.rq_sound.specs.Sound.{IsSound}
 use Rattle.rq_sound.specs.ModelSteps.{IsModelStep}
+use Rattle.rq_store.proofs.Based.{all_base_longer, base_shorter, grown_base, hold_base, kept_base, oldest_base}
 use Rattle.rq_store.proofs.Begun.{begun_cut}
 use Rattle.rq_store.proofs.Cutting.{whole_dropped, longer_continues, oldest_continues, all_fit_longer, page_fits_oldest, fits_log, fits_log_longer}
 use Rattle.rq_engine.specs.declared.event.Event.{Event}
@@ -63,14 +65,26 @@ IsOnDevice s = AreSpelled s.records × (0 < s.forced → gone s.records < s.forc
 on_device : (e : List Record) (s : State) → IsEarlier e s → IsOnDevice s → IsOnDevice (on e s)
 on_device e s long told = (told_on e s.records told.0 long, λ some. subst (λ (n : ℕ). n < s.forced) (sym (standing_on e s.records told.0 long).1) (told.1 some))
 
+-- the pages fit the log, and none is older than its Base without what that stands for
+abbrev AreLeft : Sizes → Images → List Record → Type 0
+AreLeft z images log = FitsLog z images log × AllHoldBase z images log
+
+are_left : (may_be : ℕ → List ℕ → Type 0) (z : Sizes) (log : List Record) (images : Images) → AllFit may_be z log → ((p : ℕ) → may_be p (images p)) → AreLeft z images log
+are_left may_be z log images f each = (fits_log may_be z log images f each, hold_base may_be z log images f each)
+
+-- more is forced than what the Base stands for
+more_forced : (s : State) → IsSound s → IsOnDevice s → gone s.records < s.forced
+more_forced s k told = told.1 (some_forced s.forced s.incarnation s.records k.begun k.some)
+
 -- the log's first records, and pages that fit those that are forced
-cut : (s : State) → IsSound s → IsOnDevice s → (images : Images) (bytes : List ℕ) → FitsLog s.sizes images (oldest s.forced s.records) → IsBeginning s.records s.forced bytes → IsCut s images bytes
+cut : (s : State) → IsSound s → IsOnDevice s → (images : Images) (bytes : List ℕ) → AreLeft s.sizes images (oldest s.forced s.records) → IsBeginning s.records s.forced bytes → IsCut s images bytes
 cut s k told images bytes fits b =
-    let based = told.1 (some_forced s.forced s.incarnation s.records k.begun k.some) in
+    let based = more_forced s k told in
     let all = length_standing s.records in
     let within : b.0 + s.forced ≤ length s.records = (let le = b.1 in omega (arith, le, all, based)) in
     let stand = drop_standing b.0 s.records (omega (arith, within, based)) in
     let whole = whole_dropped s.sizes b.0 s.records k.log in
+    let goes_on = longer_continues b.0 s.forced s.records within in
     record {
       lost = b.0;
       forced = within;
@@ -78,33 +92,40 @@ cut s k told images bytes fits b =
       told = subst AreAllSpelled (sym stand) (AreAllSpelled-drop b.0 (standing s.records) told.0);
       spells = subst (λ (l : List Record). EndsWithAll l bytes) (sym stand) b.2;
       begins = b.3 (omega (arith, based));
-      store = record { whole = whole; fits = fits_log_longer s.sizes images (oldest s.forced s.records) (drop b.0 s.records) (longer_continues b.0 s.forced s.records within) fits };
+      store = record { whole = whole; fits = fits_log_longer s.sizes images (oldest s.forced s.records) (drop b.0 s.records) goes_on fits.0; based = all_base_longer s.sizes images (oldest s.forced s.records) (drop b.0 s.records) goes_on (kept_base b.0 s.forced s.records within based) fits.1 };
       durable = kept_less s.forced (length (drop b.0 s.records)) (committed_of s.records) (let n = length-drop b.0 s.records in omega (arith, n, within));
       content = λ g. content_is g (drop b.0 s.records) whole.rules ∙ ap (λ c. group_in c g) (sym (commits_of_cut b.0 s.records));
     }
 
 module _ {P L : Type 0} (p : page_device.Ghosts P) (l : log_device.Ghosts L) (only_now : (d : P) (c : Images) → p.left_since d (p.moment d) c → Leaves (p.may_be d) c) where
   pub leaves_cut : (s : OpenStore P L) → (l.honest s.log → (c : List ℕ) → l.may_leave s.log c → IsBeginning s.state.records s.state.forced c) → IsOnDevice s.state → l.honest s.log → IsSound s.state → AreFit p s → LeavesCut p l s
-  leaves_cut s log told h k fit images bytes there left = cut s.state k told images bytes (fits_log (p.may_be s.pages) s.state.sizes (oldest s.state.forced s.state.records) images fit there) (log h bytes left)
+  leaves_cut s log told h k fit images bytes there left = cut s.state k told images bytes (are_left (p.may_be s.pages) s.state.sizes (oldest s.state.forced s.state.records) images fit there) (log h bytes left)
 
-  module _ (old new : OpenStore P L) (k : IsSound old.state) (fit : AreFit p old) where
+  module _ (old new : OpenStore P L) (k : IsSound old.state) (fit : AreFit p old) (told : IsOnDevice old.state) where
     abbrev z : Sizes
     z = old.state.sizes
 
     abbrev kept : List Record
     kept = oldest old.state.forced old.state.records
 
+    kept_of : Continues kept old.state.records
+    kept_of = (length old.state.records - old.state.forced, refl)
+
+    -- the Base is forced
+    same_base : base_lsn old.state.records ≡ base_lsn kept
+    same_base = sym (oldest_base old.state.forced old.state.records (base_among old.state.forced old.state.records (more_forced old.state k told)) k.forced)
+
     -- what is so of the pages afterwards, and of them at each moment since
     record Goes : Type 0 where
       pub now : AllFit (p.may_be new.pages) z kept
-      pub each : (images : Images) → p.left_since new.pages (p.moment old.pages) images → FitsLog z images kept
+      pub each : (images : Images) → p.left_since new.pages (p.moment old.pages) images → AreLeft z images kept
       pub later : p.moment old.pages ≤ p.moment new.pages
 
     stays : new.pages ≡ old.pages → Goes
     stays e = record {
       now = subst (λ (d : P). AllFit (p.may_be d) z kept) (sym e) fit;
-      each = subst (λ (d : P). (images : Images) → p.left_since d (p.moment old.pages) images → FitsLog z images kept) (sym e)
-          (λ images left. fits_log (p.may_be old.pages) z kept images fit (only_now old.pages images left));
+      each = subst (λ (d : P). (images : Images) → p.left_since d (p.moment old.pages) images → AreLeft z images kept) (sym e)
+          (λ images left. are_left (p.may_be old.pages) z kept images fit (only_now old.pages images left));
       later = (let same = ap p.moment e in omega (arith, same));
     }
 
@@ -115,14 +136,15 @@ module _ {P L : Type 0} (p : page_device.Ghosts P) (l : log_device.Ghosts L) (on
         superblock = λ c may. ⊎_elim (fit.superblock c) (λ e. subst (λ b. IsFormatted z 0 b) (sym e.1) (subst (λ p. IsFormatted z 0 (image_in old.state.images p)) e.0 k.fits.superblock)) (w.crash 0 c may);
         headers = λ p c low high may. ⊎_elim (fit.headers p c low high) (λ e. subst (λ b. IsHeaderOf z p b) (sym e.1) (subst (λ q. IsHeaderOf z p (image_in old.state.images q)) e.0 (k.fits.headers p low high))) (w.crash p c may);
         pages = λ p c low high may. ⊎_elim (fit.pages p c low high) (λ e. subst (λ b. FitsPage z kept p b) (sym e.1) (subst (λ q. lsn_of (image_in old.state.images q) ≤ old.state.forced → FitsPage z kept p (image_in old.state.images q)) e.0 (λ le. page_fits_oldest z p old.state.forced (image_in old.state.images p) old.state.records le k.forced (k.fits.pages p low high)) forced)) (w.crash p c may);
+        based = λ p c low high may. ⊎_elim (fit.based p c low high) (λ e. subst (λ b. HoldsBase z kept p b) (sym e.1) (subst (λ q. HoldsBase z kept p (image_in old.state.images q)) e.0 (base_shorter kept old.state.records kept_of same_base z p (image_in old.state.images p) (k.based p low high)))) (w.crash p c may);
       }
 
       written : Goes
       written = record {
         now = fits_now;
         each = λ images left. ⊎_elim
-            (λ was. fits_log (p.may_be old.pages) z kept images fit (only_now old.pages images was))
-            (λ now. fits_log (p.may_be new.pages) z kept images fits_now now)
+            (λ was. are_left (p.may_be old.pages) z kept images fit (only_now old.pages images was))
+            (λ now. are_left (p.may_be new.pages) z kept images fits_now now)
             (w.time.nothing_else (p.moment old.pages) images (omega arith) left);
         later = w.time.later;
       }
@@ -137,31 +159,32 @@ module _ {P L : Type 0} (p : page_device.Ghosts P) (l : log_device.Ghosts L) (on
     goes (event.WritePage page) r when say = goes_out page (written_by r) when say
     goes _ r when say = stays say
 
-    pub fit_kept : (e : Event) (r : Reply) (call : Call) (gave : Gave) → new.state.sizes ≡ old.state.sizes → IsModelStep old.state call gave new.state → WritesSay old e r → PagesSay p old new e r → AreFit p new
-    fit_kept e r call gave sizes steps when say =
+    pub fit_kept : (e : Event) (r : Reply) (call : Call) (gave : Gave) → new.state.sizes ≡ old.state.sizes → base_lsn new.state.records ≡ base_lsn old.state.records → IsModelStep old.state call gave new.state → WritesSay old e r → PagesSay p old new e r → AreFit p new
+    fit_kept e r call gave sizes base steps when say =
         subst (λ (y : Sizes). AllFit (p.may_be new.pages) y (oldest new.state.forced new.state.records)) (sym sizes)
         (all_fit_longer (p.may_be new.pages) z kept (oldest new.state.forced new.state.records)
         (oldest_continues old.state.forced new.state.forced old.state.records new.state.records steps.goes_on k.forced steps.stays_forced steps.sound.forced)
+        (grown_base old.state.forced new.state.forced old.state.records new.state.records base (more_forced old.state k told) k.forced steps.stays_forced steps.sound.forced)
         (goes e r when say).now)
 
     -- at each moment a crash leaves a cut of the older records, whichever device the call changes
-    through : Goes → IsOnDevice old.state → ((c : List ℕ) → l.may_leave old.log c → IsBeginning old.state.records old.state.forced c)
+    through : Goes → ((c : List ℕ) → l.may_leave old.log c → IsBeginning old.state.records old.state.forced c)
         → LeavesOnly l old.log new.log (IsBeginning old.state.records old.state.forced) → RunsThroughCuts p l old new
-    through g told log run =
-        let cut_of : (images : Images) (bytes : List ℕ) → FitsLog z images kept → IsBeginning old.state.records old.state.forced bytes → IsCut old.state images bytes =
+    through g log run =
+        let cut_of : (images : Images) (bytes : List ℕ) → AreLeft z images kept → IsBeginning old.state.records old.state.forced bytes → IsCut old.state images bytes =
         (λ images bytes fits b. cut old.state k told images bytes fits b) in
-        Log (Pages (Start (λ images bytes a b. cut_of images bytes (fits_log (p.may_be old.pages) z kept images fit a) (log bytes b)))
+        Log (Pages (Start (λ images bytes a b. cut_of images bytes (are_left (p.may_be old.pages) z kept images fit a) (log bytes b)))
         (record { later = g.later; each = λ images since bytes b. cut_of images bytes (g.each images since) (log bytes b) }))
         (weaker l old.log new.log (IsBeginning old.state.records old.state.forced) (λ bytes. (images : Images) → Leaves (p.may_be new.pages) images → IsCut old.state images bytes) run
-        (λ bytes b images a. cut_of images bytes (fits_log (p.may_be new.pages) z kept images g.now a) b))
+        (λ bytes b images a. cut_of images bytes (are_left (p.may_be new.pages) z kept images g.now a) b))
 
-    pub runs_through_cuts : (e : Event) (r : Reply) → IsOnDevice old.state → WritesSay old e r → PagesSay p old new e r
+    pub runs_through_cuts : (e : Event) (r : Reply) → WritesSay old e r → PagesSay p old new e r
         → ((c : List ℕ) → l.may_leave old.log c → IsBeginning old.state.records old.state.forced c)
         → LeavesOnly l old.log new.log (IsBeginning old.state.records old.state.forced) → RunsThroughCuts p l old new
-    runs_through_cuts e r told when say log run = through (goes e r when say) told log run
+    runs_through_cuts e r when say log run = through (goes e r when say) log run
 
     -- a call that writes no record
-    module _ (sizes : new.state.sizes ≡ z) (records : new.state.records ≡ old.state.records) (told : IsOnDevice old.state)
+    module _ (sizes : new.state.sizes ≡ z) (records : new.state.records ≡ old.state.records)
         (log : (c : List ℕ) → l.may_leave old.log c → IsBeginning old.state.records old.state.forced c) where
       stays_fit : Goes → old.state.forced ≤ new.state.forced → new.state.forced ≤ length old.state.records
           → LeavesOnly l old.log new.log (IsBeginning old.state.records old.state.forced) → StaysFit p l old new
@@ -169,8 +192,9 @@ module _ {P L : Type 0} (p : page_device.Ghosts P) (l : log_device.Ghosts L) (on
         fit = subst (λ (y : Sizes). AllFit (p.may_be new.pages) y (oldest new.state.forced new.state.records)) (sym sizes)
             (subst (λ (rs : List Record). AllFit (p.may_be new.pages) z (oldest new.state.forced rs)) (sym records)
             (all_fit_longer (p.may_be new.pages) z kept (oldest new.state.forced old.state.records)
-            (oldest_continues old.state.forced new.state.forced old.state.records old.state.records (0, refl) k.forced more within) g.now));
-        crash = through g told log run;
+            (oldest_continues old.state.forced new.state.forced old.state.records old.state.records (0, refl) k.forced more within)
+            (grown_base old.state.forced new.state.forced old.state.records old.state.records refl (more_forced old.state k told) k.forced more within) g.now));
+        crash = through g log run;
       }
 
 -- a page that is written, or is not, leaves these
@@ -201,7 +225,7 @@ module _ {P L : Type 0} (p : page_device.Ghosts P) (l : log_device.Ghosts L) (on
       → (l.honest new.log → LeavesOnly l s.log new.log (IsBeginning s.state.records s.state.forced)) → KeepsFitAlone p l old new) (sym same)
       (λ pages sizes records forced honest run h k fit.
       let few = k.forced in
-      stays_fit p l only_pages old new k fit sizes records told (leaves (honest h.1)) (stays p l only_pages old new k fit pages)
+      stays_fit p l only_pages old new k fit told sizes records (leaves (honest h.1)) (stays p l only_pages old new k fit told pages)
       (⊎_elim (λ e. omega (arith, e)) (λ e. omega (arith, e, few)) forced) (⊎_elim (λ e. omega (arith, e, few)) (λ e. omega (arith, e)) forced) (run h.1))
 
   -- one of the pages' device
@@ -212,8 +236,8 @@ module _ {P L : Type 0} (p : page_device.Ghosts P) (l : log_device.Ghosts L) (on
       let honest : l.honest old.log = subst (λ (d : L). l.honest d) log h.1 in
       let forced : new.state.forced ≡ old.state.forced = ap (λ (s : State). s.forced) state ∙ same.2 in
       let few = k.forced in
-      stays_fit p l only_pages old new k fit (ap (λ (s : State). s.sizes) state ∙ same.0) (ap (λ (s : State). s.records) state ∙ same.1) told (leaves honest)
-      (goes_out p l only_pages old new k fit page r when after) (omega (arith, forced)) (omega (arith, forced, few)) (log_still honest log)
+      stays_fit p l only_pages old new k fit told (ap (λ (s : State). s.sizes) state ∙ same.0) (ap (λ (s : State). s.records) state ∙ same.1) (leaves honest)
+      (goes_out p l only_pages old new k fit told page r when after) (omega (arith, forced)) (omega (arith, forced, few)) (log_still honest log)
 
 -- what is said of pages says nothing of records
 when_over : {P L : Type 0} (x : List Record) (old : OpenStore P L) (page : ℕ) (w : Result Written Refusal) → WritesWhen old page w → WritesWhen (over x old) page w
@@ -227,11 +251,11 @@ after_over x s (Ok w) = refl
 after_over x s (Err why.DiskWrite) = refl
 after_over x s (Err e) = refl
 
-pub writes_over : {P L : Type 0} (x : List Record) (old : OpenStore P L) (e : Event) (r : Reply) → WritesSay old e r → WritesSay (over x old) e r
+writes_over : {P L : Type 0} (x : List Record) (old : OpenStore P L) (e : Event) (r : Reply) → WritesSay old e r → WritesSay (over x old) e r
 writes_over x old (event.WritePage page) r h = when_over x old page (written_by r) h
 writes_over x old _ r h = tt
 
-pub pages_over : {P L : Type 0} (p : page_device.Ghosts P) (x : List Record) (old new : OpenStore P L) (e : Event) (r : Reply) → PagesSay p old new e r → PagesSay p (over x old) (over x new) e r
+pages_over : {P L : Type 0} (p : page_device.Ghosts P) (x : List Record) (old new : OpenStore P L) (e : Event) (r : Reply) → PagesSay p old new e r → PagesSay p (over x old) (over x new) e r
 pages_over p x old new (event.WritePage page) r h = h
 pages_over p x old new _ r h = h
 
@@ -240,12 +264,17 @@ module _ {P L : Type 0} (p : page_device.Ghosts P) (l : log_device.Ghosts L) (on
   pub leaves_cut_over : (s : OpenStore P L) (x : List Record) → (l.honest s.log → (c : List ℕ) → l.may_leave s.log c → IsBeginning s.state.records s.state.forced c) → IsOnDevice s.state → l.honest s.log → IsEarlier x s.state → IsSound (on x s.state) → AreFit p (over x s) → LeavesCut p l (over x s)
   leaves_cut_over s x log told h long k fit = leaves_cut p l only_now (over x s) (λ q c m. beginning_on x s.state.records s.state.forced c told.0 long (log q c m)) (on_device x s.state long told) h k fit
 
+  pub fit_kept_over : (old new : OpenStore P L) (x : List Record) → IsOnDevice old.state → IsEarlier x old.state → IsSound (on x old.state) → AreFit p (over x old) → (e : Event) (r : Reply) (call : Call) (gave : Gave) → new.state.sizes ≡ old.state.sizes
+      → base_lsn (rebased x new.state.records) ≡ base_lsn (rebased x old.state.records) → IsModelStep (on x old.state) call gave (on x new.state) → WritesSay old e r → PagesSay p old new e r → AreFit p (over x new)
+  fit_kept_over old new x told long k fit e r call gave sizes base steps when say =
+      fit_kept p l only_now (over x old) (over x new) k fit (on_device x old.state long told) e r call gave sizes base steps (writes_over x old e r when) (pages_over p x old new e r say)
+
   pub cuts_over : (old new : OpenStore P L) (x : List Record) → IsOnDevice old.state → IsEarlier x old.state → IsSound (on x old.state) → AreFit p (over x old) → (e : Event) (r : Reply) → WritesSay old e r → PagesSay p old new e r
       → ((c : List ℕ) → l.may_leave old.log c → IsBeginning old.state.records old.state.forced c)
       → LeavesOnly l old.log new.log (IsBeginning old.state.records old.state.forced) → RunsThroughCuts p l (over x old) (over x new)
   cuts_over old new x told long k fit e r when say log run =
       let on_x : (c : List ℕ) → IsBeginning old.state.records old.state.forced c → IsBeginning (rebased x old.state.records) old.state.forced c = λ c. beginning_on x old.state.records old.state.forced c told.0 long in
-      runs_through_cuts p l only_now (over x old) (over x new) k fit e r (on_device x old.state long told) (writes_over x old e r when) (pages_over p x old new e r say)
+      runs_through_cuts p l only_now (over x old) (over x new) k fit (on_device x old.state long told) e r (writes_over x old e r when) (pages_over p x old new e r say)
       (λ c m. on_x c (log c m)) (weaker l old.log new.log (IsBeginning old.state.records old.state.forced) (IsBeginning (rebased x old.state.records) old.state.forced) run on_x)
 
 -- calls that write no record, over any earlier records

@@ -4,8 +4,7 @@ use Rattle.std.proofs.lemmas.List.{append-nil, nil_from_length, reverse-append, 
 use Rattle.rq_model.specs.declared.record.Record.{Record}
 use Rattle.rq_record.specs.Spelling.{IsRecord, BeginsRecord, spelling}
 use Rattle.rq_record.proofs.Whole.{one_spelling}
-use Rattle.rq_model.specs.Incarnations.{AreBased}
-use Rattle.rq_model.specs.Bases.{IsMarked, is_base, standing}
+use Rattle.rq_model.specs.Bases.{HasNoBase, IsMarked, is_base, standing}
 use Rattle.rq_model.proofs.Bases.{all_stand, base_first, none_stand, none_stands, one_marked, standing_again}
 use Rattle.rq_log.specs.Spelled.{spelled_all, AreSpelled, EndsWith, AreAllSpelled, EndsWithAll}
 use Rattle.rq_log.specs.Reading.{IsDamagedBehind}
@@ -93,13 +92,13 @@ no_damage a b bytes h k x d = by r.others r.is r.are r.whole where
       bad.1 (nil_from_length b (none_stand b (not_first (standing a) (standing b) others o (standing_again a) w bad.0)))
 
 -- of logs without a Base
-pub told_all : (log : List Record) → AreBased log → AreSpelled log → AreAllSpelled log
+pub told_all : (log : List Record) → HasNoBase log → AreSpelled log → AreAllSpelled log
 told_all log plain told = subst AreAllSpelled (all_stand log plain) told
 
-pub one_based : (a b : List Record) (bytes : List ℕ) → AreBased b → AreSpelled a → AreSpelled b → EndsWith a bytes → EndsWith b bytes → a ≡ b
+pub one_based : (a b : List Record) (bytes : List ℕ) → HasNoBase b → AreSpelled a → AreSpelled b → EndsWith a bytes → EndsWith b bytes → a ≡ b
 one_based a b bytes plain h k x y =
     let same : standing a ≡ b = one_log (standing a) (standing b) bytes h k x y ∙ all_stand b plain in
-    sym (all_stand a (none_stands a (subst AreBased (sym same) plain))) ∙ same
+    sym (all_stand a (none_stands a (subst HasNoBase (sym same) plain))) ∙ same
 
 -- what was read of a device is known by its bytes
 pub one_read : (a b : List Record) (bytes : List ℕ) → AreSpelled a → IsMarked a → AreSpelled b → IsMarked b → EndsWith a bytes → EndsWith b bytes → a ≡ b

@@ -2,8 +2,8 @@
 use Rattle.std.proofs.Common.{◌≡◌, ℕ, zero, suc, ◌+◌, ◌<◌, ◌≤◌, ◌⊎◌, inl, inr, true, false, List, [], ◌∷◌, ◌++◌, length, drop, refl, sym, ◌∙◌, ap, arith, length-append}
 use Rattle.rq_model.specs.declared.record.Record.{Record}
 use Rattle.rq_model.specs.declared.record.Record.TheVariants.{Base}
-use Rattle.rq_model.specs.Incarnations.{AreBased, ArePlain, IsBased, is_plain}
-use Rattle.rq_model.specs.Bases.{IsMarked, is_base, standing, gone, marks, with_next}
+use Rattle.rq_model.specs.Incarnations.{ArePlain, Extends, is_plain}
+use Rattle.rq_model.specs.Bases.{HasNoBase, IsMarked, base_lsn, earlier, is_base, standing, gone, marked, marks, with_next}
 
 pub standing_plain : (r : Record) (log : List Record) → is_base r ≡ false → standing (r ∷ log) ≡ r ∷ standing log
 standing_plain (Base many i) log e = absurd cc
@@ -100,29 +100,25 @@ pub gone_less : (log : List Record) → 0 < length log → gone log < length log
 gone_less [] some = absurd (omega (arith, some))
 gone_less (r ∷ log) some = gone_few r log (length_standing log)
 
-pub plain_of : (r : Record) → IsBased r → is_base r ≡ false
-plain_of (Base many i) none = absurd none
-plain_of _ none = refl
-
 -- a log without one stands whole
-pub all_stand : (log : List Record) → AreBased log → standing log ≡ log
+pub all_stand : (log : List Record) → HasNoBase log → standing log ≡ log
 all_stand [] plain = refl
-all_stand (r ∷ log) plain = standing_plain r log (plain_of r plain.0) ∙ ap (λ l. r ∷ l) (all_stand log plain.1)
+all_stand (r ∷ log) plain = standing_plain r log plain.0 ∙ ap (λ l. r ∷ l) (all_stand log plain.1)
 
-pub none_gone : (log : List Record) → AreBased log → gone log ≡ 0
+pub none_gone : (log : List Record) → HasNoBase log → gone log ≡ 0
 none_gone [] plain = refl
-none_gone (r ∷ log) plain = gone_plain r log (plain_of r plain.0) ∙ none_gone log plain.1
+none_gone (r ∷ log) plain = gone_plain r log plain.0 ∙ none_gone log plain.1
 
-plain_one : (r : Record) (log : List Record) → AreBased (standing (r ∷ log)) → (AreBased (standing log) → AreBased log) → AreBased (r ∷ log)
-plain_one (Base many i) log plain older = absurd plain.0
+plain_one : (r : Record) (log : List Record) → HasNoBase (standing (r ∷ log)) → (HasNoBase (standing log) → HasNoBase log) → HasNoBase (r ∷ log)
+plain_one (Base many i) log plain older = absurd (cc plain.0)
 plain_one _ log plain older = (plain.0, older plain.1)
 
 -- where none stands, there is none
-pub none_stands : (log : List Record) → AreBased (standing log) → AreBased log
+pub none_stands : (log : List Record) → HasNoBase (standing log) → HasNoBase log
 none_stands [] plain = tt
 none_stands (r ∷ log) plain = plain_one r log plain (none_stands log)
 
-pub plain_drop : (n : ℕ) (log : List Record) → AreBased log → AreBased (drop n log)
+pub plain_drop : (n : ℕ) (log : List Record) → HasNoBase log → HasNoBase (drop n log)
 plain_drop zero log plain = plain
 plain_drop (suc n) [] plain = tt
 plain_drop (suc n) (r ∷ log) plain = plain_drop n log plain.1
@@ -155,7 +151,7 @@ one_marked (r ∷ a) (q ∷ b) marked as_well e =
     let rest : standing a ≡ standing b = cc in
     ap (λ x. x ∷ a) same ∙ ap (λ l. q ∷ l) (one_marked a b marked as_well rest)
 
-added_plain : (r : Record) → is_plain r ≡ true → is_base r ≡ false
+pub added_plain : (r : Record) → is_plain r ≡ true → is_base r ≡ false
 added_plain (Base many i) plain = absurd cc
 added_plain _ plain = refl
 
@@ -163,3 +159,100 @@ added_plain _ plain = refl
 pub added_stand : (more log : List Record) → ArePlain more → standing (more ++ log) ≡ more ++ standing log
 added_stand [] log plain = refl
 added_stand (r ∷ more) log plain = standing_plain r (more ++ log) (added_plain r plain.0) ∙ ap (λ l. r ∷ l) (added_stand more log plain.1)
+
+-- ---- the newest Base's LSN
+
+pub base_plain : (r : Record) (log : List Record) → is_base r ≡ false → base_lsn (r ∷ log) ≡ base_lsn log
+base_plain (Base many i) log e = absurd cc
+base_plain _ log e = refl
+
+next_base : (r : Record) (log : List Record) → (base_lsn log ≡ 0) ⊎ (base_lsn log ≡ gone log + 1) → (base_lsn (r ∷ log) ≡ 0) ⊎ (base_lsn (r ∷ log) ≡ gone (r ∷ log) + 1)
+next_base (Base many i) log e = inr refl
+next_base _ log e = e
+
+-- it stands behind all that is gone
+pub base_behind : (log : List Record) → (base_lsn log ≡ 0) ⊎ (base_lsn log ≡ gone log + 1)
+base_behind [] = inl refl
+base_behind (r ∷ log) = next_base r log (base_behind log)
+
+-- so it is among as many records as are more than these
+pub base_among : (n : ℕ) (log : List Record) → gone log < n → base_lsn log ≤ n
+base_among n log more = elim (base_behind log) [
+  | inl none ↦ omega (arith, none)
+  | inr one ↦ omega (arith, one, more)
+]
+
+within_one : (r : Record) (log : List Record) → base_lsn log ≤ length log → base_lsn (r ∷ log) ≤ length (r ∷ log)
+within_one (Base many i) log e = omega arith
+within_one _ log e = omega (arith, e)
+
+pub base_within : (log : List Record) → base_lsn log ≤ length log
+base_within [] = omega arith
+base_within (r ∷ log) = within_one r log (base_within log)
+
+-- the newest records are cut off, and it is not
+module _ (k : ℕ) (log : List Record) where
+  base_one : (r : Record) → base_lsn (r ∷ log) + suc k ≤ length (r ∷ log) → (base_lsn log + k ≤ length log → base_lsn (drop k log) ≡ base_lsn log) → base_lsn (drop (suc k) (r ∷ log)) ≡ base_lsn (r ∷ log)
+  base_one (Base many i) low e = absurd (omega (arith, low))
+  base_one _ low e = e (omega (arith, low))
+
+pub drop_base : (k : ℕ) (log : List Record) → base_lsn log + k ≤ length log → base_lsn (drop k log) ≡ base_lsn log
+drop_base zero log low = refl
+drop_base (suc k) [] low = refl
+drop_base (suc k) (r ∷ log) low = base_one k log r low (drop_base k log)
+
+-- what a restart adds is none
+pub added_base : (more log : List Record) → ArePlain more → base_lsn (more ++ log) ≡ base_lsn log
+added_base [] log plain = refl
+added_base (r ∷ more) log plain = base_plain r (more ++ log) (added_plain r plain.0) ∙ added_base more log plain.1
+
+pub extends_base : (older log : List Record) → Extends older log → base_lsn log ≡ base_lsn older
+extends_base older log e = ap base_lsn (sym e.1) ∙ added_base e.0 older e.2
+
+-- a log without one
+pub no_base : (log : List Record) → HasNoBase log → base_lsn log ≡ 0
+no_base [] plain = refl
+no_base (r ∷ log) plain = base_plain r log plain.0 ∙ no_base log plain.1
+
+-- ---- a log as it is read
+
+marked_one : (r : Record) (log : List Record) → standing (marked log) ≡ standing log → standing (marked (r ∷ log)) ≡ standing (r ∷ log)
+marked_one (Base many i) log e = refl
+marked_one r log e = ap (λ l. r ∷ l) e
+
+pub marked_stands : (log : List Record) → standing (marked log) ≡ standing log
+marked_stands [] = refl
+marked_stands (r ∷ log) = marked_one r log (marked_stands log)
+
+marks_one : (r : Record) (log : List Record) → IsMarked (marked log) → IsMarked (marked (r ∷ log))
+marks_one (Base many i) log m = refl
+marks_one _ log m = m
+
+pub marked_is : (log : List Record) → IsMarked (marked log)
+marked_is [] = tt
+marked_is (r ∷ log) = marks_one r log (marked_is log)
+
+-- what was read of a device is the log that stands there, so read
+pub read_marked : (read log : List Record) → IsMarked read → standing read ≡ standing log → read ≡ marked log
+read_marked read log m e = one_marked read (marked log) m (marked_is log) (e ∙ sym (marked_stands log))
+
+pub next_same : (r : Record) (log : List Record) → is_base r ≡ false → marked (r ∷ log) ≡ r ∷ marked log
+next_same r log plain = next_plain r (marked log) plain
+
+-- a log without one is read whole
+pub marked_alone : (log : List Record) → HasNoBase log → marked log ≡ log
+marked_alone [] plain = refl
+marked_alone (r ∷ log) plain = next_same r log plain.0 ∙ ap (λ l. r ∷ l) (marked_alone log plain.1)
+
+earlier_plain : (r : Record) (log : List Record) → is_base r ≡ false → earlier (r ∷ log) ≡ earlier log
+earlier_plain (Base many i) log plain = absurd (cc plain)
+earlier_plain _ log plain = refl
+
+-- records that a restart adds change neither
+pub added_earlier : (more log : List Record) → ArePlain more → earlier (more ++ log) ≡ earlier log
+added_earlier [] log plain = refl
+added_earlier (r ∷ more) log plain = earlier_plain r (more ++ log) (added_plain r plain.0) ∙ added_earlier more log plain.1
+
+pub added_marked : (more log : List Record) → ArePlain more → marked (more ++ log) ≡ more ++ marked log
+added_marked [] log plain = refl
+added_marked (r ∷ more) log plain = next_same r (more ++ log) (added_plain r plain.0) ∙ ap (λ l. r ∷ l) (added_marked more log plain.1)

@@ -43,15 +43,6 @@ abbrev pub InOrder : List Record → Type 0
 InOrder [] = Unit {0}
 InOrder (r ∷ log) = IsNext (incarnation_of log) r × InOrder log
 
--- no store's log has a Base so far
-abbrev pub IsBased : Record → Type 0
-IsBased (Base many i) = ⊥
-IsBased r = Unit {0}
-
-abbrev pub AreBased : List Record → Type 0
-AreBased [] = Unit {0}
-AreBased (r ∷ log) = IsBased r × AreBased log
-
 -- what a restart adds: no Commit, no OpEnd and no Base
 abbrev pub is_plain : Record → Bool
 is_plain (Commit t) = false

@@ -102,6 +102,7 @@ module _ (s : State) (k : IsSound s) where
     some = k.some;
     pages = k.pages;
     fits = k.fits;
+    based = k.based;
     standing = k.standing;
     counted = k.counted;
     sent = k.sent;
@@ -117,6 +118,7 @@ module _ (s : State) (k : IsSound s) where
     some = k.some;
     pages = k.pages;
     fits = k.fits;
+    based = k.based;
     standing = k.standing;
     counted = k.counted;
     sent = k.sent;
@@ -218,4 +220,4 @@ answered = record {
 }
 
 pub opened_is : OpenedIsSound
-opened_is z images log range whole none_unfinished none_lost pages fits = opened_sound z images log range whole none_unfinished none_lost pages fits
+opened_is z images log range whole none_unfinished none_lost pages fits based = opened_sound z images log range whole none_unfinished none_lost pages fits based

@@ -27,6 +27,7 @@ use Rattle.rq_txn.specs.declared.Aim.TheVariants.{Doing, Undoing}
 use Rattle.rq_sound.specs.Rows.{comp_end}
 use Rattle.rq_sound.specs.Sound.{IsSound}
 use Rattle.rq_sound.specs.Counted.{appends_aim, takes_all, sends_in}
+use Rattle.rq_store.proofs.Based.{all_base_more, all_base_written}
 use Rattle.rq_store.proofs.Begun.{begun_more}
 use Rattle.rq_store.proofs.Fitting.{fits_more, fits_written}
 use Rattle.rq_store.proofs.Owing.{address_is}
@@ -56,6 +57,7 @@ module _ (s : State) (k : IsSound s) where
     some = k.some;
     pages = k.pages;
     fits = k.fits;
+    based = k.based;
     standing = stands_begin z log s.ends s.rows s.incarnation s.begins s.cells_in_use s.waiting k.log k.standing k.counted;
     counted = counts_begin z log s.ends s.rows s.incarnation s.begins s.cells_in_use s.waiting k.log k.standing k.counted;
     sent = k.sent;
@@ -73,6 +75,7 @@ module _ (s : State) (k : IsSound s) where
     some = k.some;
     pages = k.pages;
     fits = k.fits;
+    based = k.based;
     standing = stands_start z log s.ends after s.rows s.incarnation s.begins s.cells_in_use s.waiting k.log k.standing k.counted k.incarnation k.some r u m h;
     counted = counts_start z log s.ends after s.rows s.incarnation s.begins s.cells_in_use s.waiting k.log k.standing k.counted k.incarnation k.some r u m h;
     sent = k.sent;
@@ -100,6 +103,7 @@ module _ (s : State) (k : IsSound s) where
       some = k.some;
       pages = slots_now;
       fits = fits_written z log x (record { page = w.at / 16; slot = w.at % 16; after = w.after }) refl s.images images k.fits slot written others superblock headers slots_now;
+      based = all_base_written z x log (image_in s.images) (image_in images) (w.at / 16) refl written.lsn others k.based;
       standing = stands_step z log s.ends s.rows s.incarnation s.begins s.cells_in_use s.waiting k.log k.standing k.counted k.incarnation k.some r u w at_row under next more old_slot slot;
       counted = counts_step z log s.ends s.rows s.incarnation s.begins s.cells_in_use s.waiting k.log k.standing k.counted k.incarnation k.some r u w at_row under next more old_slot slot;
       sent = record { counts = k.sent.counts; tags = k.sent.tags };
@@ -117,6 +121,7 @@ module _ (s : State) (k : IsSound s) where
     some = k.some;
     pages = k.pages;
     fits = fits_more z (op_end r.txn u.number d) log (image_in s.images) k.fits;
+    based = all_base_more z (op_end r.txn u.number d) log (image_in s.images) refl k.based;
     standing = stands_finish z log s.ends s.rows s.incarnation s.begins s.cells_in_use s.waiting ws k.log k.standing k.counted k.incarnation k.some r u d at_row under aim made fewer;
     counted = counts_finish z log s.ends s.rows s.incarnation s.begins s.cells_in_use s.waiting ws k.log k.standing k.counted k.incarnation k.some r u d at_row under aim made fewer;
     sent = record { counts = k.sent.counts; tags = k.sent.tags };
@@ -139,6 +144,7 @@ module _ (s : State) (k : IsSound s) where
       some = k.some;
       pages = k.pages;
       fits = fits_more z (comp_end r.txn u.number lsn) log (image_in s.images) k.fits;
+      based = all_base_more z (comp_end r.txn u.number lsn) log (image_in s.images) refl k.based;
       standing = stands_undo z log s.ends s.rows s.incarnation s.begins s.cells_in_use s.waiting ws k.log k.standing k.counted k.incarnation k.some r u lsn d at_row under aim made more;
       counted = counts_undo z log s.ends s.rows s.incarnation s.begins s.cells_in_use s.waiting ws k.log k.standing k.counted k.incarnation k.some r u lsn d at_row under aim made more;
       sent = record { counts = k.sent.counts; tags = k.sent.tags };
@@ -159,6 +165,7 @@ module _ (s : State) (k : IsSound s) where
     some = k.some;
     pages = k.pages;
     fits = fits_more z (Commit r.txn) log (image_in s.images) k.fits;
+    based = all_base_more z (Commit r.txn) log (image_in s.images) refl k.based;
     standing = stands_commit z log s.ends s.rows s.incarnation s.begins s.cells_in_use now s.waiting ws k.log k.standing k.counted k.incarnation k.some r at_row idle open_one freed waited;
     counted = counts_commit z log s.ends s.rows s.incarnation s.begins s.cells_in_use now s.waiting ws k.log k.standing k.counted k.incarnation k.some r at_row idle open_one freed waited;
     sent = sends_commit z log s.ends s.rows s.incarnation s.begins s.cells_in_use now s.waiting ws k.log k.standing k.counted k.incarnation k.some r at_row idle open_one freed waited s.sent ss k.sent counts tags;
@@ -175,6 +182,7 @@ module _ (s : State) (k : IsSound s) where
     some = k.some;
     pages = k.pages;
     fits = k.fits;
+    based = k.based;
     standing = stands_aborting z log s.ends s.rows s.incarnation s.begins s.cells_in_use s.waiting k.log k.standing k.counted k.incarnation k.some r at_row idle;
     counted = counts_aborting z log s.ends s.rows s.incarnation s.begins s.cells_in_use s.waiting k.log k.standing k.counted k.incarnation k.some r at_row idle;
     sent = k.sent;
@@ -192,6 +200,7 @@ module _ (s : State) (k : IsSound s) where
     some = k.some;
     pages = k.pages;
     fits = fits_more z (AbortEnd r.txn) log (image_in s.images) k.fits;
+    based = all_base_more z (AbortEnd r.txn) log (image_in s.images) refl k.based;
     standing = stands_abort z log s.ends s.rows s.incarnation s.begins s.cells_in_use s.waiting k.log k.standing k.counted k.incarnation k.some r at_row idle empty;
     counted = counts_abort z log s.ends s.rows s.incarnation s.begins s.cells_in_use s.waiting k.log k.standing k.counted k.incarnation k.some r at_row idle empty;
     sent = record { counts = k.sent.counts; tags = k.sent.tags };

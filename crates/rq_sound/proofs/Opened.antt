@@ -8,9 +8,10 @@ use Rattle.rq_page.specs.Sizes.{Sizes, IsInRange}
 use Rattle.rq_views.specs.Items.{items, layout_of}
 use Rattle.rq_views.specs.Stored.{slots_in, count_used}
 use Rattle.rq_views.proofs.Idle.{idle_quiet}
-use Rattle.rq_store.specs.Fitting.{left_by, image_in, FitsLog}
+use Rattle.rq_store.specs.Fitting.{left_by, image_in, AllHoldBase, FitsLog}
 use Rattle.rq_store.specs.Opening.{opened, next_restart}
 use Rattle.rq_store.specs.Whole.{IsWhole}
+use Rattle.rq_store.proofs.Based.{all_base_more}
 use Rattle.rq_store.proofs.Begun.{begun_all}
 use Rattle.rq_store.proofs.Fitting.{fits_more}
 use Rattle.rq_store.specs.Worked.{AreFormatted}
@@ -51,8 +52,8 @@ module _ (z : Sizes) (images : List (List ℕ)) (log : List Record) (range : IsI
         covered = λ r i. absurd i;
       }
 
-  pub opened_sound : FitsLog z (image_in images) log → IsSound (opened z images log)
-  opened_sound fits = record {
+  pub opened_sound : FitsLog z (image_in images) log → AllHoldBase z (image_in images) log → IsSound (opened z images log)
+  opened_sound fits based = record {
     range = range;
     log = opening.restarted_whole z log w none_unfinished none_lost;
     incarnation = refl;
@@ -60,6 +61,7 @@ module _ (z : Sizes) (images : List (List ℕ)) (log : List Record) (range : IsI
     some = omega arith;
     pages = pages;
     fits = fits_more z (next_restart log) log (image_in images) fits;
+    based = all_base_more z (next_restart log) log (image_in images) refl based;
     standing = standing;
     counted = counted;
     sent = opening.sends_here z images log range w none_unfinished none_lost pages;
@@ -69,4 +71,4 @@ module _ (z : Sizes) (images : List (List ℕ)) (log : List Record) (range : IsI
 -- so is one that a restart opens over pages that were just formatted
 module _ (z : Sizes) (images : List (List ℕ)) (range : IsInRange z) (h : AreFormatted z images) where
   pub formatted_sound : IsSound (opened z images [])
-  formatted_sound = opened_sound z images [] range (formatted.whole_empty z) refl refl (formatted.slots z images range h) (formatted.fits z images range h)
+  formatted_sound = opened_sound z images [] range (formatted.whole_empty z) refl refl (formatted.slots z images range h) (formatted.fits z images range h) (formatted.base z images range h)

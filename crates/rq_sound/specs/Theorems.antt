@@ -29,7 +29,7 @@ use Rattle.rq_txn.specs.declared.Finished.{Finished}
 use Rattle.rq_groups.specs.Ends.{is_free_for}
 use Rattle.rq_groups.specs.Waiting.{waits}
 use Rattle.rq_groups.specs.Sent.{SentBy}
-use Rattle.rq_store.specs.Fitting.{left_by, image_in, FitsLog}
+use Rattle.rq_store.specs.Fitting.{left_by, image_in, AllHoldBase, FitsLog}
 use Rattle.rq_store.specs.Opening.{opened}
 use Rattle.rq_store.specs.State.{size_of, op_done, job_of, State, ledger_of, open_of}
 use Rattle.rq_store.specs.Steps.{took, gave_done}
@@ -164,4 +164,4 @@ pub record DeedsAreSteps : Type 0 where
 abbrev pub OpenedIsSound : Type 0
 OpenedIsSound = (z : Sizes) (images : List (List ℕ)) (log : List Record) → IsInRange z → IsWhole z log
     → unfinished log ≡ [] → lost log ≡ [] → ((a : ℕ) → slots_in z images a ≡ (left_by z log).slots a)
-    → FitsLog z (image_in images) log → IsSound (opened z images log)
+    → FitsLog z (image_in images) log → AllHoldBase z (image_in images) log → IsSound (opened z images log)

@@ -3,12 +3,14 @@ use Rattle.std.proofs.Common.{◌≡◌, ℕ, zero, suc, ◌+◌, ◌-◌, ◌�
 use Rattle.std.proofs.lemmas.Bool.{cases_lt}
 use Rattle.std.proofs.lemmas.List.{drop_all, drop-drop, length-drop}
 use Rattle.rq_model.specs.declared.record.Record.{Record}
+use Rattle.rq_model.specs.Bases.{base_lsn}
 use Rattle.rq_page.specs.Sizes.{Sizes}
 use Rattle.rq_page.specs.Pages.{lsn_of}
 use Rattle.rq_page.specs.Formatted.{IsFormatted, IsHeaderOf}
-use Rattle.rq_store.specs.Fitting.{oldest, IsStamp, HoldsPage, FitsPage, FitsLog, AllFit}
+use Rattle.rq_store.specs.Fitting.{oldest, IsStamp, HoldsPage, HoldsBase, AllHoldBase, FitsPage, FitsLog, AllFit}
 use Rattle.rq_store.specs.Whole.{IsWhole}
 use Rattle.rq_store.specs.Steps.{Continues}
+use Rattle.rq_store.proofs.Based.{base_longer}
 use Rattle.rq_store.proofs.Fitting.{page_fits_more}
 
 pub whole_older : (z : Sizes) (r : Record) (log : List Record) → IsWhole z (r ∷ log) → IsWhole z log
@@ -62,11 +64,12 @@ page_fits_longer z p image older newer c f = by c.0 newer c.1 where
   by (suc n) [] e = subst (λ l. FitsPage z l p image) (sym e) f
   by (suc n) (r ∷ log) e = page_fits_more z r log p image (by n log e)
 
-pub all_fit_longer : (may_be : ℕ → List ℕ → Type 0) (z : Sizes) (older newer : List Record) → Continues older newer → AllFit may_be z older → AllFit may_be z newer
-all_fit_longer may_be z older newer c f = record {
+pub all_fit_longer : (may_be : ℕ → List ℕ → Type 0) (z : Sizes) (older newer : List Record) → Continues older newer → base_lsn newer ≡ base_lsn older → AllFit may_be z older → AllFit may_be z newer
+all_fit_longer may_be z older newer c same f = record {
   superblock = f.superblock;
   headers = f.headers;
   pages = λ p image low high may. page_fits_longer z p image older newer c (f.pages p image low high may);
+  based = λ p image low high may. base_longer older newer c same z p image (f.based p image low high may);
 }
 
 -- a page that fits a log fits as many of its first records as its LSN says, and more
@@ -100,11 +103,12 @@ fits_log_longer z images older newer c f = record {
 }
 
 -- where a crash leaves nothing but images that fit
-pub only_fit : (seen : ℕ → List ℕ) (may_be : ℕ → List ℕ → Type 0) (z : Sizes) (log : List Record) → ((p : ℕ) (c : List ℕ) → may_be p c → c ≡ seen p) → FitsLog z seen log → AllFit may_be z log
-only_fit seen may_be z log only f = record {
+pub only_fit : (seen : ℕ → List ℕ) (may_be : ℕ → List ℕ → Type 0) (z : Sizes) (log : List Record) → ((p : ℕ) (c : List ℕ) → may_be p c → c ≡ seen p) → FitsLog z seen log → AllHoldBase z seen log → AllFit may_be z log
+only_fit seen may_be z log only f based = record {
   superblock = λ c may. subst (λ b. IsFormatted z 0 b) (sym (only 0 c may)) f.superblock;
   headers = λ p c low high may. subst (λ b. IsHeaderOf z p b) (sym (only p c may)) (f.headers p low high);
   pages = λ p c low high may. subst (λ b. FitsPage z log p b) (sym (only p c may)) (f.pages p low high);
+  based = λ p c low high may. subst (λ b. HoldsBase z log p b) (sym (only p c may)) (based p low high);
 }
 
 -- where it leaves no more than before
@@ -113,4 +117,5 @@ no_more_fit was may_be z log less f = record {
   superblock = λ c may. f.superblock c (less 0 c may);
   headers = λ p c low high may. f.headers p c low high (less p c may);
   pages = λ p c low high may. f.pages p c low high (less p c may);
+  based = λ p c low high may. f.based p c low high (less p c may);
 }

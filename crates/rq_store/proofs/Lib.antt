@@ -19,3 +19,4 @@ pub mod Spelling
 pub mod Worked
 pub mod Begun
 pub mod WorkedFits
+pub mod Based

@@ -4,6 +4,7 @@ use Rattle.std.proofs.lemmas.Bool.{cases_Bool, cases_eq, cases_lt, cond-true, co
 use Rattle.rq_model.specs.declared.txn.Txn.{Txn}
 use Rattle.rq_model.specs.declared.record.Record.{Record}
 use Rattle.rq_model.specs.declared.record.Record.TheVariants as records
+use Rattle.rq_model.specs.Bases.{base_lsn}
 use Rattle.rq_page.specs.declared.layout.PageKind.{PageKind}
 use Rattle.rq_page.specs.declared.layout.PageKind.TheVariants as kind
 use Rattle.rq_page.specs.Sizes.{Sizes, page_count, address}
@@ -19,7 +20,7 @@ use Rattle.rq_views.specs.InStore.{InStore, InStoreOne, IsInPlace, AllStand}
 use Rattle.rq_views.specs.Stored.{IsStoreSlot, slots_in, slot_at}
 use Rattle.rq_views.proofs.Overlay.{put_at, put_off}
 use Rattle.rq_views.proofs.Stands.{slots_stand, page_of_cells, page_of_directory}
-use Rattle.rq_store.specs.Fitting.{left_by, oldest, ToldWrite, told_by, IsOfPage, IsStamp, HoldsPage, FitsPage, FitsLog, image_in}
+use Rattle.rq_store.specs.Fitting.{left_by, oldest, ToldWrite, told_by, IsOfPage, IsStamp, HoldsPage, HoldsBase, AllHoldBase, FitsPage, FitsLog, image_in}
 use Rattle.rq_store.specs.Whole.{BeforesAreSlots}
 use Rattle.rq_store.specs.Opening.{FitsPageUpTo, FitsUpTo, Redoes}
 use Rattle.rq_store.proofs.Fitting.{oldest_all}
@@ -151,6 +152,21 @@ pub redo_none : (z : Sizes) (log : List Record) (image : ℕ → List ℕ) → F
 redo_none z log image h p low high =
     let f : FitsPage z log p (image p) = h.pages p low high in
     record { fits = f; caught_up = λ le. let e : lsn_of (image p) ≡ 0 = omega (arith, le) in subst (λ n. HoldsPage z p (image p) (oldest n log)) e f.held }
+
+-- behind the newest Base, if pages hold what that stands for
+pub redo_base : (z : Sizes) (log : List Record) (image : ℕ → List ℕ) → FitsLog z image log → AllHoldBase z image log → FitsUpTo z image log (base_lsn log)
+redo_base z log image f h p low high = record { fits = f.pages p low high; caught_up = h p low high }
+
+-- a newer record leaves that so
+pub redo_keeps_base : (z : Sizes) (log : List Record) (o : Option ToldWrite) (lsn : ℕ) (old new : ℕ → List ℕ) → base_lsn log < lsn → Redoes o lsn old new → AllHoldBase z old log → AllHoldBase z new log
+redo_keeps_base z log None lsn old new newer same h p low high = subst (HoldsBase z log p) (sym (same p)) (h p low high)
+redo_keeps_base z log (Some w) lsn old new newer one h p low high = elim (cases_eq p w.page) [
+  | inr ne ↦ subst (HoldsBase z log p) (sym (one.others p ne)) (h p low high)
+  | inl same ↦ elim (cases_lt (lsn_of (old w.page)) lsn) [
+    | inl lt ↦ λ le. absurd (let at = (one.made lt).lsn in let here = ap (λ q. lsn_of (new q)) same in omega (arith, le, newer, at, here))
+    | inr ge ↦ subst (HoldsBase z log p) (sym (ap new same ∙ one.kept ge ∙ sym (ap old same))) (h p low high)
+  ]
+]
 
 -- after the last each page is as the whole log leaves it
 pub redo_all : (z : Sizes) (log : List Record) (image : ℕ → List ℕ) → FitsUpTo z image log (length log) → (p : ℕ) → 1 ≤ p → p < page_count z → HoldsPage z p (image p) log

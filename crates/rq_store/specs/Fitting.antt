@@ -2,6 +2,7 @@
 use Rattle.std.specs.Prelude.{◌≡◌, ℕ, ◌-◌, ◌<◌, ◌≤◌, List, [], ◌∷◌, length, drop, slice_index_or, Option, Some, None}
 use Rattle.rq_model.specs.declared.record.Record.{Record}
 use Rattle.rq_model.specs.declared.record.Record.TheVariants.{PageOp, PageUndo}
+use Rattle.rq_model.specs.Bases.{base_lsn}
 use Rattle.rq_page.specs.Sizes.{Sizes, page_count, address}
 use Rattle.rq_page.specs.Pages.{lsn_of, slot_of}
 use Rattle.rq_page.specs.Slots.{held_in, IsSlotOf}
@@ -45,6 +46,13 @@ IsStamp p (r ∷ log) = IsOfPage p (told_by r)
 abbrev pub HoldsPage : Sizes → ℕ → List ℕ → List Record → Type 0
 HoldsPage z p image log = (n : ℕ) → 1 ≤ n → n ≤ 15 → held_in z p (slot_of n image) ≡ (left_by z log).slots (address p n)
 
+-- A page that is as old as the newest Base, or older, holds what the records up to that left.
+abbrev pub HoldsBase : Sizes → List Record → ℕ → List ℕ → Type 0
+HoldsBase z log p image = lsn_of image ≤ base_lsn log → HoldsPage z p image (oldest (base_lsn log) log)
+
+abbrev pub AllHoldBase : Sizes → (ℕ → List ℕ) → List Record → Type 0
+AllHoldBase z image log = (p : ℕ) → 1 ≤ p → p < page_count z → HoldsBase z log p (image p)
+
 -- A page of the store, as the first records of the log leave it: as many of them as its LSN says, and the last of these
 -- wrote it.
 pub record FitsPage (z : Sizes) (log : List Record) (p : ℕ) (image : List ℕ) : Type 0 where
@@ -64,3 +72,4 @@ pub record AllFit (may_be : ℕ → List ℕ → Type 0) (z : Sizes) (log : List
   pub superblock : (c : List ℕ) → may_be 0 c → IsFormatted z 0 c
   pub headers : (p : ℕ) (c : List ℕ) → 1 ≤ p → p < page_count z → may_be p c → IsHeaderOf z p c
   pub pages : (p : ℕ) (c : List ℕ) → 1 ≤ p → p < page_count z → may_be p c → FitsPage z log p c
+  pub based : (p : ℕ) (c : List ℕ) → 1 ≤ p → p < page_count z → may_be p c → HoldsBase z log p c

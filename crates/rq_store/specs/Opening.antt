@@ -13,12 +13,13 @@ use Rattle.rq_groups.specs.Sent.{SentBy}
 use Rattle.rq_store.specs.State.{State}
 use Rattle.rq_model.specs.Incarnations.{incarnation_of}
 use Rattle.rq_store.specs.Whole.{IsWhole}
-use Rattle.rq_store.specs.Fitting.{ToldWrite, told_by, oldest, HoldsPage, FitsPage, FitsLog}
+use Rattle.rq_store.specs.Fitting.{ToldWrite, told_by, oldest, HoldsPage, FitsPage, FitsLog, AllHoldBase}
 
 -- the pages and the log of a store that was left as a crash may leave one
 pub record IsLeft (z : Sizes) (image : ℕ → List ℕ) (log : List Record) : Type 0 where
   pub whole : IsWhole z log
   pub fits : FitsLog z image log
+  pub based : AllHoldBase z image log
 
 -- the page once the first k records are gone through: it fits, and where it was older it is as these leave it
 pub record FitsPageUpTo (z : Sizes) (log : List Record) (k p : ℕ) (image : List ℕ) : Type 0 where

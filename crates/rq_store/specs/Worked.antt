@@ -1,6 +1,6 @@
 -- A worked log in bytes: an abort that a crash stops within an inverse, and the restart after it; and pages that
 -- were just formatted.
-use Rattle.std.specs.Prelude.{◌≡◌, ◌/◌, ◌%◌, ◌<◌, ◌≤◌, ℕ, List, [], ◌∷◌, length, map, false}
+use Rattle.std.specs.Prelude.{◌≡◌, ◌+◌, ◌/◌, ◌%◌, ◌<◌, ◌≤◌, ℕ, List, [], ◌∷◌, length, map, false}
 use Rattle.rq_model.specs.declared.record.Record.{Record}
 use Rattle.rq_model.specs.declared.record.Record.TheVariants as records
 use Rattle.rq_model.specs.Content.{content, no_group}
@@ -14,7 +14,7 @@ use Rattle.rq_views.specs.WorkedItems.{sizes, t2, stopped, restarted}
 use Rattle.rq_page.specs.Formatted.{IsFormatted}
 use Rattle.rq_page.specs.Pages.{lsn_of}
 use Rattle.rq_page.specs.Sizes.{Sizes, IsInRange, page_count}
-use Rattle.rq_store.specs.Fitting.{FitsLog, image_in}
+use Rattle.rq_store.specs.Fitting.{AllHoldBase, FitsLog, HoldsPage, image_in}
 use Rattle.rq_store.specs.Whole.{IsWhole}
 
 -- the record with the bytes of these slots and deeds
@@ -56,7 +56,8 @@ pub record WorkedStore : Type 0 where
 abbrev pub AreFormatted : Sizes → List (List ℕ) → Type 0
 AreFormatted z images = (p : ℕ) → p < page_count z → IsFormatted z p (image_in images p)
 
--- Pages that were formatted fit the empty log; `Layout::format` makes such pages. And what doesn't fit.
+-- Pages that were formatted fit the empty log; `Layout::format` makes such pages. And what doesn't fit. Where a Base is
+-- the newest record, a page that is no newer holds all that stood before it.
 pub record FormattedFit : Type 0 where
   pub formatted_fits : (z : Sizes) (images : List (List ℕ)) → IsInRange z → AreFormatted z images
       → FitsLog z (image_in images) []
@@ -65,3 +66,8 @@ pub record FormattedFit : Type 0 where
       → length log < lsn_of (image p) → FitsLog z image log → ⊥
   pub not_stamped : (z : Sizes) (image : ℕ → List ℕ) (i p : ℕ) → 1 ≤ p → p < page_count z → lsn_of (image p) ≡ 1
       → FitsLog z image (records.Restart i ∷ []) → ⊥
+  pub formatted_base : (z : Sizes) (images : List (List ℕ)) → IsInRange z → AreFormatted z images
+      → AllHoldBase z (image_in images) []
+  pub holds_base : (z : Sizes) (image : ℕ → List ℕ) (log : List Record) (many i p : ℕ) → 1 ≤ p → p < page_count z
+      → AllHoldBase z image (records.Base many i ∷ log) → lsn_of (image p) ≤ length log + 1
+      → HoldsPage z p (image p) log

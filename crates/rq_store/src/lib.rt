@@ -14,7 +14,7 @@ pub fn worked_store()
     ensures { WorkedStore }
 {}
 
-/// Pages that were formatted fit the empty log; and pages that fit no log.
+/// Pages that were formatted fit the empty log; pages that fit no log; and what a page holds that is no newer than a Base.
 pub fn formatted_pages_fit()
     ensures { FormattedFit }
 {}

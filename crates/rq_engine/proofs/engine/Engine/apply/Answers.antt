@@ -1,6 +1,5 @@
-use Rattle.rq_engine.proofs.Crashing.{cuts_over, fit_kept, pages_over, writes_over}
-use Rattle.rq_engine.specs.Earlier.{over}
-use Rattle.rq_engine.proofs.UnknownStay.{unknown_stay}
+use Rattle.rq_engine.proofs.Crashing.{cuts_over, fit_kept_over}
+use Rattle.rq_engine.proofs.UnknownStay.{base_stays, unknown_stay}
 use Rattle.rq_engine.proofs.engine.Engine.apply.Goals as goal
 
 pub returns-clause-applied : goal.returns-clause-applied
@@ -23,8 +22,9 @@ returns-clause-applied g c =
       honest = told.honest;
       any_moment = told.any_moment;
       fit = λ h earlier long k fit.
-          fit_kept g.P.PageDevice g.L.LogDevice g.met.P.PageDevice.only_now (over earlier c.args.self.now) (over earlier c.call.new.self) k fit
-          c.args.event.now c.call.result _ _ told.sizes (told.answered h earlier long k) (writes_over earlier c.args.self.now c.args.event.now c.call.result told.writes) (pages_over g.P.PageDevice earlier c.args.self.now c.call.new.self c.args.event.now c.call.result told.pages);
+          fit_kept_over g.P.PageDevice g.L.LogDevice g.met.P.PageDevice.only_now c.args.self.now c.call.new.self earlier (c.shows_kept.ensures.spelled, c.shows_kept.ensures.based) long k fit
+          c.args.event.now c.call.result _ _ told.sizes (base_stays c.args.self.now c.call.new.self earlier c.args.event.now c.call.result told.lists told.refused)
+          (told.answered h earlier long k) told.writes told.pages;
       crash = λ h earlier long k fit.
           cuts_over g.P.PageDevice g.L.LogDevice g.met.P.PageDevice.only_now c.args.self.now c.call.new.self earlier (c.shows_kept.ensures.spelled, c.shows_kept.ensures.based) long k fit
           c.args.event.now c.call.result told.writes told.pages (c.shows_kept.ensures.leaves (told.honest h).1) (told.any_moment h.1);

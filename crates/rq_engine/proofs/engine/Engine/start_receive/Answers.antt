@@ -7,7 +7,7 @@ use Rattle.rq_engine.proofs.Latches.{any_latches, any_unlatched}
 use Rattle.rq_engine.proofs.TakeCalls.{any_refused, log_is_full, none_done, take_memory}
 use Rattle.rq_engine.proofs.Opened.{none_told, state_is}
 use Rattle.rq_engine.specs.Answers.{IsCausedIn}
-use Rattle.rq_model.specs.Replay.Reply.{Gave_refusal}
+use Rattle.rq_model.specs.Replay.Reply.{Gave_sub, Gave_refusal}
 use Rattle.rq_store.specs.State.{State}
 use Rattle.rq_sound.specs.Sound.{IsSound}
 use Rattle.rq_sound.specs.ModelSteps.{IsModelStep}
@@ -60,6 +60,12 @@ returns-in-Err-start_take-clause-answered g c h earlier long k =
     let same = state_is c.in-Ok-Some.ensures.same in
     subst (λ (x : State). IsModelStep (on earlier x) (Start_receive c.args.txn) (Gave_refusal c.in-Err-start_take.refusal) (on earlier c.start_take.new.self.state) × IsCausedIn (on earlier x) (Start_receive c.args.txn) c.in-Err-start_take.refusal) same
     (c.in-Err-start_take.ensures.answered (Start_receive c.args.txn) (inl refl) h earlier (subst (IsEarlier earlier) (sym same) long) (subst (λ (x : State). IsSound (on earlier x)) (sym same) k))
+
+pub returns-in-Ok-clause-answered : goal.returns-in-Ok-clause-answered
+returns-in-Ok-clause-answered g c h earlier long k =
+    let same = state_is c.in-Ok-Some.ensures.same in
+    subst (λ (x : State). IsModelStep (on earlier x) (Start_receive c.args.txn) (Gave_sub c.in-Ok.sub.txn c.in-Ok.sub.number) (on earlier c.start_take.new.self.state)) same
+    (c.in-Ok.ensures.answered (Start_receive c.args.txn) (inl refl) h earlier (subst (IsEarlier earlier) (sym same) long) (subst (λ (x : State). IsSound (on earlier x)) (sym same) k))
 
 pub returns-in-Err-clause-answered : goal.returns-in-Err-clause-answered
 returns-in-Err-clause-answered g c h earlier long k =
