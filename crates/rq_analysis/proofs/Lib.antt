@@ -31,3 +31,6 @@ pub mod Owed
 pub mod Judging
 pub mod Whole
 pub mod Telling
+pub mod Marks
+pub mod Marked
+pub mod Quiet

@@ -21,6 +21,8 @@ use Rattle.rq_views.specs.Items.{items, layout_of, operation, ReadsItsDeeds}
 use Rattle.rq_views.proofs.Strangers.{has_end_same}
 use Rattle.rq_model.specs.Incarnations.{InOrder, incarnation_of}
 use Rattle.rq_store.proofs.Opening.{over_same}
+use Rattle.rq_analysis.proofs.Settled.{idle_unfinished}
+use Rattle.rq_analysis.proofs.Workers.{ended_lost}
 use Rattle.rq_analysis.specs.OpenWorkView.{OpenWorkView, open_work_of, has_sub, with_sub, without_sub, with_txn, without_txn}
 
 pub noted_incarnation : (log : List Record) → (open_work_of log).incarnation ≡ incarnation_of log
@@ -117,6 +119,7 @@ noted_unfinished z (records.PageOp t n page slot before after ∷ log) k =
 noted_unfinished z (records.OpEnd t n level deed ∷ log) k = ended_more t n (open_work_of log).unfinished log (noted_unfinished z log k.1)
 noted_unfinished z (records.OpVoid t n ∷ log) k = ended_more t n (open_work_of log).unfinished log (noted_unfinished z log k.1)
 noted_unfinished z (records.CompEnd t n undone ∷ log) k = ended_more t n (open_work_of log).unfinished log (noted_unfinished z log k.1)
+noted_unfinished z (records.Base many i ∷ log) k = sym (idle_unfinished z log k.0.idle)
 noted_unfinished z (_ ∷ log) k = noted_unfinished z log k.1
 
 pub filter_same : {X : Type 0} (f g : X → Bool) (xs : List X) → ((x : X) → f x ≡ g x) → filter f xs ≡ filter g xs
@@ -136,6 +139,7 @@ noted_active z (records.Commit t ∷ log) k r =
     ∙ sym (filter_twice (λ u. same_txn t u) (λ u. has_end log u) (workers log))
     ∙ filter_same (λ u. not (same_txn t u || has_end log u)) (λ u. not ((same_txn t u || false) || has_end log u)) (workers log) (λ u. ap (λ b. not (b || has_end log u)) (sym (or-false (same_txn t u))))
 noted_active z (records.AbortEnd t ∷ log) k r = ap (without_txn t) (noted_active z log k.1 r.1) ∙ sym (filter_twice (λ u. same_txn t u) (λ u. has_end log u) (workers log))
+noted_active z (records.Base many i ∷ log) k r = sym (ended_lost z log k.0.ended)
 noted_active z (_ ∷ log) k r = noted_active z log k.1 r.1
 
 -- there are no more incarnations than records

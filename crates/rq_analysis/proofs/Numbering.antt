@@ -13,10 +13,13 @@ use Rattle.rq_model.specs.Content.{has_end}
 use Rattle.rq_model.specs.Vocabulary.{In, same_txn}
 use Rattle.rq_model.proofs.Lists.{same_is, same_self}
 use Rattle.rq_page.specs.Sizes.{Sizes}
+use Rattle.rq_model.specs.Unended.{any_record}
+use Rattle.rq_views.specs.InStore.{IsStranger, mentions}
 use Rattle.rq_views.specs.Items.{items, operation}
 use Rattle.rq_views.specs.Numbers.{greatest}
 use Rattle.rq_txn.specs.Rows.{Row}
 use Rattle.rq_store.specs.Rows.{unmade}
+use Rattle.rq_store.specs.Whole.{AreBased}
 use Rattle.rq_store.specs.State.{State}
 use Rattle.rq_sound.specs.Sound.{IsSound}
 use Rattle.rq_analysis.specs.Numbers.{number_of, numbers, numbers_but, numbers_left, with_number}
@@ -103,25 +106,59 @@ more : (z : Sizes) (log : List Record) (t : Txn) (o : Sub) → number_of t (numb
     → number_of t (with_number o (numbers log)) ≡ max (cond (same_txn o.txn t) o.number 0) (greatest t (items z log))
 more z log t o e = number_with t o (numbers log) ∙ ap (max (cond (same_txn o.txn t) o.number 0)) e
 
-pub kept : (z : Sizes) (log : List Record) (t : Txn) → has_end log t ≡ false → number_of t (numbers log) ≡ greatest t (items z log)
-kept z [] t e = refl
-kept z (records.PageOp u n page slot before after ∷ log) t e = more z log t (operation u n) (kept z log t e)
-kept z (records.PageUndo u n undone page slot after ∷ log) t e = more z log t (operation u n) (kept z log t e)
-kept z (records.OpEnd u n level deed ∷ log) t e = more z log t (operation u n) (kept z log t e)
-kept z (records.OpVoid u n ∷ log) t e = more z log t (operation u n) (kept z log t e)
-kept z (records.CompEnd u n undone ∷ log) t e = more z log t (operation u n) (kept z log t e)
-kept z (records.Commit u ∷ log) t e =
+-- below the newest Base the transaction has no operation
+abbrev pub NoneBelow : Sizes → Txn → List Record → Type 0
+NoneBelow z t [] = Unit {0}
+NoneBelow z t (records.Base many i ∷ log) = greatest t (items z log) ≡ 0
+NoneBelow z t (r ∷ log) = NoneBelow z t log
+
+pub kept : (z : Sizes) (log : List Record) (t : Txn) → NoneBelow z t log → has_end log t ≡ false → number_of t (numbers log) ≡ greatest t (items z log)
+kept z [] t b e = refl
+kept z (records.PageOp u n page slot before after ∷ log) t b e = more z log t (operation u n) (kept z log t b e)
+kept z (records.PageUndo u n undone page slot after ∷ log) t b e = more z log t (operation u n) (kept z log t b e)
+kept z (records.OpEnd u n level deed ∷ log) t b e = more z log t (operation u n) (kept z log t b e)
+kept z (records.OpVoid u n ∷ log) t b e = more z log t (operation u n) (kept z log t b e)
+kept z (records.CompEnd u n undone ∷ log) t b e = more z log t (operation u n) (kept z log t b e)
+kept z (records.Commit u ∷ log) t b e =
     let k = or_parts (same_txn u t || false) (has_end log t) e in
-    number_but t u (numbers log) (or_parts (same_txn u t) false k.0).0 ∙ kept z log t k.1 ∙ with_none (greatest t (items z log))
-kept z (records.AbortEnd u ∷ log) t e =
+    number_but t u (numbers log) (or_parts (same_txn u t) false k.0).0 ∙ kept z log t b k.1 ∙ with_none (greatest t (items z log))
+kept z (records.AbortEnd u ∷ log) t b e =
     let k = or_parts (same_txn u t) (has_end log t) e in
-    number_but t u (numbers log) k.0 ∙ kept z log t k.1 ∙ with_none (greatest t (items z log))
-kept z (_ ∷ log) t e = kept z log t e ∙ with_none (greatest t (items z log))
+    number_but t u (numbers log) k.0 ∙ kept z log t b k.1 ∙ with_none (greatest t (items z log))
+kept z (records.Base many i ∷ log) t b e = with_none 0 ∙ ap (max 0) (sym b)
+kept z (_ ∷ log) t b e = kept z log t b e ∙ with_none (greatest t (items z log))
+
+stranger_more : (z : Sizes) (t u : Txn) (n : ℕ) (log : List Record) → (same_txn u t || any_record (mentions t) log) ≡ false → (IsStranger t log → greatest t (items z log) ≡ 0)
+    → max (cond (same_txn u t) n 0) (greatest t (items z log)) ≡ 0
+stranger_more z t u n log h ih =
+    let k = or_parts (same_txn u t) (any_record (mentions t) log) h in
+    let none = ih k.1 in
+    rw k.0 (omega (arith, none))
+
+-- a transaction that has no record has no operation
+stranger_greatest : (z : Sizes) (t : Txn) (log : List Record) → IsStranger t log → greatest t (items z log) ≡ 0
+stranger_greatest z t [] h = refl
+stranger_greatest z t (records.PageOp u n page slot before after ∷ log) h = stranger_more z t u n log h (stranger_greatest z t log)
+stranger_greatest z t (records.PageUndo u n undone page slot after ∷ log) h = stranger_more z t u n log h (stranger_greatest z t log)
+stranger_greatest z t (records.OpEnd u n level deed ∷ log) h = stranger_more z t u n log h (stranger_greatest z t log)
+stranger_greatest z t (records.OpVoid u n ∷ log) h = stranger_more z t u n log h (stranger_greatest z t log)
+stranger_greatest z t (records.CompEnd u n undone ∷ log) h = stranger_more z t u n log h (stranger_greatest z t log)
+stranger_greatest z t (records.Commit u ∷ log) h = let none = stranger_greatest z t log (or_parts (same_txn u t) (any_record (mentions t) log) h).1 in omega (arith, none)
+stranger_greatest z t (records.AbortEnd u ∷ log) h = let none = stranger_greatest z t log (or_parts (same_txn u t) (any_record (mentions t) log) h).1 in omega (arith, none)
+stranger_greatest z t (_ ∷ log) h = let none = stranger_greatest z t log h in omega (arith, none)
+
+-- a transaction that is running in a log of a store began after its Base
+pub begun_above : (z : Sizes) (t : Txn) (log : List Record) → AreBased log → has_end log t ≡ false → NoneBelow z t log
+begun_above z t [] b e = tt
+begun_above z t (records.Base many i ∷ log) b e = stranger_greatest z t log (b.0.1 t e)
+begun_above z t (records.Commit u ∷ log) b e = begun_above z t log b.1 (or_parts (same_txn u t || false) (has_end log t) e).1
+begun_above z t (records.AbortEnd u ∷ log) b e = begun_above z t log b.1 (or_parts (same_txn u t) (has_end log t) e).1
+begun_above z t (_ ∷ log) b e = begun_above z t log b.1 e
 
 pub row_number : (s : State) (r : Row) → IsSound s → In r s.rows → r.under ≡ None → number_of r.txn (numbers s.records) ≡ r.number
 row_number s r k j off =
     let row = k.standing.each r j in
-    let a = kept s.sizes s.records r.txn row.running in
+    let a = kept s.sizes s.records r.txn (begun_above s.sizes r.txn s.records k.log.based row.running) row.running in
     let b : unmade r.under ≡ 0 = ap unmade off in
     let c = row.numbered in
     omega (arith, a, b, c)
@@ -170,4 +207,5 @@ once (records.OpVoid u n ∷ log) t = own_with t (operation u n) (numbers log) (
 once (records.CompEnd u n undone ∷ log) t = own_with t (operation u n) (numbers log) (once log t)
 once (records.Commit u ∷ log) t = (let a = once log t in let b = own_but t u (numbers log) in omega (arith, a, b))
 once (records.AbortEnd u ∷ log) t = (let a = once log t in let b = own_but t u (numbers log) in omega (arith, a, b))
+once (records.Base many i ∷ log) t = omega arith
 once (_ ∷ log) t = once log t

@@ -12,6 +12,7 @@ use Rattle.rq_model.proofs.Lists.{In-filter, same_is}
 use Rattle.rq_views.proofs.AllOpen.{tail}
 use Rattle.rq_analysis.specs.declared.dues.PendingUndo.{PendingUndo}
 use Rattle.rq_analysis.specs.Dues.{but_newest, but_own, due_of, dues}
+use Rattle.rq_analysis.proofs.Marks.{none_finished}
 use Rattle.rq_analysis.proofs.Noting.{filter_twice, filter_same}
 use Rattle.rq_analysis.specs.LogTables.{lsn_due}
 use Rattle.rq_analysis.specs.Rules.{FollowAll, ends_of, left_of, takes_back}
@@ -152,6 +153,7 @@ dues_kept (records.Commit u ∷ log) f t g =
 dues_kept (records.AbortEnd u ∷ log) f t g =
     let k = or_parts (same_txn u t) (has_end log t) g in
     ap (map lsn_of) (other_own t u (dues log) k.0) ∙ dues_kept log f.1 t k.1
+dues_kept (records.Base many i ∷ log) f t g = sym (ap (filter (is_left t (records.Base many i ∷ log))) (ap (ends_of t) f.0.begins ∙ none_finished t many))
 dues_kept (_ ∷ log) f t g = dues_kept log f.1 t g
 
 first_lsn : (ds : List PendingUndo) → lsn_due (first ds) ≡ first (map lsn_of ds)

@@ -23,6 +23,7 @@ use Rattle.rq_store.proofs.RowLists.{found_in}
 use Rattle.rq_sound.specs.Sound.{IsSound}
 use Rattle.rq_analysis.specs.declared.dues.PendingUndo.{PendingUndo}
 use Rattle.rq_analysis.specs.Dues.{IsNewestDue, but_newest, but_own, deed_due, due_of, dues}
+use Rattle.rq_analysis.proofs.Quiet.{all_closed}
 use Rattle.rq_analysis.proofs.Turning.{in_placed, nil_or, split_last}
 
 abbrev pub placed_due : PendingUndo → Placed
@@ -65,6 +66,7 @@ dues_are z (records.OpEnd t n level deed ∷ log) k =
     let d : Deed = told_deed (deed_in deed) in
     ap (λ (l : List Owned). record { txn = t; placed = record { lsn = length log + 1; deed = d } } ∷ l) (dues_are z log k.1)
     ∙ ap (λ (k : ℕ). record { txn = t; placed = record { lsn = k + 1; deed = d } } ∷ all_open (items z log)) (sym (length-map log (item_of z)))
+dues_are z (records.Base many i ∷ log) k = sym (all_closed (items z log) i k.0 (layout_of z) k.1)
 dues_are z (_ ∷ log) k = dues_are z log k.1
 
 map_own : (t : Txn) (ds : List PendingUndo) → map placed_of (filter (owned_by t) (map owned_due ds)) ≡ map placed_due (filter (due_of t) ds)
@@ -109,6 +111,7 @@ dues_below (records.CompEnd t n undone ∷ log) = below_newest t (suc (length lo
 dues_below (records.Commit t ∷ log) = below_own t (suc (length log)) (dues log) (older_below log (dues log) (dues_below log))
 dues_below (records.AbortEnd t ∷ log) = below_own t (suc (length log)) (dues log) (older_below log (dues log) (dues_below log))
 dues_below (records.OpEnd t n level deed ∷ log) = (omega arith, below_more (length log) (length log + 1) (dues log) (omega arith) (dues_below log))
+dues_below (records.Base many i ∷ log) = tt
 dues_below (_ ∷ log) = older_below log (dues log) (dues_below log)
 
 all_below : (n : ℕ) (ds : List PendingUndo) (d : PendingUndo) → AreBelow n ds → In d ds → d.lsn ≤ n

@@ -62,6 +62,7 @@ reads_in z (records.OpEnd t n level deed ∷ log) d r s i = elim i [
 reads_in z (records.CompEnd t n undone ∷ log) d r s i = reads_in z log d r.1 s.1 (in_newest t (dues log) d i)
 reads_in z (records.Commit t ∷ log) d r s i = reads_in z log d r.1 s.1 (In-filter (λ e. not (due_of t e)) (dues log) d i).0
 reads_in z (records.AbortEnd t ∷ log) d r s i = reads_in z log d r.1 s.1 (In-filter (λ e. not (due_of t e)) (dues log) d i).0
+reads_in z (records.Base many k ∷ log) d r s i = absurd i
 reads_in z (_ ∷ log) d r s i = reads_in z log d r.1 s.1 i
 
 pub due_reads : (z : Sizes) (log : List Record) (d : PendingUndo) → IsWhole z log → In d (dues log) → (deed_in d.deed ≡ Some (deed_due d)) × (deed_sender (deed_due d) < sender_count z)

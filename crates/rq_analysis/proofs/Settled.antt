@@ -1,6 +1,7 @@
 -- A sound store without rows has a log in which everything has ended.
 use Rattle.std.proofs.Common.{◌≡◌, ℕ, List, [], ◌∷◌, refl, sym, ◌∙◌, ap, true, false, not, ◌&&◌, nat_eq, Option, Some, None, inl, inr}
 use Rattle.std.proofs.lemmas.Bool.{cases_Bool, true≢false, or_left, or_right, not-true}
+use Rattle.rq_model.specs.declared.txn.Sub.{Sub}
 use Rattle.rq_model.specs.declared.txn.Txn.{Txn}
 use Rattle.rq_model.specs.declared.record.Record.{Record}
 use Rattle.rq_model.specs.declared.record.Record.TheVariants as records
@@ -56,6 +57,14 @@ op_began z p (records.Restart j ∷ log) i = op_began z p log i
 op_began z p (records.Base many j ∷ log) i = op_began z p log i
 op_began z p (_ ∷ log) i = or_right _ (began (operation p.0 p.1) (items z log)) (op_began z p log i)
 
+-- where nothing is under way, no operation lacks its end
+pub idle_unfinished : (z : Sizes) (log : List Record) → ((o : Sub) → under_way o (items z log) ≡ false) → unfinished log ≡ []
+idle_unfinished z log idle = nothing_in (unfinished log) (λ p i.
+    let g = In-filter (λ q. not (any_record (operation_ended q.0 q.1) log)) (operations log) p i in
+    let open_one : over (operation p.0 p.1) (items z log) ≡ false = over_same z p.0 p.1 log ∙ not-true (any_record (operation_ended p.0 p.1) log) g.1 in
+    let going : under_way (operation p.0 p.1) (items z log) ≡ true = rw (op_began z p log g.0, open_one) refl in
+    true≢false (sym going ∙ idle (operation p.0 p.1)))
+
 module _ (s : State) (k : IsSound s) (e : s.rows ≡ []) where
   settled : (t : Txn) → IsSettled s.sizes s.records t
   settled t = k.standing.others t (ap (found_row t) e)
@@ -66,8 +75,4 @@ module _ (s : State) (k : IsSound s) (e : s.rows ≡ []) where
       worker_deeds t s.records g.0 ((settled t).unused (not-true (has_end s.records t) g.1)))
 
   pub none_unfinished : unfinished s.records ≡ []
-  none_unfinished = nothing_in (unfinished s.records) (λ p i.
-      let g = In-filter (λ q. not (any_record (operation_ended q.0 q.1) s.records)) (operations s.records) p i in
-      let open_one : over (operation p.0 p.1) (items s.sizes s.records) ≡ false = over_same s.sizes p.0 p.1 s.records ∙ not-true (any_record (operation_ended p.0 p.1) s.records) g.1 in
-      let going : under_way (operation p.0 p.1) (items s.sizes s.records) ≡ true = rw (op_began s.sizes p s.records g.0, open_one) refl in
-      true≢false (sym going ∙ (settled p.0).idle p.1))
+  none_unfinished = idle_unfinished s.sizes s.records (λ o. (settled o.txn).idle o.number)

@@ -16,7 +16,7 @@ use Rattle.rq_model.proofs.Told.{content_is}
 use Rattle.rq_page.specs.Sizes.{Sizes, IsInRange}
 use Rattle.rq_views.specs.Stored.{slots_in}
 use Rattle.rq_views.proofs.AllOpen.{filter_in}
-use Rattle.rq_store.specs.Fitting.{FitsLog, image_in, left_by, oldest}
+use Rattle.rq_store.specs.Fitting.{AllHoldBase, FitsLog, image_in, left_by, oldest}
 use Rattle.rq_store.specs.State.{State}
 use Rattle.rq_store.specs.Whole.{IsWhole}
 use Rattle.rq_store.proofs.Cutting.{whole_dropped}
@@ -120,7 +120,7 @@ restored s now k a =
       content = λ g. plain_content s.sizes s.records now.records g k.log (subst (λ z. IsWhole z now.records) sizes sound.log) x;
       unfinished = ended;
       lost = alone;
-      opens = opened_is now.sizes now.images now.records sound.range sound.log ended alone sound.pages sound.fits;
+      opens = opened_is now.sizes now.images now.records sound.range sound.log ended alone sound.pages sound.fits sound.based;
       shows = extends_commits s.records now.records x;
     }
 
@@ -129,8 +129,8 @@ lost_restored z images log forced now h a = restored (lost_store z images log fo
 
 -- a restart goes on from there
 pub stop_repeated : (z : Sizes) (images : List (List ℕ)) (log cut last : List Record) (forced : ℕ) → IsInRange z → 1 ≤ incarnation_of log → IsStopped z log cut → IsUndone cut last
-    → incarnation_of (oldest forced last) ≡ incarnation_of last → forced ≤ length last → ((a : ℕ) → slots_in z images a ≡ (left_by z last).slots a) → FitsLog z (image_in images) last → IsRepeated z images last forced
-stop_repeated z images log cut last forced range some h u begun within pages fits =
+    → incarnation_of (oldest forced last) ≡ incarnation_of last → forced ≤ length last → ((a : ℕ) → slots_in z images a ≡ (left_by z last).slots a) → FitsLog z (image_in images) last → AllHoldBase z (image_in images) last → IsRepeated z images last forced
+stop_repeated z images log cut last forced range some h u begun within pages fits based =
     let done = h.again last u in
     let a = extends_incarnation log cut h.extends h.whole.order in
     let b = extends_incarnation cut last done.extends done.whole.order in
@@ -143,4 +143,5 @@ stop_repeated z images log cut last forced range some h u begun within pages fit
       within = within;
       pages = pages;
       fits = fits;
+      based = based;
     }

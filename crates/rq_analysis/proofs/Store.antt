@@ -81,6 +81,7 @@ lost_sound z images log forced h = record {
   some = h.some;
   pages = h.pages;
   fits = h.fits;
+  based = h.based;
   standing = stands z log h.whole h.none_unfinished;
   counted = lost_counted z log (lost_ends log) (incarnation_of log) (begins_in log) h.whole (idle_log z log h.whole.legal h.none_unfinished) (stands z log h.whole h.none_unfinished);
   sent = keeps_sends z log;

@@ -15,10 +15,12 @@ use Rattle.rq_views.specs.Legal.{IsLegalLog, lsns, rest_numbers, began, over, un
 use Rattle.rq_views.specs.Items.{items, item_of, layout_of, operation}
 use Rattle.rq_views.proofs.Overlay.{same_is as op_is, same_self as op_self}
 use Rattle.rq_views.proofs.AllOpen.{tail}
+use Rattle.rq_views.proofs.Idle.{idle_writes}
 use Rattle.rq_store.specs.Fitting.{left_by}
 use Rattle.rq_store.specs.Whole.{BeforesAreSlots}
 use Rattle.rq_analysis.specs.declared.open_work.UndoableWrite.{UndoableWrite}
 use Rattle.rq_analysis.specs.OpenWorkView.{undoable_by, without_newest, without_undoable, open_work_of}
+use Rattle.rq_analysis.proofs.Quiet.{unbegun, unbegun_lsns}
 use Rattle.rq_analysis.proofs.Lists.{own_newest, own_none, other_newest, other_none, in_newest, in_undoable, in_with, with_in, in_without, without_in, op_other}
 
 abbrev pub IsLegal : Sizes → List Record → Type 0
@@ -82,39 +84,41 @@ ended_writes z o p log ih = elim (cases_Bool (same_op p o)) [
 ]
 
 -- of each operation, its writes not undone
-pub own_writes : (z : Sizes) (o : Sub) (log : List Record) → map (undoable_place z) (filter (undoable_by o) (open_work_of log).undoable) ≡ map write_place ((left_by z log).writes o)
-own_writes z o [] = refl
-own_writes z o (PageOp t n page slot before after ∷ log) = elim (cases_Bool (same_op (operation t n) o)) [
-  | inl y ↦ rw y (ap (λ l. (address page slot, held_in z page before) ∷ l) (own_writes z o log))
-  | inr m ↦ rw m (own_writes z o log)
+pub own_writes : (z : Sizes) (o : Sub) (log : List Record) → IsLegal z log → map (undoable_place z) (filter (undoable_by o) (open_work_of log).undoable) ≡ map write_place ((left_by z log).writes o)
+own_writes z o [] g = refl
+own_writes z o (PageOp t n page slot before after ∷ log) g = elim (cases_Bool (same_op (operation t n) o)) [
+  | inl y ↦ rw y (ap (λ l. (address page slot, held_in z page before) ∷ l) (own_writes z o log g.1))
+  | inr m ↦ rw m (own_writes z o log g.1)
 ]
-own_writes z o (PageUndo t n undone page slot after ∷ log) = elim (cases_Bool (same_op (operation t n) o)) [
-  | inl y ↦ ap (map (undoable_place z)) (own_rest (operation t n) o (undoable log) y) ∙ map_rest z (filter (undoable_by o) (undoable log)) ∙ ap rest_places (own_writes z o log) ∙ sym (write_rest ((left_by z log).writes o)) ∙ rw y refl
-  | inr m ↦ ap (map (undoable_place z)) (other_newest (undoable_by o) (operation t n) (undoable log) (apart (operation t n) o m)) ∙ own_writes z o log ∙ rw m refl
+own_writes z o (PageUndo t n undone page slot after ∷ log) g = elim (cases_Bool (same_op (operation t n) o)) [
+  | inl y ↦ ap (map (undoable_place z)) (own_rest (operation t n) o (undoable log) y) ∙ map_rest z (filter (undoable_by o) (undoable log)) ∙ ap rest_places (own_writes z o log g.1) ∙ sym (write_rest ((left_by z log).writes o)) ∙ rw y refl
+  | inr m ↦ ap (map (undoable_place z)) (other_newest (undoable_by o) (operation t n) (undoable log) (apart (operation t n) o m)) ∙ own_writes z o log g.1 ∙ rw m refl
 ]
-own_writes z o (OpEnd t n level deed ∷ log) = ended_writes z o (operation t n) log (own_writes z o log)
-own_writes z o (OpVoid t n ∷ log) = ended_writes z o (operation t n) log (own_writes z o log)
-own_writes z o (CompEnd t n undone ∷ log) = ended_writes z o (operation t n) log (own_writes z o log)
-own_writes z o (_ ∷ log) = own_writes z o log
+own_writes z o (OpEnd t n level deed ∷ log) g = ended_writes z o (operation t n) log (own_writes z o log g.1)
+own_writes z o (OpVoid t n ∷ log) g = ended_writes z o (operation t n) log (own_writes z o log g.1)
+own_writes z o (CompEnd t n undone ∷ log) g = ended_writes z o (operation t n) log (own_writes z o log g.1)
+own_writes z o (Base many i ∷ log) g = sym (ap (map write_place) (idle_writes (layout_of z) (items z log) o g.1 (g.0.idle o)))
+own_writes z o (_ ∷ log) g = own_writes z o log g.1
 
 other_end : (o p : Sub) (log : List Record) (ns : List ℕ) → same_op p o ≡ false → map lsn_of (filter (undoable_by o) (undoable log)) ≡ ns → map lsn_of (filter (undoable_by o) (without_undoable p (undoable log))) ≡ ns
 other_end o p log ns n ih = ap (map lsn_of) (other_none (undoable_by o) p (undoable log) (apart p o n)) ∙ ih
 
 -- and their LSNs, where it has no end
-pub own_lsns : (z : Sizes) (o : Sub) (log : List Record) → over o (items z log) ≡ false → map lsn_of (filter (undoable_by o) (open_work_of log).undoable) ≡ lsns o (items z log)
-own_lsns z o [] g = refl
-own_lsns z o (PageOp t n page slot before after ∷ log) g = elim (cases_Bool (same_op (operation t n) o)) [
-  | inl y ↦ rw y (ap (λ (k : ℕ). (k + 1) ∷ map lsn_of (filter (undoable_by o) (undoable log))) (sym (length-map log (item_of z))) ∙ ap (λ l. (length (items z log) + 1) ∷ l) (own_lsns z o log g))
-  | inr m ↦ rw m (own_lsns z o log g)
+pub own_lsns : (z : Sizes) (o : Sub) (log : List Record) → IsLegal z log → over o (items z log) ≡ false → map lsn_of (filter (undoable_by o) (open_work_of log).undoable) ≡ lsns o (items z log)
+own_lsns z o [] w g = refl
+own_lsns z o (PageOp t n page slot before after ∷ log) w g = elim (cases_Bool (same_op (operation t n) o)) [
+  | inl y ↦ rw y (ap (λ (k : ℕ). (k + 1) ∷ map lsn_of (filter (undoable_by o) (undoable log))) (sym (length-map log (item_of z))) ∙ ap (λ l. (length (items z log) + 1) ∷ l) (own_lsns z o log w.1 g))
+  | inr m ↦ rw m (own_lsns z o log w.1 g)
 ]
-own_lsns z o (PageUndo t n undone page slot after ∷ log) g = elim (cases_Bool (same_op (operation t n) o)) [
-  | inl y ↦ ap (map lsn_of) (own_rest (operation t n) o (undoable log) y) ∙ lsn_rest (filter (undoable_by o) (undoable log)) ∙ ap rest_numbers (own_lsns z o log g) ∙ rw y refl
-  | inr m ↦ ap (map lsn_of) (other_newest (undoable_by o) (operation t n) (undoable log) (apart (operation t n) o m)) ∙ own_lsns z o log g ∙ rw m refl
+own_lsns z o (PageUndo t n undone page slot after ∷ log) w g = elim (cases_Bool (same_op (operation t n) o)) [
+  | inl y ↦ ap (map lsn_of) (own_rest (operation t n) o (undoable log) y) ∙ lsn_rest (filter (undoable_by o) (undoable log)) ∙ ap rest_numbers (own_lsns z o log w.1 g) ∙ rw y refl
+  | inr m ↦ ap (map lsn_of) (other_newest (undoable_by o) (operation t n) (undoable log) (apart (operation t n) o m)) ∙ own_lsns z o log w.1 g ∙ rw m refl
 ]
-own_lsns z o (OpEnd t n level deed ∷ log) g = let k = or_parts (same_op (operation t n) o) (over o (items z log)) g in other_end o (operation t n) log (lsns o (items z log)) k.0 (own_lsns z o log k.1)
-own_lsns z o (OpVoid t n ∷ log) g = let k = or_parts (same_op (operation t n) o) (over o (items z log)) g in other_end o (operation t n) log (lsns o (items z log)) k.0 (own_lsns z o log k.1)
-own_lsns z o (CompEnd t n undone ∷ log) g = let k = or_parts (same_op (operation t n) o) (over o (items z log)) g in other_end o (operation t n) log (lsns o (items z log)) k.0 (own_lsns z o log k.1)
-own_lsns z o (_ ∷ log) g = own_lsns z o log g
+own_lsns z o (OpEnd t n level deed ∷ log) w g = let k = or_parts (same_op (operation t n) o) (over o (items z log)) g in other_end o (operation t n) log (lsns o (items z log)) k.0 (own_lsns z o log w.1 k.1)
+own_lsns z o (OpVoid t n ∷ log) w g = let k = or_parts (same_op (operation t n) o) (over o (items z log)) g in other_end o (operation t n) log (lsns o (items z log)) k.0 (own_lsns z o log w.1 k.1)
+own_lsns z o (CompEnd t n undone ∷ log) w g = let k = or_parts (same_op (operation t n) o) (over o (items z log)) g in other_end o (operation t n) log (lsns o (items z log)) k.0 (own_lsns z o log w.1 k.1)
+own_lsns z o (Base many i ∷ log) w g = sym (unbegun_lsns o (items z log) (unbegun (items z log) i w.0 o g))
+own_lsns z o (_ ∷ log) w g = own_lsns z o log w.1 g
 
 pub way_parts : (b c : Bool) → (b && not c) ≡ true → (b ≡ true) × (c ≡ false)
 way_parts true true e = absurd (false≢true e)
@@ -145,6 +149,7 @@ noted_way z (PageUndo t n undone page slot after ∷ log) g o h = let k = noted_
 noted_way z (OpEnd t n level deed ∷ log) g o h = let k = in_without (operation t n) (unfinished log) o h in still z o (operation t n) log k.1 (noted_way z log g.1 o k.0)
 noted_way z (OpVoid t n ∷ log) g o h = let k = in_without (operation t n) (unfinished log) o h in still z o (operation t n) log k.1 (noted_way z log g.1 o k.0)
 noted_way z (CompEnd t n undone ∷ log) g o h = let k = in_without (operation t n) (unfinished log) o h in still z o (operation t n) log k.1 (noted_way z log g.1 o k.0)
+noted_way z (Base many i ∷ log) g o h = absurd h
 noted_way z (_ ∷ log) g o h = noted_way z log g.1 o h
 
 -- an undoable write is of an operation that is noted as unfinished
@@ -158,6 +163,7 @@ undoable_noted (PageUndo t n undone page slot after ∷ log) p h = undoable_note
 undoable_noted (OpEnd t n level deed ∷ log) p h = let k = in_undoable (operation t n) (undoable log) p h in without_in (operation t n) (unfinished log) p.by (undoable_noted log p k.0) (op_other p.by (operation t n) k.1)
 undoable_noted (OpVoid t n ∷ log) p h = let k = in_undoable (operation t n) (undoable log) p h in without_in (operation t n) (unfinished log) p.by (undoable_noted log p k.0) (op_other p.by (operation t n) k.1)
 undoable_noted (CompEnd t n undone ∷ log) p h = let k = in_undoable (operation t n) (undoable log) p h in without_in (operation t n) (unfinished log) p.by (undoable_noted log p k.0) (op_other p.by (operation t n) k.1)
+undoable_noted (Base many i ∷ log) p h = absurd h
 undoable_noted (_ ∷ log) p h = undoable_noted log p h
 
 -- what stood there before it is a slot of the store
@@ -171,6 +177,7 @@ undoable_before z (PageUndo t n undone page slot after ∷ log) b p h = undoable
 undoable_before z (OpEnd t n level deed ∷ log) b p h = undoable_before z log b.1 p (in_undoable (operation t n) (undoable log) p h).0
 undoable_before z (OpVoid t n ∷ log) b p h = undoable_before z log b.1 p (in_undoable (operation t n) (undoable log) p h).0
 undoable_before z (CompEnd t n undone ∷ log) b p h = undoable_before z log b.1 p (in_undoable (operation t n) (undoable log) p h).0
+undoable_before z (Base many i ∷ log) b p h = absurd h
 undoable_before z (_ ∷ log) b p h = undoable_before z log b.1 p h
 
 -- what is noted as unfinished is of the running incarnation
@@ -184,5 +191,5 @@ noted_order z (OpEnd t n level deed ∷ log) g r o h = noted_order z log g.1 r.1
 noted_order z (OpVoid t n ∷ log) g r o h = noted_order z log g.1 r.1 o (in_without (operation t n) (unfinished log) o h).0
 noted_order z (CompEnd t n undone ∷ log) g r o h = noted_order z log g.1 r.1 o (in_without (operation t n) (unfinished log) o h).0
 noted_order z (Restart i ∷ log) g r o h = absurd (true≢false (sym (noted_way z log g.1 o h) ∙ g.0.idle o))
-noted_order z (Base many i ∷ log) g r o h = absurd (true≢false (sym (noted_way z log g.1 o h) ∙ g.0.idle o))
+noted_order z (Base many i ∷ log) g r o h = absurd h
 noted_order z (_ ∷ log) g r o h = noted_order z log g.1 r.1 o h

@@ -42,7 +42,7 @@ void_whole : (z : Sizes) (log : List Record) (o : Sub) → IsWhole z log → IsS
 void_whole z log o w h =
     let i : In o (open_work_of log).unfinished = sub_in o (open_work_of log).unfinished h.unfinished in
     let way = noted_way z log w.legal o i in
-    let none : map write_place ((left_by z log).writes o) ≡ [] = sym (own_writes z o log) ∙ ap (map (undoable_place z)) (none_own o (open_work_of log).undoable h.none) in
+    let none : map write_place ((left_by z log).writes o) ≡ [] = sym (own_writes z o log w.legal) ∙ ap (map (undoable_place z)) (none_own o (open_work_of log).undoable h.none) in
     record {
       legal = (record { all_undone = no_places ((left_by z log).writes o) none; begun = under_began z o log way; going = under_open z o log way }, w.legal);
       told = (tt, w.told);
@@ -63,8 +63,8 @@ undo_whole z log p ps w f =
     let g = undoable_noted log p i in
     let open_still = under_open z p.by log (noted_way z log w.legal p.by g) in
     let own : filter (undoable_by p.by) (open_work_of log).undoable ≡ p ∷ filter (undoable_by p.by) ps = ap (filter (undoable_by p.by)) f ∙ rw (op_self p.by) refl in
-    let ws : map write_place ((left_by z log).writes p.by) ≡ undoable_place z p ∷ map (undoable_place z) (filter (undoable_by p.by) ps) = sym (own_writes z p.by log) ∙ ap (map (undoable_place z)) own in
-    let ns : lsns p.by (items z log) ≡ p.lsn ∷ map lsn_of (filter (undoable_by p.by) ps) = sym (own_lsns z p.by log open_still) ∙ ap (map lsn_of) own in
+    let ws : map write_place ((left_by z log).writes p.by) ≡ undoable_place z p ∷ map (undoable_place z) (filter (undoable_by p.by) ps) = sym (own_writes z p.by log w.legal) ∙ ap (map (undoable_place z)) own in
+    let ns : lsns p.by (items z log) ≡ p.lsn ∷ map lsn_of (filter (undoable_by p.by) ps) = sym (own_lsns z p.by log w.legal open_still) ∙ ap (map lsn_of) own in
     record {
       legal = (
         record {

@@ -20,10 +20,12 @@ use Rattle.rq_views.specs.Groups.{side}
 use Rattle.rq_views.specs.InStore.{IsStranger, mentions}
 use Rattle.rq_views.specs.Items.{items, layout_of, ReadsItsDeeds}
 use Rattle.rq_views.specs.Legal.{IsLegalLog, Placed, has_deed, open_deeds}
+use Rattle.rq_views.specs.Legal as legal
 use Rattle.rq_views.proofs.OpenCounts.{AreApart}
 use Rattle.rq_views.proofs.Rules.{unused}
 use Rattle.rq_views.proofs.Strangers.{has_end_same, stranger_told}
 use Rattle.rq_analysis.specs.Lost.{begins_in, count_of}
+use Rattle.rq_analysis.proofs.Lists.{nothing_in}
 use Rattle.rq_analysis.proofs.Settled.{worker_deeds}
 
 has_behind : (t u : Txn) (ts : List Txn) → has_txn t (ts ++ u ∷ []) ≡ (same_txn u t || has_txn t ts)
@@ -145,6 +147,12 @@ doer_now z t (_ ∷ log) k o h e = doer_now z t log k.1 o.1 h e
 
 pub lost_running : (log : List Record) (t : Txn) → In t (lost log) → has_end log t ≡ false
 lost_running log t i = not-true (has_end log t) (In-filter (λ u. not (has_end log u)) (workers log) t i).1
+
+-- where whoever did something has ended, nobody is lost
+pub ended_lost : (z : Sizes) (log : List Record) → ((t : Txn) → has_deed t (items z log) ≡ true → legal.has_end t (items z log) ≡ true) → lost log ≡ []
+ended_lost z log ended = nothing_in (lost log) (λ t i.
+    let g = In-filter (λ u. not (has_end log u)) (workers log) t i in
+    true≢false (sym (ended t (worker_did z t log (in_has t (workers log) g.0))) ∙ has_end_same z t log ∙ lost_running log t i))
 
 pub lost_now : (z : Sizes) (log : List Record) (t : Txn) → IsLegalLog (layout_of z) (items z log) → InOrder log → In t (lost log) → t.incarnation ≡ incarnation_of log
 lost_now z log t k o i =

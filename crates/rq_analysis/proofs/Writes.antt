@@ -15,6 +15,7 @@ use Rattle.rq_views.proofs.AllOpen.{tail}
 use Rattle.rq_analysis.specs.declared.open_work.UndoableWrite.{UndoableWrite}
 use Rattle.rq_analysis.specs.OpenWorkView.{open_work_of, undoable_at, undoable_by, without_newest, without_undoable}
 use Rattle.rq_analysis.proofs.Lists as undone
+use Rattle.rq_analysis.proofs.Marks.{none_written}
 use Rattle.rq_analysis.proofs.Noting.{filter_twice, filter_same}
 use Rattle.rq_analysis.proofs.Undoable.{apart, undoable}
 use Rattle.rq_analysis.specs.Rules.{FollowAll, has_op_end, standing, undoes, writes_of}
@@ -128,4 +129,5 @@ undoable_kept (records.PageUndo t n lsn page slot after ∷ log) f o g = elim (c
 undoable_kept (records.OpEnd t n level deed ∷ log) f o g = let k = or_parts (same_op (operation t n) o) (has_op_end o log) g in ended_other (operation t n) o log k.0 ∙ undoable_kept log f.1 o k.1
 undoable_kept (records.OpVoid t n ∷ log) f o g = let k = or_parts (same_op (operation t n) o) (has_op_end o log) g in ended_other (operation t n) o log k.0 ∙ undoable_kept log f.1 o k.1
 undoable_kept (records.CompEnd t n undone ∷ log) f o g = let k = or_parts (same_op (operation t n) o) (has_op_end o log) g in ended_other (operation t n) o log k.0 ∙ undoable_kept log f.1 o k.1
+undoable_kept (records.Base many i ∷ log) f o g = sym (ap (filter (stands o (records.Base many i ∷ log))) (ap (writes_of o) f.0.begins ∙ none_written o many))
 undoable_kept (_ ∷ log) f o g = undoable_kept log f.1 o g

@@ -18,7 +18,7 @@ use Rattle.rq_views.specs.Items.{layout_of}
 use Rattle.rq_views.specs.Log.{HasBefores, Write}
 use Rattle.rq_views.specs.Plans.{IsPlan}
 use Rattle.rq_views.specs.Plans.Turn.{Undid}
-use Rattle.rq_store.specs.Fitting.{FitsLog, image_in, left_by, oldest}
+use Rattle.rq_store.specs.Fitting.{AllHoldBase, FitsLog, image_in, left_by, oldest}
 use Rattle.rq_store.specs.Opening.{opened}
 use Rattle.rq_store.specs.State.{State, ledger_of}
 use Rattle.rq_store.specs.Whole.{IsWhole}
@@ -142,7 +142,7 @@ pub record StopsAreRepeated : Type 0 where
       → 1 ≤ incarnation_of log → IsStopped z log cut → IsUndone cut last
       → incarnation_of (oldest forced last) ≡ incarnation_of last → forced ≤ length last
       → ((a : ℕ) → slots_in z images a ≡ (left_by z last).slots a) → FitsLog z (image_in images) last
-      → IsRepeated z images last forced
+      → AllHoldBase z (image_in images) last → IsRepeated z images last forced
   pub none_new : (z : Sizes) (log cut last : List Record) (t : Txn) → IsStopped z log cut → IsUndone cut last
       → In t (lost last) → In t (lost log)
   pub content : (z : Sizes) (log cut last : List Record) (g : ℕ) → IsStopped z log cut → IsUndone cut last

@@ -5,7 +5,7 @@ use Rattle.std.specs.List.{filter}
 use Rattle.rq_model.specs.declared.txn.Txn.{Txn}
 use Rattle.rq_model.specs.declared.record.Deed.{Deed}
 use Rattle.rq_model.specs.declared.record.Record.{Record}
-use Rattle.rq_model.specs.declared.record.Record.TheVariants.{AbortEnd, CompEnd, Commit, OpEnd}
+use Rattle.rq_model.specs.declared.record.Record.TheVariants.{AbortEnd, Base, CompEnd, Commit, OpEnd}
 use Rattle.rq_model.specs.Deeds.{deed_in}
 use Rattle.rq_model.specs.Vocabulary.{In, same_txn}
 use Rattle.rq_views.specs.Items.{told_deed}
@@ -37,6 +37,7 @@ dues_after n (OpEnd t m level deed) ds = record { txn = t; lsn = n; level = leve
 dues_after n (CompEnd t m undone) ds = but_newest t ds
 dues_after n (Commit t) ds = but_own t ds
 dues_after n (AbortEnd t) ds = but_own t ds
+dues_after n (Base many i) ds = []
 dues_after n _ ds = ds
 
 abbrev pub dues : List Record → List PendingUndo

@@ -44,6 +44,7 @@ abbrev pub ended_after : Record → Counts → Counts
 ended_after (Commit t) c = with_count t.count c
 ended_after (AbortEnd t) c = with_count t.count c
 ended_after (Restart i) c = no_counts
+ended_after (Base many i) c = no_counts
 ended_after _ c = c
 
 -- the counts of the running incarnation's transactions that have a Commit or an AbortEnd

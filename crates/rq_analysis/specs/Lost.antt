@@ -21,7 +21,7 @@ use Rattle.rq_txn.specs.Rows.{Row}
 use Rattle.rq_groups.specs.declared.Held.{Held}
 use Rattle.rq_groups.specs.Ends.{HeldEnds, with_held}
 use Rattle.rq_groups.specs.Sent.{SentBy}
-use Rattle.rq_store.specs.Fitting.{FitsLog, image_in, left_by, oldest}
+use Rattle.rq_store.specs.Fitting.{AllHoldBase, FitsLog, image_in, left_by, oldest}
 use Rattle.rq_store.specs.State.{State}
 use Rattle.rq_store.specs.Whole.{IsWhole}
 use Rattle.rq_sound.specs.Counted.{takes_all, takes_in}
@@ -124,3 +124,4 @@ pub record IsRepeated (z : Sizes) (images : List (List ℕ)) (log : List Record)
   pub within : forced ≤ length log
   pub pages : (a : ℕ) → slots_in z images a ≡ (left_by z log).slots a
   pub fits : FitsLog z (image_in images) log
+  pub based : AllHoldBase z (image_in images) log

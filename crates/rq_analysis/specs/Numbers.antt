@@ -4,7 +4,7 @@ use Rattle.std.specs.List.{filter}
 use Rattle.rq_model.specs.declared.txn.Sub.{Sub}
 use Rattle.rq_model.specs.declared.txn.Txn.{Txn}
 use Rattle.rq_model.specs.declared.record.Record.{Record}
-use Rattle.rq_model.specs.declared.record.Record.TheVariants.{PageOp, PageUndo, OpEnd, OpVoid, CompEnd, Commit, AbortEnd}
+use Rattle.rq_model.specs.declared.record.Record.TheVariants.{PageOp, PageUndo, OpEnd, OpVoid, CompEnd, Commit, AbortEnd, Base}
 use Rattle.rq_model.specs.Vocabulary.{In, same_txn}
 use Rattle.rq_views.specs.Items.{operation}
 use Rattle.rq_txn.specs.Rows.{Row}
@@ -36,6 +36,7 @@ numbers_after (OpVoid t n) os = with_number (operation t n) os
 numbers_after (CompEnd t n undone) os = with_number (operation t n) os
 numbers_after (Commit t) os = numbers_but t os
 numbers_after (AbortEnd t) os = numbers_but t os
+numbers_after (Base many i) os = []
 numbers_after _ os = os
 
 abbrev pub numbers : List Record → List Sub

@@ -1,10 +1,10 @@
--- What the records of a log come to, one after the other.
+-- What the records of a log come to, one after the other. Everything has ended before a Base: it begins anew there.
 use Rattle.std.specs.Prelude.{ℕ, ◌+◌, Bool, false, not, ◌||◌, cond, List, [], ◌∷◌, ◌++◌, length}
 use Rattle.std.specs.List.{filter}
 use Rattle.rq_model.specs.declared.txn.Txn.{Txn}
 use Rattle.rq_model.specs.declared.txn.Sub.{Sub}
 use Rattle.rq_model.specs.declared.record.Record.{Record}
-use Rattle.rq_model.specs.declared.record.Record.TheVariants.{PageOp, PageUndo, OpEnd, OpVoid, CompEnd, Commit, AbortEnd}
+use Rattle.rq_model.specs.declared.record.Record.TheVariants.{PageOp, PageUndo, OpEnd, OpVoid, CompEnd, Commit, AbortEnd, Base}
 use Rattle.rq_model.specs.Vocabulary.{same_txn, has_txn}
 use Rattle.rq_views.specs.Log.{same_op}
 use Rattle.rq_views.specs.Items.{operation}
@@ -56,6 +56,7 @@ unfinished_after (PageOp t n page slot before after) os = with_sub (operation t 
 unfinished_after (OpEnd t n level deed) os = without_sub (operation t n) os
 unfinished_after (OpVoid t n) os = without_sub (operation t n) os
 unfinished_after (CompEnd t n undone) os = without_sub (operation t n) os
+unfinished_after (Base many i) os = []
 unfinished_after _ os = os
 
 abbrev pub undoable_after : ℕ → Record → List UndoableWrite → List UndoableWrite
@@ -64,12 +65,14 @@ undoable_after lsn (PageUndo t n undone page slot after) ps = without_newest (op
 undoable_after lsn (OpEnd t n level deed) ps = without_undoable (operation t n) ps
 undoable_after lsn (OpVoid t n) ps = without_undoable (operation t n) ps
 undoable_after lsn (CompEnd t n undone) ps = without_undoable (operation t n) ps
+undoable_after lsn (Base many i) ps = []
 undoable_after lsn _ ps = ps
 
 abbrev pub active_after : Record → List Txn → List Txn
 active_after (OpEnd t n level deed) ts = with_txn t ts
 active_after (Commit t) ts = without_txn t ts
 active_after (AbortEnd t) ts = without_txn t ts
+active_after (Base many i) ts = []
 active_after _ ts = ts
 
 abbrev pub open_work_after : ℕ → Record → OpenWorkView → OpenWorkView

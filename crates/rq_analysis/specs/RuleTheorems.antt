@@ -3,16 +3,19 @@ use Rattle.std.specs.Prelude.{◌≡◌, ◌≤◌, ℕ, ◌+◌, Bool, true, fa
 use Rattle.rq_model.specs.declared.txn.Txn.{Txn}
 use Rattle.rq_model.specs.declared.record.Record.{Record}
 use Rattle.rq_model.specs.declared.record.Record.TheVariants.{PageOp, PageUndo, OpEnd, CompEnd}
+use Rattle.rq_model.specs.Bases.{is_base, marked}
 use Rattle.rq_model.specs.Unended.{any_record}
 use Rattle.rq_page.specs.Sizes.{Sizes}
 use Rattle.rq_store.specs.Whole.{IsWhole}
 use Rattle.rq_views.specs.Items.{operation}
-use Rattle.rq_analysis.specs.Rules.{FollowAll, FollowsRules, greatest_number, has_op}
+use Rattle.rq_analysis.specs.Rules.{FollowAll, FollowsRules, IsReadInOrder, greatest_number, has_op}
 
--- each record of a whole log follows the rules behind those before it
+-- Each record of a whole log, as it is read, follows the rules behind those before it, and is the next of its incarnation.
 pub record WholeLogsFollow : Type 0 where
-  pub one : (z : Sizes) (log : List Record) (r : Record) → IsWhole z (r ∷ log) → FollowsRules log r
-  pub all : (z : Sizes) (log : List Record) → IsWhole z log → FollowAll log
+  pub one : (z : Sizes) (log : List Record) (r : Record) → IsWhole z (r ∷ log) → is_base r ≡ false
+      → FollowsRules (marked log) r
+  pub all : (z : Sizes) (log : List Record) → IsWhole z log → FollowAll (marked log)
+  pub order : (z : Sizes) (log : List Record) → IsWhole z log → IsReadInOrder (marked log)
 
 -- the record with this LSN
 abbrev pub record_at : ℕ → List Record → Option Record

@@ -1,13 +1,14 @@
 -- What a record has to be behind a log, said of the log alone.
-use Rattle.std.specs.Prelude.{◌≡◌, ℕ, ◌+◌, Bool, true, false, not, ◌||◌, ◌&&◌, cond, max, nat_eq, List, [], ◌∷◌, length, Option, Some, None}
+use Rattle.std.specs.Prelude.{◌≡◌, ◌≤◌, ℕ, ◌+◌, Bool, true, false, not, ◌||◌, ◌&&◌, cond, max, nat_eq, List, [], ◌∷◌, length, Option, Some, None}
 use Rattle.std.specs.List.{filter}
 use Rattle.rq_model.specs.declared.txn.Txn.{Txn}
 use Rattle.rq_model.specs.declared.txn.Sub.{Sub}
 use Rattle.rq_model.specs.declared.record.Record.{Record}
-use Rattle.rq_model.specs.declared.record.Record.TheVariants.{PageOp, PageUndo, OpEnd, OpVoid, CompEnd}
+use Rattle.rq_model.specs.declared.record.Record.TheVariants.{PageOp, PageUndo, OpEnd, OpVoid, CompEnd, Base}
 use Rattle.rq_model.specs.Vocabulary.{first, same_txn}
 use Rattle.rq_model.specs.Content.{has_end}
-use Rattle.rq_model.specs.Incarnations.{IsBased, txn_of}
+use Rattle.rq_model.specs.Bases.{marks}
+use Rattle.rq_model.specs.Incarnations.{IsNext, incarnation_of, txn_of}
 use Rattle.rq_model.specs.Unended.{any_record}
 use Rattle.rq_level.specs.Meaning.{meaning_of}
 use Rattle.rq_views.specs.Log.{same_op}
@@ -116,7 +117,11 @@ abbrev pub CanBeRead : Record → Type 0
 CanBeRead (OpEnd t n level deed) = (meaning_of level).reads deed ≡ true
 CanBeRead _ = Unit {0}
 
--- What a record has to be behind a log, besides that it is of the store and of the running incarnation.
+abbrev pub BeginsLog : List Record → Record → Type 0
+BeginsLog log (Base many i) = log ≡ marks many
+BeginsLog log _ = Unit {0}
+
+-- What a record has to be behind a log as it was read, besides that it is of the store and of the running incarnation.
 pub record FollowsRules (log : List Record) (r : Record) : Type 0 where
   -- its transaction has neither Commit nor AbortEnd
   pub running : IsRunning log (txn_of r)
@@ -133,10 +138,25 @@ pub record FollowsRules (log : List Record) (r : Record) : Type 0 where
   pub takes_back : TakesBackNewest log r
   -- the level that an OpEnd names reads its deed
   pub reads : CanBeRead r
-  -- no store writes a Base so far
-  pub belongs : IsBased r
+  -- a Base comes first, behind marks for those that it stands for
+  pub begins : BeginsLog log r
 
 -- each record of the log is that
 abbrev pub FollowAll : List Record → Type 0
 FollowAll [] = Unit {0}
 FollowAll (r ∷ log) = FollowsRules log r × FollowAll log
+
+-- The record is the next of its incarnation behind a log as it was read. A Base says of which one the next records are.
+abbrev pub IsNextIn : List Record → Record → Type 0
+IsNextIn log (Base many i) = (1 ≤ i) × (i ≤ many)
+IsNextIn log r = IsNext (incarnation_of log) r
+
+-- the one is so of what stood before a Base, the other of what stood before any other record
+abbrev pub BeforeIt : Record → Type 0 → Type 0 → Type 0
+BeforeIt (Base many i) other base = base
+BeforeIt r other base = other
+
+-- each record of a log as it was read is that
+abbrev pub IsReadInOrder : List Record → Type 0
+IsReadInOrder [] = Unit {0}
+IsReadInOrder (r ∷ log) = IsNextIn log r × BeforeIt r (IsReadInOrder log) (Unit {0})

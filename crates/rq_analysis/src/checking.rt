@@ -1,14 +1,14 @@
 //! Whether the next record follows the rules, by what is kept of those before it.
-ghost use Rattle.std.specs.Prelude.{◌≡◌, ◌↔◌, ◌+◌, List, IsTrue, ◌∷◌, Some};
+ghost use Rattle.std.specs.Prelude.{◌≡◌, ◌↔◌, ◌+◌, List, IsTrue, Some};
 ghost use Rattle.std.specs.List.{filter};
 ghost use Rattle.rq_model.specs.declared.record.Record.{Record as AnyRecord};
-ghost use Rattle.rq_model.specs.Incarnations.{InOrder};
+ghost use Rattle.rq_model.specs.Incarnations.{IsNext, incarnation_of};
 ghost use Rattle.rq_model.specs.Vocabulary.{first};
 ghost use Rattle.rq_analysis.specs.OpenWorkView.{undoable_at, undoable_by};
 ghost use Rattle.rq_analysis.specs.Dues.{due_of};
 ghost use Rattle.rq_analysis.specs.Numbers.{number_of};
 ghost use Rattle.rq_analysis.specs.LogTables.{AreTablesOf, Passes, lsn_due};
-ghost use Rattle.rq_analysis.specs.Rules.{CanBeRead, FollowAll, FollowsRules};
+ghost use Rattle.rq_analysis.specs.Rules.{CanBeRead, FollowAll, FollowsRules, IsReadInOrder};
 
 use crate::ended::EndedTransactions;
 use crate::open_work::sub;
@@ -27,7 +27,7 @@ pub fn follows(
     record: &Record,
 ) -> bool
     ensures { (log : List AnyRecord) → AreTablesOf log open_work.now dues.now numbers.now ended.now → FollowAll log
-        → InOrder («record».now ∷ log) → (IsTrue reads ↔ CanBeRead «record».now)
+        → IsReadInOrder log → IsNext (incarnation_of log) «record».now → (IsTrue reads ↔ CanBeRead «record».now)
         → (IsTrue result ↔ FollowsRules log «record».now) }
 {
     if !reads {

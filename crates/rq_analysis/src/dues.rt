@@ -78,6 +78,10 @@ impl PendingUndos {
                 self.end(*txn);
                 Ok(())
             }
+            Record::Base { .. } => {
+                self.dues.clear();
+                Ok(())
+            }
             _ => Ok(()),
         }
     }

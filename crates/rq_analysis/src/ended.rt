@@ -47,7 +47,7 @@ impl EndedTransactions {
     {
         match record {
             Record::Commit { txn } | Record::AbortEnd { txn } => self.add(txn.count),
-            Record::Restart { .. } => {
+            Record::Restart { .. } | Record::Base { .. } => {
                 self.up_to = 0;
                 self.others.clear();
                 Ok(())

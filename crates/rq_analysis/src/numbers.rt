@@ -51,7 +51,11 @@ impl LastOperations {
                 self.end(*txn);
                 Ok(())
             }
-            Record::Restart { .. } | Record::Base { .. } => Ok(()),
+            Record::Base { .. } => {
+                self.numbers.clear();
+                Ok(())
+            }
+            Record::Restart { .. } => Ok(()),
         }
     }
 

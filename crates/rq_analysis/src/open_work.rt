@@ -127,7 +127,7 @@ impl OpenWork {
             }
             Record::Base { incarnation, .. } => {
                 let is_next = 1 <= self.incarnation && *incarnation == self.incarnation;
-                self.incarnation = *incarnation;
+                self.begin(*incarnation);
                 Ok(is_next)
             }
             Record::PageOp {
@@ -181,6 +181,16 @@ impl OpenWork {
                 None => None,
             },
         }
+    }
+
+    // Everything has ended before a Base.
+    fn begin(&mut self, incarnation: u64)
+        ensures { self.new ≡ record { incarnation = incarnation; unfinished = []; undoable = []; active = [] } }
+    {
+        self.incarnation = incarnation;
+        self.unfinished.clear();
+        self.undoable.clear();
+        self.active.clear();
     }
 
     fn is_ours(&self, txn: &Txn) -> bool

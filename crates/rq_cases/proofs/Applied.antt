@@ -32,7 +32,7 @@ cell_page_lsn = lsn_is 2 2 2 cells_1 cells_1_long (omega arith)
 
 -- the log is forced
 force_meets : (pages : MemPages) (old : MemLog) → AreNewPages pages formatted_pages → MeetsAll (over committed pages old)
-force_meets pages old p = record { honest = (tt, tt); sound = running.commit_send.sound; fit = pages_fit pages p log_1 (1, refl) }
+force_meets pages old p = record { honest = (tt, tt); sound = running.commit_send.sound; fit = pages_fit pages p log_1 (1, refl) first_plain }
 
 module _ (pages : MemPages) (old new : MemLog) (p : AreNewPages pages formatted_pages) (l : IsNewLog old log_1) (f : IsForcedSince old new (spelled (take 4 log_5))) where
   pub force_made : Makes (over committed pages old) event.Force (reply.Forced 5) (over forced pages new)
@@ -55,10 +55,10 @@ module _ (pages : MemPages) (old new : MemLog) (p : AreNewPages pages formatted_
     };
     honest = λ h. h;
     any_moment = λ h. runs_through log_5 records_plain 1 4 records_spelled (omega arith) old new l f;
-    fit = λ h earlier long k fit. pages_fit pages p log_5 (5, refl);
+    fit = λ h earlier long k fit. pages_fit pages p log_5 (5, refl) records_plain;
     crash = λ h earlier long k fit.
-        runs_through_cuts mem_pages mem_log pages_now (over committed pages old) (over forced pages new) k fit event.Force
-        (reply.Forced 5) (records_spelled, λ some. some) tt refl (leaves_beginning old log_1 l log_5 records_plain 1 4 (omega arith) refl)
+        runs_through_cuts mem_pages mem_log pages_now (over committed pages old) (over forced pages new) k fit (records_spelled, λ some. some) event.Force
+        (reply.Forced 5) tt refl (leaves_beginning old log_1 l log_5 records_plain 1 4 (omega arith) refl)
         (runs_through log_5 records_plain 1 4 records_spelled (omega arith) old new l f);
   }
 

@@ -2,6 +2,9 @@
 use Rattle.std.proofs.Common.{◌≡◌, ⊎_elim, ℕ, zero, suc, ◌+◌, ◌-◌, ◌^◌, ◌≤◌, ◌<◌, Bool, false, true, not, cond, List, [], ◌∷◌, length, drop, Option, Some, None, refl, sym, ap, ◌∙◌, subst, inl, inr, arith}
 use Rattle.std.specs.List.{filter, sum_by}
 use Rattle.std.proofs.lemmas.Bool.{lt-ltb, le-ltb}
+use Rattle.rq_restart.proofs.Pasts.{undone_on, work_on}
+use Rattle.rq_restart.specs.Past.{IsPast}
+use Rattle.rq_engine.specs.Earlier.{rebased}
 use Rattle.rq_model.specs.declared.record.Record.{Record}
 use Rattle.rq_model.specs.declared.record.Record.TheVariants as records
 use Rattle.rq_model.specs.declared.refusal.Refusal.{Refusal}
@@ -37,6 +40,7 @@ use Rattle.rq_sound.specs.Sound.{IsSound}
 use Rattle.rq_store.specs.State.{State, ledger_of, size_of}
 use Rattle.rq_sound.specs.ModelSteps.{IsModelStep}
 use Rattle.rq_store.specs.Whole.{IsWhole}
+use Rattle.rq_store.proofs.Based.{unbased}
 use Rattle.rq_store.proofs.Cutting.{fits_log_longer}
 use Rattle.rq_store.proofs.Formatting.{formatted_fits}
 use Rattle.rq_store.proofs.Opening.{restarted_whole}
@@ -55,7 +59,7 @@ use Rattle.rq_engine.specs.Earlier.{on, rebased, rebased_one}
 use Rattle.rq_engine.proofs.Owned.{steps_own}
 use Rattle.rq_engine.proofs.Refusals.{refuse, refuse_full}
 use Rattle.rq_engine.proofs.Standing.{close_steps, start_steps}
-use Rattle.rq_analysis.specs.OpenWorkView.{open_work_of}
+use Rattle.rq_analysis.specs.OpenWorkView.{OpenWorkView, open_work_of}
 use Rattle.rq_analysis.proofs.Undos.{nothing_undone, undoing_none}
 use Rattle.rq_restart.specs.Aborting.{RepeatedFrom}
 use Rattle.rq_restart.specs.Checked.{IsEnded, IsReadAndRedone}
@@ -69,9 +73,9 @@ use Rattle.rq_restart.proofs.Aborts.{aborting_none, behind_none, active_lost}
 use Rattle.rq_analysis.specs.Recovered.IsRecovered.{NoneLost}
 use Rattle.rq_analysis.specs.Recovered.IsRecovering.{Undoing}
 use Rattle.rq_log.proofs.Runs.{ends_all}
-use Rattle.rq_restart.proofs.Parsing.{front_first}
-use Rattle.rq_restart.proofs.Repeated.{repeated_plain}
-use Rattle.rq_model.specs.Bases.{standing}
+use Rattle.rq_restart.proofs.Parsing.{front_within}
+use Rattle.rq_restart.proofs.Repeated.{follow_marked, repeated_read}
+use Rattle.rq_model.specs.Bases.{HasNoBase, standing}
 use Rattle.rq_core.specs.Devices.{mem_log, mem_pages}
 use Rattle.rq_core.specs.Worked.{hello}
 use Rattle.rq_cases.specs.Aborts.{close_turned, turned, undone}
@@ -90,7 +94,6 @@ use Rattle.rq_cases.proofs.Held.{leaves_beginning, log_seen, pages_fit, pages_no
 use Rattle.rq_cases.proofs.Openings.{formatted_are, only_read}
 use Rattle.rq_cases.proofs.Pages.{are_formatted, range}
 use Rattle.rq_cases.proofs.Restarting.{counted_read, pages_seen_are}
-use Rattle.rq_model.specs.Incarnations.{AreBased}
 use Rattle.rq_model.specs.Bases.{gone as gone_of}
 use Rattle.rq_model.proofs.Bases.{none_gone}
 use Rattle.rq_cases.proofs.Running.{first_sound, send_plan}
@@ -118,9 +121,9 @@ all_new : (n : ℕ) → drop n (restarts n) ≡ []
 all_new zero = refl
 all_new (suc n) = all_new n
 
-restarts_plain : (n : ℕ) → AreBased (restarts n)
+restarts_plain : (n : ℕ) → HasNoBase (restarts n)
 restarts_plain zero = tt
-restarts_plain (suc n) = (tt, restarts_plain n)
+restarts_plain (suc n) = (refl, restarts_plain n)
 
 are_spelled : (n : ℕ) → n < 2 ^ 64 → AreSpelled (restarts n)
 are_spelled zero low = tt
@@ -159,7 +162,7 @@ fit n = fits_log_longer sizes (image_in formatted_pages) [] (restarts n) (n, all
 opened_one : (n : ℕ) → IsSound (just_opened n)
 opened_one n =
     opened_sound sizes formatted_pages (restarts n) range (whole n) (none_unfinished n) (none_lost n)
-    (λ a. first_sound.pages a ∙ sym (same_slots n a)) (fit n)
+    (λ a. first_sound.pages a ∙ sym (same_slots n a)) (fit n) (unbased sizes (restarts n) (image_in formatted_pages) (restarts_plain n) (fit n))
 
 begun_sound : (n : ℕ) → IsSound (one_begun n)
 begun_sound n = calls_keep.begins (just_opened n) (opened_one n)
@@ -244,7 +247,7 @@ module _ (n : ℕ) where
       fit =
           let none : 0 ≡ length s.records - length s.records = omega arith in
           subst (λ (k : ℕ). AllFit (mem_pages.may_be pages) sizes (drop k s.records)) none
-          (pages_fit pages h.0 s.records (suc n, all_new (suc n)));
+          (pages_fit pages h.0 s.records (suc n, all_new (suc n)) (restarts_plain (suc n)));
     }
 
     none_done : done_by s t ≡ []
@@ -303,12 +306,12 @@ module _ (n : ℕ) where
           any_moment = λ honest. here;
           fit = λ honest earlier long k.
               committed_over earlier (λ a b. AreFit mem_pages (over a pages log) → AreFit mem_pages (over b pages log))
-              (λ fits. fit_kept mem_pages mem_log pages_now (over s pages log) (over (one_committed n) pages log) (begun_sound n) fits
-              (event.Commit t) (reply.Committed number) (Commit t) _ refl steps tt refl);
+              (λ fits. fit_kept mem_pages mem_log pages_now (over s pages log) (over (one_committed n) pages log) (begun_sound n) fits (told, none_away)
+              (event.Commit t) (reply.Committed number) (Commit t) _ refl refl steps tt refl);
           crash = λ honest earlier long k fits.
               committed_over earlier (λ a b. AreFit mem_pages (over a pages log) → RunsThroughCuts mem_pages mem_log (over a pages log) (over b pages log))
-              (λ fits. runs_through_cuts mem_pages mem_log pages_now (over s pages log) (over (one_committed n) pages log) (begun_sound n) fits
-              (event.Commit t) (reply.Committed number) (told, none_away) tt refl
+              (λ fits. runs_through_cuts mem_pages mem_log pages_now (over s pages log) (over (one_committed n) pages log) (begun_sound n) fits (told, none_away)
+              (event.Commit t) (reply.Committed number) tt refl
               (leaves_beginning log (restarts (suc n)) h.1 s.records (restarts_plain (suc n)) s.forced 0 (omega arith) refl) here) fits;
         }
 
@@ -337,8 +340,8 @@ module _ (n : ℕ) where
           fit = λ honest earlier long k fits. fits;
           crash = λ honest earlier long k fits.
               begun_over earlier (λ a. AreFit mem_pages (over a pages log) → RunsThroughCuts mem_pages mem_log (over a pages log) (over a pages log))
-              (λ fits. runs_through_cuts mem_pages mem_log pages_now (over s pages log) (over s pages log) (begun_sound n) fits (event.Commit t)
-              (reply.Refused why.LogFull) (told, none_away) tt refl
+              (λ fits. runs_through_cuts mem_pages mem_log pages_now (over s pages log) (over s pages log) (begun_sound n) fits (told, none_away)
+              (event.Commit t) (reply.Refused why.LogFull) tt refl
               (leaves_beginning log (restarts (suc n)) h.1 s.records (restarts_plain (suc n)) s.forced 0 (omega arith) refl) here) fits;
         }
 
@@ -376,7 +379,7 @@ repeats (suc n) = (
   record {
     belongs = record {
       next = refl;
-      follows = record { running = tt; going = tt; begun = tt; numbered = tt; undoes = tt; takes_back = tt; reads = tt; belongs = tt };
+      follows = record { running = tt; going = tt; begun = tt; numbered = tt; undoes = tt; takes_back = tt; reads = tt; begins = tt };
       may = record { write = tt; before = tt };
     };
     redone = λ p. refl;
@@ -412,8 +415,8 @@ rolls_back n = record { undone = restarts n; undoes = undoes n; aborting = behin
 linked : (n : ℕ) → AreLinked sizes (slots_on sizes read_pages)
 linked n = sound_linked.left sizes (slots_on sizes read_pages) (restarts n) (whole n) (none_unfinished n) (λ a. first_sound.pages a ∙ sym (same_slots n a))
 
-lost_none : (n : ℕ) → IsWhole sizes (restarts n) → lost (restarts n) ≡ []
-lost_none n w = sym (active_lost sizes (restarts n) w) ∙ ended n
+lost_none : (n : ℕ) → (e : List Record) → IsPast e (restarts n) → IsWhole sizes (rebased e (restarts n)) → lost (rebased e (restarts n)) ≡ []
+lost_none n e past w = sym (active_lost sizes (rebased e (restarts n)) w) ∙ ap (λ (h : OpenWorkView). h.active) (work_on e (restarts n) past w.based) ∙ ended n
 
 module _ (n : ℕ) (pages : MemPages) (log : MemLog) (h : Hold pages formatted_pages log (restarts n)) where
   checked : (new : MemLog) → n < 2 ^ 50 → Checked pages log new read_pages (restarts (suc n))
@@ -422,10 +425,11 @@ module _ (n : ℕ) (pages : MemPages) (log : MemLog) (h : Hold pages formatted_p
     sound = formatted_are;
     seen = λ honest p below. sym (ap (λ (seen : Images). seen p) (pages_seen_are pages formatted_pages h.0));
     older = restarts n;
+    marks = follow_marked (restarts n) (repeated_read sizes (restarts n) read_pages read_pages (repeats n)).1;
     are_spelled = are_spelled n (omega (arith, low));
     reads = λ honest. ends_all (standing (restarts n)) (mem_log.seen log) (log_seen log (restarts n) h.1);
     rolled_back = restarts n;
-    rolled_back_on = record { read_and_redone = (read_pages, gone n); rolls_back = rolls_back n; planned = tt; repeated = repeats n; linked = linked n; recovered = λ left. NoneLost (undoes n) (lost_none n left.whole) };
+    rolled_back_on = record { read_and_redone = (read_pages, gone n); rolls_back = rolls_back n; planned = tt; repeated = repeats n; linked = linked n; recovered = λ e past left. NoneLost (undone_on e (restarts n) past left.whole.based (restarts n) (undoes n)) (lost_none n e past left.whole) };
     begun = refl;
     room = (let e = length_is n in omega (arith, e, low));
   }
@@ -452,7 +456,7 @@ module _ (n : ℕ) (pages : MemPages) (log : MemLog) (h : Hold pages formatted_p
               turn = inl refl;
               none_lost = λ e. refl;
               full = omega (arith, e, le);
-              recovering = λ left. Undoing (undoing_none (restarts n));
+              recovering = λ e past left. Undoing (undoing_none (rebased e (restarts n)));
             },
             (read_pages, gone n),
             only_read log,
@@ -464,10 +468,10 @@ module _ (n : ℕ) (pages : MemPages) (log : MemLog) (h : Hold pages formatted_p
   fits_restart z first new low (inl l) = ⊎_elim
       (λ s.
       let more = s.1 tt in
-      let f = front_first (restarts n) (mem_log.seen log) (restarts_plain n) (are_spelled n (omega (arith, low))) (ends_all (standing (restarts n)) (mem_log.seen log) (log_seen log (restarts n) h.1)) l.front more.0 (repeated_plain z l.front first l.mid l.repeated) l.are_spelled more.2 in
+      let f = front_within (restarts n) l.front (mem_log.seen log) more.0 (are_spelled n (omega (arith, low))) l.are_spelled (ends_all (standing (restarts n)) (mem_log.seen log) (log_seen log (restarts n) h.1)) more.2 (follow_marked l.front (repeated_read z l.front first l.mid l.repeated).1) (whole n).based in
       let e = length_is n in
       let many = s.0 in
-      omega (arith, f.1, e, many, low))
+      omega (arith, f, e, many, low))
       (⊎_elim (λ w. (let e = w.0 in cc e)) (λ b. (let e = b.told in cc e))) l.why
   fits_restart z first new low (inr r) =
       let same : restarts n ≡ r.0 = the_log (restarts n) (restarts_plain n) r.0 (mem_log.seen log) (are_spelled n (omega (arith, low))) r.1 (log_seen log (restarts n) h.1) (r.2 tt) in

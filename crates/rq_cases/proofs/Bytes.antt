@@ -27,8 +27,7 @@ use Rattle.rq_cases.specs.Sound.{IsImageOfPage}
 use Rattle.rq_cases.specs.Store.{cells_0, count_sent, fill_cell, formatted_pages, groups_0, joined, page_image, part, sizes}
 use Rattle.rq_cases.proofs.Images.{length-free, part_long}
 use Rattle.rq_log.proofs.Parsing.{one_based}
-use Rattle.rq_model.specs.Bases.{standing}
-use Rattle.rq_model.specs.Incarnations.{AreBased}
+use Rattle.rq_model.specs.Bases.{HasNoBase, standing}
 use Rattle.rq_log.specs.Spelled.{AreAllSpelled}
 use Rattle.rq_log.specs.Spelled.{EndsWithAll}
 use Rattle.rq_log.specs.Spelled.{spelled_all}
@@ -152,11 +151,11 @@ long_number : (rest : List ℕ) → big_number 4 (no_record ++ rest) ≡ 2 ^ 24
 long_number rest = refl
 
 -- no Base stands in them
-pub first_plain : AreBased log_1
-first_plain = (tt, tt)
+pub first_plain : HasNoBase log_1
+first_plain = (refl, tt)
 
-pub records_plain : AreBased log_5
-records_plain = (tt, (tt, (tt, (tt, first_plain))))
+pub records_plain : HasNoBase log_5
+records_plain = (refl, (refl, (refl, (refl, first_plain))))
 
 -- what is left of them where the newest are cut off
 pub drop_spelled : (n : ℕ) → AreSpelled (drop n log_5)
@@ -181,11 +180,11 @@ pub short_log : (log : List Record) → AreSpelled log → EndsWith log no_recor
 short_log log told ends = short_all (standing log) told ends
 
 -- the log that these bytes spell is the one that they tell
-pub the_log : (a : List Record) → AreBased a → (b : List Record) (bytes : List ℕ) → AreSpelled a → AreSpelled b → bytes ≡ spelled a → EndsWith b bytes → a ≡ b
+pub the_log : (a : List Record) → HasNoBase a → (b : List Record) (bytes : List ℕ) → AreSpelled a → AreSpelled b → bytes ≡ spelled a → EndsWith b bytes → a ≡ b
 the_log a plain b bytes h k e ends = sym (one_based b a bytes plain k h ends (ends_all (standing a) bytes e))
 
 -- what spells one log spells no other
-pub spells_one : (a : List Record) → AreBased a → (b : List Record) → AreSpelled a → AreSpelled b → spelled a ≡ spelled b → a ≡ b
+pub spells_one : (a : List Record) → HasNoBase a → (b : List Record) → AreSpelled a → AreSpelled b → spelled a ≡ spelled b → a ≡ b
 spells_one a plain b h k e = the_log a plain b (spelled a) h k refl (ends_all (standing b) (spelled a) e)
 
 -- the formatted pages are pages of bytes

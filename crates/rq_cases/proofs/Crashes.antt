@@ -24,7 +24,7 @@ use Rattle.rq_cases.specs.Crashes.{CrashesAreJudged, MayFail, RunsAreJudged}
 use Rattle.rq_cases.specs.Run.{committed, forced, log_1, log_5, no_record}
 use Rattle.rq_cases.specs.Store.{formatted_pages, sent_pages}
 use Rattle.rq_cases.specs.Worlds.{Hold, course_to}
-use Rattle.rq_cases.proofs.Bytes.{short_log}
+use Rattle.rq_cases.proofs.Bytes.{records_plain, short_log}
 use Rattle.rq_cases.proofs.Held.{log_left, log_now}
 use Rattle.rq_cases.proofs.Pages.{range}
 use Rattle.rq_cases.proofs.Worlds.{cuts, forced_is_left, leaves_store, legal_crash, page_left, some_pages, told_9}
@@ -103,6 +103,7 @@ module _ (goes : CrashGoesOn small) where
       log_5,
       leaves_store pages log h images bytes a b,
       goes (first_entries 9) [] log_5 legal_crash.1 ties whole_5.rules (omega arith) (omega arith),
+      records_plain,
     );
   }
 

@@ -14,15 +14,15 @@ use Rattle.rq_disk.specs.declared.mem_pages.MemPages.{MemPages}
 use Rattle.rq_disk.specs.declared.mem_pages.PageCall.{PageCall}
 use Rattle.rq_disk.proofs.KeptLog.{fresh_only}
 use Rattle.rq_log.specs.Crash.{LeavesOnly}
-use Rattle.rq_model.specs.Incarnations.{AreBased}
-use Rattle.rq_model.specs.Bases.{gone}
-use Rattle.rq_model.proofs.Bases.{all_stand, none_gone, plain_drop}
+use Rattle.rq_model.specs.Bases.{HasNoBase, gone}
+use Rattle.rq_model.proofs.Bases.{all_stand, no_base, none_gone, plain_drop}
 use Rattle.rq_log.specs.Spelled.{AreFirst, AreSpelled, spelled, spelled_all, IsBeginning}
 use Rattle.rq_log.proofs.Parsing.{told_all}
 use Rattle.rq_log.proofs.Moments.{started}
 use Rattle.rq_log.proofs.Runs.{all_of, ends_all, go_on_all, go_on_newer, some_newer, spelled_whole}
 use Rattle.rq_store.specs.Fitting.{AllFit, image_in}
 use Rattle.rq_store.specs.Steps.{Continues}
+use Rattle.rq_store.proofs.Based.{unbased}
 use Rattle.rq_store.proofs.Cutting.{all_fit_longer, only_fit}
 use Rattle.rq_store.proofs.Formatting.{formatted_fits}
 use Rattle.rq_core.specs.Devices.{mem_log, mem_pages}
@@ -38,7 +38,7 @@ pub log_now : (d : MemLog) (c : List ℕ) → mem_log.left_since d (mem_log.mome
 log_now d c left = log_only d.start.value.items d.calls.items c left
 
 -- a beginning of a log without a Base
-first_is : (all : List Record) (kept : ℕ) (c : List ℕ) → AreBased all → AreFirst all kept c → IsBeginning all kept c
+first_is : (all : List Record) (kept : ℕ) (c : List ℕ) → HasNoBase all → AreFirst all kept c → IsBeginning all kept c
 first_is all kept c plain first =
     let e : kept ≡ kept - gone all = (let none = none_gone all plain in omega (arith, none)) in
     subst (λ (l : List Record). AreFirst l (kept - gone all) c) (sym (all_stand all plain)) (subst (λ (n : ℕ). AreFirst all n c) e first)
@@ -51,11 +51,11 @@ module _ (d : MemPages) (n : AreNewPages d formatted_pages) where
     at (inl e) = e
     at (inr none) = absurd none
 
-  pub pages_fit : (log : List Record) → Continues [] log → AllFit (mem_pages.may_be d) sizes log
-  pages_fit log c =
-      all_fit_longer (mem_pages.may_be d) sizes [] log c
-      (only_fit (image_in formatted_pages) (mem_pages.may_be d) sizes [] only_formatted
-      (formatted_fits sizes (image_in formatted_pages) range are_formatted))
+  pub pages_fit : (log : List Record) → Continues [] log → HasNoBase log → AllFit (mem_pages.may_be d) sizes log
+  pages_fit log c plain =
+      let fit = formatted_fits sizes (image_in formatted_pages) range are_formatted in
+      all_fit_longer (mem_pages.may_be d) sizes [] log c (no_base log plain)
+      (only_fit (image_in formatted_pages) (mem_pages.may_be d) sizes [] only_formatted fit (unbased sizes [] (image_in formatted_pages) tt fit))
 
 -- a log of these records, with no call since
 module _ (d : MemLog) (records : List Record) (n : IsNewLog d records) where
@@ -76,7 +76,7 @@ module _ (d : MemLog) (records : List Record) (n : IsNewLog d records) where
   only_records c may = fresh_only (spelled records) c (subst (λ (s : LogState). MayLeave s c) n.log may)
 
   -- of a longer log it leaves a beginning, now and at each moment since
-  module _ (all : List Record) (plain : AreBased all) (kept lost : ℕ) (some : lost + kept ≤ length all) (drops : drop lost all ≡ records) where
+  module _ (all : List Record) (plain : HasNoBase all) (kept lost : ℕ) (some : lost + kept ≤ length all) (drops : drop lost all ≡ records) where
     pub leaves_beginning : (c : List ℕ) → mem_log.may_leave d c → IsBeginning all kept c
     leaves_beginning c may =
         let is = only_records c may ∙ ap spelled (sym drops) ∙ ap spelled_all (all_stand (drop lost all) (plain_drop lost all plain)) in
@@ -89,7 +89,7 @@ module _ (d : MemLog) (records : List Record) (n : IsNewLog d records) where
 abbrev forced_after : Vec ℕ Global → List LogCall
 forced_after run = Append run ∷ Force ∷ []
 
-module _ (all : List Record) (plain : AreBased all) (kept count : ℕ) (told : AreSpelled all) (le : count + kept ≤ length all) where
+module _ (all : List Record) (plain : HasNoBase all) (kept count : ℕ) (told : AreSpelled all) (le : count + kept ≤ length all) where
   abbrev older : List Record
   older = drop count all
 

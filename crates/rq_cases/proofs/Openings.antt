@@ -2,9 +2,11 @@
 use Rattle.std.proofs.Common.{◌≡◌, ◌⊎◌, ⊎_elim, ℕ, ◌+◌, Bool, false, true, List, [], ◌∷◌, ◌++◌, length, take, drop, refl, sym, ap, ◌∙◌, ◌≤◌, subst, inl, inr, arith, append_assoc, length-append}
 use Rattle.std.proofs.Math.Seq.{drop-append_seam}
 use Rattle.std.proofs.lemmas.List.{append-nil, length-take-le, take-append-drop}
+use Rattle.rq_restart.specs.Once.{OneLogEach}
 use Rattle.rq_bytes.specs.Number.{number}
 use Rattle.rq_bytes.proofs.Strings.{length-number}
 use Rattle.rq_model.specs.declared.record.Record.{Record}
+use Rattle.rq_model.specs.Bases.{HasNoBase, standing}
 use Rattle.rq_model.specs.declared.record.Record.TheVariants.{OpEnd, Commit, Restart}
 use Rattle.rq_record.specs.Spelling.{fields, kind_number, spelling}
 use Rattle.rq_record.proofs.Whole.{long_spelling}
@@ -15,7 +17,7 @@ use Rattle.rq_disk.specs.Device.{Images}
 use Rattle.rq_disk.specs.declared.mem_log.MemLog.{MemLog}
 use Rattle.rq_disk.specs.declared.mem_pages.MemPages.{MemPages}
 use Rattle.rq_log.specs.Reading.{IsRead}
-use Rattle.rq_log.specs.Spelled.{AreSpelled, spelled}
+use Rattle.rq_log.specs.Spelled.{AreAllSpelled, AreSpelled, EndsWithAll, spelled}
 use Rattle.rq_log.proofs.Moments.{started}
 use Rattle.rq_log.proofs.Runs.{ends_all, spelled-append}
 use Rattle.rq_page.specs.Formatted.{IsHeaderOf}
@@ -24,13 +26,13 @@ use Rattle.rq_page.specs.Sizes.{Sizes}
 use Rattle.rq_pool.specs.Reading.{ArePages, IsSoundPage}
 use Rattle.rq_views.specs.WorkedItems.{t1}
 use Rattle.rq_store.specs.Fitting.{image_in}
-use Rattle.rq_store.specs.Opening.{IsLeft, next_restart}
+use Rattle.rq_store.specs.Opening.{next_restart}
 use Rattle.rq_store.specs.State.{ledger_of, size_of}
 use Rattle.rq_restart.specs.Checked.{as_read}
 use Rattle.rq_restart.proofs.Begun.{rolled_back_extends}
 use Rattle.rq_restart.specs.Repeating.{Paged, Repeats}
 use Rattle.rq_restart.specs.Restarting.{IsBegunOn, LogStops}
-use Rattle.rq_log.proofs.Parsing.{one_based}
+use Rattle.rq_log.proofs.Parsing.{one_log}
 use Rattle.rq_restart.specs.Underway.{IsGoneOnWith, OfStores}
 use Rattle.rq_core.specs.Devices.{mem_log, mem_pages}
 use Rattle.rq_core.proofs.Arms.{refused_stays}
@@ -45,7 +47,7 @@ use Rattle.rq_cases.specs.Worlds.{Hold, crashed}
 use Rattle.rq_cases.proofs.Bytes.{first_spelled, records_spelled, spells_one, the_log}
 use Rattle.rq_cases.proofs.Held.{log_now, log_seen, only_records}
 use Rattle.rq_cases.proofs.Reading.{first_block, no_header}
-use Rattle.rq_restart.proofs.Paths.{kept, kept_extends}
+use Rattle.rq_restart.proofs.Paths.{kept, kept_extends, kept_stand}
 use Rattle.rq_model.specs.Commits.{committed_of}
 use Rattle.rq_model.specs.Ledger.{Done}
 use Rattle.rq_model.proofs.Cuts.{extends_commits}
@@ -53,7 +55,6 @@ use Rattle.rq_cases.proofs.Restarting.{begun_commit, formatted_fit, is_restart, 
 use Rattle.rq_cases.proofs.Running as running
 use Rattle.rq_cases.proofs.Bytes.{first_plain}
 use Rattle.rq_cases.proofs.Bytes.{records_plain}
-use Rattle.rq_model.specs.Incarnations.{AreBased}
 use Rattle.rq_model.proofs.Bases.{added_stand}
 use Rattle.rq_log.specs.Spelled.{spelled_all}
 use Rattle.rq_cases.proofs.Worlds.{leaves_store, shuts, shuts_with_less}
@@ -155,21 +156,22 @@ next_spelled = ((omega arith, omega arith), records_spelled)
 commit_spelled : AreSpelled (Commit t1 ∷ log_1)
 commit_spelled = (records_spelled.0, first_spelled)
 
-same_length : (a : List Record) → AreBased a → (b : List Record) → AreSpelled a → AreSpelled b → spelled a ≡ spelled b → length a ≡ length b
+same_length : (a : List Record) → HasNoBase a → (b : List Record) → AreSpelled a → AreSpelled b → spelled a ≡ spelled b → length a ≡ length b
 same_length a plain b h k e = ap (λ (l : List Record). length l) (spells_one a plain b h k e)
 
 -- what is left then is no log with less than was read
 begun_with_less : (read : List ℕ) → read ≡ spelled log_5 → IsBegunOn sizes (image_in formatted_pages) read (spelled log_4) → ⊥
 begun_with_less read is b =
     let bytes = spelled log_4 in
-    let left : Type 0 = IsLeft sizes (image_in formatted_pages) b.older in
+    let images : Images = image_in formatted_pages in
     let older : log_5 ≡ b.older = the_log log_5 records_plain b.older read records_spelled b.begun.told is b.reads in
-    let now : log_4 ≡ kept sizes left b.older read bytes b.begun = the_log log_4 records_plain.1 (kept sizes left b.older read bytes b.begun) bytes records_spelled.1 b.begun.left_told refl b.begun.is in
-    let more = kept_extends sizes left b.older read bytes b.begun in
-    let a = length-append more.0 b.older in
-    let c : length (more.0 ++ b.older) ≡ 4 = ap (λ (l : List Record). length l) (more.1 ∙ sym now) in
-    let d : length b.older ≡ 5 = ap (λ (l : List Record). length l) (sym older) in
-    omega (arith, a, c, d)
+    let stands = kept_stand sizes images log_5 b.older read bytes records_spelled (sym older) b.begun in
+    let left : List Record = kept sizes images log_5 b.older read bytes records_spelled (sym older) b.begun in
+    let now : log_4 ≡ left = the_log log_4 records_plain.1 left bytes records_spelled.1 (subst AreAllSpelled (sym stands) b.begun.left_told) refl (subst (λ (l : List Record). EndsWithAll l bytes) (sym stands) b.begun.is) in
+    let more = kept_extends sizes images log_5 b.older read bytes records_spelled (sym older) b.begun in
+    let a = length-append more.0 log_5 in
+    let c : length (more.0 ++ log_5) ≡ 4 = ap (λ (l : List Record). length l) (more.1 ∙ sym now) in
+    omega (arith, a, c)
 
 -- plain records behind
 abbrev newest_is_plain : List Record → Bool
@@ -186,7 +188,7 @@ no_commit_behind (r ∷ more) now plain e f =
 commit_behind : (log : MemLog) → IsNewLog log log_1 → (now : List Record) → now ≡ Commit t1 ∷ log_1
     → mem_log.may_leave log (spelled (Commit t1 ∷ log_1)) ⊎ IsGoneOnWith log_1 (mem_log.seen log) now (spelled (Commit t1 ∷ log_1)) → ⊥
 commit_behind log n now is (inl may) =
-    (let e : 2 ≡ 1 = same_length (Commit t1 ∷ log_1) (tt, first_plain) log_1 commit_spelled first_spelled (only_records log log_1 n (spelled (Commit t1 ∷ log_1)) may) in omega (arith, e))
+    (let e : 2 ≡ 1 = same_length (Commit t1 ∷ log_1) (refl, first_plain) log_1 commit_spelled first_spelled (only_records log log_1 n (spelled (Commit t1 ∷ log_1)) may) in omega (arith, e))
 commit_behind log n now is (inr on) = no_commit_behind on.more.0 now on.more.2 on.more.1 is
 
 -- a record's fifth byte is its kind
@@ -268,6 +270,10 @@ torn_commit_behind log n now (inr on) = elim on.first [
       )
 ]
 
+-- bytes tell one log
+one_each : OneLogEach
+one_each a b bytes = one_log (standing a) (standing b) bytes
+
 pub beginnings : BeginningsAreJudged
 beginnings = record {
   begun_without_a_record = λ d b. (let f : 0 ≡ 1 = ap is_restart b.records in omega (arith, f));
@@ -291,7 +297,7 @@ beginnings = record {
       (begun_with_less (mem_log.seen old) (log_seen old log_5 n)) ((b tt).each (spelled log_4) left);
   commit_added = λ old new n left b.
       ⊎_elim
-      (λ may. (let f : 2 ≡ 1 = same_length (Commit t1 ∷ log_1) (tt, first_plain) log_1 commit_spelled first_spelled (only_records old log_1 n (spelled (Commit t1 ∷ log_1)) may) in omega (arith, f)))
+      (λ may. (let f : 2 ≡ 1 = same_length (Commit t1 ∷ log_1) (refl, first_plain) log_1 commit_spelled first_spelled (only_records old log_1 n (spelled (Commit t1 ∷ log_1)) may) in omega (arith, f)))
       (λ k. begun_commit (subst (λ read. IsBegunOn sizes (image_in formatted_pages) read (spelled (Commit t1 ∷ log_1))) (log_seen old log_1 n) k))
       ((b tt).each (spelled (Commit t1 ∷ log_1)) left);
   of_stores = λ pages log new h seen honest z read told is each.
@@ -300,12 +306,12 @@ beginnings = record {
       (let e : 5 ≡ 4 = ap (λ (l : List Record). length l) (told_of (λ z read. read ≡ log_4) pages log new h q) in omega (arith, e));
   of_no_store = λ pages log new h q. told_of (λ z read. ⊥) pages log new h q;
   goes_on_with_a_commit = λ log images n k.
-      commit_behind log n k.0 (sym (the_log (Commit t1 ∷ log_1) (tt, first_plain) k.0 (spelled (Commit t1 ∷ log_1)) commit_spelled k.1.are_spelled refl k.1.is)) k.2;
-  goes_on_with_a_torn_commit = λ log images n k. torn_commit_behind log n k.0 k.2;
+      commit_behind log n k.0 (sym (the_log (Commit t1 ∷ log_1) (refl, first_plain) k.0 (spelled (Commit t1 ∷ log_1)) commit_spelled k.1.are_spelled refl k.1.is)) k.3;
+  goes_on_with_a_torn_commit = λ log images n k. torn_commit_behind log n k.0 k.3;
   shut_for_damage = λ pages new_pages log new_log d h s.
-      (refused_over one_based sizes crashed pages new_pages log new_log (why.Damaged d) (shuts pages log h) s).cause tt;
+      (refused_over one_each sizes crashed pages new_pages log new_log (why.Damaged d) (shuts pages log h) s).cause tt;
   shut_with_less = λ pages new_pages log new_log r h n s.
-      shuts_with_less new_pages new_log n (refused_stays one_based sizes crashed pages log r new_pages new_log s (shuts pages log h));
+      shuts_with_less new_pages new_log n (refused_stays one_each sizes crashed pages log r new_pages new_log s (shuts pages log h));
   refuses_without_reason = λ r.
       (let s = (r running.force.sound).0 in
       let e = subst (Legal (size_of sizes) (ledger_of forced)) s.says s.legal in
@@ -315,4 +321,4 @@ beginnings = record {
   told_of : (Q : Sizes → List Record → Type 0) (pages : MemPages) (log new : MemLog) → Hold pages formatted_pages log log_5 → OfStores mem_pages mem_log pages log pages new Q → Q sizes log_5
   told_of Q pages log new h q =
       q tt tt sizes log_5 records_spelled (ends_all log_5 (mem_log.seen log) (log_seen log log_5 h.1))
-      (λ images bytes a b. (log_5, leaves_store pages log h images bytes a b))
+      (λ images bytes a b. (log_5, leaves_store pages log h images bytes a b, refl))

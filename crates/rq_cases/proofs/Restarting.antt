@@ -1,10 +1,17 @@
 -- What a restart finds, makes and refuses.
 use Rattle.std.proofs.Common.{◌≡◌, ℕ, zero, suc, ◌≤◌, ◌<◌, List, [], ◌∷◌, ◌++◌, length, take, drop, refl, sym, ap, ◌∙◌, subst, arith}
+use Rattle.rq_disk.specs.Device.{Images}
+use Rattle.rq_restart.proofs.Pasts.{left_there}
+use Rattle.rq_restart.specs.RolledBack.{IsRolledBack}
+use Rattle.rq_restart.proofs.Plain.{mended_alone}
+use Rattle.rq_analysis.specs.Recovered.{IsRecovered}
+use Rattle.rq_engine.specs.Earlier.{rebased}
+use Rattle.rq_model.specs.Bases.{earlier}
 use Rattle.rq_model.specs.declared.record.Record.{Record}
 use Rattle.rq_model.specs.declared.record.Record.TheVariants.{Commit, Restart}
 use Rattle.rq_disk.specs.Memory.{fresh_pages, reads}
 use Rattle.rq_disk.specs.declared.mem_pages.MemPages.{MemPages}
-use Rattle.rq_log.specs.Spelled.{spelled}
+use Rattle.rq_log.specs.Spelled.{AreAllSpelled, EndsWithAll, spelled}
 use Rattle.std.proofs.lemmas.List.{take-append-drop}
 use Rattle.rq_bytes.specs.Number.{number_at}
 use Rattle.rq_page.specs.declared.directory.DirectorySlot.{DirectorySlot}
@@ -16,13 +23,14 @@ use Rattle.rq_views.specs.WorkedItems.{t1}
 use Rattle.rq_store.specs.Fitting.{FitsLog, image_in}
 use Rattle.rq_store.specs.Opening.{IsLeft, next_restart}
 use Rattle.rq_store.specs.Whole.{IsWhole}
+use Rattle.rq_store.proofs.Based.{unbased}
 use Rattle.rq_store.proofs.Cutting.{whole_dropped, fits_log_longer}
 use Rattle.rq_store.proofs.Formatting.{formatted_fits}
 use Rattle.rq_restart.specs.Repeating.{ArePagesCounted, Paged, Repeats}
 use Rattle.rq_restart.specs.Restarting.{IsBegunOn, IsLeftOn}
 use Rattle.rq_restart.proofs.Begun.{rolled_back_incarnation}
 use Rattle.rq_analysis.proofs.Recovering.{recovered_from}
-use Rattle.rq_restart.proofs.Paths.{kept, kept_extends}
+use Rattle.rq_restart.proofs.Paths.{kept, kept_extends, kept_stand}
 use Rattle.rq_model.specs.Commits.{committed_of}
 use Rattle.rq_model.specs.Incarnations.{InOrder, incarnation_of}
 use Rattle.rq_model.specs.declared.refusal.Refusal.TheVariants as why
@@ -139,15 +147,20 @@ formatted_fit_4 = fits_log_longer sizes (image_in formatted_pages) [] log_4 (4, 
 pub whole_4 : IsWhole sizes log_4
 whole_4 = whole_dropped sizes 1 log_5 whole_5
 
+pub left_4 : IsLeft sizes (image_in formatted_pages) log_4
+left_4 = record { whole = whole_4; fits = formatted_fit_4; based = unbased sizes log_4 (image_in formatted_pages) records_plain.1 formatted_fit_4 }
+
 begun_open : IsBegunOn sizes (image_in formatted_pages) (spelled log_4) (spelled (Restart 2 ∷ log_4)) → ⊥
 begun_open b =
     let bytes = spelled (Restart 2 ∷ log_4) in
-    let left : Type 0 = IsLeft sizes (image_in formatted_pages) b.older in
+    let images : Images = image_in formatted_pages in
     let older : log_4 ≡ b.older = the_log log_4 records_plain.1 b.older (spelled log_4) records_spelled.1 b.begun.told refl b.reads in
-    let now : Restart 2 ∷ log_4 ≡ kept sizes left b.older (spelled log_4) bytes b.begun =
-    the_log (Restart 2 ∷ log_4) (tt, records_plain.1) (kept sizes left b.older (spelled log_4) bytes b.begun) bytes ((omega arith, omega arith), records_spelled.1) b.begun.left_told refl b.begun.is in
-    let here : left = subst (IsLeft sizes (image_in formatted_pages)) older (record { whole = whole_4; fits = formatted_fit_4 }) in
-    let from = recovered_from sizes b.older b.begun.rolled_back here.whole (b.begun.recovered here) in
+    let mends : IsRolledBack log_4 b.begun.rolled_back = subst (λ (l : List Record). IsRolledBack l b.begun.rolled_back) (sym older) b.begun.rolls_back in
+    let alone = mended_alone log_4 records_plain.1 records_spelled.1 b.begun.rolled_back mends in
+    let now : Restart 2 ∷ log_4 ≡ drop b.begun.lacks (next_restart b.begun.rolled_back ∷ b.begun.rolled_back) =
+    the_log (Restart 2 ∷ log_4) (refl, records_plain.1) (drop b.begun.lacks (next_restart b.begun.rolled_back ∷ b.begun.rolled_back)) bytes ((omega arith, omega arith), records_spelled.1) b.begun.left_told refl b.begun.is in
+    let recovered = left_there b.older log_4 (sym older) records_spelled.1 b.begun.recovered left_4 in
+    let from = recovered_from sizes log_4 b.begun.rolled_back whole_4 (subst (λ (l : List Record). IsRecovered sizes log_4 l) alone (subst (λ (l : List Record). IsRecovered sizes (rebased (earlier log_4) l) (rebased (earlier log_4) b.begun.rolled_back)) (sym older) recovered)) in
     let one : incarnation_of b.begun.rolled_back ≡ 1 = rolled_back_incarnation b.older b.begun.rolled_back b.begun.rolls_back ∙ ap incarnation_of (sym older) in
     at b.begun.rolled_back b.begun.lacks now b.begun.rolls_back.ended one from.whole.order where
       at : (rolled_back : List Record) (n : ℕ) → Restart 2 ∷ log_4 ≡ drop n (next_restart rolled_back ∷ rolled_back) → IsEnded rolled_back → incarnation_of rolled_back ≡ 1 → InOrder rolled_back → ⊥
@@ -162,18 +175,17 @@ begun_open b =
 pub begun_commit : IsBegunOn sizes (image_in formatted_pages) (spelled log_1) (spelled (Commit t1 ∷ log_1)) → ⊥
 begun_commit b =
     let bytes = spelled (Commit t1 ∷ log_1) in
-    let left : Type 0 = IsLeft sizes (image_in formatted_pages) b.older in
+    let images : Images = image_in formatted_pages in
     let older : log_1 ≡ b.older = the_log log_1 first_plain b.older (spelled log_1) first_spelled b.begun.told refl b.reads in
-    let now : Commit t1 ∷ log_1 ≡ kept sizes left b.older (spelled log_1) bytes b.begun = the_log (Commit t1 ∷ log_1) (tt, first_plain) (kept sizes left b.older (spelled log_1) bytes b.begun) bytes (records_spelled.0, first_spelled) b.begun.left_told refl b.begun.is in
-    let same : committed_of (Commit t1 ∷ log_1) ≡ committed_of log_1 = ap committed_of now ∙ extends_commits b.older (kept sizes left b.older (spelled log_1) bytes b.begun) (kept_extends sizes left b.older (spelled log_1) bytes b.begun) ∙ ap committed_of (sym older) in
+    let stands = kept_stand sizes images log_1 b.older (spelled log_1) bytes first_spelled (sym older) b.begun in
+    let left : List Record = kept sizes images log_1 b.older (spelled log_1) bytes first_spelled (sym older) b.begun in
+    let now : Commit t1 ∷ log_1 ≡ left = the_log (Commit t1 ∷ log_1) (refl, first_plain) left bytes (records_spelled.0, first_spelled) (subst AreAllSpelled (sym stands) b.begun.left_told) refl (subst (λ (l : List Record). EndsWithAll l bytes) (sym stands) b.begun.is) in
+    let same : committed_of (Commit t1 ∷ log_1) ≡ committed_of log_1 = ap committed_of now ∙ extends_commits log_1 left (kept_extends sizes images log_1 b.older (spelled log_1) bytes first_spelled (sym older) b.begun) in
     let count : 1 ≡ 0 = ap length same in
     omega (arith, count)
 
 left_5 : IsLeft sizes (image_in formatted_pages) log_5
-left_5 = record { whole = whole_5; fits = formatted_fit }
-
-pub left_4 : IsLeft sizes (image_in formatted_pages) log_4
-left_4 = record { whole = whole_4; fits = formatted_fit_4 }
+left_5 = record { whole = whole_5; fits = formatted_fit; based = unbased sizes log_5 (image_in formatted_pages) records_plain formatted_fit }
 
 pub restarts : RestartsAreJudged
 restarts = record {
@@ -192,7 +204,7 @@ restarts = record {
   unfinished = λ s. s;
   log_full_of_five = none_full (Unit {0});
   disk_without_a_failure = λ s. (let e = s.0 in omega (arith, e));
-  chains_are_whole = λ page u. u.none left_5;
+  chains_are_whole = λ page u. u.none [] refl left_5;
   stops_unfinished = λ s. s;
   stops_for_damage = λ d s. s left_4;
   stops_for_another = λ s. s;

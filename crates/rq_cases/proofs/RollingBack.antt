@@ -11,6 +11,7 @@ use Rattle.rq_views.specs.WorkedItems.{t1, t2}
 use Rattle.rq_store.specs.Fitting.{image_in}
 use Rattle.rq_store.specs.Opening.{IsLeft}
 use Rattle.rq_store.specs.Steps.{page_op}
+use Rattle.rq_store.proofs.Based.{unbased}
 use Rattle.rq_store.proofs.Cutting.{fits_log_longer, whole_dropped}
 use Rattle.rq_store.proofs.Formatting.{formatted_fits}
 use Rattle.rq_analysis.specs.Pages.{IsUndone}
@@ -139,7 +140,9 @@ half_back v a =
 -- ---- operations
 
 left_2 : IsLeft sizes (image_in formatted_pages) log_2
-left_2 = record { whole = whole_dropped sizes 3 log_5 whole_5; fits = fits_log_longer sizes (image_in formatted_pages) [] log_2 (2, refl) (formatted_fits sizes (image_in formatted_pages) range are_formatted) }
+left_2 =
+    let fit = fits_log_longer sizes (image_in formatted_pages) [] log_2 (2, refl) (formatted_fits sizes (image_in formatted_pages) range are_formatted) in
+    record { whole = whole_dropped sizes 3 log_5 whole_5; fits = fit; based = unbased sizes log_2 (image_in formatted_pages) (refl, (refl, tt)) fit }
 
 pub rolls_back : MendsAreJudged
 rolls_back = record {
@@ -153,8 +156,8 @@ rolls_back = record {
   ends_early = none_ends t2;
   another_ends = λ first. not_aborting (RepeatedFrom items.sizes first) (AbortEnd t1) refl (none_ends t1);
   commits = λ first. not_aborting (RepeatedFrom items.sizes first) (Commit t2) refl no_commit;
-  no_bad_rollback = λ lsn b. b.none left_4;
-  no_bad_undo = λ lsn b. begun.no_bad_undo sizes log_2 read_pages lsn left_2 b;
+  no_bad_rollback = λ lsn b. b.none [] refl left_4;
+  no_bad_undo = λ lsn b. begun.no_bad_undo sizes log_2 read_pages lsn b [] refl left_2;
   not_full = λ b.
       (let e : length b.undone ≡ 5 = ap length (nothing_undone log_5 b.undone refl refl b.undoing) in
       let full = b.full in

@@ -3,6 +3,7 @@ use Rattle.std.proofs.Common.{rules, ◌≡◌, ℕ, ◌+◌, ◌-◌, ◌≤◌
 use Rattle.std.proofs.lemmas.List.{length-drop, length-take-le, take-append-drop}
 use Rattle.std.proofs.Math.Seq.{drop-append_seam}
 use Rattle.byteorder.specs.Endian.{big_number}
+use Rattle.rq_model.proofs.Bases.{plain_drop}
 use Rattle.rq_model.specs.declared.record.Record.{Record}
 use Rattle.rq_model.specs.declared.record.Record.TheVariants.{Commit}
 use Rattle.rq_model.specs.History.{Entry}
@@ -32,6 +33,7 @@ use Rattle.rq_page.specs.Pages.{lsn_of}
 use Rattle.rq_store.specs.Fitting.{FitsLog, FitsPage, image_in}
 use Rattle.rq_store.specs.State.{State}
 use Rattle.rq_store.specs.Steps.{Continues, page_op}
+use Rattle.rq_store.proofs.Based.{hold_base, unbased}
 use Rattle.rq_store.proofs.Cutting.{fits_log, fits_log_longer, whole_dropped}
 use Rattle.rq_store.proofs.Formatting.{formatted_fits}
 use Rattle.rq_store.proofs.WorkedFits.{whole_empty}
@@ -58,7 +60,7 @@ use Rattle.rq_cases.proofs.Running as running
 use Rattle.rq_cases.proofs.Bytes.{first_plain}
 use Rattle.rq_cases.proofs.Bytes.{records_plain}
 use Rattle.rq_log.proofs.Parsing.{one_based}
-use Rattle.rq_model.specs.Bases.{standing}
+use Rattle.rq_model.specs.Bases.{HasNoBase, standing}
 use Rattle.rq_cases.proofs.Restarting.{group_lsn, whole_5}
 
 -- the worked courses tell their histories
@@ -87,10 +89,10 @@ some_pages d p = pages_seen (pages_of d) p
 
 module _ (pages : MemPages) (log : MemLog) where
   opens : Hold pages formatted_pages log log_1 → Opens sizes (first_entries 7) (over committed pages log)
-  opens h = record { sizes = refl; ledger = refl; sound = running.commit_send.sound; fit = pages_fit pages h.0 log_1 (1, refl) }
+  opens h = record { sizes = refl; ledger = refl; plain = records_plain; sound = running.commit_send.sound; fit = pages_fit pages h.0 log_1 (1, refl) first_plain }
 
   opens_forced : Hold pages formatted_pages log log_5 → Opens sizes (first_entries 9) (over forced pages log)
-  opens_forced h = record { sizes = refl; ledger = refl; sound = running.force.sound; fit = pages_fit pages h.0 log_5 (5, refl) }
+  opens_forced h = record { sizes = refl; ledger = refl; plain = records_plain; sound = running.force.sound; fit = pages_fit pages h.0 log_5 (5, refl) records_plain }
 
   a_page_ahead : AreNewPages pages sent_pages → Opens sizes (first_entries 7) (over committed pages log) → ⊥
   a_page_ahead n o =
@@ -107,7 +109,8 @@ module _ (pages : MemPages) (log : MemLog) where
     is = ends_all log_5 bytes (only_records log log_5 h.1 bytes b);
     left = record {
       whole = running.commit_send.sound.log;
-      fits = fits_log (mem_pages.may_be pages) sizes log_5 images (pages_fit pages h.0 log_5 (5, refl)) a;
+      fits = fits_log (mem_pages.may_be pages) sizes log_5 images (pages_fit pages h.0 log_5 (5, refl) records_plain) a;
+      based = hold_base (mem_pages.may_be pages) sizes log_5 images (pages_fit pages h.0 log_5 (5, refl) records_plain) a;
     };
   }
 
@@ -116,6 +119,7 @@ module _ (pages : MemPages) (log : MemLog) where
     range = range;
     phase = refl;
     older = log_5;
+    plain = records_plain;
     ties = record { committed = refl; records = refl; incarnation = omega arith };
     left = λ images bytes a b. (log_5, ([], refl, tt), leaves_store h images bytes a b);
   }
@@ -160,7 +164,8 @@ worlds = record {
       is = ends_all [] bytes (only_records log [] h.1 bytes b);
       left = record {
         whole = whole_empty sizes;
-        fits = fits_log (mem_pages.may_be pages) sizes [] images (pages_fit pages h.0 [] (0, refl)) a;
+        fits = fits_log (mem_pages.may_be pages) sizes [] images (pages_fit pages h.0 [] (0, refl) tt) a;
+        based = hold_base (mem_pages.may_be pages) sizes [] images (pages_fit pages h.0 [] (0, refl) tt) a;
       };
     };
   };
@@ -172,7 +177,7 @@ pub leaves : (pages : MemPages) (log : MemLog) → Hold pages formatted_pages lo
 leaves pages log h =
     leaves_cut mem_pages mem_log pages_now (over committed pages log)
     (λ honest c may. leaves_beginning log log_1 h.1 log_5 records_plain 1 4 (omega arith) refl c may)
-    (records_spelled, λ some. some) tt running.commit_send.sound (pages_fit pages h.0 log_1 (1, refl))
+    (records_spelled, λ some. some) tt running.commit_send.sound (pages_fit pages h.0 log_1 (1, refl) first_plain)
 
 -- the formatted pages with the first records, all or only the first
 pub formatted_fit : (log : List Record) → Continues [] log → FitsLog sizes (image_in formatted_pages) log
@@ -192,7 +197,7 @@ cut_behind_first bytes ends on = record {
   told = first_spelled;
   spells = ends;
   begins = go_on_newer 3 log_5 bytes on;
-  store = record { whole = whole_dropped sizes 4 log_5 whole_5; fits = formatted_fit log_1 (1, refl) };
+  store = record { whole = whole_dropped sizes 4 log_5 whole_5; fits = formatted_fit log_1 (1, refl); based = unbased sizes log_1 (image_in formatted_pages) first_plain (formatted_fit log_1 (1, refl)) };
   durable = omega arith;
   content = λ g. content_is g log_1 (whole_dropped sizes 4 log_5 whole_5).rules ∙ ap (λ c. group_in c g) (sym (commits_of_cut 4 log_5));
 }
@@ -247,15 +252,15 @@ cut_all = record {
   told = records_spelled;
   spells = ends_all log_5 (spelled log_5) refl;
   begins = go_on_all log_5 (spelled log_5) refl;
-  store = record { whole = whole_5; fits = formatted_fit log_5 (5, refl) };
+  store = record { whole = whole_5; fits = formatted_fit log_5 (5, refl); based = unbased sizes log_5 (image_in formatted_pages) records_plain (formatted_fit log_5 (5, refl)) };
   durable = omega arith;
   content = λ g. content_is g log_5 whole_5.rules ∙ ap (λ c. group_in c g) (sym (commits_of_cut 0 log_5));
 }
 
 -- how many records are left where these bytes are
-kept_count : (s : State) (images : Images) (records : List Record) → AreSpelled records → (c : IsCut s images (spelled records)) → length s.records - c.lost ≡ length records
-kept_count s images records told c =
-    sym (length-drop c.lost s.records) ∙ ap (λ (l : List Record). length l) (sym (one_based records (drop c.lost s.records) (spelled records) c.store.whole.based told c.told (ends_all (standing records) (spelled records) refl) c.spells))
+kept_count : (s : State) (images : Images) (records : List Record) → HasNoBase s.records → AreSpelled records → (c : IsCut s images (spelled records)) → length s.records - c.lost ≡ length records
+kept_count s images records plain told c =
+    sym (length-drop c.lost s.records) ∙ ap (λ (l : List Record). length l) (sym (one_based records (drop c.lost s.records) (spelled records) (plain_drop c.lost s.records plain) told c.told (ends_all (standing records) (spelled records) refl) c.spells))
 
 pub cuts : CutsAreJudged
 cuts = record {
@@ -263,14 +268,14 @@ cuts = record {
   cut = cut_first;
   nothing_lost = cut_all;
   forced_lost = λ images c.
-      (let n : 5 - c.lost ≡ 1 = kept_count forced images log_1 first_spelled c in
+      (let n : 5 - c.lost ≡ 1 = kept_count forced images log_1 records_plain first_spelled c in
       let f : c.lost + 5 ≤ 5 = c.forced in
       omega (arith, n, f));
   torn = cut_torn;
   torn_commit = no_torn_commit;
   begins_no_record = λ images c. short_log (drop c.lost log_5) c.told c.spells;
   page_ahead = λ c.
-      (let n : 5 - c.lost ≡ 1 = kept_count committed (image_in sent_pages) log_1 first_spelled c in
+      (let n : 5 - c.lost ≡ 1 = kept_count committed (image_in sent_pages) log_1 records_plain first_spelled c in
       let w : lsn_of (page_image 3 1 1 groups_1) ≤ length (drop c.lost log_5) = (c.store.fits.pages 1 (omega arith) (omega arith)).within in
       let m = length-drop c.lost log_5 in
       let e = group_lsn in
@@ -292,7 +297,7 @@ pub forced_is_left : (course : Course) (h : List Entry) (pages : MemPages) (log 
     → LeavesStores mem_pages mem_log sizes h pages log → AreSpelled records → length records < n → mem_log.may_leave log (spelled records) → ⊥
 forced_is_left course h pages log records n tells legal leaves told few may =
     let x = leaves (mem_pages.seen pages) (spelled records) (some_pages pages) may in
-    let same : x.0 ≡ records = sym (one_based records x.0 (spelled records) x.1.left.whole.based told x.1.are_spelled (ends_all (standing records) (spelled records) refl) x.1.is) in
+    let same : x.0 ≡ records = sym (one_based records x.0 (spelled records) x.3 told x.1.are_spelled (ends_all (standing records) (spelled records) refl) x.1.is) in
     let count : length x.0 ≡ length records = ap (λ (l : List Record). length l) same in
     let older : List Entry = tells.0 in
     let is : h ≡ Forced n ∷ older = tells.2.3 ∙ ap (λ (e : Entry). e ∷ older) tells.2.1 in

@@ -27,6 +27,9 @@ use Rattle.rq_engine.specs.declared.event.Event.{Event}
 use Rattle.rq_engine.specs.declared.event.Reply.{Reply}
 use Rattle.rq_engine.specs.declared.event.Reply.TheVariants as reply
 use Rattle.rq_pool.specs.Reading.{IsSuperblock}
+use Rattle.rq_model.specs.Bases.{earlier}
+use Rattle.rq_store.specs.Whole.{AreBased}
+use Rattle.rq_engine.specs.Earlier.{on, over, rebased}
 use Rattle.rq_sound.specs.Sound.{IsSound}
 use Rattle.rq_store.specs.Fitting.{AllFit}
 use Rattle.rq_engine.specs.Devices.{EachPair}
@@ -89,7 +92,7 @@ not_open law z course x call pages log is ran =
       history = Refused_entry call why.Failed ∷ ran.history;
       tells = (ran.history, ran.tells, subst (λ c. AddsCall c (Gave_refusal why.Failed) ran.history (Refused_entry call why.Failed ∷ ran.history)) (sym is) (Refused_entry call why.Failed, says call, tt, refl));
       legal = (law (size_of z) (ledger ran.history) call (ap runs s.phase), ran.legal);
-      stands = record { range = s.range; phase = s.phase; older = s.older; ties = s.ties; left = s.left };
+      stands = record { range = s.range; phase = s.phase; older = s.older; plain = s.plain; ties = s.ties; left = s.left };
       counted = tt;
     } where
       says : (c : Call) → Says c (Gave_refusal why.Failed) (Refused_entry c why.Failed)
@@ -123,10 +126,10 @@ module _ (pages : MemPages) (log : MemLog) where
       → IfOk r (λ o. (older : List Record) → IsReadAs mem_log log o.0.log older → Reports o.0.state.sizes older o.0.state.records o.1.incarnation o.1.records o.1.unfinished o.1.lost)
       → IfOk r (λ o. (older : List Record) → IsReadAs mem_log log o.0.log older → IsOpenedOver older o.0.state)
       → IfOk r (λ o. mem_pages.honest o.0.pages → IsSuperblock o.0.state.sizes (mem_pages.seen pages 0))
-      → IfOk r (λ o. (older : List Record) → IsReadAs mem_log log o.0.log older → IsLeftOn mem_pages o.0.state.sizes pages o.0.pages older → IsSound o.0.state)
-      → IfOk r (λ o. (older : List Record) → IsReadAs mem_log log o.0.log older → IsLeftOn mem_pages o.0.state.sizes pages o.0.pages older → IsRecovered o.0.state.sizes older (drop 1 o.0.state.records))
-      → IfOk r (λ o. (older : List Record) → IsReadAs mem_log log o.0.log older → IsLeftOn mem_pages o.0.state.sizes pages o.0.pages older → (ledger : Ledger) → ledger.committed ≡ committed_of older → ledger_of o.0.state ≡ after (Restarted_entry o.1.incarnation o.1.records) ledger)
-      → IfOk r (λ o. (older : List Record) → IsReadAs mem_log log o.0.log older → AllFit (mem_pages.may_be pages) o.0.state.sizes older → AreFit mem_pages o.0)
+      → IfOk r (λ o. (older : List Record) → IsReadAs mem_log log o.0.log older → IsLeftOn mem_pages o.0.state.sizes pages o.0.pages older → IsSound (on (earlier older) o.0.state))
+      → IfOk r (λ o. (older : List Record) → IsReadAs mem_log log o.0.log older → IsLeftOn mem_pages o.0.state.sizes pages o.0.pages older → IsRecovered o.0.state.sizes older (rebased (earlier older) (drop 1 o.0.state.records)))
+      → IfOk r (λ o. (older : List Record) → IsReadAs mem_log log o.0.log older → IsLeftOn mem_pages o.0.state.sizes pages o.0.pages older → (ledger : Ledger) → ledger.committed ≡ committed_of older → ledger_of (on (earlier older) o.0.state) ≡ after (Restarted_entry o.1.incarnation o.1.records) ledger)
+      → IfOk r (λ o. (older : List Record) → IsReadAs mem_log log o.0.log older → AreBased older → AllFit (mem_pages.may_be pages) o.0.state.sizes older → AreFit mem_pages (over (earlier older) o.0))
       → IfOk r (λ o. IsOpened pages log (report_of o.1) o.0)
   opens (Err e) report value sizes sound recovered entry fit = tt
   opens (Ok o) report value sizes sound recovered entry fit = record { reports = report; value = value; sizes = sizes; sound = sound; recovered = recovered; entry = entry; fit = fit }
@@ -178,6 +181,7 @@ begins z pages log fresh = record {
     range = fresh.range;
     phase = refl;
     older = [];
+    plain = tt;
     ties = record { committed = refl; records = refl; incarnation = omega arith };
     left = λ images bytes a b. ([], ([], refl, tt), fresh.left images bytes a b);
   };

@@ -57,6 +57,7 @@ formatted z pages log bytes range fit is none = record {
         headers = λ p low high. fit.headers p (images p) low high (a p);
         pages = λ p low high. fit.pages p (images p) low high (a p);
       };
+      based = λ p low high. fit.based p (images p) low high (a p);
     };
   };
 }

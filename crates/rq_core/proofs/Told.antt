@@ -66,15 +66,15 @@ module _ (z : Sizes) (k : Laws z) (course : Course) where
   nothing : (x : Happening) (w : MemWorld) → DoesNothing course x → Ran z course w → Ran z ((x, Nothing) ∷ course) w
   nothing x (Is_open e) does ran =
       let o : IsOpen mem_pages mem_log z ran.history e = ran.stands in
-      record { history = ran.history; tells = (ran.history, ran.tells, (does, refl)); legal = ran.legal; stands = record { sizes = o.sizes; ledger = o.ledger; sound = o.sound; fit = o.fit }; counted = tt }
+      record { history = ran.history; tells = (ran.history, ran.tells, (does, refl)); legal = ran.legal; stands = record { sizes = o.sizes; ledger = o.ledger; plain = o.plain; sound = o.sound; fit = o.fit }; counted = tt }
   nothing x (Is_shut pages log) does ran =
       let s : IsShut mem_pages mem_log z ran.history pages log = ran.stands in
-      record { history = ran.history; tells = (ran.history, ran.tells, (does, refl)); legal = ran.legal; stands = record { range = s.range; phase = s.phase; older = s.older; ties = s.ties; left = s.left }; counted = tt }
+      record { history = ran.history; tells = (ran.history, ran.tells, (does, refl)); legal = ran.legal; stands = record { range = s.range; phase = s.phase; older = s.older; plain = s.plain; ties = s.ties; left = s.left }; counted = tt }
 
   running : (x : Happening) (e : Engine) → IsTrue (restarts x) → Ran z course (Is_open e) → Ran z ((x, Running) ∷ course) (Is_open e)
   running x e may ran =
       let o : IsOpen mem_pages mem_log z ran.history e = ran.stands in
-      record { history = ran.history; tells = (ran.history, ran.tells, (may, (stands_at ran.history e.state o.ledger).runs, refl)); legal = ran.legal; stands = record { sizes = o.sizes; ledger = o.ledger; sound = o.sound; fit = o.fit }; counted = tt }
+      record { history = ran.history; tells = (ran.history, ran.tells, (may, (stands_at ran.history e.state o.ledger).runs, refl)); legal = ran.legal; stands = record { sizes = o.sizes; ledger = o.ledger; plain = o.plain; sound = o.sound; fit = o.fit }; counted = tt }
 
   -- whatever happens, the course goes on
   goes_on : (x : Happening) (old : MemWorld) (a : Answer) (new : MemWorld) → Happened course x old a new → Ran z course old → Ran z ((x, a) ∷ course) new

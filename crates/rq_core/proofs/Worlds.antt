@@ -28,7 +28,7 @@ use Rattle.rq_pool.specs.Reading.{IsSuperblock}
 use Rattle.rq_store.specs.State.{State, ledger_of, size_of, phase_of}
 use Rattle.rq_sound.specs.Sound.{IsSound}
 use Rattle.rq_store.specs.Opening.{IsLeft, next_restart}
-use Rattle.rq_store.specs.Fitting.{AllFit, FitsLog, FitsPage}
+use Rattle.rq_store.specs.Fitting.{AllFit, FitsPage, HoldsBase, oldest}
 use Rattle.rq_store.proofs.Opens.{busy_is}
 use Rattle.rq_page.specs.Formatted.{IsFormatted, IsHeaderOf}
 use Rattle.rq_engine.specs.Applied.{Applied, RefusalLeaves, WriteFails}
@@ -45,6 +45,12 @@ use Rattle.rq_level.specs.declared.writes.Outcome.TheVariants as outcome
 use Rattle.rq_engine.specs.declared.event.Progress.TheVariants as progress
 use Rattle.rq_engine.specs.declared.event.Reply.{Reply}
 use Rattle.rq_engine.specs.declared.event.Reply.TheVariants as reply
+use Rattle.rq_model.specs.Bases.{HasNoBase, earlier, marked}
+use Rattle.rq_model.proofs.Bases.{all_stand, plain_drop}
+use Rattle.rq_store.specs.Whole.{AreBased}
+use Rattle.rq_engine.specs.Earlier.{on, over, rebased}
+use Rattle.rq_analysis.proofs.Marked.{marked_incarnation}
+use Rattle.rq_restart.proofs.Plain.{none_earlier, one_plain, opened_alone, opened_plain, plain_extends, plain_stays, rolled_alone}
 use Rattle.rq_restart.specs.Restarting.{IsReadAs, IsLeftOn, IsOpenedOver, Reports}
 use Rattle.rq_analysis.specs.Recovered.{IsRecovered, IsRecoveredFrom}
 use Rattle.rq_analysis.proofs.Recovering.{recovered_from}
@@ -110,6 +116,7 @@ module _ {P L : Type 0} (p : page_device.Ghosts P) (l : log_device.Ghosts L) (ho
         stands = record {
           sizes = a.sizes ∙ o.sizes;
           ledger = s.after ∙ ap (after s.entry) o.ledger;
+          plain = plain_stays p l old new e r a o.plain;
           sound = s.sound;
           fit = fit_own p l old new e r a (honest_p new.pages, honest_l new.log) o.sound o.fit;
         };
@@ -120,11 +127,12 @@ module _ {P L : Type 0} (p : page_device.Ghosts P) (l : log_device.Ghosts L) (ho
   pub record IsGivenUp (h : List Entry) (e : OpenStore P L) : Type 0 where
     pub sizes : e.state.sizes ≡ z
     pub at : StandsAt h e.state
+    pub plain : HasNoBase e.state.records
     pub sound : IsSound e.state
     pub fit : AreFit p e
 
   pub still : (h : List Entry) (e : OpenStore P L) → IsOpen p l z h e → IsGivenUp h e
-  still h e o = record { sizes = o.sizes; at = stands_at h e.state o.ledger; sound = o.sound; fit = o.fit }
+  still h e o = record { sizes = o.sizes; at = stands_at h e.state o.ledger; plain = o.plain; sound = o.sound; fit = o.fit }
 
   -- a call that a device refused changes nothing of that
   pub refused : (h : List Entry) (e : Event) (r : Refusal) (old new : OpenStore P L) → IsOpen p l z h old → Applied p l old e (reply.Refused r) new → is_of_device r ≡ true → IsGivenUp h new
@@ -133,6 +141,7 @@ module _ {P L : Type 0} (p : page_device.Ghosts P) (l : log_device.Ghosts L) (ho
       record {
         sizes = a.sizes ∙ o.sizes;
         at = stays r device a.refused;
+        plain = plain_stays p l old new e (reply.Refused r) a o.plain;
         sound = s.sound;
         fit = fit_own p l old new e (reply.Refused r) a (honest_p new.pages, honest_l new.log) o.sound o.fit;
       } where
@@ -155,6 +164,7 @@ module _ {P L : Type 0} (p : page_device.Ghosts P) (l : log_device.Ghosts L) (ho
       record {
         sizes = a.sizes ∙ o.sizes;
         at = by r a.refused s.entry s.says s.after;
+        plain = plain_stays p l old new event.HandOver r a o.plain;
         sound = s.sound;
         fit = fit_own p l old new event.HandOver r a (honest_p new.pages, honest_l new.log) o.sound o.fit;
       } where
@@ -191,6 +201,7 @@ module _ {P L : Type 0} (p : page_device.Ghosts P) (l : log_device.Ghosts L) (ho
         kept,
         record { range = subst IsInRange g.sizes g.sound.range; are_spelled = c.told; is = c.spells; left = left },
         law h (take c.lost log) kept legal (subst (Ties (ledger h)) (sym whole) ties) left.whole.rules (omega (arith, f, n, m)) (omega (arith, i, begun)),
+        plain_drop c.lost log g.plain,
       )
 
   -- and so may whatever a crash leaves of one that is shut
@@ -198,7 +209,7 @@ module _ {P L : Type 0} (p : page_device.Ghosts P) (l : log_device.Ghosts L) (ho
   leaves_shut law h pages log legal s = λ images bytes a b.
       let x = s.left images bytes a b in
       let store : IsStore z x.0 images bytes = x.2 in
-      (x.0, store, law h s.older x.0 legal s.phase s.ties x.1 store.left.whole.order store.left.whole.rules)
+      (x.0, store, law h s.older x.0 legal s.phase s.ties x.1 store.left.whole.order store.left.whole.rules, plain_extends s.older x.0 s.plain x.1)
 
   module _ (some_p : (d : P) (page : ℕ) → p.may_be d page (p.seen d page)) (some_l : (d : L) → l.may_leave d (l.seen d)) (one : OneLogEach) where
     pub crashed : (tally : AsManyAsTheLog) (course : Course) (x : Happening) (pages new_pages : P) (log new_log : L) (count : ℕ) → CanCrash p l z course x pages log → IsCrashed p l pages new_pages log new_log count
@@ -210,7 +221,7 @@ module _ {P L : Type 0} (p : page_device.Ghosts P) (l : log_device.Ghosts L) (ho
         let now = pick.0 in
         let store : IsStore z now (p.seen new_pages) seen = pick.1 in
         let ends : EndsInCrash (size_of z) h now = pick.2 in
-        let m : count ≡ length now = tally now seen count store.left.whole.based store.are_spelled store.is c.holds in
+        let m : count ≡ length now = tally now seen count store.are_spelled store.is c.holds ∙ ap (λ (r : List Record). length r) (all_stand now pick.3) in
         let e : crash_to now h ≡ Crash_entry (kept_in count (ledger h).committed) count = ap (λ n. Crash_entry (kept_in n (ledger h).committed) n) (sym m) in
         record {
           history = crash_to now h ∷ h;
@@ -220,17 +231,18 @@ module _ {P L : Type 0} (p : page_device.Ghosts P) (l : log_device.Ghosts L) (ho
             range = can.range;
             phase = refl;
             older = now;
+            plain = pick.3;
             ties = ends.ties;
             left = λ images bytes a b.
                 let other = can.leaves images bytes (c.pages_left images a) (c.log_left bytes b) in
                 let there : IsStore z other.0 images bytes = other.1 in
-                let same : other.0 ≡ now = one other.0 now bytes store.left.whole.based there.are_spelled store.are_spelled there.is (subst (EndsWith now) (sym (c.log_only bytes b)) store.is) in
+                let same : other.0 ≡ now = one_plain one other.0 now bytes pick.3 there.are_spelled store.are_spelled there.is (subst (EndsWith now) (sym (c.log_only bytes b)) store.is) in
                 (now, ([], refl, tt), subst (λ log. IsStore z log images bytes) same there);
           };
           counted = λ images bytes a b.
               let other = can.leaves images bytes (c.pages_left images a) (c.log_left bytes b) in
               let there : IsStore z other.0 images bytes = other.1 in
-              let same : other.0 ≡ now = one other.0 now bytes store.left.whole.based there.are_spelled store.are_spelled there.is (subst (EndsWith now) (sym (c.log_only bytes b)) store.is) in
+              let same : other.0 ≡ now = one_plain one other.0 now bytes pick.3 there.are_spelled store.are_spelled there.is (subst (EndsWith now) (sym (c.log_only bytes b)) store.is) in
               (now, subst (λ log. IsStore z log images bytes) same there, sym m);
         }
 
@@ -249,16 +261,17 @@ module _ {P L : Type 0} (p : page_device.Ghosts P) (l : log_device.Ghosts L) (ho
 
     all_fit : (h : List Entry) (pages : P) (log : L) (now : List Record) → IsShut p l z h pages log → AreSpelled now → EndsWith now (l.seen log) → AllFit (p.may_be pages) z now
     all_fit h pages log now s told reads = record {
-      superblock = λ c may. subst (IsFormatted z 0) (is_image (p.seen pages) 0 c) (at 0 c may).superblock;
-      headers = λ q c low high may. subst (IsHeaderOf z q) (is_image (p.seen pages) q c) ((at q c may).headers q low high);
-      pages = λ q c low high may. subst (FitsPage z now q) (is_image (p.seen pages) q c) ((at q c may).pages q low high);
+      superblock = λ c may. subst (IsFormatted z 0) (is_image (p.seen pages) 0 c) (at 0 c may).fits.superblock;
+      headers = λ q c low high may. subst (IsHeaderOf z q) (is_image (p.seen pages) q c) ((at q c may).fits.headers q low high);
+      pages = λ q c low high may. subst (FitsPage z now q) (is_image (p.seen pages) q c) ((at q c may).fits.pages q low high);
+      based = λ q c low high may. subst (HoldsBase z now q) (is_image (p.seen pages) q c) ((at q c may).based q low high);
     } where
-      at : (q : ℕ) (c : List ℕ) → p.may_be pages q c → FitsLog z (with_image (p.seen pages) q c) now
+      at : (q : ℕ) (c : List ℕ) → p.may_be pages q c → IsLeft z (with_image (p.seen pages) q c) now
       at q c may =
           let x = s.left (with_image (p.seen pages) q c) (l.seen log) (leaves_image pages q c may) (some_l log) in
           let store : IsStore z x.0 (with_image (p.seen pages) q c) (l.seen log) = x.2 in
-          let same : x.0 ≡ now = sym (one now x.0 (l.seen log) store.left.whole.based told store.are_spelled reads store.is) in
-          subst (FitsLog z (with_image (p.seen pages) q c)) same store.left.fits
+          let same : x.0 ≡ now = sym (one_plain one now x.0 (l.seen log) (plain_extends s.older x.0 s.plain x.1) told store.are_spelled reads store.is) in
+          subst (IsLeft z (with_image (p.seen pages) q c)) same store.left
 
     -- what was added to a log, and then more
     plain_join : (a b : List Record) → ArePlain a → ArePlain b → ArePlain (a ++ b)
@@ -277,10 +290,10 @@ module _ {P L : Type 0} (p : page_device.Ghosts P) (l : log_device.Ghosts L) (ho
         → ((older : List Record) → IsReadAs l log new.log older → Reports new.state.sizes older new.state.records report.incarnation report.records report.unfinished report.lost)
         → ((older : List Record) → IsReadAs l log new.log older → IsOpenedOver older new.state)
         → (p.honest new.pages → IsSuperblock new.state.sizes (p.seen pages 0))
-        → ((older : List Record) → IsReadAs l log new.log older → IsLeftOn p new.state.sizes pages new.pages older → IsSound new.state)
-        → ((older : List Record) → IsReadAs l log new.log older → IsLeftOn p new.state.sizes pages new.pages older → IsRecovered new.state.sizes older (drop 1 new.state.records))
-        → ((older : List Record) → IsReadAs l log new.log older → IsLeftOn p new.state.sizes pages new.pages older → (ledger : Ledger) → ledger.committed ≡ committed_of older → ledger_of new.state ≡ after (Restarted_entry report.incarnation report.records) ledger)
-        → ((older : List Record) → IsReadAs l log new.log older → AllFit (p.may_be pages) new.state.sizes older → AreFit p new)
+        → ((older : List Record) → IsReadAs l log new.log older → IsLeftOn p new.state.sizes pages new.pages older → IsSound (on (earlier older) new.state))
+        → ((older : List Record) → IsReadAs l log new.log older → IsLeftOn p new.state.sizes pages new.pages older → IsRecovered new.state.sizes older (rebased (earlier older) (drop 1 new.state.records)))
+        → ((older : List Record) → IsReadAs l log new.log older → IsLeftOn p new.state.sizes pages new.pages older → (ledger : Ledger) → ledger.committed ≡ committed_of older → ledger_of (on (earlier older) new.state) ≡ after (Restarted_entry report.incarnation report.records) ledger)
+        → ((older : List Record) → IsReadAs l log new.log older → AreBased older → AllFit (p.may_be pages) new.state.sizes older → AreFit p (over (earlier older) new))
         → IsReopened h report new
     reopened size_once goes h pages log report new legal s reports value sizes sound recovered entry fit =
         let x = s.left (p.seen pages) (l.seen log) (some_p pages) (some_l log) in
@@ -288,14 +301,18 @@ module _ {P L : Type 0} (p : page_device.Ghosts P) (l : log_device.Ghosts L) (ho
         let store : IsStore z now (p.seen pages) (l.seen log) = x.2 in
         let read : IsReadAs l log new.log now = record { honest = honest_l new.log; are_spelled = store.are_spelled; reads = store.is } in
         let is : new.state.sizes ≡ z = size_once new.state.sizes z (p.seen pages 0) (sizes (honest_p new.pages)) (record { range = s.range; formatted = store.left.fits.superblock }) in
-        let on : IsLeftOn p new.state.sizes pages new.pages now = record { honest = honest_p new.pages; left = subst (λ y. IsLeft y (p.seen pages) now) (sym is) store.left } in
+        let on_left : IsLeftOn p new.state.sizes pages new.pages now = record { honest = honest_p new.pages; left = subst (λ y. IsLeft y (p.seen pages) now) (sym is) store.left } in
         let told = reports now read in
         let opened = value now read in
         let rolled_back = drop 1 new.state.records in
-        let from : IsRecoveredFrom z now rolled_back = recovered_from z now rolled_back store.left.whole (subst (λ y. IsRecovered y now rolled_back) is (recovered now read on)) in
+        let none = plain_extends s.older now s.plain x.1 in
+        let alone = opened_alone now none store.are_spelled new.state opened in
+        let rolled = rolled_alone now none store.are_spelled rolled_back opened.0 in
+        let recovers : IsRecovered z now rolled_back = subst (λ y. IsRecovered y now rolled_back) is (subst (λ r. IsRecovered new.state.sizes now r) rolled (recovered now read on_left)) in
+        let from : IsRecoveredFrom z now rolled_back = recovered_from z now rolled_back store.left.whole recovers in
         let law = goes h s.older rolled_back legal s.phase s.ties (extends_join s.older now rolled_back x.1 from.extends) from.whole.order in
         let all : report.records ≡ length (next_restart rolled_back ∷ rolled_back) = told.records_are ∙ ap (λ (y : State). length y.records) opened.1 in
-        let begun : report.incarnation ≡ incarnation_of rolled_back + 1 = told.incarnation_is ∙ ap (λ n. n + 1) (sym (rolled_back_incarnation now rolled_back opened.0)) in
+        let begun : report.incarnation ≡ incarnation_of rolled_back + 1 = told.incarnation_is ∙ ap (λ n. n + 1) (sym (rolled_back_incarnation (marked now) rolled_back opened.0 ∙ marked_incarnation now)) in
         let e : Restarted_entry (incarnation_of rolled_back + 1) (length (next_restart rolled_back ∷ rolled_back)) ≡ Restarted_entry report.incarnation report.records =
         ap (λ n. Restarted_entry n (length (next_restart rolled_back ∷ rolled_back))) (sym begun) ∙ ap (Restarted_entry report.incarnation) (sym all) in
         let content : (ledger h).committed ≡ committed_of now = ap (λ (k : Ledger). k.committed) (sym law.ledger) ∙ from.committed in
@@ -303,9 +320,10 @@ module _ {P L : Type 0} (p : page_device.Ghosts P) (l : log_device.Ghosts L) (ho
           legal = subst (λ entry. IsLegal (size_of z) (entry ∷ h)) e law.legal;
           stands = record {
             sizes = is;
-            ledger = entry now read on (ledger h) content;
-            sound = sound now read on;
-            fit = fit now read (subst (λ y. AllFit (p.may_be pages) y now) (sym is) (all_fit h pages log now s store.are_spelled store.is));
+            ledger = ap ledger_of (sym alone) ∙ entry now read on_left (ledger h) content;
+            plain = opened_plain now none store.are_spelled new.state opened;
+            sound = subst IsSound alone (sound now read on_left);
+            fit = subst (λ (x : State). AllFit (p.may_be new.pages) x.sizes (oldest x.forced x.records)) alone (fit now read store.left.whole.based (subst (λ y. AllFit (p.may_be pages) y now) (sym is) (all_fit h pages log now s store.are_spelled store.is)));
           };
         }
 
@@ -316,13 +334,22 @@ module _ {P L : Type 0} (p : page_device.Ghosts P) (l : log_device.Ghosts L) (ho
       pub reads : EndsWith read (l.seen log)
       pub more : Extends older read
       pub left : IsLeft z (p.seen pages) read
-      pub each : EachPair p l pages log (IsSomeStore z)
+      pub plain : HasNoBase read
+      pub each : EachPair p l pages log (IsSomeStore z (earlier read))
 
     pub read_of : (h : List Entry) (pages : P) (log : L) (s : IsShut p l z h pages log) → IsReadOf s.older pages log
     read_of h pages log s =
         let x = s.left (p.seen pages) (l.seen log) (some_p pages) (some_l log) in
         let store : IsStore z x.0 (p.seen pages) (l.seen log) = x.2 in
-        record { read = x.0; told = store.are_spelled; reads = store.is; more = x.1; left = store.left; each = λ images bytes a b. (let y = s.left images bytes a b in (y.0, y.2)) }
+        record {
+          read = x.0;
+          told = store.are_spelled;
+          reads = store.is;
+          more = x.1;
+          left = store.left;
+          plain = plain_extends s.older x.0 s.plain x.1;
+          each = λ images bytes a b. (let y = s.left images bytes a b in (y.0, y.2, none_earlier y.0 (plain_extends s.older y.0 s.plain y.1) ∙ sym (none_earlier x.0 (plain_extends s.older x.0 s.plain x.1))));
+        }
 
     -- a restart that was refused
     pub stays_shut : (h : List Entry) (pages new_pages : P) (log new_log : L) (s : IsShut p l z h pages log) (r : IsReadOf s.older pages log) → EachPair p l new_pages new_log (IsLeftOrGoesOn l log z r.read) → IsShut p l z h new_pages new_log
@@ -331,17 +358,18 @@ module _ {P L : Type 0} (p : page_device.Ghosts P) (l : log_device.Ghosts L) (ho
           range = s.range;
           phase = s.phase;
           older = s.older;
+          plain = s.plain;
           ties = s.ties;
           left = λ images bytes a b.
               let x = leaves images bytes a b in
               let store : IsStore z x.0 images bytes = x.1 in
-              (x.0, over images bytes x.0 store x.2, store);
+              (x.0, over images bytes x.0 store x.3, store);
         } where
           over : (images : Images) (bytes : List ℕ) (now : List Record) → IsStore z now images bytes → l.may_leave log bytes ⊎ IsGoneOnWith r.read (l.seen log) now bytes → Extends s.older now
           over images bytes now store (inl was) =
               let y = s.left (p.seen pages) bytes (some_p pages) was in
               let there : IsStore z y.0 (p.seen pages) bytes = y.2 in
-              subst (Extends s.older) (one y.0 now bytes store.left.whole.based there.are_spelled store.are_spelled there.is store.is) y.1
+              subst (Extends s.older) (sym (one_plain one now y.0 bytes (plain_extends s.older y.0 s.plain y.1) store.are_spelled there.are_spelled store.is there.is)) y.1
           over images bytes now store (inr on) = extends_join s.older r.read now r.more on.more
 
   -- the headline, where an open store is given up, and where one is shut

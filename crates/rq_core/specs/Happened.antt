@@ -17,6 +17,9 @@ use Rattle.rq_page.specs.Sizes.{Sizes, IsInRange}
 use Rattle.rq_pool.specs.Reading.{IsSuperblock}
 use Rattle.rq_store.specs.Fitting.{AllFit}
 use Rattle.rq_store.specs.State.{ledger_of}
+use Rattle.rq_model.specs.Bases.{earlier}
+use Rattle.rq_store.specs.Whole.{AreBased}
+use Rattle.rq_engine.specs.Earlier.{on, over, rebased}
 use Rattle.rq_sound.specs.Sound.{IsSound}
 use Rattle.rq_analysis.specs.Recovered.{IsRecovered}
 use Rattle.rq_engine.specs.declared.event.Event.{Event}
@@ -87,15 +90,15 @@ module _ {P L : Type 0} (p : page_device.Ghosts P) (l : log_device.Ghosts L) whe
     pub value : (older : List Record) → IsReadAs l log new.log older → IsOpenedOver older new.state
     pub sizes : p.honest new.pages → IsSuperblock new.state.sizes (p.seen pages 0)
     pub sound : (older : List Record) → IsReadAs l log new.log older
-        → IsLeftOn p new.state.sizes pages new.pages older → IsSound new.state
+        → IsLeftOn p new.state.sizes pages new.pages older → IsSound (on (earlier older) new.state)
     pub recovered : (older : List Record) → IsReadAs l log new.log older
         → IsLeftOn p new.state.sizes pages new.pages older
-        → IsRecovered new.state.sizes older (drop 1 new.state.records)
+        → IsRecovered new.state.sizes older (rebased (earlier older) (drop 1 new.state.records))
     pub entry : (older : List Record) → IsReadAs l log new.log older
         → IsLeftOn p new.state.sizes pages new.pages older → (ledger : Ledger) → ledger.committed ≡ committed_of older
-        → ledger_of new.state ≡ after (Restarted_entry report.incarnation report.records) ledger
-    pub fit : (older : List Record) → IsReadAs l log new.log older → AllFit (p.may_be pages) new.state.sizes older
-        → AreFit p new
+        → ledger_of (on (earlier older) new.state) ≡ after (Restarted_entry report.incarnation report.records) ledger
+    pub fit : (older : List Record) → IsReadAs l log new.log older → AreBased older
+        → AllFit (p.may_be pages) new.state.sizes older → AreFit p (over (earlier older) new)
 
   -- a restart refused to open it for this, and left the devices so
   pub record IsRefused (pages : P) (log : L) (refusal : Refusal) (new_pages : P) (new_log : L) : Type 0 where

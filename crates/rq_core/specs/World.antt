@@ -1,6 +1,7 @@
 -- What is so of a store between two happenings.
 use Rattle.std.specs.Prelude.{◌≡◌, ℕ, List}
 use Rattle.rq_model.specs.declared.record.Record.{Record}
+use Rattle.rq_model.specs.Bases.{HasNoBase}
 use Rattle.rq_model.specs.History.{Entry}
 use Rattle.rq_model.specs.Incarnations.{Extends, Ties}
 use Rattle.rq_model.specs.Ledger.{ledger}
@@ -34,6 +35,8 @@ module _ {P L : Type 0} (p : page_device.Ghosts P) (l : log_device.Ghosts L) (z 
     pub range : IsInRange z
     pub phase : (ledger h).phase ≡ Shut
     pub older : List Record
+    -- no engine writes a Base so far
+    pub plain : HasNoBase older
     pub ties : Ties (ledger h) older
     pub left : EachPair p l pages log (IsOver z older)
 
@@ -41,6 +44,7 @@ module _ {P L : Type 0} (p : page_device.Ghosts P) (l : log_device.Ghosts L) (z 
   pub record IsOpen (h : List Entry) (engine : OpenStore P L) : Type 0 where
     pub sizes : engine.state.sizes ≡ z
     pub ledger : ledger_of engine.state ≡ ledger h
+    pub plain : HasNoBase engine.state.records
     pub sound : IsSound engine.state
     pub fit : AreFit p engine
 

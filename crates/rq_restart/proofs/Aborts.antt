@@ -3,6 +3,9 @@ use Rattle.std.proofs.Common.{◌≡◌, ◌+◌, ℕ, zero, suc, true, false, n
 use Rattle.std.specs.List.{slice_get}
 use Rattle.std.proofs.lemmas.List.{drop_at, take_all}
 use Rattle.rq_model.specs.declared.record.Record.{Record}
+use Rattle.rq_model.specs.Bases.{is_base, standing}
+use Rattle.rq_model.proofs.Bases.{added_stand}
+use Rattle.rq_engine.specs.Earlier.{rebased}
 use Rattle.rq_model.specs.declared.record.Record.TheVariants as records
 use Rattle.rq_model.specs.declared.refusal.Refusal.{Refusal}
 use Rattle.rq_model.specs.declared.refusal.Refusal.TheVariants as why
@@ -36,11 +39,9 @@ use Rattle.rq_restart.specs.Aborting.IsBadStep.{BadDue, BadRecord}
 use Rattle.rq_restart.specs.Repeating.{ArePagesCounted, Belongs, IsRecordRedone, Paged, paged, slots_on}
 use Rattle.rq_restart.specs.Undoing.{StepStops}
 use Rattle.rq_log.specs.Spelled.{AreSpelled}
-use Rattle.rq_model.specs.Incarnations.{AreBased}
 use Rattle.rq_log.specs.Spelled.{AreAllSpelled}
 use Rattle.rq_log.proofs.Runs.{AreAllSpelled-drop}
-use Rattle.rq_log.proofs.Parsing.{told_all}
-use Rattle.rq_restart.proofs.Repeated.{counted_more}
+use Rattle.rq_restart.proofs.Repeated.{before_from, counted_more}
 
 -- ---- rounds
 
@@ -171,11 +172,12 @@ rounds_extend log (r ∷ rs) = round_extends log (after_rounds rs log) r (rounds
 pub aborting_extends : (log now : List Record) → AbortsBehind log now → Extends log now
 aborting_extends log now a = subst (Extends log) a.are (rounds_extend log a.rounds)
 
--- the log before them was spelled, where no Base is in them
-pub spelled_before : (log now : List Record) → AbortsBehind log now → AreBased now → AreSpelled now → AreAllSpelled log
-spelled_before log now a plain h =
+-- the log before them was spelled
+pub spelled_before : (log now : List Record) → AbortsBehind log now → AreSpelled now → AreSpelled log
+spelled_before log now a h =
     let e = aborting_extends log now a in
-    subst AreAllSpelled (drop_at e.0 log (length e.0) refl) (AreAllSpelled-drop (length e.0) (e.0 ++ log) (subst AreAllSpelled (sym e.1) (told_all now plain h)))
+    let stands : standing now ≡ e.0 ++ standing log = ap standing (sym e.1) ∙ added_stand e.0 log e.2 in
+    subst AreAllSpelled (drop_at e.0 (standing log) (length e.0) refl) (AreAllSpelled-drop (length e.0) (e.0 ++ standing log) (subst AreAllSpelled stands h))
 
 same_writes : (t : Txn) (n : ℕ) (ws : List SlotWrite) (log : List Record) → incarnation_of (with_writes t n ws log) ≡ incarnation_of log
 same_writes t n [] log = refl
@@ -194,25 +196,25 @@ aborting_incarnation log now a = ap incarnation_of (sym a.are) ∙ same_rounds a
 
 -- ---- a record more
 
-module _ {P : Type 0} (z : Sizes) (behind : Type 0) (log : List Record) (r : Record) (old new : Pooled P) (before after : State → Type 0) (is : behind) where
-  pub one_gone : IsRecordRedone z log r (paged old) (paged new) → OfStore z before after → HasGoneOn z behind log (r ∷ log) old new before after
-  one_gone one shown = record {
+module _ {P : Type 0} (z : Sizes) (behind : Type 0) (log : List Record) (r : Record) (old new : Pooled P) (before after : List Record → State → Type 0) (is : behind) where
+  pub one_gone : is_base r ≡ false → IsRecordRedone z log r (paged old) (paged new) → OfStore z before after → HasGoneOn z behind log (r ∷ log) old new before after
+  one_gone plain one shown = record {
     aborting = is;
-    repeated = λ first h. (paged old, h, one);
+    repeated = λ first h. (paged old, before_from (paged old ≡ first) r plain h, one);
     counted = λ h. subst (λ n. ArePagesCounted z n (paged new)) (let e : length log + 1 ≡ length (r ∷ log) = omega arith in e) (counted_more z log r (paged old) (paged new) one h);
     shown = shown;
   }
 
 -- why it was not made
-module _ {P : Type 0} (z : Sizes) (behind : List Record → Type 0) (log : List Record) (r : Record) (old : Pooled P) (before : State → Type 0) (here : behind log) (next : behind (r ∷ log)) where
-  pub one_stops : (e : Refusal) → StepStops (length log) (Belongs z log r (paged old)) e → OfStore z before (λ base. IsOnItsWay base log) → OfStore z before (λ base. Belongs z log r (paged old)) → AbortStops z behind log old before e
+module _ {P : Type 0} (z : Sizes) (behind : List Record → Type 0) (log : List Record) (r : Record) (old : Pooled P) (before : List Record → State → Type 0) (here : behind log) (next : behind (r ∷ log)) where
+  pub one_stops : (e : Refusal) → StepStops (length log) (Belongs z log r (paged old)) e → OfStore z before (λ e base. IsOnItsWay base (rebased e log)) → OfStore z before (λ e base. Belongs z log r (paged old)) → AbortStops z behind log old before e
   one_stops why.NoMemory s way belongs = tt
   one_stops why.LogFull s way belongs = record { last = log; aborting = here; full = s; way = way }
   one_stops (why.Damaged (damage.Record lsn)) s way belongs = record {
     last = log;
     aborting = here;
     bad = λ first h. BadRecord r (paged old) next s.0 h s.1;
-    none = λ base k same b. s.1 (belongs base k same b);
+    none = λ x base k same b. s.1 (belongs x base k same b);
   }
   one_stops _ s way belongs = absurd s
 
@@ -222,13 +224,13 @@ module _ (z : Sizes) (one other : List Record → Type 0) (j : (l : List Record)
   bad_weaker first last lsn (BadRecord newest mid next place repeated bad) = BadRecord newest mid (j (newest ∷ last) next) place repeated bad
   bad_weaker first last lsn (BadDue due older images mid is nobody place same repeated bad) = BadDue due older images mid is nobody place same repeated bad
 
-module _ {P : Type 0} (z : Sizes) (came : Type 0) (log mid : List Record) (old now : Pooled P) (before between : State → Type 0) (g : HasGoneOn z came log mid old now before between) where
-  pub gone_join : (more all : Type 0) (last : List Record) (new : Pooled P) (after : State → Type 0) → (came → more → all) → HasGoneOn z more mid last now new between after → HasGoneOn z all log last old new before after
+module _ {P : Type 0} (z : Sizes) (came : Type 0) (log mid : List Record) (old now : Pooled P) (before between : List Record → State → Type 0) (g : HasGoneOn z came log mid old now before between) where
+  pub gone_join : (more all : Type 0) (last : List Record) (new : Pooled P) (after : List Record → State → Type 0) → (came → more → all) → HasGoneOn z more mid last now new between after → HasGoneOn z all log last old new before after
   gone_join more all last new after j h = record {
     aborting = j g.aborting h.aborting;
     repeated = λ first k. h.repeated first (g.repeated first k);
     counted = λ k. h.counted (g.counted k);
-    shown = λ base k same b. h.shown base k same (g.shown base k same b);
+    shown = λ x base k same b. h.shown x base k same (g.shown x base k same b);
   }
 
   pub stops_join : (one other : List Record → Type 0) → (came → (l : List Record) → one l → other l) → (e : Refusal) → AbortStops z one mid now between e → AbortStops z other log old before e
@@ -237,30 +239,30 @@ module _ {P : Type 0} (z : Sizes) (came : Type 0) (log mid : List Record) (old n
     last = s.last;
     aborting = j g.aborting s.last s.aborting;
     full = s.full;
-    way = λ base k same b. s.way base k same (g.shown base k same b);
+    way = λ x base k same b. s.way x base k same (g.shown x base k same b);
   }
   stops_join one other j (why.Damaged (damage.Record lsn)) s = record {
     last = s.last;
     aborting = j g.aborting s.last s.aborting;
     bad = λ first h. bad_weaker z one other (j g.aborting) first s.last lsn (s.bad first (g.repeated first h));
-    none = λ base k same b. s.none base k same (g.shown base k same b);
+    none = λ x base k same b. s.none x base k same (g.shown x base k same b);
   }
   stops_join one other j _ s = absurd s
 
 -- what was so of a store is so still
-pub gone_keeping : {P : Type 0} (z : Sizes) (came : Type 0) (log now : List Record) (old new : Pooled P) (before after : State → Type 0) → HasGoneOn z came log now old new before after → HasGoneOn z came log now old new before before
-gone_keeping z came log now old new before after g = record { aborting = g.aborting; repeated = g.repeated; counted = g.counted; shown = λ base k same b. b }
+pub gone_keeping : {P : Type 0} (z : Sizes) (came : Type 0) (log now : List Record) (old new : Pooled P) (before after : List Record → State → Type 0) → HasGoneOn z came log now old new before after → HasGoneOn z came log now old new before before
+gone_keeping z came log now old new before after g = record { aborting = g.aborting; repeated = g.repeated; counted = g.counted; shown = λ x base k same b. b }
 
 -- no record came, and a store of which the one is so is one of which the other is
-pub none_gone : {P : Type 0} (z : Sizes) (log : List Record) (old : Pooled P) (before after : State → Type 0) → OfStore z before after → HasGoneOn z (Unit {0}) log log old old before after
+pub none_gone : {P : Type 0} (z : Sizes) (log : List Record) (old : Pooled P) (before after : List Record → State → Type 0) → OfStore z before after → HasGoneOn z (Unit {0}) log log old old before after
 none_gone z log old before after f = record { aborting = tt; repeated = λ first h. h; counted = λ h. h; shown = f }
 
 -- nothing was ended or taken back
-pub nothing_gone : {P : Type 0} (z : Sizes) (log : List Record) (old : Pooled P) (before : State → Type 0) → HasGoneOn z (AbortsFrom z log old log) log log old old before before
-nothing_gone z log old before = record { aborting = aborts_none z (RepeatedSince z log (paged old)) log; repeated = λ first h. h; counted = λ h. h; shown = λ base k same b. b }
+pub nothing_gone : {P : Type 0} (z : Sizes) (log : List Record) (old : Pooled P) (before : List Record → State → Type 0) → HasGoneOn z (AbortsFrom z log old log) log log old old before before
+nothing_gone z log old before = record { aborting = aborts_none z (RepeatedSince z log (paged old)) log; repeated = λ first h. h; counted = λ h. h; shown = λ x base k same b. b }
 
 -- it holds of the stores of which something else is so, where that leads to it
-pub stops_before : {P : Type 0} (z : Sizes) (one other : List Record → Type 0) (log : List Record) (old : Pooled P) (before here : State → Type 0) (e : Refusal) → ((l : List Record) → one l → other l) → OfStore z before here → AbortStops z one log old here e → AbortStops z other log old before e
+pub stops_before : {P : Type 0} (z : Sizes) (one other : List Record → Type 0) (log : List Record) (old : Pooled P) (before here : List Record → State → Type 0) (e : Refusal) → ((l : List Record) → one l → other l) → OfStore z before here → AbortStops z one log old here e → AbortStops z other log old before e
 stops_before z one other log old before here e j f s = stops_join z (Unit {0}) log log old old before here (none_gone z log old before here f) one other (λ u. j) e s
 
 -- of a whole log those that are noted are lost

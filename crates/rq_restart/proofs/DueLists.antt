@@ -8,7 +8,8 @@ use Rattle.rq_model.specs.Content.{commits_txn, ends_txn, has_end}
 use Rattle.rq_model.specs.Vocabulary.{In, has_txn, same_txn}
 use Rattle.rq_model.proofs.Lists.{In-filter, same_is, same_self}
 use Rattle.rq_record.specs.Spelling.{IsTxnInRange}
-use Rattle.rq_log.specs.Spelled.{AreAllSpelled}
+use Rattle.rq_model.specs.Bases.{is_base}
+use Rattle.rq_log.specs.Spelled.{AreSpelled}
 use Rattle.rq_analysis.specs.OpenWorkView.{open_work_of, with_txn, without_txn}
 use Rattle.rq_analysis.specs.declared.dues.PendingUndo.{PendingUndo}
 use Rattle.rq_analysis.specs.Choices.{least_free, lesser_in}
@@ -24,28 +25,32 @@ own_stay t [] off = refl
 own_stay t (d ∷ ds) off = let k = or_parts (same_txn d.txn t) (any_due t ds) off in rw k.0 (ap (λ l. d ∷ l) (own_stay t ds k.1))
 
 -- what is due is told by an OpEnd of the log
-pub due_told : (P : PendingUndo → Type 0) (Q : List Record → Type 0) → ((r : Record) (log : List Record) → Q (r ∷ log) → Q log)
+pub due_told : (P : PendingUndo → Type 0) (Q : List Record → Type 0) → ((r : Record) (log : List Record) → is_base r ≡ false → Q (r ∷ log) → Q log)
     → ((t : Txn) (n level : ℕ) (deed : List ℕ) (log : List Record) → Q (OpEnd t n level deed ∷ log) → P (record { txn = t; lsn = length log + 1; level = level; deed = deed }))
     → (log : List Record) → Q log → (d : PendingUndo) → In d (dues log) → P d
 due_told P Q older one [] q d i = absurd i
 due_told P Q older one (OpEnd t n level deed ∷ log) q d i = elim i [
   | inl e ↦ subst P (sym e) (one t n level deed log q)
-  | inr j ↦ due_told P Q older one log (older (OpEnd t n level deed) log q) d j
+  | inr j ↦ due_told P Q older one log (older (OpEnd t n level deed) log refl q) d j
 ]
-due_told P Q older one (CompEnd t n undone ∷ log) q d i = due_told P Q older one log (older (CompEnd t n undone) log q) d (in_newest t (dues log) d i)
-due_told P Q older one (Commit t ∷ log) q d i = due_told P Q older one log (older (Commit t) log q) d (own_in t (dues log) d i)
-due_told P Q older one (PageOp t n page slot before after ∷ log) q d i = due_told P Q older one log (older (PageOp t n page slot before after) log q) d i
-due_told P Q older one (PageUndo t n undone page slot after ∷ log) q d i = due_told P Q older one log (older (PageUndo t n undone page slot after) log q) d i
-due_told P Q older one (OpVoid t n ∷ log) q d i = due_told P Q older one log (older (OpVoid t n) log q) d i
-due_told P Q older one (Restart n ∷ log) q d i = due_told P Q older one log (older (Restart n) log q) d i
-due_told P Q older one (Base many n ∷ log) q d i = due_told P Q older one log (older (Base many n) log q) d i
-due_told P Q older one (AbortEnd t ∷ log) q d i = due_told P Q older one log (older (AbortEnd t) log q) d (own_in t (dues log) d i)
+due_told P Q older one (CompEnd t n undone ∷ log) q d i = due_told P Q older one log (older (CompEnd t n undone) log refl q) d (in_newest t (dues log) d i)
+due_told P Q older one (Commit t ∷ log) q d i = due_told P Q older one log (older (Commit t) log refl q) d (own_in t (dues log) d i)
+due_told P Q older one (PageOp t n page slot before after ∷ log) q d i = due_told P Q older one log (older (PageOp t n page slot before after) log refl q) d i
+due_told P Q older one (PageUndo t n undone page slot after ∷ log) q d i = due_told P Q older one log (older (PageUndo t n undone page slot after) log refl q) d i
+due_told P Q older one (OpVoid t n ∷ log) q d i = due_told P Q older one log (older (OpVoid t n) log refl q) d i
+due_told P Q older one (Restart n ∷ log) q d i = due_told P Q older one log (older (Restart n) log refl q) d i
+due_told P Q older one (Base many n ∷ log) q d i = absurd i
+due_told P Q older one (AbortEnd t ∷ log) q d i = due_told P Q older one log (older (AbortEnd t) log refl q) d (own_in t (dues log) d i)
 
 abbrev IsDueInRange : PendingUndo → Type 0
 IsDueInRange d = IsTxnInRange d.txn × (0 < d.lsn)
 
-pub due_range : (log : List Record) → AreAllSpelled log → (d : PendingUndo) → In d (dues log) → IsDueInRange d
-due_range log a d i = due_told IsDueInRange AreAllSpelled (λ r older h. h.1) (λ t n level deed older h. (h.0.0.0, omega arith)) log a d i
+told_less : (r : Record) (log : List Record) → is_base r ≡ false → AreSpelled (r ∷ log) → AreSpelled log
+told_less (Base many n) log plain h = absurd (cc plain)
+told_less _ log plain h = h.1
+
+pub due_range : (log : List Record) → AreSpelled log → (d : PendingUndo) → In d (dues log) → IsDueInRange d
+due_range log a d i = due_told IsDueInRange AreSpelled told_less (λ t n level deed older h. (h.0.0.0, omega arith)) log a d i
 
 -- transactions without an end are in range
 with_in : (t : Txn) (ts : List Txn) (x : Txn) → In x (with_txn t ts) → (x ≡ t) ⊎ In x ts
@@ -57,7 +62,7 @@ with_in t ts x i = elim (cases_Bool (has_txn t ts)) [
   by [] j = elim j [ inl e ↦ inl e | inr k ↦ absurd k ]
   by (u ∷ us) j = elim j [ inl e ↦ inr (inl e) | inr k ↦ elim (by us k) [ inl e ↦ inl e | inr m ↦ inr (inr m) ] ]
 
-pub active_range : (log : List Record) → AreAllSpelled log → (t : Txn) → In t (open_work_of log).active → IsTxnInRange t
+pub active_range : (log : List Record) → AreSpelled log → (t : Txn) → In t (open_work_of log).active → IsTxnInRange t
 active_range [] a t i = absurd i
 active_range (OpEnd u n level deed ∷ log) a t i = elim (with_in u (open_work_of log).active t i) [
   | inl e ↦ subst IsTxnInRange (sym e) a.0.0.0
@@ -65,6 +70,7 @@ active_range (OpEnd u n level deed ∷ log) a t i = elim (with_in u (open_work_o
 ]
 active_range (Commit u ∷ log) a t i = active_range log a.1 t (In-filter (λ (x : Txn). not (same_txn u x)) (open_work_of log).active t i).0
 active_range (AbortEnd u ∷ log) a t i = active_range log a.1 t (In-filter (λ (x : Txn). not (same_txn u x)) (open_work_of log).active t i).0
+active_range (Base many i ∷ log) a t j = absurd j
 active_range (_ ∷ log) a t i = active_range log a.1 t i
 
 -- ---- which transaction is next, once the first due is taken back
@@ -197,4 +203,5 @@ due_active (AbortEnd u ∷ log) d i e =
     let k = or_parts (ends_txn d.txn (AbortEnd u)) (has_end log d.txn) e in
     other_in u d.txn (open_work_of log).active k.0 (due_active log d (own_in u (dues log) d i) k.1)
 due_active (CompEnd u n undone ∷ log) d i e = due_active log d (in_newest u (dues log) d i) e
+due_active (Base many j ∷ log) d i e = absurd i
 due_active (_ ∷ log) d i e = due_active log d i e

@@ -1,16 +1,18 @@
 -- Whether the next record may follow those of which these are the findings.
-use Rattle.std.proofs.Common.{◌≡◌, ◌↔◌, Bool, true, false, IsTrue, List, ◌∷◌, sym, ◌∙◌, ap, subst}
+use Rattle.std.proofs.Common.{◌≡◌, ◌↔◌, Bool, true, false, IsTrue, List, sym, ◌∙◌, ap, subst}
 use Rattle.std.proofs.lemmas.Bool.{false≢true}
 use Rattle.rq_model.specs.declared.record.Record.{Record}
-use Rattle.rq_model.specs.Incarnations.{InOrder, IsNext, incarnation_of}
+use Rattle.rq_model.specs.Bases.{is_base}
+use Rattle.rq_model.specs.Incarnations.{IsNext, incarnation_of}
 use Rattle.rq_analysis.specs.OpenWorkView.{OpenWorkView}
 use Rattle.rq_analysis.proofs.Noting.{noted_incarnation}
 use Rattle.rq_analysis.specs.LogTables.{AreTablesOf}
-use Rattle.rq_analysis.specs.Rules.{CanBeRead, FollowAll, FollowsRules}
+use Rattle.rq_analysis.specs.Rules.{CanBeRead, FollowAll, FollowsRules, IsReadInOrder}
 use Rattle.rq_restart.specs.declared.analysis.Analysis.{Analysis}
 use Rattle.rq_restart.specs.Found.{IsAnalysisOf, MayComeNext}
+use Rattle.rq_restart.proofs.Repeated.{next_in, next_of}
 
-module _ (f : Analysis) (log : List Record) (r : Record) (are : IsAnalysisOf f log) (is_next : Bool) where
+module _ (f : Analysis) (log : List Record) (r : Record) (are : IsAnalysisOf f log) (plain : is_base r ≡ false) (is_next : Bool) where
   same : incarnation_of log ≡ f.open_work.incarnation
   same = sym (ap (λ (h : OpenWorkView). h.incarnation) are.open_work ∙ noted_incarnation log)
 
@@ -18,13 +20,14 @@ module _ (f : Analysis) (log : List Record) (r : Record) (are : IsAnalysisOf f l
   kept = record { open_work = are.open_work; dues = are.dues; numbers = are.numbers; ended = are.ended }
 
   -- it is the next of its incarnation, so the rules tell
-  pub may_follow : (follows reads : Bool) → (IsTrue is_next ↔ IsNext f.open_work.incarnation r) → ((l : List Record) → AreTablesOf l f.open_work f.dues f.numbers f.ended → FollowAll l → InOrder (r ∷ l) → (IsTrue reads ↔ CanBeRead r) → IsTrue follows ↔ FollowsRules l r)
+  pub may_follow : (follows reads : Bool) → (IsTrue is_next ↔ IsNext f.open_work.incarnation r)
+      → ((l : List Record) → AreTablesOf l f.open_work f.dues f.numbers f.ended → FollowAll l → IsReadInOrder l → IsNext (incarnation_of l) r → (IsTrue reads ↔ CanBeRead r) → IsTrue follows ↔ FollowsRules l r)
       → (IsTrue reads ↔ CanBeRead r) → is_next ≡ true → IsTrue follows ↔ MayComeNext log r
   may_follow follows reads next tell can is =
       let first : IsNext (incarnation_of log) r = subst (λ n. IsNext n r) (sym same) (next.0 is) in
-      let tells : IsTrue follows ↔ FollowsRules log r = tell log kept are.follow (first, are.order) can in
-      (λ y. record { next = first; follows = tells.0 y }, λ m. tells.1 m.follows)
+      let tells : IsTrue follows ↔ FollowsRules log r = tell log kept are.follow are.order first can in
+      (λ y. record { next = next_in log r plain first; follows = tells.0 y }, λ m. tells.1 m.follows)
 
   -- it is not
   pub not_next : (IsTrue is_next ↔ IsNext f.open_work.incarnation r) → is_next ≡ false → IsTrue is_next ↔ MayComeNext log r
-  not_next next off = (λ y. absurd (false≢true (sym off ∙ y)), λ m. next.1 (subst (λ n. IsNext n r) same m.next))
+  not_next next off = (λ y. absurd (false≢true (sym off ∙ y)), λ m. next.1 (subst (λ n. IsNext n r) same (next_of log r plain m.next)))

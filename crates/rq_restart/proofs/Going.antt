@@ -1,6 +1,5 @@
 -- Going through a log, one record after the other.
-use Rattle.std.proofs.Common.{◌≡◌, ◌⊎◌, inl, inr, ℕ, ◌+◌, ◌-◌, ◌%◌, ◌^◌, ◌≤◌, List, ◌∷◌, length, drop, refl, sym, ◌∙◌, ap, subst, arith}
-use Rattle.std.proofs.lemmas.List.{drop-drop}
+use Rattle.std.proofs.Common.{◌≡◌, ◌⊎◌, inl, inr, true, false, ℕ, ◌+◌, ◌-◌, ◌%◌, ◌^◌, ◌≤◌, List, ◌∷◌, length, refl, sym, ◌∙◌, ap, subst, arith}
 use Rattle.rq_model.specs.declared.refusal.Refusal.{Refusal}
 use Rattle.rq_model.specs.declared.refusal.Refusal.TheVariants as why
 use Rattle.rq_model.specs.declared.refusal.Damage.TheVariants as damage
@@ -9,7 +8,7 @@ use Rattle.rq_log.specs.Reading.{BeginsWith, HasMoreBehind, IsDamagedBehind, IsR
 use Rattle.rq_log.specs.Spelled.{AreSpelled}
 use Rattle.rq_model.specs.declared.record.Record.{Record}
 use Rattle.rq_page.specs.Sizes.{Sizes}
-use Rattle.rq_store.specs.Opening.{FitsUpTo, IsLeft}
+use Rattle.rq_store.specs.Opening.{FitsUpTo, IsLeft, MayRedo}
 use Rattle.rq_store.specs.Fitting.{oldest}
 use Rattle.rq_store.specs.Whole.{IsWhole}
 use Rattle.rq_store.proofs.Cutting.{whole_dropped}
@@ -18,24 +17,65 @@ use Rattle.rq_analysis.specs.OpenWorkView.{open_work_of, open_work_after}
 use Rattle.rq_analysis.specs.Dues.{dues, dues_after}
 use Rattle.rq_analysis.specs.Numbers.{numbers_after}
 use Rattle.rq_analysis.specs.LogTables.{ended_after}
-use Rattle.rq_analysis.proofs.Whole.{whole_logs}
+use Rattle.rq_model.specs.declared.record.Record.TheVariants as records
+use Rattle.rq_model.specs.Bases.{base_lsn, is_base, marked, marks}
+use Rattle.rq_model.specs.Incarnations.{IsNext}
+use Rattle.rq_analysis.proofs.Marked.{marked_incarnation, marked_length}
+use Rattle.rq_analysis.proofs.Whole.{follow_marks, whole_logs}
 use Rattle.rq_restart.specs.declared.analysis.Analysis.{Analysis}
 use Rattle.rq_restart.specs.Found.{IsAnalysisOf, MayComeNext, analysis_after}
+use Rattle.rq_restart.specs.declared.overwritten.WrittenOver.{WrittenOver}
+use Rattle.rq_restart.specs.Overwritten.{AreKept}
 use Rattle.rq_restart.specs.Refused.{IsBadNext, IsStoppedBehind, IsWanting, NotRepeated}
 use Rattle.rq_restart.specs.Repeating.{Belongs, Paged, Repeats}
 use Rattle.rq_record.specs.Spelling.{IsRecord}
-use Rattle.rq_restart.proofs.Repeated.{up_to}
+use Rattle.rq_restart.proofs.Repeated.{first_less, next_in, order_more, up_to}
 
 -- what is found with one record more
-pub found_next : (f k : Analysis) (log : List Record) (r : Record) (lsn : ℕ) → lsn ≡ length log + 1 → IsAnalysisOf f log → MayComeNext log r → k ≡ analysis_after lsn r f → IsAnalysisOf k (r ∷ log)
-found_next f k log r lsn place are may e = record {
+pub found_next : (f k : Analysis) (log : List Record) (r : Record) (lsn : ℕ) → lsn ≡ length log + 1 → is_base r ≡ false → IsAnalysisOf f log → MayComeNext log r → k ≡ analysis_after lsn r f → IsAnalysisOf k (r ∷ log)
+found_next f k log r lsn place plain are may e = record {
   open_work = ap (λ (x : Analysis). x.open_work) e ∙ ap (open_work_after lsn r) are.open_work ∙ ap (λ n. open_work_after n r (open_work_of log)) place;
   dues = ap (λ (x : Analysis). x.dues) e ∙ ap (dues_after lsn r) are.dues ∙ ap (λ n. dues_after n r (dues log)) place;
   numbers = ap (λ (x : Analysis). x.numbers) e ∙ ap (numbers_after r) are.numbers;
   ended = ap (λ (x : Analysis). x.ended) e ∙ ap (ended_after r) are.ended;
-  order = (may.next, are.order);
+  order = order_more log r plain may.next are.order;
   follow = (may.follows, are.follow);
 }
+
+-- and behind a Base, with which a log begins
+module _ (f k : Analysis) (many i lsn : ℕ) (some : 1 ≤ i) (within : i ≤ many) (e : k ≡ analysis_after lsn (records.Base many i) f) where
+  abbrev begun : List Record
+  begun = records.Base many i ∷ marks many
+
+  pub found_base : IsAnalysisOf k begun
+  found_base = record {
+    open_work = ap (λ (x : Analysis). x.open_work) e;
+    dues = ap (λ (x : Analysis). x.dues) e;
+    numbers = ap (λ (x : Analysis). x.numbers) e;
+    ended = ap (λ (x : Analysis). x.ended) e;
+    order = ((some, within), tt);
+    follow = (record { running = tt; going = tt; begun = tt; numbered = tt; undoes = tt; takes_back = tt; reads = tt; begins = refl }, follow_marks many);
+  }
+
+-- a Base makes nothing of the pages
+pub base_is : (r : Record) → is_base r ≡ true → (many : ℕ) × (i : ℕ) × (r ≡ records.Base many i)
+base_is (records.Base many i) base = (many, i, refl)
+base_is _ base = absurd (cc base)
+
+pub base_repeated : (z : Sizes) (many i : ℕ) → 1 ≤ i → i ≤ many → (first last : Paged) → last ≡ first → Repeats z (records.Base many i ∷ marks many) first last
+base_repeated z many i some within first last same = (
+  last,
+  same,
+  record {
+    belongs = record { next = (some, within); follows = record { running = tt; going = tt; begun = tt; numbered = tt; undoes = tt; takes_back = tt; reads = tt; begins = refl }; may = record { write = tt; before = tt } };
+    redone = λ p. refl;
+    marked = refl;
+  },
+)
+
+-- numbers that are kept are kept so behind more records
+pub kept_longer : (z : Sizes) (n m : ℕ) (first last : Paged) (numbers : List WrittenOver) → n ≤ m → AreKept z n first last numbers → AreKept z m first last numbers
+kept_longer z n m first last numbers le k = record { of_pages = k.of_pages; same = λ p count low high most. k.same p count low high (omega (arith, le, most)) }
 
 -- why no more was read of a device that was only read before
 stops_from : {L : Type 0} (g : Ghosts L) (old met new : L) (front : List Record) → g.seen met ≡ g.seen old → g.faults met ≡ g.faults old → (e : Refusal) → StopsFor g e front met new → StopsFor g e front old new
@@ -58,10 +98,22 @@ module _ {L : Type 0} (g : Ghosts L) (z : Sizes) (first : Paged) (old new : L) w
     read = read;
   }
 
+  -- memory was wanting for the next
+  pub stopped_wanting : (front : List Record) (mid : Paged) (e : Refusal) → e ≡ why.NoMemory → AreSpelled front → (g.honest new → BeginsWith front (g.seen old)) → Repeats z front first mid → IsRead g old new → g.faults new ≡ g.faults old → IsStoppedBehind g z first e old new
+  stopped_wanting front mid e none are begins repeated read counted = record {
+    front = front;
+    are_spelled = are;
+    begins = begins;
+    mid = mid;
+    repeated = repeated;
+    why = inr (inl (none, counted));
+    read = read;
+  }
+
   -- the record that was read was not repeated
-  pub stopped_next : (front : List Record) (r : Record) (mid : Paged) (e : Refusal) → IsRecord r → AreSpelled front → (g.honest new → BeginsWith (r ∷ front) (g.seen old)) → (g.honest new → BeginsWith front (g.seen old)) → Repeats z front first mid → IsRead g old new → g.faults new ≡ g.faults old
+  pub stopped_next : (front : List Record) (r : Record) (mid : Paged) (e : Refusal) → is_base r ≡ false → IsRecord r → AreSpelled front → (g.honest new → BeginsWith (r ∷ front) (g.seen old)) → (g.honest new → BeginsWith front (g.seen old)) → Repeats z front first mid → IsRead g old new → g.faults new ≡ g.faults old
       → NotRepeated z front r mid e → IsStoppedBehind g z first e old new
-  stopped_next front r mid e is are begins before repeated read counted not = record {
+  stopped_next front r mid e plain is are begins before repeated read counted not = record {
     front = front;
     are_spelled = are;
     begins = before;
@@ -75,6 +127,7 @@ module _ {L : Type 0} (g : Ghosts L) (z : Sizes) (first : Paged) (old new : L) w
     by (why.Damaged (damage.Record lsn)) h = inr (inr (record {
       newest = r;
       is_record = is;
+      plain = plain;
       begins = begins;
       told = ap (λ n. why.Damaged (damage.Record n)) h.0;
       bad = h.1;
@@ -82,22 +135,18 @@ module _ {L : Type 0} (g : Ghosts L) (z : Sizes) (first : Paged) (old new : L) w
     }))
     by _ h = absurd h
 
--- of a store that was left so, a record of its log belongs behind those before it
-pub left_belongs : (z : Sizes) (log front : List Record) (r : Record) (first mid : Paged) → oldest (length front + 1) log ≡ r ∷ front → length front + 1 ≤ length log → IsLeft z first.image log → Repeats z front first mid → Belongs z front r mid
-left_belongs z log front r first mid grows within left repeated =
+-- of a store that was left so, a record of its log belongs behind those before it, as they are read
+pub left_belongs : (z : Sizes) (log front : List Record) (r : Record) (first mid : Paged) → is_base r ≡ false → oldest (length (r ∷ front)) log ≡ r ∷ front → length (r ∷ front) ≤ length log → base_lsn front ≡ base_lsn log → IsLeft z first.image log → Repeats z (marked front) first mid
+    → Belongs z (marked front) r mid
+left_belongs z log front r first mid plain grows within same left repeated =
     let i = length front in
-    let before : oldest i log ≡ front = shorter log i r front grows within in
-    let grown : oldest (i + 1) log ≡ r ∷ oldest i log = grows ∙ ap (λ l. r ∷ l) (sym before) in
-    let fits : FitsUpTo z mid.image log i = up_to z log first left i (omega (arith, within)) mid (subst (λ l. Repeats z l first mid) (sym before) repeated) in
-    let w : IsWhole z (r ∷ front) = subst (IsWhole z) grows (whole_dropped z (length log - (i + 1)) log left.whole) in
-    let rules = whole_logs.one z front r w in
+    let up : i + 1 ≡ length (r ∷ front) = omega arith in
+    let before : oldest i log ≡ front = first_less z log first left r front grows within in
+    let grown : oldest (i + 1) log ≡ r ∷ oldest i log = ap (λ (n : ℕ). oldest n log) up ∙ grows ∙ ap (λ l. r ∷ l) (sym before) in
+    let fits : FitsUpTo z mid.image log i = (up_to z log first left front before (omega (arith, within)) same mid repeated).fits in
+    let w : IsWhole z (r ∷ front) = subst (IsWhole z) grows (whole_dropped z (length log - length (r ∷ front)) log left.whole) in
     record {
-      next = w.order.0;
-      follows = rules;
-      may = may_redo z log mid.image i r left.whole.legal left.whole.in_store left.whole.befores within grown fits;
+      next = next_in (marked front) r plain (subst (λ (n : ℕ). IsNext n r) (sym (marked_incarnation front)) w.order.0);
+      follows = whole_logs.one z front r w plain;
+      may = subst (λ (n : ℕ). MayRedo z mid.image (n + 1) r) (sym (marked_length front w.based.1)) (may_redo z log mid.image i r left.whole.legal left.whole.in_store left.whole.befores (omega (arith, within)) grown fits);
     }
-  where
-    shorter : (log : List Record) (i : ℕ) (r : Record) (front : List Record) → oldest (i + 1) log ≡ r ∷ front → i + 1 ≤ length log → oldest i log ≡ front
-    shorter log i r front grows within =
-        let one : length log - i ≡ (length log - (i + 1)) + 1 = omega (arith, within) in
-        ap (λ n. drop n log) one ∙ sym (drop-drop 1 (length log - (i + 1)) log) ∙ ap (drop 1) grows

@@ -17,8 +17,10 @@ pub mod DueLists
 pub mod Aborts
 pub mod Rounds
 pub mod Results
+pub mod Plain
 pub mod Planning
 pub mod Linking
 pub mod Renewing
 pub mod Following
 pub mod Numbers
+pub mod Pasts

@@ -7,7 +7,8 @@ use Rattle.rq_model.specs.declared.refusal.Damage.TheVariants as damage
 use Rattle.rq_page.specs.Sizes.{Sizes}
 use Rattle.rq_pool.specs.Pooled.{IsPool, Pooled}
 use Rattle.rq_views.specs.Stored.{slots_in}
-use Rattle.rq_store.specs.Opening.{IsLeft}
+use Rattle.rq_engine.specs.Earlier.{rebased}
+use Rattle.rq_restart.specs.Past.{WhereLeft}
 use Rattle.rq_chain_check.specs.Links.{AreLinked}
 use Rattle.rq_chain_check.proofs.Faults.{faults_exact}
 use Rattle.rq_chain_check.proofs.Sound.{sound_linked}
@@ -17,8 +18,8 @@ use Rattle.rq_restart.proofs.Begun.{begun_sound}
 
 module _ {P : Type 0} (z : Sizes) (log rolled_back : List Record) (old : Paged) (new : Pooled P) (m : IsRolledBackSince z log rolled_back old (paged new)) (pool : IsPool z new.images) (first : Paged) (before : Repeats z log first old) where
   -- of a store that was left so they are
-  left_linked : IsLeft z first.image log → AreLinked z (slots_in z new.images)
-  left_linked left = sound_linked.open_store z new.images rolled_back (begun_sound z first (paged new) new.images log rolled_back refl pool m.is (m.recovered first before left) (m.repeated first before) left)
+  left_linked : WhereLeft z first.image log (λ e. AreLinked z (slots_in z new.images))
+  left_linked e past left = sound_linked.open_store z new.images (rebased e rolled_back) (begun_sound z first (paged new) new.images log rolled_back e refl pool m.is past (m.recovered first before e past left) (m.repeated first before) left)
 
   pub unlinked_stops : (e : Refusal) → LinkStops z (slots_on z (paged new)) e → RollbackStops z log first e
   unlinked_stops why.NoMemory s = tt
@@ -29,6 +30,6 @@ module _ {P : Type 0} (z : Sizes) (log rolled_back : List Record) (old : Paged) 
     last = paged new;
     repeated = m.repeated first before;
     fault = s;
-    none = λ left. faults_exact.none z (slots_in z new.images) page (left_linked left) s;
+    none = λ e past left. faults_exact.none z (slots_in z new.images) page (left_linked e past left) s;
   }
   unlinked_stops _ s = absurd s

@@ -6,7 +6,7 @@ use Rattle.rq_log.specs.Crash.{LeavesOnly}
 use Rattle.rq_log.specs.Logged.{Logged, WasLeftOrGoesOn}
 use Rattle.rq_log.specs.Spelled.{AreSpelled, EndsWith, GoesOn}
 use Rattle.rq_log.proofs.Moments.{started, weaker, joined}
-use Rattle.rq_store.specs.Opening.{next_restart, IsLeft}
+use Rattle.rq_store.specs.Opening.{next_restart}
 use Rattle.rq_log.specs.Reading.{IsRead}
 use Rattle.rq_model.specs.declared.refusal.Refusal.{Refusal}
 use Rattle.rq_model.specs.declared.refusal.Refusal.TheVariants as why
@@ -17,8 +17,9 @@ use Rattle.rq_disk.specs.Device.{Images}
 use Rattle.rq_page.specs.Sizes.{Sizes}
 use Rattle.rq_analysis.specs.Recovered.{IsRecovered}
 use Rattle.rq_restart.specs.RolledBack.{IsRolledBack}
-use Rattle.rq_model.specs.Incarnations.{AreBased}
-use Rattle.rq_model.specs.Bases.{gone, standing}
+use Rattle.rq_model.specs.Bases.{IsMarked, gone, standing}
+use Rattle.rq_engine.specs.Earlier.{rebased}
+use Rattle.rq_restart.specs.Past.{WhereLeft}
 use Rattle.rq_restart.proofs.Begun.{begun_behind}
 
 module _ {L : Type 0} (g : Ghosts L) (only_now : (d : L) (c : List ℕ) → g.left_since d (g.moment d) c → g.may_leave d c) where
@@ -42,7 +43,7 @@ pub left_alone : {L : Type 0} (g : Ghosts L) (only_now : (d : L) (c : List ℕ) 
 left_alone g only_now z pages old new same = record {
   honest = λ h. subst g.honest same h;
   any_moment = λ first before h are reads.
-      let Q : List ℕ → Type 0 = WasLeftOrBegun g z (IsLeft z first.image old.records) old.device old.records in
+      let Q : List ℕ → Type 0 = WasLeftOrBegun g z first.image old.device old.records in
       subst (λ d. LeavesOnly g old.device d Q) (sym same) (started g old.device Q (λ c left. inl (only_now old.device c left)));
 }
 
@@ -56,11 +57,11 @@ forced_behind g old new log kept records same grown forced are run =
           (subst (λ rs. LeavesOnly g old new (λ c. g.may_leave old c ⊎ GoesOn (standing rs) (log.forced - gone rs) (g.seen old) c)) grown (subst (λ d. LeavesOnly g d new (λ c. g.may_leave d c ⊎ GoesOn (standing log.records) (log.forced - gone log.records) (g.seen d) c)) same run))
 
 -- they undo what has no end, and begin the next incarnation
-pub begun_moment : {L : Type 0} (g : Ghosts L) (z : Sizes) (left : Type 0) (older rolled_back : List Record) (r : Record) (kept : ℕ) (old mid new : L) → mid ≡ old → IsRolledBack older rolled_back → (left → IsRecovered z older rolled_back) → r ≡ next_restart rolled_back → AreBased (r ∷ rolled_back) → AreSpelled older → EndsWith older (g.seen old)
-    → LeavesOnly g mid new (WasLeftOrForced g mid (r ∷ rolled_back) kept) → LeavesOnly g old new (WasLeftOrBegun g z left old older)
-begun_moment g z left older rolled_back r kept old mid new same m recovered is plain are read run =
-    weaker g old new (WasLeftOrForced g old (r ∷ rolled_back) kept) (WasLeftOrBegun g z left old older) (subst (λ d. LeavesOnly g d new (WasLeftOrForced g d (r ∷ rolled_back) kept)) same run)
-    (λ c. ⊎_elim (λ was. inl was) (λ on. inr (begun_behind z left older rolled_back r kept (g.seen old) c m recovered is plain are read on.0 on.1)))
+pub begun_moment : {L : Type 0} (g : Ghosts L) (z : Sizes) (images : Images) (older rolled_back : List Record) (r : Record) (kept : ℕ) (old mid new : L) → mid ≡ old → IsRolledBack older rolled_back → WhereLeft z images older (λ e. IsRecovered z (rebased e older) (rebased e rolled_back)) → r ≡ next_restart rolled_back
+    → AreSpelled older → EndsWith older (g.seen old) → LeavesOnly g mid new (WasLeftOrForced g mid (r ∷ rolled_back) kept) → LeavesOnly g old new (WasLeftOrBegun g z images old older)
+begun_moment g z images older rolled_back r kept old mid new same m recovered is are read run =
+    weaker g old new (WasLeftOrForced g old (r ∷ rolled_back) kept) (WasLeftOrBegun g z images old older) (subst (λ d. LeavesOnly g d new (WasLeftOrForced g d (r ∷ rolled_back) kept)) same run)
+    (λ c. ⊎_elim (λ was. inl was) (λ on. inr (begun_behind z images older rolled_back r kept (g.seen old) c m recovered is are read on.0 on.1)))
 
 -- beside these pages
 module _ {L : Type 0} (g : Ghosts L) (z : Sizes) (images : Images) where
@@ -69,15 +70,15 @@ module _ {L : Type 0} (g : Ghosts L) (z : Sizes) (images : Images) where
   only_read old new run h = weaker g old new (g.may_leave old) (λ c. g.may_leave old c ⊎ IsBegunOn z images (g.seen old) c) run (λ c was. inl was)
 
   -- it was read whole, and then gone on with
-  pub read_first : (old mid new : L) (older : List Record) → (g.honest new → g.honest mid) → (g.honest mid → EndsWith older (g.seen old)) → AreSpelled older → g.seen mid ≡ g.seen old
+  pub read_first : (old mid new : L) (older : List Record) → IsMarked older → (g.honest new → g.honest mid) → (g.honest mid → EndsWith older (g.seen old)) → AreSpelled older → g.seen mid ≡ g.seen old
       → ((c : List ℕ) → g.may_leave mid c → g.may_leave old c) → LeavesOnly g old mid (g.may_leave old)
-      → (g.honest new → AreSpelled older → EndsWith older (g.seen mid) → LeavesOnly g mid new (WasLeftOrBegun g z (IsLeft z images older) mid older)) → BeginsAtMost g z images old new
-  read_first old mid new older falls reads are same crash run rest h =
+      → (g.honest new → AreSpelled older → EndsWith older (g.seen mid) → LeavesOnly g mid new (WasLeftOrBegun g z images mid older)) → BeginsAtMost g z images old new
+  read_first old mid new older marks falls reads are same crash run rest h =
       let read = reads (falls h) in
       joined g old mid new (λ c. g.may_leave old c ⊎ IsBegunOn z images (g.seen old) c)
       (weaker g old mid (g.may_leave old) (λ c. g.may_leave old c ⊎ IsBegunOn z images (g.seen old) c) run (λ c was. inl was))
-      (weaker g mid new (WasLeftOrBegun g z (IsLeft z images older) mid older) (λ c. g.may_leave old c ⊎ IsBegunOn z images (g.seen old) c) (rest h are (subst (EndsWith older) (sym same) read))
-      (λ c. ⊎_elim (λ was. inl (crash c was)) (λ is. inr (record { older = older; reads = read; begun = subst (λ seen. IsBegunBehind z (IsLeft z images older) older seen c) same is }))))
+      (weaker g mid new (WasLeftOrBegun g z images mid older) (λ c. g.may_leave old c ⊎ IsBegunOn z images (g.seen old) c) (rest h are (subst (EndsWith older) (sym same) read))
+      (λ c. ⊎_elim (λ was. inl (crash c was)) (λ is. inr (record { older = older; reads = read; marks = marks; begun = subst (λ seen. IsBegunBehind z images older seen c) same is }))))
 
 pub if_err_both : {T E : Type 0} {A B C : E → Type 0} (r : Result T E) → ((x : E) → A x → B x → C x) → IfErr r A → IfErr r B → IfErr r C
 if_err_both (Ok x) f h k = h

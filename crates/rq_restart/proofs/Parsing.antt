@@ -1,32 +1,30 @@
 -- What was read of a device that spells a log is the log's.
-use Rattle.std.proofs.Common.{◌≡◌, ◌+◌, ◌-◌, ◌≤◌, ℕ, drop, List, [], ◌∷◌, ◌++◌, length, reverse, sym, ◌∙◌, ap, subst, inl, inr, arith, length-append}
-use Rattle.std.proofs.lemmas.List.{drop_at, reverse-append, reverse-reverse}
+use Rattle.std.proofs.Common.{◌≡◌, ⊎_elim, ◌+◌, ◌-◌, ◌<◌, ◌≤◌, ℕ, zero, suc, false, drop, List, [], ◌∷◌, ◌++◌, length, reverse, refl, sym, ◌∙◌, ap, subst, inl, inr, arith, length-append}
+use Rattle.std.proofs.lemmas.Bool.{true≢false}
+use Rattle.std.proofs.lemmas.List.{drop_at, length-drop, reverse-append, reverse-reverse}
 use Rattle.rq_model.specs.declared.record.Record.{Record}
+use Rattle.rq_model.specs.declared.record.Record.TheVariants.{Base}
+use Rattle.rq_model.specs.Bases.{IsMarked, base_lsn, gone, is_base, marked, standing}
+use Rattle.rq_model.proofs.Bases.{base_behind, base_plain, drop_base, drop_standing, gone_less, length_standing, read_marked, standing_plain}
 use Rattle.rq_disk.specs.declared.device.LogDevice.{Ghosts}
 use Rattle.rq_log.specs.Spelled.{spelled, spelled_all, AreAllSpelled, AreSpelled, EndsWith, EndsWithAll}
 use Rattle.rq_log.specs.Reading.{StopsFor}
-use Rattle.rq_model.specs.Incarnations.{AreBased}
-use Rattle.rq_model.specs.declared.record.Record.TheVariants.{Base}
-use Rattle.rq_model.proofs.Bases.{all_stand, plain_drop}
-use Rattle.rq_record.specs.Spelling.{IsRecord}
-use Rattle.rq_log.proofs.Parsing.{no_damage, one_based, rest_of, told_all}
-use Rattle.rq_restart.proofs.Repeated.{repeated_plain}
+use Rattle.rq_log.proofs.Parsing.{no_damage, rest_of}
+use Rattle.rq_restart.proofs.Repeated.{follow_marked, repeated_read}
 use Rattle.rq_model.specs.declared.refusal.Refusal.{Refusal}
 use Rattle.rq_model.specs.declared.refusal.Refusal.TheVariants as why
 use Rattle.rq_model.specs.declared.refusal.Damage.TheVariants as damage
 use Rattle.rq_page.specs.Sizes.{Sizes}
-use Rattle.rq_restart.specs.Repeating.{Paged}
+use Rattle.rq_restart.specs.Repeating.{Belongs, Paged, Repeats}
 use Rattle.rq_restart.specs.Restarting.{IsReadAs}
 use Rattle.rq_analysis.specs.Recovered.IsRecovering.{Undoing}
+use Rattle.rq_analysis.proofs.Marked.{marked_length}
 use Rattle.rq_analysis.proofs.Undos.{undoing_none}
-use Rattle.rq_restart.specs.Refused.{IsStoppedBehind, MayBeShut}
+use Rattle.rq_restart.specs.Refused.{IsBadNext, IsStoppedBehind, MayBeShut}
 use Rattle.rq_store.specs.Opening.{IsLeft}
 use Rattle.rq_store.specs.Fitting.{oldest}
+use Rattle.rq_store.specs.Whole.{AreBased}
 use Rattle.rq_restart.proofs.Going.{left_belongs}
-
--- the records that were read are the log's
-pub log_is : (older log rs : List Record) (bytes : List ℕ) → AreBased log → AreSpelled older → EndsWith older bytes → log ≡ rs → AreSpelled rs → EndsWith log bytes → log ≡ older
-log_is older log rs bytes plain are e same k f = sym (one_based older log bytes plain are (subst AreSpelled (sym same) k) e f)
 
 -- records that stand in front of what spells a log are its first
 are_first : (log front : List Record) (bytes rest : List ℕ) → AreAllSpelled log → AreAllSpelled front → EndsWithAll log bytes → bytes ≡ spelled_all front ++ rest → (oldest (length front) log ≡ front) × (length front ≤ length log)
@@ -38,40 +36,93 @@ are_first log front bytes rest h k ends e =
     let gone : length (reverse r.others) ≡ length log - length front = omega (arith, a, b) in
     (ap (drop (length log - length front)) whole ∙ drop_at (reverse r.others) front (length log - length front) gone, omega (arith, a, b))
 
-module _ (log : List Record) (bytes : List ℕ) (plain : AreBased log) (told : AreSpelled log) (ends : EndsWith log bytes) where
-  all_told : AreAllSpelled log
-  all_told = told_all log plain told
+-- what was read of the front of a log is what is read of some of its first records
+pub record IsFrontOf (log front : List Record) : Type 0 where
+  pub records : List Record
+  pub first : oldest (length records) log ≡ records
+  pub within : length records ≤ length log
+  pub same : standing records ≡ standing front
+  pub base : base_lsn records ≡ base_lsn log
 
-  all_ends : EndsWithAll log bytes
-  all_ends = subst (λ l. EndsWithAll l bytes) (all_stand log plain) ends
+pub front_of : (log front : List Record) (bytes rest : List ℕ) → AreSpelled log → AreSpelled front → EndsWith log bytes → bytes ≡ spelled front ++ rest → 0 < length (standing front) → IsFrontOf log front
+front_of log front bytes rest told are ends is some =
+    let f = are_first (standing log) (standing front) bytes rest told are ends is in
+    let k : ℕ = length (standing log) - length (standing front) in
+    let sum = length_standing log in
+    let few = f.1 in
+    let low : k + gone log < length log = omega (arith, sum, few, some) in
+    let long = length-drop k log in
+    let size : length (drop k log) ≡ length log - k = long in
+    let behind = base_behind log in
+    let most : base_lsn log ≤ gone log + 1 = ⊎_elim (λ none. omega (arith, none)) (λ one. omega (arith, one)) behind in
+    record {
+      records = drop k log;
+      first = ap (λ (n : ℕ). drop n log) (let e : length log - length (drop k log) ≡ k = omega (arith, size, low) in e);
+      within = omega (arith, size);
+      same = drop_standing k log low ∙ f.0;
+      base = drop_base k log (omega (arith, most, low));
+    }
 
-  -- of those without a Base
-  pub front_first : (front : List Record) (rest : List ℕ) → AreBased front → AreSpelled front → bytes ≡ spelled front ++ rest → (oldest (length front) log ≡ front) × (length front ≤ length log)
-  front_first front rest none k e = are_first log front bytes rest all_told (told_all front none k) all_ends (e ∙ ap (λ l. spelled_all l ++ rest) (all_stand front none))
+based_drop : (k : ℕ) (log : List Record) → AreBased log → AreBased (drop k log)
+based_drop zero log based = based
+based_drop (suc k) [] based = tt
+based_drop (suc k) (r ∷ log) based = based_drop k log based.1
 
-  -- and so is the next behind them
-  next_first : (front : List Record) (r : Record) (rest : List ℕ) → AreBased front → IsRecord r → AreSpelled front → bytes ≡ spelled (r ∷ front) ++ rest → (oldest (length (r ∷ front)) log ≡ r ∷ front) × (length (r ∷ front) ≤ length log)
-  next_first front (Base many i) rest none is k e =
-      let f = are_first log (Base many i ∷ []) bytes rest all_told (is, tt) all_ends e in
-      absurd (subst AreBased f.0 (plain_drop (length log - 1) log plain)).0
-  next_first front r rest none is k e = are_first log (r ∷ front) bytes rest all_told (is, told_all front none k) all_ends (e ∙ ap (λ l. spelled_all (r ∷ l) ++ rest) (all_stand front none))
+-- so it has no more records
+pub front_within : (log front : List Record) (bytes rest : List ℕ) → AreSpelled log → AreSpelled front → EndsWith log bytes → bytes ≡ spelled front ++ rest → IsMarked front → AreBased log → length front ≤ length log
+front_within log [] bytes rest told are ends is marks based = omega arith
+front_within log (x ∷ front) bytes rest told are ends is marks based =
+    let less = gone_less (x ∷ front) (omega arith) in
+    let sum = length_standing (x ∷ front) in
+    let f = front_of log (x ∷ front) bytes rest told are ends is (omega (arith, less, sum)) in
+    let same : x ∷ front ≡ marked f.records = read_marked (x ∷ front) f.records marks (sym f.same) in
+    let first : AreBased f.records = subst AreBased f.first (based_drop (length log - length f.records) log based) in
+    let count : length (x ∷ front) ≡ length f.records = ap (λ (l : List Record). length l) same ∙ marked_length f.records first in
+    let within = f.within in
+    omega (arith, count, within)
+
+same_head : (x r : Record) (front rest : List Record) → is_base r ≡ false → standing (x ∷ front) ≡ r ∷ rest → (x ≡ r) × (standing front ≡ rest)
+same_head (Base many i) r front rest plain e = absurd (let is : Base many i ≡ r = cc in true≢false (ap is_base is ∙ plain))
+same_head x r front rest plain e = (let is : x ≡ r = cc in is, let is : standing front ≡ rest = cc in is)
 
 -- why going through the log stopped is why the store stays shut
 pub stopped_shut : {L : Type 0} (g : Ghosts L) (z : Sizes) (older : List Record) (first : Paged) (old new : L) (e : Refusal) → IsReadAs g old new older → IsStoppedBehind g z first e old new → MayBeShut (IsLeft z first.image older) z older e (g.faults old) (g.faults new)
 stopped_shut g z older first old new e r s = elim s.why [
   | inl stops ↦ by e stops
   | inr (inl wanting) ↦ subst (λ x. MayBeShut (IsLeft z first.image older) z older x (g.faults old) (g.faults new)) (sym wanting.0) wanting.1
-  | inr (inr bad) ↦ subst (λ x. MayBeShut (IsLeft z first.image older) z older x (g.faults old) (g.faults new)) (sym bad.told) (λ left.
-      let begins = bad.begins r.honest in
-      let f = next_first older (g.seen old) left.whole.based r.are_spelled r.reads s.front bad.newest begins.0 (repeated_plain z s.front first s.mid s.repeated) bad.is_record s.are_spelled begins.1 in
-      let one : length (bad.newest ∷ s.front) ≡ length s.front + 1 = omega arith in
-      bad.bad (left_belongs z older s.front bad.newest first s.mid (ap (λ n. oldest n older) (sym one) ∙ f.0) (omega (arith, f.1, one)) left s.repeated))
+  | inr (inr bad) ↦ subst (λ x. MayBeShut (IsLeft z first.image older) z older x (g.faults old) (g.faults new)) (sym bad.told) (none_bad bad)
 ] where
+  marks : IsMarked s.front
+  marks = follow_marked s.front (repeated_read z s.front first s.mid s.repeated).1
+
+  -- the next record belongs there
+  none_bad : IsBadNext g z s.front s.mid e old new → IsLeft z first.image older → ⊥
+  none_bad bad left =
+      let q = bad.newest in
+      let begins = bad.begins r.honest in
+      let told : AreSpelled (q ∷ s.front) = subst AreAllSpelled (sym (standing_plain q s.front bad.plain)) (bad.is_record, s.are_spelled) in
+      let some : 0 < length (standing (q ∷ s.front)) = (let e = ap (λ (l : List Record). length l) (standing_plain q s.front bad.plain) in omega (arith, e)) in
+      next_bad (front_of older (q ∷ s.front) (g.seen old) begins.0 r.are_spelled told r.reads begins.1 some)
+    where
+      next_bad : IsFrontOf older (bad.newest ∷ s.front) → ⊥
+      next_bad f = by f.records refl where
+        by : (records : List Record) → f.records ≡ records → ⊥
+        by [] none = (let e = ap (λ (l : List Record). length l) (ap standing (sym none) ∙ f.same ∙ standing_plain bad.newest s.front bad.plain) in omega (arith, e))
+        by (x ∷ front) is =
+            let stands : standing (x ∷ front) ≡ bad.newest ∷ standing s.front = ap standing (sym is) ∙ f.same ∙ standing_plain bad.newest s.front bad.plain in
+            let head = same_head x bad.newest front (standing s.front) bad.plain stands in
+            let rest : s.front ≡ marked front = read_marked s.front front marks (sym head.1) in
+            let grows : oldest (length (bad.newest ∷ front)) older ≡ bad.newest ∷ front = subst (λ (l : List Record). oldest (length l) older ≡ l) (is ∙ ap (λ (y : Record). y ∷ front) head.0) f.first in
+            let within : length (bad.newest ∷ front) ≤ length older = subst (λ (l : List Record). length l ≤ length older) (is ∙ ap (λ (y : Record). y ∷ front) head.0) f.within in
+            let base : base_lsn front ≡ base_lsn older = sym (base_plain bad.newest front bad.plain) ∙ ap base_lsn (sym (is ∙ ap (λ (y : Record). y ∷ front) head.0)) ∙ f.base in
+            let belongs = left_belongs z older front bad.newest first s.mid bad.plain grows within base left (subst (λ (l : List Record). Repeats z l first s.mid) rest s.repeated) in
+            bad.bad (subst (λ (l : List Record). Belongs z l bad.newest s.mid) (sym rest) belongs)
+
   by : (x : Refusal) → StopsFor g x s.front old new → MayBeShut (IsLeft z first.image older) z older x (g.faults old) (g.faults new)
   by why.LogFull h = λ left.
       let more = h.1 r.honest in
-      let f = front_first older (g.seen old) left.whole.based r.are_spelled r.reads s.front more.0 (repeated_plain z s.front first s.mid s.repeated) s.are_spelled more.2 in
-      record { now = older; recovering = Undoing (undoing_none older); full = (let few = h.0 in omega (arith, f.1, few)) }
+      let most = front_within older s.front (g.seen old) more.0 r.are_spelled s.are_spelled r.reads more.2 marks left.whole.based in
+      record { now = older; recovering = Undoing (undoing_none older); full = (let few = h.0 in omega (arith, most, few)) }
   by why.DiskRead h = h
   by (why.Damaged (damage.Record lsn)) h = λ left. no_damage older s.front (g.seen old) r.are_spelled s.are_spelled r.reads (h.1 r.honest)
   by _ h = absurd h

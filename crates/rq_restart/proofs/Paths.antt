@@ -1,7 +1,13 @@
 -- A restart whose pages are only read, and whose log has records more.
-use Rattle.std.proofs.lemmas.List.{length-append}
-use Rattle.std.proofs.Common.{◌≡◌, ◌⊎◌, ℕ, zero, suc, ◌+◌, ◌++◌, drop, List, [], ◌∷◌, length, inl, inr, ⊎_elim, refl, sym, ◌∙◌, ap, subst, arith, ◌≤◌, Result, Ok, Err, IfOk, IfErr}
+use Rattle.std.proofs.lemmas.List.{drop-append-le, length-append}
+use Rattle.std.proofs.Common.{◌≡◌, ◌⊎◌, ℕ, suc, ◌+◌, ◌++◌, drop, List, ◌∷◌, length, inl, inr, ⊎_elim, sym, ◌∙◌, ap, subst, arith, ◌≤◌, Result, Ok, Err, IfOk, IfErr}
 use Rattle.rq_model.specs.declared.record.Record.{Record}
+use Rattle.rq_model.specs.Bases.{earlier, marked, standing}
+use Rattle.rq_model.proofs.Bases.{added_earlier, added_stand, marked_stands}
+use Rattle.rq_engine.specs.Earlier.{rebased}
+use Rattle.rq_engine.specs.Earlier.{on as on_earlier}
+use Rattle.rq_store.specs.Whole.{AreBased, IsWhole}
+use Rattle.rq_restart.specs.Past.{IsPast}
 use Rattle.rq_model.specs.Incarnations.{Extends}
 use Rattle.rq_model.specs.Commits.{committed_of}
 use Rattle.rq_model.specs.Ledger.{Ledger, after}
@@ -10,7 +16,7 @@ use Rattle.rq_disk.specs.Device.{Images, Leaves}
 use Rattle.rq_disk.specs.declared.device.LogDevice as log_device
 use Rattle.rq_disk.specs.declared.device.PageDevice as page_device
 use Rattle.rq_pool.specs.Reading.{AreSeen, IsSuperblock, OnlyRead}
-use Rattle.rq_log.specs.Spelled.{AreSpelled, EndsWith}
+use Rattle.rq_log.specs.Spelled.{AreAllSpelled, AreSpelled, EndsWith, EndsWithAll, GoOnTo, spelled_all}
 use Rattle.rq_log.proofs.Moments.{weaker}
 use Rattle.rq_page.specs.Sizes.{Sizes, page_count}
 use Rattle.rq_sound.specs.Sound.{IsSound}
@@ -30,58 +36,84 @@ use Rattle.rq_restart.specs.declared.restart.Stopped.{Stopped}
 use Rattle.rq_restart.specs.Restarting.{BeginsFrom, IsBegunBehind, IsBegunFrom, IsBegunOn, IsLeftOn, IsOpenedOver, IsReadAs, Reports, WasChecked}
 use Rattle.rq_restart.specs.Repeating.{paged}
 use Rattle.rq_restart.specs.Underway.{IsSomeStore, IsLeftOrGoesOn, pages_left, log_left}
-use Rattle.rq_restart.proofs.Begun.{rolled_back_extends, rolled_back_incarnation}
-use Rattle.rq_restart.proofs.Lefts.{front_continues, left_longer}
+use Rattle.rq_analysis.proofs.Marked.{marked_incarnation}
+use Rattle.rq_restart.proofs.Begun.{rolled_back_incarnation}
+use Rattle.rq_restart.proofs.Pasts.{IsAddedOn, added_join, begun_added, begun_on, earlier_back, incarnation_on, left_there, length_on, mended_added, opened_on, past_of, read_is, same_log, standing_on}
+use Rattle.rq_restart.proofs.Lefts.{left_longer}
 use Rattle.rq_restart.proofs.Loading.{one_size}
-use Rattle.rq_log.proofs.Parsing.{one_based}
-use Rattle.rq_model.specs.Incarnations.{AreBased}
+use Rattle.rq_log.proofs.Parsing.{one_log}
 use Rattle.rq_restart.proofs.Restarts.{left_read, told_on}
 
--- the front of a log with another behind
-drop_front : (n : ℕ) (xs ys : List Record) → n ≤ length xs → drop n (xs ++ ys) ≡ drop n xs ++ ys
-drop_front zero xs ys le = refl
-drop_front (suc n) [] ys le = absurd (omega (arith, le))
-drop_front (suc n) (x ∷ xs) ys le = drop_front n xs ys (omega (arith, le))
+-- the first of the records behind a log, that begin an incarnation over it, where this was read of it
+module _ (z : Sizes) (images : Images) (log older : List Record) (read bytes : List ℕ) (told : AreSpelled log) (same : older ≡ marked log) (b : IsBegunBehind z images older read bytes) where
+  abbrev e : List Record
+  e = earlier log
 
--- the first of the records behind a log, that begin an incarnation over it
-module _ (z : Sizes) (left : Type 0) (older : List Record) (read bytes : List ℕ) (b : IsBegunBehind z left older read bytes) where
-  more : Extends older b.rolled_back
-  more = rolled_back_extends older b.rolled_back b.rolls_back
+  back : rebased e older ≡ log
+  back = ap (rebased e) same ∙ earlier_back log told
+
+  past : IsPast e older
+  past = subst (IsPast e) (sym same) (past_of log told)
+
+  abbrev begins : List Record
+  begins = next_restart b.rolled_back ∷ b.rolled_back
+
+  added : IsAddedOn e older begins
+  added = added_join e older b.rolled_back begins (mended_added e older b.rolled_back b.rolls_back) (begun_added e b.rolled_back)
 
   abbrev behind : List Record
-  behind = next_restart b.rolled_back ∷ more.0
+  behind = added.more
 
-  abbrev pub kept : List Record
-  kept = drop b.lacks (next_restart b.rolled_back ∷ b.rolled_back)
+  -- all of them, behind the whole log
+  abbrev pub all : List Record
+  all = rebased e begins
 
-  all : behind ++ older ≡ next_restart b.rolled_back ∷ b.rolled_back
-  all = ap (λ l. next_restart b.rolled_back ∷ l) more.1
+  there : behind ++ log ≡ all
+  there = ap (λ (l : List Record). behind ++ l) (sym back) ∙ added.there
 
-  pub all_extend : Extends older (next_restart b.rolled_back ∷ b.rolled_back)
-  all_extend = (behind, all, (refl, more.2))
+  pub all_extend : Extends log all
+  all_extend = (behind, there, added.plain)
+
+  pub all_stand : standing all ≡ standing begins
+  all_stand = standing_on e begins (added.past past)
 
   few : b.lacks ≤ length behind
-  few = let n = ap length all in let m = length-append behind older in let s = b.some in omega (arith, n, m, s)
+  few = let n = ap length added.are in let m = length-append behind older in let s = b.some in omega (arith, n, m, s)
 
-  is_kept : drop b.lacks behind ++ older ≡ kept
-  is_kept = sym (drop_front b.lacks behind older few) ∙ ap (drop b.lacks) all
+  -- and the first of them
+  abbrev pub kept : List Record
+  kept = drop b.lacks all
 
-  pub kept_extends : Extends older kept
-  kept_extends = (drop b.lacks behind, is_kept, plain_drop b.lacks behind (refl, more.2))
+  is_kept : drop b.lacks behind ++ log ≡ kept
+  is_kept = sym (drop-append-le b.lacks behind log few) ∙ ap (drop b.lacks) there
 
-  pub kept_left : (images : Images) → IsLeft z images older → left → IsLeft z images kept
-  kept_left images there l =
-      let from = recovered_from z older b.rolled_back there.whole (b.recovered l) in
-      left_longer z images older kept there (whole_dropped z b.lacks (next_restart b.rolled_back ∷ b.rolled_back) from.restarts) (front_continues older kept (drop b.lacks behind) is_kept)
+  pub kept_extends : Extends log kept
+  kept_extends = (drop b.lacks behind, is_kept, plain_drop b.lacks behind added.plain)
+
+  -- the same stands of them as of what was read
+  pub kept_stand : standing kept ≡ standing (drop b.lacks begins)
+  kept_stand =
+      let plain = plain_drop b.lacks behind added.plain in
+      let was : drop b.lacks behind ++ older ≡ drop b.lacks begins = sym (drop-append-le b.lacks behind older few) ∙ ap (drop b.lacks) added.are in
+      ap standing (sym is_kept) ∙ added_stand (drop b.lacks behind) log plain
+      ∙ ap (λ (l : List Record). drop b.lacks behind ++ l) (sym (marked_stands log) ∙ ap standing (sym same))
+      ∙ sym (added_stand (drop b.lacks behind) older plain) ∙ ap standing was
+
+  pub kept_left : (now : Images) → IsLeft z now log → IsLeft z images log → IsLeft z now kept
+  kept_left now there_now left =
+      let recovered : IsRecovered z (rebased e older) (rebased e b.rolled_back) = b.recovered e past (subst (IsLeft z images) (sym back) left) in
+      let from = recovered_from z (rebased e older) (rebased e b.rolled_back) (subst (IsWhole z) (sym back) left.whole) recovered in
+      let whole : IsWhole z all = subst (IsWhole z) (sym (begun_on e b.rolled_back ((mended_added e older b.rolled_back b.rolls_back).past past))) from.restarts in
+      left_longer z now log kept there_now (whole_dropped z b.lacks all whole) kept_extends
 
 module _ {P L : Type 0} (p : page_device.Ghosts P) (l : log_device.Ghosts L) (pages_now : (d : P) (c : Images) → p.left_since d (p.moment d) c → Leaves (p.may_be d) c) (pages_some : (d : P) (q : ℕ) → p.may_be d q (p.seen d q)) (log_some : (d : L) → l.may_leave d (l.seen d))
     (pages new_pages : P) (log new_log : L) (only : OnlyRead p pages new_pages) (begins : BeginsFrom p l pages log new_pages new_log)
-    (honest : p.honest new_pages) (h : l.honest new_log) (z : Sizes) (read : List Record) (are : AreSpelled read) (reads : EndsWith read (l.seen log)) (was : EachPair p l pages log (IsSomeStore z)) where
+    (honest : p.honest new_pages) (h : l.honest new_log) (z : Sizes) (read : List Record) (are : AreSpelled read) (reads : EndsWith read (l.seen log)) (was : EachPair p l pages log (IsSomeStore z (earlier read))) where
   abbrev Q : Images → List ℕ → Type 0
   Q = IsLeftOrGoesOn l log z read
 
   before : EachPair p l pages log Q
-  before images bytes a b = let s = was images bytes a b in (s.0, s.1, inl b)
+  before images bytes a b = let s = was images bytes a b in (s.0, s.1, s.2, inl b)
 
   fewer : (images : Images) → Leaves (p.may_be new_pages) images → Leaves (p.may_be pages) images
   fewer images a q = only.crash q (images q) (a q)
@@ -97,24 +129,28 @@ module _ {P L : Type 0} (p : page_device.Ghosts P) (l : log_device.Ghosts L) (pa
       let seen_here : AreSeen seen b.images (page_count z) = subst (λ y. AreSeen seen b.images (page_count y)) e seen_there in
       let on : IsBegunOn z (image_in b.images) (l.seen log) bytes = subst (λ y. IsBegunOn y (image_in b.images) (l.seen log) bytes) e b.begun in
       let older = on.older in
-      let left : Type 0 = IsLeft z (image_in b.images) older in
       let s = was images (l.seen log) a (log_some log) in
-      let are_older = on.begun.told in
-      let same : s.0 ≡ older = sym (one_based older s.0 (l.seen log) s.1.left.whole.based are_older s.1.are_spelled on.reads s.1.is) in
-      let same_first : first.0 ≡ older = sym (one_based older first.0 (l.seen log) first.1.left.whole.based are_older first.1.are_spelled on.reads first.1.is) in
-      let is_read : older ≡ read = sym (one_based read older (l.seen log) (subst AreBased same s.1.left.whole.based) are are_older reads on.reads) in
-      let there : left = left_read z seen b.images older seen_here (subst (IsLeft z seen) same_first first.1.left) in (
-        kept z left older seen_log bytes on.begun,
+      let is_read : s.0 ≡ read = same_log s.0 read (one_log (standing s.0) (standing read) (l.seen log) s.1.are_spelled are s.1.is reads) s.2 in
+      let first_read : first.0 ≡ read = same_log first.0 read (one_log (standing first.0) (standing read) (l.seen log) first.1.are_spelled are first.1.is reads) first.2 in
+      let same : older ≡ marked read = read_is older read (l.seen log) on.marks on.begun.told are on.reads reads in
+      let there : IsLeft z (image_in b.images) read = left_read z seen b.images read seen_here (subst (IsLeft z seen) first_read first.1.left) in
+      let now = kept z (image_in b.images) read older seen_log bytes are same on.begun in
+      let extends = kept_extends z (image_in b.images) read older seen_log bytes are same on.begun in
+      let stands = kept_stand z (image_in b.images) read older seen_log bytes are same on.begun in
+      let whole = all z (image_in b.images) read older seen_log bytes are same on.begun in
+      let whole_stands = all_stand z (image_in b.images) read older seen_log bytes are same on.begun in (
+        now,
         record {
           range = s.1.range;
-          are_spelled = on.begun.left_told;
-          is = on.begun.is;
-          left = kept_left z left older seen_log bytes on.begun images (subst (IsLeft z images) same s.1.left) there;
+          are_spelled = subst AreAllSpelled (sym stands) on.begun.left_told;
+          is = subst (λ (l : List Record). EndsWithAll l bytes) (sym stands) on.begun.is;
+          left = kept_left z (image_in b.images) read older seen_log bytes are same on.begun images (subst (IsLeft z images) is_read s.1.left) there;
         },
+        ap earlier (sym extends.1) ∙ added_earlier extends.0 read extends.2,
         inr (record {
-          more = subst (λ l. Extends l (kept z left older seen_log bytes on.begun)) is_read (kept_extends z left older seen_log bytes on.begun);
+          more = extends;
           first = ⊎_elim
-              (λ whole. inr (next_restart on.begun.rolled_back ∷ on.begun.rolled_back, on.begun.are_spelled, subst (λ l. Extends l (next_restart on.begun.rolled_back ∷ on.begun.rolled_back)) is_read (all_extend z left older seen_log bytes on.begun), whole))
+              (λ first. inr (whole, subst AreAllSpelled (sym whole_stands) on.begun.are_spelled, all_extend z (image_in b.images) read older seen_log bytes are same on.begun, subst (λ (l : List Record). GoOnTo bytes (spelled_all l)) (sym whole_stands) first))
               (λ was. inl was) on.begun.from;
         }),
       )
@@ -146,41 +182,51 @@ answer_begins p l pages log (Err s) h k = k
 module _ {P L : Type 0} (p : page_device.Ghosts P) (l : log_device.Ghosts L) (pages : P) (log : L) where
   -- it recovers the log that was read
   opened_recovered : (o : OpenStore P L × Report) (older : List Record) → IsReadAs l log o.0.log older → IsLeftOn p o.0.state.sizes pages o.0.pages older
-      → WasChecked p l pages log o.0.state.sizes (paged (pooled o.0)) o.0.state.records o.0.pages o.0.log → IsRecovered o.0.state.sizes older (drop 1 o.0.state.records)
+      → WasChecked p l pages log o.0.state.sizes (paged (pooled o.0)) o.0.state.records o.0.pages o.0.log → IsRecovered o.0.state.sizes older (rebased (earlier older) (drop 1 o.0.state.records))
   opened_recovered o older read on checked =
       let z = o.0.state.sizes in
-      let same : checked.older ≡ older = one_based checked.older older (l.seen log) on.left.whole.based checked.are_spelled read.are_spelled (checked.reads read.honest) read.reads in
-      let left : IsLeft z (image_in checked.images) checked.older = left_read z (p.seen pages) checked.images checked.older (checked.seen on.honest) (subst (IsLeft z (p.seen pages)) (sym same) on.left) in
-      subst (IsRecovered z older) (sym (ap (drop 1) checked.begun)) (subst (λ l. IsRecovered z l checked.rolled_back) same (checked.rolled_back_on.recovered left))
+      let same : checked.older ≡ marked older = read_is checked.older older (l.seen log) checked.marks checked.are_spelled read.are_spelled (checked.reads read.honest) read.reads in
+      let left : IsLeft z (image_in checked.images) older = left_read z (p.seen pages) checked.images older (checked.seen on.honest) on.left in
+      let back : rebased (earlier older) checked.older ≡ older = ap (rebased (earlier older)) same ∙ earlier_back older read.are_spelled in
+      subst (λ (l : List Record). IsRecovered z l (rebased (earlier older) (drop 1 o.0.state.records))) back
+      (subst (λ (l : List Record). IsRecovered z (rebased (earlier older) checked.older) (rebased (earlier older) l)) (sym (ap (drop 1) checked.begun))
+      (left_there checked.older older same read.are_spelled checked.rolled_back_on.recovered left))
 
   opened_entry : (o : OpenStore P L × Report) (older : List Record) → IsReadAs l log o.0.log older → IsLeftOn p o.0.state.sizes pages o.0.pages older
-      → Reports o.0.state.sizes older o.0.state.records o.1.incarnation o.1.records o.1.unfinished o.1.lost → IsOpenedOver older o.0.state → IsSound o.0.state
+      → Reports o.0.state.sizes older o.0.state.records o.1.incarnation o.1.records o.1.unfinished o.1.lost → IsOpenedOver older o.0.state → IsSound (on_earlier (earlier older) o.0.state)
       → WasChecked p l pages log o.0.state.sizes (paged (pooled o.0)) o.0.state.records o.0.pages o.0.log
-      → (ledger : Ledger) → ledger.committed ≡ committed_of older → ledger_of o.0.state ≡ after (Restarted o.1.incarnation o.1.records) ledger
+      → (ledger : Ledger) → ledger.committed ≡ committed_of older → ledger_of (on_earlier (earlier older) o.0.state) ≡ after (Restarted o.1.incarnation o.1.records) ledger
   opened_entry o older read on reports value sound checked ledger content =
       let z = o.0.state.sizes in
       let images = o.0.state.images in
+      let e : List Record = earlier older in
       let rolled_back = drop 1 o.0.state.records in
-      let from = recovered_from z older rolled_back on.left.whole (opened_recovered o older read on checked) in
-      let there : IsSound (opened z images rolled_back) = subst IsSound value.1 sound in
-      let all : length o.0.state.records ≡ length (next_restart rolled_back ∷ rolled_back) = ap (λ (s : State). length s.records) value.1 in
-      ap ledger_of value.1
-      ∙ opened_after z images rolled_back there.range from.whole from.none_unfinished from.none_lost there.pages ledger (content ∙ sym from.committed)
-      ∙ ap (λ (i : ℕ). after (Restarted (i + 1) (length (next_restart rolled_back ∷ rolled_back))) ledger) (rolled_back_incarnation older rolled_back value.0)
-      ∙ ap (λ (i : ℕ). after (Restarted i (length (next_restart rolled_back ∷ rolled_back))) ledger) (sym reports.incarnation_is)
+      let now : List Record = rebased e rolled_back in
+      let added = mended_added e (marked older) rolled_back value.0 in
+      let past = added.past (past_of older read.are_spelled) in
+      let based = added.based (subst AreBased (sym (earlier_back older read.are_spelled)) on.left.whole.based) in
+      let same : on_earlier e o.0.state ≡ opened z images now = ap (on_earlier e) value.1 ∙ opened_on e z images rolled_back past based in
+      let from = recovered_from z older now on.left.whole (opened_recovered o older read on checked) in
+      let there : IsSound (opened z images now) = subst IsSound same sound in
+      let long = length_on e rolled_back past based in
+      let all : length o.0.state.records ≡ length (next_restart now ∷ now) = ap (λ (s : State). length s.records) value.1 ∙ ap suc (sym long) in
+      ap ledger_of same
+      ∙ opened_after z images now there.range from.whole from.none_unfinished from.none_lost there.pages ledger (content ∙ sym from.committed)
+      ∙ ap (λ (i : ℕ). after (Restarted (i + 1) (length (next_restart now ∷ now))) ledger) (incarnation_on e rolled_back past ∙ rolled_back_incarnation (marked older) rolled_back value.0 ∙ marked_incarnation older)
+      ∙ ap (λ (i : ℕ). after (Restarted i (length (next_restart now ∷ now))) ledger) (sym reports.incarnation_is)
       ∙ ap (λ (n : ℕ). after (Restarted o.1.incarnation n) ledger) (sym (reports.records_are ∙ all))
 
   pub answer_recovered : (r : Result (OpenStore P L × Report) (Stopped P L))
       → IfOk r (λ o. WasChecked p l pages log o.0.state.sizes (paged (pooled o.0)) o.0.state.records o.0.pages o.0.log)
-      → IfOk r (λ o. (older : List Record) → IsReadAs l log o.0.log older → IsLeftOn p o.0.state.sizes pages o.0.pages older → IsRecovered o.0.state.sizes older (drop 1 o.0.state.records))
+      → IfOk r (λ o. (older : List Record) → IsReadAs l log o.0.log older → IsLeftOn p o.0.state.sizes pages o.0.pages older → IsRecovered o.0.state.sizes older (rebased (earlier older) (drop 1 o.0.state.records)))
   answer_recovered (Ok o) checked = λ older read on. opened_recovered o older read on checked
   answer_recovered (Err e) checked = checked
 
   pub answer_entry : (r : Result (OpenStore P L × Report) (Stopped P L))
       → IfOk r (λ o. (older : List Record) → IsReadAs l log o.0.log older → Reports o.0.state.sizes older o.0.state.records o.1.incarnation o.1.records o.1.unfinished o.1.lost)
       → IfOk r (λ o. (older : List Record) → IsReadAs l log o.0.log older → IsOpenedOver older o.0.state)
-      → IfOk r (λ o. (older : List Record) → IsReadAs l log o.0.log older → IsLeftOn p o.0.state.sizes pages o.0.pages older → IsSound o.0.state)
+      → IfOk r (λ o. (older : List Record) → IsReadAs l log o.0.log older → IsLeftOn p o.0.state.sizes pages o.0.pages older → IsSound (on_earlier (earlier older) o.0.state))
       → IfOk r (λ o. WasChecked p l pages log o.0.state.sizes (paged (pooled o.0)) o.0.state.records o.0.pages o.0.log)
-      → IfOk r (λ o. (older : List Record) → IsReadAs l log o.0.log older → IsLeftOn p o.0.state.sizes pages o.0.pages older → (ledger : Ledger) → ledger.committed ≡ committed_of older → ledger_of o.0.state ≡ after (Restarted o.1.incarnation o.1.records) ledger)
+      → IfOk r (λ o. (older : List Record) → IsReadAs l log o.0.log older → IsLeftOn p o.0.state.sizes pages o.0.pages older → (ledger : Ledger) → ledger.committed ≡ committed_of older → ledger_of (on_earlier (earlier older) o.0.state) ≡ after (Restarted o.1.incarnation o.1.records) ledger)
   answer_entry (Ok o) report value sound checked = λ older read on. opened_entry o older read on (report older read) (value older read) (sound older read on) checked
   answer_entry (Err e) report value sound checked = report

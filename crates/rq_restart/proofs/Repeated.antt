@@ -1,56 +1,84 @@
 -- Pages that a log was repeated on.
-use Rattle.std.proofs.Common.{◌≡◌, ℕ, zero, suc, ◌+◌, ◌-◌, ◌<◌, ◌≤◌, List, [], ◌∷◌, length, drop, Option, Some, None, inl, inr, refl, sym, ◌∙◌, ap, subst, arith}
+use Rattle.std.proofs.Common.{◌≡◌, ℕ, ◌+◌, ◌-◌, ◌≤◌, List, [], ◌∷◌, length, drop, false, Option, Some, None, inl, inr, refl, sym, ◌∙◌, ap, subst, arith}
 use Rattle.std.proofs.lemmas.Bool.{cases_eq, cases_lt}
-use Rattle.std.proofs.lemmas.List.{length-drop}
+use Rattle.std.proofs.lemmas.List.{drop-drop}
 use Rattle.rq_model.specs.declared.record.Record.{Record}
-use Rattle.rq_model.specs.Incarnations.{AreBased, InOrder}
+use Rattle.rq_model.specs.declared.record.Record.TheVariants as records
+use Rattle.rq_model.specs.Bases.{IsMarked, base_lsn, is_base, marked}
+use Rattle.rq_model.specs.Incarnations.{IsNext, incarnation_of}
+use Rattle.rq_model.proofs.Bases.{base_within, length_marks}
 use Rattle.rq_page.specs.Sizes.{Sizes}
 use Rattle.rq_page.specs.Pages.{IsWritten, lsn_of, slot_of}
 use Rattle.rq_page.specs.Formatted.{count_in}
 use Rattle.rq_views.specs.InStore.{InStore}
 use Rattle.rq_store.specs.Opening.{FitsUpTo, IsCounted, IsLeft, IsSoundWrite, Redoes}
-use Rattle.rq_store.specs.Fitting.{ToldWrite, oldest, told_by}
+use Rattle.rq_store.specs.Fitting.{AllHoldBase, ToldWrite, oldest, told_by}
+use Rattle.rq_store.specs.Whole.{AreBased, IsWhole}
+use Rattle.rq_store.proofs.Cutting.{whole_dropped}
 use Rattle.rq_store.proofs.Fitting.{oldest_all}
-use Rattle.rq_store.proofs.Redoing.{oldest_store, redo_none, redo_one}
-use Rattle.rq_analysis.specs.Rules.{FollowAll}
+use Rattle.rq_store.proofs.Redoing.{oldest_store, redo_base, redo_keeps_base, redo_one}
+use Rattle.rq_analysis.specs.Rules.{BeforeIt, FollowAll, IsNextIn, IsReadInOrder}
+use Rattle.rq_analysis.proofs.Marked.{marked_length}
+use Rattle.rq_analysis.proofs.Whole.{follow_marks}
 use Rattle.rq_restart.specs.Repeating.{ArePagesCounted, IsRecordRedone, Paged, Repeats}
 
--- the next of a log's first records
-oldest_step : (n : ℕ) (log : List Record) → n < length log → (r : Record) × (drop n log ≡ r ∷ drop (suc n) log)
-oldest_step n [] lt = absurd (omega (arith, lt))
-oldest_step zero (r ∷ log) lt = (r, refl)
-oldest_step (suc n) (r ∷ log) lt = oldest_step n log (omega (arith, lt))
+-- what was made of the pages before a record that is no Base
+pub before_from : {A : Type 0} (B : Type 0) (r : Record) → is_base r ≡ false → A → BeforeIt r A B
+before_from B (records.Base many i) plain h = absurd (cc plain)
+before_from B _ plain h = h
 
-none_oldest : (log : List Record) → drop (length log) log ≡ []
-none_oldest [] = refl
-none_oldest (r ∷ log) = none_oldest log
-
+-- a store that was left so, over a log with a Base perhaps
 module _ (z : Sizes) (log : List Record) (first : Paged) (left : IsLeft z first.image log) where
-  -- pages that the first records were repeated on are as these leave them
-  pub up_to : (k : ℕ) → k ≤ length log → (mid : Paged) → Repeats z (oldest k log) first mid → FitsUpTo z mid.image log k
-  up_to zero le mid h =
-      let none : oldest 0 log ≡ [] = ap (λ n. drop n log) (let e : length log - 0 ≡ length log = omega arith in e) ∙ none_oldest log in
-      let same : mid ≡ first = subst (λ l. Repeats z l first mid) none h in
-      subst (λ (p : Paged). FitsUpTo z p.image log 0) (sym same) (redo_none z log first.image left.fits)
-  up_to (suc k) le mid h =
-      let next = oldest_step (length log - suc k) log (omega (arith, le)) in
-      let one : suc (length log - suc k) ≡ length log - k = omega (arith, le) in
-      let up : suc k ≡ k + 1 = omega arith in
-      let grows : oldest (suc k) log ≡ next.0 ∷ oldest k log = next.1 ∙ ap (λ n. next.0 ∷ drop n log) one in
-      let grown : oldest (k + 1) log ≡ next.0 ∷ oldest k log = ap (λ n. oldest n log) (sym up) ∙ grows in
-      let r : Repeats z (next.0 ∷ oldest k log) first mid = subst (λ l. Repeats z l first mid) grows h in
-      let d = length-drop (length log - k) log in
-      let count : length (oldest k log) ≡ k = omega (arith, d, le) in
-      let within : k + 1 ≤ length log = omega (arith, le) in
-      let redone : Redoes (told_by next.0) (k + 1) r.0.image mid.image = subst (λ n. Redoes (told_by next.0) (n + 1) r.0.image mid.image) count r.2.redone in
-      subst (λ n. FitsUpTo z mid.image log n) (sym up)
-      (redo_one z log k next.0 grown within (in_store (k + 1) next.0 (oldest k log) grown).0 r.0.image mid.image redone (up_to k (omega (arith, le)) r.0 r.1))
-    where
-      in_store : (n : ℕ) (q : Record) (older : List Record) → oldest n log ≡ q ∷ older → InStore z (q ∷ older)
-      in_store n q older e = subst (InStore z) e (oldest_store z log n left.whole.in_store)
+  -- pages on their way through the records up to some
+  pub record AreUpTo (k : ℕ) (mid : Paged) : Type 0 where
+    pub fits : FitsUpTo z mid.image log k
+    pub based : AllHoldBase z mid.image log
 
-  pub all_up_to : (last : Paged) → Repeats z log first last → FitsUpTo z last.image log (length log)
-  all_up_to last h = up_to (length log) (omega arith) last (subst (λ l. Repeats z l first last) (sym (oldest_all log)) h)
+  -- where the Base stands nothing is made of them
+  at_base : (mid : Paged) → mid.image ≡ first.image → AreUpTo (base_lsn log) mid
+  at_base mid same = record {
+    fits = subst (λ (f : ℕ → List ℕ). FitsUpTo z f log (base_lsn log)) (sym same) (redo_base z log first.image left.fits left.based);
+    based = subst (λ (f : ℕ → List ℕ). AllHoldBase z f log) (sym same) left.based;
+  }
+
+  same_images : (old new : ℕ → List ℕ) → ((p : ℕ) → new p ≡ old p) → new ≡ old
+  same_images old new h = λ i. λ p. h p i
+
+  -- the first records of the log before one more
+  pub first_less : (r : Record) (front : List Record) → oldest (length (r ∷ front)) log ≡ r ∷ front → length (r ∷ front) ≤ length log → oldest (length front) log ≡ front
+  first_less r front are within =
+      let one : length log - length front ≡ (length log - length (r ∷ front)) + 1 = omega (arith, within) in
+      ap (λ (n : ℕ). drop n log) one ∙ sym (drop-drop 1 (length log - length (r ∷ front)) log) ∙ ap (drop 1) are
+
+  first_based : (front : List Record) → oldest (length front) log ≡ front → AreBased front
+  first_based front are = (subst (IsWhole z) are (whole_dropped z (length log - length front) log left.whole)).based
+
+  -- one record more
+  one_up : (r : Record) (front : List Record) → oldest (length (r ∷ front)) log ≡ r ∷ front → length (r ∷ front) ≤ length log → base_lsn front ≡ base_lsn log → (old new : Paged) → AreUpTo (length front) old → IsRecordRedone z (marked front) r old new → AreUpTo (length (r ∷ front)) new
+  one_up r front are within same old new f one =
+      let k : ℕ = length front in
+      let up : k + 1 ≡ length (r ∷ front) = omega arith in
+      let before = first_less r front are within in
+      let grown : oldest (k + 1) log ≡ r ∷ oldest k log = ap (λ (n : ℕ). oldest n log) up ∙ are ∙ ap (λ (l : List Record). r ∷ l) (sym before) in
+      let store : InStore z (r ∷ front) = subst (InStore z) are (oldest_store z log (length (r ∷ front)) left.whole.in_store) in
+      let redone : Redoes (told_by r) (k + 1) old.image new.image = subst (λ (n : ℕ). Redoes (told_by r) (n + 1) old.image new.image) (marked_length front (first_based front before)) one.redone in
+      let low = base_within front in
+      record {
+        fits = subst (λ (n : ℕ). FitsUpTo z new.image log n) up (redo_one z log k r grown (omega (arith, within)) store.0 old.image new.image redone f.fits);
+        based = redo_keeps_base z log (told_by r) (k + 1) old.image new.image (omega (arith, low, same)) redone f.based;
+      }
+
+  -- pages that the first records were repeated on, as they are read, are as these leave them
+  pub up_to : (front : List Record) → oldest (length front) log ≡ front → length front ≤ length log → base_lsn front ≡ base_lsn log → (mid : Paged) → Repeats z (marked front) first mid → AreUpTo (length front) mid
+  up_to [] are within same mid h = subst (λ (k : ℕ). AreUpTo k mid) (sym same) (at_base mid (ap (λ (p : Paged). p.image) h))
+  up_to (records.Base many i ∷ front) are within same mid h =
+      let e : length front + 1 ≡ length (records.Base many i ∷ front) = omega arith in
+      subst (λ (k : ℕ). AreUpTo k mid) (sym same ∙ e) (at_base mid (same_images h.0.image mid.image h.2.redone ∙ ap (λ (p : Paged). p.image) h.1))
+  up_to (r ∷ front) are within same mid h =
+      one_up r front are within same h.0 mid (up_to front (first_less r front are within) (omega (arith, within)) same h.0 h.1) h.2
+
+  pub all_up_to : (last : Paged) → Repeats z (marked log) first last → AreUpTo (length log) last
+  all_up_to last h = up_to log (oldest_all log) (omega arith) refl last h
 
 -- no number of the pages is beyond the log, once one record more is repeated
 pub counted_more : (z : Sizes) (log : List Record) (r : Record) (old new : Paged) → IsRecordRedone z log r old new → ArePagesCounted z (length log) old → ArePagesCounted z (length log + 1) new
@@ -79,16 +107,39 @@ counted_more z log r old new one all p low high = by (told_by r) one.redone one.
       ];
     }
 
--- what was gone through is in order
-pub repeated_order : (z : Sizes) (log : List Record) (first last : Paged) → Repeats z log first last → InOrder log
-repeated_order z [] first last r = tt
-repeated_order z (q ∷ log) first last r = (r.2.belongs.next, repeated_order z log first r.0 r.1)
+-- what was gone through is in order, and was read
+pub repeated_read : (z : Sizes) (log : List Record) (first last : Paged) → Repeats z log first last → IsReadInOrder log × FollowAll log
+repeated_read z [] first last r = (tt, tt)
+repeated_read z (records.Base many i ∷ log) first last r = ((r.2.belongs.next, tt), (r.2.belongs.follows, subst FollowAll (sym r.2.belongs.follows.begins) (follow_marks many)))
+repeated_read z (q ∷ log) first last r =
+    let older = repeated_read z log first r.0 r.1 in
+    ((r.2.belongs.next, older.0), (r.2.belongs.follows, older.1))
 
--- and no Base is in it
-pub repeated_plain : (z : Sizes) (log : List Record) (first last : Paged) → Repeats z log first last → AreBased log
-repeated_plain z [] first last r = tt
-repeated_plain z (q ∷ log) first last r = (r.2.belongs.follows.belongs, repeated_plain z log first r.0 r.1)
+-- there are no more incarnations than records
+pub few_read : (log : List Record) → IsReadInOrder log → FollowAll log → incarnation_of log ≤ length log
+few_read [] o f = omega arith
+few_read (records.Base many i ∷ log) o f =
+    let few = o.0.1 in
+    let all = ap (λ (l : List Record). length l) f.0.begins ∙ length_marks many in
+    omega (arith, few, all)
+few_read (records.Restart i ∷ log) o f = (let ih = few_read log o.1 f.1 in let e : i ≡ incarnation_of log + 1 = o.0 in omega (arith, ih, e))
+few_read (_ ∷ log) o f = let ih = few_read log o.1 f.1 in omega (arith, ih)
 
-pub follow_plain : (log : List Record) → FollowAll log → AreBased log
-follow_plain [] f = tt
-follow_plain (q ∷ log) f = (f.0.belongs, follow_plain log f.1)
+-- before its Base stand marks alone
+pub follow_marked : (log : List Record) → FollowAll log → IsMarked log
+follow_marked [] f = tt
+follow_marked (records.Base many i ∷ log) f = f.0.begins
+follow_marked (_ ∷ log) f = follow_marked log f.1
+
+-- a plain record is the next as it is read where it is the next
+pub next_in : (log : List Record) (r : Record) → is_base r ≡ false → IsNext (incarnation_of log) r → IsNextIn log r
+next_in log (records.Base many i) plain n = absurd (cc plain)
+next_in log _ plain n = n
+
+pub next_of : (log : List Record) (r : Record) → is_base r ≡ false → IsNextIn log r → IsNext (incarnation_of log) r
+next_of log (records.Base many i) plain n = absurd (cc plain)
+next_of log _ plain n = n
+
+-- one record more was read
+pub order_more : (log : List Record) (r : Record) → is_base r ≡ false → IsNextIn log r → IsReadInOrder log → IsReadInOrder (r ∷ log)
+order_more log r plain n o = (n, before_from (Unit {0}) r plain o)

@@ -1,9 +1,10 @@
 -- What a restart makes of a store that was left as a crash may leave one.
-use Rattle.std.proofs.Common.{◌≡◌, ℕ, ◌<◌, ◌≤◌, List, ◌∷◌, length, false, sym, ◌∙◌, ap, subst, inl, inr, ◌⊎◌, ⊎_elim, arith, ◌^◌, Bool, replicate}
+use Rattle.std.proofs.Common.{◌≡◌, ℕ, ◌<◌, ◌≤◌, List, ◌∷◌, ◌++◌, length, false, sym, ◌∙◌, ap, subst, inl, inr, ◌⊎◌, ⊎_elim, arith, ◌^◌, Bool, replicate}
 use Rattle.rq_model.specs.declared.record.Record.{Record}
 use Rattle.rq_model.specs.declared.refusal.Refusal.{Refusal}
 use Rattle.rq_model.specs.declared.refusal.Refusal.TheVariants as why
 use Rattle.rq_model.specs.declared.refusal.Damage.TheVariants as damage
+use Rattle.rq_model.proofs.Bases.{extends_base}
 use Rattle.rq_page.specs.Sizes.{Sizes, page_count}
 use Rattle.rq_page.specs.Formatted.{IsFormatted, IsHeaderOf}
 use Rattle.rq_disk.specs.declared.device.PageDevice.{Ghosts}
@@ -13,8 +14,7 @@ use Rattle.rq_pool.specs.Pooled.{Pooled}
 use Rattle.rq_pool.specs.Reading.{IsSuperblock, ArePages, AreSeen, OnlyRead}
 use Rattle.rq_log.specs.Logged.{Logged}
 use Rattle.rq_store.specs.Opening.{IsCounted, next_restart, IsLeft}
-use Rattle.rq_store.specs.Steps.{Continues}
-use Rattle.rq_store.specs.Fitting.{FitsPage, AllFit, image_in, oldest}
+use Rattle.rq_store.specs.Fitting.{FitsPage, HoldsBase, AllFit, image_in, oldest}
 use Rattle.rq_store.proofs.Fitting.{oldest_all}
 use Rattle.rq_store.proofs.Cutting.{all_fit_longer, no_more_fit}
 use Rattle.rq_store.proofs.Bounds.{fits_counted}
@@ -25,7 +25,15 @@ use Rattle.rq_restart.specs.Overwritten.{NamesFirst}
 use Rattle.rq_restart.specs.Checked.{as_read}
 use Rattle.rq_restart.specs.RolledBack.{IsRolledBackOn}
 use Rattle.rq_restart.specs.Repeating.{Paged, paged, Repeats}
-use Rattle.rq_restart.proofs.Begun.{rolled_back_continues, no_bad_undo, one_continues}
+use Rattle.rq_engine.specs.Earlier.{rebased}
+use Rattle.rq_model.specs.Bases.{IsMarked, earlier, marked}
+use Rattle.rq_model.specs.Incarnations.{Extends}
+use Rattle.rq_store.specs.Whole.{AreBased}
+use Rattle.rq_restart.specs.Aborting.{RepeatedFrom}
+use Rattle.rq_restart.specs.Past.{IsPast}
+use Rattle.rq_restart.proofs.Begun.{no_bad_undo}
+use Rattle.rq_restart.proofs.Lefts.{front_continues}
+use Rattle.rq_restart.proofs.Pasts.{aborting_added, added_join, begun_added, earlier_back, length_on, mended_added, past_of, undoing_added}
 
 -- of a device that was left alone, what follows from that
 pub shut_by : {U V : Type 0} (z : Sizes) (log : List Record) (first : Paged) (e : Refusal) (before now : ℕ) → (U → V) → WhyShut z log first e before now U → WhyShut z log first e before now V
@@ -43,7 +51,7 @@ module _ {P L : Type 0} (p : Ghosts P) (l : log_device.Ghosts L) (pages : P) (lo
   first_is = ap (λ (f : List Bool). record { image = image_in loaded.images; changed = f }) unchanged
 
   pub was_checked : (now : Pooled P) (records : List Record) (new : L) → now.sizes ≡ loaded.sizes → now.device ≡ loaded.device
-      → ((older : List Record) × AreSpelled older × (l.honest new → EndsWith older (l.seen log)) × (rolled_back : List Record) × IsRolledBackOn loaded.sizes older rolled_back (paged loaded) (paged now) × (records ≡ next_restart rolled_back ∷ rolled_back) × (length rolled_back < 2 ^ 50))
+      → ((older : List Record) × IsMarked older × AreSpelled older × (l.honest new → EndsWith older (l.seen log)) × (rolled_back : List Record) × IsRolledBackOn loaded.sizes older rolled_back (paged loaded) (paged now) × (records ≡ next_restart rolled_back ∷ rolled_back) × (length rolled_back < 2 ^ 50))
       → WasChecked p l pages log now.sizes (paged now) records now.device new
   was_checked now records new same device h =
       subst (λ d. WasChecked p l pages log now.sizes (paged now) records d new) (sym device)
@@ -52,12 +60,13 @@ module _ {P L : Type 0} (p : Ghosts P) (l : log_device.Ghosts L) (pages : P) (lo
         sound = sound;
         seen = seen;
         older = h.0;
-        are_spelled = h.1;
-        reads = h.2;
-        rolled_back = h.3;
-        rolled_back_on = subst (λ first. IsRolledBackOn loaded.sizes h.0 h.3 first (paged now)) first_is h.4;
-        begun = h.5;
-        room = h.6;
+        marks = h.1;
+        are_spelled = h.2;
+        reads = h.3;
+        rolled_back = h.4;
+        rolled_back_on = subst (λ first. IsRolledBackOn loaded.sizes h.0 h.4 first (paged now)) first_is h.5;
+        begun = h.6;
+        room = h.7;
       }))
 
   pub was_refused : (e : Refusal) (new_pages : P) (new_log : L) → new_pages ≡ loaded.device → p.faults loaded.device ≡ p.faults pages → LogStops l loaded.sizes (paged loaded) e log new_log → IsRefusedFor p l pages log e new_pages new_log
@@ -92,19 +101,25 @@ beyond_shut z older first last (why.Damaged (damage.Page page)) before now untou
 beyond_shut z older first last _ before now untouched repeated here h = absurd h
 
 -- why a store stays shut tells why it may
-pub shut_left : (z : Sizes) (older : List Record) (first : Paged) (e : Refusal) (before now : ℕ) (untouched : Type 0) → WhyShut z older first e before now untouched → MayBeShut (IsLeft z first.image older) z older e before now
-shut_left z older first why.NoMemory before now untouched h = h.0
-shut_left z older first why.LogFull before now untouched h = λ left. record { now = h.0.now; recovering = h.0.recovering left; full = h.0.full }
-shut_left z older first why.DiskWrite before now untouched h = h.0
-shut_left z older first (why.Damaged (damage.Record lsn)) before now untouched h = λ left. elim h.0 [
-  | inl undo ↦ no_bad_undo z older first lsn left undo
-  | inr rollback ↦ rollback.none left
+pub shut_left : (z : Sizes) (log : List Record) (first : Paged) (why : Refusal) (before now : ℕ) (untouched : Type 0) (e : List Record) → IsPast e log → WhyShut z log first why before now untouched → MayBeShut (IsLeft z first.image (rebased e log)) z (rebased e log) why before now
+shut_left z log first why.NoMemory before now untouched e past h = h.0
+shut_left z log first why.LogFull before now untouched e past h = λ left.
+    let room = h.0 in
+    let undone = undoing_added e log room.undone room.undoing in
+    let added = added_join e log room.undone room.now undone (aborting_added e z (RepeatedFrom z first) room.undone room.now room.aborting) in
+    let long = length_on e room.now (added.past past) (added.based left.whole.based) in
+    let full = room.full in
+    record { now = rebased e room.now; recovering = room.recovering e past left; full = omega (arith, long, full) }
+shut_left z log first why.DiskWrite before now untouched e past h = h.0
+shut_left z log first (why.Damaged (damage.Record lsn)) before now untouched e past h = λ left. elim h.0 [
+  | inl undo ↦ no_bad_undo z log first lsn undo e past left
+  | inr rollback ↦ rollback.none e past left
 ]
-shut_left z older first (why.Damaged (damage.Page page)) before now untouched h = λ left. elim h.0 [
-  | inl beyond ↦ beyond.beyond.bad (counted_left z first.image older page left beyond.beyond.low beyond.beyond.high)
-  | inr unlinked ↦ unlinked.0.none left
+shut_left z log first (why.Damaged (damage.Page page)) before now untouched e past h = λ left. elim h.0 [
+  | inl beyond ↦ beyond.beyond.bad (subst (λ (n : ℕ). IsCounted z n page (first.image page)) (length_on e log past left.whole.based) (counted_left z first.image (rebased e log) page left beyond.beyond.low beyond.beyond.high))
+  | inr unlinked ↦ unlinked.0.none e past left
 ]
-shut_left z older first _ before now untouched h = absurd h
+shut_left z log first _ before now untouched e past h = absurd h
 
 -- what was left on a device was left in the pages that are read of it
 pub left_read : (z : Sizes) (seen : ℕ → List ℕ) (images : List (List ℕ)) (older : List Record) → AreSeen seen images (page_count z) → IsLeft z seen older → IsLeft z (image_in images) older
@@ -115,6 +130,7 @@ left_read z seen images older read left = record {
     headers = λ p low high. subst (λ b. IsHeaderOf z p b) (sym (read p high)) (left.fits.headers p low high);
     pages = λ p low high. subst (λ b. FitsPage z older p b) (sym (read p high)) (left.fits.pages p low high);
   };
+  based = λ p low high. subst (λ b. HoldsBase z older p b) (sym (read p high)) (left.based p low high);
 }
 
 -- the sizes are those that the superblock told
@@ -122,10 +138,17 @@ pub told_on : (z : Sizes) (seen : ℕ → List ℕ) (images : List (List ℕ)) �
 told_on z seen images are read = subst (λ b. IsSuperblock z b) (read 0 (omega arith)) are.superblock
 
 -- where all that the pages might be fitted the log that was read, all that they may be fits the forced log
-pub fit_begun : {P L : Type 0} (g : Ghosts P) (old new : P) (z : Sizes) (older : List Record) (log : Logged L)
-    → IsBegun older log → OnlyRead g old new → AllFit (g.may_be old) z older → AllFit (g.may_be new) z (oldest log.forced log.records)
-fit_begun g old new z older log begun read f =
-    let now : List Record = next_restart begun.rolled_back ∷ begun.rolled_back in
-    let all : oldest log.forced log.records ≡ now = ap (λ n. oldest n log.records) begun.forced ∙ oldest_all log.records ∙ begun.records in
-    let goes : Continues older now = one_continues older begun.rolled_back (next_restart begun.rolled_back) (rolled_back_continues older begun.rolled_back begun.rolls_back) in
-    subst (λ l. AllFit (g.may_be new) z l) (sym all) (all_fit_longer (g.may_be new) z older now goes (no_more_fit (g.may_be old) (g.may_be new) z older read.crash f))
+pub fit_begun : {P L : Type 0} (g : Ghosts P) (old new : P) (z : Sizes) (older : List Record) (log : Logged L) → AreSpelled older
+    → IsBegun (marked older) log → OnlyRead g old new → AreBased older → AllFit (g.may_be old) z older → AllFit (g.may_be new) z (oldest log.forced (rebased (earlier older) log.records))
+fit_begun g old new z older log told begun read based f =
+    let e : List Record = earlier older in
+    let begins : List Record = next_restart begun.rolled_back ∷ begun.rolled_back in
+    let back = earlier_back older told in
+    let past = past_of older told in
+    let added = added_join e (marked older) begun.rolled_back begins (mended_added e (marked older) begun.rolled_back begun.rolls_back) (begun_added e begun.rolled_back) in
+    let now : List Record = rebased e begins in
+    let extends : Extends older now = (added.more, ap (λ (l : List Record). added.more ++ l) (sym back) ∙ added.there, added.plain) in
+    let long : length now ≡ length begins = length_on e begins (added.past past) (added.based (subst AreBased (sym back) based)) in
+    let forced : log.forced ≡ length now = begun.forced ∙ ap (λ (l : List Record). length l) begun.records ∙ sym long in
+    let all : oldest log.forced (rebased e log.records) ≡ now = ap (λ n. oldest n (rebased e log.records)) forced ∙ ap (λ (l : List Record). oldest (length now) (rebased e l)) begun.records ∙ oldest_all now in
+    subst (λ l. AllFit (g.may_be new) z l) (sym all) (all_fit_longer (g.may_be new) z older now (front_continues older now extends.0 extends.1) (extends_base older now extends) (no_more_fit (g.may_be old) (g.may_be new) z older read.crash f))

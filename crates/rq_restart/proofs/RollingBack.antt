@@ -10,13 +10,14 @@ use Rattle.rq_model.specs.Unended.{lost}
 use Rattle.rq_page.specs.Sizes.{Sizes}
 use Rattle.rq_pool.specs.Pooled.{IsPool, Pooled}
 use Rattle.rq_txn.specs.Rows.{Row, found_row}
-use Rattle.rq_store.specs.Fitting.{image_in}
-use Rattle.rq_store.specs.Opening.{FitsUpTo, IsLeft}
+use Rattle.rq_engine.specs.Earlier.{rebased}
+use Rattle.rq_store.specs.Opening.{IsLeft}
+use Rattle.rq_store.specs.Whole.{AreBased, IsWhole}
 use Rattle.rq_store.specs.State.{State}
 use Rattle.rq_store.proofs.Fitting.{oldest_all}
 use Rattle.rq_store.proofs.Redoing.{redone_slots}
 use Rattle.rq_sound.specs.Sound.{IsSound}
-use Rattle.rq_analysis.specs.OpenWorkView.{open_work_of}
+use Rattle.rq_analysis.specs.OpenWorkView.{OpenWorkView, open_work_of}
 use Rattle.rq_analysis.specs.Pages.{IsNextUndo, IsUndone, UndoesBehind}
 use Rattle.rq_analysis.specs.Pages.IsNextUndo.{Voids, Undoes}
 use Rattle.rq_analysis.specs.PageUndoTheorems.{IsUndoneFrom}
@@ -34,7 +35,8 @@ use Rattle.rq_analysis.proofs.Owing.{first_due}
 use Rattle.rq_analysis.proofs.Logging.{come_sound}
 use Rattle.rq_analysis.proofs.Store.{lost_sound, some_incarnation}
 use Rattle.rq_analysis.proofs.Walking.{aborts_come}
-use Rattle.rq_restart.specs.Aborting.{AbortStops, AbortsFrom, HasGoneOn, IsAborting, IsAbortingFrom, IsFull, IsOnItsWay, IsShown, RepeatedFrom, RepeatedSince}
+use Rattle.rq_restart.specs.Aborting.{AbortStops, AbortsFrom, HasGoneOn, IsAborting, IsAbortingFrom, IsFull, IsOnItsWay, IsShown, OfStore, RepeatedFrom, RepeatedSince}
+use Rattle.rq_restart.specs.Past.{IsPast}
 use Rattle.rq_restart.specs.Aborting.IsOnItsWay.{Between, Within}
 use Rattle.rq_restart.specs.Checked.{IsEnded}
 use Rattle.rq_restart.specs.RolledBack.{IsRolledBackSince, RollbackStops}
@@ -42,7 +44,8 @@ use Rattle.rq_restart.specs.Repeating.{Paged, Repeats, paged}
 use Rattle.rq_restart.specs.Undoing.{UndoStops}
 use Rattle.rq_restart.proofs.Aborts.{aborting_none, aborting_weaker, bad_weaker, planned_weaker, active_lost}
 use Rattle.rq_restart.proofs.Lefts.{left_undoing}
-use Rattle.rq_restart.proofs.Repeated.{all_up_to}
+use Rattle.rq_restart.proofs.Pasts.{undoing_added, undoing_on, undone_on, work_on}
+use Rattle.rq_restart.proofs.Repeated.{AreUpTo, all_up_to}
 use Rattle.rq_restart.proofs.Showing.{between_holds}
 
 -- undoing by pages leaves the transactions that have no end
@@ -67,83 +70,112 @@ no_rows [] e = refl
 no_rows (r ∷ rows) e = absurd (cc e)
 
 -- what is undone by pages of a store that was left so, on pages that it was repeated on
-module _ {P : Type 0} (z : Sizes) (log undone : List Record) (mid : Pooled P) (u : IsUndone log undone) (pool : IsPool z mid.images) (first : Paged) (left : IsLeft z first.image log) (repeated : Repeats z undone first (paged mid)) where
-  there : IsLeft z first.image undone
-  there = left_undoing z first.image log undone left u.undoing
+module _ {P : Type 0} (z : Sizes) (log undone : List Record) (mid : Pooled P) (u : IsUndone log undone) (pool : IsPool z mid.images) (first : Paged) (e : List Record) (past : IsPast e log) (left : IsLeft z first.image (rebased e log)) (repeated : Repeats z undone first (paged mid)) where
+  -- the log, and what was undone of it
+  abbrev all : List Record
+  all = rebased e log
 
-  from : IsUndoneFrom z log undone
-  from = undone_from z log undone left.whole u
+  abbrev then : List Record
+  then = rebased e undone
 
-  fits : FitsUpTo z (image_in mid.images) undone (length undone)
-  fits = all_up_to z undone first there (paged mid) repeated
+  past_then : IsPast e undone
+  past_then = (undoing_added e log undone u.undoing).past past
+
+  based_then : AreBased then
+  based_then = (undoing_added e log undone u.undoing).based left.whole.based
+
+  undone_there : IsUndone all then
+  undone_there = undone_on e log past left.whole.based undone u
+
+  there : IsLeft z first.image then
+  there = left_undoing z first.image all then left undone_there.undoing
+
+  from : IsUndoneFrom z all then
+  from = undone_from z all then left.whole undone_there
+
+  up : AreUpTo z then first there (length then) (paged mid)
+  up = all_up_to z then first there (paged mid) (subst (λ (l : List Record). Repeats z l first (paged mid)) (sym past_then) repeated)
+
+  active_there : (open_work_of undone).active ≡ lost then
+  active_there = ap (λ (h : OpenWorkView). h.active) (sym (work_on e undone past_then based_then)) ∙ active_lost z then from.whole
 
   abbrev base : State
-  base = lost_store z mid.images undone (length undone)
+  base = lost_store z mid.images then (length then)
 
   module _ (some : IsEnded undone → ⊥) where
-    some_lost : lost undone ≢ []
-    some_lost e = some (active_lost z undone from.whole ∙ e)
+    some_lost : lost then ≢ []
+    some_lost none = some (active_there ∙ none)
 
-    is_repeated : IsRepeated z mid.images undone (length undone)
+    is_repeated : IsRepeated z mid.images then (length then)
     is_repeated = record {
       range = pool.range;
       whole = from.whole;
       none_unfinished = from.none_unfinished;
-      some = some_incarnation z undone from.whole some_lost;
-      begun = ap incarnation_of (oldest_all undone);
+      some = some_incarnation z then from.whole some_lost;
+      begun = ap incarnation_of (oldest_all then);
       within = omega arith;
-      pages = redone_slots z undone mid.images from.whole.in_store fits;
-      fits = record { superblock = pool.superblock; headers = pool.headers; pages = λ p low high. (fits p low high).fits };
+      pages = redone_slots z then mid.images from.whole.in_store up.fits;
+      fits = record { superblock = pool.superblock; headers = pool.headers; pages = λ p low high. (up.fits p low high).fits };
+      based = up.based;
     }
 
     sound : IsSound base
-    sound = lost_sound z mid.images undone (length undone) is_repeated
+    sound = lost_sound z mid.images then (length then) is_repeated
 
-    shown : IsShown undone mid base
-    shown = aborts_come.first z mid.images undone (length undone)
+    shown : IsShown undone mid e base
+    shown = (past_then, aborts_come.first z mid.images then (length then))
 
-    pub on_its_way : (last : List Record) → IsOnItsWay base last → IsRecovering z log last
-    on_its_way last (Between images b) = aborts_come.between z log undone mid.images (length undone) images last u is_repeated b
-    on_its_way last (Within images t n lsn deed ws made i) = aborts_come.within z log undone mid.images (length undone) images last t n lsn deed ws made u is_repeated i
+    pub on_its_way : (last : List Record) → IsOnItsWay base last → IsRecovering z all last
+    on_its_way last (Between images b) = aborts_come.between z all then mid.images (length then) images last undone_there is_repeated b
+    on_its_way last (Within images t n lsn deed ws made i) = aborts_come.within z all then mid.images (length then) images last t n lsn deed ws made undone_there is_repeated i
 
-    pub full_recovering : (s : IsFull z (IsAbortingFrom z undone mid) (IsShown undone mid)) → IsRecovering z log s.last
-    full_recovering s = on_its_way s.last (s.way base sound refl shown)
+    pub full_recovering : (s : IsFull z (IsAbortingFrom z undone mid) (IsShown undone mid)) → IsRecovering z all (rebased e s.last)
+    full_recovering s = on_its_way (rebased e s.last) (s.way e base sound refl shown)
 
-    pub none_bad : ((b : State) → IsSound b → b.sizes ≡ z → IsShown undone mid b → ⊥) → ⊥
-    none_bad f = f base sound refl shown
+    pub none_bad : OfStore z (IsShown undone mid) (λ x b. ⊥) → ⊥
+    none_bad f = f e base sound refl shown
 
     module _ (now : List Record) (new : Pooled P) (g : HasGoneOn z (AbortsFrom z undone mid now) undone now mid new (IsShown undone mid) (IsShown now new)) (ended : IsEnded now) where
-      after : IsBetween base new.images now
-      after = g.shown base sound refl shown
+      abbrev last : List Record
+      last = rebased e now
 
-      none_lost : lost now ≡ []
-      none_lost = sym (active_lost z now (between_holds base new.images now sound after).whole) ∙ ended
+      shown_then : IsShown now new e base
+      shown_then = g.shown e base sound refl shown
 
-      nothing_due : dues now ≡ []
-      nothing_due = by (dues now) refl where
-        by : (ds : List PendingUndo) → dues now ≡ ds → ds ≡ []
-        by [] e = refl
-        by (d ∷ ds) e =
+      after : IsBetween base new.images last
+      after = shown_then.1
+
+      whole_then : IsWhole z last
+      whole_then = (between_holds base new.images last sound after).whole
+
+      none_lost : lost last ≡ []
+      none_lost = sym (active_lost z last whole_then) ∙ ap (λ (h : OpenWorkView). h.active) (work_on e now shown_then.0 whole_then.based) ∙ ended
+
+      nothing_due : dues last ≡ []
+      nothing_due = by (dues last) refl where
+        by : (ds : List PendingUndo) → dues last ≡ ds → ds ≡ []
+        by [] is = refl
+        by (d ∷ ds) is =
             let s = newest_store base after.stores in
             let c = after.come in
-            let n = first_due s (come_sound base after.stores new.images now sound c) d ds (ap dues c.records_are ∙ e) in
+            let n = first_due s (come_sound base after.stores new.images last sound c) d ds (ap dues c.records_are ∙ is) in
             let none : s.rows ≡ [] = no_rows s.rows (c.lost ∙ ap lost c.records_are ∙ none_lost) in
             absurd (let bad : None ≡ Some n.row = ap (found_row d.txn) (sym none) ∙ n.at_row in cc bad)
 
-      pub all_recovered : IsRecovered z log now
-      all_recovered = aborts_come.recovered z log undone mid.images (length undone) new.images now u is_repeated after (ap (least_free (dues now)) none_lost) nothing_due
+      pub all_recovered : IsRecovered z all last
+      all_recovered = aborts_come.recovered z all then mid.images (length then) new.images last undone_there is_repeated after (ap (least_free (dues last)) none_lost) nothing_due
 
   -- so the log is recovered
-  pub recovered_is : (now : List Record) (new : Pooled P) → HasGoneOn z (AbortsFrom z undone mid now) undone now mid new (IsShown undone mid) (IsShown now new) → IsEnded now → (IsEnded undone → now ≡ undone) → IsRecovered z log now
+  pub recovered_is : (now : List Record) (new : Pooled P) → HasGoneOn z (AbortsFrom z undone mid now) undone now mid new (IsShown undone mid) (IsShown now new) → IsEnded now → (IsEnded undone → now ≡ undone) → IsRecovered z all (rebased e now)
   recovered_is now new g ended none = by (open_work_of undone).active refl where
-    by : (ts : List Txn) → (open_work_of undone).active ≡ ts → IsRecovered z log now
-    by [] e = subst (IsRecovered z log) (sym (none e)) (NoneLost u (sym (active_lost z undone from.whole) ∙ e))
-    by (t ∷ ts) e = all_recovered (λ bad. (let k : t ∷ ts ≡ [] = sym e ∙ bad in cc k)) now new g ended
+    by : (ts : List Txn) → (open_work_of undone).active ≡ ts → IsRecovered z all (rebased e now)
+    by [] is = subst (λ (l : List Record). IsRecovered z all (rebased e l)) (sym (none is)) (NoneLost undone_there (sym active_there ∙ is))
+    by (t ∷ ts) is = all_recovered (λ bad. (let k : t ∷ ts ≡ [] = sym is ∙ bad in cc k)) now new g ended
 
 -- why operations were not undone, or then transactions, is why the log was not mended
 pub undo_rolls_nothing_back : (z : Sizes) (log : List Record) (first : Paged) (e : Refusal) → UndoStops z log first e → RollbackStops z log first e
 undo_rolls_nothing_back z log first why.NoMemory s = tt
-undo_rolls_nothing_back z log first why.LogFull s = record { undone = s.undone; undoing = s.undoing; now = s.undone; aborting = aborting_none z (RepeatedFrom z first) s.undone; turn = inl refl; none_lost = λ e. refl; full = s.full; recovering = λ left. Undoing s.undoing }
+undo_rolls_nothing_back z log first why.LogFull s = record { undone = s.undone; undoing = s.undoing; now = s.undone; aborting = aborting_none z (RepeatedFrom z first) s.undone; turn = inl refl; none_lost = λ e. refl; full = s.full; recovering = λ e past left. Undoing (undoing_on e log past left.whole.based s.undone s.undoing) }
 undo_rolls_nothing_back z log first (why.Damaged (damage.Record lsn)) s = inl s
 undo_rolls_nothing_back z log first _ s = absurd s
 
@@ -157,7 +189,7 @@ abort_rolls_nothing_back z log undone mid u pool some first repeated why.LogFull
   turn = inr u;
   none_lost = λ e. absurd (some (undone_active log undone u ∙ e));
   full = s.full;
-  recovering = λ left. full_recovering z log undone mid u pool first left repeated some s;
+  recovering = λ e past left. full_recovering z log undone mid u pool first e past left repeated some s;
 }
 abort_rolls_nothing_back z log undone mid u pool some first repeated (why.Damaged (damage.Record lsn)) s = inr (record {
   undone = undone;
@@ -165,7 +197,7 @@ abort_rolls_nothing_back z log undone mid u pool some first repeated (why.Damage
   last = s.last;
   aborting = aborting_weaker z (RepeatedSince z undone (paged mid)) (RepeatedFrom z first) (λ l p h. h first repeated) undone s.last s.aborting;
   bad = bad_weaker z (IsAbortingFrom z undone mid) (IsAborting z (RepeatedFrom z first) undone) (aborting_weaker z (RepeatedSince z undone (paged mid)) (RepeatedFrom z first) (λ l p h. h first repeated) undone) first s.last lsn (s.bad first repeated);
-  none = λ left. none_bad z log undone mid u pool first left repeated some s.none;
+  none = λ e past left. none_bad z log undone mid u pool first e past left repeated some s.none;
 })
 abort_rolls_nothing_back z log undone mid u pool some first repeated _ s = absurd s
 
@@ -179,5 +211,5 @@ rolled_back_since z log undone now old mid new same u in_pool before went ended 
       is = record { undone = undone; undoes = u; aborting = gone.aborting.behind; ended = ended; none_lost = λ e. none (undone_active log undone u ∙ e) };
       planned = λ first b. planned_weaker z (RepeatedSince z undone (paged mid)) (RepeatedFrom z first) (λ l p h. h first (before first b)) undone gone.aborting.behind.rounds gone.aborting.planned;
       repeated = λ first b. gone.repeated first (before first b);
-      recovered = λ first b left. recovered_is z log undone mid u pool first left (before first b) now new gone ended none;
+      recovered = λ first b e past left. recovered_is z log undone mid u pool first e past left (before first b) now new gone ended none;
     }

@@ -41,7 +41,7 @@ use Rattle.rq_analysis.specs.Walk.{IsBetween, IsWithin, ShowsUndone}
 use Rattle.rq_analysis.proofs.Choosing.{chosen_back, least_there}
 use Rattle.rq_analysis.proofs.Logging.{write_whole}
 use Rattle.rq_analysis.proofs.Moving.{moves_sound}
-use Rattle.rq_analysis.proofs.Numbering.{kept}
+use Rattle.rq_analysis.proofs.Numbering.{begun_above, kept}
 use Rattle.rq_analysis.proofs.Owing.{rest_due}
 use Rattle.rq_planner.specs.Backs.{IsTakingBack}
 use Rattle.rq_analysis.proofs.Planning.{due_may, due_reads}
@@ -57,7 +57,12 @@ use Rattle.rq_restart.specs.Repeating.{Belongs, IsRecordRedone, Paged, Repeats, 
 use Rattle.rq_restart.proofs.Aborts.{aborting_none, active_lost}
 use Rattle.rq_restart.proofs.DueLists.{nobody_left, one_next, own_stay}
 use Rattle.rq_restart.proofs.Planning.{lowest_is, plan_is, shows_can}
-use Rattle.rq_restart.proofs.Showing.{belongs_next, between_holds, put_next, within_holds}
+use Rattle.rq_model.specs.Bases.{marked}
+use Rattle.rq_store.specs.Fitting.{image_in, told_by}
+use Rattle.rq_store.specs.Opening.{Redoes}
+use Rattle.rq_engine.specs.Earlier.{rebased}
+use Rattle.rq_restart.proofs.Pasts.{dues_on, length_on, numbers_on, past_more, work_on}
+use Rattle.rq_restart.proofs.Showing.{HoldsLog, belongs_next, between_holds, put_next, within_holds}
 
 -- ---- numbers
 
@@ -95,56 +100,74 @@ least_of log f are o e = ap (λ (h : OpenWorkView). least_free (dues log) h.acti
 -- ---- a store that is shown
 
 module _ {P : Type 0} (z : Sizes) (log : List Record) (old : Pooled P) (f : Analysis) (are : IsAnalysisOf f log) where
-  abbrev shown : State → Type 0
+  abbrev shown : List Record → State → Type 0
   shown = IsShown log old
 
-  whole_shown : (base : State) → IsSound base → base.sizes ≡ z → shown base → IsWhole z log
-  whole_shown base k same b = subst (λ y. IsWhole y log) same (between_holds base old.images log k b).whole
+  module _ (x : List Record) (base : State) (k : IsSound base) (same : base.sizes ≡ z) (b : shown x base) where
+    abbrev all : List Record
+    all = rebased x log
 
-  -- those that are found to have no end are lost
-  pub found_lost : (base : State) → IsSound base → base.sizes ≡ z → shown base → f.open_work.active ≡ lost log
-  found_lost base k same b = ap (λ h. h.active) are.open_work ∙ active_lost z log (whole_shown base k same b)
+    holds : HoldsLog base.sizes old.images all
+    holds = between_holds base old.images all k b.1
 
-  least_is : (o : Option Txn) → least_free f.dues f.open_work.active ≡ o → (base : State) → IsSound base → base.sizes ≡ z → shown base → least_free (dues log) (lost log) ≡ o
-  least_is o e base k same b = ap (λ ts. least_free (dues log) ts) (sym (found_lost base k same b)) ∙ ap (λ ds. least_free ds f.open_work.active) (sym are.dues) ∙ e
+    whole_shown : IsWhole z all
+    whole_shown = subst (λ y. IsWhole y all) same holds.whole
 
-  pub shown_way : OfStore z shown (λ base. IsOnItsWay base log)
-  shown_way base k same b = Between old.images b
+    dues_shown : dues all ≡ f.dues
+    dues_shown = dues_on x log b.0 holds.whole.based ∙ sym are.dues
+
+    -- those that are found to have no end are lost
+    pub found_lost : f.open_work.active ≡ lost all
+    found_lost = ap (λ h. h.active) are.open_work ∙ ap (λ (h : OpenWorkView). h.active) (sym (work_on x log b.0 holds.whole.based)) ∙ active_lost z all whole_shown
+
+    least_is : (o : Option Txn) → least_free f.dues f.open_work.active ≡ o → least_free (dues all) (lost all) ≡ o
+    least_is o e = ap (λ ts. least_free (dues all) ts) (sym found_lost) ∙ ap (λ ds. least_free ds f.open_work.active) dues_shown ∙ e
+
+  pub shown_way : OfStore z shown (λ e base. IsOnItsWay base (rebased e log))
+  shown_way x base k same b = Between old.images b.1
 
   -- the end of the next that has nothing due
   module _ (t : Txn) (e : least_free f.dues f.open_work.active ≡ Some t) where
-    then : (base : State) → IsSound base → base.sizes ≡ z → shown base → IsBetween base old.images (records.AbortEnd t ∷ log)
-    then base k same b = aborts_go_on.ends base old.images log t k b (least_is (Some t) e base k same b)
+    then : (x : List Record) (base : State) → IsSound base → base.sizes ≡ z → shown x base → IsBetween base old.images (records.AbortEnd t ∷ rebased x log)
+    then x base k same b = aborts_go_on.ends base old.images (rebased x log) t k b.1 (least_is x base k same b (Some t) e)
 
-    pub end_belongs : OfStore z shown (λ base. Belongs z log (records.AbortEnd t) (paged old))
-    end_belongs base k same b =
-        let h = between_holds base old.images log k b in
-        let w = (between_holds base old.images (records.AbortEnd t ∷ log) k (then base k same b)).whole in
-        subst (λ y. Belongs y log (records.AbortEnd t) (paged old)) same (belongs_next base.sizes old.images log (records.AbortEnd t) h w old.changed)
+    pub end_belongs : OfStore z shown (λ x base. Belongs z log (records.AbortEnd t) (paged old))
+    end_belongs x base k same b =
+        let h = holds x base k same b in
+        let w = (between_holds base old.images (records.AbortEnd t ∷ rebased x log) k (then x base k same b)).whole in
+        subst (λ l. Belongs z l (records.AbortEnd t) (paged old)) b.0
+        (subst (λ y. Belongs y (marked (rebased x log)) (records.AbortEnd t) (paged old)) same (belongs_next base.sizes old.images (rebased x log) (records.AbortEnd t) h w old.changed refl))
 
     pub end_shown : (new : Pooled P) → new ≡ old → OfStore z shown (IsShown (records.AbortEnd t ∷ log) new)
-    end_shown new is base k same b = subst (λ (p : Pooled P). IsBetween base p.images (records.AbortEnd t ∷ log)) (sym is) (then base k same b)
+    end_shown new is x base k same b = (
+      past_more x log (records.AbortEnd t) refl refl b.0,
+      subst (λ (p : Pooled P). IsBetween base p.images (records.AbortEnd t ∷ rebased x log)) (sym is) (then x base k same b),
+    )
 
   -- what is due first
   module _ (d : PendingUndo) (ds : List PendingUndo) (first : f.dues ≡ d ∷ ds) (none : least_free f.dues f.open_work.active ≡ None) where
     first_is : dues log ≡ d ∷ ds
     first_is = sym are.dues ∙ first
 
-    row : (base : State) → (k : IsSound base) → base.sizes ≡ z → (b : shown base) → (r : Row) × (r.txn ≡ d.txn) × In r (newest_store base b.stores).rows
-    row base k same b =
-        let s = newest_store base b.stores in
-        let sound : IsSound s = moves_sound base b.stores k (behind base b.stores b.come.turns) in
-        let records = b.come.records_are in
-        let h = chosen_back s sound b.come.lost d ds (subst (λ l. least_free (dues l) (lost l) ≡ None) (sym records) (least_is None none base k same b)) (ap dues records ∙ first_is) in
-        (h.0, h.2, h.3.row)
+    module _ (x : List Record) (base : State) (k : IsSound base) (same : base.sizes ≡ z) (b : shown x base) where
+      first_on : dues (rebased x log) ≡ d ∷ ds
+      first_on = dues_shown x base k same b ∙ first
+
+      row : (r : Row) × (r.txn ≡ d.txn) × In r (newest_store base b.1.stores).rows
+      row =
+          let s = newest_store base b.1.stores in
+          let sound : IsSound s = moves_sound base b.1.stores k (behind base b.1.stores b.1.come.turns) in
+          let records = b.1.come.records_are in
+          let h = chosen_back s sound b.1.come.lost d ds (subst (λ l. least_free (dues l) (lost l) ≡ None) (sym records) (least_is x base k same b None none)) (ap dues records ∙ first_on) in
+          (h.0, h.2, h.3.row)
 
     -- its transaction is lost
-    pub first_lost : OfStore z shown (λ base. In d.txn f.open_work.active)
-    first_lost base k same b =
-        let s = newest_store base b.stores in
-        let r = row base k same b in
-        let there : In r.0.txn (lost s.records) = subst (In r.0.txn) b.come.lost (in_txns s.rows r.0 r.2) in
-        subst (In d.txn) (ap lost b.come.records_are ∙ sym (found_lost base k same b)) (subst (λ t. In t (lost s.records)) r.1 there)
+    pub first_lost : OfStore z shown (λ x base. In d.txn f.open_work.active)
+    first_lost x base k same b =
+        let s = newest_store base b.1.stores in
+        let r = row x base k same b in
+        let there : In r.0.txn (lost s.records) = subst (In r.0.txn) b.1.come.lost (in_txns s.rows r.0 r.2) in
+        subst (In d.txn) (ap lost b.1.come.records_are ∙ sym (found_lost x base k same b)) (subst (λ t. In t (lost s.records)) r.1 there)
       where
         in_txns : (rows : List Row) (q : Row) → In q rows → In q.txn (map (λ r. r.txn) rows)
         in_txns [] q i = absurd i
@@ -152,18 +175,22 @@ module _ {P : Type 0} (z : Sizes) (log : List Record) (old : Pooled P) (f : Anal
 
     -- it can be planned
     pub begin_shown : (ws : List SlotWrite) (n : ℕ) → IsTakingBack z (slots_in z old.images) d.deed ws → n ≡ number_of d.txn f.numbers + 1 → OfStore z shown (IsShownWithin log old d n ws 0)
-    begin_shown ws n back number base k same b =
+    begin_shown ws n back number x base k same b =
+        let all : List Record = rebased x log in
         let planned : IsPlannedFrom base.sizes (slots_in base.sizes old.images) ws (Undid (deed_due d)) = subst (λ y. IsPlannedFrom y (slots_in y old.images) ws (Undid (deed_due d))) (sym same) (plan_is z (slots_in z old.images) d ws back) in
-        let e : number_of d.txn (numbers log) + 1 ≡ n = ap (λ m. number_of d.txn m + 1) (sym are.numbers) ∙ sym number in
-        let lowest : InverseTakesLowest base.sizes (slots_in base.sizes old.images) [] (deed_due d) ws = subst (λ y. InverseTakesLowest y (slots_in y old.images) [] (deed_due d) ws) (sym same) (lowest_is z (slots_in z old.images) d ws back) in
-        subst (λ m. IsWithin base old.images log d.txn m d.lsn (deed_due d) ws 0) e
-        (aborts_go_on.begins base old.images log d ds ws k b (least_is None none base k same b) first_is planned lowest)
+        let e : number_of d.txn (numbers all) + 1 ≡ n = ap (λ m. number_of d.txn m + 1) (numbers_on x log b.0 ∙ sym are.numbers) ∙ sym number in
+        let lowest : InverseTakesLowest base.sizes (slots_in base.sizes old.images) [] (deed_due d) ws = subst (λ y. InverseTakesLowest y (slots_in y old.images) [] (deed_due d) ws) (sym same) (lowest_is z (slots_in z old.images) d ws back) in (
+          b.0,
+          subst (λ m. IsWithin base old.images all d.txn m d.lsn (deed_due d) ws 0) e
+              (aborts_go_on.begins base old.images all d ds ws k b.1 (least_is x base k same b None none) (first_on x base k same b) planned lowest),
+        )
 
-    not_planned : IsNotUndone z old.images d → OfStore z shown (λ base. ⊥)
-    not_planned bad base k same b =
-        let may : ShowsUndone base.sizes old.images log (deed_due d) = due_may base old.images log d ds k b (least_is None none base k same b) first_is in
-        let read = due_reads z log d (whole_shown base k same b) (subst (In d) (sym first_is) (inl refl)) in
-        bad (deed_due d) read.0 (shows_can z old.images log (deed_due d) read.1 (subst (λ y. ShowsUndone y old.images log (deed_due d)) same may))
+    not_planned : IsNotUndone z old.images d → OfStore z shown (λ x base. ⊥)
+    not_planned bad x base k same b =
+        let all : List Record = rebased x log in
+        let may : ShowsUndone base.sizes old.images all (deed_due d) = due_may base old.images all d ds k b.1 (least_is x base k same b None none) (first_on x base k same b) in
+        let read = due_reads z all d (whole_shown x base k same b) (subst (In d) (sym (first_on x base k same b)) (inl refl)) in
+        bad (deed_due d) read.0 (shows_can z old.images all (deed_due d) read.1 (subst (λ y. ShowsUndone y old.images all (deed_due d)) same may))
 
     -- nobody without an end has nothing due
     nobody_is : least_free (dues log) (open_work_of log).active ≡ None
@@ -187,20 +214,21 @@ module _ {P : Type 0} (z : Sizes) (log : List Record) (old : Pooled P) (f : Anal
     plan_stops _ s = absurd s
 
     -- its inverse has a number
-    pub few_operations : 2 ^ 64 ≤ number_of d.txn f.numbers + 1 → length log < 2 ^ 50 → OfStore z shown (λ base. ⊥)
-    few_operations many few base k same b =
-        let s = newest_store base b.stores in
-        let moves = behind base b.stores b.come.turns in
-        let sound : IsSound s = moves_sound base b.stores k moves in
-        let r = row base k same b in
+    pub few_operations : 2 ^ 64 ≤ number_of d.txn f.numbers + 1 → length log < 2 ^ 50 → OfStore z shown (λ x base. ⊥)
+    few_operations many few x base k same b =
+        let all : List Record = rebased x log in
+        let s = newest_store base b.1.stores in
+        let moves = behind base b.1.stores b.1.come.turns in
+        let sound : IsSound s = moves_sound base b.1.stores k moves in
+        let r = row x base k same b in
         let running = (sound.standing.each r.0 r.2).running in
-        let e : number_of r.0.txn (numbers s.records) ≡ greatest r.0.txn (items s.sizes s.records) = kept s.sizes s.records r.0.txn running in
+        let e : number_of r.0.txn (numbers s.records) ≡ greatest r.0.txn (items s.sizes s.records) = kept s.sizes s.records r.0.txn (begun_above s.sizes r.0.txn s.records sound.log.based running) running in
         let low : greatest r.0.txn (items s.sizes s.records) ≤ length (items s.sizes s.records) = few_numbers (layout_of s.sizes) r.0.txn (items s.sizes s.records) sound.log.legal sound.log.numbers in
         let count : length (items s.sizes s.records) ≡ length s.records = length-map s.records (item_of s.sizes) in
-        let all : length s.records ≡ length log = ap length b.come.records_are in
+        let long : length s.records ≡ length log = ap (λ (l : List Record). length l) b.1.come.records_are ∙ length_on x log b.0 (holds x base k same b).whole.based in
         let same_number : number_of d.txn f.numbers ≡ number_of r.0.txn (numbers s.records) =
-        ap (number_of d.txn) are.numbers ∙ ap (λ l. number_of d.txn (numbers l)) (sym b.come.records_are) ∙ ap (λ t. number_of t (numbers s.records)) (sym r.1) in
-        omega (arith, many, few, e, low, count, all, same_number)
+        ap (number_of d.txn) (are.numbers ∙ sym (numbers_on x log b.0)) ∙ ap (λ l. number_of d.txn (numbers l)) (sym b.1.come.records_are) ∙ ap (λ t. number_of t (numbers s.records)) (sym r.1) in
+        omega (arith, many, few, e, low, count, long, same_number)
 
 -- once what was due first is taken back, its transaction, which has nothing more due and no end, ends next
 pub ends_next : (mid : List Record) (f h : Analysis) → IsAnalysisOf h mid → (d : PendingUndo) → least_free (d ∷ h.dues) f.open_work.active ≡ None → h.open_work.active ≡ f.open_work.active → any_due d.txn h.dues ≡ false → In d.txn f.open_work.active
@@ -210,64 +238,74 @@ ends_next mid f h then d none active off there = least_of mid h then (Some d.txn
 -- what is due first is taken back, and its transaction has nothing more
 module _ {P : Type 0} (z : Sizes) (log mid : List Record) (old now : Pooled P) (f h : Analysis) (are : IsAnalysisOf f log) (then : IsAnalysisOf h mid) (d : PendingUndo) (first : f.dues ≡ d ∷ h.dues) (none : least_free f.dues f.open_work.active ≡ None)
     (active : h.open_work.active ≡ f.open_work.active) (off : any_due d.txn h.dues ≡ false) (shown_then : OfStore z (IsShown log old) (IsShown mid now)) where
-  next_is : (base : State) → IsSound base → base.sizes ≡ z → IsShown log old base → least_free h.dues h.open_work.active ≡ Some d.txn
-  next_is base k same b =
+  next_is : (x : List Record) (base : State) → IsSound base → base.sizes ≡ z → IsShown log old x base → least_free h.dues h.open_work.active ≡ Some d.txn
+  next_is x base k same b =
       ap (least_free h.dues) active
-      ∙ one_next d h.dues f.open_work.active off (ap (λ ds. least_free ds f.open_work.active) (sym first) ∙ none) (first_lost z log old f are d h.dues first none base k same b)
+      ∙ one_next d h.dues f.open_work.active off (ap (λ ds. least_free ds f.open_work.active) (sym first) ∙ none) (first_lost z log old f are d h.dues first none x base k same b)
 
-  pub next_belongs : OfStore z (IsShown log old) (λ base. Belongs z mid (records.AbortEnd d.txn) (paged now))
-  next_belongs base k same b = end_belongs z mid now h then d.txn (next_is base k same b) base k same (shown_then base k same b)
+  pub next_belongs : OfStore z (IsShown log old) (λ x base. Belongs z mid (records.AbortEnd d.txn) (paged now))
+  next_belongs x base k same b = end_belongs z mid now h then d.txn (next_is x base k same b) x base k same (shown_then x base k same b)
 
   pub next_shown : (new : Pooled P) → new ≡ now → OfStore z (IsShown log old) (IsShown (records.AbortEnd d.txn ∷ mid) new)
-  next_shown new is base k same b = end_shown z mid now h then d.txn (next_is base k same b) new is base k same (shown_then base k same b)
+  next_shown new is x base k same b = end_shown z mid now h then d.txn (next_is x base k same b) new is x base k same (shown_then x base k same b)
 
-  pub next_way : OfStore z (IsShown log old) (λ base. IsOnItsWay base mid)
-  next_way base k same b = Between now.images (shown_then base k same b)
+  pub next_way : OfStore z (IsShown log old) (λ e base. IsOnItsWay base (rebased e mid))
+  next_way x base k same b = Between now.images (shown_then x base k same b).1
 
 -- ---- an inverse under way
 
 module _ {P : Type 0} (z : Sizes) (log : List Record) (old : Pooled P) (d : PendingUndo) (n : ℕ) (ws : List SlotWrite) (made : ℕ) where
-  abbrev within : State → Type 0
+  abbrev within : List Record → State → Type 0
   within = IsShownWithin log old d n ws made
 
-  pub within_way : OfStore z within (λ base. IsOnItsWay base log)
-  within_way base k same i = Within old.images d.txn n d.lsn (deed_due d) ws made i
+  pub within_way : OfStore z within (λ e base. IsOnItsWay base (rebased e log))
+  within_way x base k same i = Within old.images d.txn n d.lsn (deed_due d) ws made i.1
 
   -- its next write
   module _ (w : SlotWrite) (next : slice_get ws made ≡ Some w) (is_slot : IsSlotWrite z w) where
-    whole : (base : State) → IsSound base → base.sizes ≡ z → within base → IsWhole base.sizes (page_op d.txn n w ∷ log)
-    whole base k same i =
+    whole : (x : List Record) (base : State) → IsSound base → base.sizes ≡ z → within x base → IsWhole base.sizes (page_op d.txn n w ∷ rebased x log)
+    whole x base k same i =
         let s : IsSlotWrite base.sizes w = subst (λ y. IsSlotWrite y w) (sym same) is_slot in
-        write_whole base old.images log d.txn n d.lsn (deed_due d) ws made w k i next s.before s.after
+        write_whole base old.images (rebased x log) d.txn n d.lsn (deed_due d) ws made w k i.1 next s.before s.after
 
-    pub write_belongs : OfStore z within (λ base. Belongs z log (page_op d.txn n w) (paged old))
-    write_belongs base k same i =
-        let h = within_holds base old.images log d.txn n d.lsn (deed_due d) ws made k i in
-        subst (λ y. Belongs y log (page_op d.txn n w) (paged old)) same (belongs_next base.sizes old.images log (page_op d.txn n w) h (whole base k same i) old.changed)
+    pub write_belongs : OfStore z within (λ x base. Belongs z log (page_op d.txn n w) (paged old))
+    write_belongs x base k same i =
+        let h = within_holds base old.images (rebased x log) d.txn n d.lsn (deed_due d) ws made k i.1 in
+        subst (λ l. Belongs z l (page_op d.txn n w) (paged old)) i.0
+        (subst (λ y. Belongs y (marked (rebased x log)) (page_op d.txn n w) (paged old)) same (belongs_next base.sizes old.images (rebased x log) (page_op d.txn n w) h (whole x base k same i) old.changed refl))
 
     pub write_shown : (new : Pooled P) → IsPool z new.images → IsRecordRedone z log (page_op d.txn n w) (paged old) (paged new) → OfStore z within (IsShownWithin (page_op d.txn n w ∷ log) new d n ws (made + 1))
-    write_shown new pool one base k same i =
+    write_shown new pool one x base k same i =
+        let all : List Record = rebased x log in
         let s : IsSlotWrite base.sizes w = subst (λ y. IsSlotWrite y w) (sym same) is_slot in
-        let h = within_holds base old.images log d.txn n d.lsn (deed_due d) ws made k i in
-        aborts_go_on.makes base old.images new.images log d.txn n d.lsn (deed_due d) ws made w k i next s.before s.after
-        (put_next base old.images new.images log d.txn n w h (whole base k same i) (subst (λ y. IsPool y new.images) (sym same) pool) one.redone)
+        let h = within_holds base old.images all d.txn n d.lsn (deed_due d) ws made k i.1 in
+        let redone : Redoes (told_by (page_op d.txn n w)) (length all + 1) (image_in old.images) (image_in new.images) = subst (λ (m : ℕ). Redoes (told_by (page_op d.txn n w)) (m + 1) (image_in old.images) (image_in new.images)) (sym (length_on x log i.0 h.whole.based)) one.redone in (
+          past_more x log (page_op d.txn n w) refl refl i.0,
+          aborts_go_on.makes base old.images new.images all d.txn n d.lsn (deed_due d) ws made w k i.1 next s.before s.after
+              (put_next base old.images new.images all d.txn n w h (whole x base k same i) (subst (λ y. IsPool y new.images) (sym same) pool) redone),
+        )
 
 -- its end
 module _ {P : Type 0} (z : Sizes) (log : List Record) (old : Pooled P) (d : PendingUndo) (n : ℕ) (ws : List SlotWrite) where
-  abbrev all_made : State → Type 0
+  abbrev all_made : List Record → State → Type 0
   all_made = IsShownWithin log old d n ws (length ws)
 
-  closed : (base : State) → IsSound base → all_made base → IsBetween base old.images (comp_end d.txn n d.lsn ∷ log)
-  closed base k i = aborts_go_on.closes base old.images log d.txn n d.lsn (deed_due d) ws k i
+  closed : (x : List Record) (base : State) → IsSound base → all_made x base → IsBetween base old.images (comp_end d.txn n d.lsn ∷ rebased x log)
+  closed x base k i = aborts_go_on.closes base old.images (rebased x log) d.txn n d.lsn (deed_due d) ws k i.1
 
-  pub close_belongs : OfStore z all_made (λ base. Belongs z log (comp_end d.txn n d.lsn) (paged old))
-  close_belongs base k same i =
-      let h = within_holds base old.images log d.txn n d.lsn (deed_due d) ws (length ws) k i in
-      let w = (between_holds base old.images (comp_end d.txn n d.lsn ∷ log) k (closed base k i)).whole in
-      subst (λ y. Belongs y log (comp_end d.txn n d.lsn) (paged old)) same (belongs_next base.sizes old.images log (comp_end d.txn n d.lsn) h w old.changed)
+  pub close_belongs : OfStore z all_made (λ x base. Belongs z log (comp_end d.txn n d.lsn) (paged old))
+  close_belongs x base k same i =
+      let all : List Record = rebased x log in
+      let h = within_holds base old.images all d.txn n d.lsn (deed_due d) ws (length ws) k i.1 in
+      let w = (between_holds base old.images (comp_end d.txn n d.lsn ∷ all) k (closed x base k i)).whole in
+      subst (λ l. Belongs z l (comp_end d.txn n d.lsn) (paged old)) i.0
+      (subst (λ y. Belongs y (marked all) (comp_end d.txn n d.lsn) (paged old)) same (belongs_next base.sizes old.images all (comp_end d.txn n d.lsn) h w old.changed refl))
 
   pub close_shown : (new : Pooled P) → new ≡ old → OfStore z all_made (IsShown (comp_end d.txn n d.lsn ∷ log) new)
-  close_shown new is base k same i = subst (λ (p : Pooled P). IsBetween base p.images (comp_end d.txn n d.lsn ∷ log)) (sym is) (closed base k i)
+  close_shown new is x base k same i = (
+    past_more x log (comp_end d.txn n d.lsn) refl refl i.0,
+    subst (λ (p : Pooled P). IsBetween base p.images (comp_end d.txn n d.lsn ∷ rebased x log)) (sym is) (closed x base k i),
+  )
 
 -- ---- what is found behind a record
 

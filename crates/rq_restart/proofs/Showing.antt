@@ -1,5 +1,5 @@
 -- Pages that hold what a log leaves, and the next record of a store on its way.
-use Rattle.std.proofs.Common.{◌≡◌, ℕ, ◌+◌, ◌-◌, ◌/◌, ◌%◌, ◌<◌, ◌≤◌, Bool, List, ◌∷◌, length, drop, sym, ◌∙◌, ap, subst, arith}
+use Rattle.std.proofs.Common.{◌≡◌, ℕ, ◌+◌, ◌-◌, ◌/◌, ◌%◌, ◌<◌, ◌≤◌, Bool, List, ◌∷◌, length, drop, sym, ◌∙◌, ap, subst, arith, false}
 use Rattle.rq_model.specs.declared.record.Deed.{Deed}
 use Rattle.rq_model.specs.declared.record.Record.{Record}
 use Rattle.rq_model.specs.declared.txn.Txn.{Txn}
@@ -12,7 +12,7 @@ use Rattle.rq_views.specs.Stored.{slots_in}
 use Rattle.rq_views.proofs.Overlay.{put_agree}
 use Rattle.rq_level.specs.declared.writes.SlotWrite.{SlotWrite}
 use Rattle.rq_store.specs.Fitting.{FitsLog, HoldsPage, image_in, left_by, oldest, told_by}
-use Rattle.rq_store.specs.Opening.{FitsUpTo, Redoes}
+use Rattle.rq_store.specs.Opening.{MayRedo, FitsUpTo, Redoes}
 use Rattle.rq_store.specs.State.{State}
 use Rattle.rq_store.specs.Steps.{page_op}
 use Rattle.rq_store.specs.Whole.{IsWhole}
@@ -27,6 +27,10 @@ use Rattle.rq_analysis.specs.Walk.{IsBetween, IsCome, IsWithin, showing}
 use Rattle.rq_analysis.proofs.Moving.{moves_sound}
 use Rattle.rq_analysis.proofs.Recovering.{behind}
 use Rattle.rq_analysis.proofs.Stopping.{moves_sizes}
+use Rattle.rq_model.specs.Bases.{is_base, marked}
+use Rattle.rq_model.specs.Incarnations.{IsNext}
+use Rattle.rq_analysis.proofs.Marked.{marked_incarnation, marked_length}
+use Rattle.rq_restart.proofs.Repeated.{next_in}
 use Rattle.rq_analysis.proofs.Whole.{whole_logs}
 use Rattle.rq_restart.specs.Repeating.{Belongs}
 
@@ -53,11 +57,11 @@ module _ (z : Sizes) (images : List (List ℕ)) (log : List Record) (r : Record)
     caught_up = λ le. subst (λ l. HoldsPage z p (image_in images p) l) (sym here) (λ n from to. sym (slot_holds z images p n from to) ∙ h.slots (address p n));
   }
 
-  pub belongs_next : (changed : List Bool) → Belongs z log r (record { image = image_in images; changed = changed })
-  belongs_next changed = record {
-    next = w.order.0;
-    follows = whole_logs.one z log r w;
-    may = may_redo z grown (image_in images) (length log) r w.legal w.in_store w.befores (omega arith) grows up_to;
+  pub belongs_next : (changed : List Bool) → is_base r ≡ false → Belongs z (marked log) r (record { image = image_in images; changed = changed })
+  belongs_next changed plain = record {
+    next = next_in (marked log) r plain (subst (λ (i : ℕ). IsNext i r) (sym (marked_incarnation log)) w.order.0);
+    follows = whole_logs.one z log r w plain;
+    may = subst (λ (n : ℕ). MayRedo z (image_in images) (n + 1) r) (sym (marked_length log w.based.1)) (may_redo z grown (image_in images) (length log) r w.legal w.in_store w.befores (omega arith) grows up_to);
   }
 
   up_to_now : (now : ℕ → List ℕ) → Redoes (told_by r) (length log + 1) (image_in images) now → FitsUpTo z now grown (length log + 1)

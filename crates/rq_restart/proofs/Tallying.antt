@@ -2,9 +2,7 @@
 use Rattle.std.proofs.Common.{◌≡◌, ℕ, zero, suc, ◌+◌, ◌-◌, ◌<◌, ◌≤◌, ◌++◌, List, length, take, drop, refl, sym, ◌∙◌, ap, subst, arith, length-append}
 use Rattle.std.proofs.lemmas.List.{drop-append-le, drop-drop, drop-take, length-take-le, length-drop}
 use Rattle.rq_model.specs.declared.record.Record.{Record}
-use Rattle.rq_model.specs.Incarnations.{AreBased}
 use Rattle.rq_model.specs.Bases.{standing}
-use Rattle.rq_model.proofs.Bases.{all_stand}
 use Rattle.rq_disk.specs.Records.{record_size, HasRecord, AreRecords, HoldsRecords}
 use Rattle.rq_disk.proofs.Records.{size-append, size-take}
 use Rattle.rq_record.specs.Spelling.{BeginsRecord, spelling}
@@ -60,9 +58,8 @@ none_short end b has =
     let within = has.1 in
     omega (arith, size, some, all, sum, within)
 
-pub tallied : (log : List Record) (bytes : List ℕ) (n : ℕ) → AreBased log → AreSpelled log → EndsWith log bytes → HoldsRecords bytes n → n ≡ length log
-tallied log bytes n plain told ends holds =
+pub tallied : (log : List Record) (bytes : List ℕ) (n : ℕ) → AreSpelled log → EndsWith log bytes → HoldsRecords bytes n → n ≡ length (standing log)
+tallied log bytes n told ends holds =
     let count : ℕ = length (standing log) in
     one_count n count bytes (fronts_of n holds.end bytes holds.within holds.whole holds.last)
     (subst (Fronts count) (sym ends.2) (fronts_behind count (spelled log) ends.0 (spelled_records (standing log) told) (none_short ends.0 ends.1)))
-    ∙ ap length (all_stand log plain)

@@ -1,7 +1,7 @@
 -- Undoing operations that have no end, record by record.
-use Rattle.std.proofs.Common.{◌≡◌, ℕ, ◌+◌, ◌<◌, List, [], ◌∷◌, length, inl, inr, refl, sym, ◌∙◌, ap, subst, arith}
+use Rattle.std.proofs.Common.{◌≡◌, ℕ, ◌+◌, ◌<◌, false, List, [], ◌∷◌, length, inl, inr, refl, sym, ◌∙◌, ap, subst, arith}
 use Rattle.rq_model.specs.declared.record.Record.{Record}
-use Rattle.rq_model.specs.declared.record.Record.TheVariants.{PageOp, PageUndo, OpEnd, OpVoid, CompEnd}
+use Rattle.rq_model.specs.declared.record.Record.TheVariants.{PageOp, PageUndo, OpEnd, OpVoid, CompEnd, Base}
 use Rattle.rq_model.specs.declared.refusal.Refusal.{Refusal}
 use Rattle.rq_model.specs.declared.refusal.Refusal.TheVariants as why
 use Rattle.rq_model.specs.declared.refusal.Damage.TheVariants as damage
@@ -9,7 +9,8 @@ use Rattle.rq_model.specs.declared.txn.Sub.{Sub}
 use Rattle.rq_model.specs.Vocabulary.{In}
 use Rattle.rq_page.specs.Sizes.{Sizes}
 use Rattle.rq_record.specs.Spelling.{IsInRange, IsSlotNumber, IsTxnInRange}
-use Rattle.rq_log.specs.Spelled.{AreAllSpelled}
+use Rattle.rq_model.specs.Bases.{is_base}
+use Rattle.rq_log.specs.Spelled.{AreSpelled}
 use Rattle.rq_views.specs.Items.{operation}
 use Rattle.rq_store.specs.Opening.{MayRedo, Redoes}
 use Rattle.rq_store.specs.Fitting.{told_by}
@@ -23,13 +24,13 @@ use Rattle.rq_analysis.specs.Rules.{CanBeRead}
 use Rattle.rq_restart.specs.Found.{MayComeNext}
 use Rattle.rq_restart.specs.Repeating.{ArePagesCounted, Belongs, IsRecordRedone, Marks, Paged, Repeats}
 use Rattle.rq_restart.specs.Undoing.{StepStops, UndoStops}
-use Rattle.rq_restart.proofs.Repeated.{counted_more}
+use Rattle.rq_restart.proofs.Repeated.{before_from, counted_more}
 
 -- what a log's records say is in range, and so is what is noted of them
 abbrev IsOpInRange : Sub → Type 0
 IsOpInRange o = IsTxnInRange o.txn × (0 < o.number)
 
-noted_range : (log : List Record) → AreAllSpelled log → (o : Sub) → In o (open_work_of log).unfinished → IsOpInRange o
+noted_range : (log : List Record) → AreSpelled log → (o : Sub) → In o (open_work_of log).unfinished → IsOpInRange o
 noted_range [] a o h = absurd h
 noted_range (PageOp t n page slot before after ∷ log) a o h = elim (in_with (operation t n) (open_work_of log).unfinished o h) [
   | inl e ↦ subst IsOpInRange (sym e) (a.0.0.0, a.0.0.1)
@@ -38,12 +39,13 @@ noted_range (PageOp t n page slot before after ∷ log) a o h = elim (in_with (o
 noted_range (OpEnd t n level deed ∷ log) a o h = noted_range log a.1 o (in_without (operation t n) (open_work_of log).unfinished o h).0
 noted_range (OpVoid t n ∷ log) a o h = noted_range log a.1 o (in_without (operation t n) (open_work_of log).unfinished o h).0
 noted_range (CompEnd t n undone ∷ log) a o h = noted_range log a.1 o (in_without (operation t n) (open_work_of log).unfinished o h).0
+noted_range (Base many i ∷ log) a o h = absurd h
 noted_range (_ ∷ log) a o h = noted_range log a.1 o h
 
 abbrev IsUndoableInRange : UndoableWrite → Type 0
 IsUndoableInRange p = IsOpInRange p.by × (0 < p.lsn) × IsSlotNumber p.slot
 
-undoable_range : (log : List Record) → AreAllSpelled log → (p : UndoableWrite) → In p (open_work_of log).undoable → IsUndoableInRange p
+undoable_range : (log : List Record) → AreSpelled log → (p : UndoableWrite) → In p (open_work_of log).undoable → IsUndoableInRange p
 undoable_range [] a p h = absurd h
 undoable_range (PageOp t n page slot before after ∷ log) a p h = elim h [
   | inl e ↦ subst IsUndoableInRange (sym e) ((a.0.0.0, a.0.0.1), omega arith, a.0.0.2)
@@ -53,6 +55,7 @@ undoable_range (PageUndo t n undone page slot after ∷ log) a p h = undoable_ra
 undoable_range (OpEnd t n level deed ∷ log) a p h = undoable_range log a.1 p (in_undoable (operation t n) (open_work_of log).undoable p h).0
 undoable_range (OpVoid t n ∷ log) a p h = undoable_range log a.1 p (in_undoable (operation t n) (open_work_of log).undoable p h).0
 undoable_range (CompEnd t n undone ∷ log) a p h = undoable_range log a.1 p (in_undoable (operation t n) (open_work_of log).undoable p h).0
+undoable_range (Base many i ∷ log) a p h = absurd h
 undoable_range (_ ∷ log) a p h = undoable_range log a.1 p h
 
 -- none of these records tells a deed
@@ -60,7 +63,12 @@ pub undo_reads : (h : OpenWorkView) (r : Record) → IsNextUndo h r → CanBeRea
 undo_reads h r (Voids o spent least e) = subst CanBeRead (sym e) tt
 undo_reads h r (Undoes p ps none first e) = subst CanBeRead (sym e) tt
 
-pub undo_range : (log : List Record) (h : OpenWorkView) (r : Record) → h ≡ open_work_of log → AreAllSpelled log → IsNextUndo h r → IsInRange r
+-- and none is a Base
+pub undo_is_no_base : (h : OpenWorkView) (r : Record) → IsNextUndo h r → is_base r ≡ false
+undo_is_no_base h r (Voids o spent least e) = ap is_base e
+undo_is_no_base h r (Undoes p ps none first e) = ap is_base e
+
+pub undo_range : (log : List Record) (h : OpenWorkView) (r : Record) → h ≡ open_work_of log → AreSpelled log → IsNextUndo h r → IsInRange r
 undo_range log h r e a next = by (subst (λ k. IsNextUndo k r) e next) where
   by : IsNextUndo (open_work_of log) r → IsInRange r
   by (Voids o s least is) = rw is (noted_range log a o (sub_in o (open_work_of log).unfinished s.unfinished))
@@ -93,7 +101,7 @@ module _ (z y : Sizes) (log last : List Record) (first now : Paged) (sizes : y �
   pub going_more : (r : Record) (h : OpenWorkView) (grown : List Record) (after : Paged) → h ≡ open_work_of last → IsNextUndo h r → grown ≡ r ∷ last → IsRecordRedone y last r now after → IsGoingOn z log grown first after
   going_more r h grown after is next more one = subst (λ l. IsGoingOn z log l first after) (sym more) (record {
     undoing = undoing_more log last r k.undoing (subst (λ j. IsNextUndo j r) is next);
-    repeated = λ start before. (now, k.repeated start before, subst (λ x. IsRecordRedone x last r now after) sizes one);
+    repeated = λ start before. (now, before_from (now ≡ start) r (undo_is_no_base h r next) (k.repeated start before), subst (λ x. IsRecordRedone x last r now after) sizes one);
     counted = λ before. subst (λ n. ArePagesCounted z n after) (let e : length last + 1 ≡ length (r ∷ last) = omega arith in e) (counted_more z last r now after (subst (λ x. IsRecordRedone x last r now after) sizes one) (k.counted before));
   })
 

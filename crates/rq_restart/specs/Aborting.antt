@@ -24,6 +24,8 @@ use Rattle.rq_analysis.specs.Choices.{least_free}
 use Rattle.rq_analysis.specs.Dues.{deed_due, dues}
 use Rattle.rq_analysis.specs.Numbers.{number_of, numbers}
 use Rattle.rq_analysis.specs.Walk.{IsBetween, IsWithin}
+use Rattle.rq_engine.specs.Earlier.{rebased}
+use Rattle.rq_restart.specs.Past.{IsPast}
 use Rattle.rq_restart.specs.Repeating.{ArePagesCounted, Belongs, Paged, Repeats, paged, slots_on}
 
 -- the log with the records of these writes of an operation behind, the first of them the oldest
@@ -114,17 +116,19 @@ pub record IsMaking (t : Txn) (n : ℕ) (ws : List SlotWrite) (log now : List Re
   pub made : ℕ
   pub are : with_writes t n (take made ws) log ≡ now
 
--- where the one is so of a sound store of these sizes, the other is
-abbrev pub OfStore : Sizes → (State → Type 0) → (State → Type 0) → Type 0
-OfStore z before after = (base : State) → IsSound base → base.sizes ≡ z → before base → after base
+-- whatever stood where the log has marks, where the one is so of a sound store of these sizes, the other is
+abbrev pub OfStore : Sizes → (List Record → State → Type 0) → (List Record → State → Type 0) → Type 0
+OfStore z before after = (e : List Record) (base : State) → IsSound base → base.sizes ≡ z → before e base → after e base
 
--- the pages and the log show the store, with nothing under way
-abbrev pub IsShown : {P : Type 0} → List Record → Pooled P → State → Type 0
-IsShown log pages base = IsBetween base pages.images log
+-- the pages and the log, with these records for its marks, show the store, with nothing under way
+abbrev pub IsShown : {P : Type 0} → List Record → Pooled P → List Record → State → Type 0
+IsShown log pages e base = IsPast e log × IsBetween base pages.images (rebased e log)
 
 -- they show the store with what is due being taken back, by so many of these writes
-abbrev pub IsShownWithin : {P : Type 0} → List Record → Pooled P → PendingUndo → ℕ → List SlotWrite → ℕ → State → Type 0
-IsShownWithin log pages d n ws made base = IsWithin base pages.images log d.txn n d.lsn (deed_due d) ws made
+abbrev pub IsShownWithin : {P : Type 0} → List Record → Pooled P → PendingUndo → ℕ → List SlotWrite → ℕ → List Record → State
+    → Type 0
+IsShownWithin log pages d n ws made e base =
+    IsPast e log × IsWithin base pages.images (rebased e log) d.txn n d.lsn (deed_due d) ws made
 
 -- some pages and this log show the store on its way
 pub data IsOnItsWay (base : State) (log : List Record) : Type 0 where
@@ -135,18 +139,18 @@ pub data IsOnItsWay (base : State) (log : List Record) : Type 0 where
 -- Records came behind the log, as is said of them, and were repeated on the pages; a store of which the one was so is one
 -- of which the other is.
 pub record HasGoneOn {P : Type 0} (z : Sizes) (behind : Type 0) (log now : List Record) (old new : Pooled P)
-    (before after : State → Type 0) : Type 0 where
+    (before after : List Record → State → Type 0) : Type 0 where
   pub aborting : behind
   pub repeated : (first : Paged) → Repeats z log first (paged old) → Repeats z now first (paged new)
   pub counted : ArePagesCounted z (length log) (paged old) → ArePagesCounted z (length now) (paged new)
   pub shown : OfStore z before after
 
 -- the log with records behind, of which this is so, is at its greatest length, and shows such a store on its way
-pub record IsFull (z : Sizes) (behind : List Record → Type 0) (before : State → Type 0) : Type 0 where
+pub record IsFull (z : Sizes) (behind : List Record → Type 0) (before : List Record → State → Type 0) : Type 0 where
   pub last : List Record
   pub aborting : behind last
   pub full : 2 ^ 50 ≤ length last
-  pub way : OfStore z before (λ base. IsOnItsWay base last)
+  pub way : OfStore z before (λ e base. IsOnItsWay base (rebased e last))
 
 -- what is due is told by no deed, or by one that the slots of these pages do not show to be done last
 abbrev pub IsNotUndone : Sizes → List (List ℕ) → PendingUndo → Type 0
@@ -169,15 +173,15 @@ pub data IsBadStep (z : Sizes) (behind : List Record → Type 0) (first : Paged)
 -- Damage is told of this record where the next such record doesn't belong there, or what the OpEnd with this LSN tells
 -- cannot be taken back. So it is of no such store.
 pub record IsBadAbort {P : Type 0} (z : Sizes) (behind : List Record → Type 0) (log : List Record) (old : Pooled P)
-    (before : State → Type 0) (lsn : ℕ) : Type 0 where
+    (before : List Record → State → Type 0) (lsn : ℕ) : Type 0 where
   pub last : List Record
   pub aborting : behind last
   pub bad : (first : Paged) → Repeats z log first (paged old) → IsBadStep z behind first last lsn
-  pub none : OfStore z before (λ base. ⊥)
+  pub none : OfStore z before (λ e base. ⊥)
 
 -- why lost transactions were not undone
-abbrev pub AbortStops : {P : Type 0} → Sizes → (List Record → Type 0) → List Record → Pooled P → (State → Type 0) → Refusal
-    → Type 0
+abbrev pub AbortStops : {P : Type 0} → Sizes → (List Record → Type 0) → List Record → Pooled P
+    → (List Record → State → Type 0) → Refusal → Type 0
 AbortStops z behind log old before why.NoMemory = Unit {0}
 AbortStops z behind log old before why.LogFull = IsFull z behind before
 AbortStops z behind log old before (why.Damaged (damage.Record lsn)) = IsBadAbort z behind log old before lsn

@@ -1,17 +1,16 @@
 -- What is kept of a log as it is gone through.
 use Rattle.std.specs.Prelude.{◌≡◌, ℕ, List}
 use Rattle.rq_model.specs.declared.record.Record.{Record}
-use Rattle.rq_model.specs.Incarnations.{InOrder, IsNext, incarnation_of}
 use Rattle.rq_analysis.specs.OpenWorkView.{open_work_of, open_work_after}
 use Rattle.rq_analysis.specs.Dues.{dues, dues_after}
 use Rattle.rq_analysis.specs.Numbers.{numbers, numbers_after}
 use Rattle.rq_analysis.specs.LogTables.{ended, ended_after}
-use Rattle.rq_analysis.specs.Rules.{FollowAll, FollowsRules}
+use Rattle.rq_analysis.specs.Rules.{FollowAll, FollowsRules, IsNextIn, IsReadInOrder}
 use Rattle.rq_restart.specs.declared.analysis.Analysis.{Analysis}
 
 -- the record may come behind these: it is the next of its incarnation, and follows the rules of a log
 pub record MayComeNext (older : List Record) (r : Record) : Type 0 where
-  pub next : IsNext (incarnation_of older) r
+  pub next : IsNextIn older r
   pub follows : FollowsRules older r
 
 -- what the records of the log come to, each of which might follow those before it
@@ -20,7 +19,7 @@ pub record IsAnalysisOf (f : Analysis) (log : List Record) : Type 0 where
   pub dues : f.dues ≡ dues log
   pub numbers : f.numbers ≡ numbers log
   pub ended : f.ended ≡ ended log
-  pub order : InOrder log
+  pub order : IsReadInOrder log
   pub follow : FollowAll log
 
 -- and with one record more, which has this LSN

@@ -3,6 +3,7 @@ pub mod Repeating
 pub mod Restarting
 pub mod Underway
 pub mod Ended
+pub mod Past
 pub mod Once
 pub mod Checked
 pub mod Refused

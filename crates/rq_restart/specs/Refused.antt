@@ -1,9 +1,10 @@
 -- Why a restart did not open a store, and where it stopped.
-use Rattle.std.specs.Prelude.{◌≡◌, ◌⊎◌, ℕ, ◌+◌, ◌%◌, ◌^◌, ◌≤◌, List, ◌∷◌, length}
+use Rattle.std.specs.Prelude.{◌≡◌, false, ◌⊎◌, ℕ, ◌+◌, ◌%◌, ◌^◌, ◌≤◌, List, ◌∷◌, length}
 use Rattle.rq_model.specs.declared.record.Record.{Record}
 use Rattle.rq_model.specs.declared.refusal.Refusal.{Refusal}
 use Rattle.rq_model.specs.declared.refusal.Refusal.TheVariants as why
 use Rattle.rq_model.specs.declared.refusal.Damage.TheVariants as damage
+use Rattle.rq_model.specs.Bases.{is_base}
 use Rattle.rq_page.specs.Sizes.{Sizes}
 use Rattle.rq_disk.specs.declared.device.LogDevice.{Ghosts}
 use Rattle.rq_record.specs.Spelling.{IsRecord}
@@ -21,10 +22,11 @@ NotRepeated z front r mid (why.Damaged (damage.Record lsn)) = (lsn ≡ length fr
 NotRepeated z front r mid _ = ⊥
 
 module _ {L : Type 0} (g : Ghosts L) where
-  -- the record that was read behind these doesn't belong there
+  -- the record that was read behind these, which is no Base, doesn't belong there
   pub record IsBadNext (z : Sizes) (front : List Record) (mid : Paged) (e : Refusal) (old new : L) : Type 0 where
     pub newest : Record
     pub is_record : IsRecord newest
+    pub plain : is_base newest ≡ false
     pub begins : g.honest new → BeginsWith (newest ∷ front) (g.seen old)
     pub told : e ≡ why.Damaged (damage.Record (length front + 1))
     pub bad : Belongs z front newest mid → ⊥

@@ -8,8 +8,7 @@ use Rattle.rq_page.specs.Slots.{held_in}
 use Rattle.rq_page.specs.Slots.Slot.{Free}
 use Rattle.rq_pool.specs.Pooled.{Pooled}
 use Rattle.rq_views.specs.Log.{Slots}
-use Rattle.rq_model.specs.Incarnations.{IsNext, incarnation_of}
-use Rattle.rq_analysis.specs.Rules.{FollowsRules}
+use Rattle.rq_analysis.specs.Rules.{BeforeIt, FollowsRules, IsNextIn}
 use Rattle.rq_store.specs.Opening.{MayRedo, Redoes, IsCounted}
 use Rattle.rq_store.specs.Fitting.{ToldWrite, told_by, image_in}
 
@@ -37,7 +36,7 @@ Marks (Some w) lsn old changed = IsMarked w lsn old changed
 -- the record belongs behind these: it is the next of its incarnation and follows the rules of a log, what it writes may
 -- stand there, and where its page is older, its before-image stands there
 pub record Belongs (z : Sizes) (older : List Record) (r : Record) (old : Paged) : Type 0 where
-  pub next : IsNext (incarnation_of older) r
+  pub next : IsNextIn older r
   pub follows : FollowsRules older r
   pub may : MayRedo z old.image (length older + 1) r
 
@@ -47,10 +46,11 @@ pub record IsRecordRedone (z : Sizes) (older : List Record) (r : Record) (old ne
   pub redone : Redoes (told_by r) (length older + 1) old.image new.image
   pub marked : Marks (told_by r) (length older + 1) old new.changed
 
--- each record was, the oldest first
+-- each record was, the oldest first; nothing was made of the pages before a Base
 abbrev pub Repeats : Sizes → List Record → Paged → Paged → Type 0
 Repeats z [] first last = last ≡ first
-Repeats z (r ∷ older) first last = (mid : Paged) × Repeats z older first mid × IsRecordRedone z older r mid last
+Repeats z (r ∷ older) first last =
+    (mid : Paged) × BeforeIt r (Repeats z older first mid) (mid ≡ first) × IsRecordRedone z older r mid last
 
 -- no number of a directory or cell page is beyond a log of so many records
 abbrev pub ArePagesCounted : Sizes → ℕ → Paged → Type 0

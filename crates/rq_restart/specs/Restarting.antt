@@ -28,7 +28,9 @@ use Rattle.rq_restart.specs.RolledBack.{IsAtBound, IsRolledBack, IsRolledBackOn}
 use Rattle.rq_restart.specs.Repeating.{Paged, Repeats}
 use Rattle.rq_restart.specs.declared.restart.Report.{Report}
 use Rattle.rq_restart.specs.Checked.{as_read}
-use Rattle.rq_model.specs.Bases.{gone, standing}
+use Rattle.rq_model.specs.Bases.{IsMarked, gone, marked, standing}
+use Rattle.rq_engine.specs.Earlier.{rebased}
+use Rattle.rq_restart.specs.Past.{IsPast, WhereLeft}
 use Rattle.rq_restart.specs.Refused.{IsStoppedBehind, WhyShut}
 
 -- Behind the log that was read stand the records by which what has no end is undone, and then one that begins the
@@ -42,7 +44,7 @@ pub record IsBegun {L : Type 0} (older : List Record) (log : Logged L) : Type 0 
 
 -- what was opened: over the log that was read with the records behind by which what has no end is undone
 abbrev pub IsOpenedOver : List Record → State → Type 0
-IsOpenedOver older s = IsRolledBack older (drop 1 s.records) × (s ≡ opened s.sizes s.images (drop 1 s.records))
+IsOpenedOver older s = IsRolledBack (marked older) (drop 1 s.records) × (s ≡ opened s.sizes s.images (drop 1 s.records))
 
 -- What is reported: the next incarnation, how many records are in the log, and of a whole log how many operations were
 -- unfinished in it, and how many transactions lost.
@@ -96,10 +98,10 @@ pub record AreTold (z : Sizes) (images : List (List ℕ)) (count : ℕ) (waiting
 -- Bytes of a log with the first of the records behind it by which what has no end is undone and the next incarnation is
 -- begun, and a torn end, of the next of these or of the end that was read; of a store that was left so, these recover
 -- the log.
-pub record IsBegunBehind (z : Sizes) (left : Type 0) (older : List Record) (read bytes : List ℕ) : Type 0 where
+pub record IsBegunBehind (z : Sizes) (images : Images) (older : List Record) (read bytes : List ℕ) : Type 0 where
   pub rolled_back : List Record
   pub rolls_back : IsRolledBack older rolled_back
-  pub recovered : left → IsRecovered z older rolled_back
+  pub recovered : WhereLeft z images older (λ e. IsRecovered z (rebased e older) (rebased e rolled_back))
   pub told : AreSpelled older
   pub are_spelled : AreSpelled (next_restart rolled_back ∷ rolled_back)
   -- so many of the newest lack
@@ -113,12 +115,13 @@ pub record IsBegunBehind (z : Sizes) (left : Type 0) (older : List Record) (read
 pub record IsBegunOn (z : Sizes) (images : Images) (read bytes : List ℕ) : Type 0 where
   pub older : List Record
   pub reads : EndsWith older read
-  pub begun : IsBegunBehind z (IsLeft z images older) older read bytes
+  pub marks : IsMarked older
+  pub begun : IsBegunBehind z images older read bytes
 
 module _ {L : Type 0} (g : log_device.Ghosts L) where
   -- a crash might have left it of the log before, or it is what was read with the first of the records behind
-  abbrev pub WasLeftOrBegun : Sizes → Type 0 → L → List Record → List ℕ → Type 0
-  WasLeftOrBegun z left old older c = g.may_leave old c ⊎ IsBegunBehind z left older (g.seen old) c
+  abbrev pub WasLeftOrBegun : Sizes → Images → L → List Record → List ℕ → Type 0
+  WasLeftOrBegun z images old older c = g.may_leave old c ⊎ IsBegunBehind z images older (g.seen old) c
 
   -- the same of these records, of which so many were forced
   abbrev pub WasLeftOrForced : L → List Record → ℕ → List ℕ → Type 0
@@ -130,7 +133,8 @@ module _ {L : Type 0} (g : log_device.Ghosts L) where
   pub record IsRestarted (z : Sizes) (images : List (List ℕ)) (old new : Logged L) (waiting : List ℕ) (sent : SentBy)
       (planner : LevelState) (report : Report) : Type 0 where
     pub begun : IsBegun old.records new
-    pub reports : Reports z old.records new.records report.incarnation report.records report.unfinished report.lost
+    pub reports : (e : List Record) → IsPast e old.records
+        → Reports z (rebased e old.records) new.records report.incarnation report.records report.unfinished report.lost
     pub told : AreTold z images (length new.records) waiting sent
     pub known : KnowsCells z images planner
     pub ready : IsReady g report.incarnation new
@@ -143,7 +147,7 @@ module _ {L : Type 0} (g : log_device.Ghosts L) where
     pub honest : g.honest new.device → g.honest old.device
     pub any_moment : (first : Paged) → Repeats z old.records first pages → g.honest new.device → AreSpelled old.records
         → EndsWith old.records (g.seen old.device) → LeavesOnly g old.device new.device
-        (WasLeftOrBegun z (IsLeft z first.image old.records) old.device old.records)
+        (WasLeftOrBegun z first.image old.device old.records)
 
   -- whatever a crash at any moment leaves of the log beside these pages: what it might have left before, or what was read
   -- with the first of the records behind
@@ -193,6 +197,7 @@ module _ {P L : Type 0} (p : page_device.Ghosts P) (l : log_device.Ghosts L) (pa
     pub sound : ArePages z images
     pub seen : p.honest new_pages → AreSeen (p.seen pages) images (page_count z)
     pub older : List Record
+    pub marks : IsMarked older
     pub are_spelled : AreSpelled older
     pub reads : l.honest new_log → EndsWith older (l.seen log)
     pub rolled_back : List Record

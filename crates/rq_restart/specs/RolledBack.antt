@@ -5,9 +5,11 @@ use Rattle.rq_model.specs.declared.refusal.Refusal.{Refusal}
 use Rattle.rq_model.specs.declared.refusal.Refusal.TheVariants as why
 use Rattle.rq_model.specs.declared.refusal.Damage.TheVariants as damage
 use Rattle.rq_page.specs.Sizes.{Sizes}
-use Rattle.rq_store.specs.Opening.{IsLeft, next_restart}
+use Rattle.rq_store.specs.Opening.{next_restart}
 use Rattle.rq_analysis.specs.Pages.{IsUndoing, IsUndone}
 use Rattle.rq_analysis.specs.Recovered.{IsRecovered, IsRecovering}
+use Rattle.rq_engine.specs.Earlier.{rebased}
+use Rattle.rq_restart.specs.Past.{WhereLeft}
 use Rattle.rq_restart.specs.Aborting.{AbortsBehind, ArePlanned, IsAborting, IsBadStep, RepeatedFrom}
 use Rattle.rq_restart.specs.Checked.{IsEnded, WasReadAndRedone}
 use Rattle.rq_chain_check.specs.Links.{AreLinked, IsFault}
@@ -34,7 +36,8 @@ pub record IsRolledBackSince (z : Sizes) (log rolled_back : List Record) (old ne
   pub is : IsRolledBack log rolled_back
   pub planned : (first : Paged) → Repeats z log first old → ArePlannedFrom z first log rolled_back is
   pub repeated : (first : Paged) → Repeats z log first old → Repeats z rolled_back first new
-  pub recovered : (first : Paged) → Repeats z log first old → IsLeft z first.image log → IsRecovered z log rolled_back
+  pub recovered : (first : Paged) → Repeats z log first old
+      → WhereLeft z first.image log (λ e. IsRecovered z (rebased e log) (rebased e rolled_back))
 
 -- The pages went through the log, and the records that mend it were repeated on them too, each operation of them planned
 -- from the slots as they were. The senders' chains are whole then. Of a store that was left so, the records recover it.
@@ -44,7 +47,7 @@ pub record IsRolledBackOn (z : Sizes) (log rolled_back : List Record) (first las
   pub planned : ArePlannedFrom z first log rolled_back rolls_back
   pub repeated : Repeats z rolled_back first last
   pub linked : AreLinked z (slots_on z last)
-  pub recovered : IsLeft z first.image log → IsRecovered z log rolled_back
+  pub recovered : WhereLeft z first.image log (λ e. IsRecovered z (rebased e log) (rebased e rolled_back))
 
 -- Behind the log stand such records, and the one that begins the next incarnation. The senders' chains are whole then.
 pub record HasRepeated (z : Sizes) (log now : List Record) (old new : Paged) : Type 0 where
@@ -69,7 +72,7 @@ pub record HasNoRoom (z : Sizes) (first : Paged) (log : List Record) : Type 0 wh
   pub turn : (now ≡ undone) ⊎ IsUndone log undone
   pub none_lost : IsEnded log → now ≡ undone
   pub full : 2 ^ 50 ≤ length now
-  pub recovering : IsLeft z first.image log → IsRecovering z log now
+  pub recovering : WhereLeft z first.image log (λ e. IsRecovering z (rebased e log) (rebased e now))
 
 -- What would undo the next lost transaction doesn't belong there, or what it did, told by the OpEnd with this LSN, cannot
 -- be taken back. So it is of no store that was left so.
@@ -79,7 +82,7 @@ pub record IsBadRollback (z : Sizes) (log : List Record) (first : Paged) (lsn : 
   pub last : List Record
   pub aborting : IsAborting z (RepeatedFrom z first) undone last
   pub bad : IsBadStep z (IsAborting z (RepeatedFrom z first) undone) first last lsn
-  pub none : IsLeft z first.image log → ⊥
+  pub none : WhereLeft z first.image log (λ e. ⊥)
 
 -- Once the log was mended, on the pages too, the senders' chains are not whole, and this is the page to be named. So it is
 -- of no store that was left so.
@@ -90,7 +93,7 @@ pub record IsUnlinked (z : Sizes) (log : List Record) (first : Paged) (page : �
   pub last : Paged
   pub repeated : Repeats z rolled_back first last
   pub fault : IsFault z (slots_on z last) page
-  pub none : IsLeft z first.image log → ⊥
+  pub none : WhereLeft z first.image log (λ e. ⊥)
 
 -- why the chains in these slots were not found to be whole
 abbrev pub LinkStops : Sizes → Slots → Refusal → Type 0

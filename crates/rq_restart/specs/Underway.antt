@@ -1,7 +1,8 @@
 -- A restart that is under way: what a crash at each moment leaves of both devices, whichever of them its next call
 -- changes.
-use Rattle.std.specs.Prelude.{◌⊎◌, ℕ, List, Result, Ok, Err}
+use Rattle.std.specs.Prelude.{◌≡◌, ◌⊎◌, ℕ, List, Result, Ok, Err}
 use Rattle.rq_model.specs.declared.record.Record.{Record}
+use Rattle.rq_model.specs.Bases.{earlier}
 use Rattle.rq_model.specs.Incarnations.{Extends}
 use Rattle.rq_disk.specs.Device.{Images}
 use Rattle.rq_disk.specs.declared.device.LogDevice as log_device
@@ -21,8 +22,9 @@ pub record IsStore (z : Sizes) (log : List Record) (images : Images) (bytes : Li
   pub is : EndsWith log bytes
   pub left : IsLeft z images log
 
-abbrev pub IsSomeStore : Sizes → Images → List ℕ → Type 0
-IsSomeStore z images bytes = (log : List Record) × IsStore z log images bytes
+-- of a log before whose Base these records stood
+abbrev pub IsSomeStore : Sizes → List Record → Images → List ℕ → Type 0
+IsSomeStore z e images bytes = (log : List Record) × IsStore z log images bytes × (earlier log ≡ e)
 
 -- These bytes tell the log that was read with the first of plain records behind it. They are the first of all that these
 -- spell or, as long as the end that was read is not cut off, of what was read.
@@ -30,17 +32,19 @@ pub record IsGoneOnWith (read : List Record) (seen : List ℕ) (now : List Recor
   pub more : Extends read now
   pub first : GoOnTo bytes seen ⊎ ((all : List Record) × AreSpelled all × Extends read all × GoOnTo bytes (spelled all))
 
--- a store, whose log a crash might have left before, or is what was read with plain records behind
+-- a store, whose log a crash might have left before, or is what was read with plain records behind; the same records stood
+-- before its Base
 abbrev pub IsLeftOrGoesOn : {L : Type 0} → log_device.Ghosts L → L → Sizes → List Record → Images → List ℕ → Type 0
-IsLeftOrGoesOn l log z read images bytes = (now : List Record) × IsStore z now images bytes
+IsLeftOrGoesOn l log z read images bytes = (now : List Record) × IsStore z now images bytes × (earlier now ≡ earlier read)
     × (l.may_leave log bytes ⊎ IsGoneOnWith read (l.seen log) now bytes)
 
--- where each pair that a crash might have left before is a store, and this was read of the log, then so says Q
+-- where each pair that a crash might have left before is a store, over the same earlier records as the log of which this
+-- was read, then so says Q
 abbrev pub OfStores : {P L : Type 0} → page_device.Ghosts P → log_device.Ghosts L → P → L → P → L
     → (Sizes → List Record → Type 0) → Type 0
 OfStores p l pages log new_pages new_log Q =
     p.honest new_pages → l.honest new_log → (z : Sizes) (read : List Record) → AreSpelled read → EndsWith read (l.seen log)
-    → EachPair p l pages log (IsSomeStore z) → Q z read
+    → EachPair p l pages log (IsSomeStore z (earlier read)) → Q z read
 
 -- both devices as a restart leaves them
 abbrev pub pages_left : {P L : Type 0} → Result (OpenStore P L × Report) (Stopped P L) → P

@@ -1,6 +1,8 @@
 //! What a restart keeps of a log as it goes through it.
-ghost use Rattle.std.specs.Prelude.{◌≡◌, ◌↔◌, List, IsTrue, IfOk, IfErr, OnOk, []};
+ghost use Rattle.std.specs.Prelude.{◌≡◌, ◌↔◌, List, IsTrue, IfOk, IfErr, OnOk, [], false};
 ghost use Rattle.rq_model.specs.declared.record.Record.{Record as AnyRecord};
+ghost use Rattle.rq_model.specs.Bases.{is_base};
+ghost use Rattle.rq_model.specs.Incarnations.{IsNext};
 ghost use Rattle.rq_analysis.specs.Rules.{CanBeRead};
 ghost use Rattle.rq_restart.specs.Found.{IsAnalysisOf, MayComeNext, analysis_after};
 
@@ -43,7 +45,8 @@ impl Analysis {
     /// `NoMemory`.
     pub(crate) fn note(&mut self, lsn: Lsn, reads: bool, record: &Record) -> Result<bool, Refusal>
         ensures next { IfOk result (λ is_next. (log : List AnyRecord) → IsAnalysisOf self.old log
-            → (IsTrue reads ↔ CanBeRead «record».now) → (IsTrue is_next ↔ MayComeNext log «record».now)) }
+            → is_base «record».now ≡ false → (IsTrue reads ↔ CanBeRead «record».now)
+            → (IsTrue is_next ↔ MayComeNext log «record».now)) }
         ensures noted { OnOk result (self.new ≡ analysis_after lsn «record».now self.old) }
         ensures err { IfErr result (λ e. e ≡ Refusal.NoMemory) }
     {
@@ -55,10 +58,31 @@ impl Analysis {
             reads,
             record,
         );
+        let is_next = self.keep(lsn, record)?;
+        Ok(is_next && follows)
+    }
+
+    /// Takes a Base, with which a log begins. It has this LSN.
+    ///
+    /// # Errors
+    /// `NoMemory`.
+    pub(crate) fn begin(&mut self, lsn: Lsn, base: &Record) -> Result<(), Refusal>
+        ensures noted { OnOk result (self.new ≡ analysis_after lsn base.now self.old) }
+        ensures err { IfErr result (λ e. e ≡ Refusal.NoMemory) }
+    {
+        self.keep(lsn, base)?;
+        Ok(())
+    }
+
+    // Whether the record is the next of its incarnation, with what is kept of it.
+    fn keep(&mut self, lsn: Lsn, record: &Record) -> Result<bool, Refusal>
+        ensures next { IfOk result (λ is_next. IsTrue is_next ↔ IsNext self.old.open_work.incarnation «record».now) }
+        ensures noted { OnOk result (self.new ≡ analysis_after lsn «record».now self.old) }
+        ensures err { IfErr result (λ e. e ≡ Refusal.NoMemory) }
+    {
         self.dues.note(lsn, record)?;
         self.numbers.note(record)?;
         self.ended.note(record)?;
-        let is_next = self.open_work.note(lsn, record)?;
-        Ok(is_next && follows)
+        self.open_work.note(lsn, record)
     }
 }

@@ -1,6 +1,7 @@
 //! Records that a restart makes behind the log that it read.
 ghost use Rattle.std.specs.Prelude.{◌≡◌, ◌∷◌, ◌+◌, IfErr, OnOk, None, false, length};
 ghost use Rattle.rq_log.specs.Spelled.{AreSpelled};
+ghost use Rattle.rq_model.specs.Bases.{is_base};
 ghost use Rattle.rq_pool.specs.Pooled.{IsPool};
 ghost use Rattle.rq_record.specs.Spelling.{IsInRange};
 ghost use Rattle.rq_store.specs.Fitting.{told_by};
@@ -35,6 +36,7 @@ pub(crate) fn append<P: PageDevice + Drop, L: LogDevice + Drop>(
     requires running { log.old.failed ≡ false }
     requires range { AreSpelled log.old.records → IsInRange undo.now }
     requires readable { CanBeRead undo.now }
+    requires plain { is_base undo.now ≡ false }
     ensures records { OnOk result (log.new.records ≡ undo.now ∷ log.old.records) }
     ensures found { OnOk result (IsAnalysisOf analysis.new log.new.records) }
     ensures repeated { OnOk result (IsRecordRedone pages.old.sizes log.old.records undo.now (paged pages.old)

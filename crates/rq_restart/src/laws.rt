@@ -7,12 +7,12 @@ pub fn ended_is_settled()
     ensures { EndedIsSettled }
 {}
 
-/// Bytes are the spelling of one log at most.
+/// Bytes are the spelling of what stands of one log at most.
 pub fn one_log()
     ensures { OneLogEach }
 {}
 
-/// The whole records in the spelling of a log are as many as the log's.
+/// The whole records in the spelling of a log are as many as stand of it.
 pub fn records_are_the_log()
     ensures { AsManyAsTheLog }
 {}

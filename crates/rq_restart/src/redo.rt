@@ -133,24 +133,28 @@ pub(crate) fn repeat_history<P: PageDevice + Drop, L: LogDevice, B: Level>(
     let mut record = Record::Restart { incarnation: 0 };
     while reader.next_into(&mut record)? {
         if stands_for_others(&record) {
-            return Err(Refusal::Damaged(Damage::Record(1)));
-        }
-        match check_and_redo(pages, &mut log_scan, levels, reader.last(), &record) {
-            Ok(()) => {}
-            Err(refusal) => return Err(refusal),
+            match log_scan.analysis.begin(reader.last(), &record) {
+                Ok(()) => {}
+                Err(refusal) => return Err(refusal),
+            }
+        } else {
+            match check_and_redo(pages, &mut log_scan, levels, reader.last(), &record) {
+                Ok(()) => {}
+                Err(refusal) => return Err(refusal),
+            }
         }
     }
     Ok(log_scan)
 }
 
-// Whether a record is a Base: no store's log has one so far.
+// Whether a record is a Base. The reader gives one as the first of a log alone.
 fn stands_for_others(record: &Record) -> bool
     ensures { result ≡ is_base «record».now }
 {
     matches!(record, Record::Base { .. })
 }
 
-// Checks the next record, which has this LSN, and makes what it writes where its page is older.
+// Checks the next record, which has this LSN and is no Base, and makes what it writes where its page is older.
 fn check_and_redo<P: PageDevice + Drop, B: Level>(
     pages: &mut Pages<P>,
     log_scan: &mut LogScan,
@@ -158,6 +162,7 @@ fn check_and_redo<P: PageDevice + Drop, B: Level>(
     lsn: Lsn,
     record: &Record,
 ) -> Result<(), Refusal>
+    requires plain { is_base «record».now ≡ false }
     ensures found { OnOk result ((older : List AnyRecord) → lsn ≡ length older + 1 → IsAnalysisOf log_scan.old.analysis older
         → IsAnalysisOf log_scan.new.analysis («record».now ∷ older)) }
     ensures repeated { OnOk result ((older : List AnyRecord) → lsn ≡ length older + 1

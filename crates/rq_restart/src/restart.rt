@@ -9,17 +9,21 @@ ghost use Rattle.rq_page.specs.Sizes.{Sizes};
 ghost use Rattle.rq_disk.specs.Device.{Only};
 ghost use Rattle.rq_pool.specs.Pooled.{IsPool};
 ghost use Rattle.rq_pool.specs.Reading.{IsSuperblock, OnlyRead};
+ghost use Rattle.rq_model.specs.Bases.{IsMarked, earlier, marked};
 ghost use Rattle.rq_model.specs.Commits.{committed_of};
 ghost use Rattle.rq_model.specs.Ledger.{Ledger, after};
 ghost use Rattle.rq_model.specs.History.Entry.{Restarted};
 ghost use Rattle.rq_store.specs.State.{ledger_of};
+ghost use Rattle.rq_store.specs.Whole.{AreBased};
 ghost use Rattle.rq_sound.specs.Sound.{IsSound};
 ghost use Rattle.rq_store.specs.Opening.{opened, next_restart, IsLeft};
 ghost use Rattle.rq_store.specs.Fitting.{AllFit, image_in};
 ghost use Rattle.rq_planner.specs.Answered.{KnowsCells};
 ghost use Rattle.rq_engine.specs.Crash.{AreFit};
+ghost use Rattle.rq_engine.specs.Earlier.{on, over, rebased};
 ghost use Rattle.rq_engine.specs.Opened.{pooled};
 ghost use Rattle.rq_chain_check.specs.Links.{AreLinked};
+ghost use Rattle.rq_restart.specs.Past.{WhereLeft};
 ghost use Rattle.rq_restart.specs.Repeating.{ArePagesCounted, Paged, Repeats, paged, slots_on};
 ghost use Rattle.rq_analysis.specs.Recovered.{IsRecovered};
 ghost use Rattle.rq_restart.specs.Restarting.{IsReadAs, IsLeftOn, IsReady, IsRestarted, LeavesLog, AreTold, IsBegun, IsOpenedOver, Reports, Stops, WasLeftOrForced, BeginsAtMost, BeginsFrom, LogStops, IsRefusedFor, WasChecked};
@@ -103,16 +107,16 @@ pub fn restart<P: PageDevice + Drop, L: LogDevice + Drop, B: Level>(
     ensures value { IfOk result (λ o. (older : List Record) → IsReadAs L.LogDevice log o.0.log older
         → IsOpenedOver older o.0.state) }
     ensures sound { IfOk result (λ o. (older : List Record) → IsReadAs L.LogDevice log o.0.log older
-        → IsLeftOn P.PageDevice o.0.state.sizes pages o.0.pages older → IsSound o.0.state) }
+        → IsLeftOn P.PageDevice o.0.state.sizes pages o.0.pages older → IsSound (on (earlier older) o.0.state)) }
     ensures recovered { IfOk result (λ o. (older : List Record) → IsReadAs L.LogDevice log o.0.log older
         → IsLeftOn P.PageDevice o.0.state.sizes pages o.0.pages older
-        → IsRecovered o.0.state.sizes older (drop 1 o.0.state.records)) }
+        → IsRecovered o.0.state.sizes older (rebased (earlier older) (drop 1 o.0.state.records))) }
     ensures entry { IfOk result (λ o. (older : List Record) → IsReadAs L.LogDevice log o.0.log older →
         IsLeftOn P.PageDevice o.0.state.sizes pages o.0.pages older → (ledger : Ledger) →
-        ledger.committed ≡ committed_of older → ledger_of o.0.state ≡ after (Restarted o.1.incarnation o.1.records)
-        ledger) }
+        ledger.committed ≡ committed_of older → ledger_of (on (earlier older) o.0.state)
+        ≡ after (Restarted o.1.incarnation o.1.records) ledger) }
     ensures committed { IfOk result (λ o. (older : List Record) → IsReadAs L.LogDevice log o.0.log older
-        → (ledger_of o.0.state).committed ≡ committed_of older) }
+        → (ledger_of (on (earlier older) o.0.state)).committed ≡ committed_of older) }
     // What its log's device holds then.
     ensures reads { IfOk result (λ o. L.honest o.0.log → L.seen o.0.log ≡ spelled o.0.state.records) }
     ensures durable { IfOk result (λ o. L.honest o.0.log → Only (spelled o.0.state.records) (L.may_leave o.0.log)) }
@@ -134,7 +138,8 @@ pub fn restart<P: PageDevice + Drop, L: LogDevice + Drop, B: Level>(
         stopped.log) }
     // What the first crash of the opened store needs.
     ensures fit { IfOk result (λ o. (older : List Record) → IsReadAs L.LogDevice log o.0.log older
-        → AllFit (P.may_be pages) o.0.state.sizes older → AreFit P.PageDevice o.0) }
+        → AreBased older → AllFit (P.may_be pages) o.0.state.sizes older
+        → AreFit P.PageDevice (over (earlier older) o.0)) }
     // Failures of devices, counted; and what a refusal says of a store that was left so.
     ensures cause { IfOk result (λ o. (P.faults o.0.pages ≡ P.faults pages) × (L.faults o.0.log ≡ L.faults log)) }
     ensures err { IfErr result (λ stopped. (z : Sizes) → IsSuperblock z (P.seen pages 0) → (older : List Record)
@@ -159,9 +164,9 @@ fn reopen<P: PageDevice + Drop, L: LogDevice + Drop, B: Level>(
     ensures value { IfOk result (λ o. (older : List Record) → IsReadAs L.LogDevice log o.0.log older
         → IsOpenedOver older o.0.state) }
     ensures sound { IfOk result (λ o. (older : List Record) → IsReadAs L.LogDevice log o.0.log older
-        → IsLeftOn P.PageDevice o.0.state.sizes pages o.0.pages older → IsSound o.0.state) }
+        → IsLeftOn P.PageDevice o.0.state.sizes pages o.0.pages older → IsSound (on (earlier older) o.0.state)) }
     ensures committed { IfOk result (λ o. (older : List Record) → IsReadAs L.LogDevice log o.0.log older
-        → (ledger_of o.0.state).committed ≡ committed_of older) }
+        → (ledger_of (on (earlier older) o.0.state)).committed ≡ committed_of older) }
     // What its log's device holds then.
     ensures reads { IfOk result (λ o. L.honest o.0.log → L.seen o.0.log ≡ spelled o.0.state.records) }
     ensures durable { IfOk result (λ o. L.honest o.0.log → Only (spelled o.0.state.records) (L.may_leave o.0.log)) }
@@ -177,7 +182,8 @@ fn reopen<P: PageDevice + Drop, L: LogDevice + Drop, B: Level>(
     ensures refused { IfErr result (λ stopped. IsRefusedFor P.PageDevice L.LogDevice pages log stopped.refusal stopped.pages
         stopped.log) }
     ensures fit { IfOk result (λ o. (older : List Record) → IsReadAs L.LogDevice log o.0.log older
-        → AllFit (P.may_be pages) o.0.state.sizes older → AreFit P.PageDevice o.0) }
+        → AreBased older → AllFit (P.may_be pages) o.0.state.sizes older
+        → AreFit P.PageDevice (over (earlier older) o.0)) }
     // Failures of devices, counted; and what a refusal says of a store that was left so.
     ensures cause { IfOk result (λ o. (P.faults o.0.pages ≡ P.faults pages) × (L.faults o.0.log ≡ L.faults log)) }
     ensures err { IfErr result (λ stopped. (z : Sizes) → IsSuperblock z (P.seen pages 0) → (older : List Record)
@@ -215,7 +221,7 @@ fn open<P: PageDevice + Drop, L: LogDevice + Drop, B: Level>(
 ) -> Result<Opened<P, L, B>, Stopped<P, L>>
     // What is opened, over the log as it was read.
     ensures begun { IfOk result (λ opened. (older : List Record) → IsReadAs L.LogDevice log opened.log.device older
-        → IsBegun older opened.log) }
+        → IsBegun (marked older) opened.log) }
     ensures report { IfOk result (λ opened. (older : List Record) → IsReadAs L.LogDevice log opened.log.device older
         → Reports opened.pages.sizes older opened.log.records opened.report.incarnation opened.report.records
         opened.report.unfinished opened.report.lost) }
@@ -228,7 +234,7 @@ fn open<P: PageDevice + Drop, L: LogDevice + Drop, B: Level>(
     ensures known { IfOk result (λ opened. KnowsCells opened.pages.sizes opened.pages.images opened.tables.planner) }
     ensures sound { IfOk result (λ o. (older : List Record) → IsReadAs L.LogDevice log o.log.device older
         → IsLeftOn P.PageDevice o.pages.sizes pages o.pages.device older
-        → IsSound (opened o.pages.sizes o.pages.images (drop 1 o.log.records))) }
+        → IsSound (opened o.pages.sizes o.pages.images (rebased (earlier older) (drop 1 o.log.records)))) }
     // What an engine may be opened over.
     ensures ready { IfOk result (λ o. IsReady L.LogDevice o.report.incarnation o.log) }
     // What is left of both devices, on each answer.
@@ -273,7 +279,7 @@ fn restart_log<P: PageDevice + Drop, L: LogDevice + Drop, B: Level>(
 ) -> Result<Opened<P, L, B>, Stopped<P, L>>
     // What is opened, over the log as it was read.
     ensures begun { IfOk result (λ opened. (older : List Record) → IsReadAs L.LogDevice log opened.log.device older
-        → IsBegun older opened.log) }
+        → IsBegun (marked older) opened.log) }
     ensures report { IfOk result (λ opened. (older : List Record) → IsReadAs L.LogDevice log opened.log.device older
         → Reports opened.pages.sizes older opened.log.records opened.report.incarnation opened.report.records
         opened.report.unfinished opened.report.lost) }
@@ -285,7 +291,7 @@ fn restart_log<P: PageDevice + Drop, L: LogDevice + Drop, B: Level>(
     ensures known { IfOk result (λ opened. KnowsCells opened.pages.sizes opened.pages.images opened.tables.planner) }
     ensures sound { IfOk result (λ o. (older : List Record) → IsReadAs L.LogDevice log o.log.device older
         → IsLeft pages.sizes (image_in pages.images) older
-        → IsSound (opened pages.sizes o.pages.images (drop 1 o.log.records))) }
+        → IsSound (opened pages.sizes o.pages.images (rebased (earlier older) (drop 1 o.log.records)))) }
     // What an engine may be opened over.
     ensures ready { IfOk result (λ o. IsReady L.LogDevice o.report.incarnation o.log) }
     // What is left of both devices, on each answer.
@@ -295,7 +301,7 @@ fn restart_log<P: PageDevice + Drop, L: LogDevice + Drop, B: Level>(
     ensures any_moment_back { IfErr result (λ stopped. BeginsAtMost L.LogDevice pages.sizes (image_in pages.images) log
         stopped.log) }
     // What was checked, or why it was refused.
-    ensures checked { IfOk result (λ o. (older : List Record) × AreSpelled older × (L.honest o.log.device →
+    ensures checked { IfOk result (λ o. (older : List Record) × IsMarked older × AreSpelled older × (L.honest o.log.device →
         EndsWith older (L.seen log)) × (rolled_back : List Record)
         × IsRolledBackOn pages.sizes older rolled_back (paged pages) (paged o.pages)
         × (o.log.records ≡ next_restart rolled_back ∷ rolled_back) × (length rolled_back < 2 ^ 50)) }
@@ -393,8 +399,8 @@ fn finish_restart<P: PageDevice + Drop, L: LogDevice + Drop, B: Level>(
         begun.0.waiting begun.0.sent begun.0.planner begun.1) }
     ensures left { LeavesLog L.LogDevice pages.old.sizes (paged pages.old) log.old log.new }
     ensures sound { OnOk result ((first : Paged) → Repeats pages.old.sizes log.old.records first (paged pages.old)
-        → IsLeft pages.old.sizes first.image log.old.records
-        → IsSound (opened pages.old.sizes pages.new.images (drop 1 log.new.records))) }
+        → WhereLeft pages.old.sizes first.image log.old.records
+        (λ e. IsSound (opened pages.old.sizes pages.new.images (rebased e (drop 1 log.new.records))))) }
     // What stays of the pages.
     ensures sizes { pages.new.sizes ≡ pages.old.sizes }
     ensures pages { pages.new.device ≡ pages.old.device }

@@ -6,7 +6,10 @@ use Rattle.rq_disk.specs.declared.device.PageDevice as page_device
 use Rattle.rq_engine.specs.Opened.{OpenStore}
 use Rattle.rq_model.specs.declared.record.Record.{Record}
 use Rattle.rq_pool.specs.Reading.{IsSuperblock}
-use Rattle.rq_restart.specs.Restarting.{IsReadAs, IsLeftOn}
+use Rattle.rq_model.specs.Bases.{earlier}
+use Rattle.rq_engine.specs.Earlier.{on}
+use Rattle.rq_restart.specs.Restarting.{IsReadAs, IsLeftOn, IsOpenedOver}
+use Rattle.rq_restart.proofs.Plain.{opened_alone}
 use Rattle.rq_shared.specs.Entries.{WasSound}
 use Rattle.rq_sound.specs.Sound.{IsSound}
 use Rattle.rq_store.specs.Opening.{IsLeft}
@@ -16,14 +19,21 @@ pub was_sound : {P L : Type 0} (p : page_device.Ghosts P) (l : log_device.Ghosts
     (images : ℕ → List ℕ) (bytes : List ℕ) (e : OpenStore P L)
     → p.seen pages ≡ images → l.seen log ≡ bytes
     → (p.honest e.pages → IsSuperblock e.state.sizes (p.seen pages 0))
-    → ((older : List Record) → IsReadAs l log e.log older → IsLeftOn p e.state.sizes pages e.pages older → IsSound e.state)
+    → ((older : List Record) → IsReadAs l log e.log older → IsOpenedOver older e.state)
+    → ((older : List Record) → IsReadAs l log e.log older → IsLeftOn p e.state.sizes pages e.pages older
+    → IsSound (on (earlier older) e.state))
     → WasSound p l (HoldStore images bytes) e
-was_sound p l pages log images bytes e seen read shown sound held honest =
+was_sound p l pages log images bytes e seen read shown over sound held honest =
     let z = e.state.sizes in
     let first = subst (λ (i : ℕ → List ℕ). IsSuperblock z (i 0)) seen (shown honest.0) in
-    sound held.records
-    record { honest = honest.1; are_spelled = held.are_spelled; reads = subst (EndsWith held.records) (sym read) held.reads }
-    record {
+    let told : IsReadAs l log e.log held.records = record {
+      honest = honest.1;
+      are_spelled = held.are_spelled;
+      reads = subst (EndsWith held.records) (sym read) held.reads;
+    } in
+    let left : IsLeftOn p z pages e.pages held.records = record {
       honest = honest.0;
       left = subst (λ (i : ℕ → List ℕ). IsLeft z i held.records) (sym seen) (held.left z first);
-    }
+    } in
+    subst IsSound (opened_alone held.records held.plain held.are_spelled e.state (over held.records told))
+    (sound held.records told left)

@@ -10,15 +10,13 @@ use Rattle.rq_restart.specs.Undoing.{StepStops}
 use Rattle.rq_restart.proofs.Aborts.{aborting_join, aborting_none, aborts_end, aborts_join, ended_less, gone_join, nothing_gone, one_gone, one_stops, stops_join}
 use Rattle.rq_restart.proofs.DueLists.{active_range}
 use Rattle.rq_restart.proofs.Rounds.{end_belongs, end_shown, least_in, least_of, shown_way}
-use Rattle.rq_restart.proofs.Repeated.{follow_plain}
-use Rattle.rq_log.proofs.Parsing.{told_all}
 use Rattle.rq_restart.proofs.aborting.end_idle.Goals as goal
 
 pub append-requires-clause-range : goal.append-requires-clause-range
 append-requires-clause-range g c = λ are.
     let kept = c.loop-txn.invariant in
     let e : least_free c.loop-txn.analysis.dues c.loop-txn.analysis.open_work.active ≡ Some c.in-Some.txn = ap (least_free c.loop-txn.analysis.dues) (sym c.active.ensures) ∙ sym c.in-Some.ensures in
-    active_range c.loop-txn.log.records (told_all c.loop-txn.log.records (follow_plain c.loop-txn.log.records kept.found.follow) are) c.in-Some.txn (least_in c.loop-txn.log.records c.loop-txn.analysis kept.found c.in-Some.txn e)
+    active_range c.loop-txn.log.records are c.in-Some.txn (least_in c.loop-txn.log.records c.loop-txn.analysis kept.found c.in-Some.txn e)
 
 pub loop-txn-init : goal.loop-txn-init
 loop-txn-init g c = record {
@@ -52,7 +50,7 @@ loop-txn-preserved g c =
     let one : IsRecordRedone z log r (paged old) (paged new) = subst (λ y. IsRecordRedone y log r (paged old) (paged new)) kept.sizes made.repeated in
     let ended : AbortsFrom z log old (r ∷ log) = aborts_end z (RepeatedSince z log (paged old)) log t (least_of log c.loop-txn.analysis kept.found (Some t) e) in
     let next : HasGoneOn z (AbortsFrom z log old (r ∷ log)) log (r ∷ log) old new (IsShown log old) (IsShown (r ∷ log) new) =
-    one_gone z (AbortsFrom z log old (r ∷ log)) log r old new (IsShown log old) (IsShown (r ∷ log) new) ended one (end_shown z log old c.loop-txn.analysis kept.found t e new (made.same refl)) in
+    one_gone z (AbortsFrom z log old (r ∷ log)) log r old new (IsShown log old) (IsShown (r ∷ log) new) ended refl one (end_shown z log old c.loop-txn.analysis kept.found t e new (made.same refl)) in
     record {
       found = made.found;
       gone = subst (λ l. HasGoneOn z (AbortsFrom z first c.args.pages.now l) first l c.args.pages.now new (IsShown first c.args.pages.now) (IsShown l new)) (sym made.records)

@@ -1,4 +1,4 @@
-use Rattle.std.proofs.Common.{◌≡◌, ◌∷◌, ◌+◌, Some, rules, length, take, ◌∙◌, sym, ap, subst, arith}
+use Rattle.std.proofs.Common.{◌≡◌, ◌∷◌, ◌+◌, Some, rules, length, take, ◌∙◌, sym, ap, subst, arith, refl}
 use Rattle.std.specs.List.{slice_get}
 use Rattle.rq_model.specs.declared.record.Record.{Record}
 use Rattle.rq_page.specs.Sizes.{Sizes}
@@ -47,7 +47,7 @@ loop-index-preserved g c =
     let before = IsShownWithin first c.args.pages.now d n ws 0 in
     let here = IsShownWithin log old d n ws i in
     let after = IsShownWithin (r ∷ log) new d n ws (i + 1) in
-    let step : HasGoneOn z (Unit {0}) log (r ∷ log) old new here after = one_gone z (Unit {0}) log r old new here after tt one shown in
+    let step : HasGoneOn z (Unit {0}) log (r ∷ log) old new here after = one_gone z (Unit {0}) log r old new here after tt refl one shown in
     let grown : c.append.new.log.records ≡ r ∷ log = made.records ∙ ap (λ q. q ∷ log) is in
     let rest = write_rest log c.append.new.log.records c.loop-index.analysis c.append.new.analysis d.txn n w kept.found made.found grown in
     record {

@@ -3,7 +3,7 @@ use Rattle.rq_model.specs.declared.record.Record.{Record}
 use Rattle.rq_model.specs.declared.record.Record.TheVariants as records
 use Rattle.rq_model.specs.Vocabulary.{In}
 use Rattle.rq_page.specs.Sizes.{Sizes}
-use Rattle.rq_log.specs.Spelled.{AreAllSpelled}
+use Rattle.rq_log.specs.Spelled.{AreSpelled}
 use Rattle.rq_analysis.specs.OpenWorkView.{without_txn}
 use Rattle.rq_analysis.specs.Choices.{least_free}
 use Rattle.rq_analysis.specs.Dues.{any_due, dues}
@@ -15,7 +15,6 @@ use Rattle.rq_restart.specs.Undoing.{StepStops}
 use Rattle.rq_restart.proofs.Aborts.{aborting_join, aborting_none, aborts_end, aborts_join, gone_join, gone_keeping, nothing_gone, one_gone, one_stops, spelled_before, stops_join}
 use Rattle.rq_restart.proofs.DueLists.{due_range, none_behind, none_then}
 use Rattle.rq_restart.proofs.Rounds.{all_ended, end_rest, ends_next, next_belongs, next_shown, next_way}
-use Rattle.rq_restart.proofs.Repeated.{follow_plain}
 use Rattle.rq_restart.proofs.aborting.undo_all_due.Goals as goal
 
 pub undo_due-requires-clause-first : goal.undo_due-requires-clause-first
@@ -26,7 +25,7 @@ append-requires-clause-range g c = λ are.
     let log = c.loop-due.log.records in
     let first = c.in-Some.ensures in
     let d = c.in-Some.due in
-    let before : AreAllSpelled log = spelled_before log c.undo_due.new.log.records c.in_ok-undo_due.ensures.gone_on.aborting.behind (follow_plain c.undo_due.new.log.records c.in_ok-undo_due.ensures.found.follow) are in
+    let before : AreSpelled log = spelled_before log c.undo_due.new.log.records c.in_ok-undo_due.ensures.gone_on.aborting.behind are in
     let there : In d (dues log) = subst (In d) (sym first.1 ∙ c.loop-due.invariant.found.dues) (inl refl) in
     (due_range log before d there).0
 
@@ -110,7 +109,7 @@ loop-due-preserved-in-Continue-branch-2 g c =
     let one : IsRecordRedone z mid r (paged now) (paged new) = subst (λ y. IsRecordRedone y mid r (paged now) (paged new)) same_sizes last.repeated in
     let ended : AbortsFrom z mid now (r ∷ mid) = aborts_end z (RepeatedSince z mid (paged now)) mid d.txn (ends_next mid f h made.found d (ap (λ ds. least_free ds f.open_work.active) (sym made.rest) ∙ kept.none) made.active off made.lost) in
     let ends : HasGoneOn z (AbortsFrom z mid now (r ∷ mid)) mid (r ∷ mid) now new here (IsShown (r ∷ mid) new) =
-    one_gone z (AbortsFrom z mid now (r ∷ mid)) mid r now new here (IsShown (r ∷ mid) new) ended one (next_shown z log mid old now f h kept.found made.found d made.rest kept.none made.active off step.shown new (last.same refl)) in
+    one_gone z (AbortsFrom z mid now (r ∷ mid)) mid r now new here (IsShown (r ∷ mid) new) ended refl one (next_shown z log mid old now f h kept.found made.found d made.rest kept.none made.active off step.shown new (last.same refl)) in
     let rest = end_rest mid c.append.new.log.records h c.append.new.analysis d.txn made.found last.found last.records off in
     record {
       found = last.found;

@@ -17,8 +17,6 @@ use Rattle.rq_restart.specs.Undoing.{StepStops}
 use Rattle.rq_restart.proofs.Aborts.{aborting_none, all_made, closing_aborts, gone_join, making_aborts, none_gone, one_gone, one_stops, planned_here, stops_before, stops_join}
 use Rattle.rq_restart.proofs.DueLists.{due_range, due_active}
 use Rattle.rq_restart.proofs.Rounds.{bad_due, begin_shown, close_belongs, close_rest, close_shown, few_operations, plan_stops, shown_way, taken_next, within_way}
-use Rattle.rq_restart.proofs.Repeated.{follow_plain}
-use Rattle.rq_log.proofs.Parsing.{told_all}
 use Rattle.rq_restart.proofs.aborting.undo_due.Goals as goal
 
 pub returns-in_err-writes-clause-stops : goal.returns-in_err-writes-clause-stops
@@ -48,7 +46,7 @@ pub make_all-requires-clause-txn : goal.make_all-requires-clause-txn
 make_all-requires-clause-txn g c =
     let d = c.args.due.now in
     let there : In d (dues c.args.log.now.records) = subst (In d) (sym c.requires.first.1 ∙ c.requires.found.dues) (inl refl) in
-    (due_range c.args.log.now.records (told_all c.args.log.now.records (follow_plain c.args.log.now.records c.requires.found.follow) c.shows_kept.ensures.log.spelled) d there).0
+    (due_range c.args.log.now.records c.shows_kept.ensures.log.spelled d there).0
 
 pub returns-in_err-make_all-clause-stops : goal.returns-in_err-make_all-clause-stops
 returns-in_err-make_all-clause-stops g c =
@@ -73,7 +71,7 @@ pub append-requires-clause-range : goal.append-requires-clause-range
 append-requires-clause-range g c = λ are.
     let d = c.args.due.now in
     let there : In d (dues c.args.log.now.records) = subst (In d) (sym c.requires.first.1 ∙ c.requires.found.dues) (inl refl) in
-    let k = due_range c.args.log.now.records (told_all c.args.log.now.records (follow_plain c.args.log.now.records c.requires.found.follow) c.shows_kept.ensures.log.spelled) d there in
+    let k = due_range c.args.log.now.records c.shows_kept.ensures.log.spelled d there in
     (k.0, (omega arith), k.1)
 
 pub returns-then-last-ge-LOG_LIMIT-clause-stops : goal.returns-then-last-ge-LOG_LIMIT-clause-stops
@@ -138,7 +136,7 @@ returns-clause-gone_on g c =
     let planned : IsPlannedOn z (RepeatedSince z log (paged old) log) d ws = planned_here z log (paged old) d ws back in
     let next : IsTakenNext log d n = taken_next z log old c.args.analysis.now c.requires.found d first.0 first.1 c.requires.none n number in
     let taken : AbortsFrom z log old (r ∷ mid) = closing_aborts z (RepeatedSince z log (paged old)) log mid d n ws next planned (all_made d.txn n ws log mid made.gone_on.aborting) in
-    let end : HasGoneOn z (AbortsFrom z log old (r ∷ mid)) mid (r ∷ mid) pages new all (IsShown (r ∷ mid) new) = one_gone z (AbortsFrom z log old (r ∷ mid)) mid r pages new all (IsShown (r ∷ mid) new) taken one (close_shown z mid pages d n ws new (last.same refl)) in
+    let end : HasGoneOn z (AbortsFrom z log old (r ∷ mid)) mid (r ∷ mid) pages new all (IsShown (r ∷ mid) new) = one_gone z (AbortsFrom z log old (r ∷ mid)) mid r pages new all (IsShown (r ∷ mid) new) taken refl one (close_shown z mid pages d n ws new (last.same refl)) in
     let start : HasGoneOn z (Unit {0}) log log old old (IsShown log old) before = none_gone z log old (IsShown log old) before begun in
     let went : HasGoneOn z (AbortsFrom z log old (r ∷ mid)) log (r ∷ mid) old new before (IsShown (r ∷ mid) new) =
     gone_join z (with_writes d.txn n (take (length ws) ws) log ≡ mid) log mid old pages before all made.gone_on (AbortsFrom z log old (r ∷ mid)) (AbortsFrom z log old (r ∷ mid)) (r ∷ mid) new (IsShown (r ∷ mid) new) (λ m k. k) end in

@@ -4,6 +4,7 @@ use Rattle.rq_page.specs.Sizes.{Sizes, page_count}
 use Rattle.rq_disk.specs.Device.{Holds}
 use Rattle.rq_store.specs.Fitting.{FitsLog}
 use Rattle.rq_store.proofs.Formatting.{formatted_fits}
+use Rattle.rq_store.proofs.Based.{unbased}
 use Rattle.rq_store.proofs.Cutting.{only_fit}
 use Rattle.rq_restart.proofs.Formats.{formatted_all, other_written, others_synced, first_written, first_synced, within_written, within_synced}
 use Rattle.rq_restart.proofs.format.format.Goals as goal
@@ -27,11 +28,12 @@ returns-clause-durable g c =
     let seen = g.P.PageDevice.seen in
     let behind : (p : ℕ) → 1 ≤ p → p < page_count z → _ = λ p low high. let e = c.pages-number-end.ensures.number in let t = c.loop-number-test.false in c.loop-number.invariant.formatted p low (omega (arith, e, t, high)) in
     on_ok_weaker c.sync-2.result
-    (λ only. only_fit (seen c.write_formatted-2.new.pages) (g.P.PageDevice.may_be c.sync-2.new.pages) z [] only
-    (formatted_fits z (seen c.write_formatted-2.new.pages) c.pages-number-end.ensures.in_range
+    (λ only.
+    let fit : FitsLog z (seen c.write_formatted-2.new.pages) [] = formatted_fits z (seen c.write_formatted-2.new.pages) c.pages-number-end.ensures.in_range
     (formatted_all z (seen c.loop-number.pages) (seen c.write_formatted-2.new.pages) c.write_formatted-2.new.page behind
     (subst (λ s. Holds s 0 c.write_formatted-2.new.page (seen c.write_formatted-2.new.pages)) c.sync.ensures.seen c.in_ok-write_formatted-2.ensures.written)
-    c.write_formatted-2.ensures.formatted)))
+    c.write_formatted-2.ensures.formatted) in
+    only_fit (seen c.write_formatted-2.new.pages) (g.P.PageDevice.may_be c.sync-2.new.pages) z [] only fit (unbased z [] (seen c.write_formatted-2.new.pages) tt fit))
     c.sync-2.ensures.durable
 
 pub returns-in_err-write_formatted-clause-any_moment : goal.returns-in_err-write_formatted-clause-any_moment

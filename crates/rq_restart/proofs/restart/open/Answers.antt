@@ -1,5 +1,7 @@
 use Rattle.std.proofs.Common.{drop, sym, subst, inl, refl}
 use Rattle.rq_sound.specs.Sound.{IsSound}
+use Rattle.rq_engine.specs.Earlier.{rebased}
+use Rattle.rq_model.specs.Bases.{earlier}
 use Rattle.rq_store.specs.Opening.{opened, IsLeft}
 use Rattle.rq_store.specs.Fitting.{image_in}
 use Rattle.rq_pool.specs.Reading.{IsSuperblock}
@@ -26,7 +28,7 @@ returns-in-Ok-clause-sound g c =
     let seen = P.seen c.args.pages in
     if_ok_all c.restart_log.result
     (λ o s d h. λ older r on.
-    subst (λ z. IsSound (opened z o.pages.images (drop 1 o.log.records))) (sym s)
+    subst (λ z. IsSound (opened z o.pages.images (rebased (earlier older) (drop 1 o.log.records)))) (sym s)
     (h older r (left_read c.in-Ok.pages.sizes seen c.in-Ok.pages.images older (c.in-Ok.ensures.seen (subst P.honest d on.honest)) (subst (λ z. IsLeft z seen older) s on.left))))
     c.restart_log.ensures.sizes c.restart_log.ensures.pages c.restart_log.ensures.sound
 

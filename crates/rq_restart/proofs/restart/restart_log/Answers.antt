@@ -1,4 +1,4 @@
-use Rattle.std.proofs.Common.{◌≡◌, drop, length, refl, sym, ap, subst, inl, inr, arith}
+use Rattle.std.proofs.Common.{◌≡◌, drop, length, sym, ◌∙◌, ap, subst, inl, inr, arith}
 use Rattle.rq_page.specs.Sizes.{Sizes}
 use Rattle.rq_log.specs.Crash.{LeavesOnly}
 use Rattle.rq_restart.specs.RolledBack.{IsRolledBackOn}
@@ -13,29 +13,36 @@ use Rattle.rq_restart.specs.Repeating.{Repeats, paged}
 use Rattle.rq_restart.specs.Overwritten.{AreKept}
 use Rattle.rq_restart.proofs.Restarts.{shut_by, shut_left}
 use Rattle.rq_restart.proofs.Moments.{only_read, read_first}
-use Rattle.rq_restart.proofs.Repeated.{follow_plain}
-use Rattle.rq_restart.proofs.Parsing.{log_is, stopped_shut}
+use Rattle.rq_engine.specs.Earlier.{rebased}
+use Rattle.rq_model.specs.Bases.{earlier, marked}
+use Rattle.rq_restart.specs.Past.{IsPast, WhereLeft}
+use Rattle.rq_restart.proofs.Pasts.{earlier_back, left_there, past_of, read_is}
+use Rattle.rq_restart.proofs.Repeated.{follow_marked}
+use Rattle.rq_restart.proofs.Parsing.{stopped_shut}
 use Rattle.rq_restart.proofs.restart.restart_log.Goals as goal
 
 pub returns-in-Ok-finish_restart-clause-begun : goal.returns-in-Ok-finish_restart-clause-begun
 returns-in-Ok-finish_restart-clause-begun g c = λ older r.
     let read = c.in-Ok.ensures in
-    let same : c.in-Ok.log.records ≡ older = log_is older c.in-Ok.log.records c.in-Ok.log.records _ (follow_plain c.in-Ok.log.records read.found.follow) r.are_spelled r.reads refl read.spelled (read.whole (c.finish_restart.ensures.left.honest r.honest)) in
+    let same : c.in-Ok.log.records ≡ marked older = read_is c.in-Ok.log.records older (g.L.LogDevice.seen c.args.log) (follow_marked c.in-Ok.log.records read.found.follow) read.spelled r.are_spelled (read.whole (c.finish_restart.ensures.left.honest r.honest)) r.reads in
     subst (λ l. IsBegun l c.finish_restart.new.log) same c.in-Ok-finish_restart.ensures.restarted.begun
 
 pub returns-in-Ok-finish_restart-clause-report : goal.returns-in-Ok-finish_restart-clause-report
 returns-in-Ok-finish_restart-clause-report g c = λ older r.
     let read = c.in-Ok.ensures in
-    let same : c.in-Ok.log.records ≡ older = log_is older c.in-Ok.log.records c.in-Ok.log.records _ (follow_plain c.in-Ok.log.records read.found.follow) r.are_spelled r.reads refl read.spelled (read.whole (c.finish_restart.ensures.left.honest r.honest)) in
+    let same : c.in-Ok.log.records ≡ marked older = read_is c.in-Ok.log.records older (g.L.LogDevice.seen c.args.log) (follow_marked c.in-Ok.log.records read.found.follow) read.spelled r.are_spelled (read.whole (c.finish_restart.ensures.left.honest r.honest)) r.reads in
     let t = c.in-Ok-finish_restart.report in
     let z = c.finish_restart.new.pages.sizes in
     let now = c.finish_restart.new.log.records in
-    subst (λ l. Reports z l now t.incarnation t.records t.unfinished t.lost) same c.in-Ok-finish_restart.ensures.restarted.reports
+    let e = earlier older in
+    let back = ap (rebased e) same ∙ earlier_back older r.are_spelled in
+    subst (λ l. Reports z l now t.incarnation t.records t.unfinished t.lost) back
+    (c.in-Ok-finish_restart.ensures.restarted.reports e (subst (IsPast e) (sym same) (past_of older r.are_spelled)))
 
 pub returns-in-Ok-finish_restart-clause-sound : goal.returns-in-Ok-finish_restart-clause-sound
 returns-in-Ok-finish_restart-clause-sound g c = λ older r.
     let read = c.in-Ok.ensures in
-    let same : c.in-Ok.log.records ≡ older = log_is older c.in-Ok.log.records c.in-Ok.log.records _ (follow_plain c.in-Ok.log.records read.found.follow) r.are_spelled r.reads refl read.spelled (read.whole (c.finish_restart.ensures.left.honest r.honest)) in
+    let same : c.in-Ok.log.records ≡ marked older = read_is c.in-Ok.log.records older (g.L.LogDevice.seen c.args.log) (follow_marked c.in-Ok.log.records read.found.follow) read.spelled r.are_spelled (read.whole (c.finish_restart.ensures.left.honest r.honest)) r.reads in
     let mid = c.read_and_redo.new.pages in
     let first = paged c.args.pages in
     let sizes = c.read_and_redo.ensures.sizes in
@@ -43,13 +50,13 @@ returns-in-Ok-finish_restart-clause-sound g c = λ older r.
     let kept : AreKept mid.sizes (length c.in-Ok.log.records) first (paged mid) c.in-Ok.log_scan.overwritten.numbers.items = subst (λ (y : Sizes). AreKept y (length c.in-Ok.log.records) first (paged mid) c.in-Ok.log_scan.overwritten.numbers.items) (sym sizes) c.in-Ok.ensures.kept in
     let now = drop 1 c.finish_restart.new.log.records in
     let images = c.finish_restart.new.pages.images in
-    subst (λ l. IsLeft c.args.pages.sizes (image_in c.args.pages.images) l → IsSound (opened c.args.pages.sizes images now)) same
-    (subst (λ (y : Sizes). IsLeft y (image_in c.args.pages.images) c.in-Ok.log.records → IsSound (opened y images now)) sizes (c.in-Ok-finish_restart.ensures.sound first repeated))
+    let whole : WhereLeft c.args.pages.sizes (image_in c.args.pages.images) c.in-Ok.log.records (λ e. IsSound (opened c.args.pages.sizes images (rebased e now))) = subst (λ (y : Sizes). WhereLeft y (image_in c.args.pages.images) c.in-Ok.log.records (λ e. IsSound (opened y images (rebased e now)))) sizes (c.in-Ok-finish_restart.ensures.sound first repeated) in
+    left_there c.in-Ok.log.records older same r.are_spelled whole
 
 pub returns-in-Ok-clause-err : goal.returns-in-Ok-clause-err
 returns-in-Ok-clause-err g c = λ older r.
     let read = c.in-Ok.ensures in
-    let same : c.in-Ok.log.records ≡ older = log_is older c.in-Ok.log.records c.in-Ok.log.records _ (follow_plain c.in-Ok.log.records read.found.follow) r.are_spelled r.reads refl read.spelled (read.whole (c.finish_restart.ensures.left.honest (subst g.L.LogDevice.honest c.give_back-in-Err-finish_restart.ensures r.honest))) in
+    let same : c.in-Ok.log.records ≡ marked older = read_is c.in-Ok.log.records older (g.L.LogDevice.seen c.args.log) (follow_marked c.in-Ok.log.records read.found.follow) read.spelled r.are_spelled (read.whole (c.finish_restart.ensures.left.honest (subst g.L.LogDevice.honest c.give_back-in-Err-finish_restart.ensures r.honest))) r.reads in
     let mid = c.read_and_redo.new.pages in
     let first = paged c.args.pages in
     let sizes = c.read_and_redo.ensures.sizes in
@@ -64,9 +71,12 @@ returns-in-Ok-clause-err g c = λ older r.
     let now = c.finish_restart.new.log.device in
     let last = c.give_back-in-Err-finish_restart.result in
     let shut : WhyShut z log.records first e (faults was) (faults now) (now ≡ was) = subst (λ (y : Sizes). WhyShut y log.records first e (faults was) (faults now) (now ≡ was)) sizes (c.in-Err-finish_restart.ensures.shut first repeated kept) in
-    subst (λ l. MayBeShut (IsLeft z image l) z l e (faults c.args.log) (faults last)) same
-    (subst (λ n. MayBeShut (IsLeft z image log.records) z log.records e n (faults last)) read.cause
-    (subst (λ d. MayBeShut (IsLeft z image log.records) z log.records e (faults was) (faults d)) (sym c.give_back-in-Err-finish_restart.ensures) (shut_left z log.records first e (faults was) (faults now) (now ≡ was) shut)))
+    let x = earlier older in
+    let past = subst (IsPast x) (sym same) (past_of older r.are_spelled) in
+    let back = ap (rebased x) same ∙ earlier_back older r.are_spelled in
+    subst (λ l. MayBeShut (IsLeft z image l) z l e (faults c.args.log) (faults last)) back
+    (subst (λ n. MayBeShut (IsLeft z image (rebased x log.records)) z (rebased x log.records) e n (faults last)) read.cause
+    (subst (λ d. MayBeShut (IsLeft z image (rebased x log.records)) z (rebased x log.records) e (faults was) (faults d)) (sym c.give_back-in-Err-finish_restart.ensures) (shut_left z log.records first e (faults was) (faults now) (now ≡ was) x past shut)))
 
 pub returns-clause-err : goal.returns-clause-err
 returns-clause-err g c = λ older r. stopped_shut g.L.LogDevice c.args.pages.sizes older (paged c.args.pages) c.args.log c.in-Err.stopped.device c.in-Err.stopped.refusal r c.in-Err.ensures.stopped
@@ -83,8 +93,8 @@ returns-in-Ok-finish_restart-clause-any_moment g c =
     let image = image_in c.args.pages.images in
     let log = c.in-Ok.log in
     let moment : g.L.LogDevice.honest c.finish_restart.new.log.device → AreSpelled log.records → EndsWith log.records (g.L.LogDevice.seen log.device)
-    → LeavesOnly g.L.LogDevice log.device c.finish_restart.new.log.device (WasLeftOrBegun g.L.LogDevice z (IsLeft z image log.records) log.device log.records) = λ h are reads. subst (λ (y : Sizes). LeavesOnly g.L.LogDevice log.device c.finish_restart.new.log.device (WasLeftOrBegun g.L.LogDevice y (IsLeft y image log.records) log.device log.records)) sizes (c.finish_restart.ensures.left.any_moment first repeated h are reads) in
-    read_first g.L.LogDevice z image c.args.log log.device c.finish_restart.new.log.device log.records c.finish_restart.ensures.left.honest read.whole read.spelled read.read.same read.read.leaves read.read.moments moment
+    → LeavesOnly g.L.LogDevice log.device c.finish_restart.new.log.device (WasLeftOrBegun g.L.LogDevice z image log.device log.records) = λ h are reads. subst (λ (y : Sizes). LeavesOnly g.L.LogDevice log.device c.finish_restart.new.log.device (WasLeftOrBegun g.L.LogDevice y image log.device log.records)) sizes (c.finish_restart.ensures.left.any_moment first repeated h are reads) in
+    read_first g.L.LogDevice z image c.args.log log.device c.finish_restart.new.log.device log.records (follow_marked log.records read.found.follow) c.finish_restart.ensures.left.honest read.whole read.spelled read.read.same read.read.leaves read.read.moments moment
 
 pub returns-in-Ok-clause-any_moment_back : goal.returns-in-Ok-clause-any_moment_back
 returns-in-Ok-clause-any_moment_back g c =
@@ -98,9 +108,9 @@ returns-in-Ok-clause-any_moment_back g c =
     let image = image_in c.args.pages.images in
     let log = c.in-Ok.log in
     let moment : g.L.LogDevice.honest c.finish_restart.new.log.device → AreSpelled log.records → EndsWith log.records (g.L.LogDevice.seen log.device)
-    → LeavesOnly g.L.LogDevice log.device c.finish_restart.new.log.device (WasLeftOrBegun g.L.LogDevice z (IsLeft z image log.records) log.device log.records) = λ h are reads. subst (λ (y : Sizes). LeavesOnly g.L.LogDevice log.device c.finish_restart.new.log.device (WasLeftOrBegun g.L.LogDevice y (IsLeft y image log.records) log.device log.records)) sizes (c.finish_restart.ensures.left.any_moment first repeated h are reads) in
+    → LeavesOnly g.L.LogDevice log.device c.finish_restart.new.log.device (WasLeftOrBegun g.L.LogDevice z image log.device log.records) = λ h are reads. subst (λ (y : Sizes). LeavesOnly g.L.LogDevice log.device c.finish_restart.new.log.device (WasLeftOrBegun g.L.LogDevice y image log.device log.records)) sizes (c.finish_restart.ensures.left.any_moment first repeated h are reads) in
     subst (λ new. BeginsAtMost g.L.LogDevice z image c.args.log new) (sym c.give_back-in-Err-finish_restart.ensures)
-    (read_first g.L.LogDevice z image c.args.log log.device c.finish_restart.new.log.device log.records c.finish_restart.ensures.left.honest read.whole read.spelled read.read.same read.read.leaves read.read.moments moment)
+    (read_first g.L.LogDevice z image c.args.log log.device c.finish_restart.new.log.device log.records (follow_marked log.records read.found.follow) c.finish_restart.ensures.left.honest read.whole read.spelled read.read.same read.read.leaves read.read.moments moment)
 
 pub returns-clause-any_moment_back : goal.returns-clause-any_moment_back
 returns-clause-any_moment_back g c = only_read g.L.LogDevice c.args.pages.sizes (image_in c.args.pages.images) c.args.log c.in-Err.stopped.device c.in-Err.ensures.stopped.read.moments
@@ -116,7 +126,7 @@ returns-in-Ok-finish_restart-clause-checked g c =
     let went = c.in-Ok-finish_restart.ensures in
     let checked = went.checked first repeated kept in
     let on = subst (λ (y : Sizes). IsRolledBackOn y c.in-Ok.log.records checked.0 first (paged c.finish_restart.new.pages)) sizes checked.1 in
-    (c.in-Ok.log.records, read.spelled, (λ h. read.whole (c.finish_restart.ensures.left.honest h)), checked.0, on, checked.2, (let n = went.restarted.ready.count in let e = ap length checked.2 in omega (arith, n, e)))
+    (c.in-Ok.log.records, follow_marked c.in-Ok.log.records read.found.follow, read.spelled, (λ h. read.whole (c.finish_restart.ensures.left.honest h)), checked.0, on, checked.2, (let n = went.restarted.ready.count in let e = ap length checked.2 in omega (arith, n, e)))
 
 pub returns-in-Ok-clause-refused : goal.returns-in-Ok-clause-refused
 returns-in-Ok-clause-refused g c =

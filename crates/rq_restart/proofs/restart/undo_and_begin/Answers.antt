@@ -1,6 +1,6 @@
 use Rattle.std.proofs.Common.{◌≡◌, ◌+◌, ◌∷◌, ℕ, length, ap, sym, ◌∙◌, subst, arith}
 use Rattle.rq_model.specs.declared.record.Record.TheVariants as records
-use Rattle.rq_store.specs.Opening.{IsLeft, next_restart}
+use Rattle.rq_store.specs.Opening.{next_restart}
 use Rattle.rq_analysis.specs.OpenWorkView.{OpenWorkView}
 use Rattle.rq_restart.specs.Refused.{WhyNotBegun}
 use Rattle.rq_restart.specs.Repeating.{ArePagesCounted, paged}
@@ -8,7 +8,7 @@ use Rattle.rq_restart.specs.Restarting.{AreTold, Reports}
 use Rattle.rq_restart.proofs.Begun.{begins, begun_is, last_is, not_begun, reports}
 use Rattle.rq_restart.proofs.Counting.{are_told}
 use Rattle.rq_restart.proofs.Moments.{begun_moment, left_alone}
-use Rattle.rq_restart.proofs.Repeated.{follow_plain}
+use Rattle.rq_engine.specs.Earlier.{rebased}
 use Rattle.rq_restart.proofs.restart.undo_and_begin.Goals as goal
 
 pub returns-in-Ok-clause-restarted : goal.returns-in-Ok-clause-restarted
@@ -25,10 +25,11 @@ returns-in-Ok-clause-restarted g c =
     let now = c.begin_incarnation.new.log.records in
     record {
       begun = begun_is c.args.log.now.records c.undo_all.new.log.records rollback.rolls_back.is c.undo_all.new.analysis.open_work rollback.found.open_work c.incarnation.result c.incarnation.ensures c.begin_incarnation.new.log c.in-Ok.ensures.records c.in-Ok.ensures.forced;
-      reports = subst (λ y. Reports y c.args.log.now.records now t.incarnation t.records t.unfinished t.lost) (sym rollback.sizes)
+      reports = λ e past. subst (λ y. Reports y (rebased e c.args.log.now.records) now t.incarnation t.records t.unfinished t.lost) (sym rollback.sizes)
           (reports c.args.log.now.records c.undo_all.new.log.records rollback.rolls_back.is c.undo_all.new.analysis.open_work rollback.found.open_work c.incarnation.result c.incarnation.ensures c.args.pages.now.sizes now
           t.incarnation t.records t.unfinished t.lost
-          (told.0, told.1, told.2 ∙ c.unfinished-unfinished.ensures ∙ ap (λ (h : OpenWorkView). length h.unfinished) found, told.3 ∙ rollback.lost ∙ ap (λ (h : OpenWorkView). length h.active) found));
+          (told.0, told.1, told.2 ∙ c.unfinished-unfinished.ensures ∙ ap (λ (h : OpenWorkView). length h.unfinished) found, told.3 ∙ rollback.lost ∙ ap (λ (h : OpenWorkView). length h.active) found)
+          e past);
       told = subst (λ n. AreTold z images n c.in_ok-tables.tables.waiting c.in_ok-tables.tables.sent) longer (are_told z images count c.in_ok-tables.tables.waiting c.in_ok-tables.tables.sent c.in_ok-tables.ensures.waiting c.in_ok-tables.ensures.sent counted);
       known = c.in_ok-tables.ensures.known;
       ready = c.in-Ok.ensures.ready;
@@ -55,8 +56,8 @@ returns-in-Ok-clause-left g c =
     let restart : records.Restart (c.incarnation.result + 1) ≡ next_restart rolled_back = ap (λ n. records.Restart (n + 1)) (last_is older rolled_back rollback.rolls_back.is c.undo_all.new.analysis.open_work rollback.found.open_work c.incarnation.result c.incarnation.ensures) in
     record {
       honest = λ h. subst g.L.LogDevice.honest rollback.log.0 (c.begin_incarnation.ensures.honest h);
-      any_moment = λ first before h are read. begun_moment g.L.LogDevice z (IsLeft z first.image older) older rolled_back (records.Restart (c.incarnation.result + 1)) c.undo_all.new.log.forced c.args.log.now.device c.undo_all.new.log.device c.begin_incarnation.new.log.device rollback.log.0 rollback.rolls_back.is (rollback.rolls_back.recovered first before)
-          restart (tt, follow_plain rolled_back rollback.found.follow) are read (c.begin_incarnation.ensures.any_moment h);
+      any_moment = λ first before h are read. begun_moment g.L.LogDevice z first.image older rolled_back (records.Restart (c.incarnation.result + 1)) c.undo_all.new.log.forced c.args.log.now.device c.undo_all.new.log.device c.begin_incarnation.new.log.device rollback.log.0 rollback.rolls_back.is (rollback.rolls_back.recovered first before)
+          restart are read (c.begin_incarnation.ensures.any_moment h);
     }
 
 pub returns-in-Err-clause-left : goal.returns-in-Err-clause-left
@@ -68,8 +69,8 @@ returns-in-Err-clause-left g c =
     let restart : records.Restart (c.incarnation.result + 1) ≡ next_restart rolled_back = ap (λ n. records.Restart (n + 1)) (last_is older rolled_back rollback.rolls_back.is c.undo_all.new.analysis.open_work rollback.found.open_work c.incarnation.result c.incarnation.ensures) in
     record {
       honest = λ h. subst g.L.LogDevice.honest rollback.log.0 (c.begin_incarnation.ensures.honest h);
-      any_moment = λ first before h are read. begun_moment g.L.LogDevice z (IsLeft z first.image older) older rolled_back (records.Restart (c.incarnation.result + 1)) c.undo_all.new.log.forced c.args.log.now.device c.undo_all.new.log.device c.begin_incarnation.new.log.device rollback.log.0 rollback.rolls_back.is (rollback.rolls_back.recovered first before)
-          restart (tt, follow_plain rolled_back rollback.found.follow) are read (c.begin_incarnation.ensures.any_moment h);
+      any_moment = λ first before h are read. begun_moment g.L.LogDevice z first.image older rolled_back (records.Restart (c.incarnation.result + 1)) c.undo_all.new.log.forced c.args.log.now.device c.undo_all.new.log.device c.begin_incarnation.new.log.device rollback.log.0 rollback.rolls_back.is (rollback.rolls_back.recovered first before)
+          restart are read (c.begin_incarnation.ensures.any_moment h);
     }
 
 pub returns-in-Err-clause-stops : goal.returns-in-Err-clause-stops

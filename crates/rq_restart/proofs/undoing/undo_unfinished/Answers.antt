@@ -1,9 +1,7 @@
 use Rattle.std.proofs.Common.{rules, ◌∙◌}
 use Rattle.rq_restart.specs.Repeating.{Paged, Repeats, paged}
 use Rattle.rq_restart.specs.Undoing.{UndoStops}
-use Rattle.rq_restart.proofs.Undos.{going_less, going_more, going_stops, undo_range, undo_reads}
-use Rattle.rq_restart.proofs.Repeated.{follow_plain}
-use Rattle.rq_log.proofs.Parsing.{told_all}
+use Rattle.rq_restart.proofs.Undos.{going_less, going_more, going_stops, undo_is_no_base, undo_range, undo_reads}
 use Rattle.rq_restart.proofs.undoing.undo_unfinished.Goals as goal
 
 pub loop-undo-smaller : goal.loop-undo-smaller
@@ -33,7 +31,10 @@ returns-in_err-append-clause-stops g c =
     search (rules, h)
 
 pub append-requires-clause-range : goal.append-requires-clause-range
-append-requires-clause-range g c = λ are. undo_range c.loop-undo.log.records c.loop-undo.analysis.open_work c.in-Some.undo c.loop-undo.invariant.found.open_work (told_all c.loop-undo.log.records (follow_plain c.loop-undo.log.records c.loop-undo.invariant.found.follow) are) c.in-Some.ensures.some
+append-requires-clause-range g c = λ are. undo_range c.loop-undo.log.records c.loop-undo.analysis.open_work c.in-Some.undo c.loop-undo.invariant.found.open_work are c.in-Some.ensures.some
 
 pub append-requires-clause-readable : goal.append-requires-clause-readable
 append-requires-clause-readable g c = undo_reads c.loop-undo.analysis.open_work c.in-Some.undo c.in-Some.ensures.some
+
+pub append-requires-clause-plain : goal.append-requires-clause-plain
+append-requires-clause-plain g c = undo_is_no_base c.loop-undo.analysis.open_work c.in-Some.undo c.in-Some.ensures.some
