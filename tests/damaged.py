@@ -68,6 +68,10 @@ def restart(incarnation):
     return record(7, [incarnation])
 
 
+def base(count, incarnation=1):
+    return record(9, [count, incarnation])
+
+
 def write(operation, page, slot, before, after, txn=1):
     return record(1, [1, txn, operation, page, slot], before + after)
 
@@ -538,6 +542,28 @@ def chains_on_two_pages():
         yield pages, SIX, said
 
 
+def bases():
+    """A base stands for the records of a message that is committed, and what follows goes on from it."""
+    gone, full = base(5), "fault 19 LogFull"
+    for records, opened in (
+        ([gone], (2, 0, 0)), ([base(5, 3)], (4, 0, 0)), ([gone, restart(2)], (3, 0, 0)), ([gone, b"\0"], (2, 0, 0)),
+        ([gone, *TAKE], (2, 1, 0)), ([gone, *TAKE, received_by_another(0, 1)], (2, 0, 1)), ([base(2**50 - 2)], (2, 0, 0)),
+    ):  # fmt: skip
+        yield written(), records, "restarted {} unfinished {} lost {}".format(*opened)
+    for records in ([base(0)], [base(5, 0)], [base(5, 6)], [base(2**50)]):
+        yield written(), records, at_record(1)
+    yield written(), [BEGUN, gone], at_record(2)
+    for record_behind in (
+        gone, restart(1), restart(3), record(6, [2, 1]), SENT, void(1), FILL_UNDONE, back(1, 4), write(2, 2, 2, FREE, MESSAGE),
+        write(1, 2, 1, FREE, MESSAGE), b"\1",
+    ):  # fmt: skip
+        yield written(), [gone, record_behind], at_record(7)
+    yield written(), [base(1)], at_page(1)
+    for end in ([], [restart(2)], [b"\0"], [b"\1"]):
+        yield written(), [base(2**50 - 1), *end], full
+    yield written(), [base(2**50 - 2), restart(2)], full
+
+
 def several_faults():
     """The superblock, then pages by number, then the log; numbers beyond it, what cannot be taken back, then chains."""
     odd_send = [BEGUN, FILL, COUNT, end(1, sent(0, 2))]
@@ -566,7 +592,7 @@ def other_lengths():
 
 PAGES = [
     pages_that_were_written, superblocks, headers, slots, more_sent_than_there_are_records, before_images, no_cell_is_free, chains,
-    chains_beside_a_whole_one, chains_on_two_pages, several_faults, other_lengths,
+    chains_beside_a_whole_one, chains_on_two_pages, bases, several_faults, other_lengths,
 ]  # fmt: skip
 
 

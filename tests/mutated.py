@@ -1,7 +1,7 @@
 #!/usr/bin/env python3
 """Changes the bytes of stores that runs of `rqm serve` left, by seeds: their logs, cut, spliced, shuffled, with other fields and
-lengths that fit again, and their pages. An inspection and an opening have to come to what tests/opening.py reads from the bytes, in
-time, and where a store is opened it holds that. A store that is refused stays as it is.
+lengths that fit again, and their pages. Of some logs a Base stands for the beginning. An inspection and an opening have to come to
+what tests/opening.py reads from the bytes, in time, and where a store is opened it holds that. A store that is refused stays as it is.
 
     python3 tests/mutated.py [--rqm PROGRAM] [--bench PROGRAM] [--first SEED] [--stores N] [--counts]
 
@@ -22,7 +22,7 @@ from concurrent.futures import ThreadPoolExecutor
 import opening
 from cases import built
 from damaged import formatted
-from inspector import KINDS, front, wanted
+from inspector import KINDS, front, record, wanted
 from server import LONGEST, Connection, store
 
 sys.dont_write_bytecode = True
@@ -32,7 +32,8 @@ SIZES = [(1, 1), (1, 2), (2, 2)]
 
 # What has to be met among the usual stores, those of the seeds from 0, and how often at least.
 USUAL = 1500
-WANTED = {"opened": 300, "opened with undoing": 100, "damaged record": 300, "damaged page": 100, "torn": 50, "fault 3 DiskRead": 5}
+WANTED = {"opened": 300, "opened with undoing": 100, "opened behind a base": 60, "undoing behind a base": 30, "damaged behind a base": 150,
+          "damaged record": 300, "damaged page": 100, "torn": 50, "fault 3 DiskRead": 5}  # fmt: skip
 
 
 # ---- what runs leave
@@ -96,6 +97,29 @@ def records_of(log):
     return records
 
 
+def with_base(records, count):
+    """The records, with a Base in place of the first of them. It has the LSN of the last of these, which ends a transaction."""
+    if count < 2:
+        return records
+    return [record(9, [count - 1, sum(each[4] == 7 for each in records[:count])]), *records[count:]]
+
+
+def quiet_counts(records):
+    """Behind how many records no transaction is without an end. A restart ends what its crash left."""
+    active, counts = set(), []
+    for count, each in enumerate(records, 1):
+        name, numbers, _ = front(each, 0)
+        if name == "restart":
+            active.clear()
+        elif name in ("commit", "abort-end"):
+            active.discard(tuple(numbers))
+        else:
+            active.add(tuple(numbers[:2]))
+        if not active and name != "restart":
+            counts.append(count)
+    return counts
+
+
 # ---- changes
 
 
@@ -108,8 +132,10 @@ class Mutation:
         self.records = list(logs[self.sizes])
         if self.random.randrange(3):
             del self.records[self.random.randrange(1, len(self.records)) :]
+        gone = 0 if self.random.randrange(4) else self.random.choice([0, *quiet_counts(self.records)])
+        self.pages = self.pages_behind(self.records, gone)
+        self.records = with_base(self.records, gone)
         whole = b"".join(self.records)
-        self.pages = self.pages_behind(self.records)
         kind = self.random.randrange(8)
         for _ in range(self.random.choice([0, 1, 1, 1, 2, 3])):
             if kind < 6:
@@ -125,10 +151,11 @@ class Mutation:
         if self.random.randrange(60) == 0:
             self.log += self.random.randbytes(self.random.randrange(1, 9))
 
-    def pages_behind(self, records):
-        """The pages as a crash may leave them: each as some beginning of the log has it."""
+    def pages_behind(self, records, least):
+        """The pages as a crash may leave them: each as some beginning of the log has it, which is at least so long."""
         pages, lsn = formatted(*self.sizes), 0
         behind = [0 if self.random.randrange(2) else self.random.randrange(len(records) + 1) for _ in range(1 + sum(self.sizes))]
+        behind = [max(least, each) for each in behind]
         for lsn, each in enumerate(records, 1):
             name, numbers, _ = front(each, 0)
             if name in ("page-op", "page-undo"):
@@ -186,7 +213,7 @@ class Mutation:
         place += sum(widths[:chosen])
         old = int.from_bytes(each[place : place + widths[chosen]], "big")
         most = 2 ** (8 * widths[chosen]) - 1
-        new = self.random.choice([old + 1, max(old - 1, 0), 0, 1, 2, most, self.random.randrange(1, 40)])
+        new = self.random.choice([old + 1, max(old - 1, 0), 0, 1, 2, most, 2**50 - 1, self.random.randrange(1, 40)])
         each[place : place + widths[chosen]] = min(new, most).to_bytes(widths[chosen], "big")
         self.records[at] = bytes(each)
 
@@ -312,6 +339,9 @@ class Looks:
         with self.counting:
             met[" ".join(said.split(" ")[:2]) if said.startswith("damaged") else "opened" if made else said] += 1
             met["opened with undoing"] += bool(made and made.unfinished + made.lost)
+            if front(log, 0) and log[4] == 9:
+                met["opened behind a base" if made else "damaged behind a base"] += 1
+                met["undoing behind a base"] += bool(made and made.unfinished + made.lost)
             met["torn"] += any(line.startswith("torn ") for line in lines)
         with tempfile.TemporaryDirectory(dir=self.top) as held:
             folder = pathlib.Path(held)

@@ -3,7 +3,8 @@ for, or what the store holds and what is added to its log. Written plainly, and 
 from inspector import front, is_torn, record
 
 PAGE, SLOT, SLOTS = 4096, 256, 15
-SHORT = "fault 3 DiskRead"
+LONGEST = 2**50
+SHORT, FULL = "fault 3 DiskRead", "fault 19 LogFull"
 
 
 class Fault(Exception):
@@ -193,6 +194,8 @@ class Opening:
     def read(self, log):
         at = 0
         while at < len(log):
+            if self.records == LONGEST:
+                raise Fault(FULL)
             found = front(log, at)
             if found is None:
                 if is_torn(log[at:]):
@@ -214,7 +217,9 @@ class Opening:
                 return False
             self.incarnation += 1
         elif name == "base":
-            return False
+            if self.records:
+                return False
+            lsn, self.incarnation = numbers[0] + 1, numbers[1]
         else:
             txn, sub = tuple(numbers[:2]), tuple(numbers[:3])
             if txn[0] != self.incarnation or txn in self.over or not getattr(self, name.replace("-", "_"))(lsn, txn, sub, numbers, rest):
@@ -275,6 +280,8 @@ class Opening:
 
     def add(self, name, kind, numbers, rest=b""):
         """Makes a record behind the log. One that may not stand there is named."""
+        if self.records == LONGEST:
+            raise Fault(FULL)
         made = record(kind, numbers, rest)
         if not self.note(name, numbers, made[5:]):
             raise at_record(self.records + 1)
