@@ -1,5 +1,5 @@
 -- A crash and a restart go on with a legal history, and the ledger still has what the log tells.
-use Rattle.std.proofs.Common.{◌≡◌, ℕ, ◌+◌, ◌≤◌, List, ◌∷◌, ◌++◌, length, take, map, refl, sym, ◌∙◌, ap, subst, arith}
+use Rattle.std.proofs.Common.{◌≡◌, ℕ, ◌+◌, ◌≤◌, List, [], ◌∷◌, ◌++◌, length, take, map, inl, inr, refl, sym, ◌∙◌, ap, subst, arith}
 use Rattle.std.proofs.lemmas.List.{length-append}
 use Rattle.rq_model.specs.declared.record.Record.{Record}
 use Rattle.rq_model.specs.declared.record.Record.TheVariants.{Restart as Restart_record}
@@ -13,6 +13,7 @@ use Rattle.rq_model.specs.Commits.{committed_of}
 use Rattle.rq_model.specs.Rules.{KeepsRules}
 use Rattle.rq_model.specs.Incarnations.{Ties, Extends, incarnation_of, InOrder, opened_ledger}
 use Rattle.rq_model.specs.Promises.{EndsInCrash, EndsInRestart, crash_to}
+use Rattle.rq_model.specs.Bases.{based}
 use Rattle.rq_model.proofs.Same.{Tied-ledger}
 use Rattle.rq_model.proofs.Shown.{group_are}
 use Rattle.rq_model.proofs.Told.{content_is}
@@ -36,12 +37,34 @@ crash_goes_on z h newer older a t rules f i =
     let less = kept_less l.forced (length older) l.committed f in
     let n = length-append newer older in
     let r = t.records in
-    let legal : IsLegal z (crash_to older h ∷ h) = (record { durable = omega (arith, d, less); forced = f; exact = refl; up_to = up_to l.phase (length older) l.records (omega (arith, n, r)) }, a) in
+    let legal : IsLegal z (crash_to older h ∷ h) = (record { durable = omega (arith, d, less); forced = f; exact = refl; up_to = inl (up_to l.phase (length older) l.records (omega (arith, n, r))) }, a) in
     record {
       legal = legal;
       ties = record { committed = c; records = refl; incarnation = i };
       commits = ap (map (λ (x : Done). x.txn)) (sym c) ∙ (Tied-ledger z (crash_to older h ∷ h) legal).names;
       content = λ s. content_is s older rules ∙ ap (λ x. group_in x s) (sym c) ∙ sym (group_are z (crash_to older h ∷ h) s legal);
+    }
+
+pub checkpoint_crash_goes_on : (z : Size) (h : List Entry) (log : List Record) → IsLegal z h → Ties (ledger h) log → KeepsRules log → (ledger h).open_ones ≡ []
+    → EndsInCrash z h (based (incarnation_of log) log)
+checkpoint_crash_goes_on z h log a t rules none =
+    let l = ledger h in
+    let now : List Record = based (incarnation_of log) log in
+    let n : length now ≡ length log + 1 = omega arith in
+    let w = placed z h a in
+    let r = t.records in
+    let all : kept_in (length now) l.committed ≡ length l.committed = all_kept 0 l.records (length now) l.committed w.rising (omega (arith, n, r)) in
+    let c : take (kept_in (length now) l.committed) l.committed ≡ committed_of log = ap (λ k. take k l.committed) all ∙ take-length l.committed ∙ t.committed in
+    let f = w.forced in
+    let d = w.durable in
+    let less = kept_less l.forced (length now) l.committed (omega (arith, n, r, f)) in
+    let legal : IsLegal z (crash_to now h ∷ h) =
+    (record { durable = omega (arith, d, less); forced = omega (arith, n, r, f); exact = refl; up_to = inr (none, omega (arith, n, r)) }, a) in
+    record {
+      legal = legal;
+      ties = record { committed = c; records = refl; incarnation = t.incarnation };
+      commits = ap (map (λ (x : Done). x.txn)) (sym c) ∙ (Tied-ledger z (crash_to now h ∷ h) legal).names;
+      content = λ s. content_is s log rules ∙ ap (λ x. group_in x s) (sym c) ∙ sym (group_are z (crash_to now h ∷ h) s legal);
     }
 
 shut_to : (p : Phase) (n m : ℕ) → p ≡ Shut → IsUpTo m p n
@@ -62,7 +85,7 @@ shut_crash_goes_on z h older now a p t g o rules =
     let d = w.durable in
     let less = kept_less l.forced (length now) l.committed (omega (arith, n, r, f)) in
     let legal : IsLegal z (crash_to now h ∷ h) =
-    (record { durable = omega (arith, d, less); forced = omega (arith, n, r, f); exact = refl; up_to = shut_to l.phase (length now) l.records p }, a) in
+    (record { durable = omega (arith, d, less); forced = omega (arith, n, r, f); exact = refl; up_to = inl (shut_to l.phase (length now) l.records p) }, a) in
     record {
       legal = legal;
       ties = record { committed = c; records = refl; incarnation = (let i = t.incarnation in omega (arith, i, j)) };

@@ -9,7 +9,7 @@ use Rattle.rq_model.specs.Vocabulary.{Op, In, has_number, ends, has_txn}
 use Rattle.rq_model.specs.Vocabulary.Op.{Send, Take, End}
 use Rattle.rq_model.specs.History.{Job, Entry, Call, finished, did_by, ops_by, commits, is_send_by, sends_to, NoneAfterEnd}
 use Rattle.rq_model.specs.History.Job.{Sending, Taking, Ending, Undoing}
-use Rattle.rq_model.specs.History.Entry.{Begun, Started, None_free, None_from, Stepped, Ready, Did, Undid, Committed, Acknowledged, Aborting, None_left, Aborted, Handed_over, Forced, Wrote, Told, Shown, Refused, Crash, Restarted}
+use Rattle.rq_model.specs.History.Entry.{Begun, Started, None_free, None_from, Stepped, Ready, Did, Undid, Committed, Acknowledged, Aborting, None_left, Aborted, Handed_over, Forced, Checkpointed, Wrote, Told, Shown, Refused, Crash, Restarted}
 use Rattle.rq_model.specs.Ledger.{Open, Done, Ledger, found, change, without, ops_of, after, ledger, started, stepped, writes, done_more, undone, fresh_one, any_ends, ended_in, add_number}
 use Rattle.rq_model.specs.Legal.{Legal, IsLegal, start_of, IsDoneBy}
 use Rattle.rq_model.specs.Tests.{Size, Passes, is_aborting, has_closed, free_to_send}
@@ -329,6 +329,7 @@ Clear-after z h l (Acknowledged t n y) a good tied g = Clear-same h (Acknowledge
 Clear-after z h l (None_left t) a good tied g = Clear-same h (None_left t) l.committed l.open_ones g refl
 Clear-after z h l Handed_over a good tied g = Clear-same h Handed_over l.committed l.open_ones g refl
 Clear-after z h l (Forced lsn) a good tied g = Clear-same h (Forced lsn) l.committed l.open_ones g refl
+Clear-after z h l (Checkpointed lsn) a good tied g = Clear-same h (Checkpointed lsn) l.committed l.open_ones g refl
 Clear-after z h l (Wrote page done) a good tied g = Clear-same h (Wrote page done) l.committed l.open_ones g refl
 Clear-after z h l (Told s sent tag) a good tied g = Clear-same h (Told s sent tag) l.committed l.open_ones g refl
 Clear-after z h l (Shown groups) a good tied g = Clear-same h (Shown groups) l.committed l.open_ones g refl

@@ -12,7 +12,7 @@ use Rattle.rq_model.specs.Vocabulary.{Op, IsPrefix, In, same_txn, taken_from, ha
 use Rattle.rq_model.specs.Vocabulary.Op.{Send, Take, End}
 use Rattle.rq_model.specs.History.{Job, Entry, Call}
 use Rattle.rq_model.specs.History.Job.{Sending, Taking, Ending, Undoing}
-use Rattle.rq_model.specs.History.Entry.{Begun, Started, None_free, None_from, Stepped, Ready, Did, Undid, Committed, Acknowledged, Aborting, None_left, Aborted, Handed_over, Forced, Wrote, Told, Shown, Refused, Crash, Restarted}
+use Rattle.rq_model.specs.History.Entry.{Begun, Started, None_free, None_from, Stepped, Ready, Did, Undid, Committed, Acknowledged, Aborting, None_left, Aborted, Handed_over, Forced, Checkpointed, Wrote, Told, Shown, Refused, Crash, Restarted}
 use Rattle.rq_model.specs.Ledger.{Open, Done, Ledger, rest_in, found, without, ops_of, after, ledger, started, stepped, writes, done_more, undone, fresh_one, add_number, own_takes}
 use Rattle.rq_model.specs.Legal.{OnFound, At, CanStart, Legal, IsLegal, IsDoneBy, start_of}
 use Rattle.rq_model.specs.Tests.{free_to_receive, free_of, Size, Passes}
@@ -227,6 +227,7 @@ Good-after z l (Acknowledged t n y) a g = g
 Good-after z l (None_left t) a g = g
 Good-after z l Handed_over a g = g
 Good-after z l (Forced lsn) a g = g
+Good-after z l (Checkpointed lsn) a g = g
 Good-after z l (Wrote page done) a g = g
 Good-after z l (Told s sent tag) a g = g
 Good-after z l (Shown groups) a g = g

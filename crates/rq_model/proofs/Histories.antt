@@ -1,5 +1,5 @@
 -- Worked histories: that they are legal, and what they come to; and that others are not.
-use Rattle.std.proofs.Common.{rules, refl, [], ◌∷◌, arith, ap}
+use Rattle.std.proofs.Common.{rules, refl, inl, inr, [], ◌∷◌, arith, ap}
 use Rattle.rq_model.specs.declared.txn.Txn.{Txn}
 use Rattle.rq_model.specs.declared.message.Message.{Message}
 use Rattle.rq_model.specs.History.Entry.{Begun, Committed}
@@ -30,10 +30,20 @@ worked = record {
   undoing_legal = search rules;
   crash_twice = search rules;
   crash_after_failure = search rules;
+  checkpoint_legal = search rules;
+  checkpoint_opened = search rules;
+  checkpoint_content = refl;
+  checkpoint_stopped = search rules;
+  checkpoint_not_quiet = search rules;
+  checkpoint_for_nothing = λ a. (let e = a.0 in cc e);
+  checkpoint_of_open = λ a. (let e = a.0.0.1.0 in cc e);
+  checkpoint_elsewhere = λ a. (let e = a.0.1 in omega (arith, e));
+  checkpoint_lost = λ a. (let e = a.0.forced in omega (arith, e));
+  checkpoint_stopped_of_open = λ a. elim a.0.up_to [ inl e ↦ omega (arith, e) | inr e ↦ (let none = e.0 in cc none) ];
   keeps_lost_commit = λ a. (let e = a.0.exact in cc e);
   loses_kept_commit = λ a. (let e = a.0.exact in cc e);
   loses_forced_commit = λ a. (let e = a.0.forced in omega (arith, e));
-  leaves_more_than_there_was = λ a. (let e = a.0.up_to in omega (arith, e));
+  leaves_more_than_there_was = λ a. elim a.0.up_to [ inl e ↦ omega (arith, e) | inr e ↦ (let one = e.1 in omega (arith, one)) ];
   takes_what_was_kept = λ a. (let e = a.0.forced in omega (arith, e));
   opened_twice = λ a. (let e = a.0.shut in cc e);
   opened_without_crash = λ a. (let e = a.0.shut in cc e);

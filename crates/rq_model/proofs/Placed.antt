@@ -7,7 +7,7 @@ use Rattle.std.proofs.lemmas.Bool.Decides.{nat_tests}
 use Rattle.rq_model.specs.declared.txn.Txn.{Txn}
 use Rattle.rq_model.specs.Vocabulary.{In, is_some}
 use Rattle.rq_model.specs.History.{Entry, commits}
-use Rattle.rq_model.specs.History.Entry.{Acknowledged, Committed, Forced, Crash, Restarted}
+use Rattle.rq_model.specs.History.Entry.{Acknowledged, Committed, Forced, Checkpointed, Crash, Restarted}
 use Rattle.rq_model.specs.Ledger.{Done, Ledger, runs, kept_in, ledger, after, found, ops_of, Rising}
 use Rattle.rq_model.specs.Legal.{Legal, IsLegal}
 use Rattle.rq_model.specs.Tests.{Size}
@@ -17,7 +17,7 @@ use Rattle.rq_model.proofs.Keeps.{found_in}
 use Rattle.rq_model.proofs.Each.{Good-ledger, some_is}
 use Rattle.rq_model.proofs.Cuts.{kept_beyond, among}
 use Rattle.rq_model.proofs.EntryKinds.{Kind, Same, kind, is_commit}
-use Rattle.rq_model.proofs.EntryKinds.Kind.{Plain, Commits, Forces, Crashes, Restarts}
+use Rattle.rq_model.proofs.EntryKinds.Kind.{Plain, Commits, Forces, Checkpoints, Crashes, Restarts}
 use Rattle.rq_model.proofs.Lists.{In-left, In-last, In-to}
 
 -- the beginnings of a legal history are legal
@@ -57,6 +57,9 @@ placed_after z l e (Commits u n) a w =
 placed_after z l e (Forces n) a w =
     let all = all_kept 0 l.records l.records l.committed w.rising (omega arith) in
     record { rising = w.rising; forced = omega arith; durable = omega (arith, all); exact = λ r. omega (arith, all) }
+placed_after z l e (Checkpoints n) a w =
+    let all = all_kept 0 l.records (l.records + 1) l.committed w.rising (omega arith) in
+    record { rising = rising_further 0 l.records (l.records + 1) l.committed (omega arith) w.rising; forced = omega arith; durable = omega (arith, all); exact = λ r. omega (arith, all) }
 placed_after z l e (Crashes k n) a w =
     let e : k ≡ kept_in n l.committed = a.exact in
     let c : kept_in n (take k l.committed) ≡ k = subst (λ j. kept_in n (take j l.committed) ≡ j) (sym e) (kept_cut l.records n l.committed w.rising) in
@@ -123,6 +126,10 @@ known_after z h e (Forces m) a w = record {
   old = λ t n j. w.old t n (older (Forced m) h t n refl j);
   stands = λ r t n j i. w.stands r t n (older (Forced m) h t n refl j) i;
 }
+known_after z h e (Checkpoints m) a w = record {
+  old = λ t n j. w.old t n (older (Checkpointed m) h t n refl j);
+  stands = λ r t n j i. w.stands r t n (older (Checkpointed m) h t n refl j) i;
+}
 known_after z h e (Crashes k m) a w = record {
   old = λ t n j. w.old t n (older (Crash k m) h t n refl j);
   stands = λ r. cc r;
@@ -150,6 +157,7 @@ firm_after z l e d (Commits u n) a w g =
     let b = w.durable in
     subst (In d) (sym (take-append-le l.durable l.committed (record { txn = u; lsn = n; ops = ops_of (found u l.open_ones) } ∷ []) (omega (arith, k, b)))) g
 firm_after z l e d (Forces n) a w g = subst (In d) (sym (all_of l.committed)) (In-take l.durable l.committed d g)
+firm_after z l e d (Checkpoints n) a w g = subst (In d) (sym (all_of l.committed)) (In-take l.durable l.committed d g)
 firm_after z l e d (Crashes k n) a w g = subst (In d) (sym (take-take l.durable k l.committed a.durable)) g
 firm_after z l e d (Restarts i n) a w g = subst (In d) (sym (all_of l.committed)) (In-take l.durable l.committed d g)
 

@@ -6,7 +6,7 @@ use Rattle.rq_model.specs.declared.txn.Txn.{Txn}
 use Rattle.rq_model.specs.declared.refusal.Refusal.{Refusal}
 use Rattle.rq_model.specs.declared.refusal.Refusal.TheVariants.{DiskWrite}
 use Rattle.rq_model.specs.History.{Entry, Call}
-use Rattle.rq_model.specs.History.Entry.{Stepped, Did, Undid, Committed, Aborted, Forced, Refused, Crash, Restarted}
+use Rattle.rq_model.specs.History.Entry.{Stepped, Did, Undid, Committed, Aborted, Forced, Checkpointed, Refused, Crash, Restarted}
 use Rattle.rq_model.specs.Ledger.{Ledger, runs, after, ledger}
 use Rattle.rq_model.specs.Legal.{Legal, IsLegal}
 use Rattle.rq_model.specs.Promises.{is_force, is_restart, any_entry, ReceiptsAreExact}
@@ -64,6 +64,14 @@ since_after z t lsn newer l (Forced n) a s = record {
   current = s.current;
   within = s.within;
   kept = λ a b c. s.within a b;
+  pending = λ a b c. absurd (true≢false c);
+}
+since_after z t lsn newer l (Checkpointed n) a s = record {
+  not_later = s.not_later;
+  earlier = s.earlier;
+  current = s.current;
+  within = λ a b. (let c = s.within a b in omega (arith, c));
+  kept = λ a b c. (let d = s.within a b in omega (arith, d));
   pending = λ a b c. absurd (true≢false c);
 }
 since_after z t lsn newer l (Refused c r) a s = since_refused t lsn newer l c r s

@@ -10,7 +10,7 @@ use Rattle.rq_model.specs.declared.message.Message.{Message}
 use Rattle.rq_model.specs.Vocabulary.{Op, IsPrefix, In, same_txn, taken_from, sent_for}
 use Rattle.rq_model.specs.History.{Job, Entry, Call, ops_by, commits, sends, takes}
 use Rattle.rq_model.specs.History.Job.{Sending, Taking, Ending, Undoing}
-use Rattle.rq_model.specs.History.Entry.{Begun, Started, None_free, None_from, Stepped, Ready, Did, Undid, Committed, Acknowledged, Aborting, None_left, Aborted, Handed_over, Forced, Wrote, Told, Shown, Refused, Crash, Restarted}
+use Rattle.rq_model.specs.History.Entry.{Begun, Started, None_free, None_from, Stepped, Ready, Did, Undid, Committed, Acknowledged, Aborting, None_left, Aborted, Handed_over, Forced, Checkpointed, Wrote, Told, Shown, Refused, Crash, Restarted}
 use Rattle.rq_model.specs.Ledger.{Open, Done, Ledger, sent_in, taken_in, found, change, without, ops_of, after, ledger, started, stepped, writes, done_more, undone, fresh_one}
 use Rattle.rq_model.specs.Legal.{Legal, IsLegal, start_of}
 use Rattle.rq_model.specs.Tests.{Size, Passes, is_aborting}
@@ -187,6 +187,7 @@ Tied-after z h l (Acknowledged t n y) a good g = Tied-all h (Acknowledged t n y)
 Tied-after z h l (None_left t) a good g = Tied-all h (None_left t) l.committed l.open_ones l.incarnation l.begins g refl (λ u. refl)
 Tied-after z h l Handed_over a good g = Tied-all h Handed_over l.committed l.open_ones l.incarnation l.begins g refl (λ u. refl)
 Tied-after z h l (Forced lsn) a good g = Tied-all h (Forced lsn) l.committed l.open_ones l.incarnation l.begins g refl (λ u. refl)
+Tied-after z h l (Checkpointed lsn) a good g = Tied-all h (Checkpointed lsn) l.committed l.open_ones l.incarnation l.begins g refl (λ u. refl)
 Tied-after z h l (Wrote page done) a good g = Tied-all h (Wrote page done) l.committed l.open_ones l.incarnation l.begins g refl (λ u. refl)
 Tied-after z h l (Told s sent tag) a good g = Tied-all h (Told s sent tag) l.committed l.open_ones l.incarnation l.begins g refl (λ u. refl)
 Tied-after z h l (Shown groups) a good g = Tied-all h (Shown groups) l.committed l.open_ones l.incarnation l.begins g refl (λ u. refl)

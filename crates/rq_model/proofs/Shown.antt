@@ -6,7 +6,7 @@ use Rattle.rq_model.specs.declared.txn.Txn.{Txn}
 use Rattle.rq_model.specs.declared.refusal.Refusal.{Refusal}
 use Rattle.rq_model.specs.declared.refusal.Refusal.TheVariants.{DiskWrite}
 use Rattle.rq_model.specs.Vocabulary.{Op, In, same_txn, taken_from, sent_for, ends, has_txn}
-use Rattle.rq_model.specs.History.Entry.{Committed, Forced, Refused, Crash, Restarted}
+use Rattle.rq_model.specs.History.Entry.{Committed, Forced, Checkpointed, Refused, Crash, Restarted}
 use Rattle.rq_model.specs.Legal.{Legal, IsLegal}
 use Rattle.rq_model.specs.Tests.{Size}
 use Rattle.rq_model.proofs.Lists.{same_is, In-to, In-map}
@@ -106,6 +106,7 @@ kept_one z l _ c m a b w = refl
 bound_one : (z : Size) (l : Ledger) (e : Entry) (c : List Txn) (d : ℕ) → Legal z l e → l.durable ≡ d → d ≤ length c → (durable_by e (length c) d ≤ length (committed_by e c)) × (d ≤ durable_by e (length c) d)
 bound_one z l (Committed t n) c d a e w = (omega (arith, w, length_push c t), omega arith)
 bound_one z l (Forced n) c d a e w = (omega arith, w)
+bound_one z l (Checkpointed n) c d a e w = (omega arith, w)
 bound_one z l (Crash k r) c d a e w = (let x : l.durable ≤ k = a.durable in omega (arith, x, e, w, length-take k c), omega arith)
 bound_one z l (Restarted i r) c d a e w = (omega arith, w)
 bound_one z l _ c d a e w = (w, omega arith)

@@ -70,3 +70,7 @@ IsMarkedBelow r log rest = rest
 abbrev pub IsMarked : List Record → Type 0
 IsMarked [] = Unit {0}
 IsMarked (r ∷ log) = IsMarkedBelow r log (IsMarked log)
+
+-- all records, with the Base of this incarnation that stands for them
+abbrev pub based : ℕ → List Record → List Record
+based i log = Base (length log) i ∷ log

@@ -39,6 +39,7 @@ pub data Call : Type 0 where
   End_abort : (t : Txn) → Call
   Hand_over : Call
   Force : Call
+  Checkpoint : Call
   Write_page : (page : ℕ) → Call
   Last_tag : (sender : ℕ) → Call
   Show : Call
@@ -60,6 +61,7 @@ pub data Entry : Type 0 where
   Aborted : (t : Txn) → Entry
   Handed_over : Entry
   Forced : (lsn : ℕ) → Entry
+  Checkpointed : (lsn : ℕ) → Entry
   Wrote : (page : ℕ) (done : Bool) → Entry
   Told : (sender sent tag : ℕ) → Entry
   Shown : (groups : List Group) → Entry
@@ -81,6 +83,7 @@ commits (e ∷ h) = committed_by e (commits h)
 -- what an entry makes of the number of commits that no crash may take
 abbrev pub durable_by : Entry → ℕ → ℕ → ℕ
 durable_by (Forced lsn) committed n = committed
+durable_by (Checkpointed lsn) committed n = committed
 durable_by (Restarted i records) committed n = committed
 durable_by _ committed n = n
 

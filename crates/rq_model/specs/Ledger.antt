@@ -8,7 +8,7 @@ use Rattle.rq_model.specs.Vocabulary.{Op, last, same_txn, sent_for, taken_from, 
 use Rattle.rq_model.specs.Vocabulary.Op.{Send, Take, End}
 use Rattle.rq_model.specs.History.{Job, Group, Entry}
 use Rattle.rq_model.specs.History.Job.{Sending, Taking, Ending, Undoing}
-use Rattle.rq_model.specs.History.Entry.{Begun, Started, Did, Undid, Committed, Aborting, Aborted, Stepped, Forced, Refused, Crash, Restarted}
+use Rattle.rq_model.specs.History.Entry.{Begun, Started, Did, Undid, Committed, Aborting, Aborted, Stepped, Forced, Checkpointed, Refused, Crash, Restarted}
 
 -- A transaction that has not ended. Its operations are those finished and not undone, in order. Of the one under way,
 -- `left` is how many of its slot writes are not made.
@@ -194,6 +194,7 @@ after (Committed t lsn) l = record l {
 after (Aborting t) l = record l { open_ones = change t (λ o. record o { aborting = true }) l.open_ones }
 after (Aborted t) l = record l { open_ones = without t l.open_ones; records = l.records + 1 }
 after (Forced lsn) l = record l { forced = l.records; durable = length l.committed }
+after (Checkpointed lsn) l = record l { records = l.records + 1; forced = l.records + 1; durable = length l.committed }
 after (Crash kept records) l = record l {
   committed = take kept l.committed;
   open_ones = [];

@@ -1,14 +1,14 @@
 -- Which entry may come next.
-use Rattle.std.specs.Prelude.{◌≡◌, ℕ, ◌+◌, ◌<◌, ◌≤◌, true, false, List, [], ◌∷◌, Option, Some, None, nat_eq, nat_lt, ◌&&◌, length, map, not, IsTrue, slice_get}
+use Rattle.std.specs.Prelude.{◌≡◌, ◌⊎◌, ℕ, ◌+◌, ◌<◌, ◌≤◌, true, false, List, [], ◌∷◌, Option, Some, None, nat_eq, nat_lt, ◌&&◌, length, map, not, IsTrue, slice_get}
 use Rattle.rq_model.specs.declared.txn.Txn.{Txn}
 use Rattle.rq_model.specs.declared.refusal.Refusal.{Refusal}
 use Rattle.rq_model.specs.declared.refusal.Refusal.TheVariants.{NoMemory, DiskRead, Latched, PoolFull, DiskWrite, Damaged, NotForced}
 use Rattle.rq_model.specs.Vocabulary.{Op, last, is_some}
 use Rattle.rq_model.specs.Vocabulary.Op.{Send, Take, End}
 use Rattle.rq_model.specs.History.{Job, Entry, Call}
-use Rattle.rq_model.specs.History.Call.{Begin, Start_send, Start_receive, Start_receive_from, Start_close, Step, Finish, Commit, Acknowledge, Start_abort, Undo_next, End_abort, Hand_over, Force, Write_page, Last_tag, Show}
+use Rattle.rq_model.specs.History.Call.{Begin, Start_send, Start_receive, Start_receive_from, Start_close, Step, Finish, Commit, Acknowledge, Start_abort, Undo_next, End_abort, Hand_over, Force, Checkpoint, Write_page, Last_tag, Show}
 use Rattle.rq_model.specs.History.Job.{Sending, Taking, Ending, Undoing}
-use Rattle.rq_model.specs.History.Entry.{Begun, Started, None_free, None_from, Stepped, Ready, Did, Undid, Committed, Acknowledged, Aborting, None_left, Aborted, Handed_over, Forced, Wrote, Told, Shown, Refused, Crash, Restarted}
+use Rattle.rq_model.specs.History.Entry.{Begun, Started, None_free, None_from, Stepped, Ready, Did, Undid, Committed, Acknowledged, Aborting, None_left, Aborted, Handed_over, Forced, Checkpointed, Wrote, Told, Shown, Refused, Crash, Restarted}
 use Rattle.rq_model.specs.Ledger.{Open, Ledger, Phase, runs, kept_in, ledger, group_in, sent_in, rest_in, found, tag_of, own_takes}
 use Rattle.rq_model.specs.Ledger.Phase.{Running, Stopped, Shut as Is_shut}
 use Rattle.rq_model.specs.Tests.{Size, below, free_to_receive, holds_for, first_of, tests, Passes, starts, writes_page}
@@ -61,12 +61,16 @@ IsUpTo n Running records = records ≤ n
 IsUpTo n Stopped records = records ≤ n
 IsUpTo n Is_shut records = Unit {0}
 
+-- one record more, where no transaction is open: that of a checkpoint which the crash stopped
+abbrev pub IsCheckpointed : Ledger → ℕ → Type 0
+IsCheckpointed l records = (l.open_ones ≡ []) × (records ≡ l.records + 1)
+
 -- What a crash may leave: all that is forced, and of the commits those, in their order, whose records it leaves.
 pub record MayCrash (l : Ledger) (kept records : ℕ) : Type 0 where
   pub durable : l.durable ≤ kept
   pub forced : l.forced ≤ records
   pub exact : kept ≡ kept_in records l.committed
-  pub up_to : IsUpTo l.records l.phase records
+  pub up_to : IsUpTo l.records l.phase records ⊎ IsCheckpointed l records
 
 -- A restart opens a store that is not open. It makes a record, and begins an incarnation that was not there before.
 pub record MayRestart (l : Ledger) (i records : ℕ) : Type 0 where
@@ -93,6 +97,7 @@ Legal z l (None_left t) = Passes z l (Undo_next t) × At l t (λ o. last o.ops �
 Legal z l (Aborted t) = Passes z l (End_abort t)
 Legal z l Handed_over = Passes z l Hand_over
 Legal z l (Forced lsn) = Passes z l Force × (lsn ≡ l.records)
+Legal z l (Checkpointed lsn) = Passes z l Checkpoint × (lsn ≡ l.records + 1)
 Legal z l (Wrote page done) = Passes z l (Write_page page)
 Legal z l (Told s sent tag) = Passes z l (Last_tag s) × (sent ≡ length (sent_in l.committed s))
     × (tag ≡ tag_of (sent_in l.committed s))

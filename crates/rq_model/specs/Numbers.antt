@@ -1,7 +1,7 @@
 -- The number and the name of each refusal.
 use Rattle.std.specs.Prelude.{ℕ, List, codes}
 use Rattle.rq_model.specs.declared.refusal.Refusal.{Refusal}
-use Rattle.rq_model.specs.declared.refusal.Refusal.TheVariants.{NoMemory, Failed, DiskRead, UnknownTransaction, NotOpen, Unfinished, UnknownSender, TooLong, SenderBusy, Closed, ReceiverBusy, Full, Latched, PoolFull, DiskWrite, Damaged, TooManyTransactions, NotForced, LogFull, UnknownOperation}
+use Rattle.rq_model.specs.declared.refusal.Refusal.TheVariants.{NoMemory, Failed, DiskRead, UnknownTransaction, NotOpen, Unfinished, UnknownSender, TooLong, SenderBusy, Closed, ReceiverBusy, Full, Latched, PoolFull, DiskWrite, Damaged, TooManyTransactions, NotForced, LogFull, UnknownOperation, NotQuiet}
 
 abbrev pub number_of : Refusal → ℕ
 number_of NoMemory = 1
@@ -24,6 +24,7 @@ number_of TooManyTransactions = 17
 number_of NotForced = 18
 number_of LogFull = 19
 number_of UnknownOperation = 20
+number_of NotQuiet = 21
 
 abbrev pub name_of : Refusal → List ℕ
 name_of NoMemory = codes "NoMemory"
@@ -46,3 +47,4 @@ name_of TooManyTransactions = codes "TooManyTransactions"
 name_of NotForced = codes "NotForced"
 name_of LogFull = codes "LogFull"
 name_of UnknownOperation = codes "UnknownOperation"
+name_of NotQuiet = codes "NotQuiet"

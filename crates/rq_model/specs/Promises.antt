@@ -7,7 +7,7 @@ use Rattle.rq_model.specs.declared.record.Record.{Record}
 use Rattle.rq_model.specs.declared.record.Record.TheVariants.{Restart as Restart_record}
 use Rattle.rq_model.specs.Vocabulary.{In}
 use Rattle.rq_model.specs.History.{Entry, Call, Fifo, commits, ended}
-use Rattle.rq_model.specs.History.Entry.{Started, Acknowledged, Committed, Forced, Crash, Refused, Restarted}
+use Rattle.rq_model.specs.History.Entry.{Started, Acknowledged, Committed, Forced, Checkpointed, Crash, Refused, Restarted}
 use Rattle.rq_model.specs.History.Job.{Sending}
 use Rattle.rq_model.specs.Ledger.{Done, Ledger, ledger, kept_in, runs}
 use Rattle.rq_model.specs.Ledger.Phase.{Shut}
@@ -18,6 +18,7 @@ use Rattle.rq_model.specs.Commits.{committed_of}
 use Rattle.rq_model.specs.Rules.{KeepsRules}
 use Rattle.rq_model.specs.Groups.{group}
 use Rattle.rq_model.specs.Replay.{Reply, Replays, AllSay}
+use Rattle.rq_model.specs.Bases.{based}
 use Rattle.rq_model.specs.Incarnations.{incarnation_of, InOrder, Extends, Ties, opened_ledger}
 
 -- at every place: what was taken is a beginning of what was sent
@@ -32,6 +33,7 @@ AcknowledgedStay z = (newer older : List Entry) (t : Txn) (lsn : ℕ)
 
 abbrev pub is_force : Entry → Bool
 is_force (Forced lsn) = true
+is_force (Checkpointed lsn) = true
 is_force _ = false
 
 abbrev pub is_restart : Entry → Bool
@@ -77,6 +79,11 @@ abbrev pub CrashGoesOn : Size → Type 0
 CrashGoesOn z = (h : List Entry) (newer older : List Record) → IsLegal z h → Ties (ledger h) (newer ++ older)
     → KeepsRules older
     → (ledger h).forced ≤ length older → (ledger h).incarnation ≤ incarnation_of older → EndsInCrash z h older
+
+-- a crash in a checkpoint, where no transaction is open, which leaves the Base that stands for all records
+abbrev pub CheckpointCrashGoesOn : Size → Type 0
+CheckpointCrashGoesOn z = (h : List Entry) (log : List Record) → IsLegal z h → Ties (ledger h) log → KeepsRules log
+    → (ledger h).open_ones ≡ [] → EndsInCrash z h (based (incarnation_of log) log)
 
 -- a crash of a store that is not open, which leaves what was left before, with some of what a restart that was stopped
 -- has added

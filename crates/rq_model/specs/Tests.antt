@@ -3,11 +3,11 @@ use Rattle.std.specs.Prelude.{◌≡◌, ℕ, zero, suc, ◌+◌, ◌-◌, ◌^�
 use Rattle.std.specs.List.{filter, sum_by}
 use Rattle.rq_model.specs.declared.txn.Txn.{Txn}
 use Rattle.rq_model.specs.declared.refusal.Refusal.{Refusal}
-use Rattle.rq_model.specs.declared.refusal.Refusal.TheVariants.{Failed, UnknownTransaction, NotOpen, Unfinished, UnknownSender, TooLong, SenderBusy, Closed, ReceiverBusy, TooManyTransactions, LogFull, UnknownOperation, Full, DiskRead, Latched, PoolFull, DiskWrite, Damaged, NotForced}
+use Rattle.rq_model.specs.declared.refusal.Refusal.TheVariants.{Failed, UnknownTransaction, NotOpen, Unfinished, UnknownSender, TooLong, SenderBusy, Closed, ReceiverBusy, TooManyTransactions, LogFull, UnknownOperation, NotQuiet, Full, DiskRead, Latched, PoolFull, DiskWrite, Damaged, NotForced}
 use Rattle.rq_model.specs.Vocabulary.{Op, same_txn, has_number, first, last, is_some}
 use Rattle.rq_model.specs.Vocabulary.Op.{Send, Take, End}
 use Rattle.rq_model.specs.History.{Job, Call}
-use Rattle.rq_model.specs.History.Call.{Begin, Start_send, Start_receive, Start_receive_from, Start_close, Step, Finish, Commit, Acknowledge, Start_abort, Undo_next, End_abort, Hand_over, Force, Write_page, Last_tag, Show}
+use Rattle.rq_model.specs.History.Call.{Begin, Start_send, Start_receive, Start_receive_from, Start_close, Step, Finish, Commit, Acknowledge, Start_abort, Undo_next, End_abort, Hand_over, Force, Checkpoint, Write_page, Last_tag, Show}
 use Rattle.rq_model.specs.History.Job.{Sending}
 use Rattle.rq_model.specs.Ledger.{Open, Done, Ledger, runs, rest_in, ended_in, any_ends, found, own_takes}
 
@@ -177,6 +177,7 @@ tests z l Show = (not (runs l.phase), Failed) ∷ (any_busy l.open_ones, Unfinis
 tests z l (Acknowledge t lsn) = (not (runs l.phase), Failed) ∷ []
 tests z l Hand_over = (not (runs l.phase), Failed) ∷ []
 tests z l Force = (not (runs l.phase), Failed) ∷ []
+tests z l Checkpoint = (not (runs l.phase), Failed) ∷ (is_some (first l.open_ones), NotQuiet) ∷ (log_full l 1, LogFull) ∷ []
 tests z l (Write_page p) = (not (runs l.phase), Failed) ∷ []
 
 -- no test is true

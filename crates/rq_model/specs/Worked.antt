@@ -2,12 +2,12 @@
 use Rattle.std.specs.Prelude.{◌≡◌, ◌+◌, ◌*◌, ◌^◌, ℕ, zero, suc, List, [], ◌∷◌, ◌++◌, Some, true, false, map, replicate}
 use Rattle.rq_model.specs.declared.txn.Txn.{Txn}
 use Rattle.rq_model.specs.declared.message.Message.{Message}
-use Rattle.rq_model.specs.declared.refusal.Refusal.TheVariants.{DiskWrite, Failed, NoMemory, Full, SenderBusy, ReceiverBusy, TooLong, UnknownSender, Closed, Unfinished, UnknownOperation, UnknownTransaction, NotOpen, Latched, NotForced, LogFull}
+use Rattle.rq_model.specs.declared.refusal.Refusal.TheVariants.{DiskWrite, Failed, NoMemory, Full, SenderBusy, ReceiverBusy, TooLong, UnknownSender, Closed, Unfinished, UnknownOperation, UnknownTransaction, NotOpen, Latched, NotForced, LogFull, NotQuiet}
 use Rattle.rq_model.specs.Vocabulary.Op.{Send, Take, End}
 use Rattle.rq_model.specs.History.{Entry, Call, Group, rest}
-use Rattle.rq_model.specs.History.Call.{Begin, Force, Start_send, Start_receive_from, Commit, Finish, Step, End_abort, Start_receive, Write_page}
+use Rattle.rq_model.specs.History.Call.{Begin, Checkpoint, Force, Start_send, Start_receive_from, Commit, Finish, Step, End_abort, Start_receive, Write_page}
 use Rattle.rq_model.specs.History.Job.{Sending, Taking, Ending, Undoing}
-use Rattle.rq_model.specs.History.Entry.{Begun, Started, None_from, Stepped, Ready, Did, Undid, Committed, Acknowledged, Aborting, None_left, Aborted, Forced, Refused, Crash, Restarted, Shown, Told, Handed_over, Wrote}
+use Rattle.rq_model.specs.History.Entry.{Begun, Started, None_from, Stepped, Ready, Did, Undid, Committed, Acknowledged, Aborting, None_left, Aborted, Forced, Checkpointed, Refused, Crash, Restarted, Shown, Told, Handed_over, Wrote}
 use Rattle.rq_model.specs.Ledger.{ledger, group_in}
 use Rattle.rq_model.specs.declared.record.Record.{Record}
 use Rattle.rq_model.specs.declared.record.Record.TheVariants.{Restart as Restart_record}
@@ -200,6 +200,18 @@ pub record AreWorked : Type 0 where
   pub undoing_legal : IsLegal small undoing
   pub crash_twice : IsLegal small (Restarted 2 6 ∷ Crash 1 5 ∷ Crash 1 5 ∷ committed_once)
   pub crash_after_failure : IsLegal small (Restarted 2 2 ∷ Crash 0 1 ∷ Refused Begin Failed ∷ failed_force)
+  pub checkpoint_legal : IsLegal small (Acknowledged (txn 1 1) 5 true ∷ Refused (Commit (txn 1 1)) UnknownTransaction
+      ∷ Checkpointed 6 ∷ committed_once)
+  pub checkpoint_opened : IsLegal small (Restarted 2 7 ∷ Crash 1 6 ∷ Checkpointed 6 ∷ committed_once)
+  pub checkpoint_content : group_in (ledger (Restarted 2 7 ∷ Crash 1 6 ∷ Checkpointed 6 ∷ committed_once)).committed 0
+      ≡ record { sent = 1; last_tag = 7; received = 0; closed = false; rest = hello ∷ [] }
+  pub checkpoint_stopped : IsLegal small (Crash 1 6 ∷ Refused Checkpoint DiskWrite ∷ committed_once)
+  pub checkpoint_not_quiet : IsLegal small (Refused Checkpoint NotQuiet ∷ sent_once)
+  pub checkpoint_for_nothing : IsLegal small (Refused Checkpoint NotQuiet ∷ committed_once) → ⊥
+  pub checkpoint_of_open : IsLegal small (Checkpointed 5 ∷ sent_once) → ⊥
+  pub checkpoint_elsewhere : IsLegal small (Checkpointed 5 ∷ committed_once) → ⊥
+  pub checkpoint_lost : IsLegal small (Crash 1 5 ∷ Checkpointed 6 ∷ committed_once) → ⊥
+  pub checkpoint_stopped_of_open : IsLegal small (Crash 0 5 ∷ sent_once) → ⊥
   pub keeps_lost_commit : IsLegal small (Crash 1 4 ∷ committed_once) → ⊥
   pub loses_kept_commit : IsLegal small (Crash 0 5 ∷ committed_once) → ⊥
   pub loses_forced_commit : IsLegal small (Crash 0 1 ∷ Forced 5 ∷ committed_once) → ⊥

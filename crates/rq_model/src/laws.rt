@@ -10,7 +10,7 @@ ghost use Rattle.rq_model.specs.Commits.{committed_of};
 ghost use Rattle.rq_model.specs.Rules.{KeepsRules};
 ghost use Rattle.rq_model.specs.Ledger.{ledger, group_in};
 ghost use Rattle.rq_model.specs.History.{Entry};
-ghost use Rattle.rq_model.specs.Promises.{AcknowledgedStay, CrashGoesOn, FifoThroughout, NothingBehindClose, ReceiptsAreExact, ReplayGoesOn, RestartGoesOn, ShutCrashGoesOn, StillStoreRefuses};
+ghost use Rattle.rq_model.specs.Promises.{AcknowledgedStay, CheckpointCrashGoesOn, CrashGoesOn, FifoThroughout, NothingBehindClose, ReceiptsAreExact, ReplayGoesOn, RestartGoesOn, ShutCrashGoesOn, StillStoreRefuses};
 ghost use Rattle.rq_model.specs.Legal.{IsLegal};
 ghost use Rattle.rq_model.specs.Tests.{Size};
 ghost use Rattle.rq_model.specs.Worked.{AreWorked};
@@ -55,6 +55,12 @@ pub fn replay_goes_on()
 /// those of the history.
 pub fn crash_goes_on()
     ensures { (size : Size) → CrashGoesOn size }
+{}
+
+/// A crash in a checkpoint, which leaves the record that stands for all others, is the next entry of a legal history too: the
+/// commits and the content that this log tells are those of the history.
+pub fn checkpoint_crash_goes_on()
+    ensures { (size : Size) → CheckpointCrashGoesOn size }
 {}
 
 /// A crash of a store that is not open, as in a restart that was stopped, is the next entry of a legal history too: it

@@ -62,6 +62,8 @@ pub enum Refusal {
     LogFull,
     /// 20: no such operation is under way.
     UnknownOperation,
+    /// 21: a transaction has not ended.
+    NotQuiet,
 }
 
 impl fmt::Display for Refusal {
@@ -86,7 +88,7 @@ impl From<NoMemory> for Refusal {
 impl Refusal {
     ghost use Rattle.rq_model.specs.Numbers.{number_of, name_of};
 
-    /// The refusal's number, 1 to 20.
+    /// The refusal's number, 1 to 21.
     pub fn number(&self) -> u8
         ensures { result ≡ number_of self.now }
     {
@@ -111,6 +113,7 @@ impl Refusal {
             Refusal::NotForced => 18,
             Refusal::LogFull => 19,
             Refusal::UnknownOperation => 20,
+            Refusal::NotQuiet => 21,
         }
     }
 
@@ -139,6 +142,7 @@ impl Refusal {
             Refusal::NotForced => "NotForced",
             Refusal::LogFull => "LogFull",
             Refusal::UnknownOperation => "UnknownOperation",
+            Refusal::NotQuiet => "NotQuiet",
         }
     }
 }

@@ -28,6 +28,7 @@ enum Call {
     Acknowledge,
     HandOver,
     Force,
+    Checkpoint,
     /// A sender.
     LastTag(u32),
     Content,
@@ -108,6 +109,7 @@ fn ask_other(queue: &mut Reference, call: Call, now: u64) -> Result<u64, Refusal
         Call::EndAbort(count) => queue.end_abort(of(now, count))?,
         Call::HandOver => queue.hand_over()?,
         Call::Force => return queue.force(),
+        Call::Checkpoint => return queue.checkpoint(),
         Call::LastTag(sender) => return last_tag(queue, sender),
         Call::Content => return content(queue),
         Call::Crash(records) => return Ok(crash(queue, records)),
@@ -200,8 +202,8 @@ fn first_other(queue: &mut Reference, rows: &[Row]) -> Option<(usize, u64)> {
 }
 
 // Two messages, each with a body of its own, are committed; one is received and put back, and then received for good. What is
-// begun is undone, a close too; and one is closed.
-const ROWS: [Row; 73] = [
+// begun is undone, a close too; and one is closed. A checkpoint is made where none is open, and one is stopped by a crash.
+const ROWS: [Row; 85] = [
     (Call::Begin, 102),
     (Call::Restart(1, 1), 1),
     (Call::Begin, 1),
@@ -275,6 +277,18 @@ const ROWS: [Row; 73] = [
     (Call::Begin, 1),
     (Call::Send(1, 0, 9), 110),
     (Call::Take(1), 1),
+    (Call::Checkpoint, 121),
+    (Call::Crash(32), 0),
+    (Call::Crash(31), 1),
+    (Call::Checkpoint, 102),
+    (Call::Restart(3, 33), 1),
+    (Call::Checkpoint, 34),
+    (Call::Content, 1211),
+    (Call::Crash(33), 0),
+    (Call::Crash(34), 1),
+    (Call::Restart(4, 36), 1),
+    (Call::Crash(38), 0),
+    (Call::Crash(37), 1),
 ];
 
 // A store of one directory and one cell page.

@@ -10,7 +10,7 @@ use Rattle.rq_reference.specs.declared.rows.Act.{Act}
 use Rattle.rq_model.specs.Vocabulary.{Op, first, last, last_or, front, is_some, has_number, sent_for}
 use Rattle.rq_model.specs.Vocabulary.Op.{Send, Take, End}
 use Rattle.rq_model.specs.History.{Job}
-use Rattle.rq_model.specs.History.Job.{Sending, Taking, Ending, Undoing}
+use Rattle.rq_model.specs.History.Job.{Sending, Taking, Undoing}
 use Rattle.rq_model.specs.History.Call.{Start_receive, Finish}
 use Rattle.rq_model.specs.History.Entry.{Started}
 use Rattle.rq_model.specs.Ledger.{Open, Done, Ledger, found, started, rest_in, sent_in, taken_in, after, change}

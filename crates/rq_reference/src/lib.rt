@@ -2,12 +2,13 @@
 //! definitions: each call is answered as the ledger says.
 #![tactic(auto)]
 
-ghost use Rattle.std.specs.Prelude.{◌≡◌, ◌≢◌, ◌↔◌, ◌<◌, ◌≤◌, ◌-◌, ◌^◌, IfOk, IfErr, OnErr, OnOk, map, true};
-ghost use Rattle.rq_model.specs.History.Call.{Begin, Commit, Finish, Show, Step, Acknowledge, Start_abort, End_abort, Hand_over, Force, Last_tag};
-ghost use Rattle.rq_model.specs.History.Entry.{Begun, Shown, Committed, Acknowledged, Aborting, Aborted, Handed_over, Forced, Told, Crash, Restarted};
+ghost use Rattle.std.specs.Prelude.{◌≡◌, ◌≢◌, ◌↔◌, ◌⊎◌, not, ◌<◌, ◌≤◌, ◌-◌, ◌^◌, IfOk, IfErr, OnErr, OnOk, map, true};
+ghost use Rattle.rq_model.specs.History.Call.{Begin, Commit, Finish, Show, Step, Acknowledge, Start_abort, End_abort, Hand_over, Force, Checkpoint, Last_tag};
+ghost use Rattle.rq_model.specs.History.Entry.{Begun, Shown, Committed, Acknowledged, Aborting, Aborted, Handed_over, Forced, Checkpointed, Told, Crash, Restarted};
+ghost use Rattle.rq_model.specs.Vocabulary.{first, is_some};
 ghost use Rattle.rq_model.specs.Ledger.{empty, kept_in};
 ghost use Rattle.rq_model.specs.Ledger.Phase.{Shut};
-ghost use Rattle.rq_model.specs.Legal.{At, IsUpTo};
+ghost use Rattle.rq_model.specs.Legal.{At, IsCheckpointed, IsUpTo};
 ghost use Rattle.rq_reference.specs.Plain.{May, MayBeRefused, next, ComesTo, FindsReady, IsBusy, IsIdle, StandsAt, finish_entry, job_of, open_of, step_entry};
 ghost use Rattle.rq_model.specs.Tests.{IsUnready};
 ghost use Rattle.rq_model.specs.declared.refusal.Refusal.TheVariants.{NoMemory};
@@ -142,11 +143,20 @@ impl Reference {
         if records < self.forced {
             return false;
         }
-        if self.running {
-            records <= self.records
-        } else {
-            true
+        if !self.running {
+            return true;
         }
+        if records <= self.records {
+            return true;
+        }
+        self.is_quiet() && records - 1 == self.records
+    }
+
+    // Whether no transaction is open.
+    fn is_quiet(&self) -> bool
+        ensures { result ≡ not (is_some (first self.now.ledger.open_ones)) }
+    {
+        self.open_txns.is_empty()
     }
 
     /// Opens the store in a new incarnation, where the log has this many records behind its opening.
@@ -166,10 +176,10 @@ impl Reference {
         self.durable = self.committed.len();
     }
 
-    /// A crash that leaves the first `records` records of the log.
+    /// A crash that leaves the first `records` records of the log, or one more, a checkpoint's, where no transaction is open.
     pub fn crash(&mut self, records: u64)
         requires forced { self.old.ledger.forced ≤ records }
-        requires up_to { IsUpTo self.old.ledger.records self.old.ledger.phase records }
+        requires up_to { IsUpTo self.old.ledger.records self.old.ledger.phase records ⊎ IsCheckpointed self.old.ledger records }
         ensures ok { May self.old (Crash (kept_in records self.old.ledger.committed) records) }
         ensures step { self.new ≡ next (Crash (kept_in records self.old.ledger.committed) records) self.old }
     {
@@ -265,6 +275,32 @@ impl Reference {
         if !self.running {
             return Err(Refusal::Failed);
         }
+        self.forced = self.records;
+        self.durable = self.committed.len();
+        Ok(self.records)
+    }
+
+    /// Puts one record in the place of all others, and answers its LSN. Every commit is then durable.
+    ///
+    /// # Errors
+    /// `Failed`, `NotQuiet`, `LogFull`.
+    pub fn checkpoint(&mut self) -> Result<Lsn, Refusal>
+        ensures ok { IfOk result (λ lsn. May self.old (Checkpointed lsn)) }
+        ensures step { IfOk result (λ lsn. self.new ≡ next (Checkpointed lsn) self.old) }
+        ensures refused { IfErr result (λ r. MayBeRefused self.old Checkpoint r) }
+        ensures same { OnErr result (self.new ≡ self.old) }
+        ensures memory { IfErr result (λ r. r ≢ NoMemory) }
+    {
+        if !self.running {
+            return Err(Refusal::Failed);
+        }
+        if !self.is_quiet() {
+            return Err(Refusal::NotQuiet);
+        }
+        if scans::log_full(&self.open_txns, self.records, 1) {
+            return Err(Refusal::LogFull);
+        }
+        self.records += 1;
         self.forced = self.records;
         self.durable = self.committed.len();
         Ok(self.records)
