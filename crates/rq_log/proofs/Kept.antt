@@ -1,20 +1,23 @@
 -- What is so of a log stays so.
-use Rattle.std.proofs.Common.{◌≡◌, ℕ, suc, ◌+◌, ◌-◌, ◌^◌, ◌<◌, ◌≤◌, min, true, false, List, [], ◌∷◌, ◌++◌, length, take, drop, refl, sym, ◌∙◌, ap, subst, inl, inr, ⊎_elim, arith, append_assoc, length-append}
-use Rattle.std.proofs.lemmas.List.{nil_from_length, take-append-drop}
+use Rattle.std.proofs.Common.{◌≡◌, ℕ, suc, ◌+◌, ◌-◌, ◌^◌, ◌<◌, ◌≤◌, min, true, false, List, [], ◌∷◌, ◌++◌, length, take, drop, refl, sym, ◌∙◌, ap, subst, ◌⊎◌, inl, inr, ⊎_elim, arith, append_assoc, length-append}
+use Rattle.std.proofs.lemmas.List.{append-nil, nil_from_length, take-append-drop}
 use Rattle.std.proofs.Math.Seq.{take-append-add, take-append_seam}
 use Rattle.std.specs.Prelude.{Option, Some, None}
 use Rattle.rq_model.specs.declared.record.Record.{Record}
-use Rattle.rq_disk.specs.Device.{Appended, CutOff, ElapsesThrough, IsCutBetween, Only}
+use Rattle.rq_model.specs.declared.record.Record.TheVariants.{Base}
+use Rattle.rq_disk.specs.Device.{Appended, CutOff, Elapses, ElapsesThrough, IsCutBetween, Only, Replaced}
 use Rattle.rq_disk.specs.declared.device.LogDevice.{Ghosts}
 use Rattle.rq_disk.specs.Records.{AreRecords}
-use Rattle.rq_record.specs.Spelling.{IsRecord, spelling}
+use Rattle.rq_record.specs.Spelling.{IsInRange, IsRecord, spelling}
+use Rattle.rq_record.proofs.Spelled.{length-spelling_base}
 use Rattle.rq_log.specs.Spelled.{spelled, spelled_all, AreSpelled, EndsWith, AreFirst, AreAllSpelled, EndsWithAll, GoOnTo, HoldsTo, IsBeginning}
 use Rattle.rq_log.specs.Crash.{LeavesOnly}
 use Rattle.rq_log.specs.Reading.{IsRead}
-use Rattle.rq_model.specs.Bases.{gone, is_base, standing}
+use Rattle.rq_model.specs.Bases.{based, gone, is_base, standing}
 use Rattle.rq_model.proofs.Bases.{gone_less, gone_plain, length_standing, standing_plain}
-use Rattle.rq_log.specs.Logged.{Logged, held, kept, WasCut, WasDurable, WasLeftOrGoesOn, Keeps}
-use Rattle.rq_log.proofs.Runs.{spelled_records, AreAllSpelled-take, appended, one_newer, all_of, nothing_newer, spelled_whole, goes_on, go_on_all, go_on_newer, ends_all, holds_ends, holds_whole}
+use Rattle.rq_log.specs.Logged.{Logged, held, kept, IsBuffered, WasCut, WasDurable, WasLeftOrGoesOn, Keeps}
+use Rattle.rq_log.proofs.Moments.{one_call}
+use Rattle.rq_log.proofs.Runs.{one_record, spelled_records, AreAllSpelled-take, appended, one_newer, all_of, nothing_newer, spelled_whole, goes_on, go_on_all, go_on_newer, ends_all, holds_ends, holds_whole}
 
 -- of those that stand so many are forced at most
 within : (n : ℕ) (records : List Record) → n ≤ length records → n - gone records ≤ length (standing records)
@@ -22,6 +25,20 @@ within n records le = let whole = length_standing records in omega (arith, le, w
 
 all_held : (n : ℕ) (records : List Record) → n ≤ length records → 0 + (n - gone records) ≤ length (standing records)
 all_held n records le = let e = within n records le in omega (arith, e)
+
+pub fits_base : (n i : ℕ) → IsInRange (Base n i) → IsRecord (Base n i)
+fits_base n i is = let few = is.1 in let low = is.3 in (is, (omega (arith, few), omega (arith, few, low)))
+
+pub one_base : (n i : ℕ) → IsInRange (Base n i) → AreRecords 1 (spelling (Base n i))
+one_base n i is = one_record (Base n i) (fits_base n i is)
+
+-- all of some records, with an end, which begin with what all spell, are all that is there
+whole_is : (rs : List Record) (c : List ℕ) (lost : ℕ) → lost ≡ 0 → EndsWithAll (drop lost rs) c → GoOnTo c (spelled_all rs) → c ≡ spelled_all rs
+whole_is rs c lost none ends on =
+    let is : c ≡ spelled_all rs ++ ends.0 = ends.2 ∙ ap (λ (n : ℕ). spelled_all (drop n rs) ++ ends.0) none in
+    let long = ap length is ∙ length-append (spelled_all rs) ends.0 in
+    let all = ap length on.1 ∙ length-append c on.0 in
+    sym (on.1 ∙ ap (λ (l : List ℕ). c ++ l) (nil_from_length on.0 (omega (arith, long, all))) ∙ append-nil c)
 
 none_torn : (end : ℕ) → None ≡ Some end → ⊥
 none_torn end e = cc
@@ -38,19 +55,21 @@ module _ {L : Type 0} (g : Ghosts L) where
   pub with_record : {total : ℕ} (log : Logged L) (last : ℕ) (buffer : List ℕ) (capacity : ℕ) → Keeps g log last total buffer capacity → log.failed ≡ false
       → (r : Record) → IsRecord r → (size : ℕ) → size ≡ length (spelling r) → size ≤ log.reserved
       → is_base r ≡ false → (records : List Record) → records ≡ r ∷ log.records → (bytes : List ℕ) → bytes ≡ buffer ++ spelling r → (room : ℕ) → capacity ≤ room → (sum : ℕ) → sum ≡ min (total + size) (2 ^ 64 - 1)
-      → Keeps g (record { records = records; forced = log.forced; pending = length bytes; reserved = log.reserved - size; torn_at = log.torn_at; failed = log.failed; device = log.device; settled = log.settled }) (last + 1) sum bytes room
+      → Keeps g (record { records = records; forced = log.forced; pending = length bytes; reserved = log.reserved - size; torn_at = log.torn_at; failed = log.failed; replacing = log.replacing; device = log.device; settled = log.settled }) (last + 1) sum bytes room
   with_record log last buffer capacity k running r is size measured fits plain records grown bytes longer room le sum added =
       let b = k.buffered running in
       let stands = standing_plain r log.records plain in
       let away = gone_plain r log.records plain in
       let total : length bytes ≡ length buffer + size = ap length longer ∙ length-append buffer (spelling r) ∙ ap (λ (n : ℕ). length buffer + n) (sym measured) in
-      subst (λ (rs : List Record). Keeps g (record { records = rs; forced = log.forced; pending = length bytes; reserved = log.reserved - size; torn_at = log.torn_at; failed = log.failed; device = log.device; settled = log.settled }) (last + 1) sum bytes room) (sym grown)
+      subst (λ (rs : List Record). Keeps g (record { records = rs; forced = log.forced; pending = length bytes; reserved = log.reserved - size; torn_at = log.torn_at; failed = log.failed; replacing = log.replacing; device = log.device; settled = log.settled }) (last + 1) sum bytes room) (sym grown)
       (record {
         is_log = record {
           spelled = subst AreAllSpelled (sym stands) (is, k.is_log.spelled);
           order = (let o = k.is_log.order in omega arith);
           based = λ some. subst (λ (n : ℕ). n < log.forced) (sym away) (k.is_log.based some);
           leaves = λ h was c left. subst (λ (rs : List Record). AreFirst rs (log.forced - gone (r ∷ log.records)) c) (sym stands) (subst (λ (n : ℕ). AreFirst (r ∷ held log) (log.forced - n) c) (sym away) (one_newer r (held log) (kept log) c (k.is_log.leaves h was c left)));
+          running = k.is_log.running;
+          replaced = λ h was i tried. absurd (none_torn i (sym (k.is_log.running running) ∙ tried));
         };
         count = (let n = k.count in omega arith);
         total = (λ few. let more = ap (λ rs. length (spelled_all rs)) stands ∙ length-append (spelled log.records) (spelling r) in let n = k.total (omega (arith, few, more)) in omega (arith, n, added, more, measured, few));
@@ -91,13 +110,15 @@ module _ {L : Type 0} (g : Ghosts L) where
   -- the buffer is handed over
   pub handed : {total : ℕ} (log : Logged L) (last : ℕ) (buffer : List ℕ) (capacity : ℕ) → Keeps g log last total buffer capacity → log.failed ≡ false → log.torn_at ≡ None
       → (device : L) → (g.honest device → g.honest log.device) → Appended (g.seen log.device) buffer (g.may_leave log.device) (g.may_leave device) → g.seen device ≡ g.seen log.device ++ buffer → (room : ℕ) → log.reserved ≤ room → (bytes : List ℕ) → bytes ≡ []
-      → Keeps g (record { records = log.records; forced = log.forced; pending = length bytes; reserved = log.reserved; torn_at = log.torn_at; failed = log.failed; device = device; settled = log.settled }) last total bytes room
+      → Keeps g (record { records = log.records; forced = log.forced; pending = length bytes; reserved = log.reserved; torn_at = log.torn_at; failed = log.failed; replacing = log.replacing; device = device; settled = log.settled }) last total bytes room
   handed log last buffer capacity k running untorn device falls crash added room le bytes none = record {
     is_log = record {
       spelled = k.is_log.spelled;
       order = k.is_log.order;
       based = k.is_log.based;
       leaves = λ h. append_leaves log last buffer capacity k running untorn device crash (falls h);
+      running = k.is_log.running;
+      replaced = λ h was i tried. absurd (none_torn i (sym (k.is_log.running running) ∙ tried));
     };
     count = k.count;
     total = k.total;
@@ -107,14 +128,16 @@ module _ {L : Type 0} (g : Ghosts L) where
   }
 
   -- an append of the buffer has failed
-  pub broken : {total : ℕ} (log : Logged L) (last : ℕ) (buffer : List ℕ) (capacity : ℕ) → Keeps g log last total buffer capacity → (device : L) → (g.honest device → WasDurable g log → (c : List ℕ) → g.may_leave device c → IsBeginning log.records log.forced c)
-      → Keeps g (record { records = log.records; forced = log.forced; pending = length buffer; reserved = log.reserved; torn_at = log.torn_at; failed = true; device = device; settled = log.settled }) last total buffer capacity
-  broken log last buffer capacity k device leaves = record {
+  pub broken : {total : ℕ} (log : Logged L) (last : ℕ) (buffer : List ℕ) (capacity : ℕ) → Keeps g log last total buffer capacity → log.failed ≡ false → (device : L) → (g.honest device → WasDurable g log → (c : List ℕ) → g.may_leave device c → IsBeginning log.records log.forced c)
+      → Keeps g (record { records = log.records; forced = log.forced; pending = length buffer; reserved = log.reserved; torn_at = log.torn_at; failed = true; replacing = log.replacing; device = device; settled = log.settled }) last total buffer capacity
+  broken log last buffer capacity k running device leaves = record {
     is_log = record {
       spelled = k.is_log.spelled;
       order = k.is_log.order;
       based = k.is_log.based;
       leaves = leaves;
+      running = λ false. absurd cc;
+      replaced = λ h was i tried. absurd (none_torn i (sym (k.is_log.running running) ∙ tried));
     };
     count = k.count;
     total = k.total;
@@ -126,13 +149,15 @@ module _ {L : Type 0} (g : Ghosts L) where
   -- all is forced
   pub forced_all : {total : ℕ} (log : Logged L) (last : ℕ) (buffer : List ℕ) (capacity : ℕ) → Keeps g log last total buffer capacity → log.failed ≡ false → log.torn_at ≡ None → length buffer ≡ 0
       → (device : L) → (g.honest device → g.honest log.device) → Only (g.seen log.device) (g.may_leave device) → g.seen device ≡ g.seen log.device → (settled : L)
-      → Keeps g (record { records = log.records; forced = last; pending = length buffer; reserved = log.reserved; torn_at = log.torn_at; failed = log.failed; device = device; settled = settled }) last total buffer capacity
+      → Keeps g (record { records = log.records; forced = last; pending = length buffer; reserved = log.reserved; torn_at = log.torn_at; failed = log.failed; replacing = log.replacing; device = device; settled = settled }) last total buffer capacity
   forced_all log last buffer capacity k running untorn none device falls durable same settled = record {
     is_log = record {
       spelled = k.is_log.spelled;
       order = (let n = k.count in omega arith);
       based = λ some. subst (λ (n : ℕ). gone log.records < n) (sym k.count) (gone_less log.records (subst (λ (n : ℕ). 0 < n) k.count some));
       leaves = λ h was c left. all_of (held log) (last - gone log.records) c (within last log.records (let n = k.count in omega arith)) (durable c left ∙ nothing_buffered log last buffer capacity k running untorn none (falls h));
+      running = k.is_log.running;
+      replaced = λ h was i tried. absurd (none_torn i (sym (k.is_log.running running) ∙ tried));
     };
     count = k.count;
     total = k.total;
@@ -153,13 +178,15 @@ module _ {L : Type 0} (g : Ghosts L) where
 
   -- a log with these records, all that its device holds
   pub of_these : (records : List Record) (device settled : L) (last size : ℕ) (torn_at : Option ℕ) (buffer : List ℕ) (capacity : ℕ) → AreSpelled records → last ≡ length records → size ≡ length (spelled records) → IsRead g settled device → (g.honest device → HoldsTo torn_at (standing records) (g.seen settled)) → buffer ≡ []
-      → Keeps g (record { records = records; forced = 0; pending = length buffer; reserved = 0; torn_at = torn_at; failed = false; device = device; settled = settled }) last size buffer capacity
+      → Keeps g (record { records = records; forced = 0; pending = length buffer; reserved = 0; torn_at = torn_at; failed = false; replacing = None; device = device; settled = settled }) last size buffer capacity
   of_these records device settled last size torn_at buffer capacity are count long read holds none = record {
     is_log = record {
       spelled = are;
       order = omega arith;
       based = λ some. absurd (omega (arith, some));
-      leaves = λ h was c left. (0, all_held 0 records (omega arith), subst (EndsWith records) (sym (was c (read.leaves c left))) (holds_ends torn_at (standing records) (g.seen settled) (holds h)), λ some. absurd (omega (arith, some)));
+      leaves = λ h was c left. (0, all_held 0 records (omega arith), subst (EndsWith records) (sym (was.0 c (read.leaves c left))) (holds_ends torn_at (standing records) (g.seen settled) (holds h)), λ some. absurd (omega (arith, some)));
+      running = λ _. refl;
+      replaced = λ h was i tried. absurd (none_torn i tried);
     };
     count = count;
     total = λ _. long;
@@ -234,13 +261,15 @@ module _ {L : Type 0} (g : Ghosts L) where
     was_cut is h = (newer, (k.buffered running).1, (reads (falls h)).0, cut_reads is (falls h))
 
     pub cut_kept : g.seen device ≡ take end (g.seen log.device)
-        → Keeps g (record { records = log.records; forced = log.forced; pending = length buffer; reserved = log.reserved; torn_at = None; failed = log.failed; device = device; settled = log.settled }) last total buffer capacity
+        → Keeps g (record { records = log.records; forced = log.forced; pending = length buffer; reserved = log.reserved; torn_at = None; failed = log.failed; replacing = log.replacing; device = device; settled = log.settled }) last total buffer capacity
     cut_kept is = record {
       is_log = record {
         spelled = k.is_log.spelled;
         order = k.is_log.order;
         based = k.is_log.based;
         leaves = λ h. cut_leaves (falls h);
+        running = k.is_log.running;
+        replaced = λ h was i tried. absurd (none_torn i (sym (k.is_log.running running) ∙ tried));
       };
       count = k.count;
       total = k.total;
@@ -250,8 +279,8 @@ module _ {L : Type 0} (g : Ghosts L) where
     }
 
     -- or it failed
-    pub uncut_kept : Keeps g (record { records = log.records; forced = log.forced; pending = length buffer; reserved = log.reserved; torn_at = log.torn_at; failed = true; device = device; settled = log.settled }) last total buffer capacity
-    uncut_kept = broken log last buffer capacity k device (λ h. cut_leaves (falls h))
+    pub uncut_kept : Keeps g (record { records = log.records; forced = log.forced; pending = length buffer; reserved = log.reserved; torn_at = log.torn_at; failed = true; replacing = log.replacing; device = device; settled = log.settled }) last total buffer capacity
+    uncut_kept = broken log last buffer capacity k running device (λ h. cut_leaves (falls h))
 
   -- nothing was to be cut
   pub none_cut : {total : ℕ} (log : Logged L) (last : ℕ) (buffer : List ℕ) (capacity : ℕ) → Keeps g log last total buffer capacity → log.failed ≡ false → log.torn_at ≡ None → g.honest log.device → WasCut g log log.device
@@ -259,3 +288,125 @@ module _ {L : Type 0} (g : Ghosts L) where
       let b = k.buffered running in
       let whole = holds_whole log.torn_at (drop b.0 (held log)) (g.seen log.device) untorn (b.2 h) in
       (b.0, b.1, ends_all (drop b.0 (held log)) (g.seen log.device) whole, whole)
+
+  -- where all is forced nothing is buffered, and an honest device holds all
+  all_forced : {total : ℕ} (log : Logged L) (last : ℕ) (buffer : List ℕ) (capacity : ℕ) → Keeps g log last total buffer capacity → (running : log.failed ≡ false) → log.forced ≡ length log.records → (buffered : IsBuffered g log buffer) → buffered.0 ≡ 0
+  all_forced log last buffer capacity k running all buffered =
+      let whole = length_standing log.records in
+      let few = buffered.1 in
+      omega (arith, whole, few, all)
+
+  module _ {total : ℕ} (log : Logged L) (last : ℕ) (buffer : List ℕ) (capacity : ℕ) (k : Keeps g log last total buffer capacity) (running : log.failed ≡ false) (all : log.forced ≡ length log.records)
+      (i : ℕ) (is : IsInRange (Base (length log.records) i)) (device : L) (falls : g.honest device → g.honest log.device) (bytes : List ℕ) (spells : bytes ≡ spelling (Base last i)) (crash : Replaced bytes (g.may_leave log.device) (g.may_leave device)) where
+    abbrev now : List Record
+    now = based i log.records
+
+    buffers : IsBuffered g log buffer
+    buffers = k.buffered running
+
+    none_newer : buffers.0 ≡ 0
+    none_newer = all_forced log last buffer capacity k running all buffers
+
+    empty : buffer ≡ []
+    empty = buffers.3 ∙ ap (λ (n : ℕ). spelled_all (take n (held log))) none_newer
+
+    stand : 0 < kept log
+    stand =
+        let whole = length_standing log.records in
+        let less = k.is_log.based (let some : 1 ≤ length log.records = is.0 in omega (arith, all, some)) in
+        omega (arith, less)
+
+    untorn : log.torn_at ≡ None
+    untorn = k.whole stand
+
+    abbrev base : Record
+    base = Base (length log.records) i
+
+    is_record : IsRecord base
+    is_record = fits_base (length log.records) i is
+
+    are : bytes ≡ spelling base
+    are = spells ∙ ap (λ (n : ℕ). spelling (Base n i)) k.count
+
+    none_tried : log.replacing ≡ None
+    none_tried = k.is_log.running running
+
+    -- a crash before leaves all of it
+    left_before : g.honest log.device → WasDurable g log → (c : List ℕ) → g.may_leave log.device c → c ≡ spelled log.records
+    left_before h was c may =
+        let first = k.is_log.leaves h was c may in
+        let few = first.1 in
+        let whole = length_standing log.records in
+        whole_is (held log) c first.0 (omega (arith, few, whole, all)) first.2 (first.3 stand)
+
+    pub replaced_moments : ((c : List ℕ) → g.left_since log.device (g.moment log.device) c → g.may_leave log.device c) → Elapses (g.moment log.device) (g.moment device) (g.left_since log.device) (g.left_since device) (g.may_leave device)
+        → g.honest device → WasDurable g log → LeavesOnly g log.device device (λ c. (c ≡ spelled log.records) ⊎ (c ≡ spelled now))
+    replaced_moments only_now time h was =
+        let before = left_before (falls h) was in
+        one_call g log.device device (λ c. (c ≡ spelled log.records) ⊎ (c ≡ spelled now)) (g.may_leave log.device) (g.may_leave device) only_now time
+        (λ c may. inl (before c may))
+        (λ c may. elim (crash c may) [ inl was ↦ inl (before c was) | inr e ↦ inr (e ∙ are) ])
+
+    pub replaced_all : Only bytes (g.may_leave device) → g.seen device ≡ bytes → (settled : L) → (records : List Record) → records ≡ Base last i ∷ log.records
+        → Keeps g (record { records = records; forced = last + 1; pending = length buffer; reserved = log.reserved; torn_at = log.torn_at; failed = log.failed; replacing = log.replacing; device = device; settled = settled }) (last + 1) 21 buffer capacity
+    replaced_all durable reads settled records grown =
+        let count = k.count in
+        let one : last + 1 - length log.records ≤ 1 = omega (arith, count) in
+        subst (λ (rs : List Record). Keeps g (record { records = rs; forced = last + 1; pending = length buffer; reserved = log.reserved; torn_at = log.torn_at; failed = log.failed; replacing = log.replacing; device = device; settled = settled }) (last + 1) 21 buffer capacity)
+        (sym (grown ∙ ap (λ (n : ℕ). Base n i ∷ log.records) count))
+        (record {
+          is_log = record {
+            spelled = (is_record, tt);
+            order = omega (arith, count);
+            based = λ some. omega (arith, count);
+            leaves = λ h was c left. all_of (base ∷ []) (last + 1 - length log.records) c one (durable c left ∙ are);
+            running = λ _. none_tried;
+            replaced = λ h was j tried. absurd (none_torn j (sym none_tried ∙ tried));
+          };
+          count = omega (arith, count);
+          total = λ few. sym (length-spelling_base (length log.records) i);
+          room = k.room;
+          whole = λ some. untorn;
+          buffered = λ _. (0, omega (arith, one), λ h. subst (λ (t : Option ℕ). HoldsTo t (base ∷ []) (g.seen device)) (sym untorn) (reads ∙ are), empty);
+        })
+
+    pub replaced_not : Keeps g (record { records = log.records; forced = log.forced; pending = length buffer; reserved = log.reserved; torn_at = log.torn_at; failed = true; replacing = Some i; device = device; settled = log.settled }) last total buffer capacity
+    replaced_not = record {
+      is_log = record {
+        spelled = k.is_log.spelled;
+        order = k.is_log.order;
+        based = k.is_log.based;
+        leaves = λ h was. absurd (none_torn i (sym was.1));
+        running = λ false. absurd cc;
+        replaced = λ h was j tried c may. elim (crash c may) [
+          | inl before ↦ inl (k.is_log.leaves (falls h) (was, none_tried) c before)
+          | inr e ↦ inr (let same : i ≡ j = cc in e ∙ are ∙ ap (λ (n : ℕ). spelled (based n log.records)) same)
+        ];
+      };
+      count = k.count;
+      total = k.total;
+      room = k.room;
+      whole = k.whole;
+      buffered = λ running. absurd cc;
+    }
+
+  -- fewer are counted as forced
+  pub fewer_forced : {total : ℕ} (log : Logged L) (last : ℕ) (buffer : List ℕ) (capacity : ℕ) (forced : ℕ) → Keeps g log last total buffer capacity → forced ≤ log.forced → (0 < forced → gone log.records < forced)
+      → Keeps g (record { records = log.records; forced = forced; pending = length buffer; reserved = log.reserved; torn_at = log.torn_at; failed = log.failed; replacing = log.replacing; device = log.device; settled = log.settled }) last total buffer capacity
+  fewer_forced log last buffer capacity forced k le based = record {
+    is_log = record {
+      spelled = k.is_log.spelled;
+      order = (let o = k.is_log.order in omega (arith, le, o));
+      based = based;
+      leaves = λ h was c left. fewer (k.is_log.leaves h was c left);
+      running = k.is_log.running;
+      replaced = λ h was i tried c left. ⊎_elim (λ a. inl (fewer a)) (λ b. inr b) (k.is_log.replaced h was i tried c left);
+    };
+    count = k.count;
+    total = k.total;
+    room = k.room;
+    whole = λ some. k.whole (omega (arith, le, some));
+    buffered = λ running. (let b = k.buffered running in let few = b.1 in (b.0, omega (arith, few, le), b.2, b.3));
+  } where
+    fewer : {c : List ℕ} → IsBeginning log.records log.forced c → IsBeginning log.records forced c
+    fewer first = let few = first.1 in (first.0, omega (arith, few, le), first.2, λ some. first.3 (omega (arith, le, some)))

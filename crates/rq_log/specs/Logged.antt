@@ -1,7 +1,7 @@
 -- What contracts see of a log.
-use Rattle.std.specs.Prelude.{◌≡◌, ◌⊎◌, ℕ, ◌+◌, ◌-◌, ◌^◌, ◌<◌, ◌≤◌, Bool, false, Option, None, List, length, drop, take}
+use Rattle.std.specs.Prelude.{◌≡◌, ◌⊎◌, ℕ, ◌+◌, ◌-◌, ◌^◌, ◌<◌, ◌≤◌, Bool, false, Option, Some, None, List, length, drop, take}
 use Rattle.rq_model.specs.declared.record.Record.{Record}
-use Rattle.rq_model.specs.Bases.{standing, gone}
+use Rattle.rq_model.specs.Bases.{based, standing, gone}
 use Rattle.rq_disk.specs.Device.{Only}
 use Rattle.rq_disk.specs.declared.device.LogDevice.{Ghosts}
 use Rattle.rq_log.specs.Spelled.{spelled, spelled_all, AreSpelled, EndsWithAll, HoldsTo, IsBeginning, GoesOn}
@@ -17,8 +17,10 @@ pub record Logged (L : Type 0) : Type 0 where
   pub reserved : ℕ
   -- where those that are handed over end on the device, if the proper beginning of a record stands behind them
   pub torn_at : Option ℕ
-  -- whether a write, a cut or a force has failed
+  -- whether a write, a cut, a force or a replacement has failed
   pub failed : Bool
+  -- a replacement by a Base of this incarnation has failed
+  pub replacing : Option ℕ
   pub device : L
   -- the device as it was when the records were read of it, or when they were last forced
   pub settled : L
@@ -33,12 +35,20 @@ kept log = log.forced - gone log.records
 
 module _ {L : Type 0} (g : Ghosts L) where
   -- at that moment a crash would have left what the device reads as, and nothing else
+  abbrev pub IsSettled : Logged L → Type 0
+  IsSettled log = Only (g.seen log.settled) (g.may_leave log.settled)
+
+  -- and no replacement has failed since
   abbrev pub WasDurable : Logged L → Type 0
-  WasDurable log = Only (g.seen log.settled) (g.may_leave log.settled)
+  WasDurable log = IsSettled log × (log.replacing ≡ None)
 
   -- a crash now leaves the first records, with all that are forced, and a torn end perhaps
   abbrev pub LeavesBeginnings : Logged L → Type 0
   LeavesBeginnings log = (c : List ℕ) → g.may_leave log.device c → IsBeginning log.records log.forced c
+
+  -- a crash now leaves such a beginning, or the Base that was to stand for all
+  abbrev pub LeavesReplaced : Logged L → ℕ → Type 0
+  LeavesReplaced log i = (c : List ℕ) → g.may_leave log.device c → IsBeginning log.records log.forced c ⊎ (c ≡ spelled (based i log.records))
 
   -- a crash might have left it of the log before, or it is what was read then with the first of the records that were
   -- not handed over
@@ -57,6 +67,8 @@ module _ {L : Type 0} (g : Ghosts L) where
     -- what a Base stands for is forced, and so is the Base, once anything is
     pub based : 0 < log.forced → gone log.records < log.forced
     pub leaves : g.honest log.device → WasDurable log → LeavesBeginnings log
+    pub running : log.failed ≡ false → log.replacing ≡ None
+    pub replaced : g.honest log.device → IsSettled log → (i : ℕ) → log.replacing ≡ Some i → LeavesReplaced log i
 
   -- the newest records stand in a buffer, and an honest device holds the others
   abbrev pub IsBuffered : Logged L → List ℕ → Type 0

@@ -1,8 +1,9 @@
 //! The log: a list of records with a forced beginning, over a device.
 #![tactic(auto)]
 
-ghost use Rattle.std.specs.Prelude.{◌≡◌, ◌+◌, ◌-◌, ◌^◌, ◌<◌, ◌≤◌, ◌∷◌, None, OnOk, OnErr, IfOk, IfErr, IsErrOf, true, false, length};
-ghost use Rattle.rq_model.specs.Bases.{is_base, standing};
+ghost use Rattle.std.specs.Prelude.{◌≡◌, ◌+◌, ◌-◌, ◌^◌, ◌⊎◌, ◌<◌, ◌≤◌, ◌∷◌, None, Some, OnOk, OnErr, IfOk, IfErr, IsErrOf, true, false, length};
+ghost use Rattle.rq_model.specs.declared.record.Record.TheVariants.{Base};
+ghost use Rattle.rq_model.specs.Bases.{based, gone, is_base, standing};
 ghost use Rattle.rq_disk.specs.Device.{Only, FailureIsCounted};
 ghost use Rattle.rq_record.specs.Spelling.{IsInRange, spelling};
 ghost use Rattle.rq_log.specs.Crash.{LeavesOnly};
@@ -20,7 +21,7 @@ use rq_disk::LogDevice;
 use rq_model::record::Record;
 use rq_model::refusal::{NoMemory, Refusal};
 use rq_model::txn::Lsn;
-use rq_record::{encode, shows_fits, spelled_len};
+use rq_record::{base_bytes, encode, shows_fits, spelled_len};
 use std::alloc::Global;
 use std::marker::Model;
 use std::snapshot::Snapshot;
@@ -41,6 +42,8 @@ pub struct Log<L: LogDevice> {
     torn_at: Option<u64>,
     forced: Lsn,
     failed: bool,
+    // the incarnation of the Base by which a replacement that failed may have replaced all
+    replacing: Option<u64>,
 }
 
 impl<L: LogDevice> Model for Log<L> {
@@ -56,6 +59,7 @@ impl<L: LogDevice> Model for Log<L> {
       reserved = l.reserved;
       torn_at = l.torn_at;
       failed = l.failed;
+      replacing = l.replacing;
       device = l.device;
       settled = l.settled.value;
     } };
@@ -67,6 +71,7 @@ impl<L: LogDevice> Model for Log<L> {
       reserved = l.reserved;
       torn_at = l.torn_at;
       failed = l.failed;
+      replacing = l.replacing;
       device = l.device;
       settled = l.settled.value;
     }) l.last l.size l.buffer.items (vec_capacity l.buffer) };
@@ -105,6 +110,7 @@ impl<L: LogDevice + Drop> Log<L> {
           reserved = 0;
           torn_at = torn_at;
           failed = false;
+          replacing = None;
           device = device;
           settled = settled.value;
         } }
@@ -120,6 +126,7 @@ impl<L: LogDevice + Drop> Log<L> {
             torn_at,
             forced: 0,
             failed: false,
+            replacing: None,
         }
     }
 
@@ -138,6 +145,7 @@ impl<L: LogDevice + Drop> Log<L> {
             torn_at: _,
             forced: _,
             failed: _,
+            replacing: _,
         } = self;
         device
     }
@@ -209,6 +217,7 @@ impl<L: LogDevice> Log<L> {
         // What stays.
         ensures forced { self.new.forced ≡ self.old.forced }
         ensures failed { self.new.failed ≡ false }
+        ensures replacing { self.new.replacing ≡ self.old.replacing }
         ensures torn { self.new.torn_at ≡ self.old.torn_at }
         ensures device { self.new.device ≡ self.old.device }
         ensures settled { self.new.settled ≡ self.old.settled }
@@ -229,6 +238,7 @@ impl<L: LogDevice> Log<L> {
         ensures records { self.new.records ≡ self.old.records }
         ensures forced { self.new.forced ≡ self.old.forced }
         ensures reserved { self.new.reserved ≡ self.old.reserved }
+        ensures replacing { self.new.replacing ≡ self.old.replacing }
         ensures settled { self.new.settled ≡ self.old.settled }
         // What it answers, and what the device holds then.
         ensures failed { self.old.failed ≡ true → (IsErrOf result Refusal.Failed) × (self.new ≡ self.old) }
@@ -295,6 +305,7 @@ impl<L: LogDevice> Log<L> {
         ensures records { self.new.records ≡ self.old.records }
         ensures forced { self.new.forced ≡ self.old.forced }
         ensures reserved { self.new.reserved ≡ self.old.reserved }
+        ensures replacing { self.new.replacing ≡ self.old.replacing }
         ensures settled { self.new.settled ≡ self.old.settled }
         ensures torn { self.new.torn_at ≡ None }
         ensures honest { L.honest self.new.device → L.honest self.old.device }
@@ -328,6 +339,7 @@ impl<L: LogDevice> Log<L> {
         // What stays.
         ensures records { self.new.records ≡ self.old.records }
         ensures reserved { self.new.reserved ≡ self.old.reserved }
+        ensures replacing { self.new.replacing ≡ self.old.replacing }
         // What it answers, and what the device holds then.
         ensures failed { self.old.failed ≡ true → (IsErrOf result Refusal.Failed) × (self.new ≡ self.old) }
         ensures honest { L.honest self.new.device → L.honest self.old.device }
@@ -362,5 +374,59 @@ impl<L: LogDevice> Log<L> {
                 Err(Refusal::DiskWrite)
             }
         }
+    }
+
+    /// Puts a Base in the place of all records, which are forced: it tells how many they are, and of which incarnation the last
+    /// one is. Answers its LSN. Contracts see those that it stands for still.
+    pub fn replace(&mut self, incarnation: u64) -> Result<Lsn, Refusal>
+        requires running { self.old.failed ≡ false }
+        requires forced { self.old.forced ≡ length self.old.records }
+        requires record { IsInRange (Base (length self.old.records) incarnation) }
+        // What stays.
+        ensures reserved { self.new.reserved ≡ self.old.reserved }
+        // What it answers, and what the device holds then.
+        ensures honest { L.honest self.new.device → L.honest self.old.device }
+        ensures lsn { IfOk result (λ lsn. lsn ≡ length self.new.records) }
+        ensures ok { OnOk result ((self.new.records ≡ based incarnation self.old.records)
+            × (self.new.forced ≡ length self.new.records) × (self.new.failed ≡ false)) }
+        ensures reads { OnOk result (L.honest self.new.device → L.seen self.new.device ≡ spelled self.new.records) }
+        ensures durable { OnOk result (L.honest self.new.device
+            → Only (spelled self.new.records) (L.may_leave self.new.device)) }
+        ensures settled { OnOk result (WasDurable L.LogDevice self.new) }
+        ensures err { IfErr result (λ e. (e ≡ Refusal.DiskWrite) × (self.new.failed ≡ true)
+            × (self.new.replacing ≡ Some incarnation)) }
+        ensures as_before { OnErr result ((self.new.records ≡ self.old.records) × (self.new.forced ≡ self.old.forced)
+            × (self.new.settled ≡ self.old.settled)) }
+        ensures cause { FailureIsCounted (L.faults self.old.device) (L.faults self.new.device) result }
+        // What a crash at any moment leaves.
+        ensures any_moment { L.honest self.new.device → WasDurable L.LogDevice self.old
+            → LeavesOnly L.LogDevice self.old.device self.new.device (λ c.
+            (c ≡ spelled self.old.records) ⊎ (c ≡ spelled (based incarnation self.old.records))) }
+    {
+        let base = base_bytes(self.last, incarnation);
+        match self.device.replace(&base) {
+            Ok(()) => {
+                self.past.put_base(self.last, incarnation);
+                self.last += 1;
+                self.size = base.len() as u64;
+                self.forced = self.last;
+                self.settled = Snapshot::of(&self.device);
+                Ok(self.last)
+            }
+            Err(_) => {
+                self.failed = true;
+                self.replacing = Some(incarnation);
+                Err(Refusal::DiskWrite)
+            }
+        }
+    }
+
+    /// Counts no more records as forced than these, of those that are.
+    pub fn forget_force(&mut self, forced: Lsn)
+        requires fewer { forced ≤ self.old.forced }
+        requires based { 0 < forced → gone self.old.records < forced }
+        ensures { self.new ≡ record self.old { forced = forced } }
+    {
+        self.forced = forced;
     }
 }

@@ -1,5 +1,6 @@
 //! The records of a log, as contracts see them.
-ghost use Rattle.std.specs.Prelude.{◌≡◌, ◌⊎◌, [], false};
+ghost use Rattle.std.specs.Prelude.{◌≡◌, ◌⊎◌, [], ◌∷◌, false};
+ghost use Rattle.rq_model.specs.declared.record.Record.TheVariants.{Base};
 ghost use Rattle.rq_model.specs.Bases.{is_base, with_next};
 
 use rq_bytes::GhostList;
@@ -45,5 +46,16 @@ impl Past {
         if let Record::Base { records, .. } = record {
             self.unknown = *records;
         }
+    }
+
+    /// Adds a Base behind all, which stands for so many.
+    pub(crate) fn put_base(&mut self, records: Lsn, incarnation: u64)
+        ensures { self.new ≡ Base records incarnation ∷ self.old }
+    {
+        let base = Record::Base {
+            records,
+            incarnation,
+        };
+        GhostList::push(&mut self.known, &base);
     }
 }

@@ -76,6 +76,7 @@ impl<L: LogDevice + Drop> LogReader<L> {
           reserved = 0;
           torn_at = result.torn_at;
           failed = false;
+          replacing = None;
           device = self.device;
           settled = self.first;
         } }

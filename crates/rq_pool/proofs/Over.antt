@@ -50,6 +50,10 @@ page_sound z images n pool low high = record {
 }
 
 module _ {P : Type 0} (g : Ghosts P) (z : Sizes) (images : List (List ℕ)) (changed : List Bool) (old new : P) (over : AreOver g old z images changed) where
+  -- the device was synced
+  pub over_synced : (g.honest new → g.honest old) → g.seen new ≡ g.seen old → AreOver g new z images changed
+  over_synced honest same = record { pool = over.pool; flags = over.flags; clean = λ h p lt off. over.clean (honest h) p lt off ∙ ap (λ (s : ℕ → List ℕ). s p) (sym same) }
+
   -- the device was only read
   pub over_read : OnlyRead g old new → AreOver g new z images changed
   over_read read = record { pool = over.pool; flags = over.flags; clean = λ h p lt same. over.clean (read.honest h) p lt same ∙ ap (λ (s : ℕ → List ℕ). s p) (sym read.same) }

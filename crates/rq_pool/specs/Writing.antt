@@ -2,7 +2,7 @@
 use Rattle.std.specs.Prelude.{◌≡◌, ℕ, ◌+◌, ◌%◌, ◌^◌, ◌<◌, ◌≤◌, true, false, Bool, List, Result, Ok, Err, slice_set}
 use Rattle.rq_model.specs.declared.refusal.Refusal.{Refusal}
 use Rattle.rq_model.specs.declared.refusal.Refusal.TheVariants as why
-use Rattle.rq_disk.specs.Device.{Leaves, Holds, Written as OrWritten, Elapses}
+use Rattle.rq_disk.specs.Device.{Leaves, Holds, NoMore, Written as OrWritten, Elapses}
 use Rattle.rq_disk.specs.declared.device.PageDevice.{Ghosts}
 use Rattle.rq_page.specs.Sizes.{page_count}
 use Rattle.rq_page.specs.Pages.{lsn_of}
@@ -45,3 +45,11 @@ DeviceAfter g page image old new (Ok Nothing) = new ≡ old
 DeviceAfter g page image old new (Err why.DiskWrite) =
     MayHaveWritten g page image old new × (g.faults new ≡ (g.faults old + 1) % 2 ^ 64)
 DeviceAfter g page image old new (Err _) = new ≡ old
+
+-- the device was synced, or has failed in it: it reads as before, a crash leaves no image that it did not leave before, and
+-- time goes on
+pub record MayHaveSynced {P : Type 0} (g : Ghosts P) (old new : P) : Type 0 where
+  pub honest : g.honest new → g.honest old
+  pub same : g.seen new ≡ g.seen old
+  pub crash : NoMore (g.may_be old) (g.may_be new)
+  pub time : Elapses (g.moment old) (g.moment new) (g.left_since old) (g.left_since new) (Leaves (g.may_be new))

@@ -8,6 +8,7 @@ ghost use Rattle.rq_page.specs.Pages.{IsWritten};
 ghost use Rattle.rq_page.specs.Slots.{Free, Sender, held_in, IsSlotOf, IsCellOf, IsDirectoryOf};
 ghost use Rattle.rq_views.specs.Log.{cell_in, put};
 ghost use Rattle.rq_views.specs.Stored.{IsStoreSlot, slot_at, slots_in, is_used, count_used};
+ghost use Rattle.rq_disk.specs.Device.{FailureIsCounted, Only};
 ghost use Rattle.rq_pool.specs.Pooled.{IsPool, image_at, is_changed};
 ghost use Rattle.rq_pool.specs.Reading.{HasAnswered, NotReadAgain, OnlyRead as WasRead};
 
@@ -129,7 +130,7 @@ impl<P: PageDevice + Drop> Pages<P> {
 }
 
 impl<P: PageDevice> Pages<P> {
-    ghost use Rattle.rq_pool.specs.Writing.{AnswersWhen, DeviceAfter, changed_after};
+    ghost use Rattle.rq_pool.specs.Writing.{AnswersWhen, DeviceAfter, MayHaveSynced, changed_after};
     ghost use Rattle.rq_pool.specs.Pooled.{AreOver};
 
     /// What is so of the pages of each store, for proofs: it runs no code. Where the device has been honest, each page
@@ -219,6 +220,24 @@ impl<P: PageDevice> Pages<P> {
         }
         mark_written(&mut self.frames, page);
         Ok(Written::Done)
+    }
+
+    /// Makes what was written to the device durable.
+    ///
+    /// # Errors
+    /// `DiskWrite`: the device failed.
+    #[tactic(auto, using(crate::proofs::Over::over_synced))]
+    pub fn sync(&mut self) -> Result<(), Refusal>
+        ensures same { self.new ≡ record self.old { device = self.new.device } }
+        ensures durable { OnOk result ((p : ℕ) → Only (P.seen self.new.device p) (P.may_be self.new.device p)) }
+        ensures device { MayHaveSynced P.PageDevice self.old.device self.new.device }
+        ensures err { IfErr result (λ r. r ≡ Refusal.DiskWrite) }
+        ensures cause { FailureIsCounted (P.faults self.old.device) (P.faults self.new.device) result }
+    {
+        match self.device.sync() {
+            Ok(()) => Ok(()),
+            Err(_) => Err(Refusal::DiskWrite),
+        }
     }
 
     /// Reads a page back into its frame, where it has no change that was not written. The pages stay as they are where

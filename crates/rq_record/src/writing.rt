@@ -256,16 +256,25 @@ fn put_abort_end(out: &mut Vec<u8>, txn: &Txn)
     put_head(out, 17, 8, txn);
 }
 
-#[tactic(auto, using(crate::proofs::Spelled::spellings))]
+/// The bytes of a Base.
+#[tactic(auto, unfolding(rq_bytes::specs::Number::number), using(crate::proofs::Spelled::spellings))]
+pub fn base_bytes(records: u64, incarnation: u64) -> [u8; 21]
+    ensures { result ≡ spelling (Record.Base records incarnation) }
+{
+    let mut bytes = [0; 21];
+    BigEndian::write_u32(&mut bytes, 17);
+    bytes[4] = 9;
+    BigEndian::write_u64(&mut bytes[5..], records);
+    BigEndian::write_u64(&mut bytes[13..], incarnation);
+    bytes
+}
+
 fn put_base(out: &mut Vec<u8>, records: u64, incarnation: u64)
     requires { vec_len out.old + 21 ≤ vec_capacity out.old }
     ensures items { out.new.items ≡ out.old.items ++ spelling (Record.Base records incarnation) }
     ensures capacity { vec_capacity out.old ≤ vec_capacity out.new }
 {
-    put_u32(out, 17);
-    put_byte(out, 9);
-    put_u64(out, records);
-    put_u64(out, incarnation);
+    put(out, &base_bytes(records, incarnation));
 }
 
 /// The spelling of a record that a program holds is as long as its kind says, for proofs: a call at a

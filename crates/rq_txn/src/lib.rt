@@ -185,7 +185,7 @@ impl Model for Transactions {
 }
 
 impl Transactions {
-    ghost use Rattle.std.specs.Prelude.{◌≡◌, ℕ, ◌<◌, ◌≤◌, [], ◌∷◌, IfSome, IsSome, MatchOption, OnErr, OnOk, length, nat_lt, not, reverse, slice_index_or};
+    ghost use Rattle.std.specs.Prelude.{◌≡◌, ℕ, ◌<◌, ◌≤◌, [], ◌∷◌, IfSome, IsSome, MatchOption, OnErr, OnOk, length, nat_eq, nat_lt, not, reverse, slice_index_or};
     ghost use Rattle.rq_level.specs.Given.{has_page};
     ghost use Rattle.rq_model.specs.Vocabulary.{In, last};
     ghost use Rattle.rq_txn.specs.Rows.{AreDistinct, Row, any_under, change_row, finished_of, found_row, fresh_row, latched_in, row_aborting, row_finished, row_of, row_started, row_stepped, row_taken_back, under_of, without_row};
@@ -207,6 +207,13 @@ impl Transactions {
         ensures { result ≡ not (nat_lt (length self.now) 4096) }
     {
         self.places.len() >= TRANSACTION_LIMIT
+    }
+
+    /// Whether there is none.
+    pub fn is_empty(&self) -> bool
+        ensures { result ≡ nat_eq (length self.now) 0 }
+    {
+        self.places.len() == 0
     }
 
     /// Adds a transaction that has done nothing, whose count is greater than those of the others.

@@ -32,7 +32,7 @@ pub invariant_of-self-in-Err : goal.invariant_of-self-in-Err
 invariant_of-self-in-Err g c =
     let L = g.L.LogDevice in
     let crash = rw c.deref.ensures.value at c.append.ensures.crash in
-    broken L _ _ c.self.inside.buffer.items _ c.self.invariant c.append.new.self
+    broken L _ _ c.self.inside.buffer.items _ c.self.invariant (rw (← c.self.view_is) at c.requires.running) c.append.new.self
     (λ h. append_leaves L _ _ c.self.inside.buffer.items _ c.self.invariant (rw (← c.self.view_is) at c.requires.running) (rw (← c.self.view_is) at c.requires.whole) c.append.new.self crash (c.append.ensures.honest h))
 
 pub returns-in-Ok-clause-ok : goal.returns-in-Ok-clause-ok
