@@ -36,7 +36,7 @@ module _ (z : Sizes) (log : List Record) (ends : HeldEnds) (rows : List Row) (i 
   own = row z log ends rows i b k incarnation some r at_row
 
   same : (q : Txn) → SaysSame z log log q
-  same q = record { running = refl; undone = refl; done = refl; told = refl; greatest_is = refl; under_way_is = λ n. refl }
+  same q = record { running = refl; earlier_is = refl; undone = refl; done = refl; told = refl; greatest_is = refl; under_way_is = λ n. refl }
 
   none_some : (v : Under) → r.under ≡ Some v → ⊥
   none_some v e = let bad : ◌≡◌ {A = Option Under} None (Some v) = sym idle ∙ e in cc
@@ -50,6 +50,7 @@ module _ (z : Sizes) (log : List Record) (ends : HeldEnds) (rows : List Row) (i 
     forward = λ e. absurd (true≢false e);
     done = own.done;
     held = record { sends = own.held.sends; takes = own.held.takes };
+    behind = own.behind;
     numbered = own.numbered;
     idle = own.idle;
     going = subst (IsAsPlanned z log ends (row_aborting r)) (sym idle) tt;
@@ -88,6 +89,7 @@ module _ (z : Sizes) (log : List Record) (ends : HeldEnds) (rows : List Row) (i 
       in_store = (tt, whole.in_store);
       befores = (tt, whole.befores);
       based = (tt, whole.based);
+      behind = (own.behind, whole.behind);
       order = (of_order z log ends rows i b k incarnation some r at_row, whole.order);
       room = (tt, whole.room);
       numbers = (tt, whole.numbers);

@@ -20,6 +20,7 @@ use Rattle.rq_views.specs.Numbers.{greatest}
 use Rattle.rq_txn.specs.Rows.{Under, Row, found_row, fresh_row}
 use Rattle.rq_store.specs.Settled.{AreEnds}
 use Rattle.rq_store.proofs.RowLists.{found_in}
+use Rattle.rq_store.proofs.Behind.{stranger_earlier}
 use Rattle.rq_sound.specs.Standing.{IsRow, AreStanding}
 use Rattle.rq_sound.specs.Counted.{AreCounted, IsCovered, appends_all, appending_in, takes_all, before_in, after_in, takes_in}
 use Rattle.rq_sound.proofs.Beside.{SaysSame, row_beside}
@@ -57,13 +58,14 @@ module _ (z : Sizes) (log : List Record) (ends : HeldEnds) (rows : List Row) (i 
     forward = λ e. stranger_undone t log stranger;
     done = stranger_deeds z t log stranger;
     held = record { sends = λ s y. absurd (no_use (uses_send s) y); takes = λ s y. absurd (no_use (uses_receive s) y) };
+    behind = stranger_earlier t log stranger;
     numbered = (let e = no_number in omega (arith, e));
     idle = λ n m. ap (λ b. b && not (over (operation t n) (items z log))) (stranger_began z t n log stranger);
     going = tt;
   }
 
   same : (q : Txn) → SaysSame z log log q
-  same q = record { running = refl; undone = refl; done = refl; told = refl; greatest_is = refl; under_way_is = λ n. refl }
+  same q = record { running = refl; earlier_is = refl; undone = refl; done = refl; told = refl; greatest_is = refl; under_way_is = λ n. refl }
 
   more_ends : (hs : List Held) → AreEnds rows hs → AreEnds new hs
   more_ends hs a = record {

@@ -124,6 +124,7 @@ module _ (z : Sizes) (log : List Record) (ends : HeldEnds) (rows : List Row) (i 
     in_store = (tt, whole.in_store);
     befores = (tt, whole.befores);
     based = (tt, whole.based);
+    behind = (own.behind, whole.behind);
     order = (of_order z log ends rows i b k incarnation some r at_row, whole.order);
     room = (tt, whole.room);
     numbers = (tt, whole.numbers);

@@ -165,6 +165,7 @@ module _ (z : Sizes) (log : List Record) (ends : HeldEnds) (rows : List Row) (i 
     in_store = (subst (λ e. deed_sender e < sender_count z) (sym deed_is) below, whole.in_store);
     befores = (tt, whole.befores);
     based = (tt, whole.based);
+    behind = (own.behind, whole.behind);
     order = (of_order z log ends rows i b k incarnation some r at_row, whole.order);
     room = (subst (λ y. claimed (items z log) + appends_of y ≤ cell_count z) (sym deed_is) room, whole.room);
     numbers = (tt, whole.numbers);
@@ -189,6 +190,7 @@ module _ (z : Sizes) (log : List Record) (ends : HeldEnds) (rows : List Row) (i 
     forward = own.forward;
     done = placed_now;
     held = holds_more ends t log (x ∷ log) d deeds_now held_here own.held;
+    behind = own.behind;
     numbered = (let e = greatest_now z log ends rows i b k incarnation some r at_row u under in omega (arith, e));
     idle = λ n m. idle_now z log ends rows i b k incarnation some r at_row u under n;
     going = tt;

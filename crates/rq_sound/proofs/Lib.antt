@@ -27,6 +27,7 @@ pub mod Lost
 pub mod Contracts
 pub mod Worked
 pub mod AbortSteps
+pub mod Checkpoints
 pub mod DeedSteps
 pub mod FreeEnds
 pub mod Refusals

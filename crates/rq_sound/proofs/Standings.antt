@@ -147,7 +147,7 @@ module _ (z : Sizes) (log : List Record) (ends after : HeldEnds) (rows : List Ro
     (sending : AreEnds rows after.sending) (receiving : AreEnds rows after.receiving)
     (free : (q : Row) → In q rows → q.txn ≢ t → (v : Under) → q.under ≡ Some v → (p : ℕ) → latched_by u p ≡ true → latched_by v p ≡ false) (with_ends : (q : Txn) (v : Under) → HoldsFor after q (deed_of v.aim) → FollowsPlan z log ends q v → FollowsPlan z log after q v) where
   same_says : (q : Txn) → SaysSame z log log q
-  same_says q = record { running = refl; undone = refl; done = refl; told = refl; greatest_is = refl; under_way_is = λ n. refl }
+  same_says q = record { running = refl; earlier_is = refl; undone = refl; done = refl; told = refl; greatest_is = refl; under_way_is = λ n. refl }
 
   one_under : (x y : Under) → Some x ≡ Some y → x ≡ y
   one_under x y e = same_Some x y e

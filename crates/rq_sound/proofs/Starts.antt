@@ -120,6 +120,7 @@ module _ (z : Sizes) (log : List Record) (ends after : HeldEnds) (rows : List Ro
     forward = own.forward;
     done = own.done;
     held = all_kept t own.held;
+    behind = own.behind;
     numbered = (let n = m.number in let a = own.numbered in let e : unmade r.under ≡ 0 = ap unmade m.idle in let f = not_logged in omega (arith, n, a, e, f));
     idle = λ n off. own.idle n (ap (is_under n) m.idle);
     going = (goes, refl, aim_started u r u.aim m.aims);

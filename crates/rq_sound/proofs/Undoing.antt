@@ -87,6 +87,7 @@ module _ (z : Sizes) (log : List Record) (ends : HeldEnds) (rows : List Row) (i 
     in_store = (tt, whole.in_store);
     befores = (tt, whole.befores);
     based = (tt, whole.based);
+    behind = (own.behind, whole.behind);
     order = (of_order z log ends rows i b k incarnation some r at_row, whole.order);
     room = (tt, whole.room);
     numbers = (tt, whole.numbers);
@@ -100,6 +101,7 @@ module _ (z : Sizes) (log : List Record) (ends : HeldEnds) (rows : List Row) (i 
     forward = λ e. absurd (true≢false (sym aborts.0 ∙ e));
     done = cond-true (same_txn t t) _ _ (same_self t) ∙ ap rest_placed open_is;
     held = record { sends = own.held.sends; takes = own.held.takes };
+    behind = own.behind;
     numbered = (let e = greatest_now z log ends rows i b k incarnation some r at_row u under in omega (arith, e));
     idle = λ n m. idle_now z log ends rows i b k incarnation some r at_row u under n;
     going = tt;

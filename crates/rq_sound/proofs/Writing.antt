@@ -113,6 +113,7 @@ module _ (z : Sizes) (log : List Record) (ends : HeldEnds) (rows : List Row) (i 
     in_store = (slot, whole.in_store);
     befores = (old_slot, whole.befores);
     based = (tt, whole.based);
+    behind = (own.behind, whole.behind);
     order = (of_order z log ends rows i b k incarnation some r at_row, whole.order);
     room = (tt, whole.room);
     numbers = (next_number z log ends rows i b k incarnation some r at_row u under, whole.numbers);
@@ -138,6 +139,7 @@ module _ (z : Sizes) (log : List Record) (ends : HeldEnds) (rows : List Row) (i 
     forward = own.forward;
     done = own.done;
     held = record { sends = own.held.sends; takes = own.held.takes };
+    behind = own.behind;
     numbered = (let e = greatest_now z log ends rows i b k incarnation some r at_row u under in let f = logged in omega (arith, e, f));
     idle = λ n m.
         let was : is_under n r.under ≡ false = ap (is_under n) under ∙ sym (ap (λ (y : Option Under). is_under n (under_stepped y)) under) ∙ m in

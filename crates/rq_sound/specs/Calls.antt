@@ -4,6 +4,7 @@ use Rattle.std.specs.List.{slice_get, filter_map}
 use Rattle.rq_model.specs.declared.txn.Txn.{Txn}
 use Rattle.rq_model.specs.declared.message.Message.{Message}
 use Rattle.rq_model.specs.declared.record.Deed.{Deed}
+use Rattle.rq_model.specs.Bases.{based}
 use Rattle.rq_model.specs.declared.record.Record.TheVariants.{Commit, AbortEnd}
 use Rattle.rq_model.specs.Vocabulary.{front, sent_for}
 use Rattle.rq_model.specs.Content.{tag_after}
@@ -145,6 +146,10 @@ aborted s r = record s {
 -- all records are forced
 abbrev pub forced : State → State
 forced s = record s { forced = length s.records }
+
+-- one record, a Base, stands for all, and is forced
+abbrev pub checkpointed : State → State
+checkpointed s = record s { records = based s.incarnation s.records; forced = length (based s.incarnation s.records) }
 
 -- a device fails
 abbrev pub failed : State → State

@@ -7,7 +7,7 @@ use Rattle.rq_sound.specs.Latching.{LatchedIsExact}
 use Rattle.rq_sound.specs.Levels.{LevelsPlanFromSlots, LevelsRefuseExactly}
 use Rattle.rq_sound.specs.Plans.{PlansMayStart}
 use Rattle.rq_sound.specs.Refusals.{RefusalsAreSteps, TestsReadRows}
-use Rattle.rq_sound.specs.Theorems.{AbortsAreSteps, CallsKeepSoundness, DeedsAreSteps, InversesCanBePlanned, OpenedIsSound, TestsAreAnswered}
+use Rattle.rq_sound.specs.Theorems.{AbortsAreSteps, CallsKeepSoundness, CheckpointsAreSteps, DeedsAreSteps, InversesCanBePlanned, OpenedIsSound, TestsAreAnswered}
 use Rattle.rq_sound.specs.Unchanged.{UnchangedAreSteps}
 use Rattle.rq_sound.specs.Waits.{WaitsAreGiven}
 use Rattle.rq_sound.specs.Wants.{LevelsFindAll}
@@ -25,6 +25,8 @@ pub record Laws : Type 0 where
   -- Aborts are steps of the model, with their inverses: each answer is a legal entry, and the ledger is what it makes
   -- of the one before. So are slot writes, begins and forces.
   pub aborts_are_steps : AbortsAreSteps
+  -- So is a checkpoint of a store without open transactions: one record stands for all, and all else stays.
+  pub checkpoints_are_steps : CheckpointsAreSteps
   -- Deeds and commits are steps of the model: the start of a send, a receive or a close, that no message waits, the
   -- end, and a commit.
   pub deeds_are_steps : DeedsAreSteps

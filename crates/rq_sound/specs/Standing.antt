@@ -2,6 +2,7 @@
 use Rattle.std.specs.Prelude.{◌≡◌, ◌≢◌, ℕ, ◌+◌, ◌<◌, ◌≤◌, true, false, List, [], ◌∷◌, ◌++◌, length, take, drop, reverse, Option, Some, None}
 use Rattle.rq_model.specs.declared.txn.Txn.{Txn}
 use Rattle.rq_model.specs.declared.record.Record.{Record}
+use Rattle.rq_model.specs.Bases.{earlier}
 use Rattle.rq_model.specs.Vocabulary.{In, same_txn}
 use Rattle.rq_model.specs.Deeds.{spelled_deed, deed_in}
 use Rattle.rq_model.specs.Content.{has_end, deeds}
@@ -75,6 +76,7 @@ pub record IsRow (z : Sizes) (log : List Record) (ends : HeldEnds) (incarnation 
   pub of_incarnation : r.txn.incarnation ≡ incarnation
   pub counted : r.txn.count ≤ begins
   pub running : has_end log r.txn ≡ false
+  pub behind : IsStranger r.txn (earlier log)
   pub forward : r.aborting ≡ false → has_undone log r.txn ≡ false
   pub done : open_deeds r.txn (items z log) ≡ placed r.finished
   pub held : HoldsAll ends r.txn log

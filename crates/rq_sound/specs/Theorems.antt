@@ -41,7 +41,7 @@ use Rattle.rq_sound.specs.Counted.{takes_in}
 use Rattle.rq_sound.specs.Sound.{IsSound}
 use Rattle.rq_sound.specs.Starts.{MayDo, MayUndo, with_end}
 use Rattle.rq_sound.specs.ModelSteps.{IsModelStep}
-use Rattle.rq_sound.specs.Calls.{next_txn, begun, started, stepped, IsNextWrite, finished, undone, IsReady, IsIdle, committed, MayCommit, aborting, aborted, forced, failed}
+use Rattle.rq_sound.specs.Calls.{next_txn, begun, started, stepped, IsNextWrite, finished, undone, IsReady, IsIdle, committed, MayCommit, aborting, aborted, checkpointed, forced, failed}
 
 -- each call keeps a store sound
 pub record CallsKeepSoundness : Type 0 where
@@ -131,6 +131,11 @@ pub record AbortsAreSteps : Type 0 where
       → IsModelStep s (Call.End_abort r.txn) Reply.Gave_aborted (aborted s r)
   pub forces : (s : State) → IsSound s → s.failed ≡ false
       → IsModelStep s Call.Force (Reply.Gave_forced (length s.records)) (forced s)
+
+-- So is a checkpoint, where no transaction is open.
+abbrev pub CheckpointsAreSteps : Type 0
+CheckpointsAreSteps = (s : State) → IsSound s → s.rows ≡ [] → s.failed ≡ false → log_full (ledger_of s) 1 ≡ false
+    → IsModelStep s Call.Checkpoint (Reply.Gave_checkpoint (length s.records + 1)) (checkpointed s)
 
 -- So are deeds and commits: the start of a send, a receive or a close that passes the model's tests, a receive from
 -- whichever sender included; that no message waits; its end; and a commit.

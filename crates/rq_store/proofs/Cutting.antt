@@ -22,6 +22,7 @@ whole_older z r log w = record {
   in_store = w.in_store.1;
   befores = w.befores.1;
   based = w.based.1;
+  behind = w.behind.1;
   order = w.order.1;
   room = w.room.1;
   numbers = w.numbers.1;

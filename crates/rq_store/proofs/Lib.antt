@@ -20,3 +20,4 @@ pub mod Worked
 pub mod Begun
 pub mod WorkedFits
 pub mod Based
+pub mod Behind

@@ -174,7 +174,7 @@ none_kept f (u ∷ ts) t e h = elim (cases_Bool (f u)) [
 ]
 
 -- what the record of an operation's end that can be read tells
-ending_is : (u : Txn) (m level : ℕ) (deed : List ℕ) (d : Deed) → level ≡ 1 → deed_in deed ≡ Some d → ending (records.OpEnd u m level deed) ≡ ending_by u (Some d)
+pub ending_is : (u : Txn) (m level : ℕ) (deed : List ℕ) (d : Deed) → level ≡ 1 → deed_in deed ≡ Some d → ending (records.OpEnd u m level deed) ≡ ending_by u (Some d)
 ending_is u m level deed d one read = ap (λ l. ending_by u (cond (nat_eq l 1) (deed_in deed) None)) one ∙ ap (ending_by u) read
 
 -- a transaction that ended no operation has no deeds
@@ -305,6 +305,7 @@ restarted_whole z log w none_unfinished none_lost = record {
   in_store = (tt, w.in_store);
   befores = (tt, w.befores);
   based = (tt, w.based);
+  behind = (tt, w.behind);
   order = (refl, w.order);
   room = (tt, w.room);
   numbers = (tt, w.numbers);

@@ -265,6 +265,7 @@ whole = record {
   befores = befores sizes restarted spelt;
   order = order;
   based = search;
+  behind = search;
   room = subst (HasRoom (cell_count sizes)) (sym same) worked.restarted_keeps.room;
   numbers = subst AreNumbered (sym same) worked.restarted_keeps.numbers;
 }

@@ -13,7 +13,7 @@ use Rattle.rq_store.proofs.Formatting as formatting
 use Rattle.rq_store.proofs.Redoing.{redone_slots}
 
 pub whole_empty : (z : Sizes) → IsWhole z []
-whole_empty z = record { legal = tt; told = tt; rules = tt; reads = tt; in_store = tt; befores = tt; order = tt; based = tt; room = tt; numbers = tt }
+whole_empty z = record { legal = tt; told = tt; rules = tt; reads = tt; in_store = tt; befores = tt; order = tt; based = tt; behind = tt; room = tt; numbers = tt }
 
 module _ (z : Sizes) (images : List (List ℕ)) (range : IsInRange z) (h : AreFormatted z images) where
   pub fits : FitsLog z (image_in images) []

@@ -1,10 +1,10 @@
 -- A legal log of a store.
-use Rattle.std.specs.Prelude.{◌≡◌, false, List, [], ◌∷◌, length}
+use Rattle.std.specs.Prelude.{◌≡◌, List, [], ◌∷◌, length, Option, Some, None}
 use Rattle.rq_model.specs.declared.record.Record.{Record}
 use Rattle.rq_model.specs.declared.record.Record.TheVariants.{PageOp, Base}
 use Rattle.rq_model.specs.declared.txn.Txn.{Txn}
-use Rattle.rq_model.specs.Content.{has_end}
-use Rattle.rq_model.specs.Incarnations.{InOrder}
+use Rattle.rq_model.specs.Bases.{earlier}
+use Rattle.rq_model.specs.Incarnations.{InOrder, txn_of}
 use Rattle.rq_model.specs.Rules.{KeepsRules}
 use Rattle.rq_page.specs.Sizes.{Sizes, cell_count}
 use Rattle.rq_page.specs.Slots.{IsSlotOf}
@@ -24,18 +24,23 @@ abbrev pub BeforesAreSlots : Sizes → List Record → Type 0
 BeforesAreSlots z [] = Unit {0}
 BeforesAreSlots z (r ∷ log) = IsBefore z r × BeforesAreSlots z log
 
--- whoever has a record there has ended
-abbrev pub HaveEnded : List Record → Type 0
-HaveEnded log = (t : Txn) → has_end log t ≡ false → IsStranger t log
-
--- a Base tells how many records stood before it, when everyone had ended
+-- a Base tells how many records stood before it
 abbrev pub IsBased : List Record → Record → Type 0
-IsBased log (Base many i) = (many ≡ length log) × HaveEnded log
+IsBased log (Base many i) = many ≡ length log
 IsBased log _ = Unit {0}
 
 abbrev pub AreBased : List Record → Type 0
 AreBased [] = Unit {0}
 AreBased (r ∷ log) = IsBased log r × AreBased log
+
+-- a transaction that has a record has none before the newest Base
+abbrev pub IsBehind : List Record → Option Txn → Type 0
+IsBehind log None = Unit {0}
+IsBehind log (Some t) = IsStranger t (earlier log)
+
+abbrev pub AreBehind : List Record → Type 0
+AreBehind [] = Unit {0}
+AreBehind (r ∷ log) = IsBehind log (txn_of r) × AreBehind log
 
 -- a legal log of the store
 pub record IsWhole (z : Sizes) (log : List Record) : Type 0 where
@@ -47,5 +52,6 @@ pub record IsWhole (z : Sizes) (log : List Record) : Type 0 where
   pub befores : BeforesAreSlots z log
   pub order : InOrder log
   pub based : AreBased log
+  pub behind : AreBehind log
   pub room : HasRoom (cell_count z) (items z log)
   pub numbers : AreNumbered (items z log)
