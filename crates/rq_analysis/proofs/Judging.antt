@@ -15,7 +15,8 @@ use Rattle.rq_analysis.proofs.Undoable.{way_parts, way_from}
 use Rattle.rq_analysis.specs.declared.dues.PendingUndo.{PendingUndo}
 use Rattle.rq_analysis.specs.Dues.{dues}
 use Rattle.rq_analysis.specs.Numbers.{numbers}
-use Rattle.rq_analysis.specs.LogTables.{Counts, AreTablesOf, Passes, ended, has_count}
+use Rattle.rq_analysis.specs.LogTables.{AreTablesOf, Passes, ended}
+use Rattle.rq_analysis.specs.Runs.{Counts, has_count}
 use Rattle.rq_analysis.specs.Rules.{CanBeRead, FollowAll, FollowsRules, IsReadInOrder, ends_op, greatest_number, has_op, has_op_end, op_of}
 use Rattle.rq_analysis.proofs.Marks.{unknown}
 use Rattle.rq_analysis.proofs.RuleEnds.{ended_kept}

@@ -22,7 +22,6 @@ pub mod Recovering
 pub mod Walking
 pub mod Logging
 pub mod Planning
-pub mod Keys
 pub mod RuleCounts
 pub mod RuleEnds
 pub mod Operations

@@ -21,7 +21,7 @@ use Rattle.rq_analysis.proofs.Marks.{none_ended, none_over}
 -- it is as long
 pub marked_length : (log : List Record) → AreBased log → length (marked log) ≡ length log
 marked_length [] b = refl
-marked_length (records.Base many i ∷ log) b = ap suc (length_marks many ∙ b.0.0)
+marked_length (records.Base many i ∷ log) b = ap suc (length_marks many ∙ b.0)
 marked_length (_ ∷ log) b = ap suc (marked_length log b.1)
 
 pub marked_work : (log : List Record) → AreBased log → open_work_of (marked log) ≡ open_work_of log
@@ -72,6 +72,6 @@ marked_order (records.Base many i ∷ log) b o =
     let some = o.0.0 in
     let same = o.0.1 in
     let few = few_incarnations log o.1 in
-    let all = b.0.0 in
+    let all = b.0 in
     ((omega (arith, some, same), omega (arith, same, few, all)), tt)
 marked_order (r ∷ log) b o = (subst (λ (n : ℕ). IsNext n r) (sym (marked_incarnation log)) o.0, marked_order log b.1 o.1)

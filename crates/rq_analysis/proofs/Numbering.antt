@@ -10,6 +10,7 @@ use Rattle.rq_model.specs.declared.txn.Txn.{Txn}
 use Rattle.rq_model.specs.declared.record.Record.{Record}
 use Rattle.rq_model.specs.declared.record.Record.TheVariants as records
 use Rattle.rq_model.specs.Content.{has_end}
+use Rattle.rq_model.specs.Bases.{earlier}
 use Rattle.rq_model.specs.Vocabulary.{In, same_txn}
 use Rattle.rq_model.proofs.Lists.{same_is, same_self}
 use Rattle.rq_page.specs.Sizes.{Sizes}
@@ -19,7 +20,6 @@ use Rattle.rq_views.specs.Items.{items, operation}
 use Rattle.rq_views.specs.Numbers.{greatest}
 use Rattle.rq_txn.specs.Rows.{Row}
 use Rattle.rq_store.specs.Rows.{unmade}
-use Rattle.rq_store.specs.Whole.{AreBased}
 use Rattle.rq_store.specs.State.{State}
 use Rattle.rq_sound.specs.Sound.{IsSound}
 use Rattle.rq_analysis.specs.Numbers.{number_of, numbers, numbers_but, numbers_left, with_number}
@@ -147,18 +147,16 @@ stranger_greatest z t (records.Commit u ∷ log) h = let none = stranger_greates
 stranger_greatest z t (records.AbortEnd u ∷ log) h = let none = stranger_greatest z t log (or_parts (same_txn u t) (any_record (mentions t) log) h).1 in omega (arith, none)
 stranger_greatest z t (_ ∷ log) h = let none = stranger_greatest z t log h in omega (arith, none)
 
--- a transaction that is running in a log of a store began after its Base
-pub begun_above : (z : Sizes) (t : Txn) (log : List Record) → AreBased log → has_end log t ≡ false → NoneBelow z t log
-begun_above z t [] b e = tt
-begun_above z t (records.Base many i ∷ log) b e = stranger_greatest z t log (b.0.1 t e)
-begun_above z t (records.Commit u ∷ log) b e = begun_above z t log b.1 (or_parts (same_txn u t || false) (has_end log t) e).1
-begun_above z t (records.AbortEnd u ∷ log) b e = begun_above z t log b.1 (or_parts (same_txn u t) (has_end log t) e).1
-begun_above z t (_ ∷ log) b e = begun_above z t log b.1 e
+-- who has no record below it has no operation there
+pub none_below : (z : Sizes) (t : Txn) (log : List Record) → IsStranger t (earlier log) → NoneBelow z t log
+none_below z t [] h = tt
+none_below z t (records.Base many i ∷ log) h = stranger_greatest z t log h
+none_below z t (_ ∷ log) h = none_below z t log h
 
 pub row_number : (s : State) (r : Row) → IsSound s → In r s.rows → r.under ≡ None → number_of r.txn (numbers s.records) ≡ r.number
 row_number s r k j off =
     let row = k.standing.each r j in
-    let a = kept s.sizes s.records r.txn (begun_above s.sizes r.txn s.records k.log.based row.running) row.running in
+    let a = kept s.sizes s.records r.txn (none_below s.sizes r.txn s.records row.behind) row.running in
     let b : unmade r.under ≡ 0 = ap unmade off in
     let c = row.numbered in
     omega (arith, a, b, c)

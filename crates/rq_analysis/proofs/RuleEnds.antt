@@ -9,7 +9,8 @@ use Rattle.rq_model.specs.Content.{has_end}
 use Rattle.rq_model.specs.Incarnations.{incarnation_of}
 use Rattle.rq_model.specs.Vocabulary.{same_txn}
 use Rattle.rq_model.proofs.Lists.{same_is}
-use Rattle.rq_analysis.specs.LogTables.{ended, has_count}
+use Rattle.rq_analysis.specs.LogTables.{ended}
+use Rattle.rq_analysis.specs.Runs.{has_count}
 use Rattle.rq_analysis.specs.Rules.{FollowAll, IsReadInOrder}
 use Rattle.rq_analysis.proofs.Marks.{none_ended}
 use Rattle.rq_analysis.proofs.RuleCounts.{counts_more, none_counted}

@@ -24,7 +24,7 @@ use Rattle.rq_analysis.specs.Lost.{IsRepeated, begins_in, lost_ends, lost_row, l
 use Rattle.rq_analysis.proofs.AbortCounts.{keeps_sends, lost_counted, lost_placed}
 use Rattle.rq_analysis.proofs.AbortEnds.{lost_distinct, lost_holds, row_none, sends_stand, takes_stand}
 use Rattle.rq_analysis.proofs.Workers as workers
-use Rattle.rq_analysis.proofs.Workers.{beyond, lost_now, lost_running, no_deeds, none_open, not_lost}
+use Rattle.rq_analysis.proofs.Workers.{beyond, lost_behind, lost_now, lost_running, no_deeds, none_open, not_lost}
 
 module _ (z : Sizes) (log : List Record) (whole : IsWhole z log) (none : unfinished log ≡ []) where
   idle : (o : Sub) → under_way o (items z log) ≡ false
@@ -38,6 +38,7 @@ module _ (z : Sizes) (log : List Record) (whole : IsWhole z log) (none : unfinis
     forward = λ e. absurd (true≢false e);
     done = lost_placed z log t;
     held = lost_holds log t i;
+    behind = lost_behind z log t whole.legal whole.behind i;
     numbered = omega arith;
     idle = λ n off. idle (operation t n);
     going = tt;

@@ -19,6 +19,7 @@ use Rattle.rq_views.proofs.Idle.{idle_quiet}
 use Rattle.rq_views.proofs.Overlay.{same_self as op_self}
 use Rattle.rq_store.specs.Fitting.{left_by}
 use Rattle.rq_store.specs.Whole.{IsWhole}
+use Rattle.rq_store.proofs.Behind.{way_behind}
 use Rattle.rq_store.proofs.Opening.{idle_log}
 use Rattle.rq_analysis.specs.declared.open_work.UndoableWrite.{UndoableWrite}
 use Rattle.rq_analysis.specs.OpenWorkView.{OpenWorkView, open_work_of, has_sub, undoable_by, without_sub, without_undoable, without_newest}
@@ -51,6 +52,7 @@ void_whole z log o w h =
       in_store = (tt, w.in_store);
       befores = (tt, w.befores);
       based = (tt, w.based);
+      behind = (way_behind z log o w.legal w.behind way, w.behind);
       order = (noted_order z log w.legal w.order o i, w.order);
       room = (tt, w.room);
       numbers = (tt, w.numbers);
@@ -80,6 +82,7 @@ undo_whole z log p ps w f =
       in_store = (undoable_before z log w.befores p i, w.in_store);
       befores = (tt, w.befores);
       based = (tt, w.based);
+      behind = (way_behind z log p.by w.legal w.behind (noted_way z log w.legal p.by g), w.behind);
       order = (noted_order z log w.legal w.order p.by g, w.order);
       room = (tt, w.room);
       numbers = (tt, w.numbers);

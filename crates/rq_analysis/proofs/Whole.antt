@@ -6,7 +6,7 @@ use Rattle.rq_model.specs.declared.txn.Txn.{Txn}
 use Rattle.rq_model.specs.declared.txn.Sub.{Sub}
 use Rattle.rq_model.specs.declared.record.Record.{Record}
 use Rattle.rq_model.specs.declared.record.Record.TheVariants as records
-use Rattle.rq_model.specs.Bases.{is_base, marked, marks}
+use Rattle.rq_model.specs.Bases.{earlier, is_base, marked, marks}
 use Rattle.rq_model.specs.Content.{has_end}
 use Rattle.rq_model.specs.Deeds.{deed_in}
 use Rattle.rq_model.specs.Vocabulary.{first, is_some, same_txn}
@@ -19,6 +19,7 @@ use Rattle.rq_views.specs.Log.Item.{PageOp, PageUndo, OpEnd, OpVoid, CompEnd, Co
 use Rattle.rq_level.specs.Meaning.{meaning_of}
 use Rattle.rq_views.specs.Plans.{IsPlan}
 use Rattle.rq_views.specs.Plans.Turn.{Did}
+use Rattle.rq_views.specs.InStore.{IsStranger}
 use Rattle.rq_views.specs.Items.{items, layout_of, operation, told_deed}
 use Rattle.rq_views.specs.Legal as legal
 use Rattle.rq_views.specs.Legal.{IsFirst, IsLegalLog, Placed, Undoes, began, lsns, open_deeds, over, under_way}
@@ -40,7 +41,7 @@ use Rattle.rq_analysis.specs.Rules.{FollowAll, FollowsRules, greatest_number, ha
 use Rattle.rq_analysis.specs.RuleTheorems.{WholeLogsFollow}
 use Rattle.rq_analysis.proofs.Lists.{first_in}
 use Rattle.rq_analysis.proofs.Marked.{marked_dues, marked_going, marked_numbers, marked_order, marked_running, marked_work}
-use Rattle.rq_analysis.proofs.Numbering.{begun_above, kept}
+use Rattle.rq_analysis.proofs.Numbering.{kept, none_below}
 use Rattle.rq_analysis.proofs.Operations.{has_op_end_same, noted_there, number_kept, unfinished_kept}
 use Rattle.rq_analysis.proofs.Owed.{dues_kept}
 use Rattle.rq_analysis.proofs.Owed as owed
@@ -167,9 +168,9 @@ module _ (z : Sizes) (log : List Record) (w : IsWhole z log) (f : FollowAll (mar
   ]
 
   -- the greatest number of a running transaction is
-  greatest_known : (t : Txn) → has_end log t ≡ false → greatest_number t (marked log) ≡ greatest t (items z log)
-  greatest_known t run =
-      sym (number_kept (marked log) t f (marked_running t log run)) ∙ ap (number_of t) (marked_numbers log) ∙ kept z log t (begun_above z t log w.based run) run
+  greatest_known : (t : Txn) → IsStranger t (earlier log) → has_end log t ≡ false → greatest_number t (marked log) ≡ greatest t (items z log)
+  greatest_known t behind run =
+      sym (number_kept (marked log) t f (marked_running t log run)) ∙ ap (number_of t) (marked_numbers log) ∙ kept z log t (none_below z t log behind) run
 
   next_follows : (r : Record) → IsWhole z (r ∷ log) → is_base r ≡ false → FollowsRules (marked log) r
   next_follows (records.PageOp t n page slot before after) v plain =
@@ -178,7 +179,7 @@ module _ (z : Sizes) (log : List Record) (w : IsWhole z log) (f : FollowAll (mar
         running = marked_running t log (sym (has_end_same z t log) ∙ k.running);
         going = marked_going (operation t n) log (has_op_end_same z (operation t n) log ∙ k.going);
         begun = tt;
-        numbered = λ off. v.numbers.0 (new_begins (operation t n) k.going off) ∙ ap (λ (m : ℕ). m + 1) (sym (greatest_known t (sym (has_end_same z t log) ∙ k.running)));
+        numbered = λ off. v.numbers.0 (new_begins (operation t n) k.going off) ∙ ap (λ (m : ℕ). m + 1) (sym (greatest_known t v.behind.0 (sym (has_end_same z t log) ∙ k.running)));
         undoes = tt;
         takes_back = tt;
         reads = tt;

@@ -24,6 +24,9 @@ use Rattle.rq_views.specs.Legal as legal
 use Rattle.rq_views.proofs.OpenCounts.{AreApart}
 use Rattle.rq_views.proofs.Rules.{unused}
 use Rattle.rq_views.proofs.Strangers.{has_end_same, stranger_told}
+use Rattle.rq_store.specs.Whole.{AreBehind}
+use Rattle.rq_store.proofs.Behind.{deed_behind}
+use Rattle.rq_model.specs.Bases.{earlier}
 use Rattle.rq_analysis.specs.Lost.{begins_in, count_of}
 use Rattle.rq_analysis.proofs.Lists.{nothing_in}
 use Rattle.rq_analysis.proofs.Settled.{worker_deeds}
@@ -158,6 +161,12 @@ pub lost_now : (z : Sizes) (log : List Record) (t : Txn) → IsLegalLog (layout_
 lost_now z log t k o i =
     let g = In-filter (λ u. not (has_end log u)) (workers log) t i in
     doer_now z t log k o (worker_did z t log (in_has t (workers log) g.0)) (not-true (has_end log t) g.1)
+
+-- and began behind the Base
+pub lost_behind : (z : Sizes) (log : List Record) (t : Txn) → IsLegalLog (layout_of z) (items z log) → AreBehind log → In t (lost log) → IsStranger t (earlier log)
+lost_behind z log t k b i =
+    let g = In-filter (λ u. not (has_end log u)) (workers log) t i in
+    deed_behind z log t k b (worker_did z t log (in_has t (workers log) g.0)) (has_end_same z t log ∙ lost_running log t i)
 
 -- who counts beyond every transaction of the log has no record there
 other_count : (u t : Txn) → u.count < t.count → same_txn u t ≡ false

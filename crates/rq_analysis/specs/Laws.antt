@@ -59,7 +59,7 @@ pub record Laws : Type 0 where
   -- Once all such operations are undone the log is whole, with the content that it had, and its slots are those that
   -- whole operations had written.
   pub undone_logs_are_whole : UndoneLogsAreWhole
-  -- What is noted of a log as it is gone through is what has no end in it.
+  -- What is noted of a log as it is gone through, also as it is read, is what has no end in it.
   pub unended_are_counted : UnendedAreCounted
   -- The records of a whole log follow the rules: no sound store is refused for them.
   pub whole_logs_follow : WholeLogsFollow

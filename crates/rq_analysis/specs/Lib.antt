@@ -16,5 +16,6 @@ pub mod Recovered
 pub mod Walk
 pub mod Laws
 pub mod Rules
+pub mod Runs
 pub mod LogTables
 pub mod RuleTheorems

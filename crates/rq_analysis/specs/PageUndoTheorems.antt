@@ -1,6 +1,7 @@
 -- What holds of the records by which a restart undoes operations that have no end.
 use Rattle.std.specs.Prelude.{◌≡◌, ℕ, ◌<◌, List, [], ◌∷◌, length, true}
 use Rattle.rq_model.specs.declared.record.Record.{Record}
+use Rattle.rq_model.specs.Bases.{marked}
 use Rattle.rq_model.specs.Commits.{committed_of}
 use Rattle.rq_model.specs.Content.{content}
 use Rattle.rq_model.specs.Incarnations.{Extends, is_plain}
@@ -33,8 +34,9 @@ pub record IsUndoneFrom (z : Sizes) (log now : List Record) : Type 0 where
 abbrev pub UndoneLogsAreWhole : Type 0
 UndoneLogsAreWhole = (z : Sizes) (log now : List Record) → IsWhole z log → IsUndone log now → IsUndoneFrom z log now
 
--- what is counted is what has no end
+-- what is counted is what has no end, also where the log is read
 pub record UnendedAreCounted : Type 0 where
   pub unfinished : (z : Sizes) (log : List Record) → IsWhole z log
       → length (open_work_of log).unfinished ≡ length (unfinished log)
   pub lost : (z : Sizes) (log : List Record) → IsWhole z log → (open_work_of log).active ≡ lost log
+  pub read : (z : Sizes) (log : List Record) → IsWhole z log → open_work_of (marked log) ≡ open_work_of log

@@ -1,29 +1,38 @@
 //! Which transactions of the running incarnation have ended, as the records of a log tell it one after the other.
-ghost use Rattle.std.specs.Prelude.{◌≡◌, ◌&&◌, not, nat_lt, OnOk, OnErr, []};
-ghost use Rattle.rq_analysis.specs.LogTables.{comes_next, ended, ended_after, has_count, joined, with_count};
+ghost use Rattle.std.specs.Prelude.{◌≡◌, ◌≤◌, ℕ, OnOk, OnErr, IfSome, IfNone, None, []};
+ghost use Rattle.std.specs.BTreeMap.{IsOrdered, get};
+ghost use Rattle.std.specs.FinSet as set;
+ghost use Rattle.std.specs.Ordering.{nat_cmp};
+ghost use Rattle.rq_analysis.specs.LogTables.{ended, ended_after};
+ghost use Rattle.rq_analysis.specs.Runs.{AreApart, BeginsFor, EndsFor, IsFree, IsIn, IsLastUpTo};
 
 use rq_model::record::Record;
 use rq_model::refusal::NoMemory;
 use rq_model::txn::Txn;
 use std::alloc::Global;
-use std::collections::BTreeSet;
+use std::collections::BTreeMap;
 use std::marker::Model;
 
-/// The transactions of the running incarnation that have a Commit or an AbortEnd. Contracts see their counts: up to which
-/// one all have ended, and those above that one. It keeps no more than these, so that it takes no memory where
-/// transactions end in the order in which they began.
+/// The transactions of the running incarnation that have a Commit or an AbortEnd. Contracts see the set of their counts.
+/// It keeps runs of them, of which there are no more than transactions without an end, and one.
 #[derive(Drop)]
 pub struct EndedTransactions {
-    up_to: u64,
-    others: BTreeSet<u64>,
+    // The last number of each run, by its first.
+    runs: BTreeMap<u64, u64>,
 }
 
 impl Model for EndedTransactions {
-    ghost use Rattle.rq_analysis.specs.LogTables.{Counts};
+    ghost use Rattle.std.specs.Coded.{coded_ℕ};
+    ghost use Rattle.std.specs.FinSet as set;
+    ghost use Rattle.rq_analysis.specs.Runs.{AreApart, Counts, counts_in};
 
     ghost Value = { Counts };
 
-    ghost view = { λ e. record { up_to = e.up_to; others = e.others.keys } };
+    ghost coded = { set.code coded_ℕ };
+
+    ghost view = { λ e. counts_in e.runs.entries };
+
+    ghost invariant = { λ e. AreApart e.runs };
 }
 
 impl EndedTransactions {
@@ -32,8 +41,7 @@ impl EndedTransactions {
         ensures { result ≡ ended [] }
     {
         EndedTransactions {
-            up_to: 0,
-            others: BTreeSet::new(alloc),
+            runs: BTreeMap::new(alloc),
         }
     }
 
@@ -48,8 +56,7 @@ impl EndedTransactions {
         match record {
             Record::Commit { txn } | Record::AbortEnd { txn } => self.add(txn.count),
             Record::Restart { .. } | Record::Base { .. } => {
-                self.up_to = 0;
-                self.others.clear();
+                self.runs.clear();
                 Ok(())
             }
             _ => Ok(()),
@@ -58,51 +65,76 @@ impl EndedTransactions {
 
     /// Whether the transaction has ended, if it is one of the running incarnation.
     pub fn has(&self, txn: Txn) -> bool
-        ensures { result ≡ has_count txn.count self.now }
+        ensures { result ≡ set.contains self.now txn.count }
     {
-        self.is_within(txn.count) || self.others.contains(&txn.count)
-    }
-
-    // Whether all up to this one have ended.
-    fn is_within(&self, count: u64) -> bool
-        ensures { result ≡ (nat_lt 0 count && not (nat_lt self.now.up_to count)) }
-    {
-        0 < count && count <= self.up_to
+        first_with(&self.runs, txn.count).is_none()
     }
 
     fn add(&mut self, count: u64) -> Result<(), NoMemory>
-        ensures ok { OnOk result (self.new ≡ with_count count self.old) }
+        ensures ok { OnOk result (self.new ≡ set.insert self.old count) }
         ensures err { OnErr result (self.new ≡ self.old) }
     {
-        if 0 < count && count - 1 == self.up_to {
-            self.up_to = count;
-            self.join();
+        let Some(first) = first_with(&self.runs, count) else {
             return Ok(());
-        }
-        match self.others.insert(count) {
-            Ok(_) => Ok(()),
+        };
+        let last = last_with(&self.runs, count);
+        match self.runs.insert(first, last) {
+            Ok(_) => {
+                if count < last {
+                    self.runs.remove(&(count + 1));
+                }
+                Ok(())
+            }
             Err(_) => Err(NoMemory),
         }
     }
+}
 
-    // Up to which one all have ended, with those that come next.
-    fn join(&mut self)
-        ensures { self.new ≡ joined self.old.up_to self.old.others }
-    {
-        while self.has_next() {
-            if let Some(next) = self.others.pop_first() {
-                self.up_to = next;
+// Where a run begins that ends just before the number, or the number where none does; None where a run has it.
+fn first_with(runs: &BTreeMap<u64, u64>, count: u64) -> Option<u64>
+    requires { AreApart runs.now }
+    ensures none { IfNone result (IsIn runs.now count) }
+    ensures some { IfSome result (λ first. IsFree runs.now count × BeginsFor runs.now count first) }
+    ensures ordered { IsOrdered nat_cmp runs.now }
+{
+    match last_up_to(runs, count) {
+        Some((first, last)) => {
+            if count <= last {
+                return None;
+            }
+            if last + 1 == count {
+                Some(first)
+            } else {
+                Some(count)
             }
         }
+        None => Some(count),
     }
+}
 
-    // Whether the least of those above comes next.
-    fn has_next(&self) -> bool
-        ensures { result ≡ comes_next self.now.up_to self.now.others }
-    {
-        match self.others.first() {
-            Some(least) => 0 < *least && *least - 1 == self.up_to,
-            None => false,
-        }
+// The last run that begins at the number or before it.
+fn last_up_to(runs: &BTreeMap<u64, u64>, count: u64) -> Option<(u64, u64)>
+    ensures found { IfSome result (λ run. IsLastUpTo runs.now count run.0 run.1) }
+    ensures none { IfNone result ((f : ℕ) → f ≤ count → get nat_cmp runs.now f ≡ None) }
+    ensures ordered { IsOrdered nat_cmp runs.now }
+{
+    match runs.range(..=count).next_back() {
+        Some((first, last)) => Some((*first, *last)),
+        None => None,
+    }
+}
+
+// Where a run ends that begins just behind the number, or the number where none does.
+fn last_with(runs: &BTreeMap<u64, u64>, count: u64) -> u64
+    requires { AreApart runs.now }
+    ensures within { count ≤ result }
+    ensures is { EndsFor runs.now count result }
+{
+    if count == u64::MAX {
+        return count;
+    }
+    match runs.get(&(count + 1)) {
+        Some(last) => *last,
+        None => count,
     }
 }

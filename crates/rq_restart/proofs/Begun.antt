@@ -129,9 +129,12 @@ module _ (log rolled_back : List Record) (m : IsRolledBack log rolled_back) (h :
       → (e : List Record) → IsPast e log → Reports z (rebased e log) now incarnation count unfinished_count gone
   reports z now incarnation count unfinished_count gone told e past =
       let all : List Record = rebased e log in
+      let read : open_work_of log ≡ open_work_of (marked all) = ap open_work_of (sym past) in
       record {
         incarnation_is = told.0 ∙ ap (λ n. n + 1) (last_is ∙ rolled_back_incarnation log rolled_back m ∙ sym (incarnation_on e log past));
         records_are = told.1;
+        unfinished_read = told.2 ∙ ap (λ (x : OpenWorkView). length x.unfinished) read;
+        lost_read = told.3 ∙ ap (λ (x : OpenWorkView). length x.active) read;
         unfinished_are = λ w. told.2 ∙ ap (λ (x : OpenWorkView). length x.unfinished) (sym (work_on e log past w.based)) ∙ sym (length-map (open_work_of all).unfinished pair_of) ∙ ap length (noted_unfinished z all w.legal);
         lost_are = λ w. told.3 ∙ ap (λ (x : OpenWorkView). length x.active) (sym (work_on e log past w.based)) ∙ ap length (noted_active z all w.legal w.reads);
       }

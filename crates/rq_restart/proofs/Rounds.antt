@@ -41,7 +41,7 @@ use Rattle.rq_analysis.specs.Walk.{IsBetween, IsWithin, ShowsUndone}
 use Rattle.rq_analysis.proofs.Choosing.{chosen_back, least_there}
 use Rattle.rq_analysis.proofs.Logging.{write_whole}
 use Rattle.rq_analysis.proofs.Moving.{moves_sound}
-use Rattle.rq_analysis.proofs.Numbering.{begun_above, kept}
+use Rattle.rq_analysis.proofs.Numbering.{kept, none_below}
 use Rattle.rq_analysis.proofs.Owing.{rest_due}
 use Rattle.rq_planner.specs.Backs.{IsTakingBack}
 use Rattle.rq_analysis.proofs.Planning.{due_may, due_reads}
@@ -221,8 +221,10 @@ module _ {P : Type 0} (z : Sizes) (log : List Record) (old : Pooled P) (f : Anal
         let moves = behind base b.1.stores b.1.come.turns in
         let sound : IsSound s = moves_sound base b.1.stores k moves in
         let r = row x base k same b in
-        let running = (sound.standing.each r.0 r.2).running in
-        let e : number_of r.0.txn (numbers s.records) ≡ greatest r.0.txn (items s.sizes s.records) = kept s.sizes s.records r.0.txn (begun_above s.sizes r.0.txn s.records sound.log.based running) running in
+        let its = sound.standing.each r.0 r.2 in
+        let running = its.running in
+        let e : number_of r.0.txn (numbers s.records) ≡ greatest r.0.txn (items s.sizes s.records) =
+        kept s.sizes s.records r.0.txn (none_below s.sizes r.0.txn s.records its.behind) running in
         let low : greatest r.0.txn (items s.sizes s.records) ≤ length (items s.sizes s.records) = few_numbers (layout_of s.sizes) r.0.txn (items s.sizes s.records) sound.log.legal sound.log.numbers in
         let count : length (items s.sizes s.records) ≡ length s.records = length-map s.records (item_of s.sizes) in
         let long : length s.records ≡ length log = ap (λ (l : List Record). length l) b.1.come.records_are ∙ length_on x log b.0 (holds x base k same b).whole.based in

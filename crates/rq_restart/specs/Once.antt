@@ -1,9 +1,10 @@
 -- What bytes tell, they tell in one way.
 use Rattle.std.specs.Prelude.{◌≡◌, ℕ, List, length}
 use Rattle.rq_model.specs.declared.record.Record.{Record}
-use Rattle.rq_model.specs.Bases.{standing}
+use Rattle.rq_model.specs.Bases.{earlier, marked, standing}
 use Rattle.rq_disk.specs.Records.{HoldsRecords}
 use Rattle.rq_log.specs.Spelled.{AreSpelled, EndsWith}
+use Rattle.rq_engine.specs.Earlier.{rebased}
 use Rattle.rq_page.specs.Sizes.{Sizes}
 use Rattle.rq_pool.specs.Reading.{IsSuperblock}
 
@@ -11,6 +12,10 @@ use Rattle.rq_pool.specs.Reading.{IsSuperblock}
 abbrev pub OneLogEach : Type 0
 OneLogEach = (a b : List Record) (bytes : List ℕ) → AreSpelled a → AreSpelled b → EndsWith a bytes → EndsWith b bytes
     → standing a ≡ standing b
+
+-- a log is what is read of it, with what stood before its Base in the place of the marks
+abbrev pub ReadWithItsEarlier : Type 0
+ReadWithItsEarlier = (log : List Record) → AreSpelled log → rebased (earlier log) (marked log) ≡ log
 
 -- the whole records in the spelling of a log, with a torn end or none, are as many as stand of it
 abbrev pub AsManyAsTheLog : Type 0

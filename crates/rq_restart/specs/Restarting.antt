@@ -23,6 +23,7 @@ use Rattle.rq_store.specs.Opening.{IsLeft, next_restart, opened, sent_in_slots, 
 use Rattle.rq_store.specs.State.{State}
 use Rattle.rq_store.specs.Whole.{IsWhole}
 use Rattle.rq_store.specs.Fitting.{image_in}
+use Rattle.rq_analysis.specs.OpenWorkView.{open_work_of}
 use Rattle.rq_analysis.specs.Recovered.{IsRecovered}
 use Rattle.rq_restart.specs.RolledBack.{IsAtBound, IsRolledBack, IsRolledBackOn}
 use Rattle.rq_restart.specs.Repeating.{Paged, Repeats}
@@ -46,11 +47,13 @@ pub record IsBegun {L : Type 0} (older : List Record) (log : Logged L) : Type 0 
 abbrev pub IsOpenedOver : List Record → State → Type 0
 IsOpenedOver older s = IsRolledBack (marked older) (drop 1 s.records) × (s ≡ opened s.sizes s.images (drop 1 s.records))
 
--- What is reported: the next incarnation, how many records are in the log, and of a whole log how many operations were
--- unfinished in it, and how many transactions lost.
+-- What is reported: the next incarnation, the last LSN, and how many operations and transactions had no end in the log
+-- as it was read. In a whole log these are the operations that were unfinished, and the transactions that were lost.
 pub record Reports (z : Sizes) (older records : List Record) (incarnation count unfinished_count lost_count : ℕ) : Type 0 where
   pub incarnation_is : incarnation ≡ incarnation_of older + 1
   pub records_are : count ≡ length records
+  pub unfinished_read : unfinished_count ≡ length (open_work_of (marked older)).unfinished
+  pub lost_read : lost_count ≡ length (open_work_of (marked older)).active
   pub unfinished_are : IsWhole z older → unfinished_count ≡ length (unfinished older)
   pub lost_are : IsWhole z older → lost_count ≡ length (lost older)
 
@@ -75,10 +78,12 @@ pub record IsLeftOn {P : Type 0} (g : page_device.Ghosts P) (z : Sizes) (old new
   pub honest : g.honest new
   pub left : IsLeft z (g.seen old) older
 
--- an engine may be opened over the log: incarnations are counted from 1 on, it is not over the greatest length, it has
+-- an engine may be opened over the log: incarnations are counted from 1 on, each
+-- with a record of its own, it is not over the greatest length, it has
 -- not failed, all its records stand on the device, and a crash leaves them, now and when the log was last forced
 pub record IsReady {L : Type 0} (g : log_device.Ghosts L) (incarnation : ℕ) (log : Logged L) : Type 0 where
   pub begun : 1 ≤ incarnation
+  pub low : incarnation ≤ length log.records
   pub running : log.failed ≡ false
   pub count : length log.records ≤ 2 ^ 50
   pub reads : g.honest log.device → g.seen log.device ≡ spelled log.records

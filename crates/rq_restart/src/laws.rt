@@ -1,8 +1,8 @@
 //! What holds of the words that a restart's contract uses.
 ghost use Rattle.rq_restart.specs.Ended.{EndedIsSettled};
-ghost use Rattle.rq_restart.specs.Once.{AsManyAsTheLog, OneLogEach, OneSizeEach};
+ghost use Rattle.rq_restart.specs.Once.{AsManyAsTheLog, OneLogEach, OneSizeEach, ReadWithItsEarlier};
 
-/// Of every whole log: what a restart asks before it opens it is that no transaction is lost.
+/// Of every whole log: what a restart asks of it as it is read, before it opens it, is that no transaction is lost.
 pub fn ended_is_settled()
     ensures { EndedIsSettled }
 {}
@@ -10,6 +10,11 @@ pub fn ended_is_settled()
 /// Bytes are the spelling of what stands of one log at most.
 pub fn one_log()
     ensures { OneLogEach }
+{}
+
+/// A log is what is read of it, with what stood before its Base in the place of the marks.
+pub fn read_with_its_earlier()
+    ensures { ReadWithItsEarlier }
 {}
 
 /// The whole records in the spelling of a log are as many as stand of it.

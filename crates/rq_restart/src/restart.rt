@@ -1,5 +1,5 @@
 //! Opening a store that a crash, or nothing at all, left behind.
-ghost use Rattle.std.specs.Prelude.{◌≡◌, ◌+◌, ◌^◌, ◌<◌, ◌∷◌, IfOk, IfErr, OnOk, false, length, drop, List};
+ghost use Rattle.std.specs.Prelude.{◌≡◌, ◌+◌, ◌^◌, ◌<◌, ◌≤◌, ◌∷◌, IfOk, IfErr, OnOk, false, length, drop, List};
 ghost use Rattle.rq_model.specs.declared.record.Record.TheVariants as records;
 ghost use Rattle.rq_model.specs.declared.record.Record.{Record};
 ghost use Rattle.rq_views.specs.Stored.{slots_in, count_used};
@@ -63,7 +63,7 @@ pub struct Report {
     pub unfinished: u64,
     /// How many transactions had finished an operation, and had neither Commit nor AbortEnd, and are undone.
     pub lost: u64,
-    /// How many records are now in the log.
+    /// The LSN of the last record that is now in the log.
     pub records: u64,
 }
 
@@ -137,6 +137,7 @@ pub fn restart<P: PageDevice + Drop, L: LogDevice + Drop, B: Level>(
     ensures refused { IfErr result (λ stopped. IsRefusedFor P.PageDevice L.LogDevice pages log stopped.refusal stopped.pages
         stopped.log) }
     // What the first crash of the opened store needs.
+    ensures untried { IfOk result (λ o. o.0.replacing ≡ false) }
     ensures fit { IfOk result (λ o. (older : List Record) → IsReadAs L.LogDevice log o.0.log older
         → AreBased older → AllFit (P.may_be pages) o.0.state.sizes older
         → AreFit P.PageDevice (over (earlier older) o.0)) }
@@ -171,6 +172,7 @@ fn reopen<P: PageDevice + Drop, L: LogDevice + Drop, B: Level>(
     ensures reads { IfOk result (λ o. L.honest o.0.log → L.seen o.0.log ≡ spelled o.0.state.records) }
     ensures durable { IfOk result (λ o. L.honest o.0.log → Only (spelled o.0.state.records) (L.may_leave o.0.log)) }
     // What is left of both devices, on each answer.
+    ensures untried { IfOk result (λ o. o.0.replacing ≡ false) }
     ensures pages { IfOk result (λ o. OnlyRead P.PageDevice pages o.0.pages) }
     ensures pages_back { IfErr result (λ stopped. OnlyRead P.PageDevice pages stopped.pages) }
     ensures any_moment { IfOk result (λ o. BeginsFrom P.PageDevice L.LogDevice pages log o.0.pages o.0.log) }
@@ -513,7 +515,8 @@ fn begin_incarnation<L: LogDevice + Drop>(
     unfinished: u64,
     lost: u64,
 ) -> Result<Report, Refusal>
-    requires { log.old.failed ≡ false }
+    requires running { log.old.failed ≡ false }
+    requires low { last ≤ length log.old.records }
     ensures records { OnOk result (log.new.records ≡ records.Restart (last + 1) ∷ log.old.records) }
     ensures forced { OnOk result ((log.new.forced ≡ length log.new.records) × (log.new.failed ≡ false)) }
     ensures report { IfOk result (λ report. (report.incarnation ≡ last + 1) × (report.records ≡ length log.new.records)

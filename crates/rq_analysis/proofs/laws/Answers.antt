@@ -3,6 +3,7 @@ use Rattle.rq_analysis.specs.OpenWorkView.{open_work_of}
 use Rattle.std.proofs.Common.{ap, sym, ◌∙◌, length, subst}
 use Rattle.std.proofs.lemmas.List.{length-map}
 use Rattle.rq_analysis.proofs.Noting.{noted_unfinished, noted_active, pair_of}
+use Rattle.rq_analysis.proofs.Marked.{marked_work}
 use Rattle.rq_analysis.proofs.Whole.{whole_logs}
 use Rattle.rq_analysis.proofs.Telling.{rules_told}
 use Rattle.rq_analysis.proofs.Moving.{move_sound, move_extends, move_commits, aborted_sound, aborted_commits}
@@ -89,6 +90,7 @@ returns c = record {
   unended_are_counted = record {
     unfinished = λ z log w. sym (length-map (open_work_of log).unfinished pair_of) ∙ ap length (noted_unfinished z log w.legal);
     lost = λ z log w. noted_active z log w.legal w.reads;
+    read = λ z log w. marked_work log w.based;
   };
   whole_logs_follow = whole_logs;
   rules_tell = rules_told;

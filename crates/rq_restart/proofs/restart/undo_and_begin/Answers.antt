@@ -6,10 +6,19 @@ use Rattle.rq_restart.specs.Refused.{WhyNotBegun}
 use Rattle.rq_restart.specs.Repeating.{ArePagesCounted, paged}
 use Rattle.rq_restart.specs.Restarting.{AreTold, Reports}
 use Rattle.rq_restart.proofs.Begun.{begins, begun_is, last_is, not_begun, reports}
+use Rattle.rq_restart.proofs.Repeated.{few_read}
 use Rattle.rq_restart.proofs.Counting.{are_told}
 use Rattle.rq_restart.proofs.Moments.{begun_moment, left_alone}
 use Rattle.rq_engine.specs.Earlier.{rebased}
 use Rattle.rq_restart.proofs.restart.undo_and_begin.Goals as goal
+
+pub begin_incarnation-requires-clause-low : goal.begin_incarnation-requires-clause-low
+begin_incarnation-requires-clause-low g c =
+    let rollback = c.in_ok-lost.ensures in
+    let now = c.undo_all.new.log.records in
+    let few = few_read now rollback.found.order rollback.found.follow in
+    let is = last_is c.args.log.now.records now rollback.rolls_back.is c.undo_all.new.analysis.open_work rollback.found.open_work c.incarnation.result c.incarnation.ensures in
+    omega (arith, few, is)
 
 pub returns-in-Ok-clause-restarted : goal.returns-in-Ok-clause-restarted
 returns-in-Ok-clause-restarted g c =
