@@ -1,5 +1,5 @@
 -- Pages that a crash leaves fit the log that it leaves.
-use Rattle.std.proofs.Common.{◌≡◌, ℕ, zero, suc, ◌+◌, ◌-◌, ◌<◌, ◌≤◌, List, drop, refl, sym, subst, Result, Ok, Err, ◌⊎◌, ⊎_elim, inl, inr, arith, length, take, ap, ◌∙◌, ◌≡◌}
+use Rattle.std.proofs.Common.{◌≡◌, false, ℕ, zero, suc, ◌+◌, ◌-◌, ◌<◌, ◌≤◌, List, drop, refl, sym, subst, Result, Ok, Err, ◌⊎◌, ⊎_elim, inl, inr, arith, length, take, ap, ◌∙◌, ◌≡◌}
 use Rattle.std.proofs.lemmas.List.{drop_all, length-drop, take-append-drop}
 use Rattle.rq_model.specs.Commits.{committed_of}
 use Rattle.rq_model.specs.Incarnations.{incarnation_of}
@@ -25,7 +25,7 @@ use Rattle.rq_log.specs.Crash.{LeavesOnly}
 use Rattle.rq_pool.specs.declared.Written.{Written}
 use Rattle.rq_pool.specs.declared.Written.TheVariants as out
 use Rattle.rq_pool.specs.Pooled.{image_at}
-use Rattle.rq_pool.specs.Writing.{DeviceAfter, MayHaveWritten}
+use Rattle.rq_pool.specs.Writing.{DeviceAfter, MayHaveSynced, MayHaveWritten}
 use Rattle.rq_store.specs.State.{State}
 use Rattle.rq_store.specs.Fitting.{oldest, AllHoldBase, HoldsBase, FitsPage, FitsLog, AllFit, image_in}
 use Rattle.rq_store.specs.Steps.{Continues}
@@ -59,17 +59,17 @@ some_forced zero i log e some =
 some_forced (suc n) i log e some = omega arith
 
 -- its records have spellings, and a Base is forced once anything is
-abbrev IsOnDevice : State → Type 0
+abbrev pub IsOnDevice : State → Type 0
 IsOnDevice s = AreSpelled s.records × (0 < s.forced → gone s.records < s.forced)
 
-on_device : (e : List Record) (s : State) → IsEarlier e s → IsOnDevice s → IsOnDevice (on e s)
+pub on_device : (e : List Record) (s : State) → IsEarlier e s → IsOnDevice s → IsOnDevice (on e s)
 on_device e s long told = (told_on e s.records told.0 long, λ some. subst (λ (n : ℕ). n < s.forced) (sym (standing_on e s.records told.0 long).1) (told.1 some))
 
 -- the pages fit the log, and none is older than its Base without what that stands for
-abbrev AreLeft : Sizes → Images → List Record → Type 0
+abbrev pub AreLeft : Sizes → Images → List Record → Type 0
 AreLeft z images log = FitsLog z images log × AllHoldBase z images log
 
-are_left : (may_be : ℕ → List ℕ → Type 0) (z : Sizes) (log : List Record) (images : Images) → AllFit may_be z log → ((p : ℕ) → may_be p (images p)) → AreLeft z images log
+pub are_left : (may_be : ℕ → List ℕ → Type 0) (z : Sizes) (log : List Record) (images : Images) → AllFit may_be z log → ((p : ℕ) → may_be p (images p)) → AreLeft z images log
 are_left may_be z log images f each = (fits_log may_be z log images f each, hold_base may_be z log images f each)
 
 -- more is forced than what the Base stands for
@@ -77,7 +77,7 @@ more_forced : (s : State) → IsSound s → IsOnDevice s → gone s.records < s.
 more_forced s k told = told.1 (some_forced s.forced s.incarnation s.records k.begun k.some)
 
 -- the log's first records, and pages that fit those that are forced
-cut : (s : State) → IsSound s → IsOnDevice s → (images : Images) (bytes : List ℕ) → AreLeft s.sizes images (oldest s.forced s.records) → IsBeginning s.records s.forced bytes → IsCut s images bytes
+pub cut : (s : State) → IsSound s → IsOnDevice s → (images : Images) (bytes : List ℕ) → AreLeft s.sizes images (oldest s.forced s.records) → IsBeginning s.records s.forced bytes → IsCut s images bytes
 cut s k told images bytes fits b =
     let based = more_forced s k told in
     let all = length_standing s.records in
@@ -148,6 +148,20 @@ module _ {P L : Type 0} (p : page_device.Ghosts P) (l : log_device.Ghosts L) (on
             (w.time.nothing_else (p.moment old.pages) images (omega arith) left);
         later = w.time.later;
       }
+
+    -- the pages are made durable
+    synced : MayHaveSynced p old.pages new.pages → Goes
+    synced w = record {
+      now = record {
+        superblock = λ c may. fit.superblock c (w.crash 0 c may);
+        headers = λ q c low high may. fit.headers q c low high (w.crash q c may);
+        pages = λ q c low high may. fit.pages q c low high (w.crash q c may);
+        based = λ q c low high may. fit.based q c low high (w.crash q c may);
+      };
+      each = λ images left. are_left (p.may_be old.pages) z kept images fit
+          (⊎_elim (λ was. only_now old.pages images was) (λ now q. w.crash q (images q) (now q)) (w.time.nothing_else (p.moment old.pages) images (omega arith) left));
+      later = w.time.later;
+    }
 
     goes_out : (page : ℕ) (r : Result Written Refusal) → WritesWhen old page r → DeviceAfter p page (image_at old.state.images page) old.pages new.pages r → Goes
     goes_out page (Ok out.Done) when after = written page when.1.0.of_store when.1.1 after.1
@@ -280,7 +294,7 @@ module _ {P L : Type 0} (p : page_device.Ghosts P) (l : log_device.Ghosts L) (on
 -- calls that write no record, over any earlier records
 module _ {P L : Type 0} (p : page_device.Ghosts P) (l : log_device.Ghosts L) (only_pages : (d : P) (c : Images) → p.left_since d (p.moment d) c → Leaves (p.may_be d) c)
     (only_log : (d : L) (c : List ℕ) → l.left_since d (l.moment d) c → l.may_leave d c) (old new : OpenStore P L) (told : IsOnDevice old.state)
-    (leaves : l.honest old.log → (c : List ℕ) → l.may_leave old.log c → IsBeginning old.state.records old.state.forced c) where
+    (leaves : old.replacing ≡ false → l.honest old.log → (c : List ℕ) → l.may_leave old.log c → IsBeginning old.state.records old.state.forced c) where
   module _ (x : List Record) (long : IsEarlier x old.state) where
     told_over : IsOnDevice (on x old.state)
     told_over = on_device x old.state long told
@@ -288,8 +302,8 @@ module _ {P L : Type 0} (p : page_device.Ghosts P) (l : log_device.Ghosts L) (on
     begins_over : (c : List ℕ) → IsBeginning old.state.records old.state.forced c → IsBeginning (rebased x old.state.records) old.state.forced c
     begins_over c = beginning_on x old.state.records old.state.forced c told.0 long
 
-    leaves_over : l.honest old.log → (c : List ℕ) → l.may_leave old.log c → IsBeginning (rebased x old.state.records) old.state.forced c
-    leaves_over h c m = begins_over c (leaves h c m)
+    leaves_over : old.replacing ≡ false → l.honest old.log → (c : List ℕ) → l.may_leave old.log c → IsBeginning (rebased x old.state.records) old.state.forced c
+    leaves_over none h c m = begins_over c (leaves none h c m)
 
     run_over : LeavesOnly l old.log new.log (IsBeginning old.state.records old.state.forced) → LeavesOnly l old.log new.log (IsBeginning (rebased x old.state.records) old.state.forced)
     run_over run = weaker l old.log new.log (IsBeginning old.state.records old.state.forced) (IsBeginning (rebased x old.state.records) old.state.forced) run begins_over
@@ -297,27 +311,36 @@ module _ {P L : Type 0} (p : page_device.Ghosts P) (l : log_device.Ghosts L) (on
   -- one of the log's device, from a store that is the older one
   pub log_fit : (met : OpenStore P L) → met ≡ old → new.pages ≡ met.pages → new.state.sizes ≡ met.state.sizes → new.state.records ≡ met.state.records
       → (new.state.forced ≡ met.state.forced) ⊎ (new.state.forced ≡ length met.state.records) → (l.honest new.log → l.honest met.log)
-      → (l.honest new.log → LeavesOnly l met.log new.log (IsBeginning met.state.records met.state.forced)) → KeepsFit p l old new
+      → (met.replacing ≡ false → l.honest new.log → LeavesOnly l met.log new.log (IsBeginning met.state.records met.state.forced)) → KeepsFit p l old new
   log_fit met same = subst (λ (s : OpenStore P L). new.pages ≡ s.pages → new.state.sizes ≡ s.state.sizes → new.state.records ≡ s.state.records
       → (new.state.forced ≡ s.state.forced) ⊎ (new.state.forced ≡ length s.state.records) → (l.honest new.log → l.honest s.log)
-      → (l.honest new.log → LeavesOnly l s.log new.log (IsBeginning s.state.records s.state.forced)) → KeepsFit p l old new) (sym same)
-      (λ pages sizes records forced honest run h x long k fit.
-      log_fits p l only_pages only_log (over x old) (over x new) (told_over x long) (leaves_over x long) (over x old) refl pages sizes (ap (rebased x) records)
-      (⊎_elim (λ e. inl e) (λ e. inr (e ∙ sym (long_on x old.state long))) forced) honest (λ q. run_over x long (run q)) h k fit)
+      → (s.replacing ≡ false → l.honest new.log → LeavesOnly l s.log new.log (IsBeginning s.state.records s.state.forced)) → KeepsFit p l old new) (sym same)
+      (λ pages sizes records forced honest run none h x long k fit.
+      log_fits p l only_pages only_log (over x old) (over x new) (told_over x long) (leaves_over x long none) (over x old) refl pages sizes (ap (rebased x) records)
+      (⊎_elim (λ e. inl e) (λ e. inr (e ∙ sym (long_on x old.state long))) forced) honest (λ q. run_over x long (run none q)) h k fit)
 
   -- one of the pages' device
   pub page_fit : (page : ℕ) (r : Result Written Refusal) → WritesWhen old page r → DeviceAfter p page (image_at old.state.images page) old.pages new.pages r
       → new.state ≡ state_after old.state r → new.log ≡ old.log → KeepsFit p l old new
-  page_fit page r when after state log h x long k fit =
-      page_fits p l only_pages only_log (over x old) (over x new) (told_over x long) (leaves_over x long) page r (when_over x old page r when) after
+  page_fit page r when after state log none h x long k fit =
+      page_fits p l only_pages only_log (over x old) (over x new) (told_over x long) (leaves_over x long none) page r (when_over x old page r when) after
       (ap (on x) state ∙ after_over x old.state r) log h k fit
+
+  -- its pages are made durable
+  pub sync_fit : MayHaveSynced p old.pages new.pages → new.state.sizes ≡ old.state.sizes → new.state.records ≡ old.state.records → new.state.forced ≡ old.state.forced → new.log ≡ old.log → KeepsFit p l old new
+  sync_fit w sizes records forced log none h x long k fit =
+      let few = k.forced in
+      let honest : l.honest old.log = subst (λ (d : L). l.honest d) log h.1 in
+      stays_fit p l only_pages (over x old) (over x new) k fit (told_over x long) sizes (ap (rebased x) records) (leaves_over x long none honest)
+      (synced p l only_pages (over x old) (over x new) k fit (told_over x long) w) (omega (arith, forced)) (omega (arith, forced, few))
+      (log_still p l only_pages only_log (over x old) (over x new) (told_over x long) (leaves_over x long none) honest log)
 
 -- no call is made
 pub none_fit : {P L : Type 0} (p : page_device.Ghosts P) (l : log_device.Ghosts L) (only_pages : (d : P) (c : Images) → p.left_since d (p.moment d) c → Leaves (p.may_be d) c)
     (only_log : (d : L) (c : List ℕ) → l.left_since d (l.moment d) c → l.may_leave d c) (s : OpenStore P L) → IsOnDevice s.state
-    → (l.honest s.log → (c : List ℕ) → l.may_leave s.log c → IsBeginning s.state.records s.state.forced c) → KeepsFit p l s s
-none_fit p l only_pages only_log s told leaves h x long k fit =
+    → (s.replacing ≡ false → l.honest s.log → (c : List ℕ) → l.may_leave s.log c → IsBeginning s.state.records s.state.forced c) → KeepsFit p l s s
+none_fit p l only_pages only_log s told leaves none h x long k fit =
     let told_x = told_over p l only_pages only_log s s told leaves x long in
-    let leaves_x = leaves_over p l only_pages only_log s s told leaves x long in
+    let leaves_x = leaves_over p l only_pages only_log s s told leaves x long none in
     log_fits p l only_pages only_log (over x s) (over x s) told_x leaves_x (over x s) refl refl refl refl (inl refl) (λ q. q)
     (λ q. log_still p l only_pages only_log (over x s) (over x s) told_x leaves_x q refl) h k fit

@@ -80,6 +80,7 @@ kept_on e s k h =
     let n = long_on e s h in
     record {
       incarnation = k.incarnation;
+      low = (let a = k.low in omega (arith, n, a));
       fails = k.fails;
       owes = k.owes;
       room = k.room;

@@ -53,6 +53,7 @@ kept_begun s f o res k =
     let b = sum_by-cons room_one (fresh_row t) s.rows in
     record {
       incarnation = k.incarnation;
+      low = k.low;
       fails = k.fails;
       owes = k.owes ∙ sym a;
       room = omega (arith, b, k.room);
@@ -107,6 +108,7 @@ module _ (s : State) (f : Bool) (o res : ℕ) (k : IsConsistent s f o res) (t : 
       let total : owed_by (change_row t (row_started u) s.rows) ≡ owed_by s.rows + (length u.writes + 1) = omega (arith, a, c, e) in
       record {
         incarnation = k.incarnation;
+        low = (let w = k.low in omega (arith, w));
         fails = k.fails;
         owes = (let w = k.owes in omega (arith, total, w));
         room = (let w = k.room in omega (arith, b, d, v, w));
@@ -133,6 +135,7 @@ module _ (s : State) (f : Bool) (o res : ℕ) (k : IsConsistent s f o res) (t : 
       let same : length (x ∷ s.records) + owed_by (change_row t row_stepped s.rows) ≡ total_of s = omega (arith, total) in
       record {
         incarnation = k.incarnation;
+        low = (let w = k.low in omega (arith, w));
         fails = k.fails;
         owes = (let w = k.owes in omega (arith, total, w));
         room = (let w = k.room in omega (arith, b, d, v, w, fits, more));
@@ -158,6 +161,7 @@ module _ (s : State) (f : Bool) (o res : ℕ) (k : IsConsistent s f o res) (t : 
       let same : length (x ∷ s.records) + owed_by (change_row t (row_finished end) s.rows) ≡ total_of s = omega (arith, total) in
       record {
         incarnation = k.incarnation;
+        low = (let w = k.low in omega (arith, w));
         fails = k.fails;
         owes = (let w = k.owes in omega (arith, total, w));
         room = (let w = k.room in omega (arith, b, d, v, w, fits, made));
@@ -192,6 +196,7 @@ module _ (s : State) (f : Bool) (o res : ℕ) (k : IsConsistent s f o res) (t : 
       let same : length (x ∷ s.records) + owed_by (change_row t row_taken_back s.rows) ≡ total_of s = omega (arith, total) in
       record {
         incarnation = k.incarnation;
+        low = (let w = k.low in omega (arith, w));
         fails = k.fails;
         owes = (let w = k.owes in omega (arith, total, w));
         room = (let w = k.room in omega (arith, b, d, v, w, fits, made));
@@ -219,6 +224,7 @@ module _ (s : State) (f : Bool) (o res : ℕ) (k : IsConsistent s f o res) (t : 
       let row = kept_at s f o res t r k at_row in
       record {
         incarnation = k.incarnation;
+        low = (let w = k.low in omega (arith, w));
         fails = k.fails;
         owes = (let w = k.owes in omega (arith, a, w));
         room = (let w = k.room in omega (arith, b, w));
@@ -240,6 +246,7 @@ module _ (s : State) (f : Bool) (o res : ℕ) (k : IsConsistent s f o res) (t : 
       let d : room_one r ≡ 0 = ap room_of none in
       record {
         incarnation = k.incarnation;
+        low = (let w = k.low in omega (arith, w));
         fails = k.fails;
         owes = (let w = k.owes in omega (arith, a, c, w));
         room = (let w = k.room in omega (arith, b, d, w));
@@ -260,6 +267,7 @@ module _ (s : State) (f : Bool) (o res : ℕ) (k : IsConsistent s f o res) (t : 
       let d : room_one r ≡ 0 = ap room_of none in
       record {
         incarnation = k.incarnation;
+        low = (let w = k.low in omega (arith, w));
         fails = k.fails;
         owes = (let w = k.owes in omega (arith, a, c, w));
         room = (let w = k.room in omega (arith, b, d, w));
@@ -275,6 +283,7 @@ module _ (s : State) (f : Bool) (o res : ℕ) (k : IsConsistent s f o res) (t : 
 pub kept_device : (s : State) (f g : Bool) (o res left forced : ℕ) (failed : Bool) (log : List Record) → IsConsistent s f o res → log ≡ s.records → left ≡ res → (failed ≡ false → g ≡ false) → IsConsistent (record s { records = log; forced = forced; failed = failed }) g o left
 kept_device s f g o res left forced failed log k same room fails = record {
   incarnation = k.incarnation;
+  low = (let w = k.low in let n = ap (λ (l : List Record). length l) same in omega (arith, w, n));
   fails = fails;
   owes = k.owes;
   room = (let a = k.room in omega (arith, a, room));
@@ -288,4 +297,4 @@ kept_device s f g o res left forced failed log k same room fails = record {
 
 -- the ends are of no account to it, nor is room that was taken and given back
 pub kept_back : (s : State) (f : Bool) (o res left : ℕ) (ends : HeldEnds) → IsConsistent s f o res → left ≡ res → IsConsistent (record s { ends = ends }) f o left
-kept_back s f o res left ends k e = record { incarnation = k.incarnation; fails = k.fails; owes = k.owes; room = (let a = k.room in omega (arith, a, e)); count = k.count; distinct = k.distinct; rows = k.rows; senders = k.senders; few = k.few; sent = k.sent }
+kept_back s f o res left ends k e = record { incarnation = k.incarnation; low = k.low; fails = k.fails; owes = k.owes; room = (let a = k.room in omega (arith, a, e)); count = k.count; distinct = k.distinct; rows = k.rows; senders = k.senders; few = k.few; sent = k.sent }

@@ -19,5 +19,6 @@ pub mod CloseCalls
 pub mod AbortCalls
 pub mod Causes
 pub mod Crashing
+pub mod Checkpointing
 pub mod Leaving
 pub mod Listing

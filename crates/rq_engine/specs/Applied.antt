@@ -113,6 +113,8 @@ pub record Applied {P L : Type 0} (p : page_device.Ghosts P) (l : log_device.Gho
   pub sizes : new.state.sizes ≡ old.state.sizes
   -- of the records of which nothing is known nothing is known after it
   pub unknown : unknown new.state.records ≡ unknown old.state.records
+  -- no checkpoint fails in it
+  pub replacing : new.replacing ≡ old.replacing
   pub failed : (r ≡ reply.Refused why.Failed) ↔ (old.state.failed ≡ true)
   pub refused : RefusalLeaves old e r new
   pub lists : ListsSay old.state e r new.state
@@ -122,9 +124,9 @@ pub record Applied {P L : Type 0} (p : page_device.Ghosts P) (l : log_device.Gho
   pub pages : PagesSay p old new e r
   pub log : LogSays l old new e r
   pub honest : AreHonest p l new → AreHonest p l old
-  -- of crashes, at every moment since the call began
-  pub any_moment : l.honest new.log → LeavesOnly l old.log new.log (IsBeginning old.state.records old.state.forced)
+  -- of crashes, at every moment since the call began, where no checkpoint has failed
+  pub any_moment : old.replacing ≡ false → l.honest new.log → LeavesOnly l old.log new.log (IsBeginning old.state.records old.state.forced)
   pub fit : AreHonest p l new → (earlier : List Record) → IsEarlier earlier old.state → IsSound (on earlier old.state)
       → AreFit p (over earlier old) → AreFit p (over earlier new)
-  pub crash : AreHonest p l new → (earlier : List Record) → IsEarlier earlier old.state → IsSound (on earlier old.state)
+  pub crash : old.replacing ≡ false → AreHonest p l new → (earlier : List Record) → IsEarlier earlier old.state → IsSound (on earlier old.state)
       → AreFit p (over earlier old) → RunsThroughCuts p l (over earlier old) (over earlier new)

@@ -1,5 +1,5 @@
 -- What a crash leaves of an open store.
-use Rattle.std.specs.Prelude.{◌≡◌, ℕ, ◌+◌, ◌≤◌, List, length, take, drop}
+use Rattle.std.specs.Prelude.{◌≡◌, false, ℕ, ◌+◌, ◌≤◌, List, length, take, drop}
 use Rattle.rq_disk.specs.Device.{Images}
 use Rattle.rq_disk.specs.declared.device.LogDevice as log_device
 use Rattle.rq_disk.specs.declared.device.PageDevice as page_device
@@ -49,12 +49,13 @@ abbrev pub RunsThroughCuts : {P L : Type 0} → page_device.Ghosts P → log_dev
     → OpenStore P L → Type 0
 RunsThroughCuts p l old new = Path p l (IsCut old.state) old.pages old.log new.pages new.log
 
--- of a sound store over honest devices whose pages fit, whatever the earlier records were: they fit after the call, and a
+-- of a sound store over honest devices whose pages fit, and whose checkpoints did not fail, whatever the earlier records were: they
+-- fit after the call, and a
 -- crash at any moment of it leaves such a cut
 pub record StaysFit {P L : Type 0} (p : page_device.Ghosts P) (l : log_device.Ghosts L) (old new : OpenStore P L) : Type 0 where
   pub fit : AreFit p new
   pub crash : RunsThroughCuts p l old new
 
 abbrev pub KeepsFit : {P L : Type 0} → page_device.Ghosts P → log_device.Ghosts L → OpenStore P L → OpenStore P L → Type 0
-KeepsFit p l old new = AreHonest p l new → (e : List Record) → IsEarlier e old.state → IsSound (on e old.state)
+KeepsFit p l old new = old.replacing ≡ false → AreHonest p l new → (e : List Record) → IsEarlier e old.state → IsSound (on e old.state)
     → AreFit p (over e old) → StaysFit p l (over e old) (over e new)

@@ -4,7 +4,7 @@ use Rattle.std.specs.List.{sum_by}
 use Rattle.rq_model.specs.Vocabulary.{In}
 use Rattle.rq_model.specs.Deeds.{deed_in, spelled_deed}
 use Rattle.rq_disk.specs.declared.device.LogDevice as log_device
-use Rattle.rq_log.specs.Logged.{Logged, WasDurable}
+use Rattle.rq_log.specs.Logged.{Logged, IsSettled}
 use Rattle.rq_page.specs.Sizes.{Sizes, sender_count}
 use Rattle.rq_views.specs.Plans.{deed_sender}
 use Rattle.rq_level.specs.LevelState.{LevelState}
@@ -83,6 +83,7 @@ pub record AreSendsConsistent (z : Sizes) (records done : ℕ) (sent : SentBy) :
 -- records.
 pub record IsConsistent (s : State) (failed : Bool) (owed reserved : ℕ) : Type 0 where
   pub incarnation : 1 ≤ s.incarnation
+  pub low : s.incarnation ≤ length s.records
   pub fails : s.failed ≡ false → failed ≡ false
   pub owes : owed ≡ owed_by s.rows
   pub room : sum_by room_one s.rows ≡ reserved
@@ -97,5 +98,5 @@ pub record IsConsistent (s : State) (failed : Bool) (owed reserved : ℕ) : Type
 pub record IsEngine {L : Type 0} (g : log_device.Ghosts L) (s : State) (log : Logged L) (owed : ℕ) (known : LevelState)
     : Type 0 where
   pub kept : IsConsistent s log.failed owed log.reserved
-  pub durable : WasDurable g log
+  pub durable : IsSettled g log
   pub cells : KnowsCells s.sizes s.images known

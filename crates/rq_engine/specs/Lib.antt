@@ -10,6 +10,7 @@ pub mod Plans
 pub mod Closes
 pub mod Aborts
 pub mod Crash
+pub mod Checkpoint
 pub mod Applied
 pub mod Devices
 pub mod Lists

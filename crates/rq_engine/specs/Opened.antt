@@ -11,7 +11,8 @@ use Rattle.rq_pool.specs.Pooled.{Pooled}
 use Rattle.rq_pool.specs.Writing.{AnswersWhen}
 use Rattle.rq_store.specs.State.{State}
 
--- an open store: its lists, its devices, and of each page whether it was changed since it was read or written
+-- an open store: its lists, its devices, of each page whether it was changed since it was read or written, and whether a
+-- checkpoint has failed as it replaced the log: a crash leaves that as it was, or as it was to be
 pub record OpenStore (P L : Type 0) : Type 0 where
   pub state : State
   -- the device of the pages
@@ -19,6 +20,7 @@ pub record OpenStore (P L : Type 0) : Type 0 where
   -- the device of the log
   pub log : L
   pub changed : List Bool
+  pub replacing : Bool
 
 -- both devices have been honest
 abbrev pub AreHonest : {P L : Type 0} → page_device.Ghosts P → log_device.Ghosts L → OpenStore P L → Type 0
@@ -27,6 +29,7 @@ AreHonest p l s = p.honest s.pages × l.honest s.log
 -- A call that needs no device leaves them alone, and which pages count as changed.
 abbrev pub LeavesDevices : {P L : Type 0} → OpenStore P L → OpenStore P L → Type 0
 LeavesDevices old new = (new.pages ≡ old.pages) × (new.log ≡ old.log) × (new.changed ≡ old.changed)
+    × (new.replacing ≡ old.replacing)
 
 -- its pages
 abbrev pub pooled : {P L : Type 0} → OpenStore P L → Pooled P

@@ -1,5 +1,5 @@
 //! Events and their replies.
-ghost use Rattle.std.specs.Prelude.{◌≡◌, ◌↔◌, ℕ, map, true, Err, List};
+ghost use Rattle.std.specs.Prelude.{◌≡◌, ◌↔◌, ℕ, map, true, false, Err, List};
 ghost use Rattle.rq_model.specs.History.Call.{Show};
 ghost use Rattle.rq_model.specs.Replay.Reply.{Gave_content};
 ghost use Rattle.rq_log.specs.Crash.{LeavesOnly};
@@ -94,7 +94,8 @@ impl<P: PageDevice, L: LogDevice, B: Level> Engine<P, L, B> {
             → LatchedSay (on e self.old.state) event.now result }
         // Devices and what a crash at any moment leaves.
         ensures honest { AreHonest P.PageDevice L.LogDevice self.new → AreHonest P.PageDevice L.LogDevice self.old }
-        ensures any_moment { L.honest self.new.log → LeavesOnly L.LogDevice self.old.log self.new.log
+        ensures replacing { self.new.replacing ≡ self.old.replacing }
+        ensures any_moment { self.old.replacing ≡ false → L.honest self.new.log → LeavesOnly L.LogDevice self.old.log self.new.log
             (IsBeginning self.old.state.records self.old.state.forced) }
     {
         self.shows_kept();

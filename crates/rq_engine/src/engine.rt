@@ -66,6 +66,7 @@ pub struct Engine<P: PageDevice, L: LogDevice, B: Level> {
 }
 
 impl<P: PageDevice, L: LogDevice, B: Level> Model for Engine<P, L, B> {
+    ghost use Rattle.rq_model.specs.Vocabulary.{is_some};
     ghost use Rattle.rq_engine.specs.Opened.{OpenStore};
     ghost use Rattle.rq_engine.specs.Invariant.{IsEngine};
 
@@ -89,6 +90,7 @@ impl<P: PageDevice, L: LogDevice, B: Level> Model for Engine<P, L, B> {
       pages = e.pages.device;
       log = e.log.device;
       changed = e.pages.changed;
+      replacing = is_some e.log.replacing;
     } };
 
     ghost invariant = { λ e. IsEngine L.LogDevice (record {
@@ -123,6 +125,7 @@ impl<P: PageDevice + Drop, L: LogDevice + Drop, B: Level> Engine<P, L, B> {
     ) -> Self
         requires free { ends ≡ record { sending = []; receiving = [] } }
         requires begun { 1 ≤ incarnation }
+        requires low { incarnation ≤ length log.records }
         requires running { log.failed ≡ false }
         requires count { length log.records ≤ 2 ^ 50 }
         requires room { log.reserved ≡ 0 }
@@ -151,6 +154,7 @@ impl<P: PageDevice + Drop, L: LogDevice + Drop, B: Level> Engine<P, L, B> {
           pages = pages.device;
           log = log.device;
           changed = pages.changed;
+          replacing = false;
         } }
     {
         Engine {
@@ -200,14 +204,16 @@ impl<P: PageDevice, L: LogDevice, B: Level> Engine<P, L, B> {
     ghost use Rattle.rq_model.specs.Tests.{IsUnready};
     ghost use Rattle.rq_model.specs.Tests.{NoneHolds, ready_tests};
 
-    /// What a crash at this moment leaves of the log, and of both devices, that each record has a spelling, and that a Base
-    /// is forced, for proofs: it runs no code.
+    /// What a crash at this moment leaves of the log, and of both devices, where no checkpoint has failed; that each record has a
+    /// spelling, and that a Base is forced, for proofs: it runs no code.
     pub fn shows_kept(&self)
-        ensures leaves { L.honest self.now.log → (c : List ℕ) → L.may_leave self.now.log c
+        ensures running { self.now.state.failed ≡ false → self.now.replacing ≡ false }
+        ensures order { self.now.state.forced ≤ length self.now.state.records }
+        ensures leaves { self.now.replacing ≡ false → L.honest self.now.log → (c : List ℕ) → L.may_leave self.now.log c
             → IsBeginning self.now.state.records self.now.state.forced c }
         ensures spelled { AreSpelled self.now.state.records }
         ensures based { 0 < self.now.state.forced → gone self.now.state.records < self.now.state.forced }
-        ensures cut { L.honest self.now.log → (e : List Record) → IsEarlier e self.now.state
+        ensures cut { self.now.replacing ≡ false → L.honest self.now.log → (e : List Record) → IsEarlier e self.now.state
             → IsSound (on e self.now.state) → AreFit P.PageDevice (over e self.now)
             → LeavesCut P.PageDevice L.LogDevice (over e self.now) }
     {
@@ -325,9 +331,10 @@ impl<P: PageDevice, L: LogDevice, B: Level> Engine<P, L, B> {
         ensures failed { (result ≡ Err Refusal.Failed) ↔ (self.old.state.failed ≡ true) }
         // What stays; and what a crash at any moment leaves.
         ensures changed { self.new.changed ≡ self.old.changed }
+        ensures replacing { self.new.replacing ≡ self.old.replacing }
         ensures pages { self.new.pages ≡ self.old.pages }
         ensures honest { L.honest self.new.log → L.honest self.old.log }
-        ensures any_moment { L.honest self.new.log → LeavesOnly L.LogDevice self.old.log self.new.log
+        ensures any_moment { self.old.replacing ≡ false → L.honest self.new.log → LeavesOnly L.LogDevice self.old.log self.new.log
             (IsBeginning self.old.state.records self.old.state.forced) }
         ensures fit { KeepsFit P.PageDevice L.LogDevice self.old self.new }
     {
@@ -365,9 +372,10 @@ impl<P: PageDevice, L: LogDevice, B: Level> Engine<P, L, B> {
         ensures failed { (result ≡ Err Refusal.Failed) ↔ (self.old.state.failed ≡ true) }
         // What stays; and what a crash at any moment leaves.
         ensures changed { self.new.changed ≡ self.old.changed }
+        ensures replacing { self.new.replacing ≡ self.old.replacing }
         ensures pages { self.new.pages ≡ self.old.pages }
         ensures honest { L.honest self.new.log → L.honest self.old.log }
-        ensures any_moment { L.honest self.new.log → LeavesOnly L.LogDevice self.old.log self.new.log
+        ensures any_moment { self.old.replacing ≡ false → L.honest self.new.log → LeavesOnly L.LogDevice self.old.log self.new.log
             (IsBeginning self.old.state.records self.old.state.forced) }
         ensures fit { KeepsFit P.PageDevice L.LogDevice self.old self.new }
     {

@@ -3,6 +3,7 @@
 
 mod aborts;
 mod apply;
+mod checkpoint;
 mod closes;
 pub mod engine;
 pub mod event;

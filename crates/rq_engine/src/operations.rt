@@ -38,7 +38,8 @@ impl<P: PageDevice, L: LogDevice, B: Level> Engine<P, L, B> {
         ensures answered { AnswersLegally P.PageDevice L.LogDevice self.old
             (Step sub.txn sub.number) progress_of result self.new }
         ensures sizes { self.new.state.sizes ≡ self.old.state.sizes }
-        ensures devices { (self.new.pages ≡ self.old.pages) × (self.new.log ≡ self.old.log) }
+        ensures devices { (self.new.pages ≡ self.old.pages) × (self.new.log ≡ self.old.log)
+            × (self.new.replacing ≡ self.old.replacing) }
         ensures refused { OnErr result (self.new ≡ self.old) }
         ensures failed { (result ≡ Err Refusal.Failed) ↔ (self.old.state.failed ≡ true) }
         ensures changed { IfOk result (λ progress. StepChanges self.old progress self.new) }
@@ -131,7 +132,8 @@ impl<P: PageDevice, L: LogDevice, B: Level> Engine<P, L, B> {
         ensures lsn { result ≡ length self.old.state.records + 1 }
         ensures made { IsMade self.old.state sub write self.new.state }
         ensures changed { IsStamped self.old result self.new }
-        ensures devices { (self.new.pages ≡ self.old.pages) × (self.new.log ≡ self.old.log) }
+        ensures devices { (self.new.pages ≡ self.old.pages) × (self.new.log ≡ self.old.log)
+            × (self.new.replacing ≡ self.old.replacing) }
     {
         let SlotWrite { at, before, after } = write;
         let record = Record::PageOp {

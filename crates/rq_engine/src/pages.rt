@@ -36,6 +36,7 @@ impl<P: PageDevice, L: LogDevice, B: Level> Engine<P, L, B> {
         // What stays, and refusals.
         ensures honest { P.honest self.new.pages → P.honest self.old.pages }
         ensures log { self.new.log ≡ self.old.log }
+        ensures replacing { self.new.replacing ≡ self.old.replacing }
         ensures refused { IfErr result (λ r. r ≢ Refusal.DiskWrite → self.new ≡ self.old) }
         ensures failed { (result ≡ Err Refusal.Failed) ↔ (self.old.state.failed ≡ true) }
         // What a crash at any moment leaves.

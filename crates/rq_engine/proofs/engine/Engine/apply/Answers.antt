@@ -20,12 +20,13 @@ returns-clause-applied g c =
       pages = told.pages;
       log = told.log;
       honest = told.honest;
+      replacing = told.replacing;
       any_moment = told.any_moment;
       fit = λ h earlier long k fit.
           fit_kept_over g.P.PageDevice g.L.LogDevice g.met.P.PageDevice.only_now c.args.self.now c.call.new.self earlier (c.shows_kept.ensures.spelled, c.shows_kept.ensures.based) long k fit
           c.args.event.now c.call.result _ _ told.sizes (base_stays c.args.self.now c.call.new.self earlier c.args.event.now c.call.result told.lists told.refused)
           (told.answered h earlier long k) told.writes told.pages;
-      crash = λ h earlier long k fit.
+      crash = λ none h earlier long k fit.
           cuts_over g.P.PageDevice g.L.LogDevice g.met.P.PageDevice.only_now c.args.self.now c.call.new.self earlier (c.shows_kept.ensures.spelled, c.shows_kept.ensures.based) long k fit
-          c.args.event.now c.call.result told.writes told.pages (c.shows_kept.ensures.leaves (told.honest h).1) (told.any_moment h.1);
+          c.args.event.now c.call.result told.writes told.pages (c.shows_kept.ensures.leaves none (told.honest h).1) (told.any_moment none h.1);
     }

@@ -38,7 +38,7 @@ returns-in-StartReceiveFrom-clause-lists g c = take_from_lists c.args.self.now.s
 
 pub returns-in-Ok-start_send-clause-any_moment : goal.returns-in-Ok-start_send-clause-any_moment
 returns-in-Ok-start_send-clause-any_moment g c =
-    log_left g.L.LogDevice c.args.self.now.log c.start_send.new.self.log _ c.start_send.ensures.devices.1 g.met.L.LogDevice.only_now c.shows_kept.ensures.leaves
+    λ none. log_left g.L.LogDevice c.args.self.now.log c.start_send.new.self.log _ c.start_send.ensures.devices.1 g.met.L.LogDevice.only_now (c.shows_kept.ensures.leaves none)
 
 pub returns-in-StartReceive-clause-answered : goal.returns-in-StartReceive-clause-answered
 returns-in-StartReceive-clause-answered g c = begun_answered g.P.PageDevice g.L.LogDevice c.args.self.now _ c.start_receive.result _ c.args.event.now c.start_receive.new.self (ap call_of c.in-StartReceive.is) c.start_receive.ensures.answered c.receive_reply.ensures

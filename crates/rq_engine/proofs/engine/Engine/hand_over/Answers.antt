@@ -4,7 +4,7 @@ use Rattle.rq_store.specs.State.{State}
 use Rattle.rq_engine.proofs.Standing.{hand_over_steps, failed_steps}
 use Rattle.rq_engine.proofs.Keeping.{kept_device}
 use Rattle.rq_engine.proofs.Crashing.{log_fit, none_fit}
-use Rattle.rq_engine.proofs.Opened.{state_is}
+use Rattle.rq_engine.proofs.Opened.{none_tried, state_is}
 use Rattle.rq_engine.proofs.Earlier.{from_inside_on}
 use Rattle.rq_engine.proofs.engine.Engine.hand_over.Goals as goal
 
@@ -37,9 +37,9 @@ returns-in_err-check_running-clause-fit g c =
 pub returns-in-Ok-clause-fit : goal.returns-in-Ok-clause-fit
 returns-in-Ok-clause-fit g c =
     log_fit g.P.PageDevice g.L.LogDevice g.met.P.PageDevice.only_now g.met.L.LogDevice.only_now c.args.self.now _ (c.shows_kept.ensures.spelled, c.shows_kept.ensures.based) c.shows_kept.ensures.leaves
-    _ c.self.view_is refl refl c.in-Ok.ensures.records (inl c.in-Ok.ensures.forced) c.in-Ok.ensures.honest (λ h. c.in-Ok.ensures.any_moment h c.self.invariant.durable)
+    _ c.self.view_is refl refl c.in-Ok.ensures.records (inl c.in-Ok.ensures.forced) c.in-Ok.ensures.honest (λ none h. c.in-Ok.ensures.any_moment h (c.self.invariant.durable, none_tried _ none))
 
 pub returns-in-Err-clause-fit : goal.returns-in-Err-clause-fit
 returns-in-Err-clause-fit g c =
     log_fit g.P.PageDevice g.L.LogDevice g.met.P.PageDevice.only_now g.met.L.LogDevice.only_now c.args.self.now _ (c.shows_kept.ensures.spelled, c.shows_kept.ensures.based) c.shows_kept.ensures.leaves
-    _ c.self.view_is refl refl c.in-Err.ensures.records (inl c.in-Err.ensures.forced) c.in-Err.ensures.honest (λ h. c.in-Err.ensures.any_moment h c.self.invariant.durable)
+    _ c.self.view_is refl refl c.in-Err.ensures.records (inl c.in-Err.ensures.forced) c.in-Err.ensures.honest (λ none h. c.in-Err.ensures.any_moment h (c.self.invariant.durable, none_tried _ none))

@@ -1,8 +1,10 @@
+use Rattle.std.proofs.Common.{◌∙◌, ap}
+use Rattle.rq_engine.proofs.Opened.{none_tried}
 use Rattle.rq_engine.proofs.Crashing.{leaves_cut_over}
 use Rattle.rq_engine.proofs.engine.Engine.shows_kept.Goals as goal
 
 pub returns-clause-cut : goal.returns-clause-cut
 returns-clause-cut g c =
-    λ h earlier long k fit.
+    λ none h earlier long k fit.
     leaves_cut_over g.P.PageDevice g.L.LogDevice g.met.P.PageDevice.only_now c.args.self.now earlier
-    (rw (← c.self.view_is) (λ h. c.shows_kept.ensures.log.leaves h c.self.invariant.durable)) (rw (← c.self.view_is) (c.shows_kept.ensures.log.spelled, c.shows_kept.ensures.log.based)) h long k fit
+    (rw (← c.self.view_is) (λ h. c.shows_kept.ensures.log.leaves h (c.self.invariant.durable, none_tried _ (ap (λ s. s.replacing) c.self.view_is ∙ none)))) (rw (← c.self.view_is) (c.shows_kept.ensures.log.spelled, c.shows_kept.ensures.log.based)) h long k fit

@@ -47,6 +47,7 @@ returns-in-Err g c = record {
   device = search rules;
   honest = search rules;
   log = search rules;
+  replacing = search rules;
   refused = search rules;
   failed = search rules;
   fit = page_fit g.P.PageDevice g.L.LogDevice g.met.P.PageDevice.only_now g.met.L.LogDevice.only_now c.args.self.now _ (c.shows_kept.ensures.spelled, c.shows_kept.ensures.based) c.shows_kept.ensures.leaves

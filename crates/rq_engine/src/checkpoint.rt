@@ -1,0 +1,179 @@
+//! Checkpoints: one record in the place of all.
+ghost use Rattle.std.specs.Prelude.{◌≡◌, ◌+◌, ◌<◌, ◌≤◌, ◌↔◌, ℕ, IfOk, IfErr, OnOk, OnErr, Err, true, false, List, [], length};
+ghost use Rattle.rq_model.specs.History.Call.{Checkpoint};
+ghost use Rattle.rq_model.specs.Replay.Reply.{Gave_checkpoint};
+ghost use Rattle.rq_model.specs.Tests.{log_full};
+ghost use Rattle.rq_disk.specs.Device.{Only};
+ghost use Rattle.rq_log.specs.Spelled.{spelled};
+ghost use Rattle.rq_page.specs.Sizes.{page_count};
+ghost use Rattle.rq_pool.specs.Pooled.{image_at, is_changed};
+ghost use Rattle.rq_store.specs.State.{ledger_of};
+ghost use Rattle.rq_sound.specs.Calls.{checkpointed};
+ghost use Rattle.rq_engine.specs.Answers.{AnswersLegally};
+ghost use Rattle.rq_engine.specs.Checkpoint.{IsStopped, KeepsFitOrBased, NotCheckpointed};
+ghost use Rattle.rq_engine.specs.Crash.{KeepsFit};
+ghost use Rattle.rq_engine.specs.Opened.{AreHonest};
+
+use crate::engine::Engine;
+use rq_disk::{LogDevice, PageDevice};
+use rq_level::Level;
+use rq_model::refusal::Refusal;
+use rq_model::txn::Lsn;
+
+impl<P: PageDevice, L: LogDevice, B: Level> Engine<P, L, B> {
+    /// Makes the log one record, where no transaction is open: forces it, writes every page that was changed, makes the pages
+    /// durable, and puts a Base in the place of all records. Answers its LSN, with which later records count on. Every commit
+    /// is then durable. It takes no memory.
+    ///
+    /// # Errors
+    /// `Failed`; `NotQuiet` where a transaction is open; `LogFull`; `DiskWrite`, behind which a crash leaves the log as it was or
+    /// as it was to be. `NotForced` comes only where a page tells the LSN of a record that is not there.
+    pub fn checkpoint(&mut self) -> Result<Lsn, Refusal>
+        // The entry that it is, and the state.
+        ensures answered { AnswersLegally P.PageDevice L.LogDevice self.old Checkpoint
+            (λ lsn. Gave_checkpoint lsn) result self.new }
+        ensures sizes { self.new.state.sizes ≡ self.old.state.sizes }
+        ensures lsn { IfOk result (λ lsn. lsn ≡ length self.old.state.records + 1) }
+        ensures state { OnOk result (self.new.state ≡ checkpointed self.old.state) }
+        // Both devices: the log is that record alone, and each page is its image.
+        ensures reads { OnOk result (L.honest self.new.log → L.seen self.new.log ≡ spelled self.new.state.records) }
+        ensures durable { OnOk result (L.honest self.new.log
+            → Only (spelled self.new.state.records) (L.may_leave self.new.log)) }
+        ensures pages { OnOk result (P.honest self.new.pages → (page : ℕ) → 1 ≤ page
+            → page < page_count self.old.state.sizes
+            → Only (image_at self.old.state.images page) (P.may_be self.new.pages page)) }
+        // Why it was refused, and what that leaves.
+        ensures refused { IfErr result (λ r. NotCheckpointed self.old self.new r) }
+        ensures failed { (result ≡ Err Refusal.Failed) ↔ (self.old.state.failed ≡ true) }
+        // What stays; and what a crash at any moment leaves.
+        ensures honest { AreHonest P.PageDevice L.LogDevice self.new → AreHonest P.PageDevice L.LogDevice self.old }
+        ensures fit { KeepsFitOrBased P.PageDevice L.LogDevice self.old self.new }
+    {
+        self.shows_kept();
+        self.check_quiet()?;
+        let forced = self.log.forced();
+        match self.replace_log() {
+            Ok(lsn) => Ok(lsn),
+            Err(refusal) => {
+                self.log.forget_force(forced);
+                Err(refusal)
+            }
+        }
+    }
+
+    // The store runs, no transaction is open, and the log has room for a record.
+    fn check_quiet(&self) -> Result<(), Refusal>
+        ensures ok { OnOk result ((self.now.state.failed ≡ false) × (self.now.state.rows ≡ [])
+            × (log_full (ledger_of self.now.state) 1 ≡ false)) }
+        ensures refused { IfErr result (λ r. NotCheckpointed self.now self.now r) }
+        ensures failed { (result ≡ Err Refusal.Failed) ↔ (self.now.state.failed ≡ true) }
+    {
+        self.check_running()?;
+        if !self.transactions.is_empty() {
+            return Err(Refusal::NotQuiet);
+        }
+        if self.is_log_full(1) {
+            return Err(Refusal::LogFull);
+        }
+        Ok(())
+    }
+
+    // Forces the log, writes out what was changed, and puts the Base in the place of all.
+    fn replace_log(&mut self) -> Result<Lsn, Refusal>
+        requires running { self.old.state.failed ≡ false }
+        requires quiet { self.old.state.rows ≡ [] }
+        requires room { log_full (ledger_of self.old.state) 1 ≡ false }
+        ensures lsn { IfOk result (λ lsn. lsn ≡ length self.old.state.records + 1) }
+        ensures state { OnOk result (self.new.state ≡ checkpointed self.old.state) }
+        ensures reads { OnOk result (L.honest self.new.log → L.seen self.new.log ≡ spelled self.new.state.records) }
+        ensures durable { OnOk result (L.honest self.new.log
+            → Only (spelled self.new.state.records) (L.may_leave self.new.log)) }
+        ensures pages { OnOk result (P.honest self.new.pages → (page : ℕ) → 1 ≤ page
+            → page < page_count self.old.state.sizes
+            → Only (image_at self.old.state.images page) (P.may_be self.new.pages page)) }
+        ensures refused { IfErr result (λ r. IsStopped self.old.state self.new.state r) }
+        ensures honest { AreHonest P.PageDevice L.LogDevice self.new → AreHonest P.PageDevice L.LogDevice self.old }
+        ensures fit { KeepsFitOrBased P.PageDevice L.LogDevice self.old self.new }
+    {
+        self.shows_kept();
+        self.force()?;
+        self.write_all()?;
+        self.sync_pages()?;
+        self.put_base()
+    }
+
+    // Writes out each page that was changed.
+    fn write_all(&mut self) -> Result<(), Refusal>
+        requires running { self.old.state.failed ≡ false }
+        requires forced { self.old.state.forced ≡ length self.old.state.records }
+        ensures state { OnOk result (self.new.state ≡ self.old.state) }
+        ensures clean { OnOk result ((page : ℕ) → 1 ≤ page → page < page_count self.old.state.sizes
+            → is_changed self.new.changed page ≡ false) }
+        ensures refused { IfErr result (λ r. IsStopped self.old.state self.new.state r) }
+        ensures log { self.new.log ≡ self.old.log }
+        ensures replacing { self.new.replacing ≡ self.old.replacing }
+        ensures honest { P.honest self.new.pages → P.honest self.old.pages }
+        ensures fit { KeepsFit P.PageDevice L.LogDevice self.old self.new }
+    {
+        self.shows_kept();
+        let layout = self.pages.layout();
+        for page in 1..layout.pages() {
+            self.write_page(page)?;
+        }
+        Ok(())
+    }
+
+    // Makes the pages durable.
+    fn sync_pages(&mut self) -> Result<(), Refusal>
+        requires running { self.old.state.failed ≡ false }
+        ensures state { OnOk result (self.new.state ≡ self.old.state) }
+        ensures durable { OnOk result ((page : ℕ) → Only (P.seen self.new.pages page) (P.may_be self.new.pages page)) }
+        ensures refused { IfErr result (λ r. IsStopped self.old.state self.new.state r) }
+        ensures changed { self.new.changed ≡ self.old.changed }
+        ensures log { self.new.log ≡ self.old.log }
+        ensures replacing { self.new.replacing ≡ self.old.replacing }
+        ensures honest { P.honest self.new.pages → P.honest self.old.pages }
+        ensures fit { KeepsFit P.PageDevice L.LogDevice self.old self.new }
+    {
+        self.shows_kept();
+        match self.pages.sync() {
+            Ok(()) => Ok(()),
+            Err(refusal) => {
+                self.failed = true;
+                Err(refusal)
+            }
+        }
+    }
+
+    // Puts the Base in the place of all records, which are forced, over pages that are durable.
+    fn put_base(&mut self) -> Result<Lsn, Refusal>
+        requires running { self.old.state.failed ≡ false }
+        requires quiet { self.old.state.rows ≡ [] }
+        requires room { log_full (ledger_of self.old.state) 1 ≡ false }
+        requires forced { self.old.state.forced ≡ length self.old.state.records }
+        requires clean { (page : ℕ) → 1 ≤ page → page < page_count self.old.state.sizes
+            → is_changed self.old.changed page ≡ false }
+        requires durable { (page : ℕ) → Only (P.seen self.old.pages page) (P.may_be self.old.pages page) }
+        ensures lsn { IfOk result (λ lsn. lsn ≡ length self.old.state.records + 1) }
+        ensures state { OnOk result (self.new.state ≡ checkpointed self.old.state) }
+        ensures reads { OnOk result (L.honest self.new.log → L.seen self.new.log ≡ spelled self.new.state.records) }
+        ensures durable { OnOk result (L.honest self.new.log
+            → Only (spelled self.new.state.records) (L.may_leave self.new.log)) }
+        ensures pages { P.honest self.new.pages → (page : ℕ) → 1 ≤ page → page < page_count self.old.state.sizes
+            → Only (image_at self.old.state.images page) (P.may_be self.new.pages page) }
+        ensures refused { IfErr result (λ r. IsStopped self.old.state self.new.state r) }
+        ensures device { self.new.pages ≡ self.old.pages }
+        ensures honest { L.honest self.new.log → L.honest self.old.log }
+        ensures fit { KeepsFitOrBased P.PageDevice L.LogDevice self.old self.new }
+    {
+        self.shows_kept();
+        self.pages.shows_kept();
+        match self.log.replace(self.incarnation) {
+            Ok(lsn) => Ok(lsn),
+            Err(refusal) => {
+                self.failed = true;
+                Err(refusal)
+            }
+        }
+    }
+}
