@@ -1,6 +1,5 @@
 //! Four threads that share an engine.
 ghost use Rattle.std.specs.Prelude.{◌≡◌, IfSome};
-ghost use Rattle.rq_shared.specs.Begun.{begins_with};
 ghost use Rattle.rq_shared.specs.Entries.{WasSound};
 
 use crate::rounds::{batch, sender_of};
@@ -135,7 +134,7 @@ pub fn share<
     requires name { (blank.name ≡ G.name) × (taking.name ≡ G.taking) }
     requires parts { (blank.parts ≡ G.parts) × (blank.parts ≡ 1024) × (taking.parts ≡ 1024) }
     requires sound { WasSound P.PageDevice L.LogDevice G.premise engine }
-    requires begins { begins_with engine ≡ G.begins }
+    requires begins { engine.state ≡ G.begins }
 {
     let mut shared = Shared::<P, L, StoreLevel, G>::new(alloc, engine, blank, taking);
     let (mark, mut seat) = Mark::new(alloc).ok()?;

@@ -42,6 +42,7 @@ module _ (pages : MemPages) (old new : MemLog) (p : AreNewPages pages formatted_
     latched = λ earlier long k. tt;
     sizes = refl;
     unknown = refl;
+    replacing = refl;
     failed = (λ e. cc e, λ e. cc e);
     refused = tt;
     lists = (refl, refl);
@@ -54,9 +55,9 @@ module _ (pages : MemPages) (old new : MemLog) (p : AreNewPages pages formatted_
       durable = λ h. forced_only log_5 records_plain 1 4 records_spelled (omega arith) old new l f;
     };
     honest = λ h. h;
-    any_moment = λ h. runs_through log_5 records_plain 1 4 records_spelled (omega arith) old new l f;
+    any_moment = λ none h. runs_through log_5 records_plain 1 4 records_spelled (omega arith) old new l f;
     fit = λ h earlier long k fit. pages_fit pages p log_5 (5, refl) records_plain;
-    crash = λ h earlier long k fit.
+    crash = λ none h earlier long k fit.
         runs_through_cuts mem_pages mem_log pages_now (over committed pages old) (over forced pages new) k fit (records_spelled, λ some. some) event.Force
         (reply.Forced 5) tt refl (leaves_beginning old log_1 l log_5 records_plain 1 4 (omega arith) refl)
         (runs_through log_5 records_plain 1 4 records_spelled (omega arith) old new l f);
@@ -95,5 +96,5 @@ applied = record {
       let f : 1 ≡ 5 = ap (λ (l : List Record). length l) (spells_one log_1 first_plain log_5 first_spelled records_spelled e) in
       omega (arith, f));
   left_nothing_meanwhile = λ pages log new left a.
-      (let b = (a.any_moment tt).each [] left in nothing_left b.0 b.1 b.2);
+      (let b = (a.any_moment refl tt).each [] left in nothing_left b.0 b.1 b.2);
 }

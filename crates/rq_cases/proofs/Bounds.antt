@@ -294,6 +294,7 @@ module _ (n : ℕ) where
           latched = λ earlier long k. tt;
           sizes = refl;
           unknown = refl;
+          replacing = refl;
           failed = (λ e. cc e, λ e. cc e);
           refused = tt;
           lists = record { txn = of; lsn = next; ready = (1, rw (same_self t) (refl, refl)); lists = refl };
@@ -303,12 +304,12 @@ module _ (n : ℕ) where
           pages = refl;
           log = refl;
           honest = λ honest. honest;
-          any_moment = λ honest. here;
+          any_moment = λ none honest. here;
           fit = λ honest earlier long k.
               committed_over earlier (λ a b. AreFit mem_pages (over a pages log) → AreFit mem_pages (over b pages log))
               (λ fits. fit_kept mem_pages mem_log pages_now (over s pages log) (over (one_committed n) pages log) (begun_sound n) fits (told, none_away)
               (event.Commit t) (reply.Committed number) (Commit t) _ refl refl steps tt refl);
-          crash = λ honest earlier long k fits.
+          crash = λ none honest earlier long k fits.
               committed_over earlier (λ a b. AreFit mem_pages (over a pages log) → RunsThroughCuts mem_pages mem_log (over a pages log) (over b pages log))
               (λ fits. runs_through_cuts mem_pages mem_log pages_now (over s pages log) (over (one_committed n) pages log) (begun_sound n) fits (told, none_away)
               (event.Commit t) (reply.Committed number) tt refl
@@ -327,6 +328,7 @@ module _ (n : ℕ) where
           latched = λ earlier long k. tt;
           sizes = refl;
           unknown = refl;
+          replacing = refl;
           failed = (λ e. cc e, λ e. cc e);
           refused = refl;
           lists = tt;
@@ -336,9 +338,9 @@ module _ (n : ℕ) where
           pages = refl;
           log = refl;
           honest = λ honest. honest;
-          any_moment = λ honest. here;
+          any_moment = λ none honest. here;
           fit = λ honest earlier long k fits. fits;
-          crash = λ honest earlier long k fits.
+          crash = λ none honest earlier long k fits.
               begun_over earlier (λ a. AreFit mem_pages (over a pages log) → RunsThroughCuts mem_pages mem_log (over a pages log) (over a pages log))
               (λ fits. runs_through_cuts mem_pages mem_log pages_now (over s pages log) (over s pages log) (begun_sound n) fits (told, none_away)
               (event.Commit t) (reply.Refused why.LogFull) tt refl

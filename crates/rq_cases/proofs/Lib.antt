@@ -11,6 +11,7 @@ mod Courses
 mod Reading
 mod Formatting
 pub mod Restarting
+mod Behind
 mod Audits
 mod Openings
 mod RollingBack
@@ -18,3 +19,4 @@ mod Bounds
 mod Crashes
 mod Closes
 mod Replies
+mod Bases

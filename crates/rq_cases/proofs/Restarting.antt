@@ -192,7 +192,7 @@ restarts = record {
   reports_the_same_incarnation = λ n undone gone r. (let e : 1 ≡ 2 = r.incarnation_is in omega (arith, e));
   reports_no_record = λ i undone gone r. (let e : 5 ≡ 6 = r.records_are in omega (arith, e));
   reports_one_lost = λ i n undone r. (let e : 1 ≡ 0 = r.lost_are whole_5 in omega (arith, e));
-  one_lost = λ records. record { incarnation_is = refl; records_are = refl; unfinished_are = λ w. refl; lost_are = λ w. refl };
+  one_lost = λ records. record { incarnation_is = refl; records_are = refl; unfinished_read = refl; lost_read = refl; unfinished_are = λ w. refl; lost_are = λ w. refl };
   none_lost = λ records i n undone r. (let e : 0 ≡ 1 = r.lost_are whole_4 in omega (arith, e));
   read_as_less = λ d new n r.
       (let e : 5 ≡ 4 = ap (λ (l : List Record). length l) (the_log log_5 records_plain log_4 (mem_log.seen d) records_spelled r.are_spelled (log_seen d log_5 n) r.reads) in omega (arith, e));

@@ -89,10 +89,10 @@ some_pages d p = pages_seen (pages_of d) p
 
 module _ (pages : MemPages) (log : MemLog) where
   opens : Hold pages formatted_pages log log_1 → Opens sizes (first_entries 7) (over committed pages log)
-  opens h = record { sizes = refl; ledger = refl; plain = records_plain; sound = running.commit_send.sound; fit = pages_fit pages h.0 log_1 (1, refl) first_plain }
+  opens h = record { sizes = refl; ledger = refl; plain = records_plain; untried = refl; sound = running.commit_send.sound; fit = pages_fit pages h.0 log_1 (1, refl) first_plain }
 
   opens_forced : Hold pages formatted_pages log log_5 → Opens sizes (first_entries 9) (over forced pages log)
-  opens_forced h = record { sizes = refl; ledger = refl; plain = records_plain; sound = running.force.sound; fit = pages_fit pages h.0 log_5 (5, refl) records_plain }
+  opens_forced h = record { sizes = refl; ledger = refl; plain = records_plain; untried = refl; sound = running.force.sound; fit = pages_fit pages h.0 log_5 (5, refl) records_plain }
 
   a_page_ahead : AreNewPages pages sent_pages → Opens sizes (first_entries 7) (over committed pages log) → ⊥
   a_page_ahead n o =

@@ -1,6 +1,7 @@
 -- Worked cases, by name.
 use Rattle.rq_cases.specs.Applied.{CallsAreApplied}
 use Rattle.rq_cases.specs.Audits.{AuditsAreJudged}
+use Rattle.rq_cases.specs.Bases.{BasesAreJudged}
 use Rattle.rq_cases.specs.Bounds.{BoundsAreJudged}
 use Rattle.rq_cases.specs.Courses.{CausesAreJudged, StopsAreJudged}
 use Rattle.rq_cases.specs.Crashes.{RunsAreJudged}
@@ -31,6 +32,8 @@ pub record Cases : Type 0 where
   pub formats_are_judged : FormatsAreJudged
   -- What a restart does not find, make or refuse: history that isn't repeated, reports and refusals without their causes.
   pub restarts_are_judged : RestartsAreJudged
+  -- Stores whose log a Base begins, with what a restart reports of it; and Bases and reports that are none.
+  pub bases_are_judged : BasesAreJudged
   -- Audits of a shared engine that replay, and engines that were sound when they were shared; and those that aren't.
   pub audits_are_judged : AuditsAreJudged
   -- What a restart has not checked, of pages, log and history.

@@ -18,4 +18,5 @@ pub mod Bounds
 pub mod Crashes
 pub mod Closes
 pub mod Replies
+pub mod Bases
 pub mod Cases

@@ -39,4 +39,4 @@ pub record IsWrittenSince (old new : MemPages) (page : ℕ) (image : List ℕ) :
 
 -- an open store over them: the directory page and the cell page were changed since they were read
 abbrev pub over : State → MemPages → MemLog → OpenStore MemPages MemLog
-over s pages log = record { state = s; pages = pages; log = log; changed = false ∷ true ∷ true ∷ [] }
+over s pages log = record { state = s; pages = pages; log = log; changed = false ∷ true ∷ true ∷ []; replacing = false }

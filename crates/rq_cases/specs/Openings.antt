@@ -83,6 +83,7 @@ logged records d = record {
   reserved = 0;
   torn_at = None;
   failed = false;
+  replacing = None;
   device = d;
   settled = d;
 }

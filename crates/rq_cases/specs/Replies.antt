@@ -1,5 +1,6 @@
 -- What calls answer, what that says of devices, and what is shown: over the worked run, and what isn't so.
 use Rattle.std.specs.Prelude.{◌≡◌, List, [], ◌∷◌, Option, Some, None}
+use Rattle.rq_model.specs.declared.record.Record.{Record}
 use Rattle.rq_model.specs.History.Call.{Acknowledge, Commit, Force}
 use Rattle.rq_model.specs.Replay.{Number}
 use Rattle.rq_model.specs.Replay.Reply.{Gave_commit, Gave_forced, Gave_receipt}
@@ -40,10 +41,13 @@ AnAudit pages log audit = AnAuditOf (Unit {0}) forced pages log audit
 pub record ReceiptsAreJudged : Type 0 where
   -- a commit that no crash takes, and one that a crash may take
   pub durable : (pages : MemPages) (log : MemLog) → IsNewLog log log_5
-      → IsDurable mem_log (over forced pages log) of_send
+      → IsDurable mem_log [] (over forced pages log) of_send
   pub not_forced : (pages : MemPages) (log : MemLog) → IsNewLog log log_1
-      → IsDurable mem_log (over committed pages log) of_send → ⊥
-  pub of_no_commit : (s : OpenStore MemPages MemLog) (n : Number) → s.state.records ≡ log_1 → IsDurable mem_log s n → ⊥
+      → IsDurable mem_log [] (over committed pages log) of_send → ⊥
+  pub of_no_commit : (earlier : List Record) (s : OpenStore MemPages MemLog) (n : Number) → s.state.records ≡ log_1
+      → IsDurable mem_log earlier s n → ⊥
+  -- one that stood before what is known
+  pub among_the_earlier : (s : OpenStore MemPages MemLog) → IsDurable mem_log log_5 s of_send → ⊥
   -- the audit that is left tells of the commit and of its receipt; or the commit was not forced, or it was taken before
   pub its_receipt : IsReceiptOf (asked_commit ∷ asked_force ∷ asked_receipt (Some of_send) ∷ []) of_send
   pub no_receipt_yet : IsReceiptOf (asked_commit ∷ asked_receipt None ∷ []) of_send → ⊥

@@ -130,9 +130,10 @@ module _ (pages : MemPages) (log : MemLog) where
       → IfOk r (λ o. (older : List Record) → IsReadAs mem_log log o.0.log older → IsLeftOn mem_pages o.0.state.sizes pages o.0.pages older → IsRecovered o.0.state.sizes older (rebased (earlier older) (drop 1 o.0.state.records)))
       → IfOk r (λ o. (older : List Record) → IsReadAs mem_log log o.0.log older → IsLeftOn mem_pages o.0.state.sizes pages o.0.pages older → (ledger : Ledger) → ledger.committed ≡ committed_of older → ledger_of (on (earlier older) o.0.state) ≡ after (Restarted_entry o.1.incarnation o.1.records) ledger)
       → IfOk r (λ o. (older : List Record) → IsReadAs mem_log log o.0.log older → AreBased older → AllFit (mem_pages.may_be pages) o.0.state.sizes older → AreFit mem_pages (over (earlier older) o.0))
+      → IfOk r (λ o. o.0.replacing ≡ false)
       → IfOk r (λ o. IsOpened pages log (report_of o.1) o.0)
-  opens (Err e) report value sizes sound recovered entry fit = tt
-  opens (Ok o) report value sizes sound recovered entry fit = record { reports = report; value = value; sizes = sizes; sound = sound; recovered = recovered; entry = entry; fit = fit }
+  opens (Err e) report value sizes sound recovered entry fit untried = tt
+  opens (Ok o) report value sizes sound recovered entry fit untried = record { reports = report; value = value; sizes = sizes; sound = sound; recovered = recovered; entry = entry; fit = fit; untried = untried }
 
   pub stays : (r : Result (Engine × Restart_report) (Stopped MemPages MemLog))
       → OfStores mem_pages mem_log pages log (pages_left r) (log_left r) (λ z read. EachPair mem_pages mem_log (pages_left r) (log_left r) (IsLeftOrGoesOn mem_log log z read))
@@ -147,7 +148,7 @@ module _ (pages : MemPages) (log : MemLog) where
 pub opened : OneLogEach → OneSizeEach → (z : Sizes) → RestartGoesOn (size_of z) → (course : Course) (x : Happening) (pages : MemPages) (log : MemLog) (report : Report) (new : Engine) → MayRestart course x → IsOpened pages log report new
     → Ran z course (Is_shut pages log) → Ran z ((x, Restarted report) ∷ course) (Is_open new)
 opened one size_once z goes course x pages log report new may o ran =
-    let w = reopened mem_pages mem_log (λ d. tt) (λ d. tt) z some_page some_log one size_once goes ran.history pages log report new ran.legal ran.stands o.reports o.value o.sizes o.sound o.recovered o.entry o.fit in
+    let w = reopened mem_pages mem_log (λ d. tt) (λ d. tt) z some_page some_log one size_once goes ran.history pages log report new ran.legal ran.stands o.reports o.value o.sizes o.sound o.recovered o.entry o.fit o.untried in
     record {
       history = Restarted_entry report.incarnation report.records ∷ ran.history;
       tells = (ran.history, ran.tells, (may, refl));

@@ -42,11 +42,11 @@ module _ (z : Sizes) (k : Laws z) (course : Course) where
   can_crash : (x : Happening) (e : Event) (r : Reply) (old mid : Engine) → IsLast x e r → Applied mem_pages mem_log old e r mid → Keeps mem_pages mem_log mid → Ran z course (Is_open old) → CanCrash z course x mid.pages mid.log
   can_crash Crashes e r old mid last a keeps ran =
       let g = handed_over mem_pages mem_log (λ d. tt) (λ d. tt) z ran.history r old mid ran.stands (subst (λ y. Applied mem_pages mem_log old y r mid) last a) in
-      open_crashes z course Crashes old mid mid.pages mid.log k.crash ran g (keeps (tt, tt) g.sound g.fit) refl refl tt
+      open_crashes z course Crashes old mid mid.pages mid.log k.crash ran g (keeps g.untried (tt, tt) g.sound g.fit) refl refl tt
   can_crash (Stops_in call) e r old mid last a keeps ran =
       let b = subst (λ y. Applied mem_pages mem_log old e y mid) last.2 a in
       let g = refused mem_pages mem_log (λ d. tt) (λ d. tt) z ran.history e last.1 old mid ran.stands b last.3 in
-      open_crashes z course (Stops_in call) old mid mid.pages mid.log k.crash ran g (keeps (tt, tt) g.sound g.fit) refl refl
+      open_crashes z course (Stops_in call) old mid mid.pages mid.log k.crash ran g (keeps g.untried (tt, tt) g.sound g.fit) refl refl
       (subst (λ c. MayCrashIt (Stops_in c) (ledger ran.history).phase) last.0 (stop_may z course e last.1 old mid ran b last.3))
   can_crash _ e r old mid last a keeps ran = absurd last
 
@@ -66,7 +66,7 @@ module _ (z : Sizes) (k : Laws z) (course : Course) where
   nothing : (x : Happening) (w : MemWorld) → DoesNothing course x → Ran z course w → Ran z ((x, Nothing) ∷ course) w
   nothing x (Is_open e) does ran =
       let o : IsOpen mem_pages mem_log z ran.history e = ran.stands in
-      record { history = ran.history; tells = (ran.history, ran.tells, (does, refl)); legal = ran.legal; stands = record { sizes = o.sizes; ledger = o.ledger; plain = o.plain; sound = o.sound; fit = o.fit }; counted = tt }
+      record { history = ran.history; tells = (ran.history, ran.tells, (does, refl)); legal = ran.legal; stands = record { sizes = o.sizes; ledger = o.ledger; plain = o.plain; untried = o.untried; sound = o.sound; fit = o.fit }; counted = tt }
   nothing x (Is_shut pages log) does ran =
       let s : IsShut mem_pages mem_log z ran.history pages log = ran.stands in
       record { history = ran.history; tells = (ran.history, ran.tells, (does, refl)); legal = ran.legal; stands = record { range = s.range; phase = s.phase; older = s.older; plain = s.plain; ties = s.ties; left = s.left }; counted = tt }
@@ -74,7 +74,7 @@ module _ (z : Sizes) (k : Laws z) (course : Course) where
   running : (x : Happening) (e : Engine) → IsTrue (restarts x) → Ran z course (Is_open e) → Ran z ((x, Running) ∷ course) (Is_open e)
   running x e may ran =
       let o : IsOpen mem_pages mem_log z ran.history e = ran.stands in
-      record { history = ran.history; tells = (ran.history, ran.tells, (may, (stands_at ran.history e.state o.ledger).runs, refl)); legal = ran.legal; stands = record { sizes = o.sizes; ledger = o.ledger; plain = o.plain; sound = o.sound; fit = o.fit }; counted = tt }
+      record { history = ran.history; tells = (ran.history, ran.tells, (may, (stands_at ran.history e.state o.ledger).runs, refl)); legal = ran.legal; stands = record { sizes = o.sizes; ledger = o.ledger; plain = o.plain; untried = o.untried; sound = o.sound; fit = o.fit }; counted = tt }
 
   -- whatever happens, the course goes on
   goes_on : (x : Happening) (old : MemWorld) (a : Answer) (new : MemWorld) → Happened course x old a new → Ran z course old → Ran z ((x, a) ∷ course) new
@@ -112,7 +112,7 @@ module _ (z : Sizes) (k : Laws z) where
   ends : (course : Course) (pages : MemPages) (log : MemLog) (w : MemWorld) → Ran z course w → GivesUp w pages log → IsHeadline z course pages log
   ends course pages log (Is_open e) ran g =
       let s = still mem_pages mem_log (λ d. tt) (λ d. tt) z ran.history e ran.stands in
-      open_ends z course e pages log k.fifo k.stay k.crash ran (g.2 (tt, tt) s.sound s.fit) g.0 g.1
+      open_ends z course e pages log k.fifo k.stay k.crash ran (g.2 s.untried (tt, tt) s.sound s.fit) g.0 g.1
   ends course pages log (Is_shut d e) ran g =
       subst (λ y. IsHeadline z course y log) (sym g.0) (subst (λ y. IsHeadline z course d y) (sym g.1) (shut_ends z course d e k.fifo k.stay k.shut ran))
 

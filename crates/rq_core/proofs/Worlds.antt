@@ -117,6 +117,7 @@ module _ {P L : Type 0} (p : page_device.Ghosts P) (l : log_device.Ghosts L) (ho
           sizes = a.sizes ∙ o.sizes;
           ledger = s.after ∙ ap (after s.entry) o.ledger;
           plain = plain_stays p l old new e r a o.plain;
+          untried = a.replacing ∙ o.untried;
           sound = s.sound;
           fit = fit_own p l old new e r a (honest_p new.pages, honest_l new.log) o.sound o.fit;
         };
@@ -128,11 +129,12 @@ module _ {P L : Type 0} (p : page_device.Ghosts P) (l : log_device.Ghosts L) (ho
     pub sizes : e.state.sizes ≡ z
     pub at : StandsAt h e.state
     pub plain : HasNoBase e.state.records
+    pub untried : e.replacing ≡ false
     pub sound : IsSound e.state
     pub fit : AreFit p e
 
   pub still : (h : List Entry) (e : OpenStore P L) → IsOpen p l z h e → IsGivenUp h e
-  still h e o = record { sizes = o.sizes; at = stands_at h e.state o.ledger; plain = o.plain; sound = o.sound; fit = o.fit }
+  still h e o = record { sizes = o.sizes; at = stands_at h e.state o.ledger; plain = o.plain; untried = o.untried; sound = o.sound; fit = o.fit }
 
   -- a call that a device refused changes nothing of that
   pub refused : (h : List Entry) (e : Event) (r : Refusal) (old new : OpenStore P L) → IsOpen p l z h old → Applied p l old e (reply.Refused r) new → is_of_device r ≡ true → IsGivenUp h new
@@ -142,6 +144,7 @@ module _ {P L : Type 0} (p : page_device.Ghosts P) (l : log_device.Ghosts L) (ho
         sizes = a.sizes ∙ o.sizes;
         at = stays r device a.refused;
         plain = plain_stays p l old new e (reply.Refused r) a o.plain;
+        untried = a.replacing ∙ o.untried;
         sound = s.sound;
         fit = fit_own p l old new e (reply.Refused r) a (honest_p new.pages, honest_l new.log) o.sound o.fit;
       } where
@@ -165,6 +168,7 @@ module _ {P L : Type 0} (p : page_device.Ghosts P) (l : log_device.Ghosts L) (ho
         sizes = a.sizes ∙ o.sizes;
         at = by r a.refused s.entry s.says s.after;
         plain = plain_stays p l old new event.HandOver r a o.plain;
+        untried = a.replacing ∙ o.untried;
         sound = s.sound;
         fit = fit_own p l old new event.HandOver r a (honest_p new.pages, honest_l new.log) o.sound o.fit;
       } where
@@ -294,8 +298,9 @@ module _ {P L : Type 0} (p : page_device.Ghosts P) (l : log_device.Ghosts L) (ho
         → ((older : List Record) → IsReadAs l log new.log older → IsLeftOn p new.state.sizes pages new.pages older → IsRecovered new.state.sizes older (rebased (earlier older) (drop 1 new.state.records)))
         → ((older : List Record) → IsReadAs l log new.log older → IsLeftOn p new.state.sizes pages new.pages older → (ledger : Ledger) → ledger.committed ≡ committed_of older → ledger_of (on (earlier older) new.state) ≡ after (Restarted_entry report.incarnation report.records) ledger)
         → ((older : List Record) → IsReadAs l log new.log older → AreBased older → AllFit (p.may_be pages) new.state.sizes older → AreFit p (over (earlier older) new))
+        → new.replacing ≡ false
         → IsReopened h report new
-    reopened size_once goes h pages log report new legal s reports value sizes sound recovered entry fit =
+    reopened size_once goes h pages log report new legal s reports value sizes sound recovered entry fit untried =
         let x = s.left (p.seen pages) (l.seen log) (some_p pages) (some_l log) in
         let now = x.0 in
         let store : IsStore z now (p.seen pages) (l.seen log) = x.2 in
@@ -322,6 +327,7 @@ module _ {P L : Type 0} (p : page_device.Ghosts P) (l : log_device.Ghosts L) (ho
             sizes = is;
             ledger = ap ledger_of (sym alone) ∙ entry now read on_left (ledger h) content;
             plain = opened_plain now none store.are_spelled new.state opened;
+            untried = untried;
             sound = subst IsSound alone (sound now read on_left);
             fit = subst (λ (x : State). AllFit (p.may_be new.pages) x.sizes (oldest x.forced x.records)) alone (fit now read store.left.whole.based (subst (λ y. AllFit (p.may_be pages) y now) (sym is) (all_fit h pages log now s store.are_spelled store.is)));
           };

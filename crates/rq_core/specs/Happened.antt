@@ -1,5 +1,5 @@
 -- A run: what each happening makes of the store that it meets, and what that store answers.
-use Rattle.std.specs.Prelude.{◌≡◌, ℕ, IsTrue, true, List, [], ◌∷◌, Option, Some, drop}
+use Rattle.std.specs.Prelude.{◌≡◌, ℕ, IsTrue, true, false, List, [], ◌∷◌, Option, Some, drop}
 use Rattle.rq_model.specs.declared.record.Record.{Record}
 use Rattle.rq_model.specs.declared.refusal.Refusal.{Refusal}
 use Rattle.rq_model.specs.declared.refusal.Refusal.TheVariants as why
@@ -69,9 +69,9 @@ module _ {P L : Type 0} (p : page_device.Ghosts P) (l : log_device.Ghosts L) whe
     pub log_only : (bytes : List ℕ) → l.may_leave new_log bytes → bytes ≡ l.seen new_log
     pub holds : HoldsRecords (l.seen new_log) count
 
-  -- what is so of every open store: a crash leaves a part of its log, with pages that fit
+  -- what is so of every open store, if no checkpoint has failed: a crash leaves a part of its log, with pages that fit
   abbrev pub Keeps : OpenStore P L → Type 0
-  Keeps s = AreHonest p l s → IsSound s.state → AreFit p s → LeavesCut p l s
+  Keeps s = s.replacing ≡ false → AreHonest p l s → IsSound s.state → AreFit p s → LeavesCut p l s
 
   -- a crash of an open store: behind its last call, of what that has left
   pub record CrashesOpen (x : Happening) (old : OpenStore P L) (pages : P) (log : L) (count : ℕ) : Type 0 where
@@ -99,6 +99,7 @@ module _ {P L : Type 0} (p : page_device.Ghosts P) (l : log_device.Ghosts L) whe
         → ledger_of (on (earlier older) new.state) ≡ after (Restarted_entry report.incarnation report.records) ledger
     pub fit : (older : List Record) → IsReadAs l log new.log older → AreBased older
         → AllFit (p.may_be pages) new.state.sizes older → AreFit p (over (earlier older) new)
+    pub untried : new.replacing ≡ false
 
   -- a restart refused to open it for this, and left the devices so
   pub record IsRefused (pages : P) (log : L) (refusal : Refusal) (new_pages : P) (new_log : L) : Type 0 where

@@ -24,7 +24,7 @@ AcknowledgedAreKept h = (newer older : List Entry) (t : Txn) (lsn : ℕ) → new
 
 module _ {P L : Type 0} (p : page_device.Ghosts P) (l : log_device.Ghosts L) (z : Sizes) where
   -- Whatever a crash now leaves of both devices is a store, and the crash that leaves it may end the history: its
-  -- content is that of the commits that it keeps. No Base stands in its log so far.
+  -- content is that of the commits that it keeps. No Base stands in its log, since no happening makes a checkpoint.
   abbrev pub LeavesStores : List Entry → P → L → Type 0
   LeavesStores h pages log = EachPair p l pages log (λ images bytes. (now : List Record) × IsStore z now images bytes
       × EndsInCrash (size_of z) h now × HasNoBase now)

@@ -1,5 +1,5 @@
 -- What is so of a store between two happenings.
-use Rattle.std.specs.Prelude.{◌≡◌, ℕ, List}
+use Rattle.std.specs.Prelude.{◌≡◌, false, ℕ, List}
 use Rattle.rq_model.specs.declared.record.Record.{Record}
 use Rattle.rq_model.specs.Bases.{HasNoBase}
 use Rattle.rq_model.specs.History.{Entry}
@@ -35,7 +35,7 @@ module _ {P L : Type 0} (p : page_device.Ghosts P) (l : log_device.Ghosts L) (z 
     pub range : IsInRange z
     pub phase : (ledger h).phase ≡ Shut
     pub older : List Record
-    -- no engine writes a Base so far
+    -- no happening makes a checkpoint
     pub plain : HasNoBase older
     pub ties : Ties (ledger h) older
     pub left : EachPair p l pages log (IsOver z older)
@@ -45,6 +45,7 @@ module _ {P L : Type 0} (p : page_device.Ghosts P) (l : log_device.Ghosts L) (z 
     pub sizes : engine.state.sizes ≡ z
     pub ledger : ledger_of engine.state ≡ ledger h
     pub plain : HasNoBase engine.state.records
+    pub untried : engine.replacing ≡ false
     pub sound : IsSound engine.state
     pub fit : AreFit p engine
 

@@ -18,7 +18,7 @@ use std::io;
 use std::io::Write;
 use std::marker::Model;
 
-/// What the records of a log come to, read one after the other: how many there are, the operations that are unfinished, the
+/// What the records of a log come to, read one after the other: the LSN of the last, the operations that are unfinished, the
 /// transactions that are lost, and those that committed. It keeps no more than these, as long as no record of an operation
 /// or of a transaction stands behind its end.
 ///

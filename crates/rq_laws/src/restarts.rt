@@ -2,7 +2,6 @@
 ghost use Rattle.std.specs.Prelude.{◌≡◌, ℕ, IfOk, List};
 ghost use Rattle.rq_model.specs.declared.record.Record.{Record};
 ghost use Rattle.rq_restart.specs.Restarting.{IsReadAs};
-ghost use Rattle.rq_store.specs.Whole.{IsWhole};
 
 use rq_disk::{LogDevice, PageDevice};
 use rq_engine::engine::Engine;
@@ -11,7 +10,7 @@ use rq_planner::StoreLevels;
 use rq_restart::restart::{Report, Stopped, restart};
 use std::alloc::Global;
 
-/// Two restarts over one log begin the same incarnation, and report the same of a whole log. What else an opened store
+/// Two restarts over one log begin the same incarnation, and report the same of it. What else an opened store
 /// has follows from its sizes, pages and records. Excludes an incarnation, and with it transaction numbers, that are
 /// given again; last tags, or how many messages wait, that come from elsewhere than the directory; and cells that are
 /// counted otherwise.
@@ -33,7 +32,6 @@ pub fn restarts<P: PageDevice + Drop, L: LogDevice + Drop, B: Level>(
         → a.1.incarnation ≡ b.1.incarnation)) }
     ensures report { IfOk result.0 (λ a. IfOk result.1 (λ b. (older : List Record)
         → IsReadAs L.LogDevice log a.0.log older → IsReadAs L.LogDevice log b.0.log older
-        → IsWhole a.0.state.sizes older → IsWhole b.0.state.sizes older
         → (a.1.unfinished ≡ b.1.unfinished) × (a.1.lost ≡ b.1.lost))) }
     ensures state { IfOk result.0 (λ a. IfOk result.1 (λ b. (older : List Record)
         → IsReadAs L.LogDevice log a.0.log older → IsReadAs L.LogDevice log b.0.log older

@@ -1,5 +1,5 @@
 -- Receipts that an audit tells of, and what is so of the commits that they name.
-use Rattle.std.specs.Prelude.{◌≡◌, ℕ, List, drop, Some}
+use Rattle.std.specs.Prelude.{◌≡◌, ◌<◌, ℕ, List, drop, length, Some}
 use Rattle.rq_model.specs.declared.record.Record.{Record}
 use Rattle.rq_model.specs.Vocabulary.{In}
 use Rattle.rq_model.specs.Ledger.{Done}
@@ -8,6 +8,7 @@ use Rattle.rq_model.specs.Replay.{Number, Reply as Gave}
 use Rattle.rq_model.specs.Replay.Reply.{Gave_commit, Gave_receipt}
 use Rattle.rq_disk.specs.declared.device.LogDevice as log_device
 use Rattle.rq_log.specs.Spelled.{EndsWith}
+use Rattle.rq_engine.specs.Earlier.{rebased}
 use Rattle.rq_engine.specs.Opened.{OpenStore}
 use Rattle.rq_shared.specs.Entries.{Noted}
 
@@ -20,16 +21,18 @@ pub record IsReceiptOf (audit : List Noted) (n : Number) : Type 0 where
   pub committed : IsGivenIn audit (Gave_commit n)
   pub acknowledged : IsGivenIn audit (Gave_receipt (Some n))
 
--- these bytes are the log's first records, with a torn end perhaps, and the commit is one of theirs: its record is there,
--- at its place
+-- these bytes are the log's first records, those that a Base stands for among them, with a torn end perhaps, and the commit is
+-- one of theirs
 abbrev pub KeepsCommit : List Record → Done → List ℕ → Type 0
 KeepsCommit records d bytes = (lost : ℕ) × EndsWith (drop lost records) bytes
     × In d (committed_of (drop lost records))
 
--- The number names a commit of the store, whose record is in every log that a crash may leave.
-pub record IsDurable {P L : Type 0} (l : log_device.Ghosts L) (s : OpenStore P L) (n : Number) : Type 0 where
+-- With these earlier records the number names a commit of the store that stands behind them, in every log that a crash may
+-- leave.
+pub record IsDurable {P L : Type 0} (l : log_device.Ghosts L) (earlier : List Record) (s : OpenStore P L) (n : Number) : Type 0 where
   pub commit : Done
   pub txn : commit.txn ≡ n.txn
   pub lsn : commit.lsn ≡ n.lsn
-  pub stands : In commit (committed_of s.state.records)
-  pub survives : (bytes : List ℕ) → l.may_leave s.log bytes → KeepsCommit s.state.records commit bytes
+  pub behind : length earlier < commit.lsn
+  pub stands : In commit (committed_of (rebased earlier s.state.records))
+  pub survives : (bytes : List ℕ) → l.may_leave s.log bytes → KeepsCommit (rebased earlier s.state.records) commit bytes

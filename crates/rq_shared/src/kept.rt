@@ -1,9 +1,9 @@
 //! The kept engine: each call leaves one entry, and answers a stamp that says the same.
-ghost use Rattle.std.specs.Prelude.{◌≡◌, ◌≢◌, ℕ, List, ◌+◌, ◌<◌, [], ◌∷◌, ◌++◌, ◌↔◌, Err, IfErr, IfOk, OnOk, OnErr, IsTrue, true, map, length, vec_len, vec_capacity};
+ghost use Rattle.std.specs.Prelude.{◌≡◌, ◌≢◌, ℕ, List, ◌+◌, ◌<◌, [], ◌∷◌, ◌++◌, ◌↔◌, Err, IfErr, IfOk, OnOk, OnErr, IsTrue, true, false, map, length, vec_len, vec_capacity};
 ghost use Rattle.rq_model.specs.Bases.{gone};
 ghost use Rattle.rq_log.specs.Places.{StandsAt};
 ghost use Rattle.rq_log.specs.Reading.{IsRead};
-ghost use Rattle.rq_log.specs.Spelled.{IsBeginning};
+ghost use Rattle.rq_log.specs.Spelled.{AreSpelled, IsBeginning};
 ghost use Rattle.rq_content.specs.Read.{group_of};
 ghost use Rattle.rq_engine.specs.Applied.{Applied};
 ghost use Rattle.rq_engine.specs.Opened.{AreHonest, NotTold};
@@ -229,11 +229,12 @@ impl<P: PageDevice + Drop, L: LogDevice + Drop, B: Level> Kept<P, L, B> {
         self.audit.as_slice()
     }
 
-    /// What a crash at this moment leaves of the log, that a Base is forced, and that the entries replay, for proofs: it runs no
-    /// code.
+    /// For proofs: what a crash at this moment leaves of the log, if no checkpoint has failed; that each record has a spelling, and that a Base is forced;
+    /// and that the entries replay. It runs no code.
     pub fn shows_kept(&self)
-        ensures leaves { L.honest self.now.engine.log → (bytes : List ℕ) → L.may_leave self.now.engine.log bytes
+        ensures leaves { self.now.engine.replacing ≡ false → L.honest self.now.engine.log → (bytes : List ℕ) → L.may_leave self.now.engine.log bytes
             → IsBeginning self.now.engine.state.records self.now.engine.state.forced bytes }
+        ensures spelled { AreSpelled self.now.engine.state.records }
         ensures based { 0 < self.now.engine.state.forced
             → gone self.now.engine.state.records < self.now.engine.state.forced }
         ensures replays { Follows P.PageDevice L.LogDevice self.now.base self.now.audit self.now.engine }

@@ -1,11 +1,13 @@
 //! The kept engine under one lock.
-ghost use Rattle.std.specs.Prelude.{◌≡◌, ◌+◌, length, sum_by, IfSome, IfNone};
+ghost use Rattle.std.specs.Prelude.{◌≡◌, ◌+◌, false, List, length, sum_by, IfSome, IfNone};
 ghost use Rattle.rq_shared.specs.Calls.{CountsTaken, IsCalled, IsForced, IsTaken};
-ghost use Rattle.rq_shared.specs.Begun.{BeginsFrom, begins_with};
+ghost use Rattle.rq_shared.specs.Begun.{BeginsFrom};
 ghost use Rattle.rq_shared.specs.Entries.{BeginsSound, Follows, WasSound};
 ghost use Rattle.rq_shared.specs.Receipts.{IsReceiptOf, IsDurable};
 ghost use Rattle.rq_model.specs.Vocabulary.{In};
+ghost use Rattle.rq_model.specs.declared.record.Record.{Record};
 ghost use Rattle.rq_sound.specs.Sound.{IsSound};
+ghost use Rattle.rq_engine.specs.Earlier.{IsEarlier, on};
 ghost use Rattle.rq_engine.specs.Opened.{AreHonest};
 ghost use Rattle.rq_engine.specs.Says.{commit_number};
 ghost use Rattle.rq_engine.specs.declared.event.Receipt.{Receipt as GivenReceipt};
@@ -66,7 +68,7 @@ impl<P: PageDevice + Drop, L: LogDevice + Drop, B: Level, G: Sharing> Shared<P, 
         requires name { (blank.name ≡ G.name) × (taking.name ≡ G.taking) }
         requires parts { (blank.parts ≡ G.parts) × (blank.parts ≡ 1024) × (taking.parts ≡ 1024) }
         requires sound { WasSound P.PageDevice L.LogDevice G.premise engine }
-        requires begins { begins_with engine ≡ G.begins }
+        requires begins { engine.state ≡ G.begins }
         ensures { result ≡ 0 }
     {
         let (calls, rest) = blank.open::<G>();
@@ -134,11 +136,11 @@ impl<P: PageDevice + Drop, L: LogDevice + Drop, B: Level, G: Sharing> Shared<P, 
         self.lock.take_audit(rt, pass)
     }
 
-    /// Ends the sharing, once all passes are back: the audit, with the entries that were taken, has as many entries as
-    /// the passes counted calls, and so many were taken as the passes counted of those. Where the devices were honest, the
-    /// engine with which the audit begins was sound under the premise of the sharing, and as many calls as entries were taken
-    /// led to what it tells from what the engine told that was shared; and where it was sound, those of the receipts that are handed in whose
-    /// commit and acknowledgement the audit has name commits that no crash takes any more.
+    /// Ends the sharing, once all passes are back. With the entries that were taken, the audit has as many as the passes
+    /// counted calls; as many were taken as they counted. Over honest devices as many calls as were taken led from the engine
+    /// that was shared to that with which the audit begins. Both were sound under the premise of the sharing. A receipt that is
+    /// handed in then names a commit that no crash takes any more, where the audit has that commit and its acknowledgement.
+    /// All this is said whatever stood before a Base.
     pub fn close(self, passes: Vec<Pass<G>>, receipts: &[Receipt]) -> Closed<P, L, B>
         requires parts { G.parts ≡ 1024 }
         requires all { length passes.items ≡ self }
@@ -147,9 +149,10 @@ impl<P: PageDevice + Drop, L: LogDevice + Drop, B: Level, G: Sharing> Shared<P, 
         ensures replays { Follows P.PageDevice L.LogDevice result.kept.base result.kept.audit result.kept.engine }
         ensures sound { BeginsSound P.PageDevice L.LogDevice G.premise result.kept }
         ensures begun { BeginsFrom P.PageDevice L.LogDevice G.premise G.begins result.kept }
-        ensures receipts { AreHonest P.PageDevice L.LogDevice result.kept.engine → IsSound result.kept.base.state
-            → (r : GivenReceipt) → In r receipts.now → IsReceiptOf result.kept.audit (commit_number r.number)
-            → IsDurable L.LogDevice result.kept.engine (commit_number r.number) }
+        ensures receipts { AreHonest P.PageDevice L.LogDevice result.kept.engine → (earlier : List Record)
+            → IsEarlier earlier result.kept.base.state → IsSound (on earlier result.kept.base.state)
+            → result.kept.base.replacing ≡ false → (r : GivenReceipt) → In r receipts.now → IsReceiptOf result.kept.audit (commit_number r.number)
+            → IsDurable L.LogDevice earlier result.kept.engine (commit_number r.number) }
     {
         let Shared {
             lock,

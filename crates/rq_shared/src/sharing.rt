@@ -1,13 +1,14 @@
 //! What a sharing of an engine is known by, in contracts alone.
-ghost use Rattle.std.specs.Prelude.{ℕ};
-ghost use Rattle.rq_model.specs.Ledger.{Ledger, empty};
+ghost use Rattle.std.specs.Prelude.{ℕ, []};
+ghost use Rattle.rq_store.specs.State.{State};
+ghost use Rattle.rq_store.specs.Opening.{opened};
 
 use std::marker::{Brand, PhantomData};
 use std::sync::ledger::Ledger;
 
 /// One sharing of an engine: the ledger of its calls, the name of the ledger of the entries that are taken, the premise
-/// under which the engine was sound as it was shared, and what the queue came to then. Whoever shares an engine picks them.
-/// The premise may always be that very fact, that it was sound.
+/// under which the engine was sound as it was shared, and what it was then. Whoever shares an engine picks them. The premise
+/// may always be that very fact, that it was sound.
 pub trait Sharing: Ledger {
     /// The premise.
     ghost premise: { Type 0 };
@@ -15,8 +16,8 @@ pub trait Sharing: Ledger {
     /// The name of the ledger of the entries that are taken.
     ghost taking: { ℕ };
 
-    /// What the history came to of which the engine told as it was shared.
-    ghost begins: { Ledger };
+    /// The engine as it was shared.
+    ghost begins: { State };
 }
 
 impl Sharing for Brand {
@@ -24,7 +25,7 @@ impl Sharing for Brand {
 
     ghost taking = { 0 };
 
-    ghost begins = { empty };
+    ghost begins = { opened (record { directory = 0; cells = 0 }) [] [] };
 }
 
 /// The ledger of the entries that are taken of an audit. It has as many parts as that of the calls.

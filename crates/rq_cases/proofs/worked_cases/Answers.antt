@@ -1,5 +1,6 @@
 use Rattle.rq_cases.proofs.Applied.{applied}
 use Rattle.rq_cases.proofs.Audits.{audits}
+use Rattle.rq_cases.proofs.Bases.{bases}
 use Rattle.rq_cases.proofs.Bounds.{bounds}
 use Rattle.rq_cases.proofs.Courses.{causes, stops}
 use Rattle.rq_cases.proofs.Crashes.{runs}
@@ -22,6 +23,7 @@ returns c = record {
   causes_are_judged = causes;
   formats_are_judged = formats;
   restarts_are_judged = restarts;
+  bases_are_judged = bases;
   audits_are_judged = audits;
   checks_are_judged = checks;
   rollbacks_are_judged = rolls_back;

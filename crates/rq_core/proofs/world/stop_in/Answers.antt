@@ -14,7 +14,7 @@ pub returns-then-has_failed-clause-happened : goal.returns-then-has_failed-claus
 returns-then-has_failed-clause-happened g c = λ course x is.
     let device = c.has_failed.ensures c.if-has_failed.true in
     open_left course x (answer_in c.crash.result.1) (world_of c.crash.result.0) c.args.event.now c.apply-reply.result c.args.engine c.apply-reply.new.self c.give_back-pages.result.0 c.give_back-pages.result.1
-    (subst (λ y. IsLast y c.args.event.now c.apply-reply.result) (sym is) (refl, device.0, device.1, device.2)) c.apply-reply.ensures.applied (λ honest. cut_own mem_pages mem_log c.apply-reply.new.self (c.shows_kept.ensures.cut honest.1)) c.give_back-pages.ensures.pages c.give_back-pages.ensures.log c.crash.ensures.left
+    (subst (λ y. IsLast y c.args.event.now c.apply-reply.result) (sym is) (refl, device.0, device.1, device.2)) c.apply-reply.ensures.applied (λ untried honest. cut_own mem_pages mem_log c.apply-reply.new.self (c.shows_kept.ensures.cut untried honest.1)) c.give_back-pages.ensures.pages c.give_back-pages.ensures.log c.crash.ensures.left
 
 pub returns-clause-happened : goal.returns-clause-happened
 returns-clause-happened g c = λ course x is. record { event = c.args.event.now; told = c.apply-reply.result; call_is = ap (called course) is; reply_is = refl; applied = c.apply-reply.ensures.applied }

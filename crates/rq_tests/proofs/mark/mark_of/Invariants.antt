@@ -1,5 +1,4 @@
-use Rattle.rq_sound.specs.Sound.{IsSound}
-use Rattle.rq_shared.specs.Begun.{begins_with}
+use Rattle.rq_shared.specs.Entries.{GoesBack}
 use Rattle.rq_tests.proofs.mark.mark_of.Given as goal
 
 -- the ledger is that of the blank
@@ -10,7 +9,7 @@ ghosts-marked-G-Ledger g a = record { name = a.blank.name; parts = a.blank.parts
 -- sharing begins with that engine
 abbrev pub ghosts-marked-G-Sharing : goal.ghosts-marked-G-Sharing
 ghosts-marked-G-Sharing g a = record {
-  premise = IsSound a.engine.state;
+  premise = GoesBack a.engine;
   taking = a.taking.name;
-  begins = begins_with a.engine;
+  begins = a.engine.state;
 }

@@ -1,5 +1,4 @@
-use Rattle.rq_sound.specs.Sound.{IsSound}
-use Rattle.rq_shared.specs.Begun.{begins_with}
+use Rattle.rq_shared.specs.Entries.{GoesBack}
 use Rattle.rq_tests.proofs.threads.look.Given as goal
 
 -- the ledger is that of the blank
@@ -10,7 +9,7 @@ ghosts-share-G-Ledger g a = record { name = a.blank.name; parts = a.blank.parts 
 -- sharing begins with that engine
 abbrev pub ghosts-share-G-Sharing : goal.ghosts-share-G-Sharing
 ghosts-share-G-Sharing g a = record {
-  premise = IsSound a.engine.state;
+  premise = GoesBack a.engine;
   taking = a.taking.name;
-  begins = begins_with a.engine;
+  begins = a.engine.state;
 }

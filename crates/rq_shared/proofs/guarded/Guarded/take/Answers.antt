@@ -17,5 +17,5 @@ invariant_of-self g c =
       told.begun.1 ∙ (ap (λ n. n + length kept.audit) c.self.invariant.1 ∙ (ap (λ n. c.self.inside.taken.total + n) count ∙ sym c.add.ensures.total)),
       search rules,
       begins_anew g.P.PageDevice g.L.LogDevice g.G.Sharing.premise g.G.Sharing.begins kept c.take-taken.new.self c.self.invariant.3
-          c.self.invariant.2 follows told.engine told.begun.0 told.begun.1,
+          follows told.engine told.begun.0 told.begun.1,
     )

@@ -1,12 +1,10 @@
 use Rattle.rq_shared.specs.declared.kept.AuditEntry.{AuditEntry}
-use Rattle.rq_engine.proofs.Owned.{steps_own}
 use Rattle.rq_shared.proofs.Replaying.{one_noted}
 use Rattle.rq_shared.proofs.kept.Kept.step.Goals as goal
 
 pub invariant_of-self-2 : goal.invariant_of-self-2
 invariant_of-self-2 g c =
     let before = c.self.inside in
-    let told = c.apply-reply.ensures.applied in
     let entry : AuditEntry = record { pass = c.args.pass; event = c.in-Ok.noted_event; reply = c.in-Ok-copy_of.noted_reply } in
     one_noted g.P.PageDevice g.L.LogDevice before.base.value before.engine c.apply-reply.new.self before.audit.items c.add_entry.new.audit.items entry c.args.event c.apply-reply.result
-    (rw c.in-Ok.ensures.audit at c.add_entry.ensures) c.in-Ok.ensures.copy c.in-Ok-copy_of.ensures.same c.self.invariant told.sizes told.honest (steps_own g.P.PageDevice g.L.LogDevice before.engine c.apply-reply.new.self c.args.event c.apply-reply.result told)
+    (rw c.in-Ok.ensures.audit at c.add_entry.ensures) c.in-Ok.ensures.copy c.in-Ok-copy_of.ensures.same c.self.invariant c.apply-reply.ensures.applied
