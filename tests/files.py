@@ -1,6 +1,6 @@
 #!/usr/bin/env python3
-"""Has `rqm` make and serve stores in folders, and looks at their files: what a format and a message leave there, byte for byte,
-where no store is made, and what is left where each call on the files fails in turn.
+"""Has `rqm` make and serve stores in folders, and looks at their files. A format and a message leave what docs/FORMATS.md says, byte for
+byte. Where no store can be made, and where each call on the files fails in turn, what was there is not harmed.
 
     python3 tests/files.py [--program PROGRAM] [NAME..]
 
@@ -20,7 +20,7 @@ from contextlib import contextmanager
 
 from cases import built, built_twice
 from damaged import (
-    FREE, MESSAGE, ONE_COMMITTED, ONE_SENT, PAGE, cell, end, formatted, group, received, sent, small, write,
+    FREE, MESSAGE, ONE_COMMITTED, ONE_SENT, PAGE, base, cell, end, formatted, group, received, sent, small, write,
 )  # fmt: skip
 from inspector import record
 from server import LONGEST, STORE_FAILED, DiskWrite, Failed, NotStarted, Server, everything, raises, wait_until
@@ -30,6 +30,7 @@ SHIM = """#define _GNU_SOURCE
 #include <dlfcn.h>
 #include <errno.h>
 #include <fcntl.h>
+#include <signal.h>
 #include <stdarg.h>
 #include <stdatomic.h>
 #include <stdio.h>
@@ -44,8 +45,14 @@ static int fails(void) {
     const char *at = getenv("FAIL_AT"), *told = getenv("FAILED");
     if (!at || ++made != atol(at)) return 0;
     close(open(told, O_WRONLY | O_CREAT, 0666));
-    errno = EIO;
     return 1;
+}
+
+/* What the call answers then. Where STOPS is set it answers nothing, and the program is killed in it. */
+static int failed(void) {
+    if (getenv("STOPS")) kill(getpid(), SIGKILL);
+    errno = EIO;
+    return -1;
 }
 
 /* Where NAMES is set, calls that open, lock, rename or say who may read fail like that too. */
@@ -67,19 +74,19 @@ static int noted(const struct stat *synced) {
 #define WRITE(name, offset) ssize_t name(int file, const void *bytes, size_t size, offset at) { \\
     if (!fails()) return NEXT(name)(file, bytes, size, at); \\
     NEXT(name)(file, bytes, getenv("IN_PART") ? size / 2 : size, at); \\
-    errno = EIO; \\
-    return -1; \\
+    return failed(); \\
 }
 #define READ(name, offset) ssize_t name(int file, void *bytes, size_t size, offset at) { \\
-    return fails() ? -1 : NEXT(name)(file, bytes, size, at); \\
+    return fails() ? failed() : NEXT(name)(file, bytes, size, at); \\
 }
 #define SYNC(name) int name(int file) { \\
     struct stat before; \\
-    return fails() || fstat(file, &before) || NEXT(name)(file) ? -1 : noted(&before); \\
+    if (fails()) return failed(); \\
+    return fstat(file, &before) || NEXT(name)(file) ? -1 : noted(&before); \\
 }
 
 #define CUT(name, offset) int name(int file, offset length) { \\
-    return fails() ? -1 : NEXT(name)(file, length); \\
+    return fails() ? failed() : NEXT(name)(file, length); \\
 }
 
 CUT(ftruncate, off_t)
@@ -96,19 +103,18 @@ int open(const char *path, int how, ...) {
     va_start(rest, how);
     mode_t mode = how & O_CREAT ? va_arg(rest, mode_t) : 0;
     va_end(rest);
-    return name_fails() ? -1 : NEXT(open)(path, how, mode);
+    return name_fails() ? failed() : NEXT(open)(path, how, mode);
 }
 int flock(int file, int how) {
-    return name_fails() ? -1 : NEXT(flock)(file, how);
+    return name_fails() ? failed() : NEXT(flock)(file, how);
 }
 int fchmod(int file, mode_t mode) {
-    return name_fails() ? -1 : NEXT(fchmod)(file, mode);
+    return name_fails() ? failed() : NEXT(fchmod)(file, mode);
 }
 int rename(const char *from, const char *to) {
     if (!name_fails()) return NEXT(rename)(from, to);
     if (getenv("IN_PART")) NEXT(rename)(from, to);
-    errno = EIO;
-    return -1;
+    return failed();
 }
 """
 
@@ -189,9 +195,9 @@ MESSAGES = [
 
 
 def messages(program):
-    """The files behind each transaction, once each changed page is written: page 2 by the record of this LSN, with these cells, and
-    page 1 by the next one, with this slot of the sender; and what is received when the store is opened again. One server does all, and
-    then one each time."""
+    """The files behind each transaction, once each changed page is written. Page 2 was written by the record of this LSN, with these cells,
+    and page 1 by the next one, with this slot of the sender. What is received when the store is opened again is that. One server does
+    all, and then one each time."""
     one, two, last = (ONE_SENT, [MESSAGE]), (group(2, 0, 33, 34), [FIRST, SECOND]), (group(2, 1, 34, 34), [FREE, cell(2)])
     left = [(5, 3, *one), (10, 8, *two), (15, 13, *last)]
     with folder_of(pages=formatted(), log=b"") as folder:
@@ -319,11 +325,17 @@ def formats(program):
 def courses(program):
     """Where a call of an opening fails it is refused, and another one opens the store. Where one fails behind it, it is told, also to
     who runs the server, and the store does nothing more. What was acknowledged is there once it is opened again, and of the rest at
-    most one commit. So it is where the machine stops, and the log keeps only what was synced."""
+    most one commit. So it is where the machine stops, and the log keeps only what was synced. So it is behind a Base."""
+    courses_from(program, b"")
+    courses_from(program, base(1))
+
+
+def courses_from(program, log):
+    """The same over a store that is formatted, but for this log."""
     shorter = 0
     for words, told in each_call(16):
         course = Course()
-        with folder_of(pages=formatted(), log=b"") as folder, folder_of(synced=b"") as beside:
+        with folder_of(pages=formatted(), log=log) as folder, folder_of(synced=log) as beside:
             synced = beside / "synced"
             words = {**words, "LOG": str(folder / "log"), "SYNCED": str(synced)}
             try:
@@ -457,6 +469,73 @@ def replaced_while_open(program):
         assert files_of(top / "aside") == {"pages": other["pages"], "log": bytes(1200)}
 
 
+def checkpoint(program, folder, **words):
+    """What is printed, and the exit status."""
+    command, words = [program, "checkpoint", str(folder)], dict(os.environ, **words)
+    ended = subprocess.run(command, stdout=subprocess.PIPE, stderr=subprocess.DEVNULL, env=words, timeout=LONGEST)
+    return ended.stdout, ended.returncode
+
+
+def checkpointed(program):
+    """The log is one record that counts those before it, and the pages hold what they left. What comes next counts on, be it another
+    checkpoint. What had no end is undone before. What a crash left where the new log is made does no harm."""
+    for left in ({}, {"log.new": OLD}):
+        with folder_of(pages=formatted(), log=b"".join(MESSAGES[:10]), **left) as folder:
+            pages = files_behind(10, 8, group(2, 0, 33, 34), [FIRST, SECOND])["pages"]
+            for incarnation in (2, 3):
+                lsn = 8 + 2 * incarnation
+                assert checkpoint(program, folder) == (b"restarted %d unfinished 0 lost 0\ncheckpoint %d\n" % (incarnation, lsn), 0)
+                assert files_of(folder) == {"pages": pages, "log": base(lsn - 1, incarnation)}
+            server = Server(program, folder)
+            assert checkpoint(program, folder) == (b"fault open\n", 1)
+            assert transact(server, 2) == 20
+            server.kill()
+            assert held_by(program, folder) == {0: [(7, b"hello")]}
+    # three undos and an OpVoid, or three writes, a CompEnd and an AbortEnd; and the restart's record
+    for records, unfinished, lost, made in ((8, 1, 0, 13), (9, 0, 1, 15)):
+        with folder_of(pages=formatted(), log=b"".join(MESSAGES[:records])) as folder:
+            told = b"restarted 2 unfinished %d lost %d\ncheckpoint %d\n" % (unfinished, lost, made + 1)
+            assert checkpoint(program, folder) == (told, 0)
+            assert (folder / "log").read_bytes() == base(made, 2)
+            assert held_by(program, folder) == {0: [(7, b"hello")]}
+
+
+def not_checkpointed(program):
+    """Where there is no store nothing is made. Where the log has no room for a record, only the restart's is added."""
+    with folder_of() as folder:
+        assert checkpoint(program, folder / "none") == checkpoint(program, folder) == (b"fault open\n", 1)
+        assert files_of(folder) == {}
+    with folder_of(pages=formatted(), log=base(2**50 - 2)) as folder:
+        assert checkpoint(program, folder) == (b"restarted 2 unfinished 0 lost 0\nfault 19 LogFull\n", 1)
+        assert files_of(folder) == {"pages": bytes(formatted()), "log": base(2**50 - 2) + record(7, [2])}
+
+
+def checkpoints_that_fail(program):
+    """Where a call fails, or the program is killed in it, the log is the old one or the new one. The store holds what it held, and the
+    next checkpoint is made."""
+    old, held, came = b"".join(MESSAGES[:9]), {0: [(7, b"hello")]}, set()
+    for stops in ({}, {"STOPS": "1"}):
+        for words, told in each_call(20):
+            with folder_of(pages=formatted(), log=old) as folder:
+                printed, status = checkpoint(program, folder, NAMES="1", **stops, **words)
+                log = (folder / "log").read_bytes()
+                is_new = log == base(15, 2)
+                assert is_new or log.startswith(old), words
+                # the first three look at the standard streams
+                if told.exists() and (stops or int(words["FAIL_AT"]) > 3):
+                    assert status == (-signal.SIGKILL if stops else 1), (words, status)
+                    assert stops or printed.endswith((b"fault open\n", b"fault 3 DiskRead\n", b"fault 15 DiskWrite\n")), (words, printed)
+                    came.add((bool(stops), is_new))
+                else:
+                    assert is_new and status == 0, (words, printed)
+                with folder_of(**files_of(folder)) as copy:
+                    assert held_by(program, copy) == held, words
+                assert checkpoint(program, folder)[1] == 0, words
+                assert len((folder / "log").read_bytes()) == len(base(1)), words
+                assert held_by(program, folder) == held, words
+    assert len(came) == 4, came
+
+
 def why_refused(program, folder):
     try:
         Server(program, folder).kill()
@@ -518,7 +597,7 @@ def is_failed(server):
 
 TESTS = [
     made, there, no_folder, open_once, messages, log_of_all, formats, courses, torn_ends, last_force,
-    replaced, left_behind, not_replaced, no_room, replaced_while_open,
+    replaced, left_behind, not_replaced, no_room, replaced_while_open, checkpointed, not_checkpointed, checkpoints_that_fail,
 ]  # fmt: skip
 
 # What looks at the bytes of each file.

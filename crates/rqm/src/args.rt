@@ -28,6 +28,8 @@ pub enum Args {
     Format(String, Layout),
     /// A server over the store in a folder.
     Serve(Serve),
+    /// One record in the place of the log of the store in this folder.
+    Checkpoint(String),
     /// What the log of the store in this folder holds.
     Inspect(String),
     /// Nothing more: the words were answered, with this status.
@@ -83,6 +85,7 @@ fn parse(alloc: Global, words: &[String]) -> Result<Option<Args>, Error> {
         Some(("run", run)) => Ok(layout(run).map(Args::Run)),
         Some(("format", format)) => Ok(store(alloc, format)?),
         Some(("serve", serve)) => Ok(server(alloc, serve)?),
+        Some(("checkpoint", checkpoint)) => { Ok(folder(alloc, checkpoint)?.map(Args::Checkpoint)) }
         Some(("inspect", inspect)) => Ok(folder(alloc, inspect)?.map(Args::Inspect)),
         _ => Ok(None),
     }
@@ -131,6 +134,7 @@ fn command<'a>(alloc: Global) -> Result<Command<'a>, AllocError> {
         .subcommand(run_command(alloc)?)?
         .subcommand(format_command(alloc)?)?
         .subcommand(serve_command(alloc)?)?
+        .subcommand(checkpoint_command(alloc)?)?
         .subcommand(inspect_command(alloc)?)
 }
 
@@ -160,6 +164,12 @@ fn serve_command<'a>(alloc: Global) -> Result<Command<'a>, AllocError> {
         .arg(sessions(alloc))?
         .arg(until_input_ends(alloc))?
         .arg(frames(alloc))
+}
+
+fn checkpoint_command<'a>(alloc: Global) -> Result<Command<'a>, AllocError> {
+    Command::new(alloc, "checkpoint")
+        .about("Makes the log of the store in a folder one record, so that it opens at once")
+        .arg(named_folder(alloc, "Where the files are"))
 }
 
 fn inspect_command<'a>(alloc: Global) -> Result<Command<'a>, AllocError> {

@@ -2,10 +2,12 @@
 #![tactic(auto)]
 
 mod args;
+mod checkpoint;
 mod inspect;
 mod serving;
 
 use args::Args;
+use checkpoint::run_checkpoint;
 use inspect::run_inspect;
 use rq_files::{Renames, run_format};
 use rq_levels::sets_of_levels;
@@ -69,6 +71,7 @@ fn run<
         Args::Run(layout) => run_input(rt, &mut writer, layout)?,
         Args::Format(folder, layout) => run_format(rt, &mut writer, folder.as_str(), &layout),
         Args::Serve(asked) => run_serve(rt, &asked)?,
+        Args::Checkpoint(folder) => run_checkpoint(rt, folder.as_str())?,
         Args::Inspect(folder) => run_inspect(rt, &mut writer, folder.as_str())?,
         Args::Answered(status) => status,
     })

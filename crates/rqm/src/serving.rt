@@ -1,6 +1,5 @@
 //! The server over a store of files.
 ghost use Rattle.std.specs.Prelude.{◌≡◌, IfOk};
-ghost use Rattle.rq_shared.specs.Begun.{begins_with};
 ghost use Rattle.rq_shared.specs.Entries.{WasSound};
 ghost use Rattle.rqm.specs.Holding.{HoldStore};
 
@@ -50,8 +49,8 @@ pub fn run_serve<
     }
 }
 
-// Prints a fault. The exit status.
-fn tell_fault<R: Print>(rt: &R, fault: Fault) -> io::Result<u8> {
+/// Prints a fault. The exit status.
+pub fn tell_fault<R: Print>(rt: &R, fault: Fault) -> io::Result<u8> {
     println!(rt; "fault {fault}")?;
     Ok(1)
 }
@@ -95,7 +94,11 @@ fn listening<
     }
 }
 
-fn opened<'a, S: FileContents, R: AllocGlobal + Eprint + Files<File = File> + Renames>(
+/// The store of a folder, opened.
+///
+/// # Errors
+/// Why it is not.
+pub fn opened<'a, S: FileContents, R: AllocGlobal + Eprint + Files<File = File> + Renames>(
     rt: &'a R,
     folder: &str,
     held: S,
@@ -246,7 +249,7 @@ fn share<
     requires name { (blank.name ≡ G.name) × (taking.name ≡ G.taking) }
     requires parts { (blank.parts ≡ G.parts) × (blank.parts ≡ 1024) × (taking.parts ≡ 1024) }
     requires sound { WasSound P.PageDevice L.LogDevice G.premise engine }
-    requires begins { begins_with engine ≡ G.begins }
+    requires begins { engine.state ≡ G.begins }
 {
     let shared = Shared::<P, L, StoreLevel, G>::new(alloc, engine, blank, taking);
     serve(rt, alloc, listener, shared, plan)

@@ -1,0 +1,32 @@
+//! `rqm checkpoint`: a store's log is made one record.
+use crate::serving::{opened, tell_fault};
+use rq_disk::Unknown;
+use rq_files::{Fault, Renames};
+use std::fs::{File, Files};
+use std::io;
+
+/// Opens the store of a folder, makes its log one record, and prints what the restart found and the record's LSN, or why not.
+/// Answers the exit status: 0, or 1 after a fault.
+///
+/// # Errors
+/// Where a line cannot be printed.
+pub fn run_checkpoint<R: AllocGlobal + Print + Eprint + Files<File = File> + Renames>(
+    rt: &R,
+    folder: &str,
+) -> io::Result<u8> {
+    let (mut engine, report) = match opened(rt, folder, Unknown) {
+        Ok(opened) => opened,
+        Err(fault) => return tell_fault(rt, fault),
+    };
+    println!(rt;
+        "restarted {} unfinished {} lost {}",
+        report.incarnation, report.unfinished, report.lost
+    )?;
+    match engine.checkpoint() {
+        Ok(lsn) => {
+            println!(rt; "checkpoint {lsn}")?;
+            Ok(0)
+        }
+        Err(refusal) => tell_fault(rt, Fault::Refused(refusal)),
+    }
+}
