@@ -84,8 +84,8 @@ def end(operation, deed, level=1, txn=1):
     return record(3, [1, txn, operation, level], deed)
 
 
-def void(operation):
-    return record(4, [1, 1, operation])
+def void(operation, txn=1):
+    return record(4, [1, txn, operation])
 
 
 def back(operation, undone, txn=1):
@@ -353,14 +353,20 @@ LOGS = [
 # ---- what a restart adds to a log, record by record: the log, and what it is then
 
 
+# Parts of records, which go before anything is added.
+ENDS = b"", FILL[:545], COMMIT[:20], restart(2)[:12], base(5)[:20], b"\0"
+
+
 def ends_that_a_crash_left():
-    """Each log as it is, and with a part of a record behind it, which goes before anything is added."""
-    for before, added in restarts():
-        for end in (b"", FILL[:545], COMMIT[:20], restart(2)[:12], b"\0"):
-            yield before, end, added
+    """Pages, and a log as it is, or with a part of a record behind it."""
+    stores = [(formatted(), *each) for each in restarts()] + list(restarts_behind_a_base())
+    for pages, before, added in stores:
+        for end in ENDS:
+            yield pages, before, end, added
 
 
 def restarts():
+    """Logs over pages as they are formatted, and what is added."""
     yield [], [BEGUN]
     yield ONE_COMMITTED, [restart(2)]
     # slot writes of operations without an end
@@ -380,6 +386,61 @@ def restarts():
 def again(number):
     """The inverse of the send, by an operation of this number: the cell first, and then its group."""
     return [write(number, 2, 1, MESSAGE, FREE), write(number, 1, 1, ONE_SENT, group()), back(number, 4)]
+
+
+# behind a Base: a close, a receive, and its first write undone by the transaction 1.2, and a write of another
+SHUT = closed(1, 0, 33, 33)
+TAKEN = [*TAKE, received_by_another(0, 1)]
+TAKEN_GROUP_UNDONE = undo(1, 7, 1, 1, ONE_SENT, txn=2), void(1, txn=2)
+OTHER_GROUP = write(1, 1, 2, group(sender=1), group(1, 0, 34, 34, sender=1), txn=3)
+# a second message of sender 0, in the second cell, behind the first
+FIRST_OF_TWO, SECOND_OF_TWO, TWO_SENT = cell(1, behind=34), cell(2, before=33), group(2, 0, 33, 34)
+SENT_SECOND = [
+    write(1, 2, 2, FREE, SECOND_OF_TWO, txn=2), write(1, 2, 1, MESSAGE, FIRST_OF_TWO, txn=2),
+    write(1, 1, 1, ONE_SENT, TWO_SENT, txn=2), end(1, sent(0, 2, 7), txn=2),
+]  # fmt: skip
+# its inverse: its cell, the cell before it, and then its group
+UNSENT_SECOND = [
+    write(2, 2, 2, SECOND_OF_TWO, FREE, txn=2), write(2, 2, 1, FIRST_OF_TWO, MESSAGE, txn=2),
+    write(2, 1, 1, TWO_SENT, ONE_SENT, txn=2), back(2, 10, txn=2),
+]  # fmt: skip
+
+
+def restarts_behind_a_base():
+    """Pages that hold the one committed message, logs whose Base stands for its records, and what is added. The record behind the Base has
+    the LSN 7; a transaction there is 1.2, unless another is named."""
+    gone, ended, next_one = base(5), record(8, [1, 2]), restart(2)
+    for before, added in (
+        ([gone], [next_one]), ([base(5, 3)], [restart(4)]), ([gone, next_one], [restart(3)]),
+        ([gone, next_one, restart(3)], [restart(4)]), ([gone, record(6, [1, 2])], [next_one]), ([gone, ended], [next_one]),
+        # slot writes of operations without an end: the group's, and the cell's, too
+        ([gone, TAKE[0]], [*TAKEN_GROUP_UNDONE, next_one]),
+        ([gone, *TAKE], [undo(1, 8, 2, 1, MESSAGE, txn=2), *TAKEN_GROUP_UNDONE, next_one]),
+        ([gone, TAKE[0], TAKEN_GROUP_UNDONE[0]], [TAKEN_GROUP_UNDONE[1], next_one]),
+        # what was done and not committed: a receive, also where its inverse was cut off or was made, a close, and a second send
+        ([gone, *TAKEN], [*put_back(2), ended, next_one]),
+        ([gone, *TAKEN, put_back(2)[0]], [undo(2, 10, 2, 1, FREE, txn=2), void(2, txn=2), *put_back(3), ended, next_one]),
+        ([gone, *TAKEN, *put_back(2)], [ended, next_one]), ([gone, *TAKEN, record(6, [1, 2])], [next_one]),
+        ([gone, write(1, 1, 1, ONE_SENT, SHUT, txn=2), end(1, closing(0), txn=2)],
+         [write(2, 1, 1, SHUT, ONE_SENT, txn=2), back(2, 8, txn=2), ended, next_one]),
+        ([gone, *SENT_SECOND], [*UNSENT_SECOND, ended, next_one]),
+        # a transaction that is lost, beside an operation without an end of another
+        ([gone, *TAKEN, OTHER_GROUP], [undo(1, 10, 1, 2, group(sender=1), txn=3), void(1, txn=3), *put_back(2), ended, next_one]),
+        # a transaction of the incarnation behind a restart there
+        ([gone, next_one, record(1, [2, 1, 1, 1, 1], ONE_SENT + ONE_TAKEN)],
+         [record(2, [2, 1, 1, 8, 1, 1], ONE_SENT), record(4, [2, 1, 1]), restart(3)]),
+    ):  # fmt: skip
+        yield written(), before, added
+    # pages that were written behind the Base
+    pages = written()
+    put(pages, 1, 1, ONE_TAKEN, 7)
+    put(pages, 2, 1, FREE, 8)
+    yield pages, [gone, *TAKEN], [*put_back(2), ended, next_one]
+
+
+def put_back(number):
+    """The inverse of the receive, by an operation of this number: the message goes into the first cell, and then its group."""
+    return [write(number, 2, 1, FREE, MESSAGE, txn=2), write(number, 1, 1, ONE_TAKEN, ONE_SENT, txn=2), back(number, 9, txn=2)]
 
 
 # ---- pages
@@ -519,7 +580,7 @@ def chains_beside_a_whole_one():
 
 def chains_on_two_pages():
     """Two directory and two cell pages, whose first cells are 49 and 65. The slots of senders 14 and 15, these cells, and what is
-    said: the lower sender is named, then the lower page of a cell in no chain."""
+    said. The lower sender is named, then the lower page of a cell in no chain."""
     lower, upper = group(6, 5, 65, 65, sender=14), group(6, 5, 49, 49, sender=15)
     of_lower, of_upper = cell(6, sender=14), cell(6, sender=15)
     no_lower, no_upper = group(6, 6, sender=14), group(6, 6, sender=15)
@@ -626,14 +687,16 @@ def fault(program, name, pages, log, wanted):
     return None
 
 
-def odd_restart(program, at, before, end, added):
-    """What is wrong with the log that a restart leaves; None where nothing is."""
+def odd_restart(program, at, pages, before, end, added):
+    """What is wrong with the files that a restart leaves; None where nothing is. It writes no page."""
     with tempfile.TemporaryDirectory() as top:
         folder = pathlib.Path(top)
-        (folder / "pages").write_bytes(formatted())
+        (folder / "pages").write_bytes(pages)
         (folder / "log").write_bytes(b"".join([*before, end]))
         subprocess.run([program, "open", top], stdout=subprocess.DEVNULL, timeout=MOST_SECONDS)
         left = (folder / "log").read_bytes()
+        if (folder / "pages").read_bytes() != pages:
+            return f"restarts, {at}: its pages have changed"
     return None if left == b"".join([*before, *added]) else f"restarts, {at}: the log is {left.hex()}"
 
 

@@ -1,11 +1,11 @@
 #!/usr/bin/env python3
-"""Gives the built `rqm` stores and sessions with other bytes. What it says of them, and leaves, is compared with what tests/opening.py,
-tests/inspector.py and tests/reference.py make of the bytes; a store that is refused stays as it is.
+"""Gives the built `rqm` stores and sessions with other bytes. What it says of them, and leaves, is what tests/opening.py,
+tests/inspector.py and tests/reference.py make of the bytes. A store that is refused stays as it is.
 
     python3 tests/fuzzed.py [--program PROGRAM]
     python3 tests/fuzzed.py --minutes M [--seed N] [--jobs N] [--keep FOLDER] [--program PROGRAM]
 
-The first plays what stands in tests/fuzzed: a NAME.store, compressed, has the length of its pages in four bytes, the pages and the log; a
+The first plays what stands in tests/fuzzed. A NAME.store, compressed, has the length of its pages in four bytes, the pages and the log. A
 NAME.frames is what one connection says to a fresh store, a NAME.talk what two say by turns. Where `rt ci` left the program as Rattle's
 own compiler builds it too, that one plays them as well.
 
@@ -33,11 +33,11 @@ import inspector
 import opening
 from cases import TOP, built, built_twice
 from damaged import formatted, rows
-from hostile import drawn_frame, drawn_stream, frame_of, requests_in
+from hostile import drawn_frame, drawn_stream, requests_in
 from mutated import Mutation, left_by_runs, put_files
 from reference import REFUSALS, Refused
 from script_reference import Script
-from server import CLOSING, FAULTS, LONGEST, SESSION, read_bytes, read_to_end
+from server import CLOSING, FAULTS, LONGEST, SESSION, frame_of, read_bytes, read_to_end
 from shim import failing
 
 CORPUS = TOP / "tests" / "fuzzed"

@@ -1,12 +1,12 @@
 #!/usr/bin/env python3
-"""Uses `rqm` as nobody should: signals at any moment, streams that are closed or full, little memory, few files, a small disk, files that
-are mixed up or gone, calls that come short, clients that say anything. Each time the answer is one of docs/OPERATING.md, a client that
-behaves is served, and what was acknowledged is there at the next start.
+"""Uses `rqm` as nobody should: signals at any moment, streams that are closed or full, little memory, few files, a small disk. Files are
+mixed up or gone, calls come short, clients say anything. Each time the answer is one of docs/OPERATING.md, a client that behaves is
+served, and what was acknowledged is there at the next start.
 
-    python3 tests/hostile.py [--program PROGRAM] [--seed N] [--rounds N] [--minutes M] [NAME..]
+    python3 tests/hostile.py [--program PROGRAM] [--seed N] [--rounds N] [--minutes M] [--workers W] [NAME..]
 
-A name is one of the tests below, as `signals`; without one all are run, but for `long_sessions`. One needs the rights of root, and says
-where it does not have them.
+A name is one of the tests below, as `signals`; without one all are run, but for `long_sessions`. That runs a server with one worker, and
+then one with four, or one with W.
 """
 import argparse
 import itertools
@@ -32,8 +32,8 @@ from damaged import formatted
 from files import files_of, folder_of, format_store
 from kill import Kills
 from server import (
-    BEGIN, LENGTHS, LONGEST, Client, Connection, NotStarted, Server, compare, everything, in_threads, raises, read_bytes, read_to_end,
-    reset, serving, store, wait_until,
+    BEGIN, LENGTHS, LONGEST, STORE_FAILED, Client, Connection, NotStarted, Server, broken_off, compare, everything, frame_of,
+    in_threads, raises, read_bytes, read_to_end, reset, serving, store, wait_until,
 )  # fmt: skip
 from shim import failing
 
@@ -42,15 +42,6 @@ from rqm import Failed, Full, Latched, Lost, NoMemory, Passing, Refused  # noqa:
 
 # What a server may print in place of where it listens.
 FAULTS = [b"fault open\n", b"fault 1 NoMemory\n", b"fault 3 DiskRead\n", b"fault 15 DiskWrite\n", b"fault 16 Damaged\n"]
-
-
-class Skipped(Exception):
-    """Why a test is not run."""
-
-
-def as_root():
-    if os.geteuid() != 0:
-        raise Skipped("it needs the rights of root")
 
 
 # ---- signals
@@ -223,7 +214,7 @@ def unwritable(name):
 # ---- little of what the system gives
 
 
-def limited(program, folder, *limits):
+def limited(program, folder, *limits, environment=None):
     """What a server comes to under limits, once it listens or ends: what it prints first, and its status then."""
 
     def limit():
@@ -231,8 +222,8 @@ def limited(program, folder, *limits):
             resource.setrlimit(kind, (most, most))
 
     with tempfile.TemporaryFile() as told:
-        command = [program, "serve", str(folder), "--port", "0"]
-        process = subprocess.Popen(command, stdout=subprocess.PIPE, stderr=told, preexec_fn=limit)
+        command, words = [program, "serve", str(folder), "--port", "0"], dict(os.environ, **(environment or {}))
+        process = subprocess.Popen(command, stdout=subprocess.PIPE, stderr=told, preexec_fn=limit, env=words)
         line = process.stdout.readline()
         if line.startswith(b"listening "):
             process.kill()
@@ -389,10 +380,6 @@ def hold_one(server, wanting, is_lost, end):
         wanting.unlink()
 
 
-def frame_of(kind, fields=b""):
-    return struct.pack(">HB", 1 + len(fields), kind) + fields
-
-
 def is_refused(connection):
     """Whether memory is wanting for a call, which is answered in time."""
     before = time.monotonic()
@@ -485,8 +472,8 @@ def sent_on_disk(folder):
 
 
 def two_programs(program, chosen):
-    """Of programs that begin at once in one folder one makes the store, and one serves it; a format refuses a store that is served, and an
-    inspection reads it meanwhile. The others wait for nobody, and change nothing."""
+    """Of programs that begin at once in one folder one makes the store, and one serves it. The others wait for nobody, and change nothing.
+    A format refuses a store that is served, and an inspection reads it meanwhile."""
     draw, words = random.Random(chosen.seed), ["--directory", "1", "--cells", "20"]
 
     def started(command):
@@ -520,8 +507,8 @@ def two_programs(program, chosen):
 
 
 def other_files(program, _):
-    """The pages of one store beside the log of another, or one of them as it was before: what opens is what the bytes say, and the
-    rest is refused. So are pages of any other length."""
+    """The pages of one store stand beside the log of another, or one of them is as it was before. What opens is what the bytes say, and
+    the rest is refused. So are pages of any other length."""
     with store(program, 1, 2) as one, store(program, 1, 2) as other:
         kept = []
         formatted_pages = files_of(one)["pages"]
@@ -557,14 +544,13 @@ def other_files(program, _):
 
 @contextmanager
 def entered_by_all():
-    """A folder that others may enter, wherever temporary files go."""
-    for place in map(pathlib.Path, (tempfile.gettempdir(), "/tmp", "/var/tmp", "/dev/shm")):
-        if all(path.is_dir() and path.stat().st_mode & 1 for path in (place, *place.parents)):
-            with tempfile.TemporaryDirectory(prefix="rqm-rights-", dir=place) as top:
-                os.chmod(top, 0o755)
-                yield pathlib.Path(top)
-                return
-    raise Skipped("others may enter no folder for temporary files")
+    """A folder that others may enter, wherever temporary files go. Who is not root needs no others."""
+    places = [pathlib.Path(place) for place in (tempfile.gettempdir(), "/tmp", "/var/tmp", "/dev/shm")]
+    entered = [place for place in places if all(path.is_dir() and path.stat().st_mode & 1 for path in (place, *place.parents))]
+    assert entered or os.geteuid() != 0, f"others may enter none of {places}"
+    with tempfile.TemporaryDirectory(prefix="rqm-rights-", dir=[*entered, places[0]][0]) as top:
+        os.chmod(top, 0o755)
+        yield pathlib.Path(top)
 
 
 def no_rights(program, _):
@@ -637,8 +623,7 @@ def vanished_folder(program, _):
 
 
 def moved_folder(program, _):
-    """A folder that is moved under a server: it serves on from there, where nobody else opens the store, and another in its old place is
-    another's."""
+    """A server whose folder is moved serves on from there, where nobody else opens the store. A folder in its old place is another's."""
     with store(program, 1, 10) as folder, folder_of() as top:
         with serving(program, folder) as server, server.connect() as connection:
             send_many(connection, {}, 0, range(1, 3))
@@ -654,40 +639,85 @@ def moved_folder(program, _):
                 assert {sender: [tag for tag, _ in held] for sender, held in everything(connection).items()} == left, where
 
 
+# A file that grows beyond ROOM bytes is refused for want of room, behind the part that there is room for.
+FULL_DISK = """#define _GNU_SOURCE
+#include <dlfcn.h>
+#include <errno.h>
+#include <stdlib.h>
+#include <sys/stat.h>
+#include <unistd.h>
+
+#define NEXT(name) ((__typeof__(&name)) dlsym(RTLD_NEXT, #name))
+#define WRITE(name, offset) ssize_t name(int file, const void *bytes, size_t size, offset at) { \\
+    struct stat now; \\
+    long room = atol(getenv("ROOM")), end = at + (long) size; \\
+    if (fstat(file, &now)) return -1; \\
+    if (end > now.st_size && end > room) { \\
+        if (at >= room) { errno = ENOSPC; return -1; } \\
+        size = room - at; \\
+    } \\
+    return NEXT(name)(file, bytes, size, at); \\
+}
+WRITE(pwrite, off_t)
+WRITE(pwrite64, off64_t)
+"""
+
+# Kilobytes of a disk, of which the pages of its store take 36.
+DISKS = (40, 64, 100, 200)
+
+
 def small_disk(program, _):
-    """A disk that gets full under load: the store fails, and says so. What was acknowledged is there, once there is room, and before."""
-    as_root()
-    for size in (40, 64, 100, 200):
-        with tempfile.TemporaryDirectory(prefix="rqm-disk-") as top:
-            if subprocess.run(["mount", "-t", "tmpfs", "-o", f"size={size}k", "none", top], stderr=subprocess.DEVNULL).returncode:
-                raise Skipped("nothing may be mounted here")
-            try:
-                fill_disk(program, pathlib.Path(top), size)
-            finally:
-                subprocess.run(["umount", top], check=True)
+    """A disk gets full under load: the store fails, and says so. What was acknowledged is there once there is room, and before. The disk is
+    a library's for everybody, and a file system for root."""
+    for size in DISKS:
+        with tempfile.TemporaryDirectory(prefix="rqm-disk-") as top, failing(FULL_DISK) as (_, words):
+            words["ROOM"] = str((size - 36) * 1024)
+            fill_disk(program, pathlib.Path(top), words)
+    mounted = sum(fill_file_system(program, size) for size in DISKS) if os.geteuid() == 0 else 0
+    return f"{len(DISKS)} by a library, {mounted} file systems"
 
 
-def fill_disk(program, top, size):
-    (top / "store").mkdir()
-    assert format_store(program, top / "store", 1, 7) == (b"formatted 1 7\n", 0)
-    acknowledged = []
-    with serving(program, top / "store") as server, server.connect() as connection:
-        for tag in itertools.count(1):
-            try:
-                with connection.transaction() as transaction:
-                    transaction.send(0, tag, b"x" * 100)
-                acknowledged.append(tag)
-            except Refused as refused:
-                assert refused.number in (2, 15), refused
-                break
+def fill_file_system(program, size):
+    """Whether a file system of so many kilobytes may be mounted here; it is filled then."""
+    with tempfile.TemporaryDirectory(prefix="rqm-disk-") as top:
+        if subprocess.run(["mount", "-t", "tmpfs", "-o", f"size={size}k", "none", top], stderr=subprocess.DEVNULL).returncode:
+            return False
+        try:
+            grow = ["mount", "-o", f"remount,size={size + 500}k", top]
+            fill_disk(program, pathlib.Path(top), {}, lambda: subprocess.run(grow, check=True))
+        finally:
+            subprocess.run(["umount", top], check=True)
+    return True
+
+
+def fill_disk(program, top, words, grow=lambda: None):
+    """Serves a store, by servers with these words in their environment, until the disk is full. Then it has more room."""
+    folder = top / "store"
+    folder.mkdir()
+    assert format_store(program, folder, 1, 7) == (b"formatted 1 7\n", 0)
+    with serving(program, folder, environment=words) as server, server.connect() as connection:
+        acknowledged = send_until_full(connection)
         raises(Failed, connection.transaction)
-        assert len(server.tells()) == 2
-    line, status = limited(program, top / "store")  # what a start needs may find no room
+        assert server.tells()[1:] == [STORE_FAILED], server.tells()
+    line, status = limited(program, folder, environment=words)  # what a start needs may find no room
     assert line.startswith(b"listening ") or (line, status) == (b"fault 15 DiskWrite\n", 1), (line, status)
-    subprocess.run(["mount", "-o", f"remount,size={size + 500}k", str(top)], check=True)
-    with serving(program, top / "store") as server, server.connect() as connection:
+    grow()
+    with serving(program, folder) as server, server.connect() as connection:
         tags = [tag for tag, _ in everything(connection).get(0, [])]
-        assert acknowledged and tags[: len(acknowledged)] == acknowledged and len(tags) <= len(acknowledged) + 1, (size, tags)
+        assert acknowledged and tags[: len(acknowledged)] == acknowledged and len(tags) <= len(acknowledged) + 1, (words, tags)
+
+
+def send_until_full(connection):
+    """The tags that were acknowledged until the store refused one, as it has to where the disk is full."""
+    acknowledged = []
+    for tag in itertools.count(1):
+        try:
+            with connection.transaction() as transaction:
+                transaction.send(0, tag, b"x" * 100)
+            acknowledged.append(tag)
+        except Refused as refused:
+            assert refused.number in (2, 15), refused
+            return acknowledged
 
 
 # ---- calls that come short, are interrupted, or tell another time
@@ -776,8 +806,8 @@ def short_calls(program, chosen):
 
 
 def any_frames(program, chosen):
-    """Clients that say frames with other bytes, or anything, in pieces, and break off: each is answered by the protocol, and one that
-    behaves is served all the time, in time."""
+    """Clients say frames with other bytes, or anything, in pieces, and break off. Each is answered by the protocol, and one that behaves
+    is served all the time, in time."""
     answered = faults = 0
     with store(program, 2, 20) as folder, serving(program, folder, "--workers", 2) as server:
         stop, good = threading.Event(), ThreadPoolExecutor(1)
@@ -923,9 +953,14 @@ class Drainer(Client):
 
 
 def long_sessions(program, chosen):
-    """Random sessions of 64 clients, half of whose transactions break off, for so many minutes: what the store then holds, with what
-    was received and committed, is what was sent and committed. So it is behind a kill."""
-    with store(program, 5, 20) as folder, serving(program, folder, "--workers", 1) as server:
+    """Random sessions of 64 clients, half of whose transactions break off, for so many minutes. What the store then holds, with what was
+    received and committed, is what was sent and committed. So it is behind a kill."""
+    return "; ".join(long_session(program, chosen, workers) for workers in ([chosen.workers] if chosen.workers else (1, 4)))
+
+
+def long_session(program, chosen, workers):
+    """What a server with so many workers came to."""
+    with store(program, 5, 20) as folder, serving(program, folder, "--workers", workers) as server:
         clients = [Drainer(server, number, chosen.seed) for number in range(64)]
         until = time.monotonic() + 60 * chosen.minutes
 
@@ -940,9 +975,10 @@ def long_sessions(program, chosen):
             tags = [connection.last_tag(client.number) for client in clients]
             held = everything(connection)
         compare(clients, tags, held)
-        sent, broken = sum(len(client.sent) for client in clients), sum(client.broken for client in clients)
-        assert broken > 1000 * chosen.minutes and sent > 1000 * chosen.minutes, (broken, sent)
-        return f"{sent} commits, {broken} broken off, a log of {(folder / 'log').stat().st_size >> 20} MB"
+        sent, size = sum(len(client.sent) for client in clients), (folder / "log").stat().st_size >> 20
+        assert sent > 1000 * chosen.minutes, sent
+        broken = broken_off(clients, round(100 * chosen.minutes))
+        return f"{workers} workers: {sent} commits, {broken}, a log of {size} MB"
 
 
 TESTS = [
@@ -956,7 +992,8 @@ def main():
     words.add_argument("--program", help="a program that was built elsewhere")
     words.add_argument("--seed", type=int, default=0, help="from which moments and bytes are drawn")
     words.add_argument("--rounds", type=int, default=10, help="how often a server is ended, and a sixtieth of the hostile clients")
-    words.add_argument("--minutes", type=float, default=10, help="how long `long_sessions` takes")
+    words.add_argument("--minutes", type=float, default=10, help="how long each server of `long_sessions` runs")
+    words.add_argument("--workers", type=int, help="the workers of its one server")
     words.add_argument("names", nargs="*", metavar="NAME", help="these tests alone")
     chosen = words.parse_args()
     for number in ENDING + [signal.SIGQUIT]:
@@ -966,10 +1003,7 @@ def main():
     known = {test.__name__: test for test in [*TESTS, long_sessions]}
     for name in chosen.names or [test.__name__ for test in TESTS]:
         before = time.monotonic()
-        try:
-            told = known[name](program, chosen)
-        except Skipped as why:
-            told = f"not run: {why}"
+        told = known[name](program, chosen)
         print(f"{name}: {time.monotonic() - before:.1f} s" + (f", {told}" if told else ""), flush=True)
 
 

@@ -1,6 +1,6 @@
 #!/usr/bin/env python3
-"""Kills `rqm serve` by SIGKILL in the midst of load, again and again, on one store in a temporary folder, and looks each time what
-the store holds once it is open again: nothing that was acknowledged is lost, nothing comes twice, and each group is in order.
+"""Kills `rqm serve` by SIGKILL in the midst of load, again and again, on one store in a temporary folder. Each time it looks what the
+store holds once it is open again. Nothing that was acknowledged is lost, nothing comes twice, and each group is in order.
 
     python3 tests/kill.py [--program PROGRAM] [--seed N] [--rounds N]
 
@@ -26,7 +26,7 @@ GROUPS = 4
 
 
 class Load:
-    """Of each group: one sender whose messages come in order, tagged 1 and on, and a mover that receives them and sends them again
+    """Each group has one sender, whose messages come in order, tagged 1 and on. It has one mover, which receives them and sends them again
     for another group, in one transaction."""
 
     def __init__(self):

@@ -1,9 +1,10 @@
 #!/usr/bin/env python3
 """Has each allocation of lists of happenings, and of scripts, fail in turn. The call is refused for it and nothing has changed:
-made again, it answers as where no allocation fails, and so does all behind it. Where a device in memory cannot grow, that is a
-failure of the device: of its call, or of the handing over as the store crashes.
+made again, it answers as where no allocation fails, and so does all behind it. A device in memory that cannot grow fails. That is a
+failure of its call, or of the handing over as the store crashes. A store is opened with as
+many allocations over a log in which many transactions ended as over one in which few did.
 
-    python3 tests/memory.py [--happenings PROGRAM] [--rqm PROGRAM]
+    python3 tests/memory.py [--happenings PROGRAM] [--rqm PROGRAM] [--bench PROGRAM]
 
 A library that the loader puts in front of the C library's has the allocation fail; it is built with `cc`.
 """
@@ -17,6 +18,8 @@ import tempfile
 from concurrent.futures import ThreadPoolExecutor
 
 from cases import MOST_SECONDS, built
+from damaged import BEGUN, base, formatted
+from inspector import record
 from script_reference import printed_by as script_printed
 from scripts import SCRIPTS
 from stops import BASES
@@ -71,8 +74,8 @@ __attribute__((noreturn)) void _exit(int status) {
 WANTING = b"refused 1 NoMemory", b"not-opened 1 NoMemory"
 
 # How a program ends where memory is wanting for something that is no call: its status, what it prints, and what it says beside that.
-# It is wanting as the program starts, or for what a list comes to, which is printed as a whole; for words; for lines; for the store;
-# or a device in memory cannot grow before the store is open.
+# Memory is wanting as the program starts, or for what a list comes to, which is printed as a whole. Then it is wanting for words, for
+# lines, and for the store. At last a device in memory cannot grow before the store is open.
 UNABLE = [
     (1, b"", []), (2, b"", [b"error: out of memory"]), (1, b"fault input\n", []), (1, b"fault 1 NoMemory\n", []),
     (1, b"fault 15 DiskWrite\n", []),
@@ -191,6 +194,42 @@ def is_calm(lines):
     return is_plain(lines) and lines[-1] == b"content" and not any(line.startswith(b"restart-stop") for line in lines)
 
 
+# In which order transactions end that began one after the other, by their numbers. Of two the second may end first, or the first of
+# all may stay open.
+ENDS = {
+    "in order": lambda first, many: range(first, first + many),
+    "two by two": lambda first, many: [first + (number ^ 1) for number in range(many)],
+    "beside one that is open": lambda first, many: range(first + 1, first + many),
+}
+
+FEW, MANY = 100, 20000
+
+
+def opening(program, library, records):
+    """How many allocations an opening of a store takes over this log."""
+    with tempfile.TemporaryDirectory() as folder:
+        for name, held in (("pages", formatted()), ("log", b"".join(records))):
+            (pathlib.Path(folder) / name).write_bytes(held)
+        environment = dict(os.environ, LD_PRELOAD=library)
+        ran = subprocess.run([program, "open", folder], env=environment, capture_output=True, timeout=MOST_SECONDS)
+    assert ran.stdout.startswith(b"restarted 2 unfinished 0 lost 0, "), ran
+    return int(ran.stderr)
+
+
+def check_openings(program, library):
+    """Whether openings take no more memory where more transactions have ended, from the beginning of a log and behind a base."""
+    right = 0
+    for name, ends in ENDS.items():
+        for begins, first in ((BEGUN, 1), (base(5), 3)):
+            few, many = (opening(program, library, [begins, *(record(6, [1, number]) for number in ends(first, count))])
+                         for count in (FEW, MANY))  # fmt: skip
+            right += few == many
+            if few != many:
+                print(f"{MANY} transactions that ended {name}, from {first} on: {many} allocations, and {few} for {FEW}")
+    print(f"{right} of {2 * len(ENDS)} openings take as many allocations for {MANY} transactions that ended as for {FEW} ({os.path.basename(program)})")
+    return right == 2 * len(ENDS)
+
+
 def check(lists):
     with ThreadPoolExecutor(os.cpu_count()) as pool:
         came = list(pool.map(lists.fault, lists.names))
@@ -204,6 +243,7 @@ def main():
     words = argparse.ArgumentParser(description="Has each allocation of lists and of scripts fail in turn.")
     words.add_argument("--happenings", help="a program that was built elsewhere")
     words.add_argument("--rqm", help="a program that was built elsewhere")
+    words.add_argument("--bench", help="a program that was built elsewhere")
     chosen = words.parse_args()
     with tempfile.TemporaryDirectory() as folder:
         source, library = pathlib.Path(folder) / "shim.c", str(pathlib.Path(folder) / "shim.so")
@@ -214,6 +254,7 @@ def main():
         ran = [
             check(Lists(built(chosen.happenings, "happenings"), library, happenings, lists, MOST_OF_LIST)),
             check(Lists(built(chosen.rqm, "rqm"), library, SCRIPTS, STEP_BY_STEP, MOST_OF_SCRIPT)),
+            check_openings(built(chosen.bench, "bench"), library),
         ]
     sys.exit(0 if all(ran) else 1)
 

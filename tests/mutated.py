@@ -1,7 +1,7 @@
 #!/usr/bin/env python3
-"""Changes the bytes of stores that runs of `rqm serve` left, by seeds: their logs, cut, spliced, shuffled, with other fields and
-lengths that fit again, and their pages. Of some logs a Base stands for the beginning. An inspection and an opening have to come to
-what tests/opening.py reads from the bytes, in time, and where a store is opened it holds that. A store that is refused stays as it is.
+"""Changes the bytes of stores that runs of `rqm serve` left, by seeds. Their logs are cut, spliced, shuffled, or have other fields and
+lengths that fit again, and pages change too. Of some logs a Base stands for the beginning. An inspection and an opening have to come to
+what tests/opening.py reads from the bytes, in time. A store that is opened holds that, and one that is refused stays as it is.
 
     python3 tests/mutated.py [--rqm PROGRAM] [--bench PROGRAM] [--first SEED] [--stores N] [--counts]
 

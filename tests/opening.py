@@ -1,5 +1,5 @@
-"""What an opening comes to, read from the bytes of a store by docs/FORMATS.md and docs/RECOVERY.md alone: the fault that it is refused
-for, or what the store holds and what is added to its log. Written plainly, and not from the program's code."""
+"""What an opening comes to, read from the bytes of a store by docs/FORMATS.md and docs/RECOVERY.md alone. That is the fault that it is
+refused for, or what the store holds and what is added to its log. It is written plainly, and not from the program's code."""
 from inspector import front, is_torn, record
 
 PAGE, SLOT, SLOTS = 4096, 256, 15
@@ -176,10 +176,10 @@ class Opening:
 
     def __init__(self, pages, log):
         self.pages, self.records, self.incarnation = Pages(pages), 0, 0
-        self.added = []  # the bytes of the records that are made
-        self.over, self.numbers = set(), {}  # transactions that have ended, and the greatest number of the others' operations
-        self.writes = {}  # of an operation without an end: its writes that are not undone, as (LSN, page, slot, before)
-        self.due = {}  # of a transaction: what it did and has not taken back, as (LSN, deed)
+        self.added = []  # The bytes of the records that are made.
+        self.over, self.numbers = set(), {}  # Transactions that have ended, and the greatest number of the others' operations.
+        self.writes = {}  # The writes of an operation without an end that are not undone, as (LSN, page, slot, before).
+        self.due = {}  # What a transaction did and has not taken back, as (LSN, deed).
         as_read = Pages(pages)
         self.read(log)
         as_read.check_numbers(self.records)

@@ -19,6 +19,7 @@ import subprocess
 import sys
 import tempfile
 import time
+from collections import Counter
 from concurrent.futures import ThreadPoolExecutor
 from contextlib import contextmanager
 
@@ -161,8 +162,8 @@ int pthread_create(pthread_t *thread, const pthread_attr_t *with, void *(*run)(v
 
 
 class Server:
-    """`rqm serve` on a folder. It may open so many files, and make none longer than so many bytes; its environment has more words, and
-    its standard input may be another one."""
+    """`rqm serve` on a folder. It may open so many files, and make none longer than so many bytes. Its environment may have more words,
+    and its standard input may be another one."""
 
     def __init__(self, program, folder, *words, files=None, longest=None, environment=None, stdin=None):
         def limit():
@@ -237,6 +238,11 @@ def store(program, directory=1, cells=1):
         yield folder
     finally:
         shutil.rmtree(folder)
+
+
+def frame_of(kind, fields=b""):
+    """The bytes of a request or an answer."""
+    return struct.pack(">HB", 1 + len(fields), kind) + fields
 
 
 def torn_end(folder):
@@ -400,8 +406,8 @@ LENGTHS = {1: 1, 3: 1, 4: 5, 5: 5, 6: 1, 7: 1, 8: 5}
 
 
 def answers_to(asked):
-    """By docs/PROTOCOL.md, on a fresh small store without a transaction: the answers, how many bytes there are up to the first fault, and
-    whether there is one."""
+    """What docs/PROTOCOL.md says of bytes, on a fresh small store without a transaction. It is the answers, how many bytes there are up
+    to the first fault, and whether there is one."""
     at, answers = 0, b""
     while len(asked) - at > 2:
         length, kind = int.from_bytes(asked[at : at + 2], "big"), asked[at + 2]
@@ -617,7 +623,7 @@ def starts(program, _):
 
 
 def input_ends(program, _):
-    """A server that is to end with its standard input goes on while somebody may write there, and then ends cleanly: no session begins any
+    """A server that is to end with its standard input goes on while somebody may write there. Then it ends cleanly: no session begins any
     more, those that are open are lost, and all is forced."""
     with store(program) as folder:
         for workers in (1, 3):
@@ -712,9 +718,10 @@ def few_descriptors(program, _):
 
 
 def many_connections(program, _):
-    """4,000 connections, or as many as this process may open, each with a transaction."""
+    """As many connections as may be opened, 1,000 to 4,000, each with a transaction."""
     _, most = resource.getrlimit(resource.RLIMIT_NOFILE)
-    resource.setrlimit(resource.RLIMIT_NOFILE, (most, most))
+    assert most >= 1100, f"for 1,000 connections 1,100 files have to be open, and here {most} may be at most"
+    resource.setrlimit(resource.RLIMIT_NOFILE, (most, most))  # also of the server, which begins behind this
     with store(program) as folder, serving(program, folder) as server:
         opened = [server.raw() for _ in range(min(4000, most - 100))]
         for stream in opened:
@@ -725,6 +732,7 @@ def many_connections(program, _):
             stream.close()
         with server.connect() as connection:
             send_when_free(connection, 0, 1, b"after")
+    return f"{len(opened)} connections"
 
 
 def missing_threads(program, _):
@@ -790,8 +798,7 @@ def lost_once_it_asks(server, fails):
 
 
 def refused_connections(program, _):
-    """Where a connection cannot be taken for some other reason, it waits, and is served once it can be; who runs the server is told
-    once."""
+    """A connection that cannot be taken for some other reason waits, and is served once it can be. Who runs the server is told once."""
     with failing(SHIM) as (beside, words), store(program) as folder:
         words["FAILING"], fails = str(beside), beside / "accept"
         with serving(program, folder, environment=words) as server:
@@ -838,7 +845,7 @@ def send_until_failed(server):
 
 
 def lost_answers(program, chosen):
-    """A client whose connection ends in front of its commit, or between that and its answer, goes on as the client's page says: each
+    """A client whose connection ends in front of its commit, or between that and its answer, goes on as the client's page says. Each
     message is there once, in order."""
     draw = random.Random(chosen.seed)
     told = []
@@ -874,16 +881,16 @@ def cut_off(connection, draw):
 
 
 class Client:
-    """One of the clients of `sessions`: it sends for a sender of its own, in every transaction that may be committed, and receives
-    of any. Kept are its sends that are committed, in order, and what it received, each transaction's with the place of its
-    commit, or None where that was not told."""
+    """One of the clients of `sessions`. It sends for a sender of its own, in every transaction that may be committed, and receives of
+    any. `sent` has its sends that are committed, in order. `taken` has what its commits received, each with the place of the commit,
+    or None where that was not told. `broken` counts where its connections broke off."""
 
     def __init__(self, server, number, seed):
         self.server, self.number, self.random = server, number, random.Random(f"{seed}.{number}")
         self.tag = 0
         self.sent, self.taken = [], []
         self.connection = self.connected()
-        self.broken = 0
+        self.broken = Counter()
 
     def connected(self):
         """A connection that tells also what passes in a moment: nobody is ever refused for what others do within an operation."""
@@ -897,26 +904,21 @@ class Client:
         self.connection.close()
 
     def one(self, breaks_off):
-        """One transaction, whose connection may break off in its midst."""
+        """One transaction. Its connection may break off in front of one of its frames, amid it, or behind it."""
         self.tag += 1
-        body = self.random.randbytes(self.random.randrange(217))
+        body, taken = self.random.randbytes(self.random.randrange(217)), []
         transaction = self.connection.transaction()
         # the send comes first: while the transaction is not ended nobody else can send for its sender
-        steps = ["send"] + ["receive"] * self.random.randrange(3)
-        stop = self.random.randrange(1, len(steps) + 2) if breaks_off else None
-        taken = []
+        steps = ["send"] + ["receive"] * self.random.randrange(3) + ["commit"]
+        stop = self.random.randrange(len(steps)) if breaks_off else None
         for at, step in enumerate(steps):
             if at == stop:
-                self.break_off(b"")
+                self.break_off(step, body, taken)
                 return
-            if not self.step(transaction, step, body, taken):
+            if step != "commit" and not self.step(transaction, step, body, taken):
                 transaction.abort()
                 return
-        if stop is not None:
-            self.break_off(COMMIT if stop > len(steps) else b"")
-            if stop > len(steps) and self.connection.was_committed(self.number, self.tag):
-                self.keep(body, taken, None)
-        elif self.random.random() < 0.2:
+        if self.random.random() < 0.2:
             transaction.abort()
         else:
             self.keep(body, taken, transaction.commit())
@@ -925,7 +927,7 @@ class Client:
         """Whether the transaction can go on."""
         try:
             if step == "send":
-                transaction.send(self.number, self.tag, body)
+                self.send(transaction, body)
             else:
                 message = transaction.receive()
                 if message:
@@ -936,15 +938,42 @@ class Client:
         except ReceiverBusy:
             return step == "receive"
 
-    def break_off(self, last):
-        """Ends the connection behind these bytes, without reading, and makes a new one, once the transaction has ended."""
-        self.broken += 1
-        self.connection.socket.sendall(last)
+    def send(self, transaction, body):
+        """A send that waits, but only for one that a connection of this client left unanswered."""
+        until = time.monotonic() + LONGEST
+        while True:
+            try:
+                return transaction.send(self.number, self.tag, body)
+            except SenderBusy:
+                assert self.broken["send", WHOLE] and time.monotonic() < until, "another sends for this sender"
+                time.sleep(0.001)
+
+    def break_off(self, step, body, taken):
+        """Ends the connection behind a part of a frame, or the whole, and reads no answer. Only a whole Commit may have committed: it is
+        asked for over a new connection, once the transaction has ended."""
+        frame = self.frame(step, body)
+        said = frame[: self.random.choice([0, len(frame), self.random.randrange(len(frame) + 1)])]
+        self.connection.socket.sendall(said)
         if self.random.random() < 0.5:
             reset(self.connection.socket)
         self.connection.close()
+        part = WHOLE if said == frame else PART if said else NOTHING
+        self.broken[step, part] += 1
         self.connection = self.connected()
         self.wait_for_end()
+        if (step, part) == ("commit", WHOLE) and self.connection.was_committed(self.number, self.tag):
+            self.broken["committed"] += 1
+            self.keep(body, taken, None)
+        assert self.connection.last_tag(self.number) == self.last(), (self.number, step, said)
+
+    def frame(self, step, body):
+        if step == "send":
+            return frame_of(2, struct.pack(">IQ", self.number, self.tag) + body)
+        return frame_of(3) if step == "receive" else COMMIT
+
+    def last(self):
+        """How many sends are committed, and the tag of the last."""
+        return len(self.sent), self.sent[-1][0] if self.sent else 0
 
     def wait_for_end(self):
         """Until the sender is free again."""
@@ -976,8 +1005,9 @@ def in_threads(works):
 
 
 def sessions(program, chosen):
-    """Random sessions of 64 connections, half of whose transactions break off: what the store then holds, with what was received
-    and committed, is what was sent and committed, each sender's in order and once."""
+    """Random sessions of 64 connections, half of whose transactions break off. What the store then holds, with what was received and
+    committed, is what was sent and committed, each sender's in order and once."""
+    told = []
     for workers in (1, 4):
         with store(program, 5, 20) as folder, serving(program, folder, "--workers", workers) as server:
             clients = [Client(server, number, chosen.seed) for number in range(64)]
@@ -985,15 +1015,31 @@ def sessions(program, chosen):
             with server.connect() as connection:
                 tags = [connection.last_tag(client.number) for client in clients]
                 held = everything(connection)
-            assert sum(client.broken for client in clients) > 200
             compare(clients, tags, held)
+            told.append(broken_off(clients, 5))
+    return "; ".join(told)
+
+
+# Where in a frame a connection breaks off.
+NOTHING, PART, WHOLE = "in front of", "amid", "behind"
+
+
+def broken_off(clients, least):
+    """How often connections broke off, at each place so many times at least."""
+    broken = sum((client.broken for client in clients), Counter())
+    committed = broken.pop("committed", 0)
+    places = [(step, part) for step in ("send", "receive", "commit") for part in (NOTHING, PART, WHOLE)]
+    assert min(broken[place] for place in places) >= least and committed >= least, (broken, committed)
+    whole = broken["commit", WHOLE]
+    return f"{broken.total()} broken off, of them {whole} behind a commit, of which {committed} were committed"
 
 
 def compare(clients, tags, held):
+    """Whether the store holds what the clients sent and did not receive, by their commits."""
     taken = sorted_by_commit(clients)
     for client, tag in zip(clients, tags):
         sent = client.sent
-        assert tag == (len(sent), sent[-1][0] if sent else 0), (client.number, tag, len(sent))
+        assert tag == client.last(), (client.number, tag, len(sent))
         left = held.get(client.number, [])
         known, unplaced = taken.get(client.number, ([], []))
         assert known == sorted(known), (client.number, "received out of order")
@@ -1081,8 +1127,8 @@ def main():
     known = {test.__name__: test for test in TESTS}
     for name in chosen.names or known:
         before = time.monotonic()
-        known[name](program, chosen)
-        print(f"{name}: {time.monotonic() - before:.1f} s", flush=True)
+        told = known[name](program, chosen)
+        print(f"{name}: {time.monotonic() - before:.1f} s" + (f", {told}" if told else ""), flush=True)
 
 
 if __name__ == "__main__":

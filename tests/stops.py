@@ -1,13 +1,15 @@
 #!/usr/bin/env python3
-"""Stops the machine at each device call of some lists of happenings, then at each device call of the restart behind that, and so on to
-a depth of three restarts; then comes a whole one. What the store then holds is compared with the reference, and with what was
-acknowledged. A stop leaves none of the records that are not forced, all, or a torn one; of each page the synced image or the newest.
+"""Stops the machine at each device call of some lists of happenings. Then it stops at each device call of the restart behind that, and so
+on to a depth of three restarts. Then comes a whole one. What the store then holds is compared with the reference, and with what was
+acknowledged. A stop leaves none of the records that are not forced, all, or a torn one. Of each page it leaves the synced image or the
+newest.
 
     python3 tests/stops.py [--program PROGRAM] [--drawn N] [--first SEED] [NAME..]
 
-A name is one of `BASES`, lists of tests/worlds. One that commits and acknowledges nothing is tried a second time, with a force and a
-receipt behind each commit. Where two ways lead to the same store, one is gone on with. Beside these, so many ways are drawn, from any of
-all, whose stops leave any number of records and bytes.
+A name is one of `BASES`, lists of tests/worlds. One that commits and acknowledges nothing is tried again, with a force and a receipt
+behind each commit. One that writes no page is tried again with its pages written, so that their images differ. Where two ways lead to
+the same store, one is gone on with. Beside these, so many ways are drawn. Their stops leave any number of records and bytes, and any
+image of each page.
 """
 import argparse
 import itertools
@@ -29,6 +31,9 @@ BASES = [
     "five-senders-on-five-directory-pages-and-a-forced-send", "commits-are-acknowledged-and-pages-written-amid-what-is-lost",
 ]  # fmt: skip
 
+# Lists with more in them: receipts of their commits, and these with writes of their pages.
+ACKNOWLEDGED, WRITTEN = "acknowledged", "written"
+
 # How many restarts are stopped one after the other, and what a stop leaves of the records and of the images.
 DEPTH, KEEPS, IMAGES = 3, ("0", str(ALL), "0+20"), (",".join("0" * 16), "-")
 
@@ -39,29 +44,36 @@ LAST = [b"restart", b"content"]
 
 
 class Base:
-    """A list, as far as it goes by itself: `calls` has how many device calls each happening makes. It is given a receipt of each commit
-    where that is asked for."""
+    """A list, as far as it goes by itself. It may be given receipts, and its pages may be written. `places` has each of its device calls, by
+    the line and the number of the call there."""
 
-    def __init__(self, program, name, is_acknowledged):
+    def __init__(self, program, name, more=""):
         self.name, self.sizes = name, [int(word) for word in Worlds.cases.words_of(name)]
         self.lines, self.printed = Worlds.cases.lines_of(name)
-        if is_acknowledged:
-            self.name, self.lines = f"{name}, acknowledged", with_receipts(self.lines)
+        if more:
+            self.name, self.lines = f"{name}, {more}", with_receipts(self.lines, sum(self.sizes) if more == WRITTEN else 0)
             self.printed = printed_by(program, self.sizes, self.lines)[0]
-            assert acknowledged(self.lines, self.printed), name
-        world, self.calls = World(*self.sizes), []
+        world, self.places = World(*self.sizes), []
         for at, line in enumerate(self.lines):
             before = world.store.devices.calls
             world.happen(line, picked_at(self.lines, self.printed, at))
-            self.calls.append(world.store.devices.calls - before)
+            self.places += [(at, call) for call in range(1, world.store.devices.calls - before + 1)]
         assert world.printed == self.printed, self.name
+        assert more != ACKNOWLEDGED or acknowledged(self.lines, self.printed), name
 
-    def stops(self):
-        """The list up to each of its device calls, in which the machine stops: every choice of what that leaves."""
-        for at, line in enumerate(self.lines):
-            for call in range(1, self.calls[at] + 1):
-                for kept in choices(IMAGES):
-                    yield self.lines[:at] + [stopped(line, call, kept)]
+    def stopped_at(self, place, kept):
+        """The list up to a device call, in which the machine stops and leaves this."""
+        at, call = place
+        return self.lines[:at] + [stopped(self.lines[at], call, kept)]
+
+    def writes(self):
+        """Whether it writes a page."""
+        return b"written" in self.printed
+
+    def with_other_images(self):
+        """How many stops leave another store with synced images than with the newest."""
+        left = [[key(self.told(self.stopped_at(place, f"{keep} {image}"))) for image in IMAGES] for place in self.places for keep in KEEPS]
+        return sum(synced != newest for synced, newest in left)
 
     def told(self, lines):
         """The reference behind these lines. Of a receive it tells which group the list's own took."""
@@ -72,20 +84,23 @@ class Base:
         return world
 
 
-def with_receipts(lines):
-    """The lines with a force and a receipt behind each commit."""
-    made = []
+def with_receipts(lines, pages):
+    """The lines with a force and a receipt behind each commit. So many pages are written behind each receipt, and behind a force in front
+    of each crash."""
+    made, writes = [], [b"write %d" % page for page in range(1, pages + 1)]
     for line in lines:
+        if line.startswith(b"crash ") and writes:
+            made += [b"force", *writes]
         made.append(line)
         if line.startswith(b"commit "):
-            made += [b"force", b"ack %d" % len(made)]
+            made += [b"force", b"ack %d" % len(made), *writes]
     return made
 
 
-def lacks_receipts(name):
-    """Whether a list commits, and is given no receipt."""
-    lines = Worlds.cases.lines_of(name)[0]
-    return any(line.startswith(b"commit ") for line in lines) and not any(line.startswith(b"ack ") for line in lines)
+def variants(name):
+    """What a list is tried with beside itself: the receipts of its commits, where it gives none, and writes, where it makes none."""
+    kinds = {line.split(b" ")[0] for line in Worlds.cases.lines_of(name)[0]}
+    return [ACKNOWLEDGED] * (b"commit" in kinds and b"ack" not in kinds) + [WRITTEN] * (b"write" not in kinds)
 
 
 def printed_by(program, sizes, lines):
@@ -120,7 +135,7 @@ def spelled(field):
 def ways(base):
     """Lists that stop in the base and in the restarts behind it, and never open the store. Of each depth, from none to three stopped
     restarts."""
-    seen, level = set(), list(base.stops())
+    seen, level = set(), [base.stopped_at(place, kept) for place in base.places for kept in choices(IMAGES)]
     for depth in range(DEPTH + 1):
         further = []
         for lines in level:
@@ -134,17 +149,22 @@ def ways(base):
                  for call in range(1, calls + 1) for kept in choices(RESTART_IMAGES)]  # fmt: skip
 
 
-def drawn_way(base, stops, seed):
+def drawn_way(base, seed):
     """A stop in the base, and then in each of three restarts."""
     draw = random.Random(seed)
-    lines = draw.choice(stops)
+    images = ",".join(str(draw.choice([0, 1, ALL])) for _ in range(1 + sum(base.sizes)))
+    lines = base.stopped_at(draw.choice(base.places), f"{drawn_keep(draw)} {images}")
     for _ in range(DEPTH):
         calls = calls_of_restart(base.told(lines))
-        kept = f"{draw.choice([0, draw.randrange(20), ALL])}+{draw.choice([0, draw.randrange(546), ALL])} -"
         # most times in its append, which may leave any of its records
         call = calls - 1 if draw.randrange(2) else draw.randrange(1, calls + 1)
-        lines = lines + [stopped(b"restart", call, kept)]
+        lines = lines + [stopped(b"restart", call, f"{drawn_keep(draw)} -")]
     return lines
+
+
+def drawn_keep(draw):
+    """How many records a stop leaves, and how many bytes of the next one."""
+    return f"{draw.choice([0, draw.randrange(20), ALL])}+{draw.choice([0, draw.randrange(546), ALL])}"
 
 
 def calls_of_restart(world):
@@ -190,11 +210,10 @@ def sent_in(content, sender):
 
 def run(program, base, seeds):
     """Tries a base in all ways, and in those of these seeds; whether each came to what it should."""
-    counts, faults = Counter(), []
-    stops = list(base.stops())
+    counts, faults, others = Counter(), [], base.with_other_images()
     with ThreadPoolExecutor(os.cpu_count()) as pool:
         tried = [pool.map(lambda way: (way[0], fault(program, base, way[1])), ways(base))]
-        tried.append(pool.map(lambda seed: ("drawn", fault(program, base, drawn_way(base, stops, seed))), seeds))
+        tried.append(pool.map(lambda seed: ("drawn", fault(program, base, drawn_way(base, seed))), seeds))
         for depth, wrong in itertools.chain(*tried):
             counts[depth] += 1
             faults += [wrong] if wrong else []
@@ -202,7 +221,9 @@ def run(program, base, seeds):
     depths = ", ".join(str(counts[depth]) for depth in [*range(DEPTH + 1), "drawn"])
     right = sum(counts.values()) - len(faults)
     print(f"{right} of {depths} ways with 0 to {DEPTH} stopped restarts, and drawn, hold what they should ({base.name})")
-    return not faults and all(counts[depth] for depth in range(DEPTH + 1))
+    print(f"    {others} of {len(base.places) * len(KEEPS)} stops leave another store with synced images than with the newest")
+    is_all = all(counts[depth] for depth in range(DEPTH + 1)) and (others or not base.writes())
+    return not faults and is_all
 
 
 def main():
@@ -214,8 +235,7 @@ def main():
     chosen = words.parse_args()
     program = built(chosen.program, "happenings")
     seeds = range(chosen.first, chosen.first + chosen.drawn)
-    bases = [Base(program, name, False) for name in chosen.names or BASES]
-    bases += [Base(program, base.name, True) for base in bases if lacks_receipts(base.name)]
+    bases = [Base(program, name, more) for name in chosen.names or BASES for more in ["", *variants(name)]]
     ran = [run(program, base, seeds) for base in bases]
     sys.exit(0 if all(ran) else 1)
 
