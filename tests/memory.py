@@ -82,8 +82,9 @@ UNABLE = [
 ]  # fmt: skip
 
 # So many allocations of a list or a script at most are for that. Lists have up to 47: some 40 to be read, 7 to print what they come
-# to, and one where a crash names images. What `more_others` counts comes beside. Scripts have up to 119, all before their first line is run, 75 of them for words.
-MOST_OF_LIST, MOST_OF_SCRIPT = 48, 120
+# to, and one where a crash names images. What `more_others` counts comes beside. Scripts have up to 127, all before their first line is
+# run, 83 of them for words.
+MOST_OF_LIST, MOST_OF_SCRIPT = 48, 128
 
 # More than the allocations by which a program reads one line more.
 MORE = 12
