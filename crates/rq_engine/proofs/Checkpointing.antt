@@ -234,9 +234,9 @@ refused_legally p l old new gives why.LogFull n h e long k =
     subst (λ (s : OpenStore _ _). IsModelStep (on e old.state) Checkpoint (Gave_refusal why.LogFull) (on e s.state) × IsCausedIn (on e old.state) Checkpoint why.LogFull) (sym n.3)
     (refuse (on e old.state) Checkpoint why.LogFull refl tt (rw (n.0, none, full) refl) k)
 refused_legally p l old new gives why.DiskWrite n h e long k =
-    subst (λ (s : State). IsModelStep (on e old.state) Checkpoint (Gave_refusal why.DiskWrite) (on e s) × IsCausedIn (on e old.state) Checkpoint why.DiskWrite) (sym n.2) (failed_steps (on e old.state) k n.0 Checkpoint, refl)
+    subst (λ (s : State). IsModelStep (on e old.state) Checkpoint (Gave_refusal why.DiskWrite) (on e s) × IsCausedIn (on e old.state) Checkpoint why.DiskWrite) (sym n.3) (failed_steps (on e old.state) k n.0 Checkpoint, refl)
 refused_legally p l old new gives why.NotForced n h e long k =
-    let beyond = n.2 in
+    let beyond = n.3 in
     let within = (k.fits.pages beyond.0 beyond.1 beyond.2).within in
     let more = beyond.3 in
     let same = long_on e old.state long in
@@ -244,10 +244,10 @@ refused_legally p l old new gives why.NotForced n h e long k =
 refused_legally p l old new gives _ n h e long k = absurd n
 
 -- where it stopped in its midst, and counts no more as forced than before
-pub stopped_is : {P L : Type 0} (old mid new : OpenStore P L) (r : Refusal) → old.state.failed ≡ false → old.state.rows ≡ [] → IsStopped old.state mid.state r → new.state ≡ record mid.state { forced = old.state.forced } → NotCheckpointed old new r
-stopped_is old mid new why.DiskWrite running none s is = (running, none, is ∙ ap (λ (x : State). record x { forced = old.state.forced }) s.0)
-stopped_is old mid new why.NotForced running none s is = (running, none, s.2, is ∙ ap (λ (x : State). record x { forced = old.state.forced }) s.0)
-stopped_is old mid new _ running none s is = absurd s
+pub stopped_is : {P L : Type 0} (old mid new : OpenStore P L) (r : Refusal) → old.state.failed ≡ false → old.state.rows ≡ [] → log_full (ledger_of old.state) 1 ≡ false → IsStopped old.state mid.state r → new.state ≡ record mid.state { forced = old.state.forced } → NotCheckpointed old new r
+stopped_is old mid new why.DiskWrite running none room s is = (running, none, room, is ∙ ap (λ (x : State). record x { forced = old.state.forced }) s.0)
+stopped_is old mid new why.NotForced running none room s is = (running, none, room, s.2, is ∙ ap (λ (x : State). record x { forced = old.state.forced }) s.0)
+stopped_is old mid new _ running none room s is = absurd s
 
 -- behind a force
 pub stopped_more : (a b c : State) (n : ℕ) (r : Refusal) → b ≡ record a { forced = n } → a.forced ≤ n → IsStopped b c r → IsStopped a c r
@@ -285,9 +285,9 @@ not_fit : {P L : Type 0} (p : page_device.Ghosts P) (old new : OpenStore P L) (r
 not_fit p old new why.Failed n e long k fit running = subst (λ (s : OpenStore _ _). AreFit p (over e s)) (sym n.1) fit
 not_fit p old new why.NotQuiet n e long k fit running = subst (λ (s : OpenStore _ _). AreFit p (over e s)) (sym n.2) fit
 not_fit p old new why.LogFull n e long k fit running = subst (λ (s : OpenStore _ _). AreFit p (over e s)) (sym n.3) fit
-not_fit p old new why.DiskWrite n e long k fit running = absurd (true≢false (sym (ap (λ (s : State). s.failed) n.2) ∙ running))
+not_fit p old new why.DiskWrite n e long k fit running = absurd (true≢false (sym (ap (λ (s : State). s.failed) n.3) ∙ running))
 not_fit p old new why.NotForced n e long k fit running =
-    let beyond = n.2 in
+    let beyond = n.3 in
     let within = (k.fits.pages beyond.0 beyond.1 beyond.2).within in
     let more = beyond.3 in
     let same = long_on e old.state long in

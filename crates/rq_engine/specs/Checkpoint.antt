@@ -46,9 +46,9 @@ NotCheckpointed old new why.NotQuiet = (old.state.failed ≡ false) × (old.stat
 NotCheckpointed old new why.LogFull = (old.state.failed ≡ false) × (old.state.rows ≡ [])
     × (log_full (ledger_of old.state) 1 ≡ true) × (new ≡ old)
 NotCheckpointed old new why.DiskWrite = (old.state.failed ≡ false) × (old.state.rows ≡ [])
-    × (new.state ≡ record old.state { failed = true })
-NotCheckpointed old new why.NotForced = (old.state.failed ≡ false) × (old.state.rows ≡ []) × HasPageBeyond old.state
-    × (new.state ≡ old.state)
+    × (log_full (ledger_of old.state) 1 ≡ false) × (new.state ≡ record old.state { failed = true })
+NotCheckpointed old new why.NotForced = (old.state.failed ≡ false) × (old.state.rows ≡ [])
+    × (log_full (ledger_of old.state) 1 ≡ false) × HasPageBeyond old.state × (new.state ≡ old.state)
 NotCheckpointed old new _ = ⊥
 
 -- Why it was stopped in its midst, and what that leaves of the lists, where more may be forced.

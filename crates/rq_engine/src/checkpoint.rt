@@ -27,7 +27,8 @@ impl<P: PageDevice, L: LogDevice, B: Level> Engine<P, L, B> {
     ///
     /// # Errors
     /// `Failed`; `NotQuiet` where a transaction is open; `LogFull`; `DiskWrite`, behind which a crash leaves the log as it was or
-    /// as it was to be. `NotForced` comes only where a page tells the LSN of a record that is not there.
+    /// as it was to be. `NotForced` comes only where a page tells the LSN of a record that is not there;
+    /// the store then runs on, and counts no more as forced than before.
     pub fn checkpoint(&mut self) -> Result<Lsn, Refusal>
         // The entry that it is, and the state.
         ensures answered { AnswersLegally P.PageDevice L.LogDevice self.old Checkpoint
@@ -35,13 +36,17 @@ impl<P: PageDevice, L: LogDevice, B: Level> Engine<P, L, B> {
         ensures sizes { self.new.state.sizes ≡ self.old.state.sizes }
         ensures lsn { IfOk result (λ lsn. lsn ≡ length self.old.state.records + 1) }
         ensures state { OnOk result (self.new.state ≡ checkpointed self.old.state) }
-        // Both devices: the log is that record alone, and each page is its image.
+        ensures quiet { OnOk result ((self.old.state.failed ≡ false) × (self.old.state.rows ≡ [])
+            × (log_full (ledger_of self.old.state) 1 ≡ false)) }
+        // Both devices: the log is that record alone, and each page is its image, with no change to be written.
         ensures reads { OnOk result (L.honest self.new.log → L.seen self.new.log ≡ spelled self.new.state.records) }
         ensures durable { OnOk result (L.honest self.new.log
             → Only (spelled self.new.state.records) (L.may_leave self.new.log)) }
         ensures pages { OnOk result (P.honest self.new.pages → (page : ℕ) → 1 ≤ page
             → page < page_count self.old.state.sizes
             → Only (image_at self.old.state.images page) (P.may_be self.new.pages page)) }
+        ensures clean { OnOk result ((page : ℕ) → 1 ≤ page → page < page_count self.old.state.sizes
+            → is_changed self.new.changed page ≡ false) }
         // Why it was refused, and what that leaves.
         ensures refused { IfErr result (λ r. NotCheckpointed self.old self.new r) }
         ensures failed { (result ≡ Err Refusal.Failed) ↔ (self.old.state.failed ≡ true) }
@@ -91,6 +96,8 @@ impl<P: PageDevice, L: LogDevice, B: Level> Engine<P, L, B> {
         ensures pages { OnOk result (P.honest self.new.pages → (page : ℕ) → 1 ≤ page
             → page < page_count self.old.state.sizes
             → Only (image_at self.old.state.images page) (P.may_be self.new.pages page)) }
+        ensures clean { OnOk result ((page : ℕ) → 1 ≤ page → page < page_count self.old.state.sizes
+            → is_changed self.new.changed page ≡ false) }
         ensures refused { IfErr result (λ r. IsStopped self.old.state self.new.state r) }
         ensures honest { AreHonest P.PageDevice L.LogDevice self.new → AreHonest P.PageDevice L.LogDevice self.old }
         ensures fit { KeepsFitOrBased P.PageDevice L.LogDevice self.old self.new }
@@ -163,6 +170,7 @@ impl<P: PageDevice, L: LogDevice, B: Level> Engine<P, L, B> {
             → Only (image_at self.old.state.images page) (P.may_be self.new.pages page) }
         ensures refused { IfErr result (λ r. IsStopped self.old.state self.new.state r) }
         ensures device { self.new.pages ≡ self.old.pages }
+        ensures changed { self.new.changed ≡ self.old.changed }
         ensures honest { L.honest self.new.log → L.honest self.old.log }
         ensures fit { KeepsFitOrBased P.PageDevice L.LogDevice self.old self.new }
     {

@@ -46,10 +46,10 @@ returns-in-Err-clause-answered g c =
       replacing = is_some c.forget_force.new.self.replacing;
     } in
     refused_legally g.P.PageDevice g.L.LogDevice c.args.self.now new (λ lsn. Gave_checkpoint lsn) c.in-Err.refusal
-    (stopped_is c.args.self.now c.replace_log.new.self new c.in-Err.refusal quiet.0 quiet.1 c.in-Err.ensures.refused (search rules))
+    (stopped_is c.args.self.now c.replace_log.new.self new c.in-Err.refusal quiet.0 quiet.1 quiet.2 c.in-Err.ensures.refused (search rules))
 
 pub returns-in-Err-clause-fit : goal.returns-in-Err-clause-fit
 returns-in-Err-clause-fit g c =
     let quiet = c.in_ok-check_quiet.ensures.ok in
     forgets g.P.PageDevice g.L.LogDevice c.args.self.now c.replace_log.new.self _ c.in-Err.refusal (search rules) (search rules)
-    (stopped_is c.args.self.now c.replace_log.new.self _ c.in-Err.refusal quiet.0 quiet.1 c.in-Err.ensures.refused (search rules)) c.in-Err.ensures.fit
+    (stopped_is c.args.self.now c.replace_log.new.self _ c.in-Err.refusal quiet.0 quiet.1 quiet.2 c.in-Err.ensures.refused (search rules)) c.in-Err.ensures.fit

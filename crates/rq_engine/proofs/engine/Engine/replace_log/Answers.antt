@@ -1,7 +1,7 @@
-use Rattle.std.proofs.Common.{rules, subst, sym, ◌∙◌, ◌≡◌, ◌+◌, ◌<◌, ◌≤◌, ℕ, length, IfOk, arith}
+use Rattle.std.proofs.Common.{rules, ap, Bool, List, subst, sym, ◌∙◌, ◌≡◌, ◌+◌, ◌<◌, ◌≤◌, ℕ, length, IfOk, arith}
 use Rattle.rq_disk.specs.Device.{Only}
-use Rattle.rq_page.specs.Sizes.{page_count}
-use Rattle.rq_pool.specs.Pooled.{image_at}
+use Rattle.rq_page.specs.Sizes.{Sizes, page_count}
+use Rattle.rq_pool.specs.Pooled.{image_at, is_changed}
 use Rattle.rq_store.specs.State.{State}
 use Rattle.rq_sound.specs.Sound.{IsSound}
 use Rattle.rq_engine.specs.Earlier.{on}
@@ -61,6 +61,12 @@ returns-clause-pages g c =
     let is = c.in_ok-sync_pages.ensures.state ∙ c.in_ok-write_all.ensures.state ∙ c.in_ok-force.ensures.state in
     let new = c.put_base.new.self in
     on_ok c.put_base.result (subst (λ (s : State). P.honest new.pages → (page : ℕ) → 1 ≤ page → page < page_count s.sizes → Only (image_at s.images page) (P.may_be new.pages page)) is c.put_base.ensures.pages)
+
+pub returns-clause-clean : goal.returns-clause-clean
+returns-clause-clean g c =
+    let forced : c.force.new.self.state.sizes ≡ c.args.self.now.state.sizes = ap (λ (s : State). s.sizes) c.in_ok-force.ensures.state in
+    let marks : c.put_base.new.self.changed ≡ c.write_all.new.self.changed = c.put_base.ensures.changed ∙ c.in_ok-sync_pages.ensures.changed in
+    on_ok c.put_base.result (λ page low high. ap (λ (m : List Bool). is_changed m page) marks ∙ c.in_ok-write_all.ensures.clean page low (subst (λ (z : Sizes). page < page_count z) (sym forced) high))
 
 pub returns-clause-refused : goal.returns-clause-refused
 returns-clause-refused g c =
