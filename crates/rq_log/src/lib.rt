@@ -376,8 +376,11 @@ impl<L: LogDevice> Log<L> {
         }
     }
 
-    /// Puts a Base in the place of all records, which are forced: it tells how many they are, and of which incarnation the last
-    /// one is. Answers its LSN. Contracts see those that it stands for still.
+    /// Puts a Base in the place of all records, which are forced: it tells how many they are, and this incarnation. Answers its
+    /// LSN. Contracts see those that it stands for still.
+    ///
+    /// # Errors
+    /// `DiskWrite`: the log has failed, and a crash leaves it as it was or as it was to be.
     pub fn replace(&mut self, incarnation: u64) -> Result<Lsn, Refusal>
         requires running { self.old.failed ≡ false }
         requires forced { self.old.forced ≡ length self.old.records }
