@@ -15,6 +15,15 @@ pub record IsUnwritten {P : Type 0} (pages : Pooled P) (page : ℕ) : Type 0 whe
   pub of_store : page < page_count pages.sizes
   pub changed : is_changed pages.changed page ≡ true
 
+-- some page behind the superblock has a change that was not written, by a record behind this LSN
+abbrev pub HasChangeBeyond : {P : Type 0} → Pooled P → ℕ → Type 0
+HasChangeBeyond pages lsn = (page : ℕ) × (1 ≤ page) × IsUnwritten pages page × (lsn < lsn_of (image_at pages.images page))
+
+-- none has
+abbrev pub NoChangeBeyond : {P : Type 0} → Pooled P → ℕ → Type 0
+NoChangeBeyond pages lsn = (page : ℕ) → 1 ≤ page → is_changed pages.changed page ≡ true
+    → lsn_of (image_at pages.images page) ≤ lsn
+
 -- when each answer comes, where the log is forced up to this LSN
 abbrev pub AnswersWhen : {P : Type 0} → Pooled P → ℕ → ℕ → Result Written Refusal → Type 0
 AnswersWhen pages page forced (Ok Done) = IsUnwritten pages page × (lsn_of (image_at pages.images page) ≤ forced)

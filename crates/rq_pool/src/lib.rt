@@ -1,10 +1,10 @@
 //! The pages of the store, all of them in memory, over their device.
 #![tactic(auto)]
 
-ghost use Rattle.std.specs.Prelude.{◌≡◌, ◌≢◌, ◌↔◌, ◌<◌, ◌≤◌, ◌+◌, ◌^◌, ◌/◌, ◌%◌, ℕ, true, false, IsSome, IfSome, IfNone, IfErr, IfOk, OnOk, OnErr, replicate, slice_set};
+ghost use Rattle.std.specs.Prelude.{◌≡◌, ◌≢◌, ◌↔◌, ◌<◌, ◌≤◌, ◌+◌, ◌^◌, ◌/◌, ◌%◌, ℕ, true, false, IsSome, IsTrue, IfSome, IfNone, IfErr, IfOk, OnOk, OnErr, replicate, slice_set};
 ghost use Rattle.std.specs.Bool.{OnFalse};
 ghost use Rattle.rq_page.specs.Sizes.{IsCellAddress, page_count, sender_count, directory_at, place_of};
-ghost use Rattle.rq_page.specs.Pages.{IsWritten};
+ghost use Rattle.rq_page.specs.Pages.{IsWritten, lsn_of};
 ghost use Rattle.rq_page.specs.Slots.{Free, Sender, held_in, IsSlotOf, IsCellOf, IsDirectoryOf};
 ghost use Rattle.rq_views.specs.Log.{cell_in, put};
 ghost use Rattle.rq_views.specs.Stored.{IsStoreSlot, slot_at, slots_in, is_used, count_used};
@@ -130,7 +130,7 @@ impl<P: PageDevice + Drop> Pages<P> {
 }
 
 impl<P: PageDevice> Pages<P> {
-    ghost use Rattle.rq_pool.specs.Writing.{AnswersWhen, DeviceAfter, MayHaveSynced, changed_after};
+    ghost use Rattle.rq_pool.specs.Writing.{AnswersWhen, DeviceAfter, HasChangeBeyond, IsUnwritten, MayHaveSynced, NoChangeBeyond, changed_after};
     ghost use Rattle.rq_pool.specs.Pooled.{AreOver};
 
     /// What is so of the pages of each store, for proofs: it runs no code. Where the device has been honest, each page
@@ -220,6 +220,31 @@ impl<P: PageDevice> Pages<P> {
         }
         mark_written(&mut self.frames, page);
         Ok(Written::Done)
+    }
+
+    /// Whether some page behind the superblock has a change that was not written, by a record behind this LSN.
+    pub fn has_change_beyond(&self, lsn: Lsn) -> bool
+        ensures some { IsTrue result → HasChangeBeyond self.now lsn }
+        ensures none { OnFalse result (NoChangeBeyond self.now lsn) }
+    {
+        for page in 1..self.layout.pages() {
+            if self.is_beyond(page, lsn) {
+                return true;
+            }
+        }
+        false
+    }
+
+    // Whether the page has such a change.
+    fn is_beyond(&self, page: u32, lsn: Lsn) -> bool
+        ensures beyond { IsTrue result → IsUnwritten self.now page × (lsn < lsn_of (image_at self.now.images page)) }
+        ensures within { OnFalse result (is_changed self.now.changed page ≡ true
+            → lsn_of (image_at self.now.images page) ≤ lsn) }
+    {
+        match self.frames.get(page as usize) {
+            Some(frame) => frame.changed && frame.page.lsn() > lsn,
+            None => false,
+        }
     }
 
     /// Makes what was written to the device durable.
