@@ -1,6 +1,6 @@
 //! Whole records in bytes.
-ghost use Rattle.std.specs.Prelude.{◌≡◌, ◌≤◌, ◌<◌, length, take, drop, IfSome, IfNone};
-ghost use Rattle.rq_disk.specs.Records.{record_size, HasRecord, AreRecords, IsTorn};
+ghost use Rattle.std.specs.Prelude.{◌≡◌, ◌≤◌, ◌<◌, ◌^◌, length, take, drop, IfSome, IfNone};
+ghost use Rattle.rq_disk.specs.Records.{record_size, HasRecord, AreRecords, HoldsRecords, IsTorn};
 
 use byteorder::{BigEndian, ByteOrder};
 
@@ -49,4 +49,13 @@ pub(crate) fn first_records(bytes: &[u8], limit: u64) -> (usize, u64)
         }
     }
     (end, count)
+}
+
+/// How many whole records stand at the front of the bytes.
+pub fn records_in(bytes: &[u8]) -> u64
+    ensures holds { HoldsRecords bytes.now result }
+    ensures few { result < 2 ^ 62 }
+{
+    let (_, count) = first_records(bytes, bytes.len() as u64);
+    count
 }

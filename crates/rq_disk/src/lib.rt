@@ -20,6 +20,7 @@ pub use contents::{FileContents, Unknown};
 pub use device::{DeviceFailed, LogDevice, PAGE, PageDevice};
 pub use file_log::FileLog;
 pub use file_pages::FilePages;
+pub use framing::records_in;
 pub use mem_log::MemLog;
 pub use mem_pages::MemPages;
 pub use noted::Calls;

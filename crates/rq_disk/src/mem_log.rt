@@ -253,12 +253,11 @@ impl MemLog {
         }
     }
 
-    /// How many whole records it holds, forced or not.
-    pub fn records(&self) -> u64
-        ensures { HoldsRecords (log_reads (log_of self.now)) result }
+    /// What it reads as, forced or not.
+    pub fn bytes(&self) -> &[u8]
+        ensures { result.now ≡ log_reads (log_of self.now) }
     {
-        let (_, count) = first_records(&self.bytes, u64::MAX);
-        count
+        &self.bytes
     }
 
     /// How many bytes stand behind its whole records.

@@ -1,3 +1,4 @@
+pub mod Counted
 pub mod Joining
 pub mod Keeping
 pub mod Kept
@@ -6,3 +7,4 @@ pub mod Parsing
 pub mod Places
 pub mod Runs
 pub mod Streams
+pub mod Tallying

@@ -1,3 +1,4 @@
+pub mod Counted
 pub mod Crash
 pub mod Logged
 pub mod Places

@@ -10,11 +10,13 @@ ghost use Rattle.rq_log.specs.Crash.{LeavesOnly};
 ghost use Rattle.rq_log.specs.Logged.{IsLog, WasCut, WasDurable, WasLeftOrGoesOn};
 ghost use Rattle.rq_log.specs.Spelled.{spelled, AreSpelled, HoldsTo, IsBeginning};
 
+mod counting;
 mod looking;
 mod past;
 mod reading;
 mod stream;
 
+pub use crate::counting::last_lsn;
 use crate::past::Past;
 pub use crate::reading::LogReader;
 use rq_disk::LogDevice;
@@ -396,6 +398,7 @@ impl<L: LogDevice> Log<L> {
         ensures durable { OnOk result (L.honest self.new.device
             → Only (spelled self.new.records) (L.may_leave self.new.device)) }
         ensures settled { OnOk result (WasDurable L.LogDevice self.new) }
+        ensures untried { OnOk result (self.new.replacing ≡ self.old.replacing) }
         ensures err { IfErr result (λ e. (e ≡ Refusal.DiskWrite) × (self.new.failed ≡ true)
             × (self.new.replacing ≡ Some incarnation)) }
         ensures as_before { OnErr result ((self.new.records ≡ self.old.records) × (self.new.forced ≡ self.old.forced)
