@@ -1,6 +1,6 @@
 -- What a crash in a checkpoint leaves.
-use Rattle.std.proofs.Common.{◌≡◌, ◌≢◌, ◌⊎◌, ℕ, zero, suc, ◌+◌, ◌-◌, ◌<◌, ◌≤◌, Bool, true, false, List, [], ◌∷◌, length, drop, slice_set, Result, Ok, Err, OnOk, IfErr, refl, sym, ◌∙◌, ap, subst, inl, inr, ⊎_elim, arith}
-use Rattle.std.proofs.lemmas.Bool.{cases_eq, true≢false}
+use Rattle.std.proofs.Common.{◌≡◌, ◌≢◌, ◌⊎◌, ℕ, zero, suc, ◌+◌, ◌-◌, ◌%◌, ◌^◌, ◌<◌, ◌≤◌, Bool, true, false, List, [], ◌∷◌, length, drop, slice_set, Option, Some, None, Result, Ok, Err, IfOk, IfErr, refl, sym, ◌∙◌, ap, subst, inl, inr, ⊎_elim, arith}
+use Rattle.std.proofs.lemmas.Bool.{cases_eq, true_from_ne_false, true≢false}
 use Rattle.rq_model.specs.declared.refusal.Refusal.{Refusal}
 use Rattle.rq_model.specs.declared.refusal.Refusal.TheVariants as why
 use Rattle.rq_model.specs.History.Call.{Checkpoint}
@@ -14,8 +14,8 @@ use Rattle.rq_log.proofs.Kept.{fits_base}
 use Rattle.rq_log.specs.Spelled.{spelled_all}
 use Rattle.rq_pool.specs.declared.Written.{Written}
 use Rattle.rq_pool.specs.declared.Written.TheVariants as out
-use Rattle.rq_pool.specs.Pooled.{is_changed}
-use Rattle.rq_pool.specs.Writing.{changed_after}
+use Rattle.rq_pool.specs.Pooled.{image_at, is_changed}
+use Rattle.rq_pool.specs.Writing.{DeviceAfter, HasChangeBeyond, NoChangeBeyond, changed_after}
 use Rattle.rq_store.specs.State.{ledger_of, open_ones_of}
 use Rattle.rq_model.specs.Tests.{log_full}
 use Rattle.rq_sound.specs.ModelSteps.{IsModelStep}
@@ -29,13 +29,15 @@ use Rattle.rq_model.specs.Bases.{based, gone, standing}
 use Rattle.rq_model.specs.Commits.{committed_of}
 use Rattle.rq_model.proofs.Bases.{length_standing}
 use Rattle.rq_model.proofs.Rises.{kept_less}
+use Rattle.rq_page.specs.Pages.{lsn_of}
 use Rattle.rq_page.specs.Sizes.{Sizes, page_count}
-use Rattle.rq_disk.specs.Device.{Images, Leaves}
+use Rattle.rq_disk.specs.Device.{Images, Leaves, Only}
 use Rattle.rq_disk.specs.declared.device.LogDevice as log_device
 use Rattle.rq_disk.specs.declared.device.PageDevice as page_device
 use Rattle.rq_log.specs.Crash.{LeavesOnly}
-use Rattle.rq_log.specs.Spelled.{spelled, AreSpelled}
-use Rattle.rq_log.proofs.Moments.{weaker}
+use Rattle.rq_log.specs.Logged.{IsLog, IsSettled, Logged}
+use Rattle.rq_log.specs.Spelled.{spelled, AreSpelled, IsBeginning}
+use Rattle.rq_log.proofs.Moments.{joined, weaker}
 use Rattle.rq_log.proofs.Runs.{all_of}
 use Rattle.rq_store.specs.State.{State}
 use Rattle.rq_store.specs.Fitting.{AllFit, FitsPage, HoldsBase, image_in, oldest}
@@ -43,9 +45,9 @@ use Rattle.rq_sound.specs.Calls.{checkpointed}
 use Rattle.rq_sound.specs.Sound.{IsSound}
 use Rattle.rq_sound.proofs.Checkpoints.{checkpoint, checkpoint_sound}
 use Rattle.rq_sound.proofs.Contracts.{calls_keep}
-use Rattle.rq_engine.specs.Opened.{AreHonest, OpenStore}
+use Rattle.rq_engine.specs.Opened.{AreHonest, NotWritten, OpenStore, WritesWhen, pooled, state_after}
 use Rattle.rq_engine.specs.Crash.{AreFit, IsCut, KeepsFit, LeavesCut}
-use Rattle.rq_engine.specs.Checkpoint.{IsCutOrBased, IsStopped, KeepsFitOrBased, NotCheckpointed}
+use Rattle.rq_engine.specs.Checkpoint.{CountsFailure, CountsOne, HasMadeOneRecord, IsBeginningOrBase, IsCutOrBased, IsStopped, KeepsFitOrBased, NotCheckpointed}
 use Rattle.rq_engine.specs.Devices.{Path}
 use Rattle.rq_engine.specs.Devices.Path.{Start, Pages, Log}
 use Rattle.rq_engine.specs.Earlier.{IsEarlier, on, over, rebased}
@@ -221,7 +223,15 @@ some_open ends (r ∷ rows) some = refl
 pub none_open : (ends : HeldEnds) (rows : List Row) → rows ≡ [] → is_some (first (open_ones_of ends rows)) ≡ false
 none_open ends rows none = ap (λ (rs : List Row). is_some (first (open_ones_of ends rs))) none
 
-pub refused_legally : {P L X : Type 0} (p : page_device.Ghosts P) (l : log_device.Ghosts L) (old new : OpenStore P L) (gives : X → Gave) (r : Refusal) → NotCheckpointed old new r → AnswersLegally p l old Checkpoint gives (Err r) new
+-- no page of a sound store is ahead of its log
+none_beyond : {P L : Type 0} (old : OpenStore P L) (e : List Record) → IsEarlier e old.state → IsSound (on e old.state) → HasChangeBeyond (pooled old) (length old.state.records) → ⊥
+none_beyond old e long k beyond =
+    let within = (k.fits.pages beyond.0 beyond.1 beyond.2.of_store).within in
+    let more = beyond.3 in
+    let same = long_on e old.state long in
+    omega (arith, within, more, same)
+
+pub refused_legally : {P L X : Type 0} (p : page_device.Ghosts P) (l : log_device.Ghosts L) (old new : OpenStore P L) (gives : X → Gave) (r : Refusal) → NotCheckpointed p l old new r → AnswersLegally p l old Checkpoint gives (Err r) new
 refused_legally p l old new gives why.Failed n h e long k =
     subst (λ (s : OpenStore _ _). IsModelStep (on e old.state) Checkpoint (Gave_refusal why.Failed) (on e s.state) × IsCausedIn (on e old.state) Checkpoint why.Failed) (sym n.1) (refuse_failed (on e old.state) Checkpoint n.0 k)
 refused_legally p l old new gives why.NotQuiet n h e long k =
@@ -234,20 +244,19 @@ refused_legally p l old new gives why.LogFull n h e long k =
     subst (λ (s : OpenStore _ _). IsModelStep (on e old.state) Checkpoint (Gave_refusal why.LogFull) (on e s.state) × IsCausedIn (on e old.state) Checkpoint why.LogFull) (sym n.3)
     (refuse (on e old.state) Checkpoint why.LogFull refl tt (rw (n.0, none, full) refl) k)
 refused_legally p l old new gives why.DiskWrite n h e long k =
-    subst (λ (s : State). IsModelStep (on e old.state) Checkpoint (Gave_refusal why.DiskWrite) (on e s) × IsCausedIn (on e old.state) Checkpoint why.DiskWrite) (sym n.3) (failed_steps (on e old.state) k n.0 Checkpoint, refl)
-refused_legally p l old new gives why.NotForced n h e long k =
-    let beyond = n.3 in
-    let within = (k.fits.pages beyond.0 beyond.1 beyond.2).within in
-    let more = beyond.3 in
-    let same = long_on e old.state long in
-    absurd (omega (arith, within, more, same))
+    subst (λ (s : State). IsModelStep (on e old.state) Checkpoint (Gave_refusal why.DiskWrite) (on e s) × IsCausedIn (on e old.state) Checkpoint why.DiskWrite) (sym n.0.state) (failed_steps (on e old.state) k n.0.running Checkpoint, refl)
+refused_legally p l old new gives why.NotForced n h e long k = absurd (none_beyond old e long k n.3)
 refused_legally p l old new gives _ n h e long k = absurd n
 
 -- where it stopped in its midst, and counts no more as forced than before
-pub stopped_is : {P L : Type 0} (old mid new : OpenStore P L) (r : Refusal) → old.state.failed ≡ false → old.state.rows ≡ [] → log_full (ledger_of old.state) 1 ≡ false → IsStopped old.state mid.state r → new.state ≡ record mid.state { forced = old.state.forced } → NotCheckpointed old new r
-stopped_is old mid new why.DiskWrite running none room s is = (running, none, room, is ∙ ap (λ (x : State). record x { forced = old.state.forced }) s.0)
-stopped_is old mid new why.NotForced running none room s is = (running, none, room, s.2, is ∙ ap (λ (x : State). record x { forced = old.state.forced }) s.0)
-stopped_is old mid new _ running none room s is = absurd s
+pub stopped_is : {P L : Type 0} (p : page_device.Ghosts P) (l : log_device.Ghosts L) (old mid new : OpenStore P L) (r : Refusal) → old.state.failed ≡ false → old.state.rows ≡ [] → log_full (ledger_of old.state) 1 ≡ false
+    → IsStopped old.state mid.state r → CountsOne p l old mid → ((page : ℕ) → is_changed old.changed page ≡ false → is_changed mid.changed page ≡ false)
+    → new.state ≡ record mid.state { forced = old.state.forced } → new.changed ≡ mid.changed → new.pages ≡ mid.pages → new.log ≡ mid.log → NotCheckpointed p l old new r
+stopped_is p l old mid new why.DiskWrite running none room s counts fewer is marks pages log = (
+  record { running = running; none_open = none; room = room; state = is ∙ ap (λ (x : State). record x { forced = old.state.forced }) s.0; fewer = λ page h. ap (λ (m : List Bool). is_changed m page) marks ∙ fewer page h },
+  subst (λ (d : _). CountsOne p l old (record new { pages = d })) (sym pages) (subst (λ (d : _). CountsOne p l old (record new { pages = mid.pages; log = d })) (sym log) counts),
+)
+stopped_is p l old mid new _ running none room s counts fewer is marks pages log = absurd s
 
 -- behind a force
 pub stopped_more : (a b c : State) (n : ℕ) (r : Refusal) → b ≡ record a { forced = n } → a.forced ≤ n → IsStopped b c r → IsStopped a c r
@@ -255,11 +264,95 @@ stopped_more a b c n why.DiskWrite is le s =
     let k : IsStopped (record a { forced = n }) c why.DiskWrite = subst (λ (x : State). IsStopped x c why.DiskWrite) is s in
     let more = k.1 in
     (k.0, omega (arith, le, more))
-stopped_more a b c n why.NotForced is le s =
-    let k : IsStopped (record a { forced = n }) c why.NotForced = subst (λ (x : State). IsStopped x c why.NotForced) is s in
-    let more = k.1 in
-    (k.0, omega (arith, le, more), k.2)
 stopped_more a b c n _ is le s = absurd s
+
+-- ---- failures that are counted
+
+module _ {P L : Type 0} (p : page_device.Ghosts P) (l : log_device.Ghosts L) where
+  -- none was counted before it
+  pub counts_one : (old mid new : OpenStore P L) → p.faults mid.pages ≡ p.faults old.pages → l.faults mid.log ≡ l.faults old.log → CountsOne p l mid new → CountsOne p l old new
+  counts_one old mid new pages log (inl c) = inl (c.0 ∙ ap (λ (n : ℕ). (n + 1) % 2 ^ 64) pages, c.1 ∙ log)
+  counts_one old mid new pages log (inr c) = inr (c.0 ∙ pages, c.1 ∙ ap (λ (n : ℕ). (n + 1) % 2 ^ 64) log)
+
+  pub counts_join : {T E : Type 0} (old mid new : OpenStore P L) (r : Result T E) → p.faults mid.pages ≡ p.faults old.pages → l.faults mid.log ≡ l.faults old.log → CountsFailure p l mid new r → CountsFailure p l old new r
+  counts_join old mid new (Ok x) pages log c = (c.0 ∙ pages, c.1 ∙ log)
+  counts_join old mid new (Err e) pages log c = counts_one old mid new pages log c
+
+  -- a record for all, behind a force and what leaves the lists
+  pub made_later : (old mid new : OpenStore P L) (lsn n : ℕ) → old.state.failed ≡ false → old.state.rows ≡ [] → log_full (ledger_of old.state) 1 ≡ false → mid.state ≡ record old.state { forced = n } → mid.replacing ≡ old.replacing
+      → p.faults mid.pages ≡ p.faults old.pages → l.faults mid.log ≡ l.faults old.log → HasMadeOneRecord p l mid new lsn → HasMadeOneRecord p l old new lsn
+  made_later old mid new lsn n running none room is tried pages log m = record {
+    running = running;
+    none_open = none;
+    room = room;
+    lsn = m.lsn ∙ ap (λ (s : State). length s.records + 1) is;
+    state = m.state ∙ ap checkpointed is;
+    reads = m.reads;
+    durable = m.durable;
+    pages = λ h page low high. subst (λ (s : State). Only (image_at s.images page) (p.may_be new.pages page)) is (m.pages h page low (subst (λ (s : State). page < page_count s.sizes) (sym is) high));
+    clean = λ page low high. m.clean page low (subst (λ (s : State). page < page_count s.sizes) (sym is) high);
+    replacing = m.replacing ∙ tried;
+    counts = (m.counts.0 ∙ pages, m.counts.1 ∙ log);
+  }
+
+-- ---- pages that are written, each in its turn
+
+-- no page has a change that had none
+abbrev pub HasFewer : List Bool → List Bool → Type 0
+HasFewer old new = (page : ℕ) → is_changed old page ≡ false → is_changed new page ≡ false
+
+unset_stays : (changed : List Bool) (page q : ℕ) → is_changed changed q ≡ false → is_changed (slice_set changed page false) q ≡ false
+unset_stays changed page q h = set_clears changed page q (λ other. h)
+
+pub fewer_after : (changed : List Bool) (page : ℕ) (r : Result Written Refusal) → HasFewer changed (changed_after changed page r)
+fewer_after changed page (Ok out.Done) q h = unset_stays changed page q h
+fewer_after changed page (Ok out.Nothing) q h = h
+fewer_after changed page (Err r) q h = h
+
+still_changed : (old new : List Bool) (page : ℕ) → HasFewer old new → is_changed new page ≡ true → is_changed old page ≡ true
+still_changed old new page fewer h = true_from_ne_false (is_changed old page) (λ none. true≢false (sym h ∙ fewer page none))
+
+module _ {P L : Type 0} (p : page_device.Ghosts P) (l : log_device.Ghosts L) (first old new : OpenStore P L) (page : ℕ) where
+  -- one that is refused has stopped the store
+  pub page_stops : (r : Refusal) → old.state ≡ first.state → first.state.failed ≡ false → first.state.forced ≡ length first.state.records → NoChangeBeyond (pooled first) (length first.state.records)
+      → HasFewer first.changed old.changed → 1 ≤ page → WritesWhen old page (Err r) → new.state ≡ state_after old.state (Err r) → IsStopped first.state new.state r
+  page_stops why.Failed same running forced within fewer low when is = absurd (true≢false (sym when ∙ ap (λ (s : State). s.failed) same ∙ running))
+  page_stops why.DiskWrite same running forced within fewer low when is =
+      let now : new.state ≡ record first.state { failed = true } = is ∙ ap (λ (s : State). record s { failed = true }) same in
+      let count : new.state.forced ≡ first.state.forced = ap (λ (s : State). s.forced) now in
+      (now ∙ ap (λ (n : ℕ). record first.state { forced = n; failed = true }) (sym count), omega (arith, count))
+  page_stops why.NotForced same running forced within fewer low when is =
+      let most : lsn_of (image_at first.state.images page) ≤ length first.state.records = within page low (still_changed first.changed old.changed page fewer when.1.0.changed) in
+      let more : first.state.forced < lsn_of (image_at first.state.images page) = subst (λ (s : State). s.forced < lsn_of (image_at s.images page)) same when.1.1 in
+      omega (arith, most, more, forced)
+  page_stops _ same running forced within fewer low when is = absurd when.1
+
+  -- and its failure is counted
+  pub page_counts : (r : Refusal) → IsStopped first.state new.state r → DeviceAfter p page (image_at old.state.images page) old.pages new.pages (Err r) → p.faults old.pages ≡ p.faults first.pages → new.log ≡ first.log → CountsOne p l first new
+  page_counts why.DiskWrite s after faults log = inl (after.1 ∙ ap (λ (n : ℕ). (n + 1) % 2 ^ 64) faults, ap l.faults log)
+  page_counts _ s after faults log = absurd s
+
+  -- one that is answered counts none
+  pub page_counts_none : (w : Written) → DeviceAfter p page (image_at old.state.images page) old.pages new.pages (Ok w) → p.faults new.pages ≡ p.faults old.pages
+  page_counts_none out.Done after = after.2
+  page_counts_none out.Nothing after = ap p.faults after
+
+-- ---- what the log is left as
+
+-- where fewer count as forced
+pub begins_less : (records : List Record) (more less : ℕ) (bytes : List ℕ) → less ≤ more → IsBeginning records more bytes → IsBeginning records less bytes
+begins_less records more less bytes le b =
+    let within = b.1 in
+    (b.0, omega (arith, within, le), b.2, λ some. b.3 (omega (arith, some, le)))
+
+-- all of it, or the Base
+pub whole_or_base : (s : State) (i : ℕ) (bytes : List ℕ) → s.forced ≡ length s.records → (bytes ≡ spelled s.records) ⊎ (bytes ≡ spelled (based i s.records)) → IsBeginningOrBase s.records s.forced bytes
+whole_or_base s i bytes all (inl e) = inl (all_of (standing s.records) (s.forced - gone s.records) bytes (let stand = length_standing s.records in omega (arith, all, stand)) e)
+whole_or_base s i bytes all (inr e) = inr (i, e)
+
+pub base_less : (s t : State) (bytes : List ℕ) → s.records ≡ t.records → t.forced ≤ s.forced → IsBeginningOrBase s.records s.forced bytes → IsBeginningOrBase t.records t.forced bytes
+base_less s t bytes same le (inl b) = inl (subst (λ (rs : List Record). IsBeginning rs t.forced bytes) same (begins_less s.records s.forced t.forced bytes le b))
+base_less s t bytes same le (inr b) = inr (b.0, b.1 ∙ ap (λ (rs : List Record). spelled (based b.0 rs)) same)
 
 -- ---- a page that was written counts as changed no more, and no other does that did not
 
@@ -270,37 +363,67 @@ cleared changed page q out.Nothing same others = elim (cases_eq q page) [
   | inr ne ↦ others ne
 ]
 
+-- what a crash leaves while no call is made, whether a checkpoint has failed or not
+pub left_at_rest : {L : Type 0} (l : log_device.Ghosts L) (log : Logged L) → IsLog l log → IsSettled l log → l.honest log.device → (bytes : List ℕ) → l.may_leave log.device bytes → IsBeginningOrBase log.records log.forced bytes
+left_at_rest l log k settled h bytes may = by log.replacing refl where
+  by : (tried : Option ℕ) → log.replacing ≡ tried → IsBeginningOrBase log.records log.forced bytes
+  by None e = inl (k.leaves h (settled, e) bytes may)
+  by (Some i) e = ⊎_elim (λ b. inl b) (λ b. inr (i, b)) (k.replaced h settled i e bytes may)
+
+-- no call is made of a device
+pub still_run : {L : Type 0} (l : log_device.Ghosts L) (Q : List ℕ → Type 0) (old mid new : L) → new ≡ mid → LeavesOnly l old mid Q → LeavesOnly l old new Q
+still_run l Q old mid new same run = subst (λ (d : _). LeavesOnly l old d Q) (sym same) run
+
+-- none behind a run that forces the log
+pub begins_first : {L : Type 0} (l : log_device.Ghosts L) (s : State) (old mid new : L) → new ≡ mid → LeavesOnly l old mid (IsBeginning s.records s.forced) → LeavesOnly l old new (IsBeginningOrBase s.records s.forced)
+begins_first l s old mid new same run =
+    still_run l (IsBeginningOrBase s.records s.forced) old mid new same (weaker l old mid (IsBeginning s.records s.forced) (IsBeginningOrBase s.records s.forced) run (λ bytes b. inl b))
+
+-- a run that forces the log, and then replaces it
+pub begins_join : {L : Type 0} (l : log_device.Ghosts L) (old mid : State) (log between new : L) → mid ≡ record old { forced = length old.records } → old.forced ≤ length old.records → LeavesOnly l log between (IsBeginning old.records old.forced)
+    → LeavesOnly l between new (IsBeginningOrBase mid.records mid.forced) → LeavesOnly l log new (IsBeginningOrBase old.records old.forced)
+begins_join l old mid log between new is le first second =
+    joined l log between new (IsBeginningOrBase old.records old.forced) (weaker l log between (IsBeginning old.records old.forced) (IsBeginningOrBase old.records old.forced) first (λ bytes b. inl b))
+    (weaker l between new (IsBeginningOrBase mid.records mid.forced) (IsBeginningOrBase old.records old.forced) second
+    (λ bytes b. base_less mid old bytes (ap (λ (s : State). s.records) is) (let count = ap (λ (s : State). s.forced) is in omega (arith, count, le)) b))
+
+-- the log could not be forced
+pub not_forced : {P L : Type 0} (p : page_device.Ghosts P) (l : log_device.Ghosts L) (old new : OpenStore P L) (r : Refusal) → old.state.failed ≡ false → NotWritten l old new r → new.pages ≡ old.pages → CountsOne p l old new
+not_forced p l old new why.Failed running n pages = absurd (true≢false (sym n.0 ∙ running))
+not_forced p l old new why.DiskWrite running n pages = inr (ap p.faults pages, n.1)
+not_forced p l old new _ running n pages = absurd n
+
+-- what is so of pages is so behind a force
+pub within_forced : {P L : Type 0} (old new : OpenStore P L) (n : ℕ) → new.state ≡ record old.state { forced = n } → new.changed ≡ old.changed → NoChangeBeyond (pooled old) (length old.state.records) → NoChangeBeyond (pooled new) (length new.state.records)
+within_forced old new n is marks within page low changed =
+    let was = within page low (subst (λ (m : List Bool). is_changed m page ≡ true) marks changed) in
+    subst (λ (s : State). lsn_of (image_at s.images page) ≤ length s.records) (sym is) was
+
 -- ---- the whole of it
 
 -- the entry of one that is made
-pub checkpoint_legally : {P L : Type 0} (p : page_device.Ghosts P) (l : log_device.Ghosts L) (old new : OpenStore P L) (lsn : ℕ) → old.state.rows ≡ [] → old.state.failed ≡ false → log_full (ledger_of old.state) 1 ≡ false
-    → lsn ≡ length old.state.records + 1 → new.state ≡ checkpointed old.state → AnswersLegally p l old Checkpoint (λ n. Gave_checkpoint n) (Ok lsn) new
-checkpoint_legally p l old new lsn none running room at is h e long k =
-    let here = checkpoint (on e old.state) k none running (full_on e old.state long 1 ∙ room) in
-    let there : IsModelStep (on e old.state) Checkpoint (Gave_checkpoint (length (on e old.state).records + 1)) (on e new.state) = subst (λ (s : State). IsModelStep (on e old.state) Checkpoint (Gave_checkpoint (length (on e old.state).records + 1)) s) (sym (ap (on e) is ∙ checkpointed_on e old.state long)) here in
-    subst (λ (n : ℕ). IsModelStep (on e old.state) Checkpoint (Gave_checkpoint n) (on e new.state)) (sym (lsn_on e old.state long lsn at)) there
+pub made_legally : {P L : Type 0} (p : page_device.Ghosts P) (l : log_device.Ghosts L) (old new : OpenStore P L) (lsn : ℕ) → HasMadeOneRecord p l old new lsn → AnswersLegally p l old Checkpoint (λ n. Gave_checkpoint n) (Ok lsn) new
+made_legally p l old new lsn m h e long k =
+    let here = checkpoint (on e old.state) k m.none_open m.running (full_on e old.state long 1 ∙ m.room) in
+    let there : IsModelStep (on e old.state) Checkpoint (Gave_checkpoint (length (on e old.state).records + 1)) (on e new.state) = subst (λ (s : State). IsModelStep (on e old.state) Checkpoint (Gave_checkpoint (length (on e old.state).records + 1)) s) (sym (ap (on e) m.state ∙ checkpointed_on e old.state long)) here in
+    subst (λ (n : ℕ). IsModelStep (on e old.state) Checkpoint (Gave_checkpoint n) (on e new.state)) (sym (lsn_on e old.state long lsn m.lsn)) there
 
 -- what of a refusal is so where the store is sound: its pages fit unless it has failed
-not_fit : {P L : Type 0} (p : page_device.Ghosts P) (old new : OpenStore P L) (r : Refusal) → NotCheckpointed old new r → (e : List Record) → IsEarlier e old.state → IsSound (on e old.state) → AreFit p (over e old) → new.state.failed ≡ false → AreFit p (over e new)
-not_fit p old new why.Failed n e long k fit running = subst (λ (s : OpenStore _ _). AreFit p (over e s)) (sym n.1) fit
-not_fit p old new why.NotQuiet n e long k fit running = subst (λ (s : OpenStore _ _). AreFit p (over e s)) (sym n.2) fit
-not_fit p old new why.LogFull n e long k fit running = subst (λ (s : OpenStore _ _). AreFit p (over e s)) (sym n.3) fit
-not_fit p old new why.DiskWrite n e long k fit running = absurd (true≢false (sym (ap (λ (s : State). s.failed) n.3) ∙ running))
-not_fit p old new why.NotForced n e long k fit running =
-    let beyond = n.3 in
-    let within = (k.fits.pages beyond.0 beyond.1 beyond.2).within in
-    let more = beyond.3 in
-    let same = long_on e old.state long in
-    absurd (omega (arith, within, more, same))
-not_fit p old new _ n e long k fit running = absurd n
+not_fit : {P L : Type 0} (p : page_device.Ghosts P) (l : log_device.Ghosts L) (old new : OpenStore P L) (r : Refusal) → NotCheckpointed p l old new r → (e : List Record) → IsEarlier e old.state → IsSound (on e old.state) → AreFit p (over e old) → new.state.failed ≡ false → AreFit p (over e new)
+not_fit p l old new why.Failed n e long k fit running = subst (λ (s : OpenStore _ _). AreFit p (over e s)) (sym n.1) fit
+not_fit p l old new why.NotQuiet n e long k fit running = subst (λ (s : OpenStore _ _). AreFit p (over e s)) (sym n.2) fit
+not_fit p l old new why.LogFull n e long k fit running = subst (λ (s : OpenStore _ _). AreFit p (over e s)) (sym n.3) fit
+not_fit p l old new why.NotForced n e long k fit running = subst (λ (s : OpenStore _ _). AreFit p (over e s)) (sym n.4) fit
+not_fit p l old new why.DiskWrite n e long k fit running = absurd (true≢false (sym (ap (λ (s : State). s.failed) n.0.state) ∙ running))
+not_fit p l old new _ n e long k fit running = absurd n
 
 -- that fewer are counted as forced changes no device
-pub forgets : {P L : Type 0} (p : page_device.Ghosts P) (l : log_device.Ghosts L) (old mid new : OpenStore P L) (r : Refusal) → new.pages ≡ mid.pages → new.log ≡ mid.log → NotCheckpointed old new r → KeepsFitOrBased p l old mid → KeepsFitOrBased p l old new
+pub forgets : {P L : Type 0} (p : page_device.Ghosts P) (l : log_device.Ghosts L) (old mid new : OpenStore P L) (r : Refusal) → new.pages ≡ mid.pages → new.log ≡ mid.log → NotCheckpointed p l old new r → KeepsFitOrBased p l old mid → KeepsFitOrBased p l old new
 forgets p l old mid new r pages log n keeps untried h e long k fit =
     let there : AreHonest p l mid = (subst (λ (d : _). p.honest d) pages h.0, subst (λ (d : _). l.honest d) log h.1) in
     let m = keeps untried there e long k fit in
     record {
-      fit = not_fit p old new r n e long k fit;
+      fit = not_fit p l old new r n e long k fit;
       crash = subst (λ (d : _). Path p l (IsCutOrBased (on e old.state)) old.pages old.log d new.log) (sym pages) (subst (λ (d : _). Path p l (IsCutOrBased (on e old.state)) old.pages old.log mid.pages d) (sym log) m.crash);
     }
 
@@ -309,9 +432,9 @@ forced_sound s t is e long k =
     subst IsSound (ap (λ (n : ℕ). record (on e s) { forced = n }) (long_on e s long) ∙ sym (ap (on e) is)) (calls_keep.forces (on e s) k)
 
 -- what is so of each answer, by the answer
-pub on_ok : {A E X : Type 0} (r : Result A E) → X → OnOk r X
-on_ok (Ok x) h = h
-on_ok (Err e) h = tt
+pub if_ok : {A E : Type 0} {X Y : A → Type 0} (r : Result A E) → ((x : A) → X x → Y x) → IfOk r X → IfOk r Y
+if_ok (Ok x) f h = f x h
+if_ok (Err e) f h = tt
 
 pub if_err : {A E : Type 0} {X Y : E → Type 0} (r : Result A E) → ((e : E) → X e → Y e) → IfErr r X → IfErr r Y
 if_err (Ok x) f h = tt

@@ -42,6 +42,7 @@ use Rattle.rq_engine.specs.Says.{PagesSay, WritesSay, written_by}
 use Rattle.rq_engine.specs.Crash.{AreFit, IsCut, KeepsFit, LeavesCut, RunsThroughCuts, StaysFit, commits_left}
 use Rattle.rq_engine.specs.Earlier.{on, over, rebased, IsEarlier}
 use Rattle.rq_engine.specs.Devices.Path.{Start, Pages, Log}
+use Rattle.rq_engine.proofs.UnknownStay.{IsNoCheckpoint}
 use Rattle.rq_engine.proofs.Earlier.{beginning_on, long_on, standing_on, told_on}
 use Rattle.rq_log.proofs.Moments.{started, weaker}
 use Rattle.rq_log.proofs.Runs.{AreAllSpelled-drop}
@@ -169,17 +170,18 @@ module _ {P L : Type 0} (p : page_device.Ghosts P) (l : log_device.Ghosts L) (on
     goes_out page (Err why.DiskWrite) when after = written page when.1.0.of_store when.1.1 after.0
     goes_out page (Err _) when after = stays after
 
-    goes : (e : Event) (r : Reply) → WritesSay old e r → PagesSay p old new e r → Goes
-    goes (event.WritePage page) r when say = goes_out page (written_by r) when say
-    goes _ r when say = stays say
+    goes : (e : Event) (r : Reply) → IsNoCheckpoint e → WritesSay old e r → PagesSay p old new e r → Goes
+    goes (event.WritePage page) r other when say = goes_out page (written_by r) when say
+    goes event.Checkpoint r other when say = absurd other
+    goes _ r other when say = stays say
 
-    pub fit_kept : (e : Event) (r : Reply) (call : Call) (gave : Gave) → new.state.sizes ≡ old.state.sizes → base_lsn new.state.records ≡ base_lsn old.state.records → IsModelStep old.state call gave new.state → WritesSay old e r → PagesSay p old new e r → AreFit p new
-    fit_kept e r call gave sizes base steps when say =
+    pub fit_kept : (e : Event) (r : Reply) → IsNoCheckpoint e → (call : Call) (gave : Gave) → new.state.sizes ≡ old.state.sizes → base_lsn new.state.records ≡ base_lsn old.state.records → IsModelStep old.state call gave new.state → WritesSay old e r → PagesSay p old new e r → AreFit p new
+    fit_kept e r other call gave sizes base steps when say =
         subst (λ (y : Sizes). AllFit (p.may_be new.pages) y (oldest new.state.forced new.state.records)) (sym sizes)
         (all_fit_longer (p.may_be new.pages) z kept (oldest new.state.forced new.state.records)
         (oldest_continues old.state.forced new.state.forced old.state.records new.state.records steps.goes_on k.forced steps.stays_forced steps.sound.forced)
         (grown_base old.state.forced new.state.forced old.state.records new.state.records base (more_forced old.state k told) k.forced steps.stays_forced steps.sound.forced)
-        (goes e r when say).now)
+        (goes e r other when say).now)
 
     -- at each moment a crash leaves a cut of the older records, whichever device the call changes
     through : Goes → ((c : List ℕ) → l.may_leave old.log c → IsBeginning old.state.records old.state.forced c)
@@ -192,10 +194,10 @@ module _ {P L : Type 0} (p : page_device.Ghosts P) (l : log_device.Ghosts L) (on
         (weaker l old.log new.log (IsBeginning old.state.records old.state.forced) (λ bytes. (images : Images) → Leaves (p.may_be new.pages) images → IsCut old.state images bytes) run
         (λ bytes b images a. cut_of images bytes (are_left (p.may_be new.pages) z kept images g.now a) b))
 
-    pub runs_through_cuts : (e : Event) (r : Reply) → WritesSay old e r → PagesSay p old new e r
+    pub runs_through_cuts : (e : Event) (r : Reply) → IsNoCheckpoint e → WritesSay old e r → PagesSay p old new e r
         → ((c : List ℕ) → l.may_leave old.log c → IsBeginning old.state.records old.state.forced c)
         → LeavesOnly l old.log new.log (IsBeginning old.state.records old.state.forced) → RunsThroughCuts p l old new
-    runs_through_cuts e r when say log run = through (goes e r when say) log run
+    runs_through_cuts e r other when say log run = through (goes e r other when say) log run
 
     -- a call that writes no record
     module _ (sizes : new.state.sizes ≡ z) (records : new.state.records ≡ old.state.records)
@@ -278,17 +280,17 @@ module _ {P L : Type 0} (p : page_device.Ghosts P) (l : log_device.Ghosts L) (on
   pub leaves_cut_over : (s : OpenStore P L) (x : List Record) → (l.honest s.log → (c : List ℕ) → l.may_leave s.log c → IsBeginning s.state.records s.state.forced c) → IsOnDevice s.state → l.honest s.log → IsEarlier x s.state → IsSound (on x s.state) → AreFit p (over x s) → LeavesCut p l (over x s)
   leaves_cut_over s x log told h long k fit = leaves_cut p l only_now (over x s) (λ q c m. beginning_on x s.state.records s.state.forced c told.0 long (log q c m)) (on_device x s.state long told) h k fit
 
-  pub fit_kept_over : (old new : OpenStore P L) (x : List Record) → IsOnDevice old.state → IsEarlier x old.state → IsSound (on x old.state) → AreFit p (over x old) → (e : Event) (r : Reply) (call : Call) (gave : Gave) → new.state.sizes ≡ old.state.sizes
+  pub fit_kept_over : (old new : OpenStore P L) (x : List Record) → IsOnDevice old.state → IsEarlier x old.state → IsSound (on x old.state) → AreFit p (over x old) → (e : Event) (r : Reply) → IsNoCheckpoint e → (call : Call) (gave : Gave) → new.state.sizes ≡ old.state.sizes
       → base_lsn (rebased x new.state.records) ≡ base_lsn (rebased x old.state.records) → IsModelStep (on x old.state) call gave (on x new.state) → WritesSay old e r → PagesSay p old new e r → AreFit p (over x new)
-  fit_kept_over old new x told long k fit e r call gave sizes base steps when say =
-      fit_kept p l only_now (over x old) (over x new) k fit (on_device x old.state long told) e r call gave sizes base steps (writes_over x old e r when) (pages_over p x old new e r say)
+  fit_kept_over old new x told long k fit e r other call gave sizes base steps when say =
+      fit_kept p l only_now (over x old) (over x new) k fit (on_device x old.state long told) e r other call gave sizes base steps (writes_over x old e r when) (pages_over p x old new e r say)
 
-  pub cuts_over : (old new : OpenStore P L) (x : List Record) → IsOnDevice old.state → IsEarlier x old.state → IsSound (on x old.state) → AreFit p (over x old) → (e : Event) (r : Reply) → WritesSay old e r → PagesSay p old new e r
+  pub cuts_over : (old new : OpenStore P L) (x : List Record) → IsOnDevice old.state → IsEarlier x old.state → IsSound (on x old.state) → AreFit p (over x old) → (e : Event) (r : Reply) → IsNoCheckpoint e → WritesSay old e r → PagesSay p old new e r
       → ((c : List ℕ) → l.may_leave old.log c → IsBeginning old.state.records old.state.forced c)
       → LeavesOnly l old.log new.log (IsBeginning old.state.records old.state.forced) → RunsThroughCuts p l (over x old) (over x new)
-  cuts_over old new x told long k fit e r when say log run =
+  cuts_over old new x told long k fit e r other when say log run =
       let on_x : (c : List ℕ) → IsBeginning old.state.records old.state.forced c → IsBeginning (rebased x old.state.records) old.state.forced c = λ c. beginning_on x old.state.records old.state.forced c told.0 long in
-      runs_through_cuts p l only_now (over x old) (over x new) k fit (on_device x old.state long told) e r (writes_over x old e r when) (pages_over p x old new e r say)
+      runs_through_cuts p l only_now (over x old) (over x new) k fit (on_device x old.state long told) e r other (writes_over x old e r when) (pages_over p x old new e r say)
       (λ c m. on_x c (log c m)) (weaker l old.log new.log (IsBeginning old.state.records old.state.forced) (IsBeginning (rebased x old.state.records) old.state.forced) run on_x)
 
 -- calls that write no record, over any earlier records

@@ -22,3 +22,4 @@ pub mod Crashing
 pub mod Checkpointing
 pub mod Leaving
 pub mod Listing
+pub mod Applying

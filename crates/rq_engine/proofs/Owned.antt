@@ -13,11 +13,10 @@ use Rattle.rq_sound.specs.ModelSteps.{IsModelStep}
 use Rattle.rq_engine.specs.declared.event.Event.{Event}
 use Rattle.rq_engine.specs.declared.event.Reply.{Reply}
 use Rattle.rq_engine.specs.Answers.{AnswersLegally, IsCausedIn}
-use Rattle.rq_engine.specs.Applied.{Applied, LatchedSay}
-use Rattle.rq_engine.specs.Crash.{AreFit, LeavesCut}
+use Rattle.rq_engine.specs.Applied.{Applied}
 use Rattle.rq_engine.specs.Earlier.{IsEarlier, on, over, unknown}
 use Rattle.rq_engine.specs.Opened.{OpenStore, AreHonest}
-use Rattle.rq_engine.specs.Says.{RefusedForCause, call_of, gave}
+use Rattle.rq_engine.specs.Says.{call_of, gave}
 use Rattle.rq_engine.proofs.Earlier.{own}
 
 own_state : (s : State) → on (unknown s.records) s ≡ s
@@ -47,12 +46,6 @@ err_own p l old new c gives r a h k =
     (on e new.state, subst (λ (s : State). IsModelStep s c (Gave_refusal r) (on e new.state) × IsCausedIn s c r) (own_state old.state) (a h e refl (own_sound old.state k)))
 
 module _ {P L : Type 0} (p : page_device.Ghosts P) (l : log_device.Ghosts L) where
-  -- what a crash now leaves
-  pub cut_own : (s : OpenStore P L) → ((e : List Record) → IsEarlier e s.state → IsSound (on e s.state) → AreFit p (over e s) → LeavesCut p l (over e s))
-      → IsSound s.state → AreFit p s → LeavesCut p l s
-  cut_own s cut k fit =
-      subst (LeavesCut p l) (own_store s) (cut (unknown s.state.records) refl (own_sound s.state k) (subst (AreFit p) (sym (own_store s)) fit))
-
   module _ (old new : OpenStore P L) (e : Event) (r : Reply) (a : Applied p l old e r new) where
     new_is : over (unknown old.state.records) new ≡ new
     new_is = subst (λ (x : List Record). over x new ≡ new) a.unknown (own_store new)
@@ -61,12 +54,3 @@ module _ {P L : Type 0} (p : page_device.Ghosts P) (l : log_device.Ghosts L) whe
     steps_own h k =
         subst (λ (x : State). IsModelStep x (call_of e) (gave r) new.state) (own_state old.state)
         (subst (λ (x : OpenStore P L). IsModelStep (on (unknown old.state.records) old.state) (call_of e) (gave r) x.state) new_is (a.steps h (unknown old.state.records) refl (own_sound old.state k)))
-
-    pub cause_own : AreHonest p l new → IsSound old.state → RefusedForCause old.state e r
-    cause_own h k = of_own (λ x. RefusedForCause x e r) old.state (a.cause h) k
-
-    pub latched_own : IsSound old.state → LatchedSay old.state e r
-    latched_own k = of_own (λ x. LatchedSay x e r) old.state a.latched k
-
-    pub fit_own : AreHonest p l new → IsSound old.state → AreFit p old → AreFit p new
-    fit_own h k f = subst (AreFit p) new_is (a.fit h (unknown old.state.records) refl (own_sound old.state k) (subst (AreFit p) (sym (own_store old)) f))

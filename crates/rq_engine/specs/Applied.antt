@@ -28,13 +28,15 @@ use Rattle.rq_engine.specs.Answers.{IsUnderWay}
 use Rattle.rq_engine.specs.Lists.{ListsSay}
 use Rattle.rq_engine.specs.Sends.{TakesLowest}
 use Rattle.rq_engine.specs.Opened.{OpenStore, AreHonest}
+use Rattle.rq_engine.specs.Checkpoint.{HasMadeOneRecord, IsBeginningOrBase, IsCutOrBased, KeepsFitOrBased, NotCheckpointed}
 use Rattle.rq_engine.specs.Crash.{AreFit, RunsThroughCuts}
+use Rattle.rq_engine.specs.Devices.{Path}
 use Rattle.rq_engine.specs.Says.{RefusedForCause, LogSays, PagesSay, WritesSay, call_of, gave, written_by}
 use Rattle.rq_model.specs.Causes.{writes_out}
 
 -- what a device that fails in a write leaves of the store: it is stopped; no other call meets such a failure
 abbrev pub WriteFails : {P L : Type 0} → Bool → OpenStore P L → OpenStore P L → Type 0
-WriteFails true old new = (new.state ≡ record old.state { failed = true }) × (new.changed ≡ old.changed)
+WriteFails true old new = new.state ≡ record old.state { failed = true }
 WriteFails false old new = new ≡ old
 
 -- What a refusal leaves of the store: all as it was, but that a device's failure in a write stops it.
@@ -56,10 +58,12 @@ abbrev pub SteppedSay : {P L : Type 0} → OpenStore P L → Reply → OpenStore
 SteppedSay old (reply.Stepped p) new = StepChanges old p new
 SteppedSay old _ new = new.changed ≡ old.changed
 
--- which pages count as changed then: a step adds the page that it writes, a page that is written out is taken off
+-- which pages count as changed then: a step adds the page that it writes, a page that is written out is taken off; what a
+-- checkpoint takes off is said with that
 abbrev pub ChangesSay : {P L : Type 0} → OpenStore P L → Event → Reply → OpenStore P L → Type 0
 ChangesSay old (event.Step sub) r new = SteppedSay old r new
 ChangesSay old (event.WritePage page) r new = new.changed ≡ changed_after old.changed page (written_by r)
+ChangesSay old event.Checkpoint r new = Unit {0}
 ChangesSay old _ r new = new.changed ≡ old.changed
 
 -- the operation that a send started is under way, and takes the lowest free cell on a page that nobody has latched
@@ -98,6 +102,48 @@ LatchedSay s (event.StartClose txn sender) r = LatchedReply s (Start_close txn s
 LatchedSay s (event.UndoNext txn) r = LatchedReply s (Undo_next txn) r
 LatchedSay s _ r = Unit {0}
 
+-- a checkpoint was made, or why not; any other call is none
+abbrev pub CheckpointReply : {P L : Type 0} → page_device.Ghosts P → log_device.Ghosts L → OpenStore P L → Reply
+    → OpenStore P L → Type 0
+CheckpointReply p l old (reply.Checkpointed lsn) new = HasMadeOneRecord p l old new lsn
+CheckpointReply p l old (reply.Refused r) new = NotCheckpointed p l old new r
+CheckpointReply p l old _ new = ⊥
+
+abbrev pub CheckpointSays : {P L : Type 0} → page_device.Ghosts P → log_device.Ghosts L → OpenStore P L → Event → Reply
+    → OpenStore P L → Type 0
+CheckpointSays p l old event.Checkpoint r new = CheckpointReply p l old r new
+CheckpointSays p l old _ r new = Unit {0}
+
+-- a checkpoint may fail as it replaces the log
+abbrev pub MayHalfReplace : {P L : Type 0} → OpenStore P L → Reply → OpenStore P L → Type 0
+MayHalfReplace old (reply.Refused why.DiskWrite) new = Unit {0}
+MayHalfReplace old _ new = new.replacing ≡ old.replacing
+
+abbrev pub ReplacingSays : {P L : Type 0} → OpenStore P L → Event → Reply → OpenStore P L → Type 0
+ReplacingSays old event.Checkpoint r new = MayHalfReplace old r new
+ReplacingSays old _ r new = new.replacing ≡ old.replacing
+
+-- what a crash at any moment of the call leaves of the log
+abbrev pub MayLeave : State → Event → List ℕ → Type 0
+MayLeave s event.Checkpoint bytes = IsBeginningOrBase s.records s.forced bytes
+MayLeave s _ bytes = IsBeginning s.records s.forced bytes
+
+-- whose pages fit after the call: a store's that a checkpoint did not stop
+abbrev pub StaysWhole : {P L : Type 0} → Event → OpenStore P L → Type 0
+StaysWhole event.Checkpoint new = new.state.failed ≡ false
+StaysWhole _ new = Unit {0}
+
+-- what a crash at any moment of the call leaves of both devices
+abbrev pub RunsThrough : {P L : Type 0} → page_device.Ghosts P → log_device.Ghosts L → OpenStore P L → Event
+    → OpenStore P L → Type 0
+RunsThrough p l old event.Checkpoint new = Path p l (IsCutOrBased old.state) old.pages old.log new.pages new.log
+RunsThrough p l old _ new = RunsThroughCuts p l old new
+
+abbrev pub KeepsOrBased : {P L : Type 0} → page_device.Ghosts P → log_device.Ghosts L → OpenStore P L → Event
+    → OpenStore P L → Type 0
+KeepsOrBased p l old event.Checkpoint new = KeepsFitOrBased p l old new
+KeepsOrBased p l old _ new = Unit {0}
+
 -- The call was made, and answered so.
 pub record Applied {P L : Type 0} (p : page_device.Ghosts P) (l : log_device.Ghosts L) (old : OpenStore P L)
     (e : Event) (r : Reply) (new : OpenStore P L) : Type 0 where
@@ -113,8 +159,7 @@ pub record Applied {P L : Type 0} (p : page_device.Ghosts P) (l : log_device.Gho
   pub sizes : new.state.sizes ≡ old.state.sizes
   -- of the records of which nothing is known nothing is known after it
   pub unknown : unknown new.state.records ≡ unknown old.state.records
-  -- no checkpoint fails in it
-  pub replacing : new.replacing ≡ old.replacing
+  pub replacing : ReplacingSays old e r new
   pub failed : (r ≡ reply.Refused why.Failed) ↔ (old.state.failed ≡ true)
   pub refused : RefusalLeaves old e r new
   pub lists : ListsSay old.state e r new.state
@@ -123,10 +168,11 @@ pub record Applied {P L : Type 0} (p : page_device.Ghosts P) (l : log_device.Gho
   pub writes : WritesSay old e r
   pub pages : PagesSay p old new e r
   pub log : LogSays l old new e r
+  pub checkpoint : CheckpointSays p l old e r new
   pub honest : AreHonest p l new → AreHonest p l old
   -- of crashes, at every moment since the call began, where no checkpoint has failed
-  pub any_moment : old.replacing ≡ false → l.honest new.log → LeavesOnly l old.log new.log (IsBeginning old.state.records old.state.forced)
-  pub fit : AreHonest p l new → (earlier : List Record) → IsEarlier earlier old.state → IsSound (on earlier old.state)
+  pub any_moment : old.replacing ≡ false → l.honest new.log → LeavesOnly l old.log new.log (MayLeave old.state e)
+  pub fit : AreHonest p l new → StaysWhole e new → (earlier : List Record) → IsEarlier earlier old.state → IsSound (on earlier old.state)
       → AreFit p (over earlier old) → AreFit p (over earlier new)
   pub crash : old.replacing ≡ false → AreHonest p l new → (earlier : List Record) → IsEarlier earlier old.state → IsSound (on earlier old.state)
-      → AreFit p (over earlier old) → RunsThroughCuts p l (over earlier old) (over earlier new)
+      → AreFit p (over earlier old) → RunsThrough p l (over earlier old) e (over earlier new)

@@ -23,6 +23,7 @@ use Rattle.rq_store.specs.State.{State}
 use Rattle.rq_store.specs.Plans.{IsSendPlan, IsTakePlan, WaitsFor, NoneWaits}
 use Rattle.rq_store.specs.Settled.{takes_one}
 use Rattle.rq_store.specs.Steps.{op_end, gave_done}
+use Rattle.rq_sound.specs.Calls.{checkpointed}
 use Rattle.rq_engine.specs.Aborts.{IsAborted, IsAborting, IsUndoFinished, UndoSays}
 use Rattle.rq_engine.specs.Closes.{IsClosePlan}
 use Rattle.rq_engine.specs.Answers.{IsUnderWay, IsMade, HasNothingUnderWay}
@@ -218,6 +219,11 @@ AfterForce old (reply.Forced lsn) new = (lsn ≡ length old.records) × (new ≡
 AfterForce old (reply.Refused r) new = Unit {0}
 AfterForce old _ new = ⊥
 
+abbrev pub AfterCheckpoint : State → Reply → State → Type 0
+AfterCheckpoint old (reply.Checkpointed lsn) new = (lsn ≡ length old.records + 1) × (new ≡ checkpointed old)
+AfterCheckpoint old (reply.Refused r) new = Unit {0}
+AfterCheckpoint old _ new = ⊥
+
 abbrev pub AfterWritePage : State → Reply → State → Type 0
 AfterWritePage old (reply.Written w) new = new ≡ old
 AfterWritePage old (reply.Refused r) new = Unit {0}
@@ -249,6 +255,7 @@ ListsSay old (event.EndAbort t) r new = AfterEndAbort old t r new
 ListsSay old (event.Acknowledged number) r new = AfterAcknowledged old number r new
 ListsSay old event.HandOver r new = AfterHandOver old r new
 ListsSay old event.Force r new = AfterForce old r new
+ListsSay old event.Checkpoint r new = AfterCheckpoint old r new
 ListsSay old (event.WritePage page) r new = AfterWritePage old r new
 ListsSay old (event.LastTag sender) r new = AfterLastTag old sender r new
 ListsSay old event.Content r new = AfterContent old r new

@@ -3,14 +3,13 @@ ghost use Rattle.std.specs.Prelude.{◌≡◌, ◌↔◌, ℕ, map, true, false,
 ghost use Rattle.rq_model.specs.History.Call.{Show};
 ghost use Rattle.rq_model.specs.Replay.Reply.{Gave_content};
 ghost use Rattle.rq_log.specs.Crash.{LeavesOnly};
-ghost use Rattle.rq_log.specs.Spelled.{IsBeginning};
 ghost use Rattle.rq_sound.specs.Sound.{IsSound};
 ghost use Rattle.rq_sound.specs.ModelSteps.{IsModelStep};
 ghost use Rattle.rq_content.specs.Read.{group_of};
 ghost use Rattle.rq_engine.specs.Answers.{AnswersLegally};
 ghost use Rattle.rq_engine.specs.Earlier.{on, IsEarlier};
 ghost use Rattle.rq_model.specs.declared.record.Record.{Record};
-ghost use Rattle.rq_engine.specs.Applied.{Applied, ChangesSay, LatchedSay, RefusalLeaves, StartSays};
+ghost use Rattle.rq_engine.specs.Applied.{Applied, ChangesSay, CheckpointSays, KeepsOrBased, LatchedSay, MayLeave, RefusalLeaves, ReplacingSays, StartSays};
 ghost use Rattle.rq_engine.specs.Lists.{ListsSay};
 ghost use Rattle.rq_engine.specs.Opened.{AreHonest};
 ghost use Rattle.rq_engine.specs.Says.{RefusedForCause, IsContent, LogSays, PagesSay, WritesSay, begun_reply, call_of, gave, undo_reply};
@@ -55,7 +54,7 @@ impl<P: PageDevice, L: LogDevice, B: Level> Engine<P, L, B> {
 
     /// Makes the call that an event stands for. Whatever a crash leaves of both devices, while the call is made and
     /// after it, is a store that was left so: the first records of the log, with all that are forced, and pages that
-    /// fit them.
+    /// fit them; in a checkpoint also the one record that stands for all.
     pub fn apply(&mut self, event: &Event) -> Reply
         ensures applied { Applied P.PageDevice L.LogDevice self.old event.now result self.new }
         // a reply that memory is wanting for, or that shows the content, leaves all as it was
@@ -94,9 +93,12 @@ impl<P: PageDevice, L: LogDevice, B: Level> Engine<P, L, B> {
             → LatchedSay (on e self.old.state) event.now result }
         // Devices and what a crash at any moment leaves.
         ensures honest { AreHonest P.PageDevice L.LogDevice self.new → AreHonest P.PageDevice L.LogDevice self.old }
-        ensures replacing { self.new.replacing ≡ self.old.replacing }
+        ensures replacing { ReplacingSays self.old event.now result self.new }
         ensures any_moment { self.old.replacing ≡ false → L.honest self.new.log → LeavesOnly L.LogDevice self.old.log self.new.log
-            (IsBeginning self.old.state.records self.old.state.forced) }
+            (MayLeave self.old.state event.now) }
+        // Of a checkpoint.
+        ensures checkpoint { CheckpointSays P.PageDevice L.LogDevice self.old event.now result self.new }
+        ensures based { KeepsOrBased P.PageDevice L.LogDevice self.old event.now self.new }
     {
         self.shows_kept();
         match event {
@@ -125,6 +127,7 @@ impl<P: PageDevice, L: LogDevice, B: Level> Engine<P, L, B> {
             }
             Event::HandOver => reply!(self.hand_over(), () => Reply::HandedOver),
             Event::Force => reply!(self.force(), lsn => Reply::Forced(lsn)),
+            Event::Checkpoint => reply!(self.checkpoint(), lsn => Reply::Checkpointed(lsn)),
             Event::WritePage(page) => {
                 reply!(self.write_page(*page), written => Reply::Written(written))
             }

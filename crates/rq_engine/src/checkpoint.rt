@@ -1,18 +1,18 @@
 //! Checkpoints: one record in the place of all.
-ghost use Rattle.std.specs.Prelude.{◌≡◌, ◌+◌, ◌<◌, ◌≤◌, ◌↔◌, ℕ, IfOk, IfErr, OnOk, OnErr, Err, true, false, List, [], length};
+ghost use Rattle.std.specs.Prelude.{◌≡◌, ◌<◌, ◌≤◌, ◌↔◌, ℕ, IfOk, IfErr, OnOk, Err, true, false, List, [], length};
 ghost use Rattle.rq_model.specs.History.Call.{Checkpoint};
 ghost use Rattle.rq_model.specs.Replay.Reply.{Gave_checkpoint};
 ghost use Rattle.rq_model.specs.Tests.{log_full};
 ghost use Rattle.rq_disk.specs.Device.{Only};
-ghost use Rattle.rq_log.specs.Spelled.{spelled};
+ghost use Rattle.rq_log.specs.Crash.{LeavesOnly};
 ghost use Rattle.rq_page.specs.Sizes.{page_count};
-ghost use Rattle.rq_pool.specs.Pooled.{image_at, is_changed};
+ghost use Rattle.rq_pool.specs.Pooled.{is_changed};
+ghost use Rattle.rq_pool.specs.Writing.{NoChangeBeyond};
 ghost use Rattle.rq_store.specs.State.{ledger_of};
-ghost use Rattle.rq_sound.specs.Calls.{checkpointed};
 ghost use Rattle.rq_engine.specs.Answers.{AnswersLegally};
-ghost use Rattle.rq_engine.specs.Checkpoint.{IsStopped, KeepsFitOrBased, NotCheckpointed};
+ghost use Rattle.rq_engine.specs.Checkpoint.{CountsFailure, HasMadeOneRecord, IsBeginningOrBase, IsStopped, KeepsFitOrBased, NotCheckpointed};
 ghost use Rattle.rq_engine.specs.Crash.{KeepsFit};
-ghost use Rattle.rq_engine.specs.Opened.{AreHonest};
+ghost use Rattle.rq_engine.specs.Opened.{AreHonest, pooled};
 
 use crate::engine::Engine;
 use rq_disk::{LogDevice, PageDevice};
@@ -26,32 +26,20 @@ impl<P: PageDevice, L: LogDevice, B: Level> Engine<P, L, B> {
     /// is then durable. It takes no memory.
     ///
     /// # Errors
-    /// `Failed`; `NotQuiet` where a transaction is open; `LogFull`; `DiskWrite`, behind which a crash leaves the log as it was or
-    /// as it was to be. `NotForced` comes only where a page tells the LSN of a record that is not there;
-    /// the store then runs on, and counts no more as forced than before.
+    /// `Failed`; `NotQuiet` where a transaction is open; `LogFull`; `NotForced`, only where a page tells the LSN of a record that is
+    /// not there; `DiskWrite`, behind which a crash leaves the log as it was or as it was to be.
     pub fn checkpoint(&mut self) -> Result<Lsn, Refusal>
-        // The entry that it is, and the state.
+        // The entry that it is; what it makes of the store and both devices; why it was refused, and what that leaves.
         ensures answered { AnswersLegally P.PageDevice L.LogDevice self.old Checkpoint
             (λ lsn. Gave_checkpoint lsn) result self.new }
         ensures sizes { self.new.state.sizes ≡ self.old.state.sizes }
-        ensures lsn { IfOk result (λ lsn. lsn ≡ length self.old.state.records + 1) }
-        ensures state { OnOk result (self.new.state ≡ checkpointed self.old.state) }
-        ensures quiet { OnOk result ((self.old.state.failed ≡ false) × (self.old.state.rows ≡ [])
-            × (log_full (ledger_of self.old.state) 1 ≡ false)) }
-        // Both devices: the log is that record alone, and each page is its image, with no change to be written.
-        ensures reads { OnOk result (L.honest self.new.log → L.seen self.new.log ≡ spelled self.new.state.records) }
-        ensures durable { OnOk result (L.honest self.new.log
-            → Only (spelled self.new.state.records) (L.may_leave self.new.log)) }
-        ensures pages { OnOk result (P.honest self.new.pages → (page : ℕ) → 1 ≤ page
-            → page < page_count self.old.state.sizes
-            → Only (image_at self.old.state.images page) (P.may_be self.new.pages page)) }
-        ensures clean { OnOk result ((page : ℕ) → 1 ≤ page → page < page_count self.old.state.sizes
-            → is_changed self.new.changed page ≡ false) }
-        // Why it was refused, and what that leaves.
-        ensures refused { IfErr result (λ r. NotCheckpointed self.old self.new r) }
+        ensures made { IfOk result (λ lsn. HasMadeOneRecord P.PageDevice L.LogDevice self.old self.new lsn) }
+        ensures refused { IfErr result (λ r. NotCheckpointed P.PageDevice L.LogDevice self.old self.new r) }
         ensures failed { (result ≡ Err Refusal.Failed) ↔ (self.old.state.failed ≡ true) }
         // What stays; and what a crash at any moment leaves.
         ensures honest { AreHonest P.PageDevice L.LogDevice self.new → AreHonest P.PageDevice L.LogDevice self.old }
+        ensures any_moment { self.old.replacing ≡ false → L.honest self.new.log → LeavesOnly L.LogDevice self.old.log self.new.log
+            (IsBeginningOrBase self.old.state.records self.old.state.forced) }
         ensures fit { KeepsFitOrBased P.PageDevice L.LogDevice self.old self.new }
     {
         self.shows_kept();
@@ -66,11 +54,12 @@ impl<P: PageDevice, L: LogDevice, B: Level> Engine<P, L, B> {
         }
     }
 
-    // The store runs, no transaction is open, and the log has room for a record.
+    // The store runs, no transaction is open, the log has room for a record, and no page is ahead of it.
     fn check_quiet(&self) -> Result<(), Refusal>
         ensures ok { OnOk result ((self.now.state.failed ≡ false) × (self.now.state.rows ≡ [])
             × (log_full (ledger_of self.now.state) 1 ≡ false)) }
-        ensures refused { IfErr result (λ r. NotCheckpointed self.now self.now r) }
+        ensures within { OnOk result (NoChangeBeyond (pooled self.now) (length self.now.state.records)) }
+        ensures refused { IfErr result (λ r. NotCheckpointed P.PageDevice L.LogDevice self.now self.now r) }
         ensures failed { (result ≡ Err Refusal.Failed) ↔ (self.now.state.failed ≡ true) }
     {
         self.check_running()?;
@@ -80,26 +69,25 @@ impl<P: PageDevice, L: LogDevice, B: Level> Engine<P, L, B> {
         if self.is_log_full(1) {
             return Err(Refusal::LogFull);
         }
+        if self.pages.has_change_beyond(self.log.last()) {
+            return Err(Refusal::NotForced);
+        }
         Ok(())
     }
 
     // Forces the log, writes out what was changed, and puts the Base in the place of all.
     fn replace_log(&mut self) -> Result<Lsn, Refusal>
         requires running { self.old.state.failed ≡ false }
-        requires quiet { self.old.state.rows ≡ [] }
+        requires none_open { self.old.state.rows ≡ [] }
         requires room { log_full (ledger_of self.old.state) 1 ≡ false }
-        ensures lsn { IfOk result (λ lsn. lsn ≡ length self.old.state.records + 1) }
-        ensures state { OnOk result (self.new.state ≡ checkpointed self.old.state) }
-        ensures reads { OnOk result (L.honest self.new.log → L.seen self.new.log ≡ spelled self.new.state.records) }
-        ensures durable { OnOk result (L.honest self.new.log
-            → Only (spelled self.new.state.records) (L.may_leave self.new.log)) }
-        ensures pages { OnOk result (P.honest self.new.pages → (page : ℕ) → 1 ≤ page
-            → page < page_count self.old.state.sizes
-            → Only (image_at self.old.state.images page) (P.may_be self.new.pages page)) }
-        ensures clean { OnOk result ((page : ℕ) → 1 ≤ page → page < page_count self.old.state.sizes
-            → is_changed self.new.changed page ≡ false) }
+        requires within { NoChangeBeyond (pooled self.old) (length self.old.state.records) }
+        ensures made { IfOk result (λ lsn. HasMadeOneRecord P.PageDevice L.LogDevice self.old self.new lsn) }
         ensures refused { IfErr result (λ r. IsStopped self.old.state self.new.state r) }
+        ensures cause { CountsFailure P.PageDevice L.LogDevice self.old self.new result }
+        ensures fewer { (q : ℕ) → is_changed self.old.changed q ≡ false → is_changed self.new.changed q ≡ false }
         ensures honest { AreHonest P.PageDevice L.LogDevice self.new → AreHonest P.PageDevice L.LogDevice self.old }
+        ensures any_moment { self.old.replacing ≡ false → L.honest self.new.log → LeavesOnly L.LogDevice self.old.log self.new.log
+            (IsBeginningOrBase self.old.state.records self.old.state.forced) }
         ensures fit { KeepsFitOrBased P.PageDevice L.LogDevice self.old self.new }
     {
         self.shows_kept();
@@ -113,10 +101,13 @@ impl<P: PageDevice, L: LogDevice, B: Level> Engine<P, L, B> {
     fn write_all(&mut self) -> Result<(), Refusal>
         requires running { self.old.state.failed ≡ false }
         requires forced { self.old.state.forced ≡ length self.old.state.records }
+        requires within { NoChangeBeyond (pooled self.old) (length self.old.state.records) }
         ensures state { OnOk result (self.new.state ≡ self.old.state) }
         ensures clean { OnOk result ((page : ℕ) → 1 ≤ page → page < page_count self.old.state.sizes
             → is_changed self.new.changed page ≡ false) }
         ensures refused { IfErr result (λ r. IsStopped self.old.state self.new.state r) }
+        ensures cause { CountsFailure P.PageDevice L.LogDevice self.old self.new result }
+        ensures fewer { (q : ℕ) → is_changed self.old.changed q ≡ false → is_changed self.new.changed q ≡ false }
         ensures log { self.new.log ≡ self.old.log }
         ensures replacing { self.new.replacing ≡ self.old.replacing }
         ensures honest { P.honest self.new.pages → P.honest self.old.pages }
@@ -136,6 +127,7 @@ impl<P: PageDevice, L: LogDevice, B: Level> Engine<P, L, B> {
         ensures state { OnOk result (self.new.state ≡ self.old.state) }
         ensures durable { OnOk result ((page : ℕ) → Only (P.seen self.new.pages page) (P.may_be self.new.pages page)) }
         ensures refused { IfErr result (λ r. IsStopped self.old.state self.new.state r) }
+        ensures cause { CountsFailure P.PageDevice L.LogDevice self.old self.new result }
         ensures changed { self.new.changed ≡ self.old.changed }
         ensures log { self.new.log ≡ self.old.log }
         ensures replacing { self.new.replacing ≡ self.old.replacing }
@@ -155,23 +147,20 @@ impl<P: PageDevice, L: LogDevice, B: Level> Engine<P, L, B> {
     // Puts the Base in the place of all records, which are forced, over pages that are durable.
     fn put_base(&mut self) -> Result<Lsn, Refusal>
         requires running { self.old.state.failed ≡ false }
-        requires quiet { self.old.state.rows ≡ [] }
+        requires none_open { self.old.state.rows ≡ [] }
         requires room { log_full (ledger_of self.old.state) 1 ≡ false }
         requires forced { self.old.state.forced ≡ length self.old.state.records }
         requires clean { (page : ℕ) → 1 ≤ page → page < page_count self.old.state.sizes
             → is_changed self.old.changed page ≡ false }
         requires durable { (page : ℕ) → Only (P.seen self.old.pages page) (P.may_be self.old.pages page) }
-        ensures lsn { IfOk result (λ lsn. lsn ≡ length self.old.state.records + 1) }
-        ensures state { OnOk result (self.new.state ≡ checkpointed self.old.state) }
-        ensures reads { OnOk result (L.honest self.new.log → L.seen self.new.log ≡ spelled self.new.state.records) }
-        ensures durable { OnOk result (L.honest self.new.log
-            → Only (spelled self.new.state.records) (L.may_leave self.new.log)) }
-        ensures pages { P.honest self.new.pages → (page : ℕ) → 1 ≤ page → page < page_count self.old.state.sizes
-            → Only (image_at self.old.state.images page) (P.may_be self.new.pages page) }
+        ensures made { IfOk result (λ lsn. HasMadeOneRecord P.PageDevice L.LogDevice self.old self.new lsn) }
         ensures refused { IfErr result (λ r. IsStopped self.old.state self.new.state r) }
+        ensures cause { CountsFailure P.PageDevice L.LogDevice self.old self.new result }
         ensures device { self.new.pages ≡ self.old.pages }
         ensures changed { self.new.changed ≡ self.old.changed }
         ensures honest { L.honest self.new.log → L.honest self.old.log }
+        ensures any_moment { self.old.replacing ≡ false → L.honest self.new.log → LeavesOnly L.LogDevice self.old.log self.new.log
+            (IsBeginningOrBase self.old.state.records self.old.state.forced) }
         ensures fit { KeepsFitOrBased P.PageDevice L.LogDevice self.old self.new }
     {
         self.shows_kept();

@@ -17,6 +17,7 @@ ghost use Rattle.rq_engine.specs.Earlier.{on, over, IsEarlier};
 ghost use Rattle.rq_model.specs.declared.record.Record.{Record};
 ghost use Rattle.rq_planner.specs.Answered.{KnowsCells};
 ghost use Rattle.rq_engine.specs.Opened.{LeavesDevices, NotWritten};
+ghost use Rattle.rq_engine.specs.Checkpoint.{IsBeginningOrBase};
 ghost use Rattle.rq_engine.specs.Crash.{AreFit, KeepsFit, LeavesCut};
 ghost use Rattle.rq_engine.specs.Answers.{AnswersLegally, HasNothingUnderWay};
 ghost use Rattle.rq_engine.specs.Lists.{IsBegun, IsCommitted};
@@ -204,13 +205,15 @@ impl<P: PageDevice, L: LogDevice, B: Level> Engine<P, L, B> {
     ghost use Rattle.rq_model.specs.Tests.{IsUnready};
     ghost use Rattle.rq_model.specs.Tests.{NoneHolds, ready_tests};
 
-    /// What a crash at this moment leaves of the log, and of both devices, where no checkpoint has failed; that each record has a
+    /// What a crash at this moment leaves of the log, and where no checkpoint has failed of both devices; that each record has a
     /// spelling, and that a Base is forced, for proofs: it runs no code.
     pub fn shows_kept(&self)
         ensures running { self.now.state.failed ≡ false → self.now.replacing ≡ false }
         ensures order { self.now.state.forced ≤ length self.now.state.records }
         ensures leaves { self.now.replacing ≡ false → L.honest self.now.log → (c : List ℕ) → L.may_leave self.now.log c
             → IsBeginning self.now.state.records self.now.state.forced c }
+        ensures at_rest { L.honest self.now.log → (c : List ℕ) → L.may_leave self.now.log c
+            → IsBeginningOrBase self.now.state.records self.now.state.forced c }
         ensures spelled { AreSpelled self.now.state.records }
         ensures based { 0 < self.now.state.forced → gone self.now.state.records < self.now.state.forced }
         ensures cut { self.now.replacing ≡ false → L.honest self.now.log → (e : List Record) → IsEarlier e self.now.state

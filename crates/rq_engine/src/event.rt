@@ -96,6 +96,7 @@ pub enum Event {
     Acknowledged(CommitNo),
     HandOver,
     Force,
+    Checkpoint,
     WritePage(u32),
     LastTag(u32),
     Content,
@@ -128,6 +129,8 @@ pub enum Reply {
     HandedOver,
     /// Every record up to this LSN is forced.
     Forced(Lsn),
+    /// The log is one record, with this LSN.
+    Checkpointed(Lsn),
     /// What was done for the page.
     Written(Written),
     /// What the sender's committed sends come to.

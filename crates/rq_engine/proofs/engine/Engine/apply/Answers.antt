@@ -1,5 +1,5 @@
-use Rattle.rq_engine.proofs.Crashing.{cuts_over, fit_kept_over}
-use Rattle.rq_engine.proofs.UnknownStay.{base_stays, unknown_stay}
+use Rattle.rq_engine.proofs.Applying.{fit_after, runs_after}
+use Rattle.rq_engine.proofs.UnknownStay.{unknown_stay}
 use Rattle.rq_engine.proofs.engine.Engine.apply.Goals as goal
 
 pub returns-clause-applied : goal.returns-clause-applied
@@ -19,14 +19,14 @@ returns-clause-applied g c =
       writes = told.writes;
       pages = told.pages;
       log = told.log;
+      checkpoint = told.checkpoint;
       honest = told.honest;
       replacing = told.replacing;
       any_moment = told.any_moment;
-      fit = λ h earlier long k fit.
-          fit_kept_over g.P.PageDevice g.L.LogDevice g.met.P.PageDevice.only_now c.args.self.now c.call.new.self earlier (c.shows_kept.ensures.spelled, c.shows_kept.ensures.based) long k fit
-          c.args.event.now c.call.result _ _ told.sizes (base_stays c.args.self.now c.call.new.self earlier c.args.event.now c.call.result told.lists told.refused)
-          (told.answered h earlier long k) told.writes told.pages;
+      fit = λ h whole earlier long k fit.
+          fit_after g.P.PageDevice g.L.LogDevice g.met.P.PageDevice.only_now c.args.self.now c.call.new.self earlier (c.shows_kept.ensures.spelled, c.shows_kept.ensures.based) long k fit c.shows_kept.ensures.running h
+          c.args.event.now c.call.result whole told.checkpoint told.based told.sizes told.lists told.refused (told.answered h earlier long k) told.writes told.pages;
       crash = λ none h earlier long k fit.
-          cuts_over g.P.PageDevice g.L.LogDevice g.met.P.PageDevice.only_now c.args.self.now c.call.new.self earlier (c.shows_kept.ensures.spelled, c.shows_kept.ensures.based) long k fit
-          c.args.event.now c.call.result told.writes told.pages (c.shows_kept.ensures.leaves none (told.honest h).1) (told.any_moment none h.1);
+          runs_after g.P.PageDevice g.L.LogDevice g.met.P.PageDevice.only_now c.args.self.now c.call.new.self earlier (c.shows_kept.ensures.spelled, c.shows_kept.ensures.based) long k fit none h
+          c.args.event.now c.call.result told.based told.writes told.pages (c.shows_kept.ensures.leaves none (told.honest h).1) (told.any_moment none h.1);
     }

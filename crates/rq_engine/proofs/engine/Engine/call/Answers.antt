@@ -2,6 +2,7 @@ use Rattle.std.proofs.Common.{ap, refl}
 use Rattle.rq_engine.specs.Says.{call_of}
 use Rattle.rq_engine.specs.declared.event.Event.{Event}
 use Rattle.rq_model.specs.Causes.{writes_out}
+use Rattle.rq_engine.proofs.Applying.{not_leaves}
 use Rattle.rq_engine.proofs.Leaving.{plain_leaves, begun_leaves, undo_leaves}
 use Rattle.rq_engine.proofs.Listing.{begun_answered, take_lists, take_from_lists, log_left, undo_answered, undo_lists}
 use Rattle.rq_engine.proofs.engine.Engine.call.Goals as goal
@@ -38,7 +39,7 @@ returns-in-StartReceiveFrom-clause-lists g c = take_from_lists c.args.self.now.s
 
 pub returns-in-Ok-start_send-clause-any_moment : goal.returns-in-Ok-start_send-clause-any_moment
 returns-in-Ok-start_send-clause-any_moment g c =
-    λ none. log_left g.L.LogDevice c.args.self.now.log c.start_send.new.self.log _ c.start_send.ensures.devices.1 g.met.L.LogDevice.only_now (c.shows_kept.ensures.leaves none)
+    λ none. rw (c.in-StartSend.is) (log_left g.L.LogDevice c.args.self.now.log c.start_send.new.self.log _ c.start_send.ensures.devices.1 g.met.L.LogDevice.only_now (c.shows_kept.ensures.leaves none))
 
 pub returns-in-StartReceive-clause-answered : goal.returns-in-StartReceive-clause-answered
 returns-in-StartReceive-clause-answered g c = begun_answered g.P.PageDevice g.L.LogDevice c.args.self.now _ c.start_receive.result _ c.args.event.now c.start_receive.new.self (ap call_of c.in-StartReceive.is) c.start_receive.ensures.answered c.receive_reply.ensures
@@ -60,3 +61,20 @@ returns-in-UndoNext-clause-answered g c = undo_answered g.P.PageDevice g.L.LogDe
 
 pub returns-in-Err-write_page-clause-answered : goal.returns-in-Err-write_page-clause-answered
 returns-in-Err-write_page-clause-answered g c h earlier long k = rw (c.in-WritePage.is) (c.in-Err-write_page.ensures.answered h earlier long k).0
+
+pub returns-in-Err-checkpoint-clause-answered : goal.returns-in-Err-checkpoint-clause-answered
+returns-in-Err-checkpoint-clause-answered g c h earlier long k = rw (c.in-Checkpoint.is) (c.in-Err-checkpoint.ensures.answered h earlier long k).0
+
+pub returns-in-Err-checkpoint-clause-refused : goal.returns-in-Err-checkpoint-clause-refused
+returns-in-Err-checkpoint-clause-refused g c = not_leaves g.P.PageDevice g.L.LogDevice c.args.self.now c.checkpoint.new.self c.args.event.now _ (ap (λ (e : Event). writes_out (call_of e)) c.in-Checkpoint.is) c.in-Err-checkpoint.ensures.refused
+
+pub returns-in-StartReceive-clause-any_moment : goal.returns-in-StartReceive-clause-any_moment
+returns-in-StartReceive-clause-any_moment g c =
+    λ none. rw (c.in-StartReceive.is) (log_left g.L.LogDevice c.args.self.now.log c.start_receive.new.self.log _ c.start_receive.ensures.devices.1 g.met.L.LogDevice.only_now (c.shows_kept.ensures.leaves none))
+
+pub returns-in-StartReceiveFrom-clause-answered : goal.returns-in-StartReceiveFrom-clause-answered
+returns-in-StartReceiveFrom-clause-answered g c = begun_answered g.P.PageDevice g.L.LogDevice c.args.self.now _ c.start_receive_from.result _ c.args.event.now c.start_receive_from.new.self (ap call_of c.in-StartReceiveFrom.is) c.start_receive_from.ensures.answered c.receive_reply-in-StartReceiveFrom.ensures
+
+pub returns-in-StartReceiveFrom-clause-any_moment : goal.returns-in-StartReceiveFrom-clause-any_moment
+returns-in-StartReceiveFrom-clause-any_moment g c =
+    λ none. rw (c.in-StartReceiveFrom.is) (log_left g.L.LogDevice c.args.self.now.log c.start_receive_from.new.self.log _ c.start_receive_from.ensures.devices.1 g.met.L.LogDevice.only_now (c.shows_kept.ensures.leaves none))

@@ -1,8 +1,10 @@
-use Rattle.std.proofs.Common.{rules}
+use Rattle.std.proofs.Common.{rules, inl, refl}
 use Rattle.rq_model.specs.Replay.Reply.{Gave_checkpoint}
 use Rattle.rq_model.specs.Vocabulary.{is_some}
+use Rattle.rq_engine.specs.Checkpoint.{NotCheckpointed}
 use Rattle.rq_engine.specs.Opened.{OpenStore}
-use Rattle.rq_engine.proofs.Checkpointing.{checkpoint_legally, either, forgets, refused_legally, stopped_is}
+use Rattle.rq_engine.proofs.Listing.{log_left}
+use Rattle.rq_engine.proofs.Checkpointing.{either, forgets, made_legally, refused_legally, stopped_is}
 use Rattle.rq_engine.proofs.Crashing.{none_fit}
 use Rattle.rq_engine.proofs.engine.Engine.checkpoint.Goals as goal
 
@@ -17,12 +19,14 @@ returns-in_err-check_quiet-clause-fit g c =
     either g.P.PageDevice g.L.LogDevice c.args.self.now c.args.self.now (none_fit g.P.PageDevice g.L.LogDevice g.met.P.PageDevice.only_now g.met.L.LogDevice.only_now c.args.self.now (c.shows_kept.ensures.spelled, c.shows_kept.ensures.based) c.shows_kept.ensures.leaves)
 
 pub returns-in-Ok-clause-answered : goal.returns-in-Ok-clause-answered
-returns-in-Ok-clause-answered g c =
-    let quiet = c.in_ok-check_quiet.ensures.ok in
-    checkpoint_legally g.P.PageDevice g.L.LogDevice c.args.self.now c.replace_log.new.self c.in-Ok.lsn quiet.1 quiet.0 quiet.2 c.in-Ok.ensures.lsn c.in-Ok.ensures.state
+returns-in-Ok-clause-answered g c = made_legally g.P.PageDevice g.L.LogDevice c.args.self.now c.replace_log.new.self c.in-Ok.lsn c.in-Ok.ensures.made
 
-pub returns-in-Err-clause-answered : goal.returns-in-Err-clause-answered
-returns-in-Err-clause-answered g c =
+pub returns-in_err-check_quiet-clause-any_moment : goal.returns-in_err-check_quiet-clause-any_moment
+returns-in_err-check_quiet-clause-any_moment g c = λ none h.
+    log_left g.L.LogDevice c.args.self.now.log c.args.self.now.log _ refl g.met.L.LogDevice.only_now (λ q bytes may. inl (c.shows_kept.ensures.leaves none q bytes may)) h
+
+pub returns-in-Err : goal.returns-in-Err
+returns-in-Err g c =
     let quiet = c.in_ok-check_quiet.ensures.ok in
     let i = c.self-2.inside in
     let new : OpenStore g.row.P.Denot g.row.L.Denot = record {
@@ -45,11 +49,16 @@ returns-in-Err-clause-answered g c =
       changed = i.pages.changed;
       replacing = is_some c.forget_force.new.self.replacing;
     } in
-    refused_legally g.P.PageDevice g.L.LogDevice c.args.self.now new (λ lsn. Gave_checkpoint lsn) c.in-Err.refusal
-    (stopped_is c.args.self.now c.replace_log.new.self new c.in-Err.refusal quiet.0 quiet.1 quiet.2 c.in-Err.ensures.refused (search rules))
-
-pub returns-in-Err-clause-fit : goal.returns-in-Err-clause-fit
-returns-in-Err-clause-fit g c =
-    let quiet = c.in_ok-check_quiet.ensures.ok in
-    forgets g.P.PageDevice g.L.LogDevice c.args.self.now c.replace_log.new.self _ c.in-Err.refusal (search rules) (search rules)
-    (stopped_is c.args.self.now c.replace_log.new.self _ c.in-Err.refusal quiet.0 quiet.1 quiet.2 c.in-Err.ensures.refused (search rules)) c.in-Err.ensures.fit
+    let mid = c.replace_log.new.self in
+    let why : NotCheckpointed g.P.PageDevice g.L.LogDevice c.args.self.now new c.in-Err.refusal =
+    stopped_is g.P.PageDevice g.L.LogDevice c.args.self.now mid new c.in-Err.refusal quiet.0 quiet.1 quiet.2 c.in-Err.ensures.refused c.in-Err.ensures.cause c.in-Err.ensures.fewer (search rules) (search rules) (search rules) (search rules) in
+    record {
+      answered = refused_legally g.P.PageDevice g.L.LogDevice c.args.self.now new (λ lsn. Gave_checkpoint lsn) c.in-Err.refusal why;
+      sizes = search rules;
+      made = tt;
+      refused = why;
+      failed = search rules;
+      honest = search rules;
+      any_moment = search rules;
+      fit = forgets g.P.PageDevice g.L.LogDevice c.args.self.now mid new c.in-Err.refusal (search rules) (search rules) why c.in-Err.ensures.fit;
+    }

@@ -8,6 +8,8 @@ invariant-loop-page g l = record {
   low : 1 ≤ l.page;
   state : l.self.state ≡ l.fn.self.state;
   clean : (p : ℕ) → 1 ≤ p → p < l.page → is_changed l.self.changed p ≡ false;
+  fewer : (p : ℕ) → is_changed l.fn.self.changed p ≡ false → is_changed l.self.changed p ≡ false;
+  faults : g.P.PageDevice.faults l.self.pages ≡ g.P.PageDevice.faults l.fn.self.pages;
   log : l.self.log ≡ l.fn.self.log;
   replacing : l.self.replacing ≡ l.fn.self.replacing;
   honest : g.P.PageDevice.honest l.self.pages → g.P.PageDevice.honest l.fn.self.pages;
