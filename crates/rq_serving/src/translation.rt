@@ -55,6 +55,7 @@ pub fn told_of(reply: &Reply) -> Option<Told>
         Reply::Acknowledged(given) => Some(told_of_receipt(given)),
         Reply::HandedOver => None,
         Reply::Forced(_) => None,
+        Reply::Checkpointed(_) => None,
         Reply::Written(_) => None,
         Reply::LastTag(last) => Some(Told::LastTag {
             sent: last.sent,

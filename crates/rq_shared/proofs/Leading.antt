@@ -34,7 +34,7 @@ module _ {P L : Type 0} (p : page_device.Ghosts P) (l : log_device.Ghosts L) (pr
           unknown = refl;
           leads = λ e at k. (k, refl);
         }),
-        λ holds. subst IsSoundOver is (sound holds honest).0,
+        λ holds. subst IsSoundOver is (sound holds honest),
       )
 
   -- the audit is taken

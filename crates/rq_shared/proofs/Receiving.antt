@@ -1,10 +1,10 @@
 -- A commit that an audit acknowledges is in every log that a crash may leave.
-use Rattle.std.proofs.Common.{◌≡◌, ℕ, ◌+◌, ◌<◌, ◌≤◌, List, [], ◌∷◌, ◌++◌, length, take, drop, map, Some, None, Bool, true, false, zero, refl, sym, ◌∙◌, ap, subst, ⊎_elim, arith, nat_lt, nat_eq, not}
+use Rattle.std.proofs.Common.{◌≡◌, ◌⊎◌, ℕ, ◌+◌, ◌<◌, ◌≤◌, List, [], ◌∷◌, ◌++◌, length, take, drop, map, Some, None, Bool, true, false, zero, refl, sym, ◌∙◌, ap, subst, inl, inr, ⊎_elim, arith, nat_lt, nat_eq, not}
 use Rattle.std.proofs.lemmas.Bool.{and_parts, true≢false, not-true}
 use Rattle.std.proofs.lemmas.Bool.Decides.{nat_tests}
 use Rattle.std.proofs.lemmas.List.{length-append, length-drop, take-append-drop}
 use Rattle.rq_model.specs.declared.record.Record.{Record}
-use Rattle.rq_model.specs.declared.record.Record.TheVariants.{Restart, Commit as Commit_record}
+use Rattle.rq_model.specs.declared.record.Record.TheVariants.{Base, Restart, Commit as Commit_record}
 use Rattle.rq_model.specs.Vocabulary.{In}
 use Rattle.rq_model.specs.History.{Entry, Call}
 use Rattle.rq_model.specs.History.Call.{Begin, Start_send, Start_receive, Start_receive_from, Start_close, Step, Finish, Commit, Acknowledge, Start_abort, Undo_next, End_abort, Hand_over, Force, Checkpoint, Write_page, Last_tag, Show}
@@ -21,9 +21,10 @@ use Rattle.rq_model.proofs.Same.{In-append}
 use Rattle.rq_model.proofs.Lists.{In-left, In-last, In-to, In-reverse}
 use Rattle.rq_disk.specs.declared.device.LogDevice as log_device
 use Rattle.rq_disk.specs.declared.device.PageDevice as page_device
-use Rattle.rq_model.specs.Bases.{gone}
-use Rattle.rq_log.specs.Spelled.{AreSpelled, IsBeginning}
-use Rattle.rq_log.proofs.Runs.{first_of_log}
+use Rattle.rq_model.specs.Bases.{based, gone}
+use Rattle.rq_log.specs.Spelled.{AreSpelled, IsBeginning, spelled}
+use Rattle.rq_log.proofs.Runs.{ends_all, first_of_log}
+use Rattle.rq_engine.specs.Checkpoint.{IsBeginningOrBase}
 use Rattle.rq_store.specs.State.{ledger_of, size_of}
 use Rattle.rq_sound.specs.Sound.{IsSound}
 use Rattle.rq_engine.specs.Earlier.{IsEarlier, on, rebased, unknown}
@@ -192,6 +193,10 @@ survives records forced d bytes based i low b =
     let all : In d (committed_of (take f.0 records ++ rest)) = subst (λ log. In d (committed_of log)) (sym (take-append-drop f.0 records)) i in
     (f.0, f.2, in_older (take f.0 records) rest d all (omega (arith, low, count, room)))
 
+by_test : (P : Type 0) (b : Bool) → (b ≡ true → P) → (b ≡ false → P) → P
+by_test P true f g = f refl
+by_test P false f g = g refl
+
 few_one : (r : Record) (log : List Record) → length (unknown log) ≤ length log → length (unknown (r ∷ log)) ≤ length (r ∷ log)
 few_one (Restart zero) log few = omega arith
 few_one _ log few = omega (arith, few)
@@ -202,8 +207,9 @@ unknown_few (r ∷ log) = few_one r log (unknown_few log)
 
 module _ {P L : Type 0} (p : page_device.Ghosts P) (l : log_device.Ghosts L) where
   pub receipts_are_durable : (base engine : OpenStore P L) (audit : List Noted) → Follows p l base audit engine → AreHonest p l engine → (e : List Record) → IsEarlier e base.state → IsSound (on e base.state)
-      → AreSpelled engine.state.records → (0 < engine.state.forced → gone engine.state.records < engine.state.forced) → ((bytes : List ℕ) → l.may_leave engine.log bytes → IsBeginning engine.state.records engine.state.forced bytes) → (n : Number) → IsReceiptOf audit n → IsDurable l e engine n
-  receipts_are_durable base engine audit f honest e at sound told based leaves n r =
+      → AreSpelled engine.state.records → (0 < engine.state.forced → gone engine.state.records < engine.state.forced) → (engine.replacing ≡ false → (bytes : List ℕ) → l.may_leave engine.log bytes → IsBeginning engine.state.records engine.state.forced bytes)
+      → ((bytes : List ℕ) → l.may_leave engine.log bytes → IsBeginningOrBase engine.state.records engine.state.forced bytes) → (n : Number) → IsReceiptOf audit n → IsDurable l e engine n
+  receipts_are_durable base engine audit f honest e at sound told base_forced leaves at_rest n r =
       let led = (f.replays honest e at sound).1 in
       let z = size_of base.state.sizes in
       let from = ledger_of (on e base.state) in
@@ -224,6 +230,13 @@ module _ {P L : Type 0} (p : page_device.Ghosts P) (l : log_device.Ghosts L) whe
         lsn = c.2;
         behind = omega (arith, at, few, long, behind, lsn);
         stands = c.3;
-        survives = λ bytes m. survives records forced c.0 bytes (λ some. subst (λ k. k < forced) (sym same) (based some)) c.3 (omega (arith, low, lsn))
-            (beginning_on e engine.state.records forced bytes told here (leaves bytes m));
+        survives = λ bytes m.
+            let kept : IsBeginning engine.state.records forced bytes → KeepsCommit records c.0 bytes = λ b.
+            survives records forced c.0 bytes (λ some. subst (λ k. k < forced) (sym same) (base_forced some)) c.3 (omega (arith, low, lsn)) (beginning_on e engine.state.records forced bytes told here b) in
+            by_test (KeepsCommit records c.0 bytes ⊎ ((engine.replacing ≡ true) × (i : ℕ) × KeepsCommit (based i records) c.0 bytes)) engine.replacing
+            (λ tried. ⊎_elim
+            (λ b. inl (kept b))
+            (λ b. inr (tried, b.0, (0, ends_all (Base (length records) b.0 ∷ []) bytes (b.1 ∙ ap (λ (k : ℕ). spelled (Base k b.0 ∷ [])) (sym (long_on e engine.state here))), c.3)))
+            (at_rest bytes m))
+            (λ untried. inl (kept (leaves untried bytes m)));
       }

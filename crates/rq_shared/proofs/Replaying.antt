@@ -30,7 +30,6 @@ module _ {P L : Type 0} (p : page_device.Ghosts P) (l : log_device.Ghosts L) whe
   goes_on base s t audit n event reply asked given f a = record {
     sizes = a.sizes ∙ f.sizes;
     unknown = a.unknown ∙ f.unknown;
-    replacing = a.replacing ∙ f.replacing;
     replays = λ h e at sound.
         let r = f.replays (a.honest h) e at sound in
         let said = a.steps h e (earlier_there base s audit e f at) r.0 in
@@ -49,7 +48,6 @@ module _ {P L : Type 0} (p : page_device.Ghosts P) (l : log_device.Ghosts L) whe
       record {
         sizes = ap (λ (z : State). z.sizes) state ∙ f.sizes;
         unknown = ap (λ (z : State). unknown z.records) state ∙ f.unknown;
-        replacing = ap (λ (x : OpenStore P L). x.replacing) same ∙ f.replacing;
         replays = λ h e at sound. subst (LeadsOver e base.state audit) (sym state) (f.replays (subst p.honest pages h.0, falls h.1) e at sound);
       }
 

@@ -1,5 +1,5 @@
 -- What an entry of the audit says.
-use Rattle.std.specs.Prelude.{◌≡◌, false, ℕ, List, [], ◌∷◌, ◌++◌, map, reverse}
+use Rattle.std.specs.Prelude.{◌≡◌, ℕ, List, [], ◌∷◌, ◌++◌, map, reverse}
 use Rattle.rq_model.specs.declared.record.Record.{Record}
 use Rattle.rq_model.specs.History.{Call}
 use Rattle.rq_model.specs.Replay.{Reply as Gave, Replays}
@@ -53,7 +53,6 @@ pub record Follows {P L : Type 0} (p : page_device.Ghosts P) (l : log_device.Gho
     (audit : List Noted) (engine : OpenStore P L) : Type 0 where
   pub sizes : engine.state.sizes ≡ base.state.sizes
   pub unknown : unknown engine.state.records ≡ unknown base.state.records
-  pub replacing : engine.replacing ≡ base.replacing
   pub replays : AreHonest p l engine → (earlier : List Record) → IsEarlier earlier base.state
       → IsSound (on earlier base.state) → LeadsOver earlier base.state audit engine.state
 
@@ -65,18 +64,14 @@ pub record Audited (P L : Type 0) : Type 0 where
   pub base : OpenStore P L
   pub taken : ℕ
 
--- it goes back to a legal log with some earlier records, and no checkpoint of it has failed
-abbrev pub GoesBack : {P L : Type 0} → OpenStore P L → Type 0
-GoesBack s = IsSoundOver s.state × (s.replacing ≡ false)
-
 -- under this premise, and where its devices have been honest, the engine is sound, with some earlier records
 abbrev pub WasSound : {P L : Type 0} → page_device.Ghosts P → log_device.Ghosts L → Type 0 → OpenStore P L → Type 0
-WasSound p l premise engine = premise → AreHonest p l engine → GoesBack engine
+WasSound p l premise engine = premise → AreHonest p l engine → IsSoundOver engine.state
 
 -- under this premise, and where the devices have been honest since, the engine with which the audit begins was sound, with
 -- some earlier records
 abbrev pub BeginsSound : {P L : Type 0} → page_device.Ghosts P → log_device.Ghosts L → Type 0 → Audited P L → Type 0
-BeginsSound p l premise k = premise → AreHonest p l k.engine → GoesBack k.base
+BeginsSound p l premise k = premise → AreHonest p l k.engine → IsSoundOver k.base.state
 
 -- an audit that was taken: the engine as it was when one was taken before, how many entries were taken until then, and
 -- the entries since

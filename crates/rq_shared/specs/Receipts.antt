@@ -1,6 +1,7 @@
 -- Receipts that an audit tells of, and what is so of the commits that they name.
-use Rattle.std.specs.Prelude.{◌≡◌, ◌<◌, ℕ, List, drop, length, Some}
+use Rattle.std.specs.Prelude.{◌≡◌, ◌⊎◌, ◌<◌, ℕ, List, drop, length, Some, true}
 use Rattle.rq_model.specs.declared.record.Record.{Record}
+use Rattle.rq_model.specs.Bases.{based}
 use Rattle.rq_model.specs.Vocabulary.{In}
 use Rattle.rq_model.specs.Ledger.{Done}
 use Rattle.rq_model.specs.Commits.{committed_of}
@@ -28,11 +29,13 @@ KeepsCommit records d bytes = (lost : ℕ) × EndsWith (drop lost records) bytes
     × In d (committed_of (drop lost records))
 
 -- With these earlier records the number names a commit of the store that stands behind them, in every log that a crash may
--- leave.
+-- leave: of its records, or where a checkpoint has failed of a Base that stands for all of them.
 pub record IsDurable {P L : Type 0} (l : log_device.Ghosts L) (earlier : List Record) (s : OpenStore P L) (n : Number) : Type 0 where
   pub commit : Done
   pub txn : commit.txn ≡ n.txn
   pub lsn : commit.lsn ≡ n.lsn
   pub behind : length earlier < commit.lsn
   pub stands : In commit (committed_of (rebased earlier s.state.records))
-  pub survives : (bytes : List ℕ) → l.may_leave s.log bytes → KeepsCommit (rebased earlier s.state.records) commit bytes
+  pub survives : (bytes : List ℕ) → l.may_leave s.log bytes
+      → KeepsCommit (rebased earlier s.state.records) commit bytes
+      ⊎ ((s.replacing ≡ true) × (i : ℕ) × KeepsCommit (based i (rebased earlier s.state.records)) commit bytes)

@@ -6,6 +6,7 @@ ghost use Rattle.rq_log.specs.Reading.{IsRead};
 ghost use Rattle.rq_log.specs.Spelled.{AreSpelled, IsBeginning};
 ghost use Rattle.rq_content.specs.Read.{group_of};
 ghost use Rattle.rq_engine.specs.Applied.{Applied};
+ghost use Rattle.rq_engine.specs.Checkpoint.{IsBeginningOrBase};
 ghost use Rattle.rq_engine.specs.Opened.{AreHonest, NotTold};
 ghost use Rattle.rq_engine.specs.Says.{call_of, gave, IsContent};
 
@@ -181,7 +182,8 @@ impl<P: PageDevice + Drop, L: LogDevice + Drop, B: Level> Kept<P, L, B> {
         Stamped { pass, event, reply }
     }
 
-    /// The record that stands at a place of the engine's log, and the place behind it (`Engine::record_at`). It leaves no entry.
+    /// The record that stands at a place of the engine's log, and the place behind it (`Engine::record_at`). A place other than 0
+    /// was answered since the last checkpoint. It leaves no entry.
     ///
     /// # Errors
     /// `Failed`, `DiskRead`, `Damaged`.
@@ -229,11 +231,13 @@ impl<P: PageDevice + Drop, L: LogDevice + Drop, B: Level> Kept<P, L, B> {
         self.audit.as_slice()
     }
 
-    /// For proofs: what a crash at this moment leaves of the log, if no checkpoint has failed; that each record has a spelling, and that a Base is forced;
+    /// For proofs: what a crash at this moment leaves of the log, where no checkpoint has failed and else; that each record has a spelling, and that a Base is forced;
     /// and that the entries replay. It runs no code.
     pub fn shows_kept(&self)
         ensures leaves { self.now.engine.replacing ≡ false → L.honest self.now.engine.log → (bytes : List ℕ) → L.may_leave self.now.engine.log bytes
             → IsBeginning self.now.engine.state.records self.now.engine.state.forced bytes }
+        ensures at_rest { L.honest self.now.engine.log → (bytes : List ℕ) → L.may_leave self.now.engine.log bytes
+            → IsBeginningOrBase self.now.engine.state.records self.now.engine.state.forced bytes }
         ensures spelled { AreSpelled self.now.engine.state.records }
         ensures based { 0 < self.now.engine.state.forced
             → gone self.now.engine.state.records < self.now.engine.state.forced }
@@ -346,6 +350,7 @@ fn copy_of(alloc: Global, reply: &Reply) -> Result<Reply, AllocError>
         Reply::Acknowledged(given) => Reply::Acknowledged(*given),
         Reply::HandedOver => Reply::HandedOver,
         Reply::Forced(lsn) => Reply::Forced(*lsn),
+        Reply::Checkpointed(lsn) => Reply::Checkpointed(*lsn),
         Reply::Written(written) => Reply::Written(*written),
         Reply::LastTag(last) => Reply::LastTag(*last),
         Reply::Content(groups) => Reply::Content(copy_of_groups(alloc, groups)?),

@@ -151,7 +151,7 @@ impl<P: PageDevice + Drop, L: LogDevice + Drop, B: Level, G: Sharing> Shared<P, 
         ensures begun { BeginsFrom P.PageDevice L.LogDevice G.premise G.begins result.kept }
         ensures receipts { AreHonest P.PageDevice L.LogDevice result.kept.engine → (earlier : List Record)
             → IsEarlier earlier result.kept.base.state → IsSound (on earlier result.kept.base.state)
-            → result.kept.base.replacing ≡ false → (r : GivenReceipt) → In r receipts.now → IsReceiptOf result.kept.audit (commit_number r.number)
+            → (r : GivenReceipt) → In r receipts.now → IsReceiptOf result.kept.audit (commit_number r.number)
             → IsDurable L.LogDevice earlier result.kept.engine (commit_number r.number) }
     {
         let Shared {

@@ -75,6 +75,7 @@ pub(crate) fn heard_in(reply: &Reply) -> Heard
         Reply::Acknowledged(_) => Heard::Other,
         Reply::HandedOver => Heard::Other,
         Reply::Forced(_) => Heard::Other,
+        Reply::Checkpointed(_) => Heard::Other,
         Reply::Written(_) => Heard::Other,
         Reply::LastTag(_) => Heard::Other,
         Reply::Content(_) => Heard::Other,

@@ -44,6 +44,7 @@ pub(crate) fn copy_event(event: &Event) -> Option<Event>
         Event::Acknowledged(number) => Some(Event::Acknowledged(*number)),
         Event::HandOver => Some(Event::HandOver),
         Event::Force => Some(Event::Force),
+        Event::Checkpoint => Some(Event::Checkpoint),
         Event::WritePage(page) => Some(Event::WritePage(*page)),
         Event::LastTag(sender) => Some(Event::LastTag(*sender)),
         Event::Content => Some(Event::Content),

@@ -121,6 +121,7 @@ fn is_start(event: &Event) -> bool
         Event::Acknowledged(_) => false,
         Event::HandOver => false,
         Event::Force => false,
+        Event::Checkpoint => false,
         Event::WritePage(_) => false,
         Event::LastTag(_) => false,
         Event::Content => false,
