@@ -1,6 +1,6 @@
 -- Each function of a world, over the devices in memory.
 use Rattle.rq_model.specs.Causes.{HasCause, writes_out}
-use Rattle.std.proofs.Common.{◌↔◌, Bool, false, ◌≡◌, List, [], ◌∷◌, arith, refl, sym, ◌∙◌, ap, subst, true, Some, Result, Ok, Err, IfOk, IfErr, drop}
+use Rattle.std.proofs.Common.{◌↔◌, Bool, false, ◌≡◌, List, [], ◌∷◌, arith, refl, sym, ◌∙◌, ap, subst, true, Some, Result, Ok, Err, IfOk, IfErr, drop, inl, inr, ⊎_elim}
 use Rattle.rq_model.specs.declared.record.Record.{Record}
 use Rattle.rq_model.specs.declared.refusal.Refusal.{Refusal}
 use Rattle.rq_model.specs.declared.refusal.Refusal.TheVariants as why
@@ -11,17 +11,16 @@ use Rattle.rq_model.specs.Ledger.{Ledger, Phase, after, ledger, runs}
 use Rattle.rq_model.specs.Ledger.Phase.{Running as Runs, Shut}
 use Rattle.rq_model.specs.Legal.{IsLegal}
 use Rattle.rq_model.specs.Tests.{Size, any_busy}
-use Rattle.rq_model.specs.Promises.{AcknowledgedStay, CrashGoesOn, FifoThroughout, RestartGoesOn, ShutCrashGoesOn, StillStoreRefuses}
+use Rattle.rq_model.specs.Promises.{AcknowledgedStay, CheckpointCrashGoesOn, CrashGoesOn, FifoThroughout, RestartGoesOn, ShutCrashGoesOn, StillStoreRefuses}
 use Rattle.rq_model.specs.Replay.{Says}
 use Rattle.rq_model.specs.Replay.Reply.{Gave_refusal}
 use Rattle.rq_disk.specs.declared.mem_log.MemLog.{MemLog}
 use Rattle.rq_disk.specs.declared.mem_pages.MemPages.{MemPages}
-use Rattle.rq_page.specs.Sizes.{Sizes, IsInRange}
+use Rattle.rq_page.specs.Sizes.{Sizes}
 use Rattle.rq_store.specs.State.{ledger_of, phase_of, size_of}
 use Rattle.rq_engine.specs.Applied.{Applied}
-use Rattle.rq_engine.specs.Crash.{LeavesCut, AreFit}
+use Rattle.rq_engine.specs.Crash.{AreFit}
 use Rattle.rq_engine.specs.Opened.{OpenStore}
-use Rattle.rq_engine.proofs.Owned.{cause_own}
 use Rattle.rq_engine.specs.Says.{call_of, gave}
 use Rattle.rq_engine.specs.declared.event.Event.{Event}
 use Rattle.rq_engine.specs.declared.event.Reply.{Reply}
@@ -42,34 +41,23 @@ use Rattle.rq_restart.specs.declared.restart.Stopped.{Stopped}
 use Rattle.rq_core.specs.Devices.{mem_pages, mem_log}
 use Rattle.rq_core.specs.Happenings.{Happening, Answer, AddsCall, Course, MayCrashIt, Report, Tells, called, is_of_device, EndsWithoutCrash, MayRestart, is_no_crash}
 use Rattle.rq_core.specs.Happenings.Answer.{Answered, Crashed, Refused, Restarted}
+use Rattle.rq_core.specs.Happened.{Keeps}
 use Rattle.rq_core.specs.Headline.{LeavesStores, LeftBy, LeftLast}
 use Rattle.rq_core.specs.Runs.{CanCrash, IsFresh, IsHeadline, IsOpened, IsRefused, Ran}
 use Rattle.rq_core.specs.World.{IsOpen, IsShut}
 use Rattle.rq_core.specs.World.World.{Is_open, Is_shut}
 use Rattle.rq_core.specs.Happenings.Happening.{Stops_in}
 use Rattle.rq_core.specs.Views.{report_of}
-use Rattle.rq_core.proofs.Devices.{some_page, some_log}
-use Rattle.rq_core.proofs.Worlds.{caused, read_of, reopened, stays_shut, IsGivenUp, calls, leaves_open, leaves_shut, still, headline}
+use Rattle.rq_core.proofs.Devices.{log_now, page_now, some_page, some_log}
+use Rattle.rq_core.proofs.HalfMade.{LeftBehind}
+use Rattle.rq_core.proofs.Worlds.{caused, read_of, reopened, stays_shut, calls, leaves_open, leaves_shut, headline}
 
 abbrev pub Engine : Type 0
 Engine = OpenStore MemPages MemLog
 
 -- a call of an open store
 pub asks : (z : Sizes) (course : Course) (x : Happening) (e : Event) (r : Reply) (old new : Engine) → called course x ≡ Some (call_of e) → Applied mem_pages mem_log old e r new → Ran z course (Is_open old) → Ran z ((x, Answered (gave r)) ∷ course) (Is_open new)
-asks z course x e r old new is a ran = calls mem_pages mem_log (λ d. tt) (λ d. tt) z course x e r old new is a ran
-
--- an open store that is given up, with its devices
-pub open_crashes : (z : Sizes) (course : Course) (x : Happening) (old new : Engine) (pages : MemPages) (log : MemLog) → CrashGoesOn (size_of z) → (ran : Ran z course (Is_open old)) → IsGivenUp mem_pages mem_log (λ d. tt) (λ d. tt) z ran.history new
-    → LeavesCut mem_pages mem_log new → pages ≡ new.pages → log ≡ new.log → MayCrashIt x (ledger ran.history).phase → CanCrash z course x pages log
-open_crashes z course x old new pages log law ran g cut e f may = record {
-  range = subst IsInRange g.sizes g.sound.range;
-  history = ran.history;
-  tells = ran.tells;
-  legal = ran.legal;
-  may = may;
-  leaves =
-      subst (λ d. LeavesStores mem_pages mem_log z ran.history d log) (sym e) (subst (λ d. LeavesStores mem_pages mem_log z ran.history new.pages d) (sym f) (leaves_open mem_pages mem_log (λ d. tt) (λ d. tt) z law ran.history new ran.legal g cut));
-}
+asks z course x e r old new is a ran = calls mem_pages mem_log (λ d. tt) (λ d. tt) z page_now log_now course x e r old new is a ran
 
 -- a store that is shut, whatever a crash at its end leaves
 pub shut_crashes : (z : Sizes) (course : Course) (x : Happening) (h : List Entry) (pages : MemPages) (log : MemLog) → ShutCrashGoesOn (size_of z) → Tells course h → IsLegal (size_of z) h → (s : IsShut mem_pages mem_log z h pages log)
@@ -92,7 +80,7 @@ not_open law z course x call pages log is ran =
       history = Refused_entry call why.Failed ∷ ran.history;
       tells = (ran.history, ran.tells, subst (λ c. AddsCall c (Gave_refusal why.Failed) ran.history (Refused_entry call why.Failed ∷ ran.history)) (sym is) (Refused_entry call why.Failed, says call, tt, refl));
       legal = (law (size_of z) (ledger ran.history) call (ap runs s.phase), ran.legal);
-      stands = record { range = s.range; phase = s.phase; older = s.older; plain = s.plain; ties = s.ties; left = s.left };
+      stands = record { range = s.range; phase = s.phase; older = s.older; ties = s.ties; left = s.left };
       counted = tt;
     } where
       says : (c : Call) → Says c (Gave_refusal why.Failed) (Refused_entry c why.Failed)
@@ -107,12 +95,13 @@ ended z (a ∷ course) pages log h = by a.1 h where
   by _ h = tt
 
 -- the headline at the end
-pub open_ends : (z : Sizes) (course : Course) (e : Engine) (pages : MemPages) (log : MemLog) → ((h : List Entry) → IsLegal (size_of z) h → FifoThroughout h) → AcknowledgedStay (size_of z) → CrashGoesOn (size_of z) → Ran z course (Is_open e)
-    → LeavesCut mem_pages mem_log e → pages ≡ e.pages → log ≡ e.log → IsHeadline z course pages log
-open_ends z course e pages log fifo stay law ran cut i j =
-    let g = still mem_pages mem_log (λ d. tt) (λ d. tt) z ran.history e ran.stands in
+pub open_ends : (z : Sizes) (course : Course) (e : Engine) (pages : MemPages) (log : MemLog) → ((h : List Entry) → IsLegal (size_of z) h → FifoThroughout h) → AcknowledgedStay (size_of z) → CrashGoesOn (size_of z) → CheckpointCrashGoesOn (size_of z) → Ran z course (Is_open e)
+    → Keeps mem_pages mem_log e → pages ≡ e.pages → log ≡ e.log → IsHeadline z course pages log
+open_ends z course e pages log fifo stay law half ran keeps i j =
+    let o : IsOpen mem_pages mem_log z ran.history e = ran.stands in
+    let left : LeftBehind mem_pages mem_log (on o.past e.state) e.pages e.log = ⊎_elim (λ w. inl (keeps w.untried tt o.past o.long o.sound w.fit)) (λ half. inr (half.none_open, half.leaves)) o.devices in
     headline mem_pages mem_log (λ d. tt) (λ d. tt) z fifo stay course ran.history pages log ran.tells ran.legal
-    (subst (λ d. LeavesStores mem_pages mem_log z ran.history d log) (sym i) (subst (λ d. LeavesStores mem_pages mem_log z ran.history e.pages d) (sym j) (leaves_open mem_pages mem_log (λ d. tt) (λ d. tt) z law ran.history e ran.legal g cut))) (ended z course pages log ran.counted)
+    (subst (λ d. LeavesStores mem_pages mem_log z ran.history d log) (sym i) (subst (λ d. LeavesStores mem_pages mem_log z ran.history e.pages d) (sym j) (leaves_open mem_pages mem_log (λ d. tt) (λ d. tt) z ran.history (on o.past e.state) ran.legal o.sizes o.ledger o.sound law half e.pages e.log left))) (ended z course pages log ran.counted)
 
 pub shut_ends : (z : Sizes) (course : Course) (pages : MemPages) (log : MemLog) → ((h : List Entry) → IsLegal (size_of z) h → FifoThroughout h) → AcknowledgedStay (size_of z) → ShutCrashGoesOn (size_of z) → Ran z course (Is_shut pages log)
     → IsHeadline z course pages log
@@ -148,7 +137,7 @@ module _ (pages : MemPages) (log : MemLog) where
 pub opened : OneLogEach → OneSizeEach → (z : Sizes) → RestartGoesOn (size_of z) → (course : Course) (x : Happening) (pages : MemPages) (log : MemLog) (report : Report) (new : Engine) → MayRestart course x → IsOpened pages log report new
     → Ran z course (Is_shut pages log) → Ran z ((x, Restarted report) ∷ course) (Is_open new)
 opened one size_once z goes course x pages log report new may o ran =
-    let w = reopened mem_pages mem_log (λ d. tt) (λ d. tt) z some_page some_log one size_once goes ran.history pages log report new ran.legal ran.stands o.reports o.value o.sizes o.sound o.recovered o.entry o.fit o.untried in
+    let w = reopened mem_pages mem_log (λ d. tt) (λ d. tt) z some_page some_log one size_once goes ran.history pages log report new ran.legal ran.stands o in
     record {
       history = Restarted_entry report.incarnation report.records ∷ ran.history;
       tells = (ran.history, ran.tells, (may, refl));
@@ -161,7 +150,7 @@ opened one size_once z goes course x pages log report new may o ran =
 pub refused_stays : OneLogEach → (z : Sizes) (h : List Entry) (pages : MemPages) (log : MemLog) (r : Refusal) (new_pages : MemPages) (new_log : MemLog) → IsRefused pages log r new_pages new_log → IsShut mem_pages mem_log z h pages log
     → IsShut mem_pages mem_log z h new_pages new_log
 refused_stays one z h pages log r new_pages new_log stopped here =
-    let read = read_of mem_pages mem_log (λ d. tt) (λ d. tt) z some_page some_log one h pages log here in
+    let read = read_of mem_pages mem_log (λ d. tt) (λ d. tt) z some_page some_log h pages log here in
     stays_shut mem_pages mem_log (λ d. tt) (λ d. tt) z some_page some_log one h pages new_pages log new_log here read (stopped.leaves tt tt z read.read read.told read.reads read.each)
 
 -- a restart that was refused, as a happening
@@ -182,7 +171,6 @@ begins z pages log fresh = record {
     range = fresh.range;
     phase = refl;
     older = [];
-    plain = tt;
     ties = record { committed = refl; records = refl; incarnation = omega arith };
     left = λ images bytes a b. ([], ([], refl, tt), fresh.left images bytes a b);
   };
@@ -207,5 +195,5 @@ pub stop_may : (z : Sizes) (course : Course) (e : Event) (r : Refusal) (old new 
 stop_may z course e r old new ran a device =
     let o : IsOpen mem_pages mem_log z ran.history old = ran.stands in (
       ap (λ (l : Ledger). l.phase) (sym o.ledger) ∙ stop_runs r old.state.failed device a.failed,
-      stop_writes r (any_busy (ledger_of old.state).open_ones) (call_of e) device (caused e (reply.Refused r) old.state (cause_own mem_pages mem_log old new e (reply.Refused r) a (tt, tt) o.sound)),
+      stop_writes r (any_busy (ledger_of (on o.past old.state)).open_ones) (call_of e) device (caused e (reply.Refused r) (on o.past old.state) (a.cause (tt, tt) o.past o.long o.sound)),
     )

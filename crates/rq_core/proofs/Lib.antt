@@ -3,6 +3,7 @@ pub mod Choosing
 pub mod Courses
 pub mod Devices
 pub mod Worked
+pub mod HalfMade
 pub mod Worlds
 pub mod Exact
 pub mod Steps

@@ -10,24 +10,23 @@ use Rattle.rq_core.specs.Devices.{mem_pages, mem_log}
 use Rattle.rq_core.specs.Happenings.{Answer, Course, Happening, is_of_device}
 use Rattle.rq_core.specs.Happenings.Answer.{Crashed}
 use Rattle.rq_core.specs.Happenings.Happening.{Crashes, Stops_restart}
-use Rattle.rq_core.specs.Happened.{CrashesShut, IsCrashed, IsLast, Keeps}
+use Rattle.rq_core.specs.Happened.{CrashesShut, IsCrashed, IsLast}
 use Rattle.rq_core.specs.Runs.{Happened, IsLeftBy, IsRefused, MemWorld}
 use Rattle.rq_core.specs.World.World.{Is_open, Is_shut}
 use Rattle.rq_core.proofs.Arms.{Engine}
 
 -- a crash of an open store, by what its last call left
-pub open_left : (course : Course) (x : Happening) (a : Answer) (new : MemWorld) (e : Event) (r : Reply) (old mid : Engine) (pages : MemPages) (log : MemLog) → IsLast x e r → Applied mem_pages mem_log old e r mid → Keeps mem_pages mem_log mid
+pub open_left : (course : Course) (x : Happening) (a : Answer) (new : MemWorld) (e : Event) (r : Reply) (old mid : Engine) (pages : MemPages) (log : MemLog) → IsLast x e r → Applied mem_pages mem_log old e r mid
     → pages ≡ mid.pages → log ≡ mid.log → IsLeftBy pages log a new → Happened course x (Is_open old) a new
-open_left course x (Crashed n) (Is_shut new_pages new_log) e r old mid pages log last applied keeps i j left = record {
+open_left course x (Crashed n) (Is_shut new_pages new_log) e r old mid pages log last applied i j left = record {
   event = e;
   told = r;
   last = last;
   mid = mid;
   applied = applied;
-  keeps = keeps;
   crashed = subst (λ d. IsCrashed mem_pages mem_log d new_pages mid.log new_log n) i (subst (λ d. IsCrashed mem_pages mem_log pages new_pages d new_log n) j left);
 }
-open_left course x _ _ e r old mid pages log last applied keeps i j left = absurd left
+open_left course x _ _ e r old mid pages log last applied i j left = absurd left
 
 -- a crash of one that is shut
 pub shut_left : (course : Course) (x : Happening) (a : Answer) (new : MemWorld) (pages : MemPages) (log : MemLog) → x ≡ Crashes → IsLeftBy pages log a new → Happened course x (Is_shut pages log) a new

@@ -4,77 +4,89 @@ use Rattle.rq_model.specs.History.{Entry}
 use Rattle.rq_model.specs.Ledger.{ledger}
 use Rattle.rq_model.specs.Legal.{IsLegal}
 use Rattle.rq_model.specs.Tests.{Size}
-use Rattle.rq_model.specs.Promises.{AcknowledgedStay, CrashGoesOn, FifoThroughout, RestartGoesOn, ShutCrashGoesOn, StillStoreRefuses}
+use Rattle.rq_model.specs.Promises.{AcknowledgedStay, CheckpointCrashGoesOn, CrashGoesOn, FifoThroughout, RestartGoesOn, ShutCrashGoesOn, StillStoreRefuses}
 use Rattle.rq_disk.specs.declared.mem_log.MemLog.{MemLog}
 use Rattle.rq_disk.specs.declared.mem_pages.MemPages.{MemPages}
-use Rattle.rq_page.specs.Sizes.{Sizes}
+use Rattle.rq_page.specs.Sizes.{IsInRange, Sizes}
 use Rattle.rq_store.specs.State.{size_of}
 use Rattle.rq_engine.specs.Applied.{Applied}
+use Rattle.rq_engine.specs.Earlier.{on}
 use Rattle.rq_engine.specs.declared.event.Event.{Event}
 use Rattle.rq_engine.specs.declared.event.Reply.{Reply}
-use Rattle.rq_restart.specs.Once.{AsManyAsTheLog, OneLogEach, OneSizeEach}
+use Rattle.rq_restart.specs.Once.{OneLogEach, OneSizeEach}
 use Rattle.rq_core.specs.Devices.{mem_pages, mem_log}
 use Rattle.rq_core.specs.Happenings.{Answer, Course, DoesNothing, Happening, MayCrashIt, called, restarts}
 use Rattle.rq_core.specs.Happenings.Answer.{Answered, Crashed, Nothing, Refused, Restarted, Running}
 use Rattle.rq_core.specs.Happenings.Happening.{Crashes, Stops_in, Stops_restart}
-use Rattle.rq_core.specs.Happened.{CrashesOpen, CrashesShut, IsAsked, IsLast, IsNotOpen, Keeps, StopsRestart}
+use Rattle.rq_core.specs.Happened.{CrashesOpen, CrashesShut, IsAsked, IsLast, IsNotOpen, StopsRestart}
 use Rattle.rq_core.specs.Runs.{CanCrash, Happened, IsHeadline, IsRun, Led, GivesUp, MemWorld, Ran}
-use Rattle.rq_core.specs.World.{IsOpen, IsShut}
+use Rattle.rq_core.specs.World.{IsOpen}
 use Rattle.rq_core.specs.World.World.{Is_open, Is_shut}
-use Rattle.rq_core.proofs.Arms.{Engine, asks, begins, not_open, open_crashes, open_ends, opened, refused_stays, refuses, shut_crashes, shut_ends, stop_may}
-use Rattle.rq_core.proofs.Devices.{some_page, some_log}
-use Rattle.rq_core.proofs.Worlds.{crashed, handed_over, refused, stands_at, still}
+use Rattle.rq_core.proofs.Arms.{Engine, asks, begins, not_open, open_ends, opened, refused_stays, refuses, shut_crashes, shut_ends, stop_may}
+use Rattle.rq_core.proofs.Devices.{log_now, page_now, some_page, some_log}
+use Rattle.rq_core.proofs.HalfMade.{LeftBehind, left_handed, left_stopped}
+use Rattle.rq_core.proofs.Worlds.{crashed, leaves_open, runs_there}
 
 -- what holds of the words that a run is told in
 pub record Laws (z : Sizes) : Type 0 where
   pub one : OneLogEach
   pub size_once : OneSizeEach
-  pub tally : AsManyAsTheLog
   pub fifo : (h : List Entry) → IsLegal (size_of z) h → FifoThroughout h
   pub stay : AcknowledgedStay (size_of z)
   pub crash : CrashGoesOn (size_of z)
+  pub half : CheckpointCrashGoesOn (size_of z)
   pub shut : ShutCrashGoesOn (size_of z)
   pub restart : RestartGoesOn (size_of z)
   pub still : (size : Size) → StillStoreRefuses size
 
 module _ (z : Sizes) (k : Laws z) (course : Course) where
   -- a crash of an open store
-  can_crash : (x : Happening) (e : Event) (r : Reply) (old mid : Engine) → IsLast x e r → Applied mem_pages mem_log old e r mid → Keeps mem_pages mem_log mid → Ran z course (Is_open old) → CanCrash z course x mid.pages mid.log
-  can_crash Crashes e r old mid last a keeps ran =
-      let g = handed_over mem_pages mem_log (λ d. tt) (λ d. tt) z ran.history r old mid ran.stands (subst (λ y. Applied mem_pages mem_log old y r mid) last a) in
-      open_crashes z course Crashes old mid mid.pages mid.log k.crash ran g (keeps g.untried (tt, tt) g.sound g.fit) refl refl tt
-  can_crash (Stops_in call) e r old mid last a keeps ran =
-      let b = subst (λ y. Applied mem_pages mem_log old e y mid) last.2 a in
-      let g = refused mem_pages mem_log (λ d. tt) (λ d. tt) z ran.history e last.1 old mid ran.stands b last.3 in
-      open_crashes z course (Stops_in call) old mid mid.pages mid.log k.crash ran g (keeps g.untried (tt, tt) g.sound g.fit) refl refl
-      (subst (λ c. MayCrashIt (Stops_in c) (ledger ran.history).phase) last.0 (stop_may z course e last.1 old mid ran b last.3))
-  can_crash _ e r old mid last a keeps ran = absurd last
+  may_crash : (x : Happening) (e : Event) (r : Reply) (old mid : Engine) → IsLast x e r → Applied mem_pages mem_log old e r mid → (ran : Ran z course (Is_open old)) → MayCrashIt x (ledger ran.history).phase
+  may_crash Crashes e r old mid last a ran = tt
+  may_crash (Stops_in call) e r old mid last a ran =
+      subst (λ c. MayCrashIt (Stops_in c) (ledger ran.history).phase) last.0 (stop_may z course e last.1 old mid ran (subst (λ y. Applied mem_pages mem_log old e y mid) last.2 a) last.3)
+  may_crash _ e r old mid last a ran = absurd last
 
+  left_behind : (x : Happening) (e : Event) (r : Reply) (old mid : Engine) → IsLast x e r → Applied mem_pages mem_log old e r mid → (ran : Ran z course (Is_open old)) → LeftBehind mem_pages mem_log (on ran.stands.past old.state) mid.pages mid.log
+  left_behind Crashes e r old mid last a ran =
+      let o : IsOpen mem_pages mem_log z ran.history old = ran.stands in
+      left_handed mem_pages mem_log z page_now log_now o.past old mid r (subst (λ y. Applied mem_pages mem_log old y r mid) last a) (tt, tt) o.long o.sound o.devices
+  left_behind (Stops_in call) e r old mid last a ran =
+      let o : IsOpen mem_pages mem_log z ran.history old = ran.stands in
+      left_stopped mem_pages mem_log z page_now log_now o.past old mid e last.1 last.3 (subst (λ y. Applied mem_pages mem_log old e y mid) last.2 a) (tt, tt) o.long o.sound o.devices
+  left_behind _ e r old mid last a ran = absurd last
+
+  -- of what its last call went through, a crash behind it leaves the end
   crashes_open : (x : Happening) (old : Engine) (pages : MemPages) (log : MemLog) (n : ℕ) → CrashesOpen mem_pages mem_log x old pages log n → Ran z course (Is_open old) → Ran z ((x, Crashed n) ∷ course) (Is_shut pages log)
   crashes_open x old pages log n c ran =
-      crashed mem_pages mem_log (λ d. tt) (λ d. tt) z some_page some_log k.one k.tally course x c.mid.pages pages c.mid.log log n (can_crash x c.event c.told old c.mid c.last c.applied c.keeps ran) c.crashed
+      let o : IsOpen mem_pages mem_log z ran.history old = ran.stands in
+      let can : CanCrash z course x c.mid.pages c.mid.log = record {
+        range = subst IsInRange o.sizes o.sound.range;
+        history = ran.history;
+        tells = ran.tells;
+        legal = ran.legal;
+        may = may_crash x c.event c.told old c.mid c.last c.applied ran;
+        leaves = leaves_open mem_pages mem_log (λ d. tt) (λ d. tt) z ran.history (on o.past old.state) ran.legal o.sizes o.ledger o.sound k.crash k.half c.mid.pages c.mid.log (left_behind x c.event c.told old c.mid c.last c.applied ran);
+      } in
+      crashed mem_pages mem_log (λ d. tt) (λ d. tt) z some_page some_log course x c.mid.pages pages c.mid.log log n can c.crashed
 
   crashes_shut : (x : Happening) (pages : MemPages) (log : MemLog) (new_pages : MemPages) (new_log : MemLog) (n : ℕ) → CrashesShut mem_pages mem_log x pages log new_pages new_log n → Ran z course (Is_shut pages log) → Ran z ((x, Crashed n) ∷ course) (Is_shut new_pages new_log)
   crashes_shut Crashes pages log new_pages new_log n c ran =
-      crashed mem_pages mem_log (λ d. tt) (λ d. tt) z some_page some_log k.one k.tally course Crashes pages new_pages log new_log n (shut_crashes z course Crashes ran.history pages log k.shut ran.tells ran.legal ran.stands (λ p s. tt)) c
+      crashed mem_pages mem_log (λ d. tt) (λ d. tt) z some_page some_log course Crashes pages new_pages log new_log n (shut_crashes z course Crashes ran.history pages log k.shut ran.tells ran.legal ran.stands (λ p s. tt)) c
   crashes_shut Stops_restart pages log new_pages new_log n c ran =
       let there : StopsRestart mem_pages mem_log pages log new_pages new_log n = c in
       let left = refused_stays k.one z ran.history pages log there.refusal there.mid_pages there.mid_log there.refused ran.stands in
-      crashed mem_pages mem_log (λ d. tt) (λ d. tt) z some_page some_log k.one k.tally course Stops_restart there.mid_pages new_pages there.mid_log new_log n (shut_crashes z course Stops_restart ran.history there.mid_pages there.mid_log k.shut ran.tells ran.legal left (λ p s. s)) there.crashed
+      crashed mem_pages mem_log (λ d. tt) (λ d. tt) z some_page some_log course Stops_restart there.mid_pages new_pages there.mid_log new_log n (shut_crashes z course Stops_restart ran.history there.mid_pages there.mid_log k.shut ran.tells ran.legal left (λ p s. s)) there.crashed
   crashes_shut _ pages log new_pages new_log n c ran = absurd c
 
   nothing : (x : Happening) (w : MemWorld) → DoesNothing course x → Ran z course w → Ran z ((x, Nothing) ∷ course) w
-  nothing x (Is_open e) does ran =
-      let o : IsOpen mem_pages mem_log z ran.history e = ran.stands in
-      record { history = ran.history; tells = (ran.history, ran.tells, (does, refl)); legal = ran.legal; stands = record { sizes = o.sizes; ledger = o.ledger; plain = o.plain; untried = o.untried; sound = o.sound; fit = o.fit }; counted = tt }
-  nothing x (Is_shut pages log) does ran =
-      let s : IsShut mem_pages mem_log z ran.history pages log = ran.stands in
-      record { history = ran.history; tells = (ran.history, ran.tells, (does, refl)); legal = ran.legal; stands = record { range = s.range; phase = s.phase; older = s.older; plain = s.plain; ties = s.ties; left = s.left }; counted = tt }
+  nothing x (Is_open e) does ran = record { history = ran.history; tells = (ran.history, ran.tells, (does, refl)); legal = ran.legal; stands = ran.stands; counted = tt }
+  nothing x (Is_shut pages log) does ran = record { history = ran.history; tells = (ran.history, ran.tells, (does, refl)); legal = ran.legal; stands = ran.stands; counted = tt }
 
   running : (x : Happening) (e : Engine) → IsTrue (restarts x) → Ran z course (Is_open e) → Ran z ((x, Running) ∷ course) (Is_open e)
   running x e may ran =
       let o : IsOpen mem_pages mem_log z ran.history e = ran.stands in
-      record { history = ran.history; tells = (ran.history, ran.tells, (may, (stands_at ran.history e.state o.ledger).runs, refl)); legal = ran.legal; stands = record { sizes = o.sizes; ledger = o.ledger; plain = o.plain; untried = o.untried; sound = o.sound; fit = o.fit }; counted = tt }
+      record { history = ran.history; tells = (ran.history, ran.tells, (may, runs_there ran.history (on o.past e.state) o.ledger, refl)); legal = ran.legal; stands = o; counted = tt }
 
   -- whatever happens, the course goes on
   goes_on : (x : Happening) (old : MemWorld) (a : Answer) (new : MemWorld) → Happened course x old a new → Ran z course old → Ran z ((x, a) ∷ course) new
@@ -111,8 +123,7 @@ module _ (z : Sizes) (k : Laws z) where
 
   ends : (course : Course) (pages : MemPages) (log : MemLog) (w : MemWorld) → Ran z course w → GivesUp w pages log → IsHeadline z course pages log
   ends course pages log (Is_open e) ran g =
-      let s = still mem_pages mem_log (λ d. tt) (λ d. tt) z ran.history e ran.stands in
-      open_ends z course e pages log k.fifo k.stay k.crash ran (g.2 s.untried (tt, tt) s.sound s.fit) g.0 g.1
+      open_ends z course e pages log k.fifo k.stay k.crash k.half ran g.2 g.0 g.1
   ends course pages log (Is_shut d e) ran g =
       subst (λ y. IsHeadline z course y log) (sym g.0) (subst (λ y. IsHeadline z course d y) (sym g.1) (shut_ends z course d e k.fifo k.stay k.shut ran))
 

@@ -10,7 +10,7 @@ use Rattle.rq_model.specs.Ledger.{Ledger, after}
 use Rattle.rq_model.specs.Replay.{Reply as Gave}
 use Rattle.rq_model.specs.Replay.Reply.{Gave_refusal}
 use Rattle.rq_disk.specs.Device.{Images, Leaves, Only}
-use Rattle.rq_disk.specs.Records.{HoldsRecords}
+use Rattle.rq_log.specs.Counted.{LastLsn}
 use Rattle.rq_disk.specs.declared.device.LogDevice as log_device
 use Rattle.rq_disk.specs.declared.device.PageDevice as page_device
 use Rattle.rq_page.specs.Sizes.{Sizes, IsInRange}
@@ -19,7 +19,7 @@ use Rattle.rq_store.specs.Fitting.{AllFit}
 use Rattle.rq_store.specs.State.{ledger_of}
 use Rattle.rq_model.specs.Bases.{earlier}
 use Rattle.rq_store.specs.Whole.{AreBased}
-use Rattle.rq_engine.specs.Earlier.{on, over, rebased}
+use Rattle.rq_engine.specs.Earlier.{IsEarlier, on, over, rebased}
 use Rattle.rq_sound.specs.Sound.{IsSound}
 use Rattle.rq_analysis.specs.Recovered.{IsRecovered}
 use Rattle.rq_engine.specs.declared.event.Event.{Event}
@@ -29,7 +29,7 @@ use Rattle.rq_engine.specs.declared.event.Reply.TheVariants as reply
 use Rattle.rq_engine.specs.Applied.{Applied}
 use Rattle.rq_engine.specs.Crash.{AreFit, LeavesCut}
 use Rattle.rq_engine.specs.Devices.{EachPair}
-use Rattle.rq_engine.specs.Opened.{AreHonest, OpenStore}
+use Rattle.rq_engine.specs.Opened.{OpenStore}
 use Rattle.rq_engine.specs.Says.{call_of, gave}
 use Rattle.rq_restart.specs.Restarting.{IsLeftOn, IsOpenedOver, IsReadAs, IsRefusedFor, Reports, Stops}
 use Rattle.rq_restart.specs.Underway.{IsLeftOrGoesOn, IsStore, OfStores}
@@ -61,17 +61,20 @@ module _ {P L : Type 0} (p : page_device.Ghosts P) (l : log_device.Ghosts L) whe
     pub reply_is : reply ≡ gave told
     pub applied : Applied p l old event told new
 
-  -- what a crash leaves of both devices: of each, one of those that it may leave, and of the log so many records
+  -- what a crash leaves of both devices: of each, one of those that it may leave, and of the log so many records, with those
+  -- before its Base
   pub record IsCrashed (pages new_pages : P) (log new_log : L) (count : ℕ) : Type 0 where
     pub pages_left : (images : Images) → Leaves (p.may_be new_pages) images → Leaves (p.may_be pages) images
     pub pages_only : (page : ℕ) → Only (p.seen new_pages page) (p.may_be new_pages page)
     pub log_left : (bytes : List ℕ) → l.may_leave new_log bytes → l.may_leave log bytes
     pub log_only : (bytes : List ℕ) → l.may_leave new_log bytes → bytes ≡ l.seen new_log
-    pub holds : HoldsRecords (l.seen new_log) count
+    pub holds : LastLsn (l.seen new_log) count
 
-  -- what is so of every open store, if no checkpoint has failed: a crash leaves a part of its log, with pages that fit
+  -- what is so of every open store, if no checkpoint has failed, whatever stood before its Base: a crash leaves a part of
+  -- its log, with pages that fit
   abbrev pub Keeps : OpenStore P L → Type 0
-  Keeps s = s.replacing ≡ false → AreHonest p l s → IsSound s.state → AreFit p s → LeavesCut p l s
+  Keeps s = s.replacing ≡ false → l.honest s.log → (e : List Record) → IsEarlier e s.state → IsSound (on e s.state)
+      → AreFit p (over e s) → LeavesCut p l (over e s)
 
   -- a crash of an open store: behind its last call, of what that has left
   pub record CrashesOpen (x : Happening) (old : OpenStore P L) (pages : P) (log : L) (count : ℕ) : Type 0 where
@@ -80,7 +83,6 @@ module _ {P L : Type 0} (p : page_device.Ghosts P) (l : log_device.Ghosts L) whe
     pub last : IsLast x event told
     pub mid : OpenStore P L
     pub applied : Applied p l old event told mid
-    pub keeps : Keeps mid
     pub crashed : IsCrashed mid.pages pages mid.log log count
 
   -- a restart opened the store that stands on these devices

@@ -33,7 +33,7 @@ pub record Report : Type 0 where
 
 pub data Answer : Type 0 where
   Answered : (reply : Reply) → Answer
-  -- so many records are left
+  -- the last LSN that is left
   Crashed : (records : ℕ) → Answer
   Restarted : (report : Report) → Answer
   -- a restart was refused

@@ -2,7 +2,6 @@
 use Rattle.std.specs.Prelude.{◌≡◌, ℕ, List, [], ◌∷◌, ◌++◌, length, true}
 use Rattle.rq_model.specs.declared.record.Record.{Record}
 use Rattle.rq_model.specs.declared.txn.Txn.{Txn}
-use Rattle.rq_model.specs.Bases.{HasNoBase}
 use Rattle.rq_model.specs.Vocabulary.{In}
 use Rattle.rq_model.specs.History.{Entry, commits}
 use Rattle.rq_model.specs.History.Entry.{Acknowledged, Committed}
@@ -23,13 +22,13 @@ AcknowledgedAreKept h = (newer older : List Entry) (t : Txn) (lsn : ℕ) → new
     → In (Committed t lsn) older → In t (commits h)
 
 module _ {P L : Type 0} (p : page_device.Ghosts P) (l : log_device.Ghosts L) (z : Sizes) where
-  -- Whatever a crash now leaves of both devices is a store, and the crash that leaves it may end the history: its
-  -- content is that of the commits that it keeps. No Base stands in its log, since no happening makes a checkpoint.
+  -- Whatever a crash now leaves of both devices is a store, for some records that stood before its Base, and the crash that
+  -- leaves it may end the history: its content is that of the commits that it keeps.
   abbrev pub LeavesStores : List Entry → P → L → Type 0
   LeavesStores h pages log = EachPair p l pages log (λ images bytes. (now : List Record) × IsStore z now images bytes
-      × EndsInCrash (size_of z) h now × HasNoBase now)
+      × EndsInCrash (size_of z) h now)
 
-  -- after a crash that left so many records, whatever a crash now leaves are exactly so many
+  -- after a crash that left so many records, whatever a crash now leaves are exactly so many, with those before the Base
   abbrev pub LeftBy : Answer → P → L → Type 0
   LeftBy (Crashed n) pages log =
       EachPair p l pages log (λ images bytes. (now : List Record) × IsStore z now images bytes × (length now ≡ n))

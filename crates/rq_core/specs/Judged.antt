@@ -12,7 +12,11 @@ use Rattle.rq_disk.specs.declared.mem_log.MemLog.{MemLog}
 use Rattle.rq_disk.specs.declared.mem_pages.MemPages.{MemPages}
 use Rattle.rq_log.specs.Spelled.{EndsWith}
 use Rattle.rq_page.specs.Sizes.{Sizes}
+use Rattle.rq_store.specs.State.{State}
+use Rattle.rq_store.specs.Whole.{IsWhole}
 use Rattle.rq_sound.specs.Latching.{IsLatched}
+use Rattle.rq_sound.specs.Sound.{IsSound}
+use Rattle.rq_engine.specs.Earlier.{IsEarlier, IsSoundOver, on}
 use Rattle.rq_engine.specs.Opened.{OpenStore}
 use Rattle.rq_restart.specs.Restarting.{Stops}
 use Rattle.rq_core.specs.Devices.{mem_pages, mem_log}
@@ -31,13 +35,20 @@ pub record IsRefusedOver (z : Sizes) (pages : MemPages) (log : MemLog) (refusal 
     (new_log : MemLog) : Type 0 where
   pub read : List Record
   pub reads : EndsWith read (mem_log.seen log)
+  pub whole : IsWhole z read
   pub cause : Stops (Unit {0}) z read refusal (mem_pages.faults pages) (mem_pages.faults new_pages) (mem_log.faults log)
       (mem_log.faults new_log)
+
+-- others have latched all that the call may start, whatever stood before the store's Base; and there is what may have
+pub record IsLatchedOver (s : State) (call : Call) : Type 0 where
+  pub some : IsSoundOver s
+  pub each : (past : List Record) → IsEarlier past s → IsSound (on past s) → IsLatched (on past s) call
 
 -- what a restart reports is so of the log that it read, and of the store that it opened
 pub record IsReportedOver (log : MemLog) (report : Report) (new : OpenStore MemPages MemLog) : Type 0 where
   pub read : List Record
   pub reads : EndsWith read (mem_log.seen log)
+  pub whole : IsWhole new.state.sizes read
   pub unfinished_are : report.unfinished ≡ length (unfinished read)
   pub lost_are : report.lost ≡ length (lost read)
   pub records_are : report.records ≡ length new.state.records
@@ -48,7 +59,7 @@ pub record AreRunsJudged : Type 0 where
       → new.log ≡ old.log
   -- a call is refused as Latched only where the very store that it met has latched all that the call may start
   pub latched : (z : Sizes) (course : Course) (call : Call) (old new : OpenStore MemPages MemLog)
-      → Led z course (Is_open old) → Asked call (Gave_refusal why.Latched) old new → IsLatched old.state call
+      → Led z course (Is_open old) → Asked call (Gave_refusal why.Latched) old new → IsLatchedOver old.state call
   pub refused : (z : Sizes) (course : Course) (pages new_pages : MemPages) (log new_log : MemLog) (refusal : Refusal)
       → Led z course (Is_shut pages log) → IsRefused pages log refusal new_pages new_log
       → IsRefusedOver z pages log refusal new_pages new_log

@@ -1,7 +1,6 @@
 -- What is so of a store between two happenings.
-use Rattle.std.specs.Prelude.{◌≡◌, false, ℕ, List}
+use Rattle.std.specs.Prelude.{◌≡◌, ◌⊎◌, false, true, ℕ, List, []}
 use Rattle.rq_model.specs.declared.record.Record.{Record}
-use Rattle.rq_model.specs.Bases.{HasNoBase}
 use Rattle.rq_model.specs.History.{Entry}
 use Rattle.rq_model.specs.Incarnations.{Extends, Ties}
 use Rattle.rq_model.specs.Ledger.{ledger}
@@ -13,8 +12,10 @@ use Rattle.rq_disk.specs.declared.device.PageDevice as page_device
 use Rattle.rq_page.specs.Sizes.{Sizes, IsInRange}
 use Rattle.rq_store.specs.State.{ledger_of, size_of}
 use Rattle.rq_sound.specs.Sound.{IsSound}
+use Rattle.rq_engine.specs.Checkpoint.{IsCutOrBased}
 use Rattle.rq_engine.specs.Crash.{AreFit}
 use Rattle.rq_engine.specs.Devices.{EachPair}
+use Rattle.rq_engine.specs.Earlier.{IsEarlier, on, over}
 use Rattle.rq_engine.specs.Opened.{OpenStore}
 use Rattle.rq_restart.specs.Underway.{IsStore}
 use Rattle.rq_core.specs.Headline.{LeavesStores, LeftLast}
@@ -34,20 +35,31 @@ module _ {P L : Type 0} (p : page_device.Ghosts P) (l : log_device.Ghosts L) (z 
   pub record IsShut (h : List Entry) (pages : P) (log : L) : Type 0 where
     pub range : IsInRange z
     pub phase : (ledger h).phase ≡ Shut
+    -- the whole log, with what stood before its Base
     pub older : List Record
-    -- no happening makes a checkpoint
-    pub plain : HasNoBase older
     pub ties : Ties (ledger h) older
     pub left : EachPair p l pages log (IsOver z older)
 
-  -- an open store goes back to a legal log, stands where the history ends, and has its pages fit what is forced
+  -- its pages fit what is forced, and no checkpoint has failed
+  pub record IsWritten (past : List Record) (engine : OpenStore P L) : Type 0 where
+    pub untried : engine.replacing ≡ false
+    pub fit : AreFit p (over past engine)
+
+  -- A checkpoint has failed for a device, which stopped the store. Whatever a crash leaves is a cut of it, or of what that was to
+  -- make.
+  pub record IsHalfMade (past : List Record) (engine : OpenStore P L) : Type 0 where
+    pub failed : engine.state.failed ≡ true
+    pub none_open : engine.state.rows ≡ []
+    pub leaves : EachPair p l engine.pages engine.log (IsCutOrBased (on past engine.state))
+
+  -- an open store, with the records that stood before its Base, goes back to a legal log, and stands where the history ends
   pub record IsOpen (h : List Entry) (engine : OpenStore P L) : Type 0 where
     pub sizes : engine.state.sizes ≡ z
-    pub ledger : ledger_of engine.state ≡ ledger h
-    pub plain : HasNoBase engine.state.records
-    pub untried : engine.replacing ≡ false
-    pub sound : IsSound engine.state
-    pub fit : AreFit p engine
+    pub past : List Record
+    pub long : IsEarlier past engine.state
+    pub ledger : ledger_of (on past engine.state) ≡ ledger h
+    pub sound : IsSound (on past engine.state)
+    pub devices : IsWritten past engine ⊎ IsHalfMade past engine
 
   abbrev pub Stands : List Entry → World P L → Type 0
   Stands h (Is_shut pages log) = IsShut h pages log

@@ -45,7 +45,7 @@ pub enum Happening {
 pub enum Entry {
     /// The answer to a call.
     Answered(Reply),
-    /// So many records are left.
+    /// The last LSN that is left.
     Crashed(u64),
     /// The store is open.
     Restarted(Report),

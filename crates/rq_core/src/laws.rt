@@ -14,10 +14,11 @@ ghost use Rattle.rq_core.specs.Runs.{IsHeadline, IsRun, Led, MemWorld, Ran};
 ghost use Rattle.rq_core.specs.Judged.{AreRunsJudged};
 
 use rq_model::laws::{
-    acknowledged_stay, crash_goes_on, first_in_first_out, nothing_behind_close, restart_goes_on,
-    shown_is_committed, shut_crash_goes_on, still_store_refuses,
+    acknowledged_stay, checkpoint_crash_goes_on, crash_goes_on, first_in_first_out,
+    nothing_behind_close, restart_goes_on, shown_is_committed, shut_crash_goes_on,
+    still_store_refuses,
 };
-use rq_restart::laws::{one_log, one_size, records_are_the_log};
+use rq_restart::laws::{one_log, one_size};
 
 /// Of every history with legal replies, and with crashes and restarts as they may come: at every place of it, what
 /// committed transactions received from each sender is a beginning of its committed sends, in order, each once; the
@@ -52,12 +53,12 @@ pub fn a_run_is_told()
     first_in_first_out();
     acknowledged_stay();
     crash_goes_on();
+    checkpoint_crash_goes_on();
     shut_crash_goes_on();
     restart_goes_on();
     still_store_refuses();
     one_log();
     one_size();
-    records_are_the_log();
 }
 
 /// What a run refuses: replies, refusals and reports that the store did not give.
@@ -65,6 +66,5 @@ pub fn runs_are_judged()
     ensures { AreRunsJudged }
 {
     a_run_is_told();
-    one_log();
     one_size();
 }

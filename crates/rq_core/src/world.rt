@@ -19,6 +19,7 @@ use rq_disk::{MemLog, MemPages, Mishap, PageChoice, Switch};
 use rq_engine::engine::Engine;
 use rq_engine::event::{CommitNo, Event, Reply};
 use rq_level::Level;
+use rq_log::last_lsn;
 use rq_model::refusal::Refusal;
 use rq_page::layout::Layout;
 use rq_planner::StoreLevels;
@@ -279,7 +280,6 @@ fn crash_open<B: Level>(
     switch.suspend();
     let _ = engine.apply(&Event::HandOver);
     switch.resume();
-    engine.shows_kept();
     let (pages, log) = engine.give_back();
     crash(pages, log, keep, torn, images)
 }
@@ -306,7 +306,6 @@ fn stop_in<B: Level>(
     switch.arm_call(n, Mishap::Stop);
     let reply = engine.apply(event);
     if is_stopped(switch) && has_failed(&reply) {
-        engine.shows_kept();
         let (pages, log) = engine.give_back();
         return crash(pages, log, keep, torn, images);
     }
@@ -400,8 +399,8 @@ fn crash<B: Level>(
 {
     let pages = pages.crash(images);
     let log = log.crash(keep, torn);
-    let records = log.records();
-    (WorldState::Shut(pages, log), Entry::Crashed(records))
+    let lsn = last_lsn(log.bytes());
+    (WorldState::Shut(pages, log), Entry::Crashed(lsn))
 }
 
 // The devices of a store that is given up.

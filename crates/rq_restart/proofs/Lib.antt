@@ -6,7 +6,6 @@ pub mod Loading
 pub mod Counting
 pub mod Moments
 pub mod Paths
-pub mod Tallying
 pub mod Undos
 pub mod Begun
 pub mod Lefts
@@ -17,7 +16,6 @@ pub mod DueLists
 pub mod Aborts
 pub mod Rounds
 pub mod Results
-pub mod Plain
 pub mod Planning
 pub mod Linking
 pub mod Renewing

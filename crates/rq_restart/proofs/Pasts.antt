@@ -1,19 +1,20 @@
 -- A log as it was read, and the logs that read so.
-use Rattle.std.proofs.Common.{◌≡◌, ℕ, zero, suc, ◌+◌, ◌≤◌, true, List, [], ◌∷◌, ◌++◌, length, take, append_assoc, refl, sym, ◌∙◌, ap, subst, arith}
+use Rattle.std.proofs.Common.{◌≡◌, ◌⊎◌, ℕ, zero, suc, ◌+◌, ◌≤◌, true, List, [], ◌∷◌, ◌++◌, length, take, drop, append_assoc, refl, sym, ◌∙◌, ap, subst, inl, inr, arith}
 use Rattle.rq_model.specs.declared.record.Record.{Record}
 use Rattle.rq_model.specs.declared.record.Record.TheVariants as records
 use Rattle.rq_model.specs.declared.record.Record.TheVariants.{Base, Restart}
 use Rattle.rq_model.specs.declared.txn.Txn.{Txn}
-use Rattle.rq_model.specs.Bases.{IsMarked, earlier, marked, standing}
+use Rattle.rq_model.specs.Bases.{HasNoBase, IsMarked, earlier, marked, standing}
 use Rattle.rq_model.specs.Incarnations.{ArePlain, incarnation_of, is_plain}
-use Rattle.rq_model.proofs.Bases.{added_plain, marked_stands, next_same, none_stand, read_marked}
+use Rattle.rq_model.proofs.Bases.{added_plain, length_marks, marked_alone, marked_stands, next_same, none_stand, read_marked}
 use Rattle.rq_log.specs.Spelled.{AreSpelled, EndsWith}
 use Rattle.rq_log.proofs.Parsing.{one_log}
 use Rattle.rq_page.specs.Sizes.{Sizes}
 use Rattle.rq_store.specs.Opening.{IsLeft}
 use Rattle.rq_store.specs.Whole.{AreBased, IsBased}
 use Rattle.rq_disk.specs.Device.{Images}
-use Rattle.rq_engine.specs.Earlier.{rebased}
+use Rattle.rq_engine.specs.Earlier.{IsEarlier, on, rebased, unknown}
+use Rattle.rq_engine.proofs.Earlier.{own}
 use Rattle.rq_analysis.specs.OpenWorkView.{OpenWorkView, open_work_of}
 use Rattle.rq_analysis.specs.Dues.{dues}
 use Rattle.rq_analysis.specs.Numbers.{numbers}
@@ -21,15 +22,16 @@ use Rattle.rq_analysis.specs.Pages.{IsNextUndo, IsUndoing, IsUndone, UndoesBehin
 use Rattle.rq_analysis.specs.Pages.IsNextUndo.{Undoes, Voids}
 use Rattle.rq_analysis.proofs.Marked.{marked_dues, marked_incarnation, marked_length, marked_numbers, marked_work}
 use Rattle.rq_restart.specs.Past.{IsPast, WhereLeft}
-use Rattle.rq_engine.specs.Earlier.{on}
 use Rattle.rq_level.specs.declared.writes.SlotWrite.{SlotWrite}
 use Rattle.rq_sound.specs.Rows.{comp_end}
 use Rattle.rq_store.specs.Opening.{next_restart, opened}
+use Rattle.rq_store.specs.State.{State}
 use Rattle.rq_store.specs.Steps.{page_op}
 use Rattle.rq_restart.specs.Aborting.{AbortsBehind, IsAborting, Round, after_round, after_rounds, with_writes}
 use Rattle.rq_restart.specs.Aborting.IsAborting.{Between, Within}
 use Rattle.rq_restart.specs.Repeating.{Paged}
 use Rattle.rq_restart.specs.Aborting.Round.{Ends, TakesBack}
+use Rattle.rq_restart.specs.Restarting.{IsOpenedOver}
 use Rattle.rq_restart.specs.RolledBack.{IsRolledBack}
 
 -- ---- what is kept of both is the same
@@ -220,3 +222,55 @@ module _ (e : List Record) where
       ap (λ (l : List Record). record (opened z images log) { records = l }) (begun_on log past)
       ∙ ap (λ (k : ℕ). record (opened z images log) { records = next_restart (rebased e log) ∷ rebased e log; forced = suc k }) (sym n)
       ∙ ap (λ (k : ℕ). record (opened z images (rebased e log)) { incarnation = k + 1 }) (sym i)
+
+-- of a log without a Base all is known
+pub mended_alone : (older : List Record) → HasNoBase older → AreSpelled older → (rolled_back : List Record) → IsRolledBack older rolled_back → rebased (earlier older) rolled_back ≡ rolled_back
+mended_alone older plain told rolled_back m =
+    let e : List Record = earlier older in
+    let alone : marked older ≡ older = marked_alone older plain in
+    let k = mended_added e (marked older) rolled_back (subst (λ (l : List Record). IsRolledBack l rolled_back) (sym alone) m) in
+    sym k.there ∙ ap (λ (l : List Record). k.more ++ l) (earlier_back older told ∙ sym alone) ∙ k.are
+
+-- ---- how many are unknown of a store that was opened
+
+-- as many as stood before its Base
+as_many : (log : List Record) → AreSpelled log → AreBased log → length (earlier log) ≡ length (unknown (marked log))
+as_many [] told based = refl
+as_many (Base zero i ∷ log) told based = absurd (let some = told.0.0.0 in omega (arith, some))
+as_many (Base (suc n) i ∷ log) told based = sym based.0 ∙ ap suc (sym (length_marks n))
+as_many (Restart zero ∷ log) told based = absurd (let some = told.0.0 in omega (arith, some))
+as_many (Restart (suc i) ∷ log) told based = as_many log told.1 based.1
+as_many (r ∷ log) told based = as_many log told.1 based.1
+
+-- nothing else is unknown where those stand that are
+itself : (u log : List Record) → rebased u log ≡ log → (unknown log ≡ []) ⊎ (unknown log ≡ u)
+itself u [] e = inl refl
+itself u (Restart zero ∷ log) e = inr (sym e)
+itself u (Restart (suc i) ∷ log) e = (let rest : rebased u log ≡ log = cc in itself u log rest)
+itself u (r ∷ log) e = (let rest : rebased u log ≡ log = cc in itself u log rest)
+
+none_below : (more log : List Record) → unknown (more ++ log) ≡ [] → unknown log ≡ []
+none_below [] log e = e
+none_below (Restart zero ∷ more) log e = absurd (cc)
+none_below (Restart (suc i) ∷ more) log e = none_below more log e
+none_below (r ∷ more) log e = none_below more log e
+
+-- what a restart adds is known
+module _ (older : List Record) (s : State) (over : IsOpenedOver older s) where
+  abbrev rolled_back : List Record
+  rolled_back = drop 1 s.records
+
+  unknown_stay : unknown s.records ≡ unknown (marked older)
+  unknown_stay =
+      let u : List Record = unknown (marked older) in
+      let now : List Record = next_restart rolled_back ∷ rolled_back in
+      let k = added_join u (marked older) rolled_back now (mended_added u (marked older) rolled_back over.0) (begun_added u rolled_back) in
+      let there : rebased u now ≡ now = sym k.there ∙ ap (λ (l : List Record). k.more ++ l) (own (marked older)) ∙ k.are in
+      let same : unknown now ≡ u = elim (itself u now there) [
+        | inl none ↦ none ∙ sym (none_below k.more (marked older) (ap unknown k.are ∙ none))
+        | inr is ↦ is
+      ] in
+      ap (λ (x : State). unknown x.records) over.1 ∙ same
+
+  pub opened_earlier : AreSpelled older → AreBased older → IsEarlier (earlier older) s
+  opened_earlier told based = as_many older told based ∙ ap (λ (l : List Record). length l) (sym unknown_stay)

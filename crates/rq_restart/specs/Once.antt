@@ -1,8 +1,7 @@
 -- What bytes tell, they tell in one way.
-use Rattle.std.specs.Prelude.{◌≡◌, ℕ, List, length}
+use Rattle.std.specs.Prelude.{◌≡◌, ℕ, List}
 use Rattle.rq_model.specs.declared.record.Record.{Record}
 use Rattle.rq_model.specs.Bases.{earlier, marked, standing}
-use Rattle.rq_disk.specs.Records.{HoldsRecords}
 use Rattle.rq_log.specs.Spelled.{AreSpelled, EndsWith}
 use Rattle.rq_engine.specs.Earlier.{rebased}
 use Rattle.rq_page.specs.Sizes.{Sizes}
@@ -16,11 +15,6 @@ OneLogEach = (a b : List Record) (bytes : List ℕ) → AreSpelled a → AreSpel
 -- a log is what is read of it, with what stood before its Base in the place of the marks
 abbrev pub ReadWithItsEarlier : Type 0
 ReadWithItsEarlier = (log : List Record) → AreSpelled log → rebased (earlier log) (marked log) ≡ log
-
--- the whole records in the spelling of a log, with a torn end or none, are as many as stand of it
-abbrev pub AsManyAsTheLog : Type 0
-AsManyAsTheLog = (log : List Record) (bytes : List ℕ) (n : ℕ) → AreSpelled log → EndsWith log bytes → HoldsRecords bytes n
-    → n ≡ length (standing log)
 
 -- a superblock tells one size
 abbrev pub OneSizeEach : Type 0

@@ -1,6 +1,6 @@
 //! What holds of the words that a restart's contract uses.
 ghost use Rattle.rq_restart.specs.Ended.{EndedIsSettled};
-ghost use Rattle.rq_restart.specs.Once.{AsManyAsTheLog, OneLogEach, OneSizeEach, ReadWithItsEarlier};
+ghost use Rattle.rq_restart.specs.Once.{OneLogEach, OneSizeEach, ReadWithItsEarlier};
 
 /// Of every whole log: what a restart asks of it as it is read, before it opens it, is that no transaction is lost.
 pub fn ended_is_settled()
@@ -15,11 +15,6 @@ pub fn one_log()
 /// A log is what is read of it, with what stood before its Base in the place of the marks.
 pub fn read_with_its_earlier()
     ensures { ReadWithItsEarlier }
-{}
-
-/// The whole records in the spelling of a log are as many as stand of it.
-pub fn records_are_the_log()
-    ensures { AsManyAsTheLog }
 {}
 
 /// A superblock tells one size.

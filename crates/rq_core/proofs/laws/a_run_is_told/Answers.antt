@@ -8,10 +8,10 @@ returns-clause-met c = λ z course world run.
     (record {
       one = c.one_log.ensures;
       size_once = c.one_size.ensures;
-      tally = c.records_are_the_log.ensures;
       fifo = c.first_in_first_out.ensures (size_of z);
       stay = c.acknowledged_stay.ensures (size_of z);
       crash = c.crash_goes_on.ensures (size_of z);
+      half = c.checkpoint_crash_goes_on.ensures (size_of z);
       shut = c.shut_crash_goes_on.ensures (size_of z);
       restart = c.restart_goes_on.ensures (size_of z);
       still = c.still_store_refuses.ensures;
@@ -24,10 +24,10 @@ returns-clause-headline c = λ z course pages log run.
     (record {
       one = c.one_log.ensures;
       size_once = c.one_size.ensures;
-      tally = c.records_are_the_log.ensures;
       fifo = c.first_in_first_out.ensures (size_of z);
       stay = c.acknowledged_stay.ensures (size_of z);
       crash = c.crash_goes_on.ensures (size_of z);
+      half = c.checkpoint_crash_goes_on.ensures (size_of z);
       shut = c.shut_crash_goes_on.ensures (size_of z);
       restart = c.restart_goes_on.ensures (size_of z);
       still = c.still_store_refuses.ensures;

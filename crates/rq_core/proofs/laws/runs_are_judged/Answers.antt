@@ -2,4 +2,4 @@ use Rattle.rq_core.proofs.Judged.{judged}
 use Rattle.rq_core.proofs.laws.runs_are_judged.Goals as goal
 
 pub returns : goal.returns
-returns c = judged c.one_log.ensures c.one_size.ensures c.a_run_is_told.ensures.met
+returns c = judged c.one_size.ensures c.a_run_is_told.ensures.met

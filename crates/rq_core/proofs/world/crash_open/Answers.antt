@@ -5,14 +5,12 @@ use Rattle.rq_core.proofs.Choosing.{left_by}
 use Rattle.rq_core.specs.Happened.{IsLast}
 use Rattle.rq_core.specs.Views.{answer_in, world_of}
 use Rattle.rq_core.proofs.Steps.{open_left}
-use Rattle.rq_core.specs.Devices.{mem_pages, mem_log}
-use Rattle.rq_engine.proofs.Owned.{cut_own}
 use Rattle.rq_core.proofs.world.crash_open.Goals as goal
 
 pub returns-clause-happened : goal.returns-clause-happened
 returns-clause-happened g c = λ course x is.
     open_left course x (answer_in c.crash.result.1) (world_of c.crash.result.0) event.HandOver c.apply.result c.args.engine c.apply.new.self c.give_back-pages.result.0 c.give_back-pages.result.1
-    (subst (λ y. IsLast y event.HandOver c.apply.result) (sym is) refl) c.apply.ensures.applied (λ untried honest. cut_own mem_pages mem_log c.apply.new.self (c.shows_kept.ensures.cut untried honest.1)) c.give_back-pages.ensures.pages c.give_back-pages.ensures.log c.crash.ensures.left
+    (subst (λ y. IsLast y event.HandOver c.apply.result) (sym is) refl) c.apply.ensures.applied c.give_back-pages.ensures.pages c.give_back-pages.ensures.log c.crash.ensures.left
 
 pub returns-clause-chosen : goal.returns-clause-chosen
 returns-clause-chosen g c = record {

@@ -6,15 +6,13 @@ use Rattle.rq_core.specs.Happened.{IsLast}
 use Rattle.rq_core.specs.Views.{answer_in, world_of}
 use Rattle.rq_core.proofs.Choosing.{if_crashed, left_by}
 use Rattle.rq_core.proofs.Steps.{open_left}
-use Rattle.rq_core.specs.Devices.{mem_pages, mem_log}
-use Rattle.rq_engine.proofs.Owned.{cut_own}
 use Rattle.rq_core.proofs.world.stop_in.Goals as goal
 
 pub returns-then-has_failed-clause-happened : goal.returns-then-has_failed-clause-happened
 returns-then-has_failed-clause-happened g c = λ course x is.
     let device = c.has_failed.ensures c.if-has_failed.true in
     open_left course x (answer_in c.crash.result.1) (world_of c.crash.result.0) c.args.event.now c.apply-reply.result c.args.engine c.apply-reply.new.self c.give_back-pages.result.0 c.give_back-pages.result.1
-    (subst (λ y. IsLast y c.args.event.now c.apply-reply.result) (sym is) (refl, device.0, device.1, device.2)) c.apply-reply.ensures.applied (λ untried honest. cut_own mem_pages mem_log c.apply-reply.new.self (c.shows_kept.ensures.cut untried honest.1)) c.give_back-pages.ensures.pages c.give_back-pages.ensures.log c.crash.ensures.left
+    (subst (λ y. IsLast y c.args.event.now c.apply-reply.result) (sym is) (refl, device.0, device.1, device.2)) c.apply-reply.ensures.applied c.give_back-pages.ensures.pages c.give_back-pages.ensures.log c.crash.ensures.left
 
 pub returns-clause-happened : goal.returns-clause-happened
 returns-clause-happened g c = λ course x is. record { event = c.args.event.now; told = c.apply-reply.result; call_is = ap (called course) is; reply_is = refl; applied = c.apply-reply.ensures.applied }
