@@ -43,6 +43,7 @@ module _ (pages : MemPages) (old new : MemLog) (p : AreNewPages pages formatted_
     sizes = refl;
     unknown = refl;
     replacing = refl;
+    checkpoint = tt;
     failed = (λ e. cc e, λ e. cc e);
     refused = tt;
     lists = (refl, refl);
@@ -56,10 +57,10 @@ module _ (pages : MemPages) (old new : MemLog) (p : AreNewPages pages formatted_
     };
     honest = λ h. h;
     any_moment = λ none h. runs_through log_5 records_plain 1 4 records_spelled (omega arith) old new l f;
-    fit = λ h earlier long k fit. pages_fit pages p log_5 (5, refl) records_plain;
+    fit = λ h whole earlier long k fit. pages_fit pages p log_5 (5, refl) records_plain;
     crash = λ none h earlier long k fit.
         runs_through_cuts mem_pages mem_log pages_now (over committed pages old) (over forced pages new) k fit (records_spelled, λ some. some) event.Force
-        (reply.Forced 5) tt refl (leaves_beginning old log_1 l log_5 records_plain 1 4 (omega arith) refl)
+        (reply.Forced 5) tt tt refl (leaves_beginning old log_1 l log_5 records_plain 1 4 (omega arith) refl)
         (runs_through log_5 records_plain 1 4 records_spelled (omega arith) old new l f);
   }
 
@@ -89,7 +90,7 @@ applied = record {
   mark_kept = λ pages log new same a. (let f = sym same ∙ a.changes in cc f);
   another_page_written = λ pages log new other a. other (a.pages.0 1);
   failed_and_runs = λ old new runs a.
-      (let f = sym runs ∙ ap (λ (s : State). s.failed) a.refused.0 in cc f);
+      (let f = sym runs ∙ ap (λ (s : State). s.failed) a.refused in cc f);
   failed_without_a_failure = λ pages log new low same a. (let f = a.log.1 in omega (arith, low, same, f));
   forced_nothing = λ pages log new may a.
       (let e : spelled log_1 ≡ spelled log_5 = a.log.durable tt (spelled log_1) may in

@@ -57,7 +57,6 @@ audits = record {
   of_two_calls = λ pages log. record {
     sizes = refl;
     unknown = refl;
-    replacing = refl;
     replays = λ h e at k. (
       running.start_take.sound,
       (
@@ -86,17 +85,16 @@ audits = record {
   led_behind = λ pages log. record {
     sizes = refl;
     unknown = refl;
-    replacing = refl;
     replays = λ h e at k.
         let s = begin_behind e k in
         (s.sound, (ledger_of (on e behind_a_base), s.entry, refl, s.says, s.legal, s.after));
   };
   not_led_behind = not_behind;
-  shared_sound = λ pages log premise honest. (([], refl, running.force.sound), refl);
-  shared_behind = λ pages log premise honest. ((log_1, refl, behind_sound), refl);
-  shared_unsound = λ pages log w. unsound (w tt (tt, tt)).0;
+  shared_sound = λ pages log premise honest. ([], refl, running.force.sound);
+  shared_behind = λ pages log premise honest. (log_1, refl, behind_sound);
+  shared_unsound = λ pages log w. unsound (w tt (tt, tt));
   shared_without_premise = λ pages log none honest. absurd none;
-  began_sound = λ pages log premise honest. (([], refl, running.force.sound), refl);
-  began_unsound = λ pages log b. unsound (b tt (tt, tt)).0;
+  began_sound = λ pages log premise honest. ([], refl, running.force.sound);
+  began_unsound = λ pages log b. unsound (b tt (tt, tt));
   began_without_premise = λ pages log none honest. absurd none;
 }

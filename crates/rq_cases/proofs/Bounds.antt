@@ -295,6 +295,7 @@ module _ (n : ℕ) where
           sizes = refl;
           unknown = refl;
           replacing = refl;
+          checkpoint = tt;
           failed = (λ e. cc e, λ e. cc e);
           refused = tt;
           lists = record { txn = of; lsn = next; ready = (1, rw (same_self t) (refl, refl)); lists = refl };
@@ -305,14 +306,14 @@ module _ (n : ℕ) where
           log = refl;
           honest = λ honest. honest;
           any_moment = λ none honest. here;
-          fit = λ honest earlier long k.
+          fit = λ honest whole earlier long k.
               committed_over earlier (λ a b. AreFit mem_pages (over a pages log) → AreFit mem_pages (over b pages log))
               (λ fits. fit_kept mem_pages mem_log pages_now (over s pages log) (over (one_committed n) pages log) (begun_sound n) fits (told, none_away)
-              (event.Commit t) (reply.Committed number) (Commit t) _ refl refl steps tt refl);
+              (event.Commit t) (reply.Committed number) tt (Commit t) _ refl refl steps tt refl);
           crash = λ none honest earlier long k fits.
               committed_over earlier (λ a b. AreFit mem_pages (over a pages log) → RunsThroughCuts mem_pages mem_log (over a pages log) (over b pages log))
               (λ fits. runs_through_cuts mem_pages mem_log pages_now (over s pages log) (over (one_committed n) pages log) (begun_sound n) fits (told, none_away)
-              (event.Commit t) (reply.Committed number) tt refl
+              (event.Commit t) (reply.Committed number) tt tt refl
               (leaves_beginning log (restarts (suc n)) h.1 s.records (restarts_plain (suc n)) s.forced 0 (omega arith) refl) here) fits;
         }
 
@@ -329,6 +330,7 @@ module _ (n : ℕ) where
           sizes = refl;
           unknown = refl;
           replacing = refl;
+          checkpoint = tt;
           failed = (λ e. cc e, λ e. cc e);
           refused = refl;
           lists = tt;
@@ -339,11 +341,11 @@ module _ (n : ℕ) where
           log = refl;
           honest = λ honest. honest;
           any_moment = λ none honest. here;
-          fit = λ honest earlier long k fits. fits;
+          fit = λ honest whole earlier long k fits. fits;
           crash = λ none honest earlier long k fits.
               begun_over earlier (λ a. AreFit mem_pages (over a pages log) → RunsThroughCuts mem_pages mem_log (over a pages log) (over a pages log))
               (λ fits. runs_through_cuts mem_pages mem_log pages_now (over s pages log) (over s pages log) (begun_sound n) fits (told, none_away)
-              (event.Commit t) (reply.Refused why.LogFull) tt refl
+              (event.Commit t) (reply.Refused why.LogFull) tt tt refl
               (leaves_beginning log (restarts (suc n)) h.1 s.records (restarts_plain (suc n)) s.forced 0 (omega arith) refl) here) fits;
         }
 

@@ -4,10 +4,10 @@ use Rattle.rq_model.specs.Incarnations.{Ties}
 use Rattle.rq_model.specs.History.{Entry}
 use Rattle.rq_model.specs.History.Call.{Force}
 use Rattle.rq_model.specs.Ledger.{ledger}
-use Rattle.rq_model.specs.Promises.{CrashGoesOn}
+use Rattle.rq_model.specs.Promises.{CheckpointCrashGoesOn, CrashGoesOn}
 use Rattle.rq_model.specs.Worked.{small}
 use Rattle.rq_disk.specs.Device.{Images}
-use Rattle.rq_disk.specs.Memory.{log_count, log_seen as log_device_seen, pages_count}
+use Rattle.rq_disk.specs.Memory.{log_seen as log_device_seen}
 use Rattle.rq_disk.specs.Shown.{log_of}
 use Rattle.rq_disk.specs.declared.mem_log.MemLog.{MemLog}
 use Rattle.rq_disk.specs.declared.mem_pages.MemPages.{MemPages}
@@ -17,6 +17,7 @@ use Rattle.rq_engine.specs.Crash.{IsCut}
 use Rattle.rq_engine.specs.Devices.{EachPair, Path}
 use Rattle.rq_engine.specs.Devices.Path.{Log, Pages, Start}
 use Rattle.rq_core.specs.Devices.{mem_log, mem_pages}
+use Rattle.rq_core.proofs.Devices.{log_now as log_since, page_now, path_end}
 use Rattle.rq_core.specs.Happenings.{Happening, MayCrashIt}
 use Rattle.rq_core.specs.Happenings.Happening.{Crashes, Stops_in}
 use Rattle.rq_core.specs.Worked.{first_entries}
@@ -24,7 +25,8 @@ use Rattle.rq_cases.specs.Crashes.{CrashesAreJudged, MayFail, RunsAreJudged}
 use Rattle.rq_cases.specs.Run.{committed, forced, log_1, log_5, no_record}
 use Rattle.rq_cases.specs.Store.{formatted_pages, sent_pages}
 use Rattle.rq_cases.specs.Worlds.{Hold, course_to}
-use Rattle.rq_cases.proofs.Bytes.{records_plain, short_log}
+use Rattle.rq_cases.proofs.Bytes.{short_log}
+use Rattle.rq_cases.proofs.Checkpoints.{in_one}
 use Rattle.rq_cases.proofs.Held.{log_left, log_now}
 use Rattle.rq_cases.proofs.Pages.{range}
 use Rattle.rq_cases.proofs.Worlds.{cuts, forced_is_left, leaves_store, legal_crash, page_left, some_pages, told_9}
@@ -38,9 +40,7 @@ module _ (Q : Images → List ℕ → Type 0) where
   starts_there (Log path leave) = starts_there path
 
   ends_there : {pages new : MemPages} {log now : MemLog} → Path mem_pages mem_log Q pages log new now → EachPair mem_pages mem_log new now Q
-  ends_there (Start each) = each
-  ends_there (Pages path leave) = λ images bytes a b. leave.each images (pages_count _ _ _ images leave.later a) bytes b
-  ends_there (Log path leave) = λ images bytes a b. leave.each bytes (log_count _ _ _ bytes leave.later b) images a
+  ends_there path = path_end mem_pages mem_log page_now log_since path
 
   -- at each moment the log that is left has it, with some images
   record Between (log now : MemLog) : Type 0 where
@@ -91,7 +91,7 @@ ties : Ties (ledger (first_entries 9)) log_5
 ties = record { committed = refl; records = refl; incarnation = omega arith }
 
 -- crashes
-module _ (goes : CrashGoesOn small) where
+module _ (goes : CrashGoesOn small) (half : CheckpointCrashGoesOn small) where
   fails : (x : Happening) → MayCrashIt x (ledger (first_entries 9)).phase → (pages : MemPages) (log : MemLog) → Hold pages formatted_pages log log_5 → MayFail (course_to 9) x pages log
   fails x may pages log h = record {
     range = range;
@@ -103,7 +103,6 @@ module _ (goes : CrashGoesOn small) where
       log_5,
       leaves_store pages log h images bytes a b,
       goes (first_entries 9) [] log_5 legal_crash.1 ties whole_5.rules (omega arith) (omega arith),
-      records_plain,
     );
   }
 
@@ -113,6 +112,7 @@ module _ (goes : CrashGoesOn small) where
     ties_to_less = λ t. (let e : 5 ≡ 1 = t.records in omega (arith, e));
     once_forced = fails Crashes tt;
     in_a_force = fails (Stops_in Force) (refl, refl);
+    in_a_checkpoint = in_one half;
     in_a_begin = λ course pages log k. (let e = k.may.1 in cc e);
     in_a_restart_of_an_open_store = λ pages log k.
         (let e = sym (ap (λ (h : List Entry). (ledger h).phase) k.tells.2.1) ∙ k.may in cc e);

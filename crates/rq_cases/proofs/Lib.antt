@@ -7,6 +7,7 @@ mod Bytes
 mod Held
 mod Applied
 mod Worlds
+mod Checkpoints
 mod Courses
 mod Reading
 mod Formatting

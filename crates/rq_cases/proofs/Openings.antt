@@ -309,7 +309,7 @@ beginnings = record {
       commit_behind log n k.0 (sym (the_log (Commit t1 ∷ log_1) (refl, first_plain) k.0 (spelled (Commit t1 ∷ log_1)) commit_spelled k.1.are_spelled refl k.1.is)) k.3;
   goes_on_with_a_torn_commit = λ log images n k. torn_commit_behind log n k.0 k.3;
   shut_for_damage = λ pages new_pages log new_log d h s.
-      (refused_over one_each sizes crashed pages new_pages log new_log (why.Damaged d) (shuts pages log h) s).cause tt;
+      (refused_over sizes crashed pages new_pages log new_log (why.Damaged d) (shuts pages log h) s).cause tt;
   shut_with_less = λ pages new_pages log new_log r h n s.
       shuts_with_less new_pages new_log n (refused_stays one_each sizes crashed pages log r new_pages new_log s (shuts pages log h));
   refuses_without_reason = λ r.

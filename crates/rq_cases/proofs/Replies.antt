@@ -1,5 +1,5 @@
 -- What calls answer, what that says of devices, and what is shown.
-use Rattle.std.proofs.Common.{◌≡◌, ℕ, ◌<◌, List, [], ◌∷◌, drop, Some, None, refl, sym, ap, ◌∙◌, subst, inl, inr, arith}
+use Rattle.std.proofs.Common.{◌≡◌, ℕ, ◌<◌, List, [], ◌∷◌, drop, Some, None, refl, sym, ap, ◌∙◌, subst, inl, inr, arith, ⊎_elim}
 use Rattle.rq_model.specs.declared.record.Record.{Record}
 use Rattle.rq_model.specs.Commits.{committed_of}
 use Rattle.rq_model.specs.Ledger.{Done}
@@ -59,10 +59,10 @@ receipts = record {
     lsn = refl;
     behind = omega arith;
     stands = inl refl;
-    survives = λ bytes may. (0, ends_all log_5 bytes (only_records log log_5 n bytes may), inl refl);
+    survives = λ bytes may. inl (0, ends_all log_5 bytes (only_records log log_5 n bytes may), inl refl);
   };
   not_forced = λ pages log n k.
-      (let s = k.survives (spelled log_1) (log_left log log_1 n) in taken_away log n k.commit s.0 s.1 s.2);
+      ⊎_elim (λ s. taken_away log n k.commit s.0 s.1 s.2) (λ s. absurd (cc s.0)) (k.survives (spelled log_1) (log_left log log_1 n));
   of_no_commit = λ earlier s n e k. subst (λ (l : List Record). In k.commit (committed_of (rebased earlier l))) e k.stands;
   among_the_earlier = λ s k. (let over : 5 < k.commit.lsn = k.behind in let at = k.lsn in omega (arith, over, at));
   its_receipt = record {
@@ -74,14 +74,14 @@ receipts = record {
   taken = λ pages log. (
     record { engine = over take_started pages log; audit = _; base = over forced pages log; taken = 0 },
     record { base = refl; before = refl; audit = refl; replays = audits.of_two_calls pages log },
-    λ premise honest. (([], refl, running.force.sound), refl),
+    λ premise honest. ([], refl, running.force.sound),
   );
   taken_of_nobody = λ pages log k. left_out_of pages log k.0.engine k.1.replays;
   taken_of_unsound = λ pages log k.
-      unsound (subst (λ (s : OpenStore MemPages MemLog). IsSoundOver s.state) (sym k.1.base) (k.2 tt (tt, tt)).0);
+      unsound (subst (λ (s : OpenStore MemPages MemLog). IsSoundOver s.state) (sym k.1.base) (k.2 tt (tt, tt)));
   taken_without_premise = λ pages log. (
     record { engine = over beyond pages log; audit = []; base = over beyond pages log; taken = 0 },
-    record { base = refl; before = refl; audit = refl; replays = record { sizes = refl; unknown = refl; replacing = refl; replays = λ h e at k. (k, refl) } },
+    record { base = refl; before = refl; audit = refl; replays = record { sizes = refl; unknown = refl; replays = λ h e at k. (k, refl) } },
     λ none honest. absurd none,
   );
 }

@@ -1,9 +1,8 @@
 -- What a restart finds, makes and refuses.
 use Rattle.std.proofs.Common.{◌≡◌, ℕ, zero, suc, ◌≤◌, ◌<◌, List, [], ◌∷◌, ◌++◌, length, take, drop, refl, sym, ap, ◌∙◌, subst, arith}
 use Rattle.rq_disk.specs.Device.{Images}
-use Rattle.rq_restart.proofs.Pasts.{left_there}
+use Rattle.rq_restart.proofs.Pasts.{left_there, mended_alone}
 use Rattle.rq_restart.specs.RolledBack.{IsRolledBack}
-use Rattle.rq_restart.proofs.Plain.{mended_alone}
 use Rattle.rq_analysis.specs.Recovered.{IsRecovered}
 use Rattle.rq_engine.specs.Earlier.{rebased}
 use Rattle.rq_model.specs.Bases.{earlier}

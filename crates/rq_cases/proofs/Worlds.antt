@@ -1,9 +1,9 @@
 -- Stores between two happenings, and headlines, over the worked run.
-use Rattle.std.proofs.Common.{rules, ◌≡◌, ℕ, ◌+◌, ◌-◌, ◌≤◌, ◌<◌, false, List, [], ◌∷◌, ◌++◌, length, take, drop, refl, sym, ap, ◌∙◌, subst, inl, arith, append_assoc, length-append}
+use Rattle.std.proofs.Common.{rules, ◌≡◌, ℕ, ◌+◌, ◌-◌, ◌≤◌, ◌<◌, false, List, [], ◌∷◌, ◌++◌, length, take, drop, refl, sym, ap, ◌∙◌, subst, inl, ⊎_elim, arith, append_assoc, length-append}
 use Rattle.std.proofs.lemmas.List.{length-drop, length-take-le, take-append-drop}
 use Rattle.std.proofs.Math.Seq.{drop-append_seam}
 use Rattle.byteorder.specs.Endian.{big_number}
-use Rattle.rq_model.proofs.Bases.{plain_drop}
+use Rattle.rq_model.proofs.Bases.{marked_is, marked_stands, one_marked, plain_drop}
 use Rattle.rq_model.specs.declared.record.Record.{Record}
 use Rattle.rq_model.specs.declared.record.Record.TheVariants.{Commit}
 use Rattle.rq_model.specs.History.{Entry}
@@ -11,7 +11,7 @@ use Rattle.rq_model.specs.History.Entry.{Acknowledged, Begun, Committed, Did, Fo
 use Rattle.rq_model.specs.History.Job.{Sending}
 use Rattle.rq_model.specs.Ledger.{Ledger, ledger, group_in}
 use Rattle.rq_model.specs.Legal.{IsLegal}
-use Rattle.rq_model.specs.Promises.{AcknowledgedStay, CrashGoesOn, FifoThroughout, ShutCrashGoesOn}
+use Rattle.rq_model.specs.Promises.{AcknowledgedStay, CheckpointCrashGoesOn, CrashGoesOn, FifoThroughout, ShutCrashGoesOn}
 use Rattle.rq_model.specs.Vocabulary.Op.{Send}
 use Rattle.rq_model.proofs.Told.{content_is}
 use Rattle.rq_model.specs.History.Call.{Force}
@@ -59,8 +59,9 @@ use Rattle.rq_cases.proofs.Pages.{are_formatted, range}
 use Rattle.rq_cases.proofs.Running as running
 use Rattle.rq_cases.proofs.Bytes.{first_plain}
 use Rattle.rq_cases.proofs.Bytes.{records_plain}
-use Rattle.rq_log.proofs.Parsing.{one_based}
-use Rattle.rq_model.specs.Bases.{HasNoBase, standing}
+use Rattle.rq_log.proofs.Parsing.{one_based, one_log}
+use Rattle.rq_analysis.proofs.Marked.{marked_length}
+use Rattle.rq_model.specs.Bases.{HasNoBase, marked, standing}
 use Rattle.rq_cases.proofs.Restarting.{group_lsn, whole_5}
 
 -- the worked courses tell their histories
@@ -89,17 +90,20 @@ some_pages d p = pages_seen (pages_of d) p
 
 module _ (pages : MemPages) (log : MemLog) where
   opens : Hold pages formatted_pages log log_1 → Opens sizes (first_entries 7) (over committed pages log)
-  opens h = record { sizes = refl; ledger = refl; plain = records_plain; untried = refl; sound = running.commit_send.sound; fit = pages_fit pages h.0 log_1 (1, refl) first_plain }
+  opens h = record { sizes = refl; past = []; long = refl; ledger = refl; sound = running.commit_send.sound; devices = inl (record { untried = refl; fit = pages_fit pages h.0 log_1 (1, refl) first_plain }) }
 
   opens_forced : Hold pages formatted_pages log log_5 → Opens sizes (first_entries 9) (over forced pages log)
-  opens_forced h = record { sizes = refl; ledger = refl; plain = records_plain; untried = refl; sound = running.force.sound; fit = pages_fit pages h.0 log_5 (5, refl) records_plain }
+  opens_forced h = record { sizes = refl; past = []; long = refl; ledger = refl; sound = running.force.sound; devices = inl (record { untried = refl; fit = pages_fit pages h.0 log_5 (5, refl) records_plain }) }
 
   a_page_ahead : AreNewPages pages sent_pages → Opens sizes (first_entries 7) (over committed pages log) → ⊥
-  a_page_ahead n o =
-      let f : FitsPage sizes log_1 1 (page_image 3 1 1 groups_1) = o.fit.pages 1 (page_image 3 1 1 groups_1) (omega arith) (omega arith) (page_left pages sent_pages n 1) in
+  a_page_ahead n o = ⊎_elim
+      (λ d.
+      let f : FitsPage sizes log_1 1 (page_image 3 1 1 groups_1) = d.fit.pages 1 (page_image 3 1 1 groups_1) (omega arith) (omega arith) (page_left pages sent_pages n 1) in
       let w : lsn_of (page_image 3 1 1 groups_1) ≤ 1 = f.within in
       let e = group_lsn in
-      omega (arith, e, w)
+      omega (arith, e, w))
+      (λ half. (let e = half.failed in cc e))
+      o.devices
 
   -- whatever a crash leaves of both is the store
   pub leaves_store : Hold pages formatted_pages log log_5 → (images : Images) (bytes : List ℕ) → Leaves (mem_pages.may_be pages) images → mem_log.may_leave log bytes → IsStore sizes log_5 images bytes
@@ -119,7 +123,6 @@ module _ (pages : MemPages) (log : MemLog) where
     range = range;
     phase = refl;
     older = log_5;
-    plain = records_plain;
     ties = record { committed = refl; records = refl; incarnation = omega arith };
     left = λ images bytes a b. (log_5, ([], refl, tt), leaves_store h images bytes a b);
   }
@@ -294,11 +297,12 @@ ran_crashed pages log h = record {
 
 -- what was forced is left
 pub forced_is_left : (course : Course) (h : List Entry) (pages : MemPages) (log : MemLog) (records : List Record) (n : ℕ) → Tells ((Asks Force, Answered (Gave_forced n)) ∷ course) h → IsLegal small h
-    → LeavesStores mem_pages mem_log sizes h pages log → AreSpelled records → length records < n → mem_log.may_leave log (spelled records) → ⊥
+    → LeavesStores mem_pages mem_log sizes h pages log → AreSpelled records → length (marked records) < n → mem_log.may_leave log (spelled records) → ⊥
 forced_is_left course h pages log records n tells legal leaves told few may =
     let x = leaves (mem_pages.seen pages) (spelled records) (some_pages pages) may in
-    let same : x.0 ≡ records = sym (one_based records x.0 (spelled records) x.3 told x.1.are_spelled (ends_all (standing records) (spelled records) refl) x.1.is) in
-    let count : length x.0 ≡ length records = ap (λ (l : List Record). length l) same in
+    let stands : standing x.0 ≡ standing records = one_log (standing x.0) (standing records) (spelled records) x.1.are_spelled told x.1.is (ends_all (standing records) (spelled records) refl) in
+    let same : marked x.0 ≡ marked records = one_marked (marked x.0) (marked records) (marked_is x.0) (marked_is records) (marked_stands x.0 ∙ stands ∙ sym (marked_stands records)) in
+    let count : length x.0 ≡ length (marked records) = sym (marked_length x.0 x.1.left.whole.based) ∙ ap (λ (l : List Record). length l) same in
     let older : List Entry = tells.0 in
     let is : h ≡ Forced n ∷ older = tells.2.3 ∙ ap (λ (e : Entry). e ∷ older) tells.2.1 in
     let all : n ≡ (ledger older).records = (subst (IsLegal small) is legal).0.1 in
@@ -307,11 +311,11 @@ forced_is_left course h pages log records n tells legal leaves told few may =
     omega (arith, few, count, all, forced_is, kept)
 
 -- headlines
-module _ (fifo : (h : List Entry) → IsLegal small h → FifoThroughout h) (stay : AcknowledgedStay small) (goes : CrashGoesOn small) (shut_goes : ShutCrashGoesOn small) where
+module _ (fifo : (h : List Entry) → IsLegal small h → FifoThroughout h) (stay : AcknowledgedStay small) (goes : CrashGoesOn small) (half : CheckpointCrashGoesOn small) (shut_goes : ShutCrashGoesOn small) where
   before_the_force : (pages : MemPages) (log : MemLog) → Hold pages formatted_pages log log_1 → IsHeadline sizes (course_to 7) pages log
   before_the_force pages log h =
       let ran : Ran sizes (course_to 7) (Is_open (over committed pages log)) = record { history = first_entries 7; tells = told_7; legal = legal_7; stands = opens pages log h; counted = tt } in
-      open_ends sizes (course_to 7) (over committed pages log) pages log fifo stay goes ran (leaves pages log h) refl refl
+      open_ends sizes (course_to 7) (over committed pages log) pages log fifo stay goes half ran (λ untried honest e long k fit. leaves pages log h) refl refl
 
   after_the_crash : (pages : MemPages) (log : MemLog) → Hold pages formatted_pages log log_5 → IsHeadline sizes crashed_course pages log
   after_the_crash pages log h =

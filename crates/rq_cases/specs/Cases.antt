@@ -3,6 +3,7 @@ use Rattle.rq_cases.specs.Applied.{CallsAreApplied}
 use Rattle.rq_cases.specs.Audits.{AuditsAreJudged}
 use Rattle.rq_cases.specs.Bases.{BasesAreJudged}
 use Rattle.rq_cases.specs.Bounds.{BoundsAreJudged}
+use Rattle.rq_cases.specs.Checkpoints.{CheckpointsAreJudged}
 use Rattle.rq_cases.specs.Courses.{CausesAreJudged, StopsAreJudged}
 use Rattle.rq_cases.specs.Crashes.{RunsAreJudged}
 use Rattle.rq_cases.specs.Formatting.{FormatsAreJudged}
@@ -22,6 +23,8 @@ pub record Cases : Type 0 where
   pub calls_are_applied : CallsAreApplied
   -- A store between two happenings, open, shut or fresh, as a history leaves it; and stores that it doesn't.
   pub worlds_are_judged : WorldsAreJudged
+  -- Stores behind a checkpoint, and stores in whose checkpoint a device failed, as a history leaves them.
+  pub checkpoints_are_judged : CheckpointsAreJudged
   -- What a crash leaves of an open store, and what it may not leave.
   pub cuts_are_judged : CutsAreJudged
   -- Crashes at a device call inside a call: where one may come, and where it may not.

@@ -2,7 +2,8 @@
 -- run, and what isn't so.
 use Rattle.std.specs.Prelude.{◌≢◌, ℕ, ◌<◌, List, ◌∷◌, length}
 use Rattle.rq_model.specs.declared.record.Record.{Record}
-use Rattle.rq_model.specs.History.Call.{Begin, Force}
+use Rattle.rq_model.specs.Bases.{marked}
+use Rattle.rq_model.specs.History.Call.{Begin, Checkpoint, Force}
 use Rattle.rq_model.specs.Replay.Reply.{Gave_forced}
 use Rattle.rq_model.specs.Incarnations.{Ties}
 use Rattle.rq_model.specs.Ledger.{ledger}
@@ -19,6 +20,7 @@ use Rattle.rq_core.specs.Happenings.Answer.{Answered}
 use Rattle.rq_core.specs.Happenings.Happening.{Asks, Crashes, Stops_in, Stops_restart}
 use Rattle.rq_core.specs.Runs.{CanCrash}
 use Rattle.rq_core.specs.Worked.{first_entries}
+use Rattle.rq_cases.specs.Checkpoints.{based_log}
 use Rattle.rq_cases.specs.Courses as courses
 use Rattle.rq_cases.specs.Opened.{over}
 use Rattle.rq_cases.specs.Run.{committed, forced, log_1, log_5, no_record}
@@ -71,6 +73,9 @@ pub record CrashesAreJudged : Type 0 where
       → MayFail (course_to 9) Crashes pages log
   pub in_a_force : (pages : MemPages) (log : MemLog) → Hold pages formatted_pages log log_5
       → MayFail (course_to 9) (Stops_in Force) pages log
+  -- a checkpoint may have left the Base
+  pub in_a_checkpoint : (pages : MemPages) (log : MemLog) → Hold pages formatted_pages log based_log
+      → MayFail (course_to 1) (Stops_in Checkpoint) pages log
   pub in_a_begin : (course : Course) (pages : MemPages) (log : MemLog) → MayFail course (Stops_in Begin) pages log → ⊥
   pub in_a_restart_of_an_open_store : (pages : MemPages) (log : MemLog)
       → MayFail courses.opened Stops_restart pages log → ⊥
@@ -78,6 +83,6 @@ pub record CrashesAreJudged : Type 0 where
   pub leaves_what_begins_no_record : (course : Course) (x : Happening) (pages : MemPages) (log : MemLog)
       → mem_log.may_leave log no_record → MayFail course x pages log → ⊥
   pub leaves_less_than_was_forced : (course : Course) (x : Happening) (pages : MemPages) (log : MemLog)
-      (records : List Record) (n : ℕ) → AreSpelled records → length records < n
+      (records : List Record) (n : ℕ) → AreSpelled records → length (marked records) < n
       → mem_log.may_leave log (spelled records)
       → MayFail ((Asks Force, Answered (Gave_forced n)) ∷ course) x pages log → ⊥

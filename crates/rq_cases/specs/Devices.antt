@@ -2,12 +2,12 @@
 use Rattle.std.specs.Prelude.{◌≡◌, ◌≢◌, ℕ, ◌+◌, ◌%◌, ◌^◌, ◌<◌, ◌≤◌, List, [], ◌∷◌, length}
 use Rattle.rq_model.specs.declared.record.Record.{Record}
 use Rattle.rq_model.specs.declared.record.Record.TheVariants.{Base}
-use Rattle.rq_model.specs.Bases.{standing}
+use Rattle.rq_model.specs.Bases.{marked, standing}
 use Rattle.rq_model.specs.declared.refusal.Refusal.TheVariants as why
 use Rattle.rq_model.specs.declared.refusal.Damage.TheVariants as damage
 use Rattle.rq_disk.specs.Device.{Images}
-use Rattle.rq_disk.specs.Records.{HoldsRecords}
 use Rattle.rq_disk.specs.declared.mem_pages.MemPages.{MemPages}
+use Rattle.rq_log.specs.Counted.{LastLsn}
 use Rattle.rq_log.specs.Spelled.{AreSpelled, EndsWith, spelled}
 use Rattle.rq_page.specs.Sizes.{Sizes, page_count}
 use Rattle.rq_page.specs.Formatted.{IsFormatted}
@@ -54,7 +54,8 @@ pub record DevicesAreJudged : Type 0 where
   pub no_bytes : (log : List Record) → AreSpelled log → EndsWith log [] → log ≡ []
   pub two_logs : (a b : List Record) (bytes : List ℕ) → AreSpelled a → AreSpelled b → standing a ≢ standing b
       → EndsWith a bytes → EndsWith b bytes → ⊥
-  pub another_count : (log : List Record) (bytes : List ℕ) (n : ℕ) → AreSpelled log → n ≢ length (standing log)
-      → EndsWith log bytes → HoldsRecords bytes n → ⊥
+  pub lsn_of_a_base : LastLsn (spelled (Base 5 1 ∷ [])) 6
+  pub another_lsn : (log : List Record) (bytes : List ℕ) (n : ℕ) → AreSpelled log → n ≢ length (marked log)
+      → EndsWith log bytes → LastLsn bytes n → ⊥
   pub below_a_base : (a b : List Record) → EndsWith (Base 5 1 ∷ a) (spelled (Base 5 1 ∷ b))
   pub two_sizes : (a b : Sizes) (image : List ℕ) → a ≢ b → IsSuperblock a image → IsSuperblock b image → ⊥

@@ -7,6 +7,7 @@ pub mod Opened
 pub mod Aborts
 pub mod Applied
 pub mod Worlds
+pub mod Checkpoints
 pub mod Courses
 pub mod Reading
 pub mod Formatting

@@ -3,6 +3,7 @@
 use Rattle.std.specs.Prelude.{◌≢◌, ℕ, ◌<◌, List, [], ◌∷◌, ◌++◌, length, take}
 use Rattle.rq_model.specs.declared.record.Record.{Record}
 use Rattle.rq_model.specs.declared.record.Record.TheVariants.{Commit}
+use Rattle.rq_model.specs.Bases.{marked}
 use Rattle.rq_model.specs.History.{Entry}
 use Rattle.rq_model.specs.History.Call.{Begin, Force}
 use Rattle.rq_model.specs.History.Entry.{Crash as Crash_entry}
@@ -97,7 +98,7 @@ pub record HeadlinesAreJudged : Type 0 where
       → IsHeadline sizes crashed_course pages log
   pub tells_nothing : (pages : MemPages) (log : MemLog) → IsHeadline sizes ((Asks Begin, Nothing) ∷ []) pages log → ⊥
   pub loses_what_was_forced : (course : Course) (pages : MemPages) (log : MemLog) (records : List Record) (n : ℕ)
-      → AreSpelled records → length records < n
+      → AreSpelled records → length (marked records) < n
       → mem_log.may_leave log (spelled records)
       → IsHeadline sizes ((Asks Force, Answered (Gave_forced n)) ∷ course) pages log → ⊥
   pub leaves_what_begins_no_record : (course : Course) (pages : MemPages) (log : MemLog) → mem_log.may_leave log no_record

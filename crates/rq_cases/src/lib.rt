@@ -9,17 +9,16 @@ ghost use Rattle.rq_cases.specs.Histories.{HistoriesGoOn};
 ghost use Rattle.rq_cases.specs.Worlds.{HeadlinesAreJudged};
 
 use rq_model::laws::{
-    acknowledged_stay, crash_goes_on, first_in_first_out, restart_goes_on, shown_is_committed,
-    shut_crash_goes_on,
+    acknowledged_stay, checkpoint_crash_goes_on, crash_goes_on, first_in_first_out,
+    restart_goes_on, shown_is_committed, shut_crash_goes_on,
 };
-use rq_restart::laws::{one_log, one_size, records_are_the_log};
+use rq_restart::laws::{one_log, one_size};
 
 /// What was read of a device, what a format has written, and what bytes tell.
 pub fn devices_are_judged()
     ensures { DevicesAreJudged }
 {
     one_log();
-    records_are_the_log();
     one_size();
 }
 
@@ -39,6 +38,7 @@ pub fn headlines_are_judged()
     first_in_first_out();
     acknowledged_stay();
     crash_goes_on();
+    checkpoint_crash_goes_on();
     shut_crash_goes_on();
 }
 
@@ -54,6 +54,7 @@ pub fn crashes_are_judged()
     ensures { CrashesAreJudged }
 {
     crash_goes_on();
+    checkpoint_crash_goes_on();
 }
 
 /// The worked cases that rest on no law: each field says what of.

@@ -2,6 +2,7 @@ use Rattle.rq_cases.proofs.Applied.{applied}
 use Rattle.rq_cases.proofs.Audits.{audits}
 use Rattle.rq_cases.proofs.Bases.{bases}
 use Rattle.rq_cases.proofs.Bounds.{bounds}
+use Rattle.rq_cases.proofs.Checkpoints.{checkpoints}
 use Rattle.rq_cases.proofs.Courses.{causes, stops}
 use Rattle.rq_cases.proofs.Crashes.{runs}
 use Rattle.rq_cases.proofs.Formatting.{formats}
@@ -18,6 +19,7 @@ returns c = record {
   run_is_sound = run;
   calls_are_applied = applied;
   worlds_are_judged = worlds;
+  checkpoints_are_judged = checkpoints;
   cuts_are_judged = cuts;
   stops_are_judged = stops;
   causes_are_judged = causes;
