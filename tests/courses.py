@@ -15,12 +15,12 @@ from scripts import SCRIPTS
 
 # What has to be met, the usual courses taken together, and how often at least.
 WANTED = {
-    "Beside": 4000, "HigherCell": 2000, "OtherGroup": 440, "SendDirectory": 5100, "SendTail": 2200, "SendCells": 190,
-    "TakeDirectory": 680, "TakeHead": 400, "TakeNext": 97, "TakeNextOpen": 15, "TakeAny": 2400, "CloseDirectory": 200,
-    "Close": 94, "CloseEmpty": 480, "SendUndone": 1700, "TakeUndone": 720, "CloseUndone": 180, "HigherBack": 100,
-    "UnsendDirectory": 1900, "UnsendTail": 920, "UnsendBefore": 43, "BackDirectory": 810, "BackHead": 190, "BackCells": 14,
-    "ReopenDirectory": 150, "EarlyEnd": 620, "NotAborting": 1000, "Shorter": 4100, "SendCut": 980, "TakeCut": 150,
-    "CloseCut": 17, "UnsendCut": 640, "BackCut": 200, "ReopenCut": 10, "TwoCut": 130, "BetweenSteps": 74, "OneLost": 1000,
+    "Beside": 4000, "HigherCell": 2000, "OtherGroup": 440, "SendDirectory": 4200, "SendTail": 2200, "SendCells": 190,
+    "TakeDirectory": 680, "TakeHead": 400, "TakeNext": 79, "TakeNextOpen": 11, "TakeAny": 2400, "CloseDirectory": 200,
+    "Close": 94, "CloseEmpty": 480, "SendUndone": 1700, "TakeUndone": 720, "CloseUndone": 180, "HigherBack": 84,
+    "UnsendDirectory": 1300, "UnsendTail": 920, "UnsendBefore": 32, "BackDirectory": 510, "BackHead": 140, "BackCells": 9,
+    "ReopenDirectory": 100, "EarlyEnd": 460, "NotAborting": 1000, "Shorter": 4100, "SendCut": 980, "TakeCut": 150,
+    "CloseCut": 14, "UnsendCut": 640, "BackCut": 200, "ReopenCut": 10, "TwoCut": 130, "BetweenSteps": 74, "OneLost": 1000,
     "MoreLost": 410, "CutBesideLost": 470, "SendLost": 2600, "TakeLost": 700, "CloseLost": 110, "EndWanting": 35,
     "StoppedOnce": 570, "StoppedTwice": 350, "StoppedThrice": 240, "StoppedInInverse": 420, "StoppedBeforeVoid": 210,
     "StoppedBeforeEnd": 270, "Begun": 18000, "SendStarted": 12000, "TakeStarted": 940, "AnyTakeStarted": 2600,
@@ -28,9 +28,12 @@ WANTED = {
     "Sent": 10000, "Received": 3600, "GroupClosed": 570, "Undone": 2300, "Committed": 8800, "Aborting": 3800,
     "NothingLeft": 270, "Aborted": 3200, "Given": 1800, "NotGiven": 3000, "Forced": 3200, "Written": 3300, "NotWritten": 3800,
     "LastTag": 1800, "Content": 1200, "Opened": 3400, "UnknownTransaction": 4800, "NotOpen": 2100, "Unfinished": 7300,
-    "ContentUnfinished": 1200, "UnknownSender": 51, "TooLong": 550, "SenderBusy": 11000, "Closed": 500, "ReceiverBusy": 1000,
-    "Full": 1300, "NotForced": 1600, "UnknownOperation": 1300, "Armed": 260, "DiskWrite": 110, "Failed": 1200,
-    "NotOpened": 110, "OldImages": 1500, "Running": 490, "Torn": 980, "TornCut": 970,
+    "ContentUnfinished": 1200, "UnknownSender": 51, "TooLong": 550, "SenderBusy": 9000, "Closed": 500, "ReceiverBusy": 710,
+    "Full": 1300, "NotForced": 1600, "UnknownOperation": 1000, "Armed": 260, "DiskWrite": 110, "Failed": 1200,
+    "NotOpened": 110, "OldImages": 1500, "Running": 490, "Torn": 820, "TornCut": 810, "Checkpointed": 710,
+    "CheckpointedTwice": 100, "NotQuiet": 220, "CheckpointFailedInForce": 53, "CheckpointFailedInWrite": 16, "BaseAlone": 140,
+    "BaseShorter": 900, "BaseTorn": 160, "BaseOld": 75, "BaseNewest": 39, "BaseLost": 300, "BaseUnfinished": 280,
+    "StoppedOverBase": 450, "GivenOverBase": 490,
 }  # fmt: skip
 
 
@@ -84,6 +87,7 @@ class Drawing:
         self.store = self.door.store
         self.lines = []
         self.may_fail = self.is_first_of(3)
+        self.may_check = seed % 5 < 2  # checkpoints are drawn
         self.stops_left = 0  # so many restarts are to be stopped before the one that is not
 
     def is_first_of(self, count):
@@ -138,7 +142,23 @@ class Drawing:
             return self.add("fail", self.random.choice(["write", "force", "write", "force", "write", "force", "read"]))
         if self.is_first_of(300):
             return self.add("restart", *([self.random.randrange(9)] if self.is_first_of(2) else []))
+        if self.may_check and self.is_first_of(6 if self.lines and self.lines[-1] == b"checkpoint" else 60):
+            return self.checkpoint()
+        if self.may_check and self.lines and self.lines[-1].startswith((b"force", b"write")) and self.is_first_of(2):
+            return self.crash() if self.shape.crashes and self.is_first_of(6) else self.write()
         self.call()
+
+    def checkpoint(self):
+        """A checkpoint, most times where each transaction was ended. It may fail, and a crash may come right behind it."""
+        for _ in range(self.random.choice([0, 1000, 1000, 1000])):
+            if not self.end_one():
+                break
+        if self.may_fail and self.is_first_of(3):
+            self.add(*self.random.choice([("force",), ("last", 0)]))
+            self.add("fail", self.random.choice(["write", "write", "force"]))
+        self.add("checkpoint")
+        if self.shape.crashes and self.is_first_of(8):
+            self.crash()
 
     def of_shut(self):
         """A store that waits for its restart: restarts that are stopped, most times, before the one that is not."""
@@ -221,6 +241,9 @@ class Drawing:
             return self.add("dump")
         if kind < 7:
             return self.add("last", self.sender())
+        self.write()
+
+    def write(self):
         self.add("write", self.random.randrange(sum(self.sizes) + 2))
 
     def start(self, row):

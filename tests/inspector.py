@@ -48,6 +48,9 @@ LINES = {
     "base": "{0} {1}",
 }
 
+# The line of the first record of a log.
+FRONT = re.compile("1 restart 1|[0-9]+ base [0-9]+ [0-9]+")
+
 
 # ---- bytes
 
@@ -215,8 +218,8 @@ def scripts_with_logs():
         printed = SCRIPTS.expected(name).decode(errors="surrogateescape").splitlines()
         if b"log" not in lines:
             continue
-        while "1 restart 1" in printed:
-            first = printed.index("1 restart 1")
+        while any(map(FRONT.fullmatch, printed)):
+            first = next(at for at, line in enumerate(printed) if FRONT.fullmatch(line))
             last = next(at for at in range(first, len(printed)) if printed[at].startswith("committed "))
             yield f"{name}, line {first + 1}", printed[first : last + 1]
             printed[: last + 1] = [""] * (last + 1)

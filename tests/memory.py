@@ -1,7 +1,7 @@
 #!/usr/bin/env python3
 """Has each allocation of lists of happenings, and of scripts, fail in turn. The call is refused for it and nothing has changed:
 made again, it answers as where no allocation fails, and so does all behind it. A device in memory that cannot grow fails. That is a
-failure of its call, or of the handing over as the store crashes. A store is opened with as
+failure of its call, or of the handing over as the store crashes. A restart that it stopped is made again. A store is opened with as
 many allocations over a log in which many transactions ended as over one in which few did.
 
     python3 tests/memory.py [--happenings PROGRAM] [--rqm PROGRAM] [--bench PROGRAM]
@@ -20,7 +20,7 @@ from concurrent.futures import ThreadPoolExecutor
 from cases import MOST_SECONDS, built
 from damaged import BEGUN, base, formatted
 from inspector import record
-from script_reference import printed_by as script_printed
+from script_reference import Script
 from scripts import SCRIPTS
 from stops import BASES
 from world_reference import World, picked_at
@@ -90,7 +90,10 @@ MOST_OF_LIST, MOST_OF_SCRIPT = 48, 128
 MORE = 12
 
 # Scripts each of whose lines is one call.
-STEP_BY_STEP = ["a-send-is-aborted-and-one-is-committed-step-by-step", "two-sends-go-on-at-once-on-pages-of-their-own"]
+STEP_BY_STEP = [
+    "a-send-is-aborted-and-one-is-committed-step-by-step", "two-sends-go-on-at-once-on-pages-of-their-own",
+    "checkpoints-between-sends-step-by-step",
+]  # fmt: skip
 
 
 class Lists:
@@ -120,7 +123,7 @@ class Lists:
             return f"{name}: {base}", 0
         first = 1 if self.door is SCRIPTS else 0  # their first line tells of their opening
         crashes = [place for place, line in enumerate(lines) if line.startswith(b"crash")]
-        wanting, grown, others = {}, 0, 0
+        wanting, unopened, grown, others = {}, {}, 0, 0
         for number in range(1, made + 1):
             told, _ = self.run(name, lines, number)
             if told is None:
@@ -130,17 +133,21 @@ class Lists:
             # where nothing shows it, it was the handing over as the store crashes, of which the crash leaves nothing
             places = crashes if at is None else [at - first]
             if at is not None and told[at] in WANTING:
+                if self.door is not SCRIPTS and lines[at] == b"checkpoint":  # a script keeps an account of its calls
+                    return f"{name}: allocation {number} of {made} is a checkpoint's", 0
                 wanting.setdefault(at, []).append(number)
             elif any(told == self.where_a_device_fails(name, lines, place, told) for place in places):
                 grown += 1
+                if at is not None and told[at].startswith(b"not-opened "):
+                    unopened.setdefault(at, []).append(number)
             else:
                 return f"{name}: allocation {number} of {made} comes to {told}", 0
         if others > self.most_others + self.more_others(name, lines):
             return f"{name}: {others} allocations of {made} are no call's", 0
-        for at, numbers in wanting.items():
-            wrong = self.made_again(name, lines, base, at, at - first, numbers)
-            if wrong:
-                return wrong, 0
+        again = [self.made_again(name, lines, base, at, at - first, numbers) for at, numbers in wanting.items()]
+        again += [self.opened_again(name, lines, at, at - first, numbers) for at, numbers in unopened.items()]
+        if any(again):
+            return next(filter(None, again)), 0
         return None, grown + sum(map(len, wanting.values()))
 
     def more_others(self, name, lines):
@@ -160,13 +167,34 @@ class Lists:
                     return f"{name}: {lines[place]}, made again behind allocation {number}, comes to {told[at + 1:]}"
         return None if met >= len(numbers) else f"{name}: {lines[place]} has {met} allocations, and not {len(numbers)}"
 
+    def opened_again(self, name, lines, at, place, numbers):
+        """What is wrong where the restart at a place, in which a device cannot grow at these allocations, stands twice."""
+        twice, met = doubled(lines, place), 0
+        for number in range(numbers[0], numbers[-1] + MORE):
+            told, _ = self.run(name, twice, number)
+            if told and told[at].startswith(b"not-opened ") and told[at] not in WANTING:
+                met += 1
+                if told != self.where_a_device_fails(name, twice, place, told) or not told[at + 1].startswith(b"restarted "):
+                    return f"{name}: a restart behind allocation {number}, in which a device cannot grow, comes to {told[at + 1:]}"
+        return None if met >= len(numbers) else f"{name}: a device grows {met} times in a restart, and not {len(numbers)}"
+
     def where_a_device_fails(self, name, lines, place, told):
         """What lines print by the reference where the call at a place meets a failing device: its first write. At a crash that is the
-        handing over of what is buffered."""
+        handing over of what is buffered. In a checkpoint it is the device call behind which they print what was told, if one is."""
+        most = 4 + sum(int(word) for word in self.door.words_of(name) if word.isdigit())
+        calls = range(1, most + 1) if lines[place] == b"checkpoint" else [1]
+        came = [self.where_it_fails(name, lines, place, call, told) for call in calls]
+        return told if told in came else came[0]
+
+    def where_it_fails(self, name, lines, place, call, told):
+        """What they print where it is this device call of the call at the place."""
         if self.door is SCRIPTS:
-            sizes = [int(word) for word in self.door.words_of(name) if word.isdigit()]
-            printed, _ = script_printed(lines[:place] + [b"fail write"] + lines[place:], *sizes, told)
-            return [line for line in printed if line != b"armed"]
+            script = Script(*(int(word) for word in self.door.words_of(name) if word.isdigit()))
+            for at, line in enumerate(lines):
+                if at == place:
+                    script.store.devices.fail(call)
+                script.run(line, told[at + 1] if at + 1 < len(told) else b"")
+            return b"\n".join(script.printed).split(b"\n")
         world = World(*map(int, self.door.words_of(name)))
         for at, line in enumerate(lines):
             if at == place and line.startswith(b"crash"):
@@ -174,7 +202,7 @@ class Lists:
             elif at == place and line.startswith(b"restart-stop"):
                 line = re.sub(rb"(?<=restart-stop )([0-9]+) [0-9+]+", rb"\1 0", line)  # the append is not made, and the machine stops
             elif at == place:
-                world.happen(b"fail %d" % (world.store.devices.reads() + 1 if line == b"restart" else 1))
+                world.happen(b"fail %d" % (world.store.devices.reads() + 1 if line == b"restart" else call))
                 world.printed.pop()
             world.happen(line, picked_at(lines, told, at))
         return world.printed

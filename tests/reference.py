@@ -20,6 +20,7 @@ REFUSALS = {
     "NoMemory": 1, "Failed": 2, "DiskRead": 3, "UnknownTransaction": 4, "NotOpen": 5, "Unfinished": 6, "UnknownSender": 7,
     "TooLong": 8, "SenderBusy": 9, "Closed": 10, "ReceiverBusy": 11, "Full": 12, "Latched": 13, "PoolFull": 14, "DiskWrite": 15,
     "Damaged": 16, "TooManyTransactions": 17, "NotForced": 18, "LogFull": 19, "UnknownOperation": 20,
+    "NotQuiet": 21,
 }  # fmt: skip
 
 INVERSES = {"append": "unsend", "take": "put-back", "close": "reopen"}
@@ -92,6 +93,7 @@ class Page:
 #   ("back", operation, page, LSN of the write that it undoes)      ("void", operation)
 #   ("end", operation, deed)      ("undone", operation, LSN of the end of what it undid, cell)
 #   ("commit", transaction)       ("abort", transaction)
+#   ("base", incarnation): a checkpoint, of which the records before it stand on no device
 
 
 def bytes_of(record):
@@ -100,7 +102,7 @@ def bytes_of(record):
     if kind == "end":
         deed = record[2]
         return 30 + {"append": 29, "take": 21, "close": 5}[deed.kind] + len(deed.body)
-    return {"restart": 13, "write": 546, "undone": 37, "back": 298, "void": 29, "commit": 21, "abort": 21}[kind]
+    return {"restart": 13, "write": 546, "undone": 37, "back": 298, "void": 29, "commit": 21, "abort": 21, "base": 21}[kind]
 
 
 class Devices:
@@ -178,10 +180,31 @@ class Devices:
         page.changed = False
         return True
 
+    def sync(self):
+        if not self.meet("force"):
+            raise Refused("DiskWrite")
+        for page in self.pages:
+            del page.images[:-1]
+
+    def put_base(self, incarnation):
+        """One record stands in the place of all, which are forced."""
+        if not self.meet("replace"):
+            raise Refused("DiskWrite")
+        self.handed = self.forced = self.add(("base", incarnation))
+
+    def base(self):
+        """The LSN of the newest base, 0 where there is none."""
+        return max((lsn for lsn, record in enumerate(self.records, 1) if record[0] == "base"), default=0)
+
+    def sizes(self):
+        """The bytes of each record that stands on the device: of the newest base, and of those behind it."""
+        return [bytes_of(record) for record in self.records[max(0, self.base() - 1) :]]
+
     def reads(self):
         """How many reads an opening makes: each page, and the log in windows until one comes short."""
-        total, read, taken, reads, short = sum(map(bytes_of, self.records)) + self.torn, 0, 0, len(self.pages), False
-        for size in [*map(bytes_of, self.records), 0]:
+        sizes = self.sizes()
+        total, read, taken, reads, short = sum(sizes) + self.torn, 0, 0, len(self.pages), False
+        for size in [*sizes, 0]:
             if not short and read - taken < self.LONGEST:
                 room = self.WINDOW - (read - taken)
                 short = total - read < room
@@ -428,11 +451,18 @@ class Store:
         return self.lose(keep, torn, places)
 
     def lose(self, keep, torn, places):
-        before = len(self.devices.records)
+        before, images = len(self.devices.records), [page.images[-1] for page in self.devices.pages]
+        differ = any(page.images[0] != page.images[-1] for page in self.devices.pages)
         self.devices.crash(keep, torn, places)
         self.met["Torn"] += self.devices.torn > 0
-        left = len(self.devices.records)
+        left, base = len(self.devices.records), self.devices.base()
         self.met["Shorter"] += left < before
+        if base:
+            are_newest = images == [page.images[-1] for page in self.devices.pages]
+            self.met["BaseAlone"] += left == base
+            self.met["BaseTorn"] += self.devices.torn > 0
+            self.met["BaseShorter"] += left < before
+            self.met["BaseNewest" if are_newest else "BaseOld"] += differ
         self.commits = [commit for commit in self.commits if commit[1] <= left]
         self.recount()
         self.rows, self.open, self.failed = {}, False, False
@@ -449,6 +479,8 @@ class Store:
         mending = self.mending = Mending(self)
         if self.is_cut:
             mending.count_before(self.met)
+            self.met["BaseLost"] += devices.base() > 0 and mending.lost_count > 0
+            self.met["BaseUnfinished"] += devices.base() > 0 and mending.unfinished > 0
             self.is_cut = False
         mending.run()
         incarnation = 1 + max((record[1] for record in devices.records if record[0] == "restart"), default=0)
@@ -507,6 +539,7 @@ class Store:
             return
         self.met.update(kind for lsn, kind in self.mending.met if lsn <= len(self.devices.records))
         last, following = made[kept - 1], made[kept]
+        self.met["StoppedOverBase"] += self.devices.base() > 0
         self.met["StoppedInInverse"] += last[0] == "write" and last[4] > 0
         self.met["StoppedBeforeVoid"] += following[0] == "void"
         self.met["StoppedBeforeEnd"] += following[0] == "abort"
@@ -706,7 +739,9 @@ class Store:
         return lsn
 
     def acknowledged(self, txn, lsn):
-        return txn[0] == self.incarnation and lsn <= self.devices.forced
+        is_given = txn[0] == self.incarnation and lsn <= self.devices.forced
+        self.met["GivenOverBase"] += is_given and lsn < self.devices.base()
+        return is_given
 
     def start_abort(self, txn):
         self.ready(txn).aborting = True
@@ -754,6 +789,32 @@ class Store:
     def force(self):
         self.devices.force()
         return self.devices.forced
+
+    def checkpoint(self):
+        if self.rows:
+            raise Refused("NotQuiet")
+        devices, part = self.devices, "Force"
+        is_second = devices.base() == len(devices.records)
+        try:
+            devices.force()
+            part = "Write"
+            for page in range(len(devices.pages)):
+                devices.write(page)
+            part = "Sync"
+            devices.sync()
+            part = "Replace"
+            devices.put_base(self.incarnation)
+        except (Refused, Stopped) as met:
+            self.met[f"Checkpoint{'Stopped' if isinstance(met, Stopped) else 'Failed'}In{part}"] += 1
+            raise
+        self.met["CheckpointedTwice"] += is_second
+        return devices.forced
+
+    def calls_of_checkpoint(self):
+        """How many device calls a checkpoint makes of an open store that runs: an append, a force, page writes, a sync, and the one
+        that replaces the log."""
+        devices = self.devices
+        return (devices.handed < len(devices.records)) + 3 + sum(page.changed for page in devices.pages)
 
     def write_page(self, page):
         return self.devices.write(page)

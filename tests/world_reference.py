@@ -21,7 +21,7 @@ def choice_of(keep, images):
 READERS = {
     b"begin": [], b"start-receive": [txn_of], b"start-receive-from": [txn_of, int], b"start-close": [txn_of, int],
     b"step": [txn_of, int], b"finish": [txn_of, int], b"commit": [txn_of], b"start-abort": [txn_of], b"undo-next": [txn_of],
-    b"end-abort": [txn_of], b"hand-over": [], b"force": [], b"write": [int], b"last": [int], b"content": [],
+    b"end-abort": [txn_of], b"hand-over": [], b"force": [], b"checkpoint": [], b"write": [int], b"last": [int], b"content": [],
 }  # fmt: skip
 
 
@@ -195,6 +195,9 @@ class World:
 
     def said_of_force(self, lsn, _):
         return f"forced {lsn}", "Forced"
+
+    def said_of_checkpoint(self, lsn, _):
+        return f"checkpoint {lsn}", "Checkpointed"
 
     def said_of_write_page(self, is_written, _):
         return ("written", "Written") if is_written else ("not-written", "NotWritten")

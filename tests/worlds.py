@@ -23,12 +23,12 @@ from world_reference import World, picked_at, printed_by, shown
 # What has to be met, the usual lists taken together, and how often at least.
 WANTED = {
     "Beside": 4800, "HigherCell": 2400, "OtherGroup": 550, "SendDirectory": 7200, "SendTail": 2400, "SendCells": 180,
-    "TakeDirectory": 870, "TakeHead": 420, "TakeNext": 160, "TakeNextOpen": 19, "TakeAny": 2700, "CloseDirectory": 270,
+    "TakeDirectory": 870, "TakeHead": 420, "TakeNext": 160, "TakeNextOpen": 14, "TakeAny": 2700, "CloseDirectory": 270,
     "Close": 110, "CloseEmpty": 520, "SendUndone": 1600, "TakeUndone": 500, "CloseUndone": 140, "HigherBack": 97,
-    "UnsendDirectory": 2200, "UnsendTail": 880, "UnsendBefore": 44, "BackDirectory": 1000, "BackHead": 170, "BackCells": 18,
-    "ReopenDirectory": 230, "EarlyEnd": 740, "NotAborting": 1700, "Shorter": 4400, "SendCut": 1000, "TakeCut": 180,
-    "CloseCut": 28, "UnsendCut": 650, "BackCut": 110, "ReopenCut": 11, "TwoCut": 190, "BetweenSteps": 95, "OneLost": 1300,
-    "MoreLost": 450, "CutBesideLost": 560, "SendLost": 2700, "TakeLost": 490, "CloseLost": 120, "EndWanting": 73,
+    "UnsendDirectory": 1600, "UnsendTail": 720, "UnsendBefore": 44, "BackDirectory": 800, "BackHead": 170, "BackCells": 18,
+    "ReopenDirectory": 160, "EarlyEnd": 610, "NotAborting": 1700, "Shorter": 4400, "SendCut": 1000, "TakeCut": 180,
+    "CloseCut": 17, "UnsendCut": 650, "BackCut": 110, "ReopenCut": 9, "TwoCut": 190, "BetweenSteps": 73, "OneLost": 1300,
+    "MoreLost": 360, "CutBesideLost": 470, "SendLost": 2700, "TakeLost": 490, "CloseLost": 120, "EndWanting": 73,
     "StoppedOnce": 2500, "StoppedTwice": 1100, "StoppedThrice": 540, "StoppedInInverse": 360, "StoppedBeforeVoid": 200,
     "StoppedBeforeEnd": 240, "Begun": 22000, "SendStarted": 13000, "TakeStarted": 700, "AnyTakeStarted": 2300,
     "CloseStarted": 640, "UndoStarted": 2200, "NoneFrom": 8000, "NoneOfAny": 6800, "Stepped": 41000, "Ready": 2200,
@@ -36,10 +36,14 @@ WANTED = {
     "NothingLeft": 390, "Aborted": 3500, "Given": 2100, "NotGiven": 6100, "HandedOver": 1900, "Forced": 4800, "Written": 4700,
     "NotWritten": 8200, "LastTag": 2800, "Content": 1700, "Opened": 4600, "UnknownTransaction": 4000, "NotOpen": 3800,
     "Unfinished": 12000, "ContentUnfinished": 1800, "UnknownSender": 100, "TooLong": 750, "SenderBusy": 11000, "Closed": 490,
-    "ReceiverBusy": 1000, "Full": 1300, "NotForced": 4100, "UnknownOperation": 2100, "CrashedInAbort": 580,
+    "ReceiverBusy": 840, "Full": 1300, "NotForced": 4100, "UnknownOperation": 2100, "CrashedInAbort": 580,
     "StoppedCallInAbort": 21, "OpenedBehindAbort": 2800, "UnfinishedUndone": 1000, "BothUndone": 700, "LostUndone": 1500,
-    "StoppedIdle": 34, "StoppedCall": 220, "Armed": 1500, "DiskWrite": 300, "Failed": 6700, "NotOpened": 590, "Running": 1300,
-    "AckOfNothing": 2800, "Torn": 1250, "TornCut": 1170,
+    "StoppedIdle": 23, "StoppedCall": 220, "Armed": 1500, "DiskWrite": 300, "Failed": 5600, "NotOpened": 590, "Running": 1300,
+    "AckOfNothing": 2800, "Torn": 1000, "TornCut": 950, "Checkpointed": 1500, "CheckpointedTwice": 530, "NotQuiet": 640,
+    "CheckpointFailedInForce": 95, "CheckpointFailedInWrite": 59, "CheckpointFailedInSync": 77,
+    "CheckpointFailedInReplace": 62, "CheckpointStoppedInForce": 95, "CheckpointStoppedInWrite": 82,
+    "CheckpointStoppedInSync": 75, "CheckpointStoppedInReplace": 67, "BaseAlone": 480, "BaseShorter": 930, "BaseTorn": 230,
+    "BaseOld": 93, "BaseNewest": 180, "BaseLost": 350, "BaseUnfinished": 330, "StoppedOverBase": 310, "GivenOverBase": 420,
 }  # fmt: skip
 
 LENGTH = 160
@@ -61,6 +65,8 @@ class Drawing:
         self.lines = []
         self.fills = seed % 4 == 0  # it sends and does not receive, and little else happens
         self.opened = False  # the last happening opened the store
+        self.may_check = seed % 5 < 2  # checkpoints are drawn
+        self.failing = False  # the last happening has a device call of a checkpoint fail
 
     def is_first_of(self, count):
         return self.random.randrange(count) == 0
@@ -78,6 +84,10 @@ class Drawing:
             return "write", self.page()  # it shows which image was left
         if (self.store.has_idle_beside() and self.is_first_of(4)) or (len(self.store.works()) > 1 and self.is_first_of(16)):
             return "crash", *self.choice(ALL)
+        if self.may_check and self.store.failed and self.is_first_of(4):
+            return "crash", *self.choice()
+        if self.failing or (self.may_check and self.is_first_of(40 if self.store.rows else 2)):
+            return self.checkpoint()
         kind = self.random.randrange(400 if self.fills else 50)
         if kind == 0:
             return "ack", self.random.randrange(LENGTH)
@@ -92,6 +102,14 @@ class Drawing:
         if kind < 9:
             return self.acknowledgement()
         return ("write", self.page()) if kind < 15 else self.call()
+
+    def checkpoint(self):
+        """A checkpoint, one that is stopped, or the failure of a device call of one that comes next."""
+        call, kind = self.random.randrange(self.store.calls_of_checkpoint() + 1), 0 if self.failing else self.random.randrange(6)
+        self.failing = kind == 1
+        if kind == 1:
+            return "fail", call
+        return ("stop-in", call, *self.choice(), "checkpoint") if kind == 2 else ("checkpoint",)
 
     def of_shut(self):
         kind = self.random.randrange(12)
@@ -220,7 +238,10 @@ class Calls(courses.Drawing):
         if name == "fail":
             return self.happen("fail", self.random.randrange(1, 9))
         if name == "crash":
-            return self.happen("crash", str(words[0]).replace("all", str(ALL)), self.images(len(words) > 1))
+            return self.happen("crash", *self.left(words))
+        if name == "checkpoint" and self.is_first_of(4):
+            call, keep = self.random.randrange(self.store.calls_of_checkpoint() + 1), self.random.choice([0, 2, 5, "all"])
+            return self.happen("stop-in", call, *self.left([keep, *["old"] * self.random.randrange(2)]), "checkpoint")
         if name == "restart" and words:
             append = self.store.devices.reads() + (2 if self.store.devices.torn else 1)
             return self.happen("restart-stop", append + self.random.randrange(2), words[0], "-")
@@ -229,6 +250,10 @@ class Calls(courses.Drawing):
         if name in ("send", "open-send") and len(words) < 4:
             words = (*words, "")
         self.happen(self.NAMES.get(name, name), *words)
+
+    def left(self, words):
+        """What a crash keeps: the words of the course's own, or of one that stops a call."""
+        return str(words[0]).replace("all", str(ALL)), self.images(len(words) > 1)
 
     def images(self, is_old):
         """The synced image of each page, or the newest, or any."""
@@ -267,11 +292,15 @@ def is_plain(lines):
     return bool(crashes) and b"content" in names[crashes[-1] :] and not {b"fail", b"stop-in"} & set(names)
 
 
+# What comes behind a list, so that it does not end at the failure.
+LAST = [b"crash 0", b"restart", b"content"]
+
+
 def failing(lines, n, images):
     """The lines where the nth device call fails, and of each page this image is left by a crash. What is not opened is opened at the
-    second try."""
+    second try. At last the store is crashed, opened and shown."""
     made, places = [b"fail %d" % n], {}
-    for number, line in enumerate(lines, 1):
+    for number, line in enumerate(lines + LAST, 1):
         name, *words = line.split(b" ")
         if name == b"ack":
             line = b"ack %d" % places[int(words[0])]

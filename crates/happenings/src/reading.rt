@@ -4,7 +4,8 @@
 //!
 //! Calls: `begin`, `start-send TXN SENDER TAG BODY` (the body is the rest of the line), `start-receive TXN`,
 //! `start-receive-from TXN SENDER`, `start-close TXN SENDER`, `step OPERATION`, `finish OPERATION`, `commit TXN`,
-//! `start-abort TXN`, `undo-next TXN`, `end-abort TXN`, `hand-over`, `force`, `write PAGE`, `last SENDER`, `content`.
+//! `start-abort TXN`, `undo-next TXN`, `end-abort TXN`, `hand-over`, `force`, `checkpoint`, `write PAGE`, `last SENDER`,
+//! `content`.
 //! The others: `ack N`, `fail N`, `crash KEPT`, `stop-in N KEPT CALL`, `restart`, `restart-stop N KEPT`.
 use crate::line::Line;
 use rq_core::happening::{Choice, Happening};
@@ -37,6 +38,7 @@ enum Name {
     EndAbort,
     HandOver,
     Force,
+    Checkpoint,
     Write,
     Last,
     Content,
@@ -49,7 +51,7 @@ enum Name {
     Unknown,
 }
 
-const NAMES: [(&[u8], Name); 22] = [
+const NAMES: [(&[u8], Name); 23] = [
     (b"begin", Name::Begin),
     (b"start-send", Name::StartSend),
     (b"start-receive", Name::StartReceive),
@@ -63,6 +65,7 @@ const NAMES: [(&[u8], Name); 22] = [
     (b"end-abort", Name::EndAbort),
     (b"hand-over", Name::HandOver),
     (b"force", Name::Force),
+    (b"checkpoint", Name::Checkpoint),
     (b"write", Name::Write),
     (b"last", Name::Last),
     (b"content", Name::Content),
@@ -172,6 +175,7 @@ fn call_of(alloc: Global, name: Name, line: &mut Line) -> Result<Event, AllocErr
         Name::EndAbort => Event::EndAbort(line.txn()),
         Name::HandOver => Event::HandOver,
         Name::Force => Event::Force,
+        Name::Checkpoint => Event::Checkpoint,
         Name::Write => Event::WritePage(line.short()),
         Name::Last => Event::LastTag(line.short()),
         Name::Content => Event::Content,

@@ -78,6 +78,7 @@ fn call<S: Store>(store: &mut S, alloc: Global, command: Command<'_>) -> Reply {
         Command::EndAbort(txn) => store.ask(Event::EndAbort(txn)),
         Command::Ack(txn) => ack(store, txn),
         Command::Force => store.ask(Event::Force),
+        Command::Checkpoint => store.ask(Event::Checkpoint),
         Command::Write(page) => store.ask(Event::WritePage(page)),
         Command::Last(sender) => store.ask(Event::LastTag(sender)),
         Command::Dump => store.ask(Event::Content),

@@ -20,6 +20,7 @@ pub enum Command<'a> {
     EndAbort(Txn),
     Ack(Txn),
     Force,
+    Checkpoint,
     Write(u32),
     Last(u32),
     Fail(CallKind),
@@ -74,6 +75,7 @@ fn plain(name: &[u8]) -> Option<Command<'static>> {
     match name {
         b"begin" => Some(Command::Begin),
         b"force" => Some(Command::Force),
+        b"checkpoint" => Some(Command::Checkpoint),
         b"restart" => Some(Command::Restart),
         b"dump" => Some(Command::Dump),
         b"log" => Some(Command::Log),

@@ -2,7 +2,7 @@
 use rq_engine::event::{GroupContent, LastTag, Outcome, Progress, Reply, Written};
 use rq_model::message::Message;
 use rq_model::refusal::Refusal;
-use rq_model::txn::Sub;
+use rq_model::txn::{Lsn, Sub};
 use rq_restart::restart::Report;
 use std::io;
 use std::io::Write;
@@ -17,14 +17,14 @@ pub enum CommandResult {
     Reply(Reply),
     /// A device call was set to fail.
     Armed,
-    /// A crash, after which this many records are left.
-    Crashed(u64),
+    /// A crash, after which the last record has this LSN.
+    Crashed(Lsn),
     /// The store was open.
     Running,
     /// The store was opened.
     Restarted(Report),
-    /// The machine stopped in a restart, after which this many records are left.
-    Stopped(u64),
+    /// The machine stopped in a restart, after which the last record has this LSN.
+    Stopped(Lsn),
     /// The text of the log.
     Log(Vec<u8>),
     /// The store could not be opened. The script ends.
@@ -61,10 +61,10 @@ impl CommandResult {
         match self {
             CommandResult::Reply(reply) => print_reply(output, reply),
             CommandResult::Armed => print_word(output, "armed"),
-            CommandResult::Crashed(records) => print_number(output, "crashed", *records),
+            CommandResult::Crashed(last) => print_number(output, "crashed", *last),
             CommandResult::Running => print_word(output, "running"),
             CommandResult::Restarted(report) => print_report(output, *report),
-            CommandResult::Stopped(records) => print_number(output, "stopped", *records),
+            CommandResult::Stopped(last) => print_number(output, "stopped", *last),
             CommandResult::Log(text) => print_text(output, text),
             CommandResult::Fault(refusal) => print_fault(output, *refusal),
             CommandResult::NoCommand(number) => print_number(output, "fault line", *number),
@@ -88,6 +88,7 @@ fn print_reply(output: &mut Vec<u8>, reply: &Reply) -> io::Result<()> {
         Reply::Acknowledged(None) => print_word(output, "no"),
         Reply::HandedOver => Ok(()),
         Reply::Forced(lsn) => print_number(output, "forced", *lsn),
+        Reply::Checkpointed(lsn) => print_number(output, "checkpoint", *lsn),
         Reply::Written(Written::Done) => print_word(output, "written"),
         Reply::Written(Written::Nothing) => print_word(output, "nothing"),
         Reply::LastTag(last) => print_last(output, *last),

@@ -2,7 +2,9 @@
 use crate::machine::Medium;
 use rq_disk::LogDevice;
 use rq_inspect::{Report, Stop, inspect, line};
+use rq_model::record::Record;
 use rq_model::refusal::Refusal;
+use rq_model::txn::Lsn;
 use std::alloc::Global;
 
 /// The text of the log of an open store, buffered records included.
@@ -52,15 +54,25 @@ fn note_all<K, D, M: Medium<K, D>>(
     report: &mut Report,
 ) -> Result<(), Refusal> {
     let mut place = 0;
-    for lsn in 1..u64::MAX {
+    let mut last = 0;
+    for _ in 1..u64::MAX {
         let Some((record, behind)) = medium.record_at(kept, place)? else {
             return Ok(());
         };
-        line(alloc, text, lsn, &record)?;
-        report.note(lsn, &record)?;
+        last = lsn_behind(last, &record);
+        line(alloc, text, last, &record)?;
+        report.note(last, &record)?;
         place = behind;
     }
     Ok(())
+}
+
+// The LSN of a record behind so many. A Base is the first, and stands for as many as it tells.
+fn lsn_behind(last: Lsn, record: &Record) -> Lsn {
+    match record {
+        Record::Base { records, .. } => records.saturating_add(1),
+        _ => last.saturating_add(1),
+    }
 }
 
 // The second reading.

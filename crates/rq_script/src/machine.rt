@@ -7,7 +7,7 @@ use rq_disk::{CallKind, Mishap, PageChoice, Switch};
 use rq_engine::event::{CommitNo, Event, Reply};
 use rq_model::record::Record;
 use rq_model::refusal::Refusal;
-use rq_model::txn::Txn;
+use rq_model::txn::{Lsn, Txn};
 use rq_restart::restart::Report;
 use std::alloc::Global;
 use std::mem;
@@ -29,13 +29,13 @@ pub trait Medium<K, D> {
     /// The devices of a store whose buffered records are handed over, which no failure meets.
     fn shut(&mut self, kept: K) -> D;
 
-    /// The devices as a crash leaves them, and how many records are left.
-    fn crash(&mut self, devices: D, choice: PageChoice, keep: u64, torn: u64) -> (D, u64);
+    /// The devices as a crash leaves them, and the LSN of the last record.
+    fn crash(&mut self, devices: D, choice: PageChoice, keep: u64, torn: u64) -> (D, Lsn);
 
-    /// How many records the devices hold.
-    fn records(&self, devices: &D) -> u64;
+    /// The LSN of the last record that the devices hold.
+    fn last(&self, devices: &D) -> Lsn;
 
-    /// How many bytes stand behind these.
+    /// How many bytes stand behind it.
     fn left(&self, devices: &D) -> u64;
 
     /// What makes device calls fail.
@@ -173,7 +173,7 @@ impl<K: Drop, D: Drop, M: Medium<K, D>> Machine<K, D, M> {
         if self.medium.switch().is_armed(CallKind::Write) {
             return self.open(devices);
         }
-        let before = self.medium.records(&devices);
+        let before = self.medium.last(&devices);
         self.medium.switch().arm_kind(CallKind::Write, Mishap::Stop);
         let opened = self.medium.open(devices);
         let has_stopped = has_stopped(self.medium.switch());
@@ -186,8 +186,8 @@ impl<K: Drop, D: Drop, M: Medium<K, D>> Machine<K, D, M> {
 
     // Behind the records before stand all those of a restart. Keeps the first so many of these; where they are no more than
     // that, opens the store.
-    fn leave_with(&mut self, devices: D, before: u64, kept: u64) -> CommandResult {
-        let made = self.medium.records(&devices).saturating_sub(before);
+    fn leave_with(&mut self, devices: D, before: Lsn, kept: u64) -> CommandResult {
+        let made = self.medium.last(&devices).saturating_sub(before);
         if kept >= made {
             let (devices, _) = self.medium.crash(devices, PageChoice::Newest, 0, 0);
             return self.open(devices);
@@ -208,11 +208,11 @@ impl<K: Drop, D: Drop, M: Medium<K, D>> Machine<K, D, M> {
         text
     }
 
-    // The devices as a crash leaves them; how many records are left.
-    fn leave(&mut self, devices: D, choice: PageChoice, keep: u64, torn: u64) -> u64 {
-        let (devices, records) = self.medium.crash(devices, choice, keep, torn);
+    // The devices as a crash leaves them; the LSN of the last record.
+    fn leave(&mut self, devices: D, choice: PageChoice, keep: u64, torn: u64) -> Lsn {
+        let (devices, last) = self.medium.crash(devices, choice, keep, torn);
         self.state = State::Crashed(devices);
-        records
+        last
     }
 
     // Whether so many bytes are left behind the records.
@@ -257,9 +257,9 @@ impl<K: Drop, D: Drop, M: Medium<K, D>> Store for Machine<K, D, M> {
         };
         let devices = self.medium.shut(kept);
         let choice = outliving_images(images);
-        let records = self.leave(devices, choice, outliving_records(keep), torn);
+        let last = self.leave(devices, choice, outliving_records(keep), torn);
         if self.has_left(torn) {
-            Some(CommandResult::Crashed(records))
+            Some(CommandResult::Crashed(last))
         } else {
             None
         }

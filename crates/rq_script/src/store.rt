@@ -4,8 +4,10 @@ use crate::machine::Medium;
 use rq_disk::{LogDevice, MemLog, MemPages, PageChoice, PageDevice, Switch};
 use rq_engine::event::{Event, Reply};
 use rq_level::Level;
+use rq_log::last_lsn;
 use rq_model::record::Record;
 use rq_model::refusal::Refusal;
+use rq_model::txn::Lsn;
 use rq_page::layout::Layout;
 use rq_planner::StoreLevels;
 use rq_restart::format::format;
@@ -88,15 +90,15 @@ impl<B: Level> Medium<Kept<MemPages, MemLog, B>, (MemPages, MemLog)> for Memory<
         choice: PageChoice,
         keep: u64,
         torn: u64,
-    ) -> ((MemPages, MemLog), u64) {
+    ) -> ((MemPages, MemLog), Lsn) {
         let (pages, log) = devices;
         let log = log.crash(keep, torn);
-        let records = log.records();
-        ((pages.crash(choice), log), records)
+        let last = last_of(&log);
+        ((pages.crash(choice), log), last)
     }
 
-    fn records(&self, devices: &(MemPages, MemLog)) -> u64 {
-        devices.1.records()
+    fn last(&self, devices: &(MemPages, MemLog)) -> Lsn {
+        last_of(&devices.1)
     }
 
     fn left(&self, devices: &(MemPages, MemLog)) -> u64 {
@@ -151,6 +153,11 @@ fn record_of<P: PageDevice + Drop, L: LogDevice + Drop, B: Level>(
     place: u64,
 ) -> Result<Option<(Record, u64)>, Refusal> {
     kept.record_at(place)
+}
+
+// The LSN of the last record that a log holds.
+fn last_of(log: &MemLog) -> Lsn {
+    last_lsn(log.bytes())
 }
 
 // The devices of a store whose buffered records are handed over, which no failure meets.

@@ -1,8 +1,8 @@
 //! What two threads do that share a store, one of them held at a gate until the other has come further.
 use crate::connection::{Often, connected};
-use crate::stores::{carried_out, committed, is_sent, receipt, start_of_send};
+use crate::stores::{carried_out, committed, is_sent, start_of_send};
 use crate::turns::{Held, Turns};
-use rq_engine::event::{CommitNo, Event};
+use rq_engine::event::{CommitNo, Event, Reply};
 use rq_workers::gate::{BEFORE_AGAIN, BEFORE_FORCE, BEFORE_WRITE, BETWEEN_STEPS, Gate};
 use rq_workers::steps::Steps;
 use rq_workers::worker::Worker;
@@ -155,19 +155,21 @@ fn sent_and_asked<S: Steps, R: Wait>(
     turns.reach(2);
     turns.comes(3);
     let is_acknowledged = is_acknowledged(&mut steps, done.number);
-    let is_done = done.is_done && !is_acknowledged_before && is_acknowledged;
+    let is_done = done.is_done
+        && matches!(is_acknowledged_before, Some(false))
+        && matches!(is_acknowledged, Some(true));
     (Done { is_done, ..done }, steps)
 }
 
-// Whether there is a receipt of this commit.
-fn is_acknowledged<S: Steps>(steps: &mut S, number: Option<CommitNo>) -> bool {
-    let Some(number) = number else {
-        return false;
+// Whether there is a receipt of this commit, where that is answered.
+fn is_acknowledged<S: Steps>(steps: &mut S, number: Option<CommitNo>) -> Option<bool> {
+    let stamped = steps.call(Event::Acknowledged(number?));
+    let is_given = match stamped.reply() {
+        Reply::Acknowledged(given) => Some(given.is_some()),
+        _ => None,
     };
-    let stamped = steps.call(Event::Acknowledged(number));
-    let given = receipt(&stamped);
     steps.seen(stamped);
-    given.is_some()
+    is_given
 }
 
 // Writes pages until the gate says no.

@@ -117,10 +117,11 @@ struct Seen<C> {
     // whether each came to a stage in time for the other, and did all that it was to do
     is_in_time: bool,
     are_done: bool,
-    // the calls of the first: what was done for each page, and how many were refused for a latch
+    // the calls of the first: what was done for each page, how many were refused for a latch, and whether one ended an abort
     calls: usize,
     written: Vec<Written>,
     latched: usize,
+    has_aborted: bool,
     tie: Option<Tie>,
     receipts: usize,
     closed: C,
@@ -146,6 +147,16 @@ fn latched_in(stamps: &[Stamped]) -> usize {
         }
     }
     latched
+}
+
+// Whether one of these calls ended an abort.
+fn has_aborted(stamps: &[Stamped]) -> bool {
+    for stamped in stamps {
+        if matches!(stamped.reply(), Reply::Aborted) {
+            return true;
+        }
+    }
+    false
 }
 
 // The stamps of seven calls, the first two changed about.
@@ -334,6 +345,7 @@ fn share<
     let calls = stamps.len();
     let written = written_by(alloc, &stamps).ok()?;
     let latched = latched_in(&stamps);
+    let has_aborted = has_aborted(&stamps);
     let tie = tie_taken(rt, &shared, &mut three, plan.takes, stamps, others);
     let numbers = [done.number, other_done.number];
     let given = receipts(rt, alloc, shared.engine_lock(), &mut three, &numbers).ok()?;
@@ -345,6 +357,7 @@ fn share<
         calls,
         written,
         latched,
+        has_aborted,
         tie,
         receipts,
         closed,
@@ -482,6 +495,10 @@ fn an_abort_that_meets_latches_goes_on_or_is_given_up(rt: HostRuntime) -> Result
     for case in [Case::Abort, Case::GiveUp] {
         let seen = look(&rt, rt.alloc(), Plan::new(case)).ok_or("memory")?;
         assert!(rt; is_seen(&seen, 1), "once it meets them");
+        assert!(rt;
+            seen.has_aborted == matches!(case, Case::Abort),
+            "what is given up is not ended"
+        );
         assert!(rt; has_only_the_seconds(seen.closed, case)?);
     }
     Ok(())

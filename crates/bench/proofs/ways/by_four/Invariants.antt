@@ -1,4 +1,4 @@
-use Rattle.rq_shared.specs.Entries.{GoesBack}
+use Rattle.rq_engine.specs.Earlier.{IsSoundOver}
 use Rattle.bench.proofs.ways.by_four.Given as goal
 
 -- the ledger is that of the blank
@@ -9,7 +9,7 @@ ghosts-share-G-Ledger g a = record { name = a.blank.name; parts = a.blank.parts 
 -- sharing begins with that engine
 abbrev pub ghosts-share-G-Sharing : goal.ghosts-share-G-Sharing
 ghosts-share-G-Sharing g a = record {
-  premise = GoesBack a.engine;
+  premise = IsSoundOver a.engine.state;
   taking = a.taking.name;
   begins = a.engine.state;
 }

@@ -1,4 +1,4 @@
-use Rattle.rq_shared.specs.Entries.{GoesBack}
+use Rattle.rq_engine.specs.Earlier.{IsSoundOver}
 use Rattle.rq_tests.proofs.mark.mark_of.Given as goal
 
 -- the ledger is that of the blank
@@ -9,7 +9,7 @@ ghosts-marked-G-Ledger g a = record { name = a.blank.name; parts = a.blank.parts
 -- sharing begins with that engine
 abbrev pub ghosts-marked-G-Sharing : goal.ghosts-marked-G-Sharing
 ghosts-marked-G-Sharing g a = record {
-  premise = GoesBack a.engine;
+  premise = IsSoundOver a.engine.state;
   taking = a.taking.name;
   begins = a.engine.state;
 }
