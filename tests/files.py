@@ -8,43 +8,51 @@ A name is one of the tests below, as `made`; without one all are run. Where `rt 
 builds it too, that one runs those of `TWICE` as well. Logs are replaced by the program of `crates/bench`.
 """
 import argparse
+import itertools
 import os
 import pathlib
 import resource
 import signal
+import socket
 import stat
 import subprocess
 import tempfile
 import time
 from contextlib import contextmanager
 
+import opening
 from cases import built, built_twice
 from damaged import (
     FREE, MESSAGE, ONE_COMMITTED, ONE_SENT, PAGE, base, cell, end, formatted, group, received, sent, small, write,
 )  # fmt: skip
 from inspector import record
-from server import LONGEST, STORE_FAILED, DiskWrite, Failed, NotStarted, Server, everything, raises, wait_until
+from server import LONGEST, STORE_FAILED, DiskWrite, Failed, NotStarted, Server, everything, first_line, raises, wait_until
 from shim import failing
 
 SHIM = """#define _GNU_SOURCE
+#include <dirent.h>
 #include <dlfcn.h>
 #include <errno.h>
 #include <fcntl.h>
+#include <pthread.h>
 #include <signal.h>
 #include <stdarg.h>
 #include <stdatomic.h>
 #include <stdio.h>
 #include <stdlib.h>
+#include <string.h>
 #include <sys/file.h>
 #include <sys/stat.h>
 #include <unistd.h>
+
+#define NEXT(name) ((__typeof__(&name)) dlsym(RTLD_NEXT, #name))
 
 /* Has the call on a file fail whose number is FAIL_AT, from 1, and makes the file FAILED then. */
 static int fails(void) {
     static atomic_long made;
     const char *at = getenv("FAIL_AT"), *told = getenv("FAILED");
     if (!at || ++made != atol(at)) return 0;
-    close(open(told, O_WRONLY | O_CREAT, 0666));
+    close(NEXT(open)(told, O_WRONLY | O_CREAT, 0666));
     return 1;
 }
 
@@ -55,12 +63,10 @@ static int failed(void) {
     return -1;
 }
 
-/* Where NAMES is set, calls that open, lock, rename or say who may read fail like that too. */
+/* Where NAMES is set, calls that open, lock, remove, rename or say who may read fail like that too. */
 static int name_fails(void) {
     return getenv("NAMES") && fails();
 }
-
-#define NEXT(name) ((__typeof__(&name)) dlsym(RTLD_NEXT, #name))
 
 /* Makes the file SYNCED as long as the file LOG was when it was synced. */
 static int noted(const struct stat *synced) {
@@ -70,23 +76,104 @@ static int noted(const struct stat *synced) {
     return truncate(getenv("SYNCED"), synced->st_size);
 }
 
-/* A write that fails was made, or a part of it. */
-#define WRITE(name, offset) ssize_t name(int file, const void *bytes, size_t size, offset at) { \\
-    if (!fails()) return NEXT(name)(file, bytes, size, at); \\
-    NEXT(name)(file, bytes, getenv("IN_PART") ? size / 2 : size, at); \\
-    return failed(); \\
-}
-#define READ(name, offset) ssize_t name(int file, void *bytes, size_t size, offset at) { \\
-    return fails() ? failed() : NEXT(name)(file, bytes, size, at); \\
-}
-#define SYNC(name) int name(int file) { \\
-    struct stat before; \\
-    if (fails()) return failed(); \\
-    return fstat(file, &before) || NEXT(name)(file) ? -1 : noted(&before); \\
+/* A call and the name of its file, `.` for a folder. Where no path is given the file has this descriptor. */
+static void spell(char line[64], const char *call, int file, const char *path) {
+    char link[64], found[4096] = "";
+    sprintf(link, "/proc/self/fd/%d", file);
+    if (!path && readlink(link, found, sizeof found - 1) > 0) path = found;
+    struct stat is;
+    const char *name = path ? strrchr(path, '/') : NULL;
+    int is_folder = path && !stat(path, &is) && S_ISDIR(is.st_mode);
+    snprintf(line, 64, "%s %s", call, is_folder ? "." : name ? name + 1 : path ? path : "");
 }
 
+/* Writes that behind the file CALLS. */
+static void told(const char *call, int file, const char *path) {
+    char line[64];
+    if (!getenv("CALLS")) return;
+    spell(line, call, file, path);
+    int to = NEXT(open)(getenv("CALLS"), O_WRONLY | O_APPEND | O_CREAT, 0666);
+    dprintf(to, "%s\\n", line);
+    close(to);
+}
+
+/* Whether a sync is to be left out, as LEFT_OUT says. Where LATE is set it is made behind the next sync of a folder. */
+static int late;
+static int is_left_out(const char *call, int file) {
+    char line[64];
+    if (!getenv("LEFT_OUT") || late) return 0;
+    spell(line, call, file, NULL);
+    if (strcmp(line, getenv("LEFT_OUT"))) return 0;
+    if (getenv("LATE")) late = dup(file);
+    return 1;
+}
+
+/* POWER is a folder of what a loss of power leaves. The sync of a file copies it there, under its number. That of a folder writes its names
+   there, each with its number. Of a file that is made or emptied nothing is there. */
+static void in_power(char *path, const char *name, unsigned long number) {
+    int end = sprintf(path, "%s/", getenv("POWER"));
+    if (name) strcpy(path + end, name);
+    else sprintf(path + end, "%lu", number);
+}
+
+static void copy(FILE *to, int file) {
+    char bytes[4096];
+    ssize_t size;
+    for (off_t at = 0; (size = NEXT(pread)(file, bytes, sizeof bytes, at)) > 0; at += size) fwrite(bytes, 1, size, to);
+}
+
+static void list(FILE *to, int folder) {
+    DIR *names = fdopendir(openat(folder, ".", O_RDONLY));
+    for (struct dirent *each; (each = readdir(names));) fprintf(to, "%lu %s\\n", (unsigned long) each->d_ino, each->d_name);
+    closedir(names);
+}
+
+static int kept(int file, const struct stat *is, int (*sync)(int)) {
+    static pthread_mutex_t keeping = PTHREAD_MUTEX_INITIALIZER;
+    char fresh[4096], path[4096];
+    if (!getenv("POWER")) return sync(file);
+    pthread_mutex_lock(&keeping);
+    in_power(fresh, "fresh", 0);
+    in_power(path, S_ISDIR(is->st_mode) ? "names" : NULL, is->st_ino);
+    FILE *to = fopen(fresh, "wb");
+    (S_ISDIR(is->st_mode) ? list : copy)(to, file);
+    int answer = fclose(to) || sync(file) || NEXT(rename)(fresh, path) ? -1 : 0;
+    pthread_mutex_unlock(&keeping);
+    return answer;
+}
+
+static void is_new(int file) {
+    char path[4096];
+    struct stat is;
+    if (!getenv("POWER") || fstat(file, &is)) return;
+    in_power(path, NULL, is.st_ino);
+    NEXT(unlink)(path);
+}
+
+/* A write that fails was made, or a part of it. */
+#define WRITE(name, offset) ssize_t name(int file, const void *bytes, size_t size, offset at) { \\
+    int is_failed = fails(); \\
+    if (!is_failed) told("write", file, NULL); \\
+    ssize_t written = NEXT(name)(file, bytes, is_failed && getenv("IN_PART") ? size / 2 : size, at); \\
+    return is_failed ? failed() : written; \\
+}
+#define READ(name, offset) ssize_t name(int file, void *bytes, size_t size, offset at) { \\
+    if (fails()) return failed(); \\
+    told("read", file, NULL); \\
+    return NEXT(name)(file, bytes, size, at); \\
+}
+#define SYNC(name) int name(int file) { \\
+    struct stat is; \\
+    if (fails()) return failed(); \\
+    if (is_left_out(#name, file)) return 0; \\
+    told(#name, file, NULL); \\
+    if (fstat(file, &is) || kept(file, &is, NEXT(name))) return -1; \\
+    return S_ISDIR(is.st_mode) && late > 0 ? fdatasync(late) : noted(&is); \\
+}
 #define CUT(name, offset) int name(int file, offset length) { \\
-    return fails() ? failed() : NEXT(name)(file, length); \\
+    if (fails()) return failed(); \\
+    told("cut", file, NULL); \\
+    return NEXT(name)(file, length); \\
 }
 
 CUT(ftruncate, off_t)
@@ -99,22 +186,44 @@ SYNC(fsync)
 SYNC(fdatasync)
 
 int open(const char *path, int how, ...) {
+    struct stat is;
     va_list rest;
     va_start(rest, how);
     mode_t mode = how & O_CREAT ? va_arg(rest, mode_t) : 0;
     va_end(rest);
-    return name_fails() ? failed() : NEXT(open)(path, how, mode);
+    if (name_fails()) return failed();
+    int is_made = how & O_TRUNC || (how & O_CREAT && lstat(path, &is)), file = NEXT(open)(path, how, mode);
+    told(is_made ? "make" : "open", -1, path);
+    if (is_made && file >= 0) is_new(file);
+    return file;
 }
 int flock(int file, int how) {
-    return name_fails() ? failed() : NEXT(flock)(file, how);
+    if (name_fails()) return failed();
+    told("lock", file, NULL);
+    return NEXT(flock)(file, how);
 }
 int fchmod(int file, mode_t mode) {
-    return name_fails() ? failed() : NEXT(fchmod)(file, mode);
+    if (name_fails()) return failed();
+    told("mode", file, NULL);
+    return NEXT(fchmod)(file, mode);
+}
+int fchown(int file, uid_t owner, gid_t group) {
+    if (name_fails()) return failed();
+    told("owner", file, NULL);
+    return NEXT(fchown)(file, owner, group);
+}
+/* A name that fails to be removed or to be another's was so, or not. */
+int unlink(const char *path) {
+    int is_failed = name_fails();
+    if (!is_failed) told("remove", -1, path);
+    int answer = is_failed && !getenv("IN_PART") ? 0 : NEXT(unlink)(path);
+    return is_failed ? failed() : answer;
 }
 int rename(const char *from, const char *to) {
-    if (!name_fails()) return NEXT(rename)(from, to);
-    if (getenv("IN_PART")) NEXT(rename)(from, to);
-    return failed();
+    int is_failed = name_fails();
+    if (!is_failed) told("rename", -1, to);
+    int answer = is_failed && !getenv("IN_PART") ? 0 : NEXT(rename)(from, to);
+    return is_failed ? failed() : answer;
 }
 """
 
@@ -234,6 +343,10 @@ def files_behind(records, lsn, slot, cells):
     return {"pages": bytes(pages), "log": b"".join(MESSAGES[:records])}
 
 
+# a log whose second transaction has no end, and what a store of it holds
+UNENDED, HELD = b"".join(MESSAGES[:9]), {0: [(7, b"hello")]}
+
+
 def log_of_all(program):
     """The log of all four transactions, and behind it that of a receive that finds nothing."""
     with folder_of(pages=formatted(), log=b"") as folder:
@@ -293,8 +406,9 @@ class Course:
         return self.left[self.done : self.done + 2]
 
 
-def each_call(least):
-    """The numbers of the calls up to one that is not made, with the words for each; there have to be so many."""
+def each_call(*counts):
+    """The numbers of the calls up to one that is not made, with the words for each. There have to be so many; or one of these counts, where
+    a server may begin to write pages in time."""
     with failing(SHIM) as (beside, words):
         told = beside / "failed"
         words = {**words, "FAILED": str(told)}
@@ -304,22 +418,35 @@ def each_call(least):
                 told.unlink(missing_ok=True)
                 number += 1
                 yield {**words, **in_part, "FAIL_AT": str(number)}, told
-            assert number > least, f"only {number - 1} calls"
+            assert number - 1 in counts, f"{number - 1} calls, and not {counts}"
 
 
 def formats(program):
-    """A format one of whose calls fails tells it, and leaves files that are there. Once they are removed the store is made."""
-    for words, told in each_call(8):
-        with folder_of() as folder:
-            came = format_store(program, folder, **words)
-            if told.exists():
-                assert came in ((b"fault 15 DiskWrite\n", 1), (b"fault open\n", 1)), (words, came)
-                assert format_store(program, folder) == (b"fault exists\n", 1)
-                for file in folder.iterdir():
-                    file.unlink()
-                came = format_store(program, folder)
-            assert came == (b"formatted 1 2\n", 0), (words, came)
-            assert files_of(folder) == {"pages": bytes(formatted(1, 2)), "log": b""}, words
+    """A format one of whose calls fails tells it, and leaves files that are there. What one leaves that is killed is no store, or an empty
+    one. Once they are removed the store is made."""
+    for count, more in ((10, {}), (18, {"NAMES": "1", "STOPS": "1"})):
+        for words, told in each_call(count):
+            with folder_of() as folder:
+                came, left = format_store(program, folder, **more, **words), files_of(folder)
+                if told.exists():
+                    if more:
+                        assert came == (b"", -signal.SIGKILL) and why_refused(program, folder) == why_not_opened(left), (words, came)
+                    else:
+                        assert left and came in ((b"fault 15 DiskWrite\n", 1), (b"fault open\n", 1)), (words, came)
+                    assert not left or format_store(program, folder) == (b"fault exists\n", 1)
+                    for file in folder.iterdir():
+                        file.unlink()
+                    came = format_store(program, folder)
+                assert came == (b"formatted 1 2\n", 0), (words, came)
+                assert files_of(folder) == {"pages": bytes(formatted(1, 2)), "log": b""}, words
+
+
+def why_not_opened(files):
+    """What a server says of a store with these files, by their bytes; None where it serves it."""
+    if {*files} != {"pages", "log"}:
+        return b"fault open\n"
+    said, made, _ = opening.said_of(files["pages"], files["log"])
+    return None if made else b"fault 16 Damaged\n" if said.startswith("damaged") else f"{said}\n".encode()
 
 
 def courses(program):
@@ -333,7 +460,7 @@ def courses(program):
 def courses_from(program, log):
     """The same over a store that is formatted, but for this log."""
     shorter = 0
-    for words, told in each_call(16):
+    for words, told in each_call(*range(18, 24)):
         course = Course()
         with folder_of(pages=formatted(), log=log) as folder, folder_of(synced=log) as beside:
             synced = beside / "synced"
@@ -370,7 +497,7 @@ def torn_ends(program):
     whole = b"".join(ONE_COMMITTED)
     for end in (b"\0", ONE_COMMITTED[-1][:-1], ONE_COMMITTED[1][:545]):
         cut = 0
-        for words, told in each_call(6):
+        for words, told in each_call(*range(11, 15)):
             with folder_of(pages=formatted(), log=whole + end) as folder:
                 try:
                     Server(program, folder, environment=words).kill()
@@ -411,6 +538,50 @@ def replaced(_):
                 assert stat.S_IMODE((folder / "log").stat().st_mode) == 0o640
 
 
+def bind_socket(path):
+    with socket.socket(socket.AF_UNIX) as stream:
+        stream.bind(str(path))
+
+
+# What may stand in place of a file, and is none.
+NO_FILES = {
+    "a pipe": os.mkfifo, "a folder": os.mkdir, "a socket": bind_socket, "a device": lambda path: path.symlink_to("/dev/null"),
+    "a device that is full": lambda path: path.symlink_to("/dev/full"), "a device of zeros": lambda path: path.symlink_to("/dev/zero"),
+    "a terminal": lambda path: path.symlink_to("/dev/ptmx"), "a link to itself": lambda path: path.symlink_to(path),
+    "a link to nothing": lambda path: path.symlink_to(path.parent / "none"),
+}  # fmt: skip
+
+
+def other_names(name):
+    """Two other names of a file beside it, one of them a link."""
+    return {
+        f"a name of {name}": lambda path: path.hardlink_to(path.parent / name),
+        f"a link to {name}": lambda path: path.symlink_to(path.parent / name),
+    }
+
+
+def odd_fresh_names(program):
+    """Whatever stands where the new log is made is removed: it is neither written to nor waited for, and what it leads to stays. A folder
+    stays, and no checkpoint is made."""
+    for what, make in {**NO_FILES, **other_names("log"), **other_names("pages"), **other_names("foreign")}.items():
+        with folder_of(pages=formatted(), log=UNENDED, foreign=OLD) as folder:
+            fresh, foreign = folder / "log.new", folder / "foreign"
+            foreign.chmod(0o640)
+            make(fresh)
+            came, log = checkpoint(program, folder), (folder / "log").read_bytes()
+            if what == "a folder":
+                assert came == (b"restarted 2 unfinished 0 lost 1\nfault 15 DiskWrite\n", 1), came
+                assert log == opening.said_of(formatted(), UNENDED)[2]
+                fresh.rmdir()
+            else:
+                assert came == (b"restarted 2 unfinished 0 lost 1\ncheckpoint 16\n", 0), (what, came)
+                assert log == base(15, 2), what
+            assert {*files_of(folder)} == {"pages", "log", "foreign"}, what
+            assert foreign.read_bytes() == OLD and stat.S_IMODE(foreign.stat().st_mode) == 0o640, what
+            assert checkpoint(program, folder)[1] == 0, what
+            assert held_by(program, folder) == HELD, what
+
+
 def left_behind(program):
     """What a crash left where a new log is made: a format makes its store beside it, which is opened, and neither looks at it."""
     with folder_of(**{"log.new": OLD}) as folder:
@@ -422,7 +593,7 @@ def left_behind(program):
 def not_replaced(_):
     """Where a call fails, the log is the old one or the new one, whole, and it is replaced the next time."""
     came = set()
-    for words, told in each_call(14):
+    for words, told in each_call(18):
         with folder_of(pages=formatted(), log=OLD) as folder:
             assert replace(folder, 1, NAMES="1", **words) == ((b"", 1) if told.exists() else (b"600 zeros\n", 0)), words
             files = files_of(folder)
@@ -460,7 +631,7 @@ def replaced_while_open(program):
             for _ in range(2):
                 process.stdin.write(b"\n")
                 process.stdin.flush()
-                assert process.stdout.readline() == b"600 zeros\n"
+                assert first_line(process) == b"600 zeros\n"
                 assert why_refused(program, folder) == b"fault open\n"
             folder.rename(top / "aside")
             make_folder(folder, **other)
@@ -510,30 +681,115 @@ def not_checkpointed(program):
         assert files_of(folder) == {"pages": bytes(formatted()), "log": base(2**50 - 2) + record(7, [2])}
 
 
-def checkpoints_that_fail(program):
-    """Where a call fails, or the program is killed in it, the log is the old one or the new one. The store holds what it held, and the
-    next checkpoint is made."""
-    old, held, came = b"".join(MESSAGES[:9]), {0: [(7, b"hello")]}, set()
-    for stops in ({}, {"STOPS": "1"}):
-        for words, told in each_call(20):
-            with folder_of(pages=formatted(), log=old) as folder:
-                printed, status = checkpoint(program, folder, NAMES="1", **stops, **words)
-                log = (folder / "log").read_bytes()
-                is_new = log == base(15, 2)
-                assert is_new or log.startswith(old), words
-                # the first three look at the standard streams
-                if told.exists() and (stops or int(words["FAIL_AT"]) > 3):
-                    assert status == (-signal.SIGKILL if stops else 1), (words, status)
-                    assert stops or printed.endswith((b"fault open\n", b"fault 3 DiskRead\n", b"fault 15 DiskWrite\n")), (words, printed)
-                    came.add((bool(stops), is_new))
-                else:
-                    assert is_new and status == 0, (words, printed)
-                with folder_of(**files_of(folder)) as copy:
-                    assert held_by(program, copy) == held, words
-                assert checkpoint(program, folder)[1] == 0, words
-                assert len((folder / "log").read_bytes()) == len(base(1)), words
-                assert held_by(program, folder) == held, words
-    assert len(came) == 4, came
+# ---- the power is cut
+
+# The calls of a checkpoint of a small store, and of a format, each with its file. Where the same is made again, it stands once.
+CHECKPOINT = [
+    "open null", "open pages", "lock pages", "fsync pages", "open log", "lock log", "fsync log", "read pages", "read log", "write log",
+    "fdatasync log", "write pages", "fdatasync pages", "open .", "remove log.new", "make log.new", "lock log.new", "mode log.new",
+    "write log.new", "fsync log.new", "rename log", "fsync .",
+]  # fmt: skip
+FORMAT = [
+    "open null", "make pages", "make log", "lock pages", "cut pages", "lock pages", "fsync pages", "write pages", "fdatasync pages",
+    "write pages", "fdatasync pages", "fsync log", "open .", "fsync .",
+]  # fmt: skip
+
+# Syncs of a checkpoint that are left out, and one that is made behind the new log has its name.
+LEFT_OUT = [{"LEFT_OUT": sync} for sync in ("fdatasync pages", "fsync log.new", "fsync .")]
+LEFT_OUT.append({"LEFT_OUT": "fdatasync pages", "LATE": "1"})
+
+# The store of that log, and the same where a Base stands for the beginning.
+WHOLE = {"pages": bytes(formatted()), "log": UNENDED}
+BASED = {"pages": files_behind(5, 3, ONE_SENT, [MESSAGE])["pages"], "log": base(4) + b"".join(MESSAGES[5:9])}
+
+
+class Power:
+    """A folder, and what a cut of the power leaves of it: the names that its last sync found, and of each file what its own last sync did.
+    What is there at first is synced."""
+
+    def __init__(self, folder, beside):
+        self.folder, self.beside, self.calls = folder, beside, beside / "calls"
+        self.words = {"POWER": str(beside), "CALLS": str(self.calls)}
+        files = [*folder.iterdir()]
+        for file in files:
+            (beside / str(file.stat().st_ino)).write_bytes(file.read_bytes())
+        (beside / "names").write_text("".join(f"{file.stat().st_ino} {file.name}\n" for file in files))
+
+    def left(self):
+        """The files that it leaves."""
+        numbers = [line.split(" ") for line in (self.beside / "names").read_text().splitlines()]
+        files = {name: self.beside / number for number, name in numbers if name not in (".", "..")}
+        return {name: file.read_bytes() if file.exists() else b"" for name, file in files.items()}
+
+    def holds(self, **files):
+        """What the store holds then, by the bytes, or with one of these files; None where it is not opened."""
+        files = {**self.left(), **files}
+        made = {"pages", "log"} <= {*files} and opening.said_of(files["pages"], files["log"])[1]
+        return {sender: held[4] for sender, held in made.pages.content().items() if held[4]} if made else None
+
+    def made(self):
+        """The calls that were made."""
+        return [line for line, _ in itertools.groupby(self.calls.read_text().splitlines())]
+
+
+@contextmanager
+def powered(**files):
+    with folder_of(**files) as folder, folder_of() as beside:
+        yield Power(folder, beside)
+
+
+def power_is_cut(program):
+    """The power is cut in each call of a checkpoint: what was synced holds what the store held, also where pages are on the disk before that.
+    Behind a whole one it is all, and so is what is committed then."""
+    for files in (WHOLE, BASED):
+        for words, told in each_call(28):
+            with powered(**files) as power:
+                checkpoint(program, power.folder, NAMES="1", STOPS="1", **words, **power.words)
+                assert power.holds() == power.holds(pages=files_of(power.folder)["pages"]) == HELD, words
+                if not told.exists():
+                    assert power.made() == CHECKPOINT, power.made()
+                    assert power.left() == {**files_of(power.folder), "log": base(15, 2)}
+                    commits(program, power, words)
+    assert [cuts_that_lose(program, left_out) > 0 for left_out in ({}, *LEFT_OUT)] == [False, True, True, True, True]
+
+
+def cuts_that_lose(program, left_out):
+    """Where a sync is left out or comes late: how often a checkpoint is cut so that the store holds something else, or is not the one
+    that it has made."""
+    lose = 0
+    for words, told in each_call(29 if "LATE" in left_out else 28):
+        with powered(**WHOLE) as power:
+            checkpoint(program, power.folder, NAMES="1", STOPS="1", **words, **power.words, **left_out)
+            lose += power.holds() != HELD or not told.exists() and power.left() != files_of(power.folder)
+    return lose
+
+
+def commits(program, power, words):
+    """What is committed is there behind a cut of the power."""
+    held = power.holds()
+    words = {**power.words, "LD_PRELOAD": words["LD_PRELOAD"]}
+    server = Server(program, power.folder, environment=words)
+    with server.connect() as connection, connection.transaction() as transaction:
+        transaction.send(1, 8, b"more")
+    server.kill()
+    assert power.holds() == {**held, 1: [(8, b"more")]}, power.holds()
+
+
+def power_is_cut_in_a_format(program):
+    """The power is cut in each call of a format: there is no store, or an empty one. Behind a whole one it is all there, and so is what is
+    committed then. Where a sync is left out, it is not."""
+    for words, told in each_call(18):
+        with powered() as power:
+            format_store(program, power.folder, NAMES="1", STOPS="1", **words, **power.words)
+            assert power.holds() in (None, {}), words
+            if not told.exists():
+                assert power.made() == FORMAT, power.made()
+                assert power.left() == files_of(power.folder)
+                commits(program, power, words)
+    for left_out in ("fdatasync pages", "fsync ."):
+        with failing(SHIM) as (_, words), powered() as power:
+            assert format_store(program, power.folder, **words, **power.words, LEFT_OUT=left_out)[1] == 0
+            assert power.left() != files_of(power.folder), left_out
 
 
 def why_refused(program, folder):
@@ -553,7 +809,7 @@ def make_folder(folder, **files):
 def last_force(program):
     """A server that ends by itself tells where its last force is refused, since a call failed there or before it."""
     refused_forces = 0
-    for words, told in each_call(6):
+    for words, told in each_call(*range(10, 14)):
         with folder_of(pages=formatted(), log=b"") as folder:
             try:
                 server = Server(program, folder, "--sessions", 1, environment=words)
@@ -597,7 +853,8 @@ def is_failed(server):
 
 TESTS = [
     made, there, no_folder, open_once, messages, log_of_all, formats, courses, torn_ends, last_force,
-    replaced, left_behind, not_replaced, no_room, replaced_while_open, checkpointed, not_checkpointed, checkpoints_that_fail,
+    replaced, left_behind, not_replaced, no_room, replaced_while_open, checkpointed, not_checkpointed, odd_fresh_names, power_is_cut,
+    power_is_cut_in_a_format,
 ]  # fmt: skip
 
 # What looks at the bytes of each file.

@@ -29,10 +29,10 @@ from contextlib import contextmanager
 import opening
 from cases import built
 from damaged import formatted
-from files import files_of, folder_of, format_store
+from files import NO_FILES, checkpoint, files_of, folder_of, format_store, held_by
 from kill import Kills
 from server import (
-    BEGIN, LENGTHS, LONGEST, STORE_FAILED, Client, Connection, NotStarted, Server, broken_off, compare, everything, frame_of,
+    BEGIN, LENGTHS, LONGEST, STORE_FAILED, Client, Connection, NotStarted, Server, broken_off, compare, everything, first_line, frame_of,
     in_threads, raises, read_bytes, read_to_end, reset, serving, store, wait_until,
 )  # fmt: skip
 from shim import failing
@@ -158,6 +158,10 @@ def closed_streams(program, _):
             made = opening.Opening(left["pages"], left["log"])
             assert made.pages.content()[0] == (1, 7, 0, False, [(7, b"hello")]), closed
             assert without(closed, [program, "inspect", str(folder)]).wait(LONGEST) == 0, closed
+            assert without(closed, [program, "checkpoint", str(folder)]).wait(LONGEST) == 0, closed
+            _, log, held = opening.checkpointed(left["pages"], left["log"])
+            left = files_of(folder)
+            assert left["log"] == log and opening.Opening(left["pages"], log).pages.content() == held.pages.content(), closed
 
 
 def without(closed, command):
@@ -189,13 +193,38 @@ def full_streams(program, _):
             words = ["--directory", "1", "--cells", "2"]
             for command, given in (
                 (["format", str(folder), *words], b""), (["inspect", str(folder)], b""), (["serve", str(folder), "--port", "0"], b""),
-                (["run", *words], script),
+                (["run", *words], script), (["checkpoint", str(folder)], b""),
             ):  # fmt: skip
                 with unwritable(name) as out:
                     ran = subprocess.run([program, *command], input=given, stdout=out, stderr=subprocess.DEVNULL, timeout=LONGEST)
                 assert ran.returncode == 1, (name, command, ran.returncode)
+            with unwritable(name) as out:
+                served_at(program, folder, 0, stderr=out)
             with serving(program, folder) as server, server.connect() as connection:
                 assert everything(connection) == {}
+
+
+def served_at(program, folder, port, stderr=subprocess.DEVNULL):
+    """Serves a store at a port, and answers it. The server is killed while somebody is connected."""
+    command = [program, "serve", str(folder), "--port", str(port)]
+    with subprocess.Popen(command, stdout=subprocess.PIPE, stderr=stderr) as server:
+        try:
+            line = first_line(server)
+            with Connection(int(line.split(b":")[1]), timeout=LONGEST) as connection:
+                assert connection.last_tag(0) == (0, 0)
+                server.kill()
+                server.wait(LONGEST)
+        finally:
+            server.kill()
+    return int(line.split(b":")[1])
+
+
+def same_port(program, _):
+    """A server that was killed under its clients is started again at once, at the same port."""
+    with store(program) as folder:
+        port = served_at(program, folder, 0)
+        for _ in range(5):
+            assert served_at(program, folder, port) == port
 
 
 @contextmanager
@@ -214,17 +243,20 @@ def unwritable(name):
 # ---- little of what the system gives
 
 
-def limited(program, folder, *limits, environment=None):
-    """What a server comes to under limits, once it listens or ends: what it prints first, and its status then."""
+SERVE, CHECKPOINT = ("serve", "--port", "0"), ("checkpoint",)
+
+
+def limited(program, folder, *limits, environment=None, words=SERVE):
+    """What a server, or another command, comes to under limits, once it listens or ends: what it prints, and its status then."""
 
     def limit():
         for kind, most in limits:
             resource.setrlimit(kind, (most, most))
 
     with tempfile.TemporaryFile() as told:
-        command, words = [program, "serve", str(folder), "--port", "0"], dict(os.environ, **(environment or {}))
-        process = subprocess.Popen(command, stdout=subprocess.PIPE, stderr=told, preexec_fn=limit, env=words)
-        line = process.stdout.readline()
+        command, environment = [program, *words, str(folder)], dict(os.environ, **(environment or {}))
+        process = subprocess.Popen(command, stdout=subprocess.PIPE, stderr=told, preexec_fn=limit, env=environment)
+        line = first_line(process)
         if line.startswith(b"listening "):
             process.kill()
         rest, _ = process.communicate(timeout=LONGEST)
@@ -232,23 +264,30 @@ def limited(program, folder, *limits, environment=None):
 
 
 def little_at_start(program, _):
-    """Whatever little memory or few files there are: it listens, or says why not, with status 1. What it cannot be loaded with is the
-    loader's to say, with 127."""
-    seen = set()
+    """Whatever little memory or few files there are: a server listens, and a checkpoint is made, or it says why not, with status 1. What it
+    cannot be loaded with is the loader's to say, with 127."""
     with store(program, 1, 400) as folder:
         before = files_of(folder)
-        for kind, sizes in ((resource.RLIMIT_AS, memory_sizes()), (resource.RLIMIT_NOFILE, range(3, 24))):
-            for most in sizes:
-                line, status = limited(program, folder, (kind, most))
-                seen.add((kind, line if line in FAULTS else line[:9], status))
-                if line.startswith(b"listening "):
-                    continue
-                is_unloaded = most < (2**23 if kind == resource.RLIMIT_AS else 5) and not line and status in (1, 127, -signal.SIGKILL)
-                assert (line in FAULTS and status == 1) or is_unloaded, (kind, most, line, status)
+        for kind, sizes, least in ((resource.RLIMIT_AS, memory_sizes(), 2**23), (resource.RLIMIT_NOFILE, range(3, 24), 5)):
+            for words in (SERVE, CHECKPOINT):
+                came = {told_by(limited(program, folder, (kind, most), words=words), most < least) for most in sizes}
+                assert {"done", "fault"} <= came, (kind, words, came)
         left = files_of(folder)
         opening.Opening(left["pages"], left["log"])
         assert left["pages"] == before["pages"]
-    assert (resource.RLIMIT_AS, b"fault 1 NoMemory\n", 1) in seen and (resource.RLIMIT_AS, b"listening", -signal.SIGKILL) in seen, seen
+
+
+def told_by(came, may_be_unloaded):
+    """How a server or a checkpoint ended."""
+    printed, status = came
+    if printed.startswith(b"listening ") or b"\ncheckpoint " in printed:
+        assert status in (0, -signal.SIGKILL), came
+        return "done"
+    if may_be_unloaded and not printed and status in (1, 127, -signal.SIGKILL):
+        return "unloaded"
+    *_, last = printed.splitlines(keepends=True) or [b""]
+    assert last in FAULTS and status == 1, came
+    return "fault"
 
 
 def memory_sizes():
@@ -439,19 +478,6 @@ def no_files(program, _):
             assert os.lstat(path).st_mode == before, (name, what)
 
 
-def bind_socket(path):
-    with socket.socket(socket.AF_UNIX) as stream:
-        stream.bind(str(path))
-
-
-NO_FILES = {
-    "a pipe": os.mkfifo, "a folder": os.mkdir, "a socket": bind_socket, "a device": lambda path: path.symlink_to("/dev/null"),
-    "a device that is full": lambda path: path.symlink_to("/dev/full"), "a device of zeros": lambda path: path.symlink_to("/dev/zero"),
-    "a terminal": lambda path: path.symlink_to("/dev/ptmx"), "a link to itself": lambda path: path.symlink_to(path),
-    "a link to nothing": lambda path: path.symlink_to(path.parent / "none"),
-}  # fmt: skip
-
-
 def long_pages(program, _):
     """A terabyte of holes behind the pages: the store is served as ever, and its pages are written, round by round."""
     with store(program, 1, 2) as folder:
@@ -487,7 +513,7 @@ def two_programs(program, chosen):
             assert made == [b"fault exists\n"] * 5 + [b"formatted 1 20\n"], made
             assert files_of(folder) == {"pages": bytes(formatted(1, 20)), "log": b""}
             servers = list(pool.map(started, [["serve", str(folder), "--port", "0"]] * 6))
-            lines = [server.stdout.readline() for server in servers]
+            lines = [first_line(server) for server in servers]
             try:
                 (one,) = [at for at, line in enumerate(lines) if line != b"fault open\n"]
                 assert [server.wait(LONGEST) for at, server in enumerate(servers) if at != one] == [1] * 5, lines
@@ -504,6 +530,70 @@ def two_programs(program, chosen):
                     server.communicate()
             with serving(program, folder) as server, server.connect() as connection:
                 assert everything(connection) == {0: [(tag, b"") for tag in range(1, 30)]}
+
+
+# The opening of a log makes the file OPENED, and waits for the file GO.
+HELD_OPEN = """#define _GNU_SOURCE
+#include <dlfcn.h>
+#include <fcntl.h>
+#include <stdarg.h>
+#include <stdlib.h>
+#include <string.h>
+#include <unistd.h>
+
+int open(const char *path, int how, ...) {
+    static int (*next)(const char *, int, ...);
+    va_list rest;
+    va_start(rest, how);
+    mode_t mode = how & O_CREAT ? va_arg(rest, mode_t) : 0;
+    va_end(rest);
+    if (!next) next = (int (*)(const char *, int, ...)) dlsym(RTLD_NEXT, "open");
+    int file = next(path, how, mode);
+    const char *name = strrchr(path, '/');
+    if (name && !strcmp(name, "/log")) {
+        close(next(getenv("OPENED"), O_WRONLY | O_CREAT, 0666));
+        while (access(getenv("GO"), F_OK)) usleep(1000);
+    }
+    return file;
+}
+"""
+
+
+def checkpoint_beside_a_start(program, chosen):
+    """A server that has just opened its log has the store to itself: no checkpoint is made, and what it commits is there at the next start.
+    Of servers and checkpoints that begin at once one has the store at a time, and it holds what it held."""
+    with failing(HELD_OPEN) as (beside, words), store(program, 1, 10) as folder, ThreadPoolExecutor(1) as pool:
+        opened, go = beside / "opened", beside / "go"
+        starting = pool.submit(Server, program, folder, environment={**words, "OPENED": str(opened), "GO": str(go)})
+        try:
+            wait_until(opened.exists)
+            assert checkpoint(program, folder) == (b"fault open\n", 1)
+        finally:
+            go.touch()
+            server = starting.result()
+        with server.connect() as connection:
+            send_many(connection, {}, 0, range(1, 2))
+        server.kill()
+        draw = random.Random(chosen.seed)
+        came = {begun_at_once(program, folder, draw) for _ in range(chosen.rounds)}
+        assert [tag for tag, _ in held_by(program, folder)[0]] == [1]
+    assert len(came) > 1, came
+
+
+def begun_at_once(program, folder, draw):
+    """Of three servers and three checkpoints, in any order: how many listen, and how many are made."""
+    kinds, processes = draw.sample([SERVE, CHECKPOINT] * 3, 6), []
+    for words in kinds:
+        time.sleep(draw.uniform(0, 0.003))
+        processes.append(subprocess.Popen([program, *words, str(folder)], stdout=subprocess.PIPE, stderr=subprocess.DEVNULL))
+    lines = [first_line(process) for process in processes]
+    for words, process in zip(kinds, processes):
+        if words == SERVE:
+            process.kill()
+    told = [line + process.communicate(timeout=LONGEST)[0] for line, process in zip(lines, processes)]
+    listening, made = (sum(words in line for line in told) for words in (b"listening ", b"\ncheckpoint "))
+    assert listening <= 1 and listening + made + told.count(b"fault open\n") == 6, told
+    return listening, made
 
 
 def other_files(program, _):
@@ -588,10 +678,11 @@ def no_rights(program, _):
         assert (ran.stdout, ran.returncode) == (b"fault open\n", 1), ran
         command = [mine, "serve", folder, "--port", "0"]
         for before, behind in ((0o555, 0o555), (0o755, 0o555), (0o755, 0)):
+            keeps_owner(program, folder)
             folder.chmod(before)
             server = subprocess.Popen(command, stdout=subprocess.PIPE, stderr=subprocess.DEVNULL, preexec_fn=nobody)
             try:
-                port = int(server.stdout.readline().split(b":")[1])
+                port = int(first_line(server).split(b":")[1])
                 folder.chmod(behind)
                 with Connection(port, timeout=LONGEST) as connection, connection.transaction() as transaction:
                     transaction.send(0, 1, b"")
@@ -600,6 +691,25 @@ def no_rights(program, _):
                 server.kill()
                 server.communicate()
                 folder.chmod(0o755)
+        if os.geteuid() == 0:
+            (folder / "log").chmod(0o666)
+            os.chown(folder / "log", 0, 0)
+            ran = subprocess.run([mine, "checkpoint", folder], capture_output=True, preexec_fn=nobody, timeout=LONGEST)
+            assert (ran.stdout.splitlines()[1:], ran.returncode) == ([b"fault 15 DiskWrite"], 1), ran
+            keeps_owner(program, folder)
+    return "also as root" if os.geteuid() == 0 else "not as root"
+
+
+def keeps_owner(program, folder):
+    """A checkpoint keeps who the log belongs to and who may read it, whoever makes it."""
+    log = folder / "log"
+    log.chmod(0o600)
+    before = log.stat()
+    printed, status = checkpoint(program, folder)
+    assert b"\ncheckpoint " in printed and status == 0, (printed, status)
+    behind = log.stat()
+    assert behind.st_ino != before.st_ino, "the log is the old one"
+    assert (behind.st_uid, behind.st_gid, behind.st_mode) == (before.st_uid, before.st_gid, before.st_mode), (before, behind)
 
 
 def vanished_folder(program, _):
@@ -674,7 +784,7 @@ def small_disk(program, _):
             words["ROOM"] = str((size - 36) * 1024)
             fill_disk(program, pathlib.Path(top), words)
     mounted = sum(fill_file_system(program, size) for size in DISKS) if os.geteuid() == 0 else 0
-    return f"{len(DISKS)} by a library, {mounted} file systems"
+    return f"{len(DISKS)} by a library, " + (f"{mounted} file systems" if mounted else "and no file system may be mounted here")
 
 
 def fill_file_system(program, size):
@@ -699,8 +809,9 @@ def fill_disk(program, top, words, grow=lambda: None):
         acknowledged = send_until_full(connection)
         raises(Failed, connection.transaction)
         assert server.tells()[1:] == [STORE_FAILED], server.tells()
-    line, status = limited(program, folder, environment=words)  # what a start needs may find no room
-    assert line.startswith(b"listening ") or (line, status) == (b"fault 15 DiskWrite\n", 1), (line, status)
+    for command in (SERVE, CHECKPOINT):  # what a start needs may find no room
+        came = limited(program, folder, environment=words, words=command)
+        assert told_by(came, False) == "done" or came[0].endswith(b"fault 15 DiskWrite\n"), came
     grow()
     with serving(program, folder) as server, server.connect() as connection:
         tags = [tag for tag, _ in everything(connection).get(0, [])]
@@ -794,6 +905,8 @@ def short_calls(program, chosen):
                 with serving(program, folder, environment=words) as server:
                     load.look(server)
                     load.round(server, 0.4, server.kill)
+                printed, status = checkpoint(program, folder, **words)
+                assert b"\ncheckpoint " in printed and status == 0, (printed, status)
             with serving(program, folder, environment=words) as server:
                 load.look(server, is_last=True)
             assert sum(load.sent) > 50, load.sent
@@ -982,8 +1095,9 @@ def long_session(program, chosen, workers):
 
 
 TESTS = [
-    signals, any_signal, pauses, closed_streams, full_streams, little_at_start, little_under_load, held_calls, file_limit, no_files,
-    long_pages, two_programs, other_files, no_rights, vanished_folder, moved_folder, small_disk, short_calls, any_frames,
+    signals, any_signal, pauses, closed_streams, full_streams, same_port, little_at_start, little_under_load, held_calls, file_limit,
+    no_files, long_pages, two_programs, checkpoint_beside_a_start, other_files, no_rights, vanished_folder, moved_folder, small_disk,
+    short_calls, any_frames,
 ]  # fmt: skip
 
 

@@ -1,6 +1,7 @@
 #!/usr/bin/env python3
-"""Kills `rqm serve` by SIGKILL in the midst of load, again and again, on one store in a temporary folder. Each time it looks what the
-store holds once it is open again. Nothing that was acknowledged is lost, nothing comes twice, and each group is in order.
+"""Kills `rqm serve` by SIGKILL in the midst of load, again and again, on one store in a temporary folder. Between these, `rqm checkpoint`
+is run, and every other time killed. Each time it looks what the store holds once it is open again. Nothing that was acknowledged is lost,
+nothing comes twice, and each group is in order.
 
     python3 tests/kill.py [--program PROGRAM] [--seed N] [--rounds N]
 
@@ -30,10 +31,10 @@ class Load:
     for another group, in one transaction."""
 
     def __init__(self):
-        # the last tag of each sender that is known to be committed, and the next that has to come out of each group
-        self.sent = [0] * GROUPS
+        # the last tag of each sender that is known to be committed, the last of each group that is known to be moved, and the next that has
+        # to come out behind that
+        self.sent, self.moved, self.next_out = [0] * GROUPS, [0] * GROUPS, [1] * GROUPS
         self.lost = []  # connections that ended before their work
-        self.next_out = [1] * GROUPS
 
     def send(self, server, group):
         with server.connect() as connection:
@@ -54,6 +55,8 @@ class Load:
                         message = transaction.receive_from(group)
                         if message:
                             transaction.send(GROUPS + group, message.tag, message.body)
+                    if message:
+                        self.moved[group] = message.tag
                 except Full:
                     message = None
                 if not message:
@@ -77,13 +80,14 @@ class Load:
 
     def look(self, server, is_last=False):
         """Looks what the store holds: nothing acknowledged is missing, and the one commit of each sender that was not answered is there
-        or not. What was moved comes out in order and once; at last, all does."""
+        or not. What was moved comes out in order and once, and all of it that was acknowledged; at last, all does."""
         with server.connect() as connection:
             for group in range(GROUPS):
                 last = connection.last_tag(group)
                 assert last.tag == last.sent and last.tag in (self.sent[group], self.sent[group] + 1), (last, self.sent)
                 self.sent[group] = last.tag
                 self.drain(connection, GROUPS + group, group)
+                assert self.next_out[group] > self.moved[group], (self.next_out, self.moved)
                 if is_last:
                     self.drain(connection, group, group)
                     assert self.next_out[group] == last.tag + 1, (self.next_out[group], last)
@@ -106,6 +110,11 @@ def body_of(group, tag):
     return b"%d of %d" % (tag, group)
 
 
+def has_base(folder):
+    """Whether the log of a store begins with a Base."""
+    return (folder / "log").read_bytes()[4:5] == b"\x09"
+
+
 class Kills:
     """A store, and how often a server on it was killed."""
 
@@ -113,7 +122,7 @@ class Kills:
         self.program, self.folder = program, folder
         self.random = random.Random(seed)
         self.load = Load()
-        self.kills = self.torn = 0
+        self.kills = self.torn = self.checkpoints = self.cut_off = self.based = 0
 
     @contextmanager
     def running(self):
@@ -125,17 +134,35 @@ class Kills:
 
     def started(self):
         self.torn += torn_end(self.folder) > 0
+        self.based += has_base(self.folder)
         server = Server(self.program, self.folder, "--workers", self.random.choice((1, 3)))
         assert not torn_end(self.folder)
         return server
 
-    def round(self):
+    def round(self, number):
         if self.random.random() < 0.2:
             self.kill_at_start()
+        if number % 4 == 3:
+            self.checkpoint(is_cut_off=number % 8 == 7)
         with self.running() as server:
             self.load.look(server)
             self.load.round(server, self.random.uniform(0.02, 0.3), server.kill)
         self.kills += 1
+
+    def checkpoint(self, is_cut_off):
+        """Has the log made one record; that may be cut off anywhere."""
+        command = [self.program, "checkpoint", str(self.folder)]
+        with subprocess.Popen(command, stdout=subprocess.PIPE, stderr=subprocess.DEVNULL) as process:
+            if is_cut_off:
+                time.sleep(self.random.uniform(0, 0.05))
+                process.kill()
+            printed, _ = process.communicate(timeout=LONGEST)
+        is_made = process.returncode == 0
+        assert is_made or is_cut_off and process.returncode == -signal.SIGKILL, (process.returncode, printed)
+        assert (b"\ncheckpoint " in printed) or not is_made, printed
+        assert has_base(self.folder) or not is_made
+        self.checkpoints += is_made
+        self.cut_off += not is_made
 
     def kill_at_start(self, number=signal.SIGKILL):
         """Ends a server that has hardly begun to open the store."""
@@ -157,14 +184,16 @@ def main():
     before = time.monotonic()
     with store(program, 1, 400) as folder:
         kills = Kills(program, folder, chosen.seed)
-        for _ in range(chosen.rounds):
-            kills.round()
+        for number in range(chosen.rounds):
+            kills.round(number)
         with kills.running() as server:
             kills.load.look(server, is_last=True)
     sent = sum(kills.load.sent)
     assert sent > 10 * chosen.rounds, sent
+    assert kills.checkpoints and kills.cut_off and kills.based or chosen.rounds < 20, vars(kills)
     seconds = time.monotonic() - before
-    print(f"killed {kills.kills} times among {sent} sends, {kills.torn} torn ends cut: {seconds:.0f} s")
+    made = f"{kills.checkpoints} checkpoints, {kills.cut_off} cut off, {kills.based} starts behind a Base"
+    print(f"killed {kills.kills} times among {sent} sends, {kills.torn} torn ends cut, {made}: {seconds:.0f} s")
 
 
 if __name__ == "__main__":

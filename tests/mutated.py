@@ -1,7 +1,8 @@
 #!/usr/bin/env python3
 """Changes the bytes of stores that runs of `rqm serve` left, by seeds. Their logs are cut, spliced, shuffled, or have other fields and
 lengths that fit again, and pages change too. Of some logs a Base stands for the beginning. An inspection and an opening have to come to
-what tests/opening.py reads from the bytes, in time. A store that is opened holds that, and one that is refused stays as it is.
+what tests/opening.py reads from the bytes, in time. A store that is opened holds that, also behind a checkpoint, and one that is refused
+stays as it is.
 
     python3 tests/mutated.py [--rqm PROGRAM] [--bench PROGRAM] [--first SEED] [--stores N] [--counts]
 
@@ -357,8 +358,24 @@ class Looks:
                     yield "it left other files"
                 put_files(folder, pages, log)
             yield from self.serves(folder, said, made, left)
-            if not made and ((folder / "log").read_bytes(), (folder / "pages").read_bytes()) != (log, pages):
+            if not made and files_in(folder) != (pages, log):
                 yield "it is refused, and its files have changed"
+            put_files(folder, pages, log)
+            yield from self.checkpoints(folder, pages, log)
+
+    def checkpoints(self, folder, pages, log):
+        """What is wrong with a checkpoint of this store, which is there."""
+        printed, left, made = opening.checkpointed(pages, log)
+        ran = subprocess.run([self.rqm, "checkpoint", folder], capture_output=True, timeout=LONGEST)
+        if (ran.stdout.decode(), ran.stderr, ran.returncode) != (printed, b"", int("fault " in printed)):
+            yield f"checkpoint says {ran.stdout}, {ran.stderr}, {ran.returncode}, and not {printed}"
+        left_pages, left_log = files_in(folder)
+        if left_log != left:
+            yield f"checkpoint leaves the log {left_log[:100]}, and not {left[:100]}"
+        elif "fault " in printed and left_pages != pages:
+            yield "no checkpoint is made, and the pages have changed"
+        elif "fault " not in printed and opening.Opening(left_pages, left_log).pages.content() != made.pages.content():
+            yield "it holds something else behind a checkpoint"
 
     def serves(self, folder, said, made, left):
         held = {}
@@ -381,6 +398,10 @@ class Looks:
 def put_files(folder, pages, log):
     (folder / "pages").write_bytes(pages)
     (folder / "log").write_bytes(log)
+
+
+def files_in(folder):
+    return (folder / "pages").read_bytes(), (folder / "log").read_bytes()
 
 
 def read_all(connection, made):

@@ -369,3 +369,13 @@ def said_of(pages, log):
     left = log[:at] + b"".join(opening.added)
     said = f"restarted {opening.incarnation} unfinished {opening.unfinished} lost {opening.lost}"
     return said, opening, left
+
+
+def checkpointed(pages, log):
+    """What `rqm checkpoint` prints of a store, its log then, and the opening where it is made."""
+    said, made, left = said_of(pages, log)
+    if made is None:
+        return "fault 16 Damaged\n" if said.startswith("damaged") else f"{said}\n", log, None
+    if made.records == LONGEST:
+        return f"{said}\nfault 19 LogFull\n", left, made
+    return f"{said}\ncheckpoint {made.records + 1}\n", record(9, [made.records, made.incarnation]), made

@@ -18,6 +18,7 @@ import struct
 import subprocess
 import sys
 import tempfile
+import threading
 import time
 from collections import Counter
 from concurrent.futures import ThreadPoolExecutor
@@ -76,6 +77,7 @@ SENT = bytes.fromhex("0001 82")
 FAULTS = [
     "0201", "0000", "ffff", "0001 00", "0001 09", "0001 0c", "0001 81", "0009 ff", "0002 01 00", "0002 03 00", "0002 06 00",
     "0002 07 00", "0001 04", "0004 04 000000", "0006 04 00000000 00", "0001 05", "0001 08", "000c 02 00000000 00000000000000",
+    "0005 0c", "0200 0c",
 ]  # fmt: skip
 
 COMMIT, ABORT = bytes.fromhex("0001 06"), bytes.fromhex("0001 07")
@@ -150,7 +152,7 @@ static int noted(int answer) {
 }
 
 int fsync(int file) { return noted(NEXT(fsync)(file)); }
-int fdatasync(int file) { return noted(NEXT(fdatasync)(file)); }
+int fdatasync(int file) { return fails("fdatasync", EIO) ? -1 : noted(NEXT(fdatasync)(file)); }
 
 int pthread_create(pthread_t *thread, const pthread_attr_t *with, void *(*run)(void *), void *given) {
     static atomic_int made;
@@ -179,7 +181,7 @@ class Server:
         self.process = subprocess.Popen(
             command, stdin=stdin, stdout=subprocess.PIPE, stderr=self.told, preexec_fn=limit, env=words
         )
-        line = self.process.stdout.readline()
+        line = first_line(self.process)
         listening = re.fullmatch(rb"listening 127\.0\.0\.1:([0-9]+)\n", line)
         if not listening:
             self.process.wait(LONGEST)
@@ -209,6 +211,16 @@ class Server:
         self.process.kill()
         self.process.wait()
         self.process.stdout.close()
+
+
+def first_line(process):
+    """What a process prints next, up to the end of a line, and nothing behind it. One that does not in time is killed."""
+    line, slow = b"", threading.Timer(LONGEST, process.kill)
+    slow.start()
+    while not line.endswith(b"\n") and (byte := os.read(process.stdout.fileno(), 1)):
+        line += byte
+    slow.cancel()
+    return line
 
 
 class NotStarted(Exception):
@@ -536,15 +548,49 @@ def shared_forces(program, _):
                 stream.sendall(COMMIT)
             for stream in opened:
                 read_bytes(stream, 11)
-            assert syncs.stat().st_size - before <= 8, "16 commits"
+            assert 0 < syncs.stat().st_size - before <= 8, "16 commits"
             time.sleep(1.5)
             before, until = syncs.stat().st_size, time.monotonic() + 0.5
             while time.monotonic() < until:
                 opened[0].sendall(BEGIN + ABORT)
                 read_bytes(opened[0], len(BEGUN) + 8 + 3)
             assert syncs.stat().st_size - before <= 4, "aborts"
+            wait_until(lambda: syncs.stat().st_size > before, 3)
             for stream in opened:
                 stream.close()
+
+
+def failing_force(program, _):
+    """Commits that wait for a force that fails are all refused, and so is what comes then. Behind the next start each is there or not, and
+    so is what was acknowledged."""
+    with failing(SHIM) as (beside, words), store(program, 2, 4) as folder:
+        words["FAILING"], fails = str(beside), beside / "fdatasync"
+        with serving(program, folder, environment=words) as server:
+            with server.connect() as connection, connection.transaction() as transaction:
+                transaction.send(0, 1, b"kept")
+            opened = [server.raw() for _ in range(16)]
+            for sender, stream in enumerate(opened, 1):
+                stream.sendall(BEGIN + frame_of(2, struct.pack(">IQ", sender, 7)))
+                assert read_bytes(stream, len(BEGUN) + 8 + len(SENT)).endswith(SENT)
+            fails.touch()
+            for stream in opened:
+                stream.sendall(COMMIT)
+            for stream in opened:
+                assert read_bytes(stream, 4) in (bytes.fromhex("0002 ff 02"), bytes.fromhex("0002 ff 0f"))
+                stream.sendall(LAST_TAG)
+                assert read_bytes(stream, 4) == bytes.fromhex("0002 ff 02")
+                stream.close()
+            spent = processor_time(server)
+            time.sleep(1)
+            assert processor_time(server) - spent < 0.3, "it waits busily"
+            with server.connect() as connection:
+                raises(Failed, connection.transaction)
+            assert server.tells()[1:] == [STORE_FAILED], server.tells()
+        with serving(program, folder) as server, server.connect() as connection:
+            held = everything(connection)
+        assert held.pop(0) == [(1, b"kept")] and all(left == [(7, b"")] for left in held.values()), held
+        assert {*held} <= {*range(1, 17)}, held
+    return f"{len(held)} of 16 commits are there"
 
 
 def ends_inside_a_frame(program, _):
@@ -652,27 +698,35 @@ def input_ends(program, _):
 
 
 def silent_reader(program, _):
-    """Nobody waits for a client that asks much and does not read; once it reads it has all its answers."""
-    with store(program) as folder, serving(program, folder, "--workers", 1) as server:
-        with server.raw() as greedy, server.connect() as other:
-            greedy.setblocking(False)
-            asked = waited = 0
-            until = time.monotonic() + LONGEST
-            while waited < 20:
-                assert time.monotonic() < until, "the server reads without an end"
-                try:
-                    asked += greedy.send((LAST_TAG * 2000)[asked % len(LAST_TAG) :])
-                    waited = 0
-                except BlockingIOError:
-                    waited += 1
-                    before = time.monotonic()
-                    assert other.last_tag(0) == (0, 0)
-                    assert time.monotonic() - before < 1, "another connection waits for one that does not read"
-                    time.sleep(0.01)
-            greedy.setblocking(True)
-            greedy.settimeout(LONGEST)
-            frames = asked // len(LAST_TAG)
-            assert read_bytes(greedy, frames * len(NO_TAG)) == NO_TAG * frames
+    """Nobody waits for a client that asks much and does not read; once it reads it has all its answers, also where it has said all."""
+    with store(program) as folder, serving(program, folder, "--workers", 1) as server, server.connect() as other:
+        for has_said_all in (False, True):
+            with server.raw() as greedy:
+                frames = ask_until_full(greedy, other)
+                if has_said_all:
+                    greedy.shutdown(socket.SHUT_WR)
+                greedy.settimeout(LONGEST)
+                assert read_bytes(greedy, frames * len(NO_TAG)) == NO_TAG * frames
+                assert not has_said_all or read_to_end(greedy) == b""
+
+
+def ask_until_full(greedy, other):
+    """Asks until the server takes no more, and another connection does not wait meanwhile: how many whole frames it took."""
+    greedy.setblocking(False)
+    asked = waited = 0
+    until = time.monotonic() + LONGEST
+    while waited < 20:
+        assert time.monotonic() < until, "the server reads without an end"
+        try:
+            asked += greedy.send((LAST_TAG * 2000)[asked % len(LAST_TAG) :])
+            waited = 0
+        except BlockingIOError:
+            waited += 1
+            before = time.monotonic()
+            assert other.last_tag(0) == (0, 0)
+            assert time.monotonic() - before < 1, "another connection waits for one that does not read"
+            time.sleep(0.01)
+    return asked // len(LAST_TAG)
 
 
 def slow_clients(program, _):
@@ -711,10 +765,47 @@ def few_descriptors(program, _):
             stream.sendall(BEGIN)
         told = [b"no more files may be opened: connections wait until others end"]
         wait_until(lambda: server.tells()[1:] == told)
+        spent = processor_time(server)
+        time.sleep(1)
+        assert processor_time(server) - spent < 0.3, "it waits busily"
+        assert read_bytes(waiting[0], len(BEGUN) + 8).startswith(BEGUN)
+        waiting[0].sendall(LAST_TAG)
+        assert read_bytes(waiting[0], len(NO_TAG)) == NO_TAG
+        waiting.pop(0).close()
         for stream in waiting:  # each is answered at last, as those before it end
             assert read_bytes(stream, len(BEGUN) + 8).startswith(BEGUN)
             stream.close()
         assert server.tells()[1:] == told
+
+
+def processor_time(server):
+    """How many seconds of processors a server has taken."""
+    times = pathlib.Path(f"/proc/{server.process.pid}/stat").read_text().rsplit(")", 1)[1].split()
+    return (int(times[11]) + int(times[12])) / os.sysconf("SC_CLK_TCK")
+
+
+def leaves_nothing(program, _):
+    """Connections that have ended, in whatever way, keep no open file."""
+    ways = {
+        "closed": lambda stream: None, "reset amid a frame": lambda stream: (stream.sendall(LAST_TAG[:4]), reset(stream)),
+        "a fault": lambda stream: (stream.sendall(bytes(2)), read_to_end(stream)),
+        "shut down": lambda stream: (stream.shutdown(socket.SHUT_WR), read_to_end(stream)),
+        "reset with a transaction": lambda stream: (stream.sendall(BEGIN), read_bytes(stream, len(BEGUN) + 8), reset(stream)),
+    }  # fmt: skip
+    with store(program) as folder, serving(program, folder) as server, server.connect() as other:
+        assert other.last_tag(0) == (0, 0)
+        before = open_files(server)
+        for name, end in ways.items():
+            for _ in range(300):
+                with server.raw() as stream:
+                    end(stream)
+            wait_until(lambda: open_files(server) == before)
+            send_when_free(other, 0, 1, name.encode())
+        assert [body for _, body in everything(other)[0]] == [name.encode() for name in ways]
+
+
+def open_files(server):
+    return len(os.listdir(f"/proc/{server.process.pid}/fd"))
 
 
 def many_connections(program, _):
@@ -728,6 +819,8 @@ def many_connections(program, _):
             stream.sendall(BEGIN)
         begun = {read_bytes(stream, len(BEGUN) + 8)[len(BEGUN) :] for stream in opened}
         assert len(begun) == len(opened)
+        opened[0].sendall(LAST_TAG)
+        assert read_bytes(opened[0], len(NO_TAG)) == NO_TAG
         for stream in opened:
             stream.close()
         with server.connect() as connection:
@@ -908,35 +1001,42 @@ class Client:
         self.tag += 1
         body, taken = self.random.randbytes(self.random.randrange(217)), []
         transaction = self.connection.transaction()
-        # the send comes first: while the transaction is not ended nobody else can send for its sender
-        steps = ["send"] + ["receive"] * self.random.randrange(3) + ["commit"]
+        steps = self.steps()
         stop = self.random.randrange(len(steps)) if breaks_off else None
         for at, step in enumerate(steps):
             if at == stop:
                 self.break_off(step, body, taken)
                 return
-            if step != "commit" and not self.step(transaction, step, body, taken):
+            if step == "commit":
+                self.keep(body, taken, transaction.commit())
+            elif step == "abort" or not self.step(transaction, step, body, taken):
                 transaction.abort()
                 return
-        if self.random.random() < 0.2:
-            transaction.abort()
-        else:
-            self.keep(body, taken, transaction.commit())
+
+    def steps(self):
+        """The send comes first: while the transaction is not ended nobody else can send for its sender. A close would be for good, and is
+        never committed."""
+        between = self.random.choices(["receive", "receive from", "last tag"], k=self.random.randrange(4))
+        return ["send", *between, *self.random.choice([["commit"]] * 3 + [["abort"]] + [["close", "abort"]] * 2)]
 
     def step(self, transaction, step, body, taken):
         """Whether the transaction can go on."""
         try:
             if step == "send":
                 self.send(transaction, body)
+            elif step == "close":
+                transaction.close_sender(self.number)
+            elif step == "last tag":
+                assert self.connection.last_tag(self.number) == self.last(), self.number
             else:
-                message = transaction.receive()
+                message = transaction.receive() if step == "receive" else transaction.receive_from(self.random.randrange(64))
                 if message:
                     taken.append(message)
             return True
         except Full:
             return False
         except ReceiverBusy:
-            return step == "receive"
+            return step.startswith("receive")
 
     def send(self, transaction, body):
         """A send that waits, but only for one that a connection of this client left unanswered."""
@@ -952,7 +1052,7 @@ class Client:
         """Ends the connection behind a part of a frame, or the whole, and reads no answer. Only a whole Commit may have committed: it is
         asked for over a new connection, once the transaction has ended."""
         frame = self.frame(step, body)
-        said = frame[: self.random.choice([0, len(frame), self.random.randrange(len(frame) + 1)])]
+        said = frame[: self.random.choice([0, len(frame), self.random.randrange(1, len(frame))])]
         self.connection.socket.sendall(said)
         if self.random.random() < 0.5:
             reset(self.connection.socket)
@@ -967,9 +1067,11 @@ class Client:
         assert self.connection.last_tag(self.number) == self.last(), (self.number, step, said)
 
     def frame(self, step, body):
-        if step == "send":
-            return frame_of(2, struct.pack(">IQ", self.number, self.tag) + body)
-        return frame_of(3) if step == "receive" else COMMIT
+        own, other = (number.to_bytes(4, "big") for number in (self.number, self.random.randrange(64)))
+        return {
+            "send": frame_of(2, own + self.tag.to_bytes(8, "big") + body), "receive": frame_of(3), "receive from": frame_of(4, other),
+            "close": frame_of(5, own), "commit": COMMIT, "abort": ABORT, "last tag": frame_of(8, own),
+        }[step]  # fmt: skip
 
     def last(self):
         """How many sends are committed, and the tag of the last."""
@@ -1028,7 +1130,8 @@ def broken_off(clients, least):
     """How often connections broke off, at each place so many times at least."""
     broken = sum((client.broken for client in clients), Counter())
     committed = broken.pop("committed", 0)
-    places = [(step, part) for step in ("send", "receive", "commit") for part in (NOTHING, PART, WHOLE)]
+    steps = "send", "receive", "receive from", "close", "commit", "abort", "last tag"
+    places = [(step, part) for step in steps for part in (NOTHING, PART, WHOLE)]
     assert min(broken[place] for place in places) >= least and committed >= least, (broken, committed)
     whole = broken["commit", WHOLE]
     return f"{broken.total()} broken off, of them {whole} behind a commit, of which {committed} were committed"
@@ -1095,8 +1198,8 @@ def client(program, _):
         assert connection.was_committed(0, 8) and not connection.was_committed(0, 9), "of a closed group"
 
 
-def wait_until(comes):
-    until = time.monotonic() + LONGEST
+def wait_until(comes, seconds=LONGEST):
+    until = time.monotonic() + seconds
     while not comes():
         assert time.monotonic() < until, "it does not come"
         time.sleep(0.01)
@@ -1112,8 +1215,9 @@ def raises(kind, call):
 
 TESTS = [
     starts, session, closing, faults, bodies, pieces, damaged_streams, lost_connections, ends_inside_a_frame,
-    answers_before_a_fault, parted_clients, unread_answers, shared_forces, input_ends, served, silent_reader, slow_clients, few_descriptors, missing_threads,
-    worker_without_reports, refused_connections, many_connections, full_disk, client, lost_answers, sessions,
+    answers_before_a_fault, parted_clients, unread_answers, shared_forces, failing_force, input_ends, served, silent_reader, slow_clients,
+    few_descriptors, leaves_nothing, missing_threads, worker_without_reports, refused_connections, many_connections, full_disk, client,
+    lost_answers, sessions,
 ]  # fmt: skip
 
 

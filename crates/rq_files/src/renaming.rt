@@ -4,11 +4,11 @@ use crate::folder::{LOG, path_of};
 use rq_disk::{Exchange, FileLog, NotedFile};
 use std::fs::{File, Files, OpenOptions};
 use std::io::ErrorKind;
-use std::os::unix::fs::{FileExt, MetadataExt, OpenOptionsExt};
+use std::os::unix::fs::{FileExt, MetadataExt, OpenOptionsExt, fchown};
 use std::path::PathBuf;
 use std::{fs, io};
 
-/// The name of a file that is to be the log. A crash may leave it: it is written anew each time, and nothing else reads it.
+/// The name of a file that is to be the log. A crash may leave it: it is made anew each time, and nothing else reads it.
 const FRESH: &str = "log.new";
 
 /// The log of a store in a folder. It held what `S` says when it was opened.
@@ -34,6 +34,9 @@ pub struct LogPaths {
 pub trait Renames {
     /// Puts a file that has these bytes alone in the place of a log, and answers it, locked. All of that is durable. Where it
     /// errs, the old log stands there, or the new one if that was renamed.
+    ///
+    /// The new one has the owner, group and mode of the old one. It errs where this process may not give it away like that.
+    /// What stands where it is made is removed, and neither opened nor followed; a folder there is an error.
     ///
     /// The old log's lock ends with it, and whoever had opened it before could take it then. Nobody has: a store's pages are
     /// locked before its log is opened, and stay so.
@@ -85,23 +88,40 @@ fn check_stands<R: Files>(rt: &R, path: &PathBuf, file: &File) -> io::Result<()>
     }
 }
 
-// A file with these bytes alone, durable and locked. Whoever may read the old one may read it.
+// A new file with these bytes alone, durable and locked. Whoever may open the old one may open it.
 fn written<R: Files<File = File>>(
     rt: &R,
     path: &PathBuf,
     old: &File,
     bytes: &[u8],
 ) -> io::Result<File> {
+    remove(rt, path)?;
     let file = OpenOptions::new()
         .read(true)
         .write(true)
-        .create(true)
-        .truncate(true)
+        .create_new(true)
         .mode(0o600)
         .open(rt, path)?;
     file.try_lock()?;
-    file.set_permissions(old.metadata()?.permissions())?;
+    give_away(&file, old)?;
     file.write_all_at(bytes, 0)?;
     file.sync_all()?;
     Ok(file)
+}
+
+// Removes what has that name, if anything does.
+fn remove<R: Files>(rt: &R, path: &PathBuf) -> io::Result<()> {
+    match fs::remove_file(rt, path) {
+        Err(error) if error.kind() != ErrorKind::NotFound => Err(error),
+        _ => Ok(()),
+    }
+}
+
+// Gives a file the owner and group of another, where they differ, and then its mode, which a change of those may cut.
+fn give_away(file: &File, other: &File) -> io::Result<()> {
+    let (made, wanted) = (file.metadata()?, other.metadata()?);
+    if made.uid() != wanted.uid() || made.gid() != wanted.gid() {
+        fchown(file, Some(wanted.uid()), Some(wanted.gid()))?;
+    }
+    file.set_permissions(wanted.permissions())
 }
