@@ -149,7 +149,8 @@ written_by (reply.Written w) = Ok w
 written_by (reply.Refused r) = Err r
 written_by _ = Ok Nothing
 
--- what an event and its reply say of the pages' device: it stays as it is, but where a page is written; and so of this
+-- what an event and its reply say of the pages' device: it stays as it is, but where a page is written; what a checkpoint makes
+-- of it is said with that
 abbrev pub PagesSay : {P L : Type 0} → page_device.Ghosts P → OpenStore P L → OpenStore P L → Event → Reply → Type 0
 PagesSay g old new (event.WritePage page) r = DeviceAfter g page (image_at old.state.images page) old.pages new.pages
     (written_by r)
