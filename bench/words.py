@@ -17,7 +17,7 @@ LOG = b"\0\0\0\x09\x07" + (1).to_bytes(8, "big") + b"\0\0\0\x11\x06" + (1).to_by
 STREAM = b"\0\1\1" + b"\0\x14\2" + (3).to_bytes(4, "big") + (7).to_bytes(8, "big") + b"hello!!" + b"\0\1\6"
 
 # The words, standard input, and what is printed, in this order and in one folder. Two batches of 64 rounds of four senders
-# make 14 calls a round; a message that is sent makes two writes, an end and a commit, one that is received as many, and a restart one record.
+# make 14 calls a round; a message that is sent makes two writes, an end and a commit, one that is received as many; a restart and a checkpoint make one record.
 ROWS = [
     (["decode", "3"], LOG, "2 records\n"),
     (["feed", "3"], STREAM, "3 requests, tags 7, bytes 7\n"),
@@ -27,6 +27,8 @@ ROWS = [
     (["beside", "commit", "2", "4", "begun", "8", "0", "10"], b"", "10 transactions\n"),
     (["make", ".", "1", "1", "10"], b"", "10 messages\n"),
     (["open", "."], b"", "restarted 2 unfinished 0 lost 0, 82 records\n"),
+    (["checkpoint", ".", "3"], b"", "checkpoint 96\n"),
+    (["open", "."], b"", "restarted 4 unfinished 0 lost 0, 97 records\n"),
     (["replace", "."], b"\n\n", "600 zeros\n" * 2),
     (["calls", "1", "2"], b"", "7168 calls\n"),
     (["calls", "4", "2"], b"", "7168 calls\n"),
@@ -42,6 +44,8 @@ REFUSED = [
     (["replace", "none"], b"\n"),
     (["beside", "sent", "1", "1", "begun", "0", "0", "1"], b""),
     (["make", "none", "1", "1", "1"], b""),
+    (["checkpoint", "none", "1"], b""),
+    (["checkpoint", "."], b""),
     (["calls", "2", "1"], b""),
     (["other"], b""),
     ([], b""),

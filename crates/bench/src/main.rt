@@ -9,6 +9,7 @@
 //! | `beside KIND DIRECTORY CELLS OTHER OPEN MESSAGES TRANSACTIONS` | goes through transactions beside others that stay open |
 //! | `make FOLDER DIRECTORY CELLS MESSAGES` | makes a store in a folder |
 //! | `open FOLDER` | opens it, or says why not |
+//! | `checkpoint FOLDER MESSAGES` | opens it, sends messages, and makes its log one record |
 //! | `calls THREADS BATCHES` | makes calls by one thread or by four |
 #![tactic(auto)]
 
@@ -34,6 +35,7 @@ use std::process::ExitCode;
 use std::rt::{Env, Files};
 use std::sync::Wait;
 use std::thread::Threads;
+use std::time::Clock;
 
 fn main(rt: HostRuntime) -> ExitCode {
     match run(&rt) {
@@ -42,9 +44,18 @@ fn main(rt: HostRuntime) -> ExitCode {
     }
 }
 
-fn run<R: Print + Eprint + Input + AllocGlobal + Env + Files<File = File> + Threads + Wait + Sync>(
-    rt: &R,
-) -> io::Result<()> {
+fn run<
+    R: Print
+        + Eprint
+        + Input
+        + AllocGlobal
+        + Env
+        + Clock
+        + Files<File = File>
+        + Threads
+        + Wait
+        + Sync,
+>(rt: &R) -> io::Result<()> {
     let words = words::read(rt)?;
     match words::verb_of(&words) {
         Some(Verb::Decode) => decode::run(rt, &words),
@@ -54,6 +65,7 @@ fn run<R: Print + Eprint + Input + AllocGlobal + Env + Files<File = File> + Thre
         Some(Verb::Beside) => beside::run(rt, &words),
         Some(Verb::Make) => reopen::make(rt, &words),
         Some(Verb::Open) => reopen::open(rt, &words),
+        Some(Verb::Checkpoint) => reopen::checkpoint(rt, &words),
         Some(Verb::Calls) => ways::run(rt, &words),
         None => Err(io::ErrorKind::InvalidInput.into()),
     }

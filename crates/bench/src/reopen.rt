@@ -1,4 +1,4 @@
-//! A store in a folder: made with a log of messages, and opened.
+//! A store in a folder: made with a log of messages, opened, and given a log of one record.
 use crate::transactions::Queue;
 use crate::words::{number, sizes};
 use rq_disk::{FilePages, Unknown};
@@ -6,18 +6,23 @@ use rq_engine::engine::Engine;
 use rq_files::{Fault, FolderLog, format_folder, open_folder};
 use rq_levels::{StoreLevel, levels_of_store};
 use rq_model::refusal::{Damage, Refusal};
+use rq_model::txn::Lsn;
 use rq_page::layout::Layout;
 use rq_restart::restart::{Report, restart};
 use std::fs::File;
 use std::io;
 use std::io::Write;
 use std::rt::Files;
+use std::time::{Clock, Instant};
 
 /// An engine over files.
 type Store<'a, R> = Engine<FilePages<Unknown>, FolderLog<'a, Unknown, R>, StoreLevel>;
 
 /// How many messages go from one force to the next.
 const MESSAGES_A_FORCE: u32 = 256;
+
+/// How many senders there are at least in a store.
+const SENDERS: u32 = 15;
 
 /// Makes a store whose log has so many messages, sent and received, each by a transaction of its own, and whose pages are as
 /// they were formatted. Prints how many messages there are.
@@ -73,6 +78,46 @@ pub fn open<R: Print + AllocGlobal + Files<File = File>>(
             Err(io::ErrorKind::InvalidData.into())
         }
     }
+}
+
+/// Opens the store, sends so many messages, which stay there, and makes its log one record. Prints the LSN of that, and to standard
+/// error how many microseconds it took alone.
+pub fn checkpoint<R: Print + Eprint + AllocGlobal + Clock + Files<File = File>>(
+    rt: &R,
+    words: &[String],
+) -> io::Result<()> {
+    let (Some(folder), Some(messages)) = (words.get(1), number(words, 2)) else {
+        return Err(io::ErrorKind::InvalidInput.into());
+    };
+    let Ok((mut engine, _)) = opened(rt, folder.as_str()) else {
+        return Err(io::ErrorKind::InvalidData.into());
+    };
+    if send_all(&mut engine, messages).is_none() {
+        return Err(io::ErrorKind::Other.into());
+    }
+    let began = Instant::now(rt)?;
+    let lsn = made_one(&mut engine)?;
+    let passed = began.elapsed(rt)?;
+    eprintln!(rt; "{} microseconds", passed.as_micros())?;
+    println!(rt; "checkpoint {lsn}")
+}
+
+fn made_one<'a, R: AllocGlobal + Files<File = File>>(engine: &mut Store<'a, R>) -> io::Result<Lsn> {
+    match engine.checkpoint() {
+        Ok(lsn) => Ok(lsn),
+        Err(_) => Err(io::ErrorKind::Other.into()),
+    }
+}
+
+// Sends so many messages, each by a transaction of its own, by the first senders in turn, and forces them.
+fn send_all<Q: Queue>(queue: &mut Q, messages: u32) -> Option<()> {
+    for n in 0..messages {
+        send_one(queue, n % SENDERS)?;
+        if n % MESSAGES_A_FORCE == MESSAGES_A_FORCE - 1 {
+            queue.force()?;
+        }
+    }
+    queue.force()
 }
 
 fn print_fault<W: Write>(writer: &mut W, fault: Fault) -> io::Result<()> {

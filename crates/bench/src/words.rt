@@ -14,10 +14,11 @@ pub enum Verb {
     Beside,
     Make,
     Open,
+    Checkpoint,
     Calls,
 }
 
-const VERBS: [(&str, Verb); 8] = [
+const VERBS: [(&str, Verb); 9] = [
     ("decode", Verb::Decode),
     ("feed", Verb::Feed),
     ("append", Verb::Append),
@@ -25,6 +26,7 @@ const VERBS: [(&str, Verb); 8] = [
     ("beside", Verb::Beside),
     ("make", Verb::Make),
     ("open", Verb::Open),
+    ("checkpoint", Verb::Checkpoint),
     ("calls", Verb::Calls),
 ];
 

@@ -62,7 +62,7 @@ module _ {P L : Type 0} (p : page_device.Ghosts P) (l : log_device.Ghosts L) (z 
   written_after : (e : Event) (r : Reply) → Applied p l old e r new → AreHonest p l new → IsEarlier past old.state → IsSound (on past old.state) → Written old → Written new ⊎ Half new
   written_after event.Checkpoint (reply.Checkpointed lsn) a honest long sound w =
       let m : HasMadeOneRecord p l old new lsn = a.checkpoint in
-      inl (record { untried = m.replacing ∙ w.untried; fit = a.fit honest (ap (λ (x : State). x.failed) m.state ∙ m.running) past long sound w.fit })
+      inl (record { untried = m.replacing ∙ w.untried; fit = a.fit honest (ap (λ (x : State). x.failed) m.state ∙ m.could.running) past long sound w.fit })
   written_after event.Checkpoint (reply.Refused r) a honest long sound w = not_made r a.checkpoint (path_end p l now_p now_l (a.crash w.untried honest past long sound w.fit)) w
   written_after event.Checkpoint _ a honest long sound w = absurd a.checkpoint
   written_after e r a honest long sound w = inl (record { untried = a.replacing ∙ w.untried; fit = a.fit honest tt past long sound w.fit })
@@ -81,7 +81,7 @@ module _ {P L : Type 0} (p : page_device.Ghosts P) (l : log_device.Ghosts L) (z 
   Leaves_behind = LeftBehind p l (on past old.state) new.pages new.log
 
   of_checkpoint : (r : Refusal) → is_of_device r ≡ true → NotCheckpointed p l old new r → old.state.rows ≡ []
-  of_checkpoint why.DiskWrite device n = n.0.none_open
+  of_checkpoint why.DiskWrite device n = n.0.could.none_open
   of_checkpoint why.DiskRead device n = absurd n
   of_checkpoint _ device n = cc device
 

@@ -47,7 +47,7 @@ use Rattle.rq_sound.proofs.Checkpoints.{checkpoint, checkpoint_sound}
 use Rattle.rq_sound.proofs.Contracts.{calls_keep}
 use Rattle.rq_engine.specs.Opened.{AreHonest, NotWritten, OpenStore, WritesWhen, pooled, state_after}
 use Rattle.rq_engine.specs.Crash.{AreFit, IsCut, KeepsFit, LeavesCut}
-use Rattle.rq_engine.specs.Checkpoint.{CountsFailure, CountsOne, HasMadeOneRecord, IsBeginningOrBase, IsCutOrBased, IsStopped, KeepsFitOrBased, NotCheckpointed}
+use Rattle.rq_engine.specs.Checkpoint.{CountsFailure, CountsOne, HasFewer, HasMadeOneRecord, MayMakeOneRecord, IsBeginningOrBase, IsCutOrBased, IsStopped, KeepsFitOrBased, NotCheckpointed}
 use Rattle.rq_engine.specs.Devices.{Path}
 use Rattle.rq_engine.specs.Devices.Path.{Start, Pages, Log}
 use Rattle.rq_engine.specs.Earlier.{IsEarlier, on, over, rebased}
@@ -244,19 +244,18 @@ refused_legally p l old new gives why.LogFull n h e long k =
     subst (λ (s : OpenStore _ _). IsModelStep (on e old.state) Checkpoint (Gave_refusal why.LogFull) (on e s.state) × IsCausedIn (on e old.state) Checkpoint why.LogFull) (sym n.3)
     (refuse (on e old.state) Checkpoint why.LogFull refl tt (rw (n.0, none, full) refl) k)
 refused_legally p l old new gives why.DiskWrite n h e long k =
-    subst (λ (s : State). IsModelStep (on e old.state) Checkpoint (Gave_refusal why.DiskWrite) (on e s) × IsCausedIn (on e old.state) Checkpoint why.DiskWrite) (sym n.0.state) (failed_steps (on e old.state) k n.0.running Checkpoint, refl)
+    subst (λ (s : State). IsModelStep (on e old.state) Checkpoint (Gave_refusal why.DiskWrite) (on e s) × IsCausedIn (on e old.state) Checkpoint why.DiskWrite) (sym n.0.state) (failed_steps (on e old.state) k n.0.could.running Checkpoint, refl)
 refused_legally p l old new gives why.NotForced n h e long k = absurd (none_beyond old e long k n.3)
 refused_legally p l old new gives _ n h e long k = absurd n
 
 -- where it stopped in its midst, and counts no more as forced than before
-pub stopped_is : {P L : Type 0} (p : page_device.Ghosts P) (l : log_device.Ghosts L) (old mid new : OpenStore P L) (r : Refusal) → old.state.failed ≡ false → old.state.rows ≡ [] → log_full (ledger_of old.state) 1 ≡ false
-    → IsStopped old.state mid.state r → CountsOne p l old mid → ((page : ℕ) → is_changed old.changed page ≡ false → is_changed mid.changed page ≡ false)
+pub stopped_is : {P L : Type 0} (p : page_device.Ghosts P) (l : log_device.Ghosts L) (old mid new : OpenStore P L) (r : Refusal) → MayMakeOneRecord old → IsStopped old.state mid.state r → CountsOne p l old mid → HasFewer old.changed mid.changed
     → new.state ≡ record mid.state { forced = old.state.forced } → new.changed ≡ mid.changed → new.pages ≡ mid.pages → new.log ≡ mid.log → NotCheckpointed p l old new r
-stopped_is p l old mid new why.DiskWrite running none room s counts fewer is marks pages log = (
-  record { running = running; none_open = none; room = room; state = is ∙ ap (λ (x : State). record x { forced = old.state.forced }) s.0; fewer = λ page h. ap (λ (m : List Bool). is_changed m page) marks ∙ fewer page h },
+stopped_is p l old mid new why.DiskWrite could s counts fewer is marks pages log = (
+  record { could = could; state = is ∙ ap (λ (x : State). record x { forced = old.state.forced }) s.0; fewer = λ page h. ap (λ (m : List Bool). is_changed m page) marks ∙ fewer page h },
   subst (λ (d : _). CountsOne p l old (record new { pages = d })) (sym pages) (subst (λ (d : _). CountsOne p l old (record new { pages = mid.pages; log = d })) (sym log) counts),
 )
-stopped_is p l old mid new _ running none room s counts fewer is marks pages log = absurd s
+stopped_is p l old mid new _ could s counts fewer is marks pages log = absurd s
 
 -- behind a force
 pub stopped_more : (a b c : State) (n : ℕ) (r : Refusal) → b ≡ record a { forced = n } → a.forced ≤ n → IsStopped b c r → IsStopped a c r
@@ -279,12 +278,10 @@ module _ {P L : Type 0} (p : page_device.Ghosts P) (l : log_device.Ghosts L) whe
   counts_join old mid new (Err e) pages log c = counts_one old mid new pages log c
 
   -- a record for all, behind a force and what leaves the lists
-  pub made_later : (old mid new : OpenStore P L) (lsn n : ℕ) → old.state.failed ≡ false → old.state.rows ≡ [] → log_full (ledger_of old.state) 1 ≡ false → mid.state ≡ record old.state { forced = n } → mid.replacing ≡ old.replacing
+  pub made_later : (old mid new : OpenStore P L) (lsn n : ℕ) → MayMakeOneRecord old → mid.state ≡ record old.state { forced = n } → mid.replacing ≡ old.replacing
       → p.faults mid.pages ≡ p.faults old.pages → l.faults mid.log ≡ l.faults old.log → HasMadeOneRecord p l mid new lsn → HasMadeOneRecord p l old new lsn
-  made_later old mid new lsn n running none room is tried pages log m = record {
-    running = running;
-    none_open = none;
-    room = room;
+  made_later old mid new lsn n could is tried pages log m = record {
+    could = could;
     lsn = m.lsn ∙ ap (λ (s : State). length s.records + 1) is;
     state = m.state ∙ ap checkpointed is;
     reads = m.reads;
@@ -296,10 +293,6 @@ module _ {P L : Type 0} (p : page_device.Ghosts P) (l : log_device.Ghosts L) whe
   }
 
 -- ---- pages that are written, each in its turn
-
--- no page has a change that had none
-abbrev pub HasFewer : List Bool → List Bool → Type 0
-HasFewer old new = (page : ℕ) → is_changed old page ≡ false → is_changed new page ≡ false
 
 unset_stays : (changed : List Bool) (page q : ℕ) → is_changed changed q ≡ false → is_changed (slice_set changed page false) q ≡ false
 unset_stays changed page q h = set_clears changed page q (λ other. h)
@@ -393,18 +386,21 @@ not_forced p l old new why.Failed running n pages = absurd (true≢false (sym n.
 not_forced p l old new why.DiskWrite running n pages = inr (ap p.faults pages, n.1)
 not_forced p l old new _ running n pages = absurd n
 
--- what is so of pages is so behind a force
-pub within_forced : {P L : Type 0} (old new : OpenStore P L) (n : ℕ) → new.state ≡ record old.state { forced = n } → new.changed ≡ old.changed → NoChangeBeyond (pooled old) (length old.state.records) → NoChangeBeyond (pooled new) (length new.state.records)
-within_forced old new n is marks within page low changed =
-    let was = within page low (subst (λ (m : List Bool). is_changed m page ≡ true) marks changed) in
-    subst (λ (s : State). lsn_of (image_at s.images page) ≤ length s.records) (sym is) was
+-- where one could be made, it can be behind a force, and behind pages that were written
+pub could_still : {P L : Type 0} (old new : OpenStore P L) (n : ℕ) → new.state ≡ record old.state { forced = n } → HasFewer old.changed new.changed → MayMakeOneRecord old → MayMakeOneRecord new
+could_still old new n is fewer could = record {
+  running = ap (λ (s : State). s.failed) is ∙ could.running;
+  none_open = ap (λ (s : State). s.rows) is ∙ could.none_open;
+  room = ap (λ (s : State). log_full (ledger_of s) 1) is ∙ could.room;
+  within = λ page low changed. subst (λ (s : State). lsn_of (image_at s.images page) ≤ length s.records) (sym is) (could.within page low (still_changed old.changed new.changed page fewer changed));
+}
 
 -- ---- the whole of it
 
 -- the entry of one that is made
 pub made_legally : {P L : Type 0} (p : page_device.Ghosts P) (l : log_device.Ghosts L) (old new : OpenStore P L) (lsn : ℕ) → HasMadeOneRecord p l old new lsn → AnswersLegally p l old Checkpoint (λ n. Gave_checkpoint n) (Ok lsn) new
 made_legally p l old new lsn m h e long k =
-    let here = checkpoint (on e old.state) k m.none_open m.running (full_on e old.state long 1 ∙ m.room) in
+    let here = checkpoint (on e old.state) k m.could.none_open m.could.running (full_on e old.state long 1 ∙ m.could.room) in
     let there : IsModelStep (on e old.state) Checkpoint (Gave_checkpoint (length (on e old.state).records + 1)) (on e new.state) = subst (λ (s : State). IsModelStep (on e old.state) Checkpoint (Gave_checkpoint (length (on e old.state).records + 1)) s) (sym (ap (on e) m.state ∙ checkpointed_on e old.state long)) here in
     subst (λ (n : ℕ). IsModelStep (on e old.state) Checkpoint (Gave_checkpoint n) (on e new.state)) (sym (lsn_on e old.state long lsn m.lsn)) there
 

@@ -1,5 +1,5 @@
 -- A checkpoint: one record, a Base, stands for all, and the pages hold what these left.
-use Rattle.std.specs.Prelude.{◌≡◌, ◌≢◌, ◌⊎◌, ℕ, ◌+◌, ◌%◌, ◌^◌, ◌<◌, ◌≤◌, true, false, List, [], length, Result, Ok, Err}
+use Rattle.std.specs.Prelude.{◌≡◌, ◌≢◌, ◌⊎◌, ℕ, ◌+◌, ◌%◌, ◌^◌, ◌<◌, ◌≤◌, Bool, true, false, List, [], length, Result, Ok, Err}
 use Rattle.rq_model.specs.declared.record.Record.{Record}
 use Rattle.rq_model.specs.declared.refusal.Refusal.{Refusal}
 use Rattle.rq_model.specs.declared.refusal.Refusal.TheVariants as why
@@ -10,7 +10,7 @@ use Rattle.rq_disk.specs.declared.device.PageDevice as page_device
 use Rattle.rq_page.specs.Sizes.{page_count}
 use Rattle.rq_log.specs.Spelled.{IsBeginning, spelled}
 use Rattle.rq_pool.specs.Pooled.{image_at, is_changed}
-use Rattle.rq_pool.specs.Writing.{HasChangeBeyond, IsUnwritten}
+use Rattle.rq_pool.specs.Writing.{HasChangeBeyond, NoChangeBeyond}
 use Rattle.rq_store.specs.State.{State, ledger_of}
 use Rattle.rq_sound.specs.Calls.{checkpointed}
 use Rattle.rq_sound.specs.Sound.{IsSound}
@@ -40,6 +40,18 @@ KeepsFitOrBased p l old new = old.replacing ≡ false → AreHonest p l new → 
 abbrev pub IsBeginningOrBase : List Record → ℕ → List ℕ → Type 0
 IsBeginningOrBase records forced bytes = IsBeginning records forced bytes ⊎ ((i : ℕ) × (bytes ≡ spelled (based i records)))
 
+-- no page has a change to be written that had none
+abbrev pub HasFewer : List Bool → List Bool → Type 0
+HasFewer old new = (page : ℕ) → is_changed old page ≡ false → is_changed new page ≡ false
+
+-- One record can be put in the place of all: the store runs, no transaction is open, the log has room for it, and no page that is to be
+-- written tells a record that is not there.
+pub record MayMakeOneRecord {P L : Type 0} (s : OpenStore P L) : Type 0 where
+  pub running : s.state.failed ≡ false
+  pub none_open : s.state.rows ≡ []
+  pub room : log_full (ledger_of s.state) 1 ≡ false
+  pub within : NoChangeBeyond (pooled s) (length s.state.records)
+
 module _ {P L : Type 0} (p : page_device.Ghosts P) (l : log_device.Ghosts L) where
   -- neither device has counted a failure more
   abbrev pub CountsNone : OpenStore P L → OpenStore P L → Type 0
@@ -56,12 +68,10 @@ module _ {P L : Type 0} (p : page_device.Ghosts P) (l : log_device.Ghosts L) whe
   CountsFailure old new (Ok x) = CountsNone old new
   CountsFailure old new (Err e) = CountsOne old new
 
-  -- One record, with this LSN, was put in the place of all, where the store ran, no transaction was open, and the log had room for it.
-  -- The log is that record alone, and each page is its image, with no change to be written, whatever a crash leaves.
+  -- One record, with this LSN, was put in the place of all, where it could be. The log is that record alone, and each page is its
+  -- image, with no change to be written, whatever a crash leaves.
   pub record HasMadeOneRecord (old new : OpenStore P L) (n : ℕ) : Type 0 where
-    pub running : old.state.failed ≡ false
-    pub none_open : old.state.rows ≡ []
-    pub room : log_full (ledger_of old.state) 1 ≡ false
+    pub could : MayMakeOneRecord old
     pub lsn : n ≡ length old.state.records + 1
     pub state : new.state ≡ checkpointed old.state
     pub reads : l.honest new.log → l.seen new.log ≡ spelled new.state.records
@@ -74,11 +84,9 @@ module _ {P L : Type 0} (p : page_device.Ghosts P) (l : log_device.Ghosts L) whe
 
   -- A device failed as one was made: the store has stopped, and no page has a change to be written that had none.
   pub record HasStopped (old new : OpenStore P L) : Type 0 where
-    pub running : old.state.failed ≡ false
-    pub none_open : old.state.rows ≡ []
-    pub room : log_full (ledger_of old.state) 1 ≡ false
+    pub could : MayMakeOneRecord old
     pub state : new.state ≡ record old.state { failed = true }
-    pub fewer : (page : ℕ) → is_changed old.changed page ≡ false → is_changed new.changed page ≡ false
+    pub fewer : HasFewer old.changed new.changed
 
   -- why a checkpoint was refused, and what that leaves of the store
   abbrev pub NotCheckpointed : OpenStore P L → OpenStore P L → Refusal → Type 0

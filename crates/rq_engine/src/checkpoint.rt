@@ -2,15 +2,13 @@
 ghost use Rattle.std.specs.Prelude.{◌≡◌, ◌<◌, ◌≤◌, ◌↔◌, ℕ, IfOk, IfErr, OnOk, Err, true, false, List, [], length};
 ghost use Rattle.rq_model.specs.History.Call.{Checkpoint};
 ghost use Rattle.rq_model.specs.Replay.Reply.{Gave_checkpoint};
-ghost use Rattle.rq_model.specs.Tests.{log_full};
 ghost use Rattle.rq_disk.specs.Device.{Only};
 ghost use Rattle.rq_log.specs.Crash.{LeavesOnly};
 ghost use Rattle.rq_page.specs.Sizes.{page_count};
 ghost use Rattle.rq_pool.specs.Pooled.{is_changed};
 ghost use Rattle.rq_pool.specs.Writing.{NoChangeBeyond};
-ghost use Rattle.rq_store.specs.State.{ledger_of};
 ghost use Rattle.rq_engine.specs.Answers.{AnswersLegally};
-ghost use Rattle.rq_engine.specs.Checkpoint.{CountsFailure, HasMadeOneRecord, IsBeginningOrBase, IsStopped, KeepsFitOrBased, NotCheckpointed};
+ghost use Rattle.rq_engine.specs.Checkpoint.{CountsFailure, HasFewer, HasMadeOneRecord, IsBeginningOrBase, IsStopped, KeepsFitOrBased, MayMakeOneRecord, NotCheckpointed};
 ghost use Rattle.rq_engine.specs.Crash.{KeepsFit};
 ghost use Rattle.rq_engine.specs.Opened.{AreHonest, pooled};
 
@@ -56,9 +54,7 @@ impl<P: PageDevice, L: LogDevice, B: Level> Engine<P, L, B> {
 
     // The store runs, no transaction is open, the log has room for a record, and no page is ahead of it.
     fn check_quiet(&self) -> Result<(), Refusal>
-        ensures ok { OnOk result ((self.now.state.failed ≡ false) × (self.now.state.rows ≡ [])
-            × (log_full (ledger_of self.now.state) 1 ≡ false)) }
-        ensures within { OnOk result (NoChangeBeyond (pooled self.now) (length self.now.state.records)) }
+        ensures ok { OnOk result (MayMakeOneRecord self.now) }
         ensures refused { IfErr result (λ r. NotCheckpointed P.PageDevice L.LogDevice self.now self.now r) }
         ensures failed { (result ≡ Err Refusal.Failed) ↔ (self.now.state.failed ≡ true) }
     {
@@ -77,14 +73,11 @@ impl<P: PageDevice, L: LogDevice, B: Level> Engine<P, L, B> {
 
     // Forces the log, writes out what was changed, and puts the Base in the place of all.
     fn replace_log(&mut self) -> Result<Lsn, Refusal>
-        requires running { self.old.state.failed ≡ false }
-        requires none_open { self.old.state.rows ≡ [] }
-        requires room { log_full (ledger_of self.old.state) 1 ≡ false }
-        requires within { NoChangeBeyond (pooled self.old) (length self.old.state.records) }
+        requires { MayMakeOneRecord self.old }
         ensures made { IfOk result (λ lsn. HasMadeOneRecord P.PageDevice L.LogDevice self.old self.new lsn) }
         ensures refused { IfErr result (λ r. IsStopped self.old.state self.new.state r) }
         ensures cause { CountsFailure P.PageDevice L.LogDevice self.old self.new result }
-        ensures fewer { (q : ℕ) → is_changed self.old.changed q ≡ false → is_changed self.new.changed q ≡ false }
+        ensures fewer { HasFewer self.old.changed self.new.changed }
         ensures honest { AreHonest P.PageDevice L.LogDevice self.new → AreHonest P.PageDevice L.LogDevice self.old }
         ensures any_moment { self.old.replacing ≡ false → L.honest self.new.log → LeavesOnly L.LogDevice self.old.log self.new.log
             (IsBeginningOrBase self.old.state.records self.old.state.forced) }
@@ -107,7 +100,7 @@ impl<P: PageDevice, L: LogDevice, B: Level> Engine<P, L, B> {
             → is_changed self.new.changed page ≡ false) }
         ensures refused { IfErr result (λ r. IsStopped self.old.state self.new.state r) }
         ensures cause { CountsFailure P.PageDevice L.LogDevice self.old self.new result }
-        ensures fewer { (q : ℕ) → is_changed self.old.changed q ≡ false → is_changed self.new.changed q ≡ false }
+        ensures fewer { HasFewer self.old.changed self.new.changed }
         ensures log { self.new.log ≡ self.old.log }
         ensures replacing { self.new.replacing ≡ self.old.replacing }
         ensures honest { P.honest self.new.pages → P.honest self.old.pages }
@@ -146,9 +139,7 @@ impl<P: PageDevice, L: LogDevice, B: Level> Engine<P, L, B> {
 
     // Puts the Base in the place of all records, which are forced, over pages that are durable.
     fn put_base(&mut self) -> Result<Lsn, Refusal>
-        requires running { self.old.state.failed ≡ false }
-        requires none_open { self.old.state.rows ≡ [] }
-        requires room { log_full (ledger_of self.old.state) 1 ≡ false }
+        requires could { MayMakeOneRecord self.old }
         requires forced { self.old.state.forced ≡ length self.old.state.records }
         requires clean { (page : ℕ) → 1 ≤ page → page < page_count self.old.state.sizes
             → is_changed self.old.changed page ≡ false }

@@ -13,3 +13,4 @@ pub mod Restarting
 pub mod Writing
 pub mod Latching
 pub mod Broken
+pub mod Checkpoints

@@ -1,5 +1,5 @@
 //! Calls of the engine that start and step no operation, by two stores in the same state.
-ghost use Rattle.std.specs.Prelude.{◌≡◌, ℕ, List, IfOk, map};
+ghost use Rattle.std.specs.Prelude.{◌≡◌, ℕ, List, IfErr, IfOk, map};
 ghost use Rattle.rq_content.specs.Read.{group_of};
 ghost use Rattle.rq_engine.specs.Opened.{AreHonest};
 ghost use Rattle.rq_engine.specs.Says.{receipt_of};
@@ -124,6 +124,27 @@ pub fn force<P: PageDevice, L: LogDevice, B: Level>(
     ensures decided { RefuseAlike result.0 result.1 }
 {
     (first.force(), second.force())
+}
+
+/// A checkpoint answers the same LSN and leaves the same state; both logs read as the same bytes, and a crash leaves the same of
+/// both. Where one is refused, so is the other, but for a device that failed; refused for the same they leave the same state. Excludes
+/// another LSN, one that only forces, one made while a transaction is open or refused where none is, and a store that runs on behind a
+/// failure.
+pub fn checkpoint<P: PageDevice, L: LogDevice, B: Level>(
+    first: &mut Engine<P, L, B>,
+    second: &mut Engine<P, L, B>,
+) -> (Result<Lsn, Refusal>, Result<Lsn, Refusal>)
+    requires same { first.old ≡ second.old }
+    ensures same { IfOk result.0 (λ a. IfOk result.1 (λ b. a ≡ b)) }
+    ensures state { IfOk result.0 (λ _. IfOk result.1 (λ _. first.new.state ≡ second.new.state)) }
+    ensures stopped { IfErr result.0 (λ r. IfErr result.1 (λ s. r ≡ s → first.new.state ≡ second.new.state)) }
+    ensures reads { IfOk result.0 (λ _. IfOk result.1 (λ _. L.honest first.new.log → L.honest second.new.log
+        → L.seen first.new.log ≡ L.seen second.new.log)) }
+    ensures durable { IfOk result.0 (λ _. IfOk result.1 (λ _. L.honest first.new.log → L.honest second.new.log
+        → (c d : List ℕ) → L.may_leave first.new.log c → L.may_leave second.new.log d → c ≡ d)) }
+    ensures decided { RefuseAlike result.0 result.1 }
+{
+    (first.checkpoint(), second.checkpoint())
 }
 
 /// The last tag is told alike; and of a sound store both are refused for the same, or neither is. Of a store that is not

@@ -27,7 +27,6 @@ returns-in_err-check_quiet-clause-any_moment g c = λ none h.
 
 pub returns-in-Err : goal.returns-in-Err
 returns-in-Err g c =
-    let quiet = c.in_ok-check_quiet.ensures.ok in
     let i = c.self-2.inside in
     let new : OpenStore g.row.P.Denot g.row.L.Denot = record {
       state = record {
@@ -51,7 +50,7 @@ returns-in-Err g c =
     } in
     let mid = c.replace_log.new.self in
     let why : NotCheckpointed g.P.PageDevice g.L.LogDevice c.args.self.now new c.in-Err.refusal =
-    stopped_is g.P.PageDevice g.L.LogDevice c.args.self.now mid new c.in-Err.refusal quiet.0 quiet.1 quiet.2 c.in-Err.ensures.refused c.in-Err.ensures.cause c.in-Err.ensures.fewer (search rules) (search rules) (search rules) (search rules) in
+    stopped_is g.P.PageDevice g.L.LogDevice c.args.self.now mid new c.in-Err.refusal c.in_ok-check_quiet.ensures.ok c.in-Err.ensures.refused c.in-Err.ensures.cause c.in-Err.ensures.fewer (search rules) (search rules) (search rules) (search rules) in
     record {
       answered = refused_legally g.P.PageDevice g.L.LogDevice c.args.self.now new (λ lsn. Gave_checkpoint lsn) c.in-Err.refusal why;
       sizes = search rules;

@@ -13,9 +13,7 @@ use Rattle.rq_engine.proofs.engine.Engine.put_base.Goals as goal
 
 pub returns-in-Ok-clause-made : goal.returns-in-Ok-clause-made
 returns-in-Ok-clause-made g c = record {
-  running = c.requires.running;
-  none_open = c.requires.none_open;
-  room = c.requires.room;
+  could = c.requires.could;
   lsn = search rules;
   state = search rules;
   reads = search rules;
@@ -49,9 +47,9 @@ returns-in-Ok-clause-fit g c =
     let inside = state_is c.self.view_is in
     let one : 1 ≤ s.incarnation = subst (λ (x : State). 1 ≤ x.incarnation) inside c.self.invariant.kept.incarnation in
     let low : s.incarnation ≤ length s.records = subst (λ (x : State). x.incarnation ≤ length x.records) inside c.self.invariant.kept.low in
-    let few = not_full s 1 c.requires.room in
+    let few = not_full s 1 c.requires.could.room in
     let over : AreOver g.P.PageDevice old.pages s.sizes s.images old.changed = subst (λ (o : OpenStore _ _). AreOver g.P.PageDevice o.pages o.state.sizes o.state.images o.changed) c.self.view_is c.shows_kept-2.ensures in
-    base_put g.P.PageDevice g.L.LogDevice old _ c.requires.none_open c.requires.forced (c.shows_kept.ensures.spelled, c.shows_kept.ensures.based)
+    base_put g.P.PageDevice g.L.LogDevice old _ c.requires.could.none_open c.requires.forced (c.shows_kept.ensures.spelled, c.shows_kept.ensures.based)
     (omega (arith, one, low), omega (arith, few), one, low)
     (λ honest q image least most may. c.requires.durable q image may ∙ sym (over.clean honest q most (c.requires.clean q least most)))
     c.shows_kept.ensures.cut
@@ -68,9 +66,9 @@ returns-in-Err-clause-fit g c =
     let inside = state_is c.self.view_is in
     let one : 1 ≤ s.incarnation = subst (λ (x : State). 1 ≤ x.incarnation) inside c.self.invariant.kept.incarnation in
     let low : s.incarnation ≤ length s.records = subst (λ (x : State). x.incarnation ≤ length x.records) inside c.self.invariant.kept.low in
-    let few = not_full s 1 c.requires.room in
+    let few = not_full s 1 c.requires.could.room in
     let over : AreOver g.P.PageDevice old.pages s.sizes s.images old.changed = subst (λ (o : OpenStore _ _). AreOver g.P.PageDevice o.pages o.state.sizes o.state.images o.changed) c.self.view_is c.shows_kept-2.ensures in
-    base_missed g.P.PageDevice g.L.LogDevice old _ c.requires.none_open c.requires.forced (c.shows_kept.ensures.spelled, c.shows_kept.ensures.based)
+    base_missed g.P.PageDevice g.L.LogDevice old _ c.requires.could.none_open c.requires.forced (c.shows_kept.ensures.spelled, c.shows_kept.ensures.based)
     (omega (arith, one, low), omega (arith, few), one, low)
     (λ honest q image least most may. c.requires.durable q image may ∙ sym (over.clean honest q most (c.requires.clean q least most)))
     c.shows_kept.ensures.cut

@@ -5,7 +5,7 @@ use Rattle.rq_store.specs.State.{State}
 use Rattle.rq_sound.specs.Sound.{IsSound}
 use Rattle.rq_engine.specs.Earlier.{on}
 use Rattle.rq_engine.specs.Checkpoint.{CountsOne, IsStopped}
-use Rattle.rq_engine.proofs.Checkpointing.{begins_first, begins_join, counts_join, counts_one, either, either_join, forced_sound, if_err, if_ok, keeps_join, made_later, not_forced, still_run, stopped_more, within_forced}
+use Rattle.rq_engine.proofs.Checkpointing.{begins_first, begins_join, counts_join, could_still, counts_one, either, either_join, forced_sound, if_err, if_ok, keeps_join, made_later, not_forced, still_run, stopped_more}
 use Rattle.rq_engine.proofs.engine.Engine.replace_log.Goals as goal
 
 pub returns-in_err-force-clause-cause : goal.returns-in_err-force-clause-cause
@@ -20,7 +20,15 @@ pub returns-in_err-force-clause-fit : goal.returns-in_err-force-clause-fit
 returns-in_err-force-clause-fit g c = either g.P.PageDevice g.L.LogDevice c.args.self.now c.force.new.self c.in_err-force.ensures.fit
 
 pub write_all-requires-clause-within : goal.write_all-requires-clause-within
-write_all-requires-clause-within g c = within_forced c.args.self.now c.force.new.self (length c.args.self.now.state.records) c.in_ok-force.ensures.state c.in_ok-force.ensures.changed c.requires.within
+write_all-requires-clause-within g c = (could_still c.args.self.now c.force.new.self (length c.args.self.now.state.records) c.in_ok-force.ensures.state (λ q h. ap (λ (m : List Bool). is_changed m q) c.in_ok-force.ensures.changed ∙ h) c.requires).within
+
+pub put_base-requires-clause-could : goal.put_base-requires-clause-could
+put_base-requires-clause-could g c =
+    let forced = c.in_ok-force.ensures in
+    let wrote = c.in_ok-write_all.ensures in
+    let synced = c.in_ok-sync_pages.ensures in
+    could_still c.args.self.now c.sync_pages.new.self (length c.args.self.now.state.records) (synced.state ∙ wrote.state ∙ forced.state)
+    (λ q h. ap (λ (m : List Bool). is_changed m q) synced.changed ∙ wrote.fewer q (ap (λ (m : List Bool). is_changed m q) forced.changed ∙ h)) c.requires
 
 pub returns-in_err-write_all-clause-refused : goal.returns-in_err-write_all-clause-refused
 returns-in_err-write_all-clause-refused g c =
@@ -99,7 +107,7 @@ returns-clause-made g c =
     let forced = c.in_ok-force.ensures in
     let wrote = c.in_ok-write_all.ensures in
     let synced = c.in_ok-sync_pages.ensures in
-    if_ok c.put_base.result (λ lsn m. made_later P L old c.sync_pages.new.self c.put_base.new.self lsn (length old.state.records) c.requires.running c.requires.none_open c.requires.room
+    if_ok c.put_base.result (λ lsn m. made_later P L old c.sync_pages.new.self c.put_base.new.self lsn (length old.state.records) c.requires
     (synced.state ∙ wrote.state ∙ forced.state) (synced.replacing ∙ wrote.replacing ∙ forced.replacing)
     (synced.cause.0 ∙ wrote.cause.0 ∙ ap P.faults forced.pages) (synced.cause.1 ∙ wrote.cause.1 ∙ forced.cause) m) c.put_base.ensures.made
 
