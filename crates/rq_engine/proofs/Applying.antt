@@ -1,6 +1,5 @@
 -- What a call makes of pages, and what a crash in it leaves, whichever call it is.
 use Rattle.std.proofs.Common.{◌≡◌, ℕ, true, false, List, ◌∙◌, ap, sym}
-use Rattle.std.proofs.lemmas.Bool.{true≢false}
 use Rattle.rq_disk.specs.Device.{Images, Leaves}
 use Rattle.rq_disk.specs.declared.device.LogDevice as log_device
 use Rattle.rq_disk.specs.declared.device.PageDevice as page_device
@@ -9,7 +8,6 @@ use Rattle.rq_log.specs.Spelled.{IsBeginning}
 use Rattle.rq_model.specs.declared.record.Record.{Record}
 use Rattle.rq_model.specs.declared.refusal.Refusal.{Refusal}
 use Rattle.rq_model.specs.declared.refusal.Refusal.TheVariants as why
-use Rattle.rq_store.specs.State.{State}
 use Rattle.rq_sound.specs.ModelSteps.{IsModelStep}
 use Rattle.rq_sound.specs.Sound.{IsSound}
 use Rattle.rq_engine.specs.declared.event.Event.{Event}
@@ -43,11 +41,11 @@ module _ {P L : Type 0} (p : page_device.Ghosts P) (l : log_device.Ghosts L) (ol
   ran_refused why.NotQuiet n running = n.0
   ran_refused why.LogFull n running = n.0
   ran_refused why.NotForced n running = n.0
-  ran_refused why.DiskWrite n running = n.0.running
+  ran_refused why.DiskWrite n running = n.0.could.running
   ran_refused _ n running = absurd n
 
   ran_before : (r : Reply) → CheckpointSays p l old event.Checkpoint r new → new.state.failed ≡ false → old.state.failed ≡ false
-  ran_before (reply.Checkpointed lsn) says running = says.running
+  ran_before (reply.Checkpointed lsn) says running = says.could.running
   ran_before (reply.Refused r) says running = ran_refused r says running
   ran_before _ says running = absurd says
 

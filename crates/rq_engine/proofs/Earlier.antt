@@ -23,7 +23,6 @@ use Rattle.rq_store.specs.Steps.{op_end}
 use Rattle.rq_engine.specs.Answers.{IsMade}
 use Rattle.rq_engine.specs.Moves.{without_taken}
 use Rattle.rq_engine.proofs.Standing.{force_steps}
-use Rattle.rq_planner.specs.Answered.{IsNewestDeed}
 use Rattle.rq_engine.specs.Invariant.{IsConsistent}
 use Rattle.rq_engine.specs.Earlier.{unknown, unknown_one, rebased, rebased_one, on, IsEarlier}
 
@@ -123,7 +122,3 @@ force_inside e {a} {b} same at running k =
     let sound : IsSound (on e a) = subst (λ (s : State). IsSound (on e s)) (sym same) k in
     subst (λ (s : State). IsModelStep (on e s) Force (Gave_forced (length a.records)) (on e (record a { forced = length a.records }))) same
     (subst (λ (n : ℕ). IsModelStep (on e a) Force (Gave_forced n) (record (on e a) { forced = n })) (long_on e a here) (force_steps (on e a) sound running))
-
--- the newest deed of a transaction
-pub newest_on : (e : List Record) (s : State) {d : Deed} → IsNewestDeed s d → IsNewestDeed (on e s) d
-newest_on e s n = record { row = n.row; older = n.older; lsn = n.lsn; idle = record { at_row = n.idle.at_row; idle = n.idle.idle }; last = n.last }

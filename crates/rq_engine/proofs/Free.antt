@@ -1,4 +1,5 @@
 -- Senders of which a message waits, and whose receiving end nobody holds.
+use Rattle.std.specs.Bool.{⊤}
 use Rattle.std.proofs.Common.{◌≡◌, ◌≤◌, ◌<◌, ℕ, true, false, List, length, Option, Some, None, Result, Ok, Err, inl, inr, refl, arith}
 use Rattle.std.specs.Option.{IfSome, IfNone}
 use Rattle.std.specs.Result.{IfOk}
@@ -35,11 +36,11 @@ none_waits n ws hs t None e f = λ s low free. f s (omega (arith, low, e)) free
 none_waits n ws hs t (Some s) e f = f
 
 -- where neither a group that nobody holds nor one that the transaction holds goes without a latch, none does
-pub all_latched : {A E : Type 0} (s : State) (t : Txn) (o : Result (Option A) E) → ((g : ℕ) → is_held g s.ends.receiving ≡ false → WaitsFor s t g → take_latched s g ≡ true) → IfOk o (λ found. IfNone found ((g : ℕ) → has_held t g s.ends.receiving ≡ true → WaitsFor s t g → take_latched s g ≡ true)) → IfOk o (λ found. IfNone found ((g : ℕ) → WaitsFor s t g → take_latched s g ≡ true))
+pub all_latched : {A E : Type 0} (s : State) (t : Txn) (o : Result (Option A) E) → ((g : ℕ) → is_held g s.ends.receiving ≡ false → WaitsFor s t g → take_latched s g ≡ true) → IfOk o (λ found. IfNone found ((g : ℕ) → has_held t g s.ends.receiving ≡ true → WaitsFor s t g → take_latched s g ≡ true)) → IfOk o (λ found. IfNone found ((g : ℕ) → ⊤ → WaitsFor s t g → take_latched s g ≡ true))
 all_latched s t (Err e) free own = own
 all_latched s t (Ok (Some x)) free own = own
 all_latched s t (Ok None) free own =
-    λ g w. elim (cases_Bool (is_held g s.ends.receiving)) [
+    λ g all w. elim (cases_Bool (is_held g s.ends.receiving)) [
       | inl held ↦ own g (free_is_own t g s.ends.receiving held w.1) w
       | inr vacant ↦ free g vacant w
     ]

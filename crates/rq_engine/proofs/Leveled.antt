@@ -1,10 +1,13 @@
 -- What the level plans, as the engine's starts have it.
 use Rattle.std.proofs.Common.{◌≡◌, ℕ, ◌+◌, ◌*◌, ◌/◌, ◌%◌, ◌<◌, ◌≤◌, cond, nat_lt, List, [], ◌∷◌, length, refl, sym, ◌∙◌, ap, subst, inl, inr, true, false, Option, Some, None, Result, Ok, Err, arith}
 use Rattle.std.specs.Global.{Vec}
-use Rattle.std.specs.Option.{IfSome, IfNone}
+use Rattle.std.specs.Option.{IfNone}
 use Rattle.std.specs.Result.{IfOk}
 use Rattle.std.proofs.lemmas.Bool.{cases_Bool, false_from_ne_true, ltb-true, or_cases, or_left, true≢false}
 use Rattle.rq_model.specs.declared.record.Deed.{Deed}
+use Rattle.rq_model.specs.declared.refusal.Refusal.{Refusal}
+use Rattle.rq_model.specs.declared.refusal.Refusal.TheVariants as why
+use Rattle.rq_model.specs.declared.txn.Txn.{Txn}
 use Rattle.rq_model.specs.declared.record.Deed.TheVariants.{Append, UnlinkHead, Close as Close_deed}
 use Rattle.rq_model.specs.Deeds.{deed_in, spelled_deed}
 use Rattle.rq_page.specs.declared.cell.Cell.{Cell}
@@ -31,7 +34,7 @@ use Rattle.rq_level.specs.Writes.{AreSlotWrites}
 use Rattle.rq_txn.specs.declared.Aim.TheVariants as aims
 use Rattle.rq_txn.specs.Rows.{latched_in}
 use Rattle.rq_txn.specs.Told.{IsTold}
-use Rattle.rq_store.specs.Plans.{IsSendPlan, IsTakePlan}
+use Rattle.rq_store.specs.Plans.{IsSendPlan, IsTakePlan, WaitsFor}
 use Rattle.rq_store.specs.State.{State}
 use Rattle.rq_sound.specs.Groups.{slots_now}
 use Rattle.rq_sound.specs.Plans.{AreUnlatched, IsMarking, IsPlannedFrom, IsReceive, IsSend}
@@ -40,7 +43,7 @@ use Rattle.rq_planner.specs.Asked.{asked_by, asked_in, doing_sender, to_do}
 use Rattle.rq_planner.specs.Asked.Asked.{Do}
 use Rattle.rq_engine.specs.declared.plans.Planned.{Planned}
 use Rattle.rq_engine.specs.Closes.{IsClosePlan, close_latched}
-use Rattle.rq_engine.specs.Plans.{IsDeedPlan, known_part}
+use Rattle.rq_engine.specs.Plans.{IsDeedPlan, IsPlannedFor, IsTakePlanned, known_part}
 use Rattle.rq_engine.specs.Sends.{take_latched, under_plan}
 use Rattle.rq_engine.proofs.Latches.{one_write}
 use Rattle.rq_engine.proofs.Inverses.{of_writes, relinked_count}
@@ -129,15 +132,29 @@ chain_asked job d is told = ap (λ (j : Job). asked_in j.undo job.bytes) is ∙ 
 pub send_asked : (job : Job) (g tag : ℕ) (body : List ℕ) → length body ≤ 216 → job ≡ chain_job (Send g tag body) → (length body ≤ 216 → doing_in job.bytes ≡ Some (Send g tag body)) → asked_by job ≡ Some (Do (Send g tag body))
 send_asked job g tag body short is told = chain_asked job (Send g tag body) is (told short)
 
-pub on_plan : {X E : Type 0} (P Q : X → Type 0) (r : Result (Option X) E) → ((x : X) → P x → Q x) → IfOk r (λ o. IfSome o P) → IfOk r (λ o. IfSome o Q)
-on_plan P Q (Ok (Some x)) f h = f x h
-on_plan P Q (Ok None) f h = h
-on_plan P Q (Err e) f h = h
+-- want of memory
+pub none_planned : (s : State) (d : Doing) → IsPlannedFor s d (Err why.NoMemory)
+none_planned s d = record { plan = tt; free = tt; held_up = tt; plain = λ e. cc e; memory = λ earlier long k may. refl }
 
-pub on_none : {X E : Type 0} (P Q : Type 0) (r : Result (Option X) E) → (P → Q) → IfOk r (λ o. IfNone o P) → IfOk r (λ o. IfNone o Q)
-on_none P Q (Ok None) f h = f h
-on_none P Q (Ok (Some x)) f h = h
-on_none P Q (Err e) f h = h
+-- ---- what is found for a receive
+
+pub take_free : (s : State) (g : ℕ) → (IsHeldUp (known_part s) (Do (Receive g)) → ⊥) → take_latched s g ≡ false
+take_free s g h = false_from_ne_true (take_latched s g) h
+
+module _ (s : State) (t : Txn) (P : ℕ → Type 0) where
+  -- what one sender has is what is found
+  pub take_found : (g : ℕ) (plan : Planned) → WaitsFor s t g → IsPlannedFor s (Receive g) (Ok (Some plan)) → IsTakePlanned s t P (Ok (Some (g, plan)))
+  take_found g plan w p = record { waits = w; plan = p.plan; free = take_free s g p.free; held_up = tt; plain = tt; memory = λ k. tt }
+
+  pub take_none : ((g : ℕ) → P g → WaitsFor s t g → take_latched s g ≡ true) → IsTakePlanned s t P (Ok None)
+  take_none held = record { waits = tt; plan = tt; free = tt; held_up = held; plain = tt; memory = λ k. tt }
+
+  pub take_refused : (g : ℕ) (r : Refusal) → WaitsFor s t g → IsPlannedFor s (Receive g) (Err r) → IsTakePlanned s t P (Err r)
+  take_refused g r w p = record { waits = tt; plan = tt; free = tt; held_up = tt; plain = p.plain; memory = λ k. p.memory k.0 k.1 k.2 w.2 }
+
+  -- what is found of some of the senders is found of others, where those are held up if it is none
+  pub take_other : (Q : ℕ → Type 0) (found : Result (Option (ℕ × Planned)) Refusal) → IfOk found (λ o. IfNone o ((g : ℕ) → P g → WaitsFor s t g → take_latched s g ≡ true)) → IsTakePlanned s t Q found → IsTakePlanned s t P found
+  take_other Q found held p = record { waits = p.waits; plan = p.plan; free = p.free; held_up = held; plain = p.plain; memory = p.memory }
 
 -- ---- closes, sends and receives
 
@@ -216,9 +233,6 @@ take_plan s g n plan below h = at plan.deed refl h.asked h.planned where
       }
   at (Append x m t previous b) is same p = absurd same
   at (Close_deed x) is same p = absurd same
-
-pub take_free : (s : State) (g : ℕ) → (IsHeldUp (known_part s) (Do (Receive g)) → ⊥) → take_latched s g ≡ false
-take_free s g h = false_from_ne_true (take_latched s g) h
 
 -- a close needs the page of its directory slot
 pub close_held : (s : State) (g : ℕ) → IsHeldUp (known_part s) (Do (Close g)) → close_latched s g ≡ true

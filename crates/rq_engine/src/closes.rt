@@ -1,15 +1,14 @@
 //! Closes.
-ghost use Rattle.std.specs.Prelude.{◌≡◌, ◌≢◌, ◌↔◌, Err, ◌<◌, IfOk, IfErr, IfSome, IfNone, OnOk, OnErr, ℕ, true, false, length, List};
+ghost use Rattle.std.specs.Prelude.{◌≡◌, ◌≢◌, ◌↔◌, Err, ◌<◌, IfOk, IfErr, OnOk, OnErr, true, false, List};
 ghost use Rattle.rq_model.specs.History.Call.{Start_close};
 ghost use Rattle.rq_model.specs.Replay.Reply.{Gave_sub};
 ghost use Rattle.rq_model.specs.Tests.{NoneHolds, Passes, log_full, ready_tests};
 ghost use Rattle.rq_page.specs.Sizes.{sender_count};
 ghost use Rattle.rq_views.specs.Items.{items};
 ghost use Rattle.rq_views.specs.Legal.{view};
-ghost use Rattle.rq_views.specs.Stored.{slots_in};
+ghost use Rattle.rq_level.specs.Ops.Doing.{Close};
 ghost use Rattle.rq_groups.specs.Ends.{is_free_for};
 ghost use Rattle.rq_store.specs.State.{ledger_of, size_of};
-ghost use Rattle.rq_sound.specs.Plans.{AreUnlatched};
 ghost use Rattle.rq_sound.specs.Sound.{IsSound};
 ghost use Rattle.rq_engine.specs.Earlier.{on, IsEarlier};
 ghost use Rattle.rq_model.specs.declared.record.Record.{Record};
@@ -17,8 +16,7 @@ ghost use Rattle.rq_engine.specs.Opened.{LeavesDevices};
 ghost use Rattle.rq_engine.specs.Answers.{AnswersLegally, RefusesOver};
 ghost use Rattle.rq_engine.specs.Applied.{OnLatched, StartsUnlatched};
 ghost use Rattle.rq_engine.specs.Lists.{IsCloseStarted};
-ghost use Rattle.rq_engine.specs.Closes.{IsClosePlan, close_latched};
-ghost use Rattle.rq_engine.specs.Sends.{under_plan, FitsPlan};
+ghost use Rattle.rq_engine.specs.Plans.{IsPlannedFor};
 
 use crate::engine::Engine;
 use crate::plans::Planned;
@@ -99,19 +97,7 @@ impl<P: PageDevice, L: LogDevice, B: Level> Engine<P, L, B> {
     fn plan_close(&mut self, sender: u32) -> Result<Option<Planned>, Refusal>
         requires { sender < sender_count self.old.state.sizes }
         ensures same { self.new ≡ self.old }
-        ensures plan { IfOk result (λ found. IfSome found (λ planned. (number : ℕ)
-            → IsClosePlan self.old.state.sizes (slots_in self.old.state.sizes self.old.state.images)
-            (under_plan number planned) sender)) }
-        ensures fits { IfOk result (λ found. IfSome found (λ planned. FitsPlan self.old.state.sizes planned)) }
-        ensures one { IfOk result (λ found. IfSome found (λ planned. length planned.writes.items ≡ 1)) }
-        ensures free { IfOk result (λ found. IfSome found
-            (λ planned. AreUnlatched self.old.state planned.writes.items)) }
-        ensures unlatched { IfOk result (λ found. IfSome found (λ _. close_latched self.old.state sender ≡ false)) }
-        ensures latched { IfOk result (λ found. IfNone found (close_latched self.old.state sender ≡ true)) }
-        ensures plain { IfErr result (λ r. r ≢ Refusal.Failed) }
-        ensures refused { (e : List Record) → IsEarlier e self.old.state → IsSound (on e self.old.state)
-            → (view (items self.old.state.sizes (on e self.old.state).records) sender).closed ≡ false
-            → IfErr result (λ r. r ≡ Refusal.NoMemory) }
+        ensures planned { IsPlannedFor self.old.state (Close sender) result }
     {
         let Ok(op) = Op::close(self.alloc, sender) else {
             return Err(Refusal::NoMemory);

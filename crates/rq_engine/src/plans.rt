@@ -1,14 +1,11 @@
 //! Plans of operations, by the level.
-ghost use Rattle.std.specs.Prelude.{◌≡◌, ◌≢◌, ◌+◌, ◌*◌, ◌≤◌, IfOk, IfErr, IfSome, IfNone, List, None, Some, false, length};
+ghost use Rattle.std.specs.Prelude.{◌≡◌, ◌+◌, ◌*◌, ◌≤◌, Some, false, length};
 ghost use Rattle.rq_model.specs.Deeds.{deed_in};
 ghost use Rattle.rq_level.specs.Ops.{Doing};
 ghost use Rattle.rq_txn.specs.Told.{IsTold};
-ghost use Rattle.rq_sound.specs.Sound.{IsSound};
-ghost use Rattle.rq_engine.specs.Earlier.{on, IsEarlier};
-ghost use Rattle.rq_model.specs.declared.record.Record.{Record};
-ghost use Rattle.rq_planner.specs.Answered.{IsHeldUp, IsPlanned, MayBeAsked};
+ghost use Rattle.rq_planner.specs.Answered.{IsPlanned};
 ghost use Rattle.rq_planner.specs.Asked.{Do, IsOfStore, asked_back, asked_by};
-ghost use Rattle.rq_engine.specs.Plans.{IsDeedPlan, IsToDo, known_part};
+ghost use Rattle.rq_engine.specs.Plans.{IsPlannedFor, IsToDo, known_part};
 
 use crate::engine::Engine;
 use crate::operations::CHAIN_LEVEL;
@@ -35,17 +32,7 @@ impl<P: PageDevice, L: LogDevice, B: Level> Engine<P, L, B> {
         requires forward { op.now.undo ≡ false }
         requires asked { IsToDo self.old.state.sizes (asked_by op.now) }
         ensures same { self.new ≡ self.old }
-        // The plan, and latches, exactly.
-        ensures plan { IfOk result (λ found. IfSome found (λ planned. (d : Doing) → asked_by op.now ≡ Some (Do d)
-            → IsDeedPlan self.old.state d planned)) }
-        ensures unlatched { IfOk result (λ found. IfSome found (λ _. (d : Doing) → asked_by op.now ≡ Some (Do d)
-            → IsHeldUp (known_part self.old.state) (Do d) → ⊥)) }
-        ensures latched { IfOk result (λ found. IfNone found ((d : Doing) → asked_by op.now ≡ Some (Do d)
-            → IsHeldUp (known_part self.old.state) (Do d))) }
-        // Why there is none otherwise.
-        ensures plain { IfErr result (λ r. r ≢ Refusal.Failed) }
-        ensures refused { (e : List Record) → IsEarlier e self.old.state → IsSound (on e self.old.state) → (d : Doing) → asked_by op.now ≡ Some (Do d)
-            → MayBeAsked (on e self.old.state) (Do d) → IfErr result (λ r. r ≡ Refusal.NoMemory) }
+        ensures planned { (d : Doing) → asked_by op.now ≡ Some (Do d) → IsPlannedFor self.old.state d result }
     {
         match self.plan_op(op) {
             Ok(Some(plan)) => Ok(Some(with_deed(plan))),

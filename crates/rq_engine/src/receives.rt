@@ -1,24 +1,23 @@
 //! Receives.
-ghost use Rattle.std.specs.Prelude.{◌≡◌, ◌≢◌, ◌↔◌, Err, ◌+◌, ◌<◌, ◌≤◌, ◌^◌, IfOk, IfErr, IfSome, IfNone, None, OnErr, ℕ, Some, true, false, List};
+ghost use Rattle.std.specs.Prelude.{⊤, ◌≡◌, ◌↔◌, Err, ◌+◌, ◌<◌, ◌≤◌, ◌^◌, IfOk, IfErr, IfSome, IfNone, None, OnErr, ℕ, Some, true, false, List};
 ghost use Rattle.rq_model.specs.History.{Call};
 ghost use Rattle.rq_model.specs.History.Call.{Start_receive, Start_receive_from};
 ghost use Rattle.rq_model.specs.Tests.{NoneHolds, log_full, ready_tests};
 ghost use Rattle.rq_page.specs.Sizes.{sender_count};
-ghost use Rattle.rq_views.specs.Stored.{slots_in};
+ghost use Rattle.rq_level.specs.Ops.Doing.{Receive};
 ghost use Rattle.rq_groups.specs.Ends.{has_held, is_held};
 ghost use Rattle.rq_groups.specs.Waiting.{waits};
 ghost use Rattle.rq_store.specs.State.{ledger_of};
-ghost use Rattle.rq_sound.specs.Plans.{AreUnlatched};
 ghost use Rattle.rq_sound.specs.Sound.{IsSound};
-ghost use Rattle.rq_engine.specs.Earlier.{on, IsEarlier, IsSoundOver};
+ghost use Rattle.rq_engine.specs.Earlier.{on, IsEarlier};
 ghost use Rattle.rq_model.specs.declared.record.Record.{Record};
-ghost use Rattle.rq_store.specs.Plans.{IsTakePlan, NoneWaits, WaitsFor};
+ghost use Rattle.rq_store.specs.Plans.{NoneWaits, WaitsFor};
 ghost use Rattle.rq_engine.specs.Applied.{TakesUnlatched};
 ghost use Rattle.rq_engine.specs.Opened.{LeavesDevices};
 ghost use Rattle.rq_engine.specs.Answers.{AnswersLegally, HasNothingUnderWay};
 ghost use Rattle.rq_engine.specs.Lists.{IsTakeStarted, TakeSays, TakeFromSays};
 ghost use Rattle.rq_engine.specs.Receives.{IsTakeCall, started_of};
-ghost use Rattle.rq_engine.specs.Sends.{under_plan, FitsPlan, take_latched};
+ghost use Rattle.rq_engine.specs.Plans.{IsDeedPlan, IsPlannedFor, IsTakePlanned};
 
 use crate::engine::Engine;
 use crate::plans::Planned;
@@ -124,10 +123,7 @@ impl<P: PageDevice, L: LogDevice, B: Level> Engine<P, L, B> {
         requires passes { NoneHolds (ready_tests (ledger_of self.old.state) txn false) }
         requires waits { WaitsFor self.old.state txn sender }
         requires log { log_full (ledger_of self.old.state) 4 ≡ false }
-        requires plan { IsTakePlan self.old.state.sizes (slots_in self.old.state.sizes self.old.state.images)
-            (under_plan number plan) sender }
-        requires unlatched { AreUnlatched self.old.state plan.writes.items }
-        requires fits { FitsPlan self.old.state.sizes plan }
+        requires plan { IsDeedPlan self.old.state (Receive sender) plan }
         // What it answers and starts.
         ensures answered { (call : Call) → IsTakeCall txn sender call
             → AnswersLegally P.PageDevice L.LogDevice self.old call (λ sub. started_of (Some sub)) result self.new }
@@ -170,19 +166,7 @@ impl<P: PageDevice, L: LogDevice, B: Level> Engine<P, L, B> {
     fn plan_any_take(&mut self, txn: Txn, first: u32) -> Result<Option<(u32, Planned)>, Refusal>
         requires { WaitsFor self.old.state txn first }
         ensures same { self.new ≡ self.old }
-        ensures waits { IfOk result (λ found. IfSome found (λ planned. WaitsFor self.old.state txn planned.0)) }
-        ensures plan { IfOk result (λ found. IfSome found (λ planned. (number : ℕ)
-            → IsTakePlan self.old.state.sizes (slots_in self.old.state.sizes self.old.state.images)
-            (under_plan number planned.1) planned.0)) }
-        ensures fits { IfOk result (λ found. IfSome found (λ planned. FitsPlan self.old.state.sizes planned.1)) }
-        ensures free { IfOk result (λ found. IfSome found
-            (λ planned. AreUnlatched self.old.state planned.1.writes.items)) }
-        ensures unlatched { IfOk result (λ found. IfSome found
-            (λ planned. take_latched self.old.state planned.0 ≡ false)) }
-        ensures latched { IfOk result (λ found. IfNone found ((g : ℕ) → WaitsFor self.old.state txn g
-            → take_latched self.old.state g ≡ true)) }
-        ensures plain { IfErr result (λ r. r ≢ Refusal.Failed) }
-        ensures refused { IsSoundOver self.old.state → IfErr result (λ r. r ≡ Refusal.NoMemory) }
+        ensures planned { IsTakePlanned self.old.state txn (λ _. ⊤) result }
     {
         if let Some(plan) = self.plan_take(first)? {
             return Ok(Some((first, plan)));
@@ -196,20 +180,7 @@ impl<P: PageDevice, L: LogDevice, B: Level> Engine<P, L, B> {
     // The same, of the senders whose receiving end nobody holds.
     fn plan_free_take(&mut self, txn: Txn) -> Result<Option<(u32, Planned)>, Refusal>
         ensures same { self.new ≡ self.old }
-        ensures waits { IfOk result (λ found. IfSome found (λ planned. WaitsFor self.old.state txn planned.0)) }
-        ensures plan { IfOk result (λ found. IfSome found (λ planned. (number : ℕ)
-            → IsTakePlan self.old.state.sizes (slots_in self.old.state.sizes self.old.state.images)
-            (under_plan number planned.1) planned.0)) }
-        ensures fits { IfOk result (λ found. IfSome found (λ planned. FitsPlan self.old.state.sizes planned.1)) }
-        ensures free { IfOk result (λ found. IfSome found
-            (λ planned. AreUnlatched self.old.state planned.1.writes.items)) }
-        ensures unlatched { IfOk result (λ found. IfSome found
-            (λ planned. take_latched self.old.state planned.0 ≡ false)) }
-        ensures latched { IfOk result (λ found. IfNone found ((g : ℕ)
-            → is_held g self.old.state.ends.receiving ≡ false → WaitsFor self.old.state txn g
-            → take_latched self.old.state g ≡ true)) }
-        ensures plain { IfErr result (λ r. r ≢ Refusal.Failed) }
-        ensures refused { IsSoundOver self.old.state → IfErr result (λ r. r ≡ Refusal.NoMemory) }
+        ensures planned { IsTakePlanned self.old.state txn (λ g. is_held g self.old.state.ends.receiving ≡ false) result }
     {
         let mut from = 0;
         while let Some(sender) = self.next_free(from) {
@@ -224,25 +195,12 @@ impl<P: PageDevice, L: LogDevice, B: Level> Engine<P, L, B> {
     // The same, of the senders whose receiving end the transaction holds.
     fn plan_own_take(&mut self, txn: Txn) -> Result<Option<(u32, Planned)>, Refusal>
         ensures same { self.new ≡ self.old }
-        ensures waits { IfOk result (λ found. IfSome found (λ planned. WaitsFor self.old.state txn planned.0)) }
-        ensures plan { IfOk result (λ found. IfSome found (λ planned. (number : ℕ)
-            → IsTakePlan self.old.state.sizes (slots_in self.old.state.sizes self.old.state.images)
-            (under_plan number planned.1) planned.0)) }
-        ensures fits { IfOk result (λ found. IfSome found (λ planned. FitsPlan self.old.state.sizes planned.1)) }
-        ensures free { IfOk result (λ found. IfSome found
-            (λ planned. AreUnlatched self.old.state planned.1.writes.items)) }
-        ensures unlatched { IfOk result (λ found. IfSome found
-            (λ planned. take_latched self.old.state planned.0 ≡ false)) }
-        ensures latched { IfOk result (λ found. IfNone found ((g : ℕ)
-            → has_held txn g self.old.state.ends.receiving ≡ true → WaitsFor self.old.state txn g
-            → take_latched self.old.state g ≡ true)) }
-        ensures plain { IfErr result (λ r. r ≢ Refusal.Failed) }
-        ensures refused { IsSoundOver self.old.state → IfErr result (λ r. r ≡ Refusal.NoMemory) }
+        ensures planned { IsTakePlanned self.old.state txn (λ g. has_held txn g self.old.state.ends.receiving ≡ true) result }
     {
         let mut next = self.ends.newest_received(txn);
         while let Some(sender) = next {
-            if let Some(plan) = self.plan_waiting(txn, sender)? {
-                return Ok(Some((sender, plan)));
+            if let Some(planned) = self.plan_waiting(txn, sender)? {
+                return Ok(Some(planned));
             }
             next = self.ends.received_before(sender);
         }
@@ -251,45 +209,28 @@ impl<P: PageDevice, L: LogDevice, B: Level> Engine<P, L, B> {
 
     // The plan of a receive from the sender's group, where it holds a message for the transaction and needs no page that
     // others have latched.
-    fn plan_waiting(&mut self, txn: Txn, sender: u32) -> Result<Option<Planned>, Refusal>
+    fn plan_waiting(
+        &mut self,
+        txn: Txn,
+        sender: u32,
+    ) -> Result<Option<(u32, Planned)>, Refusal>
         ensures same { self.new ≡ self.old }
-        ensures waits { IfOk result (λ found. IfSome found (λ _. WaitsFor self.old.state txn sender)) }
-        ensures plan { IfOk result (λ found. IfSome found (λ planned. (number : ℕ)
-            → IsTakePlan self.old.state.sizes (slots_in self.old.state.sizes self.old.state.images)
-            (under_plan number planned) sender)) }
-        ensures fits { IfOk result (λ found. IfSome found (λ planned. FitsPlan self.old.state.sizes planned)) }
-        ensures free { IfOk result (λ found. IfSome found
-            (λ planned. AreUnlatched self.old.state planned.writes.items)) }
-        ensures unlatched { IfOk result (λ found. IfSome found (λ _. take_latched self.old.state sender ≡ false)) }
-        ensures latched { IfOk result (λ found. IfNone found (WaitsFor self.old.state txn sender
-            → take_latched self.old.state sender ≡ true)) }
-        ensures plain { IfErr result (λ r. r ≢ Refusal.Failed) }
-        ensures refused { IsSoundOver self.old.state → IfErr result (λ r. r ≡ Refusal.NoMemory) }
+        ensures planned { IsTakePlanned self.old.state txn (λ g. g ≡ sender) result }
     {
         if self.waiting.count(sender) == 0 || !self.ends.may_receive(txn, sender) {
             return Ok(None);
         }
-        self.plan_take(sender)
+        match self.plan_take(sender)? {
+            Some(plan) => Ok(Some((sender, plan))),
+            None => Ok(None),
+        }
     }
 
     // The plan of a receive, from the slots as they are; none where it needs a page that others have latched.
     fn plan_take(&mut self, sender: u32) -> Result<Option<Planned>, Refusal>
         requires { sender < sender_count self.old.state.sizes }
         ensures same { self.new ≡ self.old }
-        // The plan.
-        ensures plan { IfOk result (λ found. IfSome found (λ planned. (number : ℕ)
-            → IsTakePlan self.old.state.sizes (slots_in self.old.state.sizes self.old.state.images)
-            (under_plan number planned) sender)) }
-        ensures fits { IfOk result (λ found. IfSome found (λ planned. FitsPlan self.old.state.sizes planned)) }
-        // Latches, exactly.
-        ensures free { IfOk result (λ found. IfSome found
-            (λ planned. AreUnlatched self.old.state planned.writes.items)) }
-        ensures unlatched { IfOk result (λ found. IfSome found (λ _. take_latched self.old.state sender ≡ false)) }
-        ensures latched { IfOk result (λ found. IfNone found (take_latched self.old.state sender ≡ true)) }
-        // Why there is none otherwise.
-        ensures plain { IfErr result (λ r. r ≢ Refusal.Failed) }
-        ensures refused { IsSoundOver self.old.state → 1 ≤ waits self.old.state.waiting sender
-            → IfErr result (λ r. r ≡ Refusal.NoMemory) }
+        ensures planned { IsPlannedFor self.old.state (Receive sender) result }
     {
         let Ok(op) = Op::receive(self.alloc, sender) else {
             return Err(Refusal::NoMemory);

@@ -1,23 +1,22 @@
 //! Sends.
-ghost use Rattle.std.specs.Prelude.{◌≡◌, ◌≢◌, ◌↔◌, Err, ◌<◌, ◌≤◌, ◌^◌, IfOk, IfErr, IfSome, IfNone, None, OnOk, OnErr, ℕ, List, Some, true, false, length};
+ghost use Rattle.std.specs.Prelude.{◌≡◌, ◌≢◌, ◌↔◌, Err, ◌<◌, ◌≤◌, ◌^◌, IfOk, IfErr, OnOk, OnErr, List, true, false, length};
 ghost use Rattle.rq_model.specs.History.Call.{Start_send};
 ghost use Rattle.rq_model.specs.Replay.Reply.{Gave_sub};
 ghost use Rattle.rq_model.specs.Tests.{NoneHolds, Passes, log_full, ready_tests};
 ghost use Rattle.rq_model.specs.Vocabulary.{message_of};
 ghost use Rattle.rq_page.specs.Sizes.{sender_count, cell_count};
-ghost use Rattle.rq_views.specs.Stored.{slots_in};
 ghost use Rattle.rq_groups.specs.Ends.{is_free_for};
 ghost use Rattle.rq_store.specs.State.{ledger_of, size_of};
-ghost use Rattle.rq_sound.specs.Plans.{AreUnlatched};
 ghost use Rattle.rq_sound.specs.Sound.{IsSound};
-ghost use Rattle.rq_engine.specs.Earlier.{on, IsEarlier, IsSoundOver};
+ghost use Rattle.rq_engine.specs.Earlier.{on, IsEarlier};
 ghost use Rattle.rq_model.specs.declared.record.Record.{Record};
-ghost use Rattle.rq_store.specs.Plans.{IsSendPlan};
+ghost use Rattle.rq_level.specs.Ops.Doing.{Send};
 ghost use Rattle.rq_engine.specs.Opened.{LeavesDevices};
 ghost use Rattle.rq_engine.specs.Answers.{AnswersLegally, IsUnderWay, RefusesOver};
 ghost use Rattle.rq_engine.specs.Applied.{OnLatched, StartsUnlatched};
 ghost use Rattle.rq_engine.specs.Lists.{IsSendStarted};
-ghost use Rattle.rq_engine.specs.Sends.{under_plan, FitsPlan, SendIsLatched, TakesLowest};
+ghost use Rattle.rq_engine.specs.Plans.{IsPlannedFor};
+ghost use Rattle.rq_engine.specs.Sends.{TakesLowest};
 
 use crate::engine::Engine;
 use crate::plans::Planned;
@@ -57,15 +56,18 @@ impl<P: PageDevice, L: LogDevice, B: Level> Engine<P, L, B> {
     {
         let number = self.check_open(txn)?;
         self.check_send(txn, sender, tag, body)?;
-        match self.plan_send(sender, tag, body)? {
-            None => Err(Refusal::Latched),
-            Some(plan) => match self.start(txn, number, End::Sending(sender), plan) {
-                Ok(()) => {
-                    self.cells_in_use += 1;
-                    Ok(Sub { txn, number })
+        match self.plan_send(sender, tag, body) {
+            Ok(None) => Err(Refusal::Latched),
+            Ok(Some(plan)) => {
+                match self.start(txn, number, End::Sending(sender), plan) {
+                    Ok(()) => {
+                        self.cells_in_use += 1;
+                        Ok(Sub { txn, number })
+                    }
+                    Err(refusal) => Err(refusal),
                 }
-                Err(refusal) => Err(refusal),
-            },
+            }
+            Err(refusal) => Err(refusal),
         }
     }
 
@@ -116,22 +118,7 @@ impl<P: PageDevice, L: LogDevice, B: Level> Engine<P, L, B> {
         requires sender { sender < sender_count self.old.state.sizes }
         requires short { length body.now ≤ 216 }
         ensures same { self.new ≡ self.old }
-        // The plan.
-        ensures plan { IfOk result (λ found. IfSome found (λ planned. (number : ℕ)
-            → IsSendPlan self.old.state.sizes (slots_in self.old.state.sizes self.old.state.images)
-            (under_plan number planned) sender tag body.now)) }
-        ensures lowest { IfOk result (λ found. IfSome found
-            (λ planned. TakesLowest self.old.state planned.writes.items)) }
-        ensures fits { IfOk result (λ found. IfSome found (λ planned. FitsPlan self.old.state.sizes planned)) }
-        // Latches, exactly.
-        ensures free { IfOk result (λ found. IfSome found
-            (λ planned. AreUnlatched self.old.state planned.writes.items)) }
-        ensures unlatched { IfOk result (λ found. IfSome found (λ _. SendIsLatched self.old.state sender → ⊥)) }
-        ensures latched { IfOk result (λ found. IfNone found (SendIsLatched self.old.state sender)) }
-        // Why there is none otherwise.
-        ensures plain { IfErr result (λ r. r ≢ Refusal.Failed) }
-        ensures refused { IsSoundOver self.old.state → self.old.state.cells_in_use < cell_count self.old.state.sizes
-            → IfErr result (λ r. r ≡ Refusal.NoMemory) }
+        ensures planned { IsPlannedFor self.old.state (Send sender tag body.now) result }
     {
         let Ok(op) = Op::send(self.alloc, sender, tag, body) else {
             return Err(Refusal::NoMemory);

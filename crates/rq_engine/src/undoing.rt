@@ -1,25 +1,22 @@
 //! What an abort undoes: the inverses of finished operations.
-ghost use Rattle.std.specs.Prelude.{◌≡◌, ◌≢◌, ◌↔◌, ◌+◌, ◌≤◌, Err, IfOk, IfErr, IfSome, IfNone, None, OnOk, OnErr, Some, true, length, List};
+ghost use Rattle.std.specs.Prelude.{◌≡◌, ◌↔◌, ◌≤◌, Err, IfOk, IfErr, OnOk, OnErr, Some, true, length, List};
 ghost use Rattle.rq_model.specs.History.Call.{Undo_next};
 ghost use Rattle.rq_model.specs.Tests.{undo_cost};
 ghost use Rattle.rq_model.specs.Commits.{op_of};
 ghost use Rattle.rq_model.specs.Content.{said};
-ghost use Rattle.rq_views.specs.Plans.{Undid};
-ghost use Rattle.rq_views.specs.Stored.{slots_in};
 ghost use Rattle.rq_level.specs.Writes.{AreSlotWrites};
 ghost use Rattle.rq_txn.specs.Rows.{change_row, row_started};
-ghost use Rattle.rq_sound.specs.Plans.{AreUnlatched, IsPlannedFrom};
 ghost use Rattle.rq_sound.specs.Sound.{IsSound};
-ghost use Rattle.rq_engine.specs.Earlier.{on, IsEarlier, IsSoundOver};
+ghost use Rattle.rq_engine.specs.Earlier.{on, IsEarlier};
 ghost use Rattle.rq_model.specs.declared.record.Record.{Record};
-ghost use Rattle.rq_planner.specs.Answered.{IsNewestDeed};
 ghost use Rattle.rq_engine.specs.Opened.{LeavesDevices};
 ghost use Rattle.rq_engine.specs.Answers.{AnswersLegally};
 ghost use Rattle.rq_engine.specs.Applied.{TakesUnlatched};
 ghost use Rattle.rq_engine.specs.Invariant.{IsDoneConsistent};
 ghost use Rattle.rq_engine.specs.Receives.{undoing_of};
 ghost use Rattle.rq_engine.specs.Sends.{HasRoom};
-ghost use Rattle.rq_engine.specs.Aborts.{IsTurnedBack, UndoIsLatched, UndoSays, UndoTakesLowest};
+ghost use Rattle.rq_engine.specs.Aborts.{IsTurnedBack, UndoSays};
+ghost use Rattle.rq_engine.specs.Plans.{IsInverseFor};
 
 use crate::engine::Engine;
 use crate::starts::{CHAIN_RECORDS, CLOSE_RECORDS};
@@ -124,20 +121,7 @@ impl<P: PageDevice, L: LogDevice, B: Level> Engine<P, L, B> {
     fn plan_undo(&mut self, done: &Finished) -> Result<Option<Vec<SlotWrite>>, Refusal>
         requires { IsDoneConsistent self.old.state.sizes done.now }
         ensures same { self.new ≡ self.old }
-        // The plan.
-        ensures plan { IfOk result (λ found. IfSome found (λ writes. IsPlannedFrom self.old.state.sizes
-            (slots_in self.old.state.sizes self.old.state.images) writes.items (Undid done.now.deed))) }
-        ensures slots { IfOk result (λ found. IfSome found (λ writes. AreSlotWrites self.old.state.sizes writes.items)) }
-        ensures lowest { IfOk result (λ found. IfSome found
-            (λ writes. UndoTakesLowest self.old.state done.now.deed writes.items)) }
-        // Latches, exactly.
-        ensures free { IfOk result (λ found. IfSome found (λ writes. AreUnlatched self.old.state writes.items)) }
-        ensures unlatched { IfOk result (λ found. IfSome found (λ _. UndoIsLatched self.old.state done.now.deed → ⊥)) }
-        ensures latched { IfOk result (λ found. IfNone found (UndoIsLatched self.old.state done.now.deed)) }
-        // Why there is none otherwise.
-        ensures plain { IfErr result (λ r. r ≢ Refusal.Failed) }
-        ensures refused { IsSoundOver self.old.state → IsNewestDeed self.old.state done.now.deed
-            → IfErr result (λ r. r ≡ Refusal.NoMemory) }
+        ensures planned { IsInverseFor self.old.state done.now.deed result }
     {
         match self.plan_inverse(done.deed.bytes()) {
             Ok(Some(plan)) => Ok(Some(plan.writes)),

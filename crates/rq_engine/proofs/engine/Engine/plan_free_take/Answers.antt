@@ -17,7 +17,7 @@ loop-sender-preserved g c = (
       let first = subst (λ (x : State). (g' : ℕ) → c.loop-sender.from ≤ g' → g' < c.in-Some.sender → is_held g' x.ends.receiving ≡ false → waits x.waiting g' ≡ 0) same c.in-Some.ensures.first.1 in
       elim (cases_eq e c.in-Some.sender) [
         | inl here ↦
-            let latched = left_none (take_latched c.loop-sender.self.state c.in-Some.sender ≡ true) c.in_ok-plan.field-0 c.in_default-2.not-Some c.in_ok-plan.ensures.latched in
+            let latched = left_none (take_latched c.loop-sender.self.state c.in-Some.sender ≡ true) c.in_ok-plan.field-0 c.in_default-2.not-Some c.in_ok-plan.ensures.planned.held_up in
             ap (take_latched s) here ∙ subst (λ (x : State). take_latched x c.in-Some.sender ≡ true) same latched
         | inr other ↦ elim (cases_lt e c.loop-sender.from) [
           | inl earlier ↦ c.loop-sender.invariant.1 e earlier free waiting

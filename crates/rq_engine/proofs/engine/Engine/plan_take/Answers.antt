@@ -1,15 +1,7 @@
-use Rattle.std.proofs.Common.{◌≡◌, ℕ, Some, true, false, ap}
-use Rattle.rq_views.specs.Stored.{slots_in}
-use Rattle.rq_level.specs.Ops.{Doing, Job}
+use Rattle.std.proofs.Common.{ap}
+use Rattle.rq_level.specs.Ops.{Job}
 use Rattle.rq_level.specs.Ops.Doing.{Receive}
-use Rattle.rq_store.specs.Plans.{IsTakePlan}
-use Rattle.rq_sound.specs.Plans.{AreUnlatched}
-use Rattle.rq_planner.specs.Answered.{IsHeldUp}
-use Rattle.rq_planner.specs.Asked.{asked_by}
-use Rattle.rq_planner.specs.Asked.Asked.{Do}
-use Rattle.rq_engine.specs.Plans.{IsDeedPlan, known_part}
-use Rattle.rq_engine.specs.Sends.{FitsPlan, take_latched, under_plan}
-use Rattle.rq_engine.proofs.Leveled.{chain_asked, on_none, on_plan, take_free, take_plan}
+use Rattle.rq_engine.proofs.Leveled.{chain_asked, none_planned}
 use Rattle.rq_engine.proofs.engine.Engine.plan_take.Goals as goal
 
 pub plan_deed-requires-clause-forward : goal.plan_deed-requires-clause-forward
@@ -18,40 +10,8 @@ plan_deed-requires-clause-forward g c = ap (λ (j : Job). j.undo) c.in-Ok.ensure
 pub plan_deed-requires-clause-asked : goal.plan_deed-requires-clause-asked
 plan_deed-requires-clause-asked g c = record { doing = Receive c.args.sender; is = chain_asked c.in-Ok.op (Receive c.args.sender) c.in-Ok.ensures.op c.in-Ok.ensures.told; inside = c.requires }
 
-pub returns-clause-plan : goal.returns-clause-plan
-returns-clause-plan g c =
-    let s = c.args.self.now.state in
-    let asked : asked_by c.in-Ok.op ≡ Some (Do (Receive c.args.sender)) = chain_asked c.in-Ok.op (Receive c.args.sender) c.in-Ok.ensures.op c.in-Ok.ensures.told in
-    on_plan (λ p. (d : Doing) → asked_by c.in-Ok.op ≡ Some (Do d) → IsDeedPlan s d p) (λ p. (number : ℕ) → IsTakePlan s.sizes (slots_in s.sizes s.images) (under_plan number p) c.args.sender) c.plan_deed.result
-    (λ p h n. take_plan s c.args.sender n p c.requires (h (Receive c.args.sender) asked)) c.plan_deed.ensures.plan
+pub returns-clause-planned : goal.returns-clause-planned
+returns-clause-planned g c = c.plan_deed.ensures.planned (Receive c.args.sender) (chain_asked c.in-Ok.op (Receive c.args.sender) c.in-Ok.ensures.op c.in-Ok.ensures.told)
 
-pub returns-clause-fits : goal.returns-clause-fits
-returns-clause-fits g c =
-    let s = c.args.self.now.state in
-    let asked : asked_by c.in-Ok.op ≡ Some (Do (Receive c.args.sender)) = chain_asked c.in-Ok.op (Receive c.args.sender) c.in-Ok.ensures.op c.in-Ok.ensures.told in
-    on_plan (λ p. (d : Doing) → asked_by c.in-Ok.op ≡ Some (Do d) → IsDeedPlan s d p) (λ p. FitsPlan s.sizes p) c.plan_deed.result
-    (λ p h. (h (Receive c.args.sender) asked).fits) c.plan_deed.ensures.plan
-
-pub returns-clause-free : goal.returns-clause-free
-returns-clause-free g c =
-    let s = c.args.self.now.state in
-    let asked : asked_by c.in-Ok.op ≡ Some (Do (Receive c.args.sender)) = chain_asked c.in-Ok.op (Receive c.args.sender) c.in-Ok.ensures.op c.in-Ok.ensures.told in
-    on_plan (λ p. (d : Doing) → asked_by c.in-Ok.op ≡ Some (Do d) → IsDeedPlan s d p) (λ p. AreUnlatched s p.writes.items) c.plan_deed.result
-    (λ p h. (h (Receive c.args.sender) asked).free) c.plan_deed.ensures.plan
-
-pub returns-clause-unlatched : goal.returns-clause-unlatched
-returns-clause-unlatched g c =
-    let s = c.args.self.now.state in
-    let asked : asked_by c.in-Ok.op ≡ Some (Do (Receive c.args.sender)) = chain_asked c.in-Ok.op (Receive c.args.sender) c.in-Ok.ensures.op c.in-Ok.ensures.told in
-    on_plan (λ p. (d : Doing) → asked_by c.in-Ok.op ≡ Some (Do d) → IsHeldUp (known_part s) (Do d) → ⊥) (λ _. take_latched s c.args.sender ≡ false) c.plan_deed.result
-    (λ p h. take_free s c.args.sender (h (Receive c.args.sender) asked)) c.plan_deed.ensures.unlatched
-
-pub returns-clause-latched : goal.returns-clause-latched
-returns-clause-latched g c =
-    let s = c.args.self.now.state in
-    let asked : asked_by c.in-Ok.op ≡ Some (Do (Receive c.args.sender)) = chain_asked c.in-Ok.op (Receive c.args.sender) c.in-Ok.ensures.op c.in-Ok.ensures.told in
-    on_none ((d : Doing) → asked_by c.in-Ok.op ≡ Some (Do d) → IsHeldUp (known_part s) (Do d)) (take_latched s c.args.sender ≡ true) c.plan_deed.result
-    (λ h. (h (Receive c.args.sender) asked)) c.plan_deed.ensures.latched
-
-pub returns-clause-refused : goal.returns-clause-refused
-returns-clause-refused g c k wait = c.plan_deed.ensures.refused k.0 k.1 k.2 (Receive c.args.sender) (chain_asked c.in-Ok.op (Receive c.args.sender) c.in-Ok.ensures.op c.in-Ok.ensures.told) wait
+pub returns-in_default-clause-planned : goal.returns-in_default-clause-planned
+returns-in_default-clause-planned g c = none_planned c.args.self.now.state (Receive c.args.sender)

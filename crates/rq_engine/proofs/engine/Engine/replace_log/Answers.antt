@@ -1,4 +1,4 @@
-use Rattle.std.proofs.Common.{rules, ap, Bool, List, subst, sym, ◌∙◌, ◌≡◌, ◌+◌, ◌<◌, ◌≤◌, ℕ, length, IfOk, arith, refl, inl}
+use Rattle.std.proofs.Common.{rules, ap, Bool, List, subst, sym, ◌∙◌, ◌≡◌, length, arith, refl}
 use Rattle.rq_log.specs.Spelled.{IsBeginning}
 use Rattle.rq_pool.specs.Pooled.{is_changed}
 use Rattle.rq_store.specs.State.{State}

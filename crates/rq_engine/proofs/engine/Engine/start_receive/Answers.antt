@@ -1,3 +1,4 @@
+use Rattle.std.specs.Bool.{⊤}
 use Rattle.std.proofs.Common.{◌≡◌, ℕ, true, false, sym, ◌∙◌, subst, refl, inl}
 use Rattle.rq_model.specs.History.Call.{Start_receive}
 use Rattle.rq_store.specs.Plans.{NoneWaits, WaitsFor}
@@ -39,21 +40,21 @@ returns-in-Ok-None-clause-answered g c h earlier long =
     let s = on earlier c.args.self.now.state in
     let w : WaitsFor s c.args.txn c.in-Some.first = c.in-Some.ensures.waits in
     rw (c.in-Ok-None.ensures.same) (any_refused s c.args.txn c.in_ok-number.ensures.passes c.in-Some.first w.0 w.1 w.2 (full_on earlier c.args.self.now.state long _ ∙ sym c.if-is_log_full.ensures)
-    (none_told ((e : ℕ) → WaitsFor s c.args.txn e → take_latched s e ≡ true) c.in-Ok-None.field-0 c.in-Ok-None.field-0-is c.in-Ok-None.ensures.latched))
+    (λ e. none_told ((e : ℕ) → ⊤ → WaitsFor s c.args.txn e → take_latched s e ≡ true) c.in-Ok-None.field-0 c.in-Ok-None.field-0-is c.in-Ok-None.ensures.planned.held_up e tt))
 
 pub returns-in-Ok-None-clause-latched : goal.returns-in-Ok-None-clause-latched
 returns-in-Ok-None-clause-latched g c earlier long k =
     let s = on earlier c.args.self.now.state in
     let w : WaitsFor s c.args.txn c.in-Some.first = c.in-Some.ensures.waits in
     any_latches s k c.args.txn c.in-Some.first w
-    (none_told ((e : ℕ) → WaitsFor s c.args.txn e → take_latched s e ≡ true) c.in-Ok-None.field-0 c.in-Ok-None.field-0-is c.in-Ok-None.ensures.latched)
+    (λ e. none_told ((e : ℕ) → ⊤ → WaitsFor s c.args.txn e → take_latched s e ≡ true) c.in-Ok-None.field-0 c.in-Ok-None.field-0-is c.in-Ok-None.ensures.planned.held_up e tt)
 
 pub returns-in-Ok-clause-latched : goal.returns-in-Ok-clause-latched
 returns-in-Ok-clause-latched g c earlier long k =
     let s = on earlier c.args.self.now.state in
     any_unlatched s k c.args.txn c.in-Ok-Some.sender
-    (some_told (λ p. WaitsFor s c.args.txn p.0) c.in-Ok-Some.field-0 _ c.in-Ok-Some.field-0-is c.in-Ok-Some.ensures.waits)
-    (some_told (λ p. take_latched s p.0 ≡ false) c.in-Ok-Some.field-0 _ c.in-Ok-Some.field-0-is c.in-Ok-Some.ensures.unlatched)
+    (some_told (λ p. WaitsFor s c.args.txn p.0) c.in-Ok-Some.field-0 _ c.in-Ok-Some.field-0-is c.in-Ok-Some.ensures.planned.waits)
+    (some_told (λ p. take_latched s p.0 ≡ false) c.in-Ok-Some.field-0 _ c.in-Ok-Some.field-0-is c.in-Ok-Some.ensures.planned.free)
 
 pub returns-in-Err-start_take-clause-answered : goal.returns-in-Err-start_take-clause-answered
 returns-in-Err-start_take-clause-answered g c h earlier long k =
@@ -71,5 +72,5 @@ pub returns-in-Err-clause-answered : goal.returns-in-Err-clause-answered
 returns-in-Err-clause-answered g c h earlier long k =
     let s = on earlier c.args.self.now.state in
     let w : WaitsFor c.args.self.now.state c.args.txn c.in-Some.first = c.in-Some.ensures.waits in
-    rw (c.in-Err.ensures.refused (earlier, long, k), c.in-Err.ensures.same)
+    rw (c.in-Err.ensures.planned.memory (earlier, long, k), c.in-Err.ensures.same)
     (take_memory s c.args.txn c.in_ok-number.ensures.passes c.in-Some.first w.0 w.1 w.2 (full_on earlier c.args.self.now.state long 4 ∙ sym c.if-is_log_full.ensures) (Start_receive c.args.txn) (inl refl) k)

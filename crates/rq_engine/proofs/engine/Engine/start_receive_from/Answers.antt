@@ -1,4 +1,4 @@
-use Rattle.std.proofs.Common.{◌≡◌, ◌<◌, ◌≤◌, true, false, sym, ap, ◌∙◌, subst, refl, arith, inr}
+use Rattle.std.proofs.Common.{◌≡◌, ◌<◌, ◌≤◌, true, sym, ap, ◌∙◌, subst, refl, arith, inr}
 use Rattle.rq_model.specs.History.Call.{Start_receive_from}
 use Rattle.rq_page.specs.Sizes.{sender_count}
 use Rattle.rq_groups.specs.Ends.{is_free_for}
@@ -7,6 +7,7 @@ use Rattle.rq_store.specs.State.{State}
 use Rattle.rq_engine.specs.Sends.{take_latched}
 use Rattle.rq_engine.proofs.Latches.{from_latched, from_unlatched}
 use Rattle.rq_engine.proofs.TakeCalls.{from_refused, log_is_full, receiver_busy, none_from_done, take_memory}
+use Rattle.rq_engine.proofs.Leveled.{take_free}
 use Rattle.rq_engine.proofs.Opened.{none_told, state_is}
 use Rattle.rq_engine.specs.Answers.{IsCausedIn}
 use Rattle.rq_model.specs.Replay.Reply.{Gave_sub, Gave_refusal}
@@ -66,17 +67,17 @@ returns-in-Ok-None-clause-answered g c h earlier long =
     let some = c.if-count-eq0.false in
     let wait : 1 ≤ waits s.waiting c.args.sender = omega (arith, count, some) in
     rw (c.in-Ok-None.ensures.same) (from_refused s c.args.txn c.in_ok-number.ensures.passes c.args.sender below free wait (full_on earlier c.args.self.now.state long _ ∙ sym c.if-is_log_full.ensures)
-    (none_told (take_latched s c.args.sender ≡ true) c.in-Ok-None.field-0 c.in-Ok-None.field-0-is c.in-Ok-None.ensures.latched))
+    (none_told (take_latched s c.args.sender ≡ true) c.in-Ok-None.field-0 c.in-Ok-None.field-0-is c.in-Ok-None.ensures.planned.held_up))
 
 pub returns-in-Ok-None-clause-latched : goal.returns-in-Ok-None-clause-latched
 returns-in-Ok-None-clause-latched g c earlier long k =
     let s = on earlier c.args.self.now.state in
-    from_latched s k c.args.txn c.args.sender (none_told (take_latched s c.args.sender ≡ true) c.in-Ok-None.field-0 c.in-Ok-None.field-0-is c.in-Ok-None.ensures.latched)
+    from_latched s k c.args.txn c.args.sender (none_told (take_latched s c.args.sender ≡ true) c.in-Ok-None.field-0 c.in-Ok-None.field-0-is c.in-Ok-None.ensures.planned.held_up)
 
 pub returns-in-Ok-clause-latched : goal.returns-in-Ok-clause-latched
 returns-in-Ok-clause-latched g c earlier long k =
     let s = on earlier c.args.self.now.state in
-    from_unlatched s k c.args.txn c.args.sender (some_told (λ _. take_latched s c.args.sender ≡ false) c.in-Ok-Some.field-0 _ c.in-Ok-Some.field-0-is c.in-Ok-Some.ensures.unlatched)
+    from_unlatched s k c.args.txn c.args.sender (take_free s c.args.sender (some_told (λ _. take_latched s c.args.sender ≡ true → ⊥) c.in-Ok-Some.field-0 _ c.in-Ok-Some.field-0-is c.in-Ok-Some.ensures.planned.free))
 
 pub returns-in-Err-start_take-clause-answered : goal.returns-in-Err-start_take-clause-answered
 returns-in-Err-start_take-clause-answered g c h earlier long k =
@@ -100,5 +101,5 @@ returns-in-Err-clause-answered g c h earlier long k =
     let count : waits s.waiting c.args.sender ≡ c.count.result = ap (λ (x : State). waits x.waiting c.args.sender) (sym (state_is c.self.view_is)) ∙ sym c.count.ensures in
     let some = c.if-count-eq0.false in
     let wait : 1 ≤ waits s.waiting c.args.sender = omega (arith, count, some) in
-    rw (c.in-Err.ensures.refused (earlier, long, k) wait, c.in-Err.ensures.same)
+    rw (c.in-Err.ensures.planned.memory earlier long k wait, c.in-Err.ensures.same)
     (take_memory (on earlier s) c.args.txn c.in_ok-number.ensures.passes c.args.sender below free wait (full_on earlier s long 4 ∙ sym c.if-is_log_full.ensures) (Start_receive_from c.args.txn c.args.sender) (inr refl) k)

@@ -1,4 +1,4 @@
-use Rattle.std.proofs.Common.{◌≡◌, ap, refl, rules, sym, ◌∙◌, Bool, Err, List, subst, arith, Ok}
+use Rattle.std.proofs.Common.{ap, refl, rules, ◌∙◌, Bool, Err, List, subst, arith, Ok}
 use Rattle.rq_pool.specs.declared.Written.{Written}
 use Rattle.rq_pool.specs.Pooled.{is_changed}
 use Rattle.rq_engine.specs.Checkpoint.{CountsOne, IsStopped}
