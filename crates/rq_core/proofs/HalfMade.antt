@@ -50,7 +50,7 @@ module _ {P L : Type 0} (p : page_device.Ghosts P) (l : log_device.Ghosts L) (z 
       let s = n.0 in
       inr (record {
         failed = ap (λ (x : State). x.failed) s.state;
-        none_open = ap (λ (x : State). x.rows) s.state ∙ s.none_open;
+        none_open = ap (λ (x : State). x.rows) s.state ∙ s.could.none_open;
         leaves = λ images bytes a b. subst (λ (x : State). IsCutOrBased (on past x) images bytes) (sym s.state) (cut_or_failed (on past old.state) images bytes (leaves images bytes a b));
       })
   not_made why.Failed n leaves w = inl (subst Written (sym n.1) w)

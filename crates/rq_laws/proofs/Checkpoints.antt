@@ -17,12 +17,12 @@ use Rattle.rq_engine.specs.Opened.{OpenStore, pooled}
 use Rattle.rq_laws.specs.Refusals.{IsWant, RefuseAlike}
 use Rattle.rq_laws.proofs.Ending.{some_none}
 
-has_some : List Row → Bool
+abbrev has_some : List Row → Bool
 has_some [] = false
 has_some (r ∷ rows) = true
 
 -- what of the lists refuses a checkpoint
-refuses : State → Option Refusal
+abbrev refuses : State → Option Refusal
 refuses s = cond s.failed (Some why.Failed) (cond (has_some s.rows) (Some why.NotQuiet) (cond (log_full (ledger_of s) 1) (Some why.LogFull) None))
 
 rows_some : (rows : List Row) → (rows ≡ [] → ⊥) → has_some rows ≡ true
@@ -66,7 +66,7 @@ module _ {P L : Type 0} (p : page_device.Ghosts P) (l : log_device.Ghosts L) (ol
   both r s h (inr (inr w)) = inr (inr w)
 
   -- what a refusal leaves of the lists
-  after : Refusal → State
+  abbrev after : Refusal → State
   after why.DiskWrite = record old.state { failed = true }
   after _ = old.state
 
