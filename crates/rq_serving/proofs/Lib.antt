@@ -1,4 +1,3 @@
-mod Owning
 mod Gates
 mod Carrying
 mod Holding

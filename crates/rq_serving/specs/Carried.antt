@@ -1,35 +1,32 @@
 -- How a session goes on: the calls that are made for it, and what comes of them.
 use Rattle.std.specs.Prelude.{◌≡◌, ◌⊎◌, ◌||◌, ℕ, Bool, true, false, not, Option, Some, None, List, [], ◌∷◌, ◌++◌}
-use Rattle.rq_engine.specs.Says.{call_of, commit_number, gave}
+use Rattle.rq_engine.specs.Says.{call_of}
 use Rattle.rq_engine.specs.declared.event.CommitNo.{CommitNo}
 use Rattle.rq_engine.specs.declared.event.Event.{Event}
-use Rattle.rq_engine.specs.declared.event.Event.TheVariants.{Acknowledged, Force}
+use Rattle.rq_engine.specs.declared.event.Event.TheVariants.{Acknowledged, Finish, Force, Step}
+use Rattle.rq_engine.specs.declared.event.Progress.TheVariants as progress
+use Rattle.rq_engine.specs.declared.event.Reply.{Reply}
+use Rattle.rq_engine.specs.declared.event.Reply.TheVariants.{Stepped}
 use Rattle.rq_shared.specs.declared.kept.Stamped.{Stamped}
-use Rattle.rq_session.specs.declared.calls.Action.{Action}
-use Rattle.rq_session.specs.declared.calls.Action.TheVariants.{Do, Again, Await, Answer, End}
-use Rattle.rq_session.specs.declared.calls.Ask.{Ask}
-use Rattle.rq_session.specs.declared.calls.Ask.TheVariants as asks
-use Rattle.rq_session.specs.declared.calls.Commit.{Commit as Commit_told}
-use Rattle.rq_session.specs.declared.calls.Told.{Told}
-use Rattle.rq_session.specs.declared.calls.Told.TheVariants.{Committed, Written}
+use Rattle.rq_session.specs.declared.actions.Action.{Action}
+use Rattle.rq_session.specs.declared.actions.Action.TheVariants.{Do, Again, Await, Answer, End}
 use Rattle.rq_session.specs.declared.session.Session.{Session}
 use Rattle.rq_session.specs.declared.stage.Stage.{Stage}
-use Rattle.rq_session.specs.Rules.{after_told, after_loss, taken, call_in, answer_in}
+use Rattle.rq_session.specs.Rules.{after_loss, after_reply, taken}
 use Rattle.rq_session.specs.Stages.{own}
-use Rattle.rq_session.specs.Laws.{NamesOwn, awaited}
+use Rattle.rq_session.specs.Laws.{IsOwn, NamesOwn}
 use Rattle.rq_wire.specs.declared.answers.Answer.{Answer as Answered_with}
 use Rattle.rq_wire.specs.declared.request.Request.{Request}
 use Rattle.rq_serving.specs.Asking.{Asks, IsAskedAt, Says, said_no}
-use Rattle.rq_serving.specs.Translation.{asked, commit_told, told_by, IsOwnCall}
 use Rattle.rq_serving.specs.declared.asking.Asking.{Asking}
 use Rattle.rq_serving.specs.declared.serving.Served.{Served}
 use Rattle.rq_serving.specs.declared.serving.Served.TheVariants as came
 
 -- the call is what is to be done
-abbrev pub IsAsked : Action → Ask → Type 0
-IsAsked (Do ask) a = ask ≡ a
-IsAsked (Again ask) a = ask ≡ a
-IsAsked _ a = ⊥
+abbrev pub IsAsked : Action → Event → Type 0
+IsAsked (Do event) e = event ≡ e
+IsAsked (Again event) e = event ≡ e
+IsAsked _ e = ⊥
 
 -- what came with this answer, or with none
 abbrev pub came_with : Option Answered_with → Served
@@ -37,50 +34,45 @@ came_with (Some answer) = came.Answered answer
 came_with None = came.Ended
 
 -- the call is one of an operation under way
-abbrev pub under_way : Ask → Bool
-under_way (asks.Step sub) = true
-under_way (asks.Finish sub) = true
+abbrev pub under_way : Event → Bool
+under_way (Step sub) = true
+under_way (Finish sub) = true
 under_way _ = false
 
 -- Once the gate has said no, none but a call of an operation under way is made.
-abbrev pub may_call : Bool → Ask → Bool
-may_call has_stopped ask = not has_stopped || under_way ask
+abbrev pub may_call : Bool → Event → Bool
+may_call has_stopped event = not has_stopped || under_way event
 
 -- the call is to be made again
 abbrev pub is_again : Action → Bool
-is_again (Again ask) = true
+is_again (Again event) = true
 is_again _ = false
 
 -- a slot was written
-abbrev pub was_written : Option Told → Bool
-was_written (Some Written) = true
+abbrev pub was_written : Reply → Bool
+was_written (Stepped (progress.Done lsn)) = true
 was_written _ = false
 
 -- what comes where no call is to be made, or none more
 abbrev pub IsCome : Bool → Action → Served → Type 0
-IsCome has_stopped (Do ask) c = (may_call has_stopped ask ≡ false) × (c ≡ came.Ended)
-IsCome has_stopped (Again ask) c = (may_call has_stopped ask ≡ false) × (c ≡ came.Ended)
+IsCome has_stopped (Do event) c = (may_call has_stopped event ≡ false) × (c ≡ came.Ended)
+IsCome has_stopped (Again event) c = (may_call has_stopped event ≡ false) × (c ≡ came.Ended)
 IsCome has_stopped (Await commit) c = c ≡ came.Waits commit.lsn
 IsCome has_stopped (Answer answer) c = c ≡ came.Answered answer
 IsCome has_stopped End c = c ≡ came.Ended
 
--- the session was told this, and is to do that next; or it was told nothing
-abbrev pub IsTold : Session → Option Told → Option Action → Session → Type 0
-IsTold old (Some told) (Some next) new = (next ≡ (after_told old.lost old.stage told).action) × (new.lost ≡ old.lost)
-    × (new.stage ≡ (after_told old.lost old.stage told).stage)
-IsTold old None None new = new ≡ old
-IsTold old _ _ new = ⊥
-
 -- One call was made, its stamp handed on, the gate asked at point 3 where that is a slot's write, and the session told
--- what the stamp says.
+-- what the stamp says: what is to be done next.
 pub record IsCall {G S : Type 0} (answers_by : G → List (ℕ × Bool)) (made_by handed_to : S → List Stamped)
-    (gate asked_gate : Asking G) (old new : S) (e : Event) (before : Session) (next : Option Action) (after : Session) : Type 0 where
+    (gate asked_gate : Asking G) (old new : S) (e : Event) (before : Session) (next : Action) (after : Session) : Type 0 where
   pub stamp : Stamped
   pub event : stamp.event ≡ e
   pub made : made_by new ≡ stamp ∷ made_by old
   pub handed : handed_to new ≡ stamp ∷ handed_to old
-  pub asks : Asks answers_by gate asked_gate (was_written (told_by (gave stamp.reply))) 3
-  pub tells : IsTold before (told_by (gave stamp.reply)) next after
+  pub asks : Asks answers_by gate asked_gate (was_written stamp.reply) 3
+  pub next_is : next ≡ (after_reply before.lost before.stage stamp.reply).action
+  pub lost : after.lost ≡ before.lost
+  pub stage : after.stage ≡ (after_reply before.lost before.stage stamp.reply).stage
 
 -- One call for a session: what the gate was asked and said before it, the stamp that answered it, and what the gate was
 -- asked and said behind it.
@@ -106,20 +98,16 @@ has_stopped rounds stopped = said_no (said_in rounds) || stopped
 -- The call that was to be made was made. The gate was asked at point 4 before a call that is made again, and at point 3
 -- behind a slot's write; where it had said no the call is one of an operation under way.
 pub record IsMade (stopped : Bool) (first : Action) (r : Round) : Type 0 where
-  pub ask : Ask
-  pub asks : IsAsked first ask
-  pub event : call_of r.stamp.event ≡ asked ask
+  pub asks : IsAsked first r.stamp.event
   pub before : IsAskedAt (is_again first) 4 r.before
-  pub may : may_call (said_no r.before || stopped) ask ≡ true
-  pub behind : IsAskedAt (was_written (told_by (gave r.stamp.reply))) 3 r.behind
+  pub may : may_call (said_no r.before || stopped) r.stamp.event ≡ true
+  pub behind : IsAskedAt (was_written r.stamp.reply) 3 r.behind
 
 -- One turn: the call was made, and the session was told what its stamp says.
 pub record IsTurn (lost stopped : Bool) (from : Stage) (first : Action) (r : Round) (to : Stage) (next : Action) : Type 0 where
   pub call : IsMade stopped first r
-  pub told : Told
-  pub says : told_by (gave r.stamp.reply) ≡ Some told
-  pub stage : to ≡ (after_told lost from told).stage
-  pub action : next ≡ (after_told lost from told).action
+  pub stage : to ≡ (after_reply lost from r.stamp.reply).stage
+  pub action : next ≡ (after_reply lost from r.stamp.reply).action
 
 -- behind these rounds nothing is done that is to be made again: others go on before that
 abbrev pub DoesNothingAgain : List Round → Action → Type 0
@@ -137,7 +125,7 @@ Turns lost stopped from first (r ∷ older) to next =
 -- These rounds led to an action for which no call was made, and this came of it. Behind a round that is no call to be made again,
 -- since such a call is held. Without rounds it may be one: then others went on before, and the gate was asked. No call is held.
 pub record CallsNoMore (lost stopped now_stopped : Bool) (from : Stage) (first : Action) (rounds : List Round) (last : List (ℕ × Bool))
-    (to : Stage) (held : Option Ask) (c : Served) : Type 0 where
+    (to : Stage) (held : Option Event) (c : Served) : Type 0 where
   pub next : Action
   pub turns : Turns lost stopped from first rounds to next
   pub not_again : DoesNothingAgain rounds next
@@ -145,18 +133,11 @@ pub record CallsNoMore (lost stopped now_stopped : Bool) (from : Stage) (first :
   pub comes : IsCome now_stopped next c
   pub none : held ≡ None
 
--- the last call was answered as none of a session is: it ends, and stands where it stood before that call
-abbrev pub IsStray : (lost stopped : Bool) → Stage → Action → List Round → Stage → Served → Type 0
-IsStray lost stopped from first [] to c = ⊥
-IsStray lost stopped from first (r ∷ older) to c =
-    (a : Action) × Turns lost stopped from first older to a × IsMade (has_stopped older stopped) a r × DoesNothingAgain older a
-    × (told_by (gave r.stamp.reply) ≡ None) × (c ≡ came.Ended)
-
 -- the last call is to be made again, and is held until then
-abbrev pub IsHeld : (lost stopped : Bool) → Stage → Action → List Round → Stage → Option Ask → Served → Type 0
+abbrev pub IsHeld : (lost stopped : Bool) → Stage → Action → List Round → Stage → Option Event → Served → Type 0
 IsHeld lost stopped from first [] to held c = ⊥
 IsHeld lost stopped from first (r ∷ older) to held c =
-    (ask : Ask) × Turns lost stopped from first (r ∷ older) to (Again ask) × (held ≡ Some ask) × (c ≡ came.Held)
+    (event : Event) × Turns lost stopped from first (r ∷ older) to (Again event) × (held ≡ Some event) × (c ≡ came.Held)
 
 -- A session was carried on from what it was to do, by calls through the step interface alone, each of which it asked for,
 -- and is to do this next. The gate was asked at its points and nowhere else.
@@ -173,7 +154,7 @@ pub record IsGoing {G S : Type 0} (answers_by : G → List (ℕ × Bool)) (made_
 -- It was carried on so until this came, and this call is held then. Where the first call was to be made again, and the gate's no
 -- kept it from that, the gate was asked once more than in the rounds, of which there are none.
 pub record IsCarried {G S : Type 0} (answers_by : G → List (ℕ × Bool)) (made_by handed_to : S → List Stamped)
-    (gate asked_gate : Asking G) (old new : S) (before : Session) (first : Action) (after : Session) (held : Option Ask)
+    (gate asked_gate : Asking G) (old new : S) (before : Session) (first : Action) (after : Session) (held : Option Event)
     (c : Served) : Type 0 where
   pub rounds : List Round
   pub last : List (ℕ × Bool)
@@ -182,53 +163,44 @@ pub record IsCarried {G S : Type 0} (answers_by : G → List (ℕ × Bool)) (mad
   pub says : Says answers_by gate asked_gate (last ++ said_in rounds)
   pub lost : after.lost ≡ before.lost
   pub goes : CallsNoMore before.lost gate.stopped asked_gate.stopped before.stage first rounds last after.stage held c
-      ⊎ ((last ≡ []) × ((IsStray before.lost gate.stopped before.stage first rounds after.stage c × (held ≡ None))
-      ⊎ IsHeld before.lost gate.stopped before.stage first rounds after.stage held c))
+      ⊎ ((last ≡ []) × IsHeld before.lost gate.stopped before.stage first rounds after.stage held c)
 
 -- what came of a request: it was carried on with the call that it asks for, where none was held, or had its answer with no call
 abbrev pub IsServed : {G S : Type 0} → (G → List (ℕ × Bool)) → (S → List Stamped) → (S → List Stamped) → Asking G
-    → Asking G → S → S → Session → Option Ask → Request → Session → Option Ask → Served → Type 0
+    → Asking G → S → S → Session → Option Event → Request → Session → Option Event → Served → Type 0
 IsServed answers_by made_by handed_to gate asked_gate old new before was_held request after held c =
     let n = taken before.stage request in
-    ((ask : Ask) × (mid : Session) × (call_in n.action ≡ Some ask) × (was_held ≡ None) × (mid.lost ≡ before.lost) × (mid.stage ≡ n.stage)
-    × IsCarried answers_by made_by handed_to gate asked_gate old new mid (Do ask) after held c)
-    ⊎ ((call_in n.action ≡ None) × (new ≡ old) × (asked_gate ≡ gate) × (after.lost ≡ before.lost)
-    × (after.stage ≡ n.stage) × (held ≡ was_held) × (c ≡ came_with (answer_in n.action)))
+    ((event : Event) × (mid : Session) × (n.call ≡ Some (call_of event)) × (was_held ≡ None) × (mid.lost ≡ before.lost) × (mid.stage ≡ n.stage)
+    × IsCarried answers_by made_by handed_to gate asked_gate old new mid (Do event) after held c)
+    ⊎ ((n.call ≡ None) × (new ≡ old) × (asked_gate ≡ gate) × (after.lost ≡ before.lost)
+    × (after.stage ≡ n.stage) × (held ≡ was_held) × (c ≡ came_with n.answer))
 
 -- the session was carried on with what it is to do; where that is the call that was held, it stays held, and nothing is done
 abbrev pub CarriesOrHolds : {G S : Type 0} → (G → List (ℕ × Bool)) → (S → List Stamped) → (S → List Stamped) → Asking G
-    → Asking G → S → S → Session → Option Ask → Action → Session → Option Ask → Served → Type 0
+    → Asking G → S → S → Session → Option Event → Action → Session → Option Event → Served → Type 0
 CarriesOrHolds answers_by made_by handed_to gate asked_gate old new before None first after held c =
     IsCarried answers_by made_by handed_to gate asked_gate old new before first after held c
-CarriesOrHolds answers_by made_by handed_to gate asked_gate old new before (Some ask) first after held c =
-    (first ≡ Do ask) × (new ≡ old) × (asked_gate ≡ gate) × (after ≡ before) × (held ≡ Some ask) × (c ≡ came.Held)
+CarriesOrHolds answers_by made_by handed_to gate asked_gate old new before (Some event) first after held c =
+    (first ≡ Do event) × (new ≡ old) × (asked_gate ≡ gate) × (after ≡ before) × (held ≡ Some event) × (c ≡ came.Held)
 
 -- what came of a connection that was lost
 abbrev pub IsLost : {G S : Type 0} → (G → List (ℕ × Bool)) → (S → List Stamped) → (S → List Stamped) → Asking G
-    → Asking G → S → S → Session → Option Ask → Session → Option Ask → Served → Type 0
+    → Asking G → S → S → Session → Option Event → Session → Option Event → Served → Type 0
 IsLost answers_by made_by handed_to gate asked_gate old new before was_held after held c =
     let n = after_loss before.stage in
     (mid : Session) × (mid.lost ≡ true) × (mid.stage ≡ n.stage)
     × CarriesOrHolds answers_by made_by handed_to gate asked_gate old new mid was_held n.action after held c
 
--- the session was carried on with what it is to do; where that is nothing, it ended, and no call is held
-abbrev pub CarriesOn : {G S : Type 0} → (G → List (ℕ × Bool)) → (S → List Stamped) → (S → List Stamped) → Asking G
-    → Asking G → S → S → Session → Option Action → Session → Option Ask → Served → Type 0
-CarriesOn answers_by made_by handed_to gate asked_gate old new before (Some first) after held c =
-    IsCarried answers_by made_by handed_to gate asked_gate old new before first after held c
-CarriesOn answers_by made_by handed_to gate asked_gate old new before None after held c =
-    (new ≡ old) × (asked_gate ≡ gate) × (after ≡ before) × (held ≡ None) × (c ≡ came.Ended)
-
 -- What came of asking for the receipt of a commit: it was asked for once, whatever the gate has said, and the session
 -- carried on with what that told.
 pub record IsAskedFor {G S : Type 0} (answers_by : G → List (ℕ × Bool)) (made_by handed_to : S → List Stamped)
-    (gate asked_gate : Asking G) (old new : S) (number : CommitNo) (before after : Session) (held : Option Ask) (c : Served) : Type 0 where
+    (gate asked_gate : Asking G) (old new : S) (number : CommitNo) (before after : Session) (held : Option Event) (c : Served) : Type 0 where
   pub mid : S
   pub mid_gate : Asking G
-  pub next : Option Action
+  pub next : Action
   pub told : Session
   pub asks : IsCall answers_by made_by handed_to gate mid_gate old mid (Acknowledged number) before next told
-  pub goes : CarriesOn answers_by made_by handed_to mid_gate asked_gate mid new told next after held c
+  pub goes : IsCarried answers_by made_by handed_to mid_gate asked_gate mid new told next after held c
 
 -- a force was made, and its stamp handed on
 pub record IsForce {S : Type 0} (made_by forced_by handed_to : S → List Stamped) (old new : S) : Type 0 where
@@ -238,24 +210,6 @@ pub record IsForce {S : Type 0} (made_by forced_by handed_to : S → List Stampe
   pub forced : forced_by new ≡ stamp ∷ forced_by old
   pub handed : handed_to new ≡ stamp ∷ handed_to old
 
--- ---- its own commit
-
--- the commit that is awaited, where there is one, is that of this number
-abbrev pub AwaitsNumber : Option Commit_told → Option CommitNo → Type 0
-AwaitsNumber None number = Unit {0}
-AwaitsNumber (Some commit) None = ⊥
-AwaitsNumber (Some commit) (Some number) = commit_told (commit_number number) ≡ commit
-
--- the number that is kept, once this was told: that of the commit, where one was told, and else the one from before
-abbrev pub NumberAfter : Option CommitNo → Option Told → Option CommitNo → Type 0
-NumberAfter old (Some (Committed commit)) new =
-    (number : CommitNo) × (new ≡ Some number) × (commit_told (commit_number number) ≡ commit)
-NumberAfter old what new = new ≡ old
-
--- where the number that is kept was that of the commit awaited at the one stage, it is at the other
-abbrev pub KeepsNumber : Stage → Option CommitNo → Stage → Option CommitNo → Type 0
-KeepsNumber old was new now = AwaitsNumber (awaited old) was → AwaitsNumber (awaited new) now
-
 -- ---- its own transaction
 
 -- each of these calls was for the transaction that the session had then
@@ -263,7 +217,7 @@ abbrev pub AreOwn : (lost stopped : Bool) (from : Stage) (first : Action) (round
     → Turns lost stopped from first rounds to next → Type 0
 AreOwn lost stopped from first [] to next t = Unit {0}
 AreOwn lost stopped from first (r ∷ older) to next t =
-    IsOwnCall (own t.0) (call_of r.stamp.event) × AreOwn lost stopped from first older t.0 t.1 t.2
+    IsOwn (own t.0) (call_of r.stamp.event) × AreOwn lost stopped from first older t.0 t.1 t.2
 
 -- what is called for a session names no transaction but its own, and a begin comes only where it has none; so does what
 -- is to be done next, and where that is to wait, it is for the commit that the session awaits
@@ -272,7 +226,3 @@ CallsAreOwn =
     (lost stopped : Bool) (from : Stage) (first : Action) (rounds : List Round) (to : Stage) (next : Action)
     → NamesOwn from first → (t : Turns lost stopped from first rounds to next)
     → AreOwn lost stopped from first rounds to next t × NamesOwn to next
-
--- a call that is to be made is one for the transaction that the session has then
-abbrev pub AskedIsOwn : Type 0
-AskedIsOwn = (s : Stage) (a : Action) (ask : Ask) → NamesOwn s a → IsAsked a ask → IsOwnCall (own s) (asked ask)

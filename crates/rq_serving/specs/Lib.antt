@@ -1,4 +1,3 @@
 pub mod Asking
-pub mod Translation
 pub mod Held
 pub mod Carried

@@ -1,8 +1,6 @@
-//! Sessions over a store: what a session asks is called through a step interface, and what that answers is told to the
-//! session.
+//! Sessions over a store: what a session asks is called through a step interface, and its reply handed to the session.
 #![tactic(auto)]
 
 pub mod asking;
 pub mod laws;
 pub mod serving;
-pub mod translation;

@@ -1,21 +1,18 @@
 //! A session that is served: its calls are made through a step interface, and a gate is asked where others may go on.
 ghost use Rattle.std.specs.Prelude.{◌≡◌, ◌∷◌, ◌||◌, IfOk, IfErr, IfSome, IfNone, None, true, false, not};
-ghost use Rattle.rq_session.specs.declared.calls.Action.TheVariants.{Again};
+ghost use Rattle.rq_session.specs.declared.actions.Action.TheVariants.{Again};
 ghost use Rattle.rq_session.specs.declared.stage.OwnTxn.TheVariants.{Free};
 ghost use Rattle.rq_session.specs.declared.stage.Stage.TheVariants.{Rest};
 ghost use Rattle.rq_session.specs.Laws.{awaited};
 ghost use Rattle.rq_serving.specs.Asking.{Asks};
 ghost use Rattle.rq_serving.specs.Held.{IsHeldAt, IsHeldAt-prop};
-ghost use Rattle.rq_serving.specs.Carried.{IsAsked, IsAskedFor, IsCall, IsCarried, IsCome, IsForce, IsLost, IsServed, KeepsNumber, NumberAfter, is_again, may_call, was_written};
-ghost use Rattle.rq_engine.specs.Says.{gave};
-ghost use Rattle.rq_serving.specs.Translation.{told_by};
+ghost use Rattle.rq_serving.specs.Carried.{IsAsked, IsAskedFor, IsCall, IsCarried, IsCome, IsForce, IsLost, IsServed, is_again, may_call, was_written};
 
 use crate::asking::Asking;
-use crate::translation::{event_of, told_of};
-use rq_engine::event::{CommitNo, Event, Reply};
+use rq_engine::event::{CommitNo, Event, Progress, Reply};
 use rq_model::txn::Lsn;
 use rq_session::Session;
-use rq_session::calls::{Action, Ask, Told};
+use rq_session::actions::Action;
 use rq_wire::{Answer, Request};
 use rq_workers::gate::{BEFORE_AGAIN, BEFORE_FORCE, BETWEEN_STEPS, Gate};
 use rq_workers::steps::Steps;
@@ -43,10 +40,8 @@ pub enum Served {
 pub struct ServedSession<G: Gate> {
     gate: Asking<G>,
     session: Session,
-    // the commit that was answered last
-    number: Option<CommitNo>,
     // the call that is to be made again
-    held: Option<Ask>,
+    held: Option<Event>,
     // it is the one that the session asked for last, one of an operation or an abort under way
     ghost held_at: { IsHeldAt session.stage held } by { IsHeldAt-prop held-code session.stage held },
 }
@@ -54,14 +49,13 @@ pub struct ServedSession<G: Gate> {
 impl<G: Gate> ServedSession<G> {
     /// A new session.
     pub fn new(gate: G) -> Self
-        ensures given { (result.gate.gate ≡ gate) × (result.number ≡ None) × (result.held ≡ None) }
+        ensures given { (result.gate.gate ≡ gate) × (result.held ≡ None) }
         ensures goes_on { result.gate.stopped ≡ false }
         ensures session { (result.session.stage ≡ Rest Free) × (result.session.lost ≡ false) }
     {
         ServedSession {
             gate: Asking::new(gate),
             session: Session::new(),
-            number: None,
             held: None,
         }
     }
@@ -77,11 +71,10 @@ impl<G: Gate> ServedSession<G> {
     /// or a commit waits for its receipt, or a call is held, or the session ends, or the gate has said no and no operation is
     /// under way.
     pub fn request<S: Steps, R: Wait>(&mut self, rt: &R, steps: &mut S, request: Request) -> Served
-        ensures served { IsServed G.answers S.made S.told self.old.gate self.new.gate steps.old steps.new self.old.session self.old.held request self.new.session self.new.held result }
-        ensures number { KeepsNumber self.old.session.stage self.old.number self.new.session.stage self.new.number }
+        ensures { IsServed G.answers S.made S.told self.old.gate self.new.gate steps.old steps.new self.old.session self.old.held request self.new.session self.new.held result }
     {
-        if let Some(ask) = self.session.input(request) {
-            return self.carried(rt, steps, Action::Do(ask));
+        if let Some(event) = self.session.input(request) {
+            return self.carried(rt, steps, Action::Do(event));
         }
         match self.session.answer() {
             Some(answer) => Served::Answered(answer),
@@ -92,17 +85,13 @@ impl<G: Gate> ServedSession<G> {
     /// Asks whether the commit that waits is durable, also where the gate has said no. The caller waits before it asks
     /// again. Where none waits there is nothing to ask.
     pub fn ask_receipt<S: Steps, R: Wait>(&mut self, rt: &R, steps: &mut S) -> Served
-        ensures some { IfSome (awaited self.old.session.stage) (λ commit. IfSome self.old.number (λ number. (self.old.held ≡ None)
+        ensures some { IfSome (awaited self.old.session.stage) (λ number. (self.old.held ≡ None)
             × IsAskedFor G.answers S.made S.told self.old.gate self.new.gate steps.old steps.new number self.old.session
-            self.new.session self.new.held result)) }
+            self.new.session self.new.held result) }
         ensures none { IfNone (awaited self.old.session.stage) ((result ≡ Served.Ended) × (self.new ≡ self.old)
             × (steps.new ≡ steps.old)) }
-        ensures number { KeepsNumber self.old.session.stage self.old.number self.new.session.stage self.new.number }
     {
-        if self.session.awaited().is_none() {
-            return Served::Ended;
-        }
-        match self.number {
+        match self.session.awaited() {
             Some(number) => self.asked_for(rt, steps, number),
             None => Served::Ended,
         }
@@ -111,13 +100,12 @@ impl<G: Gate> ServedSession<G> {
     /// Makes the call again that is held, and carries the session on with what that told. The caller lets others go on before.
     /// Where none is held there is nothing to be done.
     pub fn go_on<S: Steps, R: Wait>(&mut self, rt: &R, steps: &mut S) -> Served
-        ensures some { IfSome self.old.held (λ ask. IsCarried G.answers S.made S.told self.old.gate self.new.gate
-            steps.old steps.new self.old.session (Again ask) self.new.session self.new.held result) }
+        ensures some { IfSome self.old.held (λ event. IsCarried G.answers S.made S.told self.old.gate self.new.gate
+            steps.old steps.new self.old.session (Again event) self.new.session self.new.held result) }
         ensures none { IfNone self.old.held ((result ≡ Served.Ended) × (self.new ≡ self.old) × (steps.new ≡ steps.old)) }
-        ensures number { KeepsNumber self.old.session.stage self.old.number self.new.session.stage self.new.number }
     {
         match self.held.take() {
-            Some(ask) => self.carried(rt, steps, Action::Again(ask)),
+            Some(event) => self.carried(rt, steps, Action::Again(event)),
             None => Served::Ended,
         }
     }
@@ -125,8 +113,7 @@ impl<G: Gate> ServedSession<G> {
     /// Finishes the operation under way and aborts the transaction, once the connection has ended or was at fault. A call that is
     /// held stays so, and `go_on` goes on with it. Where the gate has said no the transaction stays as it is then.
     pub fn lose<S: Steps, R: Wait>(&mut self, rt: &R, steps: &mut S) -> Served
-        ensures lost { IsLost G.answers S.made S.told self.old.gate self.new.gate steps.old steps.new self.old.session self.old.held self.new.session self.new.held result }
-        ensures number { KeepsNumber self.old.session.stage self.old.number self.new.session.stage self.new.number }
+        ensures { IsLost G.answers S.made S.told self.old.gate self.new.gate steps.old steps.new self.old.session self.old.held self.new.session self.new.held result }
     {
         let action = self.session.lost();
         if self.held.is_some() {
@@ -142,7 +129,7 @@ impl<G: Gate> ServedSession<G> {
         ensures stopped { self.new.gate.stopped ≡ (not result || self.old.gate.stopped) }
         ensures force { result ≡ true → IsForce S.made S.forced S.told steps.old steps.new }
         ensures none { result ≡ false → steps.new ≡ steps.old }
-        ensures same { (self.new.session ≡ self.old.session) × (self.new.number ≡ self.old.number) × (self.new.held ≡ self.old.held) }
+        ensures same { (self.new.session ≡ self.old.session) × (self.new.held ≡ self.old.held) }
     {
         if !self.gate.asks(BEFORE_FORCE) {
             return false;
@@ -159,7 +146,6 @@ impl<G: Gate> ServedSession<G> {
         let ServedSession {
             gate,
             session: _,
-            number: _,
             held: _,
         } = self;
         gate.into_gate()
@@ -167,35 +153,27 @@ impl<G: Gate> ServedSession<G> {
 
     // Asks once for the receipt of a commit, and goes on with what that told.
     fn asked_for<S: Steps, R: Wait>(&mut self, rt: &R, steps: &mut S, number: CommitNo) -> Served
-        ensures asked { IsAskedFor G.answers S.made S.told self.old.gate self.new.gate steps.old steps.new number self.old.session self.new.session self.new.held result }
-        ensures number { KeepsNumber self.old.session.stage self.old.number self.new.session.stage self.new.number }
+        ensures { IsAskedFor G.answers S.made S.told self.old.gate self.new.gate steps.old steps.new number self.old.session self.new.session self.new.held result }
     {
-        match self.called(steps, Event::Acknowledged(number)) {
-            Some(action) => self.carried(rt, steps, action),
-            None => Served::Ended,
-        }
+        let action = self.called(steps, Event::Acknowledged(number));
+        self.carried(rt, steps, action)
     }
 
     // Does what is to be done, until the session asks for nothing more, or for a call to be made again.
     fn carried<S: Steps, R: Wait>(&mut self, rt: &R, steps: &mut S, first: Action) -> Served
-        ensures carried { IsCarried G.answers S.made S.told self.old.gate self.new.gate steps.old steps.new self.old.session first self.new.session self.new.held result }
-        ensures number { KeepsNumber self.old.session.stage self.old.number self.new.session.stage self.new.number }
+        ensures { IsCarried G.answers S.made S.told self.old.gate self.new.gate steps.old steps.new self.old.session first self.new.session self.new.held result }
     {
         self.held = None;
         let mut action = first;
         for _ in rt.forever() {
-            let ask = match self.asked(action) {
-                Ok(ask) => ask,
+            let event = match self.asked(action) {
+                Ok(event) => event,
                 Err(came) => return came,
             };
-            let next = match self.called(steps, event_of(ask)) {
-                Some(next) => next,
-                None => return Served::Ended,
-            };
-            action = match to_be_done_now(next) {
+            action = match to_be_done_now(self.called(steps, event)) {
                 Ok(action) => action,
-                Err(ask) => {
-                    self.held = Some(ask);
+                Err(event) => {
+                    self.held = Some(event);
                     return Served::Held;
                 }
             };
@@ -205,91 +183,79 @@ impl<G: Gate> ServedSession<G> {
 
     // The call that is to be made, or what came where there is none, or it may not be made. Before one that is made again
     // the gate is asked.
-    fn asked(&mut self, action: Action) -> Result<Ask, Served>
-        ensures asks { IfOk result (λ ask. IsAsked action ask × (may_call self.new.gate.stopped ask ≡ true)) }
+    fn asked(&mut self, action: Action) -> Result<Event, Served>
+        ensures asks { IfOk result (λ event. IsAsked action event × (may_call self.new.gate.stopped event ≡ true)) }
         ensures came { IfErr result (λ came. IsCome self.new.gate.stopped action came) }
         ensures gate { Asks G.answers self.old.gate self.new.gate (is_again action) 4 }
-        ensures same { (self.new.session ≡ self.old.session) × (self.new.number ≡ self.old.number) × (self.new.held ≡ self.old.held) }
+        ensures same { (self.new.session ≡ self.old.session) × (self.new.held ≡ self.old.held) }
     {
         self.gate.asks_where(is_to_be_again(&action), BEFORE_AGAIN);
         to_be_made(action, self.gate.has_stopped())
     }
 
-    // Makes a call, none being held any more, and tells the session what came of it: what is to be done next. None where no call
-    // of a session is answered so. Behind a slot that was written the gate is asked.
-    fn called<S: Steps>(&mut self, steps: &mut S, event: Event) -> Option<Action>
+    // Makes a call, none being held any more, and hands its reply to the session: what is to be done next. Behind a slot that
+    // was written the gate is asked.
+    fn called<S: Steps>(&mut self, steps: &mut S, event: Event) -> Action
         ensures call { IsCall G.answers S.made S.told self.old.gate self.new.gate steps.old steps.new event
             self.old.session result self.new.session }
-        ensures number { KeepsNumber self.old.session.stage self.old.number self.new.session.stage self.new.number }
         ensures held { self.new.held ≡ None }
     {
         self.held = None;
         let stamped = steps.call(event);
-        let told = told_of(stamped.reply());
-        self.number = number_after(self.number, stamped.reply());
+        let written = is_written(stamped.reply());
+        let action = self.session.reply(stamped.reply());
         steps.seen(stamped);
-        self.gate.asks_where(is_written(&told), BETWEEN_STEPS);
-        let told = told?;
-        Some(self.session.reply(&told))
+        self.gate.asks_where(written, BETWEEN_STEPS);
+        action
     }
 }
 
 // The call that is to be made, or what came where there is none. Where the gate has said no, none is made but one of an
 // operation that is under way.
-fn to_be_made(action: Action, has_stopped: bool) -> Result<Ask, Served>
-    ensures asks { IfOk result (λ ask. IsAsked action ask × (may_call has_stopped ask ≡ true)) }
+fn to_be_made(action: Action, has_stopped: bool) -> Result<Event, Served>
+    ensures asks { IfOk result (λ event. IsAsked action event × (may_call has_stopped event ≡ true)) }
     ensures came { IfErr result (λ came. IsCome has_stopped action came) }
 {
     match action {
-        Action::Do(ask) => {
-            if may_be_made(&ask, has_stopped) {
-                Ok(ask)
+        Action::Do(event) => {
+            if may_be_made(&event, has_stopped) {
+                Ok(event)
             } else {
                 Err(Served::Ended)
             }
         }
-        Action::Again(ask) => {
-            if may_be_made(&ask, has_stopped) {
-                Ok(ask)
+        Action::Again(event) => {
+            if may_be_made(&event, has_stopped) {
+                Ok(event)
             } else {
                 Err(Served::Ended)
             }
         }
-        Action::Await(commit) => Err(Served::Waits(commit.lsn)),
+        Action::Await(commit) => Err(Served::Waits(commit.lsn())),
         Action::Answer(answer) => Err(Served::Answered(answer)),
         Action::End => Err(Served::Ended),
     }
 }
 
 // What is to be done now, or the call that is to be made again.
-fn to_be_done_now(action: Action) -> Result<Action, Ask>
+fn to_be_done_now(action: Action) -> Result<Action, Event>
     ensures now { IfOk result (λ same. (same ≡ action) × (is_again same ≡ false)) }
-    ensures again { IfErr result (λ ask. action ≡ Again ask) }
+    ensures again { IfErr result (λ event. action ≡ Again event) }
 {
     match action {
-        Action::Again(ask) => Err(ask),
-        Action::Do(ask) => Ok(Action::Do(ask)),
+        Action::Again(event) => Err(event),
+        Action::Do(event) => Ok(Action::Do(event)),
         Action::Await(commit) => Ok(Action::Await(commit)),
         Action::Answer(answer) => Ok(Action::Answer(answer)),
         Action::End => Ok(Action::End),
     }
 }
 
-// The number that is kept once this was replied: that of a commit just now, or the one from before.
-fn number_after(number: Option<CommitNo>, reply: &Reply) -> Option<CommitNo>
-    ensures { NumberAfter number (told_by (gave reply.now)) result }
-{
-    match reply {
-        Reply::Committed(number) => Some(*number),
-        _ => number,
-    }
-}
-
 // Whether a call may be made.
-fn may_be_made(ask: &Ask, has_stopped: bool) -> bool
-    ensures { result ≡ may_call has_stopped ask.now }
+fn may_be_made(event: &Event, has_stopped: bool) -> bool
+    ensures { result ≡ may_call has_stopped event.now }
 {
-    !has_stopped || matches!(ask, Ask::Step(_) | Ask::Finish(_))
+    !has_stopped || matches!(event, Event::Step(_) | Event::Finish(_))
 }
 
 // Whether a call is to be made again.
@@ -300,8 +266,8 @@ fn is_to_be_again(action: &Action) -> bool
 }
 
 // Whether a slot was written.
-fn is_written(told: &Option<Told>) -> bool
-    ensures { result ≡ was_written told.now }
+fn is_written(reply: &Reply) -> bool
+    ensures { result ≡ was_written reply.now }
 {
-    matches!(told, Some(Told::Written))
+    matches!(reply, Reply::Stepped(Progress::Done(_)))
 }

@@ -1,13 +1,13 @@
 -- Each request has one answer, over a whole session.
 use Rattle.std.proofs.Common.{◌≡◌, ◌⊎◌, ℕ, ◌+◌, ◌≤◌, Bool, true, false, List, [], ◌∷◌, refl, sym, ◌∙◌, ap, inl, inr, arith}
 use Rattle.rq_wire.specs.declared.request.Request.{Request}
-use Rattle.rq_session.specs.declared.calls.Told.{Told}
+use Rattle.rq_engine.specs.declared.event.Reply.{Reply}
 use Rattle.rq_session.specs.declared.stage.Stage.{Stage}
 use Rattle.rq_session.specs.declared.stage.Stage.TheVariants as stages
 use Rattle.rq_session.specs.declared.stage.OwnTxn.{OwnTxn}
 use Rattle.rq_session.specs.declared.stage.Next.{Next}
-use Rattle.rq_session.specs.Rules.{ended, taken, after_request, after_told, after_loss}
-use Rattle.rq_session.specs.Laws.{Handed, asked, heard, gone, Balanced, IsAborting, owed, given, takes, standing}
+use Rattle.rq_session.specs.Rules.{ended, taken, after_request, after_reply, after_loss}
+use Rattle.rq_session.specs.Laws.{Handed, asked, heard, gone, Balanced, IsAborting, owed, given, given_first, takes, standing}
 use Rattle.rq_session.proofs.EachTurn.{each_reply, each_request, each_loss, lost_answers_nothing}
 
 -- what is so of a standing: each request but the one under way is answered; or the connection is lost and the
@@ -29,41 +29,41 @@ same s lost r a (silent l is m) = silent l is (omega (arith, m))
 same s lost r a (over e m) = over e (omega (arith, m))
 
 at_rest : (h : OwnTxn) (lost : Bool) (r a : ℕ) (request : Request) → Keeps (stages.Rest h) lost r a
-    → Keeps (after_request h request).stage lost (r + 1) (a + given (after_request h request).action)
+    → Keeps (after_request h request).stage lost (r + 1) (a + given_first (after_request h request).answer)
 at_rest h lost r a request (even e) = let once = (each_request h request).once in even (omega (arith, e, once))
 at_rest h lost r a request (silent l is m) = absurd is
 at_rest h lost r a request (over e m) = absurd cc
 
 keeps_asked : (s : Stage) (lost : Bool) (r a : ℕ) (request : Request) → Keeps s lost r a
-    → Keeps (taken s request).stage lost (r + takes s) (a + given (taken s request).action)
+    → Keeps (taken s request).stage lost (r + takes s) (a + given_first (taken s request).answer)
 keeps_asked (stages.Rest h) lost r a request k = at_rest h lost r a request k
 keeps_asked s lost r a request k = same s lost r a k
 
-keeps_ended : (n : Next) (lost : Bool) (r a : ℕ) → n ≡ ended → a ≤ r → Keeps n.stage lost (r + 0) (a + given n.action)
+keeps_ended : (n : Next) (lost : Bool) (r a : ℕ) → n ≡ ended → a ≤ r → Keeps n.stage lost r (a + given n.action)
 keeps_ended n lost r a e m =
     let none : given n.action ≡ 0 = ap (λ (x : Next). given x.action) e in
     over (ap (λ (x : Next). x.stage) e) (omega (arith, none, m))
 
-keeps_silent : (s : Stage) (lost : Bool) (r a : ℕ) (what : Told) → lost ≡ true → IsAborting s → a ≤ r
-    → Keeps (after_told lost s what).stage lost (r + 0) (a + given (after_told lost s what).action)
+keeps_silent : (s : Stage) (lost : Bool) (r a : ℕ) (what : Reply) → lost ≡ true → IsAborting s → a ≤ r
+    → Keeps (after_reply lost s what).stage lost r (a + given (after_reply lost s what).action)
 keeps_silent s true r a what l is m =
     let quiet = lost_answers_nothing s what is in
     silent refl quiet.0 (omega (arith, quiet.1, m))
 keeps_silent s false r a what l is m = absurd cc
 
-keeps_heard : (s : Stage) (lost : Bool) (r a : ℕ) (what : Told) → Keeps s lost r a
-    → Keeps (after_told lost s what).stage lost (r + 0) (a + given (after_told lost s what).action)
+keeps_heard : (s : Stage) (lost : Bool) (r a : ℕ) (what : Reply) → Keeps s lost r a
+    → Keeps (after_reply lost s what).stage lost r (a + given (after_reply lost s what).action)
 keeps_heard s lost r a what (even e) =
     elim (each_reply lost s what).once [
-      | inl is ↦ keeps_ended (after_told lost s what) lost r a is (omega (arith, e))
+      | inl is ↦ keeps_ended (after_reply lost s what) lost r a is (omega (arith, e))
       | inr one ↦ even (omega (arith, e, one))
     ]
 keeps_heard s lost r a what (silent l is m) = keeps_silent s lost r a what l is m
-keeps_heard s lost r a what (over e m) = keeps_ended (after_told lost s what) lost r a (ap (λ (t : Stage). after_told
+keeps_heard s lost r a what (over e m) = keeps_ended (after_reply lost s what) lost r a (ap (λ (t : Stage). after_reply
     lost t what) e) m
 
 keeps_gone : (s : Stage) (lost : Bool) (r a : ℕ) → Keeps s lost r a
-    → Keeps (after_loss s).stage true (r + 0) (a + given (after_loss s).action)
+    → Keeps (after_loss s).stage true r (a + given (after_loss s).action)
 keeps_gone s lost r a k =
     let loss = each_loss s in
     let m = most s lost r a k in

@@ -1,7 +1,7 @@
 -- What a session was told asks for what it does.
 use Rattle.std.proofs.Common.{◌≡◌, ℕ, Bool, true, false, refl, sym, ap, ◌∙◌, subst, inl, inr}
 use Rattle.std.proofs.lemmas.Bool.{false≢true, true≢false}
-use Rattle.std.specs.Prelude.{Option, Some, if◌then◌else◌}
+use Rattle.std.specs.Prelude.{Option, Some, None, if◌then◌else◌}
 use Rattle.rq_model.specs.declared.txn.Txn.{Txn}
 use Rattle.rq_model.specs.declared.txn.Sub.{Sub}
 use Rattle.rq_model.specs.declared.refusal.Refusal.{Refusal}
@@ -9,12 +9,13 @@ use Rattle.rq_model.specs.declared.refusal.Refusal.TheVariants.{NoMemory, Failed
 use Rattle.rq_model.proofs.Lists.{same_self}
 use Rattle.rq_wire.specs.declared.answers.Answer.{Answer}
 use Rattle.rq_wire.specs.declared.answers.Answer.TheVariants as answers
-use Rattle.rq_session.specs.declared.calls.Ask.{Ask}
-use Rattle.rq_session.specs.declared.calls.Ask.TheVariants as asks
-use Rattle.rq_session.specs.declared.calls.Commit.{Commit}
-use Rattle.rq_session.specs.declared.calls.Told.{Told}
-use Rattle.rq_session.specs.declared.calls.Told.TheVariants as told
-use Rattle.rq_session.specs.declared.calls.Action.TheVariants.{Do, Await, Answer as Answers, End}
+use Rattle.rq_engine.specs.declared.event.CommitNo.{CommitNo}
+use Rattle.rq_engine.specs.declared.event.Event.{Event}
+use Rattle.rq_engine.specs.declared.event.Event.TheVariants as events
+use Rattle.rq_engine.specs.declared.event.Reply.{Reply}
+use Rattle.rq_engine.specs.declared.event.Reply.TheVariants as replies
+use Rattle.rq_level.specs.declared.writes.Outcome.TheVariants as outcomes
+use Rattle.rq_session.specs.declared.actions.Action.TheVariants.{Do, Await, Answer as Answers, End}
 use Rattle.rq_session.specs.declared.stage.OwnTxn.{OwnTxn}
 use Rattle.rq_session.specs.declared.stage.OwnTxn.TheVariants.{Free, Open, Left, Aborting, Undoing}
 use Rattle.rq_session.specs.declared.stage.Purpose.{Purpose}
@@ -23,7 +24,7 @@ use Rattle.rq_session.specs.declared.stage.Stage.{Stage}
 use Rattle.rq_session.specs.declared.stage.Stage.TheVariants as stages
 use Rattle.rq_session.specs.declared.stage.Next.{Next}
 use Rattle.rq_session.specs.Stages.{txn_held}
-use Rattle.rq_session.specs.Rules.{after_await, after_told, is_commit, is_commit_of}
+use Rattle.rq_session.specs.Rules.{after_await, after_reply, is_commit, is_commit_of}
 use Rattle.rq_session.specs.Laws.{IsAborting, IsReceipt, MayAgain, fits}
 use Rattle.rq_session.specs.Tells.{AbortIsOver, AsksFor, EachAnswer, EachAsk, EachEnd, EachStage, EachWait, IsDone, IsEndAbort, IsNoReceipt, IsRefusal, IsStarted, IsUndoStarted, MayEnd, Tells, WaitsFor}
 use Rattle.rq_session.proofs.Telling.{TellsAnswer, TellsAsk, TellsEnd, TellsWait, says}
@@ -40,7 +41,7 @@ not_chosen true x y e = absurd (true≢false e)
 -- ---- answers
 
 refusal_due : (s : Stage) (refusal : Refusal) → IsRefusal s refusal
-    → (after_told false s (told.Refused refusal)).action ≡ Answers (answers.Refused refusal)
+    → (after_reply false s (replies.Refused refusal)).action ≡ Answers (answers.Refused refusal)
 refusal_due (stages.Rest h) refusal is = none_under_way is.0
 refusal_due stages.Ended refusal is = none_under_way is.0
 refusal_due stages.Begin refusal is = refl
@@ -65,15 +66,15 @@ refusal_due (stages.UndoNext txn) refusal is = refl
 refusal_due (stages.EndAbort txn) NoMemory is = absurd (is.1 tt)
 refusal_due (stages.EndAbort txn) refusal is = refl
 
-receipt_due : (s : Stage) (what : Told) (lsn : ℕ) → IsReceipt s what lsn
-    → (after_told false s what).action ≡ Answers (answers.Committed lsn)
-receipt_due (stages.Await commit) (told.Durable other) lsn is =
-    ap (λ (n : Next). n.action) (chosen (is_commit other commit) _ _ is.0)
+receipt_due : (s : Stage) (what : Reply) (lsn : ℕ) → IsReceipt s what lsn
+    → (after_reply false s what).action ≡ Answers (answers.Committed lsn)
+receipt_due (stages.Await commit) (replies.Acknowledged (Some receipt)) lsn is =
+    ap (λ (n : Next). n.action) (chosen (is_commit receipt.number commit) _ _ is.0)
     ∙ ap (λ (l : ℕ). Answers (answers.Committed l)) (sym is.1)
 receipt_due _ _ lsn is = absurd is
 
-answer_due : (s : Stage) (what : Told) (answer : Answer) → Tells s what answer
-    → (after_told false s what).action ≡ Answers answer
+answer_due : (s : Stage) (what : Reply) (answer : Answer) → Tells s what answer
+    → (after_reply false s what).action ≡ Answers answer
 answer_due s what (answers.Begun txn) is = rw (is.0, is.1) refl
 answer_due s what answers.Sent is = rw (is.0.1, is.1) refl
 answer_due s what (answers.Message message) is = rw (is.0.1, is.1) refl
@@ -90,31 +91,31 @@ each_answer s what answer =
 
 -- ---- calls
 
-started_due : (lost : Bool) (s : Stage) (what : Told) (sub : Sub) → IsStarted s what sub
-    → (after_told lost s what).action ≡ Do (asks.Step sub)
+started_due : (lost : Bool) (s : Stage) (what : Reply) (sub : Sub) → IsStarted s what sub
+    → (after_reply lost s what).action ≡ Do (events.Step sub)
 started_due lost s what sub is = rw (is.stage, is.reply, is.same, is.holds) refl
 
-undo_started_due : (lost : Bool) (s : Stage) (what : Told) (sub : Sub) → IsUndoStarted s what sub
-    → (after_told lost s what).action ≡ Do (asks.Step sub)
+undo_started_due : (lost : Bool) (s : Stage) (what : Reply) (sub : Sub) → IsUndoStarted s what sub
+    → (after_reply lost s what).action ≡ Do (events.Step sub)
 undo_started_due lost s what sub is = rw (is.stage, is.reply, is.same) refl
 
-cleared_due : (lost : Bool) (sub : Sub) (what : Told) → IsDone what
-    → (after_told lost (stages.Finish sub purposes.Clearing) what).action ≡ Do (asks.StartAbort sub.txn)
-cleared_due lost sub told.Sent is = refl
-cleared_due lost sub (told.Message message) is = refl
-cleared_due lost sub told.Closed is = refl
+cleared_due : (lost : Bool) (sub : Sub) (what : Reply) → IsDone what
+    → (after_reply lost (stages.Finish sub purposes.Clearing) what).action ≡ Do (events.StartAbort sub.txn)
+cleared_due lost sub (replies.Finished outcomes.Sent) is = refl
+cleared_due lost sub (replies.Finished (outcomes.Message message)) is = refl
+cleared_due lost sub (replies.Finished outcomes.Closed) is = refl
 cleared_due lost sub _ is = absurd is
 
-ask_due : (lost : Bool) (s : Stage) (what : Told) (ask : Ask) → AsksFor s what ask
-    → (after_told lost s what).action ≡ Do ask
-ask_due lost s what (asks.Step sub) (inl is) = started_due lost s what sub is
-ask_due lost s what (asks.Step sub) (inr (inl is)) = undo_started_due lost s what sub is
-ask_due lost s what (asks.Step sub) (inr (inr is)) = rw (is.0.1, is.1) refl
-ask_due lost s what (asks.Finish sub) is = rw (is.0.1, is.1) refl
-ask_due lost s what (asks.StartAbort txn) is = rw (is.stage, is.same) (cleared_due lost is.sub what is.reply)
-ask_due lost s what (asks.UndoNext txn) (inl is) = rw (is.0, is.1) refl
-ask_due lost s what (asks.UndoNext txn) (inr is) = rw (is.stage, is.reply, is.same) refl
-ask_due lost s what (asks.EndAbort txn) is = rw (is.0, is.1) refl
+ask_due : (lost : Bool) (s : Stage) (what : Reply) (ask : Event) → AsksFor s what ask
+    → (after_reply lost s what).action ≡ Do ask
+ask_due lost s what (events.Step sub) (inl is) = started_due lost s what sub is
+ask_due lost s what (events.Step sub) (inr (inl is)) = undo_started_due lost s what sub is
+ask_due lost s what (events.Step sub) (inr (inr is)) = rw (is.0.1, is.1.1) refl
+ask_due lost s what (events.Finish sub) is = rw (is.0.1, is.1) refl
+ask_due lost s what (events.StartAbort txn) is = rw (is.stage, is.same) (cleared_due lost is.sub what is.reply)
+ask_due lost s what (events.UndoNext txn) (inl is) = rw (is.0, is.1) refl
+ask_due lost s what (events.UndoNext txn) (inr is) = rw (is.stage, is.reply, is.same) refl
+ask_due lost s what (events.EndAbort txn) is = rw (is.0, is.1) refl
 ask_due lost s what _ is = absurd is
 
 pub each_ask : EachAsk
@@ -122,24 +123,24 @@ each_ask lost s what ask = (λ e. subst (TellsAsk s what) e (says lost s what).a
 
 -- ---- waits
 
-own_is : (o : Option Txn) (commit : Commit) → o ≡ Some commit.txn → is_commit_of o commit ≡ true
+own_is : (o : Option Txn) (commit : CommitNo) → o ≡ Some commit.txn → is_commit_of o commit ≡ true
 own_is o commit e = rw e (same_self commit.txn)
 
-told_due : (lost : Bool) (h : OwnTxn) (commit : Commit) → txn_held h ≡ Some commit.txn
-    → (after_told lost (stages.Commit h) (told.Committed commit)).action ≡ Await commit
+told_due : (lost : Bool) (h : OwnTxn) (commit : CommitNo) → txn_held h ≡ Some commit.txn
+    → (after_reply lost (stages.Commit h) (replies.Committed commit)).action ≡ Await commit
 told_due lost h commit e =
     ap (λ (n : Next). n.action) (chosen (is_commit_of (txn_held h) commit) _ _ (own_is (txn_held h) commit e))
 
-no_receipt_due : (commit : Commit) (what : Told) → IsNoReceipt commit what
+no_receipt_due : (commit : CommitNo) (what : Reply) → IsNoReceipt commit what
     → (after_await commit what).action ≡ Await commit
-no_receipt_due commit told.NotDurable is = refl
-no_receipt_due commit (told.Durable other) is = ap (λ (n : Next). n.action) (not_chosen (is_commit other commit) _ _ is)
-no_receipt_due commit (told.Refused Failed) is = absurd is
-no_receipt_due commit (told.Refused refusal) is = refl
+no_receipt_due commit (replies.Acknowledged None) is = refl
+no_receipt_due commit (replies.Acknowledged (Some receipt)) is = ap (λ (n : Next). n.action) (not_chosen (is_commit receipt.number commit) _ _ is)
+no_receipt_due commit (replies.Refused Failed) is = absurd is
+no_receipt_due commit (replies.Refused refusal) is = refl
 no_receipt_due commit _ is = absurd is
 
-wait_due : (lost : Bool) (s : Stage) (what : Told) (commit : Commit) → WaitsFor s what commit
-    → (after_told lost s what).action ≡ Await commit
+wait_due : (lost : Bool) (s : Stage) (what : Reply) (commit : CommitNo) → WaitsFor s what commit
+    → (after_reply lost s what).action ≡ Await commit
 wait_due lost s what commit (inl is) = rw (is.stage, is.reply) (told_due lost is.before commit is.same)
 wait_due lost s what commit (inr is) = rw (is.0) (no_receipt_due commit what is.1)
 
@@ -148,70 +149,68 @@ each_wait lost s what commit = (λ e. subst (TellsWait s what) e (says lost s wh
 
 -- ---- the end
 
-unfit_start : (lost : Bool) (h : OwnTxn) (what : Told) → fits (stages.Start h) what ≡ false
-    → (after_told lost (stages.Start h) what).action ≡ End
-unfit_start lost Free (told.Started sub) e = refl
-unfit_start lost (Open txn) (told.Started sub) e = absurd (true≢false e)
-unfit_start lost (Left own) (told.Started sub) e = absurd (true≢false e)
-unfit_start lost (Aborting txn) (told.Started sub) e = absurd (true≢false e)
-unfit_start lost (Undoing own) (told.Started sub) e = absurd (true≢false e)
-unfit_start lost h told.Nothing e = absurd (true≢false e)
-unfit_start lost h (told.Refused refusal) e = absurd (true≢false e)
+unfit_start : (lost : Bool) (h : OwnTxn) (what : Reply) → fits (stages.Start h) what ≡ false
+    → (after_reply lost (stages.Start h) what).action ≡ End
+unfit_start lost Free (replies.Started sub) e = refl
+unfit_start lost (Open txn) (replies.Started sub) e = absurd (true≢false e)
+unfit_start lost (Left own) (replies.Started sub) e = absurd (true≢false e)
+unfit_start lost (Aborting txn) (replies.Started sub) e = absurd (true≢false e)
+unfit_start lost (Undoing own) (replies.Started sub) e = absurd (true≢false e)
+unfit_start lost h replies.NoMessage e = absurd (true≢false e)
+unfit_start lost h (replies.Refused refusal) e = absurd (true≢false e)
 unfit_start lost h _ e = refl
 
-unfit_finish : (lost : Bool) (sub : Sub) (purpose : Purpose) (what : Told)
+unfit_finish : (lost : Bool) (sub : Sub) (purpose : Purpose) (what : Reply)
     → fits (stages.Finish sub purpose) what ≡ false
-    → (after_told lost (stages.Finish sub purpose) what).action ≡ End
-unfit_finish lost sub purposes.Request told.Sent e = absurd (true≢false e)
-unfit_finish lost sub purposes.Request (told.Message message) e = absurd (true≢false e)
-unfit_finish lost sub purposes.Request told.Closed e = absurd (true≢false e)
-unfit_finish lost sub purposes.Request (told.Refused refusal) e = absurd (true≢false e)
+    → (after_reply lost (stages.Finish sub purpose) what).action ≡ End
+unfit_finish lost sub purposes.Request (replies.Finished outcomes.Sent) e = absurd (true≢false e)
+unfit_finish lost sub purposes.Request (replies.Finished (outcomes.Message message)) e = absurd (true≢false e)
+unfit_finish lost sub purposes.Request (replies.Finished outcomes.Closed) e = absurd (true≢false e)
+unfit_finish lost sub purposes.Request (replies.Refused refusal) e = absurd (true≢false e)
 unfit_finish lost sub purposes.Request _ e = refl
-unfit_finish lost sub purposes.Clearing told.Sent e = absurd (true≢false e)
-unfit_finish lost sub purposes.Clearing (told.Message message) e = absurd (true≢false e)
-unfit_finish lost sub purposes.Clearing told.Closed e = absurd (true≢false e)
-unfit_finish lost sub purposes.Clearing (told.Refused refusal) e = absurd (true≢false e)
+unfit_finish lost sub purposes.Clearing (replies.Finished outcomes.Sent) e = absurd (true≢false e)
+unfit_finish lost sub purposes.Clearing (replies.Finished (outcomes.Message message)) e = absurd (true≢false e)
+unfit_finish lost sub purposes.Clearing (replies.Finished outcomes.Closed) e = absurd (true≢false e)
+unfit_finish lost sub purposes.Clearing (replies.Refused refusal) e = absurd (true≢false e)
 unfit_finish lost sub purposes.Clearing _ e = refl
-unfit_finish lost sub purposes.Undoing told.Undone e = absurd (true≢false e)
-unfit_finish lost sub purposes.Undoing (told.Refused refusal) e = absurd (true≢false e)
+unfit_finish lost sub purposes.Undoing (replies.Finished outcomes.Undone) e = absurd (true≢false e)
+unfit_finish lost sub purposes.Undoing (replies.Refused refusal) e = absurd (true≢false e)
 unfit_finish lost sub purposes.Undoing _ e = refl
 
-unfit_ends : (lost : Bool) (s : Stage) (what : Told) → fits s what ≡ false → (after_told lost s what).action ≡ End
+unfit_ends : (lost : Bool) (s : Stage) (what : Reply) → fits s what ≡ false → (after_reply lost s what).action ≡ End
 unfit_ends lost (stages.Rest h) what e = refl
 unfit_ends lost stages.Ended what e = refl
-unfit_ends lost stages.Begin (told.Begun txn) e = absurd (true≢false e)
-unfit_ends lost stages.Begin (told.Refused refusal) e = absurd (true≢false e)
+unfit_ends lost stages.Begin (replies.Begun txn) e = absurd (true≢false e)
+unfit_ends lost stages.Begin (replies.Refused refusal) e = absurd (true≢false e)
 unfit_ends lost stages.Begin _ e = refl
-unfit_ends lost (stages.LastTag h) (told.LastTag sent tag) e = absurd (true≢false e)
-unfit_ends lost (stages.LastTag h) (told.Refused refusal) e = absurd (true≢false e)
+unfit_ends lost (stages.LastTag h) (replies.LastTag last) e = absurd (true≢false e)
+unfit_ends lost (stages.LastTag h) (replies.Refused refusal) e = absurd (true≢false e)
 unfit_ends lost (stages.LastTag h) _ e = refl
 unfit_ends lost (stages.Start h) what e = unfit_start lost h what e
-unfit_ends lost (stages.Step sub purpose) told.Written e = absurd (true≢false e)
-unfit_ends lost (stages.Step sub purpose) told.Ready e = absurd (true≢false e)
-unfit_ends lost (stages.Step sub purpose) (told.Refused refusal) e = absurd (true≢false e)
+unfit_ends lost (stages.Step sub purpose) (replies.Stepped did) e = absurd (true≢false e)
+unfit_ends lost (stages.Step sub purpose) (replies.Refused refusal) e = absurd (true≢false e)
 unfit_ends lost (stages.Step sub purpose) _ e = refl
 unfit_ends lost (stages.Finish sub purpose) what e = unfit_finish lost sub purpose what e
-unfit_ends lost (stages.Commit h) (told.Committed commit) e =
+unfit_ends lost (stages.Commit h) (replies.Committed commit) e =
     ap (λ (n : Next). n.action) (not_chosen (is_commit_of (txn_held h) commit) _ _ e)
-unfit_ends lost (stages.Commit h) (told.Refused refusal) e = absurd (true≢false e)
+unfit_ends lost (stages.Commit h) (replies.Refused refusal) e = absurd (true≢false e)
 unfit_ends lost (stages.Commit h) _ e = refl
-unfit_ends lost (stages.Await commit) told.NotDurable e = absurd (true≢false e)
-unfit_ends lost (stages.Await commit) (told.Durable other) e = absurd (true≢false e)
-unfit_ends lost (stages.Await commit) (told.Refused refusal) e = absurd (true≢false e)
+unfit_ends lost (stages.Await commit) (replies.Acknowledged given) e = absurd (true≢false e)
+unfit_ends lost (stages.Await commit) (replies.Refused refusal) e = absurd (true≢false e)
 unfit_ends lost (stages.Await commit) _ e = refl
-unfit_ends lost (stages.StartAbort txn) told.Aborting e = absurd (true≢false e)
-unfit_ends lost (stages.StartAbort txn) (told.Refused refusal) e = absurd (true≢false e)
+unfit_ends lost (stages.StartAbort txn) replies.Aborting e = absurd (true≢false e)
+unfit_ends lost (stages.StartAbort txn) (replies.Refused refusal) e = absurd (true≢false e)
 unfit_ends lost (stages.StartAbort txn) _ e = refl
-unfit_ends lost (stages.UndoNext txn) (told.Started sub) e = absurd (true≢false e)
-unfit_ends lost (stages.UndoNext txn) told.Nothing e = absurd (true≢false e)
-unfit_ends lost (stages.UndoNext txn) (told.Refused refusal) e = absurd (true≢false e)
+unfit_ends lost (stages.UndoNext txn) (replies.Started sub) e = absurd (true≢false e)
+unfit_ends lost (stages.UndoNext txn) replies.NothingLeft e = absurd (true≢false e)
+unfit_ends lost (stages.UndoNext txn) (replies.Refused refusal) e = absurd (true≢false e)
 unfit_ends lost (stages.UndoNext txn) _ e = refl
-unfit_ends lost (stages.EndAbort txn) told.Aborted e = absurd (true≢false e)
-unfit_ends lost (stages.EndAbort txn) (told.Refused refusal) e = absurd (true≢false e)
+unfit_ends lost (stages.EndAbort txn) replies.Aborted e = absurd (true≢false e)
+unfit_ends lost (stages.EndAbort txn) (replies.Refused refusal) e = absurd (true≢false e)
 unfit_ends lost (stages.EndAbort txn) _ e = refl
 
 refused_ends : (s : Stage) (refusal : Refusal) → IsAborting s → (MayAgain s refusal → ⊥)
-    → (after_told true s (told.Refused refusal)).action ≡ End
+    → (after_reply true s (replies.Refused refusal)).action ≡ End
 refused_ends (stages.Step sub purposes.Clearing) NoMemory is not = absurd (not tt)
 refused_ends (stages.Step sub purposes.Clearing) refusal is not = refl
 refused_ends (stages.Step sub purposes.Undoing) NoMemory is not = absurd (not tt)
@@ -231,16 +230,16 @@ refused_ends (stages.EndAbort txn) refusal is not = refl
 refused_ends stages.Ended refusal is not = refl
 refused_ends _ refusal is not = absurd is
 
-aborted_ends : (s : Stage) → IsEndAbort s → (after_told true s told.Aborted).action ≡ End
+aborted_ends : (s : Stage) → IsEndAbort s → (after_reply true s replies.Aborted).action ≡ End
 aborted_ends (stages.EndAbort txn) is = refl
 aborted_ends _ is = absurd is
 
-over_ends : (s : Stage) (what : Told) → AbortIsOver s what → (after_told true s what).action ≡ End
-over_ends s told.Aborted is = aborted_ends s is
-over_ends s (told.Refused refusal) is = refused_ends s refusal is.0 is.1
+over_ends : (s : Stage) (what : Reply) → AbortIsOver s what → (after_reply true s what).action ≡ End
+over_ends s replies.Aborted is = aborted_ends s is
+over_ends s (replies.Refused refusal) is = refused_ends s refusal is.0 is.1
 over_ends s _ is = absurd is
 
-end_due : (lost : Bool) (s : Stage) (what : Told) → MayEnd lost s what → (after_told lost s what).action ≡ End
+end_due : (lost : Bool) (s : Stage) (what : Reply) → MayEnd lost s what → (after_reply lost s what).action ≡ End
 end_due lost s what (inl e) = unfit_ends lost s what e
 end_due lost s what (inr is) = rw (is.0) (over_ends s what is.1)
 

@@ -2,15 +2,18 @@
 use Rattle.std.proofs.Common.{◌≡◌, Bool, true, false, refl, sym, ap, ◌∙◌, subst, inl, inr}
 use Rattle.std.proofs.lemmas.Bool.{false≢true, true≢false}
 use Rattle.std.specs.Prelude.{Option, Some, None}
+use Rattle.rq_model.specs.History.{Call}
+use Rattle.rq_model.specs.History.Call.{Begin, Start_send, Start_receive, Start_receive_from, Start_close, Step, Finish, Commit, Start_abort, Undo_next, End_abort, Last_tag}
+use Rattle.rq_engine.specs.Says.{call_of}
 use Rattle.rq_wire.specs.declared.request.Request.{Request}
 use Rattle.rq_wire.specs.declared.request.Request.TheVariants as requests
 use Rattle.rq_model.specs.declared.txn.Txn.{Txn}
 use Rattle.rq_model.specs.declared.txn.Sub.{Sub}
-use Rattle.rq_session.specs.declared.calls.Ask.{Ask}
-use Rattle.rq_session.specs.declared.calls.Ask.TheVariants as asks
-use Rattle.rq_session.specs.declared.calls.Told.{Told}
-use Rattle.rq_session.specs.declared.calls.Action.{Action}
-use Rattle.rq_session.specs.declared.calls.Action.TheVariants.{Do, Again, Await, Answer as Answers, End}
+use Rattle.rq_model.specs.declared.refusal.Refusal.{Refusal}
+use Rattle.rq_engine.specs.declared.event.Event.{Event}
+use Rattle.rq_engine.specs.declared.event.Reply.{Reply}
+use Rattle.rq_session.specs.declared.actions.Action.{Action}
+use Rattle.rq_session.specs.declared.actions.Action.TheVariants.{Do, Again, Await, Answer as Answers, End}
 use Rattle.rq_session.specs.declared.stage.OwnTxn.{OwnTxn}
 use Rattle.rq_session.specs.declared.stage.OwnTxn.TheVariants.{Free, Open, Left, Aborting, Undoing}
 use Rattle.rq_session.specs.declared.stage.Purpose.{Purpose}
@@ -18,9 +21,9 @@ use Rattle.rq_session.specs.declared.stage.Purpose.TheVariants as purposes
 use Rattle.rq_session.specs.declared.stage.Stage.{Stage}
 use Rattle.rq_session.specs.declared.stage.Stage.TheVariants as stages
 use Rattle.rq_session.specs.declared.stage.Next.{Next}
-use Rattle.rq_session.specs.Stages.{txn_held, held_in, is_undoing, IsStart, IsStageAt, IsStageOf}
-use Rattle.rq_session.specs.Rules.{after_loss, after_request, after_told, call_in}
-use Rattle.rq_session.specs.Laws.{AgainFitsIn, IsAbort, IsAborting, IsBegin, IsFirst, IsFor, Lost, abort_call, asked_last, given, loss_call, owed}
+use Rattle.rq_session.specs.Stages.{txn_held, held_in, is_undoing, IsFirstStage, IsStart, IsStageAt, IsStageOf}
+use Rattle.rq_session.specs.Rules.{First, after_loss, after_request, after_reply, call_in}
+use Rattle.rq_session.specs.Laws.{AgainFitsIn, Asks, IsAbort, IsAborting, IsBegin, IsFirst, IsFor, Lost, Refuses, abort_call, asked_last, given, loss_call, owed}
 use Rattle.rq_session.specs.Tells.{EachKeeps, Follows, IsSame, KeepsLaws, OneFirst, OneLoss, OneReply}
 use Rattle.rq_session.proofs.EachTurn.{each_loss, each_reply, each_request, lost_answers_nothing, none_under_way}
 use Rattle.rq_session.proofs.Due.{each_answer, each_ask, each_end, each_stage, each_wait}
@@ -76,26 +79,31 @@ one_end x y sub p q e g a =
 starts_held : (h : OwnTxn) → held_in (stages.Start h) ≡ h
 starts_held h = refl
 
-one_ask : (ask : Ask) (x y : Stage) → IsStageOf ask x → IsStageOf ask y → Alike x y → x ≡ y
-one_ask asks.Begin x y e g a = e ∙ sym g
-one_ask (asks.StartSend txn sender tag body) x y e g a = of_held stages.Start x y e.0 g.0 starts_held e.1 g.1 a
-one_ask (asks.StartReceive txn) x y e g a = of_held stages.Start x y e.0 g.0 starts_held e.1 g.1 a
-one_ask (asks.StartReceiveFrom txn sender) x y e g a = of_held stages.Start x y e.0 g.0 starts_held e.1 g.1 a
-one_ask (asks.StartClose txn sender) x y e g a = of_held stages.Start x y e.0 g.0 starts_held e.1 g.1 a
-one_ask (asks.Step sub) x y e g a = one_step x y sub e.0 g.0 e.1 g.1 a
-one_ask (asks.Finish sub) x y e g a = one_end x y sub e.0 g.0 e.1 g.1 a
-one_ask (asks.Commit txn) x y e g a = of_held stages.Commit x y e.0 g.0 (λ h. refl) e.1 g.1 a
-one_ask (asks.StartAbort txn) x y e g a = e ∙ sym g
-one_ask (asks.UndoNext txn) x y e g a = e ∙ sym g
-one_ask (asks.EndAbort txn) x y e g a = e ∙ sym g
-one_ask (asks.LastTag sender) x y e g a = of_held stages.LastTag x y e.0 g.0 (λ h. refl) e.1 g.1 a
+one_call : (call : Call) (x y : Stage) → IsStageOf call x → IsStageOf call y → Alike x y → x ≡ y
+one_call Begin x y e g a = e ∙ sym g
+one_call (Start_send txn message) x y e g a = of_held stages.Start x y e.0 g.0 starts_held e.1 g.1 a
+one_call (Start_receive txn) x y e g a = of_held stages.Start x y e.0 g.0 starts_held e.1 g.1 a
+one_call (Start_receive_from txn sender) x y e g a = of_held stages.Start x y e.0 g.0 starts_held e.1 g.1 a
+one_call (Start_close txn sender) x y e g a = of_held stages.Start x y e.0 g.0 starts_held e.1 g.1 a
+one_call (Step txn number) x y e g a = one_step x y (record { txn = txn; number = number }) e.0 g.0 e.1 g.1 a
+one_call (Finish txn number) x y e g a = one_end x y (record { txn = txn; number = number }) e.0 g.0 e.1 g.1 a
+one_call (Commit txn) x y e g a = of_held stages.Commit x y e.0 g.0 (λ h. refl) e.1 g.1 a
+one_call (Start_abort txn) x y e g a = e ∙ sym g
+one_call (Undo_next txn) x y e g a = e ∙ sym g
+one_call (End_abort txn) x y e g a = e ∙ sym g
+one_call (Last_tag sender) x y e g a = of_held stages.LastTag x y e.0 g.0 (λ h. refl) e.1 g.1 a
+one_call _ x y e g a = absurd e
 
 one_stage : (action : Action) (x y : Stage) → IsStageAt action x → IsStageAt action y → Alike x y → x ≡ y
-one_stage (Do ask) x y e g a = one_ask ask x y e g a
-one_stage (Again ask) x y e g a = one_ask ask x y e g a
+one_stage (Do event) x y e g a = one_call (call_of event) x y e g a
+one_stage (Again event) x y e g a = one_call (call_of event) x y e g a
 one_stage (Await commit) x y e g a = e ∙ sym g
 one_stage (Answers answer) x y e g a = of_held stages.Rest x y e.0 g.0 (λ h. refl) e.1 g.1 a
 one_stage End x y e g a = e ∙ sym g
+
+one_first_stage : (call : Option Call) (x y : Stage) → IsFirstStage call x → IsFirstStage call y → Alike x y → x ≡ y
+one_first_stage None x y e g a = of_held stages.Rest x y e.0 g.0 (λ h. refl) e.1 g.1 a
+one_first_stage (Some call) x y e g a = one_call call x y e g a
 
 same_next : (n m : Next) → n.action ≡ m.action → IsStageAt n.action n.stage → IsStageAt m.action m.stage
     → Alike n.stage m.stage → IsSame n m
@@ -104,33 +112,48 @@ same_next n m e x y a =
 
 -- ---- requests
 
-one_for : (o : Option Txn) (ask : Txn → Ask) (a b : Action) → IsFor o ask a → IsFor o ask b → a ≡ b
-one_for None ask a b e g = e ∙ sym g
-one_for (Some txn) ask a b e g = e ∙ sym g
+-- they ask for the same call, or have the same answer
+abbrev Agree : First → First → Type 0
+Agree n m = (n.call ≡ m.call) × (n.answer ≡ m.answer)
 
-one_begin : (o : Option Txn) (a b : Action) → IsBegin o a → IsBegin o b → a ≡ b
-one_begin None a b e g = e ∙ sym g
-one_begin (Some txn) a b e g = e ∙ sym g
+one_asked : (call : Call) (n m : First) → Asks call n → Asks call m → Agree n m
+one_asked call n m e g = (e.0 ∙ sym g.0, e.1 ∙ sym g.1)
 
-one_abort : (o : Option Ask) (a b : Action) → IsAbort o a → IsAbort o b → a ≡ b
-one_abort None a b e g = e ∙ sym g
-one_abort (Some ask) a b e g = e ∙ sym g
+one_refused : (refusal : Refusal) (n m : First) → Refuses refusal n → Refuses refusal m → Agree n m
+one_refused refusal n m e g = (e.0 ∙ sym g.0, e.1 ∙ sym g.1)
 
-one_action : (h : OwnTxn) (request : Request) (a b : Action) → IsFirst h request a → IsFirst h request b → a ≡ b
-one_action h requests.Begin a b e g = one_begin (txn_held h) a b e g
-one_action h (requests.Send sender tag body) a b e g = one_for (txn_held h) _ a b e g
-one_action h requests.Receive a b e g = one_for (txn_held h) _ a b e g
-one_action h (requests.ReceiveFrom sender) a b e g = one_for (txn_held h) _ a b e g
-one_action h (requests.Close sender) a b e g = one_for (txn_held h) _ a b e g
-one_action h requests.Commit a b e g = one_for (txn_held h) _ a b e g
-one_action h requests.Abort a b e g = one_abort (abort_call h) a b e g
-one_action h (requests.LastTag sender) a b e g = e ∙ sym g
+one_for : (o : Option Txn) (call : Txn → Call) (n m : First) → IsFor o call n → IsFor o call m → Agree n m
+one_for None call n m e g = one_refused _ n m e g
+one_for (Some txn) call n m e g = one_asked (call txn) n m e g
+
+one_begin : (o : Option Txn) (n m : First) → IsBegin o n → IsBegin o m → Agree n m
+one_begin None n m e g = one_asked _ n m e g
+one_begin (Some txn) n m e g = one_refused _ n m e g
+
+one_abort : (o : Option Event) (n m : First) → IsAbort o n → IsAbort o m → Agree n m
+one_abort None n m e g = one_refused _ n m e g
+one_abort (Some event) n m e g = one_asked (call_of event) n m e g
+
+agree : (h : OwnTxn) (request : Request) (n m : First) → IsFirst h request n → IsFirst h request m → Agree n m
+agree h requests.Begin n m e g = one_begin (txn_held h) n m e g
+agree h (requests.Send sender tag body) n m e g = one_for (txn_held h) _ n m e g
+agree h requests.Receive n m e g = one_for (txn_held h) _ n m e g
+agree h (requests.ReceiveFrom sender) n m e g = one_for (txn_held h) _ n m e g
+agree h (requests.Close sender) n m e g = one_for (txn_held h) _ n m e g
+agree h requests.Commit n m e g = one_for (txn_held h) _ n m e g
+agree h requests.Abort n m e g = one_abort (abort_call h) n m e g
+agree h (requests.LastTag sender) n m e g = one_asked _ n m e g
 
 pub one_first : OneFirst
 one_first h request n t =
     let m = each_request h request in
-    same_next n (after_request h request) (one_action h request _ _ t.first m.first) t.stage m.stage
-    (record { held = t.same ∙ sym m.same; undoing = λ x y. t.abort x ∙ sym (m.abort y) })
+    let same = agree h request n (after_request h request) t.first m.first in (
+      same.0,
+      same.1,
+      one_first_stage (after_request h request).call n.stage (after_request h request).stage
+          (subst (λ (c : Option Call). IsFirstStage c n.stage) same.0 t.stage) m.stage
+          (record { held = t.same ∙ sym m.same; undoing = λ x y. t.abort x ∙ sym (m.abort y) }),
+    )
 
 -- ---- replies
 
@@ -146,13 +169,13 @@ abbrev is_end : Action → Bool
 is_end End = true
 is_end _ = false
 
-abbrev ask_or : Ask → Option Ask → Ask
+abbrev ask_or : Event → Option Event → Event
 ask_or d None = d
 ask_or d (Some ask) = ask
 
 -- where the session makes a call again, so does a turn that keeps the laws
-again_too : (lost : Bool) (s : Stage) (what : Told) (n : Next) (ask : Ask) (a : Action) → (lost ≡ true → IsAborting s)
-    → KeepsLaws lost s what n → (after_told lost s what).action ≡ Again ask → n.action ≡ a → n.action ≡ Again ask
+again_too : (lost : Bool) (s : Stage) (what : Reply) (n : Next) (ask : Event) (a : Action) → (lost ≡ true → IsAborting s)
+    → KeepsLaws lost s what n → (after_reply lost s what).action ≡ Again ask → n.action ≡ a → n.action ≡ Again ask
 again_too true s what n ask (Answers answer) may k e g = none_under_way (sym (k.silent refl) ∙ ap given g)
 again_too false s what n ask (Answers answer) may k e g =
     let m = (each_answer s what answer).1 ((k.answer refl answer).0 g) in
@@ -168,12 +191,12 @@ again_too lost s what n ask End may k e g =
     let z = ap is_end (sym e ∙ m) in absurd (false≢true z)
 again_too lost s what n ask (Again other) may k e g =
     let mine = subst (λ (b : Action). AgainFitsIn s what b n.stage) g k.again in
-    let its = subst (λ (b : Action). AgainFitsIn s what b (after_told lost s what).stage) e
+    let its = subst (λ (b : Action). AgainFitsIn s what b (after_reply lost s what).stage) e
     (each_reply lost s what).again in
     g ∙ ap Again (ap (ask_or other) (sym mine.1 ∙ its.1))
 
-does_too : (lost : Bool) (s : Stage) (what : Told) (n : Next) (a : Action) → (lost ≡ true → IsAborting s)
-    → KeepsLaws lost s what n → (after_told lost s what).action ≡ a → n.action ≡ a
+does_too : (lost : Bool) (s : Stage) (what : Reply) (n : Next) (a : Action) → (lost ≡ true → IsAborting s)
+    → KeepsLaws lost s what n → (after_reply lost s what).action ≡ a → n.action ≡ a
 does_too true s what n (Answers answer) may k e =
     let none = (lost_answers_nothing s what (may refl)).1 in none_under_way (sym none ∙ ap given e)
 does_too false s what n (Answers answer) may k e = (k.answer refl answer).1 ((each_answer s what answer).0 e)
@@ -183,7 +206,7 @@ does_too lost s what n End may k e = k.over.1 ((each_end lost s what).0 e)
 does_too lost s what n (Again ask) may k e = again_too lost s what n ask n.action may k e refl
 
 -- two turns that follow what was told, of one action
-follow_alike : (s : Stage) (what : Told) (n m : Next) (a : Action) → n.action ≡ a → m.action ≡ a
+follow_alike : (s : Stage) (what : Reply) (n m : Next) (a : Action) → n.action ≡ a → m.action ≡ a
     → Follows s what n → Follows s what m → IsSame n m
 follow_alike s what n m End e g f k = (
   e ∙ sym g,
@@ -201,7 +224,7 @@ follow_alike s what n m a e g f k = elim f.txn [
 
 pub one_reply : OneReply
 one_reply lost s what n may k =
-    let m = after_told lost s what in
+    let m = after_reply lost s what in
     follow_alike s what n m m.action (does_too lost s what n m.action may k refl) refl k.follows
     (each_stage lost s what)
 
@@ -230,25 +253,26 @@ is_ended _ = false
 no_start : (txn : Txn) → IsStart txn stages.Ended → ⊥
 no_start txn e = let z = ap is_ended e.1 in true≢false z
 
-no_ask : (ask : Ask) → IsStageOf ask stages.Ended → ⊥
-no_ask asks.Begin e = let z = ap is_ended e in true≢false z
-no_ask (asks.StartSend txn sender tag body) e = no_start txn e
-no_ask (asks.StartReceive txn) e = no_start txn e
-no_ask (asks.StartReceiveFrom txn sender) e = no_start txn e
-no_ask (asks.StartClose txn sender) e = no_start txn e
-no_ask (asks.Step sub) e = let z = ap is_ended e.1 in true≢false z
-no_ask (asks.Finish sub) e = let z = ap is_ended e.1 in true≢false z
-no_ask (asks.Commit txn) e = let z = ap is_ended e.1 in true≢false z
-no_ask (asks.StartAbort txn) e = let z = ap is_ended e in true≢false z
-no_ask (asks.UndoNext txn) e = let z = ap is_ended e in true≢false z
-no_ask (asks.EndAbort txn) e = let z = ap is_ended e in true≢false z
-no_ask (asks.LastTag sender) e = let z = ap is_ended e.1 in true≢false z
+no_call : (call : Call) → IsStageOf call stages.Ended → ⊥
+no_call Begin e = let z = ap is_ended e in true≢false z
+no_call (Start_send txn message) e = no_start txn e
+no_call (Start_receive txn) e = no_start txn e
+no_call (Start_receive_from txn sender) e = no_start txn e
+no_call (Start_close txn sender) e = no_start txn e
+no_call (Step txn number) e = let z = ap is_ended e.1 in true≢false z
+no_call (Finish txn number) e = let z = ap is_ended e.1 in true≢false z
+no_call (Commit txn) e = let z = ap is_ended e.1 in true≢false z
+no_call (Start_abort txn) e = let z = ap is_ended e in true≢false z
+no_call (Undo_next txn) e = let z = ap is_ended e in true≢false z
+no_call (End_abort txn) e = let z = ap is_ended e in true≢false z
+no_call (Last_tag sender) e = let z = ap is_ended e.1 in true≢false z
+no_call _ e = e
 
-abbrev is_call : Option Ask → Bool
+abbrev is_call : Option Event → Bool
 is_call None = false
 is_call (Some ask) = true
 
-free_of : (o : Option Ask) (h : OwnTxn) → loss_call o h ≡ None → h ≡ Free
+free_of : (o : Option Event) (h : OwnTxn) → loss_call o h ≡ None → h ≡ Free
 free_of (Some ask) h e = let z = ap is_call e in absurd (true≢false z)
 free_of None Free e = refl
 free_of None (Open txn) e = let z = ap is_call e in absurd (true≢false z)
@@ -256,15 +280,15 @@ free_of None (Left sub) e = let z = ap is_call e in absurd (true≢false z)
 free_of None (Aborting txn) e = let z = ap is_call e in absurd (true≢false z)
 free_of None (Undoing sub) e = let z = ap is_call e in absurd (true≢false z)
 
-abbrev action_of : Option Ask → Action
+abbrev action_of : Option Event → Action
 action_of None = End
 action_of (Some ask) = Do ask
 
-loss_action : (s : Stage) (n : Next) → Lost s n → (a : Action) → n.action ≡ a → (c : Option Ask)
+loss_action : (s : Stage) (n : Next) → Lost s n → (a : Action) → n.action ≡ a → (c : Option Event)
     → loss_call (asked_last s) (held_in s) ≡ c → a ≡ action_of c
 loss_action s n l (Do x) e None g =
     let z = ap is_call (sym (ap call_in e) ∙ l.call ∙ g) in absurd (true≢false z)
-loss_action s n l (Do x) e (Some ask) g = ap (λ (o : Option Ask). Do (ask_or x o)) (sym (ap call_in e) ∙ l.call ∙ g)
+loss_action s n l (Do x) e (Some ask) g = ap (λ (o : Option Event). Do (ask_or x o)) (sym (ap call_in e) ∙ l.call ∙ g)
 loss_action s n l (Answers answer) e c g = none_under_way (sym l.silent ∙ ap given e)
 loss_action s n l (Await commit) e c g =
     let stage = subst (λ (b : Action). IsStageAt b n.stage) e l.stage in
@@ -274,7 +298,7 @@ loss_action s n l (Again x) e (Some ask) g =
 loss_action s n l (Again x) e None g =
     let over = has_txn n.stage l.aborts (l.same ∙ free_of (asked_last s) (held_in s) g) in
     let stage = subst (λ (b : Action). IsStageAt b n.stage) e l.stage in
-    absurd (no_ask x (subst (IsStageOf x) over stage))
+    absurd (no_call (call_of x) (subst (IsStageOf (call_of x)) over stage))
 loss_action s n l End e None g = refl
 loss_action s n l End e (Some ask) g =
     let z = ap is_call (sym (ap call_in e) ∙ l.call ∙ g) in absurd (false≢true z)

@@ -3,10 +3,11 @@ use Rattle.std.specs.Prelude.{◌≡◌, Bool, true, false, Option, Some, None}
 use Rattle.rq_model.specs.declared.txn.Txn.{Txn}
 use Rattle.rq_session.specs.declared.stage.OwnTxn.{OwnTxn}
 use Rattle.rq_session.specs.declared.stage.OwnTxn.TheVariants as held
-use Rattle.rq_session.specs.declared.calls.Ask.{Ask}
-use Rattle.rq_session.specs.declared.calls.Ask.TheVariants as asks
-use Rattle.rq_session.specs.declared.calls.Action.{Action}
-use Rattle.rq_session.specs.declared.calls.Action.TheVariants.{Do, Again, Await, Answer as Answers, End}
+use Rattle.rq_model.specs.History.{Call}
+use Rattle.rq_model.specs.History.Call.{Begin, Start_send, Start_receive, Start_receive_from, Start_close, Step, Finish, Commit, Start_abort, Undo_next, End_abort, Last_tag}
+use Rattle.rq_engine.specs.Says.{call_of}
+use Rattle.rq_session.specs.declared.actions.Action.{Action}
+use Rattle.rq_session.specs.declared.actions.Action.TheVariants.{Do, Again, Await, Answer as Answers, End}
 use Rattle.rq_session.specs.declared.stage.Purpose.{Purpose}
 use Rattle.rq_session.specs.declared.stage.Purpose.TheVariants as purposes
 use Rattle.rq_session.specs.declared.stage.Stage.{Stage}
@@ -69,24 +70,30 @@ abbrev pub IsStart : Txn → Stage → Type 0
 IsStart txn s = (h : OwnTxn) × (s ≡ stages.Start h) × (txn_held h ≡ Some txn)
 
 -- the stage waits for the reply to this call
-abbrev pub IsStageOf : Ask → Stage → Type 0
-IsStageOf asks.Begin s = s ≡ stages.Begin
-IsStageOf (asks.StartSend txn sender tag body) s = IsStart txn s
-IsStageOf (asks.StartReceive txn) s = IsStart txn s
-IsStageOf (asks.StartReceiveFrom txn sender) s = IsStart txn s
-IsStageOf (asks.StartClose txn sender) s = IsStart txn s
-IsStageOf (asks.Step sub) s = (purpose : Purpose) × (s ≡ stages.Step sub purpose)
-IsStageOf (asks.Finish sub) s = (purpose : Purpose) × (s ≡ stages.Finish sub purpose)
-IsStageOf (asks.Commit txn) s = (h : OwnTxn) × (s ≡ stages.Commit h) × (txn_held h ≡ Some txn)
-IsStageOf (asks.StartAbort txn) s = s ≡ stages.StartAbort txn
-IsStageOf (asks.UndoNext txn) s = s ≡ stages.UndoNext txn
-IsStageOf (asks.EndAbort txn) s = s ≡ stages.EndAbort txn
-IsStageOf (asks.LastTag sender) s = (h : OwnTxn) × (s ≡ stages.LastTag h)
+abbrev pub IsStageOf : Call → Stage → Type 0
+IsStageOf Begin s = s ≡ stages.Begin
+IsStageOf (Start_send txn message) s = IsStart txn s
+IsStageOf (Start_receive txn) s = IsStart txn s
+IsStageOf (Start_receive_from txn sender) s = IsStart txn s
+IsStageOf (Start_close txn sender) s = IsStart txn s
+IsStageOf (Step txn number) s = (purpose : Purpose) × (s ≡ stages.Step (record { txn = txn; number = number }) purpose)
+IsStageOf (Finish txn number) s = (purpose : Purpose) × (s ≡ stages.Finish (record { txn = txn; number = number }) purpose)
+IsStageOf (Commit txn) s = (h : OwnTxn) × (s ≡ stages.Commit h) × (txn_held h ≡ Some txn)
+IsStageOf (Start_abort txn) s = s ≡ stages.StartAbort txn
+IsStageOf (Undo_next txn) s = s ≡ stages.UndoNext txn
+IsStageOf (End_abort txn) s = s ≡ stages.EndAbort txn
+IsStageOf (Last_tag sender) s = (h : OwnTxn) × (s ≡ stages.LastTag h)
+IsStageOf _ s = ⊥
 
 -- the stage is the one of what is to be done
 abbrev pub IsStageAt : Action → Stage → Type 0
-IsStageAt (Do ask) s = IsStageOf ask s
-IsStageAt (Again ask) s = IsStageOf ask s
+IsStageAt (Do event) s = IsStageOf (call_of event) s
+IsStageAt (Again event) s = IsStageOf (call_of event) s
 IsStageAt (Await commit) s = s ≡ stages.Await commit
 IsStageAt (Answers answer) s = (h : OwnTxn) × (s ≡ stages.Rest h)
 IsStageAt End s = s ≡ stages.Ended
+
+-- the stage is the one of this call, or of the answer with none
+abbrev pub IsFirstStage : Option Call → Stage → Type 0
+IsFirstStage None s = (h : OwnTxn) × (s ≡ stages.Rest h)
+IsFirstStage (Some call) s = IsStageOf call s

@@ -1,10 +1,12 @@
 //! What an abort and a request ask first, by the transaction that the session has.
-ghost use Rattle.std.specs.Prelude.{◌≡◌};
+ghost use Rattle.std.specs.Prelude.{◌≡◌, option_map};
+ghost use Rattle.rq_engine.specs.Says.{call_of};
 ghost use Rattle.rq_session.specs.Stages.{txn_held};
-ghost use Rattle.rq_session.specs.Rules.{abort, abort_refused, after_request, answered, ended};
+ghost use Rattle.rq_session.specs.Rules.{abort, abort_refused, after_request, answer_in, answered, call_in, ended};
 
-use crate::calls::{Action, Ask};
+use crate::actions::Action;
 use crate::stage::{Next, OwnTxn, Purpose, Stage};
+use rq_engine::event::Event;
 use rq_model::refusal::Refusal;
 use rq_model::txn::Txn;
 use rq_wire::{Answer, Request};
@@ -46,11 +48,11 @@ pub(crate) fn end() -> Next
 }
 
 // A call, with the stage that waits for its reply.
-pub(crate) fn call(ask: Ask, stage: Stage) -> Next
-    ensures { result ≡ record { action = Action.Do ask; stage = stage } }
+pub(crate) fn call(event: Event, stage: Stage) -> Next
+    ensures { result ≡ record { action = Action.Do event; stage = stage } }
 {
     Next {
-        action: Action::Do(ask),
+        action: Action::Do(event),
         stage,
     }
 }
@@ -61,10 +63,10 @@ pub(crate) fn abort_on(held: OwnTxn) -> Next
 {
     match held {
         OwnTxn::Free => end(),
-        OwnTxn::Open(txn) => call(Ask::StartAbort(txn), Stage::StartAbort(txn)),
-        OwnTxn::Left(sub) => call(Ask::Step(sub), Stage::Step(sub, Purpose::Clearing)),
-        OwnTxn::Aborting(txn) => call(Ask::UndoNext(txn), Stage::UndoNext(txn)),
-        OwnTxn::Undoing(sub) => call(Ask::Step(sub), Stage::Step(sub, Purpose::Undoing)),
+        OwnTxn::Open(txn) => call(Event::StartAbort(txn), Stage::StartAbort(txn)),
+        OwnTxn::Left(sub) => call(Event::Step(sub), Stage::Step(sub, Purpose::Clearing)),
+        OwnTxn::Aborting(txn) => call(Event::UndoNext(txn), Stage::UndoNext(txn)),
+        OwnTxn::Undoing(sub) => call(Event::Step(sub), Stage::Step(sub, Purpose::Undoing)),
     }
 }
 
@@ -77,30 +79,32 @@ pub(crate) fn stop_abort(lost: bool, refusal: Refusal, held: OwnTxn) -> Next
 
 // What a request asks first.
 pub(crate) fn first(held: OwnTxn, request: Request) -> Next
-    ensures { result ≡ after_request held request }
+    ensures call { option_map call_of (call_in result.action) ≡ (after_request held request).call }
+    ensures answer { answer_in result.action ≡ (after_request held request).answer }
+    ensures stage { result.stage ≡ (after_request held request).stage }
 {
     match (request, txn_of(held)) {
-        (Request::Begin, None) => call(Ask::Begin, Stage::Begin),
+        (Request::Begin, None) => call(Event::Begin, Stage::Begin),
         (Request::Begin, Some(_)) => refuse(Refusal::TooManyTransactions, held),
-        (Request::LastTag(sender), _) => call(Ask::LastTag(sender), Stage::LastTag(held)),
+        (Request::LastTag(sender), _) => call(Event::LastTag(sender), Stage::LastTag(held)),
         (_, None) => refuse(Refusal::UnknownTransaction, held),
         (Request::Send { sender, tag, body }, Some(txn)) => call(
-            Ask::StartSend {
+            Event::StartSend {
                 txn,
                 sender,
                 tag,
-                body,
+                body: body.into_vec(),
             },
             Stage::Start(held),
         ),
-        (Request::Receive, Some(txn)) => call(Ask::StartReceive(txn), Stage::Start(held)),
+        (Request::Receive, Some(txn)) => call(Event::StartReceive(txn), Stage::Start(held)),
         (Request::ReceiveFrom(sender), Some(txn)) => {
-            call(Ask::StartReceiveFrom { txn, sender }, Stage::Start(held))
+            call(Event::StartReceiveFrom { txn, sender }, Stage::Start(held))
         }
         (Request::Close(sender), Some(txn)) => {
-            call(Ask::StartClose { txn, sender }, Stage::Start(held))
+            call(Event::StartClose { txn, sender }, Stage::Start(held))
         }
-        (Request::Commit, Some(txn)) => call(Ask::Commit(txn), Stage::Commit(held)),
+        (Request::Commit, Some(txn)) => call(Event::Commit(txn), Stage::Commit(held)),
         (Request::Abort, Some(_)) => abort_on(held),
     }
 }

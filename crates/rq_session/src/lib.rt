@@ -2,7 +2,7 @@
 //! it makes no call and waits for nobody, it says what is to be done next.
 #![tactic(auto)]
 
-pub mod calls;
+pub mod actions;
 mod first_calls;
 pub mod laws;
 mod session;

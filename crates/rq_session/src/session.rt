@@ -1,18 +1,20 @@
 //! The session of one connection.
-ghost use Rattle.std.specs.Prelude.{◌≡◌, true, false};
+ghost use Rattle.std.specs.Prelude.{◌≡◌, option_map, false, true};
+ghost use Rattle.rq_engine.specs.Says.{call_of};
 ghost use Rattle.rq_session.specs.Laws.{awaited};
-ghost use Rattle.rq_session.specs.Rules.{taken, call_in, answer_in, after_told, after_loss};
+ghost use Rattle.rq_session.specs.Rules.{taken, after_reply, after_loss};
 
-use crate::calls::{Action, Ask, Commit, Told};
+use crate::actions::Action;
 use crate::first_calls::first;
 use crate::stage::{OwnTxn, Stage};
 use crate::turns::{turn, turn_at_loss};
+use rq_engine::event::{CommitNo, Event, Reply};
 use rq_wire::{Answer, Request};
 
 /// The session of one connection. It has at most one transaction, takes a request once the one before it is
 /// answered, and says each call that is to be made for it.
 ///
-/// A request is carried out so: `input` says the first call, or leaves its answer in `answer`; each reply is told
+/// A request is carried out so: `input` says the first call, or leaves its answer in `answer`; each reply goes
 /// to `reply`, which says what is to be done next, until that is an answer or the session's end.
 #[derive(Drop)]
 pub struct Session {
@@ -36,9 +38,9 @@ impl Session {
     /// The first call that a request asks for. None where it is answered with no call: its answer is then in
     /// `answer`. While a request is under way, and once the session has ended, no further one is taken: there
     /// is no call and no answer.
-    pub fn input(&mut self, request: Request) -> Option<Ask>
-        ensures call { result ≡ call_in (taken self.old.stage request).action }
-        ensures answer { self.new.answer ≡ answer_in (taken self.old.stage request).action }
+    pub fn input(&mut self, request: Request) -> Option<Event>
+        ensures call { option_map call_of result ≡ (taken self.old.stage request).call }
+        ensures answer { self.new.answer ≡ (taken self.old.stage request).answer }
         ensures stage { self.new.stage ≡ (taken self.old.stage request).stage }
         ensures lost { self.new.lost ≡ self.old.lost }
     {
@@ -49,7 +51,7 @@ impl Session {
         let next = first(held, request);
         self.stage = next.stage;
         match next.action {
-            Action::Do(ask) => Some(ask),
+            Action::Do(event) => Some(event),
             Action::Answer(answer) => {
                 self.answer = Some(answer);
                 None
@@ -66,7 +68,7 @@ impl Session {
     }
 
     /// The commit whose receipt is awaited.
-    pub fn awaited(&self) -> Option<Commit>
+    pub fn awaited(&self) -> Option<CommitNo>
         ensures { result ≡ awaited self.now.stage }
     {
         match self.stage {
@@ -75,16 +77,16 @@ impl Session {
         }
     }
 
-    /// What is to be done next, once it is told what came of the call that was asked for last. A reply that no
-    /// call of its kind has ends the session.
-    pub fn reply(&mut self, told: &Told) -> Action
-        ensures action { result ≡ (after_told self.old.lost self.old.stage told.now).action }
+    /// What is to be done next, once the call that was asked for last has this reply. A reply that no call of its
+    /// kind has ends the session.
+    pub fn reply(&mut self, reply: &Reply) -> Action
+        ensures action { result ≡ (after_reply self.old.lost self.old.stage reply.now).action }
         ensures stage { self.new ≡ record self.old {
           stage =
-              (after_told self.old.lost self.old.stage told.now).stage;
+              (after_reply self.old.lost self.old.stage reply.now).stage;
         } }
     {
-        let next = turn(self.lost, self.stage, told);
+        let next = turn(self.lost, self.stage, reply);
         self.stage = next.stage;
         next.action
     }

@@ -1,5 +1,6 @@
 //! Where a session stands.
-use crate::calls::{Action, Commit};
+use crate::actions::Action;
+use rq_engine::event::CommitNo;
 use rq_model::txn::{Sub, Txn};
 
 /// The transaction of a session between two requests.
@@ -41,7 +42,7 @@ pub(crate) enum Stage {
     Finish(Sub, Purpose),
     Commit(OwnTxn),
     // none: it waits for the receipt of a commit
-    Await(Commit),
+    Await(CommitNo),
     StartAbort(Txn),
     UndoNext(Txn),
     EndAbort(Txn),

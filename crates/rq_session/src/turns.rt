@@ -1,66 +1,68 @@
-//! What is to be done for what a session was told.
+//! What is to be done at a reply.
 ghost use Rattle.std.specs.Prelude.{◌≡◌};
-ghost use Rattle.rq_session.specs.Rules.{after_begin, after_last_tag, after_start, work_refused, after_step, after_finish, after_commit, after_await, after_start_abort, after_undo_next, after_end_abort, after_told, after_loss, done, undone, is_commit, is_commit_of, started as first_step, cleared as cleared_purpose};
+ghost use Rattle.rq_model.specs.Vocabulary.{same_txn};
+ghost use Rattle.rq_session.specs.Rules.{after_begin, after_last_tag, after_start, work_refused, after_step, after_finish, after_commit, after_await, after_start_abort, after_undo_next, after_end_abort, after_reply, after_loss, done, undone, is_commit, is_commit_of, started as first_step, cleared as cleared_purpose};
 
-use crate::calls::{Action, Ask, Commit, Told};
+use crate::actions::Action;
 use crate::first_calls::{abort_on, answer_with, call, end, refuse, stop_abort, txn_of};
 use crate::stage::{Next, OwnTxn, Purpose, Stage};
+use rq_engine::event::{CommitNo, Event, Outcome, Progress, Reply};
 use rq_model::refusal::Refusal;
 use rq_model::txn::{Sub, Txn};
 use rq_wire::Answer;
 
-// What is to be done for what was told of the call that was asked for last.
-pub(crate) fn turn(lost: bool, stage: Stage, told: &Told) -> Next
-    ensures { result ≡ after_told lost stage told.now }
+// What is to be done at the reply to the call that was asked for last.
+pub(crate) fn turn(lost: bool, stage: Stage, reply: &Reply) -> Next
+    ensures { result ≡ after_reply lost stage reply.now }
 {
     match stage {
         Stage::Rest(_) | Stage::Ended => end(),
-        Stage::Begin => begun(told),
-        Stage::LastTag(held) => last_tag_told(held, told),
-        Stage::Start(held) => started(held, told),
-        Stage::Step(sub, purpose) => stepped(lost, sub, purpose, told),
-        Stage::Finish(sub, purpose) => finished(lost, sub, purpose, told),
-        Stage::Commit(held) => committed(held, told),
-        Stage::Await(commit) => awaited(commit, told),
-        Stage::StartAbort(txn) => abort_started(lost, txn, told),
-        Stage::UndoNext(txn) => undo_started(lost, txn, told),
-        Stage::EndAbort(txn) => abort_ended(lost, txn, told),
+        Stage::Begin => begun(reply),
+        Stage::LastTag(held) => last_tag_told(held, reply),
+        Stage::Start(held) => started(held, reply),
+        Stage::Step(sub, purpose) => stepped(lost, sub, purpose, reply),
+        Stage::Finish(sub, purpose) => finished(lost, sub, purpose, reply),
+        Stage::Commit(held) => committed(held, reply),
+        Stage::Await(commit) => awaited(commit, reply),
+        Stage::StartAbort(txn) => abort_started(lost, txn, reply),
+        Stage::UndoNext(txn) => undo_started(lost, txn, reply),
+        Stage::EndAbort(txn) => abort_ended(lost, txn, reply),
     }
 }
 
-fn begun(told: &Told) -> Next
-    ensures { result ≡ after_begin told.now }
+fn begun(reply: &Reply) -> Next
+    ensures { result ≡ after_begin reply.now }
 {
-    match told {
-        Told::Begun(txn) => answer_with(Answer::Begun(*txn), OwnTxn::Open(*txn)),
-        Told::Refused(refusal) => refuse(*refusal, OwnTxn::Free),
+    match reply {
+        Reply::Begun(txn) => answer_with(Answer::Begun(*txn), OwnTxn::Open(*txn)),
+        Reply::Refused(refusal) => refuse(*refusal, OwnTxn::Free),
         _ => end(),
     }
 }
 
-fn last_tag_told(held: OwnTxn, told: &Told) -> Next
-    ensures { result ≡ after_last_tag held told.now }
+fn last_tag_told(held: OwnTxn, reply: &Reply) -> Next
+    ensures { result ≡ after_last_tag held reply.now }
 {
-    match told {
-        Told::LastTag { sent, tag } => answer_with(
+    match reply {
+        Reply::LastTag(last) => answer_with(
             Answer::LastTag {
-                sent: *sent,
-                tag: *tag,
+                sent: last.sent,
+                tag: last.tag,
             },
             held,
         ),
-        Told::Refused(refusal) => refuse(*refusal, held),
+        Reply::Refused(refusal) => refuse(*refusal, held),
         _ => end(),
     }
 }
 
-fn started(held: OwnTxn, told: &Told) -> Next
-    ensures { result ≡ after_start held told.now }
+fn started(held: OwnTxn, reply: &Reply) -> Next
+    ensures { result ≡ after_start held reply.now }
 {
-    match (told, txn_of(held)) {
-        (Told::Started(sub), Some(txn)) => step_of(txn, sub.number, Purpose::Request),
-        (Told::Nothing, _) => answer_with(Answer::NoMessage, held),
-        (Told::Refused(refusal), _) => refuse(*refusal, held),
+    match (reply, txn_of(held)) {
+        (Reply::Started(sub), Some(txn)) => step_of(txn, sub.number, Purpose::Request),
+        (Reply::NoMessage, _) => answer_with(Answer::NoMessage, held),
+        (Reply::Refused(refusal), _) => refuse(*refusal, held),
         _ => end(),
     }
 }
@@ -70,7 +72,7 @@ fn step_of(txn: Txn, number: u64, purpose: Purpose) -> Next
     ensures { result ≡ first_step (Some txn) number purpose }
 {
     let sub = Sub { txn, number };
-    call(Ask::Step(sub), Stage::Step(sub, purpose))
+    call(Event::Step(sub), Stage::Step(sub, purpose))
 }
 
 // An operation under way was refused; `again` is the same call once more.
@@ -86,23 +88,23 @@ fn stop_work(lost: bool, sub: Sub, purpose: Purpose, refusal: Refusal, again: Ne
 }
 
 // A call once more.
-fn again(ask: Ask, stage: Stage) -> Next
-    ensures { result ≡ record { action = Action.Again ask; stage = stage } }
+fn again(event: Event, stage: Stage) -> Next
+    ensures { result ≡ record { action = Action.Again event; stage = stage } }
 {
     Next {
-        action: Action::Again(ask),
+        action: Action::Again(event),
         stage,
     }
 }
 
-fn stepped(lost: bool, sub: Sub, purpose: Purpose, told: &Told) -> Next
-    ensures { result ≡ after_step lost sub purpose told.now }
+fn stepped(lost: bool, sub: Sub, purpose: Purpose, reply: &Reply) -> Next
+    ensures { result ≡ after_step lost sub purpose reply.now }
 {
-    match told {
-        Told::Written => call(Ask::Step(sub), Stage::Step(sub, purpose)),
-        Told::Ready => call(Ask::Finish(sub), Stage::Finish(sub, purpose)),
-        Told::Refused(refusal) => {
-            let once_more = again(Ask::Step(sub), Stage::Step(sub, purpose));
+    match reply {
+        Reply::Stepped(Progress::Done(_)) => call(Event::Step(sub), Stage::Step(sub, purpose)),
+        Reply::Stepped(Progress::Ready) => call(Event::Finish(sub), Stage::Finish(sub, purpose)),
+        Reply::Refused(refusal) => {
+            let once_more = again(Event::Step(sub), Stage::Step(sub, purpose));
             stop_work(lost, sub, purpose, *refusal, once_more)
         }
         _ => end(),
@@ -130,16 +132,20 @@ fn undo_done(sub: Sub, purpose: Purpose) -> Next
     }
 }
 
-fn finished(lost: bool, sub: Sub, purpose: Purpose, told: &Told) -> Next
-    ensures { result ≡ after_finish lost sub purpose told.now }
+fn finished(lost: bool, sub: Sub, purpose: Purpose, reply: &Reply) -> Next
+    ensures { result ≡ after_finish lost sub purpose reply.now }
 {
-    match told {
-        Told::Sent => request_done(sub, purpose, Answer::Sent),
-        Told::Message(message) => request_done(sub, purpose, Answer::Message(*message)),
-        Told::Closed => request_done(sub, purpose, Answer::Closed),
-        Told::Undone => undo_done(sub, purpose),
-        Told::Refused(refusal) => {
-            let once_more = again(Ask::Finish(sub), Stage::Finish(sub, purpose));
+    match reply {
+        Reply::Finished(Outcome::Sent) => request_done(sub, purpose, Answer::Sent),
+        Reply::Finished(Outcome::Message(message)) => request_done(
+            sub,
+            purpose,
+            Answer::Message(*message),
+        ),
+        Reply::Finished(Outcome::Closed) => request_done(sub, purpose, Answer::Closed),
+        Reply::Finished(Outcome::Undone) => undo_done(sub, purpose),
+        Reply::Refused(refusal) => {
+            let once_more = again(Event::Finish(sub), Stage::Finish(sub, purpose));
             stop_work(lost, sub, purpose, *refusal, once_more)
         }
         _ => end(),
@@ -147,7 +153,7 @@ fn finished(lost: bool, sub: Sub, purpose: Purpose, told: &Told) -> Next
 }
 
 // The wait for a receipt.
-fn wait_for(commit: Commit) -> Next
+fn wait_for(commit: CommitNo) -> Next
     ensures { result ≡ record { action = Action.Await commit; stage = Stage.Await commit } }
 {
     Next {
@@ -156,88 +162,94 @@ fn wait_for(commit: Commit) -> Next
     }
 }
 
-fn committed(held: OwnTxn, told: &Told) -> Next
-    ensures { result ≡ after_commit held told.now }
+fn committed(held: OwnTxn, reply: &Reply) -> Next
+    ensures { result ≡ after_commit held reply.now }
 {
-    match told {
-        Told::Committed(commit) => {
+    match reply {
+        Reply::Committed(commit) => {
             if is_own(txn_of(held), commit) {
                 wait_for(*commit)
             } else {
                 end()
             }
         }
-        Told::Refused(refusal) => refuse(*refusal, held),
+        Reply::Refused(refusal) => refuse(*refusal, held),
         _ => end(),
     }
 }
 
 // Whether the commit is that of this transaction.
-fn is_own(own: Option<Txn>, commit: &Commit) -> bool
+fn is_own(own: Option<Txn>, commit: &CommitNo) -> bool
     ensures { result ≡ is_commit_of own commit.now }
 {
     match own {
-        Some(txn) => txn.incarnation == commit.txn.incarnation && txn.count == commit.txn.count,
+        Some(txn) => is_same_txn(txn, commit.txn()),
         None => false,
     }
 }
 
-fn awaited(commit: Commit, told: &Told) -> Next
-    ensures { result ≡ after_await commit told.now }
+fn awaited(commit: CommitNo, reply: &Reply) -> Next
+    ensures { result ≡ after_await commit reply.now }
 {
-    match told {
-        Told::Durable(other) => {
-            if is_same(other, &commit) {
-                answer_with(Answer::Committed(commit.lsn), OwnTxn::Free)
+    match reply {
+        Reply::Acknowledged(Some(receipt)) => {
+            if is_same(&receipt.number(), &commit) {
+                answer_with(Answer::Committed(commit.lsn()), OwnTxn::Free)
             } else {
                 wait_for(commit)
             }
         }
-        Told::Refused(Refusal::Failed) => refuse(Refusal::Failed, OwnTxn::Free),
-        Told::NotDurable | Told::Refused(_) => wait_for(commit),
+        Reply::Refused(Refusal::Failed) => refuse(Refusal::Failed, OwnTxn::Free),
+        Reply::Acknowledged(None) | Reply::Refused(_) => wait_for(commit),
         _ => end(),
     }
 }
 
-fn is_same(a: &Commit, b: &Commit) -> bool
+fn is_same(a: &CommitNo, b: &CommitNo) -> bool
     ensures { result ≡ is_commit a.now b.now }
 {
-    a.lsn == b.lsn && a.txn.incarnation == b.txn.incarnation && a.txn.count == b.txn.count
+    a.lsn() == b.lsn() && is_same_txn(a.txn(), b.txn())
 }
 
-fn abort_started(lost: bool, txn: Txn, told: &Told) -> Next
-    ensures { result ≡ after_start_abort lost txn told.now }
+fn is_same_txn(a: Txn, b: Txn) -> bool
+    ensures { result ≡ same_txn a b }
 {
-    match told {
-        Told::Aborting => abort_on(OwnTxn::Aborting(txn)),
-        Told::Refused(Refusal::NoMemory) => again(Ask::StartAbort(txn), Stage::StartAbort(txn)),
-        Told::Refused(refusal) => stop_abort(lost, *refusal, OwnTxn::Open(txn)),
+    a.incarnation == b.incarnation && a.count == b.count
+}
+
+fn abort_started(lost: bool, txn: Txn, reply: &Reply) -> Next
+    ensures { result ≡ after_start_abort lost txn reply.now }
+{
+    match reply {
+        Reply::Aborting => abort_on(OwnTxn::Aborting(txn)),
+        Reply::Refused(Refusal::NoMemory) => again(Event::StartAbort(txn), Stage::StartAbort(txn)),
+        Reply::Refused(refusal) => stop_abort(lost, *refusal, OwnTxn::Open(txn)),
         _ => end(),
     }
 }
 
-fn undo_started(lost: bool, txn: Txn, told: &Told) -> Next
-    ensures { result ≡ after_undo_next lost txn told.now }
+fn undo_started(lost: bool, txn: Txn, reply: &Reply) -> Next
+    ensures { result ≡ after_undo_next lost txn reply.now }
 {
-    match told {
-        Told::Started(sub) => step_of(txn, sub.number, Purpose::Undoing),
-        Told::Nothing => call(Ask::EndAbort(txn), Stage::EndAbort(txn)),
-        Told::Refused(Refusal::NoMemory | Refusal::Latched | Refusal::PoolFull) => {
-            again(Ask::UndoNext(txn), Stage::UndoNext(txn))
+    match reply {
+        Reply::Started(sub) => step_of(txn, sub.number, Purpose::Undoing),
+        Reply::NothingLeft => call(Event::EndAbort(txn), Stage::EndAbort(txn)),
+        Reply::Refused(Refusal::NoMemory | Refusal::Latched | Refusal::PoolFull) => {
+            again(Event::UndoNext(txn), Stage::UndoNext(txn))
         }
-        Told::Refused(refusal) => stop_abort(lost, *refusal, OwnTxn::Aborting(txn)),
+        Reply::Refused(refusal) => stop_abort(lost, *refusal, OwnTxn::Aborting(txn)),
         _ => end(),
     }
 }
 
-fn abort_ended(lost: bool, txn: Txn, told: &Told) -> Next
-    ensures { result ≡ after_end_abort lost txn told.now }
+fn abort_ended(lost: bool, txn: Txn, reply: &Reply) -> Next
+    ensures { result ≡ after_end_abort lost txn reply.now }
 {
-    match told {
-        Told::Aborted if lost => end(),
-        Told::Aborted => answer_with(Answer::Aborted, OwnTxn::Free),
-        Told::Refused(Refusal::NoMemory) => again(Ask::EndAbort(txn), Stage::EndAbort(txn)),
-        Told::Refused(refusal) => stop_abort(lost, *refusal, OwnTxn::Aborting(txn)),
+    match reply {
+        Reply::Aborted if lost => end(),
+        Reply::Aborted => answer_with(Answer::Aborted, OwnTxn::Free),
+        Reply::Refused(Refusal::NoMemory) => again(Event::EndAbort(txn), Stage::EndAbort(txn)),
+        Reply::Refused(refusal) => stop_abort(lost, *refusal, OwnTxn::Aborting(txn)),
         _ => end(),
     }
 }
@@ -250,11 +262,14 @@ pub(crate) fn turn_at_loss(stage: Stage) -> Next
         Stage::Rest(held) | Stage::LastTag(held) | Stage::Start(held) | Stage::Commit(held) => {
             abort_on(held)
         }
-        Stage::Step(sub, purpose) => call(Ask::Step(sub), Stage::Step(sub, cleared(purpose))),
-        Stage::Finish(sub, purpose) => call(Ask::Finish(sub), Stage::Finish(sub, cleared(purpose))),
-        Stage::StartAbort(txn) => call(Ask::StartAbort(txn), Stage::StartAbort(txn)),
-        Stage::UndoNext(txn) => call(Ask::UndoNext(txn), Stage::UndoNext(txn)),
-        Stage::EndAbort(txn) => call(Ask::EndAbort(txn), Stage::EndAbort(txn)),
+        Stage::Step(sub, purpose) => call(Event::Step(sub), Stage::Step(sub, cleared(purpose))),
+        Stage::Finish(sub, purpose) => call(
+            Event::Finish(sub),
+            Stage::Finish(sub, cleared(purpose)),
+        ),
+        Stage::StartAbort(txn) => call(Event::StartAbort(txn), Stage::StartAbort(txn)),
+        Stage::UndoNext(txn) => call(Event::UndoNext(txn), Stage::UndoNext(txn)),
+        Stage::EndAbort(txn) => call(Event::EndAbort(txn), Stage::EndAbort(txn)),
         Stage::Begin | Stage::Await(_) | Stage::Ended => end(),
     }
 }

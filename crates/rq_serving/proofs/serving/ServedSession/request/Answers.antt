@@ -1,10 +1,12 @@
-use Rattle.std.proofs.Common.{refl}
-use Rattle.rq_serving.proofs.Carrying.{keeps_on, stays_kept}
-use Rattle.rq_serving.proofs.Holding.{request_keeps}
+use Rattle.std.proofs.Common.{sym, subst}
+use Rattle.rq_session.specs.declared.stage.Stage.{Stage}
+use Rattle.rq_serving.specs.Held.{IsHeldAt}
+use Rattle.rq_serving.proofs.Holding.{stays_held}
 use Rattle.rq_serving.proofs.serving.ServedSession.request.Goals as goal
 
-pub returns-in-Some-clause-number : goal.returns-in-Some-clause-number
-returns-in-Some-clause-number g c =
-    let here = c.args.self.now in
-    keeps_on _ _ _ _ _ _ (stays_kept here.session.stage _ _ here.number _ _ (request_keeps here.session.stage c.args.request here.number) c.input.ensures.stage refl)
-    c.carried.ensures.number
+pub invariant_of-self : goal.invariant_of-self
+invariant_of-self g c =
+    let here = c.args.self.now in record {
+      held_at = subst (λ (s : Stage). IsHeldAt s here.held) (sym c.input.ensures.stage)
+          (stays_held here.session.stage c.args.request here.held here.held_at);
+    }
