@@ -1,39 +1,19 @@
 -- What was read of a device, what a format has written, and what bytes tell.
-use Rattle.std.specs.Prelude.{◌≡◌, ◌≢◌, ℕ, ◌+◌, ◌%◌, ◌^◌, ◌<◌, ◌≤◌, List, [], ◌∷◌, length}
+use Rattle.std.specs.Prelude.{◌≡◌, ◌≢◌, ℕ, ◌<◌, ◌≤◌, List, [], ◌∷◌, length}
 use Rattle.rq_model.specs.declared.record.Record.{Record}
 use Rattle.rq_model.specs.declared.record.Record.TheVariants.{Base}
 use Rattle.rq_model.specs.Bases.{marked, standing}
-use Rattle.rq_model.specs.declared.refusal.Refusal.TheVariants as why
-use Rattle.rq_model.specs.declared.refusal.Damage.TheVariants as damage
 use Rattle.rq_disk.specs.Device.{Images}
 use Rattle.rq_disk.specs.declared.mem_pages.MemPages.{MemPages}
 use Rattle.rq_log.specs.Counted.{LastLsn}
 use Rattle.rq_log.specs.Spelled.{AreSpelled, EndsWith, spelled}
 use Rattle.rq_page.specs.Sizes.{Sizes, page_count}
 use Rattle.rq_page.specs.Formatted.{IsFormatted}
-use Rattle.rq_pool.specs.Reading.{HasAnswered, IsSoundPage, IsSuperblock, NotReadAgain}
+use Rattle.rq_pool.specs.Reading.{IsSuperblock}
 use Rattle.rq_core.specs.Devices.{mem_pages}
 use Rattle.rq_restart.specs.Formatting.{AreBeforeOrFormatted, HasRun, IsBeforeOrFormatted, KeepsOthers}
 
 pub record DevicesAreJudged : Type 0 where
-  pub answered : (d : MemPages) → (mem_pages.stopped d → ⊥) → HasAnswered mem_pages d d
-  pub answered_where_it_failed : (old new : MemPages) → mem_pages.faults new ≢ mem_pages.faults old
-      → HasAnswered mem_pages old new → ⊥
-  pub answered_where_it_had_stopped : (old new : MemPages) → mem_pages.honest new → mem_pages.stopped old
-      → HasAnswered mem_pages old new → ⊥
-  pub read_failed : (z : Sizes) (old new : MemPages) → mem_pages.faults new ≡ (mem_pages.faults old + 1) % 2 ^ 64
-      → NotReadAgain mem_pages z 1 why.DiskRead old new
-  pub read_failed_without_a_failure : (z : Sizes) (d : MemPages) → mem_pages.faults d < 2 ^ 64
-      → NotReadAgain mem_pages z 1 why.DiskRead d d → ⊥
-  pub damaged : (z : Sizes) (d : MemPages) → (mem_pages.stopped d → ⊥) → (IsSoundPage z 1 (mem_pages.seen d 1) → ⊥)
-      → NotReadAgain mem_pages z 1 (why.Damaged (damage.Page 1)) d d
-  pub damaged_of_a_sound_page : (z : Sizes) (old new : MemPages) → mem_pages.honest new
-      → IsSoundPage z 1 (mem_pages.seen old 1)
-      → NotReadAgain mem_pages z 1 (why.Damaged (damage.Page 1)) old new → ⊥
-  pub damaged_of_another_page : (z : Sizes) (old new : MemPages)
-      → NotReadAgain mem_pages z 1 (why.Damaged (damage.Page 2)) old new → ⊥
-  pub refused_otherwise : (z : Sizes) (old new : MemPages) → NotReadAgain mem_pages z 1 why.LogFull old new → ⊥
-  -- a format
   pub nothing_written : (z : Sizes) (d : MemPages) (images : Images) → ((q : ℕ) → mem_pages.may_be d q (images q))
       → AreBeforeOrFormatted mem_pages z d images
   pub written_past_the_last : (z : Sizes) (d : MemPages) (images : Images) (q : ℕ) → page_count z ≤ q

@@ -95,17 +95,6 @@ impl Waiting {
         self.index.put(place, waiting > 0);
     }
 
-    /// The least sender at or after this one of which a message waits.
-    pub fn next_with_message(&self, from: u32) -> Option<u32>
-        ensures some { IfSome result (λ s. (from ≤ s) × (s < length self.now) × (1 ≤ waits self.now s)
-            × ((t : ℕ) → from ≤ t → t < s → waits self.now t ≡ 0)) }
-        ensures none { IfNone result ((t : ℕ) → from ≤ t → waits self.now t ≡ 0) }
-        ensures few { length self.now < 2 ^ 32 }
-    {
-        let place = self.index.next(from as usize)?;
-        Some(place as u32)
-    }
-
     /// The least sender at or after this one of which a message waits, and whose receiving end nobody holds; none where
     /// there is no such sender.
     pub fn next_free(&self, ends: &Ends, from: u32) -> Option<u32>

@@ -11,6 +11,5 @@ pub mod Fed
 pub mod Audits
 pub mod Restarting
 pub mod Writing
-pub mod Latching
 pub mod Broken
 pub mod Checkpoints

@@ -1,17 +1,14 @@
 //! Pages, and the pages of a store in memory.
-ghost use Rattle.std.specs.Prelude.{◌≡◌, ◌<◌, ◌≤◌, IfOk, length};
+ghost use Rattle.std.specs.Prelude.{◌≡◌, ◌≤◌, IfOk};
 ghost use Rattle.rq_laws.specs.Alike.{PagesAlike};
-ghost use Rattle.rq_pageops.specs.Latched.{pages_in};
 
 use rq_chain_check::first_broken;
 use rq_disk::PageDevice;
-use rq_level::PageSet;
 use rq_model::record::Slot;
 use rq_model::refusal::NoMemory;
 use rq_model::txn::Lsn;
 use rq_page::addr::Addr;
 use rq_page::page::Page;
-use rq_pageops::Latches;
 use rq_pool::Pages;
 use std::alloc::Global;
 
@@ -51,27 +48,4 @@ pub fn names_broken<P: PageDevice>(
     ensures { IfOk result.0 (λ a. IfOk result.1 (λ b. a ≡ b)) }
 {
     (first_broken(alloc, first), first_broken(alloc, second))
-}
-
-/// A set of pages is latched, or refused, alike, and the same sets are latched then. Excludes a latch of a page that
-/// another set has, and a refusal where none of them is latched.
-pub fn try_take(first: &mut Latches, second: &mut Latches, set: &PageSet) -> (bool, bool)
-    requires room { length first.old < 4096 }
-    requires few { length set.now.pages ≤ 3 }
-    requires same { first.old ≡ second.old }
-    ensures taken { result.0 ≡ result.1 }
-    ensures left { first.new ≡ second.new }
-{
-    (first.try_take(set), second.try_take(set))
-}
-
-/// Once a set is given back, the same pages are latched. How they stand in sets is not compared: of pages that are not
-/// one of the sets the contract does not say it. Excludes a page that stays latched once it was given back, and another
-/// page that is latched no more.
-pub fn give(first: &mut Latches, second: &mut Latches, set: &PageSet)
-    requires same { first.old ≡ second.old }
-    ensures { pages_in first.new ≡ pages_in second.new }
-{
-    first.give(set);
-    second.give(set);
 }

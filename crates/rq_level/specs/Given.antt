@@ -32,11 +32,6 @@ abbrev pub has_page : ℕ → List ℕ → Bool
 has_page p [] = false
 has_page p (q ∷ qs) = nat_eq q p || has_page p qs
 
--- some page is in both
-abbrev pub meets : List ℕ → List ℕ → Bool
-meets [] qs = false
-meets (p ∷ ps) qs = has_page p qs || meets ps qs
-
 -- a set of pages, and for how many it has room
 pub record Pages : Type 0 where
   pub pages : List ℕ

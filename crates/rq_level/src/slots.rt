@@ -1,7 +1,7 @@
 //! Slots that a level is given, and sets of pages.
-ghost use Rattle.std.specs.Prelude.{◌≡◌, ◌+◌, ◌<◌, ◌≤◌, ◌∷◌, ◌++◌, [], None, Some, nat_eq, not, IfOk, OnOk, OnErr, MatchOption, length};
+ghost use Rattle.std.specs.Prelude.{◌≡◌, ◌+◌, ◌<◌, ◌≤◌, ◌∷◌, ◌++◌, [], None, Some, nat_eq, not, OnOk, OnErr, MatchOption, length};
 ghost use Rattle.std.specs.List.{filter};
-ghost use Rattle.rq_level.specs.Given.{given_at, has_page, meets};
+ghost use Rattle.rq_level.specs.Given.{given_at, has_page};
 
 use rq_model::record::Slot;
 use rq_model::refusal::NoMemory;
@@ -101,19 +101,6 @@ impl PageSet {
         }
     }
 
-    /// No page, with room for so many.
-    ///
-    /// # Errors
-    /// `NoMemory`.
-    pub fn with_room(alloc: Global, room: usize) -> Result<Self, NoMemory>
-        ensures { IfOk result (λ s. (s.pages ≡ []) × (room ≤ s.room)) }
-    {
-        match Vec::with_capacity(alloc, room) {
-            Ok(pages) => Ok(PageSet { pages }),
-            Err(_) => Err(NoMemory),
-        }
-    }
-
     /// Adds a page.
     ///
     /// # Errors
@@ -169,33 +156,5 @@ impl PageSet {
             }
         }
         false
-    }
-
-    /// Whether some page is in both.
-    pub fn meets(&self, other: &PageSet) -> bool
-        ensures { result ≡ meets self.now.pages other.now.pages }
-    {
-        for one in &self.pages {
-            if other.contains(*one) {
-                return true;
-            }
-        }
-        false
-    }
-
-    /// Adds the pages of another, for which there is room.
-    pub fn add_all(&mut self, other: &PageSet)
-        requires { length self.old.pages + length other.now.pages ≤ self.old.room }
-        ensures pages { self.new.pages ≡ self.old.pages ++ other.now.pages }
-        ensures room { self.old.room ≤ self.new.room }
-    {
-        self.pages.extend_from_slice(&other.pages).unwrap();
-    }
-
-    /// Takes out the pages of another.
-    pub fn remove_all(&mut self, other: &PageSet)
-        ensures { self.new ≡ record { pages = filter (λ p. not (has_page p other.now.pages)) self.old.pages; room = self.old.room } }
-    {
-        self.pages.retain(|one| !other.contains(*one));
     }
 }

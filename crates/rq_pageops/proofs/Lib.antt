@@ -1,2 +1,1 @@
 pub mod Overwrites
-pub mod Latched

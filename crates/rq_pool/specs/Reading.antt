@@ -65,18 +65,6 @@ StopsFor g (why.Damaged (damage.Page page)) old new = (g.honest new → IsDamage
     × (g.faults new ≡ g.faults old)
 StopsFor g _ old new = ⊥
 
--- A device answered a read: it has not failed in it, nor has it stopped before, where it is honest.
-pub record HasAnswered {P : Type 0} (g : Ghosts P) (old new : P) : Type 0 where
-  pub faults : g.faults new ≡ g.faults old
-  pub runs : g.honest new → g.stopped old → ⊥
-
--- why a page behind the first was not read again: the read failed, or the device answered and the page is not sound
-abbrev pub NotReadAgain : {P : Type 0} → Ghosts P → Sizes → ℕ → Refusal → P → P → Type 0
-NotReadAgain g z page why.DiskRead old new = g.faults new ≡ (g.faults old + 1) % 2 ^ 64
-NotReadAgain g z page (why.Damaged (damage.Page n)) old new =
-    (n ≡ page) × (g.honest new → IsSoundPage z page (g.seen old page) → ⊥) × HasAnswered g old new
-NotReadAgain g z page _ old new = ⊥
-
 -- the device as it is afterwards
 abbrev pub device_of : {P : Type 0} → Result (Pooled P) (RefusedPages P) → P
 device_of (Ok pages) = pages.device

@@ -9,7 +9,6 @@ use crate::Frame;
 use rq_model::record::Slot;
 use rq_model::txn::Lsn;
 use rq_page::addr::Addr;
-use rq_page::page::Page;
 
 /// Writes a slot of the page in a frame, by the record of this LSN.
 pub(crate) fn write_slot(frames: &mut Vec<Frame>, at: Addr, image: &Slot, lsn: Lsn)
@@ -36,14 +35,4 @@ pub(crate) fn mark_written(frames: &mut Vec<Frame>, page: u32)
 {
     let frame = &mut frames[page as usize];
     frame.changed = false;
-}
-
-/// Puts a page into a frame.
-pub(crate) fn set_page(frames: &mut Vec<Frame>, number: u32, page: Page)
-    requires { number < length frames.old.items }
-    ensures images { images_of frames.new.items ≡ slice_set (images_of frames.old.items) number page }
-    ensures changed { changed_of frames.new.items ≡ changed_of frames.old.items }
-{
-    let frame = &mut frames[number as usize];
-    frame.page = page;
 }

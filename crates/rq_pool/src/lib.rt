@@ -1,7 +1,7 @@
 //! The pages of the store, all of them in memory, over their device.
 #![tactic(auto)]
 
-ghost use Rattle.std.specs.Prelude.{◌≡◌, ◌≢◌, ◌↔◌, ◌<◌, ◌≤◌, ◌+◌, ◌^◌, ◌/◌, ◌%◌, ℕ, true, false, IsSome, IsTrue, IfSome, IfNone, IfErr, IfOk, OnOk, OnErr, replicate, slice_set};
+ghost use Rattle.std.specs.Prelude.{◌≡◌, ◌≢◌, ◌↔◌, ◌<◌, ◌≤◌, ◌+◌, ◌/◌, ◌%◌, ℕ, true, false, IsSome, IsTrue, IfSome, IfNone, IfErr, IfOk, OnOk, replicate, slice_set};
 ghost use Rattle.std.specs.Bool.{OnFalse};
 ghost use Rattle.rq_page.specs.Sizes.{IsCellAddress, page_count, sender_count, directory_at, place_of};
 ghost use Rattle.rq_page.specs.Pages.{IsWritten, lsn_of};
@@ -10,15 +10,14 @@ ghost use Rattle.rq_views.specs.Log.{cell_in, put};
 ghost use Rattle.rq_views.specs.Stored.{IsStoreSlot, slot_at, slots_in, is_used, count_used};
 ghost use Rattle.rq_disk.specs.Device.{FailureIsCounted, Only};
 ghost use Rattle.rq_pool.specs.Pooled.{IsPool, image_at, is_changed};
-ghost use Rattle.rq_pool.specs.Reading.{HasAnswered, NotReadAgain, OnlyRead as WasRead};
 
 mod frames;
 mod free;
 mod reading;
 
-use crate::frames::{mark_written, set_page, write_slot};
-use crate::free::{note_page, note_slot};
-use crate::reading::{read_again, read_frames, read_superblock};
+use crate::frames::{mark_written, write_slot};
+use crate::free::note_slot;
+use crate::reading::{read_frames, read_superblock};
 use rq_bitset::Index;
 use rq_disk::PageDevice;
 use rq_model::record::Slot;
@@ -265,45 +264,6 @@ impl<P: PageDevice> Pages<P> {
         }
     }
 
-    /// Reads a page back into its frame, where it has no change that was not written. The pages stay as they are where
-    /// the device has been honest; and whatever it answered, they are pages of a store. Where it is read, the device
-    /// ran, and where it has been honest the frame holds what it reads there.
-    ///
-    /// # Errors
-    /// `DiskRead` where the read failed, `Damaged` where what was read is no page of a store: nothing changed.
-    #[tactic(auto, using(crate::proofs::Over::over_read, crate::proofs::Over::over_fixed, crate::proofs::Over::page_fixed, crate::proofs::Over::pool_set))]
-    pub fn fix(&mut self, number: u32) -> Result<(), Refusal>
-        requires low { 1 ≤ number }
-        requires high { number < page_count self.old.sizes }
-        requires clean { is_changed self.old.changed number ≡ false }
-        // What becomes of the images.
-        ensures images { P.honest self.new.device → self.new.images ≡ self.old.images }
-        ensures others { (p : ℕ) → p ≢ number → image_at self.new.images p ≡ image_at self.old.images p }
-        ensures read { OnOk result (P.honest self.new.device
-            → image_at self.new.images number ≡ P.seen self.old.device number) }
-        // That the device was asked, or why not.
-        ensures answered { OnOk result (HasAnswered P.PageDevice self.old.device self.new.device) }
-        ensures refused { IfErr result (λ e. NotReadAgain P.PageDevice self.old.sizes number e self.old.device
-            self.new.device) }
-        // What stays, on each answer.
-        ensures left { OnErr result (self.new.images ≡ self.old.images) }
-        ensures pool { IsPool self.new.sizes self.new.images }
-        ensures sizes { self.new.sizes ≡ self.old.sizes }
-        ensures changed { self.new.changed ≡ self.old.changed }
-        ensures device { WasRead P.PageDevice self.old.device self.new.device }
-        ensures err { IfErr result (λ e. P.honest self.new.device → (e ≡ Refusal.DiskRead)
-            × (P.faults self.new.device ≡ (P.faults self.old.device + 1) % 2 ^ 64)) }
-    {
-        match read_again(&mut self.device, &self.layout, number) {
-            Ok(page) => {
-                set_page(&mut self.frames, number, page);
-                note_page(&mut self.free, &self.layout, &self.frames, number);
-                Ok(())
-            }
-            Err(refusal) => Err(refusal),
-        }
-    }
-
     /// What the directory says of a sender.
     pub fn group(&self, sender: u32) -> Directory
         requires { sender < sender_count self.now.sizes }
@@ -354,15 +314,6 @@ impl<P: PageDevice> Pages<P> {
             place = next + 1;
         }
         (used + (self.layout.cell_slots() as usize - place)) as u32
-    }
-
-    /// Whether a cell is used, as the first byte of its slot tells.
-    pub fn is_used(&self, at: Addr) -> bool
-        requires { IsCellAddress self.now.sizes at }
-        ensures used { result ≡ is_used (slots_in self.now.sizes self.now.images at) }
-        ensures free { OnFalse result (slots_in self.now.sizes self.now.images at ≡ Free) }
-    {
-        self.slot_bytes(at)[0] != 0
     }
 
     // The bytes of a slot.

@@ -8,7 +8,7 @@ ghost use Rattle.rq_page.specs.Slots.{IsSlotOf};
 ghost use Rattle.rq_page.specs.declared.layout.PageKind.TheVariants as kind;
 ghost use Rattle.rq_pool.specs.Indexed.{IsFreeIndex};
 ghost use Rattle.rq_pool.specs.Frames.{images_of, changed_of};
-ghost use Rattle.rq_pool.specs.Reading.{OnlyRead, HasAnswered, IsSuperblock, IsSoundPage, ArePages, AreSeen, NotReadAgain, StopsFor};
+ghost use Rattle.rq_pool.specs.Reading.{OnlyRead, IsSuperblock, IsSoundPage, ArePages, AreSeen, StopsFor};
 
 use crate::Frame;
 use crate::free::note_page;
@@ -73,28 +73,6 @@ pub(crate) fn read_frames<P: PageDevice>(
     Ok((frames, free))
 }
 
-/// Reads a page behind the first once more, and checks it.
-pub(crate) fn read_again<P: PageDevice>(
-    device: &mut P,
-    layout: &Layout,
-    number: u32,
-) -> Result<Page, Refusal>
-    ensures ok { IfOk result (λ page. (P.honest device.new → page ≡ P.seen device.old number)
-        × IsSoundPage layout.now number page) }
-    ensures answered { OnOk result (HasAnswered P.PageDevice device.old device.new) }
-    ensures err { IfErr result (λ e. P.honest device.new → IsSoundPage layout.now number (P.seen device.old number)
-        → (e ≡ Refusal.DiskRead) × (P.faults device.new ≡ (P.faults device.old + 1) % 2 ^ 64)) }
-    ensures refused { IfErr result (λ e. NotReadAgain P.PageDevice layout.now number e device.old device.new) }
-    ensures device { OnlyRead P.PageDevice device.old device.new }
-{
-    let page = read_page(device, number)?;
-    if is_sound(layout, number, &page) {
-        Ok(page)
-    } else {
-        Err(Refusal::Damaged(Damage::Page(number)))
-    }
-}
-
 // Reads a page behind the first over another, and checks it.
 fn read_sound_page<P: PageDevice>(
     device: &mut P,
@@ -140,7 +118,6 @@ fn add_frame(frames: &mut Vec<Frame>, page: &Page) -> Result<(), Refusal>
 fn read_page<P: PageDevice>(device: &mut P, number: u32) -> Result<Page, Refusal>
     ensures ok { IfOk result (λ page. P.honest device.new → page ≡ P.seen device.old number) }
     ensures cause { OnOk result (P.faults device.new ≡ P.faults device.old) }
-    ensures answered { OnOk result (HasAnswered P.PageDevice device.old device.new) }
     ensures err { IfErr result (λ e. (e ≡ Refusal.DiskRead)
         × (P.faults device.new ≡ (P.faults device.old + 1) % 2 ^ 64)) }
     ensures device { OnlyRead P.PageDevice device.old device.new }
@@ -156,7 +133,6 @@ fn read_page<P: PageDevice>(device: &mut P, number: u32) -> Result<Page, Refusal
 fn read_into<P: PageDevice>(device: &mut P, number: u32, page: &mut Page) -> Result<(), Refusal>
     ensures ok { OnOk result (P.honest device.new → page.new ≡ P.seen device.old number) }
     ensures cause { OnOk result (P.faults device.new ≡ P.faults device.old) }
-    ensures answered { OnOk result (HasAnswered P.PageDevice device.old device.new) }
     ensures err { IfErr result (λ e. (e ≡ Refusal.DiskRead)
         × (P.faults device.new ≡ (P.faults device.old + 1) % 2 ^ 64)) }
     ensures device { OnlyRead P.PageDevice device.old device.new }

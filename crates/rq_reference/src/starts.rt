@@ -335,20 +335,6 @@ impl Reference {
         Ok((place, groups))
     }
 
-    /// The groups that the transaction may receive from now, in the order of their senders: those that are free for it
-    /// and hold a message for it.
-    ///
-    /// # Errors
-    /// `Failed`, `UnknownTransaction`, `NotOpen`, `Unfinished`, `LogFull`, `NoMemory`.
-    pub fn receivable(&self, txn: Txn) -> Result<Vec<u32>, Refusal>
-        ensures ok { IfOk result (λ groups. groups.items ≡ receivable self.now.size self.now.ledger txn) }
-        ensures passes { OnOk result (Passes self.now.size self.now.ledger (Start_receive txn)) }
-        ensures refused { IfErr result (λ r. MayBeRefused self.now (Start_receive txn) r) }
-    {
-        let (_, groups) = self.receiving_place(txn)?;
-        Ok(groups)
-    }
-
     /// Starts a receive from the group that is asked for, or from the first where that one is not free or holds no
     /// message, and answers the group and the operation's number: none where no free group holds a message.
     ///

@@ -16,15 +16,6 @@ based = (((omega arith, omega arith, omega arith, omega arith), (omega arith, om
 
 pub returns : goal.returns
 returns c = record {
-  answered = λ d runs. record { faults = refl; runs = λ h s. runs s };
-  answered_where_it_failed = λ old new other a. other a.faults;
-  answered_where_it_had_stopped = λ old new h s a. a.runs h s;
-  read_failed = λ z old new e. e;
-  read_failed_without_a_failure = λ z d low e. omega (arith, low, e);
-  damaged = λ z d runs bad. (refl, λ h s. bad s, record { faults = refl; runs = λ h s. runs s });
-  damaged_of_a_sound_page = λ z old new h s a. a.1 h s;
-  damaged_of_another_page = λ z old new a. (let e = a.0 in omega (arith, e));
-  refused_otherwise = λ z old new a. a;
   nothing_written = λ z d images may q. inl (may q);
   written_past_the_last = λ z d images q past no all. ⊎_elim no (λ f. (let low = f.0 in omega (arith, low, past))) (all q);
   superblock_before = λ z d images may. inl may;
