@@ -216,6 +216,7 @@ impl<P: PageDevice, L: LogDevice, B: Level> Engine<P, L, B> {
     ) -> Result<Option<(u32, Planned)>, Refusal>
         ensures same { self.new ≡ self.old }
         ensures planned { IsTakePlanned self.old.state txn (λ g. g ≡ sender) result }
+        ensures sender { IfOk result (λ found. IfSome found (λ planned. planned.0 ≡ sender)) }
     {
         if self.waiting.count(sender) == 0 || !self.ends.may_receive(txn, sender) {
             return Ok(None);

@@ -9,6 +9,7 @@ use Rattle.rq_disk.specs.declared.device.LogDevice as log_device
 use Rattle.rq_disk.specs.declared.device.PageDevice as page_device
 use Rattle.rq_disk.specs.Device.{Only}
 use Rattle.rq_log.specs.Spelled.{spelled}
+use Rattle.rq_page.specs.Sizes.{page_count}
 use Rattle.rq_txn.specs.Rows.{Row}
 use Rattle.rq_pool.specs.Writing.{HasChangeBeyond, NoChangeBeyond}
 use Rattle.rq_store.specs.State.{State, ledger_of}
@@ -114,3 +115,29 @@ module _ {P L : Type 0} (p : page_device.Ghosts P) (l : log_device.Ghosts L) (ol
   durable x y (Ok a) (Ok b) m n = λ h k c d f g. m.made.durable h c f ∙ ap (λ (s : State). spelled s.records) (m.made.state ∙ sym n.made.state) ∙ sym (n.made.durable k d g)
   durable x y (Ok a) (Err s) m n = tt
   durable x y (Err r) b m n = tt
+
+  pub pages : (x y : OpenStore P L) (a b : Result ℕ Refusal) → Answered x a → Answered y b
+      → IfOk a (λ _. IfOk b (λ _. p.honest x.pages → p.honest y.pages → (q : ℕ) → 1 ≤ q → q < page_count old.state.sizes → (c d : List ℕ) → p.may_be x.pages q c → p.may_be y.pages q d → c ≡ d))
+  pages x y (Ok a) (Ok b) m n = λ h k q low high c d f g. m.made.pages h q low high c f ∙ sym (n.made.pages k q low high d g)
+  pages x y (Ok a) (Err s) m n = tt
+  pages x y (Err r) b m n = tt
+
+  -- a refusal changes nothing, but where a device failed
+  same_store : (new : OpenStore P L) (r : Refusal) → NotCheckpointed p l old new r → (r ≡ why.DiskWrite → ⊥) → new ≡ old
+  same_store new why.Failed n other = n.1
+  same_store new why.NotQuiet n other = n.2
+  same_store new why.LogFull n other = n.3
+  same_store new why.NotForced n other = n.4
+  same_store new why.DiskWrite n other = absurd (other refl)
+  same_store new _ n other = absurd n
+
+  pub refused : (x : OpenStore P L) (a : Result ℕ Refusal) → Answered x a → IfErr a (λ r. (r ≡ why.DiskWrite → ⊥) → x ≡ old)
+  refused x (Ok a) m = tt
+  refused x (Err r) m = same_store x r m.refused
+
+  never : (new : OpenStore P L) (r : Refusal) → NotCheckpointed p l old new r → r ≡ why.NoMemory → ⊥
+  never new r n e = subst (λ (x : Refusal). NotCheckpointed p l old new x) e n
+
+  pub memory : (x : OpenStore P L) (a : Result ℕ Refusal) → Answered x a → IfErr a (λ r. r ≡ why.NoMemory → ⊥)
+  memory x (Ok a) m = tt
+  memory x (Err r) m = never x r m.refused

@@ -1,9 +1,10 @@
 //! Calls of the engine that start and step no operation, by two stores in the same state.
-ghost use Rattle.std.specs.Prelude.{◌≡◌, ℕ, List, IfErr, IfOk, map};
+ghost use Rattle.std.specs.Prelude.{◌≡◌, ◌≢◌, ◌≤◌, ◌<◌, ℕ, List, IfErr, IfOk, map};
 ghost use Rattle.rq_content.specs.Read.{group_of};
 ghost use Rattle.rq_engine.specs.Opened.{AreHonest};
 ghost use Rattle.rq_engine.specs.Says.{receipt_of};
 ghost use Rattle.rq_laws.specs.Refusals.{RefuseAlike, RefuseTheSame};
+ghost use Rattle.rq_page.specs.Sizes.{page_count};
 ghost use Rattle.rq_sound.specs.Sound.{IsSound};
 
 use rq_content::GroupContent;
@@ -126,10 +127,10 @@ pub fn force<P: PageDevice, L: LogDevice, B: Level>(
     (first.force(), second.force())
 }
 
-/// A checkpoint answers the same LSN and leaves the same state; both logs read as the same bytes, and a crash leaves the same of
-/// both. Where one is refused, so is the other, but for a device that failed; refused for the same they leave the same state. Excludes
-/// another LSN, one that only forces, one made while a transaction is open or refused where none is, and a store that runs on behind a
-/// failure.
+/// A checkpoint answers the same LSN and leaves the same state; both logs read as the same bytes, and a crash leaves the same of both
+/// devices. Where one is refused, so is the other, but for a device that failed, and never for memory. Refused for the same they leave
+/// the same state; unless a device failed, the same store. Excludes another LSN, one that only forces or leaves a page unwritten, one
+/// made while a transaction is open or refused where none is, and a store that runs on behind a failure.
 pub fn checkpoint<P: PageDevice, L: LogDevice, B: Level>(
     first: &mut Engine<P, L, B>,
     second: &mut Engine<P, L, B>,
@@ -138,10 +139,15 @@ pub fn checkpoint<P: PageDevice, L: LogDevice, B: Level>(
     ensures same { IfOk result.0 (λ a. IfOk result.1 (λ b. a ≡ b)) }
     ensures state { IfOk result.0 (λ _. IfOk result.1 (λ _. first.new.state ≡ second.new.state)) }
     ensures stopped { IfErr result.0 (λ r. IfErr result.1 (λ s. r ≡ s → first.new.state ≡ second.new.state)) }
+    ensures refused { IfErr result.0 (λ r. r ≢ Refusal.DiskWrite → first.new ≡ first.old) }
+    ensures memory { IfErr result.0 (λ r. r ≢ Refusal.NoMemory) }
     ensures reads { IfOk result.0 (λ _. IfOk result.1 (λ _. L.honest first.new.log → L.honest second.new.log
         → L.seen first.new.log ≡ L.seen second.new.log)) }
     ensures durable { IfOk result.0 (λ _. IfOk result.1 (λ _. L.honest first.new.log → L.honest second.new.log
         → (c d : List ℕ) → L.may_leave first.new.log c → L.may_leave second.new.log d → c ≡ d)) }
+    ensures pages { IfOk result.0 (λ _. IfOk result.1 (λ _. P.honest first.new.pages → P.honest second.new.pages
+        → (p : ℕ) → 1 ≤ p → p < page_count first.old.state.sizes → (c d : List ℕ) → P.may_be first.new.pages p c
+        → P.may_be second.new.pages p d → c ≡ d)) }
     ensures decided { RefuseAlike result.0 result.1 }
 {
     (first.checkpoint(), second.checkpoint())

@@ -19,7 +19,10 @@ returns g c =
       same = law.same P L old x y _ _ m n;
       state = law.state P L old x y _ _ m n;
       stopped = law.stopped P L old x y _ _ m n;
+      refused = law.refused P L old x _ m;
+      memory = law.memory P L old x _ m;
       reads = law.reads P L old x y _ _ m n;
       durable = law.durable P L old x y _ _ m n;
+      pages = law.pages P L old x y _ _ m n;
       decided = law.decided P L old x y _ _ m n;
     }
