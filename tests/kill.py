@@ -1,7 +1,7 @@
 #!/usr/bin/env python3
-"""Kills `rqm serve` by SIGKILL in the midst of load, again and again, on one store in a temporary folder. Between these, `rqm checkpoint`
-is run, and every other time killed. Each time it looks what the store holds once it is open again. Nothing that was acknowledged is lost,
-nothing comes twice, and each group is in order.
+"""Kills `rqm serve` by SIGKILL in the midst of load, again and again, on one store in a temporary folder. In every third round it makes
+checkpoints all the while. Between the rounds `rqm checkpoint` is run, and every other time killed. Each time it looks what the store holds
+once it is open again. Nothing that was acknowledged is lost, nothing comes twice, and each group is in order.
 
     python3 tests/kill.py [--program PROGRAM] [--seed N] [--rounds N]
 
@@ -18,7 +18,7 @@ from concurrent.futures import ThreadPoolExecutor
 from contextlib import contextmanager
 
 from cases import built
-from server import LONGEST, Server, everything, store, torn_end
+from server import LONGEST, Server, base_of, everything, has_base, store, torn_end
 
 sys.dont_write_bytecode = True
 from rqm import Full  # noqa: E402, where `server` finds it
@@ -35,6 +35,7 @@ class Load:
         # to come out behind that
         self.sent, self.moved, self.next_out = [0] * GROUPS, [0] * GROUPS, [1] * GROUPS
         self.lost = []  # connections that ended before their work
+        self.rest = 0  # for how many seconds each rests behind a transaction
 
     def send(self, server, group):
         with server.connect() as connection:
@@ -44,6 +45,7 @@ class Load:
                     with connection.transaction() as transaction:
                         transaction.send(group, tag, body_of(group, tag))
                     self.sent[group] = tag
+                    time.sleep(self.rest)
                 except Full:
                     time.sleep(0.001)
 
@@ -59,8 +61,7 @@ class Load:
                         self.moved[group] = message.tag
                 except Full:
                     message = None
-                if not message:
-                    time.sleep(0.001)
+                time.sleep(self.rest if message else 0.001)
 
     def until_killed(self, work, *words):
         try:
@@ -68,9 +69,11 @@ class Load:
         except ConnectionError as error:
             self.lost.append(error)
 
-    def round(self, server, seconds, end):
-        """Runs until the server ends, after so many seconds."""
-        works = [(work, server, group) for group in range(GROUPS) for work in (self.send, self.move)]
+    def round(self, server, seconds, end, is_light=False):
+        """Runs until the server ends, after so many seconds. Where it is light, one group alone is at work, and mostly none has a
+        transaction."""
+        self.rest = 0.003 if is_light else 0
+        works = [(work, server, group) for group in range(1 if is_light else GROUPS) for work in (self.send, self.move)]
         with ThreadPoolExecutor(len(works)) as pool:
             running = [pool.submit(self.until_killed, *work) for work in works]
             time.sleep(seconds)
@@ -110,11 +113,6 @@ def body_of(group, tag):
     return b"%d of %d" % (tag, group)
 
 
-def has_base(folder):
-    """Whether the log of a store begins with a Base."""
-    return (folder / "log").read_bytes()[4:5] == b"\x09"
-
-
 class Kills:
     """A store, and how often a server on it was killed."""
 
@@ -122,20 +120,20 @@ class Kills:
         self.program, self.folder = program, folder
         self.random = random.Random(seed)
         self.load = Load()
-        self.kills = self.torn = self.checkpoints = self.cut_off = self.based = 0
+        self.kills = self.torn = self.checkpoints = self.cut_off = self.based = self.beside = 0
 
     @contextmanager
-    def running(self):
-        server = self.started()
+    def running(self, *words):
+        server = self.started(*words)
         try:
             yield server
         finally:
             server.kill()
 
-    def started(self):
+    def started(self, *words):
         self.torn += torn_end(self.folder) > 0
         self.based += has_base(self.folder)
-        server = Server(self.program, self.folder, "--workers", self.random.choice((1, 3)))
+        server = Server(self.program, self.folder, "--workers", self.random.choice((1, 3)), *words)
         assert not torn_end(self.folder)
         return server
 
@@ -144,10 +142,21 @@ class Kills:
             self.kill_at_start()
         if number % 4 == 3:
             self.checkpoint(is_cut_off=number % 8 == 7)
-        with self.running() as server:
-            self.load.look(server)
-            self.load.round(server, self.random.uniform(0.02, 0.3), server.kill)
+        if number % 3 == 2:
+            self.beside_checkpoints()
+        else:
+            with self.running() as server:
+                self.load.look(server)
+                self.load.round(server, self.random.uniform(0.02, 0.3), server.kill)
         self.kills += 1
+
+    def beside_checkpoints(self):
+        """A round whose server makes a checkpoint whenever no transaction is open."""
+        with self.running("--checkpoint-after", 1) as server:
+            self.load.look(server)
+            before = base_of(self.folder)
+            self.load.round(server, self.random.uniform(0.02, 0.3), server.kill, is_light=True)
+        self.beside += base_of(self.folder) > before
 
     def checkpoint(self, is_cut_off):
         """Has the log made one record; that may be cut off anywhere."""
@@ -190,9 +199,9 @@ def main():
             kills.load.look(server, is_last=True)
     sent = sum(kills.load.sent)
     assert sent > 10 * chosen.rounds, sent
-    assert kills.checkpoints and kills.cut_off and kills.based or chosen.rounds < 20, vars(kills)
+    assert kills.checkpoints and kills.cut_off and kills.based and kills.beside or chosen.rounds < 20, vars(kills)
     seconds = time.monotonic() - before
-    made = f"{kills.checkpoints} checkpoints, {kills.cut_off} cut off, {kills.based} starts behind a Base"
+    made = f"{kills.checkpoints} checkpoints, {kills.cut_off} cut off, {kills.beside} servers that made some, {kills.based} starts behind a Base"
     print(f"killed {kills.kills} times among {sent} sends, {kills.torn} torn ends cut, {made}: {seconds:.0f} s")
 
 

@@ -34,8 +34,8 @@ from rqm import (  # noqa: E402
     UnknownSender, UnknownTransaction,
 )  # fmt: skip
 
-# How many bytes the length at the head of a record has.
-LENGTH = 4
+# How many bytes the length at the head of a record has, and a Base with it.
+LENGTH, BASE_SIZE = 4, 21
 
 # How many seconds an answer may take, and a server to start or to end.
 LONGEST = 10
@@ -267,6 +267,18 @@ def torn_end(folder):
             break
         end += LENGTH + length
     return len(log) - end
+
+
+def has_base(folder):
+    """Whether the log of a store begins with a Base."""
+    return base_of(folder) > 0
+
+
+def base_of(folder):
+    """How many records the Base at the front of a log stands for; 0 where there is none."""
+    with open(folder / "log", "rb") as log:
+        front = log.read(13)
+    return int.from_bytes(front[5:], "big") if front[4:5] == b"\x09" else 0
 
 
 def read_to_end(stream):
@@ -654,6 +666,8 @@ def starts(program, _):
         for words in (
             [], [folder], ["--port", 0], [folder, "--port", 65536], [folder, "--port", -1], [folder, "--port", 0, "--workers", 0],
             [folder, "--port", 0, "--workers", 65], [folder, "--port", 0, "--frames", 7],
+            [folder, "--port", 0, "--checkpoint-after", "x"], [folder, "--port", 0, "--checkpoint-after", -1],
+            [folder, "--port", 0, "--checkpoint-after", 2**64], [folder, "--port", 0, "--checkpoint-after"],
             [folder, "--port", 0, "--frames", 66562], [folder, "--port", 0, "--sessions", "x"], [folder, "--port", 0, "more"],
         ):  # fmt: skip
             assert said(*words) == (2, b""), words
@@ -832,12 +846,13 @@ def missing_threads(program, _):
     """Where a thread does not start, all end, nobody is served, and the store is free for the next server."""
     with failing(SHIM) as (beside, words), store(program) as folder:
         words["FAILING"] = str(beside)
-        for threads in range(5):
-            refused = started(program, folder, "--workers", 3, environment={**words, "THREADS": str(threads)})
-            assert refused == (b"fault 1 NoMemory\n", 1), (threads, refused)
-        with serving(program, folder, "--workers", 3, environment={**words, "THREADS": "5"}) as server:
-            with server.connect() as connection:
-                assert everything(connection) == {}
+        for wanted, more in ((5, ()), (6, ("--checkpoint-after", 1))):
+            for threads in range(wanted):
+                refused = started(program, folder, "--workers", 3, *more, environment={**words, "THREADS": str(threads)})
+                assert refused == (b"fault 1 NoMemory\n", 1), (threads, refused)
+            with serving(program, folder, "--workers", 3, *more, environment={**words, "THREADS": str(wanted)}) as server:
+                with server.connect() as connection:
+                    assert everything(connection) == {}
         with serving(program, folder, "--workers", 64, files=200):
             pass
         try:
@@ -855,6 +870,94 @@ def started(program, folder, *words, **limits):
     except NotStarted as refused:
         return refused.line, refused.status
     raise AssertionError("it has started")
+
+
+def short_logs(program, _):
+    """A server makes its log one record once it is long, again and again, and none while nothing comes, though the log be long for it.
+    What was sent and not received is there, also for the next server."""
+    held, tag = [], 0
+    with store(program, 1, 20) as folder:
+        for most in (20_000, 1):
+            with serving(program, folder, "--checkpoint-after", most) as server, server.connect() as connection:
+                seen, until = {base_of(folder)}, time.monotonic() + 2 * LONGEST
+                while len(seen) < 4:
+                    assert time.monotonic() < until, seen
+                    tag += 1
+                    send_and_receive(connection, tag, held)
+                    seen.add(base_of(folder))
+                wait_until(lambda: log_size(folder) < max(most, 2 * BASE_SIZE))
+                time.sleep(0.5)
+                records = base_of(folder)
+                time.sleep(1)
+                assert base_of(folder) == records, "a checkpoint of nothing"
+            said = subprocess.run([program, "inspect", str(folder)], check=True, stdout=subprocess.PIPE).stdout
+            assert said.startswith(b"%d base %d " % (records + 1, records)), said
+        with serving(program, folder) as server, server.connect() as connection:
+            assert everything(connection) == {2: held}
+    return f"{tag} sends"
+
+
+def send_and_receive(connection, tag, held):
+    """Sends a message, and receives one where ten are held."""
+    with connection.transaction() as transaction:
+        transaction.send(2, tag, b"%d" % tag)
+        if len(held) == 10:
+            assert transaction.receive_from(2)[1:] == held.pop(0)
+    held.append((tag, b"%d" % tag))
+
+
+def log_size(folder):
+    return (folder / "log").stat().st_size
+
+
+def quiet_checkpoints(program, _):
+    """None is made while a transaction is open, be the log ever so long. One is, once it ends in whatever way. Without the word, and at 0,
+    none is made at all."""
+    ends = {
+        "committed": lambda stream: stream.sendall(COMMIT), "aborted": lambda stream: stream.sendall(ABORT),
+        "lost": lambda stream: stream.close(),
+    }  # fmt: skip
+    for name, end in ends.items():
+        with store(program) as folder, serving(program, folder, "--checkpoint-after", 4_000) as server:
+            with server.raw() as stream, server.connect() as other:
+                stream.sendall(BEGIN_AND_SEND)
+                read_bytes(stream, len(BEGUN) + 8 + len(SENT))
+                held = fill(other, folder)
+                assert not has_base(folder), name
+                end(stream)
+                wait_until(lambda: has_base(folder))
+                assert everything(other) == {**({0: [(7, b"hello")]} if name == "committed" else {}), 2: held}, name
+    for words in ((), ("--checkpoint-after", 0), ("--checkpoint-after", 2**64 - 1)):
+        with store(program) as folder, serving(program, folder, *words) as server, server.connect() as connection:
+            fill(connection, folder)
+            assert not has_base(folder), words
+
+
+def fill(connection, folder):
+    """Makes a log long, and waits until who makes checkpoints has looked at it. What was sent for sender 2."""
+    held = []
+    for tag in range(1, 6):
+        send_and_receive(connection, tag, held)
+    assert log_size(folder) > 4_000
+    time.sleep(1.5)
+    return held
+
+
+def failing_checkpoint(program, _):
+    """Where no new log can be made the store fails, and says so. What was acknowledged is there at the next start, which makes one."""
+    with store(program) as folder:
+        (folder / "log.new").mkdir()
+        with serving(program, folder, "--checkpoint-after", 4_000) as server, server.connect() as connection:
+            with server.raw() as stream:  # nothing fails while it has a transaction
+                stream.sendall(BEGIN)
+                read_bytes(stream, len(BEGUN) + 8)
+                held = fill(connection, folder)
+            wait_until(lambda: server.tells()[1:] == [STORE_FAILED])
+            raises(Failed, connection.transaction)
+        (folder / "log.new").rmdir()
+        with serving(program, folder, "--checkpoint-after", 1) as server, server.connect() as connection:
+            wait_until(lambda: has_base(folder))
+            assert everything(connection) == {2: held}
 
 
 def worker_without_reports(program, _):
@@ -1216,8 +1319,8 @@ def raises(kind, call):
 TESTS = [
     starts, session, closing, faults, bodies, pieces, damaged_streams, lost_connections, ends_inside_a_frame,
     answers_before_a_fault, parted_clients, unread_answers, shared_forces, failing_force, input_ends, served, silent_reader, slow_clients,
-    few_descriptors, leaves_nothing, missing_threads, worker_without_reports, refused_connections, many_connections, full_disk, client,
-    lost_answers, sessions,
+    few_descriptors, leaves_nothing, short_logs, quiet_checkpoints, failing_checkpoint, missing_threads, worker_without_reports,
+    refused_connections, many_connections, full_disk, client, lost_answers, sessions,
 ]  # fmt: skip
 
 

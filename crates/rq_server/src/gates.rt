@@ -1,6 +1,7 @@
 //! The gates of the server's threads.
 ghost use Rattle.std.specs.Prelude.{◌≡◌};
 
+use crate::length::LogLength;
 use crate::notices::Notices;
 use rq_bytes::GhostList;
 use rq_workers::gate::Gate;
@@ -15,6 +16,9 @@ const PARTS: u32 = 100;
 
 /// How many milliseconds lie between two parts of a round of page writes.
 const PART_MILLIS: u64 = 10;
+
+/// How many milliseconds lie between two tries of a checkpoint, where a transaction was open.
+const AGAIN_MILLIS: u64 = 10;
 
 /// Lets a session through.
 #[derive(Drop)]
@@ -147,6 +151,76 @@ impl<R: Wait> Gate for PagePace<'_, R> {
 
     fn pass(&mut self, point: u32) -> bool {
         self.hold();
+        let passed = !self.notices.has_ended();
+        GhostList::push(&mut self.answers, &(point, passed));
+        passed
+    }
+}
+
+/// Holds who makes checkpoints until the log is long, and between two tries. One that was refused is tried again once the log has
+/// another length: the end of a transaction is a record. It says no once the server ends.
+#[derive(Drop)]
+pub(crate) struct CheckpointPace<'a, K: LogLength, R: Wait> {
+    rt: &'a R,
+    notices: &'a Notices,
+    log: &'a K,
+    // from how many bytes on the log is long
+    long: u64,
+    // how long it was before the last try; None where it was short since
+    tried: Option<u64>,
+    answers: Snapshot<GhostList<(u32, bool)>>,
+}
+
+impl<'a, K: LogLength, R: Wait> CheckpointPace<'a, K, R> {
+    /// For a log that is long from so many bytes on.
+    pub(crate) fn new(rt: &'a R, notices: &'a Notices, log: &'a K, long: u64) -> Self {
+        CheckpointPace {
+            rt,
+            notices,
+            log,
+            long,
+            tried: None,
+            answers: GhostList::empty(),
+        }
+    }
+
+    // Until the log is long, and has another length than at the last try: that length, or None where the server ends.
+    fn rest(&self) -> Option<u64> {
+        let mut tried = self.tried;
+        for _ in self.rt.forever() {
+            if self.notices.has_ended() {
+                return None;
+            }
+            let bytes = self.long_bytes();
+            if bytes.is_some() && bytes != tried {
+                return bytes;
+            }
+            tried = bytes;
+            let millis = if bytes.is_some() {
+                AGAIN_MILLIS
+            } else {
+                ROUND_MILLIS
+            };
+            self.notices.pause(self.rt, millis);
+        }
+        unreachable!()
+    }
+
+    // The length of the log, where it is long.
+    fn long_bytes(&self) -> Option<u64> {
+        match self.log.bytes() {
+            Some(bytes) if bytes >= self.long => Some(bytes),
+            _ => None,
+        }
+    }
+}
+
+impl<K: LogLength, R: Wait> Gate for CheckpointPace<'_, K, R> {
+    ghost answers = { λ gate. gate.answers.value };
+
+    fn pass(&mut self, point: u32) -> bool {
+        self.notices.pause(self.rt, AGAIN_MILLIS);
+        self.tried = self.rest();
         let passed = !self.notices.has_ended();
         GhostList::push(&mut self.answers, &(point, passed));
         passed

@@ -4,7 +4,8 @@ ghost use Rattle.std.specs.Thread.{IsSend, IsSync};
 
 use crate::calls::{Calls, MarkReader};
 use crate::door::Door;
-use crate::gates::{LogPace, PagePace};
+use crate::gates::{CheckpointPace, LogPace, PagePace};
+use crate::length::LogLength;
 use crate::notices::Notices;
 use crate::rounds::{Connections, Ears, hears_input, poll_at};
 use crate::steps::ServerSteps;
@@ -39,6 +40,8 @@ pub struct Plan {
     pub ends_with_input: bool,
     /// How many pages the store has.
     pub pages: u32,
+    /// From how many bytes on of its log a checkpoint is made; 0 for never.
+    pub checkpoint_after: u64,
 }
 
 /// What the threads share beside the engine.
@@ -74,11 +77,13 @@ struct Post<'a, G: Sharing> {
 struct Posts<'a, G: Sharing> {
     log_writer: Caller<'a, G>,
     page_writer: Caller<'a, G>,
+    // None where none are made
+    checkpointer: Option<Caller<'a, G>>,
     workers: Vec<Post<'a, G>>,
 }
 
 /// Serves connections over a store, and answers how many sessions there were. Once all threads are ready, it prints where it
-/// listens. When it answers, they have ended, and the log is forced.
+/// listens. When it answers, they have ended, and the log is forced. `log` tells when a checkpoint is due.
 ///
 /// # Errors
 /// Where a thread could not start, nothing is printed and nobody served. Where a worker could not go on, or the last force was
@@ -88,12 +93,14 @@ pub fn serve<
     L: LogDevice + Drop + Send,
     B: Level + Send,
     G: Sharing + Send + Sync,
+    K: LogLength + Sync,
     R: Threads + Wait + Clock + Net + Print + Eprint + Sync,
 >(
     rt: &R,
     alloc: Global,
     listener: TcpListener,
     shared: Shared<P, L, B, G>,
+    log: &K,
     plan: Plan,
 ) -> Result<u64, Stopped> {
     let mut shared = shared;
@@ -114,7 +121,15 @@ pub fn serve<
     let Ok(posts) = posts_of(alloc, &mut shared, &common, &mut seat, polls) else {
         return Err(Stopped::NotStarted);
     };
-    let served = run(rt, alloc, shared.engine_lock(), &common, address, posts);
+    let served = run(
+        rt,
+        alloc,
+        shared.engine_lock(),
+        log,
+        &common,
+        address,
+        posts,
+    );
     let refused = force_last(rt, &shared, last);
     match (served, refused) {
         (Ok(_), Some(refusal)) => Err(Stopped::NotForced(refusal)),
@@ -201,11 +216,31 @@ fn posts_of<'a, P: PageDevice + Drop, L: LogDevice + Drop, B: Level, G: Sharing>
 {
     let log_writer = caller_of(shared, common, seat)?;
     let page_writer = caller_of(shared, common, seat)?;
+    let checkpointer = checkpointer_of(shared, common, seat)?;
     Ok(Posts {
         log_writer,
         page_writer,
+        checkpointer,
         workers: workers_of(alloc, shared, common, seat, polls)?,
     })
+}
+
+// Who makes checkpoints, where any are made.
+fn checkpointer_of<'a, P: PageDevice + Drop, L: LogDevice + Drop, B: Level, G: Sharing>(
+    shared: &mut Shared<P, L, B, G>,
+    common: &'a Common,
+    seat: &mut MarkPass,
+) -> Result<Option<Caller<'a, G>>, NoMemory>
+    requires { seat.old.table ≡ common.now.mark }
+    ensures { seat.new.table ≡ seat.old.table }
+{
+    if common.plan.checkpoint_after == 0 {
+        return Ok(None);
+    }
+    match caller_of(shared, common, seat) {
+        Ok(caller) => Ok(Some(caller)),
+        Err(error) => Err(error),
+    }
 }
 
 fn workers_of<'a, P: PageDevice + Drop, L: LogDevice + Drop, B: Level, G: Sharing>(
@@ -258,11 +293,13 @@ fn run<
     L: LogDevice + Drop + Send,
     B: Level + Send,
     G: Sharing + Send + Sync,
+    K: LogLength + Sync,
     R: Threads + Wait + Clock + Print + Eprint + Sync,
 >(
     rt: &'a R,
     alloc: Global,
     lock: &'a EngineLock<P, L, B, G>,
+    log: &'a K,
     common: &'a Common,
     address: SocketAddr,
     posts: Posts<'a, G>,
@@ -270,16 +307,23 @@ fn run<
     let Posts {
         log_writer,
         page_writer,
+        checkpointer,
         workers,
     } = posts;
     thread::scope(
         thread::scope_env(),
         rt,
         move |scope| -> Result<u64, Stopped>
-            requires { IsSync R.row × IsSend P.row × IsSend L.row × IsSend B.row }
+            requires { IsSync R.row × IsSend P.row × IsSend L.row × IsSend B.row × IsSync K.row }
         {
             let log_writer = scope.spawn(move || write_log(rt, lock, log_writer));
             let page_writer = scope.spawn(move || write_pages(rt, lock, page_writer));
+            let checkpointer = match checkpointer {
+                Some(caller) => scope
+                    .spawn(move || make_checkpoints(rt, lock, log, caller))
+                    .ok(),
+                None => None,
+            };
             let mut threads = Vec::new(alloc);
             for post in workers {
                 if let Ok(thread) = scope.spawn(move || work(rt, alloc, lock, post)) {
@@ -288,6 +332,7 @@ fn run<
             }
             let are_there = matches!(log_writer, Ok(_))
                 && matches!(page_writer, Ok(_))
+                && checkpointer.is_some() == (common.plan.checkpoint_after != 0)
                 && threads.len() == common.plan.workers as usize;
             let began = begin(rt, common, address, are_there);
             let mut served = Some(0);
@@ -299,6 +344,9 @@ fn run<
                 thread.join(rt);
             }
             if let Ok(thread) = page_writer {
+                thread.join(rt);
+            }
+            if let Some(thread) = checkpointer {
                 thread.join(rt);
             }
             match began {
@@ -377,6 +425,22 @@ fn write_pages<
     let gate = PagePace::new(rt, &common.notices, pages);
     let mut worker = Worker::new(gate, steps_of(rt, lock, caller));
     worker.write_pages(rt, pages);
+}
+
+// Makes checkpoints whenever the log is long, until the server ends.
+fn make_checkpoints<
+    'a,
+    P: PageDevice + Drop,
+    L: LogDevice + Drop,
+    B: Level,
+    G: Sharing,
+    K: LogLength,
+    R: Wait + Eprint,
+>(rt: &'a R, lock: &'a EngineLock<P, L, B, G>, log: &'a K, caller: Caller<'a, G>) {
+    let common = caller.common;
+    let gate = CheckpointPace::new(rt, &common.notices, log, common.plan.checkpoint_after);
+    let mut worker = Worker::new(gate, steps_of(rt, lock, caller));
+    worker.make_checkpoints(rt);
 }
 
 // Serves connections, once all workers are ready. How many it served; None where it could not go on.

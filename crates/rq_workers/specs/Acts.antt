@@ -8,7 +8,7 @@ use Rattle.rq_workers.specs.declared.acts.Act.{Act}
 use Rattle.rq_workers.specs.declared.acts.Act.TheVariants.{Asked, Lacked, Made, Forced}
 use Rattle.rq_workers.specs.declared.acts.Heard.{Heard}
 use Rattle.rq_model.specs.History.{Call}
-use Rattle.rq_model.specs.History.Call.{Step, Finish, Write_page}
+use Rattle.rq_model.specs.History.Call.{Step, Finish, Write_page, Checkpoint}
 use Rattle.rq_engine.specs.Says.{call_of}
 use Rattle.rq_workers.specs.Hearing.{heard_of, starts_one}
 use Rattle.rq_workers.specs.Forcing.{most_forced}
@@ -60,9 +60,10 @@ passed_at point (Asked p passed ∷ acts) = (p == point) && passed
 passed_at point _ = false
 
 -- What may be called behind these acts: a part of an operation at any time, a page's write directly behind a gate that was
--- passed at point 2; nothing else. A force is none: that is the interface's own.
+-- passed at point 2, a checkpoint behind one at point 5; nothing else. A force is none: that is the interface's own.
 abbrev pub may_call : List Act → Call → Bool
 may_call acts (Write_page page) = passed_at 2 acts
+may_call acts Checkpoint = passed_at 5 acts
 may_call acts (Step txn number) = true
 may_call acts (Finish txn number) = true
 may_call acts c = starts_one c

@@ -1,6 +1,6 @@
--- What the loop of a log writer does, and that of a page writer.
+-- What the loop of a log writer does, that of a page writer, and the one that makes checkpoints.
 use Rattle.std.specs.Prelude.{◌≡◌, ℕ, ◌+◌, true, false, cond, nat_lt, List, [], ◌∷◌}
-use Rattle.rq_engine.specs.declared.event.Event.TheVariants.{Force, WritePage}
+use Rattle.rq_engine.specs.declared.event.Event.TheVariants.{Force, WritePage, Checkpoint}
 use Rattle.rq_workers.specs.declared.acts.Act.{Act}
 use Rattle.rq_workers.specs.declared.acts.Act.TheVariants.{Asked, Made, Forced}
 
@@ -37,3 +37,15 @@ AreWrites pages _ = ⊥
 abbrev pub IsPageWriting : ℕ → List Act → Type 0
 IsPageWriting pages (Asked point passed ∷ acts) = (point ≡ 2) × (passed ≡ false) × AreWrites pages acts
 IsPageWriting pages _ = ⊥
+
+-- rounds, each of a checkpoint behind point 5, where the gate let it through
+abbrev pub AreCheckpoints : List Act → Type 0
+AreCheckpoints [] = Unit {0}
+AreCheckpoints (Made s ∷ Asked point passed ∷ acts) = (s.value.event ≡ Checkpoint) × (point ≡ 5) × (passed ≡ true)
+    × AreCheckpoints acts
+AreCheckpoints _ = ⊥
+
+-- checkpoints are made in rounds, until the gate says no at point 5
+abbrev pub IsCheckpointing : List Act → Type 0
+IsCheckpointing (Asked point passed ∷ acts) = (point ≡ 5) × (passed ≡ false) × AreCheckpoints acts
+IsCheckpointing _ = ⊥

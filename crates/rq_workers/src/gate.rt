@@ -13,6 +13,9 @@ pub const BETWEEN_STEPS: u32 = 3;
 /// Before a call that was refused is tried again.
 pub const BEFORE_AGAIN: u32 = 4;
 
+/// Before a checkpoint.
+pub const BEFORE_CHECKPOINT: u32 = 5;
+
 /// What a worker asks at each point. A gate may wait, and hold the worker up for as long as it likes.
 pub trait Gate {
     /// Its answers so far, each with the point at which it was asked, the newest first.

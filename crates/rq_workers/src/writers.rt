@@ -1,9 +1,9 @@
-//! The loops of the log writer and of the page writer.
+//! The loops of the log writer and of the page writer, and the one that makes checkpoints.
 ghost use Rattle.std.specs.Prelude.{◌≡◌};
 ghost use Rattle.rq_workers.specs.Acts.{Did};
-ghost use Rattle.rq_workers.specs.Loops.{IsLogWriting, IsPageWriting, page_after};
+ghost use Rattle.rq_workers.specs.Loops.{IsLogWriting, IsPageWriting, IsCheckpointing, page_after};
 
-use crate::gate::{BEFORE_FORCE, BEFORE_WRITE, Gate};
+use crate::gate::{BEFORE_CHECKPOINT, BEFORE_FORCE, BEFORE_WRITE, Gate};
 use crate::steps::Steps;
 use crate::worker::Worker;
 use rq_engine::event::Event;
@@ -36,6 +36,20 @@ impl<G: Gate + Drop, S: Steps> Worker<G, S> {
             }
             self.calls(Event::WritePage(page));
             page = behind(page, pages);
+        }
+        unreachable!()
+    }
+
+    /// Makes a checkpoint whenever the gate lets it through, until the gate says no. One that is refused, as where a transaction
+    /// is open, is tried again in the next round.
+    pub fn make_checkpoints<R: Wait>(&mut self, rt: &R)
+        ensures { Did IsCheckpointing self.old self.new }
+    {
+        for _ in rt.forever() {
+            if !self.asks(BEFORE_CHECKPOINT) {
+                return;
+            }
+            self.calls(Event::Checkpoint);
         }
         unreachable!()
     }

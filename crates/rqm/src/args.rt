@@ -49,6 +49,8 @@ pub struct Serve {
     pub sessions: u64,
     /// Whether it ends with standard input.
     pub until_input_ends: bool,
+    /// From how many bytes on of its log a checkpoint is made; 0 for never.
+    pub checkpoint_after: u64,
 }
 
 /// Reads the words of the process. Words that are not accepted, one that is not UTF-8 among them, and those that ask for
@@ -109,6 +111,7 @@ fn server(alloc: Global, matches: &ArgMatches<'_>) -> Result<Option<Args>, Alloc
         workers: matches.get_one::<u32>("workers").unwrap_or(WORKERS),
         sessions: matches.get_one::<u64>("sessions").unwrap_or(0),
         until_input_ends: matches.get_flag("until-input-ends"),
+        checkpoint_after: matches.get_one::<u64>("checkpoint-after").unwrap_or(0),
     })))
 }
 
@@ -163,6 +166,7 @@ fn serve_command<'a>(alloc: Global) -> Result<Command<'a>, AllocError> {
         .arg(number(alloc, "workers", workers, 1, MOST_WORKERS))?
         .arg(sessions(alloc))?
         .arg(until_input_ends(alloc))?
+        .arg(checkpoint_after(alloc))?
         .arg(frames(alloc))
 }
 
@@ -209,6 +213,15 @@ fn until_input_ends<'a>(alloc: Global) -> Arg<'a> {
         .long("until-input-ends")
         .help("Ends once standard input, a pipe, is closed: open sessions are lost")
         .action(ArgAction::SetTrue)
+}
+
+fn checkpoint_after<'a>(alloc: Global) -> Arg<'a> {
+    Arg::new(alloc, "checkpoint-after")
+        .long("checkpoint-after")
+        .value_name("BYTES")
+        .help("From how many bytes on the log is made one record; 0 for never")
+        .action(ArgAction::Set)
+        .value_parser(clap::value_parser!(u64))
 }
 
 fn frames<'a>(alloc: Global) -> Arg<'a> {

@@ -9,7 +9,7 @@ mod serving;
 use args::Args;
 use checkpoint::run_checkpoint;
 use inspect::run_inspect;
-use rq_files::{Renames, run_format};
+use rq_files::{Measures, Renames, run_format};
 use rq_levels::sets_of_levels;
 use rq_page::layout::Layout;
 use rq_script::{run_script, sets_wanted};
@@ -61,6 +61,7 @@ fn run<
         + Files<File = File>
         + Net<Listener = TcpListener, Stream = TcpStream>
         + Renames
+        + Measures
         + Wait
         + Threads
         + Clock

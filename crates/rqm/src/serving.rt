@@ -6,11 +6,11 @@ ghost use Rattle.rqm.specs.Holding.{HoldStore};
 use crate::args::Serve;
 use rq_disk::{FileContents, FilePages, LogDevice, PageDevice, Unknown};
 use rq_engine::engine::Engine;
-use rq_files::{Fault, FolderLog, NotOpened, Renames, look_at_layout, open_folder};
+use rq_files::{Fault, FolderLog, Measures, NotOpened, Renames, look_at_layout, open_folder};
 use rq_levels::{StoreLevel, levels_of_store};
 use rq_model::refusal::Refusal;
 use rq_restart::restart::{Report, restart};
-use rq_server::{Plan, Stopped, serve};
+use rq_server::{LogLength, Plan, Stopped, serve};
 use rq_shared::shared::Shared;
 use rq_shared::sharing::Sharing;
 use std::alloc::Global;
@@ -26,6 +26,19 @@ use std::time::{Clock, Instant};
 /// A store in files that held `S` as they were opened.
 type Store<'a, S, R> = Engine<FilePages<S>, FolderLog<'a, S, R>, StoreLevel>;
 
+/// The log of the store in a folder, which tells how long it is.
+#[derive(Drop)]
+struct LogIn<'a, R: Measures> {
+    rt: &'a R,
+    folder: &'a str,
+}
+
+impl<R: Measures> LogLength for LogIn<'_, R> {
+    fn bytes(&self) -> Option<u64> {
+        self.rt.log_bytes(self.folder)
+    }
+}
+
 /// Opens the store of a folder and serves it, and prints where and how many sessions there were, or why not. Answers the exit
 /// status: 0, or 1 after a fault.
 ///
@@ -39,12 +52,14 @@ pub fn run_serve<
         + Files<File = File>
         + Net<Listener = TcpListener, Stream = TcpStream>
         + Renames
+        + Measures
         + Wait
         + Threads
         + Sync,
 >(rt: &R, asked: &Serve) -> io::Result<u8> {
+    let folder = asked.folder.as_str();
     match opened_and_bound(rt, asked, Unknown) {
-        Ok((engine, listener, plan)) => served(rt, engine, listener, plan),
+        Ok((engine, listener, plan)) => served(rt, engine, listener, &LogIn { rt, folder }, plan),
         Err(fault) => tell_fault(rt, fault),
     }
 }
@@ -87,6 +102,7 @@ fn listening<
         sessions: asked.sessions,
         ends_with_input: asked.until_input_ends,
         pages: look_at_layout(rt, asked.folder.as_str())?.pages(),
+        checkpoint_after: asked.checkpoint_after,
     };
     match bound(rt, asked.port) {
         Ok(listener) => Ok((listener, plan)),
@@ -177,13 +193,20 @@ fn served<
         + Clock
         + Net<Listener = TcpListener, Stream = TcpStream>
         + Renames
+        + Measures
         + Wait
         + Threads
         + Sync,
->(rt: &'a R, engine: Store<'a, S, R>, listener: TcpListener, plan: Plan) -> io::Result<u8>
+>(
+    rt: &'a R,
+    engine: Store<'a, S, R>,
+    listener: TcpListener,
+    log: &LogIn<'_, R>,
+    plan: Plan,
+) -> io::Result<u8>
     requires { WasSound ⟦<FilePages<S> as PageDevice>⟧ ⟦<FolderLog<'a, S, R> as LogDevice>⟧ (HoldStore S.pages S.bytes) engine }
 {
-    let served = shared_by_brand(rt, rt.alloc(), engine, listener, plan);
+    let served = shared_by_brand(rt, rt.alloc(), engine, listener, log, plan);
     print_served(rt, served)
 }
 
@@ -209,24 +232,26 @@ fn print_served<R: Print>(rt: &R, served: Result<u64, Stopped>) -> io::Result<u8
 fn shared_by_brand<
     'a,
     S: FileContents + Send,
-    R: Wait + Threads + Clock + Net + Print + Eprint + Renames + Sync,
+    R: Wait + Threads + Clock + Net + Print + Eprint + Renames + Measures + Sync,
 >(
     rt: &'a R,
     alloc: Global,
     engine: Store<'a, S, R>,
     listener: TcpListener,
+    log: &LogIn<'_, R>,
     plan: Plan,
 ) -> Result<u64, Stopped>
     requires { WasSound ⟦<FilePages<S> as PageDevice>⟧ ⟦<FolderLog<'a, S, R> as LogDevice>⟧ (HoldStore S.pages S.bytes) engine }
 {
     let taking = Blank::new(1024);
-    share::<FilePages<S>, FolderLog<'a, S, R>, Brand, R>(
+    share::<FilePages<S>, FolderLog<'a, S, R>, Brand, LogIn<'_, R>, R>(
         rt,
         alloc,
         engine,
         Blank::new(1024),
         taking,
         listener,
+        log,
         plan,
     )
 }
@@ -236,6 +261,7 @@ fn share<
     P: PageDevice + Drop + Send,
     L: LogDevice + Drop + Send,
     G: Sharing + Send + Sync,
+    K: LogLength + Sync,
     R: Wait + Threads + Clock + Net + Print + Eprint + Sync,
 >(
     rt: &R,
@@ -244,6 +270,7 @@ fn share<
     blank: Blank,
     taking: Blank,
     listener: TcpListener,
+    log: &K,
     plan: Plan,
 ) -> Result<u64, Stopped>
     requires name { (blank.name ≡ G.name) × (taking.name ≡ G.taking) }
@@ -252,5 +279,5 @@ fn share<
     requires begins { engine.state ≡ G.begins }
 {
     let shared = Shared::<P, L, StoreLevel, G>::new(alloc, engine, blank, taking);
-    serve(rt, alloc, listener, shared, plan)
+    serve(rt, alloc, listener, shared, log, plan)
 }
