@@ -156,8 +156,8 @@ int fdatasync(int file) { return fails("fdatasync", EIO) ? -1 : noted(NEXT(fdata
 
 int pthread_create(pthread_t *thread, const pthread_attr_t *with, void *(*run)(void *), void *given) {
     static atomic_int made;
-    const char *most = getenv("THREADS");
-    if (most && made++ >= atoi(most)) return EAGAIN;
+    const char *refused = getenv("THREAD");
+    if (refused && made++ == atoi(refused)) return EAGAIN;
     return NEXT(pthread_create)(thread, with, run, given);
 }
 """
@@ -686,8 +686,8 @@ def input_ends(program, _):
     """A server that is to end with its standard input goes on while somebody may write there. Then it ends cleanly: no session begins any
     more, those that are open are lost, and all is forced."""
     with store(program) as folder:
-        for workers in (1, 3):
-            words = ("--workers", workers, "--until-input-ends")
+        for workers, most in ((1, 2**40), (3, 1)):
+            words = ("--workers", workers, "--until-input-ends", "--checkpoint-after", most)
             with serving(program, folder, *words, stdin=subprocess.PIPE) as server:
                 server.process.stdin.write(b"x")
                 server.process.stdin.flush()
@@ -847,10 +847,10 @@ def missing_threads(program, _):
     with failing(SHIM) as (beside, words), store(program) as folder:
         words["FAILING"] = str(beside)
         for wanted, more in ((5, ()), (6, ("--checkpoint-after", 1))):
-            for threads in range(wanted):
-                refused = started(program, folder, "--workers", 3, *more, environment={**words, "THREADS": str(threads)})
-                assert refused == (b"fault 1 NoMemory\n", 1), (threads, refused)
-            with serving(program, folder, "--workers", 3, *more, environment={**words, "THREADS": str(wanted)}) as server:
+            for thread in range(wanted):
+                refused = started(program, folder, "--workers", 3, *more, environment={**words, "THREAD": str(thread)})
+                assert refused == (b"fault 1 NoMemory\n", 1), (thread, refused)
+            with serving(program, folder, "--workers", 3, *more, environment={**words, "THREAD": str(wanted)}) as server:
                 with server.connect() as connection:
                     assert everything(connection) == {}
         with serving(program, folder, "--workers", 64, files=200):
@@ -887,9 +887,10 @@ def short_logs(program, _):
                     seen.add(base_of(folder))
                 wait_until(lambda: log_size(folder) < max(most, 2 * BASE_SIZE))
                 time.sleep(0.5)
-                records = base_of(folder)
-                time.sleep(1)
+                records, taken = base_of(folder), processor_time(server)
+                time.sleep(2.5)
                 assert base_of(folder) == records, "a checkpoint of nothing"
+                assert processor_time(server) - taken < 0.3
             said = subprocess.run([program, "inspect", str(folder)], check=True, stdout=subprocess.PIPE).stdout
             assert said.startswith(b"%d base %d " % (records + 1, records)), said
         with serving(program, folder) as server, server.connect() as connection:
@@ -922,8 +923,10 @@ def quiet_checkpoints(program, _):
             with server.raw() as stream, server.connect() as other:
                 stream.sendall(BEGIN_AND_SEND)
                 read_bytes(stream, len(BEGUN) + 8 + len(SENT))
-                held = fill(other, folder)
+                held, taken = fill(other, folder), processor_time(server)
+                time.sleep(1)
                 assert not has_base(folder), name
+                assert processor_time(server) - taken < 0.3, name
                 end(stream)
                 wait_until(lambda: has_base(folder))
                 assert everything(other) == {**({0: [(7, b"hello")]} if name == "committed" else {}), 2: held}, name
@@ -952,8 +955,12 @@ def failing_checkpoint(program, _):
                 stream.sendall(BEGIN)
                 read_bytes(stream, len(BEGUN) + 8)
                 held = fill(connection, folder)
+                assert server.tells()[1:] == []
             wait_until(lambda: server.tells()[1:] == [STORE_FAILED])
             raises(Failed, connection.transaction)
+            taken = processor_time(server)
+            time.sleep(1)
+            assert processor_time(server) - taken < 0.3
         (folder / "log.new").rmdir()
         with serving(program, folder, "--checkpoint-after", 1) as server, server.connect() as connection:
             wait_until(lambda: has_base(folder))

@@ -17,8 +17,11 @@ const PARTS: u32 = 100;
 /// How many milliseconds lie between two parts of a round of page writes.
 const PART_MILLIS: u64 = 10;
 
-/// How many milliseconds lie between two tries of a checkpoint, where a transaction was open.
+/// How many milliseconds lie at least between two tries of a checkpoint.
 const AGAIN_MILLIS: u64 = 10;
+
+/// The bytes of a log that is long at least: one more than a Base takes.
+const LEAST_LONG: u64 = 22;
 
 /// Lets a session through.
 #[derive(Drop)]
@@ -157,8 +160,8 @@ impl<R: Wait> Gate for PagePace<'_, R> {
     }
 }
 
-/// Holds who makes checkpoints until the log is long, and between two tries. One that was refused is tried again once the log has
-/// another length: the end of a transaction is a record. It says no once the server ends.
+/// Holds who makes checkpoints until the log is long and something was forced since the last try: what ends a transaction is forced
+/// within a second or two. It says no once the server ends.
 #[derive(Drop)]
 pub(crate) struct CheckpointPace<'a, K: LogLength, R: Wait> {
     rt: &'a R,
@@ -166,52 +169,39 @@ pub(crate) struct CheckpointPace<'a, K: LogLength, R: Wait> {
     log: &'a K,
     // from how many bytes on the log is long
     long: u64,
-    // how long it was before the last try; None where it was short since
-    tried: Option<u64>,
+    // how many forces were made before the last try; None before the first
+    seen: Option<u64>,
     answers: Snapshot<GhostList<(u32, bool)>>,
 }
 
 impl<'a, K: LogLength, R: Wait> CheckpointPace<'a, K, R> {
-    /// For a log that is long from so many bytes on.
+    /// For a log that is long from so many bytes on, and from one more than that of a Base alone.
     pub(crate) fn new(rt: &'a R, notices: &'a Notices, log: &'a K, long: u64) -> Self {
         CheckpointPace {
             rt,
             notices,
             log,
-            long,
-            tried: None,
+            long: std::cmp::max(long, LEAST_LONG),
+            seen: None,
             answers: GhostList::empty(),
         }
     }
 
-    // Until the log is long, and has another length than at the last try: that length, or None where the server ends.
-    fn rest(&self) -> Option<u64> {
-        let mut tried = self.tried;
+    // Until the log is long and something was forced since the last try, or the server ends: how many forces were made then.
+    fn rest(&self) -> u64 {
         for _ in self.rt.forever() {
-            if self.notices.has_ended() {
-                return None;
+            let forces = self.notices.forces();
+            if self.notices.has_ended() || (self.seen != Some(forces) && self.is_long()) {
+                return forces;
             }
-            let bytes = self.long_bytes();
-            if bytes.is_some() && bytes != tried {
-                return bytes;
-            }
-            tried = bytes;
-            let millis = if bytes.is_some() {
-                AGAIN_MILLIS
-            } else {
-                ROUND_MILLIS
-            };
-            self.notices.pause(self.rt, millis);
+            self.notices.pause(self.rt, ROUND_MILLIS);
         }
         unreachable!()
     }
 
-    // The length of the log, where it is long.
-    fn long_bytes(&self) -> Option<u64> {
-        match self.log.bytes() {
-            Some(bytes) if bytes >= self.long => Some(bytes),
-            _ => None,
-        }
+    // False where the length cannot be told.
+    fn is_long(&self) -> bool {
+        matches!(self.log.bytes(), Some(bytes) if bytes >= self.long)
     }
 }
 
@@ -220,7 +210,7 @@ impl<K: LogLength, R: Wait> Gate for CheckpointPace<'_, K, R> {
 
     fn pass(&mut self, point: u32) -> bool {
         self.notices.pause(self.rt, AGAIN_MILLIS);
-        self.tried = self.rest();
+        self.seen = Some(self.rest());
         let passed = !self.notices.has_ended();
         GhostList::push(&mut self.answers, &(point, passed));
         passed

@@ -427,7 +427,7 @@ fn write_pages<
     worker.write_pages(rt, pages);
 }
 
-// Makes checkpoints whenever the log is long, until the server ends.
+// Makes checkpoints whenever the log is long, once all workers are ready and until the server ends.
 fn make_checkpoints<
     'a,
     P: PageDevice + Drop,
@@ -438,6 +438,9 @@ fn make_checkpoints<
     R: Wait + Eprint,
 >(rt: &'a R, lock: &'a EngineLock<P, L, B, G>, log: &'a K, caller: Caller<'a, G>) {
     let common = caller.common;
+    if !common.notices.opens(rt) {
+        return;
+    }
     let gate = CheckpointPace::new(rt, &common.notices, log, common.plan.checkpoint_after);
     let mut worker = Worker::new(gate, steps_of(rt, lock, caller));
     worker.make_checkpoints(rt);
