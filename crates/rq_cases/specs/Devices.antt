@@ -1,4 +1,4 @@
--- What was read of a device, what a format has written, and what bytes tell.
+-- What a format has written, and what bytes tell.
 use Rattle.std.specs.Prelude.{◌≡◌, ◌≢◌, ℕ, ◌<◌, ◌≤◌, List, [], ◌∷◌, length}
 use Rattle.rq_model.specs.declared.record.Record.{Record}
 use Rattle.rq_model.specs.declared.record.Record.TheVariants.{Base}

@@ -14,7 +14,7 @@ use rq_model::laws::{
 };
 use rq_restart::laws::{one_log, one_size};
 
-/// What was read of a device, what a format has written, and what bytes tell.
+/// What a format has written, and what bytes tell.
 pub fn devices_are_judged()
     ensures { DevicesAreJudged }
 {

@@ -1,6 +1,6 @@
 -- What a session was told asks for what it does.
 use Rattle.std.proofs.Common.{◌≡◌, ℕ, Bool, true, false, refl, sym, ap, ◌∙◌, subst, inl, inr}
-use Rattle.std.proofs.lemmas.Bool.{false≢true, true≢false}
+use Rattle.std.proofs.lemmas.Bool.{false_from_ne_true, false≢true, true≢false}
 use Rattle.std.specs.Prelude.{Option, Some, None, if◌then◌else◌}
 use Rattle.rq_model.specs.declared.txn.Txn.{Txn}
 use Rattle.rq_model.specs.declared.txn.Sub.{Sub}
@@ -28,6 +28,7 @@ use Rattle.rq_session.specs.Rules.{after_await, after_reply, is_commit, is_commi
 use Rattle.rq_session.specs.Laws.{IsAborting, IsReceipt, MayAgain, fits}
 use Rattle.rq_session.specs.Tells.{AbortIsOver, AsksFor, EachAnswer, EachAsk, EachEnd, EachStage, EachWait, IsDone, IsEndAbort, IsNoReceipt, IsRefusal, IsStarted, IsUndoStarted, MayEnd, Tells, WaitsFor}
 use Rattle.rq_session.proofs.Telling.{TellsAnswer, TellsAsk, TellsEnd, TellsWait, says}
+use Rattle.rq_session.proofs.Commits.{commit_is, commit_self}
 use Rattle.rq_session.proofs.EachTurn.{none_under_way}
 
 chosen : (b : Bool) (x y : Next) → b ≡ true → (if b then x else y) ≡ x
@@ -69,7 +70,7 @@ refusal_due (stages.EndAbort txn) refusal is = refl
 receipt_due : (s : Stage) (what : Reply) (lsn : ℕ) → IsReceipt s what lsn
     → (after_reply false s what).action ≡ Answers (answers.Committed lsn)
 receipt_due (stages.Await commit) (replies.Acknowledged (Some receipt)) lsn is =
-    ap (λ (n : Next). n.action) (chosen (is_commit receipt.number commit) _ _ is.0)
+    ap (λ (n : Next). n.action) (chosen (is_commit receipt.number commit) _ _ (ap (λ (n : CommitNo). is_commit n commit) is.0 ∙ commit_self commit))
     ∙ ap (λ (l : ℕ). Answers (answers.Committed l)) (sym is.1)
 receipt_due _ _ lsn is = absurd is
 
@@ -134,7 +135,7 @@ told_due lost h commit e =
 no_receipt_due : (commit : CommitNo) (what : Reply) → IsNoReceipt commit what
     → (after_await commit what).action ≡ Await commit
 no_receipt_due commit (replies.Acknowledged None) is = refl
-no_receipt_due commit (replies.Acknowledged (Some receipt)) is = ap (λ (n : Next). n.action) (not_chosen (is_commit receipt.number commit) _ _ is)
+no_receipt_due commit (replies.Acknowledged (Some receipt)) is = ap (λ (n : Next). n.action) (not_chosen (is_commit receipt.number commit) _ _ (false_from_ne_true (is_commit receipt.number commit) (λ y. is (commit_is receipt.number commit y))))
 no_receipt_due commit (replies.Refused Failed) is = absurd is
 no_receipt_due commit (replies.Refused refusal) is = refl
 no_receipt_due commit _ is = absurd is

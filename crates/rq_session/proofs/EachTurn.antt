@@ -32,6 +32,7 @@ use Rattle.rq_session.specs.Stages.{txn_held, own, held_in, is_undoing, IsStageO
 use Rattle.rq_session.specs.Rules as rules
 use Rattle.rq_model.proofs.Lists.{same_is}
 use Rattle.rq_session.specs.Rules.{next, answered, ended, is_commit, is_commit_of}
+use Rattle.rq_session.proofs.Commits.{commit_is}
 use Rattle.rq_session.specs.Laws.{NotTaken, IsFirst, IsOwn, AwaitsOwn, abort_call, is_abort, loss_call, awaited, Turn, Takes, Lost, CommitFits, MayAgain, MayAgainAfter, IsAgain, IsAborting, asked_last, owed, given}
 
 pub none_under_way : {P : Type 0} → ◌≡◌ {A = ℕ} 0 1 → P
@@ -225,7 +226,7 @@ receipts : (commit : CommitNo) (receipt : Receipt) (same : Bool) → is_commit r
     → Turn (stages.Await commit) (replies.Acknowledged (Some receipt)) (cond same (answered (answers.Committed commit.lsn) Free) (next
     (Await commit) (stages.Await commit)))
 receipts commit receipt true e = gives (stages.Await commit) (replies.Acknowledged (Some receipt)) (answers.Committed commit.lsn) Free
-    refl refl (e, refl)
+    refl refl (commit_is receipt.number commit e, refl)
 receipts commit receipt false e = waits commit (replies.Acknowledged (Some receipt))
 
 awaits : (commit : CommitNo) (what : Reply) → Turn (stages.Await commit) what (rules.after_await commit what)

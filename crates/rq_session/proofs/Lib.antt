@@ -1,3 +1,4 @@
+pub mod Commits
 pub mod EachTurn
 pub mod Balances
 pub mod Telling

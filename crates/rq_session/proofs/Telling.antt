@@ -28,6 +28,7 @@ use Rattle.rq_session.specs.declared.stage.Next.{Next}
 use Rattle.rq_session.specs.Stages.{txn_held, held_in, is_undoing, IsStageOf}
 use Rattle.rq_session.specs.Rules as rules
 use Rattle.rq_session.specs.Rules.{next, answered, ended, is_commit, is_commit_of}
+use Rattle.rq_session.proofs.Commits.{commit_is, commit_not}
 use Rattle.rq_session.specs.Laws.{IsAborting, MayAgain}
 use Rattle.rq_session.specs.Tells.{Tells, AsksFor, WaitsFor, MayEnd, Follows, IsRefusal, held_after, numbered}
 use Rattle.rq_session.proofs.EachTurn.{names_its, none_under_way}
@@ -243,9 +244,9 @@ receipts : (lost : Bool) (commit : CommitNo) (receipt : Receipt) (same : Bool) â
     (cond same (answered (answers.Committed commit.lsn) Free) (next
     (Await commit) (stages.Await commit)))
 receipts lost commit receipt true e =
-    gives lost (stages.Await commit) (replies.Acknowledged (Some receipt)) (answers.Committed commit.lsn) Free refl (e, refl)
+    gives lost (stages.Await commit) (replies.Acknowledged (Some receipt)) (answers.Committed commit.lsn) Free refl (commit_is receipt.number commit e, refl)
 receipts lost commit receipt false e =
-    waits lost (stages.Await commit) (replies.Acknowledged (Some receipt)) commit refl refl (inr (refl, e))
+    waits lost (stages.Await commit) (replies.Acknowledged (Some receipt)) commit refl refl (inr (refl, commit_not receipt.number commit e))
 
 awaits : (lost : Bool) (commit : CommitNo) (what : Reply)
     â†’ Says lost (stages.Await commit) what (rules.after_await commit what)

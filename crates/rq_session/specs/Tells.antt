@@ -1,5 +1,5 @@
 -- What a session does at a reply: each thing that it may do, with what it was told exactly where it does so.
-use Rattle.std.specs.Prelude.{◌≡◌, ◌⊎◌, ◌↔◌, ℕ, Bool, true, false, Option, Some, None}
+use Rattle.std.specs.Prelude.{◌≡◌, ◌≢◌, ◌⊎◌, ◌↔◌, ℕ, Bool, true, false, Option, Some, None}
 use Rattle.rq_model.specs.declared.txn.Txn.{Txn}
 use Rattle.rq_model.specs.declared.txn.Sub.{Sub}
 use Rattle.rq_model.specs.declared.refusal.Refusal.{Refusal}
@@ -23,7 +23,7 @@ use Rattle.rq_session.specs.declared.stage.Stage.{Stage}
 use Rattle.rq_session.specs.declared.stage.Stage.TheVariants as stages
 use Rattle.rq_session.specs.declared.stage.Next.{Next}
 use Rattle.rq_session.specs.Stages.{txn_held, own, held_in, is_undoing, IsStageAt}
-use Rattle.rq_session.specs.Rules.{First, ended, after_loss, after_request, after_reply, is_commit}
+use Rattle.rq_session.specs.Rules.{First, ended, after_loss, after_request, after_reply}
 use Rattle.rq_wire.specs.declared.request.Request.{Request}
 use Rattle.rq_session.specs.Laws.{AgainFits, IsAborting, IsReceipt, Lost, MayAgain, Takes, fits, given, owed}
 
@@ -131,7 +131,7 @@ EachAsk = (lost : Bool) (s : Stage) (what : Reply) → AsksAsTold s what (after_
 -- neither the commit's receipt nor the store's failure
 abbrev pub IsNoReceipt : CommitNo → Reply → Type 0
 IsNoReceipt commit (replies.Acknowledged None) = Unit {0}
-IsNoReceipt commit (replies.Acknowledged (Some receipt)) = is_commit receipt.number commit ≡ false
+IsNoReceipt commit (replies.Acknowledged (Some receipt)) = receipt.number ≢ commit
 IsNoReceipt commit (replies.Refused Failed) = ⊥
 IsNoReceipt commit (replies.Refused _) = Unit {0}
 IsNoReceipt commit _ = ⊥

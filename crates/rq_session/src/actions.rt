@@ -9,7 +9,7 @@ pub enum Action {
     Do(Event),
     /// Make this call again, after others had a chance to go on.
     Again(Event),
-    /// Wait until there is a receipt of this commit or the store has failed, and tell the session which.
+    /// Ask for the receipt of this commit (`Event::Acknowledged`), and tell the session each reply, until it asks for something else.
     Await(CommitNo),
     /// Write this answer: it is the one to the request under way.
     Answer(Answer),
