@@ -5,8 +5,8 @@ The opening of a store whose log had 64 MB of committed work until a checkpoint 
 just formatted and holds the same, which is no message: by turns, each of a copy, since an opening adds a record. The aim is that it
 takes at most 1.1 times as long, in the middle of the runs.
 
-A checkpoint of a store of 65,536 cell pages, each of which has changes to be written, against `dd` with a sync of as many bytes over
-a file that is there. The aim is at least half of its speed.
+A checkpoint of a store of 65,536 cell pages, each of which has a change to be written, against `dd` with a sync of as many bytes over
+a file that is there. It also drops the log of those changes, 113 MB. The aim is at least half of its speed.
 
     python3 bench/checkpoint.py [--program PROGRAM] [--folder FOLDER] [--runs 31] [--cells 65536]
 """
@@ -57,7 +57,7 @@ def time_openings(program, top, runs):
     behind, fresh = os.path.join(top, "behind"), os.path.join(top, "fresh")
     made(program, behind, 4, 64, MESSAGES)
     history = os.path.getsize(os.path.join(behind, "log"))
-    ran([program, "checkpoint", behind, "0"], "checkpoint ")
+    ran([program, "checkpoint", behind, "0", "0"], "checkpoint ")
     made(program, fresh, 4, 64, 0)
     seconds = {folder: [] for folder in (behind, fresh)}
     for _ in range(runs):
@@ -81,7 +81,9 @@ def time_checkpoint(program, top, cells):
     """Prints how fast a checkpoint writes all pages of a store, and `dd` beside it."""
     store = os.path.join(top, "changed")
     made(program, store, 1, cells, 0)
-    _, told = ran([program, "checkpoint", store, str(cells * SLOTS)], "checkpoint ")
+    ran([program, "checkpoint", store, str(cells * SLOTS), "0"], "checkpoint ")
+    # each page has a message of the first sender
+    _, told = ran([program, "checkpoint", store, "0", str(cells)], "checkpoint ")
     seconds = int(re.fullmatch(r"(\d+) microseconds\n", told).group(1)) / 1e6
     size = (cells + 1) * PAGE
     pages = os.path.join(store, "pages")

@@ -11,6 +11,7 @@ import argparse
 import itertools
 import os
 import pathlib
+import re
 import resource
 import signal
 import socket
@@ -150,7 +151,7 @@ static void is_new(int file) {
     NEXT(unlink)(path);
 }
 
-/* A write that fails was made, or a part of it. */
+/* A write that fails was made, or a part of it. A read takes MICROS microseconds more, where that is set. */
 #define WRITE(name, offset) ssize_t name(int file, const void *bytes, size_t size, offset at) { \\
     int is_failed = fails(); \\
     if (!is_failed) told("write", file, NULL); \\
@@ -159,6 +160,7 @@ static void is_new(int file) {
 }
 #define READ(name, offset) ssize_t name(int file, void *bytes, size_t size, offset at) { \\
     if (fails()) return failed(); \\
+    if (getenv("MICROS")) usleep(atoi(getenv("MICROS"))); \\
     told("read", file, NULL); \\
     return NEXT(name)(file, bytes, size, at); \\
 }
@@ -851,10 +853,41 @@ def is_failed(server):
     return False
 
 
+def slow_openings(program):
+    """An opening that takes more than a second tells on standard error how far it is, about once a second. Another one doesn't."""
+    with folder_of() as folder, failing(SHIM) as (_, words):
+        assert format_store(program, folder, 1, 1300)[1] == 0
+        pages, log = ((folder / name).stat().st_size for name in ("pages", "log"))
+        for subcommand in (["serve", "--port", "0"], ["checkpoint"]):
+            for micros in (2000, 0):
+                began = time.monotonic()
+                lines = told_opening(program, folder, *subcommand, environment={**words, "MICROS": str(micros)})
+                seconds = time.monotonic() - began
+                if not micros:
+                    assert lines == [], (subcommand, lines)
+                    continue
+                read, whole = zip(*(map(int, re.fullmatch(rb"opening: ([0-9]+) of ([0-9]+) MB read", line).groups()) for line in lines))
+                assert {*whole} == {-(-(pages + log) // 10**6)}, (subcommand, lines)
+                assert 2 <= len(read) <= seconds and [*read] == sorted({*read}) and read[-1] <= whole[0], (subcommand, lines)
+
+
+def told_opening(program, folder, subcommand, *words, environment):
+    """What stands on standard error but what the start found, once a store was opened. On standard output nothing is told of it."""
+    with tempfile.TemporaryFile() as told:
+        command = [program, subcommand, str(folder), *words]
+        process = subprocess.Popen(command, stdout=subprocess.PIPE, stderr=told, env={**os.environ, **environment})
+        line = first_line(process)
+        process.kill() if subcommand == "serve" else process.wait(LONGEST)
+        process.communicate()
+        assert line.startswith(b"listening " if subcommand == "serve" else b"restarted "), line
+        told.seek(0)
+        return [line for line in told.read().splitlines() if not line.startswith(b"opened in ")]
+
+
 TESTS = [
     made, there, no_folder, open_once, messages, log_of_all, formats, courses, torn_ends, last_force,
     replaced, left_behind, not_replaced, no_room, replaced_while_open, checkpointed, not_checkpointed, odd_fresh_names, power_is_cut,
-    power_is_cut_in_a_format,
+    power_is_cut_in_a_format, slow_openings,
 ]  # fmt: skip
 
 # What looks at the bytes of each file.

@@ -846,13 +846,14 @@ def missing_threads(program, _):
     """Where a thread does not start, all end, nobody is served, and the store is free for the next server."""
     with failing(SHIM) as (beside, words), store(program) as folder:
         words["FAILING"] = str(beside)
-        for wanted, more in ((5, ()), (6, ("--checkpoint-after", 1))):
-            for thread in range(wanted):
+        for wanted, more in ((6, ()), (7, ("--checkpoint-after", 1))):
+            for thread in range(1, wanted):
                 refused = started(program, folder, "--workers", 3, *more, environment={**words, "THREAD": str(thread)})
                 assert refused == (b"fault 1 NoMemory\n", 1), (thread, refused)
-            with serving(program, folder, "--workers", 3, *more, environment={**words, "THREAD": str(wanted)}) as server:
-                with server.connect() as connection:
-                    assert everything(connection) == {}
+            for thread in (0, wanted):  # the first one only tells how far an opening is
+                with serving(program, folder, "--workers", 3, *more, environment={**words, "THREAD": str(thread)}) as server:
+                    with server.connect() as connection:
+                        assert everything(connection) == {}
         with serving(program, folder, "--workers", 64, files=200):
             pass
         try:

@@ -9,7 +9,7 @@
 //! | `beside KIND DIRECTORY CELLS OTHER OPEN MESSAGES TRANSACTIONS` | goes through transactions beside others that stay open |
 //! | `make FOLDER DIRECTORY CELLS MESSAGES` | makes a store in a folder |
 //! | `open FOLDER` | opens it, or says why not |
-//! | `checkpoint FOLDER MESSAGES` | opens it, sends messages, and makes its log one record |
+//! | `checkpoint FOLDER SENT RECEIVED` | opens it, sends messages, receives some of the first sender, and makes its log one record |
 //! | `calls THREADS BATCHES` | makes calls by one thread or by four |
 #![tactic(auto)]
 

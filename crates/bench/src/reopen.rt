@@ -80,19 +80,23 @@ pub fn open<R: Print + AllocGlobal + Files<File = File>>(
     }
 }
 
-/// Opens the store, sends so many messages, which stay there, and makes its log one record. Prints the LSN of that, and to standard
-/// error how many microseconds it took alone.
+/// Opens the store, sends so many messages by the first senders in turn, receives so many of the first, and makes its log one record.
+/// Prints the LSN of that, and to standard error how many microseconds it took alone.
 pub fn checkpoint<R: Print + Eprint + AllocGlobal + Clock + Files<File = File>>(
     rt: &R,
     words: &[String],
 ) -> io::Result<()> {
-    let (Some(folder), Some(messages)) = (words.get(1), number(words, 2)) else {
+    let (Some(folder), Some(sent), Some(received)) = (
+        words.get(1),
+        number(words, 2),
+        number(words, 3),
+    ) else {
         return Err(io::ErrorKind::InvalidInput.into());
     };
     let Ok((mut engine, _)) = opened(rt, folder.as_str()) else {
         return Err(io::ErrorKind::InvalidData.into());
     };
-    if send_all(&mut engine, messages).is_none() {
+    if changed(&mut engine, sent, received).is_none() {
         return Err(io::ErrorKind::Other.into());
     }
     let began = Instant::now(rt)?;
@@ -109,15 +113,31 @@ fn made_one<'a, R: AllocGlobal + Files<File = File>>(engine: &mut Store<'a, R>) 
     }
 }
 
-// Sends so many messages, each by a transaction of its own, by the first senders in turn, and forces them.
-fn send_all<Q: Queue>(queue: &mut Q, messages: u32) -> Option<()> {
-    for n in 0..messages {
+// Sends and receives so many messages, each by a transaction of its own, and forces them.
+fn changed<Q: Queue>(queue: &mut Q, sent: u32, received: u32) -> Option<()> {
+    for n in 0..sent {
         send_one(queue, n % SENDERS)?;
-        if n % MESSAGES_A_FORCE == MESSAGES_A_FORCE - 1 {
-            queue.force()?;
-        }
+        force_at(queue, n)?;
+    }
+    for n in 0..received {
+        receive_first(queue)?;
+        force_at(queue, n)?;
     }
     queue.force()
+}
+
+fn receive_first<Q: Queue>(queue: &mut Q) -> Option<()> {
+    let txn = queue.begin()?;
+    queue.receive_from(txn, 0)?;
+    queue.commit(txn)
+}
+
+// Forces what so many messages came to, behind the last of each run of them.
+fn force_at<Q: Queue>(queue: &mut Q, n: u32) -> Option<()> {
+    if n % MESSAGES_A_FORCE == MESSAGES_A_FORCE - 1 {
+        queue.force()?;
+    }
+    Some(())
 }
 
 fn print_fault<W: Write>(writer: &mut W, fault: Fault) -> io::Result<()> {
@@ -161,9 +181,7 @@ fn exchange<Q: Queue>(queue: &mut Q, senders: u32, messages: u32) -> Option<()> 
     for n in 0..messages {
         send_one(queue, n.checked_rem(senders)?)?;
         receive_one(queue)?;
-        if n % MESSAGES_A_FORCE == MESSAGES_A_FORCE - 1 {
-            queue.force()?;
-        }
+        force_at(queue, n)?;
     }
     queue.force()
 }

@@ -209,11 +209,7 @@ impl<P: PageDevice, L: LogDevice, B: Level> Engine<P, L, B> {
 
     // The plan of a receive from the sender's group, where it holds a message for the transaction and needs no page that
     // others have latched.
-    fn plan_waiting(
-        &mut self,
-        txn: Txn,
-        sender: u32,
-    ) -> Result<Option<(u32, Planned)>, Refusal>
+    fn plan_waiting(&mut self, txn: Txn, sender: u32) -> Result<Option<(u32, Planned)>, Refusal>
         ensures same { self.new ≡ self.old }
         ensures planned { IsTakePlanned self.old.state txn (λ g. g ≡ sender) result }
         ensures sender { IfOk result (λ found. IfSome found (λ planned. planned.0 ≡ sender)) }

@@ -4,6 +4,7 @@
 mod args;
 mod checkpoint;
 mod inspect;
+mod progress;
 mod serving;
 
 use args::Args;

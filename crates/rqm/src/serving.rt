@@ -4,6 +4,7 @@ ghost use Rattle.rq_shared.specs.Entries.{WasSound};
 ghost use Rattle.rqm.specs.Holding.{HoldStore};
 
 use crate::args::Serve;
+use crate::progress::{Opening, while_told};
 use rq_disk::{FileContents, FilePages, LogDevice, PageDevice, Unknown};
 use rq_engine::engine::Engine;
 use rq_files::{Fault, FolderLog, Measures, NotOpened, Renames, look_at_layout, open_folder};
@@ -57,8 +58,28 @@ pub fn run_serve<
         + Threads
         + Sync,
 >(rt: &R, asked: &Serve) -> io::Result<u8> {
+    let opening = Opening::new();
+    let opening = &opening;
+    while_told(rt, asked.folder.as_str(), opening, move || {
+        open_and_serve(rt, asked, opening)
+    })
+}
+
+fn open_and_serve<
+    R: AllocGlobal
+        + Print
+        + Eprint
+        + Clock
+        + Files<File = File>
+        + Net<Listener = TcpListener, Stream = TcpStream>
+        + Renames
+        + Measures
+        + Wait
+        + Threads
+        + Sync,
+>(rt: &R, asked: &Serve, opening: &Opening) -> io::Result<u8> {
     let folder = asked.folder.as_str();
-    match opened_and_bound(rt, asked, Unknown) {
+    match opened_and_bound(rt, asked, Unknown, opening) {
         Ok((engine, listener, plan)) => served(rt, engine, listener, &LogIn { rt, folder }, plan),
         Err(fault) => tell_fault(rt, fault),
     }
@@ -80,12 +101,18 @@ fn opened_and_bound<
         + Files<File = File>
         + Net<Listener = TcpListener, Stream = TcpStream>
         + Renames,
->(rt: &'a R, asked: &Serve, held: S) -> Result<(Store<'a, S, R>, TcpListener, Plan), Fault>
+>(
+    rt: &'a R,
+    asked: &Serve,
+    held: S,
+    opening: &Opening,
+) -> Result<(Store<'a, S, R>, TcpListener, Plan), Fault>
     ensures { IfOk result (λ o. WasSound ⟦<FilePages<S> as PageDevice>⟧ ⟦<FolderLog<'a, S, R> as LogDevice>⟧
         (HoldStore S.pages S.bytes) o.0) }
 {
     let began = Instant::now(rt);
     let (engine, report) = opened(rt, asked.folder.as_str(), held)?;
+    opening.end();
     tell_opened(rt, &report, millis_since(rt, began));
     match listening(rt, asked) {
         Ok((listener, plan)) => Ok((engine, listener, plan)),
