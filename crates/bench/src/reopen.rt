@@ -6,7 +6,6 @@ use rq_engine::engine::Engine;
 use rq_files::{Fault, FolderLog, format_folder, open_folder};
 use rq_levels::{StoreLevel, levels_of_store};
 use rq_model::refusal::{Damage, Refusal};
-use rq_model::txn::Lsn;
 use rq_page::layout::Layout;
 use rq_restart::restart::{Report, restart};
 use std::fs::File;
@@ -93,24 +92,29 @@ pub fn checkpoint<R: Print + Eprint + AllocGlobal + Clock + Files<File = File>>(
     ) else {
         return Err(io::ErrorKind::InvalidInput.into());
     };
-    let Ok((mut engine, _)) = opened(rt, folder.as_str()) else {
-        return Err(io::ErrorKind::InvalidData.into());
-    };
-    if changed(&mut engine, sent, received).is_none() {
+    match opened(rt, folder.as_str()) {
+        Ok((mut engine, _)) => timed(rt, &mut engine, sent, received),
+        Err(_) => Err(io::ErrorKind::InvalidData.into()),
+    }
+}
+
+// The same of a store that is open. It is lent here, since what owns one over many exits takes minutes to prove.
+fn timed<Q: Queue, R: Print + Eprint + Clock>(
+    rt: &R,
+    queue: &mut Q,
+    sent: u32,
+    received: u32,
+) -> io::Result<()> {
+    if changed(queue, sent, received).is_none() {
         return Err(io::ErrorKind::Other.into());
     }
     let began = Instant::now(rt)?;
-    let lsn = made_one(&mut engine)?;
+    let Some(lsn) = queue.checkpoint() else {
+        return Err(io::ErrorKind::Other.into());
+    };
     let passed = began.elapsed(rt)?;
     eprintln!(rt; "{} microseconds", passed.as_micros())?;
     println!(rt; "checkpoint {lsn}")
-}
-
-fn made_one<'a, R: AllocGlobal + Files<File = File>>(engine: &mut Store<'a, R>) -> io::Result<Lsn> {
-    match engine.checkpoint() {
-        Ok(lsn) => Ok(lsn),
-        Err(_) => Err(io::ErrorKind::Other.into()),
-    }
 }
 
 // Sends and receives so many messages, each by a transaction of its own, and forces them.

@@ -3,7 +3,7 @@ use rq_disk::{LogDevice, PageDevice};
 use rq_engine::engine::Engine;
 use rq_engine::event::Progress;
 use rq_levels::StoreLevel;
-use rq_model::txn::{Sub, Txn};
+use rq_model::txn::{Lsn, Sub, Txn};
 
 /// More than the steps that an operation has.
 const STEPS: u32 = 8;
@@ -30,6 +30,9 @@ pub trait Queue {
 
     /// Forces the log.
     fn force(&mut self) -> Option<()>;
+
+    /// Makes the log one record.
+    fn checkpoint(&mut self) -> Option<Lsn>;
 }
 
 impl<P: PageDevice, L: LogDevice> Queue for Engine<P, L, StoreLevel> {
@@ -67,6 +70,10 @@ impl<P: PageDevice, L: LogDevice> Queue for Engine<P, L, StoreLevel> {
     fn force(&mut self) -> Option<()> {
         self.force().ok()?;
         Some(())
+    }
+
+    fn checkpoint(&mut self) -> Option<Lsn> {
+        self.checkpoint().ok()
     }
 }
 
