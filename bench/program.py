@@ -3,6 +3,7 @@ import argparse
 import os
 import pathlib
 import subprocess
+import sys
 
 TOP = pathlib.Path(__file__).resolve().parent.parent
 CRATE = TOP / "crates" / "bench"
@@ -14,7 +15,10 @@ def built(path=None):
     if path:
         return os.path.abspath(path)
     if not PROGRAM.exists():
-        subprocess.run(["rt", "run"], cwd=CRATE, check=True, stdout=subprocess.DEVNULL)
+        # Without words the program tells how to use it and fails: what counts is that it was built.
+        subprocess.run(["rt", "run"], cwd=CRATE, check=False, stdout=subprocess.DEVNULL)
+    if not PROGRAM.exists():
+        sys.exit(f"{PROGRAM}: not built")
     return str(PROGRAM)
 
 

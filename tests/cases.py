@@ -17,7 +17,10 @@ def built(path, crate):
         return os.path.abspath(path)
     program = TOP / "crates" / crate / "out" / crate
     if not program.exists():
-        subprocess.run(["rt", "run"], cwd=TOP / "crates" / crate, check=True, stdout=subprocess.DEVNULL)
+        # Without words a program tells how to use it and fails: what counts is that it was built.
+        subprocess.run(["rt", "run"], cwd=TOP / "crates" / crate, check=False, stdout=subprocess.DEVNULL)
+    if not program.exists():
+        sys.exit(f"{program}: not built")
     return str(program)
 
 
