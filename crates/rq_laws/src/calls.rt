@@ -129,8 +129,8 @@ pub fn force<P: PageDevice, L: LogDevice, B: Level>(
 
 /// A checkpoint answers the same LSN and leaves the same state; both logs read as the same bytes, and a crash leaves the same of both
 /// devices. Where one is refused, so is the other, but for a device that failed, and never for memory. Refused for the same they leave
-/// the same state; unless a device failed, the same store. Excludes another LSN, one that only forces or leaves a page unwritten, one
-/// made while a transaction is open or refused where none is, and a store that runs on behind a failure.
+/// the same state; unless a device failed, the same store. Excludes a contract that leaves open the LSN, what is forced or written, when
+/// a checkpoint is refused, or whether the store runs on behind a failure.
 pub fn checkpoint<P: PageDevice, L: LogDevice, B: Level>(
     first: &mut Engine<P, L, B>,
     second: &mut Engine<P, L, B>,

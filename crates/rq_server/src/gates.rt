@@ -20,7 +20,7 @@ const PART_MILLIS: u64 = 10;
 /// How many milliseconds lie at least between two tries of a checkpoint.
 const AGAIN_MILLIS: u64 = 10;
 
-/// The bytes of a log that is long at least: one more than a Base takes.
+/// The least length, in bytes, of a log that is long: one more than a Base takes.
 const LEAST_LONG: u64 = 22;
 
 /// Lets a session through.

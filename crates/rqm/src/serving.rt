@@ -60,29 +60,22 @@ pub fn run_serve<
 >(rt: &R, asked: &Serve) -> io::Result<u8> {
     let opening = Opening::new();
     let opening = &opening;
-    while_told(rt, asked.folder.as_str(), opening, move || {
-        open_and_serve(rt, asked, opening)
-    })
-}
-
-fn open_and_serve<
-    R: AllocGlobal
-        + Print
-        + Eprint
-        + Clock
-        + Files<File = File>
-        + Net<Listener = TcpListener, Stream = TcpStream>
-        + Renames
-        + Measures
-        + Wait
-        + Threads
-        + Sync,
->(rt: &R, asked: &Serve, opening: &Opening) -> io::Result<u8> {
     let folder = asked.folder.as_str();
-    match opened_and_bound(rt, asked, Unknown, opening) {
-        Ok((engine, listener, plan)) => served(rt, engine, listener, &LogIn { rt, folder }, plan),
-        Err(fault) => tell_fault(rt, fault),
-    }
+    while_told(
+        rt,
+        folder,
+        opening,
+        move || match opened_and_bound(rt, asked, Unknown, opening) {
+            Ok((engine, listener, plan)) => served(
+                rt,
+                engine,
+                listener,
+                &LogIn { rt, folder },
+                plan,
+            ),
+            Err(fault) => tell_fault(rt, fault),
+        },
+    )
 }
 
 /// Prints a fault. The exit status.
