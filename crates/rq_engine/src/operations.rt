@@ -1,6 +1,5 @@
 //! The calls of an operation under way.
-ghost use Rattle.std.specs.Prelude.{◌≡◌, ◌↔◌, Err, ◌+◌, ◌-◌, ◌<◌, ◌≤◌, IfOk, IfErr, OnOk, OnErr, MatchOption, Some, false, true, length, ◌∷◌};
-ghost use Rattle.std.specs.List.{slice_get};
+ghost use Rattle.std.specs.Prelude.{⊤, ◌≡◌, ◌↔◌, Err, ◌+◌, ◌-◌, ◌<◌, ◌≤◌, IfOk, IfErr, OnOk, OnErr, MatchOption, false, true, length, ◌∷◌};
 ghost use Rattle.rq_model.specs.History.Call.{Step, Finish};
 ghost use Rattle.rq_txn.specs.Rows.{change_row, row_finished, row_taken_back, under_of};
 ghost use Rattle.rq_store.specs.Steps.{op_end, gave_done};
@@ -10,8 +9,8 @@ ghost use Rattle.rq_views.specs.Plans.{deed_sender};
 ghost use Rattle.rq_planner.specs.Answered.{answer_of};
 ghost use Rattle.rq_engine.specs.Opened.{LeavesDevices};
 ghost use Rattle.rq_engine.specs.Moves.{with_taken, without_taken};
-ghost use Rattle.rq_engine.specs.Applied.{IsStamped, StepChanges};
-ghost use Rattle.rq_engine.specs.Answers.{AnswersLegally, IsUnderWay, IsNotUnderWay, Idle, CannotFinish, IsMade};
+ghost use Rattle.rq_engine.specs.Applied.{StepChanges};
+ghost use Rattle.rq_engine.specs.Answers.{AnswersLegally, IsUnderWay, IsNotUnderWay, Idle, CannotFinish};
 ghost use Rattle.rq_engine.specs.Lists.{FinishSays, StepSays};
 ghost use Rattle.rq_engine.specs.Says.{progress_of, outcome_of};
 
@@ -19,7 +18,7 @@ use crate::engine::Engine;
 use crate::event::{Outcome, Progress};
 use crate::moves::{cells_given_back, leave_out_taken, put_in_taken};
 use rq_disk::{LogDevice, PageDevice};
-use rq_level::{Level, SlotWrite};
+use rq_level::Level;
 use rq_model::record::Record;
 use rq_model::refusal::Refusal;
 use rq_model::txn::{Lsn, Sub};
@@ -46,9 +45,8 @@ impl<P: PageDevice, L: LogDevice, B: Level> Engine<P, L, B> {
         ensures lists { IfOk result (λ progress. StepSays self.old.state sub progress self.new.state) }
         ensures refusal { IfErr result (λ r. Idle self.old.state sub r) }
     {
-        match self.next_write(sub) {
-            Ok(Some(write)) => Ok(Progress::Done(self.make(sub, write))),
-            Ok(None) => Ok(Progress::Ready),
+        match self.check_under_way(sub) {
+            Ok(()) => Ok(self.make_next(sub)),
             Err(refusal) => Err(refusal),
         }
     }
@@ -94,15 +92,15 @@ impl<P: PageDevice, L: LogDevice, B: Level> Engine<P, L, B> {
         }
     }
 
-    // The next slot write of the operation; none where all are made.
-    fn next_write(&self, sub: Sub) -> Result<Option<SlotWrite>, Refusal>
-        ensures next { IfOk result (λ w. IsUnderWay self.now.state sub (λ r u. slice_get u.writes u.made ≡ w)) }
+    // Whether the operation is under way, in a store that runs.
+    fn check_under_way(&self, sub: Sub) -> Result<(), Refusal>
         ensures running { OnOk result (self.now.state.failed ≡ false) }
+        ensures under { OnOk result (IsUnderWay self.now.state sub (λ r u. ⊤)) }
         ensures idle { IfErr result (λ r. Idle self.now.state sub r) }
     {
         self.check_running()?;
         match self.operation(sub) {
-            Some(operation) => Ok(operation.writes.get(operation.made).copied()),
+            Some(_) => Ok(()),
             None => Err(Refusal::UnknownOperation),
         }
     }
@@ -125,32 +123,32 @@ impl<P: PageDevice, L: LogDevice, B: Level> Engine<P, L, B> {
         Ok(operation.aim)
     }
 
-    // Makes a slot write, with its record.
-    fn make(&mut self, sub: Sub, write: SlotWrite) -> Lsn
+    // Makes the next slot write of the operation, with its record, where one is left.
+    fn make_next(&mut self, sub: Sub) -> Progress
         requires running { self.old.state.failed ≡ false }
-        requires next { IsUnderWay self.old.state sub (λ r u. slice_get u.writes u.made ≡ Some write) }
-        ensures lsn { result ≡ length self.old.state.records + 1 }
-        ensures made { IsMade self.old.state sub write self.new.state }
-        ensures changed { IsStamped self.old result self.new }
+        requires under { IsUnderWay self.old.state sub (λ r u. ⊤) }
+        ensures made { StepSays self.old.state sub result self.new.state }
+        ensures changed { StepChanges self.old result self.new }
         ensures devices { (self.new.pages ≡ self.old.pages) × (self.new.log ≡ self.old.log)
             × (self.new.replacing ≡ self.old.replacing) }
     {
-        let SlotWrite { at, before, after } = write;
-        let record = Record::PageOp {
-            txn: sub.txn,
-            operation: sub.number,
-            page: at.page() as u32,
-            slot: at.slot(),
-            before,
-            after,
+        let Some(write) = self.transactions.next_write(sub.txn) else {
+            return Progress::Ready;
         };
-        shows_size(&record);
-        let lsn = self.log.append(&record);
-        self.pages.set_slot(at, &after, lsn);
-        self.planner.noted(at, &after);
+        let at = write.at;
+        let lsn = self.log.append_page_op(
+            sub.txn,
+            sub.number,
+            at.page() as u32,
+            at.slot(),
+            &write.before,
+            &write.after,
+        );
+        self.pages.set_slot(at, &write.after, lsn);
+        self.planner.noted(at, &write.after);
         self.transactions.step(sub.txn);
         self.owed -= 1;
-        lsn
+        Progress::Done(lsn)
     }
 
     // Ends a deed, with its record.

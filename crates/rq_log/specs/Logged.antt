@@ -1,5 +1,5 @@
 -- What contracts see of a log.
-use Rattle.std.specs.Prelude.{◌≡◌, ◌⊎◌, ℕ, ◌+◌, ◌-◌, ◌^◌, ◌<◌, ◌≤◌, Bool, false, Option, Some, None, List, length, drop, take}
+use Rattle.std.specs.Prelude.{◌≡◌, ◌⊎◌, ℕ, ◌+◌, ◌-◌, ◌^◌, ◌<◌, ◌≤◌, Bool, false, Option, Some, None, List, ◌∷◌, length, drop, take}
 use Rattle.rq_model.specs.declared.record.Record.{Record}
 use Rattle.rq_model.specs.Bases.{based, standing, gone}
 use Rattle.rq_disk.specs.Device.{Only}
@@ -85,3 +85,16 @@ module _ {L : Type 0} (g : Ghosts L) where
     -- a force is behind the cut
     pub whole : 0 < kept log → log.torn_at ≡ None
     pub buffered : log.failed ≡ false → IsBuffered log buffer
+
+-- a record of so many bytes was added, as the n-th, in room that was reserved for it
+pub record IsAppended {L : Type 0} (old : Logged L) (added : Record) (size n : ℕ) (new : Logged L) : Type 0 where
+  pub lsn : n ≡ length new.records
+  pub records : new.records ≡ added ∷ old.records
+  pub reserved : new.reserved + size ≡ old.reserved
+  pub pending : new.pending ≡ old.pending + size
+  pub forced : new.forced ≡ old.forced
+  pub failed : new.failed ≡ false
+  pub replacing : new.replacing ≡ old.replacing
+  pub torn : new.torn_at ≡ old.torn_at
+  pub device : new.device ≡ old.device
+  pub settled : new.settled ≡ old.settled

@@ -2,12 +2,12 @@
 #![tactic(auto)]
 
 ghost use Rattle.std.specs.Prelude.{◌≡◌, ◌+◌, ◌-◌, ◌^◌, ◌⊎◌, ◌<◌, ◌≤◌, ◌∷◌, None, Some, OnOk, OnErr, IfOk, IfErr, IsErrOf, true, false, length};
-ghost use Rattle.rq_model.specs.declared.record.Record.TheVariants.{Base};
+ghost use Rattle.rq_model.specs.declared.record.Record.TheVariants.{Base, PageOp};
 ghost use Rattle.rq_model.specs.Bases.{based, gone, is_base, standing};
 ghost use Rattle.rq_disk.specs.Device.{Only, FailureIsCounted};
 ghost use Rattle.rq_record.specs.Spelling.{IsInRange, spelling};
 ghost use Rattle.rq_log.specs.Crash.{LeavesOnly};
-ghost use Rattle.rq_log.specs.Logged.{IsLog, WasCut, WasDurable, WasLeftOrGoesOn};
+ghost use Rattle.rq_log.specs.Logged.{IsAppended, IsLog, WasCut, WasDurable, WasLeftOrGoesOn};
 ghost use Rattle.rq_log.specs.Spelled.{spelled, AreSpelled, HoldsTo, IsBeginning};
 
 mod counting;
@@ -20,10 +20,10 @@ pub use crate::counting::last_lsn;
 use crate::past::Past;
 pub use crate::reading::LogReader;
 use rq_disk::LogDevice;
-use rq_model::record::Record;
+use rq_model::record::{Record, Slot};
 use rq_model::refusal::{NoMemory, Refusal};
-use rq_model::txn::Lsn;
-use rq_record::{base_bytes, encode, shows_fits, spelled_len};
+use rq_model::txn::{Lsn, Txn};
+use rq_record::{PAGE_OP_BYTES, base_bytes, encode, put_page_op, shows_fits, shows_size, spelled_len};
 use std::alloc::Global;
 use std::marker::Model;
 use std::snapshot::Snapshot;
@@ -205,31 +205,54 @@ impl<L: LogDevice> Log<L> {
 
     /// Adds a record, into reserved room, and answers its LSN. It is neither handed over nor forced.
     pub fn append(&mut self, added: &Record) -> Lsn
-        // What the caller has made sure of.
         requires record { IsInRange added.now }
         requires room { length (spelling added.now) ≤ self.old.reserved }
         requires count { length self.old.records < 2 ^ 64 - 1 }
         requires running { self.old.failed ≡ false }
         requires plain { is_base added.now ≡ false }
-        // The log with the record.
-        ensures lsn { result ≡ length self.new.records }
-        ensures records { self.new.records ≡ added.now ∷ self.old.records }
-        ensures reserved { self.new.reserved + length (spelling added.now) ≡ self.old.reserved }
-        ensures pending { self.new.pending ≡ self.old.pending + length (spelling added.now) }
-        // What stays.
-        ensures forced { self.new.forced ≡ self.old.forced }
-        ensures failed { self.new.failed ≡ false }
-        ensures replacing { self.new.replacing ≡ self.old.replacing }
-        ensures torn { self.new.torn_at ≡ self.old.torn_at }
-        ensures device { self.new.device ≡ self.old.device }
-        ensures settled { self.new.settled ≡ self.old.settled }
+        ensures { IsAppended self.old added.now (length (spelling added.now)) result self.new }
     {
         shows_fits(added);
         let spelled = spelled_len(added);
         self.reserved -= spelled;
         self.size = self.size.saturating_add(spelled as u64);
         encode(added, &mut self.buffer).unwrap();
-        self.past.add(added);
+        self.past.add_plain(added);
+        self.last += 1;
+        self.last
+    }
+
+    /// Adds the record of a slot write, as `append` does, from where its images stand.
+    pub fn append_page_op(
+        &mut self,
+        txn: Txn,
+        operation: u64,
+        page: u32,
+        slot: u8,
+        before: &Slot,
+        after: &Slot,
+    ) -> Lsn
+        requires record { IsInRange (PageOp txn operation page slot before.now after.now) }
+        requires room { 546 ≤ self.old.reserved }
+        requires count { length self.old.records < 2 ^ 64 - 1 }
+        requires running { self.old.failed ≡ false }
+        ensures { IsAppended self.old (PageOp txn operation page slot before.now after.now) 546 result self.new }
+    {
+        self.reserved -= PAGE_OP_BYTES;
+        self.size = self.size.saturating_add(PAGE_OP_BYTES as u64);
+        put_page_op(&mut self.buffer, &txn, operation, page, slot, before, after);
+        // Contracts alone see this one.
+        let added = Record::PageOp {
+            txn,
+            operation,
+            page,
+            slot,
+            before: *before,
+            after: *after,
+        };
+        shows_fits(&added);
+        shows_size(&added);
+        self.past.add_plain(&added);
         self.last += 1;
         self.last
     }

@@ -48,6 +48,13 @@ impl Past {
         }
     }
 
+    /// Adds a record that is no Base.
+    pub(crate) fn add_plain(&mut self, record: &Record)
+        ensures { self.new ≡ record.now ∷ self.old }
+    {
+        GhostList::push(&mut self.known, record);
+    }
+
     /// Adds a Base behind all, which stands for so many.
     pub(crate) fn put_base(&mut self, records: Lsn, incarnation: u64)
         ensures { self.new ≡ Base records incarnation ∷ self.old }

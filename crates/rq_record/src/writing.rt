@@ -148,8 +148,9 @@ fn front_of_page_op(txn: &Txn, operation: u64, page: u32, slot: u8) -> [u8; 34]
 
 // A record of each kind, put at the end.
 
+/// Puts a PageOp at the end, in room that is reserved.
 #[tactic(auto, using(crate::proofs::Spelled::spellings))]
-fn put_page_op(
+pub fn put_page_op(
     out: &mut Vec<u8>,
     txn: &Txn,
     operation: u64,

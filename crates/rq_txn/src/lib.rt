@@ -72,8 +72,8 @@ pub struct Transaction {
 }
 
 impl Transaction {
-    ghost use Rattle.std.specs.Prelude.{◌≡◌, ◌<◌, [], IfSome, IsSome, None, OnErr, OnOk, Some, length};
-    ghost use Rattle.rq_txn.specs.Rows.{row_aborting, row_finished, row_of, row_started, row_stepped, row_taken_back, under_of};
+    ghost use Rattle.std.specs.Prelude.{◌≡◌, ◌<◌, [], IfSome, IsSome, MatchOption, None, OnErr, OnOk, Some, length};
+    ghost use Rattle.rq_txn.specs.Rows.{next_by, row_aborting, row_finished, row_of, row_started, row_stepped, row_taken_back, under_of};
     ghost use Rattle.rq_txn.specs.Tallies.{HasRoom, IsCounted, Latches, Moves};
 
     // The operation is under way, in place of one that was.
@@ -92,6 +92,17 @@ impl Transaction {
         self.number = operation.number;
         tally.release(self.under_way.replace(operation));
         Ok(())
+    }
+
+    // The write that the operation under way makes next.
+    fn next_write(&self) -> Option<&SlotWrite>
+        ensures { MatchOption result (next_by (row_of self.now).under ≡ None)
+            (λ write. next_by (row_of self.now).under ≡ Some write.now) }
+    {
+        match &self.under_way {
+            Some(operation) => operation.writes.get(operation.made),
+            None => None,
+        }
     }
 
     // One more write of the operation under way is made.
@@ -188,7 +199,7 @@ impl Transactions {
     ghost use Rattle.std.specs.Prelude.{◌≡◌, ℕ, ◌<◌, ◌≤◌, [], ◌∷◌, IfSome, IsSome, MatchOption, OnErr, OnOk, length, nat_eq, nat_lt, not, reverse, slice_index_or};
     ghost use Rattle.rq_level.specs.Given.{has_page};
     ghost use Rattle.rq_model.specs.Vocabulary.{In, last};
-    ghost use Rattle.rq_txn.specs.Rows.{AreDistinct, Row, any_under, change_row, finished_of, found_row, fresh_row, latched_in, row_aborting, row_finished, row_of, row_started, row_stepped, row_taken_back, under_of, without_row};
+    ghost use Rattle.rq_txn.specs.Rows.{AreDistinct, Row, any_under, change_row, finished_of, found_row, fresh_row, latched_in, next_of, row_aborting, row_finished, row_of, row_started, row_stepped, row_taken_back, under_of, without_row};
 
     /// No transaction.
     pub fn new(alloc: Global) -> Self
@@ -295,6 +306,17 @@ impl Transactions {
             return Ok(());
         };
         self.rows[key].start(operation, &mut self.tally)
+    }
+
+    /// The write that the transaction's operation under way makes next; none where all are made, or nothing is under way.
+    pub fn next_write(&self, txn: Txn) -> Option<&SlotWrite>
+        ensures { MatchOption result (next_of (found_row txn self.now) ≡ None)
+            (λ write. next_of (found_row txn self.now) ≡ Some write.now) }
+    {
+        match self.state(txn) {
+            Some(row) => row.next_write(),
+            None => None,
+        }
     }
 
     /// One more write of the transaction's operation under way is made.
