@@ -27,8 +27,8 @@ module _ (z : Sizes) (k : LevelState) (given : List Given) (latched : List ℕ) 
   pub is_sent : (tail : Option Given) (new at : ℕ) → s < sender_count z → g.sender ≡ s → GivenHolds z given (directory_at s) (Sender s g.directory) → g.directory.sent ≤ 2 ^ 50
       → at ≡ g.directory.tail → Beside z given at (cell_beside tail) → IsLowest z k latched new
       → reverse (writes_of z p.writes.items) ≡ append_writes (layout_of z) g.sender g.directory new tag body (cell_beside tail)
-      → AreSlotWrites z p.writes.items → p.deed ≡ spelled_deed (Append g.sender (g.directory.sent + 1) tag g.directory.last_tag body)
-      → deed_in p.deed ≡ Some (Append g.sender (g.directory.sent + 1) tag g.directory.last_tag body)
+      → AreSlotWrites z p.writes.items → p.deed ≡ spelled_deed (Append s (g.directory.sent + 1) tag g.directory.last_tag body)
+      → deed_in p.deed ≡ Some (Append s (g.directory.sent + 1) tag g.directory.last_tag body)
       → p.reply ≡ Some gives.Sent → after ≡ reserved_at z k new → IsSent z k given latched s tag body p after
   is_sent tail new at below own holds room at_is beside lowest writes slots deed reads reply kept = record {
     can = record { below = below; directory = g.directory; directory_is = holds; room = room; old = cell_beside tail; beside = subst (λ (a : ℕ). Beside z given a (cell_beside tail)) at_is beside };
@@ -36,8 +36,8 @@ module _ (z : Sizes) (k : LevelState) (given : List Given) (latched : List ℕ) 
     lowest = lowest;
     writes = writes ∙ ap (λ (n : ℕ). append_writes (layout_of z) n g.directory new tag body (cell_beside tail)) own;
     slots = slots;
-    deed = deed ∙ ap (λ (n : ℕ). spelled_deed (Append n (g.directory.sent + 1) tag g.directory.last_tag body)) own;
-    reads = reads ∙ ap (λ (n : ℕ). Some (Append n (g.directory.sent + 1) tag g.directory.last_tag body)) own;
+    deed = deed;
+    reads = reads;
     reply = reply;
     kept = kept;
   }
@@ -45,8 +45,8 @@ module _ (z : Sizes) (k : LevelState) (given : List Given) (latched : List ℕ) 
   pub is_received : (head : CellEntry) (next : Option Given) (at behind : ℕ) → s < sender_count z → g.sender ≡ s → GivenHolds z given (directory_at s) (Sender s g.directory)
       → g.directory.received < g.directory.sent → 0 < at → at ≡ g.directory.head → GivenHolds z given at (Used head.cell) → behind ≡ head.cell.next → Beside z given behind (cell_beside next)
       → reverse (writes_of z p.writes.items) ≡ unlink_head_writes (layout_of z) g.sender g.directory head.cell (cell_beside next)
-      → AreSlotWrites z p.writes.items → p.deed ≡ spelled_deed (UnlinkHead g.sender (g.directory.received + 1) head.cell.tag head.cell.body)
-      → deed_in p.deed ≡ Some (UnlinkHead g.sender (g.directory.received + 1) head.cell.tag head.cell.body)
+      → AreSlotWrites z p.writes.items → p.deed ≡ spelled_deed (UnlinkHead s (g.directory.received + 1) head.cell.tag head.cell.body)
+      → deed_in p.deed ≡ Some (UnlinkHead s (g.directory.received + 1) head.cell.tag head.cell.body)
       → p.reply ≡ Some (gives.Message (record { sender = s; tag = head.cell.tag; body = head.cell.body })) → after ≡ k → IsReceived z k given s p after
   is_received head next at behind below own holds some used at_is head_is behind_is beside writes slots deed reads reply kept = record {
     can = record {
@@ -62,8 +62,8 @@ module _ (z : Sizes) (k : LevelState) (given : List Given) (latched : List ℕ) 
     };
     writes = writes ∙ ap (λ (n : ℕ). unlink_head_writes (layout_of z) n g.directory head.cell (cell_beside next)) own;
     slots = slots;
-    deed = deed ∙ ap (λ (n : ℕ). spelled_deed (UnlinkHead n (g.directory.received + 1) head.cell.tag head.cell.body)) own;
-    reads = reads ∙ ap (λ (n : ℕ). Some (UnlinkHead n (g.directory.received + 1) head.cell.tag head.cell.body)) own;
+    deed = deed;
+    reads = reads;
     reply = reply;
     kept = kept;
   }

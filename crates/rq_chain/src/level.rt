@@ -9,12 +9,12 @@ ghost use Rattle.rq_level.specs.declared.writes.Plan.{Plan};
 ghost use Rattle.rq_chain.specs.Doings.{told_one};
 ghost use Rattle.rq_chain.specs.Refusing.{NoCell};
 
+use crate::CellEntry;
 use crate::cells::FreeCells;
 use crate::doing::{Doing, read_doing};
 use crate::given::{SENT_LIMIT, beside_given, cell_given, group_given, head_of, tail_of};
 use crate::plans::{append, put_back, set_closed, unlink_head, unlink_tail};
 use crate::wants::wanted;
-use crate::{CellEntry, ChainPlan};
 use byteorder::{BigEndian, ByteOrder};
 use rq_level::{Level, Op, Outcome, PageSet, Plan, SlotWrite, Slots, Want, redo_page};
 use rq_model::message::{Body, Message};
@@ -24,7 +24,7 @@ use rq_model::txn::Lsn;
 use rq_page::addr::Addr;
 use rq_page::layout::{CELLS_LIMIT, Layout, SLOTS};
 use rq_page::page::Page;
-use rq_record::{decode_deed, encode_deed};
+use rq_record::{decode_deed, encode_append, encode_close, encode_unlink_head};
 use std::alloc::Global;
 use std::marker::Model;
 
@@ -171,14 +171,14 @@ impl ChainLevel {
         let Some(free) = self.lowest(layout, latched) else {
             return Err(self.no_cell(layout, sender));
         };
-        let Ok(ChainPlan { writes, deed }) = append(room, layout, &group, tail, free, tag, body)
-        else {
+        let Ok(writes) = append(room, layout, &group, tail, free, tag, body) else {
             return Err(Refusal::NoMemory);
         };
         self.reserve(layout, free);
+        let directory = &group.directory;
         Ok(Plan {
             writes,
-            deed: encode_deed(&deed),
+            deed: encode_append(sender, directory.sent + 1, tag, directory.last_tag, body),
             reply: Some(Outcome::Sent),
         })
     }
@@ -211,12 +211,13 @@ impl ChainLevel {
         let Some(next) = beside_given(layout, given, next_of(&head)) else {
             return Err(damaged);
         };
-        let Ok(ChainPlan { writes, deed }) = unlink_head(room, layout, &group, &head, next) else {
+        let Ok(writes) = unlink_head(room, layout, &group, &head, next) else {
             return Err(Refusal::NoMemory);
         };
+        let sequence = group.directory.received + 1;
         Ok(Plan {
             writes,
-            deed: encode_deed(&deed),
+            deed: encode_unlink_head(sender, sequence, head.cell.tag, &head.cell.body),
             reply: Some(message_of(sender, &head)),
         })
     }
@@ -236,7 +237,7 @@ impl ChainLevel {
         let writes = closed_writes(room, layout, given, sender, true)?;
         Ok(Plan {
             writes,
-            deed: encode_deed(&Deed::Close { sender }),
+            deed: encode_close(sender),
             reply: Some(Outcome::Closed),
         })
     }

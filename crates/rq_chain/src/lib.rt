@@ -15,18 +15,9 @@ mod writes;
 
 pub use level::ChainLevel;
 pub use plans::{append, put_back, set_closed, unlink_head, unlink_tail};
-use rq_level::SlotWrite;
-use rq_model::record::Deed;
 use rq_page::addr::Addr;
 use rq_page::cell::Cell;
 use rq_page::directory::Directory;
-
-/// The writes of an operation, in order, and what its end says was done.
-#[derive(Drop)]
-pub struct ChainPlan {
-    pub writes: Vec<SlotWrite>,
-    pub deed: Deed,
-}
 
 /// A used cell: where it stands, and what it holds.
 #[derive(Clone, Copy)]

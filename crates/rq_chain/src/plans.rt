@@ -9,14 +9,13 @@ ghost use Rattle.rq_views.specs.Plans.{append_writes, unlink_head_writes, unlink
 ghost use Rattle.rq_level.specs.Writes.{write_of, writes_of, IsSlotWrite, AreSlotWrites, IsFirstAt};
 ghost use Rattle.rq_chain.specs.CellEntries.{cell_beside, IsCellEntryAt, IsGroupOf, IsNeighbour, IsNeighbourAt};
 
-use crate::writes::{beside_write, cell_write, followed, group_write, pair, preceded, triple};
-use crate::{CellEntry, ChainPlan, DirectoryEntry};
+use crate::writes::{beside_write, emptied, filled, followed, group_write, pair, preceded, triple};
+use crate::{CellEntry, DirectoryEntry};
 use rq_level::{Given, SlotWrite, only};
 use rq_model::message::{BODY_LIMIT, Body};
-use rq_model::record::Deed;
 use rq_model::refusal::NoMemory;
 use rq_page::addr::Addr;
-use rq_page::cell::{Cell, CellSlot};
+use rq_page::cell::Cell;
 use rq_page::directory::Directory;
 use rq_page::layout::Layout;
 
@@ -29,35 +28,26 @@ pub fn append(
     free: Addr,
     tag: u64,
     body: &Body,
-) -> Result<ChainPlan, NoMemory>
+) -> Result<Vec<SlotWrite>, NoMemory>
     requires room { group.now.directory.sent < 2 ^ 64 - 1 }
     requires group { IsGroupOf layout.now group.now }
     requires tail { IsNeighbour layout.now group.now.directory.tail tail }
     requires free { IsCellAddress layout.now free }
-    ensures writes { IfOk result (λ plan. reverse (writes_of layout.now plan.writes.items)
+    ensures writes { IfOk result (λ writes. reverse (writes_of layout.now writes.items)
         ≡ append_writes (layout_of layout.now) group.now.sender group.now.directory free tag body.now (cell_beside tail)) }
-    ensures slots { IfOk result (λ plan. AreSlotWrites layout.now plan.writes.items) }
-    ensures count { IfOk result (λ plan. MatchOption tail (length plan.writes.items ≡ 2)
-        (λ _. length plan.writes.items ≡ 3)) }
-    ensures cell { IfOk result (λ plan. IsFirstAt free plan.writes.items) }
-    ensures deed { IfOk result (λ plan. plan.deed ≡ Deed.Append group.now.sender
-        (group.now.directory.sent + 1) tag group.now.directory.last_tag body.now) }
+    ensures slots { IfOk result (λ writes. AreSlotWrites layout.now writes.items) }
+    ensures count { IfOk result (λ writes. MatchOption tail (length writes.items ≡ 2)
+        (λ _. length writes.items ≡ 3)) }
+    ensures cell { IfOk result (λ writes. IsFirstAt free writes.items) }
 {
     let new = next_cell(layout, group, tag, body);
-    let first = cell_write(layout, free, &CellSlot::Free, &CellSlot::Used(new));
+    let first = filled(layout, free, &new);
     let last = group_write(layout, group, &appended(layout, group, free, tag));
     let writes = match &tail {
         None => pair(room, first, last)?,
         Some(before) => triple(room, first, link_write(layout, before, free), last)?,
     };
-    let deed = Deed::Append {
-        sender: group.sender,
-        sequence: group.directory.sent + 1,
-        tag,
-        previous: group.directory.last_tag,
-        body: *body,
-    };
-    Ok(ChainPlan { writes, deed })
+    Ok(writes)
 }
 
 /// Takes the first message off a chain: frees its cell, and has the next one, if there is one, come first.
@@ -67,33 +57,25 @@ pub fn unlink_head(
     group: &DirectoryEntry,
     head: &CellEntry,
     next: Option<Given>,
-) -> Result<ChainPlan, NoMemory>
+) -> Result<Vec<SlotWrite>, NoMemory>
     requires some { group.now.directory.received < group.now.directory.sent }
     requires group { IsGroupOf layout.now group.now }
     requires head { IsCellEntryAt layout.now group.now.directory.head head.now }
     requires next { IsNeighbour layout.now head.now.cell.next next }
-    ensures writes { IfOk result (λ plan. reverse (writes_of layout.now plan.writes.items)
+    ensures writes { IfOk result (λ writes. reverse (writes_of layout.now writes.items)
         ≡ unlink_head_writes (layout_of layout.now) group.now.sender group.now.directory head.now.cell
         (cell_beside next)) }
-    ensures slots { IfOk result (λ plan. AreSlotWrites layout.now plan.writes.items) }
-    ensures count { IfOk result (λ plan. MatchOption next (length plan.writes.items ≡ 2)
-        (λ _. length plan.writes.items ≡ 3)) }
-    ensures deed { IfOk result (λ plan. plan.deed ≡ Deed.UnlinkHead group.now.sender
-        (group.now.directory.received + 1) head.now.cell.tag head.now.cell.body) }
+    ensures slots { IfOk result (λ writes. AreSlotWrites layout.now writes.items) }
+    ensures count { IfOk result (λ writes. MatchOption next (length writes.items ≡ 2)
+        (λ _. length writes.items ≡ 3)) }
 {
-    let first = cell_write(layout, head.at, &CellSlot::Used(head.cell), &CellSlot::Free);
+    let first = emptied(layout, head);
     let last = group_write(layout, group, &head_unlinked(layout, group, &head.cell));
     let writes = match &next {
         None => pair(room, first, last)?,
         Some(after) => triple(room, first, unlink_write(layout, after), last)?,
     };
-    let deed = Deed::UnlinkHead {
-        sender: group.sender,
-        sequence: group.directory.received + 1,
-        tag: head.cell.tag,
-        body: head.cell.body,
-    };
-    Ok(ChainPlan { writes, deed })
+    Ok(writes)
 }
 
 /// Takes the last message off a chain: frees its cell, and has the one before it, if there is one, come last.
@@ -114,7 +96,7 @@ pub fn unlink_tail(
         (cell_beside front)) }
     ensures slots { IfOk result (λ writes. AreSlotWrites layout.now writes.items) }
 {
-    let first = cell_write(layout, tail.at, &CellSlot::Used(tail.cell), &CellSlot::Free);
+    let first = emptied(layout, tail);
     let after = tail_unlinked(layout, group, &tail.cell, previous);
     let last = group_write(layout, group, &after);
     let writes = match &front {
@@ -143,7 +125,7 @@ pub fn put_back(
     ensures slots { IfOk result (λ writes. AreSlotWrites layout.now writes.items) }
 {
     let new = returned_cell(layout, group, tag, body);
-    let first = cell_write(layout, free, &CellSlot::Free, &CellSlot::Used(new));
+    let first = filled(layout, free, &new);
     let last = group_write(layout, group, &returned(layout, group, free));
     let writes = match &head {
         None => pair(room, first, last)?,

@@ -4,45 +4,51 @@ ghost use Rattle.rq_bytes.specs.Number.{with_number};
 ghost use Rattle.rq_page.specs.Cells.{cell_bytes, cell_in};
 ghost use Rattle.rq_page.specs.Sizes.{IsCellAddress};
 ghost use Rattle.rq_page.specs.declared.cell.Cell.{Cell};
-ghost use Rattle.rq_page.specs.Slots.{IsCellOf, IsDirectoryOf, MayStand, Used, of_cell_slot};
+ghost use Rattle.rq_page.specs.Slots.{Free, IsCellOf, IsDirectoryOf, Used};
 ghost use Rattle.rq_views.specs.Items.{layout_of};
 ghost use Rattle.rq_views.specs.Plans.{directory_write, with_next, with_prev};
 ghost use Rattle.rq_level.specs.Writes.{write_of, IsSlotWrite};
 ghost use Rattle.rq_chain.specs.CellEntries.{IsGroupOf, IsNeighbourAt};
 
-use crate::DirectoryEntry;
+use crate::{CellEntry, DirectoryEntry};
 use rq_bytes::Fields;
 use rq_level::{Given, SlotWrite, only};
 use rq_model::record::Slot;
 use rq_model::refusal::NoMemory;
 use rq_page::addr::Addr;
-use rq_page::cell::CellSlot;
+use rq_page::cell::{Cell, CellSlot};
 use rq_page::directory::{Directory, DirectorySlot};
 use rq_page::layout::Layout;
 
-/// The write of a cell's slot.
+/// The write that fills a free cell.
 #[inline(always)]
-pub(crate) fn cell_write(
-    layout: &Layout,
-    at: Addr,
-    before: &CellSlot,
-    after: &CellSlot,
-) -> SlotWrite
+pub(crate) fn filled(layout: &Layout, at: Addr, cell: &Cell) -> SlotWrite
     requires at { IsCellAddress layout.now at }
-    requires before { MayStand layout.now before.now }
-    requires after { MayStand layout.now after.now }
-    ensures write { write_of layout.now result ≡ record {
-      at = at;
-      before = of_cell_slot before.now;
-      after = of_cell_slot after.now;
-    } }
+    requires cell { IsCellOf layout.now cell.now }
+    ensures write { write_of layout.now result ≡ record { at = at; before = Free; after = Used cell.now } }
     ensures slots { IsSlotWrite layout.now result }
 {
     prove!(at.page() < layout.pages() as u64);
     SlotWrite {
         at,
-        before: before.encode(),
-        after: after.encode(),
+        before: CellSlot::Free.encode(),
+        after: cell.encode(),
+    }
+}
+
+/// The write that empties a cell.
+#[inline(always)]
+pub(crate) fn emptied(layout: &Layout, entry: &CellEntry) -> SlotWrite
+    requires at { IsCellAddress layout.now entry.now.at }
+    requires cell { IsCellOf layout.now entry.now.cell }
+    ensures write { write_of layout.now result ≡ record { at = entry.now.at; before = Used entry.now.cell; after = Free } }
+    ensures slots { IsSlotWrite layout.now result }
+{
+    prove!(entry.at.page() < layout.pages() as u64);
+    SlotWrite {
+        at: entry.at,
+        before: entry.cell.encode(),
+        after: CellSlot::Free.encode(),
     }
 }
 

@@ -21,3 +21,4 @@ pub mod Sent
 pub mod JudgedRefusals
 pub mod JudgedLogs
 pub mod Bases
+mod Padded

@@ -48,8 +48,8 @@ impl Cell {
         out
     }
 
-    // The slot of the cell.
-    fn encode(&self) -> Slot
+    /// The one spelling of a slot that holds it.
+    pub fn encode(&self) -> Slot
         ensures { result ≡ cell_bytes self.now }
     {
         let mut out = [0; SLOT_BYTES];

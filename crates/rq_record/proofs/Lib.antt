@@ -5,6 +5,5 @@ pub mod Whole
 pub mod Fronts
 pub mod Spelled
 pub mod DeedParts
-pub mod Placed
 pub mod DeedIn
 pub mod Sizes

@@ -1,9 +1,10 @@
 //! Deeds of the chain level as bytes.
-ghost use Rattle.std.specs.Prelude.{◌≡◌, ◌+◌, ◌≤◌, ◌++◌, [], ◌∷◌, length, take, drop, IfSome, Some};
+ghost use Rattle.std.specs.Prelude.{◌≡◌, ◌+◌, ◌≤◌, ◌++◌, ◌∷◌, length, IfSome, Some};
 ghost use Rattle.rq_model.specs.declared.record.Deed.{Deed};
+ghost use Rattle.rq_model.specs.declared.record.Deed.TheVariants.{Append, Close, UnlinkHead};
 ghost use Rattle.rq_bytes.specs.Number.{number};
 ghost use Rattle.rq_model.specs.Deeds.{spelled_deed, deed_in};
-ghost use Rattle.rq_record.specs.Deeds.{IsDeed, IsDeedInRange, IsBody, DeedFits};
+ghost use Rattle.rq_record.specs.Deeds.{IsDeed, IsDeedInRange, IsBody};
 ghost use Rattle.rq_record.specs.Reading.{Gives};
 ghost use Rattle.rq_record.specs.DeedReading.{append_at, unlink_head_at, close_at, deed_at, deed_of};
 
@@ -11,7 +12,7 @@ use crate::reading::{Stop, take_positive, take_u32, take_u64};
 use crate::writing::shows_bytes_fit;
 use byteorder::{BigEndian, ByteOrder};
 use rq_model::message::Body;
-use rq_model::record::{DEED_LIMIT, Deed, DeedBytes};
+use rq_model::record::{Deed, DeedBytes};
 
 // A deed without its first byte.
 
@@ -98,36 +99,6 @@ pub fn decode_deed(bytes: &[u8]) -> Option<Deed>
     deed_if_any(bytes)
 }
 
-/// Each deed that a program holds has fields of their types.
-pub fn shows_deed_fits(deed: &Deed)
-    ensures { DeedFits deed.now }
-{
-    match deed {
-        Deed::Append {
-            sender,
-            sequence,
-            tag,
-            previous,
-            body,
-        } => {
-            let _numbers = (*sender, *sequence, *tag, *previous);
-            shows_body_fits(body);
-        }
-        Deed::UnlinkHead {
-            sender,
-            sequence,
-            tag,
-            body,
-        } => {
-            let _numbers = (*sender, *sequence, *tag);
-            shows_body_fits(body);
-        }
-        Deed::Close { sender } => {
-            let _number = *sender;
-        }
-    }
-}
-
 // A body has 216 bytes at most.
 fn shows_body_fits(body: &Body)
     ensures { IsBody body.now }
@@ -173,61 +144,47 @@ fn close_front(sender: u32) -> [u8; 5]
     front
 }
 
-// Writes bytes over those from a place.
-fn place(out: &mut [u8], at: usize, bytes: &[u8])
-    requires { at + length bytes.now ≤ length out.old }
-    ensures { out.new ≡ take at out.old ++ (bytes.now ++ drop (at + length bytes.now) out.old) }
-{
-    out[at..at + bytes.len()].copy_from_slice(bytes);
-}
-
-// The bytes in place.
-fn deed_bytes(bytes: &[u8]) -> DeedBytes
-    requires { length bytes.now ≤ 256 }
-    ensures { result ≡ bytes.now }
-{
-    DeedBytes::new(bytes).unwrap()
-}
-
 // The bytes of the one and then those of the other.
 fn joined(front: &[u8], body: &[u8]) -> DeedBytes
     requires { length front.now + length body.now ≤ 256 }
     ensures { result ≡ front.now ++ body.now }
 {
-    let mut bytes = [0; DEED_LIMIT];
-    place(&mut bytes, 0, front);
-    place(&mut bytes, front.len(), body);
-    deed_bytes(&bytes[..front.len() + body.len()])
+    DeedBytes::joined(front, body).unwrap()
 }
 
-// The spelling of a deed.
+/// The spelling of the deed of a send, as `encode_deed` has it.
 #[tactic(auto, unfolding(rq_bytes::specs::Number::number))]
-fn spelled(deed: &Deed) -> DeedBytes
-    ensures same { result ≡ spelled_deed deed.now }
+pub fn encode_append(sender: u32, sequence: u64, tag: u64, previous: u64, body: &Body) -> DeedBytes
+    ensures spelled { result ≡ spelled_deed (Append sender sequence tag previous body.now) }
+    ensures told { 1 ≤ sequence → deed_in result ≡ Some (Append sender sequence tag previous body.now) }
     ensures size { (1 ≤ length result) × (length result ≤ 256) }
 {
-    match deed {
-        Deed::Append {
-            sender,
-            sequence,
-            tag,
-            previous,
-            body,
-        } => joined(
-            &append_front(*sender, *sequence, *tag, *previous),
-            body.as_slice(),
-        ),
-        Deed::UnlinkHead {
-            sender,
-            sequence,
-            tag,
-            body,
-        } => joined(
-            &unlink_head_front(*sender, *sequence, *tag),
-            body.as_slice(),
-        ),
-        Deed::Close { sender } => joined(&close_front(*sender), &[]),
-    }
+    shows_body_fits(body);
+    joined(
+        &append_front(sender, sequence, tag, previous),
+        body.as_slice(),
+    )
+}
+
+/// The spelling of the deed of a receive, as `encode_deed` has it.
+#[tactic(auto, unfolding(rq_bytes::specs::Number::number))]
+pub fn encode_unlink_head(sender: u32, sequence: u64, tag: u64, body: &Body) -> DeedBytes
+    ensures spelled { result ≡ spelled_deed (UnlinkHead sender sequence tag body.now) }
+    ensures told { 1 ≤ sequence → deed_in result ≡ Some (UnlinkHead sender sequence tag body.now) }
+    ensures size { (1 ≤ length result) × (length result ≤ 256) }
+{
+    shows_body_fits(body);
+    joined(&unlink_head_front(sender, sequence, tag), body.as_slice())
+}
+
+/// The spelling of the deed of a close, as `encode_deed` has it.
+#[tactic(auto, unfolding(rq_bytes::specs::Number::number))]
+pub fn encode_close(sender: u32) -> DeedBytes
+    ensures spelled { result ≡ spelled_deed (Close sender) }
+    ensures told { deed_in result ≡ Some (Close sender) }
+    ensures size { (1 ≤ length result) × (length result ≤ 256) }
+{
+    joined(&close_front(sender), &[])
 }
 
 /// The spelling of a deed, which is short enough to stand in an operation's end. It tells the deed, where
@@ -237,6 +194,20 @@ pub fn encode_deed(deed: &Deed) -> DeedBytes
     ensures told { IsDeedInRange deed.now → deed_in result ≡ Some deed.now }
     ensures size { (1 ≤ length result) × (length result ≤ 256) }
 {
-    shows_deed_fits(deed);
-    spelled(deed)
+    match deed {
+        Deed::Append {
+            sender,
+            sequence,
+            tag,
+            previous,
+            body,
+        } => encode_append(*sender, *sequence, *tag, *previous, body),
+        Deed::UnlinkHead {
+            sender,
+            sequence,
+            tag,
+            body,
+        } => encode_unlink_head(*sender, *sequence, *tag, body),
+        Deed::Close { sender } => encode_close(*sender),
+    }
 }

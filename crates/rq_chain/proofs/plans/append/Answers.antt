@@ -8,24 +8,24 @@ use Rattle.rq_chain.proofs.plans.append.Goals.{in-None+in_ok-writes-in-None, in-
 pub returns-clause-slots : goal.returns-clause-slots
 returns-clause-slots c =
     let z = c.args.layout.now in
-    let first = c.cell_write-first.result in
+    let first = c.filled-first.result in
     let last = c.group_write-last.result in
     elim c.match-tail.branch [
       | in-None+in_ok-writes-in-None w ↦
           let e : c.match-tail.writes.items ≡ first ∷ last ∷ [] = cc w.in_ok-writes-in-None.ensures in
-          two_writes z c.match-tail.writes.items first last e c.cell_write-first.ensures.slots c.group_write-last.ensures.slots
+          two_writes z c.match-tail.writes.items first last e c.filled-first.ensures.slots c.group_write-last.ensures.slots
       | in-Some+in_ok-writes-in-Some w ↦
           let link = w.link_write.result in
           let e : c.match-tail.writes.items ≡ first ∷ link ∷ last ∷ [] = cc w.in_ok-writes-in-Some.ensures in
-          three_writes z c.match-tail.writes.items first link last e c.cell_write-first.ensures.slots w.link_write.ensures.slots c.group_write-last.ensures.slots
+          three_writes z c.match-tail.writes.items first link last e c.filled-first.ensures.slots w.link_write.ensures.slots c.group_write-last.ensures.slots
     ]
 
 pub returns-clause-cell : goal.returns-clause-cell
 returns-clause-cell c =
     let z = c.args.layout.now in
-    let first = c.cell_write-first.result in
+    let first = c.filled-first.result in
     let last = c.group_write-last.result in
-    let at : first.at ≡ c.args.free = ap (λ (w : Write). w.at) c.cell_write-first.ensures.write in
+    let at : first.at ≡ c.args.free = ap (λ (w : Write). w.at) c.filled-first.ensures.write in
     elim c.match-tail.branch [
       | in-None+in_ok-writes-in-None w ↦
           let e : c.match-tail.writes.items ≡ first ∷ last ∷ [] = cc w.in_ok-writes-in-None.ensures in

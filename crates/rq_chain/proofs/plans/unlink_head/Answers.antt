@@ -6,14 +6,14 @@ use Rattle.rq_chain.proofs.plans.unlink_head.Goals.{in-None+in_ok-writes-in-None
 pub returns-clause-slots : goal.returns-clause-slots
 returns-clause-slots c =
     let z = c.args.layout.now in
-    let first = c.cell_write-first.result in
+    let first = c.emptied-first.result in
     let last = c.group_write-last.result in
     elim c.match-next.branch [
       | in-None+in_ok-writes-in-None w ↦
           let e : c.match-next.writes.items ≡ first ∷ last ∷ [] = cc w.in_ok-writes-in-None.ensures in
-          two_writes z c.match-next.writes.items first last e c.cell_write-first.ensures.slots c.group_write-last.ensures.slots
+          two_writes z c.match-next.writes.items first last e c.emptied-first.ensures.slots c.group_write-last.ensures.slots
       | in-Some+in_ok-writes-in-Some w ↦
           let link = w.unlink_write.result in
           let e : c.match-next.writes.items ≡ first ∷ link ∷ last ∷ [] = cc w.in_ok-writes-in-Some.ensures in
-          three_writes z c.match-next.writes.items first link last e c.cell_write-first.ensures.slots w.unlink_write.ensures.slots c.group_write-last.ensures.slots
+          three_writes z c.match-next.writes.items first link last e c.emptied-first.ensures.slots w.unlink_write.ensures.slots c.group_write-last.ensures.slots
     ]

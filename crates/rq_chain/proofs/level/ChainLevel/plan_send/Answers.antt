@@ -1,7 +1,5 @@
-use Rattle.std.proofs.Common.{Some, refl, sym, subst, ap, ◌∙◌, arith}
-use Rattle.rq_record.specs.Deeds.{IsDeedInRange}
+use Rattle.std.proofs.Common.{refl, ap, ◌∙◌, arith}
 use Rattle.rq_level.specs.LevelState.{LevelState, reserved_at}
-use Rattle.rq_model.specs.Deeds.{spelled_deed}
 use Rattle.rq_chain.proofs.Planned.{is_sent}
 use Rattle.rq_chain.proofs.level.ChainLevel.plan_send.Goals as goal
 
@@ -10,4 +8,4 @@ returns-clause-ok c =
     is_sent c.args.layout.now c.args.self.now c.args.given.now c.args.latched.now.pages c.args.sender c.args.tag c.args.body.now _ _ c.in-Some.group
     c.in-Some-beside_given.tail c.in-Some-lowest.free _ (omega (arith, c.if-sender-senders.false, c.senders.ensures.number)) c.in-Some.ensures.group.1 c.in-Some.ensures.holds (omega (arith, c.if-group-gt-SENT_LIMIT.false))
     c.tail_of.ensures c.in-Some-beside_given.ensures.beside c.in-Some-lowest.ensures.lowest c.in-Ok.ensures.writes c.in-Ok.ensures.slots
-    (c.encode_deed.ensures.spelled ∙ ap spelled_deed c.in-Ok.ensures.deed) (c.encode_deed.ensures.told (subst IsDeedInRange (sym c.in-Ok.ensures.deed) (omega arith)) ∙ ap Some c.in-Ok.ensures.deed) refl (c.reserve.ensures ∙ ap (λ (k : LevelState). reserved_at c.args.layout.now k c.in-Some-lowest.free) c.lowest.ensures.kept)
+    c.encode_append.ensures.spelled (c.encode_append.ensures.told (omega arith)) refl (c.reserve.ensures ∙ ap (λ (k : LevelState). reserved_at c.args.layout.now k c.in-Some-lowest.free) c.lowest.ensures.kept)
