@@ -1,5 +1,5 @@
 -- Each level keeps its laws.
-use Rattle.std.proofs.Common.{◌≡◌, ℕ, zero, suc, ◌+◌, ◌*◌, nat_lt, Err, arith, List, Bool, true, false, cond, nat_eq, Option, None, Some, length, set, refl, sym, ap, ◌∙◌, inl, inr}
+use Rattle.std.proofs.Common.{◌≡◌, ℕ, zero, suc, ◌+◌, ◌*◌, nat_lt, Err, arith, List, Bool, true, false, cond, nat_eq, Option, None, Some, map, length, set, refl, sym, ap, ◌∙◌, inl, inr}
 use Rattle.std.proofs.lemmas.Bool.{cases_Bool, le-ltb}
 use Rattle.rq_page.specs.Pages.{lsn_of}
 use Rattle.std.proofs.lemmas.List.{length-set, set-set}
@@ -21,11 +21,16 @@ use Rattle.rq_level.specs.ChainPlans.{unless_given, link_wanted, behind, behind_
 use Rattle.rq_model.specs.Deeds.{deed_in}
 use Rattle.rq_model.specs.declared.record.Deed.{Deed}
 use Rattle.rq_model.specs.declared.record.Deed.TheVariants.{Append, UnlinkHead, Close as Close_deed}
-use Rattle.rq_level.specs.Meaning.{Redo, IsAppliedOnce, meaning_of}
+use Rattle.rq_level.specs.Asked.{noted_each}
+use Rattle.rq_level.specs.Meaning.{Redo, IsAppliedOnce, meaning_of, page_meaning}
 use Rattle.rq_level.specs.Lawful.{IsNotGiven, AllLawful, AppliedTwiceIsOnce, MayHaveNoPlan}
 use Rattle.rq_level.specs.declared.slots.Given.{Given}
+use Rattle.rq_level.specs.declared.writes.SlotWrite.{SlotWrite}
 use Rattle.rq_level.proofs.Counted.{few_planned, few_undone, few_written, few_taken_back, silent_undone, silent_taken_back}
 use Rattle.rq_level.proofs.Noting.{any_order}
+use Rattle.rq_level.proofs.ChainLaws as chains
+use Rattle.rq_level.proofs.Gathered as gathered
+use Rattle.rq_level.proofs.PageLaws as pages
 
 unless : (given : List Given) (a : ℕ) (o : Option (List ℕ)) → given_at a given ≡ o → IsNotGiven given (unless_given a o)
 unless given a None e = e
@@ -192,9 +197,78 @@ writes_for false k w given r after h = refuses_write k w given r after h
 
 pub all_lawful : AllLawful
 unfolding meaning_of
-all_lawful zero = record { count = λ k job given latched p after h. few_written job.undo k (overwrite_in job.bytes) given p after h; count_undo = few_taken_back; silent = silent_taken_back; commutes = λ k a b x y m n o. refl; refuses = λ k job given latched r after h. writes_for job.undo k (overwrite_in job.bytes) given r after h; refuses_undo = refuses_page; asks = λ job given. asks_page given job.undo (overwrite_in job.bytes); last = λ k a x y. refl; room = λ k a x. (refl, refl) }
-all_lawful (suc zero) = record { count = λ k job given latched p after h. few_planned job.undo k.sizes (doing_in job.bytes) k given latched p after h; count_undo = few_undone; silent = silent_undone; commutes = any_order; refuses = λ k job given latched r after h. plans_for job.undo k.sizes (doing_in job.bytes) k given latched r after h; refuses_undo = refuses_record; asks = λ job given. asks_job given job.undo job.bytes; last = twice; room = keeps_room }
-all_lawful (suc (suc n)) = record { count = λ k job given latched p after h. absurd h; count_undo = λ k told given latched p after h. absurd h; silent = λ k told given latched p after h. absurd h; commutes = λ k a b x y m n o. refl; refuses = λ k job given latched r after h. may_damage k r after h; refuses_undo = λ k told given latched r after h. may_damage k r after h; asks = λ job given. tt; last = λ k a x y. refl; room = λ k a x. (refl, refl) }
+all_lawful zero = record {
+  refuses = λ k job given latched r after h. writes_for job.undo k (overwrite_in job.bytes) given r after h;
+  refuses_undo = refuses_page;
+  count = λ k job given latched p after h. few_written job.undo k (overwrite_in job.bytes) given p after h;
+  count_undo = few_taken_back;
+  before = λ k job given latched p after h slots noted_so. pages.over k given latched p after job h;
+  before_undo = λ k told given latched p after h slots noted_so. pages.over_back k given latched p after told h;
+  slots = λ q k job given latched p after h knows slots as_is. pages.plan_holds k given latched p after q job h as_is;
+  slots_undo = λ q k told given latched p after h knows slots as_is stands. pages.back_holds k given latched p after q told h stands;
+  wanted = λ k job given latched p after h. pages.plan_writes k given latched p after job h;
+  wanted_undo = λ k told given latched p after h. pages.back_writes k given latched p after told h;
+  spares = λ k job given latched p after h g noted_so ne. absurd (ne (pages.kept k given latched p after job h));
+  spares_undo = λ k told given latched p after h g noted_so ne. absurd (ne (pages.back_kept k given latched p after told h));
+  asks = λ job given. asks_page given job.undo (overwrite_in job.bytes);
+  few = λ job given h. gathered.few_written_over job.undo (overwrite_in job.bytes) given h;
+  told = λ k job given latched p after h. inr (pages.tells_none k given latched p after job h);
+  none = refl;
+  silent = silent_taken_back;
+  ended = λ q k job given latched p after h. ap (noted_each page_meaning q (map (λ (w : SlotWrite). w.at) p.writes.items)) (pages.kept k given latched p after job h);
+  ended_undo = λ q k told given latched p after h. ap (noted_each page_meaning q (map (λ (w : SlotWrite). w.at) p.writes.items)) (pages.back_kept k given latched p after told h);
+  last = λ k a x y. refl;
+  commutes = λ k a b x y m n o. refl;
+  room = λ k a x. (refl, refl);
+}
+all_lawful (suc zero) = record {
+  refuses = λ k job given latched r after h. plans_for job.undo k.sizes (doing_in job.bytes) k given latched r after h;
+  refuses_undo = refuses_record;
+  count = λ k job given latched p after h. few_planned job.undo k.sizes (doing_in job.bytes) k given latched p after h;
+  count_undo = few_undone;
+  before = chains.over_plan;
+  before_undo = chains.over_back;
+  slots = chains.plan_holds;
+  slots_undo = λ q k told given latched p after h knows slots as_is stands. chains.back_holds q k told given latched p after h knows slots as_is;
+  wanted = chains.plan_writes;
+  wanted_undo = chains.back_writes;
+  spares = chains.plan_spares;
+  spares_undo = chains.back_spares;
+  asks = λ job given. asks_job given job.undo job.bytes;
+  few = λ job given h. gathered.few_asked job.undo job.bytes given h;
+  told = λ k job given latched p after h. chains.plan_told job.undo k.sizes (doing_in job.bytes) k given latched p after h;
+  none = refl;
+  silent = silent_undone;
+  ended = λ q k job given latched p after h. chains.plan_forgets q job.undo k (doing_in job.bytes) given latched p after h;
+  ended_undo = chains.back_forgets;
+  last = twice;
+  commutes = any_order;
+  room = keeps_room;
+}
+all_lawful (suc (suc n)) = record {
+  refuses = λ k job given latched r after h. may_damage k r after h;
+  refuses_undo = λ k told given latched r after h. may_damage k r after h;
+  count = λ k job given latched p after h. absurd h;
+  count_undo = λ k told given latched p after h. absurd h;
+  before = λ k job given latched p after h. absurd h;
+  before_undo = λ k told given latched p after h. absurd h;
+  slots = λ q k job given latched p after h. absurd h;
+  slots_undo = λ q k told given latched p after h. absurd h;
+  wanted = λ k job given latched p after h. absurd h;
+  wanted_undo = λ k told given latched p after h. absurd h;
+  spares = λ k job given latched p after h. absurd h;
+  spares_undo = λ k told given latched p after h. absurd h;
+  asks = λ job given. tt;
+  few = λ job given h. gathered.few_asks_none given h;
+  told = λ k job given latched p after h. absurd h;
+  none = refl;
+  silent = λ k told given latched p after h. absurd h;
+  ended = λ q k job given latched p after h. absurd h;
+  ended_undo = λ q k told given latched p after h. absurd h;
+  last = λ k a x y. refl;
+  commutes = λ k a b x y m n o. refl;
+  room = λ k a x. (refl, refl);
+}
 
 -- applying a record again
 not_less : (n m : ℕ) → n ≡ m → nat_lt n m ≡ false

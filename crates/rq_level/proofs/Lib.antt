@@ -2,5 +2,9 @@ pub mod OneLevel
 pub mod PageSets
 pub mod EachLevel
 pub mod Noting
+pub mod Based
+pub mod Gathered
+pub mod ChainLaws
+pub mod PageLaws
 pub mod Counted
 pub mod Superblock

@@ -41,7 +41,7 @@ in_any_order : (z : Option Sizes) (k : LevelState) (a b : ℕ) (x y : List ℕ) 
 in_any_order None k a b x y n = refl
 in_any_order (Some z) k a b x y n = slots_apart z k a b x y n
 
-not_first : (k : LevelState) (a : ℕ) (x : List ℕ) → a ≢ 1 → noted k a x ≡ noted_in k.sizes k a x
+pub not_first : (k : LevelState) (a : ℕ) (x : List ℕ) → a ≢ 1 → noted k a x ≡ noted_in k.sizes k a x
 not_first k a x n = rw (ne_eqb a 1 n) refl
 
 pub any_order : (k : LevelState) (a b : ℕ) (x y : List ℕ) → a ≢ 1 → b ≢ 1 → a ≢ b → noted (noted k a x) b y ≡ noted (noted k b y) a x

@@ -1,12 +1,13 @@
 -- What every level keeps to, whatever its number.
-use Rattle.std.specs.Prelude.{◌≡◌, ◌≢◌, ◌≤◌, ℕ, Bool, false, List, [], Option, None, Some, Ok, Err, length}
+use Rattle.std.specs.Prelude.{◌≡◌, ◌≢◌, ◌≤◌, ◌⊎◌, ℕ, Bool, true, false, List, [], Option, None, Some, Ok, Err, length, map}
 use Rattle.rq_model.specs.declared.record.Record.{Record}
 use Rattle.rq_model.specs.declared.refusal.Refusal.{Refusal}
 use Rattle.rq_model.specs.declared.refusal.Refusal.TheVariants as why
 use Rattle.rq_level.specs.LevelState.{LevelState}
 use Rattle.rq_level.specs.Ops.{Job}
 use Rattle.rq_level.specs.Given.{given_at}
-use Rattle.rq_level.specs.Meaning.{Meaning, Redo, AppliesOnce, meaning_of}
+use Rattle.rq_level.specs.Asked.{IsGathered, job_back, AreNoted, AreOver, AreBackOver, AreWritten, SparesCells, noted_each, Knows, AreAsGiven, StandsYet, AreOverSlots}
+use Rattle.rq_level.specs.Meaning.{Meaning, AreOf, Redo, AppliesOnce, meaning_of}
 use Rattle.rq_level.specs.declared.slots.Given.{Given}
 use Rattle.rq_level.specs.declared.writes.Plan.{Plan}
 
@@ -21,6 +22,16 @@ MayHaveNoPlan why.Latched = Unit {0}
 MayHaveNoPlan (why.Damaged d) = Unit {0}
 MayHaveNoPlan _ = ⊥
 
+-- of each plan of something to do
+abbrev pub OfPlans : Meaning → (LevelState → Job → List Given → List ℕ → Plan → LevelState → Type 0) → Type 0
+OfPlans m P = (k : LevelState) (job : Job) (given : List Given) (latched : List ℕ) (p : Plan) (after : LevelState)
+    → m.plans k job given latched (Ok p) after → P k job given latched p after
+
+-- of each plan of what takes a record back
+abbrev pub OfBacks : Meaning → (LevelState → Record → List Given → List ℕ → Plan → LevelState → Type 0) → Type 0
+OfBacks m P = (k : LevelState) (told : Record) (given : List Given) (latched : List ℕ) (p : Plan) (after : LevelState)
+    → m.undoes k told given latched (Ok p) after → P k told given latched p after
+
 pub record IsLawful (m : Meaning) : Type 0 where
   -- what is not planned leaves what the level keeps, and is refused for memory, a latch or damage alone
   pub refuses : (k : LevelState) (job : Job) (given : List Given) (latched : List ℕ) (r : Refusal) (after : LevelState)
@@ -28,15 +39,39 @@ pub record IsLawful (m : Meaning) : Type 0 where
   pub refuses_undo : (k : LevelState) (told : Record) (given : List Given) (latched : List ℕ) (r : Refusal) (after : LevelState)
       → m.undoes k told given latched (Err r) after → MayHaveNoPlan r × (after ≡ k)
   -- a plan has at most three writes
-  pub count : (k : LevelState) (job : Job) (given : List Given) (latched : List ℕ) (p : Plan) (after : LevelState)
-      → m.plans k job given latched (Ok p) after → length p.writes.items ≤ 3
-  pub count_undo : (k : LevelState) (told : Record) (given : List Given) (latched : List ℕ) (p : Plan) (after : LevelState)
-      → m.undoes k told given latched (Ok p) after → length p.writes.items ≤ 3
-  -- the plan of what takes something back tells no deed
-  pub silent : (k : LevelState) (told : Record) (given : List Given) (latched : List ℕ) (p : Plan) (after : LevelState)
-      → m.undoes k told given latched (Ok p) after → p.deed ≡ []
-  -- it asks for no slot twice
+  pub count : OfPlans m (λ k job given latched p after. length p.writes.items ≤ 3)
+  pub count_undo : OfBacks m (λ k told given latched p after. length p.writes.items ≤ 3)
+  -- each is over what was given of its slot; where nothing was, it is of the lowest cell that may be taken
+  pub before : OfPlans m (λ k job given latched p after. AreOf k.sizes given → AreNoted m k given
+      → AreOver k given latched p.writes.items)
+  pub before_undo : OfBacks m (λ k told given latched p after. AreOf k.sizes given → AreNoted m k given
+      → AreBackOver told k given latched p.writes.items)
+  -- a plan by a level that knows the slots writes over what they hold
+  pub slots : (q : ℕ → List ℕ) → OfPlans m (λ k job given latched p after. Knows m k q → AreOf k.sizes given
+      → AreAsGiven q given → AreOverSlots q p.writes.items)
+  pub slots_undo : (q : ℕ → List ℕ) → OfBacks m (λ k told given latched p after. Knows m k q → AreOf k.sizes given
+      → AreAsGiven q given → StandsYet q told → AreOverSlots q p.writes.items)
+  -- each slot that it asked for is written
+  pub wanted : OfPlans m (λ k job given latched p after. IsGathered m job given → AreWritten given p.writes.items)
+  pub wanted_undo : OfBacks m (λ k told given latched p after. IsGathered m (job_back told) given
+      → AreWritten given p.writes.items)
+  -- where it takes a cell, it did not ask for it
+  pub spares : OfPlans m (λ k job given latched p after. IsGathered m job given → AreNoted m k given → after ≢ k
+      → SparesCells k latched given)
+  pub spares_undo : OfBacks m (λ k told given latched p after. IsGathered m (job_back told) given → AreNoted m k given
+      → after ≢ k → SparesCells k latched given)
+  -- it asks for no slot twice, and for three at most
   pub asks : (job : Job) (given : List Given) → IsNotGiven given (m.want job given)
+  pub few : (job : Job) (given : List Given) → IsGathered m job given → length given ≤ 3
+  -- the deed that a plan tells is one that the level reads, or empty, which is none; what takes something back tells none
+  pub told : OfPlans m (λ k job given latched p after. (m.reads p.deed ≡ true) ⊎ (p.deed ≡ []))
+  pub none : m.reads [] ≡ false
+  pub silent : OfBacks m (λ k told given latched p after. p.deed ≡ [])
+  -- once the slots that a plan writes were noted, whatever they hold, the level keeps what it would without the plan
+  pub ended : (q : ℕ → List ℕ) → OfPlans m (λ k job given latched p after.
+      noted_each m q (map (λ w. w.at) p.writes.items) after ≡ noted_each m q (map (λ w. w.at) p.writes.items) k)
+  pub ended_undo : (q : ℕ → List ℕ) → OfBacks m (λ k told given latched p after.
+      noted_each m q (map (λ w. w.at) p.writes.items) after ≡ noted_each m q (map (λ w. w.at) p.writes.items) k)
   -- a slot that is noted again counts as it was noted last
   pub last : (k : LevelState) (a : ℕ) (x y : List ℕ) → m.note (m.note k a x) a y ≡ m.note k a y
   -- slots are noted in any order, but for the one that tells the sizes

@@ -5,4 +5,5 @@ pub mod LevelState
 pub mod ChainPlans
 pub mod PagePlans
 pub mod Meaning
+pub mod Asked
 pub mod Lawful

@@ -1,0 +1,180 @@
+-- What the level of chains keeps to.
+use Rattle.std.proofs.Common.{◌≡◌, ◌≢◌, ◌⊎◌, ℕ, List, [], ◌∷◌, Bool, true, false, Option, None, Some, Ok, map, reverse, refl, sym, ap, ◌∙◌, subst, inl}
+use Rattle.std.proofs.lemmas.List.{reverse-reverse, set-set}
+use Rattle.rq_model.specs.declared.record.Deed.{Deed}
+use Rattle.rq_model.specs.declared.record.Deed.TheVariants.{Append, UnlinkHead, Close as Close_deed}
+use Rattle.rq_model.specs.declared.record.Record.{Record}
+use Rattle.rq_model.specs.declared.record.Record.TheVariants as records
+use Rattle.rq_model.specs.Deeds.{deed_in}
+use Rattle.rq_model.specs.Vocabulary.{In, is_some}
+use Rattle.rq_page.specs.declared.cell.Cell.{Cell}
+use Rattle.rq_page.specs.Sizes.{Sizes, IsCellAddress, place_of}
+use Rattle.rq_page.specs.Slots.{Free}
+use Rattle.rq_views.specs.Log.{Write}
+use Rattle.rq_views.specs.Plans.{relinked}
+use Rattle.rq_level.specs.Asked.{AreWanted, IsGathered, job_back, AreNoted, AreOver, AreBackOver, AreWritten, SparesCells, noted_each, Knows, AreAsGiven, AreOverSlots}
+use Rattle.rq_level.specs.ChainPlans as chain
+use Rattle.rq_level.specs.ChainPlans.{Plans, PlansFor, Undoes, chain_plans, chain_undoes, job_wanted}
+use Rattle.rq_level.specs.Given.{AreGiven, given_at}
+use Rattle.rq_level.specs.LevelState.{LevelState, IsLowest, is_free_slot, noted, noted_cell, reserved_at}
+use Rattle.rq_level.specs.Meaning.{AreOf, chain_meaning}
+use Rattle.rq_level.specs.Ops.{Doing, Job, doing_in}
+use Rattle.rq_level.specs.Ops.Doing.{Send, Receive, Close}
+use Rattle.rq_level.specs.Writes.{writes_of}
+use Rattle.rq_level.specs.declared.slots.Given.{Given}
+use Rattle.rq_level.specs.declared.writes.Plan.{Plan}
+use Rattle.rq_level.specs.declared.writes.SlotWrite.{SlotWrite}
+use Rattle.rq_level.proofs.Based.{IsChainPlan, IsSomething, all_each, are_over, done, holds_at, holds_free, known_free, lowest_cell, noted_there, over_slots, undone, was_given}
+use Rattle.rq_level.proofs.Gathered.{IsTouched, done_touched, undone_touched}
+
+-- a plan is of a store whose sizes were told, and what was asked for is written
+record IsOfStore (k : LevelState) (given : List Given) (latched : List ℕ) (p : Plan) (want : List Given → Option ℕ) : Type 0 where
+  sizes : Sizes
+  told : k.sizes ≡ Some sizes
+  plan : IsChainPlan sizes k given latched p
+  touched : AreWanted want [] given → (g : Given) → In g given → IsTouched sizes k given latched p g.at
+
+module _ (k : LevelState) (given : List Given) (latched : List ℕ) (p : Plan) (after : LevelState) where
+  doing : (z : Option Sizes) (d : Option Doing) → k.sizes ≡ z → Plans z d k given latched (Ok p) after → IsOfStore k given latched p (chain.wanted d)
+  doing (Some z) d e h = record { sizes = z; told = e; plan = done z d k given latched p after h; touched = λ w. done_touched z k given latched p d after h [] given refl w }
+  doing None (Some d) e h = absurd h
+  doing None None e h = absurd h
+
+  undoing : (z : Option Sizes) (d : Option Deed) → k.sizes ≡ z → Undoes z d k given latched (Ok p) after → IsOfStore k given latched p (chain.undo_wanted d)
+  undoing (Some z) d e h = record { sizes = z; told = e; plan = undone z d k given latched p after h; touched = λ w. undone_touched z k given latched p d after h [] given refl w }
+  undoing None (Some d) e h = absurd h
+  undoing None None e h = absurd h
+
+  planned : (job : Job) → chain_plans k job given latched (Ok p) after → IsOfStore k given latched p (job_wanted job)
+  planned job h = by job.undo h where
+    by : (undo : Bool) → PlansFor undo k.sizes (doing_in job.bytes) k given latched (Ok p) after → IsOfStore k given latched p (job_wanted (record { level = job.level; undo = undo; bytes = job.bytes }))
+    by true m = absurd m
+    by false m = doing k.sizes (doing_in job.bytes) refl m
+
+  backed : (told : Record) → chain_undoes k told given latched (Ok p) after → IsOfStore k given latched p (job_wanted (job_back told))
+  backed (records.OpEnd t n level deed) h = undoing k.sizes (deed_in deed) refl h
+  backed _ h = absurd h
+
+-- ---- what its writes are over, and what it asks for
+
+module _ (k : LevelState) (given : List Given) (latched : List ℕ) (p : Plan) (want : List Given → Option ℕ) (m : IsOfStore k given latched p want) where
+  of_store : AreOf k.sizes given → AreGiven m.sizes given
+  of_store slots = subst (λ (o : Option Sizes). AreOf o given) m.told slots
+
+  over : AreOf k.sizes given → AreNoted chain_meaning k given → AreOver k given latched p.writes.items
+  over slots noted_so = are_over m.sizes k given latched p m.plan m.told (of_store slots) noted_so
+
+  holds : (q : ℕ → List ℕ) → Knows chain_meaning k q → AreOf k.sizes given → AreAsGiven q given → AreOverSlots q p.writes.items
+  holds q knows slots as_is = over_slots m.sizes k given latched p m.plan m.told q knows (of_store slots) as_is
+
+  writes : AreWanted want [] given → AreWritten given p.writes.items
+  writes w = all_each (λ (g : Given). In g.at (map (λ (x : SlotWrite). x.at) p.writes.items)) given (λ g i. (m.touched w g i).written)
+
+  spares : AreWanted want [] given → AreNoted chain_meaning k given → SparesCells k latched given
+  spares w noted_so z a told l = by (given_at a given) refl where
+    by : (o : Option (List ℕ)) → given_at a given ≡ o → o ≡ None
+    by None e = refl
+    by (Some bytes) e =
+        let here : IsTouched m.sizes k given latched p a = was_given (λ a x. IsTouched m.sizes k given latched p a) a given bytes (all_each (λ (g : Given). IsTouched m.sizes k given latched p g.at) given (m.touched w)) e in
+        let same : z ≡ m.sizes = (let is : Some z ≡ Some m.sizes = sym told ∙ m.told in cc) in
+        let free : is_free_slot bytes ≡ true = known_free z k latched a bytes told l (was_given (λ a x. noted k a x ≡ k) a given bytes noted_so e) in
+        let nothing : here.held ≡ Free = sym (holds_at m.sizes given a here.held bytes e here.holds) ∙ holds_free m.sizes a bytes (subst (λ x. IsCellAddress x a) same (lowest_cell z k latched a l)) free in
+        absurd (subst IsSomething nothing here.some)
+
+pub over_plan : (k : LevelState) (job : Job) (given : List Given) (latched : List ℕ) (p : Plan) (after : LevelState) → chain_plans k job given latched (Ok p) after → AreOf k.sizes given → AreNoted chain_meaning k given → AreOver k given latched p.writes.items
+over_plan k job given latched p after h = over k given latched p (job_wanted job) (planned k given latched p after job h)
+
+pub over_back : (k : LevelState) (told : Record) (given : List Given) (latched : List ℕ) (p : Plan) (after : LevelState) → chain_undoes k told given latched (Ok p) after → AreOf k.sizes given → AreNoted chain_meaning k given → AreBackOver told k given latched p.writes.items
+over_back k (records.OpEnd t n level deed) given latched p after h = over k given latched p _ (backed k given latched p after (records.OpEnd t n level deed) h)
+over_back k _ given latched p after h = absurd h
+
+pub plan_holds : (q : ℕ → List ℕ) (k : LevelState) (job : Job) (given : List Given) (latched : List ℕ) (p : Plan) (after : LevelState) → chain_plans k job given latched (Ok p) after → Knows chain_meaning k q → AreOf k.sizes given → AreAsGiven q given → AreOverSlots q p.writes.items
+plan_holds q k job given latched p after h = holds k given latched p (job_wanted job) (planned k given latched p after job h) q
+
+pub back_holds : (q : ℕ → List ℕ) (k : LevelState) (told : Record) (given : List Given) (latched : List ℕ) (p : Plan) (after : LevelState) → chain_undoes k told given latched (Ok p) after → Knows chain_meaning k q → AreOf k.sizes given → AreAsGiven q given → AreOverSlots q p.writes.items
+back_holds q k told given latched p after h = holds k given latched p (job_wanted (job_back told)) (backed k given latched p after told h) q
+
+pub plan_writes : (k : LevelState) (job : Job) (given : List Given) (latched : List ℕ) (p : Plan) (after : LevelState) → chain_plans k job given latched (Ok p) after → IsGathered chain_meaning job given → AreWritten given p.writes.items
+plan_writes k job given latched p after h = writes k given latched p (job_wanted job) (planned k given latched p after job h)
+
+pub back_writes : (k : LevelState) (told : Record) (given : List Given) (latched : List ℕ) (p : Plan) (after : LevelState) → chain_undoes k told given latched (Ok p) after → IsGathered chain_meaning (job_back told) given → AreWritten given p.writes.items
+back_writes k told given latched p after h = writes k given latched p (job_wanted (job_back told)) (backed k given latched p after told h)
+
+pub plan_spares : (k : LevelState) (job : Job) (given : List Given) (latched : List ℕ) (p : Plan) (after : LevelState) → chain_plans k job given latched (Ok p) after → IsGathered chain_meaning job given → AreNoted chain_meaning k given → after ≢ k → SparesCells k latched given
+plan_spares k job given latched p after h w noted_so ne = spares k given latched p (job_wanted job) (planned k given latched p after job h) w noted_so
+
+pub back_spares : (k : LevelState) (told : Record) (given : List Given) (latched : List ℕ) (p : Plan) (after : LevelState) → chain_undoes k told given latched (Ok p) after → IsGathered chain_meaning (job_back told) given → AreNoted chain_meaning k given → after ≢ k → SparesCells k latched given
+back_spares k told given latched p after h w noted_so ne = spares k given latched p (job_wanted (job_back told)) (backed k given latched p after told h) w noted_so
+
+-- ---- a plan is forgotten once its slots were noted
+
+module _ (q : ℕ → List ℕ) where
+  abbrev Forgets : List SlotWrite → LevelState → LevelState → Type 0
+  Forgets ws l k = noted_each chain_meaning q (map (λ (w : SlotWrite). w.at) ws) l ≡ noted_each chain_meaning q (map (λ (w : SlotWrite). w.at) ws) k
+
+  abbrev at_first : List Write → ℕ
+  at_first [] = 0
+  at_first (w ∷ ws) = w.at
+
+  from_first : (z : Sizes) (ws : List SlotWrite) (v : Write) (rest : List Write) (l k : LevelState) → writes_of z ws ≡ v ∷ rest → ((x : List ℕ) → noted l v.at x ≡ noted k v.at x) → Forgets ws l k
+  from_first z [] v rest l k e h = absurd (let no : ◌≡◌ {A = List Write} [] (v ∷ rest) = e in cc)
+  from_first z (w ∷ ws) v rest l k e h =
+      let at : w.at ≡ v.at = ap at_first e in
+      ap (noted_each chain_meaning q (map (λ (x : SlotWrite). x.at) ws)) (subst (λ n. noted l n (q w.at) ≡ noted k n (q w.at)) (sym at) (h (q w.at)))
+
+  -- the cell that it takes is written first
+  new_first : (z : Sizes) (ws : List SlotWrite) (d : Write) (at : ℕ) (o : Option Cell) (f : Cell → Cell) (v : Write) (l k : LevelState) → reverse (writes_of z ws) ≡ d ∷ relinked at o f (v ∷ [])
+      → ((x : List ℕ) → noted l v.at x ≡ noted k v.at x) → Forgets ws l k
+  new_first z ws d at None f v l k e h = from_first z ws v (d ∷ []) l k (sym (reverse-reverse (writes_of z ws)) ∙ ap reverse e) h
+  new_first z ws d at (Some c) f v l k e h = from_first z ws v (_ ∷ d ∷ []) l k (sym (reverse-reverse (writes_of z ws)) ∙ ap reverse e) h
+
+  reservation_ends : (z : Sizes) (k : LevelState) (a : ℕ) (x : List ℕ) → k.sizes ≡ Some z → IsCellAddress z a → noted (reserved_at z k a) a x ≡ noted k a x
+  reservation_ends z k a x told cell =
+      noted_there z (reserved_at z k a) a x told cell
+      ∙ ap (λ (r : List Bool). record (noted_cell z k (place_of z a) (is_free_slot x)) { reserved = r }) (set-set k.reserved (place_of z a) true false)
+      ∙ sym (noted_there z k a x told cell)
+
+  same_kept : (ws : List SlotWrite) (l k : LevelState) → l ≡ k → Forgets ws l k
+  same_kept ws l k e = ap (noted_each chain_meaning q (map (λ (w : SlotWrite). w.at) ws)) e
+
+  module _ (k : LevelState) (given : List Given) (latched : List ℕ) (p : Plan) (after : LevelState) where
+    taken : (z : Sizes) (a : ℕ) → k.sizes ≡ Some z → IsLowest z k latched a → after ≡ reserved_at z k a → (x : List ℕ) → noted after a x ≡ noted k a x
+    taken z a told l kept x = ap (λ (m : LevelState). noted m a x) kept ∙ reservation_ends z k a x told (lowest_cell z k latched a l)
+
+    done_forgets : (z : Option Sizes) (d : Option Doing) → k.sizes ≡ z → Plans z d k given latched (Ok p) after → Forgets p.writes.items after k
+    done_forgets (Some z) (Some (Send s tag body)) told h = new_first z p.writes.items _ _ h.can.old _ _ after k h.writes (taken z h.new told h.lowest h.kept)
+    done_forgets (Some z) (Some (Receive s)) told h = same_kept p.writes.items after k h.kept
+    done_forgets (Some z) (Some (Close s)) told h = same_kept p.writes.items after k h.kept
+    done_forgets (Some z) None told h = absurd h
+    done_forgets None (Some d) told h = absurd h
+    done_forgets None None told h = absurd h
+
+    undone_forgets : (z : Option Sizes) (d : Option Deed) → k.sizes ≡ z → Undoes z d k given latched (Ok p) after → Forgets p.writes.items after k
+    undone_forgets (Some z) (Some (Append s n tag previous body)) told h = same_kept p.writes.items after k h.kept
+    undone_forgets (Some z) (Some (UnlinkHead s n tag body)) told h = new_first z p.writes.items _ _ h.can.old _ _ after k h.writes (taken z h.new told h.lowest h.kept)
+    undone_forgets (Some z) (Some (Close_deed s)) told h = same_kept p.writes.items after k h.kept
+    undone_forgets (Some z) None told h = absurd h
+    undone_forgets None (Some d) told h = absurd h
+    undone_forgets None None told h = absurd h
+
+  pub plan_forgets : (undo : Bool) (k : LevelState) (d : Option Doing) (given : List Given) (latched : List ℕ) (p : Plan) (after : LevelState) → PlansFor undo k.sizes d k given latched (Ok p) after → Forgets p.writes.items after k
+  plan_forgets true k d given latched p after h = absurd h
+  plan_forgets false k d given latched p after h = done_forgets k given latched p after k.sizes d refl h
+
+  pub back_forgets : (k : LevelState) (told : Record) (given : List Given) (latched : List ℕ) (p : Plan) (after : LevelState) → chain_undoes k told given latched (Ok p) after → Forgets p.writes.items after k
+  back_forgets k (records.OpEnd t n level deed) given latched p after h = undone_forgets k given latched p after k.sizes (deed_in deed) refl h
+  back_forgets k _ given latched p after h = absurd h
+
+-- ---- the deed that a plan tells
+
+deed_read : (z : Option Sizes) (d : Option Doing) (k : LevelState) (given : List Given) (latched : List ℕ) (p : Plan) (after : LevelState) → Plans z d k given latched (Ok p) after → is_some (deed_in p.deed) ≡ true
+deed_read (Some z) (Some (Send s tag body)) k given latched p after h = ap is_some h.reads
+deed_read (Some z) (Some (Receive s)) k given latched p after h = ap is_some h.reads
+deed_read (Some z) (Some (Close s)) k given latched p after h = ap is_some h.reads
+deed_read (Some z) None k given latched p after h = absurd h
+deed_read None (Some d) k given latched p after h = absurd h
+deed_read None None k given latched p after h = absurd h
+
+pub plan_told : (undo : Bool) (z : Option Sizes) (d : Option Doing) (k : LevelState) (given : List Given) (latched : List ℕ) (p : Plan) (after : LevelState) → PlansFor undo z d k given latched (Ok p) after → (is_some (deed_in p.deed) ≡ true) ⊎ (p.deed ≡ [])
+plan_told true z d k given latched p after h = absurd h
+plan_told false z d k given latched p after h = inl (deed_read z d k given latched p after h)

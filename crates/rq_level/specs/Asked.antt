@@ -1,0 +1,84 @@
+-- What a level asked for before it planned, what its writes are over, and slots that are noted one after the other.
+use Rattle.std.specs.Prelude.{◌≡◌, ◌/◌, ◌%◌, ◌+◌, ◌*◌, ℕ, true, List, [], ◌∷◌, ◌++◌, Option, None, Some, map, All}
+use Rattle.rq_model.specs.declared.record.Record.{Record}
+use Rattle.rq_model.specs.declared.record.Record.TheVariants.{OpEnd, PageOp}
+use Rattle.rq_model.specs.Vocabulary.{In}
+use Rattle.rq_page.specs.Cells.{free_bytes}
+use Rattle.rq_page.specs.Sizes.{Sizes}
+use Rattle.rq_page.specs.Slots.{IsSlotOf}
+use Rattle.rq_views.specs.Stored.{IsStoreSlot}
+use Rattle.rq_level.specs.LevelState.{LevelState, IsLowest}
+use Rattle.rq_level.specs.Ops.{Job}
+use Rattle.rq_level.specs.Given.{given_at}
+use Rattle.rq_level.specs.PagePlans.{IsOneWrite}
+use Rattle.rq_level.specs.Meaning.{Meaning}
+use Rattle.rq_level.specs.declared.slots.Given.{Given}
+use Rattle.rq_level.specs.declared.writes.SlotWrite.{SlotWrite}
+
+-- what was given behind the first of them is what was wanted, one after the other
+abbrev pub AreWanted : (List Given → Option ℕ) → List Given → List Given → Type 0
+AreWanted want front [] = Unit {0}
+AreWanted want front (g ∷ gs) = (want front ≡ Some g.at) × AreWanted want (front ++ g ∷ []) gs
+
+abbrev pub IsGathered : Meaning → Job → List Given → Type 0
+IsGathered m job given = AreWanted (m.want job) [] given
+
+-- for what is asked before a record is taken back
+abbrev pub job_back : Record → Job
+job_back (OpEnd t n level deed) = record { level = level; undo = true; bytes = deed }
+job_back _ = record { level = 0; undo = true; bytes = [] }
+
+-- what was given was noted so
+abbrev pub AreNoted : Meaning → LevelState → List Given → Type 0
+AreNoted m k given = All (λ g. m.note k g.at g.bytes ≡ k) given
+
+-- the write is of the lowest cell that may be taken, over the bytes of a free one
+pub record TakesCell (k : LevelState) (latched : List ℕ) (w : SlotWrite) : Type 0 where
+  pub sizes : Sizes
+  pub told : k.sizes ≡ Some sizes
+  pub lowest : IsLowest sizes k latched w.at
+  pub free : w.before ≡ free_bytes
+
+-- it is over what was given of its slot; where nothing was, it takes a cell
+abbrev pub IsOver : LevelState → List ℕ → SlotWrite → Option (List ℕ) → Type 0
+IsOver k latched w None = TakesCell k latched w
+IsOver k latched w (Some bytes) = w.before ≡ bytes
+
+abbrev pub AreOver : LevelState → List Given → List ℕ → List SlotWrite → Type 0
+AreOver k given latched ws = All (λ w. IsOver k latched w (given_at w.at given)) ws
+
+-- what takes back a slot write is over what that left, and leaves what stood there before it
+abbrev pub AreBackOver : Record → LevelState → List Given → List ℕ → List SlotWrite → Type 0
+AreBackOver (PageOp t n page slot x y) k given latched ws = IsOneWrite (page * 16 + slot) y x ws
+AreBackOver _ k given latched ws = AreOver k given latched ws
+
+-- each of the slots is written
+abbrev pub AreWritten : List Given → List SlotWrite → Type 0
+AreWritten given ws = All (λ g. In g.at (map (λ w. w.at) ws)) given
+
+-- none of them is a cell that may be taken
+abbrev pub SparesCells : LevelState → List ℕ → List Given → Type 0
+SparesCells k latched given = (z : Sizes) (a : ℕ) → k.sizes ≡ Some z → IsLowest z k latched a → given_at a given ≡ None
+
+-- what is kept once the slots at these addresses are noted
+abbrev pub noted_each : Meaning → (ℕ → List ℕ) → List ℕ → LevelState → LevelState
+noted_each m q [] k = k
+noted_each m q (a ∷ places) k = noted_each m q places (m.note k a (q a))
+
+-- the slots are those of the store that was told, and to note one as it is changes nothing
+pub record Knows (m : Meaning) (k : LevelState) (q : ℕ → List ℕ) : Type 0 where
+  pub slots : (z : Sizes) (a : ℕ) → k.sizes ≡ Some z → IsStoreSlot z a → IsSlotOf z (a / 16) (a % 16) (q a)
+  pub noted : (a : ℕ) → m.note k a (q a) ≡ k
+
+-- what was given stands there
+abbrev pub AreAsGiven : (ℕ → List ℕ) → List Given → Type 0
+AreAsGiven q given = All (λ g. g.bytes ≡ q g.at) given
+
+-- of a slot write that is taken back, what it left stands there
+abbrev pub StandsYet : (ℕ → List ℕ) → Record → Type 0
+StandsYet q (PageOp t n page slot x y) = q (page * 16 + slot) ≡ y
+StandsYet q _ = Unit {0}
+
+-- each write is over what its slot holds
+abbrev pub AreOverSlots : (ℕ → List ℕ) → List SlotWrite → Type 0
+AreOverSlots q ws = All (λ w. w.before ≡ q w.at) ws
