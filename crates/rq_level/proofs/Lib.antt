@@ -6,5 +6,6 @@ pub mod Based
 pub mod Gathered
 pub mod ChainLaws
 pub mod PageLaws
+pub mod Anew
 pub mod Counted
 pub mod Superblock

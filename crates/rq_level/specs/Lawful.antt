@@ -7,6 +7,7 @@ use Rattle.rq_level.specs.LevelState.{LevelState}
 use Rattle.rq_level.specs.Ops.{Job}
 use Rattle.rq_level.specs.Given.{given_at}
 use Rattle.rq_level.specs.Asked.{IsGathered, job_back, AreNoted, AreOver, AreBackOver, AreWritten, SparesCells, noted_each, Knows, AreAsGiven, StandsYet, AreOverSlots}
+use Rattle.rq_level.specs.OwnState.{OwnStateIsAnew}
 use Rattle.rq_level.specs.Meaning.{Meaning, AreOf, Redo, AppliesOnce, meaning_of}
 use Rattle.rq_level.specs.declared.slots.Given.{Given}
 use Rattle.rq_level.specs.declared.writes.Plan.{Plan}
@@ -89,3 +90,7 @@ AppliedTwiceIsOnce = (w : Option Redo) (old once twice : List ℕ) (lsn : ℕ) (
 -- each level keeps its laws
 abbrev pub AllLawful : Type 0
 AllLawful = (n : ℕ) → IsLawful (meaning_of n)
+
+-- and keeps of a store what its slots, read anew, would give
+abbrev pub AllKeepAnew : Type 0
+AllKeepAnew = (n : ℕ) → OwnStateIsAnew (meaning_of n)

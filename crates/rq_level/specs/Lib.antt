@@ -6,4 +6,5 @@ pub mod ChainPlans
 pub mod PagePlans
 pub mod Meaning
 pub mod Asked
+pub mod OwnState
 pub mod Lawful

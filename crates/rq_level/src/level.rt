@@ -1,7 +1,7 @@
 //! The interface of a level of recovery.
 ghost use Rattle.std.specs.Prelude.{◌≡◌, ◌≤◌, ℕ};
 ghost use Rattle.rq_level.specs.LevelState.{LevelState};
-ghost use Rattle.rq_level.specs.Lawful.{AllLawful, AppliedTwiceIsOnce};
+ghost use Rattle.rq_level.specs.Lawful.{AllKeepAnew, AllLawful, AppliedTwiceIsOnce};
 ghost use Rattle.rq_level.specs.Meaning.{meaning_of, wish, AreOf, redo_of, AppliesOnce, IsRedo, IsAppliedOnce};
 
 use crate::op::Op;
@@ -161,4 +161,9 @@ pub fn applied_twice_is_once()
 /// Each level keeps its laws, whatever its number.
 pub fn levels_are_lawful()
     ensures { AllLawful }
+{}
+
+/// Once the slots that were planned or written are noted, each level keeps what the slots, read anew, would give.
+pub fn what_is_kept_is_read_anew()
+    ensures { AllKeepAnew }
 {}

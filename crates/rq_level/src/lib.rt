@@ -10,7 +10,9 @@ mod op;
 mod slots;
 mod writes;
 
-pub use level::{Level, Want, applied_twice_is_once, levels_are_lawful, redo_page};
+pub use level::{
+    Level, Want, applied_twice_is_once, levels_are_lawful, redo_page, what_is_kept_is_read_anew,
+};
 pub use levels::Levels;
 pub use op::Op;
 pub use slots::{Given, PageSet, Slots};
