@@ -31,6 +31,7 @@ use Rattle.rq_level.proofs.Noting.{any_order}
 use Rattle.rq_level.proofs.ChainLaws as chains
 use Rattle.rq_level.proofs.Gathered as gathered
 use Rattle.rq_level.proofs.PageLaws as pages
+use Rattle.rq_level.proofs.TakenBack as back
 
 unless : (given : List Given) (a : ℕ) (o : Option (List ℕ)) → given_at a given ≡ o → IsNotGiven given (unless_given a o)
 unless given a None e = e
@@ -204,8 +205,8 @@ all_lawful zero = record {
   count_undo = few_taken_back;
   before = λ k job given latched p after h slots noted_so. pages.over k given latched p after job h;
   before_undo = λ k told given latched p after h slots noted_so. pages.over_back k given latched p after told h;
-  slots = λ q k job given latched p after h knows slots as_is. pages.plan_holds k given latched p after q job h as_is;
-  slots_undo = λ q k told given latched p after h knows slots as_is stands. pages.back_holds k given latched p after q told h stands;
+  holds = λ q k job given latched p after h knows slots as_is. pages.plan_holds k given latched p after q job h as_is;
+  holds_undo = λ q k told given latched p after h knows slots as_is stands. pages.back_holds k given latched p after q told h stands;
   wanted = λ k job given latched p after h. pages.plan_writes k given latched p after job h;
   wanted_undo = λ k told given latched p after h. pages.back_writes k given latched p after told h;
   spares = λ k job given latched p after h g noted_so ne. absurd (ne (pages.kept k given latched p after job h));
@@ -215,6 +216,7 @@ all_lawful zero = record {
   told = λ k job given latched p after h. inr (pages.tells_none k given latched p after job h);
   none = refl;
   silent = silent_taken_back;
+  inverse = λ z d v q k job given latched p after h sizes told. absurd (pages.tells_no_deed k given latched p after job h d told);
   ended = λ q k job given latched p after h. ap (noted_each page_meaning q (map (λ (w : SlotWrite). w.at) p.writes.items)) (pages.kept k given latched p after job h);
   ended_undo = λ q k told given latched p after h. ap (noted_each page_meaning q (map (λ (w : SlotWrite). w.at) p.writes.items)) (pages.back_kept k given latched p after told h);
   last = λ k a x y. refl;
@@ -228,8 +230,8 @@ all_lawful (suc zero) = record {
   count_undo = few_undone;
   before = chains.over_plan;
   before_undo = chains.over_back;
-  slots = chains.plan_holds;
-  slots_undo = λ q k told given latched p after h knows slots as_is stands. chains.back_holds q k told given latched p after h knows slots as_is;
+  holds = chains.plan_holds;
+  holds_undo = λ q k told given latched p after h knows slots as_is stands. chains.back_holds q k told given latched p after h knows slots as_is;
   wanted = chains.plan_writes;
   wanted_undo = chains.back_writes;
   spares = chains.plan_spares;
@@ -239,6 +241,7 @@ all_lawful (suc zero) = record {
   told = λ k job given latched p after h. chains.plan_told job.undo k.sizes (doing_in job.bytes) k given latched p after h;
   none = refl;
   silent = silent_undone;
+  inverse = λ z d v q k job given latched p after h sizes. back.taken_back job.undo z (doing_in job.bytes) k given latched p after d v q sizes h;
   ended = λ q k job given latched p after h. chains.plan_forgets q job.undo k (doing_in job.bytes) given latched p after h;
   ended_undo = chains.back_forgets;
   last = twice;
@@ -252,8 +255,8 @@ all_lawful (suc (suc n)) = record {
   count_undo = λ k told given latched p after h. absurd h;
   before = λ k job given latched p after h. absurd h;
   before_undo = λ k told given latched p after h. absurd h;
-  slots = λ q k job given latched p after h. absurd h;
-  slots_undo = λ q k told given latched p after h. absurd h;
+  holds = λ q k job given latched p after h. absurd h;
+  holds_undo = λ q k told given latched p after h. absurd h;
   wanted = λ k job given latched p after h. absurd h;
   wanted_undo = λ k told given latched p after h. absurd h;
   spares = λ k job given latched p after h. absurd h;
@@ -263,6 +266,7 @@ all_lawful (suc (suc n)) = record {
   told = λ k job given latched p after h. absurd h;
   none = refl;
   silent = λ k told given latched p after h. absurd h;
+  inverse = λ z d v q k job given latched p after h. absurd h;
   ended = λ q k job given latched p after h. absurd h;
   ended_undo = λ q k told given latched p after h. absurd h;
   last = λ k a x y. refl;

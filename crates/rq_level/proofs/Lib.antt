@@ -7,5 +7,7 @@ pub mod Gathered
 pub mod ChainLaws
 pub mod PageLaws
 pub mod Anew
+pub mod Links
+pub mod TakenBack
 pub mod Counted
 pub mod Superblock

@@ -3,11 +3,19 @@ use Rattle.std.specs.Prelude.{◌≡◌, ◌≢◌, ◌≤◌, ◌⊎◌, ℕ, B
 use Rattle.rq_model.specs.declared.record.Record.{Record}
 use Rattle.rq_model.specs.declared.refusal.Refusal.{Refusal}
 use Rattle.rq_model.specs.declared.refusal.Refusal.TheVariants as why
+use Rattle.rq_model.specs.declared.record.Deed.{Deed}
+use Rattle.rq_model.specs.Deeds.{deed_in}
+use Rattle.rq_page.specs.Sizes.{Sizes}
+use Rattle.rq_views.specs.Chain.{View}
+use Rattle.rq_views.specs.Items.{layout_of}
+use Rattle.rq_views.specs.Log.{HasBefores, Slots, applied}
+use Rattle.rq_views.specs.Plans.{ShowsAt, deed_sender}
 use Rattle.rq_level.specs.LevelState.{LevelState}
 use Rattle.rq_level.specs.Ops.{Job}
 use Rattle.rq_level.specs.Given.{given_at}
 use Rattle.rq_level.specs.Asked.{IsGathered, job_back, AreNoted, AreOver, AreBackOver, AreWritten, SparesCells, noted_each, Knows, AreAsGiven, StandsYet, AreOverSlots}
 use Rattle.rq_level.specs.OwnState.{OwnStateIsAnew}
+use Rattle.rq_level.specs.TakenBack.{IsOpenFor, LeavesOthers, made}
 use Rattle.rq_level.specs.Meaning.{Meaning, AreOf, Redo, AppliesOnce, meaning_of}
 use Rattle.rq_level.specs.declared.slots.Given.{Given}
 use Rattle.rq_level.specs.declared.writes.Plan.{Plan}
@@ -48,9 +56,9 @@ pub record IsLawful (m : Meaning) : Type 0 where
   pub before_undo : OfBacks m (λ k told given latched p after. AreOf k.sizes given → AreNoted m k given
       → AreBackOver told k given latched p.writes.items)
   -- a plan by a level that knows the slots writes over what they hold
-  pub slots : (q : ℕ → List ℕ) → OfPlans m (λ k job given latched p after. Knows m k q → AreOf k.sizes given
+  pub holds : (q : ℕ → List ℕ) → OfPlans m (λ k job given latched p after. Knows m k q → AreOf k.sizes given
       → AreAsGiven q given → AreOverSlots q p.writes.items)
-  pub slots_undo : (q : ℕ → List ℕ) → OfBacks m (λ k told given latched p after. Knows m k q → AreOf k.sizes given
+  pub holds_undo : (q : ℕ → List ℕ) → OfBacks m (λ k told given latched p after. Knows m k q → AreOf k.sizes given
       → AreAsGiven q given → StandsYet q told → AreOverSlots q p.writes.items)
   -- each slot that it asked for is written
   pub wanted : OfPlans m (λ k job given latched p after. IsGathered m job given → AreWritten given p.writes.items)
@@ -68,6 +76,10 @@ pub record IsLawful (m : Meaning) : Type 0 where
   pub told : OfPlans m (λ k job given latched p after. (m.reads p.deed ≡ true) ⊎ (p.deed ≡ []))
   pub none : m.reads [] ≡ false
   pub silent : OfBacks m (λ k told given latched p after. p.deed ≡ [])
+  -- what takes an operation back leaves what was done meanwhile on the other end of its chain
+  pub inverse : (z : Sizes) (d : Deed) (v : View) (q : Slots) → OfPlans m (λ k job given latched p after. k.sizes ≡ Some z
+      → deed_in p.deed ≡ Some d → HasBefores (made z p) q → ShowsAt (layout_of z) q (deed_sender d) v → IsOpenFor d v
+      → LeavesOthers m z d p.deed v (applied (made z p) q))
   -- once the slots that a plan writes were noted, whatever they hold, the level keeps what it would without the plan
   pub ended : (q : ℕ → List ℕ) → OfPlans m (λ k job given latched p after.
       noted_each m q (map (λ w. w.at) p.writes.items) after ≡ noted_each m q (map (λ w. w.at) p.writes.items) k)

@@ -7,4 +7,5 @@ pub mod PagePlans
 pub mod Meaning
 pub mod Asked
 pub mod OwnState
+pub mod TakenBack
 pub mod Lawful
