@@ -10,18 +10,19 @@ use Rattle.rq_page.specs.Slots.{Free, Used}
 use Rattle.rq_views.specs.Chain.{View, message}
 use Rattle.rq_views.specs.Groups.{TellsView}
 use Rattle.rq_views.specs.Items.{layout_of}
-use Rattle.rq_views.specs.Log.{HasBefores, Slots, applied}
-use Rattle.rq_views.specs.Plans.{IsPlan, ShowsAt, deed_sender, with_turn}
+use Rattle.rq_views.specs.Log.{HasBefores, Slots}
+use Rattle.rq_views.specs.Plans.{IsPlan, ShowsAt, Turn, deed_sender, turn_sender, with_turn}
 use Rattle.rq_views.specs.Plans.Turn.{Did, Undid}
+use Rattle.rq_views.proofs.ChainLaws.{others}
 use Rattle.rq_views.proofs.Inverses.{inverses_leave}
-use Rattle.rq_views.proofs.Views.{own_law}
+use Rattle.rq_views.proofs.Views.{own_law, plan_spares}
 use Rattle.rq_level.specs.ChainPlans.{Beside, Plans, PlansFor, Undoes}
 use Rattle.rq_level.specs.Given.{GivenHolds, HoldsBytes, given_at}
 use Rattle.rq_level.specs.LevelState.{LevelState, IsLowest}
 use Rattle.rq_level.specs.Meaning.{chain_meaning}
 use Rattle.rq_level.specs.Ops.{Doing}
 use Rattle.rq_level.specs.Ops.Doing.{Send, Receive, Close}
-use Rattle.rq_level.specs.TakenBack.{IsOpenFor, LeadsBack, LeavesOthers, made}
+use Rattle.rq_level.specs.TakenBack.{IsOpenFor, LeadsBack, LeavesAt, LeavesOthers, made}
 use Rattle.rq_level.specs.declared.slots.Given.{Given}
 use Rattle.rq_level.specs.declared.writes.Plan.{Plan}
 use Rattle.rq_level.proofs.Based.{lowest_cell}
@@ -90,25 +91,31 @@ module _ (z : Sizes) (k : LevelState) (given : List Given) (latched : List ℕ) 
   }
   of_back (Close_deed s) h shows = record { directory = h.marked.can.directory; writes = h.marked.writes }
 
+-- the writes of a turn
+leaves_at : (z : Sizes) (p : Plan) (q : Slots) (t : Turn) (v : View) → IsPlan (layout_of z) t (made z p) → HasBefores (made z p) q → ShowsAt (layout_of z) q (turn_sender t) v → LeavesAt z p q (turn_sender t) (with_turn t v)
+leaves_at z p q t v is fits shows = (
+  own_law (layout_of z) q (made z p) t v is fits shows,
+  λ r x ne h. others (layout_of z) q (made z p) r x (plan_spares (layout_of z) r t (made z p) ne is) fits h,
+)
+
 -- it is taken back to what the others alone led to
 module _ (z : Sizes) (k : LevelState) (given : List Given) (latched : List ℕ) (p : Plan) (after : LevelState) (d : Deed) (v : View) (q : Slots) (told : deed_in p.deed ≡ Some d) (fits : HasBefores (made z p) q) (shows : ShowsAt (layout_of z) q (deed_sender d) v) (open_for : IsOpenFor d v) where
   back_to : (u w : View) → with_turn (Undid d) u ≡ w → LeadsBack chain_meaning z (deed_sender d) p.deed u w
   back_to u w e l t n level back held r kept x sizes h over shown =
       let is : Undoes (Some z) (Some d) l back held (Ok r) kept = subst (λ o. Undoes o (Some d) l back held (Ok r) kept) sizes (subst (λ o. Undoes l.sizes o l back held (Ok r) kept) told h) in
-      subst (λ y. ShowsAt (layout_of z) (applied (made z r) x) (deed_sender d) y) e
-      (own_law (layout_of z) x (made z r) (Undid d) u (of_back z l back held r kept x u over d is shown) over shown)
+      subst (LeavesAt z r x (deed_sender d)) e (leaves_at z r x (Undid d) u (of_back z l back held r kept x u over d is shown) over shown)
 
-  leaves_others : (o : Option Doing) → Plans (Some z) o k given latched (Ok p) after → LeavesOthers chain_meaning z d p.deed v (applied (made z p) q)
+  leaves_others : (o : Option Doing) → Plans (Some z) o k given latched (Ok p) after → LeavesOthers chain_meaning z d v q p
   leaves_others o h =
       let m = of_deed z k given latched p after q v fits o d h told shows open_for in
       record {
-        does = own_law (layout_of z) q (made z p) (Did d) v m.0 fits shows;
+        does = leaves_at z p q (Did d) v m.0 fits shows;
         takings = λ e ops u w a b. back_to u w (inverses_leave.sending (Did d) ops v w u e m.1 b a);
         sendings = λ e ops u w a b. back_to u w (inverses_leave.receiving (Did d) ops v w u e m.1 b a);
       }
 
 pub taken_back : (undo : Bool) (z : Sizes) (o : Option Doing) (k : LevelState) (given : List Given) (latched : List ℕ) (p : Plan) (after : LevelState) (d : Deed) (v : View) (q : Slots) → k.sizes ≡ Some z → PlansFor undo k.sizes o k given latched (Ok p) after
-    → deed_in p.deed ≡ Some d → HasBefores (made z p) q → ShowsAt (layout_of z) q (deed_sender d) v → IsOpenFor d v → LeavesOthers chain_meaning z d p.deed v (applied (made z p) q)
+    → deed_in p.deed ≡ Some d → HasBefores (made z p) q → ShowsAt (layout_of z) q (deed_sender d) v → IsOpenFor d v → LeavesOthers chain_meaning z d v q p
 taken_back true z o k given latched p after d v q sizes h told fits shows open_for = absurd h
 taken_back false z o k given latched p after d v q sizes h told fits shows open_for =
     leaves_others z k given latched p after d v q told fits shows open_for o (subst (λ s. Plans s o k given latched (Ok p) after) sizes h)

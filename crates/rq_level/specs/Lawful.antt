@@ -8,7 +8,7 @@ use Rattle.rq_model.specs.Deeds.{deed_in}
 use Rattle.rq_page.specs.Sizes.{Sizes}
 use Rattle.rq_views.specs.Chain.{View}
 use Rattle.rq_views.specs.Items.{layout_of}
-use Rattle.rq_views.specs.Log.{HasBefores, Slots, applied}
+use Rattle.rq_views.specs.Log.{HasBefores, Slots}
 use Rattle.rq_views.specs.Plans.{ShowsAt, deed_sender}
 use Rattle.rq_level.specs.LevelState.{LevelState}
 use Rattle.rq_level.specs.Ops.{Job}
@@ -76,10 +76,11 @@ pub record IsLawful (m : Meaning) : Type 0 where
   pub told : OfPlans m (λ k job given latched p after. (m.reads p.deed ≡ true) ⊎ (p.deed ≡ []))
   pub none : m.reads [] ≡ false
   pub silent : OfBacks m (λ k told given latched p after. p.deed ≡ [])
-  -- what takes an operation back leaves what was done meanwhile on the other end of its chain
+  -- a plan does to its sender's chain what its deed tells, and what takes that back leaves what was done meanwhile on the
+  -- other end; neither changes another chain
   pub inverse : (z : Sizes) (d : Deed) (v : View) (q : Slots) → OfPlans m (λ k job given latched p after. k.sizes ≡ Some z
       → deed_in p.deed ≡ Some d → HasBefores (made z p) q → ShowsAt (layout_of z) q (deed_sender d) v → IsOpenFor d v
-      → LeavesOthers m z d p.deed v (applied (made z p) q))
+      → LeavesOthers m z d v q p)
   -- once the slots that a plan writes were noted, whatever they hold, the level keeps what it would without the plan
   pub ended : (q : ℕ → List ℕ) → OfPlans m (λ k job given latched p after.
       noted_each m q (map (λ w. w.at) p.writes.items) after ≡ noted_each m q (map (λ w. w.at) p.writes.items) k)
