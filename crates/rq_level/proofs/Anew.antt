@@ -1,15 +1,14 @@
 -- What a level keeps is what the slots, read anew, would give.
-use Rattle.std.proofs.Common.{◌≡◌, ◌≢◌, if◌then◌else◌, not, cond, ℕ, List, [], ◌∷◌, ◌++◌, Bool, map, All, refl, sym, ap, ◌∙◌, subst, inl, inr}
+use Rattle.std.proofs.Common.{◌≡◌, ◌≢◌, if◌then◌else◌, not, cond, ℕ, List, [], ◌∷◌, ◌++◌, Bool, All, refl, sym, ap, ◌∙◌, subst, inl, inr}
 use Rattle.std.specs.List.{AllByRecursion}
 use Rattle.std.proofs.lemmas.Bool.{cases_eq, eq-eqb, ne_eqb}
 use Rattle.std.proofs.lemmas.List.Elements.{recursion_from_All}
 use Rattle.rq_model.specs.Vocabulary.{In}
-use Rattle.rq_level.specs.Asked.{noted_each}
+use Rattle.rq_level.specs.Asked.{noted_each, written_at}
 use Rattle.rq_level.specs.LevelState.{LevelState}
 use Rattle.rq_level.specs.Lawful.{IsLawful}
 use Rattle.rq_level.specs.Meaning.{Meaning}
-use Rattle.rq_level.specs.OwnState.{IsAnew, KeepsAnew, with_bytes, without}
-use Rattle.rq_level.specs.declared.writes.SlotWrite.{SlotWrite}
+use Rattle.rq_level.specs.OwnState.{AreAmong, IsAnew, KeepsAnew, with_bytes, without}
 use Rattle.rq_level.proofs.Based.{each_in}
 
 module _ (m : Meaning) (lawful : IsLawful m) where
@@ -109,24 +108,19 @@ module _ (m : Meaning) (lawful : IsLawful m) where
     far_of [] h = tt
     far_of (x ∷ xs) h = (each_in (λ (a : ℕ). a ≢ 1) all far x h.0, far_of xs h.1)
 
-    places_in : (ws : List SlotWrite) → AllByRecursion (λ (w : SlotWrite). In w.at all) ws → AllByRecursion (λ a. In a all) (map (λ (w : SlotWrite). w.at) ws)
-    places_in [] h = tt
-    places_in (w ∷ ws) h = (h.0, places_in ws h.1)
-
     -- a plan whose slots are forgotten once they were noted
-    planned : (k after : LevelState) (q : ℕ → List ℕ) (left : List ℕ) (ws : List SlotWrite) → IsAnew m opened all k q left → All (λ (w : SlotWrite). In w.at all) ws → AllByRecursion (λ a. In a all) left
-        → noted_each m q (map (λ (w : SlotWrite). w.at) ws) after ≡ noted_each m q (map (λ (w : SlotWrite). w.at) ws) k → IsAnew m opened all after q (map (λ (w : SlotWrite). w.at) ws ++ left)
-    planned k after q left ws h within inside ended =
-        let places : List ℕ = map (λ (w : SlotWrite). w.at) ws in
-        let among = places_in ws (recursion_from_All (λ (w : SlotWrite). In w.at all) ws within) in
-        joined q places left after ∙ ap (noted_each m q left) ended ∙ all_last q places left k (far_of places among) (far_of left inside)
-        ∙ ap (noted_each m q places) h ∙ all_again q places all opened far among
+    planned : (k after : LevelState) (q : ℕ → List ℕ) (left places : List ℕ) → AreAmong all left → AreAmong all places → IsAnew m opened all k q left → noted_each m q places after ≡ noted_each m q places k → IsAnew m opened all after q (places ++ left)
+    planned k after q left places inside among h ended =
+        let these = recursion_from_All (λ (a : ℕ). In a all) places among in
+        joined q places left after ∙ ap (noted_each m q left) ended
+        ∙ all_last q places left k (far_of places these) (far_of left (recursion_from_All (λ (a : ℕ). In a all) left inside))
+        ∙ ap (noted_each m q places) h ∙ all_again q places all opened far these
 
     pub keeps_anew : KeepsAnew m opened all
     keeps_anew = record {
-      plans = λ k q left job given latched p after h inside m within. planned k after q left p.writes.items h within (recursion_from_All (λ a. In a all) left inside) (lawful.ended q k job given latched p after m);
-      undoes = λ k q left told given latched p after h inside m within. planned k after q left p.writes.items h within (recursion_from_All (λ a. In a all) left inside) (lawful.ended_undo q k told given latched p after m);
-      notes = λ k q left a x h inside i.
+      plans = λ q left k job given latched p after m inside among h. planned k after q left (written_at p) inside among h (lawful.ended q k job given latched p after m);
+      undoes = λ q left k told given latched p after m inside among h. planned k after q left (written_at p) inside among h (lawful.ended_undo q k told given latched p after m);
+      notes = λ k q left a x inside i h.
           let na : a ≢ 1 = each_in (λ (a : ℕ). a ≢ 1) all far a i in
-          dropped q a x na left k (far_of left (recursion_from_All (λ b. In b all) left inside)) ∙ ap (λ l. m.note l a x) h ∙ sym (written q a x na all opened far i);
+          dropped q a x na left k (far_of left (recursion_from_All (λ (b : ℕ). In b all) left inside)) ∙ ap (λ l. m.note l a x) h ∙ sym (written q a x na all opened far i);
     }

@@ -67,7 +67,7 @@ module _ (k : LevelState) (given : List Given) (latched : List ℕ) (p : Plan) (
   holds : (q : ℕ → List ℕ) → Knows chain_meaning k q → AreOf k.sizes given → AreAsGiven q given → AreOverSlots q p.writes.items
   holds q knows slots as_is = over_slots m.sizes k given latched p m.plan m.told q knows (of_store slots) as_is
 
-  writes : AreWanted want [] given → AreWritten given p.writes.items
+  writes : AreWanted want [] given → AreWritten given p
   writes w = all_each (λ (g : Given). In g.at (map (λ (x : SlotWrite). x.at) p.writes.items)) given (λ g i. (m.touched w g i).written)
 
   spares : AreWanted want [] given → AreNoted chain_meaning k given → SparesCells k latched given
@@ -94,10 +94,10 @@ plan_holds q k job given latched p after h = holds k given latched p (job_wanted
 pub back_holds : (q : ℕ → List ℕ) (k : LevelState) (told : Record) (given : List Given) (latched : List ℕ) (p : Plan) (after : LevelState) → chain_undoes k told given latched (Ok p) after → Knows chain_meaning k q → AreOf k.sizes given → AreAsGiven q given → AreOverSlots q p.writes.items
 back_holds q k told given latched p after h = holds k given latched p (job_wanted (job_back told)) (backed k given latched p after told h) q
 
-pub plan_writes : (k : LevelState) (job : Job) (given : List Given) (latched : List ℕ) (p : Plan) (after : LevelState) → chain_plans k job given latched (Ok p) after → IsGathered chain_meaning job given → AreWritten given p.writes.items
+pub plan_writes : (k : LevelState) (job : Job) (given : List Given) (latched : List ℕ) (p : Plan) (after : LevelState) → chain_plans k job given latched (Ok p) after → IsGathered chain_meaning job given → AreWritten given p
 plan_writes k job given latched p after h = writes k given latched p (job_wanted job) (planned k given latched p after job h)
 
-pub back_writes : (k : LevelState) (told : Record) (given : List Given) (latched : List ℕ) (p : Plan) (after : LevelState) → chain_undoes k told given latched (Ok p) after → IsGathered chain_meaning (job_back told) given → AreWritten given p.writes.items
+pub back_writes : (k : LevelState) (told : Record) (given : List Given) (latched : List ℕ) (p : Plan) (after : LevelState) → chain_undoes k told given latched (Ok p) after → IsGathered chain_meaning (job_back told) given → AreWritten given p
 back_writes k told given latched p after h = writes k given latched p (job_wanted (job_back told)) (backed k given latched p after told h)
 
 pub plan_spares : (k : LevelState) (job : Job) (given : List Given) (latched : List ℕ) (p : Plan) (after : LevelState) → chain_plans k job given latched (Ok p) after → IsGathered chain_meaning job given → AreNoted chain_meaning k given → after ≢ k → SparesCells k latched given

@@ -61,15 +61,15 @@ module _ (k : LevelState) (given : List Given) (latched : List ℕ) (p : Plan) (
       of_one (λ v. v.before ≡ q v.at) (page * 16 + slot) y x p.writes.items (λ v at is. is ∙ sym stands ∙ ap q (sym at)) (back_one (is_slot_number slot) (page * 16 + slot) x y h).0
   back_holds q _ h stands = absurd h
 
-  all_in : ((g : Given) → In g given → In g.at (map (λ (w : SlotWrite). w.at) p.writes.items)) → AreWritten given p.writes.items
+  all_in : ((g : Given) → In g given → In g.at (map (λ (w : SlotWrite). w.at) p.writes.items)) → AreWritten given p
   all_in h = all_each (λ (g : Given). In g.at (map (λ (w : SlotWrite). w.at) p.writes.items)) given h
 
-  asked : (undo : Bool) (o : Option Overwrite) → WritesFor undo k o given (Ok p) after → AreWanted (λ l. cond undo None (write_wants o l)) [] given → AreWritten given p.writes.items
+  asked : (undo : Bool) (o : Option Overwrite) → WritesFor undo k o given (Ok p) after → AreWanted (λ l. cond undo None (write_wants o l)) [] given → AreWritten given p
   asked true o h g = absurd h
   asked false None h g = absurd h
   asked false (Some w) h g = all_in (unless_within (λ n. In n (map (λ (w : SlotWrite). w.at) p.writes.items)) given w.at (one_written w.at h.0.before w.after p.writes.items h.0.plan.write) [] given refl g)
 
-  pub plan_writes : (job : Job) → page_plans k job given latched (Ok p) after → IsGathered page_meaning job given → AreWritten given p.writes.items
+  pub plan_writes : (job : Job) → page_plans k job given latched (Ok p) after → IsGathered page_meaning job given → AreWritten given p
   plan_writes job h g = asked job.undo (overwrite_in job.bytes) h g
 
   pub kept : (job : Job) → page_plans k job given latched (Ok p) after → after ≡ k
@@ -85,6 +85,6 @@ module _ (k : LevelState) (given : List Given) (latched : List ℕ) (p : Plan) (
   pub tells_no_deed : (job : Job) → page_plans k job given latched (Ok p) after → (d : Deed) → deed_in p.deed ≡ Some d → ⊥
   tells_no_deed job h d e = let no : None ≡ Some d = ap deed_in (sym (tells_none job h)) ∙ e in cc
 
-  pub back_writes : (told : Record) → page_undoes k told given latched (Ok p) after → IsGathered page_meaning (job_back told) given → AreWritten given p.writes.items
+  pub back_writes : (told : Record) → page_undoes k told given latched (Ok p) after → IsGathered page_meaning (job_back told) given → AreWritten given p
   back_writes (records.PageOp t n page slot x y) h g = all_in (none_within (λ n. In n (map (λ (w : SlotWrite). w.at) p.writes.items)) given [] given refl g)
   back_writes _ h g = absurd h

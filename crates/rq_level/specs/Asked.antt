@@ -13,6 +13,7 @@ use Rattle.rq_level.specs.Given.{given_at}
 use Rattle.rq_level.specs.PagePlans.{IsOneWrite}
 use Rattle.rq_level.specs.Meaning.{Meaning}
 use Rattle.rq_level.specs.declared.slots.Given.{Given}
+use Rattle.rq_level.specs.declared.writes.Plan.{Plan}
 use Rattle.rq_level.specs.declared.writes.SlotWrite.{SlotWrite}
 
 -- what was given behind the first of them is what was wanted, one after the other
@@ -52,9 +53,13 @@ abbrev pub AreBackOver : Record → LevelState → List Given → List ℕ → L
 AreBackOver (PageOp t n page slot x y) k given latched ws = IsOneWrite (page * 16 + slot) y x ws
 AreBackOver _ k given latched ws = AreOver k given latched ws
 
+-- where a plan writes
+abbrev pub written_at : Plan → List ℕ
+written_at p = map (λ w. w.at) p.writes.items
+
 -- each of the slots is written
-abbrev pub AreWritten : List Given → List SlotWrite → Type 0
-AreWritten given ws = All (λ g. In g.at (map (λ w. w.at) ws)) given
+abbrev pub AreWritten : List Given → Plan → Type 0
+AreWritten given p = All (λ g. In g.at (written_at p)) given
 
 -- none of them is a cell that may be taken
 abbrev pub SparesCells : LevelState → List ℕ → List Given → Type 0

@@ -1,5 +1,5 @@
 -- What every level keeps to, whatever its number.
-use Rattle.std.specs.Prelude.{◌≡◌, ◌≢◌, ◌≤◌, ◌⊎◌, ℕ, Bool, true, false, List, [], Option, None, Some, Ok, Err, length, map}
+use Rattle.std.specs.Prelude.{◌≡◌, ◌≢◌, ◌≤◌, ◌⊎◌, ℕ, Bool, true, false, List, [], Option, None, Some, Err, length}
 use Rattle.rq_model.specs.declared.record.Record.{Record}
 use Rattle.rq_model.specs.declared.refusal.Refusal.{Refusal}
 use Rattle.rq_model.specs.declared.refusal.Refusal.TheVariants as why
@@ -13,12 +13,11 @@ use Rattle.rq_views.specs.Plans.{ShowsAt, deed_sender}
 use Rattle.rq_level.specs.LevelState.{LevelState}
 use Rattle.rq_level.specs.Ops.{Job}
 use Rattle.rq_level.specs.Given.{given_at}
-use Rattle.rq_level.specs.Asked.{IsGathered, job_back, AreNoted, AreOver, AreBackOver, AreWritten, SparesCells, noted_each, Knows, AreAsGiven, StandsYet, AreOverSlots}
+use Rattle.rq_level.specs.Asked.{IsGathered, job_back, AreNoted, AreOver, AreBackOver, AreWritten, SparesCells, noted_each, written_at, Knows, AreAsGiven, StandsYet, AreOverSlots}
 use Rattle.rq_level.specs.OwnState.{OwnStateIsAnew}
 use Rattle.rq_level.specs.TakenBack.{IsOpenFor, LeavesOthers, made}
-use Rattle.rq_level.specs.Meaning.{Meaning, AreOf, Redo, AppliesOnce, meaning_of}
+use Rattle.rq_level.specs.Meaning.{Meaning, OfPlans, OfBacks, AreOf, Redo, AppliesOnce, meaning_of}
 use Rattle.rq_level.specs.declared.slots.Given.{Given}
-use Rattle.rq_level.specs.declared.writes.Plan.{Plan}
 
 abbrev pub IsNotGiven : List Given → Option ℕ → Type 0
 IsNotGiven given None = Unit {0}
@@ -30,16 +29,6 @@ MayHaveNoPlan why.NoMemory = Unit {0}
 MayHaveNoPlan why.Latched = Unit {0}
 MayHaveNoPlan (why.Damaged d) = Unit {0}
 MayHaveNoPlan _ = ⊥
-
--- of each plan of something to do
-abbrev pub OfPlans : Meaning → (LevelState → Job → List Given → List ℕ → Plan → LevelState → Type 0) → Type 0
-OfPlans m P = (k : LevelState) (job : Job) (given : List Given) (latched : List ℕ) (p : Plan) (after : LevelState)
-    → m.plans k job given latched (Ok p) after → P k job given latched p after
-
--- of each plan of what takes a record back
-abbrev pub OfBacks : Meaning → (LevelState → Record → List Given → List ℕ → Plan → LevelState → Type 0) → Type 0
-OfBacks m P = (k : LevelState) (told : Record) (given : List Given) (latched : List ℕ) (p : Plan) (after : LevelState)
-    → m.undoes k told given latched (Ok p) after → P k told given latched p after
 
 pub record IsLawful (m : Meaning) : Type 0 where
   -- what is not planned leaves what the level keeps, and is refused for memory, a latch or damage alone
@@ -61,9 +50,9 @@ pub record IsLawful (m : Meaning) : Type 0 where
   pub holds_undo : (q : ℕ → List ℕ) → OfBacks m (λ k told given latched p after. Knows m k q → AreOf k.sizes given
       → AreAsGiven q given → StandsYet q told → AreOverSlots q p.writes.items)
   -- each slot that it asked for is written
-  pub wanted : OfPlans m (λ k job given latched p after. IsGathered m job given → AreWritten given p.writes.items)
+  pub wanted : OfPlans m (λ k job given latched p after. IsGathered m job given → AreWritten given p)
   pub wanted_undo : OfBacks m (λ k told given latched p after. IsGathered m (job_back told) given
-      → AreWritten given p.writes.items)
+      → AreWritten given p)
   -- where it takes a cell, it did not ask for it
   pub spares : OfPlans m (λ k job given latched p after. IsGathered m job given → AreNoted m k given → after ≢ k
       → SparesCells k latched given)
@@ -82,10 +71,8 @@ pub record IsLawful (m : Meaning) : Type 0 where
       → deed_in p.deed ≡ Some d → HasBefores (made z p) q → ShowsAt (layout_of z) q (deed_sender d) v → IsOpenFor d v
       → LeavesOthers m z d v q p)
   -- once the slots that a plan writes were noted, whatever they hold, the level keeps what it would without the plan
-  pub ended : (q : ℕ → List ℕ) → OfPlans m (λ k job given latched p after.
-      noted_each m q (map (λ w. w.at) p.writes.items) after ≡ noted_each m q (map (λ w. w.at) p.writes.items) k)
-  pub ended_undo : (q : ℕ → List ℕ) → OfBacks m (λ k told given latched p after.
-      noted_each m q (map (λ w. w.at) p.writes.items) after ≡ noted_each m q (map (λ w. w.at) p.writes.items) k)
+  pub ended : (q : ℕ → List ℕ) → OfPlans m (λ k job given latched p after. noted_each m q (written_at p) after ≡ noted_each m q (written_at p) k)
+  pub ended_undo : (q : ℕ → List ℕ) → OfBacks m (λ k told given latched p after. noted_each m q (written_at p) after ≡ noted_each m q (written_at p) k)
   -- a slot that is noted again counts as it was noted last
   pub last : (k : LevelState) (a : ℕ) (x y : List ℕ) → m.note (m.note k a x) a y ≡ m.note k a y
   -- slots are noted in any order, but for the one that tells the sizes

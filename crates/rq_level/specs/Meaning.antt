@@ -1,5 +1,5 @@
 -- What the level of each number does.
-use Rattle.std.specs.Prelude.{◌≡◌, ℕ, zero, suc, ◌+◌, ◌≤◌, nat_lt, Bool, true, false, List, [], ◌∷◌, Option, None, Some, Result, slice_index_or}
+use Rattle.std.specs.Prelude.{◌≡◌, ℕ, zero, suc, ◌+◌, ◌≤◌, nat_lt, Bool, true, false, List, [], ◌∷◌, Option, None, Some, Result, Ok, slice_index_or}
 use Rattle.rq_model.specs.declared.record.Record.{Record}
 use Rattle.rq_model.specs.declared.record.Record.TheVariants.{PageOp, PageUndo}
 use Rattle.rq_model.specs.declared.refusal.Refusal.{Refusal}
@@ -28,6 +28,16 @@ pub record Meaning : Type 1 where
   pub undoes : LevelState → Record → List Given → List ℕ → Result Plan Refusal → LevelState → Type 0
   -- what it keeps once a slot is noted
   pub note : LevelState → ℕ → List ℕ → LevelState
+
+-- of each plan of something to do
+abbrev pub OfPlans : Meaning → (LevelState → Job → List Given → List ℕ → Plan → LevelState → Type 0) → Type 0
+OfPlans m P = (k : LevelState) (job : Job) (given : List Given) (latched : List ℕ) (p : Plan) (after : LevelState)
+    → m.plans k job given latched (Ok p) after → P k job given latched p after
+
+-- of each plan of what takes a record back
+abbrev pub OfBacks : Meaning → (LevelState → Record → List Given → List ℕ → Plan → LevelState → Type 0) → Type 0
+OfBacks m P = (k : LevelState) (told : Record) (given : List Given) (latched : List ℕ) (p : Plan) (after : LevelState)
+    → m.undoes k told given latched (Ok p) after → P k told given latched p after
 
 abbrev pub chain_meaning : Meaning
 chain_meaning = record {
