@@ -51,8 +51,7 @@ pub record IsLawful (m : Meaning) : Type 0 where
       → AreAsGiven q given → StandsYet q told → AreOverSlots q p.writes.items)
   -- each slot that it asked for is written
   pub wanted : OfPlans m (λ k job given latched p after. IsGathered m job given → AreWritten given p)
-  pub wanted_undo : OfBacks m (λ k told given latched p after. IsGathered m (job_back told) given
-      → AreWritten given p)
+  pub wanted_undo : OfBacks m (λ k told given latched p after. IsGathered m (job_back told) given → AreWritten given p)
   -- where it takes a cell, it did not ask for it
   pub spares : OfPlans m (λ k job given latched p after. IsGathered m job given → AreNoted m k given → after ≢ k
       → SparesCells k latched given)
@@ -71,8 +70,10 @@ pub record IsLawful (m : Meaning) : Type 0 where
       → deed_in p.deed ≡ Some d → HasBefores (made z p) q → ShowsAt (layout_of z) q (deed_sender d) v → IsOpenFor d v
       → LeavesOthers m z d v q p)
   -- once the slots that a plan writes were noted, whatever they hold, the level keeps what it would without the plan
-  pub ended : (q : ℕ → List ℕ) → OfPlans m (λ k job given latched p after. noted_each m q (written_at p) after ≡ noted_each m q (written_at p) k)
-  pub ended_undo : (q : ℕ → List ℕ) → OfBacks m (λ k told given latched p after. noted_each m q (written_at p) after ≡ noted_each m q (written_at p) k)
+  pub ended : (q : ℕ → List ℕ) → OfPlans m (λ k job given latched p after.
+      noted_each m q (written_at p) after ≡ noted_each m q (written_at p) k)
+  pub ended_undo : (q : ℕ → List ℕ) → OfBacks m (λ k told given latched p after.
+      noted_each m q (written_at p) after ≡ noted_each m q (written_at p) k)
   -- a slot that is noted again counts as it was noted last
   pub last : (k : LevelState) (a : ℕ) (x y : List ℕ) → m.note (m.note k a x) a y ≡ m.note k a y
   -- slots are noted in any order, but for the one that tells the sizes
