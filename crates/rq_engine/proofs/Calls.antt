@@ -1,5 +1,4 @@
 -- What the calls answer, from what their bodies found and made.
-use Rattle.std.specs.Bool.{⊤}
 use Rattle.std.proofs.Common.{◌≡◌, ℕ, zero, suc, ◌+◌, ◌-◌, ◌*◌, ◌<◌, ◌≤◌, ◌&&◌, List, [], ◌∷◌, length, map, refl, sym, ◌∙◌, ap, subst, Bool, true, false, not, nat_eq, nat_lt, Option, Some, None, IfSome, arith, inl, inr, ◌⊎◌}
 use Rattle.std.specs.List.{sum_by, slice_get, slice_index_or}
 use Rattle.std.proofs.lemmas.Bool.{cases_Bool, false_from_ne_true, eqb-true, eq-eqb, and_from, lt-ltb}
@@ -28,7 +27,7 @@ use Rattle.rq_level.specs.Writes.{IsSlotWrite, AreSlotWrites}
 use Rattle.rq_txn.specs.declared.Finished.{Finished}
 use Rattle.rq_txn.specs.declared.Aim.{Aim}
 use Rattle.rq_txn.specs.declared.Aim.TheVariants.{Doing}
-use Rattle.rq_txn.specs.Rows.{Row, Under, deed_of, found_row, finished_of, next_by, next_of, any_under, change_row, without_row, row_stepped, row_finished, row_taken_back}
+use Rattle.rq_txn.specs.Rows.{Row, Under, deed_of, found_row, finished_of, any_under, change_row, without_row, row_stepped, row_finished, row_taken_back}
 use Rattle.rq_groups.specs.Sent.{sent_count, sent_tag}
 use Rattle.rq_model.specs.Content.{tag_after}
 use Rattle.rq_sound.specs.Calls.{sends_for}
@@ -129,8 +128,11 @@ write_at z ws i w h e =
     let at : slice_index_or ws i w ≡ w = same_Some (slice_index_or ws i w) w (sym (slice_get-get_or ws i w lt) ∙ e) in
     subst (IsSlotWrite z) at (h i w lt)
 
+abbrev pub MakesNext : SlotWrite → Under → Type 0
+MakesNext w u = slice_get u.writes u.made ≡ Some w
+
 abbrev pub Next : SlotWrite → Row → Under → Type 0
-Next w r u = slice_get u.writes u.made ≡ Some w
+Next w r u = MakesNext w u
 
 abbrev pub AllMade : Aim → Row → Under → Type 0
 AllMade aim r u = (length u.writes ≤ u.made) × (u.aim ≡ aim)
@@ -180,17 +182,17 @@ module _ (s : State) (f : Bool) (o res : ℕ) (k : IsConsistent s f o res) (sub 
   pub undo_kept : (d : Deed) (x : Record) (cells left : ℕ) → left + end_bytes aim ≡ res → IsConsistent (record s { rows = change_row sub.txn row_taken_back s.rows; records = x ∷ s.records; cells_in_use = cells; waiting = with_taken d s.waiting }) f (o - 1) left
   undo_kept d x cells left e = kept_undone s f o res k sub.txn gd.row gd.found gd.under x cells left d gd.is all_made (same_end left e)
 
--- what is under way makes this write next, or none
-next_under : (r : Row) (q : Option Under) (n : ℕ) (o : Option SlotWrite) → OnUnder n (λ r u. ⊤) r q → next_by q ≡ o → OnUnder n (λ r u. slice_get u.writes u.made ≡ o) r q
-next_under r None n o h e = h
-next_under r (Some u) n o h e = (h.0, e)
+-- what is so of an operation is so of the one under way that it is
+found_under : (r : Row) (q : Option Under) (n : ℕ) (v : Under) (P : Under → Type 0) → P v → OnUnder n (λ r u. u ≡ v) r q → OnUnder n (λ r u. P u) r q
+found_under r None n v P p h = h
+found_under r (Some u) n v P p h = (h.0, subst P (sym h.1) p)
 
-next_in : (q : Option Row) (n : ℕ) (o : Option SlotWrite) → OnFound q (λ r. OnUnder n (λ r u. ⊤) r r.under) → next_of q ≡ o → OnFound q (λ r. OnUnder n (λ r u. slice_get u.writes u.made ≡ o) r r.under)
-next_in None n o h e = h
-next_in (Some r) n o h e = next_under r r.under n o h e
+found_in_row : (q : Option Row) (n : ℕ) (v : Under) (P : Under → Type 0) → P v → OnFound q (λ r. OnUnder n (λ r u. u ≡ v) r r.under) → OnFound q (λ r. OnUnder n (λ r u. P u) r r.under)
+found_in_row None n v P p h = h
+found_in_row (Some r) n v P p h = found_under r r.under n v P p h
 
-pub next_is : (s t : State) → s ≡ t → (sub : Sub) (o : Option SlotWrite) → IsUnderWay t sub (λ r u. ⊤) → next_of (found_row sub.txn s.rows) ≡ o → IsUnderWay s sub (λ r u. slice_get u.writes u.made ≡ o)
-next_is s t same sub o h e = next_in (found_row sub.txn s.rows) sub.number o (subst (λ (x : State). IsUnderWay x sub (λ r u. ⊤)) (sym same) h) e
+pub under_is : (s t : State) → s ≡ t → (sub : Sub) (v : Under) → IsUnderWay s sub (λ r u. u ≡ v) → (P : Under → Type 0) → P v → IsUnderWay t sub (λ r u. P u)
+under_is s t same sub v h P p = subst (λ (x : State). IsUnderWay x sub (λ r u. P u)) same (found_in_row (found_row sub.txn s.rows) sub.number v P p h)
 
 -- one more write
 pub step_done : (s new : State) (sub : Sub) (w : SlotWrite) (lsn : ℕ) → s.failed ≡ false → IsUnderWay s sub (Next w) → IsMade s sub w new → lsn ≡ length s.records + 1 → IsSound s → IsModelStep s (Step sub.txn sub.number) (Gave_lsn lsn) new

@@ -1,7 +1,8 @@
 //! The calls of an operation under way.
-ghost use Rattle.std.specs.Prelude.{⊤, ◌≡◌, ◌↔◌, Err, ◌+◌, ◌-◌, ◌<◌, ◌≤◌, IfOk, IfErr, OnOk, OnErr, MatchOption, false, true, length, ◌∷◌};
+ghost use Rattle.std.specs.Prelude.{◌≡◌, ◌↔◌, Err, ◌+◌, ◌-◌, ◌<◌, ◌≤◌, IfOk, IfErr, OnOk, OnErr, MatchOption, false, true, length, ◌∷◌};
 ghost use Rattle.rq_model.specs.History.Call.{Step, Finish};
-ghost use Rattle.rq_txn.specs.Rows.{change_row, row_finished, row_taken_back, under_of};
+ghost use Rattle.rq_model.specs.Legal.{OnFound};
+ghost use Rattle.rq_txn.specs.Rows.{change_row, found_row, row_finished, row_taken_back, under_of};
 ghost use Rattle.rq_store.specs.Steps.{op_end, gave_done};
 ghost use Rattle.rq_sound.specs.Rows.{comp_end};
 ghost use Rattle.rq_views.specs.Claims.{appends_of};
@@ -10,7 +11,7 @@ ghost use Rattle.rq_planner.specs.Answered.{answer_of};
 ghost use Rattle.rq_engine.specs.Opened.{LeavesDevices};
 ghost use Rattle.rq_engine.specs.Moves.{with_taken, without_taken};
 ghost use Rattle.rq_engine.specs.Applied.{StepChanges};
-ghost use Rattle.rq_engine.specs.Answers.{AnswersLegally, IsUnderWay, IsNotUnderWay, Idle, CannotFinish};
+ghost use Rattle.rq_engine.specs.Answers.{AnswersLegally, IsUnderWay, NotFound, IsOther, OnUnder, Idle, CannotFinish};
 ghost use Rattle.rq_engine.specs.Lists.{FinishSays, StepSays};
 ghost use Rattle.rq_engine.specs.Says.{progress_of, outcome_of};
 
@@ -23,7 +24,7 @@ use rq_model::record::Record;
 use rq_model::refusal::Refusal;
 use rq_model::txn::{Lsn, Sub};
 use rq_record::shows_size;
-use rq_txn::{Aim, Finished, Gist, Operation, ToldDeed};
+use rq_txn::{Aim, Finished, Gist, Operation, ToldDeed, Transactions};
 
 /// The level of the chain operations.
 pub(crate) const CHAIN_LEVEL: u8 = 1;
@@ -45,10 +46,7 @@ impl<P: PageDevice, L: LogDevice, B: Level> Engine<P, L, B> {
         ensures lists { IfOk result (λ progress. StepSays self.old.state sub progress self.new.state) }
         ensures refusal { IfErr result (λ r. Idle self.old.state sub r) }
     {
-        match self.check_under_way(sub) {
-            Ok(()) => Ok(self.make_next(sub)),
-            Err(refusal) => Err(refusal),
-        }
+        self.make_next(sub)
     }
 
     /// Ends an operation whose steps are made. Takes no memory and touches no device.
@@ -80,31 +78,6 @@ impl<P: PageDevice, L: LogDevice, B: Level> Engine<P, L, B> {
         }
     }
 
-    // The operation, if it is under way.
-    fn operation(&self, sub: Sub) -> Option<&Operation>
-        ensures found { MatchOption result (IsNotUnderWay self.now.state sub)
-            (λ o. IsUnderWay self.now.state sub (λ r u. u ≡ under_of o.now)) }
-    {
-        let row = self.transactions.state(sub.txn)?;
-        match &row.under_way {
-            Some(operation) if operation.number == sub.number => Some(operation),
-            _ => None,
-        }
-    }
-
-    // Whether the operation is under way, in a store that runs.
-    fn check_under_way(&self, sub: Sub) -> Result<(), Refusal>
-        ensures running { OnOk result (self.now.state.failed ≡ false) }
-        ensures under { OnOk result (IsUnderWay self.now.state sub (λ r u. ⊤)) }
-        ensures idle { IfErr result (λ r. Idle self.now.state sub r) }
-    {
-        self.check_running()?;
-        match self.operation(sub) {
-            Some(_) => Ok(()),
-            None => Err(Refusal::UnknownOperation),
-        }
-    }
-
     // What the operation is for, where all its writes are made.
     #[inline(always)]
     fn ready_aim(&self, sub: Sub) -> Result<Aim, Refusal>
@@ -114,7 +87,7 @@ impl<P: PageDevice, L: LogDevice, B: Level> Engine<P, L, B> {
         ensures refused { IfErr result (λ r. CannotFinish self.now.state sub r) }
     {
         self.check_running()?;
-        let Some(operation) = self.operation(sub) else {
+        let Some(operation) = under_way(&self.transactions, sub) else {
             return Err(Refusal::UnknownOperation);
         };
         if operation.made < operation.writes.len() {
@@ -124,16 +97,21 @@ impl<P: PageDevice, L: LogDevice, B: Level> Engine<P, L, B> {
     }
 
     // Makes the next slot write of the operation, with its record, where one is left.
-    fn make_next(&mut self, sub: Sub) -> Progress
-        requires running { self.old.state.failed ≡ false }
-        requires under { IsUnderWay self.old.state sub (λ r u. ⊤) }
-        ensures made { StepSays self.old.state sub result self.new.state }
-        ensures changed { StepChanges self.old result self.new }
+    fn make_next(&mut self, sub: Sub) -> Result<Progress, Refusal>
+        ensures running { OnOk result (self.old.state.failed ≡ false) }
+        ensures made { IfOk result (λ progress. StepSays self.old.state sub progress self.new.state) }
+        ensures changed { IfOk result (λ progress. StepChanges self.old progress self.new) }
+        ensures idle { IfErr result (λ r. Idle self.old.state sub r) }
+        ensures refused { OnErr result (self.new ≡ self.old) }
         ensures devices { (self.new.pages ≡ self.old.pages) × (self.new.log ≡ self.old.log)
             × (self.new.replacing ≡ self.old.replacing) }
     {
-        let Some(write) = self.transactions.next_write(sub.txn) else {
-            return Progress::Ready;
+        self.check_running()?;
+        let Some(operation) = under_way(&self.transactions, sub) else {
+            return Err(Refusal::UnknownOperation);
+        };
+        let Some(write) = operation.next_write() else {
+            return Ok(Progress::Ready);
         };
         let at = write.at;
         let lsn = self.log.append_page_op(
@@ -148,7 +126,7 @@ impl<P: PageDevice, L: LogDevice, B: Level> Engine<P, L, B> {
         self.planner.noted(at, &write.after);
         self.transactions.step(sub.txn);
         self.owed -= 1;
-        Progress::Done(lsn)
+        Ok(Progress::Done(lsn))
     }
 
     // Ends a deed, with its record.
@@ -204,6 +182,18 @@ impl<P: PageDevice, L: LogDevice, B: Level> Engine<P, L, B> {
         put_in_taken(&mut self.waiting, deed);
         self.cells_in_use = self.cells_in_use.saturating_sub(cells_given_back(deed));
         self.owed -= 1;
+    }
+}
+
+// The operation, if it is under way.
+fn under_way(transactions: &Transactions, sub: Sub) -> Option<&Operation>
+    ensures { MatchOption result (NotFound (λ r. IsOther sub.number r.under) (found_row sub.txn transactions.now))
+        (λ o. OnFound (found_row sub.txn transactions.now) (λ r. OnUnder sub.number (λ r u. u ≡ under_of o.now) r r.under)) }
+{
+    let row = transactions.state(sub.txn)?;
+    match &row.under_way {
+        Some(operation) if operation.number == sub.number => Some(operation),
+        _ => None,
     }
 }
 

@@ -1,6 +1,6 @@
 -- The transactions that have not ended, the newest first.
 use Rattle.std.specs.Prelude.{◌≡◌, ℕ, ◌+◌, ◌/◌, Bool, true, false, cond, not, ◌||◌, List, [], ◌∷◌, ◌++◌, Option, Some, None, map}
-use Rattle.std.specs.List.{filter, slice_get}
+use Rattle.std.specs.List.{filter}
 use Rattle.rq_model.specs.declared.txn.Txn.{Txn}
 use Rattle.rq_model.specs.declared.record.Deed.{Deed}
 use Rattle.rq_model.specs.Vocabulary.{front, same_txn, is_some}
@@ -83,15 +83,6 @@ under_stepped (Some u) = Some (record u { made = u.made + 1 })
 
 abbrev pub row_stepped : Row → Row
 row_stepped r = record r { under = under_stepped r.under }
-
--- the write that it makes next, where one is left
-abbrev pub next_by : Option Under → Option SlotWrite
-next_by None = None
-next_by (Some u) = slice_get u.writes u.made
-
-abbrev pub next_of : Option Row → Option SlotWrite
-next_of None = None
-next_of (Some r) = next_by r.under
 
 -- its deed is done
 abbrev pub row_finished : Finished → Row → Row

@@ -52,6 +52,20 @@ pub struct Operation {
     ghost numbered: { 1 ≤ number },
 }
 
+impl Operation {
+    ghost use Rattle.std.specs.Prelude.{◌≡◌, MatchOption, None, Some};
+    ghost use Rattle.std.specs.List.{slice_get};
+
+    /// The slot write that it makes next; none where all are made.
+    #[inline(always)]
+    pub fn next_write(&self) -> Option<&SlotWrite>
+        ensures { MatchOption result (slice_get self.now.writes.items self.now.made ≡ None)
+            (λ write. slice_get self.now.writes.items self.now.made ≡ Some write.now) }
+    {
+        self.writes.get(self.made)
+    }
+}
+
 /// A transaction that has not ended. While it has an operation under way there is room for one more that is
 /// finished.
 #[derive(Drop)]
@@ -72,8 +86,8 @@ pub struct Transaction {
 }
 
 impl Transaction {
-    ghost use Rattle.std.specs.Prelude.{◌≡◌, ◌<◌, [], IfSome, IsSome, MatchOption, None, OnErr, OnOk, Some, length};
-    ghost use Rattle.rq_txn.specs.Rows.{next_by, row_aborting, row_finished, row_of, row_started, row_stepped, row_taken_back, under_of};
+    ghost use Rattle.std.specs.Prelude.{◌≡◌, ◌<◌, [], IfSome, IsSome, None, OnErr, OnOk, Some, length};
+    ghost use Rattle.rq_txn.specs.Rows.{row_aborting, row_finished, row_of, row_started, row_stepped, row_taken_back, under_of};
     ghost use Rattle.rq_txn.specs.Tallies.{HasRoom, IsCounted, Latches, Moves};
 
     // The operation is under way, in place of one that was.
@@ -92,17 +106,6 @@ impl Transaction {
         self.number = operation.number;
         tally.release(self.under_way.replace(operation));
         Ok(())
-    }
-
-    // The write that the operation under way makes next.
-    fn next_write(&self) -> Option<&SlotWrite>
-        ensures { MatchOption result (next_by (row_of self.now).under ≡ None)
-            (λ write. next_by (row_of self.now).under ≡ Some write.now) }
-    {
-        match &self.under_way {
-            Some(operation) => operation.writes.get(operation.made),
-            None => None,
-        }
     }
 
     // One more write of the operation under way is made.
@@ -199,7 +202,7 @@ impl Transactions {
     ghost use Rattle.std.specs.Prelude.{◌≡◌, ℕ, ◌<◌, ◌≤◌, [], ◌∷◌, IfSome, IsSome, MatchOption, OnErr, OnOk, length, nat_eq, nat_lt, not, reverse, slice_index_or};
     ghost use Rattle.rq_level.specs.Given.{has_page};
     ghost use Rattle.rq_model.specs.Vocabulary.{In, last};
-    ghost use Rattle.rq_txn.specs.Rows.{AreDistinct, Row, any_under, change_row, finished_of, found_row, fresh_row, latched_in, next_of, row_aborting, row_finished, row_of, row_started, row_stepped, row_taken_back, under_of, without_row};
+    ghost use Rattle.rq_txn.specs.Rows.{AreDistinct, Row, any_under, change_row, finished_of, found_row, fresh_row, latched_in, row_aborting, row_finished, row_of, row_started, row_stepped, row_taken_back, under_of, without_row};
 
     /// No transaction.
     pub fn new(alloc: Global) -> Self
@@ -306,17 +309,6 @@ impl Transactions {
             return Ok(());
         };
         self.rows[key].start(operation, &mut self.tally)
-    }
-
-    /// The write that the transaction's operation under way makes next; none where all are made, or nothing is under way.
-    pub fn next_write(&self, txn: Txn) -> Option<&SlotWrite>
-        ensures { MatchOption result (next_of (found_row txn self.now) ≡ None)
-            (λ write. next_of (found_row txn self.now) ≡ Some write.now) }
-    {
-        match self.state(txn) {
-            Some(row) => row.next_write(),
-            None => None,
-        }
     }
 
     /// One more write of the transaction's operation under way is made.

@@ -1,4 +1,4 @@
-use Rattle.std.proofs.Common.{Some, ℕ, ◌≤◌, ◌<◌, length, ◌≡◌, ◌+◌, ◌/◌, ◌%◌, sym, ap, ◌∙◌, subst, arith, ◌∷◌, List, Bool, true, slice_set}
+use Rattle.std.proofs.Common.{ℕ, ◌≤◌, ◌<◌, length, ◌≡◌, ◌+◌, ◌/◌, ◌%◌, sym, ap, ◌∙◌, subst, arith, ◌∷◌, List, Bool, true, slice_set}
 use Rattle.rq_store.specs.State.{State}
 use Rattle.rq_txn.specs.Rows.{change_row, row_stepped}
 use Rattle.rq_page.specs.Sizes.{Sizes, page_count}
@@ -10,79 +10,91 @@ use Rattle.rq_views.specs.Stored.{slots_in}
 use Rattle.rq_store.specs.Fitting.{image_in}
 use Rattle.rq_store.specs.Steps.{IsPutIn, page_op}
 use Rattle.rq_engine.specs.Answers.{IsUnderWay}
-use Rattle.rq_engine.proofs.Calls.{Next, next_is, going_range, going_owed, next_slot, next_room, next_more, next_kept}
+use Rattle.rq_engine.proofs.Calls.{Next, MakesNext, under_is, going_range, going_owed, next_slot, next_room, next_more, next_kept}
 use Rattle.rq_planner.proofs.Knowing.{knows_written}
 use Rattle.rq_engine.proofs.Opened.{state_is, changed_is}
 use Rattle.rq_engine.proofs.engine.Engine.make_next.Goals as goal
 
 pub append_page_op-lsn-requires-clause-record : goal.append_page_op-lsn-requires-clause-record
 append_page_op-lsn-requires-clause-record g c =
-    let h = next_is _ _ (state_is c.self.view_is) c.args.sub (Some c.in-Some.write.now) c.requires.under c.in-Some.ensures in
-    let r = going_range _ _ _ _ c.self.invariant.kept c.args.sub (Next c.in-Some.write.now) h in
-    let p = (next_slot _ _ _ _ c.self.invariant.kept c.args.sub c.in-Some.write.now h).place.slot in
-    let e : c.slot.result ≡ c.in-Some.write.now.at % 16 = c.slot.ensures in
+    let now = under_is _ _ (state_is c.self.view_is) c.args.sub _ c.in-Some.ensures (MakesNext c.in-Some-next_write.write.now) c.in-Some-next_write.ensures in
+    let h = subst (λ (s : State). IsUnderWay s c.args.sub (Next c.in-Some-next_write.write.now)) (sym (state_is c.self.view_is)) now in
+    let r = going_range _ _ _ _ c.self.invariant.kept c.args.sub (Next c.in-Some-next_write.write.now) h in
+    let p = (next_slot _ _ _ _ c.self.invariant.kept c.args.sub c.in-Some-next_write.write.now h).place.slot in
+    let e : c.slot.result ≡ c.in-Some-next_write.write.now.at % 16 = c.slot.ensures in
     (r.0, r.1, (omega (arith, p, e), omega (arith, e)))
 
 pub append_page_op-lsn-requires-clause-room : goal.append_page_op-lsn-requires-clause-room
 append_page_op-lsn-requires-clause-room g c =
-    let h = next_is _ _ (state_is c.self.view_is) c.args.sub (Some c.in-Some.write.now) c.requires.under c.in-Some.ensures in
-    next_room _ _ _ _ c.self.invariant.kept c.args.sub c.in-Some.write.now h
+    let now = under_is _ _ (state_is c.self.view_is) c.args.sub _ c.in-Some.ensures (MakesNext c.in-Some-next_write.write.now) c.in-Some-next_write.ensures in
+    let h = subst (λ (s : State). IsUnderWay s c.args.sub (Next c.in-Some-next_write.write.now)) (sym (state_is c.self.view_is)) now in
+    next_room _ _ _ _ c.self.invariant.kept c.args.sub c.in-Some-next_write.write.now h
 
 pub set_slot-requires-clause-place : goal.set_slot-requires-clause-place
 set_slot-requires-clause-place g c =
-    let h = next_is _ _ (state_is c.self.view_is) c.args.sub (Some c.in-Some.write.now) c.requires.under c.in-Some.ensures in
-    (next_slot _ _ _ _ c.self.invariant.kept c.args.sub c.in-Some.write.now h).place
+    let now = under_is _ _ (state_is c.self.view_is) c.args.sub _ c.in-Some.ensures (MakesNext c.in-Some-next_write.write.now) c.in-Some-next_write.ensures in
+    let h = subst (λ (s : State). IsUnderWay s c.args.sub (Next c.in-Some-next_write.write.now)) (sym (state_is c.self.view_is)) now in
+    (next_slot _ _ _ _ c.self.invariant.kept c.args.sub c.in-Some-next_write.write.now h).place
 
 pub set_slot-requires-clause-image : goal.set_slot-requires-clause-image
 set_slot-requires-clause-image g c =
-    let h = next_is _ _ (state_is c.self.view_is) c.args.sub (Some c.in-Some.write.now) c.requires.under c.in-Some.ensures in
-    (next_slot _ _ _ _ c.self.invariant.kept c.args.sub c.in-Some.write.now h).after
+    let now = under_is _ _ (state_is c.self.view_is) c.args.sub _ c.in-Some.ensures (MakesNext c.in-Some-next_write.write.now) c.in-Some-next_write.ensures in
+    let h = subst (λ (s : State). IsUnderWay s c.args.sub (Next c.in-Some-next_write.write.now)) (sym (state_is c.self.view_is)) now in
+    (next_slot _ _ _ _ c.self.invariant.kept c.args.sub c.in-Some-next_write.write.now h).after
 
 pub step-requires : goal.step-requires
 step-requires g c =
-    let h = next_is _ _ (state_is c.self.view_is) c.args.sub (Some c.in-Some.write.now) c.requires.under c.in-Some.ensures in
-    next_more _ _ _ _ c.self.invariant.kept c.args.sub c.in-Some.write.now h
+    let now = under_is _ _ (state_is c.self.view_is) c.args.sub _ c.in-Some.ensures (MakesNext c.in-Some-next_write.write.now) c.in-Some-next_write.ensures in
+    let h = subst (λ (s : State). IsUnderWay s c.args.sub (Next c.in-Some-next_write.write.now)) (sym (state_is c.self.view_is)) now in
+    next_more _ _ _ _ c.self.invariant.kept c.args.sub c.in-Some-next_write.write.now h
 
 pub overflow_sub-self : goal.overflow_sub-self
 overflow_sub-self g c =
-    let h = next_is _ _ (state_is c.self.view_is) c.args.sub (Some c.in-Some.write.now) c.requires.under c.in-Some.ensures in
-    going_owed _ _ _ _ c.self.invariant.kept c.args.sub (Next c.in-Some.write.now) h
+    let now = under_is _ _ (state_is c.self.view_is) c.args.sub _ c.in-Some.ensures (MakesNext c.in-Some-next_write.write.now) c.in-Some-next_write.ensures in
+    let h = subst (λ (s : State). IsUnderWay s c.args.sub (Next c.in-Some-next_write.write.now)) (sym (state_is c.self.view_is)) now in
+    going_owed _ _ _ _ c.self.invariant.kept c.args.sub (Next c.in-Some-next_write.write.now) h
 
 pub invariant_of-self : goal.invariant_of-self
 invariant_of-self g c =
-    let h = next_is _ _ (state_is c.self.view_is) c.args.sub (Some c.in-Some.write.now) c.requires.under c.in-Some.ensures in
+    let now = under_is _ _ (state_is c.self.view_is) c.args.sub _ c.in-Some.ensures (MakesNext c.in-Some-next_write.write.now) c.in-Some-next_write.ensures in
+    let h = subst (λ (s : State). IsUnderWay s c.args.sub (Next c.in-Some-next_write.write.now)) (sym (state_is c.self.view_is)) now in
     let room : c.append_page_op-lsn.new.self.reserved + 546 ≡ c.self.inside.log.reserved = (c.append_page_op-lsn.ensures.reserved) in
-    let failed : c.self.inside.log.failed ≡ c.append_page_op-lsn.new.self.failed = c.self.invariant.kept.fails (ap (λ (s : State). s.failed) (state_is c.self.view_is) ∙ c.requires.running) ∙ sym c.append_page_op-lsn.ensures.failed in
+    let failed : c.self.inside.log.failed ≡ c.append_page_op-lsn.new.self.failed = c.self.invariant.kept.fails (ap (λ (s : State). s.failed) (state_is c.self.view_is) ∙ c.in_ok-check_running.ensures.running) ∙ sym c.append_page_op-lsn.ensures.failed in
     record {
       kept = rw (c.step.ensures, c.set_slot.ensures.sizes, c.append_page_op-lsn.ensures.records, c.append_page_op-lsn.ensures.forced, sym failed)
-          (next_kept _ _ _ _ c.self.invariant.kept c.args.sub c.in-Some.write.now h _ c.set_slot.new.self.images c.append_page_op-lsn.new.self.reserved room);
+          (next_kept _ _ _ _ c.self.invariant.kept c.args.sub c.in-Some-next_write.write.now h _ c.set_slot.new.self.images c.append_page_op-lsn.new.self.reserved room);
       durable = rw (c.append_page_op-lsn.ensures.settled) c.self.invariant.durable;
       cells = rw (c.noted.ensures, c.set_slot.ensures.sizes)
-          (knows_written c.self.inside.pages.sizes c.self.inside.pages.images c.set_slot.new.self.images c.self.inside.planner c.in-Some.write.now.at c.in-Some.write.now.after
-          (next_slot _ _ _ _ c.self.invariant.kept c.args.sub c.in-Some.write.now h).place c.set_slot.ensures.slots c.self.invariant.cells);
+          (knows_written c.self.inside.pages.sizes c.self.inside.pages.images c.set_slot.new.self.images c.self.inside.planner c.in-Some-next_write.write.now.at c.in-Some-next_write.write.now.after
+          (next_slot _ _ _ _ c.self.invariant.kept c.args.sub c.in-Some-next_write.write.now h).place c.set_slot.ensures.slots c.self.invariant.cells);
     }
 
 pub returns-clause-made : goal.returns-clause-made
 returns-clause-made g c =
-    let h = next_is _ _ (state_is c.self.view_is) c.args.sub (Some c.in-Some.write.now) c.requires.under c.in-Some.ensures in
-    let stamp : c.append_page_op-lsn.result ≡ length c.self.inside.log.records + 1 = (let l = c.append_page_op-lsn.ensures.lsn in let r = ap length c.append_page_op-lsn.ensures.records in omega (arith, l, r)) in
-    (stamp ∙ ap (λ (s : State). length s.records + 1) (state_is c.self.view_is), c.in-Some.write.now, subst (λ (s : State). IsUnderWay s c.args.sub (Next c.in-Some.write.now)) (state_is c.self.view_is) h, record {
-      state = rw (c.step.ensures, c.set_slot.ensures.sizes, c.append_page_op-lsn.ensures.records, c.append_page_op-lsn.ensures.forced, c.page.ensures, c.slot.ensures)
-          (ap (λ (s : State). record s { rows = change_row c.args.sub.txn row_stepped s.rows; images = c.set_slot.new.self.images; records = page_op c.args.sub.txn c.args.sub.number c.in-Some.write.now ∷ s.records }) (state_is c.self.view_is));
-      before = subst (λ (s : State). IsSlotOf s.sizes (c.in-Some.write.now.at / 16) (c.in-Some.write.now.at % 16) c.in-Some.write.now.before) (state_is c.self.view_is) (next_slot _ _ _ _ c.self.invariant.kept c.args.sub c.in-Some.write.now h).before;
-      slot = subst (λ (s : State). IsSlotOf s.sizes (c.in-Some.write.now.at / 16) (c.in-Some.write.now.at % 16) c.in-Some.write.now.after) (state_is c.self.view_is) (next_slot _ _ _ _ c.self.invariant.kept c.args.sub c.in-Some.write.now h).after;
-      slots = λ a. subst (λ (s : State). slots_in s.sizes c.set_slot.new.self.images a ≡ put (slots_in s.sizes s.images) c.in-Some.write.now.at (held_in s.sizes (c.in-Some.write.now.at / 16) c.in-Some.write.now.after) a) (state_is c.self.view_is) (c.set_slot.ensures.slots a);
-      put_in = subst (λ (s : State). IsPutIn s c.in-Some.write.now c.set_slot.new.self.images) (state_is c.self.view_is) (record {
-        page = subst (λ n. IsWritten (image_in c.self.inside.pages.images (c.in-Some.write.now.at / 16)) (image_in c.set_slot.new.self.images (c.in-Some.write.now.at / 16)) (c.in-Some.write.now.at % 16) c.in-Some.write.now.after n) stamp c.set_slot.ensures.page;
-        others = c.set_slot.ensures.others;
-        superblock = subst (λ (z : Sizes). IsFormatted z 0 (image_in c.set_slot.new.self.images 0)) c.set_slot.ensures.sizes c.set_slot.ensures.pool.superblock;
-        headers = subst (λ (z : Sizes). (p : ℕ) → 1 ≤ p → p < page_count z → IsHeaderOf z p (image_in c.set_slot.new.self.images p)) c.set_slot.ensures.sizes c.set_slot.ensures.pool.headers;
-      });
-    })
+    let now = under_is _ _ (state_is c.self.view_is) c.args.sub _ c.in-Some.ensures (MakesNext c.in-Some-next_write.write.now) c.in-Some-next_write.ensures in
+    let h = subst (λ (s : State). IsUnderWay s c.args.sub (Next c.in-Some-next_write.write.now)) (sym (state_is c.self.view_is)) now in
+    let stamp : c.append_page_op-lsn.result ≡ length c.self.inside.log.records + 1 = (let l = c.append_page_op-lsn.ensures.lsn in let r = ap length c.append_page_op-lsn.ensures.records in omega (arith, l, r)) in (
+      stamp ∙ ap (λ (s : State). length s.records + 1) (state_is c.self.view_is),
+      c.in-Some-next_write.write.now,
+      now,
+      record {
+        state = rw (c.step.ensures, c.set_slot.ensures.sizes, c.append_page_op-lsn.ensures.records, c.append_page_op-lsn.ensures.forced, c.page.ensures, c.slot.ensures)
+            (ap (λ (s : State). record s { rows = change_row c.args.sub.txn row_stepped s.rows; images = c.set_slot.new.self.images; records = page_op c.args.sub.txn c.args.sub.number c.in-Some-next_write.write.now ∷ s.records }) (state_is c.self.view_is));
+        before = subst (λ (s : State). IsSlotOf s.sizes (c.in-Some-next_write.write.now.at / 16) (c.in-Some-next_write.write.now.at % 16) c.in-Some-next_write.write.now.before) (state_is c.self.view_is) (next_slot _ _ _ _ c.self.invariant.kept c.args.sub c.in-Some-next_write.write.now h).before;
+        slot = subst (λ (s : State). IsSlotOf s.sizes (c.in-Some-next_write.write.now.at / 16) (c.in-Some-next_write.write.now.at % 16) c.in-Some-next_write.write.now.after) (state_is c.self.view_is) (next_slot _ _ _ _ c.self.invariant.kept c.args.sub c.in-Some-next_write.write.now h).after;
+        slots = λ a. subst (λ (s : State). slots_in s.sizes c.set_slot.new.self.images a ≡ put (slots_in s.sizes s.images) c.in-Some-next_write.write.now.at (held_in s.sizes (c.in-Some-next_write.write.now.at / 16) c.in-Some-next_write.write.now.after) a) (state_is c.self.view_is) (c.set_slot.ensures.slots a);
+        put_in = subst (λ (s : State). IsPutIn s c.in-Some-next_write.write.now c.set_slot.new.self.images) (state_is c.self.view_is) (record {
+          page = subst (λ n. IsWritten (image_in c.self.inside.pages.images (c.in-Some-next_write.write.now.at / 16)) (image_in c.set_slot.new.self.images (c.in-Some-next_write.write.now.at / 16)) (c.in-Some-next_write.write.now.at % 16) c.in-Some-next_write.write.now.after n) stamp c.set_slot.ensures.page;
+          others = c.set_slot.ensures.others;
+          superblock = subst (λ (z : Sizes). IsFormatted z 0 (image_in c.set_slot.new.self.images 0)) c.set_slot.ensures.sizes c.set_slot.ensures.pool.superblock;
+          headers = subst (λ (z : Sizes). (p : ℕ) → 1 ≤ p → p < page_count z → IsHeaderOf z p (image_in c.set_slot.new.self.images p)) c.set_slot.ensures.sizes c.set_slot.ensures.pool.headers;
+        });
+      },
+    )
 
 pub returns-clause-changed : goal.returns-clause-changed
 returns-clause-changed g c = (
-  c.in-Some.write.now.at / 16,
+  c.in-Some-next_write.write.now.at / 16,
   c.set_slot.ensures.page.lsn,
-  c.set_slot.ensures.changed ∙ ap (λ (b : List Bool). slice_set b (c.in-Some.write.now.at / 16) true) (changed_is c.self.view_is),
+  c.set_slot.ensures.changed ∙ ap (λ (b : List Bool). slice_set b (c.in-Some-next_write.write.now.at / 16) true) (changed_is c.self.view_is),
 )
