@@ -111,6 +111,7 @@ impl<P: PageDevice, L: LogDevice, B: Level> Engine<P, L, B> {
     }
 
     // Starts a receive that was planned from a group that holds a message for the transaction.
+    #[inline(always)]
     fn start_take(
         &mut self,
         txn: Txn,
