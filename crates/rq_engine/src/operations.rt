@@ -186,6 +186,7 @@ impl<P: PageDevice, L: LogDevice, B: Level> Engine<P, L, B> {
 }
 
 // The operation, if it is under way.
+#[inline(always)]
 fn under_way(transactions: &Transactions, sub: Sub) -> Option<&Operation>
     ensures { MatchOption result (NotFound (λ r. IsOther sub.number r.under) (found_row sub.txn transactions.now))
         (λ o. OnFound (found_row sub.txn transactions.now) (λ r. OnUnder sub.number (λ r u. u ≡ under_of o.now) r r.under)) }
