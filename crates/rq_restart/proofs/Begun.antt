@@ -121,9 +121,6 @@ module _ (log rolled_back : List Record) (m : IsRolledBack log rolled_back) (h :
   pub begins : (now : List Record) → now ≡ records.Restart (last + 1) ∷ rolled_back → now ≡ next_restart rolled_back ∷ rolled_back
   begins now e = e ∙ ap (λ n. records.Restart (n + 1) ∷ rolled_back) last_is
 
-  pub begun_is : {L : Type 0} (new : Logged L) → new.records ≡ records.Restart (last + 1) ∷ rolled_back → (new.forced ≡ length new.records) × (new.failed ≡ false) → IsBegun log new
-  begun_is new e f = record { rolled_back = rolled_back; rolls_back = m; records = begins new.records e; forced = f.0; running = f.1 }
-
   pub reports : (z : Sizes) (now : List Record) (incarnation count unfinished_count gone : ℕ)
       → (incarnation ≡ last + 1) × (count ≡ length now) × (unfinished_count ≡ length (open_work_of log).unfinished) × (gone ≡ length (open_work_of log).active)
       → (e : List Record) → IsPast e log → Reports z (rebased e log) now incarnation count unfinished_count gone

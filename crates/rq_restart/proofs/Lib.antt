@@ -15,7 +15,7 @@ pub mod Repeated
 pub mod DueLists
 pub mod Aborts
 pub mod Rounds
-pub mod Results
+pub mod Opens
 pub mod Planning
 pub mod Linking
 pub mod Renewing

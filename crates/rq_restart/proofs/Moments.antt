@@ -1,5 +1,5 @@
 -- What a crash at any moment of a restart leaves of the log.
-use Rattle.std.proofs.Common.{inl, inr, ◌⊎◌, ⊎_elim, Result, Ok, Err, IfErr, ◌≡◌, ℕ, ◌-◌, List, ◌∷◌, refl, subst, [], ap, sym}
+use Rattle.std.proofs.Common.{inl, inr, ◌⊎◌, ⊎_elim, ◌≡◌, ℕ, ◌-◌, List, ◌∷◌, refl, subst, [], ap, sym}
 use Rattle.rq_model.specs.declared.record.Record.{Record}
 use Rattle.rq_disk.specs.declared.device.LogDevice.{Ghosts}
 use Rattle.rq_log.specs.Crash.{LeavesOnly}
@@ -11,8 +11,8 @@ use Rattle.rq_log.specs.Reading.{IsRead}
 use Rattle.rq_model.specs.declared.refusal.Refusal.{Refusal}
 use Rattle.rq_model.specs.declared.refusal.Refusal.TheVariants as why
 use Rattle.rq_restart.specs.Refused.{IsStoppedBehind}
-use Rattle.rq_restart.specs.Repeating.{Paged}
-use Rattle.rq_restart.specs.Restarting.{IsBegunBehind, IsBegunOn, LeavesLog, WasLeftOrBegun, WasLeftOrForced, BeginsAtMost}
+use Rattle.rq_restart.specs.Repeating.{Paged, Repeats}
+use Rattle.rq_restart.specs.Restarting.{IsBegunBehind, IsBegunOn, IsLogRead, LeavesLog, WasLeftOrBegun, WasLeftOrForced, BeginsAtMost}
 use Rattle.rq_disk.specs.Device.{Images}
 use Rattle.rq_page.specs.Sizes.{Sizes}
 use Rattle.rq_analysis.specs.Recovered.{IsRecovered}
@@ -80,6 +80,8 @@ module _ {L : Type 0} (g : Ghosts L) (z : Sizes) (images : Images) where
       (weaker g mid new (WasLeftOrBegun g z images mid older) (λ c. g.may_leave old c ⊎ IsBegunOn z images (g.seen old) c) (rest h are (subst (EndsWith older) (sym same) read))
       (λ c. ⊎_elim (λ was. inl (crash c was)) (λ is. inr (record { older = older; reads = read; marks = marks; begun = subst (λ seen. IsBegunBehind z images older seen c) same is }))))
 
-pub if_err_both : {T E : Type 0} {A B C : E → Type 0} (r : Result T E) → ((x : E) → A x → B x → C x) → IfErr r A → IfErr r B → IfErr r C
-if_err_both (Ok x) f h k = h
-if_err_both (Err e) f h k = f e h k
+-- the log was read whole beside pages that were first so, and then gone on with
+pub begins_at_most : {L : Type 0} (g : Ghosts L) (z y : Sizes) (first mid : Paged) (old : L) (read new : Logged L) → y ≡ z → IsLogRead g old read → Repeats z read.records first mid → LeavesLog g y mid read new → BeginsAtMost g z first.image old new.device
+begins_at_most g z y first mid old read new same was repeated left =
+    let there : LeavesLog g z mid read new = subst (λ x. LeavesLog g x mid read new) same left in
+    read_first g z first.image old read.device new.device read.records was.marks there.honest was.reads was.are_spelled was.only.same was.only.leaves was.only.moments (λ h are reads. there.any_moment first repeated h are reads)

@@ -1,17 +1,13 @@
 -- A restart whose pages are only read, and whose log has records more.
 use Rattle.std.proofs.lemmas.List.{drop-append-le, length-append}
-use Rattle.std.proofs.Common.{◌≡◌, ◌⊎◌, ℕ, suc, ◌+◌, ◌++◌, drop, List, ◌∷◌, length, inl, inr, ⊎_elim, sym, ◌∙◌, ap, subst, arith, ◌≤◌, Result, Ok, Err, IfOk, IfErr}
+use Rattle.std.proofs.Common.{◌≡◌, ◌⊎◌, ℕ, ◌++◌, drop, List, ◌∷◌, length, inl, inr, ⊎_elim, sym, ◌∙◌, ap, subst, arith, ◌≤◌}
 use Rattle.rq_model.specs.declared.record.Record.{Record}
 use Rattle.rq_model.specs.Bases.{earlier, marked, standing}
 use Rattle.rq_model.proofs.Bases.{added_earlier, added_stand, marked_stands}
 use Rattle.rq_engine.specs.Earlier.{rebased}
-use Rattle.rq_engine.specs.Earlier.{on as on_earlier}
-use Rattle.rq_store.specs.Whole.{AreBased, IsWhole}
+use Rattle.rq_store.specs.Whole.{IsWhole}
 use Rattle.rq_restart.specs.Past.{IsPast}
 use Rattle.rq_model.specs.Incarnations.{Extends}
-use Rattle.rq_model.specs.Commits.{committed_of}
-use Rattle.rq_model.specs.Ledger.{Ledger, after}
-use Rattle.rq_model.specs.History.Entry.{Restarted}
 use Rattle.rq_disk.specs.Device.{Images, Leaves}
 use Rattle.rq_disk.specs.declared.device.LogDevice as log_device
 use Rattle.rq_disk.specs.declared.device.PageDevice as page_device
@@ -19,26 +15,18 @@ use Rattle.rq_pool.specs.Reading.{AreSeen, IsSuperblock, OnlyRead}
 use Rattle.rq_log.specs.Spelled.{AreAllSpelled, AreSpelled, EndsWith, EndsWithAll, GoOnTo, spelled_all}
 use Rattle.rq_log.proofs.Moments.{weaker}
 use Rattle.rq_page.specs.Sizes.{Sizes, page_count}
-use Rattle.rq_sound.specs.Sound.{IsSound}
 use Rattle.rq_store.specs.Fitting.{image_in}
-use Rattle.rq_store.specs.State.{State, ledger_of}
-use Rattle.rq_store.specs.Opening.{IsLeft, opened, next_restart}
+use Rattle.rq_store.specs.Opening.{IsLeft, next_restart}
 use Rattle.rq_store.proofs.Cutting.{whole_dropped}
-use Rattle.rq_store.proofs.Opening.{opened_after}
-use Rattle.rq_engine.specs.Opened.{OpenStore, pooled}
 use Rattle.rq_engine.specs.Devices.{EachPair, Path}
 use Rattle.rq_engine.specs.Devices.Path.{Start, Pages, Log}
 use Rattle.rq_analysis.specs.Recovered.{IsRecovered}
 use Rattle.rq_analysis.proofs.Recovering.{recovered_from}
 use Rattle.rq_analysis.proofs.Stopping.{plain_drop}
-use Rattle.rq_restart.specs.declared.restart.Report.{Report}
-use Rattle.rq_restart.specs.declared.restart.Stopped.{Stopped}
-use Rattle.rq_restart.specs.Restarting.{BeginsFrom, IsBegunBehind, IsBegunFrom, IsBegunOn, IsLeftOn, IsOpenedOver, IsReadAs, Reports, WasChecked}
-use Rattle.rq_restart.specs.Repeating.{paged}
-use Rattle.rq_restart.specs.Underway.{IsSomeStore, IsLeftOrGoesOn, pages_left, log_left}
-use Rattle.rq_analysis.proofs.Marked.{marked_incarnation}
-use Rattle.rq_restart.proofs.Begun.{rolled_back_incarnation}
-use Rattle.rq_restart.proofs.Pasts.{IsAddedOn, added_join, begun_added, begun_on, earlier_back, incarnation_on, left_there, length_on, mended_added, opened_on, past_of, read_is, same_log, standing_on}
+use Rattle.rq_restart.specs.Restarting.{BeginsFrom, IsBegunBehind, IsBegunFrom, IsBegunOn}
+use Rattle.rq_restart.specs.Opens.{KeepsStores}
+use Rattle.rq_restart.specs.Underway.{IsSomeStore, IsLeftOrGoesOn}
+use Rattle.rq_restart.proofs.Pasts.{IsAddedOn, added_join, begun_added, begun_on, earlier_back, mended_added, past_of, read_is, same_log, standing_on}
 use Rattle.rq_restart.proofs.Lefts.{left_longer}
 use Rattle.rq_restart.proofs.Loading.{one_size}
 use Rattle.rq_log.proofs.Parsing.{one_log}
@@ -169,64 +157,12 @@ module _ {P L : Type 0} (p : page_device.Ghosts P) (l : log_device.Ghosts L) (pa
   pub restart_crash : ((d : L) (t : ℕ) (c : List ℕ) → t ≤ l.moment d → l.may_leave d c → l.left_since d t c) → EachPair p l new_pages new_log Q
   restart_crash counts images bytes a b = left_or_begun images bytes a ((begins h).each bytes (counts new_log (l.moment log) bytes (begins h).later b))
 
--- of each answer
-pub answer_read : {P L : Type 0} (p : page_device.Ghosts P) (pages : P) (r : Result (OpenStore P L × Report) (Stopped P L)) → IfOk r (λ o. OnlyRead p pages o.0.pages) → IfErr r (λ s. OnlyRead p pages s.pages) → OnlyRead p pages (pages_left r)
-answer_read p pages (Ok o) h k = h
-answer_read p pages (Err s) h k = k
-
-pub answer_begins : {P L : Type 0} (p : page_device.Ghosts P) (l : log_device.Ghosts L) (pages : P) (log : L) (r : Result (OpenStore P L × Report) (Stopped P L)) → IfOk r (λ o. BeginsFrom p l pages log o.0.pages o.0.log) → IfErr r (λ s. BeginsFrom p l pages log s.pages s.log) → BeginsFrom p l pages log (pages_left r) (log_left r)
-answer_begins p l pages log (Ok o) h k = h
-answer_begins p l pages log (Err s) h k = k
-
--- the ledger of the store that was opened is what the entry of a restart makes of any with the content of the log
-module _ {P L : Type 0} (p : page_device.Ghosts P) (l : log_device.Ghosts L) (pages : P) (log : L) where
-  -- it recovers the log that was read
-  opened_recovered : (o : OpenStore P L × Report) (older : List Record) → IsReadAs l log o.0.log older → IsLeftOn p o.0.state.sizes pages o.0.pages older
-      → WasChecked p l pages log o.0.state.sizes (paged (pooled o.0)) o.0.state.records o.0.pages o.0.log → IsRecovered o.0.state.sizes older (rebased (earlier older) (drop 1 o.0.state.records))
-  opened_recovered o older read on checked =
-      let z = o.0.state.sizes in
-      let same : checked.older ≡ marked older = read_is checked.older older (l.seen log) checked.marks checked.are_spelled read.are_spelled (checked.reads read.honest) read.reads in
-      let left : IsLeft z (image_in checked.images) older = left_read z (p.seen pages) checked.images older (checked.seen on.honest) on.left in
-      let back : rebased (earlier older) checked.older ≡ older = ap (rebased (earlier older)) same ∙ earlier_back older read.are_spelled in
-      subst (λ (l : List Record). IsRecovered z l (rebased (earlier older) (drop 1 o.0.state.records))) back
-      (subst (λ (l : List Record). IsRecovered z (rebased (earlier older) checked.older) (rebased (earlier older) l)) (sym (ap (drop 1) checked.begun))
-      (left_there checked.older older same read.are_spelled checked.rolled_back_on.recovered left))
-
-  opened_entry : (o : OpenStore P L × Report) (older : List Record) → IsReadAs l log o.0.log older → IsLeftOn p o.0.state.sizes pages o.0.pages older
-      → Reports o.0.state.sizes older o.0.state.records o.1.incarnation o.1.records o.1.unfinished o.1.lost → IsOpenedOver older o.0.state → IsSound (on_earlier (earlier older) o.0.state)
-      → WasChecked p l pages log o.0.state.sizes (paged (pooled o.0)) o.0.state.records o.0.pages o.0.log
-      → (ledger : Ledger) → ledger.committed ≡ committed_of older → ledger_of (on_earlier (earlier older) o.0.state) ≡ after (Restarted o.1.incarnation o.1.records) ledger
-  opened_entry o older read on reports value sound checked ledger content =
-      let z = o.0.state.sizes in
-      let images = o.0.state.images in
-      let e : List Record = earlier older in
-      let rolled_back = drop 1 o.0.state.records in
-      let now : List Record = rebased e rolled_back in
-      let added = mended_added e (marked older) rolled_back value.0 in
-      let past = added.past (past_of older read.are_spelled) in
-      let based = added.based (subst AreBased (sym (earlier_back older read.are_spelled)) on.left.whole.based) in
-      let same : on_earlier e o.0.state ≡ opened z images now = ap (on_earlier e) value.1 ∙ opened_on e z images rolled_back past based in
-      let from = recovered_from z older now on.left.whole (opened_recovered o older read on checked) in
-      let there : IsSound (opened z images now) = subst IsSound same sound in
-      let long = length_on e rolled_back past based in
-      let all : length o.0.state.records ≡ length (next_restart now ∷ now) = ap (λ (s : State). length s.records) value.1 ∙ ap suc (sym long) in
-      ap ledger_of same
-      ∙ opened_after z images now there.range from.whole from.none_unfinished from.none_lost there.pages ledger (content ∙ sym from.committed)
-      ∙ ap (λ (i : ℕ). after (Restarted (i + 1) (length (next_restart now ∷ now))) ledger) (incarnation_on e rolled_back past ∙ rolled_back_incarnation (marked older) rolled_back value.0 ∙ marked_incarnation older)
-      ∙ ap (λ (i : ℕ). after (Restarted i (length (next_restart now ∷ now))) ledger) (sym reports.incarnation_is)
-      ∙ ap (λ (n : ℕ). after (Restarted o.1.incarnation n) ledger) (sym (reports.records_are ∙ all))
-
-  pub answer_recovered : (r : Result (OpenStore P L × Report) (Stopped P L))
-      → IfOk r (λ o. WasChecked p l pages log o.0.state.sizes (paged (pooled o.0)) o.0.state.records o.0.pages o.0.log)
-      → IfOk r (λ o. (older : List Record) → IsReadAs l log o.0.log older → IsLeftOn p o.0.state.sizes pages o.0.pages older → IsRecovered o.0.state.sizes older (rebased (earlier older) (drop 1 o.0.state.records)))
-  answer_recovered (Ok o) checked = λ older read on. opened_recovered o older read on checked
-  answer_recovered (Err e) checked = checked
-
-  pub answer_entry : (r : Result (OpenStore P L × Report) (Stopped P L))
-      → IfOk r (λ o. (older : List Record) → IsReadAs l log o.0.log older → Reports o.0.state.sizes older o.0.state.records o.1.incarnation o.1.records o.1.unfinished o.1.lost)
-      → IfOk r (λ o. (older : List Record) → IsReadAs l log o.0.log older → IsOpenedOver older o.0.state)
-      → IfOk r (λ o. (older : List Record) → IsReadAs l log o.0.log older → IsLeftOn p o.0.state.sizes pages o.0.pages older → IsSound (on_earlier (earlier older) o.0.state))
-      → IfOk r (λ o. WasChecked p l pages log o.0.state.sizes (paged (pooled o.0)) o.0.state.records o.0.pages o.0.log)
-      → IfOk r (λ o. (older : List Record) → IsReadAs l log o.0.log older → IsLeftOn p o.0.state.sizes pages o.0.pages older → (ledger : Ledger) → ledger.committed ≡ committed_of older → ledger_of (on_earlier (earlier older) o.0.state) ≡ after (Restarted o.1.incarnation o.1.records) ledger)
-  answer_entry (Ok o) report value sound checked = λ older read on. opened_entry o older read on (report older read) (value older read) (sound older read on) checked
-  answer_entry (Err e) report value sound checked = report
+pub keeps_stores : {P L : Type 0} (p : page_device.Ghosts P) (l : log_device.Ghosts L) → ((d : P) (c : Images) → p.left_since d (p.moment d) c → Leaves (p.may_be d) c) → ((d : P) (q : ℕ) → p.may_be d q (p.seen d q)) → ((d : L) → l.may_leave d (l.seen d))
+    → ((d : L) (t : ℕ) (c : List ℕ) → t ≤ l.moment d → l.may_leave d c → l.left_since d t c)
+    → (pages new_pages : P) (log new_log : L) → OnlyRead p pages new_pages → BeginsFrom p l pages log new_pages new_log → KeepsStores p l pages log new_pages new_log
+keeps_stores p l pages_now pages_some log_some counts pages new_pages log new_log only begins = record {
+  pages_read = only;
+  any_moment = begins;
+  path = restart_path p l pages_now pages_some log_some pages new_pages log new_log only begins;
+  crash = λ honest h z read are reads was. restart_crash p l pages_now pages_some log_some pages new_pages log new_log only begins honest h z read are reads was counts;
+}

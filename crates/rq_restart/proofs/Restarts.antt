@@ -1,5 +1,5 @@
 -- What a restart makes of a store that was left as a crash may leave one.
-use Rattle.std.proofs.Common.{◌≡◌, ℕ, ◌<◌, ◌≤◌, List, ◌∷◌, ◌++◌, length, false, sym, ◌∙◌, ap, subst, inl, inr, ◌⊎◌, ⊎_elim, arith, ◌^◌, Bool, replicate}
+use Rattle.std.proofs.Common.{◌≡◌, ℕ, ◌<◌, ◌≤◌, List, ◌∷◌, ◌++◌, length, false, sym, ◌∙◌, ap, subst, inl, inr, ◌⊎◌, ⊎_elim, arith, Bool, replicate}
 use Rattle.rq_model.specs.declared.record.Record.{Record}
 use Rattle.rq_model.specs.declared.refusal.Refusal.{Refusal}
 use Rattle.rq_model.specs.declared.refusal.Refusal.TheVariants as why
@@ -9,17 +9,20 @@ use Rattle.rq_page.specs.Sizes.{Sizes, page_count}
 use Rattle.rq_page.specs.Formatted.{IsFormatted, IsHeaderOf}
 use Rattle.rq_disk.specs.declared.device.PageDevice.{Ghosts}
 use Rattle.rq_disk.specs.declared.device.LogDevice as log_device
-use Rattle.rq_log.specs.Spelled.{AreSpelled, EndsWith}
+use Rattle.rq_log.specs.Spelled.{AreSpelled}
 use Rattle.rq_pool.specs.Pooled.{Pooled}
 use Rattle.rq_pool.specs.Reading.{IsSuperblock, ArePages, AreSeen, OnlyRead}
 use Rattle.rq_log.specs.Logged.{Logged}
+use Rattle.rq_groups.specs.Sent.{SentBy}
+use Rattle.rq_level.specs.LevelState.{LevelState}
+use Rattle.rq_restart.specs.declared.restart.Report.{Report}
 use Rattle.rq_store.specs.Opening.{IsCounted, next_restart, IsLeft}
 use Rattle.rq_store.specs.Fitting.{FitsPage, HoldsBase, AllFit, image_in, oldest}
 use Rattle.rq_store.proofs.Fitting.{oldest_all}
 use Rattle.rq_store.proofs.Cutting.{all_fit_longer, no_more_fit}
 use Rattle.rq_store.proofs.Bounds.{fits_counted}
 use Rattle.rq_log.proofs.Moments.{weaker}
-use Rattle.rq_restart.specs.Restarting.{BeginsAtMost, BeginsFrom, IsBegun, IsBegunFrom, IsBegunOn, LogStops, IsRefusedFor, WasChecked}
+use Rattle.rq_restart.specs.Restarting.{BeginsAtMost, BeginsFrom, IsBegun, IsBegunFrom, IsBegunOn, LogStops, IsRefusedFor, OpensLog, RefusesLog, WasChecked}
 use Rattle.rq_restart.specs.Refused.{MayBeShut, WhyShut}
 use Rattle.rq_restart.specs.Overwritten.{NamesFirst}
 use Rattle.rq_restart.specs.Checked.{as_read}
@@ -33,6 +36,7 @@ use Rattle.rq_restart.specs.Aborting.{RepeatedFrom}
 use Rattle.rq_restart.specs.Past.{IsPast}
 use Rattle.rq_restart.proofs.Begun.{no_bad_undo}
 use Rattle.rq_restart.proofs.Lefts.{front_continues}
+use Rattle.rq_restart.proofs.Repeated.{follow_marked, repeated_read}
 use Rattle.rq_restart.proofs.Pasts.{aborting_added, added_join, begun_added, earlier_back, length_on, mended_added, past_of, undoing_added}
 
 -- of a device that was left alone, what follows from that
@@ -50,34 +54,34 @@ module _ {P L : Type 0} (p : Ghosts P) (l : log_device.Ghosts L) (pages : P) (lo
   first_is : paged loaded ≡ as_read loaded.sizes loaded.images
   first_is = ap (λ (f : List Bool). record { image = image_in loaded.images; changed = f }) unchanged
 
-  pub was_checked : (now : Pooled P) (records : List Record) (new : L) → now.sizes ≡ loaded.sizes → now.device ≡ loaded.device
-      → ((older : List Record) × IsMarked older × AreSpelled older × (l.honest new → EndsWith older (l.seen log)) × (rolled_back : List Record) × IsRolledBackOn loaded.sizes older rolled_back (paged loaded) (paged now) × (records ≡ next_restart rolled_back ∷ rolled_back) × (length rolled_back < 2 ^ 50))
-      → WasChecked p l pages log now.sizes (paged now) records now.device new
-  was_checked now records new same device h =
-      subst (λ d. WasChecked p l pages log now.sizes (paged now) records d new) (sym device)
-      (subst (λ z. WasChecked p l pages log z (paged now) records loaded.device new) (sym same) (record {
+  pub was_checked : (now : Pooled P) (new : Logged L) (cells : ℕ) (waiting : List ℕ) (sent : SentBy) (planner : LevelState) (report : Report) → OpensLog l loaded now log new cells waiting sent planner report → WasChecked p l pages log now.sizes (paged now) new.records now.device new.device
+  was_checked now new cells waiting sent planner report o =
+      let n = o.restarted.ready.count in
+      let e = ap length o.begun in
+      subst (λ d. WasChecked p l pages log now.sizes (paged now) new.records d new.device) (sym o.device)
+      (subst (λ z. WasChecked p l pages log z (paged now) new.records loaded.device new.device) (sym o.sizes) (record {
         images = loaded.images;
         sound = sound;
         seen = seen;
-        older = h.0;
-        marks = h.1;
-        are_spelled = h.2;
-        reads = h.3;
-        rolled_back = h.4;
-        rolled_back_on = subst (λ first. IsRolledBackOn loaded.sizes h.0 h.4 first (paged now)) first_is h.5;
-        begun = h.6;
-        room = h.7;
+        older = o.read.records;
+        marks = o.was_read.marks;
+        are_spelled = o.was_read.are_spelled;
+        reads = λ h. o.was_read.reads (o.honest h);
+        rolled_back = o.rolled_back;
+        rolled_back_on = subst (λ first. IsRolledBackOn loaded.sizes o.read.records o.rolled_back first (paged now)) first_is o.rolled_back_on;
+        begun = o.begun;
+        room = omega (arith, n, e);
       }))
 
-  pub was_refused : (e : Refusal) (new_pages : P) (new_log : L) → new_pages ≡ loaded.device → p.faults loaded.device ≡ p.faults pages → LogStops l loaded.sizes (paged loaded) e log new_log → IsRefusedFor p l pages log e new_pages new_log
-  was_refused e new_pages new_log device cause h =
+  pub was_refused : (e : Refusal) (new_pages : P) (new_log : L) → p.faults loaded.device ≡ p.faults pages → RefusesLog l loaded new_pages log new_log e → IsRefusedFor p l pages log e new_pages new_log
+  was_refused e new_pages new_log cause h =
       inr (
         loaded.sizes,
         loaded.images,
         sound,
-        (λ honest. seen (subst p.honest device honest)),
-        ap p.faults device ∙ cause,
-        subst (λ first. LogStops l loaded.sizes first e log new_log) first_is h,
+        (λ honest. seen (subst p.honest h.same honest)),
+        ap p.faults h.same ∙ cause,
+        subst (λ first. LogStops l loaded.sizes first e log new_log) first_is h.stops,
       )
 
   -- what a crash leaves of the log, beside the pages that were read
@@ -120,6 +124,26 @@ shut_left z log first (why.Damaged (damage.Page page)) before now untouched e pa
   | inr unlinked ↦ unlinked.0.none e past left
 ]
 shut_left z log first _ before now untouched e past h = absurd h
+
+-- so it is of any log that reads so
+pub shut_over : (z : Sizes) (log older : List Record) (first : Paged) (e : Refusal) (before now : ℕ) (untouched : Type 0) → (IsMarked log → log ≡ marked older) → AreSpelled older → WhyShut z log first e before now untouched → MayBeShut (IsLeft z first.image older) z older e before now
+shut_over z log older first e before now untouched is told h = each e h where
+  marks : (last : Paged) → Repeats z log first last → log ≡ marked older
+  marks last repeated = is (follow_marked log (repeated_read z log first last repeated).1)
+
+  over : (e : Refusal) → log ≡ marked older → WhyShut z log first e before now untouched → MayBeShut (IsLeft z first.image older) z older e before now
+  over e same h =
+      let x : List Record = earlier older in
+      subst (λ (l : List Record). MayBeShut (IsLeft z first.image l) z l e before now) (ap (rebased x) same ∙ earlier_back older told)
+      (shut_left z log first e before now untouched x (subst (IsPast x) (sym same) (past_of older told)) h)
+
+  each : (e : Refusal) → WhyShut z log first e before now untouched → MayBeShut (IsLeft z first.image older) z older e before now
+  each why.NoMemory h = h.0
+  each why.DiskWrite h = h.0
+  each why.LogFull h = over why.LogFull (marks h.1.0 h.1.1.repeated) h
+  each (why.Damaged (damage.Record lsn)) h = over (why.Damaged (damage.Record lsn)) (marks h.1.0 h.1.1.repeated) h
+  each (why.Damaged (damage.Page page)) h = over (why.Damaged (damage.Page page)) (elim h.0 [ inl beyond ↦ marks beyond.last beyond.repeated | inr unlinked ↦ marks unlinked.1.0 unlinked.1.1.repeated ]) h
+  each _ h = absurd h
 
 -- what was left on a device was left in the pages that are read of it
 pub left_read : (z : Sizes) (seen : ℕ → List ℕ) (images : List (List ℕ)) (older : List Record) → AreSeen seen images (page_count z) → IsLeft z seen older → IsLeft z (image_in images) older

@@ -35,7 +35,7 @@ use Rattle.rq_analysis.proofs.Owing.{first_due}
 use Rattle.rq_analysis.proofs.Logging.{come_sound}
 use Rattle.rq_analysis.proofs.Store.{lost_sound, some_incarnation}
 use Rattle.rq_analysis.proofs.Walking.{aborts_come}
-use Rattle.rq_restart.specs.Aborting.{AbortStops, AbortsFrom, HasGoneOn, IsAborting, IsAbortingFrom, IsFull, IsOnItsWay, IsShown, OfStore, RepeatedFrom, RepeatedSince}
+use Rattle.rq_restart.specs.Aborting.{AbortingStops, HasAborted, IsAborting, IsAbortingFrom, IsFull, IsOnItsWay, IsShown, OfStore, RepeatedFrom, RepeatedSince}
 use Rattle.rq_restart.specs.Past.{IsPast}
 use Rattle.rq_restart.specs.Aborting.IsOnItsWay.{Between, Within}
 use Rattle.rq_restart.specs.Checked.{IsEnded}
@@ -135,7 +135,7 @@ module _ {P : Type 0} (z : Sizes) (log undone : List Record) (mid : Pooled P) (u
     pub none_bad : OfStore z (IsShown undone mid) (λ x b. ⊥) → ⊥
     none_bad f = f e base sound refl shown
 
-    module _ (now : List Record) (new : Pooled P) (g : HasGoneOn z (AbortsFrom z undone mid now) undone now mid new (IsShown undone mid) (IsShown now new)) (ended : IsEnded now) where
+    module _ (now : List Record) (new : Pooled P) (g : HasAborted z undone mid now new) (ended : IsEnded now) where
       abbrev last : List Record
       last = rebased e now
 
@@ -166,7 +166,7 @@ module _ {P : Type 0} (z : Sizes) (log undone : List Record) (mid : Pooled P) (u
       all_recovered = aborts_come.recovered z all then mid.images (length then) new.images last undone_there is_repeated after (ap (least_free (dues last)) none_lost) nothing_due
 
   -- so the log is recovered
-  pub recovered_is : (now : List Record) (new : Pooled P) → HasGoneOn z (AbortsFrom z undone mid now) undone now mid new (IsShown undone mid) (IsShown now new) → IsEnded now → (IsEnded undone → now ≡ undone) → IsRecovered z all (rebased e now)
+  pub recovered_is : (now : List Record) (new : Pooled P) → HasAborted z undone mid now new → IsEnded now → (IsEnded undone → now ≡ undone) → IsRecovered z all (rebased e now)
   recovered_is now new g ended none = by (open_work_of undone).active refl where
     by : (ts : List Txn) → (open_work_of undone).active ≡ ts → IsRecovered z all (rebased e now)
     by [] is = subst (λ (l : List Record). IsRecovered z all (rebased e l)) (sym (none is)) (NoneLost undone_there (sym active_there ∙ is))
@@ -179,7 +179,7 @@ undo_rolls_nothing_back z log first why.LogFull s = record { undone = s.undone; 
 undo_rolls_nothing_back z log first (why.Damaged (damage.Record lsn)) s = inl s
 undo_rolls_nothing_back z log first _ s = absurd s
 
-pub abort_rolls_nothing_back : {P : Type 0} (z : Sizes) (log undone : List Record) (mid : Pooled P) → IsUndone log undone → IsPool z mid.images → (IsEnded undone → ⊥) → (first : Paged) → Repeats z undone first (paged mid) → (e : Refusal) → AbortStops z (IsAbortingFrom z undone mid) undone mid (IsShown undone mid) e → RollbackStops z log first e
+pub abort_rolls_nothing_back : {P : Type 0} (z : Sizes) (log undone : List Record) (mid : Pooled P) → IsUndone log undone → IsPool z mid.images → (IsEnded undone → ⊥) → (first : Paged) → Repeats z undone first (paged mid) → (e : Refusal) → AbortingStops z undone mid e → RollbackStops z log first e
 abort_rolls_nothing_back z log undone mid u pool some first repeated why.NoMemory s = tt
 abort_rolls_nothing_back z log undone mid u pool some first repeated why.LogFull s = record {
   undone = undone;
@@ -203,9 +203,9 @@ abort_rolls_nothing_back z log undone mid u pool some first repeated _ s = absur
 
 -- what mends it from there, wherever the log was repeated so
 pub rolled_back_since : {P : Type 0} (z : Sizes) (log undone now : List Record) (old mid new : Pooled P) → mid.sizes ≡ z → IsUndone log undone → IsPool mid.sizes mid.images → ((first : Paged) → Repeats z log first (paged old) → Repeats z undone first (paged mid))
-    → HasGoneOn mid.sizes (AbortsFrom mid.sizes undone mid now) undone now mid new (IsShown undone mid) (IsShown now new) → IsEnded now → (IsEnded undone → now ≡ undone) → IsRolledBackSince z log now (paged old) (paged new)
+    → HasAborted mid.sizes undone mid now new → IsEnded now → (IsEnded undone → now ≡ undone) → IsRolledBackSince z log now (paged old) (paged new)
 rolled_back_since z log undone now old mid new same u in_pool before went ended none =
-    let gone : HasGoneOn z (AbortsFrom z undone mid now) undone now mid new (IsShown undone mid) (IsShown now new) = subst (λ y. HasGoneOn y (AbortsFrom y undone mid now) undone now mid new (IsShown undone mid) (IsShown now new)) same went in
+    let gone : HasAborted z undone mid now new = subst (λ y. HasAborted y undone mid now new) same went in
     let pool : IsPool z mid.images = subst (λ y. IsPool y mid.images) same in_pool in
     record {
       is = record { undone = undone; undoes = u; aborting = gone.aborting.behind; ended = ended; none_lost = λ e. none (undone_active log undone u ∙ e) };

@@ -8,6 +8,8 @@ use Rattle.rq_model.specs.declared.refusal.Damage.TheVariants as damage
 use Rattle.rq_model.specs.declared.txn.Sub.{Sub}
 use Rattle.rq_model.specs.Vocabulary.{In}
 use Rattle.rq_page.specs.Sizes.{Sizes}
+use Rattle.rq_pool.specs.Pooled.{Pooled}
+use Rattle.rq_log.specs.Logged.{Logged}
 use Rattle.rq_record.specs.Spelling.{IsInRange, IsSlotNumber, IsTxnInRange}
 use Rattle.rq_model.specs.Bases.{is_base}
 use Rattle.rq_log.specs.Spelled.{AreSpelled}
@@ -23,7 +25,7 @@ use Rattle.rq_analysis.proofs.Undos.{undo_leaves_less, undoing_more}
 use Rattle.rq_analysis.specs.Rules.{CanBeRead}
 use Rattle.rq_restart.specs.Found.{MayComeNext}
 use Rattle.rq_restart.specs.Repeating.{ArePagesCounted, Belongs, IsRecordRedone, Marks, Paged, Repeats}
-use Rattle.rq_restart.specs.Undoing.{StepStops, UndoStops}
+use Rattle.rq_restart.specs.Undoing.{HandsOverNothing, StepStops, UndoStops}
 use Rattle.rq_restart.proofs.Repeated.{before_from, counted_more}
 
 -- what a log's records say is in range, and so is what is noted of them
@@ -75,6 +77,20 @@ undo_range log h r e a next = by (subst (λ k. IsNextUndo k r) e next) where
   by (Undoes p ps none undoable is) =
       let k = undoable_range log a p (rw undoable (inl refl)) in
       rw is (k.0.0, k.0.1, k.1, k.2)
+
+-- nothing is handed over, one record after the other
+pub none_handed : {P L : Type 0} (pages : Pooled P) (log : Logged L) → log.failed ≡ false → HandsOverNothing pages pages log log
+none_handed pages log running = record { sizes = refl; pages_device = refl; log_device = refl; forced = refl; running = running; settled = refl }
+
+pub and_then : {P L : Type 0} {a b c : Pooled P} {x y z : Logged L} → HandsOverNothing a b x y → HandsOverNothing b c y z → HandsOverNothing a c x z
+and_then h k = record {
+  sizes = k.sizes ∙ h.sizes;
+  pages_device = k.pages_device ∙ h.pages_device;
+  log_device = k.log_device ∙ h.log_device;
+  forced = k.forced ∙ h.forced;
+  running = k.running;
+  settled = k.settled ∙ h.settled;
+}
 
 -- one record more is repeated, or doesn't belong
 module _ (z y : Sizes) (log : List Record) (r : Record) (sizes : y ≡ z) (count : ℕ) (all : count ≡ length log + 1) where

@@ -145,6 +145,10 @@ pub record HasGoneOn {P : Type 0} (z : Sizes) (behind : Type 0) (log now : List 
   pub counted : ArePagesCounted z (length log) (paged old) → ArePagesCounted z (length now) (paged new)
   pub shown : OfStore z before after
 
+-- some were ended or taken back, in whole rounds
+abbrev pub HasAborted : {P : Type 0} → Sizes → List Record → Pooled P → List Record → Pooled P → Type 0
+HasAborted z log old now new = HasGoneOn z (AbortsFrom z log old now) log now old new (IsShown log old) (IsShown now new)
+
 -- the log with records behind, of which this is so, is at its greatest length, and shows such a store on its way
 pub record IsFull (z : Sizes) (behind : List Record → Type 0) (before : List Record → State → Type 0) : Type 0 where
   pub last : List Record
@@ -186,6 +190,9 @@ AbortStops z behind log old before why.NoMemory = Unit {0}
 AbortStops z behind log old before why.LogFull = IsFull z behind before
 AbortStops z behind log old before (why.Damaged (damage.Record lsn)) = IsBadAbort z behind log old before lsn
 AbortStops z behind log old before _ = ⊥
+
+abbrev pub AbortingStops : {P : Type 0} → Sizes → List Record → Pooled P → Refusal → Type 0
+AbortingStops z log old e = AbortStops z (IsAbortingFrom z log old) log old (IsShown log old) e
 
 -- why what is due was not planned to be taken back
 abbrev pub PlanStops : Sizes → List (List ℕ) → PendingUndo → Refusal → Type 0

@@ -26,7 +26,9 @@ use Rattle.rq_store.specs.Fitting.{image_in}
 use Rattle.rq_analysis.specs.OpenWorkView.{open_work_of}
 use Rattle.rq_analysis.specs.Recovered.{IsRecovered}
 use Rattle.rq_restart.specs.RolledBack.{IsAtBound, IsRolledBack, IsRolledBackOn}
-use Rattle.rq_restart.specs.Repeating.{Paged, Repeats}
+use Rattle.rq_restart.specs.Repeating.{Paged, Repeats, paged}
+use Rattle.rq_pool.specs.Pooled.{IsPool, Pooled}
+use Rattle.rq_views.specs.Stored.{count_used, slots_in}
 use Rattle.rq_restart.specs.declared.restart.Report.{Report}
 use Rattle.rq_restart.specs.Checked.{as_read}
 use Rattle.rq_model.specs.Bases.{IsMarked, gone, marked, standing}
@@ -137,7 +139,7 @@ module _ {L : Type 0} (g : log_device.Ghosts L) where
   -- do: an engine may be opened over it.
   pub record IsRestarted (z : Sizes) (images : List (List ℕ)) (old new : Logged L) (waiting : List ℕ) (sent : SentBy)
       (planner : LevelState) (report : Report) : Type 0 where
-    pub begun : IsBegun old.records new
+    pub forced : new.forced ≡ length new.records
     pub reports : (e : List Record) → IsPast e old.records
         → Reports z (rebased e old.records) new.records report.incarnation report.records report.unfinished report.lost
     pub told : AreTold z images (length new.records) waiting sent
@@ -167,6 +169,40 @@ module _ {L : Type 0} (g : log_device.Ghosts L) where
       IsStoppedBehind g z first e old new
       ⊎ ((older : List Record) × AreSpelled older × (g.honest new → EndsWith older (g.seen old))
       × WhyShut z older first e (g.faults old) (g.faults new) (IsRead g old new))
+
+  -- the log was read, all of it
+  pub record IsLogRead (log : L) (read : Logged L) : Type 0 where
+    pub marks : IsMarked read.records
+    pub are_spelled : AreSpelled read.records
+    pub reads : g.honest read.device → EndsWith read.records (g.seen log)
+    pub only : IsRead g log read.device
+    pub counted : g.faults read.device ≡ g.faults log
+    pub unreserved : read.reserved ≡ 0
+    pub running : read.failed ≡ false
+
+  -- Over pages that were first so the log was read, gone through and mended, and the next incarnation begun: with these
+  -- tables an engine may be opened over it.
+  pub record OpensLog {P : Type 0} (first now : Pooled P) (log : L) (new : Logged L) (cells : ℕ) (waiting : List ℕ)
+      (sent : SentBy) (planner : LevelState) (report : Report) : Type 0 where
+    pub sizes : now.sizes ≡ first.sizes
+    pub device : now.device ≡ first.device
+    pub pool : IsPool now.sizes now.images
+    pub cells_used : cells ≡ count_used now.sizes (slots_in now.sizes now.images)
+    pub read : Logged L
+    pub was_read : IsLogRead log read
+    pub honest : g.honest new.device → g.honest read.device
+    -- what is behind it
+    pub restarted : IsRestarted now.sizes now.images read new waiting sent planner report
+    pub rolled_back : List Record
+    pub rolled_back_on : IsRolledBackOn first.sizes read.records rolled_back (paged first) (paged now)
+    pub begun : new.records ≡ next_restart rolled_back ∷ rolled_back
+    pub any_moment : BeginsAtMost first.sizes (image_in first.images) log new.device
+
+  -- The store with these pages was not opened over the log, and why; both devices are given back.
+  pub record RefusesLog {P : Type 0} (pages : Pooled P) (device : P) (old new : L) (e : Refusal) : Type 0 where
+    pub same : device ≡ pages.device
+    pub stops : LogStops pages.sizes (paged pages) e old new
+    pub any_moment : BeginsAtMost pages.sizes (image_in pages.images) old new
 
 module _ {P L : Type 0} (p : page_device.Ghosts P) (l : log_device.Ghosts L) (pages : P) (log : L) where
   -- Why a restart was refused, and where: the pages could not be read, and the log was left alone; or they were all

@@ -1,13 +1,25 @@
 -- Undoing operations that have no end, and where that stops.
-use Rattle.std.specs.Prelude.{◌≡◌, ℕ, ◌+◌, ◌^◌, ◌≤◌, List, length}
+use Rattle.std.specs.Prelude.{◌≡◌, ℕ, ◌+◌, ◌^◌, ◌≤◌, false, List, length}
 use Rattle.rq_model.specs.declared.record.Record.{Record}
 use Rattle.rq_model.specs.declared.refusal.Refusal.{Refusal}
 use Rattle.rq_model.specs.declared.refusal.Refusal.TheVariants as why
 use Rattle.rq_model.specs.declared.refusal.Damage.TheVariants as damage
 use Rattle.rq_page.specs.Sizes.{Sizes}
+use Rattle.rq_pool.specs.Pooled.{Pooled}
+use Rattle.rq_log.specs.Logged.{Logged}
 use Rattle.rq_analysis.specs.OpenWorkView.{open_work_of}
 use Rattle.rq_analysis.specs.Pages.{IsNextUndo, IsUndoing}
 use Rattle.rq_restart.specs.Repeating.{Paged, Belongs, Repeats}
+
+-- Records were made behind the log, on the pages too, and nothing was handed over: both have the devices that they had, and
+-- the log has not failed.
+pub record HandsOverNothing {P L : Type 0} (old new : Pooled P) (log now : Logged L) : Type 0 where
+  pub sizes : new.sizes ≡ old.sizes
+  pub pages_device : new.device ≡ old.device
+  pub log_device : now.device ≡ log.device
+  pub forced : now.forced ≡ log.forced
+  pub running : now.failed ≡ false
+  pub settled : now.settled ≡ log.settled
 
 -- the log, with the records behind that undo operations of it, is at its greatest length
 pub record IsFullUndo (log : List Record) : Type 0 where

@@ -9,9 +9,10 @@ ghost use Rattle.rq_analysis.specs.Choices.{least_free};
 ghost use Rattle.rq_record.specs.Spelling.{IsTxnInRange};
 ghost use Rattle.rq_store.specs.Steps.{page_op};
 ghost use Rattle.rq_model.specs.Vocabulary.{In};
-ghost use Rattle.rq_restart.specs.Aborting.{AbortStops, AbortsFrom, HasGoneOn, IsAbortingFrom, IsMaking, blamed_on, IsShown, IsShownWithin, PlanStops, with_writes};
+ghost use Rattle.rq_restart.specs.Aborting.{AbortStops, AbortingStops, HasAborted, HasGoneOn, IsMaking, IsShownWithin, PlanStops, blamed_on, with_writes};
 ghost use Rattle.rq_restart.specs.Checked.{IsEnded};
 ghost use Rattle.rq_restart.specs.Found.{IsAnalysisOf};
+ghost use Rattle.rq_restart.specs.Undoing.{HandsOverNothing};
 
 use crate::analysis::Analysis;
 use crate::appending::append;
@@ -44,20 +45,14 @@ pub(crate) fn abort_lost<P: PageDevice + Drop, L: LogDevice + Drop, B: Level>(
     requires found { IsAnalysisOf analysis.old log.old.records }
     requires running { log.old.failed ≡ false }
     requires cells { KnowsCells pages.old.sizes pages.old.images planner.old }
-    ensures gone_on { OnOk result (HasGoneOn pages.old.sizes (AbortsFrom pages.old.sizes log.old.records pages.old log.new.records)
-        log.old.records log.new.records pages.old pages.new (IsShown log.old.records pages.old)
-        (IsShown log.new.records pages.new)) }
+    ensures gone_on { OnOk result (HasAborted pages.old.sizes log.old.records pages.old log.new.records pages.new) }
     ensures ended { OnOk result (IsEnded log.new.records) }
     ensures none { OnOk result (IsEnded log.old.records → (log.new.records ≡ log.old.records) × (pages.new ≡ pages.old)) }
     ensures found { OnOk result (IsAnalysisOf analysis.new log.new.records) }
     ensures cells { OnOk result (KnowsCells pages.new.sizes pages.new.images planner.new) }
-    ensures stops { IfErr result (λ e. AbortStops pages.old.sizes (IsAbortingFrom pages.old.sizes log.old.records pages.old)
-        log.old.records pages.old (IsShown log.old.records pages.old) e) }
+    ensures stops { IfErr result (λ e. AbortingStops pages.old.sizes log.old.records pages.old e) }
     ensures some { OnErr result (IsEnded log.old.records → ⊥) }
-    ensures sizes { pages.new.sizes ≡ pages.old.sizes }
-    ensures device { pages.new.device ≡ pages.old.device }
-    ensures log { (log.new.device ≡ log.old.device) × (log.new.forced ≡ log.old.forced)
-        × (log.new.failed ≡ false) × (log.new.settled ≡ log.old.settled) }
+    ensures stays { HandsOverNothing pages.old pages.new log.old log.new }
     ensures room { OnOk result (log.new.reserved ≡ log.old.reserved) }
 {
     if analysis.open_work.all_ended() {
@@ -76,18 +71,12 @@ fn end_idle<P: PageDevice + Drop, L: LogDevice + Drop>(
 ) -> Result<(), Refusal>
     requires found { IsAnalysisOf analysis.old log.old.records }
     requires running { log.old.failed ≡ false }
-    ensures gone_on { OnOk result (HasGoneOn pages.old.sizes (AbortsFrom pages.old.sizes log.old.records pages.old log.new.records)
-        log.old.records log.new.records pages.old pages.new (IsShown log.old.records pages.old)
-        (IsShown log.new.records pages.new)) }
+    ensures gone_on { OnOk result (HasAborted pages.old.sizes log.old.records pages.old log.new.records pages.new) }
     ensures same { OnOk result (pages.new ≡ pages.old) }
     ensures none { OnOk result (least_free analysis.new.dues analysis.new.open_work.active ≡ None) }
     ensures found { OnOk result (IsAnalysisOf analysis.new log.new.records) }
-    ensures stops { IfErr result (λ e. AbortStops pages.old.sizes (IsAbortingFrom pages.old.sizes log.old.records pages.old)
-        log.old.records pages.old (IsShown log.old.records pages.old) e) }
-    ensures sizes { pages.new.sizes ≡ pages.old.sizes }
-    ensures device { pages.new.device ≡ pages.old.device }
-    ensures log { (log.new.device ≡ log.old.device) × (log.new.forced ≡ log.old.forced)
-        × (log.new.failed ≡ false) × (log.new.settled ≡ log.old.settled) }
+    ensures stops { IfErr result (λ e. AbortingStops pages.old.sizes log.old.records pages.old e) }
+    ensures stays { HandsOverNothing pages.old pages.new log.old log.new }
     ensures room { OnOk result (log.new.reserved ≡ log.old.reserved) }
 {
     while let Some(txn) = next_end(analysis.open_work.active(), &analysis.dues) {
@@ -108,18 +97,12 @@ fn undo_all_due<P: PageDevice + Drop, L: LogDevice + Drop, B: Level>(
     requires none { least_free analysis.old.dues analysis.old.open_work.active ≡ None }
     requires running { log.old.failed ≡ false }
     requires cells { KnowsCells pages.old.sizes pages.old.images planner.old }
-    ensures gone_on { OnOk result (HasGoneOn pages.old.sizes (AbortsFrom pages.old.sizes log.old.records pages.old log.new.records)
-        log.old.records log.new.records pages.old pages.new (IsShown log.old.records pages.old)
-        (IsShown log.new.records pages.new)) }
+    ensures gone_on { OnOk result (HasAborted pages.old.sizes log.old.records pages.old log.new.records pages.new) }
     ensures ended { OnOk result (IsEnded log.new.records) }
     ensures found { OnOk result (IsAnalysisOf analysis.new log.new.records) }
     ensures cells { OnOk result (KnowsCells pages.new.sizes pages.new.images planner.new) }
-    ensures stops { IfErr result (λ e. AbortStops pages.old.sizes (IsAbortingFrom pages.old.sizes log.old.records pages.old)
-        log.old.records pages.old (IsShown log.old.records pages.old) e) }
-    ensures sizes { pages.new.sizes ≡ pages.old.sizes }
-    ensures device { pages.new.device ≡ pages.old.device }
-    ensures log { (log.new.device ≡ log.old.device) × (log.new.forced ≡ log.old.forced)
-        × (log.new.failed ≡ false) × (log.new.settled ≡ log.old.settled) }
+    ensures stops { IfErr result (λ e. AbortingStops pages.old.sizes log.old.records pages.old e) }
+    ensures stays { HandsOverNothing pages.old pages.new log.old log.new }
     ensures room { OnOk result (log.new.reserved ≡ log.old.reserved) }
 {
     while let Some(due) = analysis.dues.newest() {
@@ -145,20 +128,14 @@ fn undo_due<P: PageDevice + Drop, L: LogDevice + Drop, B: Level>(
     requires first { (older : List PendingUndo) × (analysis.old.dues ≡ due.now ∷ older) }
     requires running { log.old.failed ≡ false }
     requires cells { KnowsCells pages.old.sizes pages.old.images planner.old }
-    ensures gone_on { OnOk result (HasGoneOn pages.old.sizes (AbortsFrom pages.old.sizes log.old.records pages.old log.new.records)
-        log.old.records log.new.records pages.old pages.new (IsShown log.old.records pages.old)
-        (IsShown log.new.records pages.new)) }
+    ensures gone_on { OnOk result (HasAborted pages.old.sizes log.old.records pages.old log.new.records pages.new) }
     ensures rest { OnOk result (analysis.old.dues ≡ due.now ∷ analysis.new.dues) }
     ensures lost { OnOk result (In due.now.txn analysis.old.open_work.active) }
     ensures active { OnOk result (analysis.new.open_work.active ≡ analysis.old.open_work.active) }
     ensures found { OnOk result (IsAnalysisOf analysis.new log.new.records) }
     ensures cells { OnOk result (KnowsCells pages.new.sizes pages.new.images planner.new) }
-    ensures stops { IfErr result (λ e. AbortStops pages.old.sizes (IsAbortingFrom pages.old.sizes log.old.records pages.old)
-        log.old.records pages.old (IsShown log.old.records pages.old) e) }
-    ensures sizes { pages.new.sizes ≡ pages.old.sizes }
-    ensures device { pages.new.device ≡ pages.old.device }
-    ensures log { (log.new.device ≡ log.old.device) × (log.new.forced ≡ log.old.forced)
-        × (log.new.failed ≡ false) × (log.new.settled ≡ log.old.settled) }
+    ensures stops { IfErr result (λ e. AbortingStops pages.old.sizes log.old.records pages.old e) }
+    ensures stays { HandsOverNothing pages.old pages.new log.old log.new }
     ensures room { OnOk result (log.new.reserved ≡ log.old.reserved) }
 {
     log.shows_kept();
@@ -207,10 +184,7 @@ fn make_all<P: PageDevice + Drop, L: LogDevice + Drop, B: Level>(
     ensures stops { IfErr result (λ e. AbortStops pages.old.sizes
         (IsMaking due.now.txn operation writes.now log.old.records) log.old.records pages.old
         (IsShownWithin log.old.records pages.old due.now operation writes.now 0) e) }
-    ensures sizes { pages.new.sizes ≡ pages.old.sizes }
-    ensures device { pages.new.device ≡ pages.old.device }
-    ensures log { (log.new.device ≡ log.old.device) × (log.new.forced ≡ log.old.forced)
-        × (log.new.failed ≡ false) × (log.new.settled ≡ log.old.settled) }
+    ensures stays { HandsOverNothing pages.old pages.new log.old log.new }
     ensures room { OnOk result (log.new.reserved ≡ log.old.reserved) }
 {
     for index in 0..writes.len() {

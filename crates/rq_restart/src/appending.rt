@@ -8,7 +8,7 @@ ghost use Rattle.rq_store.specs.Fitting.{told_by};
 ghost use Rattle.rq_analysis.specs.Rules.{CanBeRead};
 ghost use Rattle.rq_restart.specs.Found.{IsAnalysisOf};
 ghost use Rattle.rq_restart.specs.Repeating.{Belongs, IsRecordRedone, paged};
-ghost use Rattle.rq_restart.specs.Undoing.{StepStops};
+ghost use Rattle.rq_restart.specs.Undoing.{HandsOverNothing, StepStops};
 
 use crate::analysis::Analysis;
 use crate::redo::redo_record;
@@ -45,10 +45,7 @@ pub(crate) fn append<P: PageDevice + Drop, L: LogDevice + Drop>(
     ensures same { OnOk result (told_by undo.now ≡ None → pages.new ≡ pages.old) }
     ensures stops { IfErr result (λ e. StepStops (length log.old.records)
         (Belongs pages.old.sizes log.old.records undo.now (paged pages.old)) e) }
-    ensures sizes { pages.new.sizes ≡ pages.old.sizes }
-    ensures device { pages.new.device ≡ pages.old.device }
-    ensures log { (log.new.device ≡ log.old.device) × (log.new.forced ≡ log.old.forced)
-        × (log.new.failed ≡ false) × (log.new.settled ≡ log.old.settled) }
+    ensures stays { HandsOverNothing pages.old pages.new log.old log.new }
     ensures room { OnOk result (log.new.reserved ≡ log.old.reserved) }
 {
     log.shows_kept();

@@ -1,39 +1,22 @@
 //! Opening a store that a crash, or nothing at all, left behind.
-ghost use Rattle.std.specs.Prelude.{◌≡◌, ◌+◌, ◌^◌, ◌<◌, ◌≤◌, ◌∷◌, IfOk, IfErr, OnOk, false, length, drop, List};
+ghost use Rattle.std.specs.Prelude.{◌≡◌, ◌+◌, ◌<◌, ◌≤◌, ◌∷◌, IfOk, IfErr, OnOk, false, length, List};
 ghost use Rattle.rq_model.specs.declared.record.Record.TheVariants as records;
 ghost use Rattle.rq_model.specs.declared.record.Record.{Record};
-ghost use Rattle.rq_views.specs.Stored.{slots_in, count_used};
+ghost use Rattle.rq_views.specs.Stored.{slots_in};
 ghost use Rattle.rq_log.specs.Crash.{LeavesOnly};
-ghost use Rattle.rq_log.specs.Spelled.{spelled, AreSpelled, EndsWith};
-ghost use Rattle.rq_page.specs.Sizes.{Sizes};
-ghost use Rattle.rq_disk.specs.Device.{Only};
 ghost use Rattle.rq_pool.specs.Pooled.{IsPool};
-ghost use Rattle.rq_pool.specs.Reading.{IsSuperblock, OnlyRead};
-ghost use Rattle.rq_model.specs.Bases.{IsMarked, earlier, marked};
-ghost use Rattle.rq_model.specs.Commits.{committed_of};
-ghost use Rattle.rq_model.specs.Ledger.{Ledger, after};
-ghost use Rattle.rq_model.specs.History.Entry.{Restarted};
-ghost use Rattle.rq_store.specs.State.{ledger_of};
-ghost use Rattle.rq_store.specs.Whole.{AreBased};
-ghost use Rattle.rq_sound.specs.Sound.{IsSound};
-ghost use Rattle.rq_store.specs.Opening.{opened, next_restart, IsLeft};
-ghost use Rattle.rq_store.specs.Fitting.{AllFit, image_in};
+ghost use Rattle.rq_store.specs.Opening.{next_restart};
 ghost use Rattle.rq_planner.specs.Answered.{KnowsCells};
-ghost use Rattle.rq_engine.specs.Crash.{AreFit};
-ghost use Rattle.rq_engine.specs.Earlier.{on, over, rebased};
-ghost use Rattle.rq_engine.specs.Opened.{pooled};
 ghost use Rattle.rq_chain_check.specs.Links.{AreLinked};
-ghost use Rattle.rq_restart.specs.Past.{WhereLeft};
 ghost use Rattle.rq_restart.specs.Repeating.{ArePagesCounted, Paged, Repeats, paged, slots_on};
-ghost use Rattle.rq_analysis.specs.Recovered.{IsRecovered};
-ghost use Rattle.rq_restart.specs.Restarting.{IsReadAs, IsLeftOn, IsReady, IsRestarted, LeavesLog, AreTold, IsBegun, IsOpenedOver, Reports, Stops, WasLeftOrForced, BeginsAtMost, BeginsFrom, LogStops, IsRefusedFor, WasChecked};
-ghost use Rattle.rq_restart.specs.Refused.{BeginsNot, IsStoppedBehind, MayBeShut, WhyNotBegun, WhyShut};
+ghost use Rattle.rq_restart.specs.Opens.{KeepsStores, Opens, Refuses};
+ghost use Rattle.rq_restart.specs.Restarting.{IsLogRead, OpensLog, RefusesLog, IsReady, IsRestarted, LeavesLog, WasLeftOrForced};
+ghost use Rattle.rq_restart.specs.Refused.{BeginsNot, IsStoppedBehind, WhyNotBegun, WhyShut};
 ghost use Rattle.rq_restart.specs.Overwritten.{AreKept};
-ghost use Rattle.rq_log.specs.Reading.{IsRead};
 ghost use Rattle.rq_restart.specs.Found.{IsAnalysisOf};
 ghost use Rattle.rq_restart.specs.RolledBack.{HasRepeated, IsRolledBackOn, IsRolledBackSince, LinkStops, RollbackStops};
-ghost use Rattle.rq_engine.specs.Devices.{Path, EachPair};
-ghost use Rattle.rq_restart.specs.Underway.{OfStores, IsLeftOrGoesOn, pages_left, log_left};
+ghost use Rattle.rq_restart.specs.Undoing.{HandsOverNothing};
+ghost use Rattle.rq_restart.specs.Underway.{pages_left, log_left};
 
 use crate::aborting::abort_lost;
 use crate::analysis::Analysis;
@@ -100,167 +83,36 @@ pub fn restart<P: PageDevice + Drop, L: LogDevice + Drop, B: Level>(
     log: L,
     levels: StoreLevels<B>,
 ) -> Result<(Engine<P, L, B>, Report), Stopped<P, L>>
-    // What an opened store is, over the log as it was read.
-    ensures report { IfOk result (λ o. (older : List Record) → IsReadAs L.LogDevice log o.0.log older
-        → Reports o.0.state.sizes older o.0.state.records o.1.incarnation o.1.records o.1.unfinished o.1.lost) }
-    ensures sizes { IfOk result (λ o. P.honest o.0.pages → IsSuperblock o.0.state.sizes (P.seen pages 0)) }
-    ensures value { IfOk result (λ o. (older : List Record) → IsReadAs L.LogDevice log o.0.log older
-        → IsOpenedOver older o.0.state) }
-    ensures sound { IfOk result (λ o. (older : List Record) → IsReadAs L.LogDevice log o.0.log older
-        → IsLeftOn P.PageDevice o.0.state.sizes pages o.0.pages older → IsSound (on (earlier older) o.0.state)) }
-    ensures recovered { IfOk result (λ o. (older : List Record) → IsReadAs L.LogDevice log o.0.log older
-        → IsLeftOn P.PageDevice o.0.state.sizes pages o.0.pages older
-        → IsRecovered o.0.state.sizes older (rebased (earlier older) (drop 1 o.0.state.records))) }
-    ensures entry { IfOk result (λ o. (older : List Record) → IsReadAs L.LogDevice log o.0.log older →
-        IsLeftOn P.PageDevice o.0.state.sizes pages o.0.pages older → (ledger : Ledger) →
-        ledger.committed ≡ committed_of older → ledger_of (on (earlier older) o.0.state)
-        ≡ after (Restarted o.1.incarnation o.1.records) ledger) }
-    ensures committed { IfOk result (λ o. (older : List Record) → IsReadAs L.LogDevice log o.0.log older
-        → (ledger_of (on (earlier older) o.0.state)).committed ≡ committed_of older) }
-    // What its log's device holds then.
-    ensures reads { IfOk result (λ o. L.honest o.0.log → L.seen o.0.log ≡ spelled o.0.state.records) }
-    ensures durable { IfOk result (λ o. L.honest o.0.log → Only (spelled o.0.state.records) (L.may_leave o.0.log)) }
-    // What is left of both devices, and by a crash at any moment, on each answer.
-    ensures pages { OnlyRead P.PageDevice pages (pages_left result) }
-    ensures any_moment { BeginsFrom P.PageDevice L.LogDevice pages log (pages_left result) (log_left result) }
-    ensures path { OfStores P.PageDevice L.LogDevice pages log (pages_left result) (log_left result)
-        (λ z read.
-        Path P.PageDevice L.LogDevice (IsLeftOrGoesOn L.LogDevice log z read) pages log (pages_left result)
-        (log_left result)) }
-    ensures crash { OfStores P.PageDevice L.LogDevice pages log (pages_left result) (log_left result)
-        (λ z read.
-        EachPair P.PageDevice L.LogDevice (pages_left result) (log_left result) (IsLeftOrGoesOn L.LogDevice log z
-        read)) }
-    // What was checked, or why it was refused.
-    ensures checked { IfOk result (λ o. WasChecked P.PageDevice L.LogDevice pages log o.0.state.sizes
-        (paged (pooled o.0)) o.0.state.records o.0.pages o.0.log) }
-    ensures refused { IfErr result (λ stopped. IsRefusedFor P.PageDevice L.LogDevice pages log stopped.refusal stopped.pages
+    ensures opened { IfOk result (λ o. Opens P.PageDevice L.LogDevice pages log o.0 o.1) }
+    ensures refused { IfErr result (λ stopped. Refuses P.PageDevice L.LogDevice pages log stopped.refusal stopped.pages
         stopped.log) }
-    // What the first crash of the opened store needs.
-    ensures untried { IfOk result (λ o. o.0.replacing ≡ false) }
-    ensures fit { IfOk result (λ o. (older : List Record) → IsReadAs L.LogDevice log o.0.log older
-        → AreBased older → AllFit (P.may_be pages) o.0.state.sizes older
-        → AreFit P.PageDevice (over (earlier older) o.0)) }
-    // Failures of devices, counted; and what a refusal says of a store that was left so.
-    ensures cause { IfOk result (λ o. (P.faults o.0.pages ≡ P.faults pages) × (L.faults o.0.log ≡ L.faults log)) }
-    ensures err { IfErr result (λ stopped. (z : Sizes) → IsSuperblock z (P.seen pages 0) → (older : List Record)
-        → IsReadAs L.LogDevice log stopped.log older → Stops
-        (IsLeftOn P.PageDevice z pages stopped.pages older) z older stopped.refusal (P.faults pages)
-        (P.faults stopped.pages) (L.faults log) (L.faults stopped.log)) }
-{
-    reopen(alloc, pages, log, levels)
-}
-
-// Opens the store; what it says of each device by itself.
-fn reopen<P: PageDevice + Drop, L: LogDevice + Drop, B: Level>(
-    alloc: Global,
-    pages: P,
-    log: L,
-    levels: StoreLevels<B>,
-) -> Result<(Engine<P, L, B>, Report), Stopped<P, L>>
-    // What is opened, over the log as it was read.
-    ensures report { IfOk result (λ o. (older : List Record) → IsReadAs L.LogDevice log o.0.log older
-        → Reports o.0.state.sizes older o.0.state.records o.1.incarnation o.1.records o.1.unfinished o.1.lost) }
-    ensures sizes { IfOk result (λ o. P.honest o.0.pages → IsSuperblock o.0.state.sizes (P.seen pages 0)) }
-    ensures value { IfOk result (λ o. (older : List Record) → IsReadAs L.LogDevice log o.0.log older
-        → IsOpenedOver older o.0.state) }
-    ensures sound { IfOk result (λ o. (older : List Record) → IsReadAs L.LogDevice log o.0.log older
-        → IsLeftOn P.PageDevice o.0.state.sizes pages o.0.pages older → IsSound (on (earlier older) o.0.state)) }
-    ensures committed { IfOk result (λ o. (older : List Record) → IsReadAs L.LogDevice log o.0.log older
-        → (ledger_of (on (earlier older) o.0.state)).committed ≡ committed_of older) }
-    // What its log's device holds then.
-    ensures reads { IfOk result (λ o. L.honest o.0.log → L.seen o.0.log ≡ spelled o.0.state.records) }
-    ensures durable { IfOk result (λ o. L.honest o.0.log → Only (spelled o.0.state.records) (L.may_leave o.0.log)) }
-    // What is left of both devices, on each answer.
-    ensures untried { IfOk result (λ o. o.0.replacing ≡ false) }
-    ensures pages { IfOk result (λ o. OnlyRead P.PageDevice pages o.0.pages) }
-    ensures pages_back { IfErr result (λ stopped. OnlyRead P.PageDevice pages stopped.pages) }
-    ensures any_moment { IfOk result (λ o. BeginsFrom P.PageDevice L.LogDevice pages log o.0.pages o.0.log) }
-    ensures any_moment_back { IfErr result (λ stopped. BeginsFrom P.PageDevice L.LogDevice pages log stopped.pages
-        stopped.log) }
-    // What was checked, or why it was refused.
-    ensures checked { IfOk result (λ o. WasChecked P.PageDevice L.LogDevice pages log o.0.state.sizes
-        (paged (pooled o.0)) o.0.state.records o.0.pages o.0.log) }
-    ensures refused { IfErr result (λ stopped. IsRefusedFor P.PageDevice L.LogDevice pages log stopped.refusal stopped.pages
-        stopped.log) }
-    ensures fit { IfOk result (λ o. (older : List Record) → IsReadAs L.LogDevice log o.0.log older
-        → AreBased older → AllFit (P.may_be pages) o.0.state.sizes older
-        → AreFit P.PageDevice (over (earlier older) o.0)) }
-    // Failures of devices, counted; and what a refusal says of a store that was left so.
-    ensures cause { IfOk result (λ o. (P.faults o.0.pages ≡ P.faults pages) × (L.faults o.0.log ≡ L.faults log)) }
-    ensures err { IfErr result (λ stopped. (z : Sizes) → IsSuperblock z (P.seen pages 0) → (older : List Record)
-        → IsReadAs L.LogDevice log stopped.log older → Stops
-        (IsLeftOn P.PageDevice z pages stopped.pages older) z older stopped.refusal (P.faults pages)
-        (P.faults stopped.pages) (L.faults log) (L.faults stopped.log)) }
-{
-    let Opened {
-        pages,
-        log,
-        cells,
-        tables,
-        report,
-    } = open(alloc, pages, log, levels)?;
-    let engine = Engine::open(
-        alloc,
-        pages,
-        log,
-        tables.waiting,
-        tables.sent,
-        tables.ends,
-        report.incarnation,
-        u64::from(cells),
-        tables.planner,
-    );
-    Ok((engine, report))
-}
-
-// Goes through the log of a store and begins the next incarnation.
-fn open<P: PageDevice + Drop, L: LogDevice + Drop, B: Level>(
-    alloc: Global,
-    pages: P,
-    log: L,
-    levels: StoreLevels<B>,
-) -> Result<Opened<P, L, B>, Stopped<P, L>>
-    // What is opened, over the log as it was read.
-    ensures begun { IfOk result (λ opened. (older : List Record) → IsReadAs L.LogDevice log opened.log.device older
-        → IsBegun (marked older) opened.log) }
-    ensures report { IfOk result (λ opened. (older : List Record) → IsReadAs L.LogDevice log opened.log.device older
-        → Reports opened.pages.sizes older opened.log.records opened.report.incarnation opened.report.records
-        opened.report.unfinished opened.report.lost) }
-    ensures sizes { IfOk result (λ opened. P.honest opened.pages.device
-        → IsSuperblock opened.pages.sizes (P.seen pages 0)) }
-    ensures cells { IfOk result (λ opened. opened.cells
-        ≡ count_used opened.pages.sizes (slots_in opened.pages.sizes opened.pages.images)) }
-    ensures told { IfOk result (λ opened. AreTold opened.pages.sizes opened.pages.images
-        (length opened.log.records) opened.tables.waiting opened.tables.sent) }
-    ensures known { IfOk result (λ opened. KnowsCells opened.pages.sizes opened.pages.images opened.tables.planner) }
-    ensures sound { IfOk result (λ o. (older : List Record) → IsReadAs L.LogDevice log o.log.device older
-        → IsLeftOn P.PageDevice o.pages.sizes pages o.pages.device older
-        → IsSound (opened o.pages.sizes o.pages.images (rebased (earlier older) (drop 1 o.log.records)))) }
-    // What an engine may be opened over.
-    ensures ready { IfOk result (λ o. IsReady L.LogDevice o.report.incarnation o.log) }
-    // What is left of both devices, on each answer.
-    ensures pages { IfOk result (λ o. OnlyRead P.PageDevice pages o.pages.device) }
-    ensures pages_back { IfErr result (λ stopped. OnlyRead P.PageDevice pages stopped.pages) }
-    ensures any_moment { IfOk result (λ o. BeginsFrom P.PageDevice L.LogDevice pages log o.pages.device o.log.device) }
-    ensures any_moment_back { IfErr result (λ stopped. BeginsFrom P.PageDevice L.LogDevice pages log stopped.pages
-        stopped.log) }
-    // What was checked, or why it was refused.
-    ensures checked { IfOk result (λ o. WasChecked P.PageDevice L.LogDevice pages log o.pages.sizes
-        (paged o.pages) o.log.records o.pages.device o.log.device) }
-    ensures refused { IfErr result (λ stopped. IsRefusedFor P.PageDevice L.LogDevice pages log stopped.refusal stopped.pages
-        stopped.log) }
-    ensures room { IfOk result (λ o. o.log.reserved ≡ 0) }
-    // Failures of devices, counted; and what a refusal says of a store that was left so.
-    ensures cause { IfOk result (λ o. (P.faults o.pages.device ≡ P.faults pages)
-        × (L.faults o.log.device ≡ L.faults log)) }
-    ensures err { IfErr result (λ stopped. (z : Sizes) → IsSuperblock z (P.seen pages 0) → (older : List Record)
-        → IsReadAs L.LogDevice log stopped.log older → Stops
-        (IsLeftOn P.PageDevice z pages stopped.pages older) z older stopped.refusal (P.faults pages)
-        (P.faults stopped.pages) (L.faults log) (L.faults stopped.log)) }
+    ensures left { KeepsStores P.PageDevice L.LogDevice pages log (pages_left result) (log_left result) }
 {
     match Pages::load(alloc, pages) {
-        Ok(pages) => restart_log(alloc, pages, log, levels),
+        Ok(pages) => match restart_log(alloc, pages, log, levels) {
+            Ok(opened) => {
+                let Opened {
+                    pages,
+                    log,
+                    cells,
+                    tables,
+                    report,
+                } = opened;
+                let engine = Engine::open(
+                    alloc,
+                    pages,
+                    log,
+                    tables.waiting,
+                    tables.sent,
+                    tables.ends,
+                    report.incarnation,
+                    u64::from(cells),
+                    tables.planner,
+                );
+                Ok((engine, report))
+            }
+            Err(stopped) => Err(stopped),
+        },
         Err(stopped) => {
             let rq_pool::RefusedPages { refusal, device } = stopped;
             Err(Stopped {
@@ -279,42 +131,10 @@ fn restart_log<P: PageDevice + Drop, L: LogDevice + Drop, B: Level>(
     log: L,
     levels: StoreLevels<B>,
 ) -> Result<Opened<P, L, B>, Stopped<P, L>>
-    // What is opened, over the log as it was read.
-    ensures begun { IfOk result (λ opened. (older : List Record) → IsReadAs L.LogDevice log opened.log.device older
-        → IsBegun (marked older) opened.log) }
-    ensures report { IfOk result (λ opened. (older : List Record) → IsReadAs L.LogDevice log opened.log.device older
-        → Reports opened.pages.sizes older opened.log.records opened.report.incarnation opened.report.records
-        opened.report.unfinished opened.report.lost) }
-    ensures sizes { IfOk result (λ opened. opened.pages.sizes ≡ pages.sizes) }
-    ensures cells { IfOk result (λ opened. opened.cells
-        ≡ count_used opened.pages.sizes (slots_in opened.pages.sizes opened.pages.images)) }
-    ensures told { IfOk result (λ opened. AreTold opened.pages.sizes opened.pages.images
-        (length opened.log.records) opened.tables.waiting opened.tables.sent) }
-    ensures known { IfOk result (λ opened. KnowsCells opened.pages.sizes opened.pages.images opened.tables.planner) }
-    ensures sound { IfOk result (λ o. (older : List Record) → IsReadAs L.LogDevice log o.log.device older
-        → IsLeft pages.sizes (image_in pages.images) older
-        → IsSound (opened pages.sizes o.pages.images (rebased (earlier older) (drop 1 o.log.records)))) }
-    // What an engine may be opened over.
-    ensures ready { IfOk result (λ o. IsReady L.LogDevice o.report.incarnation o.log) }
-    // What is left of both devices, on each answer.
-    ensures pages { IfOk result (λ o. o.pages.device ≡ pages.device) }
-    ensures pages_back { IfErr result (λ stopped. stopped.pages ≡ pages.device) }
-    ensures any_moment { IfOk result (λ o. BeginsAtMost L.LogDevice pages.sizes (image_in pages.images) log o.log.device) }
-    ensures any_moment_back { IfErr result (λ stopped. BeginsAtMost L.LogDevice pages.sizes (image_in pages.images) log
-        stopped.log) }
-    // What was checked, or why it was refused.
-    ensures checked { IfOk result (λ o. (older : List Record) × IsMarked older × AreSpelled older × (L.honest o.log.device →
-        EndsWith older (L.seen log)) × (rolled_back : List Record)
-        × IsRolledBackOn pages.sizes older rolled_back (paged pages) (paged o.pages)
-        × (o.log.records ≡ next_restart rolled_back ∷ rolled_back) × (length rolled_back < 2 ^ 50)) }
-    ensures refused { IfErr result (λ stopped. LogStops L.LogDevice pages.sizes
-        (paged pages) stopped.refusal log stopped.log) }
-    ensures room { IfOk result (λ o. o.log.reserved ≡ 0) }
-    // Failures of the log's device, counted; and what a refusal says of a store that was left so.
-    ensures cause { IfOk result (λ o. L.faults o.log.device ≡ L.faults log) }
-    ensures err { IfErr result (λ stopped. (older : List Record) → IsReadAs L.LogDevice log stopped.log older
-        → MayBeShut (IsLeft pages.sizes (image_in pages.images) older) pages.sizes older stopped.refusal (L.faults log)
-        (L.faults stopped.log)) }
+    ensures opened { IfOk result (λ o. OpensLog L.LogDevice pages o.pages log o.log o.cells o.tables.waiting o.tables.sent
+        o.tables.planner o.report) }
+    ensures refused { IfErr result (λ stopped. RefusesLog L.LogDevice pages stopped.pages log stopped.log
+        stopped.refusal) }
 {
     match read_and_redo(alloc, &mut pages, log, &levels) {
         Ok((mut log, mut log_scan)) => {
@@ -354,17 +174,12 @@ fn read_and_redo<P: PageDevice + Drop, L: LogDevice + Drop, B: Level>(
     log: L,
     levels: &StoreLevels<B>,
 ) -> Result<(Log<L>, LogScan), rq_log::RefusedLog<L>>
-    ensures log { IfOk result (λ read. (read.0.forced ≡ 0) × (read.0.pending ≡ 0) × (read.0.reserved ≡ 0)
-        × (read.0.failed ≡ false) × (read.0.settled ≡ log)) }
-    ensures spelled { IfOk result (λ read. AreSpelled read.0.records) }
-    ensures whole { IfOk result (λ read. L.honest read.0.device → EndsWith read.0.records (L.seen log)) }
+    ensures read { IfOk result (λ read. IsLogRead L.LogDevice log read.0) }
     ensures found { IfOk result (λ read. IsAnalysisOf read.1.analysis read.0.records) }
     ensures repeated { IfOk result (λ read. Repeats pages.old.sizes read.0.records (paged pages.old)
         (paged pages.new)) }
     ensures kept { IfOk result (λ read. AreKept pages.old.sizes (length read.0.records) (paged pages.old)
         (paged pages.new) read.1.overwritten.numbers.items) }
-    ensures read { IfOk result (λ read. IsRead L.LogDevice log read.0.device) }
-    ensures cause { IfOk result (λ read. L.faults read.0.device ≡ L.faults log) }
     ensures stopped { IfErr result (λ stopped. IsStoppedBehind L.LogDevice pages.old.sizes (paged pages.old)
         stopped.refusal log stopped.device) }
     ensures sizes { pages.new.sizes ≡ pages.old.sizes }
@@ -400,11 +215,9 @@ fn finish_restart<P: PageDevice + Drop, L: LogDevice + Drop, B: Level>(
     ensures restarted { IfOk result (λ begun. IsRestarted L.LogDevice pages.new.sizes pages.new.images log.old log.new
         begun.0.waiting begun.0.sent begun.0.planner begun.1) }
     ensures left { LeavesLog L.LogDevice pages.old.sizes (paged pages.old) log.old log.new }
-    ensures sound { OnOk result ((first : Paged) → Repeats pages.old.sizes log.old.records first (paged pages.old)
-        → WhereLeft pages.old.sizes first.image log.old.records
-        (λ e. IsSound (opened pages.old.sizes pages.new.images (rebased e (drop 1 log.new.records))))) }
     // What stays of the pages.
     ensures sizes { pages.new.sizes ≡ pages.old.sizes }
+    ensures pool { OnOk result (IsPool pages.new.sizes pages.new.images) }
     ensures pages { pages.new.device ≡ pages.old.device }
     // What was checked, or why it was refused.
     ensures checked { OnOk result ((first : Paged) → Repeats pages.old.sizes log.old.records first (paged pages.old)
@@ -495,10 +308,7 @@ fn undo_all<P: PageDevice + Drop, L: LogDevice + Drop, B: Level>(
     ensures found { OnOk result (IsAnalysisOf analysis.new log.new.records) }
     ensures stops { IfErr result (λ e. (first : Paged) → Repeats pages.old.sizes log.old.records first (paged pages.old)
         → RollbackStops pages.old.sizes log.old.records first e) }
-    ensures sizes { pages.new.sizes ≡ pages.old.sizes }
-    ensures device { pages.new.device ≡ pages.old.device }
-    ensures log { (log.new.device ≡ log.old.device) × (log.new.forced ≡ log.old.forced)
-        × (log.new.failed ≡ false) × (log.new.settled ≡ log.old.settled) }
+    ensures stays { HandsOverNothing pages.old pages.new log.old log.new }
     ensures room { OnOk result (log.new.reserved ≡ log.old.reserved) }
 {
     undo_unfinished(pages, log, analysis)?;

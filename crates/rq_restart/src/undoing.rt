@@ -4,7 +4,7 @@ ghost use Rattle.rq_pool.specs.Pooled.{IsPool};
 ghost use Rattle.rq_analysis.specs.Pages.{IsUndone};
 ghost use Rattle.rq_restart.specs.Found.{IsAnalysisOf};
 ghost use Rattle.rq_restart.specs.Repeating.{ArePagesCounted, Paged, Repeats, paged};
-ghost use Rattle.rq_restart.specs.Undoing.{UndoStops};
+ghost use Rattle.rq_restart.specs.Undoing.{HandsOverNothing, UndoStops};
 
 use crate::analysis::Analysis;
 use crate::appending::{append, shows_pool};
@@ -35,10 +35,7 @@ pub(crate) fn undo_unfinished<P: PageDevice + Drop, L: LogDevice + Drop>(
     ensures pool { OnOk result (IsPool pages.new.sizes pages.new.images) }
     ensures stops { IfErr result (λ e. (first : Paged) → Repeats pages.old.sizes log.old.records first (paged pages.old)
         → UndoStops pages.old.sizes log.old.records first e) }
-    ensures sizes { pages.new.sizes ≡ pages.old.sizes }
-    ensures device { pages.new.device ≡ pages.old.device }
-    ensures log { (log.new.device ≡ log.old.device) × (log.new.forced ≡ log.old.forced)
-        × (log.new.failed ≡ false) × (log.new.settled ≡ log.old.settled) }
+    ensures stays { HandsOverNothing pages.old pages.new log.old log.new }
     ensures room { OnOk result (log.new.reserved ≡ log.old.reserved) }
 {
     while let Some(undo) = analysis.open_work.next_undo() {

@@ -3,12 +3,13 @@ use Rattle.rq_model.specs.declared.record.Record.TheVariants as records
 use Rattle.rq_model.specs.declared.record.Record.{Record}
 use Rattle.rq_page.specs.Sizes.{Sizes}
 use Rattle.rq_analysis.specs.Choices.{least_free}
-use Rattle.rq_restart.specs.Aborting.{AbortStops, AbortsFrom, HasGoneOn, IsAbortingFrom, IsShown, RepeatedSince}
+use Rattle.rq_restart.specs.Aborting.{AbortingStops, AbortsFrom, HasAborted, IsAbortingFrom, IsShown, RepeatedSince}
 use Rattle.rq_restart.specs.Aborting.IsAborting.{Between}
 use Rattle.rq_restart.specs.Repeating.{Belongs, IsRecordRedone, paged}
 use Rattle.rq_restart.specs.Undoing.{StepStops}
-use Rattle.rq_restart.proofs.Aborts.{aborting_join, aborting_none, aborts_end, aborts_join, ended_less, gone_join, nothing_gone, one_gone, one_stops, stops_join}
+use Rattle.rq_restart.proofs.Aborts.{aborted_join, aborted_stops, aborting_none, aborts_end, ended_less, nothing_gone, one_gone, one_stops}
 use Rattle.rq_restart.proofs.DueLists.{active_range}
+use Rattle.rq_restart.proofs.Undos.{and_then, none_handed}
 use Rattle.rq_restart.proofs.Rounds.{end_belongs, end_shown, least_in, least_of, shown_way}
 use Rattle.rq_restart.proofs.aborting.end_idle.Goals as goal
 
@@ -22,9 +23,7 @@ pub loop-txn-init : goal.loop-txn-init
 loop-txn-init g c = record {
   found = c.requires.found;
   gone = nothing_gone c.args.pages.now.sizes c.args.log.now.records c.args.pages.now (IsShown c.args.log.now.records c.args.pages.now);
-  sizes = refl;
-  device = refl;
-  log = (refl, refl, c.requires.running, refl);
+  stays = none_handed c.args.pages.now c.args.log.now c.requires.running;
   room = refl;
   same = refl;
 }
@@ -47,17 +46,15 @@ loop-txn-preserved g c =
     let old = c.loop-txn.pages in
     let new = c.append.new.pages in
     let e : least_free c.loop-txn.analysis.dues c.loop-txn.analysis.open_work.active ≡ Some t = ap (least_free c.loop-txn.analysis.dues) (sym c.active.ensures) ∙ sym c.in-Some.ensures in
-    let one : IsRecordRedone z log r (paged old) (paged new) = subst (λ y. IsRecordRedone y log r (paged old) (paged new)) kept.sizes made.repeated in
+    let one : IsRecordRedone z log r (paged old) (paged new) = subst (λ y. IsRecordRedone y log r (paged old) (paged new)) kept.stays.sizes made.repeated in
     let ended : AbortsFrom z log old (r ∷ log) = aborts_end z (RepeatedSince z log (paged old)) log t (least_of log c.loop-txn.analysis kept.found (Some t) e) in
-    let next : HasGoneOn z (AbortsFrom z log old (r ∷ log)) log (r ∷ log) old new (IsShown log old) (IsShown (r ∷ log) new) =
+    let next : HasAborted z log old (r ∷ log) new =
     one_gone z (AbortsFrom z log old (r ∷ log)) log r old new (IsShown log old) (IsShown (r ∷ log) new) ended refl one (end_shown z log old c.loop-txn.analysis kept.found t e new (made.same refl)) in
     record {
       found = made.found;
-      gone = subst (λ l. HasGoneOn z (AbortsFrom z first c.args.pages.now l) first l c.args.pages.now new (IsShown first c.args.pages.now) (IsShown l new)) (sym made.records)
-          (gone_join z (AbortsFrom z first c.args.pages.now log) first log c.args.pages.now old (IsShown first c.args.pages.now) (IsShown log old) kept.gone (AbortsFrom z log old (r ∷ log)) (AbortsFrom z first c.args.pages.now (r ∷ log)) (r ∷ log) new (IsShown (r ∷ log) new) (aborts_join z first log (paged c.args.pages.now) (paged old) kept.gone.repeated (r ∷ log)) next);
-      sizes = made.sizes ∙ kept.sizes;
-      device = made.device ∙ kept.device;
-      log = (made.log.0 ∙ kept.log.0, made.log.1 ∙ kept.log.1, made.log.2, made.log.3 ∙ kept.log.3);
+      gone = subst (λ l. HasAborted z first c.args.pages.now l new) (sym made.records)
+          (aborted_join z first log c.args.pages.now old kept.gone (r ∷ log) new next);
+      stays = and_then kept.stays made.stays;
       room = made.room ∙ kept.room;
       same = made.same refl ∙ kept.same;
     }
@@ -73,10 +70,9 @@ returns-in_err-append-clause-stops g c =
     let old = c.loop-txn.pages in
     let e : least_free c.loop-txn.analysis.dues c.loop-txn.analysis.open_work.active ≡ Some t = ap (least_free c.loop-txn.analysis.dues) (sym c.active.ensures) ∙ sym c.in-Some.ensures in
     let refusal = c.in_err-append.field-0.0 in
-    let step : StepStops (length log) (Belongs z log r (paged old)) refusal = subst (λ y. StepStops (length log) (Belongs y log r (paged old)) refusal) kept.sizes c.in_err-append.ensures.stops in
+    let step : StepStops (length log) (Belongs z log r (paged old)) refusal = subst (λ y. StepStops (length log) (Belongs y log r (paged old)) refusal) kept.stays.sizes c.in_err-append.ensures.stops in
     let ended : AbortsFrom z log old (r ∷ log) = aborts_end z (RepeatedSince z log (paged old)) log t (least_of log c.loop-txn.analysis kept.found (Some t) e) in
-    let here : AbortStops z (IsAbortingFrom z log old) log old (IsShown log old) refusal =
+    let here : AbortingStops z log old refusal =
     one_stops z (IsAbortingFrom z log old) log r old (IsShown log old) (aborting_none z (RepeatedSince z log (paged old)) log) (Between ended) refusal step (shown_way z log old c.loop-txn.analysis kept.found) (end_belongs z log old c.loop-txn.analysis kept.found t e) in
-    let h : AbortStops z (IsAbortingFrom z first c.args.pages.now) first c.args.pages.now (IsShown first c.args.pages.now) refusal =
-    stops_join z (AbortsFrom z first c.args.pages.now log) first log c.args.pages.now old (IsShown first c.args.pages.now) (IsShown log old) kept.gone (IsAbortingFrom z log old) (IsAbortingFrom z first c.args.pages.now) (λ a l. aborting_join z first log (paged c.args.pages.now) (paged old) kept.gone.repeated l a) refusal here in
+    let h : AbortingStops z first c.args.pages.now refusal = aborted_stops z first log c.args.pages.now old kept.gone refusal here in
     search (rules, h)

@@ -14,6 +14,7 @@ use Rattle.rq_restart.specs.Aborting.{AbortStops, HasGoneOn, IsMaking, IsShownWi
 use Rattle.rq_restart.specs.Repeating.{Belongs, IsRecordRedone, paged}
 use Rattle.rq_restart.specs.Undoing.{StepStops}
 use Rattle.rq_restart.proofs.Aborts.{gone_join, making_more, one_gone, one_stops, stops_join}
+use Rattle.rq_restart.proofs.Undos.{and_then}
 use Rattle.rq_restart.proofs.Renewing.{write_elsewhere}
 use Rattle.rq_restart.proofs.Rounds.{write_belongs, write_rest, write_shown, within_way, get_there}
 use Rattle.rq_restart.proofs.aborting.make_all.Goals as goal
@@ -40,8 +41,8 @@ loop-index-preserved g c =
     let old = c.loop-index.pages in
     let new = c.append.new.pages in
     let next : slice_get ws i ≡ Some w = get_there ws i w c.loop-index-test.true c.index-writes-index.is in
-    let one : IsRecordRedone z log r (paged old) (paged new) = subst (λ y. IsRecordRedone y log r (paged old) (paged new)) kept.sizes (subst (λ q. IsRecordRedone old.sizes log q (paged old) (paged new)) is made.repeated) in
-    let pool : IsPool z new.images = subst (λ y. IsPool y new.images) (made.sizes ∙ kept.sizes) made.pool in
+    let one : IsRecordRedone z log r (paged old) (paged new) = subst (λ y. IsRecordRedone y log r (paged old) (paged new)) kept.stays.sizes (subst (λ q. IsRecordRedone old.sizes log q (paged old) (paged new)) is made.repeated) in
+    let pool : IsPool z new.images = subst (λ y. IsPool y new.images) (made.stays.sizes ∙ kept.stays.sizes) made.pool in
     let slot : IsSlotWrite z w = subst (IsSlotWrite z) (sym c.index-writes-index.is) (c.requires.slots i w c.loop-index-test.true) in
     let shown = write_shown z log old d n ws i w next slot new pool one in
     let before = IsShownWithin first c.args.pages.now d n ws 0 in
@@ -56,11 +57,9 @@ loop-index-preserved g c =
           (gone_join z (with_writes d.txn n (take i ws) first ≡ log) first log c.args.pages.now old before here kept.gone (Unit {0}) (with_writes d.txn n (take (i + 1) ws) first ≡ r ∷ log) (r ∷ log) new after (λ are u. making_more d.txn n ws i w first log next are) step);
       dues = rest.0 ∙ kept.dues;
       active = rest.1 ∙ kept.active;
-      sizes = made.sizes ∙ kept.sizes;
-      device = made.device ∙ kept.device;
-      log = (made.log.0 ∙ kept.log.0, made.log.1 ∙ kept.log.1, made.log.2, made.log.3 ∙ kept.log.3);
+      stays = and_then kept.stays made.stays;
       room = made.room ∙ kept.room;
-      cells = c.renew.ensures old.images (subst (λ y. KnowsCells y old.images c.loop-index.planner) (sym made.sizes) kept.cells) (write_elsewhere new.sizes old.images new.images d.txn n (length log + 1) w one.redone);
+      cells = c.renew.ensures old.images (subst (λ y. KnowsCells y old.images c.loop-index.planner) (sym made.stays.sizes) kept.cells) (write_elsewhere new.sizes old.images new.images d.txn n (length log + 1) w one.redone);
     }
 
 pub renew-requires : goal.renew-requires
@@ -68,7 +67,7 @@ renew-requires g c =
     let kept = c.loop-index.invariant in
     let w : SlotWrite = c.index-writes-index.result in
     let slot : IsSlotWrite c.args.pages.now.sizes w = subst (IsSlotWrite c.args.pages.now.sizes) (sym c.index-writes-index.is) (c.requires.slots c.loop-index.index w c.loop-index-test.true) in
-    subst (λ y. IsStoreSlot y w.at) (sym (c.in_ok-append.ensures.sizes ∙ kept.sizes)) slot.place
+    subst (λ y. IsStoreSlot y w.at) (sym (c.in_ok-append.ensures.stays.sizes ∙ kept.stays.sizes)) slot.place
 
 pub returns-in_err-append-clause-stops : goal.returns-in_err-append-clause-stops
 returns-in_err-append-clause-stops g c =
@@ -89,7 +88,7 @@ returns-in_err-append-clause-stops g c =
     let before = IsShownWithin first c.args.pages.now d n ws 0 in
     let here = IsShownWithin log old d n ws i in
     let step : StepStops (length log) (Belongs z log r (paged old)) refusal =
-    subst (λ y. StepStops (length log) (Belongs y log r (paged old)) refusal) kept.sizes (subst (λ q. StepStops (length log) (Belongs old.sizes log q (paged old)) refusal) c.written-undo.ensures c.in_err-append.ensures.stops) in
+    subst (λ y. StepStops (length log) (Belongs y log r (paged old)) refusal) kept.stays.sizes (subst (λ q. StepStops (length log) (Belongs old.sizes log q (paged old)) refusal) c.written-undo.ensures c.in_err-append.ensures.stops) in
     let so_far : with_writes d.txn n (take i ws) first ≡ log = kept.gone.aborting in
     let then : with_writes d.txn n (take (i + 1) ws) first ≡ r ∷ log = making_more d.txn n ws i w first log next so_far in
     let now : AbortStops z (IsMaking d.txn n ws first) log old here refusal = one_stops z (IsMaking d.txn n ws first) log r old here (record { made = i; are = so_far }) (record { made = i + 1; are = then }) refusal step (within_way z log old d n ws i) (write_belongs z log old d n ws i w next slot) in

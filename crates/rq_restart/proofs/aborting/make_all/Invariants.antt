@@ -1,6 +1,7 @@
-use Rattle.std.proofs.Common.{◌≡◌, false, take}
+use Rattle.std.proofs.Common.{◌≡◌, take}
 use Rattle.rq_restart.specs.Aborting.{HasGoneOn, IsShownWithin, with_writes}
 use Rattle.rq_restart.specs.Found.{IsAnalysisOf}
+use Rattle.rq_restart.specs.Undoing.{HandsOverNothing}
 use Rattle.rq_planner.specs.Answered.{KnowsCells}
 use Rattle.rq_restart.proofs.aborting.make_all.Given as goal
 
@@ -10,9 +11,7 @@ invariant-loop-index g l = record {
   gone : HasGoneOn l.fn.pages.sizes (with_writes l.due.txn l.operation (take l.index l.writes) l.fn.log.records ≡ l.log.records) l.fn.log.records l.log.records l.fn.pages l.pages (IsShownWithin l.fn.log.records l.fn.pages l.due l.operation l.writes 0) (IsShownWithin l.log.records l.pages l.due l.operation l.writes l.index);
   dues : l.analysis.dues ≡ l.fn.analysis.dues;
   active : l.analysis.open_work.active ≡ l.fn.analysis.open_work.active;
-  sizes : l.pages.sizes ≡ l.fn.pages.sizes;
-  device : l.pages.device ≡ l.fn.pages.device;
-  log : (l.log.device ≡ l.fn.log.device) × (l.log.forced ≡ l.fn.log.forced) × (l.log.failed ≡ false) × (l.log.settled ≡ l.fn.log.settled);
+  stays : HandsOverNothing l.fn.pages l.pages l.fn.log l.log;
   room : l.log.reserved ≡ l.fn.log.reserved;
   cells : KnowsCells l.pages.sizes l.pages.images l.planner;
 }

@@ -7,13 +7,14 @@ use Rattle.rq_log.specs.Spelled.{AreSpelled}
 use Rattle.rq_analysis.specs.OpenWorkView.{without_txn}
 use Rattle.rq_analysis.specs.Choices.{least_free}
 use Rattle.rq_analysis.specs.Dues.{any_due, dues}
-use Rattle.rq_restart.specs.Aborting.{AbortStops, AbortsFrom, HasGoneOn, IsAbortingFrom, IsShown, RepeatedSince}
+use Rattle.rq_restart.specs.Aborting.{AbortStops, AbortingStops, AbortsFrom, HasAborted, HasGoneOn, IsAbortingFrom, IsShown, RepeatedSince}
 use Rattle.rq_restart.specs.Aborting.IsAborting.{Between}
 use Rattle.rq_restart.specs.Repeating.{Belongs, IsRecordRedone, paged}
 use Rattle.rq_restart.proofs.Renewing.{cells_same}
 use Rattle.rq_restart.specs.Undoing.{StepStops}
-use Rattle.rq_restart.proofs.Aborts.{aborting_join, aborting_none, aborts_end, aborts_join, gone_join, gone_keeping, nothing_gone, one_gone, one_stops, spelled_before, stops_join}
+use Rattle.rq_restart.proofs.Aborts.{aborted_join, aborted_stops, aborting_join, aborting_none, aborts_end, aborts_join, gone_join, gone_keeping, nothing_gone, one_gone, one_stops, spelled_before, stops_join}
 use Rattle.rq_restart.proofs.DueLists.{due_range, none_behind, none_then}
+use Rattle.rq_restart.proofs.Undos.{and_then, none_handed}
 use Rattle.rq_restart.proofs.Rounds.{all_ended, end_rest, ends_next, next_belongs, next_shown, next_way}
 use Rattle.rq_restart.proofs.aborting.undo_all_due.Goals as goal
 
@@ -34,9 +35,7 @@ loop-due-init g c = record {
   found = c.requires.found;
   none = c.requires.none;
   gone = nothing_gone c.args.pages.now.sizes c.args.log.now.records c.args.pages.now (IsShown c.args.log.now.records c.args.pages.now);
-  sizes = refl;
-  device = refl;
-  log = (refl, refl, c.requires.running, refl);
+  stays = none_handed c.args.pages.now c.args.log.now c.requires.running;
   room = refl;
   cells = c.requires.cells;
 }
@@ -58,15 +57,13 @@ loop-due-preserved g c =
     let d = c.in-Some.due in
     let f = c.loop-due.analysis in
     let h = c.undo_due.new.analysis in
-    let step : HasGoneOn z (AbortsFrom z log old mid) log mid old new (IsShown log old) (IsShown mid new) = subst (λ y. HasGoneOn y (AbortsFrom y log old mid) log mid old new (IsShown log old) (IsShown mid new)) kept.sizes made.gone_on in
+    let step : HasAborted z log old mid new = subst (λ y. HasAborted y log old mid new) kept.stays.sizes made.gone_on in
     let none : least_free (d ∷ h.dues) f.open_work.active ≡ None = ap (λ ds. least_free ds f.open_work.active) (sym made.rest) ∙ kept.none in
     record {
       found = made.found;
       none = ap (least_free h.dues) made.active ∙ none_then d h.dues f.open_work.active (sym (c.if-not-owes.ensures)) none;
-      gone = gone_join z (AbortsFrom z first start log) first log start old (IsShown first start) (IsShown log old) kept.gone (AbortsFrom z log old mid) (AbortsFrom z first start mid) mid new (IsShown mid new) (aborts_join z first log (paged start) (paged old) kept.gone.repeated mid) step;
-      sizes = made.sizes ∙ kept.sizes;
-      device = made.device ∙ kept.device;
-      log = (made.log.0 ∙ kept.log.0, made.log.1 ∙ kept.log.1, made.log.2, made.log.3 ∙ kept.log.3);
+      gone = aborted_join z first log start old kept.gone mid new step;
+      stays = and_then kept.stays made.stays;
       room = made.room ∙ kept.room;
       cells = made.cells;
     }
@@ -80,8 +77,8 @@ returns-in_err-undo_due-clause-stops g c =
     let log = c.loop-due.log.records in
     let old = c.loop-due.pages in
     let e = c.in_err-undo_due.field-0.0 in
-    let here : AbortStops z (IsAbortingFrom z log old) log old (IsShown log old) e = subst (λ y. AbortStops y (IsAbortingFrom y log old) log old (IsShown log old) e) kept.sizes c.in_err-undo_due.ensures.stops in
-    let h : AbortStops z (IsAbortingFrom z first start) first start (IsShown first start) e = stops_join z (AbortsFrom z first start log) first log start old (IsShown first start) (IsShown log old) kept.gone (IsAbortingFrom z log old) (IsAbortingFrom z first start) (λ a l. aborting_join z first log (paged start) (paged old) kept.gone.repeated l a) e here in
+    let here : AbortingStops z log old e = subst (λ y. AbortingStops y log old e) kept.stays.sizes c.in_err-undo_due.ensures.stops in
+    let h : AbortingStops z first start e = aborted_stops z first log start old kept.gone e here in
     search (rules, h)
 
 pub loop-due-preserved-in-Continue-branch-2 : goal.loop-due-preserved-in-Continue-branch-2
@@ -102,8 +99,8 @@ loop-due-preserved-in-Continue-branch-2 g c =
     let h = c.undo_due.new.analysis in
     let r : Record = records.AbortEnd d.txn in
     let here = IsShown log old in
-    let same_sizes : now.sizes ≡ z = made.sizes ∙ kept.sizes in
-    let step : HasGoneOn z (AbortsFrom z log old mid) log mid old now here (IsShown mid now) = subst (λ y. HasGoneOn y (AbortsFrom y log old mid) log mid old now here (IsShown mid now)) kept.sizes made.gone_on in
+    let same_sizes : now.sizes ≡ z = made.stays.sizes ∙ kept.stays.sizes in
+    let step : HasAborted z log old mid now = subst (λ y. HasAborted y log old mid now) kept.stays.sizes made.gone_on in
     let off : any_due d.txn h.dues ≡ false = sym c.if-not-owes.ensures in
     let none : least_free (d ∷ h.dues) f.open_work.active ≡ None = ap (λ ds. least_free ds f.open_work.active) (sym made.rest) ∙ kept.none in
     let one : IsRecordRedone z mid r (paged now) (paged new) = subst (λ y. IsRecordRedone y mid r (paged now) (paged new)) same_sizes last.repeated in
@@ -114,13 +111,11 @@ loop-due-preserved-in-Continue-branch-2 g c =
     record {
       found = last.found;
       none = ap (λ ds. least_free ds c.append.new.analysis.open_work.active) rest.0 ∙ ap (least_free h.dues) (rest.1 ∙ ap (without_txn d.txn) made.active) ∙ none_behind d h.dues f.open_work.active none;
-      gone = subst (λ l. HasGoneOn z (AbortsFrom z first start l) first l start new (IsShown first start) (IsShown l new)) (sym last.records)
-          (gone_join z (AbortsFrom z first start log) first log start old (IsShown first start) here kept.gone (AbortsFrom z log old (r ∷ mid)) (AbortsFrom z first start (r ∷ mid)) (r ∷ mid) new (IsShown (r ∷ mid) new) (aborts_join z first log (paged start) (paged old) kept.gone.repeated (r ∷ mid))
+      gone = subst (λ l. HasAborted z first start l new) (sym last.records)
+          (aborted_join z first log start old kept.gone (r ∷ mid) new
           (gone_join z (AbortsFrom z log old mid) log mid old now here here (gone_keeping z (AbortsFrom z log old mid) log mid old now here (IsShown mid now) step) (AbortsFrom z mid now (r ∷ mid)) (AbortsFrom z log old (r ∷ mid)) (r ∷ mid) new (IsShown (r ∷ mid) new)
           (aborts_join z log mid (paged old) (paged now) step.repeated (r ∷ mid)) ends));
-      sizes = last.sizes ∙ same_sizes;
-      device = last.device ∙ made.device ∙ kept.device;
-      log = (last.log.0 ∙ made.log.0 ∙ kept.log.0, last.log.1 ∙ made.log.1 ∙ kept.log.1, last.log.2, last.log.3 ∙ made.log.3 ∙ kept.log.3);
+      stays = and_then kept.stays (and_then made.stays last.stays);
       room = last.room ∙ made.room ∙ kept.room;
       cells = cells_same now new c.undo_due.new.planner (last.same refl) made.cells;
     }
@@ -142,15 +137,15 @@ returns-in_err-append-clause-stops g c =
     let r : Record = records.AbortEnd d.txn in
     let here = IsShown log old in
     let e = c.in_err-append.field-0.0 in
-    let step : HasGoneOn z (AbortsFrom z log old mid) log mid old now here (IsShown mid now) = subst (λ y. HasGoneOn y (AbortsFrom y log old mid) log mid old now here (IsShown mid now)) kept.sizes made.gone_on in
+    let step : HasAborted z log old mid now = subst (λ y. HasAborted y log old mid now) kept.stays.sizes made.gone_on in
     let off : any_due d.txn h.dues ≡ false = sym c.if-not-owes.ensures in
-    let bad : StepStops (length mid) (Belongs z mid r (paged now)) e = subst (λ y. StepStops (length mid) (Belongs y mid r (paged now)) e) (made.sizes ∙ kept.sizes) c.in_err-append.ensures.stops in
+    let bad : StepStops (length mid) (Belongs z mid r (paged now)) e = subst (λ y. StepStops (length mid) (Belongs y mid r (paged now)) e) (made.stays.sizes ∙ kept.stays.sizes) c.in_err-append.ensures.stops in
     let ended : AbortsFrom z mid now (r ∷ mid) = aborts_end z (RepeatedSince z mid (paged now)) mid d.txn (ends_next mid f h made.found d (ap (λ ds. least_free ds f.open_work.active) (sym made.rest) ∙ kept.none) made.active off made.lost) in
     let ends : AbortStops z (IsAbortingFrom z mid now) mid now here e =
     one_stops z (IsAbortingFrom z mid now) mid r now here (aborting_none z (RepeatedSince z mid (paged now)) mid) (Between ended) e bad (next_way z log mid old now f h kept.found made.found d made.rest kept.none made.active off step.shown) (next_belongs z log mid old now f h kept.found made.found d made.rest kept.none made.active off step.shown) in
-    let then : AbortStops z (IsAbortingFrom z log old) log old here e =
+    let then : AbortingStops z log old e =
     stops_join z (AbortsFrom z log old mid) log mid old now here here (gone_keeping z (AbortsFrom z log old mid) log mid old now here (IsShown mid now) step) (IsAbortingFrom z mid now) (IsAbortingFrom z log old) (λ a l. aborting_join z log mid (paged old) (paged now) step.repeated l a) e ends in
-    let k : AbortStops z (IsAbortingFrom z first start) first start (IsShown first start) e = stops_join z (AbortsFrom z first start log) first log start old (IsShown first start) here kept.gone (IsAbortingFrom z log old) (IsAbortingFrom z first start) (λ a l. aborting_join z first log (paged start) (paged old) kept.gone.repeated l a) e then in
+    let k : AbortingStops z first start e = aborted_stops z first log start old kept.gone e then in
     search (rules, k)
 
 pub returns-clause-ended : goal.returns-clause-ended

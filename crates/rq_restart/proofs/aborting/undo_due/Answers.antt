@@ -10,7 +10,7 @@ use Rattle.rq_restart.proofs.Renewing.{cells_same}
 use Rattle.rq_analysis.specs.Dues.{dues}
 use Rattle.rq_analysis.specs.Numbers.{number_of, numbers}
 use Rattle.rq_analysis.specs.OpenWorkView.{OpenWorkView, open_work_of}
-use Rattle.rq_restart.specs.Aborting.{AbortStops, AbortsFrom, HasGoneOn, IsAbortingFrom, IsMaking, IsPlannedOn, IsShown, IsShownWithin, IsTakenNext, RepeatedSince, with_writes}
+use Rattle.rq_restart.specs.Aborting.{AbortStops, AbortingStops, AbortsFrom, HasAborted, HasGoneOn, IsAbortingFrom, IsMaking, IsPlannedOn, IsShown, IsShownWithin, IsTakenNext, RepeatedSince, with_writes}
 use Rattle.rq_restart.specs.Aborting.IsAborting.{Between}
 use Rattle.rq_restart.specs.Repeating.{Belongs, IsRecordRedone, paged}
 use Rattle.rq_restart.specs.Undoing.{StepStops}
@@ -25,7 +25,7 @@ returns-in_err-writes-clause-stops g c =
     let log = c.args.log.now.records in
     let old = c.args.pages.now in
     let refusal = c.in_err-writes.field-0.0 in
-    let h : AbortStops z (IsAbortingFrom z log old) log old (IsShown log old) refusal =
+    let h : AbortingStops z log old refusal =
     plan_stops z log old c.args.analysis.now c.requires.found c.args.due.now c.requires.first.0 c.requires.first.1 c.requires.none refusal c.in_err-writes.ensures.stops in
     search (rules, h)
 
@@ -63,7 +63,7 @@ returns-in_err-make_all-clause-stops g c =
     let begun = begin_shown z log old c.args.analysis.now c.requires.found d first.0 first.1 c.requires.none ws n back number in
     let planned : IsPlannedOn z (RepeatedSince z log (paged old) log) d ws = planned_here z log (paged old) d ws back in
     let next : IsTakenNext log d n = taken_next z log old c.args.analysis.now c.requires.found d first.0 first.1 c.requires.none n number in
-    let h : AbortStops z (IsAbortingFrom z log old) log old (IsShown log old) refusal =
+    let h : AbortingStops z log old refusal =
     stops_before z (IsMaking d.txn n ws log) (IsAbortingFrom z log old) log old (IsShown log old) (IsShownWithin log old d n ws 0) refusal (λ l. making_aborts z (RepeatedSince z log (paged old)) log l d n ws next planned) begun c.in_err-make_all.ensures.stops in
     search (rules, h)
 
@@ -104,12 +104,12 @@ returns-in_err-append-clause-stops g c =
     let back : IsTakingBack z (slots_in z old.images) d.deed ws = subst (IsTakingBack z (slots_in z old.images) d.deed) (sym c.deref.ensures.value) c.in_ok-writes.ensures.back in
     let begun = begin_shown z log old c.args.analysis.now c.requires.found d first.0 first.1 c.requires.none ws n back number in
     let all = IsShownWithin mid pages d n ws (length ws) in
-    let step : StepStops (length mid) (Belongs z mid r (paged pages)) refusal = subst (λ y. StepStops (length mid) (Belongs y mid r (paged pages)) refusal) made.sizes c.in_err-append.ensures.stops in
+    let step : StepStops (length mid) (Belongs z mid r (paged pages)) refusal = subst (λ y. StepStops (length mid) (Belongs y mid r (paged pages)) refusal) made.stays.sizes c.in_err-append.ensures.stops in
     let planned : IsPlannedOn z (RepeatedSince z log (paged old) log) d ws = planned_here z log (paged old) d ws back in
     let next : IsTakenNext log d n = taken_next z log old c.args.analysis.now c.requires.found d first.0 first.1 c.requires.none n number in
     let here : AbortStops z (IsAbortingFrom z log old) mid pages all refusal = one_stops z (IsAbortingFrom z log old) mid r pages all (making_aborts z (RepeatedSince z log (paged old)) log mid d n ws next planned (record { made = length ws; are = made.gone_on.aborting })) (Between (closing_aborts z (RepeatedSince z log (paged old)) log mid d n ws next planned (all_made d.txn n ws log mid made.gone_on.aborting))) refusal step (within_way z mid pages d n ws (length ws)) (close_belongs z mid pages d n ws) in
     let then : AbortStops z (IsAbortingFrom z log old) log old (IsShownWithin log old d n ws 0) refusal = stops_join z (with_writes d.txn n (take (length ws) ws) log ≡ mid) log mid old pages (IsShownWithin log old d n ws 0) all made.gone_on (IsAbortingFrom z log old) (IsAbortingFrom z log old) (λ m l k. k) refusal here in
-    let h : AbortStops z (IsAbortingFrom z log old) log old (IsShown log old) refusal = stops_before z (IsAbortingFrom z log old) (IsAbortingFrom z log old) log old (IsShown log old) (IsShownWithin log old d n ws 0) refusal (λ l k. k) begun then in
+    let h : AbortingStops z log old refusal = stops_before z (IsAbortingFrom z log old) (IsAbortingFrom z log old) log old (IsShown log old) (IsShownWithin log old d n ws 0) refusal (λ l k. k) begun then in
     search (rules, h)
 
 pub returns-clause-gone_on : goal.returns-clause-gone_on
@@ -132,7 +132,7 @@ returns-clause-gone_on g c =
     let begun = begin_shown z log old c.args.analysis.now c.requires.found d first.0 first.1 c.requires.none ws n back number in
     let before = IsShownWithin log old d n ws 0 in
     let all = IsShownWithin mid pages d n ws (length ws) in
-    let one : IsRecordRedone z mid r (paged pages) (paged new) = subst (λ y. IsRecordRedone y mid r (paged pages) (paged new)) made.sizes last.repeated in
+    let one : IsRecordRedone z mid r (paged pages) (paged new) = subst (λ y. IsRecordRedone y mid r (paged pages) (paged new)) made.stays.sizes last.repeated in
     let planned : IsPlannedOn z (RepeatedSince z log (paged old) log) d ws = planned_here z log (paged old) d ws back in
     let next : IsTakenNext log d n = taken_next z log old c.args.analysis.now c.requires.found d first.0 first.1 c.requires.none n number in
     let taken : AbortsFrom z log old (r ∷ mid) = closing_aborts z (RepeatedSince z log (paged old)) log mid d n ws next planned (all_made d.txn n ws log mid made.gone_on.aborting) in
@@ -140,7 +140,7 @@ returns-clause-gone_on g c =
     let start : HasGoneOn z (Unit {0}) log log old old (IsShown log old) before = none_gone z log old (IsShown log old) before begun in
     let went : HasGoneOn z (AbortsFrom z log old (r ∷ mid)) log (r ∷ mid) old new before (IsShown (r ∷ mid) new) =
     gone_join z (with_writes d.txn n (take (length ws) ws) log ≡ mid) log mid old pages before all made.gone_on (AbortsFrom z log old (r ∷ mid)) (AbortsFrom z log old (r ∷ mid)) (r ∷ mid) new (IsShown (r ∷ mid) new) (λ m k. k) end in
-    subst (λ l. HasGoneOn z (AbortsFrom z log old l) log l old new (IsShown log old) (IsShown l new)) (sym last.records)
+    subst (λ l. HasAborted z log old l new) (sym last.records)
     (gone_join z (Unit {0}) log log old old (IsShown log old) before start (AbortsFrom z log old (r ∷ mid)) (AbortsFrom z log old (r ∷ mid)) (r ∷ mid) new (IsShown (r ∷ mid) new) (λ u k. k) went)
 
 pub returns-clause-rest : goal.returns-clause-rest

@@ -1,26 +1,9 @@
-use Rattle.std.proofs.Common.{◌≡◌, drop, ap, refl, sym, subst}
-use Rattle.rq_page.specs.Sizes.{Sizes}
-use Rattle.rq_pool.specs.Pooled.{IsPool}
-use Rattle.rq_sound.specs.Sound.{IsSound}
-use Rattle.rq_engine.specs.Earlier.{rebased}
-use Rattle.rq_store.specs.Opening.{opened}
+use Rattle.std.proofs.Common.{◌≡◌, refl, sym, subst}
 use Rattle.rq_restart.specs.Overwritten.{AreKept, NamesFirst}
 use Rattle.rq_restart.specs.Repeating.{ArePagesCounted, paged}
-use Rattle.rq_restart.proofs.Begun.{begun_sound}
 use Rattle.rq_restart.proofs.Moments.{left_alone}
 use Rattle.rq_restart.proofs.Restarts.{beyond_shut}
 use Rattle.rq_restart.proofs.restart.finish_restart.Goals as goal
-
-pub returns-in-Ok-undo_and_begin-clause-sound : goal.returns-in-Ok-undo_and_begin-clause-sound
-returns-in-Ok-undo_and_begin-clause-sound g c = λ first before e past left.
-    let z = c.args.pages.now.sizes in
-    let older = c.args.log.now.records in
-    let new = c.undo_and_begin.new.pages in
-    let made = c.in-Ok-undo_and_begin.ensures in
-    let all = made.repeated in
-    let pool : IsPool z new.images = subst (λ (y : Sizes). IsPool y new.images) made.sizes made.pool in
-    subst (λ l. IsSound (opened z new.images (rebased e l))) (ap (drop 1) (sym all.begun))
-    (begun_sound z first (paged new) new.images older all.rolled_back e refl pool all.rolls_back.is past (all.rolls_back.recovered first before e past left) (all.rolls_back.repeated first before) left)
 
 pub returns-in-Ok-undo_and_begin-clause-checked : goal.returns-in-Ok-undo_and_begin-clause-checked
 returns-in-Ok-undo_and_begin-clause-checked g c = λ first before k.

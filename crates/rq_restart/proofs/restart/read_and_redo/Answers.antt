@@ -1,20 +1,27 @@
-use Rattle.std.proofs.Common.{◌≡◌, sym, ap, ◌∙◌, subst}
-use Rattle.rq_log.specs.Logged.{Logged}
-use Rattle.rq_log.specs.Reading.{EndsShort}
-use Rattle.rq_log.specs.Spelled.{EndsWith}
+use Rattle.std.proofs.Common.{◌≡◌, refl, sym, ap, ◌∙◌, subst}
+use Rattle.rq_log.specs.Reading.{IsRead}
 use Rattle.rq_restart.specs.Repeating.{paged}
+use Rattle.rq_restart.specs.Restarting.{IsLogRead}
 use Rattle.rq_restart.proofs.Moments.{stopped_at_once}
+use Rattle.rq_restart.proofs.Repeated.{follow_marked}
 use Rattle.rq_restart.proofs.restart.read_and_redo.Goals as goal
 
-pub returns-in-Ok-repeat_history-clause-whole : goal.returns-in-Ok-repeat_history-clause-whole
-returns-in-Ok-repeat_history-clause-whole g c = λ honest.
-    let e = c.into_log.ensures.log in
+pub returns-in-Ok-repeat_history-clause-read : goal.returns-in-Ok-repeat_history-clause-read
+returns-in-Ok-repeat_history-clause-read g c =
+    let l = g.L.LogDevice in
     let reader = c.repeat_history.new.reader in
-    let ends : EndsShort reader.records reader.left (g.L.LogDevice.seen reader.first) =
-    c.in-Ok-repeat_history.ensures.whole (subst g.L.LogDevice.honest (ap (λ (l : Logged _). l.device) e) honest) in
+    let reading = c.shows_read.ensures.reading in
+    let made = c.in-Ok-repeat_history.ensures in
     let first : reader.first ≡ c.args.log = c.repeat_history.ensures.first ∙ ap (λ r. r.first) c.in-Ok.ensures.ok in
-    subst (λ rs. EndsWith rs (g.L.LogDevice.seen c.args.log)) (sym (ap (λ (l : Logged _). l.records) e))
-    (ends.end, ends.short, ap g.L.LogDevice.seen (sym first) ∙ ends.is)
+    subst (IsLogRead l c.args.log) (sym c.into_log.ensures.log) (record {
+      marks = follow_marked reader.records made.found.follow;
+      are_spelled = reading.are_spelled;
+      reads = λ honest. (let ends = made.whole honest in (ends.end, ends.short, ap l.seen (sym first) ∙ ends.is));
+      only = subst (λ d. IsRead l d reader.device) first reading.read;
+      counted = made.cause ∙ ap l.faults first;
+      unreserved = refl;
+      running = refl;
+    })
 
 pub returns-in-Err-clause-stopped : goal.returns-in-Err-clause-stopped
 returns-in-Err-clause-stopped g c =

@@ -1,27 +1,57 @@
-use Rattle.rq_restart.proofs.Paths.{restart_path, restart_crash, answer_read, answer_begins, answer_entry, answer_recovered}
+use Rattle.std.proofs.Common.{◌⊎◌, inl, refl, subst, sym}
+use Rattle.rq_log.proofs.Moments.{started}
+use Rattle.rq_pool.specs.Reading.{OnlyRead}
+use Rattle.rq_restart.specs.Restarting.{IsBegunFrom}
+use Rattle.rq_restart.proofs.Opens.{opens, refuses}
+use Rattle.rq_restart.proofs.Paths.{keeps_stores}
+use Rattle.rq_restart.proofs.Restarts.{begins_from, was_refused}
 use Rattle.rq_restart.proofs.restart.restart.Goals as goal
 
-pub returns-clause-pages : goal.returns-clause-pages
-returns-clause-pages g c = answer_read g.P.PageDevice c.args.pages c.reopen.result c.reopen.ensures.pages c.reopen.ensures.pages_back
+pub returns-in-Ok-restart_log-clause-opened : goal.returns-in-Ok-restart_log-clause-opened
+returns-in-Ok-restart_log-clause-opened g c =
+    let loaded = c.in-Ok.ensures in
+    let o = c.in-Ok-restart_log.opened in
+    rw c.open-engine.ensures (rw c.from.ensures
+    (opens g.P.PageDevice g.L.LogDevice c.args.pages c.args.log c.in-Ok.pages loaded.pages loaded.seen loaded.changed loaded.cause loaded.device o.pages o.log o.cells o.tables.waiting o.tables.sent o.tables.planner o.report c.in-Ok-restart_log.ensures.opened))
 
-pub returns-clause-any_moment : goal.returns-clause-any_moment
-returns-clause-any_moment g c = answer_begins g.P.PageDevice g.L.LogDevice c.args.pages c.args.log c.reopen.result c.reopen.ensures.any_moment c.reopen.ensures.any_moment_back
+pub returns-in-Ok-restart_log-clause-left : goal.returns-in-Ok-restart_log-clause-left
+returns-in-Ok-restart_log-clause-left g c =
+    let P = g.P.PageDevice in
+    let L = g.L.LogDevice in
+    let loaded = c.in-Ok.ensures in
+    let o = c.in-Ok-restart_log.opened in
+    let made = c.in-Ok-restart_log.ensures.opened in
+    rw c.open-engine.ensures
+    (keeps_stores P L g.met.P.PageDevice.only_now g.met.P.PageDevice.seen_may_be g.met.L.LogDevice.seen_may_be_left g.met.L.LogDevice.counts_now c.args.pages o.pages.device c.args.log o.log.device
+    (subst (OnlyRead P c.args.pages) (sym made.device) loaded.device)
+    (begins_from P L c.args.pages c.args.log c.in-Ok.pages loaded.pages loaded.seen loaded.changed o.pages.device o.log.device made.device made.any_moment))
 
-pub returns-clause-path : goal.returns-clause-path
-returns-clause-path g c =
-    restart_path g.P.PageDevice g.L.LogDevice g.met.P.PageDevice.only_now g.met.P.PageDevice.seen_may_be g.met.L.LogDevice.seen_may_be_left c.args.pages _ c.args.log _
-    (answer_read g.P.PageDevice c.args.pages c.reopen.result c.reopen.ensures.pages c.reopen.ensures.pages_back)
-    (answer_begins g.P.PageDevice g.L.LogDevice c.args.pages c.args.log c.reopen.result c.reopen.ensures.any_moment c.reopen.ensures.any_moment_back)
+pub returns-in-Err-restart_log-clause-refused : goal.returns-in-Err-restart_log-clause-refused
+returns-in-Err-restart_log-clause-refused g c =
+    let P = g.P.PageDevice in
+    let L = g.L.LogDevice in
+    let loaded = c.in-Ok.ensures in
+    let s = c.in-Err-restart_log.stopped in
+    refuses P L c.args.pages c.args.log s.refusal s.pages s.log (was_refused P L c.args.pages c.args.log c.in-Ok.pages loaded.pages loaded.seen loaded.changed s.refusal s.pages s.log loaded.cause c.in-Err-restart_log.ensures.refused)
 
-pub returns-clause-crash : goal.returns-clause-crash
-returns-clause-crash g c =
-    λ honest h z read are reads was. restart_crash g.P.PageDevice g.L.LogDevice g.met.P.PageDevice.only_now g.met.P.PageDevice.seen_may_be g.met.L.LogDevice.seen_may_be_left c.args.pages _ c.args.log _
-    (answer_read g.P.PageDevice c.args.pages c.reopen.result c.reopen.ensures.pages c.reopen.ensures.pages_back)
-    (answer_begins g.P.PageDevice g.L.LogDevice c.args.pages c.args.log c.reopen.result c.reopen.ensures.any_moment c.reopen.ensures.any_moment_back) honest h z read are reads was g.met.L.LogDevice.counts_now
+pub returns-in-Err-restart_log-clause-left : goal.returns-in-Err-restart_log-clause-left
+returns-in-Err-restart_log-clause-left g c =
+    let P = g.P.PageDevice in
+    let L = g.L.LogDevice in
+    let loaded = c.in-Ok.ensures in
+    let s = c.in-Err-restart_log.stopped in
+    let made = c.in-Err-restart_log.ensures.refused in
+    keeps_stores P L g.met.P.PageDevice.only_now g.met.P.PageDevice.seen_may_be g.met.L.LogDevice.seen_may_be_left g.met.L.LogDevice.counts_now c.args.pages s.pages c.args.log s.log
+    (subst (OnlyRead P c.args.pages) (sym made.same) loaded.device)
+    (begins_from P L c.args.pages c.args.log c.in-Ok.pages loaded.pages loaded.seen loaded.changed s.pages s.log made.same made.any_moment)
 
-pub returns-clause-entry : goal.returns-clause-entry
-returns-clause-entry g c =
-    answer_entry g.P.PageDevice g.L.LogDevice c.args.pages c.args.log c.reopen.result c.reopen.ensures.report c.reopen.ensures.value c.reopen.ensures.sound c.reopen.ensures.checked
+pub returns-in-Err-clause-refused : goal.returns-in-Err-clause-refused
+returns-in-Err-clause-refused g c = refuses g.P.PageDevice g.L.LogDevice c.args.pages c.args.log c.in-Err.stopped.refusal c.in-Err.stopped.device c.args.log (inl (c.in-Err.ensures.stopped, refl))
 
-pub returns-clause-recovered : goal.returns-clause-recovered
-returns-clause-recovered g c = answer_recovered g.P.PageDevice g.L.LogDevice c.args.pages c.args.log c.reopen.result c.reopen.ensures.checked
+pub returns-in-Err-clause-left : goal.returns-in-Err-clause-left
+returns-in-Err-clause-left g c =
+    let P = g.P.PageDevice in
+    let L = g.L.LogDevice in
+    let new = c.in-Err.stopped.device in
+    keeps_stores P L g.met.P.PageDevice.only_now g.met.P.PageDevice.seen_may_be g.met.L.LogDevice.seen_may_be_left g.met.L.LogDevice.counts_now c.args.pages new c.args.log c.args.log c.in-Err.ensures.device
+    (λ h. started L c.args.log (λ bytes. L.may_leave c.args.log bytes ⊎ IsBegunFrom P L c.args.pages c.args.log new bytes) (λ bytes left. inl (g.met.L.LogDevice.only_now c.args.log bytes left)))

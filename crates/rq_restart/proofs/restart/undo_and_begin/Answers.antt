@@ -5,7 +5,7 @@ use Rattle.rq_analysis.specs.OpenWorkView.{OpenWorkView}
 use Rattle.rq_restart.specs.Refused.{WhyNotBegun}
 use Rattle.rq_restart.specs.Repeating.{ArePagesCounted, paged}
 use Rattle.rq_restart.specs.Restarting.{AreTold, Reports}
-use Rattle.rq_restart.proofs.Begun.{begins, begun_is, last_is, not_begun, reports}
+use Rattle.rq_restart.proofs.Begun.{begins, last_is, not_begun, reports}
 use Rattle.rq_restart.proofs.Repeated.{few_read}
 use Rattle.rq_restart.proofs.Counting.{are_told}
 use Rattle.rq_restart.proofs.Moments.{begun_moment, left_alone}
@@ -26,15 +26,15 @@ returns-in-Ok-clause-restarted g c =
     let z = c.undo_all.new.pages.sizes in
     let images = c.undo_all.new.pages.images in
     let count : ℕ = length c.undo_all.new.log.records in
-    let counted : ArePagesCounted z count (paged c.undo_all.new.pages) = subst (λ y. ArePagesCounted y count (paged c.undo_all.new.pages)) (sym rollback.sizes) (rollback.counted c.requires.counted) in
+    let counted : ArePagesCounted z count (paged c.undo_all.new.pages) = subst (λ y. ArePagesCounted y count (paged c.undo_all.new.pages)) (sym rollback.stays.sizes) (rollback.counted c.requires.counted) in
     let longer : count + 1 ≡ length c.begin_incarnation.new.log.records = (let e : length c.begin_incarnation.new.log.records ≡ length (records.Restart (c.incarnation.result + 1) ∷ c.undo_all.new.log.records) = ap length c.in-Ok.ensures.records in omega (arith, e)) in
     let told = c.in-Ok.ensures.report in
     let found = c.requires.found.open_work in
     let t = c.in-Ok.report in
     let now = c.begin_incarnation.new.log.records in
     record {
-      begun = begun_is c.args.log.now.records c.undo_all.new.log.records rollback.rolls_back.is c.undo_all.new.analysis.open_work rollback.found.open_work c.incarnation.result c.incarnation.ensures c.begin_incarnation.new.log c.in-Ok.ensures.records c.in-Ok.ensures.forced;
-      reports = λ e past. subst (λ y. Reports y (rebased e c.args.log.now.records) now t.incarnation t.records t.unfinished t.lost) (sym rollback.sizes)
+      forced = c.in-Ok.ensures.forced.0;
+      reports = λ e past. subst (λ y. Reports y (rebased e c.args.log.now.records) now t.incarnation t.records t.unfinished t.lost) (sym rollback.stays.sizes)
           (reports c.args.log.now.records c.undo_all.new.log.records rollback.rolls_back.is c.undo_all.new.analysis.open_work rollback.found.open_work c.incarnation.result c.incarnation.ensures c.args.pages.now.sizes now
           t.incarnation t.records t.unfinished t.lost
           (told.0, told.1, told.2 ∙ c.unfinished-unfinished.ensures ∙ ap (λ (h : OpenWorkView). length h.unfinished) found, told.3 ∙ rollback.lost ∙ ap (λ (h : OpenWorkView). length h.active) found)
@@ -43,7 +43,7 @@ returns-in-Ok-clause-restarted g c =
       known = c.in_ok-tables.ensures.known;
       ready = c.in-Ok.ensures.ready;
       room = c.in-Ok.ensures.room ∙ rollback.room;
-      cause = c.in-Ok.ensures.cause ∙ ap g.L.LogDevice.faults rollback.log.0;
+      cause = c.in-Ok.ensures.cause ∙ ap g.L.LogDevice.faults rollback.stays.log_device;
     }
 
 pub returns-in-Ok-clause-repeated : goal.returns-in-Ok-clause-repeated
@@ -64,8 +64,8 @@ returns-in-Ok-clause-left g c =
     let rolled_back = c.undo_all.new.log.records in
     let restart : records.Restart (c.incarnation.result + 1) ≡ next_restart rolled_back = ap (λ n. records.Restart (n + 1)) (last_is older rolled_back rollback.rolls_back.is c.undo_all.new.analysis.open_work rollback.found.open_work c.incarnation.result c.incarnation.ensures) in
     record {
-      honest = λ h. subst g.L.LogDevice.honest rollback.log.0 (c.begin_incarnation.ensures.honest h);
-      any_moment = λ first before h are read. begun_moment g.L.LogDevice z first.image older rolled_back (records.Restart (c.incarnation.result + 1)) c.undo_all.new.log.forced c.args.log.now.device c.undo_all.new.log.device c.begin_incarnation.new.log.device rollback.log.0 rollback.rolls_back.is (rollback.rolls_back.recovered first before)
+      honest = λ h. subst g.L.LogDevice.honest rollback.stays.log_device (c.begin_incarnation.ensures.honest h);
+      any_moment = λ first before h are read. begun_moment g.L.LogDevice z first.image older rolled_back (records.Restart (c.incarnation.result + 1)) c.undo_all.new.log.forced c.args.log.now.device c.undo_all.new.log.device c.begin_incarnation.new.log.device rollback.stays.log_device rollback.rolls_back.is (rollback.rolls_back.recovered first before)
           restart are read (c.begin_incarnation.ensures.any_moment h);
     }
 
@@ -77,8 +77,8 @@ returns-in-Err-clause-left g c =
     let rolled_back = c.undo_all.new.log.records in
     let restart : records.Restart (c.incarnation.result + 1) ≡ next_restart rolled_back = ap (λ n. records.Restart (n + 1)) (last_is older rolled_back rollback.rolls_back.is c.undo_all.new.analysis.open_work rollback.found.open_work c.incarnation.result c.incarnation.ensures) in
     record {
-      honest = λ h. subst g.L.LogDevice.honest rollback.log.0 (c.begin_incarnation.ensures.honest h);
-      any_moment = λ first before h are read. begun_moment g.L.LogDevice z first.image older rolled_back (records.Restart (c.incarnation.result + 1)) c.undo_all.new.log.forced c.args.log.now.device c.undo_all.new.log.device c.begin_incarnation.new.log.device rollback.log.0 rollback.rolls_back.is (rollback.rolls_back.recovered first before)
+      honest = λ h. subst g.L.LogDevice.honest rollback.stays.log_device (c.begin_incarnation.ensures.honest h);
+      any_moment = λ first before h are read. begun_moment g.L.LogDevice z first.image older rolled_back (records.Restart (c.incarnation.result + 1)) c.undo_all.new.log.forced c.args.log.now.device c.undo_all.new.log.device c.begin_incarnation.new.log.device rollback.stays.log_device rollback.rolls_back.is (rollback.rolls_back.recovered first before)
           restart are read (c.begin_incarnation.ensures.any_moment h);
     }
 
@@ -90,8 +90,8 @@ returns-in-Err-clause-stops g c = λ first before.
     let faults = g.L.LogDevice.faults in
     let new = c.begin_incarnation.new.log.device in
     let mid = c.undo_all.new.log.device in
-    subst (λ d. WhyNotBegun z older first c.in-Err.refusal (faults d) (faults new) (new ≡ d)) rollback.log.0
+    subst (λ d. WhyNotBegun z older first c.in-Err.refusal (faults d) (faults new) (new ≡ d)) rollback.stays.log_device
     (not_begun older c.undo_all.new.log.records rollback.rolls_back.is c.undo_all.new.analysis.open_work rollback.found.open_work c.incarnation.result c.incarnation.ensures z first (paged c.undo_all.new.pages) c.in-Err.refusal (faults mid) (faults new) (new ≡ mid) (rollback.rolls_back.repeated first before) (rollback.rolls_back.planned first before) (rollback.rolls_back.recovered first before) c.in-Err.ensures.err)
 
 pub returns-in_err-tables-clause-left : goal.returns-in_err-tables-clause-left
-returns-in_err-tables-clause-left g c = left_alone g.L.LogDevice g.met.L.LogDevice.only_now c.args.pages.now.sizes (paged c.args.pages.now) c.args.log.now c.undo_all.new.log c.undo_all.ensures.log.0
+returns-in_err-tables-clause-left g c = left_alone g.L.LogDevice g.met.L.LogDevice.only_now c.args.pages.now.sizes (paged c.args.pages.now) c.args.log.now c.undo_all.new.log c.undo_all.ensures.stays.log_device

@@ -1,0 +1,76 @@
+-- What a restart answers: the store that it opened, or why it did not, and what it leaves of both devices.
+use Rattle.std.specs.Prelude.{◌≡◌, List, drop, false}
+use Rattle.rq_model.specs.declared.record.Record.{Record}
+use Rattle.rq_model.specs.declared.refusal.Refusal.{Refusal}
+use Rattle.rq_model.specs.Bases.{earlier}
+use Rattle.rq_model.specs.Commits.{committed_of}
+use Rattle.rq_model.specs.History.Entry.{Restarted}
+use Rattle.rq_model.specs.Ledger.{Ledger, after}
+use Rattle.rq_disk.specs.Device.{Only}
+use Rattle.rq_disk.specs.declared.device.LogDevice as log_device
+use Rattle.rq_disk.specs.declared.device.PageDevice as page_device
+use Rattle.rq_log.specs.Spelled.{spelled}
+use Rattle.rq_page.specs.Sizes.{Sizes}
+use Rattle.rq_pool.specs.Reading.{IsSuperblock, OnlyRead}
+use Rattle.rq_store.specs.Fitting.{AllFit}
+use Rattle.rq_store.specs.State.{ledger_of}
+use Rattle.rq_store.specs.Whole.{AreBased}
+use Rattle.rq_sound.specs.Sound.{IsSound}
+use Rattle.rq_analysis.specs.Recovered.{IsRecovered}
+use Rattle.rq_engine.specs.Crash.{AreFit}
+use Rattle.rq_engine.specs.Devices.{EachPair, Path}
+use Rattle.rq_engine.specs.Earlier.{on, over, rebased}
+use Rattle.rq_engine.specs.Opened.{OpenStore, pooled}
+use Rattle.rq_restart.specs.declared.restart.Report.{Report}
+use Rattle.rq_restart.specs.Repeating.{paged}
+use Rattle.rq_restart.specs.Restarting.{BeginsFrom, IsLeftOn, IsOpenedOver, IsReadAs, IsRefusedFor, Reports, Stops, WasChecked}
+use Rattle.rq_restart.specs.Underway.{IsLeftOrGoesOn, OfStores}
+
+-- What was opened over the log that was read has its commits. Where all that a crash might have left of the pages fitted it,
+-- all that one leaves now fits the log that is forced.
+pub record OpensOver {P L : Type 0} (p : page_device.Ghosts P) (pages : P) (older : List Record) (s : OpenStore P L)
+    (report : Report) : Type 0 where
+  pub reports : Reports s.state.sizes older s.state.records report.incarnation report.records report.unfinished
+      report.lost
+  pub value : IsOpenedOver older s.state
+  pub committed : (ledger_of (on (earlier older) s.state)).committed ≡ committed_of older
+  pub fit : AreBased older → AllFit (p.may_be pages) s.state.sizes older → AreFit p (over (earlier older) s)
+
+-- Over the log of a store that was left so, it is sound, and recovers that log. The restart is an entry of its history.
+pub record Recovers {P L : Type 0} (older : List Record) (s : OpenStore P L) (report : Report) : Type 0 where
+  pub sound : IsSound (on (earlier older) s.state)
+  pub recovered : IsRecovered s.state.sizes older (rebased (earlier older) (drop 1 s.state.records))
+  pub entry : (ledger : Ledger) → ledger.committed ≡ committed_of older
+      → ledger_of (on (earlier older) s.state) ≡ after (Restarted report.incarnation report.records) ledger
+
+module _ {P L : Type 0} (p : page_device.Ghosts P) (l : log_device.Ghosts L) (pages : P) (log : L) where
+  -- the store that was opened on these devices, and what is reported of it
+  pub record Opens (s : OpenStore P L) (report : Report) : Type 0 where
+    pub sizes : p.honest s.pages → IsSuperblock s.state.sizes (p.seen pages 0)
+    pub checked : WasChecked p l pages log s.state.sizes (paged (pooled s)) s.state.records s.pages s.log
+    pub over : (older : List Record) → IsReadAs l log s.log older → OpensOver p pages older s report
+    pub recovers : (older : List Record) → IsReadAs l log s.log older → IsLeftOn p s.state.sizes pages s.pages older
+        → Recovers older s report
+    -- all its records are forced, and no checkpoint has failed
+    pub reads : l.honest s.log → l.seen s.log ≡ spelled s.state.records
+    pub durable : l.honest s.log → Only (spelled s.state.records) (l.may_leave s.log)
+    pub untried : s.replacing ≡ false
+    -- no device failed
+    pub cause : (p.faults s.pages ≡ p.faults pages) × (l.faults s.log ≡ l.faults log)
+
+  -- why none was opened, and what that says of devices that hold a store
+  pub record Refuses (e : Refusal) (new_pages : P) (new_log : L) : Type 0 where
+    pub cause : IsRefusedFor p l pages log e new_pages new_log
+    pub stops : (z : Sizes) → IsSuperblock z (p.seen pages 0) → (older : List Record) → IsReadAs l log new_log older
+        → Stops (IsLeftOn p z pages new_pages older) z older e (p.faults pages) (p.faults new_pages) (l.faults log)
+        (l.faults new_log)
+
+  -- The pages were only read, and the log has at most records behind what was read, at every moment. So where each pair
+  -- that a crash might have left is a store, each is one that a crash leaves.
+  pub record KeepsStores (new_pages : P) (new_log : L) : Type 0 where
+    pub pages_read : OnlyRead p pages new_pages
+    pub any_moment : BeginsFrom p l pages log new_pages new_log
+    pub path : OfStores p l pages log new_pages new_log
+        (λ z read. Path p l (IsLeftOrGoesOn l log z read) pages log new_pages new_log)
+    pub crash : OfStores p l pages log new_pages new_log
+        (λ z read. EachPair p l new_pages new_log (IsLeftOrGoesOn l log z read))
