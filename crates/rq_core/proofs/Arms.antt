@@ -1,13 +1,11 @@
 -- Each function of a world, over the devices in memory.
 use Rattle.rq_model.specs.Causes.{HasCause, writes_out}
-use Rattle.std.proofs.Common.{◌↔◌, Bool, false, ◌≡◌, List, [], ◌∷◌, arith, refl, sym, ◌∙◌, ap, subst, true, Some, Result, Ok, Err, IfOk, IfErr, drop, inl, inr, ⊎_elim}
-use Rattle.rq_model.specs.declared.record.Record.{Record}
+use Rattle.std.proofs.Common.{◌↔◌, Bool, false, ◌≡◌, List, [], ◌∷◌, arith, refl, sym, ◌∙◌, ap, subst, true, Some, Result, Ok, Err, IfErr, inl, inr, ⊎_elim}
 use Rattle.rq_model.specs.declared.refusal.Refusal.{Refusal}
 use Rattle.rq_model.specs.declared.refusal.Refusal.TheVariants as why
 use Rattle.rq_model.specs.History.{Entry, Call}
 use Rattle.rq_model.specs.History.Entry.{Restarted as Restarted_entry, Refused as Refused_entry}
-use Rattle.rq_model.specs.Commits.{committed_of}
-use Rattle.rq_model.specs.Ledger.{Ledger, Phase, after, ledger, runs}
+use Rattle.rq_model.specs.Ledger.{Ledger, Phase, ledger, runs}
 use Rattle.rq_model.specs.Ledger.Phase.{Running as Runs, Shut}
 use Rattle.rq_model.specs.Legal.{IsLegal}
 use Rattle.rq_model.specs.Tests.{Size, any_busy}
@@ -19,27 +17,19 @@ use Rattle.rq_disk.specs.declared.mem_pages.MemPages.{MemPages}
 use Rattle.rq_page.specs.Sizes.{Sizes}
 use Rattle.rq_store.specs.State.{ledger_of, phase_of, size_of}
 use Rattle.rq_engine.specs.Applied.{Applied}
-use Rattle.rq_engine.specs.Crash.{AreFit}
 use Rattle.rq_engine.specs.Opened.{OpenStore}
 use Rattle.rq_engine.specs.Says.{call_of, gave}
 use Rattle.rq_engine.specs.declared.event.Event.{Event}
 use Rattle.rq_engine.specs.declared.event.Reply.{Reply}
 use Rattle.rq_engine.specs.declared.event.Reply.TheVariants as reply
-use Rattle.rq_pool.specs.Reading.{IsSuperblock}
-use Rattle.rq_model.specs.Bases.{earlier}
-use Rattle.rq_store.specs.Whole.{AreBased}
-use Rattle.rq_engine.specs.Earlier.{on, over, rebased}
-use Rattle.rq_sound.specs.Sound.{IsSound}
-use Rattle.rq_store.specs.Fitting.{AllFit}
-use Rattle.rq_engine.specs.Devices.{EachPair}
+use Rattle.rq_engine.specs.Earlier.{on}
 use Rattle.rq_restart.specs.Once.{OneLogEach, OneSizeEach}
-use Rattle.rq_analysis.specs.Recovered.{IsRecovered}
-use Rattle.rq_restart.specs.Restarting.{IsReadAs, IsLeftOn, IsOpenedOver, IsRefusedFor, Reports, Stops}
-use Rattle.rq_restart.specs.Underway.{IsLeftOrGoesOn, OfStores, pages_left, log_left}
-use Rattle.rq_restart.specs.declared.restart.Report.{Report as Restart_report}
+use Rattle.rq_restart.specs.Opens.{KeepsStores, Refuses}
+use Rattle.rq_restart.specs.Underway.{pages_left, log_left}
+use Rattle.rq_restart.specs.declared.restart.Report.{Report}
 use Rattle.rq_restart.specs.declared.restart.Stopped.{Stopped}
 use Rattle.rq_core.specs.Devices.{mem_pages, mem_log}
-use Rattle.rq_core.specs.Happenings.{Happening, Answer, AddsCall, Course, MayCrashIt, Report, Tells, called, is_of_device, EndsWithoutCrash, MayRestart, is_no_crash}
+use Rattle.rq_core.specs.Happenings.{Happening, Answer, AddsCall, Course, MayCrashIt, Tells, called, is_of_device, EndsWithoutCrash, MayRestart, is_no_crash}
 use Rattle.rq_core.specs.Happenings.Answer.{Answered, Crashed, Refused, Restarted}
 use Rattle.rq_core.specs.Happened.{Keeps}
 use Rattle.rq_core.specs.Headline.{LeavesStores, LeftBy, LeftLast}
@@ -47,7 +37,6 @@ use Rattle.rq_core.specs.Runs.{CanCrash, IsFresh, IsHeadline, IsOpened, IsRefuse
 use Rattle.rq_core.specs.World.{IsOpen, IsShut}
 use Rattle.rq_core.specs.World.World.{Is_open, Is_shut}
 use Rattle.rq_core.specs.Happenings.Happening.{Stops_in}
-use Rattle.rq_core.specs.Views.{report_of}
 use Rattle.rq_core.proofs.Devices.{log_now, page_now, some_page, some_log}
 use Rattle.rq_core.proofs.HalfMade.{LeftBehind}
 use Rattle.rq_core.proofs.Worlds.{caused, read_of, reopened, stays_shut, calls, leaves_open, leaves_shut, headline}
@@ -109,29 +98,11 @@ shut_ends z course pages log fifo stay law ran =
     headline mem_pages mem_log (λ d. tt) (λ d. tt) z fifo stay course ran.history pages log ran.tells ran.legal
     (leaves_shut mem_pages mem_log (λ d. tt) (λ d. tt) z law ran.history pages log ran.legal ran.stands) ran.counted
 
--- a restart, by its clauses
-module _ (pages : MemPages) (log : MemLog) where
-  pub opens : (r : Result (Engine × Restart_report) (Stopped MemPages MemLog))
-      → IfOk r (λ o. (older : List Record) → IsReadAs mem_log log o.0.log older → Reports o.0.state.sizes older o.0.state.records o.1.incarnation o.1.records o.1.unfinished o.1.lost)
-      → IfOk r (λ o. (older : List Record) → IsReadAs mem_log log o.0.log older → IsOpenedOver older o.0.state)
-      → IfOk r (λ o. mem_pages.honest o.0.pages → IsSuperblock o.0.state.sizes (mem_pages.seen pages 0))
-      → IfOk r (λ o. (older : List Record) → IsReadAs mem_log log o.0.log older → IsLeftOn mem_pages o.0.state.sizes pages o.0.pages older → IsSound (on (earlier older) o.0.state))
-      → IfOk r (λ o. (older : List Record) → IsReadAs mem_log log o.0.log older → IsLeftOn mem_pages o.0.state.sizes pages o.0.pages older → IsRecovered o.0.state.sizes older (rebased (earlier older) (drop 1 o.0.state.records)))
-      → IfOk r (λ o. (older : List Record) → IsReadAs mem_log log o.0.log older → IsLeftOn mem_pages o.0.state.sizes pages o.0.pages older → (ledger : Ledger) → ledger.committed ≡ committed_of older → ledger_of (on (earlier older) o.0.state) ≡ after (Restarted_entry o.1.incarnation o.1.records) ledger)
-      → IfOk r (λ o. (older : List Record) → IsReadAs mem_log log o.0.log older → AreBased older → AllFit (mem_pages.may_be pages) o.0.state.sizes older → AreFit mem_pages (over (earlier older) o.0))
-      → IfOk r (λ o. o.0.replacing ≡ false)
-      → IfOk r (λ o. IsOpened pages log (report_of o.1) o.0)
-  opens (Err e) report value sizes sound recovered entry fit untried = tt
-  opens (Ok o) report value sizes sound recovered entry fit untried = record { reports = report; value = value; sizes = sizes; sound = sound; recovered = recovered; entry = entry; fit = fit; untried = untried }
-
-  pub stays : (r : Result (Engine × Restart_report) (Stopped MemPages MemLog))
-      → OfStores mem_pages mem_log pages log (pages_left r) (log_left r) (λ z read. EachPair mem_pages mem_log (pages_left r) (log_left r) (IsLeftOrGoesOn mem_log log z read))
-      → IfErr r (λ s. IsRefusedFor mem_pages mem_log pages log s.refusal s.pages s.log)
-      → IfErr r (λ s. (z : Sizes) → IsSuperblock z (mem_pages.seen pages 0) → (older : List Record) → IsReadAs mem_log log s.log older
-      → Stops (IsLeftOn mem_pages z pages s.pages older) z older s.refusal (mem_pages.faults pages) (mem_pages.faults s.pages) (mem_log.faults log) (mem_log.faults s.log))
-      → IfErr r (λ s. IsRefused pages log s.refusal s.pages s.log)
-  stays (Ok o) crash cause err = tt
-  stays (Err s) crash cause err = record { cause = cause; stops = err; leaves = crash }
+-- a restart that was refused
+pub stays : (pages : MemPages) (log : MemLog) (r : Result (Engine × Report) (Stopped MemPages MemLog)) → IfErr r (λ s. Refuses mem_pages mem_log pages log s.refusal s.pages s.log) → KeepsStores mem_pages mem_log pages log (pages_left r) (log_left r)
+    → IfErr r (λ s. IsRefused pages log s.refusal s.pages s.log)
+stays pages log (Ok o) why keeps = tt
+stays pages log (Err s) why keeps = record { refuses = why; keeps = keeps }
 
 -- a restart that opened the store, as a happening
 pub opened : OneLogEach → OneSizeEach → (z : Sizes) → RestartGoesOn (size_of z) → (course : Course) (x : Happening) (pages : MemPages) (log : MemLog) (report : Report) (new : Engine) → MayRestart course x → IsOpened pages log report new
@@ -151,7 +122,7 @@ pub refused_stays : OneLogEach → (z : Sizes) (h : List Entry) (pages : MemPage
     → IsShut mem_pages mem_log z h new_pages new_log
 refused_stays one z h pages log r new_pages new_log stopped here =
     let read = read_of mem_pages mem_log (λ d. tt) (λ d. tt) z some_page some_log h pages log here in
-    stays_shut mem_pages mem_log (λ d. tt) (λ d. tt) z some_page some_log one h pages new_pages log new_log here read (stopped.leaves tt tt z read.read read.told read.reads read.each)
+    stays_shut mem_pages mem_log (λ d. tt) (λ d. tt) z some_page some_log one h pages new_pages log new_log here read (stopped.keeps.crash tt tt z read.read read.told read.reads read.each)
 
 -- a restart that was refused, as a happening
 pub refuses : OneLogEach → (z : Sizes) (course : Course) (x : Happening) (pages new_pages : MemPages) (log new_log : MemLog) (r : Refusal) → MayRestart course x → IsRefused pages log r new_pages new_log → Ran z course (Is_shut pages log)

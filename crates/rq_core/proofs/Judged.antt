@@ -29,7 +29,8 @@ use Rattle.rq_engine.specs.declared.event.Reply.TheVariants as reply
 use Rattle.rq_restart.specs.Once.{OneSizeEach}
 use Rattle.rq_restart.specs.Restarting.{IsLeftOn, Reports, Stops}
 use Rattle.rq_core.specs.Devices.{mem_pages, mem_log}
-use Rattle.rq_core.specs.Happenings.{Course, Report}
+use Rattle.rq_restart.specs.declared.restart.Report.{Report}
+use Rattle.rq_core.specs.Happenings.{Course}
 use Rattle.rq_core.specs.Judged.{AreRunsJudged, Asked, IsLatchedOver, IsRefusedOver, IsReportedOver}
 use Rattle.rq_core.specs.Runs.{IsOpened, IsRefused, Led, MemWorld, Ran}
 use Rattle.rq_core.specs.World.{IsOpen, IsShut}
@@ -105,7 +106,7 @@ refused_over z h pages new_pages log new_log r here stopped =
       reads = there.reads;
       whole = there.left.whole;
       cause = given r (IsLeftOn mem_pages z pages new_pages there.read) z there.read (mem_pages.faults pages) (mem_pages.faults new_pages) (mem_log.faults log) (mem_log.faults new_log) (record { honest = tt; left = there.left })
-          (stopped.stops z (record { range = here.range; formatted = there.left.fits.superblock }) there.read (record { honest = tt; are_spelled = there.told; reads = there.reads }));
+          (stopped.refuses.stops z (record { range = here.range; formatted = there.left.fits.superblock }) there.read (record { honest = tt; are_spelled = there.told; reads = there.reads }));
     }
 
 module _ (size_once : OneSizeEach) (met : (z : Sizes) (course : Course) (w : MemWorld) → Led z course w → Ran z course w) (z : Sizes) (course : Course) where
@@ -135,7 +136,7 @@ module _ (size_once : OneSizeEach) (met : (z : Sizes) (course : Course) (w : Mem
       let ran : Ran z course (Is_shut pages log) = met z course (Is_shut pages log) led in
       let here : IsShut mem_pages mem_log z ran.history pages log = ran.stands in
       let there = read_of mem_pages mem_log (λ d. tt) (λ d. tt) z some_page some_log ran.history pages log here in
-      let told : Reports new.state.sizes there.read new.state.records report.incarnation report.records report.unfinished report.lost = opened.reports there.read (record { honest = tt; are_spelled = there.told; reads = there.reads }) in
+      let told : Reports new.state.sizes there.read new.state.records report.incarnation report.records report.unfinished report.lost = (opened.over there.read (record { honest = tt; are_spelled = there.told; reads = there.reads })).reports in
       let is : new.state.sizes ≡ z = size_once new.state.sizes z (mem_pages.seen pages 0) (opened.sizes tt) (record { range = here.range; formatted = there.left.fits.superblock }) in
       let whole : IsWhole new.state.sizes there.read = subst (λ y. IsWhole y there.read) (sym is) there.left.whole in
       record { read = there.read; reads = there.reads; whole = whole; unfinished_are = told.unfinished_are whole; lost_are = told.lost_are whole; records_are = told.records_are }

@@ -51,7 +51,8 @@ use Rattle.rq_analysis.specs.Recovered.{IsRecovered, IsRecoveredFrom}
 use Rattle.rq_analysis.proofs.Recovering.{recovered_from}
 use Rattle.rq_restart.specs.Underway.{IsGoneOnWith, IsStore, IsSomeStore, IsLeftOrGoesOn}
 use Rattle.rq_restart.specs.Once.{OneLogEach, OneSizeEach}
-use Rattle.rq_core.specs.Happenings.{Happening, Report, Course, Tells, AddsCall, called}
+use Rattle.rq_restart.specs.declared.restart.Report.{Report}
+use Rattle.rq_core.specs.Happenings.{Happening, Course, Tells, AddsCall, called}
 use Rattle.rq_core.specs.Happenings.Answer.{Answered, Crashed}
 use Rattle.rq_core.specs.Headline.{LeavesStores, LeftLast, IsHeadline}
 use Rattle.rq_core.specs.Happened.{IsCrashed, IsOpened}
@@ -252,14 +253,16 @@ module _ {P L : Type 0} (p : page_device.Ghosts P) (l : log_device.Ghosts L) (ho
           let read : IsReadAs l log new.log now = record { honest = honest_l new.log; are_spelled = r.told; reads = r.reads } in
           let is : new.state.sizes ≡ z = size_once new.state.sizes z (p.seen pages 0) (o.sizes (honest_p new.pages)) (record { range = s.range; formatted = r.left.fits.superblock }) in
           let on_left : IsLeftOn p new.state.sizes pages new.pages now = record { honest = honest_p new.pages; left = subst (λ y. IsLeft y (p.seen pages) now) (sym is) r.left } in
-          let opened = o.value now read in
+          let over = o.over now read in
+          let opened = over.value in
+          let back = o.recovers now read on_left in
           let rolled_back = drop 1 new.state.records in
           let all = rebased past rolled_back in
           let is_past : IsPast past rolled_back = (mended_added past (marked now) rolled_back opened.0).past (past_of now r.told) in
-          let from : IsRecoveredFrom z now all = recovered_from z now all whole (subst (λ y. IsRecovered y now all) is (o.recovered now read on_left)) in
+          let from : IsRecoveredFrom z now all = recovered_from z now all whole (subst (λ y. IsRecovered y now all) is back.recovered) in
           let law = goes h s.older all legal s.phase s.ties (extends_join s.older now all r.more from.extends) from.whole.order in
           let content : (ledger h).committed ≡ committed_of now = ap (λ (k : Ledger). k.committed) (sym law.ledger) ∙ from.committed in
-          let entry : ledger_of (on past new.state) ≡ after (Restarted_entry report.incarnation report.records) (ledger h) = o.entry now read on_left (ledger h) content in
+          let entry : ledger_of (on past new.state) ≡ after (Restarted_entry report.incarnation report.records) (ledger h) = back.entry (ledger h) content in
           let begun : incarnation_of all + 1 ≡ report.incarnation = ap (λ n. n + 1) (incarnation_on past rolled_back is_past) ∙ sym (ap (λ (y : State). y.incarnation) opened.1) ∙ ap (λ (k : Ledger). k.incarnation) entry in
           let count : length (next_restart all ∷ all) ≡ report.records = ap (λ (b : List Record). length b) (sym (begun_on past rolled_back is_past)) ∙ ap (λ (y : State). length (rebased past y.records)) (sym opened.1) ∙ ap (λ (k : Ledger). k.records) entry in
           let e : Restarted_entry (incarnation_of all + 1) (length (next_restart all ∷ all)) ≡ Restarted_entry report.incarnation report.records = ap (λ n. Restarted_entry n (length (next_restart all ∷ all))) begun ∙ ap (Restarted_entry report.incarnation) count in
@@ -270,8 +273,8 @@ module _ {P L : Type 0} (p : page_device.Ghosts P) (l : log_device.Ghosts L) (ho
               past = past;
               long = opened_earlier now new.state opened r.told whole.based;
               ledger = entry;
-              sound = o.sound now read on_left;
-              devices = inl (record { untried = o.untried; fit = o.fit now read whole.based (subst (λ y. AllFit (p.may_be pages) y now) (sym is) (all_fit h pages log s r)) });
+              sound = back.sound;
+              devices = inl (record { untried = o.untried; fit = over.fit whole.based (subst (λ y. AllFit (p.may_be pages) y now) (sym is) (all_fit h pages log s r)) });
             };
           }
 

@@ -1,12 +1,9 @@
 -- A run: what each happening makes of the store that it meets, and what that store answers.
-use Rattle.std.specs.Prelude.{◌≡◌, ℕ, IsTrue, true, false, List, [], ◌∷◌, Option, Some, drop}
+use Rattle.std.specs.Prelude.{◌≡◌, ℕ, IsTrue, true, false, List, [], ◌∷◌, Option, Some}
 use Rattle.rq_model.specs.declared.record.Record.{Record}
 use Rattle.rq_model.specs.declared.refusal.Refusal.{Refusal}
 use Rattle.rq_model.specs.declared.refusal.Refusal.TheVariants as why
 use Rattle.rq_model.specs.History.{Call}
-use Rattle.rq_model.specs.History.Entry.{Restarted as Restarted_entry}
-use Rattle.rq_model.specs.Commits.{committed_of}
-use Rattle.rq_model.specs.Ledger.{Ledger, after}
 use Rattle.rq_model.specs.Replay.{Reply as Gave}
 use Rattle.rq_model.specs.Replay.Reply.{Gave_refusal}
 use Rattle.rq_disk.specs.Device.{Images, Leaves, Only}
@@ -14,14 +11,8 @@ use Rattle.rq_log.specs.Counted.{LastLsn}
 use Rattle.rq_disk.specs.declared.device.LogDevice as log_device
 use Rattle.rq_disk.specs.declared.device.PageDevice as page_device
 use Rattle.rq_page.specs.Sizes.{Sizes, IsInRange}
-use Rattle.rq_pool.specs.Reading.{IsSuperblock}
-use Rattle.rq_store.specs.Fitting.{AllFit}
-use Rattle.rq_store.specs.State.{ledger_of}
-use Rattle.rq_model.specs.Bases.{earlier}
-use Rattle.rq_store.specs.Whole.{AreBased}
-use Rattle.rq_engine.specs.Earlier.{IsEarlier, on, over, rebased}
+use Rattle.rq_engine.specs.Earlier.{IsEarlier, on, over}
 use Rattle.rq_sound.specs.Sound.{IsSound}
-use Rattle.rq_analysis.specs.Recovered.{IsRecovered}
 use Rattle.rq_engine.specs.declared.event.Event.{Event}
 use Rattle.rq_engine.specs.declared.event.Event.TheVariants as event
 use Rattle.rq_engine.specs.declared.event.Reply.{Reply}
@@ -31,9 +22,10 @@ use Rattle.rq_engine.specs.Crash.{AreFit, LeavesCut}
 use Rattle.rq_engine.specs.Devices.{EachPair}
 use Rattle.rq_engine.specs.Opened.{OpenStore}
 use Rattle.rq_engine.specs.Says.{call_of, gave}
-use Rattle.rq_restart.specs.Restarting.{IsLeftOn, IsOpenedOver, IsReadAs, IsRefusedFor, Reports, Stops}
-use Rattle.rq_restart.specs.Underway.{IsLeftOrGoesOn, IsStore, OfStores}
-use Rattle.rq_core.specs.Happenings.{Answer, Course, DoesNothing, Happening, Report, called, is_of_device, restarts}
+use Rattle.rq_restart.specs.declared.restart.Report.{Report}
+use Rattle.rq_restart.specs.Opens as restart
+use Rattle.rq_restart.specs.Underway.{IsStore}
+use Rattle.rq_core.specs.Happenings.{Answer, Course, DoesNothing, Happening, called, is_of_device, restarts}
 use Rattle.rq_core.specs.Happenings.Answer.{Answered, Crashed, Nothing, Refused, Restarted, Running}
 use Rattle.rq_core.specs.Happenings.Happening.{Crashes, Stops_in, Stops_restart}
 use Rattle.rq_core.specs.World.{World}
@@ -86,31 +78,13 @@ module _ {P L : Type 0} (p : page_device.Ghosts P) (l : log_device.Ghosts L) whe
     pub crashed : IsCrashed mid.pages pages mid.log log count
 
   -- a restart opened the store that stands on these devices
-  pub record IsOpened (pages : P) (log : L) (report : Report) (new : OpenStore P L) : Type 0 where
-    pub reports : (older : List Record) → IsReadAs l log new.log older
-        → Reports new.state.sizes older new.state.records report.incarnation report.records report.unfinished report.lost
-    pub value : (older : List Record) → IsReadAs l log new.log older → IsOpenedOver older new.state
-    pub sizes : p.honest new.pages → IsSuperblock new.state.sizes (p.seen pages 0)
-    pub sound : (older : List Record) → IsReadAs l log new.log older
-        → IsLeftOn p new.state.sizes pages new.pages older → IsSound (on (earlier older) new.state)
-    pub recovered : (older : List Record) → IsReadAs l log new.log older
-        → IsLeftOn p new.state.sizes pages new.pages older
-        → IsRecovered new.state.sizes older (rebased (earlier older) (drop 1 new.state.records))
-    pub entry : (older : List Record) → IsReadAs l log new.log older
-        → IsLeftOn p new.state.sizes pages new.pages older → (ledger : Ledger) → ledger.committed ≡ committed_of older
-        → ledger_of (on (earlier older) new.state) ≡ after (Restarted_entry report.incarnation report.records) ledger
-    pub fit : (older : List Record) → IsReadAs l log new.log older → AreBased older
-        → AllFit (p.may_be pages) new.state.sizes older → AreFit p (over (earlier older) new)
-    pub untried : new.replacing ≡ false
+  abbrev pub IsOpened : P → L → Report → OpenStore P L → Type 0
+  IsOpened pages log report new = restart.Opens p l pages log new report
 
   -- a restart refused to open it for this, and left the devices so
   pub record IsRefused (pages : P) (log : L) (refusal : Refusal) (new_pages : P) (new_log : L) : Type 0 where
-    pub cause : IsRefusedFor p l pages log refusal new_pages new_log
-    pub stops : (z : Sizes) → IsSuperblock z (p.seen pages 0) → (older : List Record) → IsReadAs l log new_log older
-        → Stops (IsLeftOn p z pages new_pages older) z older refusal (p.faults pages) (p.faults new_pages)
-        (l.faults log) (l.faults new_log)
-    pub leaves : OfStores p l pages log new_pages new_log
-        (λ z read. EachPair p l new_pages new_log (IsLeftOrGoesOn l log z read))
+    pub refuses : restart.Refuses p l pages log refusal new_pages new_log
+    pub keeps : restart.KeepsStores p l pages log new_pages new_log
 
   -- a crash inside a restart: behind a restart that was refused, of what that has left
   pub record StopsRestart (pages : P) (log : L) (new_pages : P) (new_log : L) (count : ℕ) : Type 0 where

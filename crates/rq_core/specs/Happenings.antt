@@ -1,5 +1,6 @@
 -- What may happen to a store, what is answered, and the history that this tells.
 use Rattle.std.specs.Prelude.{◌≡◌, ℕ, zero, suc, Bool, true, false, IsTrue, List, [], ◌∷◌, Option, Some, None, map, reverse, slice_get}
+use Rattle.rq_restart.specs.declared.restart.Report.{Report}
 use Rattle.rq_model.specs.declared.refusal.Refusal.{Refusal}
 use Rattle.rq_model.specs.declared.refusal.Refusal.TheVariants as why
 use Rattle.rq_model.specs.History.{Entry, Call}
@@ -24,12 +25,6 @@ pub data Happening : Type 0 where
   Restarts : Happening
   -- a crash at a device call inside a restart
   Stops_restart : Happening
-
-pub record Report : Type 0 where
-  pub incarnation : ℕ
-  pub unfinished : ℕ
-  pub lost : ℕ
-  pub records : ℕ
 
 pub data Answer : Type 0 where
   Answered : (reply : Reply) → Answer

@@ -20,7 +20,8 @@ use Rattle.rq_engine.specs.Earlier.{IsEarlier, IsSoundOver, on}
 use Rattle.rq_engine.specs.Opened.{OpenStore}
 use Rattle.rq_restart.specs.Restarting.{Stops}
 use Rattle.rq_core.specs.Devices.{mem_pages, mem_log}
-use Rattle.rq_core.specs.Happenings.{Course, Report}
+use Rattle.rq_restart.specs.declared.restart.Report.{Report}
+use Rattle.rq_core.specs.Happenings.{Course}
 use Rattle.rq_core.specs.Happened.{IsAsked}
 use Rattle.rq_core.specs.Runs.{IsOpened, IsRefused, Led}
 use Rattle.rq_core.specs.World.World.{Is_open, Is_shut}

@@ -8,7 +8,8 @@ use Rattle.rq_page.specs.Sizes.{Sizes, IsInRange}
 use Rattle.rq_engine.specs.Devices.{EachPair}
 use Rattle.rq_restart.specs.Underway.{IsStore}
 use Rattle.rq_core.specs.Devices.{mem_pages, mem_log}
-use Rattle.rq_core.specs.Happenings.{Happening, Answer, Course, Report, called}
+use Rattle.rq_restart.specs.declared.restart.Report.{Report}
+use Rattle.rq_core.specs.Happenings.{Happening, Answer, Course, called}
 use Rattle.rq_core.specs.Happenings.Answer.{Crashed}
 use Rattle.rq_engine.specs.Opened.{OpenStore}
 use Rattle.rq_core.specs.Headline as headline

@@ -6,14 +6,13 @@ use Rattle.rq_engine.specs.declared.event.Reply.TheVariants as reply
 use Rattle.rq_engine.specs.Says.{call_of, gave}
 use Rattle.rq_disk.specs.declared.mem_log.MemLog.{MemLog}
 use Rattle.rq_disk.specs.declared.mem_pages.MemPages.{MemPages}
-use Rattle.rq_restart.specs.declared.restart.Report.{Report as Restart_report}
 use Rattle.rq_core.specs.declared.happening.Entry.{Entry}
 use Rattle.rq_core.specs.declared.happening.Entry.TheVariants as entry
 use Rattle.rq_core.specs.declared.happening.Happening.{Happening}
 use Rattle.rq_core.specs.declared.happening.Happening.TheVariants as happening
 use Rattle.rq_core.specs.declared.world.WorldState.{WorldState}
 use Rattle.rq_core.specs.declared.world.WorldState.TheVariants as store
-use Rattle.rq_core.specs.Happenings.{Happening as Happens, Answer, Report, Course, course_of}
+use Rattle.rq_core.specs.Happenings.{Happening as Happens, Answer, Course, course_of}
 use Rattle.rq_core.specs.Happenings.Happening.{Asks, Acknowledges, Fails, Crashes, Stops_in, Restarts, Stops_restart}
 use Rattle.rq_core.specs.Happenings.Answer.{Answered, Crashed, Restarted, Refused, Running, Nothing}
 use Rattle.rq_core.specs.World.{World}
@@ -28,13 +27,10 @@ happens (happening.StopIn event n choice) = Stops_in (call_of event)
 happens happening.Restart = Restarts
 happens (happening.RestartStop n choice) = Stops_restart
 
-abbrev pub report_of : Restart_report → Report
-report_of r = record { incarnation = r.incarnation; unfinished = r.unfinished; lost = r.lost; records = r.records }
-
 abbrev pub answer_in : Entry → Answer
 answer_in (entry.Answered reply) = Answered (gave reply)
 answer_in (entry.Crashed records) = Crashed records
-answer_in (entry.Restarted report) = Restarted (report_of report)
+answer_in (entry.Restarted report) = Restarted report
 answer_in (entry.Refused refusal) = Refused refusal
 answer_in entry.Running = Running
 answer_in entry.Nothing = Nothing

@@ -12,7 +12,8 @@ use Rattle.rq_model.specs.Legal.{IsLegal}
 use Rattle.rq_model.specs.Replay.{Number}
 use Rattle.rq_model.specs.Replay.Reply.{Gave_txn, Gave_sub, Gave_commit, Gave_receipt, Gave_lsn, Gave_forced, Gave_sent, Gave_refusal}
 use Rattle.rq_model.specs.Worked.{txn, small}
-use Rattle.rq_core.specs.Happenings.{Happening, Answer, Report, Course, Tells}
+use Rattle.rq_restart.specs.declared.restart.Report.{Report}
+use Rattle.rq_core.specs.Happenings.{Happening, Answer, Course, Tells}
 use Rattle.rq_core.specs.Happenings.Happening.{Asks, Acknowledges, Fails, Crashes, Stops_in, Restarts, Stops_restart}
 use Rattle.rq_core.specs.Happenings.Answer.{Answered, Crashed, Restarted, Refused, Running, Nothing}
 

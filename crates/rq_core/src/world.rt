@@ -10,7 +10,7 @@ ghost use Rattle.rq_core.specs.Chosen.{all_outlives, IfCrashed, IsAsChosen, IsCh
 ghost use Rattle.rq_core.specs.Happenings.{Course, acknowledging, answers_of, is_of_device, nth};
 ghost use Rattle.rq_core.specs.Happenings.Happening.{Crashes, Restarts, Stops_in, Stops_restart};
 ghost use Rattle.rq_core.specs.Runs.{GivesUp, Happened, HappensIn, Is, IsFresh, IsHeadline, IsLeftBy, IsOpened, IsRefused, IsRun, Makes};
-ghost use Rattle.rq_core.specs.Views.{answer_in, commit_told, course, happens, report_of, world_of};
+ghost use Rattle.rq_core.specs.Views.{answer_in, commit_told, course, happens, world_of};
 ghost use Rattle.rq_core.specs.World.World.{Is_open, Is_shut};
 
 use crate::happening::{Choice, Entry, Happening};
@@ -379,7 +379,7 @@ fn try_restart<B: Level>(
     log: MemLog,
     levels: StoreLevels<B>,
 ) -> Result<(Engine<MemPages, MemLog, B>, Report), Stopped<MemPages, MemLog>>
-    ensures opened { IfOk result (λ o. IsOpened pages log (report_of o.1) o.0) }
+    ensures opened { IfOk result (λ o. IsOpened pages log o.1 o.0) }
     ensures refused { IfErr result (λ s. IsRefused pages log s.refusal s.pages s.log) }
 {
     restart(alloc, pages, log, levels)
