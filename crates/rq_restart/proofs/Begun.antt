@@ -34,8 +34,9 @@ use Rattle.rq_analysis.proofs.Undos.{undo_is_plain, undo_keeps_whole, undoing_ex
 use Rattle.rq_analysis.specs.Recovered.{IsRecovered, IsRecoveredFrom}
 use Rattle.rq_analysis.proofs.Recovering.{recovered_from}
 use Rattle.rq_restart.specs.Aborting.IsAborting.{Between}
+use Rattle.rq_restart.specs.Checked.{WasReadAndRedone}
 use Rattle.rq_restart.specs.RolledBack.{ArePlannedFrom, IsRolledBack}
-use Rattle.rq_restart.specs.Refused.{BeginsNot, WhyNotBegun}
+use Rattle.rq_restart.specs.Refused.{BeginsNot, WhyShut}
 use Rattle.rq_restart.specs.Restarting.{IsBegun, IsBegunBehind, Reports}
 use Rattle.rq_restart.specs.Past.{IsPast, WhereLeft}
 use Rattle.rq_restart.specs.Repeating.{Belongs, Paged, Repeats}
@@ -138,16 +139,16 @@ module _ (log rolled_back : List Record) (m : IsRolledBack log rolled_back) (h :
 
   -- why the incarnation was not begun
   pub not_begun : (z : Sizes) (first now_paged : Paged) (e : Refusal) (before now : ℕ) (untouched : Type 0) → Repeats z rolled_back first now_paged → ArePlannedFrom z first log rolled_back m → WhereLeft z first.image log (λ e. IsRecovered z (rebased e log) (rebased e rolled_back))
-      → BeginsNot e (length rolled_back) last before now untouched → WhyNotBegun z log first e before now untouched
-  not_begun z first now_paged why.NoMemory before now untouched repeated planned recovered b = b
-  not_begun z first now_paged why.DiskWrite before now untouched repeated planned recovered b = b
-  not_begun z first now_paged why.LogFull before now untouched repeated planned recovered b = (record { undone = m.undone; undoing = m.undoes.undoing; now = rolled_back; aborting = Between (record { behind = m.aborting; planned = planned }); turn = inr m.undoes; none_lost = m.none_lost; full = full; recovering = λ e past left. recovered_on z (rebased e log) (rebased e rolled_back) (recovered e past left) }, b.1) where
+      → WasReadAndRedone z log first → BeginsNot e (length rolled_back) last before now untouched → WhyShut z log first e before now untouched
+  not_begun z first now_paged why.NoMemory before now untouched repeated planned recovered was b = b
+  not_begun z first now_paged why.DiskWrite before now untouched repeated planned recovered was b = (b, was)
+  not_begun z first now_paged why.LogFull before now untouched repeated planned recovered was b = (record { undone = m.undone; undoing = m.undoes.undoing; now = rolled_back; aborting = Between (record { behind = m.aborting; planned = planned }); turn = inr m.undoes; none_lost = m.none_lost; full = full; recovering = λ e past left. recovered_on z (rebased e log) (rebased e rolled_back) (recovered e past left) }, was, b.1) where
     full : 2 ^ 50 ≤ length rolled_back
     full = elim b.0 [
       | inl is_full ↦ is_full
       | inr many ↦ let read = repeated_read z rolled_back first now_paged repeated in let few = few_read rolled_back read.0 read.1 in let e = last_is in omega (arith, few, e, many)
     ]
-  not_begun z first now_paged _ before now untouched repeated planned recovered b = absurd b
+  not_begun z first now_paged _ before now untouched repeated planned recovered was b = absurd b
 
 -- the records behind, as they were forced
 pub begun_behind : (z : Sizes) (images : Images) (log rolled_back : List Record) (r : Record) (kept : ℕ) (seen bytes : List ℕ) → IsRolledBack log rolled_back → WhereLeft z images log (λ e. IsRecovered z (rebased e log) (rebased e rolled_back)) → r ≡ next_restart rolled_back

@@ -137,7 +137,7 @@ module _ {P L : Type 0} (p : page_device.Ghosts P) (l : log_device.Ghosts L) (pa
         let e : List Record = earlier older in
         let is : o.read.records ≡ marked older = read_is o.read.records older (l.seen log) o.was_read.marks o.was_read.are_spelled r.are_spelled (o.was_read.reads (o.honest r.honest)) r.reads in
         let back : rebased e o.read.records ≡ older = ap (rebased e) is ∙ earlier_back older r.are_spelled in
-        let begun : IsBegun (marked older) new = subst (λ rs. IsBegun rs new) is (record { rolled_back = o.rolled_back; rolls_back = o.rolled_back_on.rolls_back; records = o.begun; forced = o.restarted.forced; running = o.restarted.ready.running }) in
+        let begun : IsBegun (marked older) new = subst (λ rs. IsBegun rs new) is (record { rolled_back = o.repeated.rolled_back; rolls_back = o.repeated.rolled_back_on.rolls_back; records = o.repeated.begun; forced = o.restarted.forced; running = o.restarted.ready.running }) in
         let told : Reports now.sizes older new.records report.incarnation report.records report.unfinished report.lost = subst (λ rs. Reports now.sizes rs new.records report.incarnation report.records report.unfinished report.lost) back (o.restarted.reports e (subst (IsPast e) (sym is) (past_of older r.are_spelled))) in
         record {
           reports = told;

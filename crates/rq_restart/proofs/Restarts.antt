@@ -24,10 +24,11 @@ use Rattle.rq_store.proofs.Bounds.{fits_counted}
 use Rattle.rq_log.proofs.Moments.{weaker}
 use Rattle.rq_restart.specs.Restarting.{BeginsAtMost, BeginsFrom, IsBegun, IsBegunFrom, IsBegunOn, LogStops, IsRefusedFor, OpensLog, RefusesLog, WasChecked}
 use Rattle.rq_restart.specs.Refused.{MayBeShut, WhyShut}
-use Rattle.rq_restart.specs.Overwritten.{NamesFirst}
-use Rattle.rq_restart.specs.Checked.{as_read}
-use Rattle.rq_restart.specs.RolledBack.{IsRolledBackOn}
-use Rattle.rq_restart.specs.Repeating.{Paged, paged, Repeats}
+use Rattle.rq_restart.specs.Overwritten.{AreKept, NamesFirst}
+use Rattle.rq_restart.specs.declared.overwritten.WrittenOver.{WrittenOver}
+use Rattle.rq_restart.specs.Checked.{WasReadAndRedone, as_read}
+use Rattle.rq_restart.specs.RolledBack.{IsRolledBackOn, RollbackStops}
+use Rattle.rq_restart.specs.Repeating.{ArePagesCounted, Paged, paged, Repeats}
 use Rattle.rq_engine.specs.Earlier.{rebased}
 use Rattle.rq_model.specs.Bases.{IsMarked, earlier, marked}
 use Rattle.rq_model.specs.Incarnations.{Extends}
@@ -57,7 +58,7 @@ module _ {P L : Type 0} (p : Ghosts P) (l : log_device.Ghosts L) (pages : P) (lo
   pub was_checked : (now : Pooled P) (new : Logged L) (cells : ℕ) (waiting : List ℕ) (sent : SentBy) (planner : LevelState) (report : Report) → OpensLog l loaded now log new cells waiting sent planner report → WasChecked p l pages log now.sizes (paged now) new.records now.device new.device
   was_checked now new cells waiting sent planner report o =
       let n = o.restarted.ready.count in
-      let e = ap length o.begun in
+      let e = ap length o.repeated.begun in
       subst (λ d. WasChecked p l pages log now.sizes (paged now) new.records d new.device) (sym o.device)
       (subst (λ z. WasChecked p l pages log z (paged now) new.records loaded.device new.device) (sym o.sizes) (record {
         images = loaded.images;
@@ -67,9 +68,9 @@ module _ {P L : Type 0} (p : Ghosts P) (l : log_device.Ghosts L) (pages : P) (lo
         marks = o.was_read.marks;
         are_spelled = o.was_read.are_spelled;
         reads = λ h. o.was_read.reads (o.honest h);
-        rolled_back = o.rolled_back;
-        rolled_back_on = subst (λ first. IsRolledBackOn loaded.sizes o.read.records o.rolled_back first (paged now)) first_is o.rolled_back_on;
-        begun = o.begun;
+        rolled_back = o.repeated.rolled_back;
+        rolled_back_on = subst (λ first. IsRolledBackOn loaded.sizes o.read.records o.repeated.rolled_back first (paged now)) first_is o.repeated.rolled_back_on;
+        begun = o.repeated.begun;
         room = omega (arith, n, e);
       }))
 
@@ -124,6 +125,25 @@ shut_left z log first (why.Damaged (damage.Page page)) before now untouched e pa
   | inr unlinked ↦ unlinked.0.none e past left
 ]
 shut_left z log first _ before now untouched e past h = absurd h
+
+-- it was gone through, and no number of the pages is beyond it
+pub gone_through : (z : Sizes) (log : List Record) (first last : Paged) (n : ℕ) (numbers : List WrittenOver) → n ≡ length log → ArePagesCounted z n last → ((p : Paged) → AreKept z n p last numbers → ArePagesCounted z n p) → Repeats z log first last → AreKept z (length log) first last numbers → WasReadAndRedone z log first
+gone_through z log first last n numbers e counted read before k = (
+  last,
+  record {
+    repeated = before;
+    counted_read = subst (λ m. ArePagesCounted z m first) e (read first (subst (λ m. AreKept z m first last numbers) (sym e) k));
+    counted = subst (λ m. ArePagesCounted z m last) e counted;
+  },
+)
+
+-- why what had no end was not undone, or was and left chains that are not whole
+pub rollback_shut : (z : Sizes) (log : List Record) (first : Paged) (e : Refusal) (before now : ℕ) (untouched : Type 0) → WasReadAndRedone z log first → now ≡ before → untouched → RollbackStops z log first e → WhyShut z log first e before now untouched
+rollback_shut z log first why.NoMemory before now untouched was same here s = (same, here)
+rollback_shut z log first why.LogFull before now untouched was same here s = (s, was, here)
+rollback_shut z log first (why.Damaged (damage.Record lsn)) before now untouched was same here s = (s, was, here)
+rollback_shut z log first (why.Damaged (damage.Page page)) before now untouched was same here s = (inr (s, was), here)
+rollback_shut z log first _ before now untouched was same here s = absurd s
 
 -- so it is of any log that reads so
 pub shut_over : (z : Sizes) (log older : List Record) (first : Paged) (e : Refusal) (before now : ℕ) (untouched : Type 0) → (IsMarked log → log ≡ marked older) → AreSpelled older → WhyShut z log first e before now untouched → MayBeShut (IsLeft z first.image older) z older e before now

@@ -55,17 +55,6 @@ BeginsNot why.LogFull records last before now untouched = ((2 ^ 50 ≤ records) 
 BeginsNot why.DiskWrite records last before now untouched = now ≡ (before + 1) % 2 ^ 64
 BeginsNot _ records last before now untouched = ⊥
 
--- why what had no end in a log was not undone, or was and left chains that are not whole, or no incarnation was begun
--- behind it
-abbrev pub WhyNotBegun : Sizes → List Record → Paged → Refusal → ℕ → ℕ → Type 0 → Type 0
-WhyNotBegun z log first why.NoMemory before now untouched = (now ≡ before) × untouched
-WhyNotBegun z log first why.LogFull before now untouched = HasNoRoom z first log × untouched
-WhyNotBegun z log first why.DiskWrite before now untouched = now ≡ (before + 1) % 2 ^ 64
-WhyNotBegun z log first (why.Damaged (damage.Record lsn)) before now untouched =
-    (IsBadUndo z log first lsn ⊎ IsBadRollback z log first lsn) × untouched
-WhyNotBegun z log first (why.Damaged (damage.Page page)) before now untouched = IsUnlinked z log first page × untouched
-WhyNotBegun z log first _ before now untouched = ⊥
-
 -- Why a store over this log, which was read and gone through, was not opened, and where; with the failures of the log's device before and after it, and
 -- that it was left alone.
 abbrev pub WhyShut : Sizes → List Record → Paged → Refusal → ℕ → ℕ → Type 0 → Type 0

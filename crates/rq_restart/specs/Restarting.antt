@@ -25,7 +25,7 @@ use Rattle.rq_store.specs.Whole.{IsWhole}
 use Rattle.rq_store.specs.Fitting.{image_in}
 use Rattle.rq_analysis.specs.OpenWorkView.{open_work_of}
 use Rattle.rq_analysis.specs.Recovered.{IsRecovered}
-use Rattle.rq_restart.specs.RolledBack.{IsAtBound, IsRolledBack, IsRolledBackOn}
+use Rattle.rq_restart.specs.RolledBack.{HasRepeated, IsAtBound, IsRolledBack, IsRolledBackOn}
 use Rattle.rq_restart.specs.Repeating.{Paged, Repeats, paged}
 use Rattle.rq_pool.specs.Pooled.{IsPool, Pooled}
 use Rattle.rq_views.specs.Stored.{count_used, slots_in}
@@ -193,9 +193,7 @@ module _ {L : Type 0} (g : log_device.Ghosts L) where
     pub honest : g.honest new.device → g.honest read.device
     -- what is behind it
     pub restarted : IsRestarted now.sizes now.images read new waiting sent planner report
-    pub rolled_back : List Record
-    pub rolled_back_on : IsRolledBackOn first.sizes read.records rolled_back (paged first) (paged now)
-    pub begun : new.records ≡ next_restart rolled_back ∷ rolled_back
+    pub repeated : HasRepeated first.sizes read.records new.records (paged first) (paged now)
     pub any_moment : BeginsAtMost first.sizes (image_in first.images) log new.device
 
   -- The store with these pages was not opened over the log, and why; both devices are given back.

@@ -49,12 +49,11 @@ pub record IsRolledBackOn (z : Sizes) (log rolled_back : List Record) (first las
   pub linked : AreLinked z (slots_on z last)
   pub recovered : WhereLeft z first.image log (λ e. IsRecovered z (rebased e log) (rebased e rolled_back))
 
--- Behind the log stand such records, and the one that begins the next incarnation. The senders' chains are whole then.
-pub record HasRepeated (z : Sizes) (log now : List Record) (old new : Paged) : Type 0 where
+-- Behind the log stand such records, and the one that begins the next incarnation.
+pub record HasRepeated (z : Sizes) (log now : List Record) (first last : Paged) : Type 0 where
   pub rolled_back : List Record
-  pub rolls_back : IsRolledBackSince z log rolled_back old new
+  pub rolled_back_on : IsRolledBackOn z log rolled_back first last
   pub begun : now ≡ next_restart rolled_back ∷ rolled_back
-  pub linked : AreLinked z (slots_on z new)
 
 -- the log, with the records behind that recover some of it, is at its greatest length
 pub record IsAtBound (z : Sizes) (log : List Record) : Type 0 where

@@ -5,16 +5,15 @@ ghost use Rattle.rq_model.specs.declared.record.Record.{Record};
 ghost use Rattle.rq_views.specs.Stored.{slots_in};
 ghost use Rattle.rq_log.specs.Crash.{LeavesOnly};
 ghost use Rattle.rq_pool.specs.Pooled.{IsPool};
-ghost use Rattle.rq_store.specs.Opening.{next_restart};
 ghost use Rattle.rq_planner.specs.Answered.{KnowsCells};
 ghost use Rattle.rq_chain_check.specs.Links.{AreLinked};
 ghost use Rattle.rq_restart.specs.Repeating.{ArePagesCounted, Paged, Repeats, paged, slots_on};
 ghost use Rattle.rq_restart.specs.Opens.{KeepsStores, Opens, Refuses};
 ghost use Rattle.rq_restart.specs.Restarting.{IsLogRead, OpensLog, RefusesLog, IsReady, IsRestarted, LeavesLog, WasLeftOrForced};
-ghost use Rattle.rq_restart.specs.Refused.{BeginsNot, IsStoppedBehind, WhyNotBegun, WhyShut};
+ghost use Rattle.rq_restart.specs.Refused.{BeginsNot, IsStoppedBehind, WhyShut};
 ghost use Rattle.rq_restart.specs.Overwritten.{AreKept};
 ghost use Rattle.rq_restart.specs.Found.{IsAnalysisOf};
-ghost use Rattle.rq_restart.specs.RolledBack.{HasRepeated, IsRolledBackOn, IsRolledBackSince, LinkStops, RollbackStops};
+ghost use Rattle.rq_restart.specs.RolledBack.{HasRepeated, IsRolledBackSince, LinkStops, RollbackStops};
 ghost use Rattle.rq_restart.specs.Undoing.{HandsOverNothing};
 ghost use Rattle.rq_restart.specs.Underway.{pages_left, log_left};
 
@@ -222,53 +221,22 @@ fn finish_restart<P: PageDevice + Drop, L: LogDevice + Drop, B: Level>(
     // What was checked, or why it was refused.
     ensures checked { OnOk result ((first : Paged) → Repeats pages.old.sizes log.old.records first (paged pages.old)
         → AreKept pages.old.sizes (length log.old.records) first (paged pages.old) log_scan.old.overwritten.numbers.items
-        → (rolled_back : List Record) × IsRolledBackOn pages.old.sizes log.old.records rolled_back first (paged pages.new)
-        × (log.new.records ≡ next_restart rolled_back ∷ rolled_back)) }
+        → HasRepeated pages.old.sizes log.old.records log.new.records first (paged pages.new)) }
     ensures shut { IfErr result (λ e. (first : Paged) → Repeats pages.old.sizes log.old.records first (paged pages.old)
         → AreKept pages.old.sizes (length log.old.records) first (paged pages.old) log_scan.old.overwritten.numbers.items
         → WhyShut pages.old.sizes log.old.records first e (L.faults log.old.device) (L.faults log.new.device)
         (log.new.device ≡ log.old.device)) }
 {
-    match check_page_numbers(pages, &log_scan.overwritten, log.last()) {
-        Ok(()) => match undo_and_begin(alloc, pages, log, &mut log_scan.analysis, levels) {
-            Ok(begun) => Ok(begun),
-            Err(refusal) => Err(refusal),
-        },
-        Err(refusal) => Err(refusal),
-    }
-}
-
-// Undoes what has no end in the log, of which these are the findings, and begins the next incarnation. Gives what the
-// directory tells, too.
-fn undo_and_begin<P: PageDevice + Drop, L: LogDevice + Drop, B: Level>(
-    alloc: Global,
-    pages: &mut Pages<P>,
-    log: &mut Log<L>,
-    analysis: &mut Analysis,
-    levels: StoreLevels<B>,
-) -> Result<(EngineTables<B>, Report), Refusal>
-    requires found { IsAnalysisOf analysis.old log.old.records }
-    requires running { log.old.failed ≡ false }
-    requires counted { ArePagesCounted pages.old.sizes (length log.old.records) (paged pages.old) }
-    // What the log and the pages come to, and what is left of the log.
-    ensures restarted { IfOk result (λ begun. IsRestarted L.LogDevice pages.new.sizes pages.new.images log.old log.new
-        begun.0.waiting begun.0.sent begun.0.planner begun.1) }
-    ensures left { LeavesLog L.LogDevice pages.old.sizes (paged pages.old) log.old log.new }
-    ensures repeated { OnOk result (HasRepeated pages.old.sizes log.old.records log.new.records (paged pages.old)
-        (paged pages.new)) }
-    // What stays of the pages.
-    ensures sizes { pages.new.sizes ≡ pages.old.sizes }
-    ensures pool { OnOk result (IsPool pages.new.sizes pages.new.images) }
-    ensures pages { pages.new.device ≡ pages.old.device }
-    // Why it was refused.
-    ensures stops { IfErr result (λ e. (first : Paged) → Repeats pages.old.sizes log.old.records first (paged pages.old)
-        → WhyNotBegun pages.old.sizes log.old.records first e (L.faults log.old.device) (L.faults log.new.device)
-        (log.new.device ≡ log.old.device)) }
-{
-    let unfinished = analysis.open_work.unfinished();
-    let (lost, planner) = undo_all(alloc, pages, log, analysis, levels)?;
+    check_page_numbers(pages, &log_scan.overwritten, log.last())?;
+    let unfinished = log_scan.analysis.open_work.unfinished();
+    let (lost, planner) = undo_all(alloc, pages, log, &mut log_scan.analysis, levels)?;
     let tables = read_directory(alloc, pages, planner)?;
-    match begin_incarnation(log, analysis.open_work.incarnation(), unfinished, lost) {
+    match begin_incarnation(
+        log,
+        log_scan.analysis.open_work.incarnation(),
+        unfinished,
+        lost,
+    ) {
         Ok(report) => Ok((tables, report)),
         Err(refusal) => Err(refusal),
     }

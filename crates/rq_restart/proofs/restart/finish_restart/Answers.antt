@@ -1,41 +1,143 @@
-use Rattle.std.proofs.Common.{◌≡◌, refl, sym, subst}
+use Rattle.std.proofs.Common.{rules, ◌≡◌, ◌+◌, ◌∷◌, ℕ, length, refl, ap, sym, ◌∙◌, subst, arith}
+use Rattle.rq_model.specs.declared.record.Record.TheVariants as records
+use Rattle.rq_store.specs.Opening.{next_restart}
+use Rattle.rq_analysis.specs.OpenWorkView.{OpenWorkView}
 use Rattle.rq_restart.specs.Overwritten.{AreKept, NamesFirst}
-use Rattle.rq_restart.specs.Repeating.{ArePagesCounted, paged}
-use Rattle.rq_restart.proofs.Moments.{left_alone}
-use Rattle.rq_restart.proofs.Restarts.{beyond_shut}
+use Rattle.rq_restart.specs.Refused.{WhyShut}
+use Rattle.rq_restart.specs.Repeating.{ArePagesCounted, Paged, Repeats, paged}
+use Rattle.rq_restart.specs.Restarting.{AreTold, Reports}
+use Rattle.rq_restart.proofs.Begun.{begins, last_is, not_begun, reports}
+use Rattle.rq_restart.proofs.Repeated.{few_read}
+use Rattle.rq_restart.proofs.Counting.{are_told}
+use Rattle.rq_restart.proofs.Moments.{begun_moment, left_alone}
+use Rattle.rq_restart.proofs.Restarts.{beyond_shut, gone_through, rollback_shut}
+use Rattle.rq_engine.specs.Earlier.{rebased}
 use Rattle.rq_restart.proofs.restart.finish_restart.Goals as goal
 
-pub returns-in-Ok-undo_and_begin-clause-checked : goal.returns-in-Ok-undo_and_begin-clause-checked
-returns-in-Ok-undo_and_begin-clause-checked g c = λ first before k.
+pub begin_incarnation-requires-clause-low : goal.begin_incarnation-requires-clause-low
+begin_incarnation-requires-clause-low g c =
+    let rollback = c.in_ok-lost.ensures in
+    let now = c.undo_all.new.log.records in
+    let few = few_read now rollback.found.order rollback.found.follow in
+    let is = last_is c.args.log.now.records now rollback.rolls_back.is c.undo_all.new.analysis.open_work rollback.found.open_work c.incarnation.result c.incarnation.ensures in
+    omega (arith, few, is)
+
+pub returns-in-Ok-clause-restarted : goal.returns-in-Ok-clause-restarted
+returns-in-Ok-clause-restarted g c =
+    let rollback = c.in_ok-lost.ensures in
+    let z = c.undo_all.new.pages.sizes in
+    let images = c.undo_all.new.pages.images in
+    let count : ℕ = length c.undo_all.new.log.records in
+    let counted : ArePagesCounted z count (paged c.undo_all.new.pages) = subst (λ y. ArePagesCounted y count (paged c.undo_all.new.pages)) (sym rollback.stays.sizes) (rollback.counted (subst (λ m. ArePagesCounted c.args.pages.now.sizes m (paged c.args.pages.now)) c.last.ensures c.in_ok-check_page_numbers.ensures.counted)) in
+    let longer : count + 1 ≡ length c.begin_incarnation.new.log.records = (let e : length c.begin_incarnation.new.log.records ≡ length (records.Restart (c.incarnation.result + 1) ∷ c.undo_all.new.log.records) = ap length c.in-Ok.ensures.records in omega (arith, e)) in
+    let told = c.in-Ok.ensures.report in
+    let found = c.requires.found.open_work in
+    let t = c.in-Ok.report in
+    let now = c.begin_incarnation.new.log.records in
+    record {
+      forced = c.in-Ok.ensures.forced.0;
+      reports = λ e past. subst (λ y. Reports y (rebased e c.args.log.now.records) now t.incarnation t.records t.unfinished t.lost) (sym rollback.stays.sizes)
+          (reports c.args.log.now.records c.undo_all.new.log.records rollback.rolls_back.is c.undo_all.new.analysis.open_work rollback.found.open_work c.incarnation.result c.incarnation.ensures c.args.pages.now.sizes now
+          t.incarnation t.records t.unfinished t.lost
+          (told.0, told.1, told.2 ∙ c.unfinished-unfinished.ensures ∙ ap (λ (h : OpenWorkView). length h.unfinished) found, told.3 ∙ rollback.lost ∙ ap (λ (h : OpenWorkView). length h.active) found)
+          e past);
+      told = subst (λ n. AreTold z images n c.in_ok-tables.tables.waiting c.in_ok-tables.tables.sent) longer (are_told z images count c.in_ok-tables.tables.waiting c.in_ok-tables.tables.sent c.in_ok-tables.ensures.waiting c.in_ok-tables.ensures.sent counted);
+      known = c.in_ok-tables.ensures.known;
+      ready = c.in-Ok.ensures.ready;
+      room = c.in-Ok.ensures.room ∙ rollback.room;
+      cause = c.in-Ok.ensures.cause ∙ ap g.L.LogDevice.faults rollback.stays.log_device;
+    }
+
+pub returns-in-Ok-clause-checked : goal.returns-in-Ok-clause-checked
+returns-in-Ok-clause-checked g c = λ first before k.
+    let rollback = c.in_ok-lost.ensures in
+    let page_numbers = c.in_ok-check_page_numbers.ensures in
+    let rolls = rollback.rolls_back in
+    record {
+      rolled_back = c.undo_all.new.log.records;
+      rolled_back_on = record {
+        read_and_redone = gone_through c.args.pages.now.sizes c.args.log.now.records first (paged c.args.pages.now) c.last.result c.args.log_scan.now.overwritten.numbers.items c.last.ensures page_numbers.counted page_numbers.read before k;
+        rolls_back = rolls.is;
+        planned = rolls.planned first before;
+        repeated = rolls.repeated first before;
+        linked = rollback.linked;
+        recovered = rolls.recovered first before;
+      };
+      begun = begins c.args.log.now.records c.undo_all.new.log.records rolls.is c.undo_all.new.analysis.open_work rollback.found.open_work c.incarnation.result c.incarnation.ensures c.begin_incarnation.new.log.records c.in-Ok.ensures.records;
+    }
+
+pub returns-in-Ok-clause-left : goal.returns-in-Ok-clause-left
+returns-in-Ok-clause-left g c =
+    let rollback = c.in_ok-lost.ensures in
     let z = c.args.pages.now.sizes in
-    let n = c.last.ensures in
-    let all = c.in-Ok-undo_and_begin.ensures.repeated in (
-      all.rolled_back,
-      record {
-        read_and_redone = (
-          paged c.args.pages.now,
-          record {
-            repeated = before;
-            counted_read = subst (λ m. ArePagesCounted z m first) n (c.in-Ok.ensures.read first (subst (λ m. AreKept z m first (paged c.args.pages.now) c.args.log_scan.now.overwritten.numbers.items) (sym n) k));
-            counted = subst (λ m. ArePagesCounted z m (paged c.args.pages.now)) n c.in-Ok.ensures.counted;
-          },
-        );
-        rolls_back = all.rolls_back.is;
-        planned = all.rolls_back.planned first before;
-        repeated = all.rolls_back.repeated first before;
-        linked = all.linked;
-        recovered = all.rolls_back.recovered first before;
-      },
-      all.begun,
-    )
+    let older = c.args.log.now.records in
+    let rolled_back = c.undo_all.new.log.records in
+    let restart : records.Restart (c.incarnation.result + 1) ≡ next_restart rolled_back = ap (λ n. records.Restart (n + 1)) (last_is older rolled_back rollback.rolls_back.is c.undo_all.new.analysis.open_work rollback.found.open_work c.incarnation.result c.incarnation.ensures) in
+    record {
+      honest = λ h. subst g.L.LogDevice.honest rollback.stays.log_device (c.begin_incarnation.ensures.honest h);
+      any_moment = λ first before h are read. begun_moment g.L.LogDevice z first.image older rolled_back (records.Restart (c.incarnation.result + 1)) c.undo_all.new.log.forced c.args.log.now.device c.undo_all.new.log.device c.begin_incarnation.new.log.device rollback.stays.log_device rollback.rolls_back.is (rollback.rolls_back.recovered first before)
+          restart are read (c.begin_incarnation.ensures.any_moment h);
+    }
+
+pub returns-in-Err-clause-left : goal.returns-in-Err-clause-left
+returns-in-Err-clause-left g c =
+    let rollback = c.in_ok-lost.ensures in
+    let z = c.args.pages.now.sizes in
+    let older = c.args.log.now.records in
+    let rolled_back = c.undo_all.new.log.records in
+    let restart : records.Restart (c.incarnation.result + 1) ≡ next_restart rolled_back = ap (λ n. records.Restart (n + 1)) (last_is older rolled_back rollback.rolls_back.is c.undo_all.new.analysis.open_work rollback.found.open_work c.incarnation.result c.incarnation.ensures) in
+    record {
+      honest = λ h. subst g.L.LogDevice.honest rollback.stays.log_device (c.begin_incarnation.ensures.honest h);
+      any_moment = λ first before h are read. begun_moment g.L.LogDevice z first.image older rolled_back (records.Restart (c.incarnation.result + 1)) c.undo_all.new.log.forced c.args.log.now.device c.undo_all.new.log.device c.begin_incarnation.new.log.device rollback.stays.log_device rollback.rolls_back.is (rollback.rolls_back.recovered first before)
+          restart are read (c.begin_incarnation.ensures.any_moment h);
+    }
 
 pub returns-in-Err-clause-shut : goal.returns-in-Err-clause-shut
 returns-in-Err-clause-shut g c = λ first before k.
+    let rollback = c.in_ok-lost.ensures in
+    let page_numbers = c.in_ok-check_page_numbers.ensures in
+    let rolls = rollback.rolls_back in
     let z = c.args.pages.now.sizes in
-    let n = c.last.ensures in
-    let faults = g.L.LogDevice.faults c.args.log.now.device in
-    beyond_shut z c.args.log.now.records first (paged c.args.pages.now) c.in-Err.refusal faults faults (c.args.log.now.device ≡ c.args.log.now.device) before refl
-    (subst (λ m. NamesFirst z m first c.in-Err.refusal) n (c.in-Err.ensures.names first (subst (λ m. AreKept z m first (paged c.args.pages.now) c.args.log_scan.now.overwritten.numbers.items) (sym n) k)))
+    let older = c.args.log.now.records in
+    let faults = g.L.LogDevice.faults in
+    let new = c.begin_incarnation.new.log.device in
+    let mid = c.undo_all.new.log.device in
+    let was = gone_through z older first (paged c.args.pages.now) c.last.result c.args.log_scan.now.overwritten.numbers.items c.last.ensures page_numbers.counted page_numbers.read before k in
+    subst (λ d. WhyShut z older first c.in-Err.refusal (faults d) (faults new) (new ≡ d)) rollback.stays.log_device
+    (not_begun older c.undo_all.new.log.records rolls.is c.undo_all.new.analysis.open_work rollback.found.open_work c.incarnation.result c.incarnation.ensures z first (paged c.undo_all.new.pages) c.in-Err.refusal (faults mid) (faults new) (new ≡ mid) (rolls.repeated first before) (rolls.planned first before) (rolls.recovered first before) was c.in-Err.ensures.err)
 
-pub returns-in-Err-clause-left : goal.returns-in-Err-clause-left
-returns-in-Err-clause-left g c = left_alone g.L.LogDevice g.met.L.LogDevice.only_now c.args.pages.now.sizes (paged c.args.pages.now) c.args.log.now c.args.log.now refl
+pub returns-in_err-lost-clause-shut : goal.returns-in_err-lost-clause-shut
+returns-in_err-lost-clause-shut g c =
+    let z = c.args.pages.now.sizes in
+    let older = c.args.log.now.records in
+    let old = paged c.args.pages.now in
+    let numbers = c.args.log_scan.now.overwritten.numbers.items in
+    let page_numbers = c.in_ok-check_page_numbers.ensures in
+    let faults = g.L.LogDevice.faults in
+    let was = c.args.log.now.device in
+    let now = c.undo_all.new.log.device in
+    let same : now ≡ was = c.undo_all.ensures.stays.log_device in
+    let e = c.in_err-lost.field-0.0 in
+    let h : (first : Paged) → Repeats z older first old → AreKept z (length older) first old numbers → WhyShut z older first e (faults was) (faults now) (now ≡ was) =
+    λ first before k. rollback_shut z older first e (faults was) (faults now) (now ≡ was) (gone_through z older first old c.last.result numbers c.last.ensures page_numbers.counted page_numbers.read before k) (ap faults same) same (c.in_err-lost.ensures.stops first before) in
+    search (rules, h)
+
+pub returns-in_err-check_page_numbers-clause-shut : goal.returns-in_err-check_page_numbers-clause-shut
+returns-in_err-check_page_numbers-clause-shut g c =
+    let z = c.args.pages.now.sizes in
+    let older = c.args.log.now.records in
+    let old = paged c.args.pages.now in
+    let numbers = c.args.log_scan.now.overwritten.numbers.items in
+    let n = c.last.ensures in
+    let was = c.args.log.now.device in
+    let faults = g.L.LogDevice.faults was in
+    let e = c.in_err-check_page_numbers.field-0.0 in
+    let h : (first : Paged) → Repeats z older first old → AreKept z (length older) first old numbers → WhyShut z older first e faults faults (was ≡ was) =
+    λ first before k. beyond_shut z older first old e faults faults (was ≡ was) before refl (subst (λ m. NamesFirst z m first e) n (c.in_err-check_page_numbers.ensures.names first (subst (λ m. AreKept z m first old numbers) (sym n) k))) in
+    search (rules, h)
+
+pub returns-in_err-check_page_numbers-clause-left : goal.returns-in_err-check_page_numbers-clause-left
+returns-in_err-check_page_numbers-clause-left g c = left_alone g.L.LogDevice g.met.L.LogDevice.only_now c.args.pages.now.sizes (paged c.args.pages.now) c.args.log.now c.args.log.now refl
+
+pub returns-in_err-tables-clause-left : goal.returns-in_err-tables-clause-left
+returns-in_err-tables-clause-left g c = left_alone g.L.LogDevice g.met.L.LogDevice.only_now c.args.pages.now.sizes (paged c.args.pages.now) c.args.log.now c.undo_all.new.log c.undo_all.ensures.stays.log_device

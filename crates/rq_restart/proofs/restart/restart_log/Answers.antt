@@ -6,7 +6,7 @@ use Rattle.rq_restart.specs.Overwritten.{AreKept}
 use Rattle.rq_restart.specs.Refused.{WhyShut}
 use Rattle.rq_restart.specs.Repeating.{Repeats, paged}
 use Rattle.rq_restart.specs.Restarting.{BeginsAtMost}
-use Rattle.rq_restart.specs.RolledBack.{IsRolledBackOn}
+use Rattle.rq_restart.specs.RolledBack.{HasRepeated}
 use Rattle.rq_restart.proofs.Moments.{begins_at_most, only_read}
 use Rattle.rq_restart.proofs.Restarts.{shut_by}
 use Rattle.rq_restart.proofs.restart.restart_log.Goals as goal
@@ -22,7 +22,6 @@ returns-in-Ok-finish_restart-clause-opened g c =
     let left = c.finish_restart.ensures.left in
     let repeated : Repeats mid.sizes log.records first (paged mid) = subst (λ (y : Sizes). Repeats y log.records first (paged mid)) (sym sizes) read.repeated in
     let kept : AreKept mid.sizes (length log.records) first (paged mid) c.in-Ok.log_scan.overwritten.numbers.items = subst (λ (y : Sizes). AreKept y (length log.records) first (paged mid) c.in-Ok.log_scan.overwritten.numbers.items) (sym sizes) read.kept in
-    let checked = went.checked first repeated kept in
     record {
       sizes = c.finish_restart.ensures.sizes ∙ sizes;
       device = c.finish_restart.ensures.pages ∙ c.read_and_redo.ensures.device;
@@ -32,9 +31,7 @@ returns-in-Ok-finish_restart-clause-opened g c =
       was_read = read.read;
       honest = left.honest;
       restarted = went.restarted;
-      rolled_back = checked.0;
-      rolled_back_on = subst (λ (y : Sizes). IsRolledBackOn y log.records checked.0 first (paged c.finish_restart.new.pages)) sizes checked.1;
-      begun = checked.2;
+      repeated = subst (λ (y : Sizes). HasRepeated y log.records c.finish_restart.new.log.records first (paged c.finish_restart.new.pages)) sizes (went.checked first repeated kept);
       any_moment = begins_at_most g.L.LogDevice c.args.pages.sizes mid.sizes first (paged mid) c.args.log log c.finish_restart.new.log sizes read.read read.repeated left;
     }
 
