@@ -3,5 +3,5 @@ use Rattle.rqm.proofs.serving.opened.Goals as goal
 
 pub returns-in-Ok-restart : goal.returns-in-Ok-restart
 returns-in-Ok-restart g c =
-    was_sound _ _ c.in-Ok.files.0 c.in-Ok.files.1 g.S.FileContents.pages g.S.FileContents.bytes c.in-Ok-restart.opened.0 c.in-Ok.ensures.pages
-    c.in-Ok.ensures.log c.in-Ok-restart.ensures.sizes c.in-Ok-restart.ensures.value c.in-Ok-restart.ensures.sound
+    was_sound _ _ c.in-Ok.files.0 c.in-Ok.files.1 g.S.FileContents.pages g.S.FileContents.bytes c.in-Ok-restart.opened.0 c.in-Ok-restart.opened.1 c.in-Ok.ensures.pages
+    c.in-Ok.ensures.log c.in-Ok-restart.ensures.opened
