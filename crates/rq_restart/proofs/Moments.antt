@@ -16,7 +16,7 @@ use Rattle.rq_restart.specs.Restarting.{IsBegunBehind, IsBegunOn, IsLogRead, Lea
 use Rattle.rq_disk.specs.Device.{Images}
 use Rattle.rq_page.specs.Sizes.{Sizes}
 use Rattle.rq_analysis.specs.Recovered.{IsRecovered}
-use Rattle.rq_restart.specs.RolledBack.{IsRolledBack}
+use Rattle.rq_restart.specs.RolledBack.{IsRolledBack, IsRolledBackSince}
 use Rattle.rq_model.specs.Bases.{IsMarked, gone, standing}
 use Rattle.rq_engine.specs.Earlier.{rebased}
 use Rattle.rq_restart.specs.Past.{WhereLeft}
@@ -62,6 +62,14 @@ pub begun_moment : {L : Type 0} (g : Ghosts L) (z : Sizes) (images : Images) (ol
 begun_moment g z images older rolled_back r kept old mid new same m recovered is are read run =
     weaker g old new (WasLeftOrForced g old (r ∷ rolled_back) kept) (WasLeftOrBegun g z images old older) (subst (λ d. LeavesOnly g d new (WasLeftOrForced g d (r ∷ rolled_back) kept)) same run)
     (λ c. ⊎_elim (λ was. inl was) (λ on. inr (begun_behind z images older rolled_back r kept (g.seen old) c m recovered is are read on.0 on.1)))
+
+-- so it is of the log that was gone through, whether it was begun or not
+pub begun_left : {L : Type 0} (g : Ghosts L) (z : Sizes) (pages last : Paged) (r : Record) (old mid new : Logged L) → mid.device ≡ old.device → IsRolledBackSince z old.records mid.records pages last → r ≡ next_restart mid.records
+    → (g.honest new.device → g.honest mid.device) → (g.honest new.device → LeavesOnly g mid.device new.device (WasLeftOrForced g mid.device (r ∷ mid.records) mid.forced)) → LeavesLog g z pages old new
+begun_left g z pages last r old mid new same m is honest run = record {
+  honest = λ h. subst g.honest same (honest h);
+  any_moment = λ first before h are read. begun_moment g z first.image old.records mid.records r mid.forced old.device mid.device new.device same m.is (m.recovered first before) is are read (run h);
+}
 
 -- beside these pages
 module _ {L : Type 0} (g : Ghosts L) (z : Sizes) (images : Images) where

@@ -1,6 +1,5 @@
 use Rattle.std.proofs.Common.{rules, ◌≡◌, ◌+◌, ◌∷◌, ℕ, length, refl, ap, sym, ◌∙◌, subst, arith}
 use Rattle.rq_model.specs.declared.record.Record.TheVariants as records
-use Rattle.rq_store.specs.Opening.{next_restart}
 use Rattle.rq_analysis.specs.OpenWorkView.{OpenWorkView}
 use Rattle.rq_restart.specs.Overwritten.{AreKept, NamesFirst}
 use Rattle.rq_restart.specs.Refused.{WhyShut}
@@ -9,7 +8,7 @@ use Rattle.rq_restart.specs.Restarting.{AreTold, Reports}
 use Rattle.rq_restart.proofs.Begun.{begins, last_is, not_begun, reports}
 use Rattle.rq_restart.proofs.Repeated.{few_read}
 use Rattle.rq_restart.proofs.Counting.{are_told}
-use Rattle.rq_restart.proofs.Moments.{begun_moment, left_alone}
+use Rattle.rq_restart.proofs.Moments.{begun_left, left_alone}
 use Rattle.rq_restart.proofs.Restarts.{beyond_shut, gone_through, rollback_shut}
 use Rattle.rq_engine.specs.Earlier.{rebased}
 use Rattle.rq_restart.proofs.restart.finish_restart.Goals as goal
@@ -69,28 +68,16 @@ returns-in-Ok-clause-checked g c = λ first before k.
 pub returns-in-Ok-clause-left : goal.returns-in-Ok-clause-left
 returns-in-Ok-clause-left g c =
     let rollback = c.in_ok-lost.ensures in
-    let z = c.args.pages.now.sizes in
-    let older = c.args.log.now.records in
-    let rolled_back = c.undo_all.new.log.records in
-    let restart : records.Restart (c.incarnation.result + 1) ≡ next_restart rolled_back = ap (λ n. records.Restart (n + 1)) (last_is older rolled_back rollback.rolls_back.is c.undo_all.new.analysis.open_work rollback.found.open_work c.incarnation.result c.incarnation.ensures) in
-    record {
-      honest = λ h. subst g.L.LogDevice.honest rollback.stays.log_device (c.begin_incarnation.ensures.honest h);
-      any_moment = λ first before h are read. begun_moment g.L.LogDevice z first.image older rolled_back (records.Restart (c.incarnation.result + 1)) c.undo_all.new.log.forced c.args.log.now.device c.undo_all.new.log.device c.begin_incarnation.new.log.device rollback.stays.log_device rollback.rolls_back.is (rollback.rolls_back.recovered first before)
-          restart are read (c.begin_incarnation.ensures.any_moment h);
-    }
+    let rolls = rollback.rolls_back in
+    begun_left g.L.LogDevice c.args.pages.now.sizes (paged c.args.pages.now) (paged c.undo_all.new.pages) (records.Restart (c.incarnation.result + 1)) c.args.log.now c.undo_all.new.log c.begin_incarnation.new.log rollback.stays.log_device rolls
+    (ap (λ n. records.Restart (n + 1)) (last_is c.args.log.now.records c.undo_all.new.log.records rolls.is c.undo_all.new.analysis.open_work rollback.found.open_work c.incarnation.result c.incarnation.ensures)) c.begin_incarnation.ensures.honest c.begin_incarnation.ensures.any_moment
 
 pub returns-in-Err-clause-left : goal.returns-in-Err-clause-left
 returns-in-Err-clause-left g c =
     let rollback = c.in_ok-lost.ensures in
-    let z = c.args.pages.now.sizes in
-    let older = c.args.log.now.records in
-    let rolled_back = c.undo_all.new.log.records in
-    let restart : records.Restart (c.incarnation.result + 1) ≡ next_restart rolled_back = ap (λ n. records.Restart (n + 1)) (last_is older rolled_back rollback.rolls_back.is c.undo_all.new.analysis.open_work rollback.found.open_work c.incarnation.result c.incarnation.ensures) in
-    record {
-      honest = λ h. subst g.L.LogDevice.honest rollback.stays.log_device (c.begin_incarnation.ensures.honest h);
-      any_moment = λ first before h are read. begun_moment g.L.LogDevice z first.image older rolled_back (records.Restart (c.incarnation.result + 1)) c.undo_all.new.log.forced c.args.log.now.device c.undo_all.new.log.device c.begin_incarnation.new.log.device rollback.stays.log_device rollback.rolls_back.is (rollback.rolls_back.recovered first before)
-          restart are read (c.begin_incarnation.ensures.any_moment h);
-    }
+    let rolls = rollback.rolls_back in
+    begun_left g.L.LogDevice c.args.pages.now.sizes (paged c.args.pages.now) (paged c.undo_all.new.pages) (records.Restart (c.incarnation.result + 1)) c.args.log.now c.undo_all.new.log c.begin_incarnation.new.log rollback.stays.log_device rolls
+    (ap (λ n. records.Restart (n + 1)) (last_is c.args.log.now.records c.undo_all.new.log.records rolls.is c.undo_all.new.analysis.open_work rollback.found.open_work c.incarnation.result c.incarnation.ensures)) c.begin_incarnation.ensures.honest c.begin_incarnation.ensures.any_moment
 
 pub returns-in-Err-clause-shut : goal.returns-in-Err-clause-shut
 returns-in-Err-clause-shut g c = λ first before k.
