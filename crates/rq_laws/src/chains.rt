@@ -4,7 +4,7 @@ ghost use Rattle.rq_page.specs.Sizes.{IsCellAddress};
 ghost use Rattle.rq_level.specs.Writes.{writes_of};
 ghost use Rattle.rq_chain.specs.CellEntries.{IsGroupOf, IsCellEntryAt, IsNeighbour};
 
-use rq_chain::{CellEntry, ChainPlan, DirectoryEntry, append, put_back, unlink_head};
+use rq_chain::{CellEntry, DirectoryEntry, append, put_back, unlink_head};
 use rq_level::{Given, SlotWrite};
 use rq_model::message::Body;
 use rq_model::refusal::NoMemory;
@@ -12,8 +12,7 @@ use rq_page::addr::Addr;
 use rq_page::layout::Layout;
 use std::alloc::Global;
 
-/// A send writes the same slots and tells the same deed. Excludes a plan that links the new cell elsewhere than behind
-/// the tail.
+/// A send writes the same slots. Excludes a plan that links the new cell elsewhere than behind the tail.
 pub fn sends(
     alloc: Global,
     layout: &Layout,
@@ -24,15 +23,18 @@ pub fn sends(
     tag: u64,
     body: Body,
     body_again: Body,
-) -> (Result<ChainPlan, NoMemory>, Result<ChainPlan, NoMemory>)
+) -> (
+    Result<Vec<SlotWrite>, NoMemory>,
+    Result<Vec<SlotWrite>, NoMemory>,
+)
     requires room { group.now.directory.sent < 2 ^ 64 - 1 }
     requires group { IsGroupOf layout.now group.now }
     requires tail { IsNeighbour layout.now group.now.directory.tail tail }
     requires again { tail_again ≡ tail }
     requires body { body_again ≡ body }
     requires free { IsCellAddress layout.now free }
-    ensures { IfOk result.0 (λ a. IfOk result.1 (λ b. (a.deed ≡ b.deed)
-        × (reverse (writes_of layout.now a.writes.items) ≡ reverse (writes_of layout.now b.writes.items)))) }
+    ensures { IfOk result.0 (λ a. IfOk result.1
+        (λ b. reverse (writes_of layout.now a.items) ≡ reverse (writes_of layout.now b.items))) }
 {
     (
         append(Vec::new(alloc), layout, group, tail, free, tag, &body),
@@ -48,8 +50,7 @@ pub fn sends(
     )
 }
 
-/// A receive writes the same slots and tells the same deed. Excludes a plan that leaves the first cell at the head, so
-/// that it is received again.
+/// A receive writes the same slots. Excludes a plan that leaves the first cell at the head, so that it is received again.
 pub fn takes(
     alloc: Global,
     layout: &Layout,
@@ -57,14 +58,17 @@ pub fn takes(
     head: &CellEntry,
     next: Option<Given>,
     next_again: Option<Given>,
-) -> (Result<ChainPlan, NoMemory>, Result<ChainPlan, NoMemory>)
+) -> (
+    Result<Vec<SlotWrite>, NoMemory>,
+    Result<Vec<SlotWrite>, NoMemory>,
+)
     requires some { group.now.directory.received < group.now.directory.sent }
     requires group { IsGroupOf layout.now group.now }
     requires head { IsCellEntryAt layout.now group.now.directory.head head.now }
     requires next { IsNeighbour layout.now head.now.cell.next next }
     requires again { next_again ≡ next }
-    ensures { IfOk result.0 (λ a. IfOk result.1 (λ b. (a.deed ≡ b.deed)
-        × (reverse (writes_of layout.now a.writes.items) ≡ reverse (writes_of layout.now b.writes.items)))) }
+    ensures { IfOk result.0 (λ a. IfOk result.1
+        (λ b. reverse (writes_of layout.now a.items) ≡ reverse (writes_of layout.now b.items))) }
 {
     (
         unlink_head(Vec::new(alloc), layout, group, head, next),
