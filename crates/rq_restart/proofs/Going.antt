@@ -24,8 +24,6 @@ use Rattle.rq_analysis.proofs.Marked.{marked_incarnation, marked_length}
 use Rattle.rq_analysis.proofs.Whole.{follow_marks, whole_logs}
 use Rattle.rq_restart.specs.declared.analysis.Analysis.{Analysis}
 use Rattle.rq_restart.specs.Found.{IsAnalysisOf, MayComeNext, analysis_after}
-use Rattle.rq_restart.specs.declared.overwritten.WrittenOver.{WrittenOver}
-use Rattle.rq_restart.specs.Overwritten.{AreKept}
 use Rattle.rq_restart.specs.Refused.{IsBadNext, IsStoppedBehind, IsWanting, NotRepeated}
 use Rattle.rq_restart.specs.Repeating.{Belongs, Paged, Repeats}
 use Rattle.rq_record.specs.Spelling.{IsRecord}
@@ -72,10 +70,6 @@ base_repeated z many i some within first last same = (
     marked = refl;
   },
 )
-
--- numbers that are kept are kept so behind more records
-pub kept_longer : (z : Sizes) (n m : ℕ) (first last : Paged) (numbers : List WrittenOver) → n ≤ m → AreKept z n first last numbers → AreKept z m first last numbers
-kept_longer z n m first last numbers le k = record { of_pages = k.of_pages; same = λ p count low high most. k.same p count low high (omega (arith, le, most)) }
 
 -- why no more was read of a device that was only read before
 stops_from : {L : Type 0} (g : Ghosts L) (old met new : L) (front : List Record) → g.seen met ≡ g.seen old → g.faults met ≡ g.faults old → (e : Refusal) → StopsFor g e front met new → StopsFor g e front old new

@@ -1,136 +1,102 @@
--- The numbers of pages as they were read, by those that are there and those that were written over.
-use Rattle.std.proofs.Common.{◌≡◌, ◌↔◌, inl, inr, ℕ, ◌+◌, ◌<◌, ◌≤◌, Bool, true, false, min, cond, nat_lt, List, [], ◌∷◌, ◌++◌, Option, Some, None, IfSome, IfNone, refl, sym, subst, arith}
+-- The numbers of pages as they were read, by the greatest of each.
+use Rattle.std.proofs.Common.{◌≡◌, ◌↔◌, inl, inr, ℕ, ◌+◌, ◌<◌, ◌≤◌, Bool, true, false, max, min, cond, nat_lt, List, [], ◌∷◌, ◌++◌, Option, Some, None, refl, sym, subst, arith}
 use Rattle.std.proofs.lemmas.Bool.{cases_eq, cases_lt, ltb-false, ltb-true}
 use Rattle.rq_page.specs.Sizes.{Sizes, page_count}
-use Rattle.rq_page.specs.Pages.{IsWritten, lsn_of, slot_of}
+use Rattle.rq_page.specs.Pages.{lsn_of, slot_of}
 use Rattle.rq_page.specs.Formatted.{count_in}
-use Rattle.rq_store.specs.Opening.{IsCounted, IsSoundWrite, Redoes}
-use Rattle.rq_store.specs.Fitting.{ToldWrite}
-use Rattle.rq_store.proofs.Bounds.{page_of_slot}
-use Rattle.rq_restart.specs.declared.overwritten.WrittenOver.{WrittenOver}
-use Rattle.rq_restart.specs.Overwritten.{AreKept, AreOfPages, AreWithin, WritesOver, least_beyond, lesser, number_under}
+use Rattle.rq_store.specs.Opening.{IsCounted}
+use Rattle.rq_restart.specs.declared.page_numbers.PageNumber.{PageNumber}
+use Rattle.rq_restart.specs.Numbers.{AreNumbersOf, AreOfPages, AreWithin, least_beyond, lesser}
 use Rattle.rq_restart.specs.Repeating.{ArePagesCounted, IsFirstUncounted, Paged}
 
-within_add : (count p : ℕ) (xs : List WrittenOver) (w : WrittenOver) → AreWithin count p xs → (w.page ≡ p → w.number ≤ count) → AreWithin count p (xs ++ w ∷ [])
+-- ---- the greatest of a page
+
+-- of its LSN and the slots before this one
+abbrev pub IsGreatest : Sizes → ℕ → List ℕ → ℕ → ℕ → Type 0
+IsGreatest z p image n greatest =
+    (count : ℕ) → (greatest ≤ count) ↔ ((lsn_of image ≤ count) × ((j : ℕ) → 1 ≤ j → j < n → count_in z p (slot_of j image) ≤ count))
+
+pub greatest_none : (z : Sizes) (p : ℕ) (image : List ℕ) → IsGreatest z p image 1 (lsn_of image)
+greatest_none z p image count = ((λ le. (le, λ j a b. absurd (omega (arith, a, b)))), (λ h. h.0))
+
+pub greatest_more : (z : Sizes) (p : ℕ) (image : List ℕ) (n greatest : ℕ) → 1 ≤ n → IsGreatest z p image n greatest → IsGreatest z p image (n + 1) (max greatest (count_in z p (slot_of n image)))
+greatest_more z p image n greatest low k count = (
+  (λ le.
+      let few : greatest ≤ count = omega (arith, le) in
+      let here : count_in z p (slot_of n image) ≤ count = omega (arith, le) in
+      let so_far = (k count).0 few in (
+        so_far.0,
+        λ j a b. elim (cases_eq j n) [
+          | inl same ↦ subst (λ m. count_in z p (slot_of m image) ≤ count) (sym same) here
+          | inr ne ↦ so_far.1 j a (omega (arith, b, ne))
+        ],
+      )),
+  (λ h.
+      let few : greatest ≤ count = (k count).1 (h.0, λ j a b. h.1 j a (omega (arith, b))) in
+      let here : count_in z p (slot_of n image) ≤ count = h.1 n low (omega arith) in
+      omega (arith, few, here)),
+)
+
+pub greatest_all : (z : Sizes) (p : ℕ) (image : List ℕ) (greatest : ℕ) → IsGreatest z p image 16 greatest → (count : ℕ) → (greatest ≤ count) ↔ IsCounted z count p image
+greatest_all z p image greatest k count = (
+  (λ le. let all = (k count).0 le in record { lsn = all.0; slots = λ n a b. all.1 n a (omega (arith, b)) }),
+  (λ c. (k count).1 (c.lsn, λ j a b. c.slots j a (omega (arith, b)))),
+)
+
+-- ---- of each page
+
+within_add : (count p : ℕ) (xs : List PageNumber) (w : PageNumber) → AreWithin count p xs → (w.page ≡ p → w.number ≤ count) → AreWithin count p (xs ++ w ∷ [])
 within_add count p [] w are one = (one, tt)
 within_add count p (x ∷ xs) w are one = (are.0, within_add count p xs w are.1 one)
 
-within_first : (count p : ℕ) (xs : List WrittenOver) (w : WrittenOver) → AreWithin count p (xs ++ w ∷ []) → AreWithin count p xs × (w.page ≡ p → w.number ≤ count)
+within_first : (count p : ℕ) (xs : List PageNumber) (w : PageNumber) → AreWithin count p (xs ++ w ∷ []) → AreWithin count p xs × (w.page ≡ p → w.number ≤ count)
 within_first count p [] w are = (tt, are.0)
 within_first count p (x ∷ xs) w are = let more = within_first count p xs w are.1 in ((are.0, more.0), more.1)
 
-of_pages_add : (z : Sizes) (xs : List WrittenOver) (w : WrittenOver) → AreOfPages z xs → 1 ≤ w.page → w.page < page_count z → AreOfPages z (xs ++ w ∷ [])
+of_pages_add : (z : Sizes) (xs : List PageNumber) (w : PageNumber) → AreOfPages z xs → 1 ≤ w.page → w.page < page_count z → AreOfPages z (xs ++ w ∷ [])
 of_pages_add z [] w are low high = (low, high, tt)
 of_pages_add z (x ∷ xs) w are low high = (are.0, are.1, of_pages_add z xs w are.2 low high)
 
--- one record more is repeated
-module _ (z : Sizes) (n : ℕ) (first mid last : Paged) (old new : List WrittenOver) (k : AreKept z n first mid old) where
-  -- a page that is the same as before
-  same_page : (p count : ℕ) → last.image p ≡ mid.image p → (AreWithin count p old → AreWithin count p new) → (AreWithin count p new → AreWithin count p old)
-      → (IsCounted z count p (mid.image p) × AreWithin count p old) ↔ (IsCounted z count p (last.image p) × AreWithin count p new)
-  same_page p count same to from = (
-    (λ c. (subst (IsCounted z count p) (sym same) c.0, to c.1)),
-    (λ c. (subst (IsCounted z count p) same c.0, from c.1)),
+-- those of the pages before this one
+pub record AreNumbersUpTo (z : Sizes) (pages : Paged) (n : ℕ) (numbers : List PageNumber) : Type 0 where
+  pub of_pages : AreOfPages z numbers
+  pub same : (p count : ℕ) → 1 ≤ p → p < n → AreWithin count p numbers ↔ IsCounted z count p (pages.image p)
+  pub none : (p count : ℕ) → n ≤ p → AreWithin count p numbers
+
+pub numbers_none : (z : Sizes) (pages : Paged) → AreNumbersUpTo z pages 1 []
+numbers_none z pages = record { of_pages = tt; same = λ p count low lt. absurd (omega (arith, low, lt)); none = λ p count le. tt }
+
+pub numbers_more : (z : Sizes) (pages : Paged) (n number : ℕ) (numbers : List PageNumber) → 1 ≤ n → n < page_count z → ((count : ℕ) → (number ≤ count) ↔ IsCounted z count n (pages.image n)) → AreNumbersUpTo z pages n numbers
+    → AreNumbersUpTo z pages (n + 1) (numbers ++ record { page = n; number = number } ∷ [])
+numbers_more z pages n number numbers low high is k = record {
+  of_pages = of_pages_add z numbers w k.of_pages low high;
+  same = λ p count first lt. elim (cases_eq p n) [
+    | inl same ↦ subst (λ q. AreWithin count q (numbers ++ w ∷ []) ↔ IsCounted z count q (pages.image q)) (sym same) (here count)
+    | inr ne ↦ (
+      (λ a. (k.same p count first (omega (arith, lt, ne))).0 (within_first count p numbers w a).0),
+      (λ c. within_add count p numbers w ((k.same p count first (omega (arith, lt, ne))).1 c) (λ e. absurd (ne (sym e)))),
+    )
+  ];
+  none = λ p count le. within_add count p numbers w (k.none p count (omega (arith, le))) (λ e. absurd (omega (arith, le, e)));
+} where
+  w : PageNumber
+  w = record { page = n; number = number }
+
+  here : (count : ℕ) → AreWithin count n (numbers ++ w ∷ []) ↔ IsCounted z count n (pages.image n)
+  here count = (
+    (λ a. (is count).0 ((within_first count n numbers w a).1 refl)),
+    (λ c. within_add count n numbers w (k.none n count (omega arith)) (λ e. (is count).1 c)),
   )
 
-  none_written : Redoes None (n + 1) mid.image last.image → new ≡ old → AreKept z (n + 1) first last new
-  none_written redone same = record {
-    of_pages = subst (AreOfPages z) (sym same) k.of_pages;
-    same = λ p count low high le.
-        let now = same_page p count (redone p) (λ a. subst (AreWithin count p) (sym same) a) (λ a. subst (AreWithin count p) same a) in
-        let was = k.same p count low high (omega (arith, le)) in
-        ((λ c. now.0 (was.0 c)), (λ c. was.1 (now.1 c)));
-  }
+pub numbers_all : (z : Sizes) (pages : Paged) (numbers : List PageNumber) → AreNumbersUpTo z pages (page_count z) numbers → AreNumbersOf z pages numbers
+numbers_all z pages numbers k = record { of_pages = k.of_pages; same = k.same }
 
-  module _ (w : ToldWrite) (sound : IsSoundWrite z (n + 1) (Some w)) (redone : Redoes (Some w) (n + 1) mid.image last.image) (wrote : WritesOver z (Some w) (n + 1) mid.image old new) where
-    place : (1 ≤ w.page) × (w.page < page_count z)
-    place = page_of_slot z w.page w.slot w.after sound.slot
-
-    of_new : AreOfPages z new
-    of_new = elim wrote [
-      | inl kept ↦ subst (AreOfPages z) (sym kept.0) k.of_pages
-      | inr added ↦ subst (AreOfPages z) (sym added.0) (of_pages_add z old (record { page = w.page; number = number_under z w mid.image }) k.of_pages place.0 place.1)
-    ]
-
-    to_new : (p count : ℕ) → AreWithin count p old → (w.page ≡ p → number_under z w mid.image ≤ count) → AreWithin count p new
-    to_new p count are one = elim wrote [
-      | inl kept ↦ subst (AreWithin count p) (sym kept.0) are
-      | inr added ↦ subst (AreWithin count p) (sym added.0) (within_add count p old (record { page = w.page; number = number_under z w mid.image }) are one)
-    ]
-
-    to_old : (p count : ℕ) → AreWithin count p new → AreWithin count p old
-    to_old p count are = elim wrote [
-      | inl kept ↦ subst (AreWithin count p) kept.0 are
-      | inr added ↦ (within_first count p old (record { page = w.page; number = number_under z w mid.image }) (subst (AreWithin count p) added.0 are)).0
-    ]
-
-    -- the number that was written over
-    under : (count : ℕ) → n + 1 ≤ count → lsn_of (mid.image w.page) < n + 1 → AreWithin count w.page new → number_under z w mid.image ≤ count
-    under count le older are = elim wrote [
-      | inl kept ↦ (let few = kept.1 older in omega (arith, few, le))
-      | inr added ↦ (within_first count w.page old (record { page = w.page; number = number_under z w mid.image }) (subst (AreWithin count w.page) added.0 are)).1 refl
-    ]
-
-    written : (count : ℕ) → n + 1 ≤ count → lsn_of (mid.image w.page) < n + 1 → IsWritten (mid.image w.page) (last.image w.page) w.slot w.after (n + 1)
-        → (IsCounted z count w.page (mid.image w.page) × AreWithin count w.page old) ↔ (IsCounted z count w.page (last.image w.page) × AreWithin count w.page new)
-    written count le older is = (
-      (λ c. (
-        record {
-          lsn = (let e = is.lsn in omega (arith, e, le));
-          slots = λ j a b. elim (cases_eq j w.slot) [
-            | inl here ↦ subst (λ m. count_in z w.page (slot_of m (last.image w.page)) ≤ count) (sym here) (subst (λ bytes. count_in z w.page bytes ≤ count) (sym is.slot) (let s = sound.count in omega (arith, s, le)))
-            | inr there ↦ subst (λ bytes. count_in z w.page bytes ≤ count) (sym (is.others j a b there)) (c.0.slots j a b)
-          ];
-        },
-        to_new w.page count c.1 (λ e. c.0.slots w.slot sound.slot.low sound.slot.high),
-      )),
-      (λ c. (
-        record {
-          lsn = omega (arith, older, le);
-          slots = λ j a b. elim (cases_eq j w.slot) [
-            | inl here ↦ subst (λ m. count_in z w.page (slot_of m (mid.image w.page)) ≤ count) (sym here) (under count le older c.1)
-            | inr there ↦ subst (λ bytes. count_in z w.page bytes ≤ count) (is.others j a b there) (c.0.slots j a b)
-          ];
-        },
-        to_old w.page count c.1,
-      )),
-    )
-
-    -- the page's number was left alone
-    not_older : (count : ℕ) → n + 1 ≤ lsn_of (mid.image w.page) → AreWithin count w.page old → AreWithin count w.page new
-    not_older count ge are = elim wrote [
-      | inl kept ↦ subst (AreWithin count w.page) (sym kept.0) are
-      | inr added ↦ (let lt = added.1 in absurd (omega (arith, lt, ge)))
-    ]
-
-    now_same : (p count : ℕ) → n + 1 ≤ count → (IsCounted z count p (mid.image p) × AreWithin count p old) ↔ (IsCounted z count p (last.image p) × AreWithin count p new)
-    now_same p count le = elim (cases_eq p w.page) [
-      | inr ne ↦ same_page p count (redone.others p ne) (λ a. to_new p count a (λ e. absurd (ne (sym e)))) (to_old p count)
-      | inl same ↦ subst (λ q. (IsCounted z count q (mid.image q) × AreWithin count q old) ↔ (IsCounted z count q (last.image q) × AreWithin count q new)) (sym same) (elim (cases_lt (lsn_of (mid.image w.page)) (n + 1)) [
-        | inl lt ↦ written count le lt (redone.made lt)
-        | inr ge ↦ same_page w.page count (redone.kept ge) (not_older count ge) (to_old w.page count)
-      ])
-    ]
-
-    one_written : AreKept z (n + 1) first last new
-    one_written = record {
-      of_pages = of_new;
-      same = λ p count low high le.
-          let now = now_same p count le in
-          let was = k.same p count low high (omega (arith, le)) in
-          ((λ c. now.0 (was.0 c)), (λ c. was.1 (now.1 c)));
-    }
-
-  pub kept_more : (w : Option ToldWrite) → IsSoundWrite z (n + 1) w → Redoes w (n + 1) mid.image last.image → WritesOver z w (n + 1) mid.image old new → AreKept z (n + 1) first last new
-  kept_more None sound redone wrote = none_written redone wrote
-  kept_more (Some w) sound redone wrote = one_written w sound redone wrote
-
--- the first page with a number beyond the log among those that were written over
-abbrev pub IsLeast : Sizes → ℕ → List WrittenOver → Option ℕ → Type 0
+-- the first page with a number beyond the log among those that are told
+abbrev pub IsLeast : Sizes → ℕ → List PageNumber → Option ℕ → Type 0
 IsLeast z records numbers None = (p : ℕ) → AreWithin records p numbers
 IsLeast z records numbers (Some p) = (1 ≤ p) × (p < page_count z) × (AreWithin records p numbers → ⊥) × ((q : ℕ) → q < p → AreWithin records q numbers)
 
-least_more : (z : Sizes) (records : ℕ) (w : WrittenOver) (ws : List WrittenOver) → 1 ≤ w.page → w.page < page_count z → (b : Bool) → nat_lt records w.number ≡ b → (o : Option ℕ) → IsLeast z records ws o → IsLeast z records (w ∷ ws) (lesser (cond b (Some w.page) None) o)
+least_more : (z : Sizes) (records : ℕ) (w : PageNumber) (ws : List PageNumber) → 1 ≤ w.page → w.page < page_count z → (b : Bool) → nat_lt records w.number ≡ b → (o : Option ℕ) → IsLeast z records ws o → IsLeast z records (w ∷ ws) (lesser (cond b (Some w.page) None) o)
 least_more z records w ws low high false e None is = λ p. ((λ same. ltb-false records w.number e), is p)
 least_more z records w ws low high false e (Some q) is = (is.0, is.1, (λ a. is.2 a.1), (λ r lt. ((λ same. ltb-false records w.number e), is.3 r lt)))
 least_more z records w ws low high true e None is = (low, high, (λ a. (let le = a.0 refl in let lt = ltb-true records w.number e in omega (arith, le, lt))), (λ r lt. ((λ same. absurd (omega (arith, lt, same))), is r)))
@@ -141,46 +107,20 @@ least_more z records w ws low high true e (Some q) is = elim (cases_lt w.page q)
       (is.0, is.1, (λ a. is.2 a.1), (λ r lt. ((λ same. absurd (omega (arith, lt, same, more))), is.3 r lt)))
 ]
 
-pub least_is : (z : Sizes) (records : ℕ) (numbers : List WrittenOver) → AreOfPages z numbers → IsLeast z records numbers (least_beyond records numbers)
+pub least_is : (z : Sizes) (records : ℕ) (numbers : List PageNumber) → AreOfPages z numbers → IsLeast z records numbers (least_beyond records numbers)
 least_is z records [] of = λ p. tt
 least_is z records (w ∷ numbers) of = least_more z records w numbers of.0 of.1 (nat_lt records w.number) refl (least_beyond records numbers) (least_is z records numbers of.2)
 
--- the first page with a number beyond the log on the pages
+-- the first page with a number beyond the log
 abbrev pub IsUncountedAt : Sizes → ℕ → Paged → Option ℕ → Type 0
 IsUncountedAt z records pages None = ArePagesCounted z records pages
 IsUncountedAt z records pages (Some p) = IsFirstUncounted z records pages p
 
-pub uncounted_is : (z : Sizes) (records : ℕ) (pages : Paged) (m : Option ℕ) → IfNone m (ArePagesCounted z records pages) → IfSome m (λ p. 1 ≤ p) → IfSome m (λ p. p < page_count z) → IfSome m (λ p. IsCounted z records p (pages.image p) → ⊥)
-    → IfSome m (λ p. (q : ℕ) → 1 ≤ q → q < p → IsCounted z records q (pages.image q)) → IsUncountedAt z records pages m
-uncounted_is z records pages None none low high bad first = none
-uncounted_is z records pages (Some p) none low high bad first = record { low = low; high = high; bad = bad; first = first }
-
--- on the pages as they were read
-pub first_of : (z : Sizes) (records : ℕ) (first last : Paged) (numbers : List WrittenOver) (m o : Option ℕ) → AreKept z records first last numbers → IsUncountedAt z records last m → IsLeast z records numbers o → IsUncountedAt z records first (lesser m o)
-first_of z records first last numbers None None k m o = λ p low high. (k.same p records low high (omega arith)).1 (m p low high, o p)
-first_of z records first last numbers None (Some q) k m o = record {
+pub first_of : (z : Sizes) (records : ℕ) (first : Paged) (numbers : List PageNumber) (o : Option ℕ) → AreNumbersOf z first numbers → IsLeast z records numbers o → IsUncountedAt z records first o
+first_of z records first numbers None k o = λ p low high. (k.same p records low high).0 (o p)
+first_of z records first numbers (Some p) k o = record {
   low = o.0;
   high = o.1;
-  bad = λ c. o.2 ((k.same q records o.0 o.1 (omega arith)).0 c).1;
-  first = λ p low lt. let high : p < page_count z = (let h = o.1 in omega (arith, lt, h)) in (k.same p records low high (omega arith)).1 (m p low high, o.3 p lt);
+  bad = λ c. o.2 ((k.same p records o.0 o.1).1 c);
+  first = λ q low lt. (k.same q records low (let h = o.1 in omega (arith, lt, h))).0 (o.3 q lt);
 }
-first_of z records first last numbers (Some p) None k m o = record {
-  low = m.low;
-  high = m.high;
-  bad = λ c. m.bad ((k.same p records m.low m.high (omega arith)).0 c).0;
-  first = λ q low lt. let high : q < page_count z = (let h = m.high in omega (arith, lt, h)) in (k.same q records low high (omega arith)).1 (m.first q low lt, o q);
-}
-first_of z records first last numbers (Some p) (Some q) k m o = elim (cases_lt p q) [
-  | inl less ↦ subst (IsFirstUncounted z records first) (let e : p ≡ min p q = omega (arith, less) in e) (record {
-    low = m.low;
-    high = m.high;
-    bad = λ c. m.bad ((k.same p records m.low m.high (omega arith)).0 c).0;
-    first = λ r low lt. let high : r < page_count z = (let h = m.high in omega (arith, lt, h)) in (k.same r records low high (omega arith)).1 (m.first r low lt, o.3 r (omega (arith, lt, less)));
-  })
-  | inr more ↦ subst (IsFirstUncounted z records first) (let e : q ≡ min p q = omega (arith, more) in e) (record {
-    low = o.0;
-    high = o.1;
-    bad = λ c. o.2 ((k.same q records o.0 o.1 (omega arith)).0 c).1;
-    first = λ r low lt. let high : r < page_count z = (let h = o.1 in omega (arith, lt, h)) in (k.same r records low high (omega arith)).1 (m.first r low (omega (arith, lt, more)), o.3 r lt);
-  })
-]

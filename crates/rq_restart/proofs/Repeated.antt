@@ -80,32 +80,35 @@ module _ (z : Sizes) (log : List Record) (first : Paged) (left : IsLeft z first.
   pub all_up_to : (last : Paged) → Repeats z (marked log) first last → AreUpTo (length log) last
   all_up_to last h = up_to log (oldest_all log) (omega arith) refl last h
 
--- no number of the pages is beyond the log, once one record more is repeated
-pub counted_more : (z : Sizes) (log : List Record) (r : Record) (old new : Paged) → IsRecordRedone z log r old new → ArePagesCounted z (length log) old → ArePagesCounted z (length log + 1) new
-counted_more z log r old new one all p low high = by (told_by r) one.redone one.belongs.may.write where
-  n : ℕ
-  n = length log
-
-  kept : (image : List ℕ) → IsCounted z n p image → IsCounted z (n + 1) p image
-  kept image c = record { lsn = omega (arith, c.lsn); slots = λ j a b. (let s = c.slots j a b in omega (arith, s)) }
-
-  by : (w : Option ToldWrite) → Redoes w (n + 1) old.image new.image → IsSoundWrite z (n + 1) w → IsCounted z (n + 1) p (new.image p)
-  by None same sound = subst (IsCounted z (n + 1) p) (sym (same p)) (kept (old.image p) (all p low high))
+-- where no number of the pages is beyond so many records, none is once one more of them is repeated
+pub counted_within : (z : Sizes) (n : ℕ) (log : List Record) (r : Record) (old new : Paged) → IsRecordRedone z log r old new → length log + 1 ≤ n → ArePagesCounted z n old → ArePagesCounted z n new
+counted_within z n log r old new one le all p low high = by (told_by r) one.redone one.belongs.may.write where
+  by : (w : Option ToldWrite) → Redoes w (length log + 1) old.image new.image → IsSoundWrite z (length log + 1) w → IsCounted z n p (new.image p)
+  by None same sound = subst (IsCounted z n p) (sym (same p)) (all p low high)
   by (Some w) made sound = elim (cases_eq p w.page) [
-    | inr ne ↦ subst (IsCounted z (n + 1) p) (sym (made.others p ne)) (kept (old.image p) (all p low high))
-    | inl same ↦ subst (λ q. IsCounted z (n + 1) q (new.image q)) (sym same) (elim (cases_lt (lsn_of (old.image w.page)) (n + 1)) [
-      | inr ge ↦ subst (IsCounted z (n + 1) w.page) (sym (made.kept ge)) (subst (λ q. IsCounted z (n + 1) q (old.image q)) same (kept (old.image p) (all p low high)))
+    | inr ne ↦ subst (IsCounted z n p) (sym (made.others p ne)) (all p low high)
+    | inl same ↦ subst (λ q. IsCounted z n q (new.image q)) (sym same) (elim (cases_lt (lsn_of (old.image w.page)) (length log + 1)) [
+      | inr ge ↦ subst (IsCounted z n w.page) (sym (made.kept ge)) (subst (λ q. IsCounted z n q (old.image q)) same (all p low high))
       | inl lt ↦ written (subst (λ q. IsCounted z n q (old.image q)) same (all p low high)) (made.made lt)
     ])
   ] where
-    written : IsCounted z n w.page (old.image w.page) → IsWritten (old.image w.page) (new.image w.page) w.slot w.after (n + 1) → IsCounted z (n + 1) w.page (new.image w.page)
+    written : IsCounted z n w.page (old.image w.page) → IsWritten (old.image w.page) (new.image w.page) w.slot w.after (length log + 1) → IsCounted z n w.page (new.image w.page)
     written c is = record {
-      lsn = (let e = is.lsn in omega (arith, e));
+      lsn = (let e = is.lsn in omega (arith, e, le));
       slots = λ j a b. elim (cases_eq j w.slot) [
-        | inl here ↦ subst (λ m. count_in z w.page (slot_of m (new.image w.page)) ≤ n + 1) (sym here) (subst (λ bytes. count_in z w.page bytes ≤ n + 1) (sym is.slot) sound.count)
-        | inr there ↦ subst (λ bytes. count_in z w.page bytes ≤ n + 1) (sym (is.others j a b there)) (let s = c.slots j a b in omega (arith, s))
+        | inl here ↦ subst (λ m. count_in z w.page (slot_of m (new.image w.page)) ≤ n) (sym here) (subst (λ bytes. count_in z w.page bytes ≤ n) (sym is.slot) (let s = sound.count in omega (arith, s, le)))
+        | inr there ↦ subst (λ bytes. count_in z w.page bytes ≤ n) (sym (is.others j a b there)) (c.slots j a b)
       ];
     }
+
+pub counted_more : (z : Sizes) (log : List Record) (r : Record) (old new : Paged) → IsRecordRedone z log r old new → ArePagesCounted z (length log) old → ArePagesCounted z (length log + 1) new
+counted_more z log r old new one all = counted_within z (length log + 1) log r old new one (omega arith) (λ p low high. let c = all p low high in record { lsn = (let e = c.lsn in omega (arith, e)); slots = λ j a b. (let s = c.slots j a b in omega (arith, s)) })
+
+-- nor once all are
+pub repeated_counted : (z : Sizes) (n : ℕ) (log : List Record) (first last : Paged) → Repeats z log first last → length log ≤ n → ArePagesCounted z n first → ArePagesCounted z n last
+repeated_counted z n [] first last r le all = subst (ArePagesCounted z n) (sym r) all
+repeated_counted z n (records.Base many i ∷ log) first last r le all = counted_within z n log (records.Base many i) r.0 last r.2 (omega (arith, le)) (subst (ArePagesCounted z n) (sym r.1) all)
+repeated_counted z n (q ∷ log) first last r le all = counted_within z n log q r.0 last r.2 (omega (arith, le)) (repeated_counted z n log first r.0 r.1 (omega (arith, le)) all)
 
 -- what was gone through is in order, and was read
 pub repeated_read : (z : Sizes) (log : List Record) (first last : Paged) → Repeats z log first last → IsReadInOrder log × FollowAll log

@@ -24,9 +24,9 @@ use Rattle.rq_store.proofs.Bounds.{fits_counted}
 use Rattle.rq_log.proofs.Moments.{weaker}
 use Rattle.rq_restart.specs.Restarting.{BeginsAtMost, BeginsFrom, IsBegun, IsBegunFrom, IsBegunOn, LogStops, IsRefusedFor, OpensLog, RefusesLog, WasChecked}
 use Rattle.rq_restart.specs.Refused.{MayBeShut, WhyShut}
-use Rattle.rq_restart.specs.Overwritten.{AreKept, NamesFirst}
-use Rattle.rq_restart.specs.declared.overwritten.WrittenOver.{WrittenOver}
-use Rattle.rq_restart.specs.Checked.{WasReadAndRedone, as_read}
+use Rattle.rq_restart.specs.Numbers.{AreNumbersOf, NamesFirst}
+use Rattle.rq_restart.specs.declared.page_numbers.PageNumber.{PageNumber}
+use Rattle.rq_restart.specs.Checked.{IsReadAndRedone, WasReadAndRedone, as_read}
 use Rattle.rq_restart.specs.RolledBack.{IsRolledBackOn, RollbackStops}
 use Rattle.rq_restart.specs.Repeating.{ArePagesCounted, Paged, paged, Repeats}
 use Rattle.rq_engine.specs.Earlier.{rebased}
@@ -37,7 +37,7 @@ use Rattle.rq_restart.specs.Aborting.{RepeatedFrom}
 use Rattle.rq_restart.specs.Past.{IsPast}
 use Rattle.rq_restart.proofs.Begun.{no_bad_undo}
 use Rattle.rq_restart.proofs.Lefts.{front_continues}
-use Rattle.rq_restart.proofs.Repeated.{follow_marked, repeated_read}
+use Rattle.rq_restart.proofs.Repeated.{follow_marked, repeated_counted, repeated_read}
 use Rattle.rq_restart.proofs.Pasts.{aborting_added, added_join, begun_added, earlier_back, length_on, mended_added, past_of, undoing_added}
 
 -- of a device that was left alone, what follows from that
@@ -127,15 +127,10 @@ shut_left z log first (why.Damaged (damage.Page page)) before now untouched e pa
 shut_left z log first _ before now untouched e past h = absurd h
 
 -- it was gone through, and no number of the pages is beyond it
-pub gone_through : (z : Sizes) (log : List Record) (first last : Paged) (n : ℕ) (numbers : List WrittenOver) → n ≡ length log → ArePagesCounted z n last → ((p : Paged) → AreKept z n p last numbers → ArePagesCounted z n p) → Repeats z log first last → AreKept z (length log) first last numbers → WasReadAndRedone z log first
-gone_through z log first last n numbers e counted read before k = (
-  last,
-  record {
-    repeated = before;
-    counted_read = subst (λ m. ArePagesCounted z m first) e (read first (subst (λ m. AreKept z m first last numbers) (sym e) k));
-    counted = subst (λ m. ArePagesCounted z m last) e counted;
-  },
-)
+pub gone_through : (z : Sizes) (log : List Record) (first last : Paged) (n : ℕ) (numbers : List PageNumber) → n ≡ length log → ((y : Sizes) (p : Paged) → AreNumbersOf y p numbers → ArePagesCounted y n p) → Repeats z log first last → AreNumbersOf z first numbers → IsReadAndRedone z log first last
+gone_through z log first last n numbers e counted before k =
+    let read : ArePagesCounted z (length log) first = subst (λ m. ArePagesCounted z m first) e (counted z first k) in
+    record { repeated = before; counted_read = read; counted = repeated_counted z (length log) log first last before (omega arith) read }
 
 -- why what had no end was not undone, or was and left chains that are not whole
 pub rollback_shut : (z : Sizes) (log : List Record) (first : Paged) (e : Refusal) (before now : ℕ) (untouched : Type 0) → WasReadAndRedone z log first → now ≡ before → untouched → RollbackStops z log first e → WhyShut z log first e before now untouched

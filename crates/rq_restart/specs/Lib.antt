@@ -12,4 +12,4 @@ pub mod Undoing
 pub mod Found
 pub mod Aborting
 pub mod RolledBack
-pub mod Overwritten
+pub mod Numbers

@@ -6,7 +6,7 @@ mod analysis;
 mod appending;
 pub mod format;
 pub mod laws;
-mod overwritten;
+mod page_numbers;
 mod redo;
 pub mod restart;
 mod tables;

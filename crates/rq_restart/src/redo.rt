@@ -3,20 +3,19 @@ ghost use Rattle.std.specs.Prelude.{◌≡◌, ◌↔◌, ◌≤◌, ◌<◌, �
 ghost use Rattle.rq_model.specs.declared.record.Record.{Record as AnyRecord};
 ghost use Rattle.rq_model.specs.Bases.{is_base};
 ghost use Rattle.rq_log.specs.Reading.{EndsShort};
-ghost use Rattle.rq_page.specs.Sizes.{page_count};
+ghost use Rattle.rq_page.specs.Sizes.{Sizes, page_count};
 ghost use Rattle.rq_page.specs.Pages.{lsn_of, slot_of};
 ghost use Rattle.rq_page.specs.Slots.{IsSlotOf};
-ghost use Rattle.rq_pool.specs.Pooled.{IsPool};
-ghost use Rattle.rq_store.specs.Opening.{IsRedone, Redoes, IsSoundTold, MayRedo, IsCounted};
+ghost use Rattle.rq_store.specs.Opening.{IsRedone, Redoes, IsSoundTold, MayRedo};
 ghost use Rattle.rq_store.specs.Fitting.{told_by, image_in};
 ghost use Rattle.rq_analysis.specs.Rules.{CanBeRead};
 ghost use Rattle.rq_restart.specs.Found.{IsAnalysisOf};
-ghost use Rattle.rq_restart.specs.Overwritten.{AreKept, NamesFirst};
+ghost use Rattle.rq_restart.specs.Numbers.{AreNumbersOf, NamesFirst};
 ghost use Rattle.rq_restart.specs.Repeating.{ArePagesCounted, IsMarked, IsRecordRedone, Marks, Paged, Repeats, paged};
 ghost use Rattle.rq_restart.specs.Refused.{IsStoppedBehind, NotRepeated};
 
 use crate::analysis::Analysis;
-use crate::overwritten::{Overwritten, lesser_page};
+use crate::page_numbers::PageNumbers;
 use rq_bytes::equal::are_equal;
 use rq_disk::{LogDevice, PageDevice};
 use rq_level::Level;
@@ -25,77 +24,23 @@ use rq_model::record::{Record, Slot};
 use rq_model::refusal::{Damage, Refusal};
 use rq_model::txn::Lsn;
 use rq_page::addr::Addr;
-use rq_page::layout::{Layout, SLOTS};
-use rq_page::page::Page;
+use rq_page::layout::Layout;
 use rq_planner::StoreLevels;
 use rq_pool::Pages;
 use std::alloc::Global;
 
-// The first page whose LSN, or a number in whose slots, is greater than the number of records.
-fn miscounted_page<P: PageDevice + Drop>(pages: &Pages<P>, records: u64) -> Option<u32>
-    ensures pool { IsPool pages.now.sizes pages.now.images }
-    ensures none { IfNone result ((p : ℕ) → 1 ≤ p → p < page_count pages.now.sizes
-        → IsCounted pages.now.sizes records p (image_in pages.now.images p)) }
-    ensures low { IfSome result (λ p. 1 ≤ p) }
-    ensures high { IfSome result (λ p. p < page_count pages.now.sizes) }
-    ensures some { IfSome result (λ p. IsCounted pages.now.sizes records p (image_in pages.now.images p) → ⊥) }
-    ensures first { IfSome result (λ p. (q : ℕ) → 1 ≤ q → q < p →
-        IsCounted pages.now.sizes records q (image_in pages.now.images q)) }
+/// That no number of the pages as they were read is beyond so many records; else it is refused with the first page of which
+/// one is.
+pub(crate) fn check_page_numbers(numbers: &PageNumbers, records: u64) -> Result<(), Refusal>
+    ensures counted { OnOk result ((z : Sizes) (first : Paged) → AreNumbersOf z first numbers.now.numbers.items
+        → ArePagesCounted z records first) }
+    ensures names { IfErr result (λ e. (z : Sizes) (first : Paged) → AreNumbersOf z first numbers.now.numbers.items
+        → NamesFirst z records first e) }
 {
-    let layout = pages.layout();
-    for number in 1..layout.pages() {
-        if let Some(page) = pages.page(number) {
-            if !is_counted(&layout, records, number, page) {
-                return Some(number);
-            }
-        }
-    }
-    None
-}
-
-fn is_counted(layout: &Layout, records: u64, number: u32, page: &Page) -> bool
-    ensures { IsTrue result ↔ IsCounted layout.now records number page.now }
-{
-    if page.lsn() > records {
-        return false;
-    }
-    for slot in 1..SLOTS as u8 + 1 {
-        if layout.count(number, page.slot(slot)) > records {
-            return false;
-        }
-    }
-    true
-}
-
-/// That no number of a page is beyond so many records, neither now nor where it was written over; else it is refused with
-/// the first page of which one is.
-pub(crate) fn check_page_numbers<P: PageDevice + Drop>(
-    pages: &Pages<P>,
-    overwritten: &Overwritten,
-    records: u64,
-) -> Result<(), Refusal>
-    ensures counted { OnOk result (ArePagesCounted pages.now.sizes records (paged pages.now)) }
-    ensures read { OnOk result ((first : Paged)
-        → AreKept pages.now.sizes records first (paged pages.now) overwritten.now.numbers.items
-        → ArePagesCounted pages.now.sizes records first) }
-    ensures names { IfErr result (λ e. (first : Paged)
-        → AreKept pages.now.sizes records first (paged pages.now) overwritten.now.numbers.items
-        → NamesFirst pages.now.sizes records first e) }
-{
-    match lesser_page(
-        miscounted_page(pages, records),
-        overwritten.first_beyond(records),
-    ) {
+    match numbers.first_beyond(records) {
         Some(page) => Err(Refusal::Damaged(Damage::Page(page))),
         None => Ok(()),
     }
-}
-
-/// What going through a log gave.
-#[derive(Drop)]
-pub(crate) struct LogScan {
-    pub analysis: Analysis,
-    pub overwritten: Overwritten,
 }
 
 /// Goes through a log as it is read: each record is checked, and what it writes is made where its page is older. None is
@@ -109,13 +54,11 @@ pub(crate) fn repeat_history<P: PageDevice + Drop, L: LogDevice, B: Level>(
     pages: &mut Pages<P>,
     reader: &mut LogReader<L>,
     levels: &StoreLevels<B>,
-) -> Result<LogScan, Refusal>
+) -> Result<Analysis, Refusal>
     requires none_read { reader.old.records ≡ [] }
     requires untouched { reader.old.device ≡ reader.old.first }
-    ensures found { IfOk result (λ log_scan. IsAnalysisOf log_scan.analysis reader.new.records) }
+    ensures found { IfOk result (λ analysis. IsAnalysisOf analysis reader.new.records) }
     ensures repeated { OnOk result (Repeats pages.old.sizes reader.new.records (paged pages.old) (paged pages.new)) }
-    ensures kept { IfOk result (λ log_scan. AreKept pages.old.sizes (length reader.new.records) (paged pages.old)
-        (paged pages.new) log_scan.overwritten.numbers.items) }
     ensures whole { OnOk result (L.honest reader.new.device
         → EndsShort reader.new.records reader.new.left (L.seen reader.new.first)) }
     ensures cause { OnOk result (L.faults reader.new.device ≡ L.faults reader.new.first) }
@@ -125,26 +68,23 @@ pub(crate) fn repeat_history<P: PageDevice + Drop, L: LogDevice, B: Level>(
     ensures sizes { pages.new.sizes ≡ pages.old.sizes }
     ensures device { pages.new.device ≡ pages.old.device }
 {
-    let mut log_scan = LogScan {
-        analysis: Analysis::new(alloc),
-        overwritten: Overwritten::new(alloc),
-    };
+    let mut analysis = Analysis::new(alloc);
     reader.shows_read();
     let mut record = Record::Restart { incarnation: 0 };
     while reader.next_into(&mut record)? {
         if stands_for_others(&record) {
-            match log_scan.analysis.begin(reader.last(), &record) {
+            match analysis.begin(reader.last(), &record) {
                 Ok(()) => {}
                 Err(refusal) => return Err(refusal),
             }
         } else {
-            match check_and_redo(pages, &mut log_scan, levels, reader.last(), &record) {
+            match check_and_redo(pages, &mut analysis, levels, reader.last(), &record) {
                 Ok(()) => {}
                 Err(refusal) => return Err(refusal),
             }
         }
     }
-    Ok(log_scan)
+    Ok(analysis)
 }
 
 // Whether a record is a Base. The reader gives one as the first of a log alone.
@@ -157,32 +97,26 @@ fn stands_for_others(record: &Record) -> bool
 // Checks the next record, which has this LSN and is no Base, and makes what it writes where its page is older.
 fn check_and_redo<P: PageDevice + Drop, B: Level>(
     pages: &mut Pages<P>,
-    log_scan: &mut LogScan,
+    analysis: &mut Analysis,
     levels: &StoreLevels<B>,
     lsn: Lsn,
     record: &Record,
 ) -> Result<(), Refusal>
     requires plain { is_base «record».now ≡ false }
-    ensures found { OnOk result ((older : List AnyRecord) → lsn ≡ length older + 1 → IsAnalysisOf log_scan.old.analysis older
-        → IsAnalysisOf log_scan.new.analysis («record».now ∷ older)) }
+    ensures found { OnOk result ((older : List AnyRecord) → lsn ≡ length older + 1 → IsAnalysisOf analysis.old older
+        → IsAnalysisOf analysis.new («record».now ∷ older)) }
     ensures repeated { OnOk result ((older : List AnyRecord) → lsn ≡ length older + 1
-        → IsAnalysisOf log_scan.old.analysis older
+        → IsAnalysisOf analysis.old older
         → IsRecordRedone pages.old.sizes older «record».now (paged pages.old) (paged pages.new)) }
-    ensures kept { OnOk result ((first : Paged) (records : ℕ) → lsn ≡ records + 1
-        → AreKept pages.old.sizes records first (paged pages.old) log_scan.old.overwritten.numbers.items
-        → AreKept pages.old.sizes lsn first (paged pages.new) log_scan.new.overwritten.numbers.items) }
     ensures not { IfErr result (λ e. (older : List AnyRecord) → lsn ≡ length older + 1
-        → IsAnalysisOf log_scan.old.analysis older → NotRepeated pages.old.sizes older «record».now (paged pages.old) e) }
+        → IsAnalysisOf analysis.old older → NotRepeated pages.old.sizes older «record».now (paged pages.old) e) }
     ensures sizes { pages.new.sizes ≡ pages.old.sizes }
     ensures device { pages.new.device ≡ pages.old.device }
 {
-    let is_next = log_scan
-        .analysis
-        .note(lsn, can_be_read(levels, record), record)?;
+    let is_next = analysis.note(lsn, can_be_read(levels, record), record)?;
     if !is_next || !may_redo(pages, lsn, record) {
         return Err(Refusal::Damaged(Damage::Record(lsn)));
     }
-    log_scan.overwritten.note(pages, lsn, record)?;
     apply(pages, lsn, record);
     Ok(())
 }

@@ -11,7 +11,7 @@ ghost use Rattle.rq_restart.specs.Repeating.{ArePagesCounted, Paged, Repeats, pa
 ghost use Rattle.rq_restart.specs.Opens.{KeepsStores, Opens, Refuses};
 ghost use Rattle.rq_restart.specs.Restarting.{IsLogRead, OpensLog, RefusesLog, IsReady, IsRestarted, LeavesLog, WasLeftOrForced};
 ghost use Rattle.rq_restart.specs.Refused.{BeginsNot, IsStoppedBehind, WhyShut};
-ghost use Rattle.rq_restart.specs.Overwritten.{AreKept};
+ghost use Rattle.rq_restart.specs.Numbers.{AreNumbersOf};
 ghost use Rattle.rq_restart.specs.Found.{IsAnalysisOf};
 ghost use Rattle.rq_restart.specs.RolledBack.{HasRepeated, IsRolledBackSince, LinkStops, RollbackStops};
 ghost use Rattle.rq_restart.specs.Undoing.{HandsOverNothing};
@@ -20,7 +20,8 @@ ghost use Rattle.rq_restart.specs.Underway.{pages_left, log_left};
 use crate::aborting::abort_lost;
 use crate::analysis::Analysis;
 use crate::appending::shows_pool;
-use crate::redo::{LogScan, check_page_numbers, repeat_history};
+use crate::page_numbers::PageNumbers;
+use crate::redo::{check_page_numbers, repeat_history};
 use crate::tables::{EngineTables, planner_of, read_directory};
 use crate::undoing::undo_unfinished;
 use rq_chain_check::first_broken;
@@ -136,8 +137,8 @@ fn restart_log<P: PageDevice + Drop, L: LogDevice + Drop, B: Level>(
         stopped.refusal) }
 {
     match read_and_redo(alloc, &mut pages, log, &levels) {
-        Ok((mut log, mut log_scan)) => {
-            match finish_restart(alloc, &mut pages, &mut log, &mut log_scan, levels) {
+        Ok((mut log, mut analysis, numbers)) => {
+            match finish_restart(alloc, &mut pages, &mut log, &mut analysis, &numbers, levels) {
                 Ok((tables, report)) => {
                     let cells = pages.used_cells();
                     Ok(Opened {
@@ -172,23 +173,29 @@ fn read_and_redo<P: PageDevice + Drop, L: LogDevice + Drop, B: Level>(
     pages: &mut Pages<P>,
     log: L,
     levels: &StoreLevels<B>,
-) -> Result<(Log<L>, LogScan), rq_log::RefusedLog<L>>
+) -> Result<(Log<L>, Analysis, PageNumbers), rq_log::RefusedLog<L>>
     ensures read { IfOk result (λ read. IsLogRead L.LogDevice log read.0) }
-    ensures found { IfOk result (λ read. IsAnalysisOf read.1.analysis read.0.records) }
+    ensures found { IfOk result (λ read. IsAnalysisOf read.1 read.0.records) }
     ensures repeated { IfOk result (λ read. Repeats pages.old.sizes read.0.records (paged pages.old)
         (paged pages.new)) }
-    ensures kept { IfOk result (λ read. AreKept pages.old.sizes (length read.0.records) (paged pages.old)
-        (paged pages.new) read.1.overwritten.numbers.items) }
+    ensures numbers { IfOk result (λ read. AreNumbersOf pages.old.sizes (paged pages.old) read.2.numbers.items) }
     ensures stopped { IfErr result (λ stopped. IsStoppedBehind L.LogDevice pages.old.sizes (paged pages.old)
         stopped.refusal log stopped.device) }
     ensures sizes { pages.new.sizes ≡ pages.old.sizes }
     ensures device { pages.new.device ≡ pages.old.device }
 {
+    let numbers = match PageNumbers::of_pages(alloc, pages) {
+        Ok(numbers) => numbers,
+        Err(refusal) => return Err(rq_log::RefusedLog {
+            refusal,
+            device: log,
+        }),
+    };
     match LogReader::new(alloc, log) {
         Ok(mut reader) => match repeat_history(alloc, pages, &mut reader, levels) {
-            Ok(log_scan) => {
+            Ok(analysis) => {
                 reader.shows_read();
-                Ok((reader.into_log(alloc), log_scan))
+                Ok((reader.into_log(alloc), analysis, numbers))
             }
             Err(refusal) => Err(rq_log::RefusedLog {
                 refusal,
@@ -205,11 +212,14 @@ fn finish_restart<P: PageDevice + Drop, L: LogDevice + Drop, B: Level>(
     alloc: Global,
     pages: &mut Pages<P>,
     log: &mut Log<L>,
-    log_scan: &mut LogScan,
+    analysis: &mut Analysis,
+    numbers: &PageNumbers,
     levels: StoreLevels<B>,
 ) -> Result<(EngineTables<B>, Report), Refusal>
-    requires found { IsAnalysisOf log_scan.old.analysis log.old.records }
+    requires found { IsAnalysisOf analysis.old log.old.records }
     requires running { log.old.failed ≡ false }
+    requires pages { (first : Paged) × Repeats pages.old.sizes log.old.records first (paged pages.old)
+        × AreNumbersOf pages.old.sizes first numbers.now.numbers.items }
     // What the log comes to, and what is left of it.
     ensures restarted { IfOk result (λ begun. IsRestarted L.LogDevice pages.new.sizes pages.new.images log.old log.new
         begun.0.waiting begun.0.sent begun.0.planner begun.1) }
@@ -220,23 +230,18 @@ fn finish_restart<P: PageDevice + Drop, L: LogDevice + Drop, B: Level>(
     ensures pages { pages.new.device ≡ pages.old.device }
     // What was checked, or why it was refused.
     ensures checked { OnOk result ((first : Paged) → Repeats pages.old.sizes log.old.records first (paged pages.old)
-        → AreKept pages.old.sizes (length log.old.records) first (paged pages.old) log_scan.old.overwritten.numbers.items
+        → AreNumbersOf pages.old.sizes first numbers.now.numbers.items
         → HasRepeated pages.old.sizes log.old.records log.new.records first (paged pages.new)) }
     ensures shut { IfErr result (λ e. (first : Paged) → Repeats pages.old.sizes log.old.records first (paged pages.old)
-        → AreKept pages.old.sizes (length log.old.records) first (paged pages.old) log_scan.old.overwritten.numbers.items
+        → AreNumbersOf pages.old.sizes first numbers.now.numbers.items
         → WhyShut pages.old.sizes log.old.records first e (L.faults log.old.device) (L.faults log.new.device)
         (log.new.device ≡ log.old.device)) }
 {
-    check_page_numbers(pages, &log_scan.overwritten, log.last())?;
-    let unfinished = log_scan.analysis.open_work.unfinished();
-    let (lost, planner) = undo_all(alloc, pages, log, &mut log_scan.analysis, levels)?;
+    check_page_numbers(numbers, log.last())?;
+    let unfinished = analysis.open_work.unfinished();
+    let (lost, planner) = undo_all(alloc, pages, log, analysis, levels)?;
     let tables = read_directory(alloc, pages, planner)?;
-    match begin_incarnation(
-        log,
-        log_scan.analysis.open_work.incarnation(),
-        unfinished,
-        lost,
-    ) {
+    match begin_incarnation(log, analysis.open_work.incarnation(), unfinished, lost) {
         Ok(report) => Ok((tables, report)),
         Err(refusal) => Err(refusal),
     }

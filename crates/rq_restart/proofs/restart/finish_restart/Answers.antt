@@ -1,7 +1,8 @@
 use Rattle.std.proofs.Common.{rules, ◌≡◌, ◌+◌, ◌∷◌, ℕ, length, refl, ap, sym, ◌∙◌, subst, arith}
 use Rattle.rq_model.specs.declared.record.Record.TheVariants as records
 use Rattle.rq_analysis.specs.OpenWorkView.{OpenWorkView}
-use Rattle.rq_restart.specs.Overwritten.{AreKept, NamesFirst}
+use Rattle.rq_restart.specs.Numbers.{AreNumbersOf, NamesFirst}
+use Rattle.rq_restart.specs.Checked.{WasReadAndRedone}
 use Rattle.rq_restart.specs.Refused.{WhyShut}
 use Rattle.rq_restart.specs.Repeating.{ArePagesCounted, Paged, Repeats, paged}
 use Rattle.rq_restart.specs.Restarting.{AreTold, Reports}
@@ -27,7 +28,7 @@ returns-in-Ok-clause-restarted g c =
     let z = c.undo_all.new.pages.sizes in
     let images = c.undo_all.new.pages.images in
     let count : ℕ = length c.undo_all.new.log.records in
-    let counted : ArePagesCounted z count (paged c.undo_all.new.pages) = subst (λ y. ArePagesCounted y count (paged c.undo_all.new.pages)) (sym rollback.stays.sizes) (rollback.counted (subst (λ m. ArePagesCounted c.args.pages.now.sizes m (paged c.args.pages.now)) c.last.ensures c.in_ok-check_page_numbers.ensures.counted)) in
+    let counted : ArePagesCounted z count (paged c.undo_all.new.pages) = subst (λ y. ArePagesCounted y count (paged c.undo_all.new.pages)) (sym rollback.stays.sizes) (rollback.counted (gone_through c.args.pages.now.sizes c.args.log.now.records c.requires.pages.0 (paged c.args.pages.now) c.last.result c.args.numbers.now.numbers.items c.last.ensures c.in_ok-check_page_numbers.ensures.counted c.requires.pages.1 c.requires.pages.2).counted) in
     let longer : count + 1 ≡ length c.begin_incarnation.new.log.records = (let e : length c.begin_incarnation.new.log.records ≡ length (records.Restart (c.incarnation.result + 1) ∷ c.undo_all.new.log.records) = ap length c.in-Ok.ensures.records in omega (arith, e)) in
     let told = c.in-Ok.ensures.report in
     let found = c.requires.found.open_work in
@@ -55,7 +56,7 @@ returns-in-Ok-clause-checked g c = λ first before k.
     record {
       rolled_back = c.undo_all.new.log.records;
       rolled_back_on = record {
-        read_and_redone = gone_through c.args.pages.now.sizes c.args.log.now.records first (paged c.args.pages.now) c.last.result c.args.log_scan.now.overwritten.numbers.items c.last.ensures page_numbers.counted page_numbers.read before k;
+        read_and_redone = (paged c.args.pages.now, gone_through c.args.pages.now.sizes c.args.log.now.records first (paged c.args.pages.now) c.last.result c.args.numbers.now.numbers.items c.last.ensures page_numbers.counted before k);
         rolls_back = rolls.is;
         planned = rolls.planned first before;
         repeated = rolls.repeated first before;
@@ -89,7 +90,7 @@ returns-in-Err-clause-shut g c = λ first before k.
     let faults = g.L.LogDevice.faults in
     let new = c.begin_incarnation.new.log.device in
     let mid = c.undo_all.new.log.device in
-    let was = gone_through z older first (paged c.args.pages.now) c.last.result c.args.log_scan.now.overwritten.numbers.items c.last.ensures page_numbers.counted page_numbers.read before k in
+    let was : WasReadAndRedone z older first = (paged c.args.pages.now, gone_through z older first (paged c.args.pages.now) c.last.result c.args.numbers.now.numbers.items c.last.ensures page_numbers.counted before k) in
     subst (λ d. WhyShut z older first c.in-Err.refusal (faults d) (faults new) (new ≡ d)) rollback.stays.log_device
     (not_begun older c.undo_all.new.log.records rolls.is c.undo_all.new.analysis.open_work rollback.found.open_work c.incarnation.result c.incarnation.ensures z first (paged c.undo_all.new.pages) c.in-Err.refusal (faults mid) (faults new) (new ≡ mid) (rolls.repeated first before) (rolls.planned first before) (rolls.recovered first before) was c.in-Err.ensures.err)
 
@@ -98,15 +99,15 @@ returns-in_err-lost-clause-shut g c =
     let z = c.args.pages.now.sizes in
     let older = c.args.log.now.records in
     let old = paged c.args.pages.now in
-    let numbers = c.args.log_scan.now.overwritten.numbers.items in
+    let numbers = c.args.numbers.now.numbers.items in
     let page_numbers = c.in_ok-check_page_numbers.ensures in
     let faults = g.L.LogDevice.faults in
     let was = c.args.log.now.device in
     let now = c.undo_all.new.log.device in
     let same : now ≡ was = c.undo_all.ensures.stays.log_device in
     let e = c.in_err-lost.field-0.0 in
-    let h : (first : Paged) → Repeats z older first old → AreKept z (length older) first old numbers → WhyShut z older first e (faults was) (faults now) (now ≡ was) =
-    λ first before k. rollback_shut z older first e (faults was) (faults now) (now ≡ was) (gone_through z older first old c.last.result numbers c.last.ensures page_numbers.counted page_numbers.read before k) (ap faults same) same (c.in_err-lost.ensures.stops first before) in
+    let h : (first : Paged) → Repeats z older first old → AreNumbersOf z first numbers → WhyShut z older first e (faults was) (faults now) (now ≡ was) =
+    λ first before k. rollback_shut z older first e (faults was) (faults now) (now ≡ was) (old, gone_through z older first old c.last.result numbers c.last.ensures page_numbers.counted before k) (ap faults same) same (c.in_err-lost.ensures.stops first before) in
     search (rules, h)
 
 pub returns-in_err-check_page_numbers-clause-shut : goal.returns-in_err-check_page_numbers-clause-shut
@@ -114,13 +115,13 @@ returns-in_err-check_page_numbers-clause-shut g c =
     let z = c.args.pages.now.sizes in
     let older = c.args.log.now.records in
     let old = paged c.args.pages.now in
-    let numbers = c.args.log_scan.now.overwritten.numbers.items in
+    let numbers = c.args.numbers.now.numbers.items in
     let n = c.last.ensures in
     let was = c.args.log.now.device in
     let faults = g.L.LogDevice.faults was in
     let e = c.in_err-check_page_numbers.field-0.0 in
-    let h : (first : Paged) → Repeats z older first old → AreKept z (length older) first old numbers → WhyShut z older first e faults faults (was ≡ was) =
-    λ first before k. beyond_shut z older first old e faults faults (was ≡ was) before refl (subst (λ m. NamesFirst z m first e) n (c.in_err-check_page_numbers.ensures.names first (subst (λ m. AreKept z m first old numbers) (sym n) k))) in
+    let h : (first : Paged) → Repeats z older first old → AreNumbersOf z first numbers → WhyShut z older first e faults faults (was ≡ was) =
+    λ first before k. beyond_shut z older first old e faults faults (was ≡ was) before refl (subst (λ m. NamesFirst z m first e) n (c.in_err-check_page_numbers.ensures.names z first k)) in
     search (rules, h)
 
 pub returns-in_err-check_page_numbers-clause-left : goal.returns-in_err-check_page_numbers-clause-left

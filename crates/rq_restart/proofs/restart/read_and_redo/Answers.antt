@@ -12,7 +12,7 @@ returns-in-Ok-repeat_history-clause-read g c =
     let reader = c.repeat_history.new.reader in
     let reading = c.shows_read.ensures.reading in
     let made = c.in-Ok-repeat_history.ensures in
-    let first : reader.first ≡ c.args.log = c.repeat_history.ensures.first ∙ ap (λ r. r.first) c.in-Ok.ensures.ok in
+    let first : reader.first ≡ c.args.log = c.repeat_history.ensures.first ∙ ap (λ r. r.first) c.in-Ok-new.ensures.ok in
     subst (IsLogRead l c.args.log) (sym c.into_log.ensures.log) (record {
       marks = follow_marked reader.records made.found.follow;
       are_spelled = reading.are_spelled;
@@ -23,6 +23,9 @@ returns-in-Ok-repeat_history-clause-read g c =
       running = refl;
     })
 
+pub returns-in-Err-new-clause-stopped : goal.returns-in-Err-new-clause-stopped
+returns-in-Err-new-clause-stopped g c =
+    stopped_at_once g.L.LogDevice g.met.L.LogDevice.only_now c.args.pages.now.sizes (paged c.args.pages.now) c.in-Err-new.stopped.refusal c.args.log c.in-Err-new.stopped.device c.in-Err-new.ensures.err.0 c.in-Err-new.ensures.err.1
+
 pub returns-in-Err-clause-stopped : goal.returns-in-Err-clause-stopped
-returns-in-Err-clause-stopped g c =
-    stopped_at_once g.L.LogDevice g.met.L.LogDevice.only_now c.args.pages.now.sizes (paged c.args.pages.now) c.in-Err.stopped.refusal c.args.log c.in-Err.stopped.device c.in-Err.ensures.err.0 c.in-Err.ensures.err.1
+returns-in-Err-clause-stopped g c = stopped_at_once g.L.LogDevice g.met.L.LogDevice.only_now c.args.pages.now.sizes (paged c.args.pages.now) c.in-Err.refusal c.args.log c.args.log c.in-Err.ensures.err refl

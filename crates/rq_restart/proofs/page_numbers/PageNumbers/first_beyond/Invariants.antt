@@ -1,6 +1,6 @@
 use Rattle.std.proofs.Common.{◌≡◌, ◌≤◌, length, drop}
-use Rattle.rq_restart.specs.Overwritten.{least_beyond}
-use Rattle.rq_restart.proofs.overwritten.Overwritten.first_beyond.Given as goal
+use Rattle.rq_restart.specs.Numbers.{least_beyond}
+use Rattle.rq_restart.proofs.page_numbers.PageNumbers.first_beyond.Given as goal
 
 abbrev pub invariant-loop-left : goal.invariant-loop-left
 invariant-loop-left l = record {
