@@ -241,7 +241,7 @@ impl<L: LogDevice> Log<L> {
         self.reserved -= PAGE_OP_BYTES;
         self.size = self.size.saturating_add(PAGE_OP_BYTES as u64);
         put_page_op(&mut self.buffer, &txn, operation, page, slot, before, after);
-        // Contracts alone see this one.
+        // For contracts alone: nothing reads it when the program runs.
         let added = Record::PageOp {
             txn,
             operation,

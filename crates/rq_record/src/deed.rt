@@ -152,7 +152,7 @@ fn joined(front: &[u8], body: &[u8]) -> DeedBytes
     DeedBytes::joined(front, body).unwrap()
 }
 
-/// The spelling of the deed of a send, as `encode_deed` has it.
+/// The spelling of the deed of a send. It tells the deed, where the sequence is not 0.
 #[tactic(auto, unfolding(rq_bytes::specs::Number::number))]
 pub fn encode_append(sender: u32, sequence: u64, tag: u64, previous: u64, body: &Body) -> DeedBytes
     ensures spelled { result ≡ spelled_deed (Append sender sequence tag previous body.now) }
@@ -166,7 +166,7 @@ pub fn encode_append(sender: u32, sequence: u64, tag: u64, previous: u64, body: 
     )
 }
 
-/// The spelling of the deed of a receive, as `encode_deed` has it.
+/// The spelling of the deed of a receive. It tells the deed, where the sequence is not 0.
 #[tactic(auto, unfolding(rq_bytes::specs::Number::number))]
 pub fn encode_unlink_head(sender: u32, sequence: u64, tag: u64, body: &Body) -> DeedBytes
     ensures spelled { result ≡ spelled_deed (UnlinkHead sender sequence tag body.now) }
@@ -177,7 +177,7 @@ pub fn encode_unlink_head(sender: u32, sequence: u64, tag: u64, body: &Body) -> 
     joined(&unlink_head_front(sender, sequence, tag), body.as_slice())
 }
 
-/// The spelling of the deed of a close, as `encode_deed` has it.
+/// The spelling of the deed of a close. It tells the deed.
 #[tactic(auto, unfolding(rq_bytes::specs::Number::number))]
 pub fn encode_close(sender: u32) -> DeedBytes
     ensures spelled { result ≡ spelled_deed (Close sender) }
