@@ -175,6 +175,6 @@ deed_read (Some z) None k given latched p after h = absurd h
 deed_read None (Some d) k given latched p after h = absurd h
 deed_read None None k given latched p after h = absurd h
 
-pub plan_told : (undo : Bool) (z : Option Sizes) (d : Option Doing) (k : LevelState) (given : List Given) (latched : List ℕ) (p : Plan) (after : LevelState) → PlansFor undo z d k given latched (Ok p) after → (is_some (deed_in p.deed) ≡ true) ⊎ (p.deed ≡ [])
+pub plan_told : (undo : Bool) (z : Option Sizes) (d : Option Doing) (k : LevelState) (given : List Given) (latched : List ℕ) (p : Plan) (after : LevelState) → PlansFor undo z d k given latched (Ok p) after → (is_some (deed_in p.deed) ≡ true) ⊎ ((p.deed ≡ []) × (p.reply ≡ None))
 plan_told true z d k given latched p after h = absurd h
 plan_told false z d k given latched p after h = inl (deed_read z d k given latched p after h)

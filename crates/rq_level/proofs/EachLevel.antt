@@ -1,6 +1,6 @@
 -- Each level keeps its laws.
 use Rattle.std.proofs.Common.{◌≡◌, ℕ, zero, suc, ◌+◌, ◌*◌, nat_lt, Err, arith, List, Bool, true, false, cond, nat_eq, Option, None, Some, map, length, set, refl, sym, ap, ◌∙◌, inl, inr}
-use Rattle.std.proofs.lemmas.Bool.{cases_Bool, le-ltb}
+use Rattle.std.proofs.lemmas.Bool.{cases_Bool, false≢true, le-ltb}
 use Rattle.rq_page.specs.Pages.{lsn_of}
 use Rattle.std.proofs.lemmas.List.{length-set, set-set}
 use Rattle.rq_page.specs.declared.cell.CellSlot.{CellSlot}
@@ -215,6 +215,7 @@ all_lawful zero = record {
   few = λ job given h. gathered.few_written_over job.undo (overwrite_in job.bytes) given h;
   told = λ k job given latched p after h. inr (pages.tells_none k given latched p after job h);
   none = refl;
+  deeds = λ b e. absurd (false≢true e);
   silent = silent_taken_back;
   inverse = λ z d v q k job given latched p after h sizes told. absurd (pages.tells_no_deed k given latched p after job h d told);
   ended = λ q k job given latched p after h. ap (noted_each page_meaning q (map (λ (w : SlotWrite). w.at) p.writes.items)) (pages.kept k given latched p after job h);
@@ -240,6 +241,7 @@ all_lawful (suc zero) = record {
   few = λ job given h. gathered.few_asked job.undo job.bytes given h;
   told = λ k job given latched p after h. chains.plan_told job.undo k.sizes (doing_in job.bytes) k given latched p after h;
   none = refl;
+  deeds = λ b e. e;
   silent = silent_undone;
   inverse = λ z d v q k job given latched p after h sizes. back.taken_back job.undo z (doing_in job.bytes) k given latched p after d v q sizes h;
   ended = λ q k job given latched p after h. chains.plan_forgets q job.undo k (doing_in job.bytes) given latched p after h;
@@ -265,6 +267,7 @@ all_lawful (suc (suc n)) = record {
   few = λ job given h. gathered.few_asks_none given h;
   told = λ k job given latched p after h. absurd h;
   none = refl;
+  deeds = λ b e. absurd (false≢true e);
   silent = λ k told given latched p after h. absurd h;
   inverse = λ z d v q k job given latched p after h. absurd h;
   ended = λ q k job given latched p after h. absurd h;

@@ -79,11 +79,11 @@ module _ (k : LevelState) (given : List Given) (latched : List ℕ) (p : Plan) (
   back_kept (records.PageOp t n page slot x y) h = (back_one (is_slot_number slot) (page * 16 + slot) x y h).2
   back_kept _ h = absurd h
 
-  pub tells_none : (job : Job) → page_plans k job given latched (Ok p) after → p.deed ≡ []
-  tells_none job h = (written job.undo k (overwrite_in job.bytes) given p after h).3.plan.deed
+  pub tells_none : (job : Job) → page_plans k job given latched (Ok p) after → (p.deed ≡ []) × (p.reply ≡ None)
+  tells_none job h = let m = written job.undo k (overwrite_in job.bytes) given p after h in (m.3.plan.deed, m.3.plan.reply)
 
   pub tells_no_deed : (job : Job) → page_plans k job given latched (Ok p) after → (d : Deed) → deed_in p.deed ≡ Some d → ⊥
-  tells_no_deed job h d e = let no : None ≡ Some d = ap deed_in (sym (tells_none job h)) ∙ e in cc
+  tells_no_deed job h d e = let no : None ≡ Some d = ap deed_in (sym (tells_none job h).0) ∙ e in cc
 
   pub back_writes : (told : Record) → page_undoes k told given latched (Ok p) after → IsGathered page_meaning (job_back told) given → AreWritten given p
   back_writes (records.PageOp t n page slot x y) h g = all_in (none_within (λ n. In n (map (λ (w : SlotWrite). w.at) p.writes.items)) given [] given refl g)

@@ -5,6 +5,7 @@ use Rattle.rq_model.specs.declared.refusal.Refusal.{Refusal}
 use Rattle.rq_model.specs.declared.refusal.Refusal.TheVariants as why
 use Rattle.rq_model.specs.declared.record.Deed.{Deed}
 use Rattle.rq_model.specs.Deeds.{deed_in}
+use Rattle.rq_model.specs.Vocabulary.{is_some}
 use Rattle.rq_page.specs.Sizes.{Sizes}
 use Rattle.rq_views.specs.Chain.{View}
 use Rattle.rq_views.specs.Items.{layout_of}
@@ -60,9 +61,12 @@ pub record IsLawful (m : Meaning) : Type 0 where
   -- it asks for no slot twice, and for three at most
   pub asks : (job : Job) (given : List Given) → IsNotGiven given (m.want job given)
   pub few : (job : Job) (given : List Given) → IsGathered m job given → length given ≤ 3
-  -- the deed that a plan tells is one that the level reads, or empty, which is none; what takes something back tells none
-  pub told : OfPlans m (λ k job given latched p after. (m.reads p.deed ≡ true) ⊎ (p.deed ≡ []))
+  -- a plan tells a deed that the level reads; or none, and has no reply. What takes something back tells none
+  pub told : OfPlans m (λ k job given latched p after.
+      (m.reads p.deed ≡ true) ⊎ ((p.deed ≡ []) × (p.reply ≡ None)))
   pub none : m.reads [] ≡ false
+  -- of the levels there are: what one reads is a deed of chains
+  pub deeds : (b : List ℕ) → m.reads b ≡ true → is_some (deed_in b) ≡ true
   pub silent : OfBacks m (λ k told given latched p after. p.deed ≡ [])
   -- a plan does to its sender's chain what its deed tells, and what takes that back leaves what was done meanwhile on the
   -- other end; neither changes another chain
