@@ -7,7 +7,7 @@ ghost use Rattle.rq_store.specs.Steps.{op_end, gave_done};
 ghost use Rattle.rq_sound.specs.Rows.{comp_end};
 ghost use Rattle.rq_views.specs.Claims.{appends_of};
 ghost use Rattle.rq_views.specs.Plans.{deed_sender};
-ghost use Rattle.rq_planner.specs.Answered.{answer_of};
+ghost use Rattle.rq_level.specs.Writes.{answer_of};
 ghost use Rattle.rq_engine.specs.Opened.{LeavesDevices};
 ghost use Rattle.rq_engine.specs.Moves.{with_taken, without_taken};
 ghost use Rattle.rq_engine.specs.Applied.{StepChanges};

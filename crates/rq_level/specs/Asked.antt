@@ -13,6 +13,8 @@ use Rattle.rq_level.specs.Given.{given_at}
 use Rattle.rq_level.specs.PagePlans.{IsOneWrite}
 use Rattle.rq_level.specs.Meaning.{Meaning}
 use Rattle.rq_level.specs.declared.slots.Given.{Given}
+use Rattle.rq_level.specs.declared.writes.Outcome.{Outcome}
+use Rattle.rq_level.specs.declared.writes.Outcome.TheVariants as gives
 use Rattle.rq_level.specs.declared.writes.Plan.{Plan}
 use Rattle.rq_level.specs.declared.writes.SlotWrite.{SlotWrite}
 
@@ -32,6 +34,11 @@ job_back _ = record { level = 0; undo = true; bytes = [] }
 -- what was given was noted so
 abbrev pub AreNoted : Meaning → LevelState → List Given → Type 0
 AreNoted m k given = All (λ g. m.note k g.at g.bytes ≡ k) given
+
+-- the end of what takes an operation back answers that it is undone; what takes a slot write back has no such end
+abbrev pub answer_back : Record → Option Outcome
+answer_back (OpEnd t n level deed) = Some gives.Undone
+answer_back _ = None
 
 -- the write is of the lowest cell that may be taken, over the bytes of a free one
 pub record TakesCell (k : LevelState) (latched : List ℕ) (w : SlotWrite) : Type 0 where

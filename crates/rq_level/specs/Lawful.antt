@@ -14,7 +14,8 @@ use Rattle.rq_views.specs.Plans.{ShowsAt, deed_sender}
 use Rattle.rq_level.specs.LevelState.{LevelState}
 use Rattle.rq_level.specs.Ops.{Job}
 use Rattle.rq_level.specs.Given.{given_at}
-use Rattle.rq_level.specs.Asked.{IsGathered, job_back, AreNoted, AreOver, AreBackOver, AreWritten, SparesCells, noted_each, written_at, Knows, AreAsGiven, StandsYet, AreOverSlots}
+use Rattle.rq_level.specs.Writes.{answer_of}
+use Rattle.rq_level.specs.Asked.{IsGathered, job_back, answer_back, AreNoted, AreOver, AreBackOver, AreWritten, SparesCells, noted_each, written_at, Knows, AreAsGiven, StandsYet, AreOverSlots}
 use Rattle.rq_level.specs.OwnState.{OwnStateIsAnew}
 use Rattle.rq_level.specs.TakenBack.{IsOpenFor, LeavesOthers, made}
 use Rattle.rq_level.specs.Meaning.{Meaning, OfPlans, OfBacks, AreOf, Redo, AppliesOnce, meaning_of}
@@ -68,6 +69,10 @@ pub record IsLawful (m : Meaning) : Type 0 where
   -- of the levels there are: what one reads is a deed of chains
   pub deeds : (b : List ℕ) → m.reads b ≡ true → is_some (deed_in b) ≡ true
   pub silent : OfBacks m (λ k told given latched p after. p.deed ≡ [])
+  -- the reply is what the deed's end answers, or what follows from what is taken back
+  pub replies : OfPlans m (λ k job given latched p after. (d : Deed) → deed_in p.deed ≡ Some d
+      → p.reply ≡ Some (answer_of d))
+  pub replies_undo : OfBacks m (λ k told given latched p after. p.reply ≡ answer_back told)
   -- a plan does to its sender's chain what its deed tells, and what takes that back leaves what was done meanwhile on the
   -- other end; neither changes another chain
   pub inverse : (z : Sizes) (d : Deed) (v : View) (q : Slots) → OfPlans m (λ k job given latched p after. k.sizes ≡ Some z

@@ -1,9 +1,13 @@
--- Slot writes of a plan, as writes over what the slots hold.
+-- Slot writes of a plan, as writes over what the slots hold, and what a deed's end answers.
 use Rattle.std.specs.Prelude.{◌≡◌, ℕ, ◌/◌, ◌%◌, List, [], ◌∷◌, map, All}
+use Rattle.rq_model.specs.declared.record.Deed.{Deed}
+use Rattle.rq_model.specs.declared.record.Deed.TheVariants.{Append, UnlinkHead, Close}
 use Rattle.rq_page.specs.Sizes.{Sizes}
 use Rattle.rq_page.specs.Slots.{held_in, IsSlotOf}
 use Rattle.rq_views.specs.Log.{Write}
 use Rattle.rq_views.specs.Stored.{IsStoreSlot}
+use Rattle.rq_level.specs.declared.writes.Outcome.{Outcome}
+use Rattle.rq_level.specs.declared.writes.Outcome.TheVariants as gives
 use Rattle.rq_level.specs.declared.writes.SlotWrite.{SlotWrite}
 
 -- the write, over what the slot holds
@@ -26,3 +30,9 @@ AreSlotWrites z ws = All (IsSlotWrite z) ws
 abbrev pub IsFirstAt : ℕ → List SlotWrite → Type 0
 IsFirstAt a [] = ⊥
 IsFirstAt a (w ∷ ws) = w.at ≡ a
+
+-- what the end of an operation answers that did this
+abbrev pub answer_of : Deed → Outcome
+answer_of (Append s n tag previous body) = gives.Sent
+answer_of (UnlinkHead s n tag body) = gives.Message (record { sender = s; tag = tag; body = body })
+answer_of (Close s) = gives.Closed

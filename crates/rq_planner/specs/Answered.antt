@@ -13,14 +13,12 @@ use Rattle.rq_views.specs.Log.{Slots}
 use Rattle.rq_views.specs.Plans.Turn.{Did, Undid}
 use Rattle.rq_level.specs.ChainPlans.{IsInverse}
 use Rattle.rq_level.specs.declared.slots.Given.{Given}
-use Rattle.rq_level.specs.declared.writes.Outcome.{Outcome}
-use Rattle.rq_level.specs.declared.writes.Outcome.TheVariants as gives
 use Rattle.rq_level.specs.declared.writes.Plan.{Plan}
 use Rattle.rq_level.specs.declared.writes.SlotWrite.{SlotWrite}
 use Rattle.rq_level.specs.LevelState.{LevelState}
 use Rattle.rq_level.specs.Ops.{Doing}
 use Rattle.rq_level.specs.Ops.Doing.{Send, Receive, Close}
-use Rattle.rq_level.specs.Writes.{AreSlotWrites}
+use Rattle.rq_level.specs.Writes.{AreSlotWrites, answer_of}
 use Rattle.rq_txn.specs.declared.Finished.{Finished}
 use Rattle.rq_txn.specs.Rows.{Row}
 use Rattle.rq_groups.specs.Waiting.{waits}
@@ -56,12 +54,6 @@ IsDeedFor (Send g tag body) (Append h n t previous b) = (h ≡ g) × (t ≡ tag)
 IsDeedFor (Receive g) (UnlinkHead h n tag body) = h ≡ g
 IsDeedFor (Close g) (Close_deed h) = h ≡ g
 IsDeedFor _ _ = ⊥
-
--- what the end of an operation answers that did this
-abbrev pub answer_of : Deed → Outcome
-answer_of (Append g n tag previous body) = gives.Sent
-answer_of (UnlinkHead g n tag body) = gives.Message (record { sender = g; tag = tag; body = body })
-answer_of (Close_deed g) = gives.Closed
 
 -- a message is sent into the lowest free cell on a page that nobody has latched
 abbrev pub SendTakesLowest : Sizes → Slots → List Row → Doing → List SlotWrite → Type 0
