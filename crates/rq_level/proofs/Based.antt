@@ -20,7 +20,7 @@ use Rattle.rq_views.specs.Plans.{relinked}
 use Rattle.rq_level.specs.Asked.{AreNoted, AreOver, IsOver, TakesCell, Knows, AreAsGiven, AreOverSlots}
 use Rattle.rq_level.specs.ChainPlans.{Beside, IsMarked, Plans, Undoes}
 use Rattle.rq_level.specs.Given.{AreGiven, GivenHolds, HoldsBytes, IsGiven, given_at, has_page}
-use Rattle.rq_level.specs.LevelState.{LevelState, IsLowest, flag_at, is_cell_address, is_free_slot, noted, noted_cell, noted_in}
+use Rattle.rq_level.specs.LevelState.{LevelState, IsLowest, flag_at, is_cell_address, is_free_slot, noted, noted_cell, noted_in, reserved_at}
 use Rattle.rq_level.specs.Meaning.{chain_meaning}
 use Rattle.rq_level.specs.Ops.{Doing}
 use Rattle.rq_level.specs.Ops.Doing.{Send, Receive, Close}
@@ -111,62 +111,62 @@ IsSomething Free = ⊥
 IsSomething (Used c) = Unit {0}
 IsSomething (Sender s d) = Unit {0}
 
--- the slot was given and holds something, or it is the lowest cell that may be taken
-abbrev pub IsBased : Sizes → LevelState → List Given → List ℕ → Write → Type 0
-IsBased z k given latched v = (GivenHolds z given v.at v.before × IsSomething v.before) ⊎ (IsLowest z k latched v.at × (v.before ≡ Free))
+-- the slot was given and holds something, or it is the lowest cell that may be taken, which is chosen
+abbrev pub IsBased : Sizes → LevelState → List Given → List ℕ → LevelState → Write → Type 0
+IsBased z k given latched after v = (GivenHolds z given v.at v.before × IsSomething v.before) ⊎ (IsLowest z k latched v.at × (v.before ≡ Free) × (after ≡ reserved_at z k v.at))
 
-pub record IsChainPlan (z : Sizes) (k : LevelState) (given : List Given) (latched : List ℕ) (p : Plan) : Type 0 where
+pub record IsChainPlan (z : Sizes) (k : LevelState) (given : List Given) (latched : List ℕ) (p : Plan) (after : LevelState) : Type 0 where
   pub all : List Write
   pub writes : reverse (writes_of z p.writes.items) ≡ all
   pub slots : AreSlotWrites z p.writes.items
-  pub based : AllByRecursion (IsBased z k given latched) all
+  pub based : AllByRecursion (IsBased z k given latched after) all
 
-pub relinked_based : (z : Sizes) (k : LevelState) (given : List Given) (latched : List ℕ) (at : ℕ) (o : Option Cell) (f : Cell → Cell) (ws : List Write) → Beside z given at o
-    → AllByRecursion (IsBased z k given latched) ws → AllByRecursion (IsBased z k given latched) (relinked at o f ws)
-relinked_based z k given latched at None f ws b h = h
-relinked_based z k given latched at (Some c) f ws b h = (inl (b, tt), h)
+pub relinked_based : (z : Sizes) (k : LevelState) (given : List Given) (latched : List ℕ) (after : LevelState) (at : ℕ) (o : Option Cell) (f : Cell → Cell) (ws : List Write) → Beside z given at o
+    → AllByRecursion (IsBased z k given latched after) ws → AllByRecursion (IsBased z k given latched after) (relinked at o f ws)
+relinked_based z k given latched after at None f ws b h = h
+relinked_based z k given latched after at (Some c) f ws b h = (inl (b, tt), h)
 
-abbrev marked : (z : Sizes) (k : LevelState) (given : List Given) (latched : List ℕ) (s : ℕ) (closed : Bool) (p : Plan) → IsMarked z given s closed p → IsChainPlan z k given latched p
-marked z k given latched s closed p m = record { all = _; writes = m.writes; slots = m.slots; based = (inl (m.can.directory_is, tt), tt) }
+abbrev marked : (z : Sizes) (k : LevelState) (given : List Given) (latched : List ℕ) (s : ℕ) (closed : Bool) (p : Plan) (after : LevelState) → IsMarked z given s closed p → IsChainPlan z k given latched p after
+marked z k given latched s closed p after m = record { all = _; writes = m.writes; slots = m.slots; based = (inl (m.can.directory_is, tt), tt) }
 
-abbrev pub done : (z : Sizes) (d : Option Doing) (k : LevelState) (given : List Given) (latched : List ℕ) (p : Plan) (after : LevelState) → Plans (Some z) d k given latched (Ok p) after → IsChainPlan z k given latched p
+abbrev pub done : (z : Sizes) (d : Option Doing) (k : LevelState) (given : List Given) (latched : List ℕ) (p : Plan) (after : LevelState) → Plans (Some z) d k given latched (Ok p) after → IsChainPlan z k given latched p after
 done z (Some (Send s tag body)) k given latched p after m = record {
   all = _;
   writes = m.writes;
   slots = m.slots;
-  based = (inl (m.can.directory_is, tt), relinked_based z k given latched _ m.can.old _ _ m.can.beside (inr (m.lowest, refl), tt));
+  based = (inl (m.can.directory_is, tt), relinked_based z k given latched after _ m.can.old _ _ m.can.beside (inr (m.lowest, refl, m.kept), tt));
 }
 done z (Some (Receive s)) k given latched p after m = record {
   all = _;
   writes = m.writes;
   slots = m.slots;
-  based = (inl (m.can.directory_is, tt), relinked_based z k given latched _ m.can.next _ _ m.can.beside (inl (m.can.head_is, tt), tt));
+  based = (inl (m.can.directory_is, tt), relinked_based z k given latched after _ m.can.next _ _ m.can.beside (inl (m.can.head_is, tt), tt));
 }
-done z (Some (Close s)) k given latched p after m = marked z k given latched s true p m.marked
+done z (Some (Close s)) k given latched p after m = marked z k given latched s true p after m.marked
 done z None k given latched p after m = absurd m
 
-abbrev pub undone : (z : Sizes) (d : Option Deed) (k : LevelState) (given : List Given) (latched : List ℕ) (p : Plan) (after : LevelState) → Undoes (Some z) d k given latched (Ok p) after → IsChainPlan z k given latched p
+abbrev pub undone : (z : Sizes) (d : Option Deed) (k : LevelState) (given : List Given) (latched : List ℕ) (p : Plan) (after : LevelState) → Undoes (Some z) d k given latched (Ok p) after → IsChainPlan z k given latched p after
 undone z (Some (Append s n tag previous body)) k given latched p after m = record {
   all = _;
   writes = m.writes;
   slots = m.slots;
-  based = (inl (m.can.directory_is, tt), relinked_based z k given latched _ m.can.front _ _ m.can.beside (inl (m.can.tail_is, tt), tt));
+  based = (inl (m.can.directory_is, tt), relinked_based z k given latched after _ m.can.front _ _ m.can.beside (inl (m.can.tail_is, tt), tt));
 }
 undone z (Some (UnlinkHead s n tag body)) k given latched p after m = record {
   all = _;
   writes = m.writes;
   slots = m.slots;
-  based = (inl (m.can.directory_is, tt), relinked_based z k given latched _ m.can.old _ _ m.can.beside (inr (m.lowest, refl), tt));
+  based = (inl (m.can.directory_is, tt), relinked_based z k given latched after _ m.can.old _ _ m.can.beside (inr (m.lowest, refl, m.kept), tt));
 }
-undone z (Some (Close_deed s)) k given latched p after m = marked z k given latched s false p m.marked
+undone z (Some (Close_deed s)) k given latched p after m = marked z k given latched s false p after m.marked
 undone z None k given latched p after m = absurd m
 
-module _ (z : Sizes) (k : LevelState) (given : List Given) (latched : List ℕ) (p : Plan) (m : IsChainPlan z k given latched p) where
+module _ (z : Sizes) (k : LevelState) (given : List Given) (latched : List ℕ) (p : Plan) (after : LevelState) (m : IsChainPlan z k given latched p after) where
   -- what each write is over
-  based_one : (w : SlotWrite) → In w p.writes.items → IsBased z k given latched (write_of z w) × IsSlotWrite z w
+  based_one : (w : SlotWrite) → In w p.writes.items → IsBased z k given latched after (write_of z w) × IsSlotWrite z w
   based_one w i =
       let there : In (write_of z w) m.all = subst (λ (ws : List Write). In (write_of z w) ws) m.writes (In-reverse (write_of z w) (writes_of z p.writes.items) (In-to (write_of z) p.writes.items w i)) in
-      (each_in (IsBased z k given latched) m.all m.based (write_of z w) there, each_in (IsSlotWrite z) p.writes.items (recursion_from_All (IsSlotWrite z) p.writes.items m.slots) w i)
+      (each_in (IsBased z k given latched after) m.all m.based (write_of z w) there, each_in (IsSlotWrite z) p.writes.items (recursion_from_All (IsSlotWrite z) p.writes.items m.slots) w i)
 
   -- a slot that is written
   pub is_written : (v : Write) → In v m.all → In v.at (map (λ (w : SlotWrite). w.at) p.writes.items)
@@ -175,8 +175,12 @@ module _ (z : Sizes) (k : LevelState) (given : List Given) (latched : List ℕ) 
       let found = In-map (write_of z) p.writes.items v back in
       subst (λ n. In n (map (λ (w : SlotWrite). w.at) p.writes.items)) (sym (ap (λ (x : Write). x.at) found.2)) (In-to (λ (w : SlotWrite). w.at) p.writes.items found.0 found.1)
 
+  -- where nothing was given of its slot, that cell is chosen
+  pub chosen : (w : SlotWrite) → In w p.writes.items → given_at w.at given ≡ None → after ≡ reserved_at z k w.at
+  chosen w i e = elim (based_one w i).0 [ inl h ↦ absurd (subst (HoldsBytes z w.at (held_in z (w.at / 16) w.before)) e h.0) | inr h ↦ h.2 ]
+
   module _ (told : k.sizes ≡ Some z) (slots : AreGiven z given) (noted_so : AreNoted chain_meaning k given) where
-    over_given : (w : SlotWrite) (bytes : List ℕ) → IsSlotWrite z w → IsBased z k given latched (write_of z w) → given_at w.at given ≡ Some bytes → w.before ≡ bytes
+    over_given : (w : SlotWrite) (bytes : List ℕ) → IsSlotWrite z w → IsBased z k given latched after (write_of z w) → given_at w.at given ≡ Some bytes → w.before ≡ bytes
     over_given w bytes is b e =
         let given_is : IsSlotOf z (w.at / 16) (w.at % 16) bytes = was_given (λ a x. IsSlotOf z (a / 16) (a % 16) x) w.at given bytes (All-weaker (IsGiven z) _ (λ g h. h.bytes) given slots) e in
         same_bytes z (w.at / 16) (w.at % 16) w.before bytes is.before given_is (elim b [
@@ -184,13 +188,13 @@ module _ (z : Sizes) (k : LevelState) (given : List Given) (latched : List ℕ) 
           | inr h ↦ h.1 ∙ sym (holds_free z w.at bytes (lowest_cell z k latched w.at h.0) (known_free z k latched w.at bytes told h.0 (was_given (λ a x. noted k a x ≡ k) w.at given bytes noted_so e)))
         ])
 
-    over_none : (w : SlotWrite) → IsSlotWrite z w → IsBased z k given latched (write_of z w) → given_at w.at given ≡ None → TakesCell k latched w
+    over_none : (w : SlotWrite) → IsSlotWrite z w → IsBased z k given latched after (write_of z w) → given_at w.at given ≡ None → TakesCell k latched w
     over_none w is b e = elim b [
       | inl h ↦ absurd (subst (HoldsBytes z w.at (held_in z (w.at / 16) w.before)) e h.0)
       | inr h ↦ record { sizes = z; told = told; lowest = h.0; free = free_is z (w.at / 16) (w.at % 16) w.before is.before h.1 }
     ]
 
-    over : (w : SlotWrite) → IsSlotWrite z w → IsBased z k given latched (write_of z w) → (o : Option (List ℕ)) → given_at w.at given ≡ o → IsOver k latched w o
+    over : (w : SlotWrite) → IsSlotWrite z w → IsBased z k given latched after (write_of z w) → (o : Option (List ℕ)) → given_at w.at given ≡ o → IsOver k latched w o
     over w is b None e = over_none w is b e
     over w is b (Some bytes) e = over_given w bytes is b e
 
@@ -199,7 +203,7 @@ module _ (z : Sizes) (k : LevelState) (given : List Given) (latched : List ℕ) 
 
   -- over slots that the level knows
   module _ (told : k.sizes ≡ Some z) (q : ℕ → List ℕ) (knows : Knows chain_meaning k q) (slots : AreGiven z given) (as_is : AreAsGiven q given) where
-    over_slot : (w : SlotWrite) → IsSlotWrite z w → IsBased z k given latched (write_of z w) → w.before ≡ q w.at
+    over_slot : (w : SlotWrite) → IsSlotWrite z w → IsBased z k given latched after (write_of z w) → w.before ≡ q w.at
     over_slot w is b = same_bytes z (w.at / 16) (w.at % 16) w.before (q w.at) is.before (knows.slots z w.at told is.place) (elim b [
       | inl h ↦ sym (holds_now (given_at w.at given) refl h.0)
       | inr h ↦ h.1 ∙ sym (holds_free z w.at (q w.at) (lowest_cell z k latched w.at h.0) (known_free z k latched w.at (q w.at) told h.0 (knows.noted w.at)))

@@ -12,7 +12,7 @@ use Rattle.rq_page.specs.Sizes.{Sizes, IsCellAddress, place_of}
 use Rattle.rq_page.specs.Slots.{Free}
 use Rattle.rq_views.specs.Log.{Write}
 use Rattle.rq_views.specs.Plans.{relinked}
-use Rattle.rq_level.specs.Asked.{AreWanted, IsGathered, job_back, AreNoted, AreOver, AreBackOver, AreWritten, SparesCells, noted_each, Knows, AreAsGiven, AreOverSlots}
+use Rattle.rq_level.specs.Asked.{AreWanted, IsGathered, job_back, AreNoted, AreOver, AreBackOver, AreWritten, SparesCells, noted_each, Knows, AreAsGiven, AreOverSlots, Chooses, ChoosesBack, AreOfSlots, AreBackOfSlots}
 use Rattle.rq_level.specs.ChainPlans as chain
 use Rattle.rq_level.specs.ChainPlans.{Plans, PlansFor, Undoes, chain_plans, chain_undoes, job_wanted}
 use Rattle.rq_level.specs.Given.{AreGiven, given_at}
@@ -20,53 +20,53 @@ use Rattle.rq_level.specs.LevelState.{LevelState, IsLowest, is_free_slot, noted,
 use Rattle.rq_level.specs.Meaning.{AreOf, chain_meaning}
 use Rattle.rq_level.specs.Ops.{Doing, Job, doing_in}
 use Rattle.rq_level.specs.Ops.Doing.{Send, Receive, Close}
-use Rattle.rq_level.specs.Writes.{answer_of, writes_of}
+use Rattle.rq_level.specs.Writes.{AreSlotWrites, answer_of, writes_of}
 use Rattle.rq_level.specs.declared.slots.Given.{Given}
 use Rattle.rq_level.specs.declared.writes.Outcome.{Outcome}
 use Rattle.rq_level.specs.declared.writes.Plan.{Plan}
 use Rattle.rq_level.specs.declared.writes.SlotWrite.{SlotWrite}
-use Rattle.rq_level.proofs.Based.{IsChainPlan, IsSomething, all_each, are_over, done, holds_at, holds_free, known_free, lowest_cell, noted_there, over_slots, undone, was_given}
+use Rattle.rq_level.proofs.Based.{IsChainPlan, IsSomething, all_each, are_over, chosen, done, holds_at, holds_free, known_free, lowest_cell, noted_there, over_slots, undone, was_given}
 use Rattle.rq_level.proofs.Gathered.{IsTouched, done_touched, undone_touched}
 
 -- a plan is of a store whose sizes were told, and what was asked for is written
-record IsOfStore (k : LevelState) (given : List Given) (latched : List ℕ) (p : Plan) (want : List Given → Option ℕ) : Type 0 where
+record IsOfStore (k : LevelState) (given : List Given) (latched : List ℕ) (p : Plan) (after : LevelState) (want : List Given → Option ℕ) : Type 0 where
   sizes : Sizes
   told : k.sizes ≡ Some sizes
-  plan : IsChainPlan sizes k given latched p
+  plan : IsChainPlan sizes k given latched p after
   touched : AreWanted want [] given → (g : Given) → In g given → IsTouched sizes k given latched p g.at
 
 module _ (k : LevelState) (given : List Given) (latched : List ℕ) (p : Plan) (after : LevelState) where
-  doing : (z : Option Sizes) (d : Option Doing) → k.sizes ≡ z → Plans z d k given latched (Ok p) after → IsOfStore k given latched p (chain.wanted d)
+  doing : (z : Option Sizes) (d : Option Doing) → k.sizes ≡ z → Plans z d k given latched (Ok p) after → IsOfStore k given latched p after (chain.wanted d)
   doing (Some z) d e h = record { sizes = z; told = e; plan = done z d k given latched p after h; touched = λ w. done_touched z k given latched p d after h [] given refl w }
   doing None (Some d) e h = absurd h
   doing None None e h = absurd h
 
-  undoing : (z : Option Sizes) (d : Option Deed) → k.sizes ≡ z → Undoes z d k given latched (Ok p) after → IsOfStore k given latched p (chain.undo_wanted d)
+  undoing : (z : Option Sizes) (d : Option Deed) → k.sizes ≡ z → Undoes z d k given latched (Ok p) after → IsOfStore k given latched p after (chain.undo_wanted d)
   undoing (Some z) d e h = record { sizes = z; told = e; plan = undone z d k given latched p after h; touched = λ w. undone_touched z k given latched p d after h [] given refl w }
   undoing None (Some d) e h = absurd h
   undoing None None e h = absurd h
 
-  planned : (job : Job) → chain_plans k job given latched (Ok p) after → IsOfStore k given latched p (job_wanted job)
+  planned : (job : Job) → chain_plans k job given latched (Ok p) after → IsOfStore k given latched p after (job_wanted job)
   planned job h = by job.undo h where
-    by : (undo : Bool) → PlansFor undo k.sizes (doing_in job.bytes) k given latched (Ok p) after → IsOfStore k given latched p (job_wanted (record { level = job.level; undo = undo; bytes = job.bytes }))
+    by : (undo : Bool) → PlansFor undo k.sizes (doing_in job.bytes) k given latched (Ok p) after → IsOfStore k given latched p after (job_wanted (record { level = job.level; undo = undo; bytes = job.bytes }))
     by true m = absurd m
     by false m = doing k.sizes (doing_in job.bytes) refl m
 
-  backed : (told : Record) → chain_undoes k told given latched (Ok p) after → IsOfStore k given latched p (job_wanted (job_back told))
+  backed : (told : Record) → chain_undoes k told given latched (Ok p) after → IsOfStore k given latched p after (job_wanted (job_back told))
   backed (records.OpEnd t n level deed) h = undoing k.sizes (deed_in deed) refl h
   backed _ h = absurd h
 
 -- ---- what its writes are over, and what it asks for
 
-module _ (k : LevelState) (given : List Given) (latched : List ℕ) (p : Plan) (want : List Given → Option ℕ) (m : IsOfStore k given latched p want) where
+module _ (k : LevelState) (given : List Given) (latched : List ℕ) (p : Plan) (after : LevelState) (want : List Given → Option ℕ) (m : IsOfStore k given latched p after want) where
   of_store : AreOf k.sizes given → AreGiven m.sizes given
   of_store slots = subst (λ (o : Option Sizes). AreOf o given) m.told slots
 
   over : AreOf k.sizes given → AreNoted chain_meaning k given → AreOver k given latched p.writes.items
-  over slots noted_so = are_over m.sizes k given latched p m.plan m.told (of_store slots) noted_so
+  over slots noted_so = are_over m.sizes k given latched p after m.plan m.told (of_store slots) noted_so
 
   holds : (q : ℕ → List ℕ) → Knows chain_meaning k q → AreOf k.sizes given → AreAsGiven q given → AreOverSlots q p.writes.items
-  holds q knows slots as_is = over_slots m.sizes k given latched p m.plan m.told q knows (of_store slots) as_is
+  holds q knows slots as_is = over_slots m.sizes k given latched p after m.plan m.told q knows (of_store slots) as_is
 
   writes : AreWanted want [] given → AreWritten given p
   writes w = all_each (λ (g : Given). In g.at (map (λ (x : SlotWrite). x.at) p.writes.items)) given (λ g i. (m.touched w g i).written)
@@ -82,30 +82,53 @@ module _ (k : LevelState) (given : List Given) (latched : List ℕ) (p : Plan) (
         let nothing : here.held ≡ Free = sym (holds_at m.sizes given a here.held bytes e here.holds) ∙ holds_free m.sizes a bytes (subst (λ x. IsCellAddress x a) same (lowest_cell z k latched a l)) free in
         absurd (subst IsSomething nothing here.some)
 
+  same_sizes : (z : Sizes) → k.sizes ≡ Some z → m.sizes ≡ z
+  same_sizes z e = let is : Some m.sizes ≡ Some z = sym m.told ∙ e in cc
+
+  takes : Chooses k given after p
+  takes z w told i e = chosen m.sizes k given latched p after m.plan w i e ∙ ap (λ y. reserved_at y k w.at) (same_sizes z told)
+
+  slots : AreOfSlots k p
+  slots z told = subst (λ y. AreSlotWrites y p.writes.items) (same_sizes z told) m.plan.slots
+
 pub over_plan : (k : LevelState) (job : Job) (given : List Given) (latched : List ℕ) (p : Plan) (after : LevelState) → chain_plans k job given latched (Ok p) after → AreOf k.sizes given → AreNoted chain_meaning k given → AreOver k given latched p.writes.items
-over_plan k job given latched p after h = over k given latched p (job_wanted job) (planned k given latched p after job h)
+over_plan k job given latched p after h = over k given latched p after (job_wanted job) (planned k given latched p after job h)
 
 pub over_back : (k : LevelState) (told : Record) (given : List Given) (latched : List ℕ) (p : Plan) (after : LevelState) → chain_undoes k told given latched (Ok p) after → AreOf k.sizes given → AreNoted chain_meaning k given → AreBackOver told k given latched p.writes.items
-over_back k (records.OpEnd t n level deed) given latched p after h = over k given latched p _ (backed k given latched p after (records.OpEnd t n level deed) h)
+over_back k (records.OpEnd t n level deed) given latched p after h = over k given latched p after _ (backed k given latched p after (records.OpEnd t n level deed) h)
 over_back k _ given latched p after h = absurd h
 
 pub plan_holds : (q : ℕ → List ℕ) (k : LevelState) (job : Job) (given : List Given) (latched : List ℕ) (p : Plan) (after : LevelState) → chain_plans k job given latched (Ok p) after → Knows chain_meaning k q → AreOf k.sizes given → AreAsGiven q given → AreOverSlots q p.writes.items
-plan_holds q k job given latched p after h = holds k given latched p (job_wanted job) (planned k given latched p after job h) q
+plan_holds q k job given latched p after h = holds k given latched p after (job_wanted job) (planned k given latched p after job h) q
 
 pub back_holds : (q : ℕ → List ℕ) (k : LevelState) (told : Record) (given : List Given) (latched : List ℕ) (p : Plan) (after : LevelState) → chain_undoes k told given latched (Ok p) after → Knows chain_meaning k q → AreOf k.sizes given → AreAsGiven q given → AreOverSlots q p.writes.items
-back_holds q k told given latched p after h = holds k given latched p (job_wanted (job_back told)) (backed k given latched p after told h) q
+back_holds q k told given latched p after h = holds k given latched p after (job_wanted (job_back told)) (backed k given latched p after told h) q
 
 pub plan_writes : (k : LevelState) (job : Job) (given : List Given) (latched : List ℕ) (p : Plan) (after : LevelState) → chain_plans k job given latched (Ok p) after → IsGathered chain_meaning job given → AreWritten given p
-plan_writes k job given latched p after h = writes k given latched p (job_wanted job) (planned k given latched p after job h)
+plan_writes k job given latched p after h = writes k given latched p after (job_wanted job) (planned k given latched p after job h)
 
 pub back_writes : (k : LevelState) (told : Record) (given : List Given) (latched : List ℕ) (p : Plan) (after : LevelState) → chain_undoes k told given latched (Ok p) after → IsGathered chain_meaning (job_back told) given → AreWritten given p
-back_writes k told given latched p after h = writes k given latched p (job_wanted (job_back told)) (backed k given latched p after told h)
+back_writes k told given latched p after h = writes k given latched p after (job_wanted (job_back told)) (backed k given latched p after told h)
 
 pub plan_spares : (k : LevelState) (job : Job) (given : List Given) (latched : List ℕ) (p : Plan) (after : LevelState) → chain_plans k job given latched (Ok p) after → IsGathered chain_meaning job given → AreNoted chain_meaning k given → after ≢ k → SparesCells k latched given
-plan_spares k job given latched p after h w noted_so ne = spares k given latched p (job_wanted job) (planned k given latched p after job h) w noted_so
+plan_spares k job given latched p after h w noted_so ne = spares k given latched p after (job_wanted job) (planned k given latched p after job h) w noted_so
 
 pub back_spares : (k : LevelState) (told : Record) (given : List Given) (latched : List ℕ) (p : Plan) (after : LevelState) → chain_undoes k told given latched (Ok p) after → IsGathered chain_meaning (job_back told) given → AreNoted chain_meaning k given → after ≢ k → SparesCells k latched given
-back_spares k told given latched p after h w noted_so ne = spares k given latched p (job_wanted (job_back told)) (backed k given latched p after told h) w noted_so
+back_spares k told given latched p after h w noted_so ne = spares k given latched p after (job_wanted (job_back told)) (backed k given latched p after told h) w noted_so
+
+pub plan_takes : (k : LevelState) (job : Job) (given : List Given) (latched : List ℕ) (p : Plan) (after : LevelState) → chain_plans k job given latched (Ok p) after → Chooses k given after p
+plan_takes k job given latched p after h = takes k given latched p after (job_wanted job) (planned k given latched p after job h)
+
+pub back_takes : (k : LevelState) (told : Record) (given : List Given) (latched : List ℕ) (p : Plan) (after : LevelState) → chain_undoes k told given latched (Ok p) after → ChoosesBack told k given after p
+back_takes k (records.OpEnd t n level deed) given latched p after h = takes k given latched p after _ (backed k given latched p after (records.OpEnd t n level deed) h)
+back_takes k _ given latched p after h = absurd h
+
+pub plan_slots : (k : LevelState) (job : Job) (given : List Given) (latched : List ℕ) (p : Plan) (after : LevelState) → chain_plans k job given latched (Ok p) after → AreOfSlots k p
+plan_slots k job given latched p after h = slots k given latched p after (job_wanted job) (planned k given latched p after job h)
+
+pub back_slots : (k : LevelState) (told : Record) (given : List Given) (latched : List ℕ) (p : Plan) (after : LevelState) → chain_undoes k told given latched (Ok p) after → AreBackOfSlots told k p
+back_slots k (records.OpEnd t n level deed) given latched p after h = slots k given latched p after _ (backed k given latched p after (records.OpEnd t n level deed) h)
+back_slots k _ given latched p after h = absurd h
 
 -- ---- a plan is forgotten once its slots were noted
 

@@ -229,9 +229,9 @@ module _ (z : Sizes) (k : LevelState) (given : List Given) (latched : List ℕ) 
   Touches w = Within IsTouched given w
 
   -- a write of a plan, over what was given of its slot
-  module _ (m : IsChainPlan z k given latched p) where
+  module _ (after : LevelState) (m : IsChainPlan z k given latched p after) where
     touched : (v : Write) → GivenHolds z given v.at v.before → IsSomething v.before → In v m.all → IsTouched v.at
-    touched v h some i = record { held = v.before; holds = h; some = some; written = is_written z k given latched p m v i }
+    touched v h some i = record { held = v.before; holds = h; some = some; written = is_written z k given latched p after m v i }
 
     link_touched : (a : ℕ) (o : Option Cell) (f : Cell → Cell) (d : Write) (rest : List Write) → m.all ≡ d ∷ relinked a o f rest → Beside z given a o → Touches (link_wanted a)
     link_touched a None f d rest e b = subst (λ n. Touches (link_wanted n)) (sym b) (none_within IsTouched given)
@@ -249,53 +249,53 @@ module _ (z : Sizes) (k : LevelState) (given : List Given) (latched : List ℕ) 
       let m = done z (Some (Send s tag body)) k given latched p after h in
       let d = h.can.directory in
       by_slot_within IsTouched given (directory_at s) (λ bytes. link_wanted (directory_in bytes).directory.tail) (send_wants s) (λ l. refl) (λ bytes l. refl)
-      (touched m _ h.can.directory_is tt (inl refl))
+      (touched after m _ h.can.directory_is tt (inl refl))
       (λ bytes e. subst (λ n. Touches (link_wanted n)) (sym (ap (λ (x : Directory). x.tail) (directory_read z s d bytes h.can.below (holds_at z given (directory_at s) _ bytes e h.can.directory_is))))
-      (link_touched m d.tail h.can.old _ _ _ refl h.can.beside))
+      (link_touched after m d.tail h.can.old _ _ _ refl h.can.beside))
 
   received_touched : (s : ℕ) (after : LevelState) → IsReceived z k given s p after → Touches (λ l. receive_wants s (given_at (directory_at s) l) l)
   received_touched s after h =
       let m = done z (Some (Receive s)) k given latched p after h in
       let d = h.can.directory in
       by_slot_within IsTouched given (directory_at s) (λ bytes. head_wanted (directory_in bytes).directory.head) (receive_wants s) (λ l. refl) (λ bytes l. refl)
-      (touched m _ h.can.directory_is tt (inl refl))
+      (touched after m _ h.can.directory_is tt (inl refl))
       (λ bytes e. subst (λ n. Touches (head_wanted n)) (sym (ap (λ (x : Directory). x.head) (directory_read z s d bytes h.can.below (holds_at z given (directory_at s) _ bytes e h.can.directory_is))))
       (from_within IsTouched given d.head (λ l. behind_head d.head (given_at d.head l) l)
       (by_slot_within IsTouched given d.head (λ bytes. behind (cell_slot_in bytes)) (behind_head d.head) (λ l. refl) (λ bytes l. refl)
-      (touched m _ h.can.head_is tt (last_in _ _ h.can.cell.next h.can.next _))
+      (touched after m _ h.can.head_is tt (last_in _ _ h.can.cell.next h.can.next _))
       (λ bytes e. subst (λ x. Touches (behind x)) (sym (read_for (kind_of z (d.head / 16)) h.can.cell bytes (holds_at z given d.head _ bytes e h.can.head_is)))
-      (link_touched m h.can.cell.next h.can.next _ _ _ refl h.can.beside)))))
+      (link_touched after m h.can.cell.next h.can.next _ _ _ refl h.can.beside)))))
 
   unsent_touched : (s n tag previous : ℕ) (body : List ℕ) (after : LevelState) → IsTailUnlinked z k given s n previous p after → Touches (λ l. unlink_tail_wants s (given_at (directory_at s) l) l)
   unsent_touched s n tag previous body after h =
       let m = undone z (Some (Append s n tag previous body)) k given latched p after h in
       let d = h.can.directory in
       by_slot_within IsTouched given (directory_at s) (λ bytes. tail_wanted (directory_in bytes).directory.tail) (unlink_tail_wants s) (λ l. refl) (λ bytes l. refl)
-      (touched m _ h.can.directory_is tt (inl refl))
+      (touched after m _ h.can.directory_is tt (inl refl))
       (λ bytes e. subst (λ n. Touches (tail_wanted n)) (sym (ap (λ (x : Directory). x.tail) (directory_read z s d bytes h.can.below (holds_at z given (directory_at s) _ bytes e h.can.directory_is))))
       (from_within IsTouched given d.tail (λ l. before_tail d.tail (given_at d.tail l) l)
       (by_slot_within IsTouched given d.tail (λ bytes. chain.before (cell_slot_in bytes)) (before_tail d.tail) (λ l. refl) (λ bytes l. refl)
-      (touched m _ h.can.tail_is tt (last_in _ _ h.can.cell.prev h.can.front _))
+      (touched after m _ h.can.tail_is tt (last_in _ _ h.can.cell.prev h.can.front _))
       (λ bytes e. subst (λ x. Touches (chain.before x)) (sym (read_for (kind_of z (d.tail / 16)) h.can.cell bytes (holds_at z given d.tail _ bytes e h.can.tail_is)))
-      (link_touched m h.can.cell.prev h.can.front _ _ _ refl h.can.beside)))))
+      (link_touched after m h.can.cell.prev h.can.front _ _ _ refl h.can.beside)))))
 
   returned_touched : (s n tag : ℕ) (body : List ℕ) (after : LevelState) → IsReturned z k given latched s n tag body p after → Touches (λ l. put_back_wants s (given_at (directory_at s) l) l)
   returned_touched s n tag body after h =
       let m = undone z (Some (UnlinkHead s n tag body)) k given latched p after h in
       let d = h.can.directory in
       by_slot_within IsTouched given (directory_at s) (λ bytes. link_wanted (directory_in bytes).directory.head) (put_back_wants s) (λ l. refl) (λ bytes l. refl)
-      (touched m _ h.can.directory_is tt (inl refl))
+      (touched after m _ h.can.directory_is tt (inl refl))
       (λ bytes e. subst (λ n. Touches (link_wanted n)) (sym (ap (λ (x : Directory). x.head) (directory_read z s d bytes h.can.below (holds_at z given (directory_at s) _ bytes e h.can.directory_is))))
-      (link_touched m d.head h.can.old _ _ _ refl h.can.beside))
+      (link_touched after m d.head h.can.old _ _ _ refl h.can.beside))
 
   pub done_touched : (d : Option Doing) (after : LevelState) → Plans (Some z) d k given latched (Ok p) after → Touches (wanted d)
   done_touched (Some (Send s tag body)) after h = sent_touched s tag body after h
   done_touched (Some (Receive s)) after h = received_touched s after h
-  done_touched (Some (Close s)) after h = unless_within IsTouched given (directory_at s) (touched (done z (Some (Close s)) k given latched p after h) _ h.marked.can.directory_is tt (inl refl))
+  done_touched (Some (Close s)) after h = unless_within IsTouched given (directory_at s) (touched after (done z (Some (Close s)) k given latched p after h) _ h.marked.can.directory_is tt (inl refl))
   done_touched None after h = absurd h
 
   pub undone_touched : (d : Option Deed) (after : LevelState) → Undoes (Some z) d k given latched (Ok p) after → Touches (undo_wanted d)
   undone_touched (Some (Append s n tag previous body)) after h = unsent_touched s n tag previous body after h
   undone_touched (Some (UnlinkHead s n tag body)) after h = returned_touched s n tag body after h
-  undone_touched (Some (Close_deed s)) after h = unless_within IsTouched given (directory_at s) (touched (undone z (Some (Close_deed s)) k given latched p after h) _ h.marked.can.directory_is tt (inl refl))
+  undone_touched (Some (Close_deed s)) after h = unless_within IsTouched given (directory_at s) (touched after (undone z (Some (Close_deed s)) k given latched p after h) _ h.marked.can.directory_is tt (inl refl))
   undone_touched None after h = absurd h

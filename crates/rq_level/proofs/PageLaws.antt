@@ -1,12 +1,12 @@
 -- What the level of single slots keeps to.
 use Rattle.std.proofs.Common.{◌≡◌, cond, ℕ, ◌+◌, ◌*◌, List, [], ◌∷◌, Bool, true, false, Option, None, Some, Ok, map, All, refl, sym, ap, ◌∙◌, subst, inl}
-use Rattle.std.proofs.lemmas.List.Elements.{All-cons, All-nil}
+use Rattle.std.proofs.lemmas.List.Elements.{All-cons, All-nil, recursion_from_All}
 use Rattle.rq_model.specs.declared.record.Deed.{Deed}
 use Rattle.rq_model.specs.Deeds.{deed_in}
 use Rattle.rq_model.specs.declared.record.Record.{Record}
 use Rattle.rq_model.specs.declared.record.Record.TheVariants as records
 use Rattle.rq_model.specs.Vocabulary.{In}
-use Rattle.rq_level.specs.Asked.{AreWanted, IsGathered, job_back, AreOver, IsOver, AreBackOver, AreWritten, AreAsGiven, AreOverSlots, StandsYet}
+use Rattle.rq_level.specs.Asked.{AreWanted, IsGathered, job_back, AreOver, IsOver, AreBackOver, AreWritten, AreAsGiven, AreOverSlots, StandsYet, Chooses, ChoosesBack, AreBackOfSlots}
 use Rattle.rq_level.specs.Given.{given_at}
 use Rattle.rq_level.specs.LevelState.{LevelState}
 use Rattle.rq_level.specs.Meaning.{page_meaning}
@@ -15,7 +15,7 @@ use Rattle.rq_level.specs.PagePlans.{IsOneWrite, IsOverwritten, TakesBack, Write
 use Rattle.rq_level.specs.declared.slots.Given.{Given}
 use Rattle.rq_level.specs.declared.writes.Plan.{Plan}
 use Rattle.rq_level.specs.declared.writes.SlotWrite.{SlotWrite}
-use Rattle.rq_level.proofs.Based.{all_each, was_given}
+use Rattle.rq_level.proofs.Based.{all_each, each_in, was_given}
 use Rattle.rq_level.proofs.Gathered.{none_within, unless_within}
 
 -- of the one write
@@ -88,3 +88,19 @@ module _ (k : LevelState) (given : List Given) (latched : List ℕ) (p : Plan) (
   pub back_writes : (told : Record) → page_undoes k told given latched (Ok p) after → IsGathered page_meaning (job_back told) given → AreWritten given p
   back_writes (records.PageOp t n page slot x y) h g = all_in (none_within (λ n. In n (map (λ (w : SlotWrite). w.at) p.writes.items)) given [] given refl g)
   back_writes _ h g = absurd h
+
+  -- each slot that is written was given
+  pub plan_takes : (job : Job) → page_plans k job given latched (Ok p) after → Chooses k given after p
+  plan_takes job h z w sizes i e =
+      let m = written job.undo k (overwrite_in job.bytes) given p after h in
+      let is : given_at w.at given ≡ Some m.3.before = each_in (λ v. given_at v.at given ≡ Some m.3.before) p.writes.items (recursion_from_All (λ (v : SlotWrite). given_at v.at given ≡ Some m.3.before) p.writes.items
+      (of_one (λ v. given_at v.at given ≡ Some m.3.before) m.0.at m.3.before m.0.after p.writes.items (λ v at x. ap (λ n. given_at n given) at ∙ m.3.given_is) m.3.plan.write)) w i in
+      absurd (let no : None ≡ Some m.3.before = sym e ∙ is in cc)
+
+  pub back_takes : (told : Record) → page_undoes k told given latched (Ok p) after → ChoosesBack told k given after p
+  back_takes (records.PageOp t n page slot x y) h = back_kept (records.PageOp t n page slot x y) h
+  back_takes _ h = absurd h
+
+  pub back_slots : (told : Record) → page_undoes k told given latched (Ok p) after → AreBackOfSlots told k p
+  back_slots (records.PageOp t n page slot x y) h = tt
+  back_slots _ h = absurd h

@@ -7,10 +7,11 @@ use Rattle.rq_page.specs.Cells.{free_bytes}
 use Rattle.rq_page.specs.Sizes.{Sizes}
 use Rattle.rq_page.specs.Slots.{IsSlotOf}
 use Rattle.rq_views.specs.Stored.{IsStoreSlot}
-use Rattle.rq_level.specs.LevelState.{LevelState, IsLowest}
+use Rattle.rq_level.specs.LevelState.{LevelState, IsLowest, reserved_at}
 use Rattle.rq_level.specs.Ops.{Job}
 use Rattle.rq_level.specs.Given.{given_at}
 use Rattle.rq_level.specs.PagePlans.{IsOneWrite}
+use Rattle.rq_level.specs.Writes.{AreSlotWrites}
 use Rattle.rq_level.specs.Meaning.{Meaning}
 use Rattle.rq_level.specs.declared.slots.Given.{Given}
 use Rattle.rq_level.specs.declared.writes.Outcome.{Outcome}
@@ -94,3 +95,22 @@ StandsYet q _ = Unit {0}
 -- each write is over what its slot holds
 abbrev pub AreOverSlots : (ℕ → List ℕ) → List SlotWrite → Type 0
 AreOverSlots q ws = All (λ w. w.before ≡ q w.at) ws
+
+-- a slot of which nothing was given is a cell that the plan chooses
+abbrev pub Chooses : LevelState → List Given → LevelState → Plan → Type 0
+Chooses k given after p = (z : Sizes) (w : SlotWrite) → k.sizes ≡ Some z → In w p.writes.items → given_at w.at given ≡ None
+    → after ≡ reserved_at z k w.at
+
+-- what takes back a slot write chooses nothing
+abbrev pub ChoosesBack : Record → LevelState → List Given → LevelState → Plan → Type 0
+ChoosesBack (PageOp t n page slot x y) k given after p = after ≡ k
+ChoosesBack _ k given after p = Chooses k given after p
+
+-- the writes are of slots of the store, and leave there what may stand there
+abbrev pub AreOfSlots : LevelState → Plan → Type 0
+AreOfSlots k p = (z : Sizes) → k.sizes ≡ Some z → AreSlotWrites z p.writes.items
+
+-- of what takes an operation back
+abbrev pub AreBackOfSlots : Record → LevelState → Plan → Type 0
+AreBackOfSlots (OpEnd t n level deed) k p = AreOfSlots k p
+AreBackOfSlots _ k p = Unit {0}

@@ -15,7 +15,7 @@ use Rattle.rq_level.specs.LevelState.{LevelState}
 use Rattle.rq_level.specs.Ops.{Job}
 use Rattle.rq_level.specs.Given.{given_at}
 use Rattle.rq_level.specs.Writes.{answer_of}
-use Rattle.rq_level.specs.Asked.{IsGathered, job_back, answer_back, AreNoted, AreOver, AreBackOver, AreWritten, SparesCells, noted_each, written_at, Knows, AreAsGiven, StandsYet, AreOverSlots}
+use Rattle.rq_level.specs.Asked.{IsGathered, job_back, answer_back, AreNoted, AreOver, AreBackOver, AreWritten, SparesCells, noted_each, written_at, Knows, AreAsGiven, StandsYet, AreOverSlots, Chooses, ChoosesBack, AreOfSlots, AreBackOfSlots}
 use Rattle.rq_level.specs.OwnState.{OwnStateIsAnew}
 use Rattle.rq_level.specs.TakenBack.{IsOpenFor, LeavesOthers, made}
 use Rattle.rq_level.specs.Meaning.{Meaning, OfPlans, OfBacks, AreOf, Redo, AppliesOnce, meaning_of}
@@ -59,6 +59,12 @@ pub record IsLawful (m : Meaning) : Type 0 where
       → SparesCells k latched given)
   pub spares_undo : OfBacks m (λ k told given latched p after. IsGathered m (job_back told) given → AreNoted m k given
       → after ≢ k → SparesCells k latched given)
+  -- a slot that it writes and did not ask for is the cell that it chooses
+  pub takes : OfPlans m (λ k job given latched p after. Chooses k given after p)
+  pub takes_undo : OfBacks m (λ k told given latched p after. ChoosesBack told k given after p)
+  -- the writes of a plan that tells a deed are of slots of the store, and so are those of what takes it back
+  pub slots : OfPlans m (λ k job given latched p after. m.reads p.deed ≡ true → AreOfSlots k p)
+  pub slots_undo : OfBacks m (λ k told given latched p after. AreBackOfSlots told k p)
   -- it asks for no slot twice, and for three at most
   pub asks : (job : Job) (given : List Given) → IsNotGiven given (m.want job given)
   pub few : (job : Job) (given : List Given) → IsGathered m job given → length given ≤ 3
