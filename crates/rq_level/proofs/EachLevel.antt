@@ -27,7 +27,7 @@ use Rattle.rq_level.specs.Lawful.{IsNotGiven, AllLawful, AppliedTwiceIsOnce, May
 use Rattle.rq_level.specs.declared.slots.Given.{Given}
 use Rattle.rq_level.specs.declared.writes.SlotWrite.{SlotWrite}
 use Rattle.rq_level.proofs.Counted.{few_planned, few_undone, few_written, few_taken_back, silent_undone, silent_taken_back}
-use Rattle.rq_level.proofs.Noting.{any_order}
+use Rattle.rq_level.proofs.Noting.{alone, any_order}
 use Rattle.rq_level.proofs.ChainLaws as chains
 use Rattle.rq_level.proofs.Gathered as gathered
 use Rattle.rq_level.proofs.PageLaws as pages
@@ -228,6 +228,7 @@ all_lawful zero = record {
   ended_undo = λ q k told given latched p after h. ap (noted_each page_meaning q (map (λ (w : SlotWrite). w.at) p.writes.items)) (pages.back_kept k given latched p after told h);
   last = λ k a x y. refl;
   commutes = λ k a b x y m n o. refl;
+  alone = λ k z a i x e n o. (refl, refl, refl);
   room = λ k a x. (refl, refl);
 }
 all_lawful (suc zero) = record {
@@ -260,6 +261,7 @@ all_lawful (suc zero) = record {
   ended_undo = chains.back_forgets;
   last = twice;
   commutes = any_order;
+  alone = alone;
   room = keeps_room;
 }
 all_lawful (suc (suc n)) = record {
@@ -292,6 +294,7 @@ all_lawful (suc (suc n)) = record {
   ended_undo = λ q k told given latched p after h. absurd h;
   last = λ k a x y. refl;
   commutes = λ k a b x y m n o. refl;
+  alone = λ k z a i x e n o. (refl, refl, refl);
   room = λ k a x. (refl, refl);
 }
 

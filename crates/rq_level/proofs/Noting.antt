@@ -1,9 +1,10 @@
 -- Slots that are noted one after the other.
-use Rattle.std.proofs.Common.{◌≡◌, ◌≢◌, ℕ, ◌/◌, ◌%◌, nat_lt, ◌&&◌, List, Bool, true, false, Option, None, Some, set, refl, sym, ap, ◌∙◌, inl, inr}
+use Rattle.std.proofs.Common.{◌≡◌, ◌≢◌, ℕ, ◌/◌, ◌%◌, nat_lt, ◌&&◌, List, Bool, true, false, Option, None, Some, set, refl, sym, ap, ◌∙◌, subst, inl, inr}
 use Rattle.std.proofs.lemmas.Bool.{cases_Bool, ne_eqb, and_parts, ltb-true}
-use Rattle.std.proofs.lemmas.List.{set_comm}
+use Rattle.std.proofs.lemmas.List.{get_or-set_other, set_comm}
 use Rattle.rq_page.specs.Sizes.{Sizes, IsCellAddress, cell_at, place_of, page_count}
 use Rattle.rq_page.proofs.Addresses.{places_are_cells}
+use Rattle.rq_level.specs.Lawful.{IsUntouchedAt}
 use Rattle.rq_level.specs.LevelState.{LevelState, noted, noted_in, noted_cell, is_cell_address, is_free_slot}
 
 cells_apart : (z : Sizes) (k : LevelState) (i j : ℕ) (x y : Bool) → i ≢ j → noted_cell z (noted_cell z k i x) j y ≡ noted_cell z (noted_cell z k j y) i x
@@ -49,3 +50,16 @@ any_order k a b x y m n o =
     ap (λ (l : LevelState). noted l b y) (not_first k a x m) ∙ not_first (noted_in k.sizes k a x) b y n ∙ one_then k.sizes k a b x y refl
     ∙ in_any_order k.sizes k a b x y o
     ∙ sym (ap (λ (l : LevelState). noted l a x) (not_first k b y n) ∙ not_first (noted_in k.sizes k b y) a x m ∙ one_then k.sizes k b a y x refl)
+
+-- the flags of other places stay
+alone_in : (z : Sizes) (k : LevelState) (a i : ℕ) (x : List ℕ) → (IsCellAddress z a → i ≢ place_of z a) → IsUntouchedAt i (noted_in (Some z) k a x) k
+alone_in z k a i x n = elim (cases_Bool (is_cell_address z a)) [
+  | inl y ↦
+      let off = n (is_cell z a y) in
+      rw y (refl, get_or-set_other k.free (place_of z a) i (is_free_slot x) false off, get_or-set_other k.reserved (place_of z a) i false false off)
+  | inr not_one ↦ rw not_one (refl, refl, refl)
+]
+
+pub alone : (k : LevelState) (z : Sizes) (a i : ℕ) (x : List ℕ) → k.sizes ≡ Some z → a ≢ 1 → (IsCellAddress z a → i ≢ place_of z a) → IsUntouchedAt i (noted k a x) k
+alone k z a i x told m n =
+    subst (λ (l : LevelState). IsUntouchedAt i l k) (sym (not_first k a x m ∙ ap (λ (o : Option Sizes). noted_in o k a x) told)) (alone_in z k a i x n)

@@ -6,12 +6,12 @@ use Rattle.rq_model.specs.declared.refusal.Refusal.TheVariants as why
 use Rattle.rq_model.specs.declared.record.Deed.{Deed}
 use Rattle.rq_model.specs.Deeds.{deed_in}
 use Rattle.rq_model.specs.Vocabulary.{is_some}
-use Rattle.rq_page.specs.Sizes.{Sizes}
+use Rattle.rq_page.specs.Sizes.{Sizes, IsCellAddress, place_of}
 use Rattle.rq_views.specs.Chain.{View}
 use Rattle.rq_views.specs.Items.{layout_of}
 use Rattle.rq_views.specs.Log.{HasBefores, Slots}
 use Rattle.rq_views.specs.Plans.{ShowsAt, deed_sender}
-use Rattle.rq_level.specs.LevelState.{LevelState}
+use Rattle.rq_level.specs.LevelState.{LevelState, flag_at}
 use Rattle.rq_level.specs.Ops.{Job}
 use Rattle.rq_level.specs.Given.{given_at}
 use Rattle.rq_level.specs.Writes.{answer_of}
@@ -31,6 +31,11 @@ MayHaveNoPlan why.NoMemory = Unit {0}
 MayHaveNoPlan why.Latched = Unit {0}
 MayHaveNoPlan (why.Damaged d) = Unit {0}
 MayHaveNoPlan _ = ⊥
+
+-- the sizes and the flags at this place are as they were
+abbrev pub IsUntouchedAt : ℕ → LevelState → LevelState → Type 0
+IsUntouchedAt i now k = (now.sizes ≡ k.sizes) × (flag_at now.free i ≡ flag_at k.free i)
+    × (flag_at now.reserved i ≡ flag_at k.reserved i)
 
 pub record IsLawful (m : Meaning) : Type 0 where
   -- what is not planned leaves what the level keeps, and is refused for memory, a latch or damage alone
@@ -94,6 +99,9 @@ pub record IsLawful (m : Meaning) : Type 0 where
   -- slots are noted in any order, but for the one that tells the sizes
   pub commutes : (k : LevelState) (a b : ℕ) (x y : List ℕ) → a ≢ 1 → b ≢ 1 → a ≢ b
       → m.note (m.note k a x) b y ≡ m.note (m.note k b y) a x
+  -- but for that one, to note a slot changes the flags of its own cell alone
+  pub alone : (k : LevelState) (z : Sizes) (a i : ℕ) (x : List ℕ) → k.sizes ≡ Some z → a ≢ 1
+      → (IsCellAddress z a → i ≢ place_of z a) → IsUntouchedAt i (m.note k a x) k
   -- noting keeps how many flags there are
   pub room : (k : LevelState) (a : ℕ) (x : List ℕ)
       → (length (m.note k a x).free ≡ length k.free) × (length (m.note k a x).reserved ≡ length k.reserved)
