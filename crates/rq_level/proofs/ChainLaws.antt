@@ -12,7 +12,7 @@ use Rattle.rq_page.specs.Sizes.{Sizes, IsCellAddress, place_of}
 use Rattle.rq_page.specs.Slots.{Free}
 use Rattle.rq_views.specs.Log.{Write}
 use Rattle.rq_views.specs.Plans.{relinked}
-use Rattle.rq_level.specs.Asked.{AreWanted, IsGathered, job_back, AreNoted, AreOver, AreBackOver, AreWritten, SparesCells, noted_each, Knows, AreAsGiven, AreOverSlots, Chooses, ChoosesBack, AreOfSlots, AreBackOfSlots}
+use Rattle.rq_level.specs.Asked.{AreWanted, IsGathered, job_back, AreNoted, AreOver, AreBackOver, AreWritten, AsksForNone, noted_each, Knows, AreAsGiven, AreOverSlots, Chooses, ChoosesBack, AreOfSlots, AreBackOfSlots}
 use Rattle.rq_level.specs.ChainPlans as chain
 use Rattle.rq_level.specs.ChainPlans.{Plans, PlansFor, Undoes, chain_plans, chain_undoes, job_wanted}
 use Rattle.rq_level.specs.Given.{AreGiven, given_at}
@@ -71,7 +71,7 @@ module _ (k : LevelState) (given : List Given) (latched : List ℕ) (p : Plan) (
   writes : AreWanted want [] given → AreWritten given p
   writes w = all_each (λ (g : Given). In g.at (map (λ (x : SlotWrite). x.at) p.writes.items)) given (λ g i. (m.touched w g i).written)
 
-  spares : AreWanted want [] given → AreNoted chain_meaning k given → SparesCells k latched given
+  spares : AreWanted want [] given → AreNoted chain_meaning k given → AsksForNone k latched given
   spares w noted_so z a told l = by (given_at a given) refl where
     by : (o : Option (List ℕ)) → given_at a given ≡ o → o ≡ None
     by None e = refl
@@ -110,10 +110,10 @@ plan_writes k job given latched p after h = writes k given latched p after (job_
 pub back_writes : (k : LevelState) (told : Record) (given : List Given) (latched : List ℕ) (p : Plan) (after : LevelState) → chain_undoes k told given latched (Ok p) after → IsGathered chain_meaning (job_back told) given → AreWritten given p
 back_writes k told given latched p after h = writes k given latched p after (job_wanted (job_back told)) (backed k given latched p after told h)
 
-pub plan_spares : (k : LevelState) (job : Job) (given : List Given) (latched : List ℕ) (p : Plan) (after : LevelState) → chain_plans k job given latched (Ok p) after → IsGathered chain_meaning job given → AreNoted chain_meaning k given → after ≢ k → SparesCells k latched given
+pub plan_spares : (k : LevelState) (job : Job) (given : List Given) (latched : List ℕ) (p : Plan) (after : LevelState) → chain_plans k job given latched (Ok p) after → IsGathered chain_meaning job given → AreNoted chain_meaning k given → after ≢ k → AsksForNone k latched given
 plan_spares k job given latched p after h w noted_so ne = spares k given latched p after (job_wanted job) (planned k given latched p after job h) w noted_so
 
-pub back_spares : (k : LevelState) (told : Record) (given : List Given) (latched : List ℕ) (p : Plan) (after : LevelState) → chain_undoes k told given latched (Ok p) after → IsGathered chain_meaning (job_back told) given → AreNoted chain_meaning k given → after ≢ k → SparesCells k latched given
+pub back_spares : (k : LevelState) (told : Record) (given : List Given) (latched : List ℕ) (p : Plan) (after : LevelState) → chain_undoes k told given latched (Ok p) after → IsGathered chain_meaning (job_back told) given → AreNoted chain_meaning k given → after ≢ k → AsksForNone k latched given
 back_spares k told given latched p after h w noted_so ne = spares k given latched p after (job_wanted (job_back told)) (backed k given latched p after told h) w noted_so
 
 pub plan_takes : (k : LevelState) (job : Job) (given : List Given) (latched : List ℕ) (p : Plan) (after : LevelState) → chain_plans k job given latched (Ok p) after → Chooses k given after p

@@ -1,5 +1,6 @@
 -- What takes an operation of the level of chains back leaves what others did on the other end.
 use Rattle.std.proofs.Common.{◌≡◌, ℕ, zero, suc, ◌+◌, ◌<◌, List, length, Bool, true, false, Option, None, Some, Ok, refl, sym, ap, ◌∙◌, subst, arith}
+use Rattle.std.proofs.lemmas.Bool.{false≢true}
 use Rattle.std.proofs.lemmas.List.{length-map}
 use Rattle.rq_model.specs.declared.record.Deed.{Deed}
 use Rattle.rq_model.specs.declared.record.Deed.TheVariants.{Append, UnlinkHead, Close as Close_deed}
@@ -9,6 +10,7 @@ use Rattle.rq_page.specs.Sizes.{Sizes}
 use Rattle.rq_page.specs.Slots.{Free, Used}
 use Rattle.rq_views.specs.Chain.{View, message}
 use Rattle.rq_views.specs.Groups.{TellsView}
+use Rattle.rq_views.specs.Inverses.{is_of_receiver}
 use Rattle.rq_views.specs.Items.{layout_of}
 use Rattle.rq_views.specs.Log.{HasBefores, Slots}
 use Rattle.rq_views.specs.Plans.{IsPlan, ShowsAt, Turn, deed_sender, turn_sender, with_turn}
@@ -22,7 +24,7 @@ use Rattle.rq_level.specs.LevelState.{LevelState, IsLowest}
 use Rattle.rq_level.specs.Meaning.{chain_meaning}
 use Rattle.rq_level.specs.Ops.{Doing}
 use Rattle.rq_level.specs.Ops.Doing.{Send, Receive, Close}
-use Rattle.rq_level.specs.TakenBack.{IsOpenFor, LeadsBack, LeavesAt, LeavesOthers, made}
+use Rattle.rq_level.specs.TakenBack.{LeadsBack, LeavesAt, LeavesOthers, newest_first}
 use Rattle.rq_level.specs.declared.slots.Given.{Given}
 use Rattle.rq_level.specs.declared.writes.Plan.{Plan}
 use Rattle.rq_level.proofs.Based.{lowest_cell}
@@ -30,6 +32,10 @@ use Rattle.rq_level.proofs.Links.{Names, received, returned, sent, unsent}
 
 same_deed : (c d : Deed) → Some c ≡ Some d → c ≡ d
 same_deed c d e = cc
+
+-- nothing is sent to a closed group
+abbrev IsOpenFor : Deed → View → Type 0
+IsOpenFor d v = is_of_receiver (Did d) ≡ false → v.closed ≡ false
 
 -- no cell stands at 0
 used_at : (z : Sizes) (given : List Given) (a : ℕ) (c : Cell) → GivenHolds z given a (Used c) → 0 < a
@@ -46,36 +52,36 @@ names z given a (Some c) b = used_at z given a c b
 taken_at : (z : Sizes) (k : LevelState) (latched : List ℕ) (a : ℕ) → IsLowest z k latched a → 0 < a
 taken_at z k latched a l = let above = (lowest_cell z k latched a l).above in omega (arith, above)
 
-module _ (z : Sizes) (k : LevelState) (given : List Given) (latched : List ℕ) (p : Plan) (after : LevelState) (q : Slots) (v : View) (fits : HasBefores (made z p) q) where
+module _ (z : Sizes) (k : LevelState) (given : List Given) (latched : List ℕ) (p : Plan) (after : LevelState) (q : Slots) (v : View) (fits : HasBefores (newest_first z p) q) where
   abbrev HasPlan : Deed → Type 0
-  HasPlan d = ShowsAt (layout_of z) q (deed_sender d) v → IsOpenFor d v → IsPlan (layout_of z) (Did d) (made z p) × TellsView d v
+  HasPlan d = ShowsAt (layout_of z) q (deed_sender d) v → IsPlan (layout_of z) (Did d) (newest_first z p) × (IsOpenFor d v → TellsView d v)
 
   -- the plan is of its deed, which tells the view
   of_deed : (o : Option Doing) (d : Deed) → Plans (Some z) o k given latched (Ok p) after → deed_in p.deed ≡ Some d → HasPlan d
   of_deed (Some (Send s tag body)) d h told = subst HasPlan (same_deed _ d (sym h.reads ∙ told)) is where
     is : HasPlan (Append s (h.can.directory.sent + 1) tag h.can.directory.last_tag body)
-    is shows open_for =
+    is shows =
         let r = sent (layout_of z) q s v h.can.directory shows h.new tag body h.can.old (names z given h.can.directory.tail h.can.old h.can.beside) (subst (λ ws. HasBefores ws q) h.writes fits) in
         let e = r.0.sent in
         let f = r.0.received in
         let g : length v.messages ≡ length r.0.nodes = ap (λ (x : List (ℕ × List ℕ)). length x) r.0.messages ∙ length-map r.0.nodes message in (
           record { directory = h.can.directory; new = h.new; old = h.can.old; used = taken_at z k latched h.new h.lowest; sequence = refl; previous_is = refl; old_is = r.1; writes = h.writes },
-          (sym r.0.last_tag, omega (arith, e, f, g), open_for refl),
+          λ open_for. (sym r.0.last_tag, omega (arith, e, f, g), open_for refl),
         )
   of_deed (Some (Receive s)) d h told = subst HasPlan (same_deed _ d (sym h.reads ∙ told)) is where
     is : HasPlan (UnlinkHead s (h.can.directory.received + 1) h.can.cell.tag h.can.cell.body)
-    is shows open_for =
+    is shows =
         let r = received (layout_of z) q s v h.can.directory shows h.can.cell h.can.next h.can.used (names z given h.can.cell.next h.can.next h.can.beside) (subst (λ ws. HasBefores ws q) h.writes fits) in (
           record { directory = h.can.directory; cell = h.can.cell; next = h.can.next; used = h.can.used; sender = r.1.sender; sequence = refl; tag_is = refl; body_is = refl; next_is = r.2; writes = h.writes },
-          (r.1.rest, r.1.messages, ap (λ n. n + 1) (sym r.0.received)),
+          λ open_for. (r.1.rest, r.1.messages, ap (λ n. n + 1) (sym r.0.received)),
         )
   of_deed (Some (Close s)) d h told = subst HasPlan (same_deed _ d (sym h.reads ∙ told)) is where
     is : HasPlan (Close_deed s)
-    is shows open_for = (record { directory = h.marked.can.directory; writes = h.marked.writes }, open_for refl)
+    is shows = (record { directory = h.marked.can.directory; writes = h.marked.writes }, λ open_for. open_for refl)
   of_deed None d h told = absurd h
 
   -- and that of what takes it back is of its inverse
-  of_back : (d : Deed) → Undoes (Some z) (Some d) k given latched (Ok p) after → ShowsAt (layout_of z) q (deed_sender d) v → IsPlan (layout_of z) (Undid d) (made z p)
+  of_back : (d : Deed) → Undoes (Some z) (Some d) k given latched (Ok p) after → ShowsAt (layout_of z) q (deed_sender d) v → IsPlan (layout_of z) (Undid d) (newest_first z p)
   of_back (Append s n tag previous body) h shows =
       let r = unsent (layout_of z) q s v h.can.directory shows h.can.cell previous h.can.front h.can.used (names z given h.can.cell.prev h.can.front h.can.beside) (subst (λ ws. HasBefores ws q) h.writes fits) in
       record { directory = h.can.directory; cell = h.can.cell; front = h.can.front; used = h.can.used; sender = r.0; sequence = sym h.can.last; front_is = r.1; writes = h.writes }
@@ -92,14 +98,14 @@ module _ (z : Sizes) (k : LevelState) (given : List Given) (latched : List ℕ) 
   of_back (Close_deed s) h shows = record { directory = h.marked.can.directory; writes = h.marked.writes }
 
 -- the writes of a turn
-leaves_at : (z : Sizes) (p : Plan) (q : Slots) (t : Turn) (v : View) → IsPlan (layout_of z) t (made z p) → HasBefores (made z p) q → ShowsAt (layout_of z) q (turn_sender t) v → LeavesAt z p q (turn_sender t) (with_turn t v)
+leaves_at : (z : Sizes) (p : Plan) (q : Slots) (t : Turn) (v : View) → IsPlan (layout_of z) t (newest_first z p) → HasBefores (newest_first z p) q → ShowsAt (layout_of z) q (turn_sender t) v → LeavesAt z p q (turn_sender t) (with_turn t v)
 leaves_at z p q t v is fits shows = (
-  own_law (layout_of z) q (made z p) t v is fits shows,
-  λ r x ne h. others (layout_of z) q (made z p) r x (plan_spares (layout_of z) r t (made z p) ne is) fits h,
+  own_law (layout_of z) q (newest_first z p) t v is fits shows,
+  λ r x ne h. others (layout_of z) q (newest_first z p) r x (plan_spares (layout_of z) r t (newest_first z p) ne is) fits h,
 )
 
 -- it is taken back to what the others alone led to
-module _ (z : Sizes) (k : LevelState) (given : List Given) (latched : List ℕ) (p : Plan) (after : LevelState) (d : Deed) (v : View) (q : Slots) (told : deed_in p.deed ≡ Some d) (fits : HasBefores (made z p) q) (shows : ShowsAt (layout_of z) q (deed_sender d) v) (open_for : IsOpenFor d v) where
+module _ (z : Sizes) (k : LevelState) (given : List Given) (latched : List ℕ) (p : Plan) (after : LevelState) (d : Deed) (v : View) (q : Slots) (told : deed_in p.deed ≡ Some d) (fits : HasBefores (newest_first z p) q) (shows : ShowsAt (layout_of z) q (deed_sender d) v) where
   back_to : (u w : View) → with_turn (Undid d) u ≡ w → LeadsBack chain_meaning z (deed_sender d) p.deed u w
   back_to u w e l t n level back held r kept x sizes h over shown =
       let is : Undoes (Some z) (Some d) l back held (Ok r) kept = subst (λ o. Undoes o (Some d) l back held (Ok r) kept) sizes (subst (λ o. Undoes l.sizes o l back held (Ok r) kept) told h) in
@@ -107,15 +113,15 @@ module _ (z : Sizes) (k : LevelState) (given : List Given) (latched : List ℕ) 
 
   leaves_others : (o : Option Doing) → Plans (Some z) o k given latched (Ok p) after → LeavesOthers chain_meaning z d v q p
   leaves_others o h =
-      let m = of_deed z k given latched p after q v fits o d h told shows open_for in
+      let m = of_deed z k given latched p after q v fits o d h told shows in
       record {
         does = leaves_at z p q (Did d) v m.0 fits shows;
-        takings = λ e ops u w a b. back_to u w (inverses_leave.sending (Did d) ops v w u e m.1 b a);
-        sendings = λ e ops u w a b. back_to u w (inverses_leave.receiving (Did d) ops v w u e m.1 b a);
+        takings = λ e closed ops u w a b. back_to u w (inverses_leave.sending (Did d) ops v w u e (m.1 (λ x. closed)) b a);
+        sendings = λ e ops u w a b. back_to u w (inverses_leave.receiving (Did d) ops v w u e (m.1 (λ x. absurd (false≢true (sym x ∙ e)))) b a);
       }
 
 pub taken_back : (undo : Bool) (z : Sizes) (o : Option Doing) (k : LevelState) (given : List Given) (latched : List ℕ) (p : Plan) (after : LevelState) (d : Deed) (v : View) (q : Slots) → k.sizes ≡ Some z → PlansFor undo k.sizes o k given latched (Ok p) after
-    → deed_in p.deed ≡ Some d → HasBefores (made z p) q → ShowsAt (layout_of z) q (deed_sender d) v → IsOpenFor d v → LeavesOthers chain_meaning z d v q p
-taken_back true z o k given latched p after d v q sizes h told fits shows open_for = absurd h
-taken_back false z o k given latched p after d v q sizes h told fits shows open_for =
-    leaves_others z k given latched p after d v q told fits shows open_for o (subst (λ s. Plans s o k given latched (Ok p) after) sizes h)
+    → deed_in p.deed ≡ Some d → HasBefores (newest_first z p) q → ShowsAt (layout_of z) q (deed_sender d) v → LeavesOthers chain_meaning z d v q p
+taken_back true z o k given latched p after d v q sizes h told fits shows = absurd h
+taken_back false z o k given latched p after d v q sizes h told fits shows =
+    leaves_others z k given latched p after d v q told fits shows o (subst (λ s. Plans s o k given latched (Ok p) after) sizes h)

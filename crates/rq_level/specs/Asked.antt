@@ -19,15 +19,16 @@ use Rattle.rq_level.specs.declared.writes.Outcome.TheVariants as gives
 use Rattle.rq_level.specs.declared.writes.Plan.{Plan}
 use Rattle.rq_level.specs.declared.writes.SlotWrite.{SlotWrite}
 
--- what was given behind the first of them is what was wanted, one after the other
+-- each of the later slots was asked for, given those before it
 abbrev pub AreWanted : (List Given → Option ℕ) → List Given → List Given → Type 0
 AreWanted want front [] = Unit {0}
 AreWanted want front (g ∷ gs) = (want front ≡ Some g.at) × AreWanted want (front ++ g ∷ []) gs
 
+-- these slots were given as the level asked for them, from the first on
 abbrev pub IsGathered : Meaning → Job → List Given → Type 0
 IsGathered m job given = AreWanted (m.want job) [] given
 
--- for what is asked before a record is taken back
+-- the operation that slots are asked for before a record is taken back
 abbrev pub job_back : Record → Job
 job_back (OpEnd t n level deed) = record { level = level; undo = true; bytes = deed }
 job_back _ = record { level = 0; undo = true; bytes = [] }
@@ -69,16 +70,16 @@ written_at p = map (λ w. w.at) p.writes.items
 abbrev pub AreWritten : List Given → Plan → Type 0
 AreWritten given p = All (λ g. In g.at (written_at p)) given
 
--- none of them is a cell that may be taken
-abbrev pub SparesCells : LevelState → List ℕ → List Given → Type 0
-SparesCells k latched given = (z : Sizes) (a : ℕ) → k.sizes ≡ Some z → IsLowest z k latched a → given_at a given ≡ None
+-- the lowest cell that may be taken is none of them
+abbrev pub AsksForNone : LevelState → List ℕ → List Given → Type 0
+AsksForNone k latched given = (z : Sizes) (a : ℕ) → k.sizes ≡ Some z → IsLowest z k latched a → given_at a given ≡ None
 
 -- what is kept once the slots at these addresses are noted
 abbrev pub noted_each : Meaning → (ℕ → List ℕ) → List ℕ → LevelState → LevelState
 noted_each m q [] k = k
 noted_each m q (a ∷ places) k = noted_each m q places (m.note k a (q a))
 
--- the slots are those of the store that was told, and to note one as it is changes nothing
+-- the slots are those of the store that was told, no cell is chosen, and to note a slot as it is changes nothing
 pub record Knows (m : Meaning) (k : LevelState) (q : ℕ → List ℕ) : Type 0 where
   pub slots : (z : Sizes) (a : ℕ) → k.sizes ≡ Some z → IsStoreSlot z a → IsSlotOf z (a / 16) (a % 16) (q a)
   pub noted : (a : ℕ) → m.note k a (q a) ≡ k

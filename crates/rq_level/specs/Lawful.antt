@@ -15,9 +15,9 @@ use Rattle.rq_level.specs.LevelState.{LevelState, flag_at}
 use Rattle.rq_level.specs.Ops.{Job}
 use Rattle.rq_level.specs.Given.{given_at}
 use Rattle.rq_level.specs.Writes.{answer_of}
-use Rattle.rq_level.specs.Asked.{IsGathered, job_back, answer_back, AreNoted, AreOver, AreBackOver, AreWritten, SparesCells, noted_each, written_at, Knows, AreAsGiven, StandsYet, AreOverSlots, Chooses, ChoosesBack, AreOfSlots, AreBackOfSlots}
+use Rattle.rq_level.specs.Asked.{IsGathered, job_back, answer_back, AreNoted, AreOver, AreBackOver, AreWritten, AsksForNone, noted_each, written_at, Knows, AreAsGiven, StandsYet, AreOverSlots, Chooses, ChoosesBack, AreOfSlots, AreBackOfSlots}
 use Rattle.rq_level.specs.OwnState.{OwnStateIsAnew}
-use Rattle.rq_level.specs.TakenBack.{IsOpenFor, LeavesOthers, made}
+use Rattle.rq_level.specs.TakenBack.{LeavesOthers, newest_first}
 use Rattle.rq_level.specs.Meaning.{Meaning, OfPlans, OfBacks, AreOf, Redo, AppliesOnce, meaning_of}
 use Rattle.rq_level.specs.declared.slots.Given.{Given}
 
@@ -57,13 +57,13 @@ pub record IsLawful (m : Meaning) : Type 0 where
   pub holds_undo : (q : ℕ → List ℕ) → OfBacks m (λ k told given latched p after. Knows m k q → AreOf k.sizes given
       → AreAsGiven q given → StandsYet q told → AreOverSlots q p.writes.items)
   -- each slot that it asked for is written
-  pub wanted : OfPlans m (λ k job given latched p after. IsGathered m job given → AreWritten given p)
-  pub wanted_undo : OfBacks m (λ k told given latched p after. IsGathered m (job_back told) given → AreWritten given p)
+  pub asked_is_written : OfPlans m (λ k job given latched p after. IsGathered m job given → AreWritten given p)
+  pub asked_is_written_undo : OfBacks m (λ k told given latched p after. IsGathered m (job_back told) given → AreWritten given p)
   -- where it takes a cell, it did not ask for it
   pub spares : OfPlans m (λ k job given latched p after. IsGathered m job given → AreNoted m k given → after ≢ k
-      → SparesCells k latched given)
+      → AsksForNone k latched given)
   pub spares_undo : OfBacks m (λ k told given latched p after. IsGathered m (job_back told) given → AreNoted m k given
-      → after ≢ k → SparesCells k latched given)
+      → after ≢ k → AsksForNone k latched given)
   -- a slot that it writes and did not ask for is the cell that it chooses
   pub takes : OfPlans m (λ k job given latched p after. Chooses k given after p)
   pub takes_undo : OfBacks m (λ k told given latched p after. ChoosesBack told k given after p)
@@ -84,10 +84,10 @@ pub record IsLawful (m : Meaning) : Type 0 where
   pub replies : OfPlans m (λ k job given latched p after. (d : Deed) → deed_in p.deed ≡ Some d
       → p.reply ≡ Some (answer_of d))
   pub replies_undo : OfBacks m (λ k told given latched p after. p.reply ≡ answer_back told)
-  -- a plan does to its sender's chain what its deed tells, and what takes that back leaves what was done meanwhile on the
-  -- other end; neither changes another chain
+  -- a plan does to its sender's chain what its deed tells. What takes that back leaves what was done meanwhile on the
+  -- other end. Neither changes another chain
   pub inverse : (z : Sizes) (d : Deed) (v : View) (q : Slots) → OfPlans m (λ k job given latched p after. k.sizes ≡ Some z
-      → deed_in p.deed ≡ Some d → HasBefores (made z p) q → ShowsAt (layout_of z) q (deed_sender d) v → IsOpenFor d v
+      → deed_in p.deed ≡ Some d → HasBefores (newest_first z p) q → ShowsAt (layout_of z) q (deed_sender d) v
       → LeavesOthers m z d v q p)
   -- once the slots that a plan writes were noted, whatever they hold, the level keeps what it would without the plan
   pub ended : (q : ℕ → List ℕ) → OfPlans m (λ k job given latched p after.

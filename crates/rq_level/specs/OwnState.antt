@@ -13,8 +13,8 @@ with_bytes q a x b = if b == a then x else q b
 abbrev pub without : ℕ → List ℕ → List ℕ
 without a places = filter (λ b. not (nat_eq b a)) places
 
--- Once the slots that are left to be noted are noted, it is what would be kept if, from the opening on, each slot of the
--- store had been noted once, as it is.
+-- Note the slots that are left. The level then keeps what it would, had each slot been noted once since the opening, as
+-- it is.
 abbrev pub IsAnew : Meaning → LevelState → List ℕ → LevelState → (ℕ → List ℕ) → List ℕ → Type 0
 IsAnew m opened all k q left = noted_each m q left k ≡ noted_each m q all opened
 

@@ -17,29 +17,25 @@ use Rattle.rq_level.specs.declared.slots.Given.{Given}
 use Rattle.rq_level.specs.declared.writes.Plan.{Plan}
 
 -- the writes of a plan, the newest first
-abbrev pub made : Sizes → Plan → List Write
-made z p = reverse (writes_of z p.writes.items)
+abbrev pub newest_first : Sizes → Plan → List Write
+newest_first z p = reverse (writes_of z p.writes.items)
 
--- the writes leave slots that show v for s, and every other chain as it was
+-- the writes leave slots that show v for s, and each other whole chain as it was
 abbrev pub LeavesAt : Sizes → Plan → Slots → ℕ → View → Type 0
-LeavesAt z p q s v = ShowsAt (layout_of z) (applied (made z p) q) s v
-    × ((r : ℕ) (x : View) → s ≢ r → ShowsAt (layout_of z) q r x → ShowsAt (layout_of z) (applied (made z p) q) r x)
+LeavesAt z p q s v = ShowsAt (layout_of z) (applied (newest_first z p) q) s v
+    × ((r : ℕ) (x : View) → s ≢ r → ShowsAt (layout_of z) q r x → ShowsAt (layout_of z) (applied (newest_first z p) q) r x)
 
 -- over slots that show u for s, what takes back the operation whose end tells the deed leaves slots that show w
 abbrev pub LeadsBack : Meaning → Sizes → ℕ → List ℕ → View → View → Type 0
 LeadsBack m z s deed u w = (k : LevelState) (t : Txn) (n level : ℕ) (given : List Given) (latched : List ℕ) (p : Plan)
     (after : LevelState) (q : Slots) → k.sizes ≡ Some z → m.undoes k (OpEnd t n level deed) given latched (Ok p) after
-    → HasBefores (made z p) q → ShowsAt (layout_of z) q s u → LeavesAt z p q s w
+    → HasBefores (newest_first z p) q → ShowsAt (layout_of z) q s u → LeavesAt z p q s w
 
--- The operation does to the view v what its deed tells. Operations on the other end of the chain lead on from there to u;
--- without it they could be done, too, with the same replies, and led from v to w. What takes it back leads from u to w.
+-- The operation does to the view v what its deed tells. Operations on the other end lead on from there to u. They could be
+-- done without it too, with the same replies, and would lead from v to w. What takes it back leads from u to w.
 pub record LeavesOthers (m : Meaning) (z : Sizes) (d : Deed) (v : View) (q : Slots) (p : Plan) : Type 0 where
   pub does : LeavesAt z p q (deed_sender d) (with_turn (Did d) v)
-  pub takings : is_of_receiver (Did d) ≡ false → (ops : List Taking) (u w : View) → AreTaken ops (with_turn (Did d) v) u
-      → AreTaken ops v w → LeadsBack m z (deed_sender d) p.deed u w
+  pub takings : is_of_receiver (Did d) ≡ false → v.closed ≡ false → (ops : List Taking) (u w : View)
+      → AreTaken ops (with_turn (Did d) v) u → AreTaken ops v w → LeadsBack m z (deed_sender d) p.deed u w
   pub sendings : is_of_receiver (Did d) ≡ true → (ops : List Sending) (u w : View) → AreSent ops (with_turn (Did d) v) u
       → AreSent ops v w → LeadsBack m z (deed_sender d) p.deed u w
-
--- nothing is sent to a closed group
-abbrev pub IsOpenFor : Deed → View → Type 0
-IsOpenFor d v = is_of_receiver (Did d) ≡ false → v.closed ≡ false
