@@ -8,6 +8,7 @@ pub mod ChainLaws
 pub mod PageLaws
 pub mod Anew
 pub mod Links
+pub mod Fits
 pub mod TakenBack
 pub mod Counted
 pub mod Superblock

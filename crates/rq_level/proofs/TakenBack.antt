@@ -1,7 +1,9 @@
 -- What takes an operation of the level of chains back leaves what others did on the other end.
 use Rattle.std.proofs.Common.{◌≡◌, ℕ, zero, suc, ◌+◌, ◌<◌, List, length, Bool, true, false, Option, None, Some, Ok, refl, sym, ap, ◌∙◌, subst, arith}
 use Rattle.std.proofs.lemmas.Bool.{false≢true}
+use Rattle.std.specs.List.{AllByRecursion}
 use Rattle.std.proofs.lemmas.List.{length-map}
+use Rattle.std.proofs.lemmas.List.Elements.{recursion_from_All}
 use Rattle.rq_model.specs.declared.record.Deed.{Deed}
 use Rattle.rq_model.specs.declared.record.Deed.TheVariants.{Append, UnlinkHead, Close as Close_deed}
 use Rattle.rq_model.specs.Deeds.{deed_in}
@@ -12,7 +14,7 @@ use Rattle.rq_views.specs.Chain.{View, message}
 use Rattle.rq_views.specs.Groups.{TellsView}
 use Rattle.rq_views.specs.Inverses.{is_of_receiver}
 use Rattle.rq_views.specs.Items.{layout_of}
-use Rattle.rq_views.specs.Log.{HasBefores, Slots}
+use Rattle.rq_views.specs.Log.{HasBefores, Slots, Write}
 use Rattle.rq_views.specs.Plans.{IsPlan, ShowsAt, Turn, deed_sender, turn_sender, with_turn}
 use Rattle.rq_views.specs.Plans.Turn.{Did, Undid}
 use Rattle.rq_views.proofs.ChainLaws.{others}
@@ -24,10 +26,11 @@ use Rattle.rq_level.specs.LevelState.{LevelState, IsLowest}
 use Rattle.rq_level.specs.Meaning.{chain_meaning}
 use Rattle.rq_level.specs.Ops.{Doing}
 use Rattle.rq_level.specs.Ops.Doing.{Send, Receive, Close}
-use Rattle.rq_level.specs.TakenBack.{LeadsBack, LeavesAt, LeavesOthers, newest_first}
+use Rattle.rq_level.specs.TakenBack.{AreOverHeld, LeadsBack, LeavesAt, LeavesOthers, newest_first}
 use Rattle.rq_level.specs.declared.slots.Given.{Given}
 use Rattle.rq_level.specs.declared.writes.Plan.{Plan}
 use Rattle.rq_level.proofs.Based.{lowest_cell}
+use Rattle.rq_level.proofs.Fits.{received_fits, returned_fits, sent_fits, unsent_fits}
 use Rattle.rq_level.proofs.Links.{Names, received, returned, sent, unsent}
 
 same_deed : (c d : Deed) → Some c ≡ Some d → c ≡ d
@@ -52,50 +55,67 @@ names z given a (Some c) b = used_at z given a c b
 taken_at : (z : Sizes) (k : LevelState) (latched : List ℕ) (a : ℕ) → IsLowest z k latched a → 0 < a
 taken_at z k latched a l = let above = (lowest_cell z k latched a l).above in omega (arith, above)
 
-module _ (z : Sizes) (k : LevelState) (given : List Given) (latched : List ℕ) (p : Plan) (after : LevelState) (q : Slots) (v : View) (fits : HasBefores (newest_first z p) q) where
+module _ (z : Sizes) (k : LevelState) (given : List Given) (latched : List ℕ) (p : Plan) (after : LevelState) (q : Slots) (v : View) (over : AreOverHeld q (newest_first z p)) where
+  each : (ws : List Write) → newest_first z p ≡ ws → AllByRecursion (λ (w : Write). w.before ≡ q w.at) ws
+  each ws e = recursion_from_All (λ (w : Write). w.before ≡ q w.at) ws (subst (AreOverHeld q) e over)
+
+  fit : (ws : List Write) → newest_first z p ≡ ws → HasBefores ws q → HasBefores (newest_first z p) q
+  fit ws e h = subst (λ ws. HasBefores ws q) (sym e) h
+
   abbrev HasPlan : Deed → Type 0
-  HasPlan d = ShowsAt (layout_of z) q (deed_sender d) v → IsPlan (layout_of z) (Did d) (newest_first z p) × (IsOpenFor d v → TellsView d v)
+  HasPlan d = ShowsAt (layout_of z) q (deed_sender d) v → IsPlan (layout_of z) (Did d) (newest_first z p) × HasBefores (newest_first z p) q × (IsOpenFor d v → TellsView d v)
 
   -- the plan is of its deed, which tells the view
   of_deed : (o : Option Doing) (d : Deed) → Plans (Some z) o k given latched (Ok p) after → deed_in p.deed ≡ Some d → HasPlan d
   of_deed (Some (Send s tag body)) d h told = subst HasPlan (same_deed _ d (sym h.reads ∙ told)) is where
     is : HasPlan (Append s (h.can.directory.sent + 1) tag h.can.directory.last_tag body)
     is shows =
-        let r = sent (layout_of z) q s v h.can.directory shows h.new tag body h.can.old (names z given h.can.directory.tail h.can.old h.can.beside) (subst (λ ws. HasBefores ws q) h.writes fits) in
+        let fits = sent_fits (layout_of z) q s v h.can.directory h.new tag body h.can.old (each _ h.writes) in
+        let r = sent (layout_of z) q s v h.can.directory shows h.new tag body h.can.old (names z given h.can.directory.tail h.can.old h.can.beside) fits in
         let e = r.0.sent in
         let f = r.0.received in
         let g : length v.messages ≡ length r.0.nodes = ap (λ (x : List (ℕ × List ℕ)). length x) r.0.messages ∙ length-map r.0.nodes message in (
           record { directory = h.can.directory; new = h.new; old = h.can.old; used = taken_at z k latched h.new h.lowest; sequence = refl; previous_is = refl; old_is = r.1; writes = h.writes },
+          fit _ h.writes fits,
           λ open_for. (sym r.0.last_tag, omega (arith, e, f, g), open_for refl),
         )
   of_deed (Some (Receive s)) d h told = subst HasPlan (same_deed _ d (sym h.reads ∙ told)) is where
     is : HasPlan (UnlinkHead s (h.can.directory.received + 1) h.can.cell.tag h.can.cell.body)
     is shows =
-        let r = received (layout_of z) q s v h.can.directory shows h.can.cell h.can.next h.can.used (names z given h.can.cell.next h.can.next h.can.beside) (subst (λ ws. HasBefores ws q) h.writes fits) in (
+        let fits = received_fits (layout_of z) q s v h.can.directory shows h.can.cell h.can.next h.can.used (each _ h.writes) in
+        let r = received (layout_of z) q s v h.can.directory shows h.can.cell h.can.next h.can.used (names z given h.can.cell.next h.can.next h.can.beside) fits in (
           record { directory = h.can.directory; cell = h.can.cell; next = h.can.next; used = h.can.used; sender = r.1.sender; sequence = refl; tag_is = refl; body_is = refl; next_is = r.2; writes = h.writes },
+          fit _ h.writes fits,
           λ open_for. (r.1.rest, r.1.messages, ap (λ n. n + 1) (sym r.0.received)),
         )
   of_deed (Some (Close s)) d h told = subst HasPlan (same_deed _ d (sym h.reads ∙ told)) is where
     is : HasPlan (Close_deed s)
-    is shows = (record { directory = h.marked.can.directory; writes = h.marked.writes }, λ open_for. open_for refl)
+    is shows = (record { directory = h.marked.can.directory; writes = h.marked.writes }, fit _ h.marked.writes ((each _ h.marked.writes).0, tt), λ open_for. open_for refl)
   of_deed None d h told = absurd h
 
   -- and that of what takes it back is of its inverse
-  of_back : (d : Deed) → Undoes (Some z) (Some d) k given latched (Ok p) after → ShowsAt (layout_of z) q (deed_sender d) v → IsPlan (layout_of z) (Undid d) (newest_first z p)
+  of_back : (d : Deed) → Undoes (Some z) (Some d) k given latched (Ok p) after → ShowsAt (layout_of z) q (deed_sender d) v → IsPlan (layout_of z) (Undid d) (newest_first z p) × HasBefores (newest_first z p) q
   of_back (Append s n tag previous body) h shows =
-      let r = unsent (layout_of z) q s v h.can.directory shows h.can.cell previous h.can.front h.can.used (names z given h.can.cell.prev h.can.front h.can.beside) (subst (λ ws. HasBefores ws q) h.writes fits) in
-      record { directory = h.can.directory; cell = h.can.cell; front = h.can.front; used = h.can.used; sender = r.0; sequence = sym h.can.last; front_is = r.1; writes = h.writes }
-  of_back (UnlinkHead s n tag body) h shows = record {
-    directory = h.can.directory;
-    new = h.new;
-    old = h.can.old;
-    used = taken_at z k latched h.new h.lowest;
-    some_received = h.can.some;
-    sequence = sym h.can.sequence;
-    old_is = returned (layout_of z) q s v h.can.directory shows h.new tag body h.can.old (names z given h.can.directory.head h.can.old h.can.beside) (subst (λ ws. HasBefores ws q) h.writes fits);
-    writes = h.writes;
-  }
-  of_back (Close_deed s) h shows = record { directory = h.marked.can.directory; writes = h.marked.writes }
+      let fits = unsent_fits (layout_of z) q s v h.can.directory shows h.can.cell previous h.can.front h.can.used (each _ h.writes) in
+      let r = unsent (layout_of z) q s v h.can.directory shows h.can.cell previous h.can.front h.can.used (names z given h.can.cell.prev h.can.front h.can.beside) fits in (
+        record { directory = h.can.directory; cell = h.can.cell; front = h.can.front; used = h.can.used; sender = r.0; sequence = sym h.can.last; front_is = r.1; writes = h.writes },
+        fit _ h.writes fits,
+      )
+  of_back (UnlinkHead s n tag body) h shows =
+      let fits = returned_fits (layout_of z) q s v h.can.directory h.new tag body h.can.old (each _ h.writes) in (
+        record {
+          directory = h.can.directory;
+          new = h.new;
+          old = h.can.old;
+          used = taken_at z k latched h.new h.lowest;
+          some_received = h.can.some;
+          sequence = sym h.can.sequence;
+          old_is = returned (layout_of z) q s v h.can.directory shows h.new tag body h.can.old (names z given h.can.directory.head h.can.old h.can.beside) fits;
+          writes = h.writes;
+        },
+        fit _ h.writes fits,
+      )
+  of_back (Close_deed s) h shows = (record { directory = h.marked.can.directory; writes = h.marked.writes }, fit _ h.marked.writes ((each _ h.marked.writes).0, tt))
 
 -- the writes of a turn
 leaves_at : (z : Sizes) (p : Plan) (q : Slots) (t : Turn) (v : View) → IsPlan (layout_of z) t (newest_first z p) → HasBefores (newest_first z p) q → ShowsAt (layout_of z) q (turn_sender t) v → LeavesAt z p q (turn_sender t) (with_turn t v)
@@ -105,23 +125,25 @@ leaves_at z p q t v is fits shows = (
 )
 
 -- it is taken back to what the others alone led to
-module _ (z : Sizes) (k : LevelState) (given : List Given) (latched : List ℕ) (p : Plan) (after : LevelState) (d : Deed) (v : View) (q : Slots) (told : deed_in p.deed ≡ Some d) (fits : HasBefores (newest_first z p) q) (shows : ShowsAt (layout_of z) q (deed_sender d) v) where
+module _ (z : Sizes) (k : LevelState) (given : List Given) (latched : List ℕ) (p : Plan) (after : LevelState) (d : Deed) (v : View) (q : Slots) (told : deed_in p.deed ≡ Some d) (over : AreOverHeld q (newest_first z p)) (shows : ShowsAt (layout_of z) q (deed_sender d) v) where
   back_to : (u w : View) → with_turn (Undid d) u ≡ w → LeadsBack chain_meaning z (deed_sender d) p.deed u w
-  back_to u w e l t n level back held r kept x sizes h over shown =
+  back_to u w e l t n level back held r kept x sizes h held_over shown =
       let is : Undoes (Some z) (Some d) l back held (Ok r) kept = subst (λ o. Undoes o (Some d) l back held (Ok r) kept) sizes (subst (λ o. Undoes l.sizes o l back held (Ok r) kept) told h) in
-      subst (LeavesAt z r x (deed_sender d)) e (leaves_at z r x (Undid d) u (of_back z l back held r kept x u over d is shown) over shown)
+      let m = of_back z l back held r kept x u held_over d is shown in
+      (m.1, subst (LeavesAt z r x (deed_sender d)) e (leaves_at z r x (Undid d) u m.0 m.1 shown))
 
   leaves_others : (o : Option Doing) → Plans (Some z) o k given latched (Ok p) after → LeavesOthers chain_meaning z d v q p
   leaves_others o h =
-      let m = of_deed z k given latched p after q v fits o d h told shows in
+      let m = of_deed z k given latched p after q v over o d h told shows in
       record {
-        does = leaves_at z p q (Did d) v m.0 fits shows;
-        takings = λ e closed ops u w a b. back_to u w (inverses_leave.sending (Did d) ops v w u e (m.1 (λ x. closed)) b a);
-        sendings = λ e ops u w a b. back_to u w (inverses_leave.receiving (Did d) ops v w u e (m.1 (λ x. absurd (false≢true (sym x ∙ e)))) b a);
+        over = m.1;
+        does = leaves_at z p q (Did d) v m.0 m.1 shows;
+        takings = λ e closed ops u w a b. back_to u w (inverses_leave.sending (Did d) ops v w u e (m.2 (λ x. closed)) b a);
+        sendings = λ e ops u w a b. back_to u w (inverses_leave.receiving (Did d) ops v w u e (m.2 (λ x. absurd (false≢true (sym x ∙ e)))) b a);
       }
 
 pub taken_back : (undo : Bool) (z : Sizes) (o : Option Doing) (k : LevelState) (given : List Given) (latched : List ℕ) (p : Plan) (after : LevelState) (d : Deed) (v : View) (q : Slots) → k.sizes ≡ Some z → PlansFor undo k.sizes o k given latched (Ok p) after
-    → deed_in p.deed ≡ Some d → HasBefores (newest_first z p) q → ShowsAt (layout_of z) q (deed_sender d) v → LeavesOthers chain_meaning z d v q p
-taken_back true z o k given latched p after d v q sizes h told fits shows = absurd h
-taken_back false z o k given latched p after d v q sizes h told fits shows =
-    leaves_others z k given latched p after d v q told fits shows o (subst (λ s. Plans s o k given latched (Ok p) after) sizes h)
+    → deed_in p.deed ≡ Some d → AreOverHeld q (newest_first z p) → ShowsAt (layout_of z) q (deed_sender d) v → LeavesOthers chain_meaning z d v q p
+taken_back true z o k given latched p after d v q sizes h told over shows = absurd h
+taken_back false z o k given latched p after d v q sizes h told over shows =
+    leaves_others z k given latched p after d v q told over shows o (subst (λ s. Plans s o k given latched (Ok p) after) sizes h)

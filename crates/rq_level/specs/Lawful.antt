@@ -9,7 +9,7 @@ use Rattle.rq_model.specs.Vocabulary.{is_some}
 use Rattle.rq_page.specs.Sizes.{Sizes, IsCellAddress, place_of}
 use Rattle.rq_views.specs.Chain.{View}
 use Rattle.rq_views.specs.Items.{layout_of}
-use Rattle.rq_views.specs.Log.{HasBefores, Slots}
+use Rattle.rq_views.specs.Log.{Slots}
 use Rattle.rq_views.specs.Plans.{ShowsAt, deed_sender}
 use Rattle.rq_level.specs.LevelState.{LevelState, flag_at}
 use Rattle.rq_level.specs.Ops.{Job}
@@ -17,7 +17,7 @@ use Rattle.rq_level.specs.Given.{given_at}
 use Rattle.rq_level.specs.Writes.{answer_of}
 use Rattle.rq_level.specs.Asked.{IsGathered, job_back, answer_back, AreNoted, AreOver, AreBackOver, AreWritten, AsksForNone, noted_each, written_at, Knows, AreAsGiven, StandsYet, AreOverSlots, Chooses, ChoosesBack, AreOfSlots, AreBackOfSlots}
 use Rattle.rq_level.specs.OwnState.{OwnStateIsAnew}
-use Rattle.rq_level.specs.TakenBack.{LeavesOthers, newest_first}
+use Rattle.rq_level.specs.TakenBack.{AreOverHeld, LeavesOthers, newest_first}
 use Rattle.rq_level.specs.Meaning.{Meaning, OfPlans, OfBacks, AreOf, Redo, AppliesOnce, meaning_of}
 use Rattle.rq_level.specs.declared.slots.Given.{Given}
 
@@ -87,7 +87,7 @@ pub record IsLawful (m : Meaning) : Type 0 where
   -- a plan does to its sender's chain what its deed tells. What takes that back leaves what was done meanwhile on the
   -- other end. Neither changes another chain
   pub inverse : (z : Sizes) (d : Deed) (v : View) (q : Slots) → OfPlans m (λ k job given latched p after. k.sizes ≡ Some z
-      → deed_in p.deed ≡ Some d → HasBefores (newest_first z p) q → ShowsAt (layout_of z) q (deed_sender d) v
+      → deed_in p.deed ≡ Some d → AreOverHeld q (newest_first z p) → ShowsAt (layout_of z) q (deed_sender d) v
       → LeavesOthers m z d v q p)
   -- once the slots that a plan writes were noted, whatever they hold, the level keeps what it would without the plan
   pub ended : (q : ℕ → List ℕ) → OfPlans m (λ k job given latched p after.

@@ -1,5 +1,5 @@
 -- What takes an operation back, over what its sender's chain shows, with operations on the other end of it between.
-use Rattle.std.specs.Prelude.{◌≡◌, ◌≢◌, ℕ, true, false, List, Some, Ok, reverse}
+use Rattle.std.specs.Prelude.{◌≡◌, ◌≢◌, ℕ, true, false, List, Some, Ok, All, reverse}
 use Rattle.rq_model.specs.declared.record.Deed.{Deed}
 use Rattle.rq_model.specs.declared.record.Record.TheVariants.{OpEnd}
 use Rattle.rq_model.specs.declared.txn.Txn.{Txn}
@@ -20,6 +20,10 @@ use Rattle.rq_level.specs.declared.writes.Plan.{Plan}
 abbrev pub newest_first : Sizes → Plan → List Write
 newest_first z p = reverse (writes_of z p.writes.items)
 
+-- each write is over what its slot holds
+abbrev pub AreOverHeld : Slots → List Write → Type 0
+AreOverHeld q ws = All (λ w. w.before ≡ q w.at) ws
+
 -- the writes leave slots that show v for s, and each other whole chain as it was
 abbrev pub LeavesAt : Sizes → Plan → Slots → ℕ → View → Type 0
 LeavesAt z p q s v = ShowsAt (layout_of z) (applied (newest_first z p) q) s v
@@ -29,11 +33,13 @@ LeavesAt z p q s v = ShowsAt (layout_of z) (applied (newest_first z p) q) s v
 abbrev pub LeadsBack : Meaning → Sizes → ℕ → List ℕ → View → View → Type 0
 LeadsBack m z s deed u w = (k : LevelState) (t : Txn) (n level : ℕ) (given : List Given) (latched : List ℕ) (p : Plan)
     (after : LevelState) (q : Slots) → k.sizes ≡ Some z → m.undoes k (OpEnd t n level deed) given latched (Ok p) after
-    → HasBefores (newest_first z p) q → ShowsAt (layout_of z) q s u → LeavesAt z p q s w
+    → AreOverHeld q (newest_first z p) → ShowsAt (layout_of z) q s u
+    → HasBefores (newest_first z p) q × LeavesAt z p q s w
 
 -- The operation does to the view v what its deed tells. Operations on the other end lead on from there to u. They could be
 -- done without it too, with the same replies, and would lead from v to w. What takes it back leads from u to w.
 pub record LeavesOthers (m : Meaning) (z : Sizes) (d : Deed) (v : View) (q : Slots) (p : Plan) : Type 0 where
+  pub over : HasBefores (newest_first z p) q
   pub does : LeavesAt z p q (deed_sender d) (with_turn (Did d) v)
   pub takings : is_of_receiver (Did d) ≡ false → v.closed ≡ false → (ops : List Taking) (u w : View)
       → AreTaken ops (with_turn (Did d) v) u → AreTaken ops v w → LeadsBack m z (deed_sender d) p.deed u w
