@@ -30,8 +30,7 @@ module _ (l : Places) (q : Slots) (s : ℕ) (v : View) (d : Directory) where
       → Over (directory_write l s d to ∷ relinked at o f (c ∷ [])) → HasBefores (directory_write l s d to ∷ relinked at o f (c ∷ [])) q
   linked_fits to c at None f other off h = (h.0 ∙ sym (put_off q c.at c.after (l.directory_at s) (λ e. other (h.1.0 ∙ ap q (sym e) ∙ sym h.0))), (h.1.0, tt))
   linked_fits to c at (Some x) f other off h =
-      let q1 = put q c.at c.after in
-      (
+      let q1 = put q c.at c.after in (
         h.0 ∙ sym (put_off q1 at (Used (f x)) (l.directory_at s) (λ e. used_sender x s d (h.1.0 ∙ ap q (sym e) ∙ sym h.0)) ∙ put_off q c.at c.after (l.directory_at s) (λ e. other (h.1.1.0 ∙ ap q (sym e) ∙ sym h.0))),
         (h.1.0 ∙ sym (put_off q c.at c.after at (off x h.1.0 h.1.1.0)), (h.1.1.0, tt)),
       )

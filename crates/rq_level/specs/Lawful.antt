@@ -73,14 +73,13 @@ pub record IsLawful (m : Meaning) : Type 0 where
   -- it asks for no slot twice, and for three at most
   pub asks : (job : Job) (given : List Given) → IsNotGiven given (m.want job given)
   pub few : (job : Job) (given : List Given) → IsGathered m job given → length given ≤ 3
-  -- a plan tells a deed that the level reads; or none, and has no reply. What takes something back tells none
-  pub told : OfPlans m (λ k job given latched p after.
-      (m.reads p.deed ≡ true) ⊎ ((p.deed ≡ []) × (p.reply ≡ None)))
+  -- a plan tells a deed that the level reads, or none, and then has no reply; what takes something back tells none
+  pub told : OfPlans m (λ k job given latched p after. (m.reads p.deed ≡ true) ⊎ ((p.deed ≡ []) × (p.reply ≡ None)))
   pub none : m.reads [] ≡ false
-  -- of the levels there are: what one reads is a deed of chains
+  -- of the levels there are, this holds: what one reads is a deed of chains, by which the law below on inverses reads it
   pub deeds : (b : List ℕ) → m.reads b ≡ true → is_some (deed_in b) ≡ true
   pub silent : OfBacks m (λ k told given latched p after. p.deed ≡ [])
-  -- the reply is what the deed's end answers, or what follows from what is taken back
+  -- a plan replies what the end of its deed answers; what takes an operation back, that it is undone
   pub replies : OfPlans m (λ k job given latched p after. (d : Deed) → deed_in p.deed ≡ Some d
       → p.reply ≡ Some (answer_of d))
   pub replies_undo : OfBacks m (λ k told given latched p after. p.reply ≡ answer_back told)

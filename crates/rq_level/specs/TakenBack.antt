@@ -20,7 +20,7 @@ use Rattle.rq_level.specs.declared.writes.Plan.{Plan}
 abbrev pub newest_first : Sizes → Plan → List Write
 newest_first z p = reverse (writes_of z p.writes.items)
 
--- each write is over what its slot holds
+-- each write is over what its slot holds before all of them
 abbrev pub AreOverHeld : Slots → List Write → Type 0
 AreOverHeld q ws = All (λ w. w.before ≡ q w.at) ws
 
@@ -29,7 +29,8 @@ abbrev pub LeavesAt : Sizes → Plan → Slots → ℕ → View → Type 0
 LeavesAt z p q s v = ShowsAt (layout_of z) (applied (newest_first z p) q) s v
     × ((r : ℕ) (x : View) → s ≢ r → ShowsAt (layout_of z) q r x → ShowsAt (layout_of z) (applied (newest_first z p) q) r x)
 
--- over slots that show u for s, what takes back the operation whose end tells the deed leaves slots that show w
+-- Over slots that show u for s, what takes back the operation whose end tells the deed leaves slots that show w. Each of
+-- its writes is over what those before it leave, too.
 abbrev pub LeadsBack : Meaning → Sizes → ℕ → List ℕ → View → View → Type 0
 LeadsBack m z s deed u w = (k : LevelState) (t : Txn) (n level : ℕ) (given : List Given) (latched : List ℕ) (p : Plan)
     (after : LevelState) (q : Slots) → k.sizes ≡ Some z → m.undoes k (OpEnd t n level deed) given latched (Ok p) after
@@ -39,6 +40,7 @@ LeadsBack m z s deed u w = (k : LevelState) (t : Txn) (n level : ℕ) (given : L
 -- The operation does to the view v what its deed tells. Operations on the other end lead on from there to u. They could be
 -- done without it too, with the same replies, and would lead from v to w. What takes it back leads from u to w.
 pub record LeavesOthers (m : Meaning) (z : Sizes) (d : Deed) (v : View) (q : Slots) (p : Plan) : Type 0 where
+  -- each write is over what those before it leave
   pub over : HasBefores (newest_first z p) q
   pub does : LeavesAt z p q (deed_sender d) (with_turn (Did d) v)
   pub takings : is_of_receiver (Did d) ≡ false → v.closed ≡ false → (ops : List Taking) (u w : View)
