@@ -1,5 +1,5 @@
--- Where each write of a chain operation is over what its slot holds, each is over what the writes before it leave: it has
--- no slot twice.
+-- A chain operation writes no slot twice. So where each of its writes is over what its slot holds, each is over what those
+-- before it leave.
 use Rattle.std.proofs.Common.{◌≡◌, ◌≢◌, ℕ, ◌+◌, ◌<◌, List, [], ◌∷◌, ◌++◌, Option, None, Some, sym, ap, ◌∙◌, subst, arith}
 use Rattle.std.specs.List.{AllByRecursion}
 use Rattle.rq_page.specs.declared.cell.Cell.{Cell}

@@ -1,5 +1,4 @@
--- What a level asked for before it planned, what its writes are over, which cell it chooses, and slots that are noted one
--- after the other.
+-- What a level asks for before it plans, what its writes are over, which cell it chooses, and slots noted one after another.
 use Rattle.std.specs.Prelude.{◌≡◌, ◌/◌, ◌%◌, ◌+◌, ◌*◌, ℕ, true, List, [], ◌∷◌, ◌++◌, Option, None, Some, map, All}
 use Rattle.rq_model.specs.declared.record.Record.{Record}
 use Rattle.rq_model.specs.declared.record.Record.TheVariants.{OpEnd, PageOp}
