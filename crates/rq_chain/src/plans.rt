@@ -20,7 +20,6 @@ use rq_page::directory::Directory;
 use rq_page::layout::Layout;
 
 /// Puts a message at the end of a chain: into the free cell, which the tail, if there is one, then names.
-#[inline(always)]
 pub fn append(
     room: Vec<SlotWrite>,
     layout: &Layout,
@@ -52,7 +51,6 @@ pub fn append(
 }
 
 /// Takes the first message off a chain: frees its cell, and has the next one, if there is one, come first.
-#[inline(always)]
 pub fn unlink_head(
     room: Vec<SlotWrite>,
     layout: &Layout,
@@ -81,7 +79,6 @@ pub fn unlink_head(
 }
 
 /// Takes the last message off a chain: frees its cell, and has the one before it, if there is one, come last.
-#[inline(always)]
 pub fn unlink_tail(
     room: Vec<SlotWrite>,
     layout: &Layout,
@@ -110,7 +107,6 @@ pub fn unlink_tail(
 }
 
 /// Puts a message back in front of a chain: into the free cell, which the head, if there is one, then follows.
-#[inline(always)]
 pub fn put_back(
     room: Vec<SlotWrite>,
     layout: &Layout,
