@@ -37,7 +37,9 @@ impl PageNumbers {
         ensures err { IfErr result (λ e. e ≡ Refusal.NoMemory) }
     {
         let layout = pages.layout();
-        let mut numbers = Vec::new(alloc);
+        let Ok(mut numbers) = Vec::with_capacity(alloc, layout.pages() as usize) else {
+            return Err(Refusal::NoMemory);
+        };
         for page in 1..layout.pages() {
             let number = greatest_number(&layout, page, pages.page(page).unwrap());
             match numbers.push(PageNumber { page, number }) {

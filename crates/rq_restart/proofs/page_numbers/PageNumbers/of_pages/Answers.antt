@@ -18,7 +18,7 @@ loop-page-preserved g c =
     let told : (count : ℕ) → (number ≤ count) ↔ IsCounted z count n (image_in pages.images n) = λ count.
     subst (λ y. (number ≤ count) ↔ IsCounted y count n (image_in pages.images n)) c.layout-layout.ensures.sizes
     (subst (λ b. (number ≤ count) ↔ IsCounted c.layout-layout.result count n b) is (c.greatest_number-number.ensures count)) in
-    subst (AreNumbersUpTo z (paged pages) (n + 1)) (sym c.in-Ok.ensures.items) (numbers_more z (paged pages) n number c.loop-page.numbers.items c.loop-page.auto.page high told c.loop-page.invariant)
+    subst (AreNumbersUpTo z (paged pages) (n + 1)) (sym c.in-Ok-push.ensures.items) (numbers_more z (paged pages) n number c.loop-page.numbers.items c.loop-page.auto.page high told c.loop-page.invariant)
 
 pub returns-clause-numbers : goal.returns-clause-numbers
 returns-clause-numbers g c =
