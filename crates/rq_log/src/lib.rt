@@ -23,7 +23,9 @@ use rq_disk::LogDevice;
 use rq_model::record::{Record, Slot};
 use rq_model::refusal::{NoMemory, Refusal};
 use rq_model::txn::{Lsn, Txn};
-use rq_record::{PAGE_OP_BYTES, base_bytes, encode, put_page_op, shows_fits, shows_size, spelled_len};
+use rq_record::{
+    PAGE_OP_BYTES, base_bytes, encode, put_page_op, shows_fits, shows_size, spelled_len,
+};
 use std::alloc::Global;
 use std::marker::Model;
 use std::snapshot::Snapshot;

@@ -25,7 +25,7 @@ laid_behind xs ys zs =
     let laid : List ℕ = xs ++ drop (length xs) zs in
     let count : length xs + k ≡ length (xs ++ ys) = (let l = length-append xs ys in omega (arith, l)) in
     let back : post_of (length xs) k laid ≡ drop (length (xs ++ ys)) zs =
-        drop-drop k (length xs) laid ∙ drop-append-drop (length xs) zs xs (length xs + k) (omega arith) refl ∙ ap (λ (n : ℕ). drop n zs) count in
+    drop-drop k (length xs) laid ∙ drop-append-drop (length xs) zs xs (length xs + k) (omega arith) refl ∙ ap (λ (n : ℕ). drop n zs) count in
     ap (λ (f : List ℕ). f ++ (ys ++ post_of (length xs) k laid)) (take-append_seam xs (drop (length xs) zs))
     ∙ ap (λ (t : List ℕ). xs ++ (ys ++ t)) back ∙ sym (append_assoc xs ys (drop (length (xs ++ ys)) zs))
 
