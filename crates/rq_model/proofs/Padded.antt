@@ -1,6 +1,6 @@
 -- Bytes laid over the front of zeros.
 use Rattle.std.proofs.Common.{◌≡◌, ℕ, ◌+◌, ◌-◌, ◌≤◌, List, ◌++◌, length, take, drop, replicate, refl, sym, ap, ◌∙◌, append_assoc, arith, subst}
-use Rattle.std.proofs.lemmas.List.{drop-replicate, drop-drop, length-append, length-replicate, take_at}
+use Rattle.std.proofs.lemmas.List.{drop-replicate, drop-drop, length-append, length-replicate}
 use Rattle.std.proofs.lemmas.Slice.{drop-append-drop}
 use Rattle.std.proofs.Math.Seq.{take-append_seam}
 use borrow.Rule.Slice.PartMut.{put_mid, post_of}

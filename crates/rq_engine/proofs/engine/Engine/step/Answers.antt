@@ -1,4 +1,4 @@
-use Rattle.std.proofs.Common.{◌≡◌, List, false, subst, sym, Result, Ok, Err, IfOk, IfErr, OnOk, OnErr, ap}
+use Rattle.std.proofs.Common.{◌≡◌, List, false, subst, sym, Result, Ok, Err, IfOk, IfErr, OnOk, OnErr}
 use Rattle.rq_disk.specs.declared.device.LogDevice as log_device
 use Rattle.rq_disk.specs.declared.device.PageDevice as page_device
 use Rattle.rq_model.specs.declared.record.Record.{Record}
