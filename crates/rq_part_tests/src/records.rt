@@ -1,7 +1,7 @@
 //! Records and deeds, as bytes are read and written.
 use rq_model::message::Body;
 use rq_model::txn::Txn;
-use rq_record::{Deed, Record, Step, decode, decode_deed, encode, encode_deed};
+use rq_record::{Deed, Record, Step, decode, decode_deed, encode, encode_append};
 use std::test::Fail;
 
 const FIRST: Txn = Txn {
@@ -120,13 +120,13 @@ fn read_deed(bytes: &[u8]) -> Option<Deed> {
     decode_deed(bytes)
 }
 
-// The end of a send of `hello`, whose deed is this.
-fn end_of(deed: &Deed) -> Step {
+// The end of the first send of sender 0, with tag 7 and this body.
+fn end_of(body: &Body) -> Step {
     let record = Record::OpEnd {
         txn: FIRST,
         operation: 1,
         level: 1,
-        deed: encode_deed(deed),
+        deed: encode_append(0, 1, 7, 0, body),
     };
     Step::Record(record, 64)
 }
@@ -181,6 +181,6 @@ fn deeds_are_read(rt: HostRuntime) -> Result<(), Fail> {
     }
     let end =
         b"\0\0\0\x3c\x03\0\0\0\0\0\0\0\x01\0\0\0\0\0\0\0\x01\0\0\0\0\0\0\0\x01\x01\x01\0\0\0\0\0\0\0\0\0\0\0\x01\0\0\0\0\0\0\0\x07\0\0\0\0\0\0\0\0hello";
-    assert!(rt; read(end) == end_of(&append));
+    assert!(rt; read(end) == end_of(&body));
     Ok(())
 }

@@ -4,7 +4,7 @@ ghost use Rattle.rq_model.specs.declared.record.Deed.{Deed};
 ghost use Rattle.rq_model.specs.declared.record.Deed.TheVariants.{Append, Close, UnlinkHead};
 ghost use Rattle.rq_bytes.specs.Number.{number};
 ghost use Rattle.rq_model.specs.Deeds.{spelled_deed, deed_in};
-ghost use Rattle.rq_record.specs.Deeds.{IsDeed, IsDeedInRange, IsBody};
+ghost use Rattle.rq_record.specs.Deeds.{IsDeed, IsBody};
 ghost use Rattle.rq_record.specs.Reading.{Gives};
 ghost use Rattle.rq_record.specs.DeedReading.{append_at, unlink_head_at, close_at, deed_at, deed_of};
 
@@ -185,29 +185,4 @@ pub fn encode_close(sender: u32) -> DeedBytes
     ensures size { (1 ≤ length result) × (length result ≤ 256) }
 {
     joined(&close_front(sender), &[])
-}
-
-/// The spelling of a deed, which is short enough to stand in an operation's end. It tells the deed, where
-/// its sequence, if it has one, is not 0.
-pub fn encode_deed(deed: &Deed) -> DeedBytes
-    ensures spelled { result ≡ spelled_deed deed.now }
-    ensures told { IsDeedInRange deed.now → deed_in result ≡ Some deed.now }
-    ensures size { (1 ≤ length result) × (length result ≤ 256) }
-{
-    match deed {
-        Deed::Append {
-            sender,
-            sequence,
-            tag,
-            previous,
-            body,
-        } => encode_append(*sender, *sequence, *tag, *previous, body),
-        Deed::UnlinkHead {
-            sender,
-            sequence,
-            tag,
-            body,
-        } => encode_unlink_head(*sender, *sequence, *tag, body),
-        Deed::Close { sender } => encode_close(*sender),
-    }
 }
