@@ -66,7 +66,7 @@ module _ {P L : Type 0} (p : page_device.Ghosts P) (l : log_device.Ghosts L) (pa
         (l.faults new_log)
 
   -- The pages were only read, and the log has at most records behind what was read, at every moment. So where each pair
-  -- that a crash might have left is a store, each is one that a crash leaves.
+  -- that a crash might have left is a store, each pair that a crash leaves is one.
   pub record KeepsStores (new_pages : P) (new_log : L) : Type 0 where
     pub pages_read : OnlyRead p pages new_pages
     pub any_moment : BeginsFrom p l pages log new_pages new_log
