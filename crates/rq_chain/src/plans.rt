@@ -1,12 +1,12 @@
 //! The plans of chain operations.
-ghost use Rattle.std.specs.Prelude.{◌≡◌, ◌+◌, ◌-◌, ◌^◌, ◌<◌, IfOk, reverse, length, MatchOption, [], ◌∷◌};
+ghost use Rattle.std.specs.Prelude.{◌≡◌, ◌+◌, ◌-◌, ◌^◌, ◌<◌, IfOk, reverse, [], ◌∷◌};
 ghost use Rattle.rq_page.specs.Cells.{cell_in};
 ghost use Rattle.rq_page.specs.Sizes.{IsCellAddress};
 ghost use Rattle.rq_page.specs.Slots.{IsCellOf, IsDirectoryOf, Used};
 ghost use Rattle.rq_views.specs.Chain.{directory_appended};
 ghost use Rattle.rq_views.specs.Items.{layout_of};
 ghost use Rattle.rq_views.specs.Plans.{append_writes, unlink_head_writes, unlink_tail_writes, put_back_writes, directory_write, directory_head_unlinked, directory_tail_unlinked, directory_put_back, with_next, with_prev};
-ghost use Rattle.rq_level.specs.Writes.{write_of, writes_of, IsSlotWrite, AreSlotWrites, IsFirstAt};
+ghost use Rattle.rq_level.specs.Writes.{write_of, writes_of, IsSlotWrite, AreSlotWrites};
 ghost use Rattle.rq_chain.specs.CellEntries.{cell_beside, IsCellEntryAt, IsGroupOf, IsNeighbour, IsNeighbourAt};
 
 use crate::writes::{beside_write, emptied, filled, followed, group_write, pair, preceded, triple};
@@ -36,9 +36,6 @@ pub fn append(
     ensures writes { IfOk result (λ writes. reverse (writes_of layout.now writes.items)
         ≡ append_writes (layout_of layout.now) group.now.sender group.now.directory free tag body.now (cell_beside tail)) }
     ensures slots { IfOk result (λ writes. AreSlotWrites layout.now writes.items) }
-    ensures count { IfOk result (λ writes. MatchOption tail (length writes.items ≡ 2)
-        (λ _. length writes.items ≡ 3)) }
-    ensures cell { IfOk result (λ writes. IsFirstAt free writes.items) }
 {
     let new = next_cell(layout, group, tag, body);
     let first = filled(layout, free, &new);
@@ -66,8 +63,6 @@ pub fn unlink_head(
         ≡ unlink_head_writes (layout_of layout.now) group.now.sender group.now.directory head.now.cell
         (cell_beside next)) }
     ensures slots { IfOk result (λ writes. AreSlotWrites layout.now writes.items) }
-    ensures count { IfOk result (λ writes. MatchOption next (length writes.items ≡ 2)
-        (λ _. length writes.items ≡ 3)) }
 {
     let first = emptied(layout, head);
     let last = group_write(layout, group, &head_unlinked(layout, group, &head.cell));

@@ -75,7 +75,6 @@ pub record IsLawful (m : Meaning) : Type 0 where
   pub few : (job : Job) (given : List Given) → IsGathered m job given → length given ≤ 3
   -- a plan tells a deed that the level reads, or none, and then has no reply; what takes something back tells none
   pub told : OfPlans m (λ k job given latched p after. (m.reads p.deed ≡ true) ⊎ ((p.deed ≡ []) × (p.reply ≡ None)))
-  pub none : m.reads [] ≡ false
   -- of the levels there are, this holds: what one reads is a deed of chains, by which the law below on inverses reads it
   pub deeds : (b : List ℕ) → m.reads b ≡ true → is_some (deed_in b) ≡ true
   pub silent : OfBacks m (λ k told given latched p after. p.deed ≡ [])
