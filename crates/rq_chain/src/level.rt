@@ -16,8 +16,8 @@ use crate::given::{SENT_LIMIT, beside_given, cell_given, group_given, head_of, t
 use crate::plans::{append, put_back, set_closed, unlink_head, unlink_tail};
 use crate::wants::wanted;
 use byteorder::{BigEndian, ByteOrder};
-use rq_level::{Level, Op, Outcome, PageSet, Plan, SlotWrite, Slots, Want, redo_page};
-use rq_model::message::{Body, Message};
+use rq_level::{Level, Op, PageSet, Plan, Replies, SlotWrite, Slots, Want, redo_page};
+use rq_model::message::Body;
 use rq_model::record::{Deed, DeedBytes, Record, Slot};
 use rq_model::refusal::{Damage, NoMemory, Refusal};
 use rq_model::txn::Lsn;
@@ -179,7 +179,7 @@ impl ChainLevel {
         Ok(Plan {
             writes,
             deed: encode_append(sender, directory.sent + 1, tag, directory.last_tag, body),
-            reply: Some(Outcome::Sent),
+            reply: Replies::Deed,
         })
     }
 
@@ -218,7 +218,7 @@ impl ChainLevel {
         Ok(Plan {
             writes,
             deed: encode_unlink_head(sender, sequence, head.cell.tag, &head.cell.body),
-            reply: Some(message_of(sender, &head)),
+            reply: Replies::Deed,
         })
     }
 
@@ -238,7 +238,7 @@ impl ChainLevel {
         Ok(Plan {
             writes,
             deed: encode_close(sender),
-            reply: Some(Outcome::Closed),
+            reply: Replies::Deed,
         })
     }
 
@@ -492,7 +492,7 @@ fn inverse(writes: Vec<SlotWrite>) -> Plan
     Plan {
         writes,
         deed: DeedBytes::new(&[]).unwrap(),
-        reply: Some(Outcome::Undone),
+        reply: Replies::Undone,
     }
 }
 
@@ -501,17 +501,6 @@ fn front_of(tail: &CellEntry) -> Addr
     ensures { result ≡ tail.now.cell.prev }
 {
     tail.cell.prev
-}
-
-// What the end of a receive answers.
-fn message_of(sender: u32, head: &CellEntry) -> Outcome
-    ensures { result ≡ Outcome.Message (record { sender = sender; tag = head.now.cell.tag; body = head.now.cell.body }) }
-{
-    Outcome::Message(Message {
-        sender,
-        tag: head.cell.tag,
-        body: head.cell.body,
-    })
 }
 
 // The cell behind the one beside.

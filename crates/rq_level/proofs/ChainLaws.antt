@@ -1,5 +1,5 @@
 -- What the level of chains keeps to.
-use Rattle.std.proofs.Common.{◌≡◌, ◌≢◌, ◌⊎◌, ℕ, List, [], ◌∷◌, Bool, true, false, Option, None, Some, Ok, map, reverse, refl, sym, ap, ◌∙◌, subst, inl}
+use Rattle.std.proofs.Common.{◌≡◌, ◌≢◌, ◌⊎◌, ℕ, List, [], ◌∷◌, Bool, true, false, Option, None, Some, Ok, map, option_map, reverse, refl, sym, ap, ◌∙◌, subst, inl}
 use Rattle.std.proofs.lemmas.List.{reverse-reverse, set-set}
 use Rattle.rq_model.specs.declared.record.Deed.{Deed}
 use Rattle.rq_model.specs.declared.record.Deed.TheVariants.{Append, UnlinkHead, Close as Close_deed}
@@ -20,9 +20,9 @@ use Rattle.rq_level.specs.LevelState.{LevelState, IsLowest, is_free_slot, noted,
 use Rattle.rq_level.specs.Meaning.{AreOf, chain_meaning}
 use Rattle.rq_level.specs.Ops.{Doing, Job, doing_in}
 use Rattle.rq_level.specs.Ops.Doing.{Send, Receive, Close}
-use Rattle.rq_level.specs.Writes.{AreSlotWrites, answer_of, writes_of}
+use Rattle.rq_level.specs.Writes.{AreSlotWrites, answer_of, replied, reply_of, writes_of}
 use Rattle.rq_level.specs.declared.slots.Given.{Given}
-use Rattle.rq_level.specs.declared.writes.Outcome.{Outcome}
+use Rattle.rq_level.specs.declared.writes.Replies.TheVariants as replies
 use Rattle.rq_level.specs.declared.writes.Plan.{Plan}
 use Rattle.rq_level.specs.declared.writes.SlotWrite.{SlotWrite}
 use Rattle.rq_level.proofs.Based.{IsChainPlan, IsSomething, all_each, are_over, chosen, done, holds_at, holds_free, known_free, lowest_cell, noted_there, over_slots, undone, was_given}
@@ -199,22 +199,19 @@ deed_read (Some z) None k given latched p after h = absurd h
 deed_read None (Some d) k given latched p after h = absurd h
 deed_read None None k given latched p after h = absurd h
 
-pub plan_told : (undo : Bool) (z : Option Sizes) (d : Option Doing) (k : LevelState) (given : List Given) (latched : List ℕ) (p : Plan) (after : LevelState) → PlansFor undo z d k given latched (Ok p) after → (is_some (deed_in p.deed) ≡ true) ⊎ ((p.deed ≡ []) × (p.reply ≡ None))
+pub plan_told : (undo : Bool) (z : Option Sizes) (d : Option Doing) (k : LevelState) (given : List Given) (latched : List ℕ) (p : Plan) (after : LevelState) → PlansFor undo z d k given latched (Ok p) after → (is_some (deed_in p.deed) ≡ true) ⊎ ((p.deed ≡ []) × (reply_of p ≡ None))
 plan_told true z d k given latched p after h = absurd h
 plan_told false z d k given latched p after h = inl (deed_read z d k given latched p after h)
 
--- what its end answers
-of_told : (o : Option Deed) (c d : Deed) (reply : Option Outcome) → reply ≡ Some (answer_of c) → o ≡ Some c → o ≡ Some d → reply ≡ Some (answer_of d)
-of_told o c d reply h reads told = h ∙ ap (λ (x : Deed). Some (answer_of x)) (let is : Some c ≡ Some d = sym reads ∙ told in let it : c ≡ d = cc in it)
+-- what its end replies
+by_deed : (z : Option Sizes) (d : Option Doing) (k : LevelState) (given : List Given) (latched : List ℕ) (p : Plan) (after : LevelState) → Plans z d k given latched (Ok p) after → p.reply ≡ replies.Deed
+by_deed (Some z) (Some (Send s tag body)) k given latched p after h = h.reply
+by_deed (Some z) (Some (Receive s)) k given latched p after h = h.reply
+by_deed (Some z) (Some (Close s)) k given latched p after h = h.reply
+by_deed (Some z) None k given latched p after h = absurd h
+by_deed None (Some d) k given latched p after h = absurd h
+by_deed None None k given latched p after h = absurd h
 
-replied : (z : Option Sizes) (d : Option Doing) (k : LevelState) (given : List Given) (latched : List ℕ) (p : Plan) (after : LevelState) → Plans z d k given latched (Ok p) after → (e : Deed) → deed_in p.deed ≡ Some e → p.reply ≡ Some (answer_of e)
-replied (Some z) (Some (Send s tag body)) k given latched p after h e = of_told (deed_in p.deed) _ e p.reply h.reply h.reads
-replied (Some z) (Some (Receive s)) k given latched p after h e = of_told (deed_in p.deed) _ e p.reply h.reply h.reads
-replied (Some z) (Some (Close s)) k given latched p after h e = of_told (deed_in p.deed) _ e p.reply h.reply h.reads
-replied (Some z) None k given latched p after h e = absurd h
-replied None (Some d) k given latched p after h e = absurd h
-replied None None k given latched p after h e = absurd h
-
-pub plan_replies : (undo : Bool) (z : Option Sizes) (d : Option Doing) (k : LevelState) (given : List Given) (latched : List ℕ) (p : Plan) (after : LevelState) → PlansFor undo z d k given latched (Ok p) after → (e : Deed) → deed_in p.deed ≡ Some e → p.reply ≡ Some (answer_of e)
-plan_replies true z d k given latched p after h = absurd h
-plan_replies false z d k given latched p after h = replied z d k given latched p after h
+pub plan_replies : (undo : Bool) (z : Option Sizes) (d : Option Doing) (k : LevelState) (given : List Given) (latched : List ℕ) (p : Plan) (after : LevelState) → PlansFor undo z d k given latched (Ok p) after → (e : Deed) → deed_in p.deed ≡ Some e → reply_of p ≡ Some (answer_of e)
+plan_replies true z d k given latched p after h e told = absurd h
+plan_replies false z d k given latched p after h e told = ap (λ r. replied r (deed_in p.deed)) (by_deed z d k given latched p after h) ∙ ap (option_map answer_of) told

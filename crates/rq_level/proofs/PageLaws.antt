@@ -13,6 +13,7 @@ use Rattle.rq_level.specs.Meaning.{page_meaning}
 use Rattle.rq_level.specs.Ops.{Job, Overwrite, overwrite_in}
 use Rattle.rq_level.specs.PagePlans.{IsOneWrite, IsOverwritten, TakesBack, WritesFor, is_slot_number, page_plans, page_undoes, write_wants}
 use Rattle.rq_level.specs.declared.slots.Given.{Given}
+use Rattle.rq_level.specs.Writes.{replied, reply_of}
 use Rattle.rq_level.specs.declared.writes.Plan.{Plan}
 use Rattle.rq_level.specs.declared.writes.SlotWrite.{SlotWrite}
 use Rattle.rq_level.proofs.Based.{all_each, each_in, was_given}
@@ -79,8 +80,8 @@ module _ (k : LevelState) (given : List Given) (latched : List ℕ) (p : Plan) (
   back_kept (records.PageOp t n page slot x y) h = (back_one (is_slot_number slot) (page * 16 + slot) x y h).2
   back_kept _ h = absurd h
 
-  pub tells_none : (job : Job) → page_plans k job given latched (Ok p) after → (p.deed ≡ []) × (p.reply ≡ None)
-  tells_none job h = let m = written job.undo k (overwrite_in job.bytes) given p after h in (m.3.plan.deed, m.3.plan.reply)
+  pub tells_none : (job : Job) → page_plans k job given latched (Ok p) after → (p.deed ≡ []) × (reply_of p ≡ None)
+  tells_none job h = let m = written job.undo k (overwrite_in job.bytes) given p after h in (m.3.plan.deed, ap (λ r. replied r (deed_in p.deed)) m.3.plan.reply)
 
   pub tells_no_deed : (job : Job) → page_plans k job given latched (Ok p) after → (d : Deed) → deed_in p.deed ≡ Some d → ⊥
   tells_no_deed job h d e = let no : None ≡ Some d = ap deed_in (sym (tells_none job h).0) ∙ e in cc

@@ -26,7 +26,7 @@ use Rattle.rq_level.specs.Given.{given_at, GivenHolds}
 use Rattle.rq_level.specs.Writes.{writes_of, AreSlotWrites}
 use Rattle.rq_level.specs.declared.slots.Given.{Given}
 use Rattle.rq_level.specs.declared.writes.Plan.{Plan}
-use Rattle.rq_level.specs.declared.writes.Outcome.TheVariants as gives
+use Rattle.rq_level.specs.declared.writes.Replies.TheVariants as replies
 
 -- the cell that a link names was given: none where it is 0
 abbrev pub Beside : Sizes → List Given → ℕ → Option Cell → Type 0
@@ -51,7 +51,7 @@ pub record IsSent (z : Sizes) (k : LevelState) (given : List Given) (latched : L
   pub slots : AreSlotWrites z p.writes.items
   pub deed : p.deed ≡ spelled_deed (Append s (can.directory.sent + 1) tag can.directory.last_tag body)
   pub reads : deed_in p.deed ≡ Some (Append s (can.directory.sent + 1) tag can.directory.last_tag body)
-  pub reply : p.reply ≡ Some gives.Sent
+  pub reply : p.reply ≡ replies.Deed
   pub kept : after ≡ reserved_at z k new
 
 -- the slots hold what a receive needs
@@ -73,7 +73,7 @@ pub record IsReceived (z : Sizes) (k : LevelState) (given : List Given) (s : ℕ
   pub slots : AreSlotWrites z p.writes.items
   pub deed : p.deed ≡ spelled_deed (UnlinkHead s (can.directory.received + 1) can.cell.tag can.cell.body)
   pub reads : deed_in p.deed ≡ Some (UnlinkHead s (can.directory.received + 1) can.cell.tag can.cell.body)
-  pub reply : p.reply ≡ Some (gives.Message (record { sender = s; tag = can.cell.tag; body = can.cell.body }))
+  pub reply : p.reply ≡ replies.Deed
   pub kept : after ≡ k
 
 -- the slots hold what a close needs, or what opening again does: a group that is not as it shall be
@@ -95,13 +95,13 @@ pub record IsClosed (z : Sizes) (k : LevelState) (given : List Given) (s : ℕ) 
   pub marked : IsMarked z given s true p
   pub deed : p.deed ≡ spelled_deed (Close_deed s)
   pub reads : deed_in p.deed ≡ Some (Close_deed s)
-  pub reply : p.reply ≡ Some gives.Closed
+  pub reply : p.reply ≡ replies.Deed
   pub kept : after ≡ k
 
 -- the plan of an inverse tells no deed, and its end answers that something is undone
 pub record IsInverse (p : Plan) : Type 0 where
   pub deed : p.deed ≡ []
-  pub reply : p.reply ≡ Some gives.Undone
+  pub reply : p.reply ≡ replies.Undone
 
 -- the slots hold what the inverse of a send needs: its message is the group's last
 pub record CanUnlinkTail (z : Sizes) (given : List Given) (s n : ℕ) : Type 0 where

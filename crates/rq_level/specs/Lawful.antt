@@ -14,7 +14,7 @@ use Rattle.rq_views.specs.Plans.{ShowsAt, deed_sender}
 use Rattle.rq_level.specs.LevelState.{LevelState, flag_at}
 use Rattle.rq_level.specs.Ops.{Job}
 use Rattle.rq_level.specs.Given.{given_at}
-use Rattle.rq_level.specs.Writes.{answer_of}
+use Rattle.rq_level.specs.Writes.{answer_of, reply_of}
 use Rattle.rq_level.specs.Asked.{IsGathered, job_back, answer_back, AreNoted, AreOver, AreBackOver, AreWritten, AsksForNone, noted_each, written_at, Knows, AreAsGiven, StandsYet, AreOverSlots, Chooses, ChoosesBack, AreOfSlots, AreBackOfSlots}
 use Rattle.rq_level.specs.OwnState.{OwnStateIsAnew}
 use Rattle.rq_level.specs.TakenBack.{AreOverHeld, LeavesOthers, newest_first}
@@ -74,14 +74,14 @@ pub record IsLawful (m : Meaning) : Type 0 where
   pub asks : (job : Job) (given : List Given) → IsNotGiven given (m.want job given)
   pub few : (job : Job) (given : List Given) → IsGathered m job given → length given ≤ 3
   -- a plan tells a deed that the level reads, or none, and then has no reply; what takes something back tells none
-  pub told : OfPlans m (λ k job given latched p after. (m.reads p.deed ≡ true) ⊎ ((p.deed ≡ []) × (p.reply ≡ None)))
+  pub told : OfPlans m (λ k job given latched p after. (m.reads p.deed ≡ true) ⊎ ((p.deed ≡ []) × (reply_of p ≡ None)))
   -- of the levels there are, this holds: what one reads is a deed of chains, by which the law below on inverses reads it
   pub deeds : (b : List ℕ) → m.reads b ≡ true → is_some (deed_in b) ≡ true
   pub silent : OfBacks m (λ k told given latched p after. p.deed ≡ [])
   -- a plan replies what the end of its deed answers; what takes an operation back, that it is undone
   pub replies : OfPlans m (λ k job given latched p after. (d : Deed) → deed_in p.deed ≡ Some d
-      → p.reply ≡ Some (answer_of d))
-  pub replies_undo : OfBacks m (λ k told given latched p after. p.reply ≡ answer_back told)
+      → reply_of p ≡ Some (answer_of d))
+  pub replies_undo : OfBacks m (λ k told given latched p after. reply_of p ≡ answer_back told)
   -- a plan does to its sender's chain what its deed tells. What takes that back leaves what was done meanwhile on the
   -- other end. Neither changes another chain
   pub inverse : (z : Sizes) (d : Deed) (v : View) (q : Slots) → OfPlans m (λ k job given latched p after. k.sizes ≡ Some z

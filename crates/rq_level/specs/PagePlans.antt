@@ -10,6 +10,7 @@ use Rattle.rq_level.specs.LevelState.{LevelState}
 use Rattle.rq_level.specs.Ops.{Job, Overwrite, overwrite_in}
 use Rattle.rq_level.specs.declared.slots.Given.{Given}
 use Rattle.rq_level.specs.declared.writes.Plan.{Plan}
+use Rattle.rq_level.specs.declared.writes.Replies.TheVariants as replies
 use Rattle.rq_level.specs.declared.writes.SlotWrite.{SlotWrite}
 
 -- the one write is of this slot, from these bytes to those
@@ -22,7 +23,7 @@ IsOneWrite a before after (w ∷ v ∷ ws) = ⊥
 pub record IsWritePlan (a : ℕ) (before after : List ℕ) (p : Plan) : Type 0 where
   pub write : IsOneWrite a before after p.writes.items
   pub deed : p.deed ≡ []
-  pub reply : p.reply ≡ None
+  pub reply : p.reply ≡ replies.Nothing
 
 -- the plan of writing over a slot: from what was given of it
 pub record IsOverwritten (given : List Given) (w : Overwrite) (p : Plan) : Type 0 where

@@ -1,13 +1,17 @@
 -- Slot writes of a plan, as writes over what the slots hold, and what a deed's end answers.
-use Rattle.std.specs.Prelude.{◌≡◌, ℕ, ◌/◌, ◌%◌, List, [], ◌∷◌, map, All}
+use Rattle.std.specs.Prelude.{◌≡◌, ℕ, ◌/◌, ◌%◌, List, [], ◌∷◌, Option, None, Some, map, option_map, All}
 use Rattle.rq_model.specs.declared.record.Deed.{Deed}
 use Rattle.rq_model.specs.declared.record.Deed.TheVariants.{Append, UnlinkHead, Close}
+use Rattle.rq_model.specs.Deeds.{deed_in}
 use Rattle.rq_page.specs.Sizes.{Sizes}
 use Rattle.rq_page.specs.Slots.{held_in, IsSlotOf}
 use Rattle.rq_views.specs.Log.{Write}
 use Rattle.rq_views.specs.Stored.{IsStoreSlot}
 use Rattle.rq_level.specs.declared.writes.Outcome.{Outcome}
 use Rattle.rq_level.specs.declared.writes.Outcome.TheVariants as gives
+use Rattle.rq_level.specs.declared.writes.Plan.{Plan}
+use Rattle.rq_level.specs.declared.writes.Replies.{Replies}
+use Rattle.rq_level.specs.declared.writes.Replies.TheVariants as replies
 use Rattle.rq_level.specs.declared.writes.SlotWrite.{SlotWrite}
 
 -- the write, over what the slot holds
@@ -36,3 +40,12 @@ abbrev pub answer_of : Deed → Outcome
 answer_of (Append s n tag previous body) = gives.Sent
 answer_of (UnlinkHead s n tag body) = gives.Message (record { sender = s; tag = tag; body = body })
 answer_of (Close s) = gives.Closed
+
+abbrev pub replied : Replies → Option Deed → Option Outcome
+replied replies.Nothing told = None
+replied replies.Deed told = option_map answer_of told
+replied replies.Undone told = Some gives.Undone
+
+-- what the end of a planned operation replies
+abbrev pub reply_of : Plan → Option Outcome
+reply_of p = replied p.reply (deed_in p.deed)

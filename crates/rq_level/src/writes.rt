@@ -29,12 +29,23 @@ pub enum Outcome {
     Undone,
 }
 
-/// The writes of an operation, in order, the deed that its end tells, and what that answers.
+/// What the end of a planned operation replies.
+#[derive(Clone, Copy)]
+pub enum Replies {
+    /// Nothing: the operation has no end.
+    Nothing,
+    /// What its deed tells: that a message was sent, which one was received, or that a group was closed.
+    Deed,
+    /// That an earlier operation was undone.
+    Undone,
+}
+
+/// The writes of an operation, in order, the deed that its end tells, and what that replies.
 #[derive(Drop)]
 pub struct Plan {
     pub writes: Vec<SlotWrite>,
     pub deed: DeedBytes,
-    pub reply: Option<Outcome>,
+    pub reply: Replies,
 }
 
 /// A write in a vector, in place of what stands there.

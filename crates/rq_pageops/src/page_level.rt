@@ -5,7 +5,9 @@ ghost use Rattle.rq_level.specs.Ops.{overwrite_in};
 ghost use Rattle.rq_level.specs.PagePlans.{IsWritePlan, PlansWrite, TakesBack, is_slot_number};
 
 use byteorder::{BigEndian, ByteOrder};
-use rq_level::{Level, Op, PageSet, Plan, SlotWrite, Slots, Want, only, redo_page};
+use rq_level::{
+    Level, Op, PageSet, Plan, Replies, SlotWrite, Slots, Want, only, redo_page,
+};
 use rq_model::record::{DeedBytes, Record, Slot};
 use rq_model::refusal::{Damage, NoMemory, Refusal};
 use rq_model::txn::Lsn;
@@ -155,7 +157,7 @@ fn one_write(room: Vec<SlotWrite>, at: Addr, before: &Slot, after: &Slot) -> Res
         Ok(writes) => Ok(Plan {
             writes,
             deed: DeedBytes::new(&[]).unwrap(),
-            reply: None,
+            reply: Replies::Nothing,
         }),
         Err(_) => Err(NoMemory),
     }
