@@ -1,5 +1,5 @@
 -- The level plans what takes back a deed exactly where the slots hold what that needs.
-use Rattle.std.proofs.Common.{◌≡◌, ℕ, ◌<◌, not, List, [], ◌∷◌, true, false, Option, Some, None, Result, Ok, Err, IfErr, refl, sym, ◌∙◌, ap, subst, inl, inr, arith}
+use Rattle.std.proofs.Common.{◌≡◌, ℕ, ◌<◌, not, List, [], ◌∷◌, true, false, Option, Some, None, Result, Ok, Err, refl, sym, ◌∙◌, ap, subst, inl, inr, arith}
 use Rattle.std.proofs.lemmas.Bool.{cases_eq, false≢true, true≢false}
 use Rattle.rq_model.specs.declared.record.Deed.{Deed}
 use Rattle.rq_model.specs.declared.record.Deed.TheVariants.{Append, UnlinkHead, Close}
@@ -8,6 +8,7 @@ use Rattle.rq_model.specs.declared.refusal.Refusal.{Refusal}
 use Rattle.rq_model.specs.declared.refusal.Refusal.TheVariants as why
 use Rattle.rq_model.specs.declared.txn.Txn.{Txn}
 use Rattle.rq_model.specs.Deeds.{deed_in}
+use Rattle.rq_model.specs.Legal.{OnFound}
 use Rattle.rq_page.specs.declared.cell.Cell.{Cell}
 use Rattle.rq_page.specs.Sizes.{Sizes, IsCellAddress, directory_at, place_of, sender_count}
 use Rattle.rq_page.specs.Slots.Slot.{Free, Used, Sender}
@@ -16,7 +17,7 @@ use Rattle.rq_views.specs.Log.{Slots}
 use Rattle.rq_views.specs.Plans.{deed_sender}
 use Rattle.rq_views.specs.Plans.Turn.{Undid}
 use Rattle.rq_views.specs.Stored.{is_used, slots_in}
-use Rattle.rq_level.specs.ChainPlans.{Beside, CanMark, CanPutBack, CanUnlinkTail, Undoes}
+use Rattle.rq_level.specs.ChainPlans.{Beside, CanMark, CanPutBack, CanUnlinkTail, TellsDamage, Undoes}
 use Rattle.rq_level.specs.declared.slots.Given.{Given}
 use Rattle.rq_level.specs.declared.writes.Plan.{Plan}
 use Rattle.rq_level.specs.Given.{GivenHolds}
@@ -34,8 +35,8 @@ use Rattle.rq_sound.specs.Inverses.{InverseIsLatched, InverseTakesLowest}
 use Rattle.rq_sound.proofs.Wants.{given_parts, given_named}
 use Rattle.rq_planner.specs.Asked.{Asked, IsOfStore, asked_back, asked_sender, known, to_undo}
 use Rattle.rq_planner.specs.Asked.Asked.{Undo}
-use Rattle.rq_planner.specs.Answered.{HasGatheredFor, IsHeldUp, IsPlanBack, unless_latched}
-use Rattle.rq_planner.specs.Backs.{CanBeTakenBack, IsJudgedBack, IsRefusedBack, IsShut, IsTakingBack, SentLast, TakenLast}
+use Rattle.rq_planner.specs.Answered.{HasGatheredFor, IsHeldUp, IsNotGathered, IsPlanBack}
+use Rattle.rq_planner.specs.Backs.{CanBeTakenBack, CannotBeTakenBack, IsJudgedBack, IsShut, IsTakingBack, SentLast, TakenLast}
 
 -- ---- what was given of slots that hold it
 
@@ -139,38 +140,32 @@ module _ (s : State) (k : LevelState) (given : List Given) (latched : List ℕ) 
     closed = m.marked.can.other;
   }
 
-  -- and what can be is refused for memory alone, or for latches
-  judged : (d : Deed) (r : Refusal) → AreGivenOf s given (needed (slots_now s) (Undid d)) → Undoes (Some s.sizes) (Some d) k given latched (Err r) after → CanBeTakenBack s.sizes (slots_now s) d → IfErr (unless_latched (Err r)) (λ x. x ≡ why.NoMemory)
-  judged (Append g n tag previous body) why.NoMemory h m can = refl
-  judged (Append g n tag previous body) (why.Damaged x) h m can = absurd (m.0.1 (can_unlink s given g n can h))
-  judged (Append g n tag previous body) r h m can = absurd m.0
-  judged (UnlinkHead g n tag body) why.NoMemory h m can = refl
-  judged (UnlinkHead g n tag body) why.Latched h m can = tt
-  judged (UnlinkHead g n tag body) (why.Damaged x) h m can = absurd (not_full s k can.cell keeps can.is_cell can.free (m.0.1 (can_return s given g n can h)))
-  judged (UnlinkHead g n tag body) r h m can = absurd m.0
-  judged (Close g) why.NoMemory h m can = refl
-  judged (Close g) (why.Damaged x) h m can = absurd (m.0.1 (can_open s given g can h))
-  judged (Close g) r h m can = absurd m.0
+  -- and what can be is not refused as damage
+  judged : (d : Deed) (r : Refusal) → AreGivenOf s given (needed (slots_now s) (Undid d)) → Undoes (Some s.sizes) (Some d) k given latched (Err r) after → TellsDamage r → CanBeTakenBack s.sizes (slots_now s) d → ⊥
+  judged (Append g n tag previous body) (why.Damaged x) h m damage can = m.0.1 (can_unlink s given g n can h)
+  judged (UnlinkHead g n tag body) (why.Damaged x) h m damage can = not_full s k can.cell keeps can.is_cell can.free (m.0.1 (can_return s given g n can h))
+  judged (Close g) (why.Damaged x) h m damage can = m.0.1 (can_open s given g can h)
+  judged d r h m damage can = absurd damage
 
-  back_judged_as : (o : Option Deed) (answer : Result Plan Refusal) → HasGatheredFor s given (to_undo o) → Undoes (Some s.sizes) o k given latched answer after → IsJudgedBack s.sizes (slots_now s) o (unless_latched answer)
-  back_judged_as o (Ok p) h m = record {
-    can = λ d is. can_be d p h.has.gathered (subst (λ (x : Option Deed). Undoes (Some s.sizes) x k given latched (Ok p) after) is m);
-    refused = tt;
+  back_judged_as : (o : Option Deed) (answer : Result Plan Refusal) → HasGatheredFor s given (to_undo o) → Undoes (Some s.sizes) o k given latched answer after → IsJudgedBack s.sizes (slots_now s) o answer
+  back_judged_as o (Ok p) h m = record { can = λ d is. can_be d p h.has.gathered (subst (λ (x : Option Deed). Undoes (Some s.sizes) x k given latched (Ok p) after) is m); damaged = tt }
+  back_judged_as o (Err r) h m = record {
+    can = tt;
+    damaged = λ damage d is can. judged d r (subst (λ (x : Option Deed). HasGatheredFor s given (to_undo x)) is h).all (subst (λ (x : Option Deed). Undoes (Some s.sizes) x k given latched (Err r) after) is m) damage can;
   }
-  back_judged_as o (Err r) h m = by r refl where
-    told : (d : Deed) → o ≡ Some d → CanBeTakenBack s.sizes (slots_now s) d → IfErr (unless_latched (Err r)) (λ x. x ≡ why.NoMemory)
-    told d is can = judged d r (subst (λ (x : Option Deed). HasGatheredFor s given (to_undo x)) is h).all (subst (λ (x : Option Deed). Undoes (Some s.sizes) x k given latched (Err r) after) is m) can
-
-    by : (x : Refusal) → r ≡ x → IsJudgedBack s.sizes (slots_now s) o (unless_latched (Err x))
-    by why.Latched e = record { can = tt; refused = tt }
-    by x e = record { can = tt; refused = λ d is can. subst (λ y. IfErr (unless_latched (Err y)) (λ w. w ≡ why.NoMemory)) e (told d is can) }
 
   pub back_judged : (n : ℕ) (t : Txn) (number level : ℕ) (deed : List ℕ) (answer : Result Plan Refusal) → n ≡ 1 → HasGatheredFor s given (asked_back deed)
-      → (meaning_of n).undoes k (OpEnd t number level deed) given latched answer after → IsJudgedBack s.sizes (slots_now s) (deed_in deed) (unless_latched answer)
+      → (meaning_of n).undoes k (OpEnd t number level deed) given latched answer after → IsJudgedBack s.sizes (slots_now s) (deed_in deed) answer
   unfolding meaning_of
   back_judged n t number level deed answer one h m =
       let law : Undoes k.sizes (deed_in deed) k given latched answer after = subst (λ (x : ℕ). (meaning_of x).undoes k (OpEnd t number level deed) given latched answer after) one m in
       back_judged_as (deed_in deed) answer h (subst (λ (z : Option Sizes). Undoes z (deed_in deed) k given latched answer after) keeps.sizes law)
+
+-- what is not gathered is not refused as damage
+pub not_judged : (s : State) (asked : Option Asked) (r : Refusal) (o : Option Deed) → IsNotGathered s asked r → IsJudgedBack s.sizes (slots_now s) o (Err r)
+not_judged s asked why.NoMemory o h = record { can = tt; damaged = λ x. absurd x }
+not_judged s asked why.Latched o h = record { can = tt; damaged = λ x. absurd x }
+not_judged s asked _ o h = absurd h
 
 -- ---- where nothing is under way
 
@@ -208,6 +203,7 @@ module _ (z : Sizes) (images : List (List ℕ)) (rows : List Row) (none : rows �
     lowest = subst (λ (rs : List Row). InverseTakesLowest z (slots_in z images) rs d p.writes.items) none back.lowest;
   }
 
-  pub not_held_up : (r : Refusal) → ((a : Asked) → asked_back bytes ≡ Some a → IsHeldUp (known z images rows) a) → IsRefusedBack z (slots_in z images) (deed_in bytes) r
-  not_held_up r held d is can =
-      absurd (never_latched z (slots_in z images) d can (subst (λ (rs : List Row). InverseIsLatched z (slots_in z images) rs d) none (held (Undo d) (ap to_undo is))))
+  pub not_held_up : OnFound (asked_back bytes) (IsHeldUp (known z images rows)) → CannotBeTakenBack z (slots_in z images) (deed_in bytes)
+  not_held_up held d is can =
+      let on : IsHeldUp (known z images rows) (Undo d) = subst (λ (o : Option Asked). OnFound o (IsHeldUp (known z images rows))) (ap to_undo is) held in
+      never_latched z (slots_in z images) d can (subst (λ (rs : List Row). InverseIsLatched z (slots_in z images) rs d) none on)

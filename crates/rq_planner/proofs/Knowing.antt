@@ -1,5 +1,5 @@
 -- A level that knows the cells of a store, whatever is under way there.
-use Rattle.std.proofs.Common.{set, ◌≡◌, ◌≢◌, ℕ, ◌/◌, ◌<◌, List, length, refl, sym, ◌∙◌, ap, subst, Bool, true, false, not, nat_eq, Option, Some, inl, inr, arith}
+use Rattle.std.proofs.Common.{set, ◌≡◌, ◌≢◌, ℕ, ◌/◌, ◌<◌, List, [], length, refl, sym, ◌∙◌, ap, subst, Bool, true, false, not, nat_eq, Option, Some, Result, Ok, Err, IfOk, IfErr, inl, inr, arith}
 use Rattle.std.proofs.lemmas.Bool.{cases_Bool, cases_eq, eqb-true, false≢true, false_from_ne_true, true≢false}
 use Rattle.std.proofs.lemmas.List.{length-set}
 use Rattle.rq_page.specs.Sizes.{Sizes, IsCellAddress, cell_at, cell_count, place_of}
@@ -8,10 +8,16 @@ use Rattle.rq_page.proofs.Addresses.{cells_have_places, places_are_cells}
 use Rattle.rq_views.specs.Log.{put}
 use Rattle.rq_views.specs.Stored.{IsStoreSlot, is_used, slot_at, slots_in}
 use Rattle.rq_views.proofs.Overlay.{put_at, put_off}
+use Rattle.rq_model.specs.declared.refusal.Refusal.{Refusal}
+use Rattle.rq_level.specs.declared.writes.Plan.{Plan}
 use Rattle.rq_level.specs.LevelState.{LevelState, flag_at, is_cell_address, is_free_slot, noted, noted_cell, noted_in}
 use Rattle.rq_level.proofs.Noting.{is_cell}
+use Rattle.rq_txn.specs.Rows.{Row}
+use Rattle.rq_sound.specs.Chosen.{KeepsBeside, first_place}
+use Rattle.rq_sound.specs.Levels.{KeepsCells}
 use Rattle.rq_sound.proofs.KeptCells.{cell_is, flag_other, flag_same, free_by_byte, place_is}
-use Rattle.rq_planner.specs.Answered.{KnowsCells}
+use Rattle.rq_planner.specs.Answered.{IsAnswered, KnowsCells}
+use Rattle.rq_planner.specs.Asked.{Asked, known}
 use Rattle.rq_planner.proofs.Told.{slot_is}
 
 -- ---- a slot is written
@@ -79,3 +85,12 @@ knows_again z images new k after a store others h e = subst (KnowsCells z new) (
     | inl same ↦ ap (slots_in z new) same ∙ slot_is z new a store ∙ sym (put_at (slots_in z images) a (held_in z (a / 16) (slot_at new a)) b same)
     | inr ne ↦ others b ne ∙ sym (put_off (slots_in z images) a (held_in z (a / 16) (slot_at new a)) b ne)
   ]
+
+-- ---- what is planned
+
+-- what a plan chose is given back
+pub given_back : (z : Sizes) (images : List (List ℕ)) (rows : List Row) (k planned new : LevelState) (asked : Option Asked) (answer : Result Plan Refusal)
+    → KnowsCells z images k → IsAnswered (known z images rows) k asked answer planned
+    → IfOk answer (λ p. (rs : List Row) → KeepsBeside (known z images rs) planned (first_place p.writes.items) → KeepsCells (known z images rs) new) → IfErr answer (λ _. new ≡ planned) → KnowsCells z images new
+given_back z images rows k planned new asked (Ok p) knows a back same = back [] (a.chosen [] knows)
+given_back z images rows k planned new asked (Err r) knows a back same = subst (KnowsCells z images) (sym (same ∙ a.refused)) knows

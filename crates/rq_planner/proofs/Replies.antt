@@ -1,7 +1,7 @@
 -- What is answered to what is asked: the level's answer, over what was gathered for it.
-use Rattle.std.proofs.Common.{◌≡◌, ◌≢◌, ⊎_elim, ℕ, ◌+◌, ◌/◌, ◌<◌, ◌≤◌, ◌++◌, not, List, [], ◌∷◌, reverse, Bool, true, false, Option, Some, None, Result, Ok, Err, refl, sym, ◌∙◌, ap, subst, inl, inr, arith}
-use Rattle.std.specs.Option.{is_some}
+use Rattle.std.proofs.Common.{◌≡◌, ⊎_elim, ℕ, ◌+◌, ◌/◌, ◌<◌, ◌≤◌, ◌++◌, not, List, [], ◌∷◌, reverse, Bool, true, false, Option, Some, None, Result, Ok, Err, option_map, refl, sym, ◌∙◌, ap, subst, inl, inr, arith}
 use Rattle.std.proofs.lemmas.Bool.{and_from, cases_Bool, cases_eq, cases_lt, or_from, true≢false}
+use Rattle.std.proofs.Math.Bool.{or-false}
 use Rattle.std.proofs.lemmas.List.{reverse-append, reverse-reverse}
 use Rattle.rq_model.specs.declared.record.Deed.{Deed}
 use Rattle.rq_model.specs.declared.record.Deed.TheVariants.{Append, UnlinkHead, Close as Close_deed}
@@ -23,13 +23,14 @@ use Rattle.rq_views.specs.Stored.{is_used}
 use Rattle.rq_level.specs.ChainPlans.{Plans, PlansFor, RefusesUnread, Undoes, chain_plans, chain_undoes}
 use Rattle.rq_level.specs.declared.slots.Given.{Given}
 use Rattle.rq_level.specs.declared.writes.Plan.{Plan}
+use Rattle.rq_level.specs.declared.writes.Replies.TheVariants as replies
 use Rattle.rq_level.specs.declared.writes.SlotWrite.{SlotWrite}
 use Rattle.rq_level.specs.Given.{has_page}
 use Rattle.rq_level.specs.LevelState.{LevelState, IsLowest, NoneToTake, flag_at}
 use Rattle.rq_level.specs.Meaning.{meaning_of}
 use Rattle.rq_level.specs.Ops.{Doing, Job, doing_in}
 use Rattle.rq_level.specs.Ops.Doing.{Send, Receive, Close}
-use Rattle.rq_level.specs.Writes.{AreSlotWrites, IsFirstAt, write_of, writes_of}
+use Rattle.rq_level.specs.Writes.{AreSlotWrites, IsFirstAt, answer_of, replied, reply_of, write_of, writes_of}
 use Rattle.rq_txn.specs.Rows.{Row, latched_in}
 use Rattle.rq_store.specs.State.{State}
 use Rattle.rq_sound.specs.Chosen.{KeepsBeside, first_place}
@@ -42,9 +43,9 @@ use Rattle.rq_sound.proofs.Chosen.{planned_kept}
 use Rattle.rq_sound.proofs.Levels.{levels_plan, levels_refuse, writes_latched}
 use Rattle.rq_sound.proofs.Wants.{levels_find}
 use Rattle.rq_sound.specs.Lowest.{AreAllLatched, AreLatchedBelow, FirstIsLowest}
-use Rattle.rq_planner.specs.Asked.{Asked, IsOfStore, asked_back, asked_by, asked_in, doing_sender, known, needed_by, to_do, to_undo}
+use Rattle.rq_planner.specs.Asked.{Asked, IsOfStore, asked_back, asked_by, asked_in, doing_sender, known, needed_by, slots_for, to_do, to_undo}
 use Rattle.rq_planner.specs.Asked.Asked.{Do, Undo}
-use Rattle.rq_planner.specs.Answered.{HasGatheredFor, IsAnswered, IsHeldUp, IsNewestDeed, IsPlanBack, IsPlanFor, IsPlanOf, MayBeAsked, RefusesPlan, unless_latched}
+use Rattle.rq_planner.specs.Answered.{HasGatheredFor, IsAnswered, IsHeldUp, IsNewestDeed, IsPlanBack, IsPlanFor, IsNotGathered, IsPlanOf, MayBeAsked}
 
 -- the first write of a plan is of the cell that it takes
 takes_lowest : (z : Sizes) (q : Slots) (rows : List Row) (a : ℕ) (ws : List SlotWrite) → IsFirstAt a ws → AreLatchedBelow z q rows a → latched_in rows (a / 16) ≡ false → FirstIsLowest z q rows ws
@@ -53,85 +54,39 @@ takes_lowest z q rows a (w ∷ ws) at lowest off = (subst (AreLatchedBelow z q r
 
 -- ---- each answer
 
-pub some_is : (a b : Asked) → Some a ≡ Some b → a ≡ b
-some_is a b e = cc
-
 module _ (s : State) (k : LevelState) (a : Asked) where
-  for_one : (P : Asked → Type 0) → P a → (b : Asked) → Some a ≡ Some b → P b
-  for_one P h b e = subst P (some_is a b e) h
-
   planned_answer : (after : LevelState) (p : Plan) → IsPlanFor s a p → AreSlotWrites s.sizes p.writes.items → (IsHeldUp s a → ⊥)
-      → ((rows : List Row) → KeepsCells (record s { rows = rows }) k → KeepsBeside (record s { rows = rows }) after (first_place p.writes.items)) → IsAnswered s k (Some a) (Ok (Some p)) after
-  planned_answer after p is slots off beside = record {
-    read = refl;
-    plan = for_one (λ b. IsPlanFor s b p) is;
-    slots = slots;
-    chosen = beside;
-    free = for_one (λ b. IsHeldUp s b → ⊥) off;
-    latched = tt;
-    none = tt;
-    refused = tt;
-    causes = tt;
-    plain = tt;
-    memory = λ whole e sound b is may. tt;
-  }
+      → ((rows : List Row) → KeepsCells (record s { rows = rows }) k → KeepsBeside (record s { rows = rows }) after (first_place p.writes.items)) → IsAnswered s k (Some a) (Ok p) after
+  planned_answer after p is slots off beside = record { planned = record { plan = is; free = off; causes = tt; sound = λ whole e sound may. tt }; slots = slots; chosen = beside; refused = tt }
 
-  latched_answer : (after : LevelState) → after ≡ k → IsHeldUp s a → IsAnswered s k (Some a) (Ok None) after
-  latched_answer after same held = record {
-    read = refl;
-    plan = tt;
-    slots = tt;
-    chosen = tt;
-    free = tt;
-    latched = for_one (IsHeldUp s) held;
-    none = same;
-    refused = tt;
-    causes = tt;
-    plain = tt;
-    memory = λ whole e sound b is may. tt;
-  }
+  latched_answer : (after : LevelState) → after ≡ k → IsHeldUp s a → IsAnswered s k (Some a) (Err why.Latched) after
+  latched_answer after same held = record { planned = record { plan = tt; free = tt; causes = held; sound = λ whole e sound may x. x }; slots = tt; chosen = tt; refused = same }
 
-  refused_answer : (after : LevelState) (r : Refusal) → after ≡ k → RefusesPlan r → r ≢ why.Failed → r ≢ why.Latched → ((whole : State) → known whole.sizes whole.images whole.rows ≡ s → IsSound whole → MayBeAsked whole a → r ≡ why.NoMemory) → IsAnswered s k (Some a) (Err r) after
-  refused_answer after r same causes failed latched memory = record {
-    read = tt;
-    plan = tt;
-    slots = tt;
-    chosen = tt;
-    free = tt;
-    latched = tt;
-    none = tt;
-    refused = same;
-    causes = causes;
-    plain = (failed, latched);
-    memory = λ whole e sound. for_one (λ b. MayBeAsked whole b → r ≡ why.NoMemory) (memory whole e sound);
-  }
+  damaged_answer : (after : LevelState) (x : Damage) → after ≡ k → ((whole : State) → known whole.sizes whole.images whole.rows ≡ s → IsSound whole → MayBeAsked whole a → ⊥) → IsAnswered s k (Some a) (Err (why.Damaged x)) after
+  damaged_answer after x same none = record { planned = record { plan = tt; free = tt; causes = tt; sound = λ whole e sound may y. none whole e sound may }; slots = tt; chosen = tt; refused = same }
 
-  memory_answer : (after : LevelState) → after ≡ k → IsAnswered s k (Some a) (Err why.NoMemory) after
-  memory_answer after same = refused_answer after why.NoMemory same tt (λ e. cc) (λ e. cc) (λ whole e sound may. refl)
+memory_answer : (s : State) (k : LevelState) (asked : Option Asked) (after : LevelState) → after ≡ k → IsAnswered s k asked (Err why.NoMemory) after
+memory_answer s k asked after same = record { planned = record { plan = tt; free = tt; causes = tt; sound = λ whole e sound may x. x }; slots = tt; chosen = tt; refused = same }
 
 -- where nothing can be read
-unread_answer : (s : State) (k after : LevelState) (r : Refusal) → after ≡ k → RefusesPlan r → r ≢ why.Failed → r ≢ why.Latched → IsAnswered s k None (Err r) after
-unread_answer s k after r same causes failed latched = record {
-  read = tt;
-  plan = tt;
-  slots = tt;
-  chosen = tt;
-  free = tt;
-  latched = tt;
-  none = tt;
-  refused = same;
-  causes = causes;
-  plain = (failed, latched);
-  memory = λ whole e sound b is may. absurd (let no : None ≡ Some b = is in cc);
-}
+unread_answer : (s : State) (k after : LevelState) (x : Damage) → after ≡ k → IsAnswered s k None (Err (why.Damaged x)) after
+unread_answer s k after x same = record { planned = record { plan = tt; free = tt; causes = tt; sound = λ whole e sound may y. may }; slots = tt; chosen = tt; refused = same }
 
--- what is held up by a latch can be read
-pub held_read : (rows : List Row) (q : Slots) (asked : Option Asked) → any_latched rows (needed_by q asked) ≡ true → is_some asked ≡ true
-held_read rows q None h = absurd (true≢false (sym h))
-held_read rows q (Some a) h = refl
+-- a latch on a page of what is needed holds up what is asked
+held_up : (s : State) (a : Asked) → any_latched s.rows (slots_for (slots_now s) a) ≡ true → IsHeldUp s a
+held_up s (Do (Send g tag body)) h = inl h
+held_up s (Do (Receive g)) h = h
+held_up s (Do (Close g)) h = h
+held_up s (Undo (Append g n tag previous body)) h = h
+held_up s (Undo (UnlinkHead g n tag body)) h = inl h
+held_up s (Undo (Close_deed g)) h = sym (or-false (latched_in s.rows (directory_at g / 16))) ∙ h
 
-pub memory_causes : (r : Refusal) → r ≡ why.NoMemory → RefusesPlan r
-memory_causes r e = subst RefusesPlan (sym e) tt
+-- where what is needed is not gathered
+pub not_gathered : (s : State) (k : LevelState) (asked : Option Asked) (r : Refusal) → IsNotGathered s asked r → IsAnswered s k asked (Err r) k
+not_gathered s k asked why.NoMemory h = memory_answer s k asked k refl
+not_gathered s k None why.Latched h = absurd (true≢false (sym h))
+not_gathered s k (Some a) why.Latched h = latched_answer s k a k refl (held_up s a h)
+not_gathered s k asked _ h = absurd h
 
 -- ---- latches
 
@@ -192,6 +147,10 @@ first_new z us beside (Some c) f first new e = first_at z us (first ∷ record {
 
 -- ---- plans
 
+-- what its end replies, where its deed tells that
+by_deed : (p : Plan) (d : Deed) → p.reply ≡ replies.Deed → deed_in p.deed ≡ Some d → reply_of p ≡ Some (answer_of d)
+by_deed p d is reads = ap (λ r. replied r (deed_in p.deed)) is ∙ ap (option_map answer_of) reads
+
 module _ (s : State) (k : LevelState) (given : List Given) (latched : List ℕ) (keeps : KeepsCells s k) (on : AreLatched s latched) where
   do_plan : (d : Doing) (p : Plan) (after : LevelState) → HasGatheredFor s given (Some (Do d)) → Plans (Some s.sizes) (Some d) k given latched (Ok p) after → IsPlanOf s d p
   do_plan (Send g tag body) p after h m = record {
@@ -199,7 +158,7 @@ module _ (s : State) (k : LevelState) (given : List Given) (latched : List ℕ) 
     asked = (refl, refl, refl);
     told = m.deed;
     reads = m.reads;
-    answer = m.reply;
+    answer = by_deed p _ m.reply m.reads;
     follows = levels_plan.sent s k given latched g tag body p after h.has.gathered keeps on m;
     slots = m.slots;
     lowest = takes_lowest s.sizes (slots_now s) s.rows m.new p.writes.items
@@ -210,7 +169,7 @@ module _ (s : State) (k : LevelState) (given : List Given) (latched : List ℕ) 
     asked = refl;
     told = m.deed;
     reads = m.reads;
-    answer = m.reply;
+    answer = by_deed p _ m.reply m.reads;
     follows = levels_plan.received s k given g p after h.has.gathered m;
     slots = m.slots;
     lowest = tt;
@@ -220,7 +179,7 @@ module _ (s : State) (k : LevelState) (given : List Given) (latched : List ℕ) 
     asked = refl;
     told = m.deed;
     reads = m.reads;
-    answer = m.reply;
+    answer = by_deed p _ m.reply m.reads;
     follows = levels_plan.closed s k given g p after h.has.gathered m;
     slots = m.marked.slots;
     lowest = tt;
@@ -297,15 +256,13 @@ module _ (whole : State) (sound : IsSound whole) where
 module _ (s : State) (k : LevelState) (given : List Given) (latched : List ℕ) (keeps : KeepsCells s k) (on : AreLatched s latched) (after : LevelState) where
   damaged_do : (d : Doing) (x : Damage) → after ≡ k → HasGatheredFor s given (Some (Do d)) → doing_sender d < sender_count s.sizes → Plans (Some s.sizes) (Some d) k given latched (Err (why.Damaged x)) after
       → IsAnswered s k (Some (Do d)) (Err (why.Damaged x)) after
-  damaged_do d x same h inside m = refused_answer s k (Do d) after (why.Damaged x) same tt (λ e. cc) (λ e. cc)
-      (λ whole e sound may. absurd (subst (λ (t : State). KeepsCells t k → AreLatched t latched → HasGatheredFor t given (Some (Do d)) → doing_sender d < sender_count t.sizes
+  damaged_do d x same h inside m = damaged_answer s k (Do d) after x same (λ whole e sound may. (subst (λ (t : State). KeepsCells t k → AreLatched t latched → HasGatheredFor t given (Some (Do d)) → doing_sender d < sender_count t.sizes
       → Plans (Some t.sizes) (Some d) k given latched (Err (why.Damaged x)) after → ⊥) e
       (λ a b c f w. no_doing whole sound k given latched a b x after d c f w may) keeps on h inside m))
 
   damaged_undo : (d : Deed) (x : Damage) → after ≡ k → HasGatheredFor s given (Some (Undo d)) → Undoes (Some s.sizes) (Some d) k given latched (Err (why.Damaged x)) after
       → IsAnswered s k (Some (Undo d)) (Err (why.Damaged x)) after
-  damaged_undo d x same h m = refused_answer s k (Undo d) after (why.Damaged x) same tt (λ e. cc) (λ e. cc)
-      (λ whole e sound may. absurd (subst (λ (t : State). KeepsCells t k → AreLatched t latched → HasGatheredFor t given (Some (Undo d))
+  damaged_undo d x same h m = damaged_answer s k (Undo d) after x same (λ whole e sound may. (subst (λ (t : State). KeepsCells t k → AreLatched t latched → HasGatheredFor t given (Some (Undo d))
       → Undoes (Some t.sizes) (Some d) k given latched (Err (why.Damaged x)) after → ⊥) e
       (λ a b c w. no_undoing whole sound k given latched a b x after d c w may) keeps on h m))
 
@@ -313,62 +270,62 @@ module _ (s : State) (k : LevelState) (given : List Given) (latched : List ℕ) 
   all_latched none = levels_plan.none_to_take s k latched keeps on none
 
   do_refused : (d : Doing) (r : Refusal) → HasGatheredFor s given (Some (Do d)) → doing_sender d < sender_count s.sizes → Plans (Some s.sizes) (Some d) k given latched (Err r) after
-      → IsAnswered s k (Some (Do d)) (unless_latched (Err r)) after
-  do_refused (Send g tag body) why.NoMemory h inside m = memory_answer s k (Do (Send g tag body)) after m.1
+      → IsAnswered s k (Some (Do d)) (Err r) after
+  do_refused (Send g tag body) why.NoMemory h inside m = memory_answer s k (Some (Do (Send g tag body))) after m.1
   do_refused (Send g tag body) why.Latched h inside m = latched_answer s k (Do (Send g tag body)) after m.1 (inr (all_latched m.0.0))
   do_refused (Send g tag body) (why.Damaged x) h inside m = damaged_do (Send g tag body) x m.1 h inside m
   do_refused (Send g tag body) r h inside m = absurd m.0
-  do_refused (Receive g) why.NoMemory h inside m = memory_answer s k (Do (Receive g)) after m.1
+  do_refused (Receive g) why.NoMemory h inside m = memory_answer s k (Some (Do (Receive g))) after m.1
   do_refused (Receive g) (why.Damaged x) h inside m = damaged_do (Receive g) x m.1 h inside m
   do_refused (Receive g) r h inside m = absurd m.0
-  do_refused (Close g) why.NoMemory h inside m = memory_answer s k (Do (Close g)) after m.1
+  do_refused (Close g) why.NoMemory h inside m = memory_answer s k (Some (Do (Close g))) after m.1
   do_refused (Close g) (why.Damaged x) h inside m = damaged_do (Close g) x m.1 h inside m
   do_refused (Close g) r h inside m = absurd m.0
 
   undo_refused : (d : Deed) (r : Refusal) → HasGatheredFor s given (Some (Undo d)) → Undoes (Some s.sizes) (Some d) k given latched (Err r) after
-      → IsAnswered s k (Some (Undo d)) (unless_latched (Err r)) after
-  undo_refused (Append g n tag previous body) why.NoMemory h m = memory_answer s k (Undo (Append g n tag previous body)) after m.1
+      → IsAnswered s k (Some (Undo d)) (Err r) after
+  undo_refused (Append g n tag previous body) why.NoMemory h m = memory_answer s k (Some (Undo (Append g n tag previous body))) after m.1
   undo_refused (Append g n tag previous body) (why.Damaged x) h m = damaged_undo (Append g n tag previous body) x m.1 h m
   undo_refused (Append g n tag previous body) r h m = absurd m.0
-  undo_refused (UnlinkHead g n tag body) why.NoMemory h m = memory_answer s k (Undo (UnlinkHead g n tag body)) after m.1
+  undo_refused (UnlinkHead g n tag body) why.NoMemory h m = memory_answer s k (Some (Undo (UnlinkHead g n tag body))) after m.1
   undo_refused (UnlinkHead g n tag body) why.Latched h m = latched_answer s k (Undo (UnlinkHead g n tag body)) after m.1 (inr (all_latched m.0.0))
   undo_refused (UnlinkHead g n tag body) (why.Damaged x) h m = damaged_undo (UnlinkHead g n tag body) x m.1 h m
   undo_refused (UnlinkHead g n tag body) r h m = absurd m.0
-  undo_refused (Close_deed g) why.NoMemory h m = memory_answer s k (Undo (Close_deed g)) after m.1
+  undo_refused (Close_deed g) why.NoMemory h m = memory_answer s k (Some (Undo (Close_deed g))) after m.1
   undo_refused (Close_deed g) (why.Damaged x) h m = damaged_undo (Close_deed g) x m.1 h m
   undo_refused (Close_deed g) r h m = absurd m.0
 
-  unread : (answer : Result Plan Refusal) → RefusesUnread k answer after → IsAnswered s k None (unless_latched answer) after
+  unread : (answer : Result Plan Refusal) → RefusesUnread k answer after → IsAnswered s k None answer after
   unread (Ok p) m = absurd m
-  unread (Err (why.Damaged x)) m = unread_answer s k after (why.Damaged x) m.1 tt (λ e. cc) (λ e. cc)
+  unread (Err (why.Damaged x)) m = unread_answer s k after x m.1
   unread (Err r) m = absurd m.0
 
   -- to do what can be read, or not
   by_doing : (job : Job) (o : Option Doing) (answer : Result Plan Refusal) → HasGatheredFor s given (to_do o) → IsOfStore s.sizes (to_do o) → chain_plans k job given latched answer after
-      → Plans (Some s.sizes) o k given latched answer after → IsAnswered s k (to_do o) (unless_latched answer) after
+      → Plans (Some s.sizes) o k given latched answer after → IsAnswered s k (to_do o) answer after
   by_doing job None answer h inside law m = unread answer m
   by_doing job (Some d) (Ok p) h inside law m = planned_answer s k (Do d) after p (do_plan s k given latched keeps on d p after h m) (do_plan s k given latched keeps on d p after h m).slots (do_free s k given latched keeps on d p after h m) (λ rows kept. planned_kept.plans (record s { rows = rows }) k job given latched p after kept law)
   by_doing job (Some d) (Err r) h inside law m = do_refused d r h (inside (Do d) refl) m
 
-  by_deed : (told : Record) (o : Option Deed) (answer : Result Plan Refusal) → HasGatheredFor s given (to_undo o) → chain_undoes k told given latched answer after
-      → Undoes (Some s.sizes) o k given latched answer after → IsAnswered s k (to_undo o) (unless_latched answer) after
-  by_deed told None answer h law m = unread answer m
-  by_deed told (Some d) (Ok p) h law m = planned_answer s k (Undo d) after p (undo_plan s k given latched keeps on d p after h m) (undo_plan s k given latched keeps on d p after h m).slots (undo_free s k given latched keeps on d p after h m) (λ rows kept. planned_kept.undoes (record s { rows = rows }) k told given latched p after kept law)
-  by_deed told (Some d) (Err r) h law m = undo_refused d r h m
+  by_told : (told : Record) (o : Option Deed) (answer : Result Plan Refusal) → HasGatheredFor s given (to_undo o) → chain_undoes k told given latched answer after
+      → Undoes (Some s.sizes) o k given latched answer after → IsAnswered s k (to_undo o) answer after
+  by_told told None answer h law m = unread answer m
+  by_told told (Some d) (Ok p) h law m = planned_answer s k (Undo d) after p (undo_plan s k given latched keeps on d p after h m) (undo_plan s k given latched keeps on d p after h m).slots (undo_free s k given latched keeps on d p after h m) (λ rows kept. planned_kept.undoes (record s { rows = rows }) k told given latched p after kept law)
+  by_told told (Some d) (Err r) h law m = undo_refused d r h m
 
   pub plan_answered : (n : ℕ) (job : Job) (answer : Result Plan Refusal) → n ≡ 1 → job.undo ≡ false → HasGatheredFor s given (asked_by job) → IsOfStore s.sizes (asked_by job)
-      → (meaning_of n).plans k job given latched answer after → IsAnswered s k (asked_by job) (unless_latched answer) after
+      → (meaning_of n).plans k job given latched answer after → IsAnswered s k (asked_by job) answer after
   unfolding meaning_of
   plan_answered n job answer one forward h inside m =
       let law : chain_plans k job given latched answer after = subst (λ (x : ℕ). (meaning_of x).plans k job given latched answer after) one m in
       let plans : Plans (Some s.sizes) (doing_in job.bytes) k given latched answer after =
       subst (λ (z : Option Sizes). Plans z (doing_in job.bytes) k given latched answer after) keeps.sizes (subst (λ (b : Bool). PlansFor b k.sizes (doing_in job.bytes) k given latched answer after) forward law) in
-      subst (λ (b : Bool). IsAnswered s k (asked_in b job.bytes) (unless_latched answer) after) (sym forward)
+      subst (λ (b : Bool). IsAnswered s k (asked_in b job.bytes) answer after) (sym forward)
       (by_doing job (doing_in job.bytes) answer (subst (λ (b : Bool). HasGatheredFor s given (asked_in b job.bytes)) forward h) (subst (λ (b : Bool). IsOfStore s.sizes (asked_in b job.bytes)) forward inside) law plans)
 
   pub back_answered : (n : ℕ) (t : Txn) (number level : ℕ) (deed : List ℕ) (answer : Result Plan Refusal) → n ≡ 1 → HasGatheredFor s given (asked_back deed)
-      → (meaning_of n).undoes k (OpEnd t number level deed) given latched answer after → IsAnswered s k (asked_back deed) (unless_latched answer) after
+      → (meaning_of n).undoes k (OpEnd t number level deed) given latched answer after → IsAnswered s k (asked_back deed) answer after
   unfolding meaning_of
   back_answered n t number level deed answer one h m =
       let law : Undoes k.sizes (deed_in deed) k given latched answer after = subst (λ (x : ℕ). (meaning_of x).undoes k (OpEnd t number level deed) given latched answer after) one m in
-      by_deed (OpEnd t number level deed) (deed_in deed) answer h law (subst (λ (z : Option Sizes). Undoes z (deed_in deed) k given latched answer after) keeps.sizes law)
+      by_told (OpEnd t number level deed) (deed_in deed) answer h law (subst (λ (z : Option Sizes). Undoes z (deed_in deed) k given latched answer after) keeps.sizes law)

@@ -1,24 +1,24 @@
 -- What a store is answered that asks the level of chains for a plan.
-use Rattle.std.specs.Option.{is_some}
-use Rattle.std.specs.Prelude.{◌≡◌, ◌≢◌, ◌⊎◌, ℕ, ◌≤◌, ◌<◌, ◌^◌, true, false, List, [], ◌∷◌, ◌++◌, length, Option, None, Some, Result, Ok, Err, IfErr, IfOk, IfSome, IfNone}
+use Rattle.std.specs.Prelude.{◌≡◌, ◌⊎◌, ℕ, ◌≤◌, ◌<◌, ◌^◌, true, false, List, [], ◌∷◌, ◌++◌, length, Option, Some, Result, IfErr, IfOk}
 use Rattle.rq_model.specs.declared.record.Deed.{Deed}
 use Rattle.rq_model.specs.declared.record.Deed.TheVariants.{Append, UnlinkHead, Close as Close_deed}
 use Rattle.rq_model.specs.declared.refusal.Refusal.{Refusal}
 use Rattle.rq_model.specs.declared.refusal.Refusal.TheVariants as why
 use Rattle.rq_model.specs.Deeds.{deed_in, spelled_deed}
+use Rattle.rq_model.specs.Legal.{OnFound}
 use Rattle.rq_page.specs.Sizes.{Sizes, cell_count}
 use Rattle.rq_views.specs.Items.{items}
 use Rattle.rq_views.specs.Legal.{view}
 use Rattle.rq_views.specs.Log.{Slots}
 use Rattle.rq_views.specs.Plans.Turn.{Did, Undid}
-use Rattle.rq_level.specs.ChainPlans.{IsInverse}
+use Rattle.rq_level.specs.ChainPlans.{IsInverse, TellsDamage}
 use Rattle.rq_level.specs.declared.slots.Given.{Given}
 use Rattle.rq_level.specs.declared.writes.Plan.{Plan}
 use Rattle.rq_level.specs.declared.writes.SlotWrite.{SlotWrite}
 use Rattle.rq_level.specs.LevelState.{LevelState}
 use Rattle.rq_level.specs.Ops.{Doing}
 use Rattle.rq_level.specs.Ops.Doing.{Send, Receive, Close}
-use Rattle.rq_level.specs.Writes.{AreSlotWrites, answer_of}
+use Rattle.rq_level.specs.Writes.{AreSlotWrites, answer_of, reply_of}
 use Rattle.rq_txn.specs.declared.Finished.{Finished}
 use Rattle.rq_txn.specs.Rows.{Row}
 use Rattle.rq_groups.specs.Waiting.{waits}
@@ -46,6 +46,12 @@ pub record HasGatheredFor (s : State) (given : List Given) (asked : Option Asked
   pub has : HasGathered s given
   pub all : AreGivenOf s given (needed_by (slots_now s) asked)
 
+-- why not: want of memory, or a latch on a page of one of those slots
+abbrev pub IsNotGathered : State → Option Asked → Refusal → Type 0
+IsNotGathered s asked why.NoMemory = Unit {0}
+IsNotGathered s asked why.Latched = any_latched s.rows (needed_by (slots_now s) asked) ≡ true
+IsNotGathered s asked _ = ⊥
+
 -- ---- plans
 
 -- the deed is what is asked for, its numbers aside, which the store tells
@@ -68,7 +74,7 @@ pub record IsPlanOf (s : State) (d : Doing) (p : Plan) : Type 0 where
   pub asked : IsDeedFor d deed
   pub told : p.deed ≡ spelled_deed deed
   pub reads : deed_in p.deed ≡ Some deed
-  pub answer : p.reply ≡ Some (answer_of deed)
+  pub answer : reply_of p ≡ Some (answer_of deed)
   pub follows : IsUnlatchedPlan s p (Did deed)
   pub slots : AreSlotWrites s.sizes p.writes.items
   pub lowest : SendTakesLowest s.sizes (slots_now s) s.rows d p.writes.items
@@ -111,52 +117,34 @@ MayBeAsked s (Undo d) = IsNewestDeed s d
 
 -- ---- the answer
 
--- a plan is refused for memory, or for what the slots hold
-abbrev pub RefusesPlan : Refusal → Type 0
-RefusesPlan why.NoMemory = Unit {0}
-RefusesPlan (why.Damaged x) = Unit {0}
-RefusesPlan r = ⊥
+-- why there is no plan: want of memory, what the slots hold, or latches that hold up what is asked
+abbrev pub RefusesPlan : State → Option Asked → Refusal → Type 0
+RefusesPlan s asked why.NoMemory = Unit {0}
+RefusesPlan s asked why.Latched = OnFound asked (IsHeldUp s)
+RefusesPlan s asked (why.Damaged x) = Unit {0}
+RefusesPlan s asked r = ⊥
 
--- what the level answers, with no plan where it is for latches
-abbrev pub unless_latched : Result Plan Refusal → Result (Option Plan) Refusal
-unless_latched (Ok p) = Ok (Some p)
-unless_latched (Err why.Latched) = Ok None
-unless_latched (Err r) = Err r
+-- What is answered to what is asked. What nothing can be read from has no plan, and no latch holds it up.
+pub record IsPlanned (s : State) (asked : Option Asked) (answer : Result Plan Refusal) : Type 0 where
+  pub plan : IfOk answer (λ p. OnFound asked (λ a. IsPlanFor s a p))
+  -- it is refused as latched exactly where latches hold it up
+  pub free : IfOk answer (λ p. OnFound asked (IsHeldUp s) → ⊥)
+  pub causes : IfErr answer (RefusesPlan s asked)
+  -- a sound store with these pages and rows that may do it is not refused for what its slots hold
+  pub sound : (whole : State) → known whole.sizes whole.images whole.rows ≡ s → IsSound whole
+      → OnFound asked (MayBeAsked whole) → IfErr answer (λ r. TellsDamage r → ⊥)
 
--- What is answered to what is asked, and what the level keeps then.
-pub record IsAnswered (s : State) (k : LevelState) (asked : Option Asked) (answer : Result (Option Plan) Refusal)
+-- The same, with what the level keeps then. It knows the cell that a plan chose, whatever else is under way on these pages.
+pub record IsAnswered (s : State) (k : LevelState) (asked : Option Asked) (answer : Result Plan Refusal)
     (after : LevelState) : Type 0 where
-  -- what nothing can be read from has no plan, and no latch holds it up
-  pub read : IfOk answer (λ found. is_some asked ≡ true)
-  -- the plan, and the level knows the cell that it chose, whatever else is under way on these pages
-  pub plan : IfOk answer (λ found. IfSome found (λ p. (a : Asked) → asked ≡ Some a → IsPlanFor s a p))
-  pub slots : IfOk answer (λ found. IfSome found (λ p. AreSlotWrites s.sizes p.writes.items))
-  pub chosen : IfOk answer (λ found. IfSome found (λ p. (rows : List Row) → KeepsCells (record s { rows = rows }) k
-      → KeepsBeside (record s { rows = rows }) after (first_place p.writes.items)))
-  -- there is none exactly where latches hold it up
-  pub free : IfOk answer (λ found. IfSome found (λ p. (a : Asked) → asked ≡ Some a → IsHeldUp s a → ⊥))
-  pub latched : IfOk answer (λ found. IfNone found ((a : Asked) → asked ≡ Some a → IsHeldUp s a))
-  pub none : IfOk answer (λ found. IfNone found (after ≡ k))
-  -- it is refused for memory alone, of a sound store with these pages and rows that may do it
+  pub planned : IsPlanned s asked answer
+  pub slots : IfOk answer (λ p. AreSlotWrites s.sizes p.writes.items)
+  pub chosen : IfOk answer (λ p. (rows : List Row) → KeepsCells (record s { rows = rows }) k
+      → KeepsBeside (record s { rows = rows }) after (first_place p.writes.items))
   pub refused : IfErr answer (λ r. after ≡ k)
-  pub causes : IfErr answer RefusesPlan
-  pub plain : IfErr answer (λ r. (r ≢ why.Failed) × (r ≢ why.Latched))
-  pub memory : (whole : State) → known whole.sizes whole.images whole.rows ≡ s → IsSound whole
-      → (a : Asked) → asked ≡ Some a → MayBeAsked whole a → IfErr answer (λ r. r ≡ why.NoMemory)
 
 -- ---- by a planner
 
 -- A level knows the cells of a store with these pages, whatever is under way there: it has chosen none of them.
 abbrev pub KnowsCells : Sizes → List (List ℕ) → LevelState → Type 0
 KnowsCells z images k = KeepsCells (known z images []) k
-
--- What is answered to what is asked, where the level keeps no cell chosen behind it.
-pub record IsPlanned (s : State) (asked : Option Asked) (answer : Result (Option Plan) Refusal) : Type 0 where
-  pub read : IfOk answer (λ found. is_some asked ≡ true)
-  pub plan : IfOk answer (λ found. IfSome found (λ p. (a : Asked) → asked ≡ Some a → IsPlanFor s a p))
-  pub free : IfOk answer (λ found. IfSome found (λ p. (a : Asked) → asked ≡ Some a → IsHeldUp s a → ⊥))
-  pub latched : IfOk answer (λ found. IfNone found ((a : Asked) → asked ≡ Some a → IsHeldUp s a))
-  pub causes : IfErr answer RefusesPlan
-  pub plain : IfErr answer (λ r. (r ≢ why.Failed) × (r ≢ why.Latched))
-  pub memory : (whole : State) → known whole.sizes whole.images whole.rows ≡ s → IsSound whole
-      → (a : Asked) → asked ≡ Some a → MayBeAsked whole a → IfErr answer (λ r. r ≡ why.NoMemory)

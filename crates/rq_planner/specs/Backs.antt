@@ -1,5 +1,5 @@
 -- What takes back a deed where nothing is under way, by what the slots hold.
-use Rattle.std.specs.Prelude.{◌≡◌, ℕ, ◌<◌, true, List, [], Option, Some, Result, IfOk, IfErr, IfSome}
+use Rattle.std.specs.Prelude.{◌≡◌, ℕ, ◌<◌, true, List, [], Option, Some, Result, IfOk, IfErr}
 use Rattle.rq_model.specs.declared.record.Deed.{Deed}
 use Rattle.rq_model.specs.declared.record.Deed.TheVariants.{Append, UnlinkHead, Close}
 use Rattle.rq_model.specs.declared.refusal.Refusal.{Refusal}
@@ -11,6 +11,7 @@ use Rattle.rq_page.specs.Sizes.{Sizes, IsCellAddress, directory_at, sender_count
 use Rattle.rq_page.specs.Slots.Slot.{Free, Used, Sender}
 use Rattle.rq_views.specs.Log.{Slots}
 use Rattle.rq_views.specs.Plans.Turn.{Undid}
+use Rattle.rq_level.specs.ChainPlans.{TellsDamage}
 use Rattle.rq_level.specs.declared.writes.Plan.{Plan}
 use Rattle.rq_level.specs.declared.writes.SlotWrite.{SlotWrite}
 use Rattle.rq_level.specs.Writes.{AreSlotWrites}
@@ -58,14 +59,20 @@ CanBeTakenBack z q (Append g n tag previous body) = SentLast z q g n
 CanBeTakenBack z q (UnlinkHead g n tag body) = TakenLast z q g n
 CanBeTakenBack z q (Close g) = IsShut z q g
 
--- none is refused but for memory where it is so of the deed that is told
-abbrev pub IsRefusedBack : Sizes → Slots → Option Deed → Refusal → Type 0
-IsRefusedBack z q told r = (d : Deed) → told ≡ Some d → CanBeTakenBack z q d → r ≡ why.NoMemory
+-- the slots do not hold that of the deed that is told
+abbrev pub CannotBeTakenBack : Sizes → Slots → Option Deed → Type 0
+CannotBeTakenBack z q told = (d : Deed) → told ≡ Some d → CanBeTakenBack z q d → ⊥
 
--- a deed has a plan only where the slots hold what its inverse needs, and is refused otherwise alone, but for memory
-pub record IsJudgedBack (z : Sizes) (q : Slots) (told : Option Deed) (answer : Result (Option Plan) Refusal) : Type 0 where
-  pub can : IfOk answer (λ found. IfSome found (λ p. (d : Deed) → told ≡ Some d → CanBeTakenBack z q d))
-  pub refused : IfErr answer (λ r. IsRefusedBack z q told r)
+-- where nothing is under way, it is refused for memory, or as damage where that cannot be
+abbrev pub IsRefusedBack : Sizes → Slots → Option Deed → Refusal → Type 0
+IsRefusedBack z q told why.NoMemory = Unit {0}
+IsRefusedBack z q told (why.Damaged x) = CannotBeTakenBack z q told
+IsRefusedBack z q told _ = ⊥
+
+-- a deed has a plan only where the slots hold what its inverse needs, and only otherwise is it refused as damage
+pub record IsJudgedBack (z : Sizes) (q : Slots) (told : Option Deed) (answer : Result Plan Refusal) : Type 0 where
+  pub can : IfOk answer (λ p. (d : Deed) → told ≡ Some d → CanBeTakenBack z q d)
+  pub damaged : IfErr answer (λ r. TellsDamage r → CannotBeTakenBack z q told)
 
 -- The writes take back the deed that these bytes tell, as its level plans them over the slots as they are: it was done last
 -- at its end of its group there, and a message is put back into the lowest free cell.

@@ -3,7 +3,7 @@ ghost use Rattle.std.specs.Prelude.{◌≡◌, ◌≢◌, ℕ, List, ◌≤◌, 
 ghost use Rattle.rq_model.specs.Deeds.{deed_in};
 ghost use Rattle.rq_page.specs.Sizes.{cell_count};
 ghost use Rattle.rq_level.specs.LevelState.{noted};
-ghost use Rattle.rq_planner.specs.Answered.{IsPlanned, KnowsCells, RefusesPlan};
+ghost use Rattle.rq_planner.specs.Answered.{IsPlanned, KnowsCells};
 ghost use Rattle.rq_planner.specs.Asked.{IsOfStore, asked_back, asked_by, known_from};
 ghost use Rattle.rq_planner.specs.Backs.{IsJudgedBack, IsRefusedBack, IsTakingBack};
 ghost use Rattle.rq_planner.specs.Handed.{HasRoom};
@@ -13,7 +13,7 @@ use crate::deeds::deed_of_store;
 use crate::handed::StoreLevels;
 use crate::operations::Operations;
 use crate::planning::{plan, plan_inverse};
-use crate::telling::{tell, tell_store, unreserve};
+use crate::telling::{give_back, tell, tell_store, unreserve};
 use rq_disk::PageDevice;
 use rq_level::{Level, Op, Plan, SlotWrite, Slots};
 use rq_model::record::{DeedBytes, Slot};
@@ -79,47 +79,41 @@ impl<B: Level> Planner<B> {
         tell(pages, &mut self.level, at);
     }
 
-    /// The plan of an operation, from the slots as they are; `None` where it needs a page that an operation under way has
-    /// latched, or a cell of which none is free on another page, and only there. Its writes are put into `room`.
+    /// The plan of an operation, from the slots as they are. Its writes are put into `room`.
     ///
     /// # Errors
-    /// `NoMemory`; of a store that is not sound, or where the operation may not be done, also `Damaged`.
-    #[inline(always)]
+    /// `Latched` where it needs a page that an operation under way has latched, or a cell of which none is free on another
+    /// page, and only there; `NoMemory`; of a store that is not sound, or where the operation may not be done, also
+    /// `Damaged`.
     pub fn plan<P: PageDevice>(
         &mut self,
         room: Vec<SlotWrite>,
         pages: &Pages<P>,
         transactions: &Transactions,
         op: &Op,
-    ) -> Result<Option<Plan>, Refusal>
+    ) -> Result<Plan, Refusal>
         requires cells { KnowsCells pages.now.sizes pages.now.images self.old }
         requires forward { op.now.undo ≡ false }
         requires asked { IsOfStore pages.now.sizes (asked_by op.now) }
         ensures cells { KnowsCells pages.now.sizes pages.now.images self.new }
         ensures planned { IsPlanned (known_from pages.now transactions.now) (asked_by op.now) result }
     {
-        match plan(
+        let answer = plan(
             room,
             pages,
             transactions,
             &mut self.level,
             op,
             &mut self.slots,
-        ) {
-            Ok(Some(plan)) => {
-                unreserve(pages, &mut self.level, &plan.writes);
-                Ok(Some(plan))
-            }
-            Ok(None) => Ok(None),
-            Err(refusal) => Err(refusal),
-        }
+        );
+        give_back(pages, &mut self.level, &answer);
+        answer
     }
 
     /// The plan of what takes back the deed that the bytes tell, which the level of this number reads, as `plan` does.
     ///
     /// # Errors
-    /// `NoMemory`; of a store that is not sound, or where the operation may not be undone, also `Damaged`.
-    #[inline(always)]
+    /// `Latched`, `NoMemory`; of a store that is not sound, or where the operation may not be undone, also `Damaged`.
     pub fn plan_inverse<P: PageDevice>(
         &mut self,
         alloc: Global,
@@ -128,7 +122,7 @@ impl<B: Level> Planner<B> {
         transactions: &Transactions,
         level: u8,
         deed: &DeedBytes,
-    ) -> Result<Option<Plan>, Refusal>
+    ) -> Result<Plan, Refusal>
         requires cells { KnowsCells pages.now.sizes pages.now.images self.old }
         requires asked { IsOfStore pages.now.sizes (asked_back deed.now) }
         ensures cells { KnowsCells pages.now.sizes pages.now.images self.new }
@@ -136,7 +130,7 @@ impl<B: Level> Planner<B> {
         ensures judged { IsJudgedBack pages.now.sizes (slots_in pages.now.sizes pages.now.images) (deed_in deed.now)
             result }
     {
-        match plan_inverse(
+        let answer = plan_inverse(
             alloc,
             room,
             pages,
@@ -145,14 +139,9 @@ impl<B: Level> Planner<B> {
             level,
             deed,
             &mut self.slots,
-        ) {
-            Ok(Some(plan)) => {
-                unreserve(pages, &mut self.level, &plan.writes);
-                Ok(Some(plan))
-            }
-            Ok(None) => Ok(None),
-            Err(refusal) => Err(refusal),
-        }
+        );
+        give_back(pages, &mut self.level, &answer);
+        answer
     }
 
     /// The writes that take back the deed that the bytes tell, where nothing is under way.
@@ -173,7 +162,6 @@ impl<B: Level> Planner<B> {
             (slots_in pages.now.sizes pages.now.images) deed.now writes.items) }
         ensures refused { IfErr result (λ r. IsRefusedBack pages.now.sizes
             (slots_in pages.now.sizes pages.now.images) (deed_in deed.now) r) }
-        ensures causes { IfErr result RefusesPlan }
     {
         let Some(_deed) = deed_of_store(pages, deed) else {
             return Err(Refusal::Damaged(Damage::Page(0)));
@@ -189,11 +177,12 @@ impl<B: Level> Planner<B> {
             deed,
             &mut self.slots,
         ) {
-            Ok(Some(plan)) => {
+            Ok(plan) => {
                 unreserve(pages, &mut self.level, &plan.writes);
                 Ok(plan.writes)
             }
-            Ok(None) => Err(Refusal::Damaged(Damage::Page(0))),
+            // Nobody has latched a page.
+            Err(Refusal::Latched) => Err(Refusal::Damaged(Damage::Page(0))),
             Err(refusal) => Err(refusal),
         }
     }

@@ -1,7 +1,7 @@
 //! Plans of operations, and of what takes them back.
 ghost use Rattle.std.specs.Prelude.{◌≡◌, Some, false};
 ghost use Rattle.rq_sound.specs.Levels.{KeepsCells};
-ghost use Rattle.rq_planner.specs.Answered.{IsAnswered, unless_latched};
+ghost use Rattle.rq_planner.specs.Answered.{IsAnswered};
 ghost use Rattle.rq_model.specs.Deeds.{deed_in};
 ghost use Rattle.rq_planner.specs.Asked.{IsOfStore, asked_back, asked_by, known_from};
 ghost use Rattle.rq_planner.specs.Backs.{IsJudgedBack};
@@ -17,13 +17,11 @@ use rq_pool::Pages;
 use rq_txn::Transactions;
 use std::alloc::Global;
 
-/// Has the level plan an operation from the slots as they are, which are gathered into `slots`; `None` where it needs a
-/// page that an operation under way has latched, or a cell of which none is free on another page, and only there.
+/// Has the level plan an operation from the slots as they are, which are gathered into `slots`.
 ///
 /// # Errors
-/// `NoMemory`; of a store that is not sound, or where the operation may not be done, also `Damaged`.
-#[tactic(auto, using(crate::proofs::Replies::held_read, crate::proofs::Replies::memory_causes))]
-#[inline(always)]
+/// `Latched` where it needs a page that an operation under way has latched, or a cell of which none is free on another
+/// page, and only there; `NoMemory`; of a store that is not sound, or where the operation may not be done, also `Damaged`.
 pub fn plan<P: PageDevice, B: Level>(
     room: Vec<SlotWrite>,
     pages: &Pages<P>,
@@ -31,7 +29,7 @@ pub fn plan<P: PageDevice, B: Level>(
     level: &mut B,
     op: &Op,
     slots: &mut Slots,
-) -> Result<Option<Plan>, Refusal>
+) -> Result<Plan, Refusal>
     requires number { B.level level.old ≡ 1 }
     requires cells { KeepsCells (known_from pages.now transactions.now) (B.kept level.old) }
     requires forward { op.now.undo ≡ false }
@@ -41,8 +39,7 @@ pub fn plan<P: PageDevice, B: Level>(
         (B.kept level.new) }
 {
     match gather(pages, transactions, level, op, slots) {
-        Ok(true) => found(level.plan(room, op, slots, transactions.latched())),
-        Ok(false) => Ok(None),
+        Ok(()) => level.plan(room, op, slots, transactions.latched()),
         Err(refusal) => Err(refusal),
     }
 }
@@ -50,9 +47,7 @@ pub fn plan<P: PageDevice, B: Level>(
 /// Has the level of this number plan what takes back the deed that the bytes tell, as `plan` does.
 ///
 /// # Errors
-/// `NoMemory`; of a store that is not sound, or where the operation may not be undone, also `Damaged`.
-#[tactic(auto, using(crate::proofs::Replies::held_read, crate::proofs::Replies::memory_causes))]
-#[inline(always)]
+/// `Latched`, `NoMemory`; of a store that is not sound, or where the operation may not be undone, also `Damaged`.
 pub fn plan_inverse<P: PageDevice, B: Level>(
     alloc: Global,
     room: Vec<SlotWrite>,
@@ -62,7 +57,7 @@ pub fn plan_inverse<P: PageDevice, B: Level>(
     number: u8,
     deed: &DeedBytes,
     slots: &mut Slots,
-) -> Result<Option<Plan>, Refusal>
+) -> Result<Plan, Refusal>
     requires number { B.level level.old ≡ 1 }
     requires cells { KeepsCells (known_from pages.now transactions.now) (B.kept level.old) }
     requires asked { IsOfStore pages.now.sizes (asked_back deed.now) }
@@ -86,20 +81,7 @@ pub fn plan_inverse<P: PageDevice, B: Level>(
         deed: *deed,
     };
     match gather(pages, transactions, level, &op, slots) {
-        Ok(true) => found(level.undo(room, &end, slots, transactions.latched())),
-        Ok(false) => Ok(None),
-        Err(refusal) => Err(refusal),
-    }
-}
-
-// What a level answers, with none where it is for latches.
-#[inline(always)]
-fn found(answer: Result<Plan, Refusal>) -> Result<Option<Plan>, Refusal>
-    ensures { result ≡ unless_latched answer }
-{
-    match answer {
-        Ok(plan) => Ok(Some(plan)),
-        Err(Refusal::Latched) => Ok(None),
+        Ok(()) => level.undo(room, &end, slots, transactions.latched()),
         Err(refusal) => Err(refusal),
     }
 }

@@ -1,5 +1,5 @@
 //! Tells a level of slots as they are.
-ghost use Rattle.std.specs.Prelude.{◌≡◌, ◌↔◌, ◌≤◌, IfSome, IsTrue, List, Some, length};
+ghost use Rattle.std.specs.Prelude.{◌≡◌, ◌↔◌, ◌≤◌, IfErr, IfOk, IfSome, IsTrue, List, Some, length};
 ghost use Rattle.rq_page.specs.Cells.{free_bytes};
 ghost use Rattle.rq_page.specs.Sizes.{IsCellAddress, cell_count};
 ghost use Rattle.rq_page.specs.Slots.{Free};
@@ -12,12 +12,32 @@ ghost use Rattle.rq_sound.specs.Levels.{KeepsCells};
 ghost use Rattle.rq_planner.specs.Asked.{known_from};
 
 use rq_disk::PageDevice;
-use rq_level::{Level, SlotWrite};
+use rq_level::{Level, Plan, SlotWrite};
 use rq_model::record::Slot;
+use rq_model::refusal::Refusal;
 use rq_page::addr::Addr;
 use rq_page::cell::CellSlot;
 use rq_page::layout::Layout;
 use rq_pool::Pages;
+
+/// Gives back the cell of what was planned, where there is a plan and it takes one.
+pub(crate) fn give_back<P: PageDevice, B: Level>(
+    pages: &Pages<P>,
+    level: &mut B,
+    answer: &Result<Plan, Refusal>,
+)
+    requires number { B.level level.old ≡ 1 }
+    requires slots { IfOk answer.now (λ p. AreSlotWrites pages.now.sizes p.writes.items) }
+    ensures same { B.level level.new ≡ 1 }
+    ensures planned { IfOk answer.now (λ p. (rows : List Row) → KeepsBeside (known_from pages.now rows) (B.kept level.old) (first_place p.writes.items)
+        → KeepsCells (known_from pages.now rows) (B.kept level.new)) }
+    ensures refused { IfErr answer.now (λ _. B.kept level.new ≡ B.kept level.old) }
+{
+    match answer {
+        Ok(plan) => unreserve(pages, level, &plan.writes),
+        Err(_) => {}
+    }
+}
 
 /// Gives back the cell of a plan, where it takes one: tells the level of the plan's first slot as it is. The cell may be
 /// chosen again.

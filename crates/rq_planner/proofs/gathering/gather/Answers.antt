@@ -10,8 +10,8 @@ use Rattle.rq_planner.proofs.Gathered.{asks_for, asks_none, fewer_left, one_more
 use Rattle.rq_planner.proofs.Told.{slot_is}
 use Rattle.rq_planner.proofs.gathering.gather.Goals as goal
 
-pub returns-then-has_latched-clause-latched : goal.returns-then-has_latched-clause-latched
-returns-then-has_latched-clause-latched g c =
+pub returns-then-has_latched-clause-refusal : goal.returns-then-has_latched-clause-refusal
+returns-then-has_latched-clause-refusal g c =
     let s : State = known_from c.args.pages.now c.args.transactions.now in
     let w = wanted_for s c.loop-at.slots c.loop-at.invariant.from c.args.op.now c.requires.asked in
     let e = asks_for (g.B.Level.level c.args.level.now) c.args.op.now c.loop-at.slots c.want.result c.in-Slot.at c.requires.number c.want.ensures c.in-Slot.is in

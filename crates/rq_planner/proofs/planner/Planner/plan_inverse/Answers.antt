@@ -1,20 +1,13 @@
-use Rattle.std.proofs.Common.{List, [], sym, subst}
+use Rattle.std.proofs.Common.{sym, subst}
 use Rattle.rq_level.specs.LevelState.{LevelState}
-use Rattle.rq_level.specs.declared.writes.Plan.{Plan}
-use Rattle.rq_txn.specs.Rows.{Row}
-use Rattle.rq_store.specs.State.{State}
-use Rattle.rq_sound.specs.Chosen.{KeepsBeside, first_place}
-use Rattle.rq_sound.specs.Levels.{KeepsCells}
-use Rattle.rq_planner.proofs.Options.{some_told}
 use Rattle.rq_planner.specs.Answered.{KnowsCells}
-use Rattle.rq_planner.specs.Asked.{known_from}
+use Rattle.rq_planner.specs.Asked.{asked_back}
+use Rattle.rq_planner.proofs.Knowing.{given_back}
 use Rattle.rq_planner.proofs.planner.Planner.plan_inverse.Goals as goal
 
--- what the plan chose is given back
-pub returns-in-Ok-Some-clause-cells : goal.returns-in-Ok-Some-clause-cells
-returns-in-Ok-Some-clause-cells g c =
-    let s : State = known_from c.args.pages.now c.args.transactions.now in
-    let knows = subst (λ (k : LevelState). KnowsCells c.args.pages.now.sizes c.args.pages.now.images k) (sym c.self.view_is) c.requires.cells in
-    c.unreserve.ensures.cells []
-    (rw (c.deref.ensures.value) (some_told (λ (p : Plan). (rows : List Row) → KeepsCells (record s { rows = rows }) c.self.inside.level → KeepsBeside (record s { rows = rows }) c.plan_inverse.new.level (first_place p.writes.items))
-    c.in-Ok-Some.field-0 _ c.in-Ok-Some.field-0-is c.in-Ok-Some.ensures.answered.chosen [] knows))
+pub returns-clause-cells : goal.returns-clause-cells
+returns-clause-cells g c =
+    let z = c.args.pages.now.sizes in
+    let images = c.args.pages.now.images in
+    let knows = subst (λ (k : LevelState). KnowsCells z images k) (sym c.self.view_is) c.requires.cells in
+    given_back z images c.args.transactions.now c.self.inside.level c.plan_inverse-answer.new.level c.give_back.new.level (asked_back c.args.deed.now) c.plan_inverse-answer.result knows c.plan_inverse-answer.ensures.answered c.give_back.ensures.planned c.give_back.ensures.refused
