@@ -23,10 +23,9 @@ use Rattle.rq_sound.specs.Plans.{AreUnlatched}
 use Rattle.rq_sound.specs.Sound.{IsSound}
 use Rattle.rq_sound.specs.ModelSteps.{IsModelStep}
 use Rattle.rq_sound.proofs.FreeEnds.{free_is}
-use Rattle.rq_engine.specs.declared.plans.Planned.{Planned}
+use Rattle.rq_engine.specs.Plans.{Planned, under_plan}
 use Rattle.rq_engine.specs.Answers.{Refuses, HasNothingUnderWay}
 use Rattle.rq_engine.specs.Closes.{IsClosePlan, close_latched}
-use Rattle.rq_engine.specs.Sends.{under_plan}
 use Rattle.rq_engine.proofs.Latches.{latched_busy}
 use Rattle.rq_engine.proofs.Refusals.{refuse, found_of}
 use Rattle.rq_engine.proofs.SendCalls.{closed_here, ready_row}
@@ -76,7 +75,7 @@ module _ (s : State) (t : Txn) (e : ℕ) (h : NoneHolds (ready_tests (ledger_of 
   refused may on k = (refused_steps s k call why.Latched (may k, refl) refl, latched_busy s.rows _ on)
 
   -- a close that has started
-  pub close_done : (new : State) (n : ℕ) (plan : Planned) → HasNothingUnderWay s t n → AreUnlatched s plan.writes.items → IsClosePlan s.sizes (slots_in s.sizes s.images) (under_plan n plan) e
+  pub close_done : (new : State) (n : ℕ) (plan : Planned) → HasNothingUnderWay s t n → AreUnlatched s plan.writes → IsClosePlan s.sizes (slots_in s.sizes s.images) (under_plan n plan) e
       → (IsSound s → Passes (size_of s.sizes) (ledger_of s) call)
       → new ≡ record s { rows = change_row t (row_started (under_plan n plan)) s.rows; ends = record { sending = with_held t e s.ends.sending; receiving = s.ends.receiving } }
       → IsSound s → IsModelStep s call (Gave_sub t n) new

@@ -1,8 +1,7 @@
 -- Senders of which a message waits, and whose receiving end nobody holds.
 use Rattle.std.specs.Bool.{⊤}
-use Rattle.std.proofs.Common.{◌≡◌, ◌≤◌, ◌<◌, ℕ, true, false, List, length, Option, Some, None, Result, Ok, Err, inl, inr, refl, arith}
+use Rattle.std.proofs.Common.{◌≡◌, ◌≤◌, ◌<◌, ℕ, true, false, List, length, Option, Some, None, inl, inr, refl, arith}
 use Rattle.std.specs.Option.{IfSome, IfNone}
-use Rattle.std.specs.Result.{IfOk}
 use Rattle.std.proofs.lemmas.Bool.{cases_Bool}
 use Rattle.rq_model.specs.declared.txn.Txn.{Txn}
 use Rattle.rq_groups.specs.declared.Held.{Held}
@@ -10,8 +9,7 @@ use Rattle.rq_groups.specs.Ends.{has_held, is_free_for, is_held}
 use Rattle.rq_groups.specs.Waiting.{waits}
 use Rattle.rq_groups.proofs.Chained.{free_is_own, free_none}
 use Rattle.rq_store.specs.State.{State}
-use Rattle.rq_store.specs.Plans.{WaitsFor}
-use Rattle.rq_engine.specs.Sends.{take_latched}
+use Rattle.rq_engine.specs.Plans.{AreHeldUp}
 
 -- the least such sender from this one on
 abbrev pub IsFree : List ℕ → List Held → ℕ → ℕ → Type 0
@@ -36,14 +34,11 @@ none_waits n ws hs t None e f = λ s low free. f s (omega (arith, low, e)) free
 none_waits n ws hs t (Some s) e f = f
 
 -- where neither a group that nobody holds nor one that the transaction holds goes without a latch, none does
-pub all_latched : {A E : Type 0} (s : State) (t : Txn) (o : Result (Option A) E) → ((g : ℕ) → is_held g s.ends.receiving ≡ false → WaitsFor s t g → take_latched s g ≡ true) → IfOk o (λ found. IfNone found ((g : ℕ) → has_held t g s.ends.receiving ≡ true → WaitsFor s t g → take_latched s g ≡ true)) → IfOk o (λ found. IfNone found ((g : ℕ) → ⊤ → WaitsFor s t g → take_latched s g ≡ true))
-all_latched s t (Err e) free own = own
-all_latched s t (Ok (Some x)) free own = own
-all_latched s t (Ok None) free own =
-    λ g all w. elim (cases_Bool (is_held g s.ends.receiving)) [
-      | inl held ↦ own g (free_is_own t g s.ends.receiving held w.1) w
-      | inr vacant ↦ free g vacant w
-    ]
+pub all_latched : (s : State) (t : Txn) → AreHeldUp s t (λ g. is_held g s.ends.receiving ≡ false) → AreHeldUp s t (λ g. has_held t g s.ends.receiving ≡ true) → AreHeldUp s t (λ _. ⊤)
+all_latched s t free own g all w = elim (cases_Bool (is_held g s.ends.receiving)) [
+  | inl held ↦ own g (free_is_own t g s.ends.receiving held w.1) w
+  | inr vacant ↦ free g vacant w
+]
 
 -- what is nothing that it could be is none
 pub left_none : {X : Type 0} (P : Type 0) (o : Option X) → ((x : X) → o ≡ Some x → ⊥) → IfNone o P → P

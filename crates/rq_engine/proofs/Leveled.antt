@@ -1,15 +1,15 @@
 -- What the level plans, as the engine's starts have it.
-use Rattle.std.proofs.Common.{◌≡◌, ℕ, ◌+◌, ◌*◌, ◌/◌, ◌%◌, ◌<◌, ◌≤◌, cond, nat_lt, List, [], ◌∷◌, length, refl, sym, ◌∙◌, ap, subst, inl, inr, true, false, Option, Some, None, Result, Ok, Err, arith}
-use Rattle.std.specs.Global.{Vec}
-use Rattle.std.specs.Option.{IfNone}
-use Rattle.std.specs.Result.{IfOk}
-use Rattle.std.proofs.lemmas.Bool.{cases_Bool, false_from_ne_true, ltb-true, or_cases, or_left, true≢false}
+use Rattle.std.proofs.Common.{◌≡◌, ◌≢◌, ℕ, ◌+◌, ◌/◌, ◌%◌, ◌<◌, ◌≤◌, cond, nat_lt, List, [], ◌∷◌, length, refl, sym, ◌∙◌, ap, subst, inl, inr, true, false, Option, Some, None, Result, Ok, Err, arith}
+use Rattle.std.specs.Prelude.{IfErr, OnErr, OnOk}
+use Rattle.std.proofs.lemmas.Bool.{cases_Bool, false_from_ne_true, ltb-true, or_cases, or_left, false≢true, true≢false}
 use Rattle.rq_model.specs.declared.record.Deed.{Deed}
 use Rattle.rq_model.specs.declared.refusal.Refusal.{Refusal}
 use Rattle.rq_model.specs.declared.refusal.Refusal.TheVariants as why
 use Rattle.rq_model.specs.declared.txn.Txn.{Txn}
 use Rattle.rq_model.specs.declared.record.Deed.TheVariants.{Append, UnlinkHead, Close as Close_deed}
+use Rattle.rq_model.specs.declared.record.Record.{Record}
 use Rattle.rq_model.specs.Deeds.{deed_in, spelled_deed}
+use Rattle.rq_model.specs.Tests.{log_full}
 use Rattle.rq_page.specs.declared.cell.Cell.{Cell}
 use Rattle.rq_page.specs.declared.cell.CellSlot.{CellSlot}
 use Rattle.rq_page.specs.declared.layout.PageKind.{PageKind}
@@ -26,27 +26,30 @@ use Rattle.rq_views.specs.Items.{told_deed}
 use Rattle.rq_views.specs.Log.{Slots}
 use Rattle.rq_views.specs.Plans.{deed_sender, with_next, with_prev}
 use Rattle.rq_views.specs.Plans.Turn.{Did}
+use Rattle.rq_groups.specs.declared.End.TheVariants.{Receiving}
+use Rattle.rq_level.specs.ChainPlans.{TellsDamage}
 use Rattle.rq_level.specs.declared.writes.Plan.{Plan}
 use Rattle.rq_level.specs.declared.writes.SlotWrite.{SlotWrite}
 use Rattle.rq_level.specs.Ops.{Doing, Job, chain_job, doing_in}
 use Rattle.rq_level.specs.Ops.Doing.{Send, Receive, Close}
-use Rattle.rq_level.specs.Writes.{AreSlotWrites}
 use Rattle.rq_txn.specs.declared.Aim.TheVariants as aims
 use Rattle.rq_txn.specs.Rows.{latched_in}
 use Rattle.rq_txn.specs.Told.{IsTold}
 use Rattle.rq_store.specs.Plans.{IsSendPlan, IsTakePlan, WaitsFor}
-use Rattle.rq_store.specs.State.{State}
+use Rattle.rq_store.specs.State.{State, ledger_of}
 use Rattle.rq_sound.specs.Groups.{slots_now}
-use Rattle.rq_sound.specs.Plans.{AreUnlatched, IsMarking, IsPlannedFrom, IsReceive, IsSend}
-use Rattle.rq_planner.specs.Answered.{IsDeedFor, IsHeldUp, IsPlanOf, SendTakesLowest}
-use Rattle.rq_planner.specs.Asked.{asked_by, asked_in, doing_sender, to_do}
+use Rattle.rq_sound.specs.Plans.{IsMarking, IsPlannedFrom, IsReceive, IsSend}
+use Rattle.rq_sound.specs.Sound.{IsSound}
+use Rattle.rq_planner.specs.Answered.{IsDeedFor, IsHeldUp, IsPlanOf, MayBeAsked, RefusesPlan}
+use Rattle.rq_planner.specs.Asked.{Asked, asked_by, asked_in, doing_sender, to_do}
 use Rattle.rq_planner.specs.Asked.Asked.{Do}
-use Rattle.rq_engine.specs.declared.plans.Planned.{Planned}
 use Rattle.rq_engine.specs.Closes.{IsClosePlan, close_latched}
-use Rattle.rq_engine.specs.Plans.{IsDeedPlan, IsPlannedFor, IsTakePlanned, known_part}
-use Rattle.rq_engine.specs.Sends.{take_latched, under_plan}
+use Rattle.rq_engine.specs.Earlier.{IsEarlier, on}
+use Rattle.rq_engine.specs.Plans.{AreHeldUp, HasStarted, IsDeedPlan, IsStartOf, IsTakeOf, Planned, is_latch, is_latched, known_part, planned_of, records_of, under_plan}
+use Rattle.rq_engine.specs.Sends.{HasRoom, take_latched}
 use Rattle.rq_engine.proofs.Latches.{one_write}
 use Rattle.rq_engine.proofs.Inverses.{of_writes, relinked_count}
+use Rattle.rq_engine.proofs.SendCalls.{has_room}
 
 -- a deed is of the sender that it was asked for
 sender_is : (d : Doing) (e : Deed) → IsDeedFor d e → deed_sender e ≡ doing_sender d
@@ -91,36 +94,24 @@ told_by bytes d spelled reads =
     record { reads = reads ∙ ap (λ (e : Deed). Some e) (sym is); spelled = ap spelled_deed is ∙ sym spelled }
 
 module _ (s : State) (d : Doing) (p : Plan) (h : IsPlanOf (known_part s) d p) where
-  pub plan_few : length p.writes.items ≤ 3
-  plan_few = few_of s.sizes (slots_now s) p.writes.items h.deed h.follows.0
-
-  -- with its deed, and its room
-  pub deed_plan : (plan : Planned) → plan.writes ≡ p.writes → deed_in p.deed ≡ Some plan.deed → doing_sender d < sender_count s.sizes
-      → plan.room ≡ length p.writes.items * 546 + (30 + length p.deed) → length p.deed ≤ 256
-      → IsDeedPlan s d plan
-  deed_plan plan same is inside room_is short =
-      let deed : h.deed ≡ plan.deed = some_deed h.deed plan.deed (sym h.reads ∙ is) in
-      let asked : IsDeedFor d plan.deed = subst (IsDeedFor d) deed h.asked in
-      let reads : deed_in (spelled_deed plan.deed) ≡ Some plan.deed = ap (λ (e : Deed). deed_in (spelled_deed e)) (sym deed) ∙ ap deed_in (sym h.told) ∙ is in
-      let from : IsPlannedFrom s.sizes (slots_now s) p.writes.items (Did plan.deed) = subst (λ (e : Deed). IsPlannedFrom s.sizes (slots_now s) p.writes.items (Did e)) deed h.follows.0 in
-      let few = few_of s.sizes (slots_now s) p.writes.items plan.deed from in
-      let size : length p.deed ≡ length (spelled_deed plan.deed) = ap length (h.told ∙ ap spelled_deed deed) in
-      let count : length plan.writes.items ≡ length p.writes.items = ap (λ (ws : Vec SlotWrite). length ws.items) same in
-      let sender = sender_is d plan.deed asked in
+  -- with its deed
+  pub deed_plan : doing_sender d < sender_count s.sizes → IsDeedPlan s d (planned_of p)
+  deed_plan inside =
+      let deed : h.deed ≡ told_deed (deed_in p.deed) = sym (ap told_deed h.reads) in
+      let asked : IsDeedFor d (told_deed (deed_in p.deed)) = subst (IsDeedFor d) deed h.asked in
+      let from : IsPlannedFrom s.sizes (slots_now s) p.writes.items (Did (told_deed (deed_in p.deed))) = subst (λ (e : Deed). IsPlannedFrom s.sizes (slots_now s) p.writes.items (Did e)) deed h.follows.0 in
+      let sender = sender_is d (told_deed (deed_in p.deed)) asked in
       record {
         asked = asked;
-        reads = reads;
-        planned = subst (λ (ws : Vec SlotWrite). IsPlannedFrom s.sizes (slots_now s) ws.items (Did plan.deed)) (sym same) from;
-        free = subst (λ (ws : Vec SlotWrite). AreUnlatched s ws.items) (sym same) h.follows.1;
-        lowest = subst (λ (ws : Vec SlotWrite). SendTakesLowest s.sizes (slots_now s) s.rows d ws.items) (sym same) h.lowest;
+        planned = from;
+        free = h.follows.1;
+        lowest = h.lowest;
         fits = record {
           sender = omega (arith, sender, inside);
-          slots = subst (λ (ws : Vec SlotWrite). AreSlotWrites s.sizes ws.items) (sym same) h.slots;
-          count = subst (λ (ws : Vec SlotWrite). length ws.items ≤ 3) (sym same) few;
-          deed_low = spelled_some plan.deed;
-          deed_high = omega (arith, size, short);
-          reads = reads;
-          room_is = omega (arith, room_is, size, count);
+          slots = h.slots;
+          count = few_of s.sizes (slots_now s) p.writes.items (told_deed (deed_in p.deed)) from;
+          some = spelled_some (told_deed (deed_in p.deed));
+          reads = subst (λ (e : Deed). deed_in (spelled_deed e) ≡ Some e) deed (ap deed_in (sym h.told) ∙ h.reads);
         };
       }
 
@@ -132,52 +123,124 @@ chain_asked job d is told = ap (λ (j : Job). asked_in j.undo job.bytes) is ∙ 
 pub send_asked : (job : Job) (g tag : ℕ) (body : List ℕ) → length body ≤ 216 → job ≡ chain_job (Send g tag body) → (length body ≤ 216 → doing_in job.bytes ≡ Some (Send g tag body)) → asked_by job ≡ Some (Do (Send g tag body))
 send_asked job g tag body short is told = chain_asked job (Send g tag body) is (told short)
 
--- want of memory
-pub none_planned : (s : State) (d : Doing) → IsPlannedFor s d (Err why.NoMemory)
-none_planned s d = record { plan = tt; free = tt; held_up = tt; plain = λ e. cc e; memory = λ earlier long k may. refl }
+pub some_asked : (a b : Asked) → Some a ≡ Some b → a ≡ b
+some_asked a b e = cc
 
--- ---- what is found for a receive
+-- ---- what a start answers
+
+-- a start that a sound store may do is refused for memory, or for latches
+pub refused_for : (P : Refusal → Type 0) (IsHeld : Type 0) (r : Refusal) → RefusesPlan IsHeld r → (TellsDamage r → ⊥) → P why.NoMemory → (IsHeld → P why.Latched) → P r
+refused_for P IsHeld why.NoMemory causes sound memory held = memory
+refused_for P IsHeld why.Latched causes sound memory held = held causes
+refused_for P IsHeld (why.Damaged x) causes sound memory held = absurd (sound tt)
+refused_for P IsHeld _ causes sound memory held = absurd causes
+
+pub never_failed : (IsHeld : Type 0) (r : Refusal) → RefusesPlan IsHeld r → r ≢ why.Failed
+never_failed IsHeld r causes e = subst (RefusesPlan IsHeld) e causes
+
+pub plain_memory : {X : Type 0} (answer : Result X Refusal) → IfErr answer (λ r. r ≡ why.NoMemory) → IfErr answer (λ r. r ≢ why.Failed)
+plain_memory (Ok x) h = tt
+plain_memory (Err r) h = λ e. (let no : why.NoMemory ≡ why.Failed = sym h ∙ e in cc)
+
+module _ {X : Type 0} (s : State) (asked : Asked) (HasBegun : Type 0) where
+  -- what was planned begins, or memory is wanting
+  pub start_answered : {A : Type 0} (answer : Result X Refusal) → (IsHeldUp (known_part s) asked → ⊥) → (A → HasBegun) → OnOk answer A → IfErr answer (λ r. r ≡ why.NoMemory) → IsStartOf s asked HasBegun answer
+  start_answered (Ok x) free begun started memory = record { begun = begun started; free = free; causes = tt; sound = λ e long k may. tt }
+  start_answered (Err r) free begun started memory = subst (λ (y : Refusal). IsStartOf {X = X} s asked HasBegun (Err y)) (sym memory) (record { begun = tt; free = tt; causes = tt; sound = λ e long k may damage. damage })
+
+  -- or nothing was planned
+  pub start_refused : (r : Refusal) → RefusesPlan (IsHeldUp (known_part s) asked) r → ((e : List Record) → IsEarlier e s → IsSound (on e s) → MayBeAsked (on e s) asked → TellsDamage r → ⊥) → IsStartOf {X = X} s asked HasBegun (Err r)
+  start_refused r causes sound = record { begun = tt; free = tt; causes = causes; sound = sound }
+
+-- ---- what is answered to a receive
 
 pub take_free : (s : State) (g : ℕ) → (IsHeldUp (known_part s) (Do (Receive g)) → ⊥) → take_latched s g ≡ false
 take_free s g h = false_from_ne_true (take_latched s g) h
 
-module _ (s : State) (t : Txn) (P : ℕ → Type 0) where
-  -- what one sender has is what is found
-  pub take_found : (g : ℕ) (plan : Planned) → WaitsFor s t g → IsPlannedFor s (Receive g) (Ok (Some plan)) → IsTakePlanned s t P (Ok (Some (g, plan)))
-  take_found g plan w p = record { waits = w; plan = p.plan; free = take_free s g p.free; held_up = tt; plain = tt; memory = λ k. tt }
+other_held : (A B : Type 0) (r : Refusal) → is_latch r ≡ false → RefusesPlan A r → RefusesPlan B r
+other_held A B why.NoMemory l causes = tt
+other_held A B (why.Damaged x) l causes = tt
+other_held A B why.Latched l causes = absurd (true≢false l)
+other_held A B _ l causes = absurd causes
 
-  pub take_none : ((g : ℕ) → P g → WaitsFor s t g → take_latched s g ≡ true) → IsTakePlanned s t P (Ok None)
-  take_none held = record { waits = tt; plan = tt; free = tt; held_up = held; plain = tt; memory = λ k. tt }
+held_by : (A : Type 0) (r : Refusal) → is_latch r ≡ true → RefusesPlan A r → A
+held_by A why.Latched l causes = causes
+held_by A _ l causes = absurd (false≢true l)
 
-  pub take_refused : (g : ℕ) (r : Refusal) → WaitsFor s t g → IsPlannedFor s (Receive g) (Err r) → IsTakePlanned s t P (Err r)
-  take_refused g r w p = record { waits = tt; plan = tt; free = tt; held_up = tt; plain = p.plain; memory = λ k. p.memory k.0 k.1 k.2 w.2 }
+pub same_latched : {X A : Type 0} (a b : A) (answer : Result X Refusal) → is_latched answer ≡ true → OnErr answer (a ≡ b) → a ≡ b
+same_latched a b (Ok x) l same = absurd (false≢true l)
+same_latched a b (Err r) l same = same
 
-  -- what is found of some of the senders is found of others, where those are held up if it is none
-  pub take_other : (Q : ℕ → Type 0) (found : Result (Option (ℕ × Planned)) Refusal) → IfOk found (λ o. IfNone o ((g : ℕ) → P g → WaitsFor s t g → take_latched s g ≡ true)) → IsTakePlanned s t Q found → IsTakePlanned s t P found
-  take_other Q found held p = record { waits = p.waits; plan = p.plan; free = p.free; held_up = held; plain = p.plain; memory = p.memory }
+module _ {X : Type 0} (s : State) (t : Txn) (n : ℕ) (answer : Result X Refusal) (new : State) where
+  -- what holds up a start from one sender, or from some
+  pub start_held : (g : ℕ) (HasBegun : Type 0) → is_latched answer ≡ true → IsStartOf s (Do (Receive g)) HasBegun answer → take_latched s g ≡ true
+  start_held g HasBegun l p = at answer l p.causes where
+    at : (a : Result X Refusal) → is_latched a ≡ true → IfErr a (RefusesPlan (take_latched s g ≡ true)) → take_latched s g ≡ true
+    at (Ok x) l c = absurd (false≢true l)
+    at (Err r) l c = held_by (take_latched s g ≡ true) r l c
+
+  pub take_held : (P : ℕ → Type 0) → is_latched answer ≡ true → IsTakeOf s t n P answer new → AreHeldUp s t P
+  take_held P l p = at answer l p.causes where
+    at : (a : Result X Refusal) → is_latched a ≡ true → IfErr a (RefusesPlan (AreHeldUp s t P)) → AreHeldUp s t P
+    at (Ok x) l c = absurd (false≢true l)
+    at (Err r) l c = held_by (AreHeldUp s t P) r l c
+
+module _ {X : Type 0} (s : State) (t : Txn) (n : ℕ) (P : ℕ → Type 0) (new : State) where
+  -- what is answered to a start from one sender, and not for latches, is answered to one from some
+  pub take_found : (answer : Result X Refusal) (g : ℕ) → WaitsFor s t g → is_latched answer ≡ false → IsStartOf s (Do (Receive g)) (HasStarted s t n (Receiving g) (Receive g) new) answer → IsTakeOf s t n P answer new
+  take_found (Ok x) g w l p = record { begun = record { sender = g; waits = w; free = take_free s g p.free; started = p.begun }; causes = tt; sound = λ k. tt }
+  take_found (Err r) g w l p = record { begun = tt; causes = other_held (take_latched s g ≡ true) (AreHeldUp s t P) r l p.causes; sound = λ k. p.sound k.0 k.1 k.2 w.2 }
+
+  -- and what is answered to one from some of them, to one from others
+  pub take_other : (answer : Result X Refusal) (Q : ℕ → Type 0) → is_latched answer ≡ false → IsTakeOf s t n Q answer new → IsTakeOf s t n P answer new
+  take_other (Ok x) Q l p = record { begun = p.begun; causes = tt; sound = p.sound }
+  take_other (Err r) Q l p = record { begun = tt; causes = other_held (AreHeldUp s t Q) (AreHeldUp s t P) r l p.causes; sound = p.sound }
+
+  -- where these are held up, it is of no matter which others are tried
+  pub take_more : (answer : Result X Refusal) (Q : ℕ → Type 0) → (AreHeldUp s t Q → AreHeldUp s t P) → IsTakeOf s t n Q answer new → IsTakeOf s t n P answer new
+  take_more (Ok x) Q more p = record { begun = p.begun; causes = tt; sound = p.sound }
+  take_more (Err r) Q more p = record { begun = tt; causes = at r p.causes; sound = p.sound } where
+    at : (x : Refusal) → RefusesPlan (AreHeldUp s t Q) x → RefusesPlan (AreHeldUp s t P) x
+    at why.NoMemory c = tt
+    at (why.Damaged x) c = tt
+    at why.Latched c = more c
+    at _ c = absurd c
+
+  pub take_none : AreHeldUp s t P → IsTakeOf {X = X} s t n P (Err why.Latched) new
+  take_none held = record { begun = tt; causes = held; sound = λ k damage. damage }
+
+-- one sender is all of those
+pub take_only : {X : Type 0} (s : State) (t : Txn) (n g : ℕ) (answer : Result X Refusal) (new : State) → WaitsFor s t g → IsStartOf s (Do (Receive g)) (HasStarted s t n (Receiving g) (Receive g) new) answer → IsTakeOf s t n (λ e. e ≡ g) answer new
+take_only s t n g (Ok x) new w p = record { begun = record { sender = g; waits = w; free = take_free s g p.free; started = p.begun }; causes = tt; sound = λ k. tt }
+take_only s t n g (Err r) new w p = record { begun = tt; causes = at r p.causes; sound = λ k. p.sound k.0 k.1 k.2 w.2 } where
+  at : (x : Refusal) → RefusesPlan (take_latched s g ≡ true) x → RefusesPlan (AreHeldUp s t (λ e. e ≡ g)) x
+  at why.NoMemory c = tt
+  at (why.Damaged x) c = tt
+  at why.Latched c = λ e is waits. ap (take_latched s) is ∙ c
+  at _ c = absurd c
 
 -- ---- closes, sends and receives
 
 module _ (s : State) (g n : ℕ) (plan : Planned) (below : g < sender_count s.sizes) where
   pub close_plan : IsDeedPlan s (Close g) plan → IsClosePlan s.sizes (slots_now s) (under_plan n plan) g
   close_plan h = at plan.deed refl h.asked h.planned where
-    at : (e : Deed) → plan.deed ≡ e → IsDeedFor (Close g) e → IsPlannedFrom s.sizes (slots_now s) plan.writes.items (Did e) → IsClosePlan s.sizes (slots_now s) (under_plan n plan) g
+    at : (e : Deed) → plan.deed ≡ e → IsDeedFor (Close g) e → IsPlannedFrom s.sizes (slots_now s) plan.writes (Did e) → IsClosePlan s.sizes (slots_now s) (under_plan n plan) g
     at (Close_deed x) is same p = record {
       made = refl;
       below = below;
-      marking = subst (λ (m : ℕ). IsMarking s.sizes (slots_now s) plan.writes.items m true) same p;
+      marking = subst (λ (m : ℕ). IsMarking s.sizes (slots_now s) plan.writes m true) same p;
       aim = ap (λ (e : Deed). aims.Doing e) (is ∙ ap Close_deed same);
-      reads = h.reads;
+      reads = h.fits.reads;
     }
     at (Append x m t previous b) is same p = absurd same
     at (UnlinkHead x m t b) is same p = absurd same
 
   pub send_plan : (tag : ℕ) (body : List ℕ) → IsDeedPlan s (Send g tag body) plan → IsSendPlan s.sizes (slots_now s) (under_plan n plan) g tag body
   send_plan tag body h = at plan.deed refl h.asked h.planned where
-    at : (e : Deed) → plan.deed ≡ e → IsDeedFor (Send g tag body) e → IsPlannedFrom s.sizes (slots_now s) plan.writes.items (Did e) → IsSendPlan s.sizes (slots_now s) (under_plan n plan) g tag body
+    at : (e : Deed) → plan.deed ≡ e → IsDeedFor (Send g tag body) e → IsPlannedFrom s.sizes (slots_now s) plan.writes (Did e) → IsSendPlan s.sizes (slots_now s) (under_plan n plan) g tag body
     at (Append x m t previous b) is same p =
         let e : Append x m t previous b ≡ Append g m tag previous body = ap (λ i. Append i m t previous b) same.0 ∙ ap (λ i. Append g m i previous b) same.1 ∙ ap (λ i. Append g m tag previous i) same.2 in
-        let q : IsSend s.sizes (slots_now s) plan.writes.items g m tag previous body = subst (λ (i : Deed). IsPlannedFrom s.sizes (slots_now s) plan.writes.items (Did i)) e p in
+        let q : IsSend s.sizes (slots_now s) plan.writes g m tag previous body = subst (λ (i : Deed). IsPlannedFrom s.sizes (slots_now s) plan.writes (Did i)) e p in
         record {
           directory = q.directory;
           new = q.new;
@@ -190,7 +253,7 @@ module _ (s : State) (g n : ℕ) (plan : Planned) (below : g < sender_count s.si
           beside = q.beside;
           aim = ap (λ (i : Deed). aims.Doing i) (is ∙ e ∙ ap (λ i. Append g i tag previous body) q.sequence ∙ ap (λ i. Append g (q.directory.sent + 1) tag i body) q.previous_is);
           writes = q.writes;
-          reads = h.reads;
+          reads = h.fits.reads;
         }
     at (UnlinkHead x m t b) is same p = absurd same
     at (Close_deed x) is same p = absurd same
@@ -213,10 +276,10 @@ used_cell z images a c e = elim (cases_Bool (nat_lt 0 (a % 16))) [
 
 pub take_plan : (s : State) (g n : ℕ) (plan : Planned) → g < sender_count s.sizes → IsDeedPlan s (Receive g) plan → IsTakePlan s.sizes (slots_now s) (under_plan n plan) g
 take_plan s g n plan below h = at plan.deed refl h.asked h.planned where
-  at : (e : Deed) → plan.deed ≡ e → IsDeedFor (Receive g) e → IsPlannedFrom s.sizes (slots_now s) plan.writes.items (Did e) → IsTakePlan s.sizes (slots_now s) (under_plan n plan) g
+  at : (e : Deed) → plan.deed ≡ e → IsDeedFor (Receive g) e → IsPlannedFrom s.sizes (slots_now s) plan.writes (Did e) → IsTakePlan s.sizes (slots_now s) (under_plan n plan) g
   at (UnlinkHead x m t b) is same p =
       let e : UnlinkHead x m t b ≡ UnlinkHead g m t b = ap (λ i. UnlinkHead i m t b) same in
-      let q : IsReceive s.sizes (slots_now s) plan.writes.items g m t b = subst (λ (i : Deed). IsPlannedFrom s.sizes (slots_now s) plan.writes.items (Did i)) e p in
+      let q : IsReceive s.sizes (slots_now s) plan.writes g m t b = subst (λ (i : Deed). IsPlannedFrom s.sizes (slots_now s) plan.writes (Did i)) e p in
       record {
         directory = q.directory;
         cell = q.cell;
@@ -229,7 +292,7 @@ take_plan s g n plan below h = at plan.deed refl h.asked h.planned where
         beside = q.beside;
         aim = ap (λ (i : Deed). aims.Doing i) (is ∙ e ∙ ap (λ i. UnlinkHead g i t b) q.sequence ∙ ap (λ i. UnlinkHead g (q.directory.received + 1) i b) q.tag_is ∙ ap (λ i. UnlinkHead g (q.directory.received + 1) q.cell.tag i) q.body_is);
         writes = q.writes;
-        reads = h.reads;
+        reads = h.fits.reads;
       }
   at (Append x m t previous b) is same p = absurd same
   at (Close_deed x) is same p = absurd same
@@ -242,5 +305,11 @@ pub close_free : (s : State) (g : ℕ) → (IsHeldUp (known_part s) (Do (Close g
 close_free s g h = false_from_ne_true (close_latched s g) (λ y. h (or_left (latched_in s.rows (directory_at g / 16)) false y))
 
 -- it makes one write
-pub close_one : (s : State) (g : ℕ) (plan : Planned) → g < sender_count s.sizes → IsDeedPlan s (Close g) plan → length plan.writes.items ≡ 1
-close_one s g plan below h = one_write _ plan.writes.items _ (close_plan s g 0 plan below h).marking.writes
+pub close_one : (s : State) (g : ℕ) (plan : Planned) → g < sender_count s.sizes → IsDeedPlan s (Close g) plan → length plan.writes ≡ 1
+close_one s g plan below h = one_write _ plan.writes _ (close_plan s g 0 plan below h).marking.writes
+
+-- the log has room for what is planned where its tests said so
+pub plan_room : (s : State) (d : Doing) (plan : Planned) → doing_sender d < sender_count s.sizes → log_full (ledger_of s) (records_of d) ≡ false → IsDeedPlan s d plan → HasRoom s plan.writes
+plan_room s (Send g tag body) plan below log h = has_room s plan.writes 4 log (let few = h.fits.count in omega (arith, few))
+plan_room s (Receive g) plan below log h = has_room s plan.writes 4 log (let few = h.fits.count in omega (arith, few))
+plan_room s (Close g) plan below log h = has_room s plan.writes 2 log (let one = close_one s g plan below h in omega (arith, one))

@@ -29,11 +29,11 @@ use Rattle.rq_sound.proofs.Groups.{slots_tell}
 use Rattle.rq_engine.proofs.Latches.{send_busy}
 use Rattle.rq_engine.proofs.Standing.{refused_steps, start_steps}
 use Rattle.rq_model.specs.Replay.Reply.{Gave_sub}
-use Rattle.rq_engine.specs.declared.plans.Planned.{Planned}
+use Rattle.rq_engine.specs.Plans.{Planned, under_plan}
 use Rattle.rq_engine.specs.Answers.{Refuses, HasNothingUnderWay, OnUnder}
 use Rattle.rq_model.specs.Legal.{OnFound}
 use Rattle.rq_engine.specs.Invariant.{IsConsistent, IsUnderConsistent, end_bytes}
-use Rattle.rq_engine.specs.Sends.{under_plan, FitsUnder, HasRoom, SendIsLatched}
+use Rattle.rq_engine.specs.Sends.{FitsUnder, HasRoom, SendIsLatched}
 use Rattle.rq_engine.proofs.Keeping.{kept_started}
 use Rattle.rq_engine.proofs.Refusals.{not_full, refuse, found_of, on_found, found_some, found_none}
 
@@ -121,7 +121,7 @@ pub send_refused : (s : State) (t : Txn) (g tag : ℕ) (body : List ℕ) → (Is
 send_refused s t g tag body may room latched k = (refused_steps s k (Start_send t (message_of g tag body)) why.Latched (may k, refl) refl, send_busy s k g room latched)
 
 -- a send that has started
-pub send_done : (s new : State) (t : Txn) (n e tag : ℕ) (body : List ℕ) (plan : Planned) → HasNothingUnderWay s t n → NoneHolds (ready_tests (ledger_of s) t false) → AreUnlatched s plan.writes.items
+pub send_done : (s new : State) (t : Txn) (n e tag : ℕ) (body : List ℕ) (plan : Planned) → HasNothingUnderWay s t n → NoneHolds (ready_tests (ledger_of s) t false) → AreUnlatched s plan.writes
     → IsSendPlan s.sizes (slots_in s.sizes s.images) (under_plan n plan) e tag body → is_free_for t e s.ends.sending ≡ true → s.cells_in_use < cell_count s.sizes → (IsSound s → Passes (size_of s.sizes) (ledger_of s) (Start_send t (message_of e tag body)))
     → new ≡ record s { rows = change_row t (row_started (under_plan n plan)) s.rows; ends = record { sending = with_held t e s.ends.sending; receiving = s.ends.receiving }; cells_in_use = s.cells_in_use + 1 }
     → IsSound s → IsModelStep s (Start_send t (message_of e tag body)) (Gave_sub t n) new

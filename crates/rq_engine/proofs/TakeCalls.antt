@@ -23,10 +23,14 @@ use Rattle.rq_sound.specs.Latching.{behind_head}
 use Rattle.rq_sound.specs.Plans.{AreUnlatched}
 use Rattle.rq_engine.proofs.Latches.{any_busy}
 use Rattle.rq_engine.proofs.Standing.{refused_steps, take_steps, take_from_steps, gives_one, gives_none, some_gives, none_gives, none_steps, none_from_steps}
-use Rattle.rq_engine.specs.declared.plans.Planned.{Planned}
+use Rattle.rq_groups.specs.declared.End.TheVariants.{Receiving}
+use Rattle.rq_level.specs.Ops.Doing.{Receive}
+use Rattle.rq_engine.specs.Lists.{IsTakeStarted}
+use Rattle.rq_engine.specs.Plans.{HasStarted, Planned, under_plan}
+use Rattle.rq_engine.proofs.Leveled.{take_plan}
 use Rattle.rq_engine.specs.Answers.{IsCausedIn, Refuses, HasNothingUnderWay}
 use Rattle.rq_engine.specs.Receives.{IsTakeCall}
-use Rattle.rq_engine.specs.Sends.{under_plan, take_latched}
+use Rattle.rq_engine.specs.Sends.{take_latched}
 use Rattle.rq_engine.proofs.Refusals.{refuse, found_of, no_memory}
 use Rattle.rq_engine.proofs.SendCalls.{ready_row}
 
@@ -99,7 +103,7 @@ module _ (s : State) (t : Txn) (h : NoneHolds (ready_tests (ledger_of s) t false
         from_refused h k = (refused_steps s k (Start_receive_from t e) why.Latched (passes_from k, one k) refl, any_busy s.rows (behind_head (slots_now s) e) h)
 
         -- a receive that has started
-        pub take_done : (new : State) (n : ℕ) (plan : Planned) → HasNothingUnderWay s t n → AreUnlatched s plan.writes.items → IsTakePlan s.sizes (slots_in s.sizes s.images) (under_plan n plan) e
+        pub take_done : (new : State) (n : ℕ) (plan : Planned) → HasNothingUnderWay s t n → AreUnlatched s plan.writes → IsTakePlan s.sizes (slots_in s.sizes s.images) (under_plan n plan) e
             → new ≡ record s { rows = change_row t (row_started (under_plan n plan)) s.rows; ends = record { sending = s.ends.sending; receiving = with_held t e s.ends.receiving } }
             → (call : Call) → IsTakeCall t e call → IsSound s → IsModelStep s call (Gave_sub t n) new
         take_done new n plan ready off planned is call c k =
@@ -111,3 +115,7 @@ module _ (s : State) (t : Txn) (h : NoneHolds (ready_tests (ledger_of s) t false
           where
             after : State
             after = record s { rows = change_row t (row_started (under_plan n plan)) s.rows; ends = record { sending = s.ends.sending; receiving = with_held t e s.ends.receiving } }
+
+-- what it makes of the lists
+pub take_started : (s : State) (t : Txn) (n e : ℕ) (new : State) → HasNothingUnderWay s t n → WaitsFor s t e → HasStarted s t n (Receiving e) (Receive e) new → IsTakeStarted s t e (record { txn = t; number = n }) new
+take_started s t n e new ready w b = (refl, w, record { under = under_plan n b.plan; number = refl; ready = ready; plan = take_plan s e n b.plan w.0 b.planned; lists = b.state })

@@ -1,83 +1,156 @@
--- What the engine's level is asked, and what it plans.
-use Rattle.std.specs.Prelude.{◌≡◌, ◌≢◌, ℕ, ◌<◌, true, false, List, Option, Some, Result, IfErr, IfNone, IfOk, IfSome}
-use Rattle.std.specs.Global.{Vec}
+-- What the engine's level is asked, what it plans, and what begins.
+use Rattle.std.specs.Prelude.{◌≡◌, ℕ, ◌<◌, ◌≤◌, Bool, true, false, List, length, Option, Some, Result, Ok, Err, IfErr, IfOk}
 use Rattle.rq_model.specs.declared.record.Deed.{Deed}
 use Rattle.rq_model.specs.declared.record.Record.{Record}
 use Rattle.rq_model.specs.declared.refusal.Refusal.{Refusal}
 use Rattle.rq_model.specs.declared.refusal.Refusal.TheVariants as why
 use Rattle.rq_model.specs.declared.txn.Txn.{Txn}
 use Rattle.rq_model.specs.Deeds.{deed_in, spelled_deed}
+use Rattle.rq_model.specs.Tests.{log_full}
 use Rattle.rq_page.specs.Sizes.{Sizes, sender_count}
+use Rattle.rq_views.specs.Items.{told_deed}
+use Rattle.rq_views.specs.Plans.{deed_sender}
 use Rattle.rq_views.specs.Plans.Turn.{Did, Undid}
+use Rattle.rq_level.specs.ChainPlans.{TellsDamage}
 use Rattle.rq_level.specs.Ops.{Doing}
-use Rattle.rq_level.specs.Ops.Doing.{Receive}
+use Rattle.rq_level.specs.Ops.Doing.{Send, Receive, Close}
+use Rattle.rq_level.specs.declared.writes.Plan.{Plan}
 use Rattle.rq_level.specs.declared.writes.SlotWrite.{SlotWrite}
 use Rattle.rq_level.specs.Writes.{AreSlotWrites}
+use Rattle.rq_groups.specs.declared.End.{End}
+use Rattle.rq_groups.specs.declared.End.TheVariants.{Receiving}
+use Rattle.rq_groups.specs.Sides.{is_free_end, with_end}
+use Rattle.rq_txn.specs.declared.Aim.TheVariants as aims
+use Rattle.rq_txn.specs.declared.Finished.{Finished}
+use Rattle.rq_txn.specs.Rows.{Under, change_row, row_started}
 use Rattle.rq_store.specs.Plans.{WaitsFor}
-use Rattle.rq_store.specs.State.{State}
+use Rattle.rq_store.specs.State.{State, ledger_of}
 use Rattle.rq_sound.specs.Groups.{slots_now}
 use Rattle.rq_sound.specs.Plans.{AreUnlatched, IsPlannedFrom}
 use Rattle.rq_sound.specs.Sound.{IsSound}
-use Rattle.rq_planner.specs.Answered.{IsDeedFor, IsHeldUp, MayBeAsked, SendTakesLowest}
+use Rattle.rq_planner.specs.Answered.{IsDeedFor, IsHeldUp, MayBeAsked, RefusesPlan, SendTakesLowest}
 use Rattle.rq_planner.specs.Asked.{Asked, doing_sender, known}
-use Rattle.rq_planner.specs.Asked.Asked.{Do, Undo}
-use Rattle.rq_engine.specs.declared.plans.Planned.{Planned}
+use Rattle.rq_planner.specs.Asked.Asked.{Do}
 use Rattle.rq_engine.specs.Aborts.{UndoTakesLowest}
+use Rattle.rq_engine.specs.Answers.{HasNothingUnderWay}
 use Rattle.rq_engine.specs.Earlier.{IsEarlier, IsSoundOver, on}
-use Rattle.rq_engine.specs.Sends.{FitsPlan, take_latched}
+use Rattle.rq_engine.specs.Sends.{take_latched}
 
 -- what the level may see of a store: its pages, and what is under way
 abbrev pub known_part : State → State
 known_part s = known s.sizes s.images s.rows
 
--- something is to be done, for a sender of the store
-pub record IsToDo (z : Sizes) (asked : Option Asked) : Type 0 where
-  pub doing : Doing
-  pub is : asked ≡ Some (Do doing)
-  pub inside : doing_sender doing < sender_count z
+-- a plan of what is to be done: its slot writes in order, and the deed that its end tells
+pub record Planned : Type 0 where
+  pub writes : List SlotWrite
+  pub deed : Deed
 
--- A plan of what is to be done, from the slots as they are, on pages that nobody has latched, with its deed and the room
--- that its records take in the log.
+abbrev pub planned_of : Plan → Planned
+planned_of p = record { writes = p.writes.items; deed = told_deed (deed_in p.deed) }
+
+-- the operation that a plan begins as
+abbrev pub under_plan : ℕ → Planned → Under
+under_plan number plan = record { number = number; writes = plan.writes; made = 0; aim = aims.Doing plan.deed }
+
+-- the plan writes slots of the store, three at most, and its deed is read from its bytes
+pub record FitsPlan (z : Sizes) (plan : Planned) : Type 0 where
+  pub sender : deed_sender plan.deed < sender_count z
+  pub slots : AreSlotWrites z plan.writes
+  pub count : length plan.writes ≤ 3
+  pub some : 1 ≤ length (spelled_deed plan.deed)
+  pub reads : deed_in (spelled_deed plan.deed) ≡ Some plan.deed
+
+-- A plan of what is to be done, from the slots as they are, on pages that nobody has latched.
 pub record IsDeedPlan (s : State) (d : Doing) (plan : Planned) : Type 0 where
   pub asked : IsDeedFor d plan.deed
-  pub reads : deed_in (spelled_deed plan.deed) ≡ Some plan.deed
-  pub planned : IsPlannedFrom s.sizes (slots_now s) plan.writes.items (Did plan.deed)
-  pub free : AreUnlatched s plan.writes.items
-  pub lowest : SendTakesLowest s.sizes (slots_now s) s.rows d plan.writes.items
+  pub planned : IsPlannedFrom s.sizes (slots_now s) plan.writes (Did plan.deed)
+  pub free : AreUnlatched s plan.writes
+  pub lowest : SendTakesLowest s.sizes (slots_now s) s.rows d plan.writes
   pub fits : FitsPlan s.sizes plan
 
 -- The writes that take back a deed, from the slots as they are, on pages that nobody has latched.
-pub record IsInversePlan (s : State) (d : Deed) (writes : Vec SlotWrite) : Type 0 where
-  pub planned : IsPlannedFrom s.sizes (slots_now s) writes.items (Undid d)
-  pub slots : AreSlotWrites s.sizes writes.items
-  pub free : AreUnlatched s writes.items
-  pub lowest : UndoTakesLowest s d writes.items
+pub record IsInversePlan (s : State) (d : Deed) (writes : List SlotWrite) : Type 0 where
+  pub planned : IsPlannedFrom s.sizes (slots_now s) writes (Undid d)
+  pub slots : AreSlotWrites s.sizes writes
+  pub free : AreUnlatched s writes
+  pub lowest : UndoTakesLowest s d writes
 
--- What is planned of what is asked: there is no plan exactly where it is held up, and want of memory alone refuses it where a sound
--- store may do it.
-pub record IsFoundFor {X : Type 0} (s : State) (asked : Asked) (IsPlan : X → Type 0) (found : Result (Option X) Refusal)
+-- ---- starts
+
+-- what is counted of it where it starts: its writes, and an end
+abbrev pub records_of : Doing → ℕ
+records_of (Send g tag body) = 4
+records_of (Receive g) = 4
+records_of (Close g) = 2
+
+-- It may start as far as its tests tell: its transaction has nothing under way, its lock is free, the log has room, and it is
+-- of a sender of the store.
+pub record MayStart (s : State) (t : Txn) (n : ℕ) (end : End) (d : Doing) : Type 0 where
+  pub ready : HasNothingUnderWay s t n
+  pub free : is_free_end t end s.ends ≡ true
+  pub log : log_full (ledger_of s) (records_of d) ≡ false
+  pub inside : doing_sender d < sender_count s.sizes
+
+-- something is asked that may
+pub record IsToStart (s : State) (t : Txn) (n : ℕ) (end : End) (asked : Option Asked) : Type 0 where
+  pub doing : Doing
+  pub is : asked ≡ Some (Do doing)
+  pub may : MayStart s t n end doing
+
+-- it was planned, and is under way with its lock
+pub record HasStarted (s : State) (t : Txn) (n : ℕ) (end : End) (d : Doing) (new : State) : Type 0 where
+  pub plan : Planned
+  pub planned : IsDeedPlan s d plan
+  pub state : new ≡ record s { rows = change_row t (row_started (under_plan n plan)) s.rows; ends = with_end t end s.ends }
+
+-- the inverse of the finished operation was planned, and is under way
+pub record HasTurnedBack (s : State) (t : Txn) (n : ℕ) (f : Finished) (new : State) : Type 0 where
+  pub writes : List SlotWrite
+  pub planned : IsInversePlan s f.deed writes
+  pub state : new ≡ record s {
+    rows = change_row t (row_started (record { number = n; writes = writes; made = 0; aim = aims.Undoing f.lsn f.deed }))
+        s.rows;
+  }
+
+-- What is answered to a start of what is asked. It is refused as latched exactly where latches hold it up, and for want of memory
+-- alone otherwise where a sound store may do it.
+pub record IsStartOf {X : Type 0} (s : State) (asked : Asked) (HasBegun : Type 0) (answer : Result X Refusal) : Type 0 where
+  pub begun : IfOk answer (λ _. HasBegun)
+  pub free : IfOk answer (λ _. IsHeldUp (known_part s) asked → ⊥)
+  pub causes : IfErr answer (RefusesPlan (IsHeldUp (known_part s) asked))
+  pub sound : (e : List Record) → IsEarlier e s → IsSound (on e s) → MayBeAsked (on e s) asked
+      → IfErr answer (λ r. TellsDamage r → ⊥)
+
+-- ---- receives from whichever sender
+
+-- a receive of a message that waits may start: its transaction has nothing under way, and the log has room
+pub record MayTake (s : State) (t : Txn) (n : ℕ) : Type 0 where
+  pub ready : HasNothingUnderWay s t n
+  pub log : log_full (ledger_of s) 4 ≡ false
+
+-- a receive of a message that waits has begun, and no latch held it up
+pub record HasTaken (s : State) (t : Txn) (n : ℕ) (new : State) : Type 0 where
+  pub sender : ℕ
+  pub waits : WaitsFor s t sender
+  pub free : take_latched s sender ≡ false
+  pub started : HasStarted s t n (Receiving sender) (Receive sender) new
+
+-- latches hold up a receive from each sender with P of which a message waits
+abbrev pub AreHeldUp : State → Txn → (ℕ → Type 0) → Type 0
+AreHeldUp s t P = (g : ℕ) → P g → WaitsFor s t g → take_latched s g ≡ true
+
+-- what is answered to a start of a receive from some sender with P
+pub record IsTakeOf {X : Type 0} (s : State) (t : Txn) (n : ℕ) (P : ℕ → Type 0) (answer : Result X Refusal) (new : State)
     : Type 0 where
-  pub plan : IfOk found (λ o. IfSome o IsPlan)
-  pub free : IfOk found (λ o. IfSome o (λ _. IsHeldUp (known_part s) asked → ⊥))
-  pub held_up : IfOk found (λ o. IfNone o (IsHeldUp (known_part s) asked))
-  pub plain : IfErr found (λ r. r ≢ why.Failed)
-  pub memory : (e : List Record) → IsEarlier e s → IsSound (on e s) → MayBeAsked (on e s) asked
-      → IfErr found (λ r. r ≡ why.NoMemory)
+  pub begun : IfOk answer (λ _. HasTaken s t n new)
+  pub causes : IfErr answer (RefusesPlan (AreHeldUp s t P))
+  pub sound : IsSoundOver s → IfErr answer (λ r. TellsDamage r → ⊥)
 
--- of what is to be done
-abbrev pub IsPlannedFor : State → Doing → Result (Option Planned) Refusal → Type 0
-IsPlannedFor s d found = IsFoundFor s (Do d) (IsDeedPlan s d) found
+abbrev pub is_latch : Refusal → Bool
+is_latch why.Latched = true
+is_latch _ = false
 
--- of what takes back a deed
-abbrev pub IsInverseFor : State → Deed → Result (Option (Vec SlotWrite)) Refusal → Type 0
-IsInverseFor s d found = IsFoundFor s (Undo d) (IsInversePlan s d) found
-
--- What is planned of a receive from some sender of which a message waits for the transaction: there is no plan where each of those
--- with P is held up.
-pub record IsTakePlanned (s : State) (t : Txn) (P : ℕ → Type 0) (found : Result (Option (ℕ × Planned)) Refusal) : Type 0 where
-  pub waits : IfOk found (λ o. IfSome o (λ p. WaitsFor s t p.0))
-  pub plan : IfOk found (λ o. IfSome o (λ p. IsDeedPlan s (Receive p.0) p.1))
-  pub free : IfOk found (λ o. IfSome o (λ p. take_latched s p.0 ≡ false))
-  pub held_up : IfOk found (λ o. IfNone o ((g : ℕ) → P g → WaitsFor s t g → take_latched s g ≡ true))
-  pub plain : IfErr found (λ r. r ≢ why.Failed)
-  pub memory : IsSoundOver s → IfErr found (λ r. r ≡ why.NoMemory)
+-- it is refused for latches
+abbrev pub is_latched : {X : Type 0} → Result X Refusal → Bool
+is_latched (Ok x) = false
+is_latched (Err r) = is_latch r

@@ -1,17 +1,14 @@
--- A planned operation as one that is under way, the room that it takes, and which pages are latched.
-use Rattle.std.specs.Prelude.{◌≡◌, ◌⊎◌, ℕ, ◌+◌, ◌*◌, ◌<◌, ◌≤◌, ◌^◌, Bool, List, true, length, Some}
-use Rattle.rq_model.specs.Deeds.{deed_in, spelled_deed}
+-- An operation as one that is under way, the room that it takes, and which pages are latched.
+use Rattle.std.specs.Prelude.{◌≡◌, ◌⊎◌, ℕ, ◌+◌, ◌*◌, ◌<◌, ◌≤◌, ◌^◌, Bool, List, true, length}
 use Rattle.rq_page.specs.Sizes.{Sizes, sender_count}
 use Rattle.rq_views.specs.Plans.{deed_sender}
 use Rattle.rq_level.specs.declared.writes.SlotWrite.{SlotWrite}
 use Rattle.rq_level.specs.Writes.{AreSlotWrites}
-use Rattle.rq_txn.specs.declared.Aim.TheVariants.{Doing}
 use Rattle.rq_txn.specs.Rows.{Under, deed_of}
 use Rattle.rq_store.specs.State.{State, owed_by}
 use Rattle.rq_sound.specs.Groups.{slots_now}
 use Rattle.rq_sound.specs.Latching.{AllFreeLatched, any_latched, at_tail, behind_head}
 use Rattle.rq_sound.specs.Lowest.{FirstIsLowest}
-use Rattle.rq_engine.specs.declared.plans.Planned.{Planned}
 use Rattle.rq_engine.specs.Invariant.{EndFits, end_bytes}
 
 -- the log has room for the records of so many writes, and an end, behind those that are owed
@@ -30,10 +27,6 @@ SendIsLatched s g = (any_latched s.rows (at_tail (slots_now s) g) ≡ true) ⊎ 
 abbrev pub take_latched : State → ℕ → Bool
 take_latched s g = any_latched s.rows (behind_head (slots_now s) g)
 
--- the operation that a plan begins as
-abbrev pub under_plan : ℕ → Planned → Under
-under_plan number plan = record { number = number; writes = plan.writes.items; made = 0; aim = Doing plan.deed }
-
 -- the operation writes slots of the store, nothing of it is made, and its records take so many bytes
 pub record FitsUnder (z : Sizes) (u : Under) (room : ℕ) : Type 0 where
   pub made : u.made ≡ 0
@@ -41,13 +34,3 @@ pub record FitsUnder (z : Sizes) (u : Under) (room : ℕ) : Type 0 where
   pub sender : deed_sender (deed_of u.aim) < sender_count z
   pub fits : EndFits u.aim
   pub room_is : room ≡ 546 * length u.writes + end_bytes u.aim
-
--- the plan writes slots of the store, three at most, and its records take so many bytes
-pub record FitsPlan (z : Sizes) (plan : Planned) : Type 0 where
-  pub sender : deed_sender plan.deed < sender_count z
-  pub slots : AreSlotWrites z plan.writes.items
-  pub count : length plan.writes.items ≤ 3
-  pub deed_low : 1 ≤ length (spelled_deed plan.deed)
-  pub deed_high : length (spelled_deed plan.deed) ≤ 256
-  pub reads : deed_in (spelled_deed plan.deed) ≡ Some plan.deed
-  pub room_is : plan.room ≡ length plan.writes.items * 546 + (30 + length (spelled_deed plan.deed))

@@ -6,7 +6,6 @@ ghost use Rattle.rq_model.specs.Tests.{NoneHolds, Passes, log_full, ready_tests}
 ghost use Rattle.rq_page.specs.Sizes.{sender_count};
 ghost use Rattle.rq_views.specs.Items.{items};
 ghost use Rattle.rq_views.specs.Legal.{view};
-ghost use Rattle.rq_level.specs.Ops.Doing.{Close};
 ghost use Rattle.rq_groups.specs.Ends.{is_free_for};
 ghost use Rattle.rq_store.specs.State.{ledger_of, size_of};
 ghost use Rattle.rq_sound.specs.Sound.{IsSound};
@@ -16,10 +15,8 @@ ghost use Rattle.rq_engine.specs.Opened.{LeavesDevices};
 ghost use Rattle.rq_engine.specs.Answers.{AnswersLegally, RefusesOver};
 ghost use Rattle.rq_engine.specs.Applied.{OnLatched, StartsUnlatched};
 ghost use Rattle.rq_engine.specs.Lists.{IsCloseStarted};
-ghost use Rattle.rq_engine.specs.Plans.{IsPlannedFor};
 
 use crate::engine::Engine;
-use crate::plans::Planned;
 use crate::starts::CLOSE_RECORDS;
 use rq_disk::{LogDevice, PageDevice};
 use rq_groups::End;
@@ -48,14 +45,11 @@ impl<P: PageDevice, L: LogDevice, B: Level> Engine<P, L, B> {
     {
         let number = self.check_open(txn)?;
         self.check_close(txn, sender)?;
-        match self.plan_close(sender) {
-            Ok(None) => Err(Refusal::Latched),
-            Ok(Some(plan)) => {
-                match self.start(txn, number, End::Sending(sender), plan) {
-                    Ok(()) => Ok(Sub { txn, number }),
-                    Err(refusal) => Err(refusal),
-                }
-            }
+        let Ok(op) = Op::close(self.alloc, sender) else {
+            return Err(Refusal::NoMemory);
+        };
+        match self.start_planned(txn, number, End::Sending(sender), &op) {
+            Ok(()) => Ok(Sub { txn, number }),
             Err(refusal) => Err(refusal),
         }
     }
@@ -91,17 +85,5 @@ impl<P: PageDevice, L: LogDevice, B: Level> Engine<P, L, B> {
             return Err(Refusal::LogFull);
         }
         Ok(())
-    }
-
-    // The plan of a close, from the slots as they are; none where it needs a page that others have latched.
-    fn plan_close(&mut self, sender: u32) -> Result<Option<Planned>, Refusal>
-        requires { sender < sender_count self.old.state.sizes }
-        ensures same { self.new ≡ self.old }
-        ensures planned { IsPlannedFor self.old.state (Close sender) result }
-    {
-        let Ok(op) = Op::close(self.alloc, sender) else {
-            return Err(Refusal::NoMemory);
-        };
-        self.plan_deed(&op)
     }
 }

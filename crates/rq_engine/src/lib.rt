@@ -12,7 +12,6 @@ mod looking;
 mod moves;
 mod operations;
 mod pages;
-mod plans;
 mod receives;
 mod sends;
 mod starts;

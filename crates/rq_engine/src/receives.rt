@@ -1,5 +1,5 @@
 //! Receives.
-ghost use Rattle.std.specs.Prelude.{⊤, ◌≡◌, ◌↔◌, Err, ◌+◌, ◌<◌, ◌≤◌, ◌^◌, IfOk, IfErr, IfSome, IfNone, None, OnErr, ℕ, Some, true, false, List};
+ghost use Rattle.std.specs.Prelude.{⊤, ◌≡◌, ◌≢◌, ◌↔◌, Err, ◌+◌, ◌<◌, ◌≤◌, ◌^◌, IfOk, IfErr, IfSome, IfNone, None, OnErr, ℕ, Some, true, false, List};
 ghost use Rattle.rq_model.specs.History.{Call};
 ghost use Rattle.rq_model.specs.History.Call.{Start_receive, Start_receive_from};
 ghost use Rattle.rq_model.specs.Tests.{NoneHolds, log_full, ready_tests};
@@ -17,11 +17,11 @@ ghost use Rattle.rq_engine.specs.Opened.{LeavesDevices};
 ghost use Rattle.rq_engine.specs.Answers.{AnswersLegally, HasNothingUnderWay};
 ghost use Rattle.rq_engine.specs.Lists.{IsTakeStarted, TakeSays, TakeFromSays};
 ghost use Rattle.rq_engine.specs.Receives.{IsTakeCall, started_of};
-ghost use Rattle.rq_engine.specs.Plans.{IsDeedPlan, IsPlannedFor, IsTakePlanned};
+ghost use Rattle.rq_planner.specs.Asked.{Do};
+ghost use Rattle.rq_engine.specs.Plans.{HasStarted, IsStartOf, IsTakeOf, MayTake};
 
 use crate::engine::Engine;
-use crate::plans::Planned;
-use crate::starts::CHAIN_RECORDS;
+use crate::starts::{CHAIN_RECORDS, is_latched};
 use rq_disk::{LogDevice, PageDevice};
 use rq_groups::End;
 use rq_level::{Level, Op};
@@ -56,14 +56,8 @@ impl<P: PageDevice, L: LogDevice, B: Level> Engine<P, L, B> {
         if self.is_log_full(CHAIN_RECORDS) {
             return Err(Refusal::LogFull);
         }
-        match self.plan_any_take(txn, first) {
-            Ok(None) => Err(Refusal::Latched),
-            Ok(Some((sender, plan))) => {
-                match self.start_take(txn, number, sender, plan) {
-                    Ok(sub) => Ok(Some(sub)),
-                    Err(refusal) => Err(refusal),
-                }
-            }
+        match self.start_any_take(txn, number, first) {
+            Ok(()) => Ok(Some(Sub { txn, number })),
             Err(refusal) => Err(refusal),
         }
     }
@@ -100,46 +94,26 @@ impl<P: PageDevice, L: LogDevice, B: Level> Engine<P, L, B> {
         if self.is_log_full(CHAIN_RECORDS) {
             return Err(Refusal::LogFull);
         }
-        match self.plan_take(sender) {
-            Ok(None) => Err(Refusal::Latched),
-            Ok(Some(plan)) => match self.start_take(txn, number, sender, plan) {
-                Ok(sub) => Ok(Some(sub)),
-                Err(refusal) => Err(refusal),
-            },
+        match self.start_take(txn, number, sender) {
+            Ok(()) => Ok(Some(Sub { txn, number })),
             Err(refusal) => Err(refusal),
         }
     }
 
-    // Starts a receive that was planned from a group that holds a message for the transaction.
-    #[inline(always)]
-    fn start_take(
-        &mut self,
-        txn: Txn,
-        number: u64,
-        sender: u32,
-        plan: Planned,
-    ) -> Result<Sub, Refusal>
-        // What the caller has tested, and planned.
-        requires ready { HasNothingUnderWay self.old.state txn number }
-        requires passes { NoneHolds (ready_tests (ledger_of self.old.state) txn false) }
+    // Starts a receive from a group that holds a message for the transaction.
+    fn start_take(&mut self, txn: Txn, number: u64, sender: u32) -> Result<(), Refusal>
+        requires may { MayTake self.old.state txn number }
         requires waits { WaitsFor self.old.state txn sender }
-        requires log { log_full (ledger_of self.old.state) 4 ≡ false }
-        requires plan { IsDeedPlan self.old.state (Receive sender) plan }
-        // What it answers and starts.
-        ensures answered { (call : Call) → IsTakeCall txn sender call
-            → AnswersLegally P.PageDevice L.LogDevice self.old call (λ sub. started_of (Some sub)) result self.new }
-        ensures sizes { self.new.state.sizes ≡ self.old.state.sizes }
-        ensures sub { IfOk result (λ sub. sub.txn ≡ txn) }
-        ensures lists { IfOk result (λ sub. IsTakeStarted self.old.state txn sender sub self.new.state) }
-        // What stays.
+        ensures started { IsStartOf self.old.state (Do (Receive sender))
+            (HasStarted self.old.state txn number (End.Receiving sender) (Receive sender) self.new.state) result }
         ensures devices { LeavesDevices self.old self.new }
+        ensures plain { IfErr result (λ r. r ≢ Refusal.Failed) }
         ensures refused { OnErr result (self.new ≡ self.old) }
-        ensures plain { IfErr result (λ r. r ≡ Refusal.NoMemory) }
     {
-        match self.start(txn, number, End::Receiving(sender), plan) {
-            Ok(()) => Ok(Sub { txn, number }),
-            Err(refusal) => Err(refusal),
-        }
+        let Ok(op) = Op::receive(self.alloc, sender) else {
+            return Err(Refusal::NoMemory);
+        };
+        self.start_planned(txn, number, End::Receiving(sender), &op)
     }
 
     // A sender of which a message waits that the transaction may take.
@@ -162,77 +136,78 @@ impl<P: PageDevice, L: LogDevice, B: Level> Engine<P, L, B> {
         self.waiting.next_free(&self.ends, from)
     }
 
-    // A sender of which a message waits for the transaction, with the plan of its receive; none where others have latched
-    // a page that is needed, whatever the sender. This one is tried first.
-    fn plan_any_take(&mut self, txn: Txn, first: u32) -> Result<Option<(u32, Planned)>, Refusal>
-        requires { WaitsFor self.old.state txn first }
-        ensures same { self.new ≡ self.old }
-        ensures planned { IsTakePlanned self.old.state txn (λ _. ⊤) result }
+    // Starts a receive from a sender of which a message waits for the transaction; refused as latched where latches hold
+    // up each of them. This one is tried first.
+    fn start_any_take(&mut self, txn: Txn, number: u64, first: u32) -> Result<(), Refusal>
+        requires may { MayTake self.old.state txn number }
+        requires waits { WaitsFor self.old.state txn first }
+        ensures taken { IsTakeOf self.old.state txn number (λ _. ⊤) result self.new.state }
+        ensures devices { LeavesDevices self.old self.new }
+        ensures plain { IfErr result (λ r. r ≢ Refusal.Failed) }
+        ensures refused { OnErr result (self.new ≡ self.old) }
     {
-        if let Some(plan) = self.plan_take(first)? {
-            return Ok(Some((first, plan)));
+        let answer = self.start_take(txn, number, first);
+        if !is_latched(&answer) {
+            return answer;
         }
-        match self.plan_free_take(txn)? {
-            Some(planned) => Ok(Some(planned)),
-            None => self.plan_own_take(txn),
+        let answer = self.start_free_take(txn, number);
+        if !is_latched(&answer) {
+            return answer;
         }
+        self.start_own_take(txn, number)
     }
 
     // The same, of the senders whose receiving end nobody holds.
-    fn plan_free_take(&mut self, txn: Txn) -> Result<Option<(u32, Planned)>, Refusal>
-        ensures same { self.new ≡ self.old }
-        ensures planned { IsTakePlanned self.old.state txn (λ g. is_held g self.old.state.ends.receiving ≡ false) result }
+    fn start_free_take(&mut self, txn: Txn, number: u64) -> Result<(), Refusal>
+        requires { MayTake self.old.state txn number }
+        ensures taken { IsTakeOf self.old.state txn number (λ g. is_held g self.old.state.ends.receiving ≡ false) result
+            self.new.state }
+        ensures devices { LeavesDevices self.old self.new }
+        ensures plain { IfErr result (λ r. r ≢ Refusal.Failed) }
+        ensures refused { OnErr result (self.new ≡ self.old) }
     {
         let mut from = 0;
         while let Some(sender) = self.next_free(from) {
-            if let Some(plan) = self.plan_take(sender)? {
-                return Ok(Some((sender, plan)));
+            let answer = self.start_take(txn, number, sender);
+            if !is_latched(&answer) {
+                return answer;
             }
             from = sender + 1;
         }
-        Ok(None)
+        Err(Refusal::Latched)
     }
 
     // The same, of the senders whose receiving end the transaction holds.
-    fn plan_own_take(&mut self, txn: Txn) -> Result<Option<(u32, Planned)>, Refusal>
-        ensures same { self.new ≡ self.old }
-        ensures planned { IsTakePlanned self.old.state txn (λ g. has_held txn g self.old.state.ends.receiving ≡ true) result }
+    fn start_own_take(&mut self, txn: Txn, number: u64) -> Result<(), Refusal>
+        requires { MayTake self.old.state txn number }
+        ensures taken { IsTakeOf self.old.state txn number (λ g. has_held txn g self.old.state.ends.receiving ≡ true)
+            result self.new.state }
+        ensures devices { LeavesDevices self.old self.new }
+        ensures plain { IfErr result (λ r. r ≢ Refusal.Failed) }
+        ensures refused { OnErr result (self.new ≡ self.old) }
     {
         let mut next = self.ends.newest_received(txn);
         while let Some(sender) = next {
-            if let Some(planned) = self.plan_waiting(txn, sender)? {
-                return Ok(Some(planned));
+            let answer = self.start_waiting(txn, number, sender);
+            if !is_latched(&answer) {
+                return answer;
             }
             next = self.ends.received_before(sender);
         }
-        Ok(None)
+        Err(Refusal::Latched)
     }
 
-    // The plan of a receive from the sender's group, where it holds a message for the transaction and needs no page that
-    // others have latched.
-    fn plan_waiting(&mut self, txn: Txn, sender: u32) -> Result<Option<(u32, Planned)>, Refusal>
-        ensures same { self.new ≡ self.old }
-        ensures planned { IsTakePlanned self.old.state txn (λ g. g ≡ sender) result }
-        ensures sender { IfOk result (λ found. IfSome found (λ planned. planned.0 ≡ sender)) }
+    // The same, of this sender, where its group holds a message for the transaction.
+    fn start_waiting(&mut self, txn: Txn, number: u64, sender: u32) -> Result<(), Refusal>
+        requires { MayTake self.old.state txn number }
+        ensures taken { IsTakeOf self.old.state txn number (λ g. g ≡ sender) result self.new.state }
+        ensures devices { LeavesDevices self.old self.new }
+        ensures plain { IfErr result (λ r. r ≢ Refusal.Failed) }
+        ensures refused { OnErr result (self.new ≡ self.old) }
     {
         if self.waiting.count(sender) == 0 || !self.ends.may_receive(txn, sender) {
-            return Ok(None);
+            return Err(Refusal::Latched);
         }
-        match self.plan_take(sender)? {
-            Some(plan) => Ok(Some((sender, plan))),
-            None => Ok(None),
-        }
-    }
-
-    // The plan of a receive, from the slots as they are; none where it needs a page that others have latched.
-    fn plan_take(&mut self, sender: u32) -> Result<Option<Planned>, Refusal>
-        requires { sender < sender_count self.old.state.sizes }
-        ensures same { self.new ≡ self.old }
-        ensures planned { IsPlannedFor self.old.state (Receive sender) result }
-    {
-        let Ok(op) = Op::receive(self.alloc, sender) else {
-            return Err(Refusal::NoMemory);
-        };
-        self.plan_deed(&op)
+        self.start_take(txn, number, sender)
     }
 }

@@ -10,16 +10,13 @@ ghost use Rattle.rq_store.specs.State.{ledger_of, size_of};
 ghost use Rattle.rq_sound.specs.Sound.{IsSound};
 ghost use Rattle.rq_engine.specs.Earlier.{on, IsEarlier};
 ghost use Rattle.rq_model.specs.declared.record.Record.{Record};
-ghost use Rattle.rq_level.specs.Ops.Doing.{Send};
 ghost use Rattle.rq_engine.specs.Opened.{LeavesDevices};
 ghost use Rattle.rq_engine.specs.Answers.{AnswersLegally, IsUnderWay, RefusesOver};
 ghost use Rattle.rq_engine.specs.Applied.{OnLatched, StartsUnlatched};
 ghost use Rattle.rq_engine.specs.Lists.{IsSendStarted};
-ghost use Rattle.rq_engine.specs.Plans.{IsPlannedFor};
 ghost use Rattle.rq_engine.specs.Sends.{TakesLowest};
 
 use crate::engine::Engine;
-use crate::plans::Planned;
 use crate::starts::CHAIN_RECORDS;
 use rq_disk::{LogDevice, PageDevice};
 use rq_groups::End;
@@ -56,16 +53,13 @@ impl<P: PageDevice, L: LogDevice, B: Level> Engine<P, L, B> {
     {
         let number = self.check_open(txn)?;
         self.check_send(txn, sender, tag, body)?;
-        match self.plan_send(sender, tag, body) {
-            Ok(None) => Err(Refusal::Latched),
-            Ok(Some(plan)) => {
-                match self.start(txn, number, End::Sending(sender), plan) {
-                    Ok(()) => {
-                        self.cells_in_use += 1;
-                        Ok(Sub { txn, number })
-                    }
-                    Err(refusal) => Err(refusal),
-                }
+        let Ok(op) = Op::send(self.alloc, sender, tag, body) else {
+            return Err(Refusal::NoMemory);
+        };
+        match self.start_planned(txn, number, End::Sending(sender), &op) {
+            Ok(()) => {
+                self.cells_in_use += 1;
+                Ok(Sub { txn, number })
             }
             Err(refusal) => Err(refusal),
         }
@@ -110,19 +104,5 @@ impl<P: PageDevice, L: LogDevice, B: Level> Engine<P, L, B> {
             return Err(Refusal::LogFull);
         }
         Ok(())
-    }
-
-    // The plan of a send, from the slots as they are; none where it needs a page that others have latched.
-    #[inline(always)]
-    fn plan_send(&mut self, sender: u32, tag: u64, body: &[u8]) -> Result<Option<Planned>, Refusal>
-        requires sender { sender < sender_count self.old.state.sizes }
-        requires short { length body.now ≤ 216 }
-        ensures same { self.new ≡ self.old }
-        ensures planned { IsPlannedFor self.old.state (Send sender tag body.now) result }
-    {
-        let Ok(op) = Op::send(self.alloc, sender, tag, body) else {
-            return Err(Refusal::NoMemory);
-        };
-        self.plan_deed(&op)
     }
 }

@@ -1,19 +1,24 @@
-//! What starts of operations have in common.
-ghost use Rattle.std.specs.Prelude.{◌≡◌, IfErr, OnOk, OnErr, true};
+//! Starts of what is to be done: a send, a receive or a close.
+ghost use Rattle.std.specs.Prelude.{◌≡◌, ◌≢◌, IfErr, OnOk, OnErr, Some, false, true};
+ghost use Rattle.rq_level.specs.Ops.{Doing};
 ghost use Rattle.rq_txn.specs.Rows.{change_row, row_started, under_of};
+ghost use Rattle.rq_txn.specs.Told.{IsTold};
 ghost use Rattle.rq_groups.specs.Sides.{is_free_end, with_end};
+ghost use Rattle.rq_planner.specs.Answered.{IsPlanned};
+ghost use Rattle.rq_planner.specs.Asked.{Do, IsOfStore, asked_by};
 ghost use Rattle.rq_engine.specs.Opened.{LeavesDevices};
 ghost use Rattle.rq_engine.specs.Answers.{HasNothingUnderWay};
-ghost use Rattle.rq_engine.specs.Sends.{under_plan, FitsPlan, FitsUnder, HasRoom};
+ghost use Rattle.rq_engine.specs.Plans.{FitsPlan, HasStarted, IsStartOf, IsToStart, is_latched, known_part, planned_of, under_plan};
+ghost use Rattle.rq_engine.specs.Sends.{FitsUnder, HasRoom};
 
 use crate::engine::Engine;
-use crate::plans::Planned;
 use rq_disk::{LogDevice, PageDevice};
 use rq_groups::End;
-use rq_level::Level;
+use rq_level::{Level, Op, Plan};
 use rq_model::refusal::Refusal;
 use rq_model::txn::Txn;
-use rq_txn::{Aim, Operation};
+use rq_record::{OP_END_BYTES, PAGE_OP_BYTES};
+use rq_txn::{Aim, Operation, ToldDeed};
 
 /// What a send, a receive or the inverse of one is counted as where it starts: three slots and an end.
 pub(crate) const CHAIN_RECORDS: u64 = 4;
@@ -22,34 +27,68 @@ pub(crate) const CHAIN_RECORDS: u64 = 4;
 pub(crate) const CLOSE_RECORDS: u64 = 2;
 
 impl<P: PageDevice, L: LogDevice, B: Level> Engine<P, L, B> {
-    // Takes the lock and the room of an operation, and lets it begin; where that is refused, the lock is given back.
-    #[inline(always)]
-    pub(crate) fn start(
+    // Has what is asked planned from the slots as they are, takes its lock and all that its steps and its end need, and
+    // lets it begin.
+    pub(crate) fn start_planned(
         &mut self,
         txn: Txn,
         number: u64,
         end: End,
-        plan: Planned,
+        op: &Op,
     ) -> Result<(), Refusal>
+        requires forward { op.now.undo ≡ false }
+        requires may { IsToStart self.old.state txn number end (asked_by op.now) }
+        ensures started { (d : Doing) → asked_by op.now ≡ Some (Do d) → IsStartOf self.old.state (Do d)
+            (HasStarted self.old.state txn number end d self.new.state) result }
+        ensures devices { LeavesDevices self.old self.new }
+        ensures plain { IfErr result (λ r. r ≢ Refusal.Failed) }
+        ensures refused { OnErr result (self.new ≡ self.old) }
+    {
+        match self.plan(op) {
+            Ok(plan) => self.start(txn, number, end, plan),
+            Err(refusal) => Err(refusal),
+        }
+    }
+
+    // What the level plans for an operation that is to be done.
+    fn plan(&mut self, op: &Op) -> Result<Plan, Refusal>
+        requires forward { op.now.undo ≡ false }
+        requires asked { IsOfStore self.old.state.sizes (asked_by op.now) }
+        ensures same { self.new ≡ self.old }
+        ensures planned { IsPlanned (known_part self.old.state) (asked_by op.now) result }
+    {
+        let room = self.transactions.spare();
+        self.planner.plan(room, &self.pages, &self.transactions, op)
+    }
+
+    // Takes the lock and the room of a planned operation, and lets it begin; where that is refused, the lock is given back.
+    fn start(&mut self, txn: Txn, number: u64, end: End, plan: Plan) -> Result<(), Refusal>
         requires ready { HasNothingUnderWay self.old.state txn number }
         requires free { is_free_end txn end self.old.state.ends ≡ true }
-        requires fits { FitsPlan self.old.state.sizes plan }
+        requires told { IsTold plan.deed }
+        requires fits { FitsPlan self.old.state.sizes (planned_of plan) }
         requires log { HasRoom self.old.state plan.writes.items }
         ensures started { OnOk result (self.new.state ≡ record self.old.state {
           rows = change_row txn
-              (row_started (under_plan number plan)) self.old.state.rows;
+              (row_started (under_plan number (planned_of plan))) self.old.state.rows;
           ends = with_end txn end self.old.state.ends;
         }) }
         ensures devices { LeavesDevices self.old self.new }
         ensures refusal { IfErr result (λ r. r ≡ Refusal.NoMemory) }
         ensures refused { OnErr result (self.new ≡ self.old) }
     {
-        let Planned { writes, deed, room } = plan;
+        let Plan {
+            writes,
+            deed,
+            reply: _,
+        } = plan;
+        let last = OP_END_BYTES + deed.as_slice().len();
+        let room = writes.len() * PAGE_OP_BYTES + last;
         let operation = Operation {
             number,
             writes,
             made: 0,
-            aim: Aim::Doing(deed),
+            aim: Aim::Doing(ToldDeed::new(deed)),
         };
         let newly = self.ends.take(txn, end)?;
         match self.launch(txn, operation, room) {
@@ -87,5 +126,15 @@ impl<P: PageDevice, L: LogDevice, B: Level> Engine<P, L, B> {
         };
         self.owed += owed;
         Ok(())
+    }
+}
+
+/// Whether it was refused for latches.
+pub(crate) fn is_latched(answer: &Result<(), Refusal>) -> bool
+    ensures { result ≡ is_latched answer.now }
+{
+    match answer {
+        Err(Refusal::Latched) => true,
+        _ => false,
     }
 }

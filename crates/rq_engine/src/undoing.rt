@@ -1,7 +1,7 @@
 //! What an abort undoes: the inverses of finished operations.
-ghost use Rattle.std.specs.Prelude.{◌≡◌, ◌↔◌, ◌≤◌, Err, IfOk, IfErr, OnOk, OnErr, Some, true, length, List};
+ghost use Rattle.std.specs.Prelude.{◌≡◌, ◌≢◌, ◌↔◌, ◌≤◌, Err, IfOk, IfErr, OnOk, OnErr, Some, false, true, length, List};
 ghost use Rattle.rq_model.specs.History.Call.{Undo_next};
-ghost use Rattle.rq_model.specs.Tests.{undo_cost};
+ghost use Rattle.rq_model.specs.Tests.{log_full, undo_cost};
 ghost use Rattle.rq_model.specs.Commits.{op_of};
 ghost use Rattle.rq_model.specs.Content.{said};
 ghost use Rattle.rq_level.specs.Writes.{AreSlotWrites};
@@ -16,13 +16,17 @@ ghost use Rattle.rq_engine.specs.Invariant.{IsDoneConsistent};
 ghost use Rattle.rq_engine.specs.Receives.{undoing_of};
 ghost use Rattle.rq_engine.specs.Sends.{HasRoom};
 ghost use Rattle.rq_engine.specs.Aborts.{IsTurnedBack, UndoSays};
-ghost use Rattle.rq_engine.specs.Plans.{IsInverseFor};
+ghost use Rattle.rq_store.specs.State.{ledger_of, op_done};
+ghost use Rattle.rq_planner.specs.Answered.{IsPlanned};
+ghost use Rattle.rq_planner.specs.Asked.{IsOfStore, Undo, asked_back};
+ghost use Rattle.rq_engine.specs.Plans.{HasTurnedBack, IsStartOf, known_part};
 
 use crate::engine::Engine;
+use crate::operations::CHAIN_LEVEL;
 use crate::starts::{CHAIN_RECORDS, CLOSE_RECORDS};
 use rq_disk::{LogDevice, PageDevice};
-use rq_level::{Level, SlotWrite};
-use rq_model::record::Record;
+use rq_level::{Level, Plan, SlotWrite};
+use rq_model::record::{DeedBytes, Record};
 use rq_model::refusal::Refusal;
 use rq_model::txn::{Sub, Txn};
 use rq_record::{PAGE_OP_BYTES, shows_size, spelled_len};
@@ -63,14 +67,45 @@ impl<P: PageDevice, L: LogDevice, B: Level> Engine<P, L, B> {
         if self.is_log_full(undo_records(&done.deed)) {
             return Err(Refusal::LogFull);
         }
-        match self.plan_undo(&done) {
-            Ok(None) => Err(Refusal::Latched),
-            Ok(Some(writes)) => match self.start_undo(txn, number, &done, writes) {
-                Ok(()) => Ok(Some(Sub { txn, number })),
-                Err(refusal) => Err(refusal),
-            },
+        match self.start_inverse(txn, number, &done) {
+            Ok(()) => Ok(Some(Sub { txn, number })),
             Err(refusal) => Err(refusal),
         }
+    }
+
+    // Has the inverse of a finished operation planned from the slots as they are, takes all that its steps and its end
+    // need, and lets it begin.
+    fn start_inverse(&mut self, txn: Txn, number: u64, done: &Finished) -> Result<(), Refusal>
+        requires ready { IsTurnedBack self.old.state txn number (Some done.now) }
+        requires kept { IsDoneConsistent self.old.state.sizes done.now }
+        requires log { log_full (ledger_of self.old.state) (undo_cost (Some (op_done done.now))) ≡ false }
+        ensures started { IsStartOf self.old.state (Undo done.now.deed)
+            (HasTurnedBack self.old.state txn number done.now self.new.state) result }
+        ensures devices { LeavesDevices self.old self.new }
+        ensures plain { IfErr result (λ r. r ≢ Refusal.Failed) }
+        ensures refused { OnErr result (self.new ≡ self.old) }
+    {
+        match self.plan_inverse(done.deed.bytes()) {
+            Ok(plan) => self.start_undo(txn, number, done, plan.writes),
+            Err(refusal) => Err(refusal),
+        }
+    }
+
+    // What the level plans to take back the deed that the bytes tell.
+    fn plan_inverse(&mut self, deed: &DeedBytes) -> Result<Plan, Refusal>
+        requires { IsOfStore self.old.state.sizes (asked_back deed.now) }
+        ensures same { self.new ≡ self.old }
+        ensures planned { IsPlanned (known_part self.old.state) (asked_back deed.now) result }
+    {
+        let room = self.transactions.spare();
+        self.planner.plan_inverse(
+            self.alloc,
+            room,
+            &self.pages,
+            &self.transactions,
+            CHAIN_LEVEL,
+            deed,
+        )
     }
 
     // Lets a planned inverse begin.
@@ -115,18 +150,5 @@ impl<P: PageDevice, L: LogDevice, B: Level> Engine<P, L, B> {
             },
         };
         self.launch(txn, operation, room)
-    }
-
-    // The writes that take back what a finished operation did; none where they need a page that others have latched.
-    fn plan_undo(&mut self, done: &Finished) -> Result<Option<Vec<SlotWrite>>, Refusal>
-        requires { IsDoneConsistent self.old.state.sizes done.now }
-        ensures same { self.new ≡ self.old }
-        ensures planned { IsInverseFor self.old.state done.now.deed result }
-    {
-        match self.plan_inverse(done.deed.bytes()) {
-            Ok(Some(plan)) => Ok(Some(plan.writes)),
-            Ok(None) => Ok(None),
-            Err(refusal) => Err(refusal),
-        }
     }
 }

@@ -117,19 +117,19 @@ MayBeAsked s (Undo d) = IsNewestDeed s d
 
 -- ---- the answer
 
--- why there is no plan: want of memory, what the slots hold, or latches that hold up what is asked
-abbrev pub RefusesPlan : State → Option Asked → Refusal → Type 0
-RefusesPlan s asked why.NoMemory = Unit {0}
-RefusesPlan s asked why.Latched = OnFound asked (IsHeldUp s)
-RefusesPlan s asked (why.Damaged x) = Unit {0}
-RefusesPlan s asked r = ⊥
+-- why there is no plan: want of memory, what the slots hold, or latches, and only where they hold it up
+abbrev pub RefusesPlan : (IsHeld : Type 0) → Refusal → Type 0
+RefusesPlan IsHeld why.NoMemory = Unit {0}
+RefusesPlan IsHeld why.Latched = IsHeld
+RefusesPlan IsHeld (why.Damaged x) = Unit {0}
+RefusesPlan IsHeld r = ⊥
 
 -- What is answered to what is asked. What nothing can be read from has no plan, and no latch holds it up.
 pub record IsPlanned (s : State) (asked : Option Asked) (answer : Result Plan Refusal) : Type 0 where
   pub plan : IfOk answer (λ p. OnFound asked (λ a. IsPlanFor s a p))
   -- it is refused as latched exactly where latches hold it up
   pub free : IfOk answer (λ p. OnFound asked (IsHeldUp s) → ⊥)
-  pub causes : IfErr answer (RefusesPlan s asked)
+  pub causes : IfErr answer (RefusesPlan (OnFound asked (IsHeldUp s)))
   -- a sound store with these pages and rows that may do it is not refused for what its slots hold
   pub sound : (whole : State) → known whole.sizes whole.images whole.rows ≡ s → IsSound whole
       → OnFound asked (MayBeAsked whole) → IfErr answer (λ r. TellsDamage r → ⊥)

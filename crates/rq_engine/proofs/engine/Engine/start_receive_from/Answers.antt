@@ -1,21 +1,20 @@
-use Rattle.std.proofs.Common.{◌≡◌, ◌<◌, ◌≤◌, true, sym, ap, ◌∙◌, subst, refl, arith, inr}
+use Rattle.std.proofs.Common.{◌≡◌, ◌<◌, ◌≤◌, true, sym, ap, ◌∙◌, refl, arith, inr}
+use Rattle.rq_model.specs.declared.refusal.Refusal.{Refusal}
 use Rattle.rq_model.specs.History.Call.{Start_receive_from}
 use Rattle.rq_page.specs.Sizes.{sender_count}
 use Rattle.rq_groups.specs.Ends.{is_free_for}
 use Rattle.rq_groups.specs.Waiting.{waits}
 use Rattle.rq_store.specs.State.{State}
+use Rattle.rq_sound.specs.Latching.{IsLatched}
+use Rattle.rq_engine.specs.Answers.{Refuses}
+use Rattle.rq_engine.specs.Applied.{OnLatched}
+use Rattle.rq_engine.specs.Earlier.{on}
 use Rattle.rq_engine.specs.Sends.{take_latched}
-use Rattle.rq_engine.proofs.Latches.{from_latched, from_unlatched}
-use Rattle.rq_engine.proofs.TakeCalls.{from_refused, log_is_full, receiver_busy, none_from_done, take_memory}
-use Rattle.rq_engine.proofs.Leveled.{take_free}
-use Rattle.rq_engine.proofs.Opened.{none_told, state_is}
-use Rattle.rq_engine.specs.Answers.{IsCausedIn}
-use Rattle.rq_model.specs.Replay.Reply.{Gave_sub, Gave_refusal}
-use Rattle.rq_sound.specs.Sound.{IsSound}
-use Rattle.rq_sound.specs.ModelSteps.{IsModelStep}
-use Rattle.rq_planner.proofs.Options.{some_told}
-use Rattle.rq_engine.specs.Earlier.{on, IsEarlier}
 use Rattle.rq_engine.proofs.Earlier.{full_on}
+use Rattle.rq_engine.proofs.Latches.{from_latched, from_unlatched}
+use Rattle.rq_engine.proofs.Leveled.{refused_for, take_free, take_plan}
+use Rattle.rq_engine.proofs.Opened.{state_is}
+use Rattle.rq_engine.proofs.TakeCalls.{from_refused, log_is_full, none_from_done, receiver_busy, take_done, take_memory, take_started}
 use Rattle.rq_engine.proofs.engine.Engine.start_receive_from.Goals as goal
 
 pub returns-then-not-may_receive-clause-answered : goal.returns-then-not-may_receive-clause-answered
@@ -56,9 +55,12 @@ returns-then-is_log_full-clause-answered g c h earlier long =
     let wait : 1 ≤ waits s.waiting c.args.sender = omega (arith, count, some) in
     log_is_full s c.args.txn c.in_ok-number.ensures.passes c.args.sender below free wait (full_on earlier c.args.self.now.state long _ ∙ sym c.if-is_log_full.ensures) (Start_receive_from c.args.txn c.args.sender) (inr refl)
 
-pub returns-in-Ok-None-clause-answered : goal.returns-in-Ok-None-clause-answered
-returns-in-Ok-None-clause-answered g c h earlier long =
-    let s = on earlier c.args.self.now.state in
+pub start_take-requires-clause-may : goal.start_take-requires-clause-may
+start_take-requires-clause-may g c = record { ready = c.in_ok-number.ensures.ready; log = sym c.if-is_log_full.ensures }
+
+pub start_take-requires-clause-waits : goal.start_take-requires-clause-waits
+start_take-requires-clause-waits g c =
+    let s = c.args.self.now.state in
     let n : c.senders.result ≡ sender_count s.sizes = c.senders.ensures.number ∙ ap sender_count (c.layout.ensures.sizes ∙ ap (λ (x : State). x.sizes) (state_is c.self.view_is)) in
     let lt = c.if-sender-senders.false in
     let below : c.args.sender < sender_count s.sizes = omega (arith, n, lt) in
@@ -66,30 +68,41 @@ returns-in-Ok-None-clause-answered g c h earlier long =
     let count : waits s.waiting c.args.sender ≡ c.count.result = ap (λ (x : State). waits x.waiting c.args.sender) (sym (state_is c.self.view_is)) ∙ sym c.count.ensures in
     let some = c.if-count-eq0.false in
     let wait : 1 ≤ waits s.waiting c.args.sender = omega (arith, count, some) in
-    rw (c.in-Ok-None.ensures.same) (from_refused s c.args.txn c.in_ok-number.ensures.passes c.args.sender below free wait (full_on earlier c.args.self.now.state long _ ∙ sym c.if-is_log_full.ensures)
-    (none_told (take_latched s c.args.sender ≡ true) c.in-Ok-None.field-0 c.in-Ok-None.field-0-is c.in-Ok-None.ensures.planned.held_up))
+    (below, free, wait)
 
-pub returns-in-Ok-None-clause-latched : goal.returns-in-Ok-None-clause-latched
-returns-in-Ok-None-clause-latched g c earlier long k =
-    let s = on earlier c.args.self.now.state in
-    from_latched s k c.args.txn c.args.sender (none_told (take_latched s c.args.sender ≡ true) c.in-Ok-None.field-0 c.in-Ok-None.field-0-is c.in-Ok-None.ensures.planned.held_up)
+pub returns-in-Ok-clause-answered : goal.returns-in-Ok-clause-answered
+returns-in-Ok-clause-answered g c h earlier long =
+    let s = c.args.self.now.state in
+    let n : c.senders.result ≡ sender_count s.sizes = c.senders.ensures.number ∙ ap sender_count (c.layout.ensures.sizes ∙ ap (λ (x : State). x.sizes) (state_is c.self.view_is)) in
+    let lt = c.if-sender-senders.false in
+    let below : c.args.sender < sender_count s.sizes = omega (arith, n, lt) in
+    let free : is_free_for c.args.txn c.args.sender s.ends.receiving ≡ true = ap (λ (x : State). is_free_for c.args.txn c.args.sender x.ends.receiving) (sym (state_is c.self.view_is)) ∙ sym c.if-not-may_receive.ensures in
+    let count : waits s.waiting c.args.sender ≡ c.count.result = ap (λ (x : State). waits x.waiting c.args.sender) (sym (state_is c.self.view_is)) ∙ sym c.count.ensures in
+    let some = c.if-count-eq0.false in
+    let wait : 1 ≤ waits s.waiting c.args.sender = omega (arith, count, some) in
+    let b = c.in-Ok.ensures.started.begun in
+    take_done (on earlier s) c.args.txn c.in_ok-number.ensures.passes c.args.sender below free wait (full_on earlier s long 4 ∙ sym c.if-is_log_full.ensures)
+    _ c.in_ok-number.number b.plan c.in_ok-number.ensures.ready b.planned.free (take_plan s c.args.sender c.in_ok-number.number b.plan below b.planned) (ap (on earlier) b.state) (Start_receive_from c.args.txn c.args.sender) (inr refl)
+
+pub returns-in-Ok-clause-sizes : goal.returns-in-Ok-clause-sizes
+returns-in-Ok-clause-sizes g c = ap (λ (x : State). x.sizes) c.in-Ok.ensures.started.begun.state
+
+pub returns-in-Ok-clause-lists : goal.returns-in-Ok-clause-lists
+returns-in-Ok-clause-lists g c =
+    let s = c.args.self.now.state in
+    let n : c.senders.result ≡ sender_count s.sizes = c.senders.ensures.number ∙ ap sender_count (c.layout.ensures.sizes ∙ ap (λ (x : State). x.sizes) (state_is c.self.view_is)) in
+    let lt = c.if-sender-senders.false in
+    let below : c.args.sender < sender_count s.sizes = omega (arith, n, lt) in
+    let free : is_free_for c.args.txn c.args.sender s.ends.receiving ≡ true = ap (λ (x : State). is_free_for c.args.txn c.args.sender x.ends.receiving) (sym (state_is c.self.view_is)) ∙ sym c.if-not-may_receive.ensures in
+    let count : waits s.waiting c.args.sender ≡ c.count.result = ap (λ (x : State). waits x.waiting c.args.sender) (sym (state_is c.self.view_is)) ∙ sym c.count.ensures in
+    let some = c.if-count-eq0.false in
+    let wait : 1 ≤ waits s.waiting c.args.sender = omega (arith, count, some) in
+    take_started s c.args.txn c.in_ok-number.number c.args.sender _ c.in_ok-number.ensures.ready (below, free, wait) c.in-Ok.ensures.started.begun
 
 pub returns-in-Ok-clause-latched : goal.returns-in-Ok-clause-latched
 returns-in-Ok-clause-latched g c earlier long k =
     let s = on earlier c.args.self.now.state in
-    from_unlatched s k c.args.txn c.args.sender (take_free s c.args.sender (some_told (λ _. take_latched s c.args.sender ≡ true → ⊥) c.in-Ok-Some.field-0 _ c.in-Ok-Some.field-0-is c.in-Ok-Some.ensures.planned.free))
-
-pub returns-in-Err-start_take-clause-answered : goal.returns-in-Err-start_take-clause-answered
-returns-in-Err-start_take-clause-answered g c h earlier long k =
-    let same = state_is c.in-Ok-Some.ensures.same in
-    subst (λ (x : State). IsModelStep (on earlier x) (Start_receive_from c.args.txn c.args.sender) (Gave_refusal c.in-Err-start_take.refusal) (on earlier c.start_take.new.self.state) × IsCausedIn (on earlier x) (Start_receive_from c.args.txn c.args.sender) c.in-Err-start_take.refusal) same
-    (c.in-Err-start_take.ensures.answered (Start_receive_from c.args.txn c.args.sender) (inr refl) h earlier (subst (IsEarlier earlier) (sym same) long) (subst (λ (x : State). IsSound (on earlier x)) (sym same) k))
-
-pub returns-in-Ok-clause-answered : goal.returns-in-Ok-clause-answered
-returns-in-Ok-clause-answered g c h earlier long k =
-    let same = state_is c.in-Ok-Some.ensures.same in
-    subst (λ (x : State). IsModelStep (on earlier x) (Start_receive_from c.args.txn c.args.sender) (Gave_sub c.in-Ok.sub.txn c.in-Ok.sub.number) (on earlier c.start_take.new.self.state)) same
-    (c.in-Ok.ensures.answered (Start_receive_from c.args.txn c.args.sender) (inr refl) h earlier (subst (IsEarlier earlier) (sym same) long) (subst (λ (x : State). IsSound (on earlier x)) (sym same) k))
+    from_unlatched s k c.args.txn c.args.sender (take_free s c.args.sender c.in-Ok.ensures.started.free)
 
 pub returns-in-Err-clause-answered : goal.returns-in-Err-clause-answered
 returns-in-Err-clause-answered g c h earlier long k =
@@ -101,5 +114,22 @@ returns-in-Err-clause-answered g c h earlier long k =
     let count : waits s.waiting c.args.sender ≡ c.count.result = ap (λ (x : State). waits x.waiting c.args.sender) (sym (state_is c.self.view_is)) ∙ sym c.count.ensures in
     let some = c.if-count-eq0.false in
     let wait : 1 ≤ waits s.waiting c.args.sender = omega (arith, count, some) in
-    rw (c.in-Err.ensures.planned.memory earlier long k wait, c.in-Err.ensures.same)
-    (take_memory (on earlier s) c.args.txn c.in_ok-number.ensures.passes c.args.sender below free wait (full_on earlier s long 4 ∙ sym c.if-is_log_full.ensures) (Start_receive_from c.args.txn c.args.sender) (inr refl) k)
+    let p = c.in-Err.ensures.started in
+    let room = full_on earlier s long 4 ∙ sym c.if-is_log_full.ensures in
+    rw (c.in-Err.ensures.refused) (refused_for (λ (r : Refusal). Refuses (on earlier s) (Start_receive_from c.args.txn c.args.sender) r) (take_latched s c.args.sender ≡ true) c.in-Err.refusal p.causes (p.sound earlier long k wait)
+    (take_memory (on earlier s) c.args.txn c.in_ok-number.ensures.passes c.args.sender below free wait room (Start_receive_from c.args.txn c.args.sender) (inr refl))
+    (from_refused (on earlier s) c.args.txn c.in_ok-number.ensures.passes c.args.sender below free wait room) k)
+
+pub returns-in-Err-clause-latched : goal.returns-in-Err-clause-latched
+returns-in-Err-clause-latched g c earlier long k =
+    let s = c.args.self.now.state in
+    let n : c.senders.result ≡ sender_count s.sizes = c.senders.ensures.number ∙ ap sender_count (c.layout.ensures.sizes ∙ ap (λ (x : State). x.sizes) (state_is c.self.view_is)) in
+    let lt = c.if-sender-senders.false in
+    let below : c.args.sender < sender_count s.sizes = omega (arith, n, lt) in
+    let free : is_free_for c.args.txn c.args.sender s.ends.receiving ≡ true = ap (λ (x : State). is_free_for c.args.txn c.args.sender x.ends.receiving) (sym (state_is c.self.view_is)) ∙ sym c.if-not-may_receive.ensures in
+    let count : waits s.waiting c.args.sender ≡ c.count.result = ap (λ (x : State). waits x.waiting c.args.sender) (sym (state_is c.self.view_is)) ∙ sym c.count.ensures in
+    let some = c.if-count-eq0.false in
+    let wait : 1 ≤ waits s.waiting c.args.sender = omega (arith, count, some) in
+    let p = c.in-Err.ensures.started in
+    refused_for (OnLatched (IsLatched (on earlier s) (Start_receive_from c.args.txn c.args.sender))) (take_latched s c.args.sender ≡ true) c.in-Err.refusal p.causes (p.sound earlier long k wait)
+    tt (from_latched (on earlier s) k c.args.txn c.args.sender)

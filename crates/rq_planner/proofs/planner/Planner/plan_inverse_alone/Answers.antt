@@ -2,7 +2,7 @@ use Rattle.std.proofs.Common.{[], ap, sym, subst}
 use Rattle.rq_level.specs.LevelState.{LevelState}
 use Rattle.rq_views.specs.Stored.{slots_in}
 use Rattle.rq_model.specs.Legal.{OnFound}
-use Rattle.rq_planner.specs.Answered.{IsPlanBack, IsPlanFor, KnowsCells, RefusesPlan}
+use Rattle.rq_planner.specs.Answered.{IsHeldUp, IsPlanBack, IsPlanFor, KnowsCells, RefusesPlan}
 use Rattle.rq_planner.specs.Asked.{asked_back, known_from, to_undo}
 use Rattle.rq_planner.proofs.Backs.{can_below, not_held_up, of_store, taken_back}
 use Rattle.rq_planner.proofs.planner.Planner.plan_inverse_alone.Goals as goal
@@ -25,7 +25,7 @@ returns-in-Ok-clause-plan g c =
 pub returns-in-Err-Latched-clause-refused : goal.returns-in-Err-Latched-clause-refused
 returns-in-Err-Latched-clause-refused g c =
     not_held_up c.args.pages.now.sizes c.args.pages.now.images c.new-nobody.result c.new-nobody.ensures c.args.deed.now
-    (subst (RefusesPlan (known_from c.args.pages.now c.new-nobody.result) (asked_back c.args.deed.now)) c.in-Err-Latched.field-0-is c.in-Err-Latched.ensures.answered.planned.causes)
+    (subst (RefusesPlan (OnFound (asked_back c.args.deed.now) (IsHeldUp (known_from c.args.pages.now c.new-nobody.result)))) c.in-Err-Latched.field-0-is c.in-Err-Latched.ensures.answered.planned.causes)
 
 pub returns-in_default-clause-refused : goal.returns-in_default-clause-refused
 returns-in_default-clause-refused g c d e can = c.in_default.ensures.none d e (can_below c.args.pages.now.sizes (slots_in c.args.pages.now.sizes c.args.pages.now.images) d can)

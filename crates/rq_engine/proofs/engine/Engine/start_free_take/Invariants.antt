@@ -3,7 +3,7 @@ use Rattle.rq_page.specs.Sizes.{sender_count}
 use Rattle.rq_groups.specs.Ends.{is_held}
 use Rattle.rq_store.specs.Plans.{WaitsFor}
 use Rattle.rq_engine.specs.Sends.{take_latched}
-use Rattle.rq_engine.proofs.engine.Engine.plan_free_take.Given as goal
+use Rattle.rq_engine.proofs.engine.Engine.start_free_take.Given as goal
 
 -- nothing changed; of the senders so far none has a message to take that no latch keeps
 abbrev pub invariant-loop-sender : goal.invariant-loop-sender
@@ -12,4 +12,4 @@ invariant-loop-sender g l =
     × ((e : ℕ) → e < l.from → is_held e l.initial.self.state.ends.receiving ≡ false → WaitsFor l.initial.self.state l.fn.txn e → take_latched l.initial.self.state e ≡ true)
 
 abbrev pub decreases-loop-sender : goal.decreases-loop-sender
-decreases-loop-sender g l = sender_count l.self.state.sizes - l.from
+decreases-loop-sender g l = sender_count l.initial.self.state.sizes - l.from

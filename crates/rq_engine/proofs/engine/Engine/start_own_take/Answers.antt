@@ -6,10 +6,10 @@ use Rattle.rq_engine.specs.Sends.{take_latched}
 use Rattle.rq_groups.proofs.Chained.{none_left}
 use Rattle.rq_groups.proofs.Holders.{has_is_number}
 use Rattle.rq_groups.proofs.Tails.{IsWalk, walk_next, walk_over, walk_shorter}
-use Rattle.rq_engine.proofs.Free.{left_none}
-use Rattle.rq_engine.proofs.Leveled.{take_none}
+use Rattle.rq_engine.specs.Plans.{IsTakeOf, MayTake}
+use Rattle.rq_engine.proofs.Leveled.{same_latched, take_held, take_none, take_other}
 use Rattle.rq_engine.proofs.Opened.{state_is}
-use Rattle.rq_engine.proofs.engine.Engine.plan_own_take.Goals as goal
+use Rattle.rq_engine.proofs.engine.Engine.start_own_take.Goals as goal
 
 pub loop-next-smaller : goal.loop-next-smaller
 loop-next-smaller g c =
@@ -17,7 +17,7 @@ loop-next-smaller g c =
     let own = held_by c.args.txn s.ends.receiving in
     let P = λ (e : ℕ). WaitsFor s c.args.txn e → take_latched s e ≡ true in
     let once : AreApart own = subst (λ (x : State). AreApart (held_by c.args.txn x.ends.receiving)) (state_is c.self.view_is) c.newest_received-next.ensures.once in
-    let to = state_is c.self-in-Some.view_is ∙ state_is (c.in_ok-planned.ensures.same ∙ c.loop-next.invariant.0) in
+    let to = state_is c.self-in-Some.view_is ∙ state_is (same_latched _ _ c.start_waiting-answer.result (sym c.if-not-is_latched.ensures) c.start_waiting-answer.ensures.refused ∙ c.loop-next.invariant.0) in
     let follows : (older : List ℕ) → IsTail own (c.in-Some.sender ∷ older) → c.received_before-next.result ≡ first_of older =
     λ older tail. c.received_before-next.ensures c.args.txn older (subst (λ (x : State). IsTail (held_by c.args.txn x.ends.receiving) (c.in-Some.sender ∷ older)) (sym to) tail) in
     rw c.in-Some.is (walk_shorter own c.in-Some.sender c.received_before-next.result P once (subst (λ (o : Option ℕ). IsWalk own o P) c.in-Some.is c.loop-next.invariant.1) follows)
@@ -27,20 +27,28 @@ loop-next-preserved g c =
     let s = c.args.self.now.state in
     let own = held_by c.args.txn s.ends.receiving in
     let P = λ (e : ℕ). WaitsFor s c.args.txn e → take_latched s e ≡ true in
-    let to = state_is c.self-in-Some.view_is ∙ state_is (c.in_ok-planned.ensures.same ∙ c.loop-next.invariant.0) in
+    let to = state_is c.self-in-Some.view_is ∙ state_is (same_latched _ _ c.start_waiting-answer.result (sym c.if-not-is_latched.ensures) c.start_waiting-answer.ensures.refused ∙ c.loop-next.invariant.0) in
     let follows : (older : List ℕ) → IsTail own (c.in-Some.sender ∷ older) → c.received_before-next.result ≡ first_of older =
     λ older tail. c.received_before-next.ensures c.args.txn older (subst (λ (x : State). IsTail (held_by c.args.txn x.ends.receiving) (c.in-Some.sender ∷ older)) (sym to) tail) in (
-      c.in_ok-planned.ensures.same ∙ c.loop-next.invariant.0,
+      same_latched _ _ c.start_waiting-answer.result (sym c.if-not-is_latched.ensures) c.start_waiting-answer.ensures.refused ∙ c.loop-next.invariant.0,
       walk_next own c.in-Some.sender c.received_before-next.result P (subst (λ (o : Option ℕ). IsWalk own o P) c.in-Some.is c.loop-next.invariant.1) follows
           (subst (λ (x : State). WaitsFor x c.args.txn c.in-Some.sender → take_latched x c.in-Some.sender ≡ true) (state_is c.loop-next.invariant.0)
-          (left_none ((e : ℕ) → e ≡ c.in-Some.sender → WaitsFor c.loop-next.self.state c.args.txn e → take_latched c.loop-next.self.state e ≡ true) c.in_ok-planned.field-0 c.in_default-2.not-Some c.in_ok-planned.ensures.planned.held_up c.in-Some.sender refl)),
+          (take_held c.loop-next.self.state c.args.txn c.args.number c.start_waiting-answer.result c.start_waiting-answer.new.self.state (λ e. e ≡ c.in-Some.sender) (sym c.if-not-is_latched.ensures) c.start_waiting-answer.ensures.taken c.in-Some.sender refl)),
     )
 
-pub returns-clause-planned : goal.returns-clause-planned
-returns-clause-planned g c =
+pub start_waiting-answer-requires : goal.start_waiting-answer-requires
+start_waiting-answer-requires g c = subst (λ (x : State). MayTake x c.args.txn c.args.number) (sym (state_is c.loop-next.invariant.0)) c.requires
+
+pub returns-then-not-is_latched-clause-taken : goal.returns-then-not-is_latched-clause-taken
+returns-then-not-is_latched-clause-taken g c =
+    subst (λ (x : State). IsTakeOf x c.args.txn c.args.number (λ e. has_held c.args.txn e x.ends.receiving ≡ true) c.start_waiting-answer.result c.start_waiting-answer.new.self.state) (state_is c.loop-next.invariant.0)
+    (take_other c.loop-next.self.state c.args.txn c.args.number _ c.start_waiting-answer.new.self.state c.start_waiting-answer.result (λ e. e ≡ c.in-Some.sender) (sym c.if-not-is_latched.ensures) c.start_waiting-answer.ensures.taken)
+
+pub returns-clause-taken : goal.returns-clause-taken
+returns-clause-taken g c =
     let s = c.args.self.now.state in
     let own = held_by c.args.txn s.ends.receiving in
     let P = λ (e : ℕ). WaitsFor s c.args.txn e → take_latched s e ≡ true in
     let over : c.loop-next.next ≡ None = none_left c.loop-next.next c.in_default.not-Some in
-    take_none s c.args.txn (λ e. has_held c.args.txn e s.ends.receiving ≡ true)
+    take_none s c.args.txn c.args.number (λ e. has_held c.args.txn e s.ends.receiving ≡ true) _
     (λ e held waits. walk_over own P (subst (λ (o : Option ℕ). IsWalk own o P) over c.loop-next.invariant.1) e (sym (has_is_number c.args.txn e s.ends.receiving) ∙ held) waits)

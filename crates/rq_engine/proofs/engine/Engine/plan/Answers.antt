@@ -5,7 +5,7 @@ use Rattle.rq_planner.specs.Answered.{IsPlanned}
 use Rattle.rq_planner.specs.Asked.{IsOfStore, asked_by, known_from}
 use Rattle.rq_engine.specs.Plans.{known_part}
 use Rattle.rq_engine.proofs.Opened.{state_is}
-use Rattle.rq_engine.proofs.engine.Engine.plan_op.Goals as goal
+use Rattle.rq_engine.proofs.engine.Engine.plan.Goals as goal
 
 pub plan-requires-clause-asked : goal.plan-requires-clause-asked
 plan-requires-clause-asked g c = subst (λ (s : State). IsOfStore s.sizes (asked_by c.args.op.now)) (sym (state_is c.self.view_is)) c.requires.asked

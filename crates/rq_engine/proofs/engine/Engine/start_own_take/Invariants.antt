@@ -3,7 +3,7 @@ use Rattle.rq_groups.specs.Ends.{held_by}
 use Rattle.rq_store.specs.Plans.{WaitsFor}
 use Rattle.rq_groups.proofs.Tails.{IsWalk, left_from}
 use Rattle.rq_engine.specs.Sends.{take_latched}
-use Rattle.rq_engine.proofs.engine.Engine.plan_own_take.Given as goal
+use Rattle.rq_engine.proofs.engine.Engine.start_own_take.Given as goal
 
 -- nothing changed; of the senders so far none has a message to take that no latch keeps
 abbrev pub invariant-loop-next : goal.invariant-loop-next

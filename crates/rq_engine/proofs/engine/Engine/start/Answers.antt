@@ -1,0 +1,37 @@
+use Rattle.std.proofs.Common.{rules, ◌≡◌, ◌<◌, ◌≤◌, length, refl, sym, ◌∙◌, ap, subst, arith, Some}
+use Rattle.std.specs.Global.{Vec}
+use Rattle.std.specs.Vec.{vec_len}
+use Rattle.rq_model.specs.Deeds.{deed_in, spelled_deed}
+use Rattle.rq_page.specs.Sizes.{sender_count}
+use Rattle.rq_views.specs.Items.{told_deed}
+use Rattle.rq_views.specs.Plans.{deed_sender}
+use Rattle.rq_level.specs.Writes.{AreSlotWrites}
+use Rattle.rq_txn.specs.declared.Aim.TheVariants.{Doing}
+use Rattle.rq_store.specs.State.{State}
+use Rattle.rq_engine.specs.Invariant.{EndFits}
+use Rattle.rq_engine.proofs.Opened.{state_is}
+use Rattle.rq_engine.proofs.engine.Engine.start.Goals as goal
+
+items_count : {X : Type 0} (v : Vec X) → vec_len v ≡ length v.items
+items_count v = search rules
+
+pub launch-requires-clause-fits : goal.launch-requires-clause-fits
+launch-requires-clause-fits g c =
+    let s = c.args.self.now.state in
+    let d : told_deed (deed_in c.args.plan.deed) ≡ c.new.result = ap told_deed c.new.ensures in
+    let spelled : spelled_deed c.new.result ≡ c.args.plan.deed = ap spelled_deed (sym d) ∙ c.requires.told.spelled in
+    let bytes : length c.as_slice.result.now ≡ length c.args.plan.deed = ap length c.as_slice.ensures.bytes in
+    let size : length (spelled_deed c.new.result) ≡ length c.args.plan.deed = ap length spelled in
+    let count : c.len.result ≡ length c.args.plan.writes.items = c.len.ensures ∙ items_count c.args.plan.writes in
+    let within = c.as_slice.ensures.within in
+    let sender : deed_sender c.new.result < sender_count s.sizes = subst (λ e. deed_sender e < sender_count s.sizes) d c.requires.fits.sender in
+    let some : 1 ≤ length (spelled_deed c.new.result) = subst (λ e. 1 ≤ length (spelled_deed e)) d c.requires.fits.some in
+    let reads : deed_in (spelled_deed c.new.result) ≡ Some c.new.result = subst (λ e. deed_in (spelled_deed e) ≡ Some e) d c.requires.fits.reads in
+    let fits : EndFits (Doing c.new.result) = (some, omega (arith, size, bytes, within), reads) in
+    record {
+      made = refl;
+      slots = subst (λ (x : State). AreSlotWrites x.sizes c.args.plan.writes.items) (sym (state_is c.self.view_is)) c.requires.fits.slots;
+      sender = subst (λ (x : State). deed_sender c.new.result < sender_count x.sizes) (sym (state_is c.self.view_is)) sender;
+      fits = fits;
+      room_is = omega (arith, count, bytes, size);
+    }
