@@ -5,9 +5,7 @@ ghost use Rattle.rq_level.specs.Ops.{overwrite_in};
 ghost use Rattle.rq_level.specs.PagePlans.{IsWritePlan, PlansWrite, TakesBack, is_slot_number};
 
 use byteorder::{BigEndian, ByteOrder};
-use rq_level::{
-    Level, Op, PageSet, Plan, Replies, SlotWrite, Slots, Want, only, redo_page,
-};
+use rq_level::{Level, Op, PageSet, Plan, Replies, SlotWrite, Slots, Want, only, redo_page};
 use rq_model::record::{DeedBytes, Record, Slot};
 use rq_model::refusal::{Damage, NoMemory, Refusal};
 use rq_model::txn::Lsn;

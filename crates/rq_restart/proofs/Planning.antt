@@ -104,5 +104,5 @@ module _ (z : Sizes) (q : Slots) (due : PendingUndo) (ws : List SlotWrite) (b : 
 -- and why it plans nothing
 pub why_not_planned : (z : Sizes) (images : List (List ℕ)) (due : PendingUndo) (r : Refusal) → IsRefusedBack z (slots_in z images) (deed_in due.deed) r → PlanStops z images due (blamed_on due.lsn r)
 why_not_planned z images due why.NoMemory f = tt
-why_not_planned z images due (why.Damaged x) f = (refl, λ deed told can. (let e = f deed told can in cc e))
-why_not_planned z images due _ f = (refl, λ deed told can. (let e = f deed told can in cc e))
+why_not_planned z images due (why.Damaged x) f = (refl, f)
+why_not_planned z images due _ f = absurd f

@@ -14,26 +14,25 @@ pub start_take-answer-requires-clause-may : goal.start_take-answer-requires-clau
 start_take-answer-requires-clause-may g c = subst (λ (x : State). MayTake x c.args.txn c.args.number) (sym (state_is c.loop-sender.invariant.0)) c.requires
 
 pub loop-sender-preserved : goal.loop-sender-preserved
-loop-sender-preserved g c =
-    (
-      same_latched _ _ c.start_take-answer.result (sym c.if-not-is_latched.ensures) c.start_take-answer.ensures.refused ∙ c.loop-sender.invariant.0,
-      λ e below free waiting.
-          let s = c.args.self.now.state in
-          let same : c.loop-sender.self.state ≡ s = state_is c.loop-sender.invariant.0 in
-          let first = subst (λ (x : State). (g' : ℕ) → c.loop-sender.from ≤ g' → g' < c.in-Some.sender → is_held g' x.ends.receiving ≡ false → waits x.waiting g' ≡ 0) same c.in-Some.ensures.first.1 in
-          elim (cases_eq e c.in-Some.sender) [
-            | inl here ↦
-                let latched = start_held c.loop-sender.self.state c.args.txn c.args.number c.start_take-answer.result c.start_take-answer.new.self.state c.in-Some.sender _ (sym c.if-not-is_latched.ensures) c.start_take-answer.ensures.started in
-                ap (take_latched s) here ∙ subst (λ (x : State). take_latched x c.in-Some.sender ≡ true) same latched
-            | inr other ↦ elim (cases_lt e c.loop-sender.from) [
-              | inl earlier ↦ c.loop-sender.invariant.1 e earlier free waiting
-              | inr later ↦
-                  let none = first e later (omega arith) free in
-                  let some = waiting.2 in
-                  absurd (omega (arith, none, some))
-            ]
-          ],
-    )
+loop-sender-preserved g c = (
+  same_latched _ _ c.start_take-answer.result (sym c.if-not-is_latched.ensures) c.start_take-answer.ensures.refused ∙ c.loop-sender.invariant.0,
+  λ e below free waiting.
+      let s = c.args.self.now.state in
+      let same : c.loop-sender.self.state ≡ s = state_is c.loop-sender.invariant.0 in
+      let first = subst (λ (x : State). (g' : ℕ) → c.loop-sender.from ≤ g' → g' < c.in-Some.sender → is_held g' x.ends.receiving ≡ false → waits x.waiting g' ≡ 0) same c.in-Some.ensures.first.1 in
+      elim (cases_eq e c.in-Some.sender) [
+        | inl here ↦
+            let latched = start_held c.loop-sender.self.state c.args.txn c.args.number c.start_take-answer.result c.start_take-answer.new.self.state c.in-Some.sender _ (sym c.if-not-is_latched.ensures) c.start_take-answer.ensures.started in
+            ap (take_latched s) here ∙ subst (λ (x : State). take_latched x c.in-Some.sender ≡ true) same latched
+        | inr other ↦ elim (cases_lt e c.loop-sender.from) [
+          | inl earlier ↦ c.loop-sender.invariant.1 e earlier free waiting
+          | inr later ↦
+              let none = first e later (omega arith) free in
+              let some = waiting.2 in
+              absurd (omega (arith, none, some))
+        ]
+      ],
+)
 
 pub returns-then-not-is_latched-clause-taken : goal.returns-then-not-is_latched-clause-taken
 returns-then-not-is_latched-clause-taken g c =
