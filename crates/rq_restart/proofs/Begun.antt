@@ -1,5 +1,5 @@
 -- What undoing leaves of a store that was left as a crash may leave one.
-use Rattle.std.proofs.Common.{◌≡◌, ◌⊎◌, ℕ, suc, ◌+◌, ◌-◌, ◌≤◌, ◌^◌, ◌++◌, false, List, [], ◌∷◌, length, drop, inl, inr, refl, sym, ⊎_elim, ◌∙◌, ap, subst, arith, true}
+use Rattle.std.proofs.Common.{◌≡◌, ◌⊎◌, ℕ, ◌+◌, ◌-◌, ◌≤◌, ◌^◌, ◌++◌, false, List, [], ◌∷◌, length, drop, inl, inr, refl, sym, ⊎_elim, ◌∙◌, ap, subst, arith, true}
 use Rattle.std.proofs.lemmas.List.{drop-append-le, length-append, length-drop, length-map}
 use Rattle.rq_model.specs.declared.record.Record.{Record}
 use Rattle.rq_model.specs.declared.refusal.Refusal.{Refusal}
@@ -21,7 +21,6 @@ use Rattle.rq_disk.specs.Device.{Images}
 use Rattle.rq_store.specs.Opening.{FitsUpTo, IsLeft, opened, next_restart, waiting_in, sent_in_slots}
 use Rattle.rq_store.specs.State.{State}
 use Rattle.rq_store.specs.Fitting.{AllHoldBase, FitsLog, image_in}
-use Rattle.rq_store.specs.Steps.{Continues}
 use Rattle.rq_store.specs.Whole.{AreBased, IsWhole}
 use Rattle.rq_engine.specs.Earlier.{on, rebased}
 use Rattle.rq_store.proofs.Fitting.{oldest_all}
@@ -42,7 +41,7 @@ use Rattle.rq_restart.specs.Past.{IsPast, WhereLeft}
 use Rattle.rq_restart.specs.Repeating.{Belongs, Paged, Repeats}
 use Rattle.rq_restart.specs.Undoing.{IsBadUndo}
 use Rattle.rq_restart.proofs.Aborts.{aborting_extends, aborting_incarnation}
-use Rattle.rq_restart.proofs.Lefts.{front_continues, left_longer, left_undoing}
+use Rattle.rq_restart.proofs.Lefts.{left_longer, left_undoing}
 use Rattle.rq_restart.proofs.RollingBack.{recovered_on}
 use Rattle.rq_model.specs.Bases.{gone, is_base, marked, standing}
 use Rattle.rq_model.proofs.Bases.{added_stand, base_plain}
@@ -57,15 +56,6 @@ use Rattle.rq_restart.proofs.Undos.{undo_is_no_base}
 -- it extends the log, and is of its incarnation
 pub rolled_back_extends : (log rolled_back : List Record) → IsRolledBack log rolled_back → Extends log rolled_back
 rolled_back_extends log rolled_back m = extends_join log m.undone rolled_back (undoing_extends log m.undone m.undoes.undoing) (aborting_extends m.undone rolled_back m.aborting)
-
--- the log with the records that mend it, and one more, goes on from it
-pub rolled_back_continues : (log rolled_back : List Record) → IsRolledBack log rolled_back → Continues log rolled_back
-rolled_back_continues log rolled_back m =
-    let e = rolled_back_extends log rolled_back m in
-    front_continues log rolled_back e.0 e.1
-
-pub one_continues : (log rolled_back : List Record) (r : Record) → Continues log rolled_back → Continues log (r ∷ rolled_back)
-one_continues log rolled_back r c = (suc c.0, c.1)
 
 -- of a store that was left so, each record that undoes something belongs where it stands
 pub no_bad_undo : (z : Sizes) (log : List Record) (first : Paged) (lsn : ℕ) → IsBadUndo z log first lsn → WhereLeft z first.image log (λ e. ⊥)

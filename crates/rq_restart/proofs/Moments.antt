@@ -1,6 +1,8 @@
 -- What a crash at any moment of a restart leaves of the log.
-use Rattle.std.proofs.Common.{inl, inr, ◌⊎◌, ⊎_elim, ◌≡◌, ℕ, ◌-◌, List, ◌∷◌, refl, subst, [], ap, sym}
+use Rattle.std.proofs.Common.{inl, inr, ◌⊎◌, ⊎_elim, ◌≡◌, ℕ, ◌+◌, ◌-◌, List, ◌∷◌, refl, subst, [], ap, sym}
 use Rattle.rq_model.specs.declared.record.Record.{Record}
+use Rattle.rq_model.specs.declared.record.Record.TheVariants as records
+use Rattle.rq_analysis.specs.OpenWorkView.{OpenWorkView, open_work_of}
 use Rattle.rq_disk.specs.declared.device.LogDevice.{Ghosts}
 use Rattle.rq_log.specs.Crash.{LeavesOnly}
 use Rattle.rq_log.specs.Logged.{Logged, WasLeftOrGoesOn}
@@ -20,7 +22,7 @@ use Rattle.rq_restart.specs.RolledBack.{IsRolledBack, IsRolledBackSince}
 use Rattle.rq_model.specs.Bases.{IsMarked, gone, standing}
 use Rattle.rq_engine.specs.Earlier.{rebased}
 use Rattle.rq_restart.specs.Past.{WhereLeft}
-use Rattle.rq_restart.proofs.Begun.{begun_behind}
+use Rattle.rq_restart.proofs.Begun.{begun_behind, last_is}
 
 module _ {L : Type 0} (g : Ghosts L) (only_now : (d : L) (c : List ℕ) → g.left_since d (g.moment d) c → g.may_leave d c) where
   pub still : (d : L) → IsRead g d d
@@ -64,11 +66,12 @@ begun_moment g z images older rolled_back r kept old mid new same m recovered is
     (λ c. ⊎_elim (λ was. inl was) (λ on. inr (begun_behind z images older rolled_back r kept (g.seen old) c m recovered is are read on.0 on.1)))
 
 -- so it is of the log that was gone through, whether it was begun or not
-pub begun_left : {L : Type 0} (g : Ghosts L) (z : Sizes) (pages last : Paged) (r : Record) (old mid new : Logged L) → mid.device ≡ old.device → IsRolledBackSince z old.records mid.records pages last → r ≡ next_restart mid.records
-    → (g.honest new.device → g.honest mid.device) → (g.honest new.device → LeavesOnly g mid.device new.device (WasLeftOrForced g mid.device (r ∷ mid.records) mid.forced)) → LeavesLog g z pages old new
-begun_left g z pages last r old mid new same m is honest run = record {
+pub begun_left : {L : Type 0} (g : Ghosts L) (z : Sizes) (pages last : Paged) (old mid new : Logged L) → mid.device ≡ old.device → IsRolledBackSince z old.records mid.records pages last → (h : OpenWorkView) (count : ℕ) → h ≡ open_work_of mid.records → count ≡ h.incarnation
+    → (g.honest new.device → g.honest mid.device) → (g.honest new.device → LeavesOnly g mid.device new.device (WasLeftOrForced g mid.device (records.Restart (count + 1) ∷ mid.records) mid.forced)) → LeavesLog g z pages old new
+begun_left g z pages last old mid new same m h count noted is honest run = record {
   honest = λ h. subst g.honest same (honest h);
-  any_moment = λ first before h are read. begun_moment g z first.image old.records mid.records r mid.forced old.device mid.device new.device same m.is (m.recovered first before) is are read (run h);
+  any_moment = λ first before k are read.
+      begun_moment g z first.image old.records mid.records (records.Restart (count + 1)) mid.forced old.device mid.device new.device same m.is (m.recovered first before) (ap (λ n. records.Restart (n + 1)) (last_is old.records mid.records m.is h noted count is)) are read (run k);
 }
 
 -- beside these pages
@@ -89,7 +92,7 @@ module _ {L : Type 0} (g : Ghosts L) (z : Sizes) (images : Images) where
       (λ c. ⊎_elim (λ was. inl (crash c was)) (λ is. inr (record { older = older; reads = read; marks = marks; begun = subst (λ seen. IsBegunBehind z images older seen c) same is }))))
 
 -- the log was read whole beside pages that were first so, and then gone on with
-pub begins_at_most : {L : Type 0} (g : Ghosts L) (z y : Sizes) (first mid : Paged) (old : L) (read new : Logged L) → y ≡ z → IsLogRead g old read → Repeats z read.records first mid → LeavesLog g y mid read new → BeginsAtMost g z first.image old new.device
+pub begins_at_most : {L : Type 0} (g : Ghosts L) (z y : Sizes) (first mid : Paged) (old : L) (read new : Logged L) → y ≡ z → IsLogRead g old read → Repeats y read.records first mid → LeavesLog g y mid read new → BeginsAtMost g z first.image old new.device
 begins_at_most g z y first mid old read new same was repeated left =
     let there : LeavesLog g z mid read new = subst (λ x. LeavesLog g x mid read new) same left in
-    read_first g z first.image old read.device new.device read.records was.marks there.honest was.reads was.are_spelled was.only.same was.only.leaves was.only.moments (λ h are reads. there.any_moment first repeated h are reads)
+    read_first g z first.image old read.device new.device read.records was.marks there.honest was.reads was.are_spelled was.only.same was.only.leaves was.only.moments (λ h are reads. there.any_moment first (subst (λ x. Repeats x read.records first mid) same repeated) h are reads)

@@ -157,5 +157,5 @@ module _ {P L : Type 0} (p : page_device.Ghosts P) (l : log_device.Ghosts L) (pa
           reads = o.restarted.ready.reads;
           durable = o.restarted.ready.durable;
           untried = refl;
-          cause = (ap p.faults o.device ∙ cause, o.restarted.cause ∙ o.was_read.counted);
+          unfailed = (ap p.faults o.device ∙ cause, o.restarted.cause ∙ o.was_read.counted);
         }

@@ -1,6 +1,6 @@
 -- A restart whose pages are only read, and whose log has records more.
 use Rattle.std.proofs.lemmas.List.{drop-append-le, length-append}
-use Rattle.std.proofs.Common.{◌≡◌, ◌⊎◌, ℕ, ◌++◌, drop, List, ◌∷◌, length, inl, inr, ⊎_elim, sym, ◌∙◌, ap, subst, arith, ◌≤◌}
+use Rattle.std.proofs.Common.{◌≡◌, ◌⊎◌, ℕ, ◌++◌, drop, List, ◌∷◌, length, inl, inr, ⊎_elim, sym, ◌∙◌, ap, subst, arith, ◌≤◌, false, replicate}
 use Rattle.rq_model.specs.declared.record.Record.{Record}
 use Rattle.rq_model.specs.Bases.{earlier, marked, standing}
 use Rattle.rq_model.proofs.Bases.{added_earlier, added_stand, marked_stands}
@@ -11,7 +11,8 @@ use Rattle.rq_model.specs.Incarnations.{Extends}
 use Rattle.rq_disk.specs.Device.{Images, Leaves}
 use Rattle.rq_disk.specs.declared.device.LogDevice as log_device
 use Rattle.rq_disk.specs.declared.device.PageDevice as page_device
-use Rattle.rq_pool.specs.Reading.{AreSeen, IsSuperblock, OnlyRead}
+use Rattle.rq_pool.specs.Pooled.{Pooled}
+use Rattle.rq_pool.specs.Reading.{ArePages, AreSeen, IsSuperblock, OnlyRead}
 use Rattle.rq_log.specs.Spelled.{AreAllSpelled, AreSpelled, EndsWith, EndsWithAll, GoOnTo, spelled_all}
 use Rattle.rq_log.proofs.Moments.{weaker}
 use Rattle.rq_page.specs.Sizes.{Sizes, page_count}
@@ -23,14 +24,14 @@ use Rattle.rq_engine.specs.Devices.Path.{Start, Pages, Log}
 use Rattle.rq_analysis.specs.Recovered.{IsRecovered}
 use Rattle.rq_analysis.proofs.Recovering.{recovered_from}
 use Rattle.rq_analysis.proofs.Stopping.{plain_drop}
-use Rattle.rq_restart.specs.Restarting.{BeginsFrom, IsBegunBehind, IsBegunFrom, IsBegunOn}
+use Rattle.rq_restart.specs.Restarting.{BeginsAtMost, BeginsFrom, IsBegunBehind, IsBegunFrom, IsBegunOn}
 use Rattle.rq_restart.specs.Opens.{KeepsStores}
 use Rattle.rq_restart.specs.Underway.{IsSomeStore, IsLeftOrGoesOn}
 use Rattle.rq_restart.proofs.Pasts.{IsAddedOn, added_join, begun_added, begun_on, earlier_back, mended_added, past_of, read_is, same_log, standing_on}
 use Rattle.rq_restart.proofs.Lefts.{left_longer}
 use Rattle.rq_restart.proofs.Loading.{one_size}
 use Rattle.rq_log.proofs.Parsing.{one_log}
-use Rattle.rq_restart.proofs.Restarts.{left_read, told_on}
+use Rattle.rq_restart.proofs.Restarts.{begins_from, left_read, told_on}
 
 -- the first of the records behind a log, that begin an incarnation over it, where this was read of it
 module _ (z : Sizes) (images : Images) (log older : List Record) (read bytes : List ℕ) (told : AreSpelled log) (same : older ≡ marked log) (b : IsBegunBehind z images older read bytes) where
@@ -166,3 +167,11 @@ keeps_stores p l pages_now pages_some log_some counts pages new_pages log new_lo
   path = restart_path p l pages_now pages_some log_some pages new_pages log new_log only begins;
   crash = λ honest h z read are reads was. restart_crash p l pages_now pages_some log_some pages new_pages log new_log only begins honest h z read are reads was counts;
 }
+
+-- so it is of a store whose pages were read
+pub keeps_from : {P L : Type 0} (p : page_device.Ghosts P) (l : log_device.Ghosts L) → ((d : P) (c : Images) → p.left_since d (p.moment d) c → Leaves (p.may_be d) c) → ((d : P) (q : ℕ) → p.may_be d q (p.seen d q)) → ((d : L) → l.may_leave d (l.seen d))
+    → ((d : L) (t : ℕ) (c : List ℕ) → t ≤ l.moment d → l.may_leave d c → l.left_since d t c)
+    → (pages : P) (log : L) (loaded : Pooled P) → ArePages loaded.sizes loaded.images → (p.honest loaded.device → AreSeen (p.seen pages) loaded.images (page_count loaded.sizes)) → loaded.changed ≡ replicate (page_count loaded.sizes) false → OnlyRead p pages loaded.device
+    → (new_pages : P) (new_log : L) → new_pages ≡ loaded.device → BeginsAtMost l loaded.sizes (image_in loaded.images) log new_log → KeepsStores p l pages log new_pages new_log
+keeps_from p l pages_now pages_some log_some counts pages log loaded sound seen unchanged only new_pages new_log same begins =
+    keeps_stores p l pages_now pages_some log_some counts pages new_pages log new_log (subst (OnlyRead p pages) (sym same) only) (begins_from p l pages log loaded sound seen unchanged new_pages new_log same begins)

@@ -25,7 +25,6 @@ use Rattle.rq_log.proofs.Moments.{weaker}
 use Rattle.rq_restart.specs.Restarting.{BeginsAtMost, BeginsFrom, IsBegun, IsBegunFrom, IsBegunOn, LogStops, IsRefusedFor, OpensLog, RefusesLog, WasChecked}
 use Rattle.rq_restart.specs.Refused.{MayBeShut, WhyShut}
 use Rattle.rq_restart.specs.Numbers.{AreNumbersOf, NamesFirst}
-use Rattle.rq_restart.specs.declared.page_numbers.PageNumber.{PageNumber}
 use Rattle.rq_restart.specs.Checked.{IsReadAndRedone, WasReadAndRedone, as_read}
 use Rattle.rq_restart.specs.RolledBack.{IsRolledBackOn, RollbackStops}
 use Rattle.rq_restart.specs.Repeating.{ArePagesCounted, Paged, paged, Repeats}
@@ -127,7 +126,7 @@ shut_left z log first (why.Damaged (damage.Page page)) before now untouched e pa
 shut_left z log first _ before now untouched e past h = absurd h
 
 -- it was gone through, and no number of the pages is beyond it
-pub gone_through : (z : Sizes) (log : List Record) (first last : Paged) (n : ℕ) (numbers : List PageNumber) → n ≡ length log → ((y : Sizes) (p : Paged) → AreNumbersOf y p numbers → ArePagesCounted y n p) → Repeats z log first last → AreNumbersOf z first numbers → IsReadAndRedone z log first last
+pub gone_through : (z : Sizes) (log : List Record) (first last : Paged) (n : ℕ) (numbers : List ℕ) → n ≡ length log → ((y : Sizes) (p : Paged) → AreNumbersOf y p numbers → ArePagesCounted y n p) → Repeats z log first last → AreNumbersOf z first numbers → IsReadAndRedone z log first last
 gone_through z log first last n numbers e counted before k =
     let read : ArePagesCounted z (length log) first = subst (λ m. ArePagesCounted z m first) e (counted z first k) in
     record { repeated = before; counted_read = read; counted = repeated_counted z (length log) log first last before (omega arith) read }

@@ -55,8 +55,7 @@ module _ {P L : Type 0} (p : page_device.Ghosts P) (l : log_device.Ghosts L) (pa
     pub reads : l.honest s.log → l.seen s.log ≡ spelled s.state.records
     pub durable : l.honest s.log → Only (spelled s.state.records) (l.may_leave s.log)
     pub untried : s.replacing ≡ false
-    -- no device failed
-    pub cause : (p.faults s.pages ≡ p.faults pages) × (l.faults s.log ≡ l.faults log)
+    pub unfailed : (p.faults s.pages ≡ p.faults pages) × (l.faults s.log ≡ l.faults log)
 
   -- why none was opened, and what that says of devices that hold a store
   pub record Refuses (e : Refusal) (new_pages : P) (new_log : L) : Type 0 where

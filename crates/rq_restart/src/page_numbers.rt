@@ -1,7 +1,7 @@
 //! The numbers of pages as they were read: none may be beyond the log, whose length is known once it was gone through.
-ghost use Rattle.std.specs.Prelude.{◌≡◌, ◌≤◌, ◌↔◌, ℕ, IfOk, IfErr};
+ghost use Rattle.std.specs.Prelude.{◌≡◌, ◌≤◌, ◌<◌, ◌^◌, ◌↔◌, ℕ, IfOk, IfErr, IfSome, IfNone, length};
 ghost use Rattle.rq_store.specs.Opening.{IsCounted};
-ghost use Rattle.rq_restart.specs.Numbers.{AreNumbersOf, least_beyond, lesser};
+ghost use Rattle.rq_restart.specs.Numbers.{AreNumbersOf, IsFirstBeyond, NoneBeyond};
 ghost use Rattle.rq_restart.specs.Repeating.{paged};
 
 use rq_disk::PageDevice;
@@ -11,17 +11,11 @@ use rq_page::page::Page;
 use rq_pool::Pages;
 use std::alloc::Global;
 
-/// The greatest of a page's LSN and the numbers in its slots.
-#[derive(Clone, Copy)]
-pub(crate) struct PageNumber {
-    page: u32,
-    number: u64,
-}
-
-/// That of each directory and cell page.
+/// The greatest of each page's LSN and the numbers in its slots, by page; 0 of the superblock.
 #[derive(Drop)]
 pub(crate) struct PageNumbers {
-    pub numbers: Vec<PageNumber>,
+    pub numbers: Vec<u64>,
+    ghost few: { length numbers.items < 2 ^ 32 },
 }
 
 impl PageNumbers {
@@ -37,36 +31,26 @@ impl PageNumbers {
         ensures err { IfErr result (λ e. e ≡ Refusal.NoMemory) }
     {
         let layout = pages.layout();
-        let Ok(mut numbers) = Vec::with_capacity(alloc, layout.pages() as usize) else {
+        let Ok(mut numbers) = vec![in alloc; 0; layout.pages() as usize] else {
             return Err(Refusal::NoMemory);
         };
         for page in 1..layout.pages() {
-            let number = greatest_number(&layout, page, pages.page(page).unwrap());
-            match numbers.push(PageNumber { page, number }) {
-                Ok(()) => {}
-                Err(_) => return Err(Refusal::NoMemory),
-            }
+            numbers[page as usize] = greatest_number(&layout, page, pages.page(page).unwrap());
         }
         Ok(PageNumbers { numbers })
     }
 
     /// The first page with a number beyond so many records.
     pub(crate) fn first_beyond(&self, records: u64) -> Option<u32>
-        ensures { result ≡ least_beyond records self.now.numbers.items }
+        ensures some { IfSome result (λ page. IsFirstBeyond records self.now.numbers.items page) }
+        ensures none { IfNone result (NoneBeyond records self.now.numbers.items (length self.now.numbers.items)) }
     {
-        let mut first = None;
-        let mut left = self.numbers.len();
-        while left > 0 {
-            left -= 1;
-            let of_page = self.numbers[left];
-            let page = if of_page.number > records {
-                Some(of_page.page)
-            } else {
-                None
-            };
-            first = lesser_page(page, first);
+        for page in 1..self.numbers.len() {
+            if self.numbers[page] > records {
+                return Some(page as u32);
+            }
         }
-        first
+        None
     }
 }
 
@@ -78,15 +62,4 @@ fn greatest_number(layout: &Layout, number: u32, page: &Page) -> u64
         greatest = greatest.max(layout.count(number, page.slot(slot)));
     }
     greatest
-}
-
-// The lesser of two pages, where there are two.
-fn lesser_page(a: Option<u32>, b: Option<u32>) -> Option<u32>
-    ensures { result ≡ lesser a b }
-{
-    match (a, b) {
-        (Some(a), Some(b)) => Some(a.min(b)),
-        (None, b) => b,
-        (a, None) => a,
-    }
 }

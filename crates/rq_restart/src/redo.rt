@@ -1,5 +1,5 @@
 //! Going through a log: each slot write that is not on its page yet is made there.
-ghost use Rattle.std.specs.Prelude.{◌≡◌, ◌↔◌, ◌≤◌, ◌<◌, ◌+◌, ◌∷◌, [], ℕ, List, IsTrue, None, false, IfOk, IfErr, IfSome, IfNone, OnOk, length};
+ghost use Rattle.std.specs.Prelude.{◌≡◌, ◌↔◌, ◌≤◌, ◌<◌, ◌+◌, ◌∷◌, [], List, IsTrue, None, false, IfOk, IfErr, OnOk, length};
 ghost use Rattle.rq_model.specs.declared.record.Record.{Record as AnyRecord};
 ghost use Rattle.rq_model.specs.Bases.{is_base};
 ghost use Rattle.rq_log.specs.Reading.{EndsShort};

@@ -1,5 +1,5 @@
 //! Opening a store that a crash, or nothing at all, left behind.
-ghost use Rattle.std.specs.Prelude.{◌≡◌, ◌+◌, ◌<◌, ◌≤◌, ◌∷◌, IfOk, IfErr, OnOk, false, length, List};
+ghost use Rattle.std.specs.Prelude.{◌≡◌, ◌+◌, ◌<◌, ◌≤◌, ◌∷◌, IfOk, IfErr, OnOk, false, length};
 ghost use Rattle.rq_model.specs.declared.record.Record.TheVariants as records;
 ghost use Rattle.rq_model.specs.declared.record.Record.{Record};
 ghost use Rattle.rq_views.specs.Stored.{slots_in};
@@ -176,9 +176,9 @@ fn read_and_redo<P: PageDevice + Drop, L: LogDevice + Drop, B: Level>(
 ) -> Result<(Log<L>, Analysis, PageNumbers), rq_log::RefusedLog<L>>
     ensures read { IfOk result (λ read. IsLogRead L.LogDevice log read.0) }
     ensures found { IfOk result (λ read. IsAnalysisOf read.1 read.0.records) }
-    ensures repeated { IfOk result (λ read. Repeats pages.old.sizes read.0.records (paged pages.old)
+    ensures repeated { IfOk result (λ read. Repeats pages.new.sizes read.0.records (paged pages.old)
         (paged pages.new)) }
-    ensures numbers { IfOk result (λ read. AreNumbersOf pages.old.sizes (paged pages.old) read.2.numbers.items) }
+    ensures numbers { IfOk result (λ read. AreNumbersOf pages.new.sizes (paged pages.old) read.2.numbers.items) }
     ensures stopped { IfErr result (λ stopped. IsStoppedBehind L.LogDevice pages.old.sizes (paged pages.old)
         stopped.refusal log stopped.device) }
     ensures sizes { pages.new.sizes ≡ pages.old.sizes }

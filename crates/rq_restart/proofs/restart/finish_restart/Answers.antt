@@ -69,16 +69,14 @@ returns-in-Ok-clause-checked g c = λ first before k.
 pub returns-in-Ok-clause-left : goal.returns-in-Ok-clause-left
 returns-in-Ok-clause-left g c =
     let rollback = c.in_ok-lost.ensures in
-    let rolls = rollback.rolls_back in
-    begun_left g.L.LogDevice c.args.pages.now.sizes (paged c.args.pages.now) (paged c.undo_all.new.pages) (records.Restart (c.incarnation.result + 1)) c.args.log.now c.undo_all.new.log c.begin_incarnation.new.log rollback.stays.log_device rolls
-    (ap (λ n. records.Restart (n + 1)) (last_is c.args.log.now.records c.undo_all.new.log.records rolls.is c.undo_all.new.analysis.open_work rollback.found.open_work c.incarnation.result c.incarnation.ensures)) c.begin_incarnation.ensures.honest c.begin_incarnation.ensures.any_moment
+    begun_left g.L.LogDevice c.args.pages.now.sizes (paged c.args.pages.now) (paged c.undo_all.new.pages) c.args.log.now c.undo_all.new.log c.begin_incarnation.new.log rollback.stays.log_device rollback.rolls_back
+    c.undo_all.new.analysis.open_work c.incarnation.result rollback.found.open_work c.incarnation.ensures c.begin_incarnation.ensures.honest c.begin_incarnation.ensures.any_moment
 
 pub returns-in-Err-clause-left : goal.returns-in-Err-clause-left
 returns-in-Err-clause-left g c =
     let rollback = c.in_ok-lost.ensures in
-    let rolls = rollback.rolls_back in
-    begun_left g.L.LogDevice c.args.pages.now.sizes (paged c.args.pages.now) (paged c.undo_all.new.pages) (records.Restart (c.incarnation.result + 1)) c.args.log.now c.undo_all.new.log c.begin_incarnation.new.log rollback.stays.log_device rolls
-    (ap (λ n. records.Restart (n + 1)) (last_is c.args.log.now.records c.undo_all.new.log.records rolls.is c.undo_all.new.analysis.open_work rollback.found.open_work c.incarnation.result c.incarnation.ensures)) c.begin_incarnation.ensures.honest c.begin_incarnation.ensures.any_moment
+    begun_left g.L.LogDevice c.args.pages.now.sizes (paged c.args.pages.now) (paged c.undo_all.new.pages) c.args.log.now c.undo_all.new.log c.begin_incarnation.new.log rollback.stays.log_device rollback.rolls_back
+    c.undo_all.new.analysis.open_work c.incarnation.result rollback.found.open_work c.incarnation.ensures c.begin_incarnation.ensures.honest c.begin_incarnation.ensures.any_moment
 
 pub returns-in-Err-clause-shut : goal.returns-in-Err-clause-shut
 returns-in-Err-clause-shut g c = λ first before k.

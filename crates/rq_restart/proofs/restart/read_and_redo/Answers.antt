@@ -1,6 +1,7 @@
 use Rattle.std.proofs.Common.{◌≡◌, refl, sym, ap, ◌∙◌, subst}
 use Rattle.rq_log.specs.Reading.{IsRead}
-use Rattle.rq_restart.specs.Repeating.{paged}
+use Rattle.rq_restart.specs.Numbers.{AreNumbersOf}
+use Rattle.rq_restart.specs.Repeating.{Repeats, paged}
 use Rattle.rq_restart.specs.Restarting.{IsLogRead}
 use Rattle.rq_restart.proofs.Moments.{stopped_at_once}
 use Rattle.rq_restart.proofs.Repeated.{follow_marked}
@@ -29,3 +30,14 @@ returns-in-Err-new-clause-stopped g c =
 
 pub returns-in-Err-clause-stopped : goal.returns-in-Err-clause-stopped
 returns-in-Err-clause-stopped g c = stopped_at_once g.L.LogDevice g.met.L.LogDevice.only_now c.args.pages.now.sizes (paged c.args.pages.now) c.in-Err.refusal c.args.log c.args.log c.in-Err.ensures.err refl
+
+pub returns-in-Ok-repeat_history-clause-repeated : goal.returns-in-Ok-repeat_history-clause-repeated
+returns-in-Ok-repeat_history-clause-repeated g c =
+    let records = c.repeat_history.new.reader.records in
+    let first = paged c.args.pages.now in
+    let last = paged c.repeat_history.new.pages in
+    subst (λ log. Repeats c.repeat_history.new.pages.sizes log.records first last) (sym c.into_log.ensures.log) (subst (λ y. Repeats y records first last) (sym c.repeat_history.ensures.sizes) c.in-Ok-repeat_history.ensures.repeated)
+
+pub returns-in-Ok-repeat_history-clause-numbers : goal.returns-in-Ok-repeat_history-clause-numbers
+returns-in-Ok-repeat_history-clause-numbers g c =
+    subst (λ y. AreNumbersOf y (paged c.args.pages.now) c.in-Ok.numbers.numbers.items) (sym c.repeat_history.ensures.sizes) c.in-Ok.ensures.numbers

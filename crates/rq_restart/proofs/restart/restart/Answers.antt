@@ -1,10 +1,9 @@
-use Rattle.std.proofs.Common.{◌⊎◌, inl, refl, subst, sym}
+use Rattle.std.proofs.Common.{◌⊎◌, inl, refl}
 use Rattle.rq_log.proofs.Moments.{started}
-use Rattle.rq_pool.specs.Reading.{OnlyRead}
 use Rattle.rq_restart.specs.Restarting.{IsBegunFrom}
 use Rattle.rq_restart.proofs.Opens.{opens, refuses}
-use Rattle.rq_restart.proofs.Paths.{keeps_stores}
-use Rattle.rq_restart.proofs.Restarts.{begins_from, was_refused}
+use Rattle.rq_restart.proofs.Paths.{keeps_from, keeps_stores}
+use Rattle.rq_restart.proofs.Restarts.{was_refused}
 use Rattle.rq_restart.proofs.restart.restart.Goals as goal
 
 pub returns-in-Ok-restart_log-clause-opened : goal.returns-in-Ok-restart_log-clause-opened
@@ -16,15 +15,11 @@ returns-in-Ok-restart_log-clause-opened g c =
 
 pub returns-in-Ok-restart_log-clause-left : goal.returns-in-Ok-restart_log-clause-left
 returns-in-Ok-restart_log-clause-left g c =
-    let P = g.P.PageDevice in
-    let L = g.L.LogDevice in
     let loaded = c.in-Ok.ensures in
     let o = c.in-Ok-restart_log.opened in
     let made = c.in-Ok-restart_log.ensures.opened in
     rw c.open-engine.ensures
-    (keeps_stores P L g.met.P.PageDevice.only_now g.met.P.PageDevice.seen_may_be g.met.L.LogDevice.seen_may_be_left g.met.L.LogDevice.counts_now c.args.pages o.pages.device c.args.log o.log.device
-    (subst (OnlyRead P c.args.pages) (sym made.device) loaded.device)
-    (begins_from P L c.args.pages c.args.log c.in-Ok.pages loaded.pages loaded.seen loaded.changed o.pages.device o.log.device made.device made.any_moment))
+    (keeps_from g.P.PageDevice g.L.LogDevice g.met.P.PageDevice.only_now g.met.P.PageDevice.seen_may_be g.met.L.LogDevice.seen_may_be_left g.met.L.LogDevice.counts_now c.args.pages c.args.log c.in-Ok.pages loaded.pages loaded.seen loaded.changed loaded.device o.pages.device o.log.device made.device made.any_moment)
 
 pub returns-in-Err-restart_log-clause-refused : goal.returns-in-Err-restart_log-clause-refused
 returns-in-Err-restart_log-clause-refused g c =
@@ -36,14 +31,10 @@ returns-in-Err-restart_log-clause-refused g c =
 
 pub returns-in-Err-restart_log-clause-left : goal.returns-in-Err-restart_log-clause-left
 returns-in-Err-restart_log-clause-left g c =
-    let P = g.P.PageDevice in
-    let L = g.L.LogDevice in
     let loaded = c.in-Ok.ensures in
     let s = c.in-Err-restart_log.stopped in
     let made = c.in-Err-restart_log.ensures.refused in
-    keeps_stores P L g.met.P.PageDevice.only_now g.met.P.PageDevice.seen_may_be g.met.L.LogDevice.seen_may_be_left g.met.L.LogDevice.counts_now c.args.pages s.pages c.args.log s.log
-    (subst (OnlyRead P c.args.pages) (sym made.same) loaded.device)
-    (begins_from P L c.args.pages c.args.log c.in-Ok.pages loaded.pages loaded.seen loaded.changed s.pages s.log made.same made.any_moment)
+    keeps_from g.P.PageDevice g.L.LogDevice g.met.P.PageDevice.only_now g.met.P.PageDevice.seen_may_be g.met.L.LogDevice.seen_may_be_left g.met.L.LogDevice.counts_now c.args.pages c.args.log c.in-Ok.pages loaded.pages loaded.seen loaded.changed loaded.device s.pages s.log made.same made.any_moment
 
 pub returns-in-Err-clause-refused : goal.returns-in-Err-clause-refused
 returns-in-Err-clause-refused g c = refuses g.P.PageDevice g.L.LogDevice c.args.pages c.args.log c.in-Err.stopped.refusal c.in-Err.stopped.device c.args.log (inl (c.in-Err.ensures.stopped, refl))

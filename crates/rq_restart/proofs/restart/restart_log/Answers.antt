@@ -2,9 +2,8 @@ use Rattle.std.proofs.Common.{◌≡◌, sym, ◌∙◌, subst, inl, inr}
 use Rattle.rq_page.specs.Sizes.{Sizes}
 use Rattle.rq_log.specs.Reading.{IsRead}
 use Rattle.rq_store.specs.Fitting.{image_in}
-use Rattle.rq_restart.specs.Numbers.{AreNumbersOf}
 use Rattle.rq_restart.specs.Refused.{WhyShut}
-use Rattle.rq_restart.specs.Repeating.{Repeats, paged}
+use Rattle.rq_restart.specs.Repeating.{paged}
 use Rattle.rq_restart.specs.Restarting.{BeginsAtMost}
 use Rattle.rq_restart.specs.RolledBack.{HasRepeated}
 use Rattle.rq_restart.proofs.Moments.{begins_at_most, only_read}
@@ -20,8 +19,6 @@ returns-in-Ok-finish_restart-clause-opened g c =
     let read = c.in-Ok.ensures in
     let went = c.in-Ok-finish_restart.ensures in
     let left = c.finish_restart.ensures.left in
-    let repeated : Repeats mid.sizes log.records first (paged mid) = subst (λ (y : Sizes). Repeats y log.records first (paged mid)) (sym sizes) read.repeated in
-    let numbers : AreNumbersOf mid.sizes first c.in-Ok.numbers.numbers.items = subst (λ (y : Sizes). AreNumbersOf y first c.in-Ok.numbers.numbers.items) (sym sizes) read.numbers in
     record {
       sizes = c.finish_restart.ensures.sizes ∙ sizes;
       device = c.finish_restart.ensures.pages ∙ c.read_and_redo.ensures.device;
@@ -31,7 +28,7 @@ returns-in-Ok-finish_restart-clause-opened g c =
       was_read = read.read;
       honest = left.honest;
       restarted = went.restarted;
-      repeated = subst (λ (y : Sizes). HasRepeated y log.records c.finish_restart.new.log.records first (paged c.finish_restart.new.pages)) sizes (went.checked first repeated numbers);
+      repeated = subst (λ (y : Sizes). HasRepeated y log.records c.finish_restart.new.log.records first (paged c.finish_restart.new.pages)) sizes (went.checked first read.repeated read.numbers);
       any_moment = begins_at_most g.L.LogDevice c.args.pages.sizes mid.sizes first (paged mid) c.args.log log c.finish_restart.new.log sizes read.read read.repeated left;
     }
 
@@ -44,14 +41,12 @@ returns-in-Ok-clause-refused g c =
     let log = c.in-Ok.log in
     let read = c.in-Ok.ensures in
     let left = c.finish_restart.ensures.left in
-    let repeated : Repeats mid.sizes log.records first (paged mid) = subst (λ (y : Sizes). Repeats y log.records first (paged mid)) (sym sizes) read.repeated in
-    let numbers : AreNumbersOf mid.sizes first c.in-Ok.numbers.numbers.items = subst (λ (y : Sizes). AreNumbersOf y first c.in-Ok.numbers.numbers.items) (sym sizes) read.numbers in
     let back = c.give_back-in-Err-finish_restart.ensures in
     let z = c.args.pages.sizes in
     let e = c.in-Err-finish_restart.refusal in
     let was = log.device in
     let last = c.finish_restart.new.log.device in
-    let shut : WhyShut z log.records first e (l.faults was) (l.faults last) (last ≡ was) = subst (λ (y : Sizes). WhyShut y log.records first e (l.faults was) (l.faults last) (last ≡ was)) sizes (c.in-Err-finish_restart.ensures.shut first repeated numbers) in
+    let shut : WhyShut z log.records first e (l.faults was) (l.faults last) (last ≡ was) = subst (λ (y : Sizes). WhyShut y log.records first e (l.faults was) (l.faults last) (last ≡ was)) sizes (c.in-Err-finish_restart.ensures.shut first read.repeated read.numbers) in
     record {
       same = c.give_back.ensures ∙ c.finish_restart.ensures.pages ∙ c.read_and_redo.ensures.device;
       stops = inr (
@@ -74,9 +69,4 @@ returns-clause-refused g c = record {
 }
 
 pub finish_restart-requires-clause-pages : goal.finish_restart-requires-clause-pages
-finish_restart-requires-clause-pages g c =
-    let mid = c.read_and_redo.new.pages in
-    let first = paged c.args.pages in
-    let sizes = c.read_and_redo.ensures.sizes in
-    let read = c.in-Ok.ensures in
-    (first, subst (λ (y : Sizes). Repeats y c.in-Ok.log.records first (paged mid)) (sym sizes) read.repeated, subst (λ (y : Sizes). AreNumbersOf y first c.in-Ok.numbers.numbers.items) (sym sizes) read.numbers)
+finish_restart-requires-clause-pages g c = (paged c.args.pages, c.in-Ok.ensures.repeated, c.in-Ok.ensures.numbers)

@@ -11,14 +11,14 @@ loop-page-preserved g c =
     let pages = c.args.pages.now in
     let z = pages.sizes in
     let n = c.loop-page.page in
-    let number = c.greatest_number-number.result in
+    let number = c.greatest_number.result in
     let is : c.unwrap.result.now ≡ image_in pages.images n = search rules in
     let end : c.pages-page-end.result ≡ page_count z = c.pages-page-end.ensures.number ∙ ap page_count c.layout-layout.ensures.sizes in
     let high : n < page_count z = (let lt = c.loop-page-test.true in omega (arith, lt, end)) in
     let told : (count : ℕ) → (number ≤ count) ↔ IsCounted z count n (image_in pages.images n) = λ count.
     subst (λ y. (number ≤ count) ↔ IsCounted y count n (image_in pages.images n)) c.layout-layout.ensures.sizes
-    (subst (λ b. (number ≤ count) ↔ IsCounted c.layout-layout.result count n b) is (c.greatest_number-number.ensures count)) in
-    subst (AreNumbersUpTo z (paged pages) (n + 1)) (sym c.in-Ok-push.ensures.items) (numbers_more z (paged pages) n number c.loop-page.numbers.items c.loop-page.auto.page high told c.loop-page.invariant)
+    (subst (λ b. (number ≤ count) ↔ IsCounted c.layout-layout.result count n b) is (c.greatest_number.ensures count)) in
+    numbers_more z (paged pages) n number c.loop-page.numbers.items high told c.loop-page.invariant
 
 pub returns-clause-numbers : goal.returns-clause-numbers
 returns-clause-numbers g c =
