@@ -23,6 +23,9 @@ use std::io::Write;
 /// How many bytes of lines are written at a time.
 const PIECE: usize = 65_536;
 
+/// How many bytes of a log are read at a time.
+const WINDOW: usize = 65_536;
+
 /// Why an inspection stopped before its report.
 #[derive(Drop)]
 pub enum Stop {
@@ -77,7 +80,7 @@ fn list<L: LogDevice + Drop, W: Write>(
     ensures cause { OnOk result.1 (L.faults result.0 ≡ L.faults log) }
     ensures read { IsRead L.LogDevice log result.0 }
 {
-    match LogReader::new(alloc, log) {
+    match LogReader::new(alloc, log, WINDOW) {
         Ok(mut reader) => {
             let listed = write_lines(alloc, &mut reader, report, writer);
             reader.shows_read();
@@ -128,7 +131,7 @@ fn strike_out<L: LogDevice + Drop>(
     if !report.names_any() {
         return (log, Ok(()));
     }
-    match LogReader::new(alloc, log) {
+    match LogReader::new(alloc, log, WINDOW) {
         Ok(mut reader) => {
             let struck = strike_all(&mut reader, report);
             reader.shows_read();

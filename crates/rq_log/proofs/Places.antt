@@ -6,7 +6,8 @@ use Rattle.rq_model.specs.declared.record.Record.{Record}
 use Rattle.rq_record.specs.Decoding.{IsFront}
 use Rattle.rq_record.specs.Spelling.{HoldsRecord, IsRecord, spelling}
 use Rattle.rq_record.proofs.Whole.{long_spelling, one_spelling, short_spelling}
-use Rattle.rq_log.specs.Places.{IsPlace, IsPlaceAmong, NoneHeldFor, NoneReadFor, NotToldFor, StandsAmong}
+use Rattle.rq_log.specs.Places.{IsAt, IsPlace, IsPlaceAmong, NoneHeldFor, NoneReadFor, NotReadAgainFor, NotToldFor, StandsAmong}
+use Rattle.rq_log.specs.Reading.{KeepsRead, Streamed, left_of}
 use Rattle.rq_model.specs.declared.refusal.Refusal.{Refusal}
 use Rattle.rq_model.specs.declared.refusal.Refusal.TheVariants as why
 use Rattle.rq_model.specs.declared.refusal.Damage.TheVariants as damage
@@ -195,3 +196,29 @@ module _ {L : Type 0} (g : Ghosts L) where
       (λ h few. not_there log last buffer capacity k running handed place is behind (falls h) few (drop (place - handed) buffer) (buffered_there log last buffer capacity k running handed place is behind (falls h) few le))
       (held_read e (drop (place - handed) buffer) log.device new (buffered le)).1)
       (cases_lt place handed)
+
+  -- of a device that is read: a record that was read stands there, whole
+  module _ (records : List Record) (s : Streamed L) (first : L) (last : ℕ) (k : KeepsRead g records s first last) where
+    read_there : g.honest s.device → (place : ℕ) (r : Record) → IsAt records place r → (rest : List ℕ) × (drop place (g.seen s.device) ≡ spelling r ++ rest)
+    read_there h place r at =
+        let newer = at.0 in
+        let older = at.1 in
+        let a = next_longer newer older r in
+        let b = length-append (spelled_all older) (spelling r) in (
+          spelled_all newer ++ left_of g s,
+          ap (drop place) (k.read.same ∙ k.front h ∙ ap (λ l. spelled_all l ++ left_of g s) at.2) ∙ ap (λ n. drop n (spelled_all (newer ++ (r ∷ older)) ++ left_of g s)) at.3
+              ∙ drop-append-le (length (spelled_all older)) (spelled_all (newer ++ (r ∷ older))) (left_of g s) (omega (arith, a, b))
+              ∙ ap (λ l. l ++ left_of g s) (next_stands newer older r) ∙ append_assoc (spelling r) (spelled_all newer) (left_of g s),
+        )
+
+    is_record : (place : ℕ) (r : Record) → IsAt records place r → IsRecord r
+    is_record place r at = (AreAllSpelled-behind at.0 (r ∷ at.1) (subst AreAllSpelled at.2 k.are_spelled)).0
+
+    -- so it is the one in front of the bytes from there on
+    pub read_again : g.honest s.device → (place : ℕ) (found : Record) (used : ℕ) → IsFront found used (drop place (g.seen s.device)) → (r : Record) → IsAt records place r → found ≡ r
+    read_again h place found used front r at = let there = read_there h place r at in (one_front found r used (drop place (g.seen s.device)) there.0 front (is_record place r at) there.1).0
+
+    pub not_read_again : (e : Refusal) (place : ℕ) (new : L) → (g.honest new → g.honest s.device) → NoneReadFor g e (drop place (g.seen s.device)) s.device new → NotReadAgainFor g e records place s.device new
+    not_read_again why.DiskRead place new falls n = n
+    not_read_again (why.Damaged (damage.Record lsn)) place new falls n = (n.0, n.1, λ h r at. let there = read_there (falls h) place r at in n.2 h (r, there.0, is_record place r at, there.1))
+    not_read_again _ place new falls n = absurd n

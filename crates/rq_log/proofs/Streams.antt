@@ -20,9 +20,9 @@ skipped xs start end n le =
     sym (ap (λ k. drop n (take k (drop start xs))) count ∙ drop-take n (end - (start + n)) (drop start xs) ∙ ap (take (end - (start + n))) (drop-drop n start xs))
 
 -- a read of as many as there are, and fit behind the first e bytes, filled the window or came to the end
-pub has_most : {unread : List ℕ} {now : ℕ} {honest : Type 0} {new : List ℕ} (w old : List ℕ) (count at e n : ℕ) → unread ≡ take count w → count ≡ e + n → length w ≡ 65536 → e + n ≤ 65536
-    → (honest → n ≡ min (65536 - e) (length old - at)) → now ≡ at + n → new ≡ old → (546 ≤ length unread) ⊎ (honest → drop now new ≡ [])
-has_most {unread} {now} {honest} {new} w old count at e n is total wide le read goes same = elim (cases_lt (e + n) 65536) [
+pub has_most : {unread : List ℕ} {now : ℕ} {honest : Type 0} {new : List ℕ} (w old : List ℕ) (count at e n : ℕ) → unread ≡ take count w → count ≡ e + n → 546 ≤ length w → e + n ≤ length w
+    → (honest → n ≡ min (length w - e) (length old - at)) → now ≡ at + n → new ≡ old → (546 ≤ length unread) ⊎ (honest → drop now new ≡ [])
+has_most {unread} {now} {honest} {new} w old count at e n is total wide le read goes same = elim (cases_lt (e + n) (length w)) [
   | inl less ↦ inr (λ h. drop_all now new (let r = read h in let s = ap length same in omega (arith, less, le, r, goes, s)))
   | inr full ↦ inl (let k = length-take-le count w (omega (arith, le, wide, total)) in let u = ap length is in omega (arith, k, u, total, full))
 ]

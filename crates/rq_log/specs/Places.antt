@@ -28,6 +28,11 @@ IsPlace log place = IsPlaceAmong (standing log) place
 abbrev pub StandsAt : List Record → ℕ → Option (Record × ℕ) → Type 0
 StandsAt log place found = StandsAmong (standing log) place found
 
+-- the record stands there, behind the older ones that end there
+abbrev pub IsAt : List Record → ℕ → Record → Type 0
+IsAt log place r = (newer : List Record) × (older : List Record) × (standing log ≡ newer ++ (r ∷ older))
+    × (place ≡ length (spelled_all older))
+
 module _ {L : Type 0} (g : Ghosts L) where
   -- why no record was read at the front of bytes
   abbrev pub NoneReadFor : Refusal → List ℕ → L → L → Type 0
@@ -50,3 +55,10 @@ module _ {L : Type 0} (g : Ghosts L) where
   NotToldFor (why.Damaged (damage.Record lsn)) records place old new = (lsn ≡ 0) × (g.faults new ≡ g.faults old)
       × (g.honest new → length (spelled records) < 2 ^ 64 → IsPlace records place → ⊥)
   NotToldFor _ records place old new = ⊥
+
+  -- why none of the records that were read was read again at a place: the device failed, or none of them stands there
+  abbrev pub NotReadAgainFor : Refusal → List Record → ℕ → L → L → Type 0
+  NotReadAgainFor why.DiskRead records place old new = g.faults new ≡ (g.faults old + 1) % 2 ^ 64
+  NotReadAgainFor (why.Damaged (damage.Record lsn)) records place old new = (lsn ≡ 0) × (g.faults new ≡ g.faults old)
+      × (g.honest new → (r : Record) → IsAt records place r → ⊥)
+  NotReadAgainFor _ records place old new = ⊥

@@ -97,7 +97,7 @@ module _ {L : Type 0} (g : Ghosts L) where
   pub record KeepsStream (s : Streamed L) (window : List ℕ) (start end : ℕ) : Type 0 where
     pub order : start ≤ end
     pub within : end ≤ length window
-    pub wide : length window ≡ 65536
+    pub wide : 546 ≤ length window
     pub none_behind : s.ended ≡ true → g.honest s.device → drop s.at (g.seen s.device) ≡ []
 
   -- what is so of the fields of a reader

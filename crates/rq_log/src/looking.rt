@@ -67,8 +67,11 @@ fn record_in<L: LogDevice>(
     }
 }
 
-// The record at a place of what a device holds.
-fn record_on<L: LogDevice>(device: &mut L, place: u64) -> Result<(Record, usize), Refusal>
+/// The record at a place of what a device holds, and how many bytes it takes.
+pub(crate) fn record_on<L: LogDevice>(
+    device: &mut L,
+    place: u64,
+) -> Result<(Record, usize), Refusal>
     ensures found { IfOk result (λ found. L.honest device.new
         → IsFront found.0 found.1 (drop place (L.seen device.old))) }
     ensures none { IfErr result (λ e. NoneReadFor L.LogDevice e (drop place (L.seen device.old)) device.old device.new) }

@@ -3,7 +3,10 @@ ghost use Rattle.std.specs.Prelude.{◌≡◌, ◌≢◌, ◌⊎◌, ◌^◌, �
 ghost use Rattle.std.specs.Bool.{OnTrue, OnFalse};
 ghost use Rattle.rq_model.specs.Bases.{is_base, with_next};
 ghost use Rattle.rq_record.specs.Spelling.{IsInRange};
-ghost use Rattle.rq_log.specs.Reading.{EndsShort, IsReadBehind, IsReading, StopsFor};
+ghost use Rattle.rq_model.specs.declared.record.Record.{Record};
+ghost use Rattle.rq_log.specs.Places.{IsAt, NotReadAgainFor};
+ghost use Rattle.rq_log.specs.Spelled.{spelled};
+ghost use Rattle.rq_log.specs.Reading.{EndsShort, IsRead, IsReadBehind, IsReading, StopsFor};
 
 use crate::past::Past;
 use crate::stream::Stream;
@@ -47,16 +50,17 @@ impl<L: LogDevice> Model for LogReader<L> {
 impl<L: LogDevice + Drop> LogReader<L> {
     ghost use Rattle.std.specs.Prelude.{[], false};
 
-    /// No record is read yet.
+    /// No record is read yet. So many bytes will be read at a time, the longest record at least.
     ///
     /// # Errors
     /// `NoMemory`.
-    pub fn new(alloc: Global, device: L) -> Result<LogReader<L>, RefusedLog<L>>
+    pub fn new(alloc: Global, device: L, window: usize) -> Result<LogReader<L>, RefusedLog<L>>
+        requires { 546 ≤ window }
         ensures ok { IfOk result (λ r. r ≡ record { records = []; left = 0; device = device; first = device }) }
         ensures err { IfErr result (λ stopped. (stopped.refusal ≡ Refusal.NoMemory) × (stopped.device ≡ device)) }
     {
         let first = Snapshot::of(&device);
-        let stream = Stream::new(alloc, device)?;
+        let stream = Stream::new(alloc, device, window)?;
         Ok(LogReader {
             stream,
             first,
@@ -132,13 +136,44 @@ impl<L: LogDevice> LogReader<L> {
         self.last
     }
 
-    /// Reads the next record. `None`: all are read; what is left is no byte, or a proper beginning of a record.
+    /// The place of the next record: how many bytes stand before it.
+    pub fn place(&self) -> u64
+        ensures { result ≡ length (spelled self.now.records) }
+    {
+        self.stream.taken()
+    }
+
+    /// Reads again the record of a place that `place` told before it was read.
+    ///
+    /// # Errors
+    /// `DiskRead`; `Damaged`, with no number, where none of those that were read stands there.
+    pub fn at(&mut self, place: u64) -> Result<Record, Refusal>
+        ensures found { IfOk result (λ r. L.honest self.new.device → (s : Record)
+            → IsAt self.old.records place s → r ≡ s) }
+        ensures err { IfErr result (λ e. NotReadAgainFor L.LogDevice e self.old.records place self.old.device
+            self.new.device) }
+        ensures cause { OnOk result (L.faults self.new.device ≡ L.faults self.old.device) }
+        // Nothing changes, but that the device was read.
+        ensures same { self.new ≡ record self.old { device = self.new.device } }
+        ensures read { IsRead L.LogDevice self.old.device self.new.device }
+    {
+        match self.stream.record_at(place) {
+            Ok((record, _)) => Ok(record),
+            Err(refusal) => Err(refusal),
+        }
+    }
+
+    /// Reads the next record, and tells its LSN. `None`: all are read; what is left is no byte, or a proper beginning of a
+    /// record.
     ///
     /// # Errors
     /// Those of `next_into`.
-    pub fn next(&mut self) -> Result<Option<Record>, Refusal>
+    pub fn next(&mut self) -> Result<Option<(Lsn, Record)>, Refusal>
         // What is read then.
-        ensures some { IfOk result (λ next. IfSome next (λ r. self.new.records ≡ with_next r self.old.records)) }
+        ensures some { IfOk result (λ next. IfSome next (λ read. self.new.records ≡ with_next read.1 self.old.records)) }
+        ensures oldest { IfOk result (λ next. IfSome next (λ read.
+            (is_base read.1 ≡ false) ⊎ (self.old.records ≡ []))) }
+        ensures lsn { IfOk result (λ next. IfSome next (λ read. read.0 ≡ length self.new.records)) }
         ensures none { IfOk result (λ next. IfNone next ((self.new.records ≡ self.old.records)
             × (L.honest self.new.device → EndsShort self.new.records self.new.left (L.seen self.new.first)))) }
         ensures bound { IfOk result (λ next. IfNone next (2 ^ 50 ≤ length self.old.records → self.new.left ≡ 0)) }
@@ -153,7 +188,7 @@ impl<L: LogDevice> LogReader<L> {
     {
         let mut record = Record::Restart { incarnation: 0 };
         match self.next_into(&mut record) {
-            Ok(true) => Ok(Some(record)),
+            Ok(true) => Ok(Some((self.last(), record))),
             Ok(false) => Ok(None),
             Err(refusal) => Err(refusal),
         }

@@ -1,17 +1,18 @@
 //! Bytes of a device, from its front on, a window at a time.
 ghost use Rattle.std.specs.Prelude.{◌≡◌, ◌+◌, ◌-◌, ◌<◌, ◌≤◌, ◌++◌, IfOk, IfErr, OnOk, OnErr, length, take, drop, min};
 ghost use Rattle.rq_disk.specs.Device.{FailureIsCounted};
+ghost use Rattle.rq_record.specs.Decoding.{IsFront};
+ghost use Rattle.rq_log.specs.Places.{NoneReadFor};
 ghost use Rattle.rq_log.specs.Reading.{HasMost, HasRoomToRead, IsRead, left_of};
 
 use crate::RefusedLog;
+use crate::looking::record_on;
 use rq_disk::LogDevice;
+use rq_model::record::Record;
 use rq_model::refusal::Refusal;
 use rq_record::PAGE_OP_BYTES;
 use std::alloc::Global;
 use std::marker::Model;
-
-/// How many bytes are read at a time.
-const WINDOW: usize = 65_536;
 
 /// A device that is read from its front, and the bytes that were read of it and are not taken yet.
 #[derive(Drop)]
@@ -51,12 +52,13 @@ impl<L: LogDevice> Model for Stream<L> {
 impl<L: LogDevice + Drop> Stream<L> {
     ghost use Rattle.std.specs.Prelude.{[], false};
 
-    /// Nothing is read yet.
-    pub(crate) fn new(alloc: Global, device: L) -> Result<Stream<L>, RefusedLog<L>>
+    /// Nothing is read yet. So many bytes are read at a time, the longest record at least.
+    pub(crate) fn new(alloc: Global, device: L, window: usize) -> Result<Stream<L>, RefusedLog<L>>
+        requires { 546 ≤ window }
         ensures ok { IfOk result (λ s. s ≡ record { unread = []; at = 0; ended = false; device = device }) }
         ensures err { IfErr result (λ stopped. (stopped.refusal ≡ Refusal.NoMemory) × (stopped.device ≡ device)) }
     {
-        match vec![in alloc; 0; WINDOW] {
+        match vec![in alloc; 0; window] {
             Ok(window) => Ok(Stream {
                 device,
                 window,
@@ -112,6 +114,22 @@ impl<L: LogDevice> Stream<L> {
         self.start += count;
     }
 
+    /// The record at a place of the device, taken or not, and how many bytes it takes.
+    ///
+    /// # Errors
+    /// `DiskRead`; `Damaged`, with no number, where none stands there.
+    pub(crate) fn record_at(&mut self, place: u64) -> Result<(Record, usize), Refusal>
+        ensures found { IfOk result (λ found. L.honest self.new.device
+            → IsFront found.0 found.1 (drop place (L.seen self.old.device))) }
+        ensures none { IfErr result (λ e. NoneReadFor L.LogDevice e (drop place (L.seen self.old.device))
+            self.old.device self.new.device) }
+        ensures same { self.new ≡ record self.old { device = self.new.device } }
+        ensures cause { OnOk result (L.faults self.new.device ≡ L.faults self.old.device) }
+        ensures read { IsRead L.LogDevice self.old.device self.new.device }
+    {
+        record_on(&mut self.device, place)
+    }
+
     /// Reads on where fewer bytes than the longest record has are left of what was read.
     ///
     /// # Errors
@@ -135,7 +153,7 @@ impl<L: LogDevice> Stream<L> {
         let count = read_behind(&mut self.device, self.at, &mut self.window, self.end)?;
         self.at += count as u64;
         self.end += count;
-        self.ended = self.end < WINDOW;
+        self.ended = self.end < self.window.len();
         Ok(())
     }
 }

@@ -37,6 +37,9 @@ use rq_pool::Pages;
 use rq_record::{shows_fits, spelled_len};
 use std::alloc::Global;
 
+/// How many bytes of the log are read at a time.
+const WINDOW: usize = 65_536;
+
 /// What a restart found and did.
 #[derive(Clone, Copy, PartialEq, Eq)]
 pub struct Report {
@@ -191,7 +194,7 @@ fn read_and_redo<P: PageDevice + Drop, L: LogDevice + Drop, B: Level>(
             device: log,
         }),
     };
-    match LogReader::new(alloc, log) {
+    match LogReader::new(alloc, log, WINDOW) {
         Ok(mut reader) => match repeat_history(alloc, pages, &mut reader, levels) {
             Ok(analysis) => {
                 reader.shows_read();
