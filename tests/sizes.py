@@ -1,7 +1,7 @@
 #!/usr/bin/env python3
 """Runs scripts of real size by the proved program: as many open transactions as a store may have, a thousand operations in one
-transaction, a log that a restart reads by many windows, and a store of as many senders as there may be. What each line has to
-print is worked out from docs/SCRIPTS.md, as the line is made.
+transaction, a log that a restart reads by many windows, one over pages as they were formatted, and a store of as many senders as
+there may be. What each line has to print is worked out from docs/SCRIPTS.md, as the line is made.
 
     python3 tests/sizes.py [--program PROGRAM]
 """
@@ -198,13 +198,31 @@ def most_senders():
     return run
 
 
+def one_message_at_a_time():
+    """A thousand messages are sent and received, one at a time. A restart has the whole log, and pages as they were formatted."""
+    run = Run("a thousand messages, one at a time", 1, 1)
+    for tag in range(1, 1001):
+        txn = run.begin()
+        run.send(txn, 0, tag, "x")
+        run.commit(txn)
+        txn = run.begin()
+        run.receive(txn, 0, tag, "x")
+        run.commit(txn)
+    run.add("force", "forced 8001")
+    run.add("crash 0 old", "crashed 8001")
+    run.add("restart", "restarted 2 unfinished 0 lost 0")
+    run.add("dump", "0 open sent 1000 received 1000:")
+    run.add("last 0", "last 1000 1000")
+    return run
+
+
 def main():
     words = argparse.ArgumentParser(description="Runs scripts of real size.")
     words.add_argument("--program", help="a program that was built elsewhere")
     chosen = words.parse_args()
     program = built(chosen.program, "rqm")
     wrong = False
-    for run in (most_transactions(), long_transaction(), long_log(), most_senders()):
+    for run in (most_transactions(), long_transaction(), long_log(), one_message_at_a_time(), most_senders()):
         fault = run.fault(program)
         wrong = wrong or fault is not None
         print(f"{run.name}: {fault or f'{len(run.lines)} lines print what they should'}")
