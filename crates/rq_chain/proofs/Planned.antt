@@ -20,11 +20,12 @@ use Rattle.rq_level.specs.declared.writes.Plan.{Plan}
 use Rattle.rq_level.specs.declared.writes.Replies.TheVariants as replies
 use Rattle.rq_chain.specs.declared.CellEntry.{CellEntry}
 use Rattle.rq_chain.specs.declared.DirectoryEntry.{DirectoryEntry}
+use Rattle.rq_chain.specs.declared.Neighbour.{Neighbour}
 use Rattle.rq_chain.specs.CellEntries.{cell_beside}
 use Rattle.rq_chain.proofs.Givens.{holds_one}
 
 module _ (z : Sizes) (k : LevelState) (given : List Given) (latched : List ℕ) (s tag : ℕ) (body : List ℕ) (p : Plan) (after : LevelState) (g : DirectoryEntry) where
-  pub is_sent : (tail : Option Given) (new at : ℕ) → s < sender_count z → g.sender ≡ s → GivenHolds z given (directory_at s) (Sender s g.directory) → g.directory.sent ≤ 2 ^ 50
+  pub is_sent : (tail : Option Neighbour) (new at : ℕ) → s < sender_count z → g.sender ≡ s → GivenHolds z given (directory_at s) (Sender s g.directory) → g.directory.sent ≤ 2 ^ 50
       → at ≡ g.directory.tail → Beside z given at (cell_beside tail) → IsLowest z k latched new
       → reverse (writes_of z p.writes.items) ≡ append_writes (layout_of z) g.sender g.directory new tag body (cell_beside tail)
       → AreSlotWrites z p.writes.items → p.deed ≡ spelled_deed (Append s (g.directory.sent + 1) tag g.directory.last_tag body)
@@ -42,7 +43,7 @@ module _ (z : Sizes) (k : LevelState) (given : List Given) (latched : List ℕ) 
     kept = kept;
   }
 
-  pub is_received : (head : CellEntry) (next : Option Given) (at behind : ℕ) → s < sender_count z → g.sender ≡ s → GivenHolds z given (directory_at s) (Sender s g.directory)
+  pub is_received : (head : CellEntry) (next : Option Neighbour) (at behind : ℕ) → s < sender_count z → g.sender ≡ s → GivenHolds z given (directory_at s) (Sender s g.directory)
       → g.directory.received < g.directory.sent → 0 < at → at ≡ g.directory.head → GivenHolds z given at (Used head.cell) → behind ≡ head.cell.next → Beside z given behind (cell_beside next)
       → reverse (writes_of z p.writes.items) ≡ unlink_head_writes (layout_of z) g.sender g.directory head.cell (cell_beside next)
       → AreSlotWrites z p.writes.items → p.deed ≡ spelled_deed (UnlinkHead s (g.directory.received + 1) head.cell.tag head.cell.body)
@@ -103,7 +104,7 @@ is_marked z given s closed p g below own holds other writes slots = record {
   slots = slots;
 }
 
-pub is_unlinked : (z : Sizes) (k : LevelState) (given : List Given) (s n previous : ℕ) (p : Plan) (g : DirectoryEntry) (tail : CellEntry) (front : Option Given) (at behind : ℕ)
+pub is_unlinked : (z : Sizes) (k : LevelState) (given : List Given) (s n previous : ℕ) (p : Plan) (g : DirectoryEntry) (tail : CellEntry) (front : Option Neighbour) (at behind : ℕ)
     → s < sender_count z → g.sender ≡ s → GivenHolds z given (directory_at s) (Sender s g.directory)
     → g.directory.received < g.directory.sent → g.directory.sent ≡ n → 0 < at → at ≡ g.directory.tail → GivenHolds z given at (Used tail.cell) → tail.cell.sequence ≡ n
     → behind ≡ tail.cell.prev → Beside z given behind (cell_beside front)
@@ -129,7 +130,7 @@ is_unlinked z k given s n previous p g tail front at behind below own holds some
   kept = refl;
 }
 
-pub is_returned : (z : Sizes) (k : LevelState) (given : List Given) (latched : List ℕ) (s n tag : ℕ) (body : List ℕ) (p : Plan) (after : LevelState) (g : DirectoryEntry) (head : Option Given) (new at : ℕ)
+pub is_returned : (z : Sizes) (k : LevelState) (given : List Given) (latched : List ℕ) (s n tag : ℕ) (body : List ℕ) (p : Plan) (after : LevelState) (g : DirectoryEntry) (head : Option Neighbour) (new at : ℕ)
     → s < sender_count z → g.sender ≡ s → GivenHolds z given (directory_at s) (Sender s g.directory) → 0 < g.directory.received → g.directory.received ≡ n
     → at ≡ g.directory.head → Beside z given at (cell_beside head) → IsLowest z k latched new
     → reverse (writes_of z p.writes.items) ≡ put_back_writes (layout_of z) g.sender g.directory new tag body (cell_beside head)

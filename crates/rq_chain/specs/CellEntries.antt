@@ -6,14 +6,14 @@ use Rattle.rq_page.specs.declared.cell.CellSlot.TheVariants as cells
 use Rattle.rq_page.specs.Sizes.{Sizes, IsCellAddress, directory_at, sender_count}
 use Rattle.rq_page.specs.Slots.{IsCellOf, IsDirectoryOf}
 use Rattle.rq_page.specs.Cells.{cell_in, cell_bytes}
-use Rattle.rq_level.specs.declared.slots.Given.{Given}
 use Rattle.rq_chain.specs.declared.CellEntry.{CellEntry}
 use Rattle.rq_chain.specs.declared.DirectoryEntry.{DirectoryEntry}
+use Rattle.rq_chain.specs.declared.Neighbour.{Neighbour}
 
 -- the cell beside, if there is one
-abbrev pub cell_beside : Option Given → Option Cell
+abbrev pub cell_beside : Option Neighbour → Option Cell
 cell_beside None = None
-cell_beside (Some n) = Some (cell_in n.bytes)
+cell_beside (Some n) = Some (cell_in n.bytes.now)
 
 -- the cell that a cell's slot holds, if it holds one
 abbrev pub used_of : CellSlot → Option Cell
@@ -27,14 +27,14 @@ pub record IsCellEntryAt (z : Sizes) (a : ℕ) (n : CellEntry) : Type 0 where
   pub cell : IsCellOf z n.cell
 
 -- the neighbour stands at this address, which is a cell's, and its bytes spell a cell of the store
-pub record IsNeighbourAt (z : Sizes) (a : ℕ) (n : Given) : Type 0 where
+pub record IsNeighbourAt (z : Sizes) (a : ℕ) (n : Neighbour) : Type 0 where
   pub at : n.at ≡ a
   pub address : IsCellAddress z a
-  pub cell : IsCellOf z (cell_in n.bytes)
-  pub spells : cell_bytes (cell_in n.bytes) ≡ n.bytes
+  pub cell : IsCellOf z (cell_in n.bytes.now)
+  pub spells : cell_bytes (cell_in n.bytes.now) ≡ n.bytes.now
 
 -- the neighbour that a link names: none where it is 0
-abbrev pub IsNeighbour : Sizes → ℕ → Option Given → Type 0
+abbrev pub IsNeighbour : Sizes → ℕ → Option Neighbour → Type 0
 IsNeighbour z a None = a ≡ 0
 IsNeighbour z a (Some n) = IsNeighbourAt z a n
 

@@ -8,8 +8,8 @@ ghost use Rattle.rq_page.specs.declared.cell.Cell.{Cell};
 ghost use Rattle.rq_level.specs.Given.{given_at, AreGiven, GivenHolds};
 ghost use Rattle.rq_level.specs.ChainPlans.{Beside};
 
-use crate::{CellEntry, DirectoryEntry};
-use rq_level::{Given, Slots};
+use crate::{CellEntry, DirectoryEntry, Neighbour};
+use rq_level::Slots;
 use rq_model::record::Slot;
 use rq_page::addr::Addr;
 use rq_page::cell::{Cell, CellSlot};
@@ -72,7 +72,11 @@ fn used(held: &CellSlot) -> Option<Cell>
 }
 
 /// The cell that a link names: none where it names none. Not there where its slot was not given or is free.
-pub(crate) fn beside_given(layout: &Layout, given: &Slots, at: Addr) -> Option<Option<Given>>
+pub(crate) fn beside_given<'a>(
+    layout: &Layout,
+    given: &'a Slots,
+    at: Addr,
+) -> Option<Option<Neighbour<'a>>>
     requires at { IsLink layout.now at }
     requires given { AreGiven layout.now given.now }
     ensures neighbour { IfSome result (λ b. IsNeighbour layout.now at b) }
@@ -89,18 +93,18 @@ pub(crate) fn beside_given(layout: &Layout, given: &Slots, at: Addr) -> Option<O
 }
 
 // The slot at an address of a cell page, where it was given and is used.
-fn neighbour_given(layout: &Layout, given: &Slots, at: Addr) -> Option<Given>
+fn neighbour_given<'a>(layout: &Layout, given: &'a Slots, at: Addr) -> Option<Neighbour<'a>>
     requires at { IsCellAddress layout.now at }
     requires given { AreGiven layout.now given.now }
     ensures cell { IfSome result (λ n. IsNeighbourAt layout.now at n) }
-    ensures holds { IfSome result (λ n. GivenHolds layout.now given.now at (Used (cell_in n.bytes))) }
+    ensures holds { IfSome result (λ n. GivenHolds layout.now given.now at (Used (cell_in n.bytes.now))) }
     ensures none { IfNone result ((c : Cell) → GivenHolds layout.now given.now at (Used c) → ⊥) }
 {
     let bytes = given.get(at)?;
     if bytes[0] == 0 {
         return None;
     }
-    Some(Given { at, bytes: *bytes })
+    Some(Neighbour { at, bytes })
 }
 
 /// The cell of a group's last message, or none.

@@ -171,7 +171,7 @@ impl ChainLevel {
         let Some(free) = self.lowest(layout, latched) else {
             return Err(self.no_cell(layout, sender));
         };
-        let Ok(writes) = append(room, layout, &group, tail, free, tag, body) else {
+        let Ok(writes) = append(room, layout, &group, &tail, free, tag, body) else {
             return Err(Refusal::NoMemory);
         };
         self.reserve(layout, free);
@@ -211,7 +211,7 @@ impl ChainLevel {
         let Some(next) = beside_given(layout, given, next_of(&head)) else {
             return Err(damaged);
         };
-        let Ok(writes) = unlink_head(room, layout, &group, &head, next) else {
+        let Ok(writes) = unlink_head(room, layout, &group, &head, &next) else {
             return Err(Refusal::NoMemory);
         };
         let sequence = group.directory.received + 1;
@@ -306,7 +306,7 @@ impl ChainLevel {
         let Some(free) = self.lowest(layout, latched) else {
             return Err(self.no_cell(layout, sender));
         };
-        let Ok(writes) = put_back(room, layout, &group, head, free, tag, body) else {
+        let Ok(writes) = put_back(room, layout, &group, &head, free, tag, body) else {
             return Err(Refusal::NoMemory);
         };
         self.reserve(layout, free);
@@ -478,7 +478,7 @@ fn unlinked_tail(
     let Some(front) = beside_given(layout, given, front_of(&tail)) else {
         return Err(damaged);
     };
-    match unlink_tail(room, layout, &group, &tail, front, previous) {
+    match unlink_tail(room, layout, &group, &tail, &front, previous) {
         Ok(writes) => Ok(inverse(writes)),
         Err(NoMemory) => Err(Refusal::NoMemory),
     }

@@ -15,6 +15,7 @@ mod writes;
 
 pub use level::ChainLevel;
 pub use plans::{append, put_back, set_closed, unlink_head, unlink_tail};
+use rq_model::record::Slot;
 use rq_page::addr::Addr;
 use rq_page::cell::Cell;
 use rq_page::directory::Directory;
@@ -24,6 +25,13 @@ use rq_page::directory::Directory;
 pub struct CellEntry {
     pub at: Addr,
     pub cell: Cell,
+}
+
+/// The used cell beside one that an operation takes: where it stands, and the bytes of its slot as they were given.
+#[derive(Clone, Copy)]
+pub struct Neighbour<'a> {
+    pub at: Addr,
+    pub bytes: &'a Slot,
 }
 
 /// A sender's directory slot: where it stands, whose it is, and what it says.

@@ -10,8 +10,8 @@ ghost use Rattle.rq_level.specs.Writes.{write_of, writes_of, IsSlotWrite, AreSlo
 ghost use Rattle.rq_chain.specs.CellEntries.{cell_beside, IsCellEntryAt, IsGroupOf, IsNeighbour, IsNeighbourAt};
 
 use crate::writes::{beside_write, emptied, filled, followed, group_write, pair, preceded, triple};
-use crate::{CellEntry, DirectoryEntry};
-use rq_level::{Given, SlotWrite, only};
+use crate::{CellEntry, DirectoryEntry, Neighbour};
+use rq_level::{SlotWrite, only};
 use rq_model::message::{BODY_LIMIT, Body};
 use rq_model::refusal::NoMemory;
 use rq_page::addr::Addr;
@@ -24,23 +24,23 @@ pub fn append(
     room: Vec<SlotWrite>,
     layout: &Layout,
     group: &DirectoryEntry,
-    tail: Option<Given>,
+    tail: &Option<Neighbour>,
     free: Addr,
     tag: u64,
     body: &Body,
 ) -> Result<Vec<SlotWrite>, NoMemory>
     requires room { group.now.directory.sent < 2 ^ 64 - 1 }
     requires group { IsGroupOf layout.now group.now }
-    requires tail { IsNeighbour layout.now group.now.directory.tail tail }
+    requires tail { IsNeighbour layout.now group.now.directory.tail tail.now }
     requires free { IsCellAddress layout.now free }
     ensures writes { IfOk result (λ writes. reverse (writes_of layout.now writes.items)
-        ≡ append_writes (layout_of layout.now) group.now.sender group.now.directory free tag body.now (cell_beside tail)) }
+        ≡ append_writes (layout_of layout.now) group.now.sender group.now.directory free tag body.now (cell_beside tail.now)) }
     ensures slots { IfOk result (λ writes. AreSlotWrites layout.now writes.items) }
 {
     let new = next_cell(layout, group, tag, body);
     let first = filled(layout, free, &new);
     let last = group_write(layout, group, &appended(layout, group, free, tag));
-    let writes = match &tail {
+    let writes = match tail {
         None => pair(room, first, last)?,
         Some(before) => triple(room, first, link_write(layout, before, free), last)?,
     };
@@ -53,20 +53,20 @@ pub fn unlink_head(
     layout: &Layout,
     group: &DirectoryEntry,
     head: &CellEntry,
-    next: Option<Given>,
+    next: &Option<Neighbour>,
 ) -> Result<Vec<SlotWrite>, NoMemory>
     requires some { group.now.directory.received < group.now.directory.sent }
     requires group { IsGroupOf layout.now group.now }
     requires head { IsCellEntryAt layout.now group.now.directory.head head.now }
-    requires next { IsNeighbour layout.now head.now.cell.next next }
+    requires next { IsNeighbour layout.now head.now.cell.next next.now }
     ensures writes { IfOk result (λ writes. reverse (writes_of layout.now writes.items)
         ≡ unlink_head_writes (layout_of layout.now) group.now.sender group.now.directory head.now.cell
-        (cell_beside next)) }
+        (cell_beside next.now)) }
     ensures slots { IfOk result (λ writes. AreSlotWrites layout.now writes.items) }
 {
     let first = emptied(layout, head);
     let last = group_write(layout, group, &head_unlinked(layout, group, &head.cell));
-    let writes = match &next {
+    let writes = match next {
         None => pair(room, first, last)?,
         Some(after) => triple(room, first, unlink_write(layout, after), last)?,
     };
@@ -79,22 +79,22 @@ pub fn unlink_tail(
     layout: &Layout,
     group: &DirectoryEntry,
     tail: &CellEntry,
-    front: Option<Given>,
+    front: &Option<Neighbour>,
     previous: u64,
 ) -> Result<Vec<SlotWrite>, NoMemory>
     requires some { group.now.directory.received < group.now.directory.sent }
     requires group { IsGroupOf layout.now group.now }
     requires tail { IsCellEntryAt layout.now group.now.directory.tail tail.now }
-    requires front { IsNeighbour layout.now tail.now.cell.prev front }
+    requires front { IsNeighbour layout.now tail.now.cell.prev front.now }
     ensures writes { IfOk result (λ writes. reverse (writes_of layout.now writes.items)
         ≡ unlink_tail_writes (layout_of layout.now) group.now.sender group.now.directory tail.now.cell previous
-        (cell_beside front)) }
+        (cell_beside front.now)) }
     ensures slots { IfOk result (λ writes. AreSlotWrites layout.now writes.items) }
 {
     let first = emptied(layout, tail);
     let after = tail_unlinked(layout, group, &tail.cell, previous);
     let last = group_write(layout, group, &after);
-    let writes = match &front {
+    let writes = match front {
         None => pair(room, first, last)?,
         Some(before) => triple(room, first, cut_write(layout, before), last)?,
     };
@@ -106,23 +106,23 @@ pub fn put_back(
     room: Vec<SlotWrite>,
     layout: &Layout,
     group: &DirectoryEntry,
-    head: Option<Given>,
+    head: &Option<Neighbour>,
     free: Addr,
     tag: u64,
     body: &Body,
 ) -> Result<Vec<SlotWrite>, NoMemory>
     requires some { 0 < group.now.directory.received }
     requires group { IsGroupOf layout.now group.now }
-    requires head { IsNeighbour layout.now group.now.directory.head head }
+    requires head { IsNeighbour layout.now group.now.directory.head head.now }
     requires free { IsCellAddress layout.now free }
     ensures writes { IfOk result (λ writes. reverse (writes_of layout.now writes.items)
-        ≡ put_back_writes (layout_of layout.now) group.now.sender group.now.directory free tag body.now (cell_beside head)) }
+        ≡ put_back_writes (layout_of layout.now) group.now.sender group.now.directory free tag body.now (cell_beside head.now)) }
     ensures slots { IfOk result (λ writes. AreSlotWrites layout.now writes.items) }
 {
     let new = returned_cell(layout, group, tag, body);
     let first = filled(layout, free, &new);
     let last = group_write(layout, group, &returned(layout, group, free));
-    let writes = match &head {
+    let writes = match head {
         None => pair(room, first, last)?,
         Some(after) => triple(room, first, lead_write(layout, after, free), last)?,
     };
@@ -305,57 +305,57 @@ fn with_closed(layout: &Layout, group: &DirectoryEntry, closed: bool) -> Directo
 }
 
 // The write that has a cell followed by another one.
-fn link_write(layout: &Layout, before: &Given, next: Addr) -> SlotWrite
+fn link_write(layout: &Layout, before: &Neighbour, next: Addr) -> SlotWrite
     requires before { IsNeighbourAt layout.now before.now.at before.now }
     requires next { IsCellAddress layout.now next }
     ensures write { write_of layout.now result ≡ record {
       at = before.now.at;
-      before = Used (cell_in before.now.bytes);
-      after = Used (with_next next (cell_in before.now.bytes));
+      before = Used (cell_in before.now.bytes.now);
+      after = Used (with_next next (cell_in before.now.bytes.now));
     } }
     ensures slots { IsSlotWrite layout.now result }
 {
     prove!(next.page() < layout.pages() as u64);
-    beside_write(layout, before, followed(&before.bytes, next))
+    beside_write(layout, before, followed(before.bytes, next))
 }
 
 // The write that has no cell before a cell.
-fn unlink_write(layout: &Layout, after: &Given) -> SlotWrite
+fn unlink_write(layout: &Layout, after: &Neighbour) -> SlotWrite
     requires after { IsNeighbourAt layout.now after.now.at after.now }
     ensures write { write_of layout.now result ≡ record {
       at = after.now.at;
-      before = Used (cell_in after.now.bytes);
-      after = Used (with_prev 0 (cell_in after.now.bytes));
+      before = Used (cell_in after.now.bytes.now);
+      after = Used (with_prev 0 (cell_in after.now.bytes.now));
     } }
     ensures slots { IsSlotWrite layout.now result }
 {
-    beside_write(layout, after, preceded(&after.bytes, Addr::NONE))
+    beside_write(layout, after, preceded(after.bytes, Addr::NONE))
 }
 
 // The write that has no cell behind a cell.
-fn cut_write(layout: &Layout, before: &Given) -> SlotWrite
+fn cut_write(layout: &Layout, before: &Neighbour) -> SlotWrite
     requires before { IsNeighbourAt layout.now before.now.at before.now }
     ensures write { write_of layout.now result ≡ record {
       at = before.now.at;
-      before = Used (cell_in before.now.bytes);
-      after = Used (with_next 0 (cell_in before.now.bytes));
+      before = Used (cell_in before.now.bytes.now);
+      after = Used (with_next 0 (cell_in before.now.bytes.now));
     } }
     ensures slots { IsSlotWrite layout.now result }
 {
-    beside_write(layout, before, followed(&before.bytes, Addr::NONE))
+    beside_write(layout, before, followed(before.bytes, Addr::NONE))
 }
 
 // The write that has another cell before a cell.
-fn lead_write(layout: &Layout, after: &Given, first: Addr) -> SlotWrite
+fn lead_write(layout: &Layout, after: &Neighbour, first: Addr) -> SlotWrite
     requires after { IsNeighbourAt layout.now after.now.at after.now }
     requires first { IsCellAddress layout.now first }
     ensures write { write_of layout.now result ≡ record {
       at = after.now.at;
-      before = Used (cell_in after.now.bytes);
-      after = Used (with_prev first (cell_in after.now.bytes));
+      before = Used (cell_in after.now.bytes.now);
+      after = Used (with_prev first (cell_in after.now.bytes.now));
     } }
     ensures slots { IsSlotWrite layout.now result }
 {
     prove!(first.page() < layout.pages() as u64);
-    beside_write(layout, after, preceded(&after.bytes, first))
+    beside_write(layout, after, preceded(after.bytes, first))
 }

@@ -10,9 +10,9 @@ ghost use Rattle.rq_views.specs.Plans.{directory_write, with_next, with_prev};
 ghost use Rattle.rq_level.specs.Writes.{write_of, IsSlotWrite};
 ghost use Rattle.rq_chain.specs.CellEntries.{IsGroupOf, IsNeighbourAt};
 
-use crate::{CellEntry, DirectoryEntry};
+use crate::{CellEntry, DirectoryEntry, Neighbour};
 use rq_bytes::Fields;
-use rq_level::{Given, SlotWrite, only};
+use rq_level::{SlotWrite, only};
 use rq_model::record::Slot;
 use rq_model::refusal::NoMemory;
 use rq_page::addr::Addr;
@@ -82,11 +82,11 @@ fn directory_slot(sender: u32, directory: &Directory) -> DirectorySlot
 
 /// The write that has the slot of a cell beside spell something else.
 #[inline(always)]
-pub(crate) fn beside_write(layout: &Layout, beside: &Given, after: Slot) -> SlotWrite
+pub(crate) fn beside_write(layout: &Layout, beside: &Neighbour, after: Slot) -> SlotWrite
     requires beside { IsNeighbourAt layout.now beside.now.at beside.now }
     ensures write { (c : Cell) → IsCellOf layout.now c → after ≡ cell_bytes c → write_of layout.now result ≡ record {
       at = beside.now.at;
-      before = Used (cell_in beside.now.bytes);
+      before = Used (cell_in beside.now.bytes.now);
       after = Used c;
     } }
     ensures slots { (c : Cell) → IsCellOf layout.now c → after ≡ cell_bytes c → IsSlotWrite layout.now result }
@@ -94,7 +94,7 @@ pub(crate) fn beside_write(layout: &Layout, beside: &Given, after: Slot) -> Slot
     prove!(beside.at.page() < layout.pages() as u64);
     SlotWrite {
         at: beside.at,
-        before: beside.bytes,
+        before: *beside.bytes,
         after,
     }
 }

@@ -11,7 +11,7 @@ returns-clause-write c = λ x may e.
     let n = c.args.beside.now in
     let page = n.at / 16 in
     same_write n.at _ _ _ _
-    (ap (held_in z page) (sym c.requires.beside.spells) ∙ (cell_told z n.at (cells.Used (cell_in n.bytes)) c.requires.beside.address c.requires.beside.cell).0)
+    (ap (held_in z page) (sym c.requires.beside.spells) ∙ (cell_told z n.at (cells.Used (cell_in n.bytes.now)) c.requires.beside.address c.requires.beside.cell).0)
     (ap (held_in z page) e ∙ (cell_told z n.at (cells.Used x) c.requires.beside.address may).0)
 
 pub returns-clause-slots : goal.returns-clause-slots
@@ -20,6 +20,6 @@ returns-clause-slots c = λ x may e.
     let n = c.args.beside.now in
     record {
       place = cell_place z n.at c.requires.beside.address;
-      before = subst (IsSlotOf z (n.at / 16) (n.at % 16)) c.requires.beside.spells ((cell_told z n.at (cells.Used (cell_in n.bytes)) c.requires.beside.address c.requires.beside.cell).1);
+      before = subst (IsSlotOf z (n.at / 16) (n.at % 16)) c.requires.beside.spells ((cell_told z n.at (cells.Used (cell_in n.bytes.now)) c.requires.beside.address c.requires.beside.cell).1);
       after = subst (IsSlotOf z (n.at / 16) (n.at % 16)) (sym e) ((cell_told z n.at (cells.Used x) c.requires.beside.address may).1);
     }
