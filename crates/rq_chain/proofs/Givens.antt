@@ -121,28 +121,6 @@ group_read z given s a bytes x below all at e read =
       holds_it = subst (λ (y : DirectorySlot). GivenHolds z given (directory_at s) (Sender s y.directory)) same (holds z given (directory_at s) (Sender s told.directory) bytes e' told.is);
     }
 
--- what is known of a cell whose slot was given, once it is read
-pub data IsCellGiven (z : Sizes) (given : List Given) (a : ℕ) (o : Option Cell) : Type 0 where
-  GivenFree : o ≡ None → GivenHolds z given a Free → IsCellGiven z given a o
-  GivenUsed : (c : Cell) → o ≡ Some c → IsCellOf z c → GivenHolds z given a (Used c) → IsCellGiven z given a o
-
-given_as : (z : Sizes) (given : List Given) (a : ℕ) (o : Option Cell) (bytes : List ℕ) → given_at a given ≡ Some bytes
-    → ((c : Cell) → IsCell c → cell_bytes c ≡ bytes → o ≡ Some c) → (free_bytes ≡ bytes → o ≡ None) → IsCellTold z a bytes → IsCellGiven z given a o
-given_as z given a o bytes e used free (ToldFree h p) = GivenFree (free p) (holds z given a Free bytes e h)
-given_as z given a o bytes e used free (ToldUsed c h fits p) = GivenUsed c (used c fits.numbers p) fits (holds z given a (Used c) bytes e h)
-
-pub cell_given : (z : Sizes) (given : List Given) (a : ℕ) (o : Option Cell) (bytes : List ℕ) → IsCellAddress z a → AreGiven z given → given_at a given ≡ Some bytes
-    → ((c : Cell) → IsCell c → cell_bytes c ≡ bytes → o ≡ Some c) → (free_bytes ≡ bytes → o ≡ None) → IsCellGiven z given a o
-cell_given z given a o bytes is all e used free = given_as z given a o bytes e used free (cell_held z a bytes is (given_is z a given bytes all e).slot)
-
-pub given_fits : (z : Sizes) (given : List Given) (a : ℕ) (o : Option Cell) (c : Cell) → IsCellGiven z given a o → o ≡ Some c → IsCellOf z c
-given_fits z given a o c (GivenFree n h) e = absurd (let no : None ≡ Some c = sym n ∙ e in cc)
-given_fits z given a o c (GivenUsed d n fits h) e = let both : Some d ≡ Some c = sym n ∙ e in subst (IsCellOf z) (let it : d ≡ c = cc in it) fits
-
-pub given_holds : (z : Sizes) (given : List Given) (a : ℕ) (o : Option Cell) (c : Cell) → IsCellGiven z given a o → o ≡ Some c → GivenHolds z given a (Used c)
-given_holds z given a o c (GivenFree n h) e = absurd (let no : None ≡ Some c = sym n ∙ e in cc)
-given_holds z given a o c (GivenUsed d n fits h) e = let both : Some d ≡ Some c = sym n ∙ e in subst (λ (x : Cell). GivenHolds z given a (Used x)) (let it : d ≡ c = cc in it) h
-
 -- a slot that was given holds one thing
 pub same_held : (z : Sizes) (a : ℕ) (x y : Slot) (o : Option (List ℕ)) → HoldsBytes z a x o → HoldsBytes z a y o → x ≡ y
 same_held z a x y None h k = absurd h
@@ -150,10 +128,6 @@ same_held z a x y (Some bytes) h k = sym h ∙ k
 
 pub holds_one : (z : Sizes) (given : List Given) (a : ℕ) (x y : Slot) → GivenHolds z given a x → GivenHolds z given a y → x ≡ y
 holds_one z given a x y h k = same_held z a x y (given_at a given) h k
-
-pub given_none : (z : Sizes) (given : List Given) (a : ℕ) (o : Option Cell) → IsCellGiven z given a o → o ≡ None → (c : Cell) → GivenHolds z given a (Used c) → ⊥
-given_none z given a o (GivenFree n h) e c k = let no : Free ≡ Used c = holds_one z given a Free (Used c) h k in cc
-given_none z given a o (GivenUsed d n fits h) e c k = let no : None ≡ Some d = sym e ∙ n in cc
 
 -- no cell stands where a link leads
 pub beside_none : (z : Sizes) (given : List Given) (a : ℕ) → (a ≡ 0 → ⊥) → ((c : Cell) → GivenHolds z given a (Used c) → ⊥) → (o : Option Cell) → Beside z given a o → ⊥

@@ -22,6 +22,14 @@ pub prev_told : (bytes : List ℕ) → number_at 8 32 bytes ≡ (cell_in bytes).
 unfolding cell_in
 prev_told bytes = refl
 
+pub sequence_told : (bytes : List ℕ) → number_at 8 8 bytes ≡ (cell_in bytes).sequence
+unfolding cell_in
+sequence_told bytes = refl
+
+pub tag_told : (bytes : List ℕ) → number_at 8 16 bytes ≡ (cell_in bytes).tag
+unfolding cell_in
+tag_told bytes = refl
+
 -- a link that is written over that of a cell
 pub next_placed : (c : Cell) (next : ℕ) (bytes : List ℕ) → cell_bytes c ≡ bytes → with_number 8 24 next bytes ≡ cell_bytes (with_next next c)
 unfolding cell_bytes cell_front

@@ -6,6 +6,7 @@ use Rattle.rq_model.specs.declared.record.Deed.TheVariants.{Append, UnlinkHead, 
 use Rattle.rq_model.specs.declared.refusal.Refusal.{Refusal}
 use Rattle.rq_model.specs.Deeds.{deed_in, spelled_deed}
 use Rattle.rq_page.specs.declared.cell.Cell.{Cell}
+use Rattle.rq_page.specs.Cells.{cell_in}
 use Rattle.rq_page.specs.declared.directory.Directory.{Directory}
 use Rattle.rq_page.specs.Sizes.{Sizes, directory_at, sender_count}
 use Rattle.rq_page.specs.Slots.Slot.{Used, Sender}
@@ -20,12 +21,11 @@ use Rattle.rq_level.specs.declared.writes.Plan.{Plan}
 use Rattle.rq_level.specs.declared.writes.Replies.TheVariants as replies
 use Rattle.rq_chain.specs.declared.CellEntry.{CellEntry}
 use Rattle.rq_chain.specs.declared.DirectoryEntry.{DirectoryEntry}
-use Rattle.rq_chain.specs.declared.Neighbour.{Neighbour}
 use Rattle.rq_chain.specs.CellEntries.{cell_beside}
 use Rattle.rq_chain.proofs.Givens.{holds_one}
 
 module _ (z : Sizes) (k : LevelState) (given : List Given) (latched : List ℕ) (s tag : ℕ) (body : List ℕ) (p : Plan) (after : LevelState) (g : DirectoryEntry) where
-  pub is_sent : (tail : Option Neighbour) (new at : ℕ) → s < sender_count z → g.sender ≡ s → GivenHolds z given (directory_at s) (Sender s g.directory) → g.directory.sent ≤ 2 ^ 50
+  pub is_sent : (tail : Option CellEntry) (new at : ℕ) → s < sender_count z → g.sender ≡ s → GivenHolds z given (directory_at s) (Sender s g.directory) → g.directory.sent ≤ 2 ^ 50
       → at ≡ g.directory.tail → Beside z given at (cell_beside tail) → IsLowest z k latched new
       → reverse (writes_of z p.writes.items) ≡ append_writes (layout_of z) g.sender g.directory new tag body (cell_beside tail)
       → AreSlotWrites z p.writes.items → p.deed ≡ spelled_deed (Append s (g.directory.sent + 1) tag g.directory.last_tag body)
@@ -43,11 +43,11 @@ module _ (z : Sizes) (k : LevelState) (given : List Given) (latched : List ℕ) 
     kept = kept;
   }
 
-  pub is_received : (head : CellEntry) (next : Option Neighbour) (at behind : ℕ) → s < sender_count z → g.sender ≡ s → GivenHolds z given (directory_at s) (Sender s g.directory)
-      → g.directory.received < g.directory.sent → 0 < at → at ≡ g.directory.head → GivenHolds z given at (Used head.cell) → behind ≡ head.cell.next → Beside z given behind (cell_beside next)
-      → reverse (writes_of z p.writes.items) ≡ unlink_head_writes (layout_of z) g.sender g.directory head.cell (cell_beside next)
-      → AreSlotWrites z p.writes.items → p.deed ≡ spelled_deed (UnlinkHead s (g.directory.received + 1) head.cell.tag head.cell.body)
-      → deed_in p.deed ≡ Some (UnlinkHead s (g.directory.received + 1) head.cell.tag head.cell.body)
+  pub is_received : (head : CellEntry) (next : Option CellEntry) (at behind : ℕ) → s < sender_count z → g.sender ≡ s → GivenHolds z given (directory_at s) (Sender s g.directory)
+      → g.directory.received < g.directory.sent → 0 < at → at ≡ g.directory.head → GivenHolds z given at (Used (cell_in head.bytes.now)) → behind ≡ (cell_in head.bytes.now).next → Beside z given behind (cell_beside next)
+      → reverse (writes_of z p.writes.items) ≡ unlink_head_writes (layout_of z) g.sender g.directory (cell_in head.bytes.now) (cell_beside next)
+      → AreSlotWrites z p.writes.items → p.deed ≡ spelled_deed (UnlinkHead s (g.directory.received + 1) (cell_in head.bytes.now).tag (cell_in head.bytes.now).body)
+      → deed_in p.deed ≡ Some (UnlinkHead s (g.directory.received + 1) (cell_in head.bytes.now).tag (cell_in head.bytes.now).body)
       → p.reply ≡ replies.Deed → after ≡ k → IsReceived z k given s p after
   is_received head next at behind below own holds some used at_is head_is behind_is beside writes slots deed reads reply kept = record {
     can = record {
@@ -56,12 +56,12 @@ module _ (z : Sizes) (k : LevelState) (given : List Given) (latched : List ℕ) 
       directory_is = holds;
       some = some;
       used = subst (λ (a : ℕ). 0 < a) at_is used;
-      cell = head.cell;
-      head_is = subst (λ (a : ℕ). GivenHolds z given a (Used head.cell)) at_is head_is;
+      cell = (cell_in head.bytes.now);
+      head_is = subst (λ (a : ℕ). GivenHolds z given a (Used (cell_in head.bytes.now))) at_is head_is;
       next = cell_beside next;
       beside = subst (λ (a : ℕ). Beside z given a (cell_beside next)) behind_is beside;
     };
-    writes = writes ∙ ap (λ (n : ℕ). unlink_head_writes (layout_of z) n g.directory head.cell (cell_beside next)) own;
+    writes = writes ∙ ap (λ (n : ℕ). unlink_head_writes (layout_of z) n g.directory (cell_in head.bytes.now) (cell_beside next)) own;
     slots = slots;
     deed = deed;
     reads = reads;
@@ -104,11 +104,11 @@ is_marked z given s closed p g below own holds other writes slots = record {
   slots = slots;
 }
 
-pub is_unlinked : (z : Sizes) (k : LevelState) (given : List Given) (s n previous : ℕ) (p : Plan) (g : DirectoryEntry) (tail : CellEntry) (front : Option Neighbour) (at behind : ℕ)
+pub is_unlinked : (z : Sizes) (k : LevelState) (given : List Given) (s n previous : ℕ) (p : Plan) (g : DirectoryEntry) (tail : CellEntry) (front : Option CellEntry) (at behind : ℕ)
     → s < sender_count z → g.sender ≡ s → GivenHolds z given (directory_at s) (Sender s g.directory)
-    → g.directory.received < g.directory.sent → g.directory.sent ≡ n → 0 < at → at ≡ g.directory.tail → GivenHolds z given at (Used tail.cell) → tail.cell.sequence ≡ n
-    → behind ≡ tail.cell.prev → Beside z given behind (cell_beside front)
-    → reverse (writes_of z p.writes.items) ≡ unlink_tail_writes (layout_of z) g.sender g.directory tail.cell previous (cell_beside front)
+    → g.directory.received < g.directory.sent → g.directory.sent ≡ n → 0 < at → at ≡ g.directory.tail → GivenHolds z given at (Used (cell_in tail.bytes.now)) → (cell_in tail.bytes.now).sequence ≡ n
+    → behind ≡ (cell_in tail.bytes.now).prev → Beside z given behind (cell_beside front)
+    → reverse (writes_of z p.writes.items) ≡ unlink_tail_writes (layout_of z) g.sender g.directory (cell_in tail.bytes.now) previous (cell_beside front)
     → AreSlotWrites z p.writes.items → IsInverse p → IsTailUnlinked z k given s n previous p k
 is_unlinked z k given s n previous p g tail front at behind below own holds some sequence used at_is tail_is last behind_is beside writes slots inverse = record {
   can = record {
@@ -118,19 +118,19 @@ is_unlinked z k given s n previous p g tail front at behind below own holds some
     some = some;
     sequence = sequence;
     used = subst (λ (a : ℕ). 0 < a) at_is used;
-    cell = tail.cell;
-    tail_is = subst (λ (a : ℕ). GivenHolds z given a (Used tail.cell)) at_is tail_is;
+    cell = (cell_in tail.bytes.now);
+    tail_is = subst (λ (a : ℕ). GivenHolds z given a (Used (cell_in tail.bytes.now))) at_is tail_is;
     last = last;
     front = cell_beside front;
     beside = subst (λ (a : ℕ). Beside z given a (cell_beside front)) behind_is beside;
   };
-  writes = writes ∙ ap (λ (m : ℕ). unlink_tail_writes (layout_of z) m g.directory tail.cell previous (cell_beside front)) own;
+  writes = writes ∙ ap (λ (m : ℕ). unlink_tail_writes (layout_of z) m g.directory (cell_in tail.bytes.now) previous (cell_beside front)) own;
   slots = slots;
   inverse = inverse;
   kept = refl;
 }
 
-pub is_returned : (z : Sizes) (k : LevelState) (given : List Given) (latched : List ℕ) (s n tag : ℕ) (body : List ℕ) (p : Plan) (after : LevelState) (g : DirectoryEntry) (head : Option Neighbour) (new at : ℕ)
+pub is_returned : (z : Sizes) (k : LevelState) (given : List Given) (latched : List ℕ) (s n tag : ℕ) (body : List ℕ) (p : Plan) (after : LevelState) (g : DirectoryEntry) (head : Option CellEntry) (new at : ℕ)
     → s < sender_count z → g.sender ≡ s → GivenHolds z given (directory_at s) (Sender s g.directory) → 0 < g.directory.received → g.directory.received ≡ n
     → at ≡ g.directory.head → Beside z given at (cell_beside head) → IsLowest z k latched new
     → reverse (writes_of z p.writes.items) ≡ put_back_writes (layout_of z) g.sender g.directory new tag body (cell_beside head)

@@ -1,42 +1,28 @@
 -- A sender's group and the cells beside those that an operation writes.
 use Rattle.std.specs.Prelude.{◌≡◌, ℕ, ◌<◌, Option, Some, None}
 use Rattle.rq_page.specs.declared.cell.Cell.{Cell}
-use Rattle.rq_page.specs.declared.cell.CellSlot.{CellSlot}
-use Rattle.rq_page.specs.declared.cell.CellSlot.TheVariants as cells
 use Rattle.rq_page.specs.Sizes.{Sizes, IsCellAddress, directory_at, sender_count}
 use Rattle.rq_page.specs.Slots.{IsCellOf, IsDirectoryOf}
 use Rattle.rq_page.specs.Cells.{cell_in, cell_bytes}
 use Rattle.rq_chain.specs.declared.CellEntry.{CellEntry}
 use Rattle.rq_chain.specs.declared.DirectoryEntry.{DirectoryEntry}
-use Rattle.rq_chain.specs.declared.Neighbour.{Neighbour}
 
 -- the cell beside, if there is one
-abbrev pub cell_beside : Option Neighbour → Option Cell
+abbrev pub cell_beside : Option CellEntry → Option Cell
 cell_beside None = None
 cell_beside (Some n) = Some (cell_in n.bytes.now)
 
--- the cell that a cell's slot holds, if it holds one
-abbrev pub used_of : CellSlot → Option Cell
-used_of cells.Free = None
-used_of (cells.Used c) = Some c
-
--- it stands at this address, which is a cell's, and is a cell of the store
+-- it stands at this address, which is a cell's, and its bytes spell a cell of the store
 pub record IsCellEntryAt (z : Sizes) (a : ℕ) (n : CellEntry) : Type 0 where
-  pub at : n.at ≡ a
-  pub address : IsCellAddress z a
-  pub cell : IsCellOf z n.cell
-
--- the neighbour stands at this address, which is a cell's, and its bytes spell a cell of the store
-pub record IsNeighbourAt (z : Sizes) (a : ℕ) (n : Neighbour) : Type 0 where
   pub at : n.at ≡ a
   pub address : IsCellAddress z a
   pub cell : IsCellOf z (cell_in n.bytes.now)
   pub spells : cell_bytes (cell_in n.bytes.now) ≡ n.bytes.now
 
 -- the neighbour that a link names: none where it is 0
-abbrev pub IsNeighbour : Sizes → ℕ → Option Neighbour → Type 0
+abbrev pub IsNeighbour : Sizes → ℕ → Option CellEntry → Type 0
 IsNeighbour z a None = a ≡ 0
-IsNeighbour z a (Some n) = IsNeighbourAt z a n
+IsNeighbour z a (Some n) = IsCellEntryAt z a n
 
 -- the group stands where its sender's directory slot is, and may stand there
 pub record IsGroupOf (z : Sizes) (g : DirectoryEntry) : Type 0 where

@@ -9,12 +9,11 @@ ghost use Rattle.rq_level.specs.declared.writes.Plan.{Plan};
 ghost use Rattle.rq_chain.specs.Doings.{told_one};
 ghost use Rattle.rq_chain.specs.Refusing.{NoCell};
 
-use crate::CellEntry;
 use crate::cells::FreeCells;
 use crate::doing::{Doing, read_doing};
 use crate::given::{SENT_LIMIT, beside_given, cell_given, group_given, head_of, tail_of};
 use crate::plans::{append, put_back, set_closed, unlink_head, unlink_tail};
-use crate::wants::wanted;
+use crate::wants::{body_in, next_in, prev_in, sequence_in, tag_in, wanted};
 use byteorder::{BigEndian, ByteOrder};
 use rq_level::{Level, Op, PageSet, Plan, Replies, SlotWrite, Slots, Want, redo_page};
 use rq_model::message::Body;
@@ -208,7 +207,7 @@ impl ChainLevel {
         let Some(head) = cell_given(layout, given, head_of(&group)) else {
             return Err(damaged);
         };
-        let Some(next) = beside_given(layout, given, next_of(&head)) else {
+        let Some(next) = beside_given(layout, given, next_in(head.bytes)) else {
             return Err(damaged);
         };
         let Ok(writes) = unlink_head(room, layout, &group, &head, &next) else {
@@ -217,7 +216,7 @@ impl ChainLevel {
         let sequence = group.directory.received + 1;
         Ok(Plan {
             writes,
-            deed: encode_unlink_head(sender, sequence, head.cell.tag, &head.cell.body),
+            deed: encode_unlink_head(sender, sequence, tag_in(head.bytes), &body_in(head.bytes)),
             reply: Replies::Deed,
         })
     }
@@ -472,10 +471,10 @@ fn unlinked_tail(
     let Some(tail) = cell_given(layout, given, tail_of(&group)) else {
         return Err(damaged);
     };
-    if tail.cell.sequence != sequence {
+    if sequence_in(tail.bytes) != sequence {
         return Err(damaged);
     }
-    let Some(front) = beside_given(layout, given, front_of(&tail)) else {
+    let Some(front) = beside_given(layout, given, prev_in(tail.bytes)) else {
         return Err(damaged);
     };
     match unlink_tail(room, layout, &group, &tail, &front, previous) {
@@ -494,20 +493,6 @@ fn inverse(writes: Vec<SlotWrite>) -> Plan
         deed: DeedBytes::new(&[]).unwrap(),
         reply: Replies::Undone,
     }
-}
-
-// The cell before the one beside.
-fn front_of(tail: &CellEntry) -> Addr
-    ensures { result ≡ tail.now.cell.prev }
-{
-    tail.cell.prev
-}
-
-// The cell behind the one beside.
-fn next_of(head: &CellEntry) -> Addr
-    ensures { result ≡ head.now.cell.next }
-{
-    head.cell.next
 }
 
 // The layout that a superblock's slot tells, where a store may have it.

@@ -17,19 +17,11 @@ pub use level::ChainLevel;
 pub use plans::{append, put_back, set_closed, unlink_head, unlink_tail};
 use rq_model::record::Slot;
 use rq_page::addr::Addr;
-use rq_page::cell::Cell;
 use rq_page::directory::Directory;
 
-/// A used cell: where it stands, and what it holds.
+/// A used cell that was given: where it stands, and the bytes of its slot.
 #[derive(Clone, Copy)]
-pub struct CellEntry {
-    pub at: Addr,
-    pub cell: Cell,
-}
-
-/// The used cell beside one that an operation takes: where it stands, and the bytes of its slot as they were given.
-#[derive(Clone, Copy)]
-pub struct Neighbour<'a> {
+pub struct CellEntry<'a> {
     pub at: Addr,
     pub bytes: &'a Slot,
 }

@@ -7,10 +7,11 @@ ghost use Rattle.rq_views.specs.Chain.{directory_appended};
 ghost use Rattle.rq_views.specs.Items.{layout_of};
 ghost use Rattle.rq_views.specs.Plans.{append_writes, unlink_head_writes, unlink_tail_writes, put_back_writes, directory_write, directory_head_unlinked, directory_tail_unlinked, directory_put_back, with_next, with_prev};
 ghost use Rattle.rq_level.specs.Writes.{write_of, writes_of, IsSlotWrite, AreSlotWrites};
-ghost use Rattle.rq_chain.specs.CellEntries.{cell_beside, IsCellEntryAt, IsGroupOf, IsNeighbour, IsNeighbourAt};
+ghost use Rattle.rq_chain.specs.CellEntries.{cell_beside, IsCellEntryAt, IsGroupOf, IsNeighbour};
 
+use crate::wants::{next_in, prev_in};
 use crate::writes::{beside_write, emptied, filled, followed, group_write, pair, preceded, triple};
-use crate::{CellEntry, DirectoryEntry, Neighbour};
+use crate::{CellEntry, DirectoryEntry};
 use rq_level::{SlotWrite, only};
 use rq_model::message::{BODY_LIMIT, Body};
 use rq_model::refusal::NoMemory;
@@ -24,7 +25,7 @@ pub fn append(
     room: Vec<SlotWrite>,
     layout: &Layout,
     group: &DirectoryEntry,
-    tail: &Option<Neighbour>,
+    tail: &Option<CellEntry>,
     free: Addr,
     tag: u64,
     body: &Body,
@@ -53,19 +54,19 @@ pub fn unlink_head(
     layout: &Layout,
     group: &DirectoryEntry,
     head: &CellEntry,
-    next: &Option<Neighbour>,
+    next: &Option<CellEntry>,
 ) -> Result<Vec<SlotWrite>, NoMemory>
     requires some { group.now.directory.received < group.now.directory.sent }
     requires group { IsGroupOf layout.now group.now }
     requires head { IsCellEntryAt layout.now group.now.directory.head head.now }
-    requires next { IsNeighbour layout.now head.now.cell.next next.now }
+    requires next { IsNeighbour layout.now (cell_in head.now.bytes.now).next next.now }
     ensures writes { IfOk result (λ writes. reverse (writes_of layout.now writes.items)
-        ≡ unlink_head_writes (layout_of layout.now) group.now.sender group.now.directory head.now.cell
+        ≡ unlink_head_writes (layout_of layout.now) group.now.sender group.now.directory (cell_in head.now.bytes.now)
         (cell_beside next.now)) }
     ensures slots { IfOk result (λ writes. AreSlotWrites layout.now writes.items) }
 {
     let first = emptied(layout, head);
-    let last = group_write(layout, group, &head_unlinked(layout, group, &head.cell));
+    let last = group_write(layout, group, &head_unlinked(layout, group, head));
     let writes = match next {
         None => pair(room, first, last)?,
         Some(after) => triple(room, first, unlink_write(layout, after), last)?,
@@ -79,20 +80,20 @@ pub fn unlink_tail(
     layout: &Layout,
     group: &DirectoryEntry,
     tail: &CellEntry,
-    front: &Option<Neighbour>,
+    front: &Option<CellEntry>,
     previous: u64,
 ) -> Result<Vec<SlotWrite>, NoMemory>
     requires some { group.now.directory.received < group.now.directory.sent }
     requires group { IsGroupOf layout.now group.now }
     requires tail { IsCellEntryAt layout.now group.now.directory.tail tail.now }
-    requires front { IsNeighbour layout.now tail.now.cell.prev front.now }
+    requires front { IsNeighbour layout.now (cell_in tail.now.bytes.now).prev front.now }
     ensures writes { IfOk result (λ writes. reverse (writes_of layout.now writes.items)
-        ≡ unlink_tail_writes (layout_of layout.now) group.now.sender group.now.directory tail.now.cell previous
+        ≡ unlink_tail_writes (layout_of layout.now) group.now.sender group.now.directory (cell_in tail.now.bytes.now) previous
         (cell_beside front.now)) }
     ensures slots { IfOk result (λ writes. AreSlotWrites layout.now writes.items) }
 {
     let first = emptied(layout, tail);
-    let after = tail_unlinked(layout, group, &tail.cell, previous);
+    let after = tail_unlinked(layout, group, tail, previous);
     let last = group_write(layout, group, &after);
     let writes = match front {
         None => pair(room, first, last)?,
@@ -106,7 +107,7 @@ pub fn put_back(
     room: Vec<SlotWrite>,
     layout: &Layout,
     group: &DirectoryEntry,
-    head: &Option<Neighbour>,
+    head: &Option<CellEntry>,
     free: Addr,
     tag: u64,
     body: &Body,
@@ -194,16 +195,16 @@ fn appended(layout: &Layout, group: &DirectoryEntry, cell: Addr, tag: u64) -> Di
 }
 
 // What the directory says of a group without its first message, which stands in this cell.
-fn head_unlinked(layout: &Layout, group: &DirectoryEntry, head: &Cell) -> Directory
+fn head_unlinked(layout: &Layout, group: &DirectoryEntry, head: &CellEntry) -> Directory
     requires some { group.now.directory.received < group.now.directory.sent }
     requires group { IsGroupOf layout.now group.now }
-    requires head { IsCellOf layout.now head.now }
-    ensures directory { result ≡ directory_head_unlinked group.now.directory head.now }
+    requires head { IsCellEntryAt layout.now group.now.directory.head head.now }
+    ensures directory { result ≡ directory_head_unlinked group.now.directory (cell_in head.now.bytes.now) }
     ensures fits { IsDirectoryOf layout.now group.now.sender
         (record { sender = group.now.sender; directory = result }) }
 {
     let old = &group.directory;
-    let next = head.next;
+    let next = next_in(head.bytes);
     Directory {
         closed: old.closed,
         sent: old.sent,
@@ -241,16 +242,21 @@ fn returned_cell(layout: &Layout, group: &DirectoryEntry, tag: u64, body: &Body)
 }
 
 // What the directory says of a group without its last message, which stands in this cell.
-fn tail_unlinked(layout: &Layout, group: &DirectoryEntry, tail: &Cell, previous: u64) -> Directory
+fn tail_unlinked(
+    layout: &Layout,
+    group: &DirectoryEntry,
+    tail: &CellEntry,
+    previous: u64,
+) -> Directory
     requires some { group.now.directory.received < group.now.directory.sent }
     requires group { IsGroupOf layout.now group.now }
-    requires tail { IsCellOf layout.now tail.now }
-    ensures directory { result ≡ directory_tail_unlinked group.now.directory tail.now previous }
+    requires tail { IsCellEntryAt layout.now group.now.directory.tail tail.now }
+    ensures directory { result ≡ directory_tail_unlinked group.now.directory (cell_in tail.now.bytes.now) previous }
     ensures fits { IsDirectoryOf layout.now group.now.sender
         (record { sender = group.now.sender; directory = result }) }
 {
     let old = &group.directory;
-    let front = tail.prev;
+    let front = prev_in(tail.bytes);
     Directory {
         closed: old.closed,
         sent: old.sent - 1,
@@ -305,8 +311,8 @@ fn with_closed(layout: &Layout, group: &DirectoryEntry, closed: bool) -> Directo
 }
 
 // The write that has a cell followed by another one.
-fn link_write(layout: &Layout, before: &Neighbour, next: Addr) -> SlotWrite
-    requires before { IsNeighbourAt layout.now before.now.at before.now }
+fn link_write(layout: &Layout, before: &CellEntry, next: Addr) -> SlotWrite
+    requires before { IsCellEntryAt layout.now before.now.at before.now }
     requires next { IsCellAddress layout.now next }
     ensures write { write_of layout.now result ≡ record {
       at = before.now.at;
@@ -320,8 +326,8 @@ fn link_write(layout: &Layout, before: &Neighbour, next: Addr) -> SlotWrite
 }
 
 // The write that has no cell before a cell.
-fn unlink_write(layout: &Layout, after: &Neighbour) -> SlotWrite
-    requires after { IsNeighbourAt layout.now after.now.at after.now }
+fn unlink_write(layout: &Layout, after: &CellEntry) -> SlotWrite
+    requires after { IsCellEntryAt layout.now after.now.at after.now }
     ensures write { write_of layout.now result ≡ record {
       at = after.now.at;
       before = Used (cell_in after.now.bytes.now);
@@ -333,8 +339,8 @@ fn unlink_write(layout: &Layout, after: &Neighbour) -> SlotWrite
 }
 
 // The write that has no cell behind a cell.
-fn cut_write(layout: &Layout, before: &Neighbour) -> SlotWrite
-    requires before { IsNeighbourAt layout.now before.now.at before.now }
+fn cut_write(layout: &Layout, before: &CellEntry) -> SlotWrite
+    requires before { IsCellEntryAt layout.now before.now.at before.now }
     ensures write { write_of layout.now result ≡ record {
       at = before.now.at;
       before = Used (cell_in before.now.bytes.now);
@@ -346,8 +352,8 @@ fn cut_write(layout: &Layout, before: &Neighbour) -> SlotWrite
 }
 
 // The write that has another cell before a cell.
-fn lead_write(layout: &Layout, after: &Neighbour, first: Addr) -> SlotWrite
-    requires after { IsNeighbourAt layout.now after.now.at after.now }
+fn lead_write(layout: &Layout, after: &CellEntry, first: Addr) -> SlotWrite
+    requires after { IsCellEntryAt layout.now after.now.at after.now }
     requires first { IsCellAddress layout.now first }
     ensures write { write_of layout.now result ≡ record {
       at = after.now.at;

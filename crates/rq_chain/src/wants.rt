@@ -11,6 +11,7 @@ ghost use Rattle.rq_chain.specs.Spans.{span_wanted};
 use crate::spans::{Reach, Span, span_of};
 use byteorder::{BigEndian, ByteOrder};
 use rq_level::{Op, Slots};
+use rq_model::message::Body;
 use rq_model::record::Slot;
 use rq_page::addr::Addr;
 use rq_page::layout::SLOTS;
@@ -115,7 +116,7 @@ fn before(bytes: &Slot, given: &Slots) -> Option<Addr>
     link_wanted(prev_in(bytes), given)
 }
 
-// The links in the bytes of a slot.
+// What stands in the bytes of a slot.
 
 fn tail_in(bytes: &Slot) -> Addr
     ensures { result ≡ (directory_in bytes.now).directory.tail }
@@ -129,16 +130,37 @@ fn head_in(bytes: &Slot) -> Addr
     Addr::from_number(u64_at(bytes, 32))
 }
 
-fn next_in(bytes: &Slot) -> Addr
+pub(crate) fn next_in(bytes: &Slot) -> Addr
     ensures { result ≡ (cell_in bytes.now).next }
 {
     Addr::from_number(u64_at(bytes, 24))
 }
 
-fn prev_in(bytes: &Slot) -> Addr
+pub(crate) fn prev_in(bytes: &Slot) -> Addr
     ensures { result ≡ (cell_in bytes.now).prev }
 {
     Addr::from_number(u64_at(bytes, 32))
+}
+
+pub(crate) fn sequence_in(bytes: &Slot) -> u64
+    ensures { result ≡ (cell_in bytes.now).sequence }
+{
+    u64_at(bytes, 8)
+}
+
+pub(crate) fn tag_in(bytes: &Slot) -> u64
+    ensures { result ≡ (cell_in bytes.now).tag }
+{
+    u64_at(bytes, 16)
+}
+
+#[tactic(auto, unfolding(rq_page::specs::Cells::cell_in))]
+pub(crate) fn body_in(bytes: &Slot) -> Body
+    requires { number_at 2 2 bytes.now ≤ 216 }
+    ensures { result ≡ (cell_in bytes.now).body }
+{
+    let length = BigEndian::read_u16(&bytes[2..]) as usize;
+    Body::new(&bytes[40..40 + length]).unwrap()
 }
 
 fn u64_at(bytes: &[u8], at: usize) -> u64

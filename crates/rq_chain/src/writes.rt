@@ -8,9 +8,9 @@ ghost use Rattle.rq_page.specs.Slots.{Free, IsCellOf, IsDirectoryOf, Used};
 ghost use Rattle.rq_views.specs.Items.{layout_of};
 ghost use Rattle.rq_views.specs.Plans.{directory_write, with_next, with_prev};
 ghost use Rattle.rq_level.specs.Writes.{write_of, IsSlotWrite};
-ghost use Rattle.rq_chain.specs.CellEntries.{IsGroupOf, IsNeighbourAt};
+ghost use Rattle.rq_chain.specs.CellEntries.{IsGroupOf, IsCellEntryAt};
 
-use crate::{CellEntry, DirectoryEntry, Neighbour};
+use crate::{CellEntry, DirectoryEntry};
 use rq_bytes::Fields;
 use rq_level::{SlotWrite, only};
 use rq_model::record::Slot;
@@ -39,15 +39,18 @@ pub(crate) fn filled(layout: &Layout, at: Addr, cell: &Cell) -> SlotWrite
 /// The write that empties a cell.
 #[inline(always)]
 pub(crate) fn emptied(layout: &Layout, entry: &CellEntry) -> SlotWrite
-    requires at { IsCellAddress layout.now entry.now.at }
-    requires cell { IsCellOf layout.now entry.now.cell }
-    ensures write { write_of layout.now result ≡ record { at = entry.now.at; before = Used entry.now.cell; after = Free } }
+    requires { IsCellEntryAt layout.now entry.now.at entry.now }
+    ensures write { write_of layout.now result ≡ record {
+      at = entry.now.at;
+      before = Used (cell_in entry.now.bytes.now);
+      after = Free;
+    } }
     ensures slots { IsSlotWrite layout.now result }
 {
     prove!(entry.at.page() < layout.pages() as u64);
     SlotWrite {
         at: entry.at,
-        before: entry.cell.encode(),
+        before: *entry.bytes,
         after: CellSlot::Free.encode(),
     }
 }
@@ -82,8 +85,8 @@ fn directory_slot(sender: u32, directory: &Directory) -> DirectorySlot
 
 /// The write that has the slot of a cell beside spell something else.
 #[inline(always)]
-pub(crate) fn beside_write(layout: &Layout, beside: &Neighbour, after: Slot) -> SlotWrite
-    requires beside { IsNeighbourAt layout.now beside.now.at beside.now }
+pub(crate) fn beside_write(layout: &Layout, beside: &CellEntry, after: Slot) -> SlotWrite
+    requires beside { IsCellEntryAt layout.now beside.now.at beside.now }
     ensures write { (c : Cell) → IsCellOf layout.now c → after ≡ cell_bytes c → write_of layout.now result ≡ record {
       at = beside.now.at;
       before = Used (cell_in beside.now.bytes.now);

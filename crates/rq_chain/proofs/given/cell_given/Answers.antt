@@ -1,17 +1,10 @@
 use Rattle.std.proofs.Common.{refl}
-use Rattle.rq_chain.proofs.Givens.{cell_given, given_fits, given_holds, given_none}
+use Rattle.rq_chain.proofs.Givens.{cell_held, given_is, used_told}
 use Rattle.rq_chain.proofs.given.cell_given.Goals as goal
 
-pub returns : goal.returns
-returns c =
-    let told = cell_given c.args.layout.now c.args.given.now c.args.at c.used_in.result c.in_ok-bytes.bytes.now c.requires.at c.requires.given c.in_ok-bytes.ensures c.used_in.ensures.used c.used_in.ensures.free in
-    record {
-      cell = record { at = refl; address = c.requires.at; cell = given_fits _ _ _ _ _ told c.in_ok-cell.was };
-      holds = given_holds _ _ _ _ _ told c.in_ok-cell.was;
-      none = tt;
-    }
-
-pub returns-in_err-cell-clause-none : goal.returns-in_err-cell-clause-none
-returns-in_err-cell-clause-none c =
-    let told = cell_given c.args.layout.now c.args.given.now c.args.at c.used_in.result c.in_ok-bytes.bytes.now c.requires.at c.requires.given c.in_ok-bytes.ensures c.used_in.ensures.used c.used_in.ensures.free in
-    rw c.from_residual-in_err-cell.ensures (given_none _ _ _ _ told c.in_err-cell.was)
+pub returns-clause-cell : goal.returns-clause-cell
+returns-clause-cell c =
+    let z = c.args.layout.now in
+    let bytes = c.in_ok-bytes.bytes.now in
+    let is = used_told z c.args.at bytes (cell_held z c.args.at bytes c.requires.at (given_is z c.args.at c.args.given.now bytes c.requires.given c.in_ok-bytes.ensures).slot) c.if-bytes-eq0.false in
+    record { at = refl; address = c.requires.at; cell = is.fits; spells = is.spells }
