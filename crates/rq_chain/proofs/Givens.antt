@@ -4,7 +4,7 @@ use Rattle.std.proofs.lemmas.List.Elements.{All-head, All-tail}
 use Rattle.std.proofs.lemmas.Bool.{eqb-true}
 use Rattle.rq_page.specs.Sizes.{Sizes, IsCellAddress, directory_at, sender_at, sender_count}
 use Rattle.rq_page.specs.Kinds.{kind_of}
-use Rattle.rq_page.specs.Cells.{cell_bytes, cell_in, free_bytes, IsCell}
+use Rattle.rq_page.specs.Cells.{cell_bytes, cell_in, free_bytes}
 use Rattle.rq_page.specs.Directories.{directory_bytes, directory_in}
 use Rattle.rq_page.proofs.CellBytes.{cell_in-cell_bytes}
 use Rattle.rq_page.proofs.DirectoryBytes.{directory_in-directory_bytes}

@@ -1,12 +1,12 @@
 //! The chains of all senders as a level of recovery.
-ghost use Rattle.std.specs.Prelude.{◌≡◌, ◌<◌, IfOk, IfErr, IfSome, IfNone, OnErr, None, Some, length, true, false};
+ghost use Rattle.std.specs.Prelude.{◌≡◌, ◌<◌, ◌≤◌, IfOk, IfErr, IfSome, IfNone, OnErr, None, Some, length, true, false};
 ghost use Rattle.std.specs.Bool.{OnTrue, OnFalse};
 ghost use Rattle.rq_page.specs.Sizes.{IsCellAddress, place_of};
 ghost use Rattle.rq_level.specs.LevelState.{LevelState, IsLowest, NoneToTake, NoneFree, SomeFree, reserved_at, told_sizes, is_cell_address, noted_cell, noted};
 ghost use Rattle.rq_level.specs.Given.{AreGiven};
 ghost use Rattle.rq_level.specs.ChainPlans.{CanSend, IsSent, RefusesTaking, CanReceive, IsReceived, RefusesOther, CanMark, IsMarked, IsClosed, CanUnlinkTail, IsTailUnlinked, CanPutBack, IsReturned, IsReopened, IsInverse, IsOfSender, Plans, Undoes};
 ghost use Rattle.rq_level.specs.declared.writes.Plan.{Plan};
-ghost use Rattle.rq_chain.specs.Doings.{told_one};
+ghost use Rattle.rq_chain.specs.Doings.{IsShort, told_one};
 ghost use Rattle.rq_chain.specs.Refusing.{NoCell};
 
 use crate::cells::FreeCells;
@@ -126,7 +126,8 @@ impl ChainLevel {
         given: &Slots,
         latched: &PageSet,
     ) -> Result<Plan, Refusal>
-        requires { AreGiven layout.now given.now }
+        requires given { AreGiven layout.now given.now }
+        requires short { IsShort doing.now }
         ensures { Plans (Some layout.now) (Some (told_one doing.now)) self.old given.now latched.now.pages result self.new }
     {
         match doing {
@@ -147,9 +148,10 @@ impl ChainLevel {
         latched: &PageSet,
         sender: u32,
         tag: u64,
-        body: &Body,
+        body: &[u8],
     ) -> Result<Plan, Refusal>
-        requires { AreGiven layout.now given.now }
+        requires given { AreGiven layout.now given.now }
+        requires short { length body.now ≤ 216 }
         ensures ok { IfOk result (λ p. IsSent layout.now self.old given.now latched.now.pages sender tag body.now p self.new) }
         ensures err { IfErr result (λ r. RefusesTaking layout.now self.old latched.now.pages sender (CanSend layout.now given.now sender) r) }
         ensures kept { OnErr result (self.new ≡ self.old) }
@@ -170,14 +172,15 @@ impl ChainLevel {
         let Some(free) = self.lowest(layout, latched) else {
             return Err(self.no_cell(layout, sender));
         };
-        let Ok(writes) = append(room, layout, &group, &tail, free, tag, body) else {
+        let body = Body::new(body).unwrap();
+        let Ok(writes) = append(room, layout, &group, &tail, free, tag, &body) else {
             return Err(Refusal::NoMemory);
         };
         self.reserve(layout, free);
         let directory = &group.directory;
         Ok(Plan {
             writes,
-            deed: encode_append(sender, directory.sent + 1, tag, directory.last_tag, body),
+            deed: encode_append(sender, directory.sent + 1, tag, directory.last_tag, &body),
             reply: Replies::Deed,
         })
     }
