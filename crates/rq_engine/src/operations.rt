@@ -204,9 +204,9 @@ fn done(deed: &ToldDeed) -> Outcome
     ensures reply { result ≡ answer_of deed.now }
     ensures gave { outcome_of result ≡ gave_done deed.now }
 {
-    match (deed.message(), deed.gist()) {
-        (Some(message), _) => Outcome::Message(message),
-        (None, Gist::Close { .. }) => Outcome::Closed,
-        (None, _) => Outcome::Sent,
+    match deed.gist() {
+        Gist::Append { .. } => Outcome::Sent,
+        Gist::UnlinkHead { .. } => Outcome::Message(deed.message().unwrap()),
+        Gist::Close { .. } => Outcome::Closed,
     }
 }

@@ -18,7 +18,6 @@ use Rattle.rq_page.specs.Slots.Slot.{Used}
 use Rattle.rq_views.specs.Items.{layout_of}
 use Rattle.rq_views.specs.Plans.{append_writes, unlink_head_writes, unlink_tail_writes, put_back_writes, directory_write}
 use Rattle.rq_level.specs.declared.slots.Given.{Given}
-use Rattle.rq_level.specs.declared.writes.Outcome.TheVariants as gives
 use Rattle.rq_level.specs.declared.writes.Plan.{Plan}
 use Rattle.rq_level.specs.ChainPlans.{Beside, CanMark, CanReceive, CanSend, CanPutBack, CanUnlinkTail, IsClosed, IsMarked, IsReceived, IsReopened, IsReturned, IsSent, IsTailUnlinked, Plans, PlansFor, RefusesOther, RefusesTaking, RefusesUnread, Undoes, chain_undoes}
 use Rattle.rq_level.specs.Given.{AreGiven, GivenHolds, HoldsBytes, IsGiven, given_at}
@@ -104,7 +103,7 @@ module _ (z : Sizes) (k : LevelState) (given : List Given) (all : AreGiven z giv
         record {
           writes = f.writes ∙ ap (λ v. unlink_head_writes (layout_of z) s v f.can.cell f.can.next) d ∙ ap (λ v. unlink_head_writes (layout_of z) s h.can.directory v f.can.next) c ∙ ap (unlink_head_writes (layout_of z) s h.can.directory h.can.cell) o ∙ sym h.writes;
           deed = f.deed ∙ ap (λ (d : Directory). spelled_deed (UnlinkHead s (d.received + 1) f.can.cell.tag f.can.cell.body)) d ∙ ap (λ (c : Cell). spelled_deed (UnlinkHead s (h.can.directory.received + 1) c.tag c.body)) c ∙ sym h.deed;
-          reply = f.reply ∙ ap (λ (c : Cell). Some (gives.Message (record { sender = s; tag = c.tag; body = c.body }))) c ∙ sym h.reply;
+          reply = f.reply ∙ sym h.reply;
         },
         f.kept ∙ sym h.kept,
       )

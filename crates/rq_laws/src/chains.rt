@@ -1,11 +1,12 @@
 //! Plans on the chain of a group. A plan is compared as writes over what the slots hold.
 ghost use Rattle.std.specs.Prelude.{◌≡◌, ◌-◌, ◌<◌, ◌^◌, IfOk, reverse};
+ghost use Rattle.rq_page.specs.Cells.{cell_in};
 ghost use Rattle.rq_page.specs.Sizes.{IsCellAddress};
 ghost use Rattle.rq_level.specs.Writes.{writes_of};
-ghost use Rattle.rq_chain.specs.CellEntries.{IsGroupOf, IsCellEntryAt, IsNeighbour};
+ghost use Rattle.rq_chain.specs.CellEntries.{IsGroupOf, IsCellEntryAt, IsNeighbour, cell_beside};
 
 use rq_chain::{CellEntry, DirectoryEntry, append, put_back, unlink_head};
-use rq_level::{Given, SlotWrite};
+use rq_level::SlotWrite;
 use rq_model::message::Body;
 use rq_model::refusal::NoMemory;
 use rq_page::addr::Addr;
@@ -17,8 +18,8 @@ pub fn sends(
     alloc: Global,
     layout: &Layout,
     group: &DirectoryEntry,
-    tail: Option<Given>,
-    tail_again: Option<Given>,
+    tail: &Option<CellEntry>,
+    tail_again: &Option<CellEntry>,
     free: Addr,
     tag: u64,
     body: Body,
@@ -29,8 +30,9 @@ pub fn sends(
 )
     requires room { group.now.directory.sent < 2 ^ 64 - 1 }
     requires group { IsGroupOf layout.now group.now }
-    requires tail { IsNeighbour layout.now group.now.directory.tail tail }
-    requires again { tail_again ≡ tail }
+    requires tail { IsNeighbour layout.now group.now.directory.tail tail.now }
+    requires again { IsNeighbour layout.now group.now.directory.tail tail_again.now }
+    requires same { cell_beside tail_again.now ≡ cell_beside tail.now }
     requires body { body_again ≡ body }
     requires free { IsCellAddress layout.now free }
     ensures { IfOk result.0 (λ a. IfOk result.1
@@ -56,8 +58,8 @@ pub fn takes(
     layout: &Layout,
     group: &DirectoryEntry,
     head: &CellEntry,
-    next: Option<Given>,
-    next_again: Option<Given>,
+    next: &Option<CellEntry>,
+    next_again: &Option<CellEntry>,
 ) -> (
     Result<Vec<SlotWrite>, NoMemory>,
     Result<Vec<SlotWrite>, NoMemory>,
@@ -65,8 +67,9 @@ pub fn takes(
     requires some { group.now.directory.received < group.now.directory.sent }
     requires group { IsGroupOf layout.now group.now }
     requires head { IsCellEntryAt layout.now group.now.directory.head head.now }
-    requires next { IsNeighbour layout.now head.now.cell.next next }
-    requires again { next_again ≡ next }
+    requires next { IsNeighbour layout.now (cell_in head.now.bytes.now).next next.now }
+    requires again { IsNeighbour layout.now (cell_in head.now.bytes.now).next next_again.now }
+    requires same { cell_beside next_again.now ≡ cell_beside next.now }
     ensures { IfOk result.0 (λ a. IfOk result.1
         (λ b. reverse (writes_of layout.now a.items) ≡ reverse (writes_of layout.now b.items))) }
 {
@@ -81,8 +84,8 @@ pub fn puts_back(
     alloc: Global,
     layout: &Layout,
     group: &DirectoryEntry,
-    head: Option<Given>,
-    head_again: Option<Given>,
+    head: &Option<CellEntry>,
+    head_again: &Option<CellEntry>,
     free: Addr,
     tag: u64,
     body: Body,
@@ -93,8 +96,9 @@ pub fn puts_back(
 )
     requires some { 0 < group.now.directory.received }
     requires group { IsGroupOf layout.now group.now }
-    requires head { IsNeighbour layout.now group.now.directory.head head }
-    requires again { head_again ≡ head }
+    requires head { IsNeighbour layout.now group.now.directory.head head.now }
+    requires again { IsNeighbour layout.now group.now.directory.head head_again.now }
+    requires same { cell_beside head_again.now ≡ cell_beside head.now }
     requires body { body_again ≡ body }
     requires free { IsCellAddress layout.now free }
     ensures { IfOk result.0 (λ a. IfOk result.1
