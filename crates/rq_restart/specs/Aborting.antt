@@ -17,7 +17,7 @@ use Rattle.rq_store.specs.State.{State}
 use Rattle.rq_store.specs.Steps.{page_op}
 use Rattle.rq_sound.specs.Rows.{comp_end}
 use Rattle.rq_sound.specs.Sound.{IsSound}
-use Rattle.rq_planner.specs.Backs.{CanBeTakenBack, IsTakingBack}
+use Rattle.rq_planner.specs.Backs.{CannotBeTakenBack, IsTakingBack}
 use Rattle.rq_analysis.specs.declared.dues.PendingUndo.{PendingUndo}
 use Rattle.rq_analysis.specs.OpenWorkView.{open_work_of}
 use Rattle.rq_analysis.specs.Choices.{least_free}
@@ -158,7 +158,7 @@ pub record IsFull (z : Sizes) (behind : List Record → Type 0) (before : List R
 
 -- what is due is told by no deed, or by one that the slots of these pages do not show to be done last
 abbrev pub IsNotUndone : Sizes → List (List ℕ) → PendingUndo → Type 0
-IsNotUndone z images due = (deed : Deed) → deed_in due.deed ≡ Some deed → CanBeTakenBack z (slots_in z images) deed → ⊥
+IsNotUndone z images due = CannotBeTakenBack z (slots_in z images) (deed_in due.deed)
 
 -- Behind the log that these pages are of, what is due cannot be taken back: the slots do not show that it was done last, or
 -- its transaction has had 2^64 - 1 operations.
