@@ -22,3 +22,4 @@ pub mod Renewing
 pub mod Following
 pub mod Numbers
 pub mod Pasts
+pub mod Placing

@@ -13,3 +13,4 @@ pub mod Found
 pub mod Aborting
 pub mod RolledBack
 pub mod Numbers
+pub mod Places

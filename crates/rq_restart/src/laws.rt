@@ -1,5 +1,6 @@
 //! What holds of the words that a restart's contract uses.
 ghost use Rattle.rq_restart.specs.Ended.{EndedIsSettled};
+ghost use Rattle.rq_restart.specs.Places.{PlacesAreOpen, UndosHavePlaces};
 ghost use Rattle.rq_restart.specs.Once.{OneLogEach, OneSizeEach, ReadWithItsEarlier};
 
 /// Of every whole log: what a restart asks of it as it is read, before it opens it, is that no transaction is lost.
@@ -20,4 +21,15 @@ pub fn read_with_its_earlier()
 /// A superblock tells one size.
 pub fn one_size()
     ensures { OneSizeEach }
+{}
+
+/// Of every log: the places that are kept are those of the PageOps of operations that have no end in it, and of the OpEnds of
+/// transactions that have none, and no others.
+pub fn places_are_open()
+    ensures { PlacesAreOpen }
+{}
+
+/// Of every log: each write that is not undone, and each deed that is to be taken back, is told by a record whose place is kept.
+pub fn undos_have_places()
+    ensures { UndosHavePlaces }
 {}

@@ -7,6 +7,7 @@ mod appending;
 pub mod format;
 pub mod laws;
 mod page_numbers;
+pub mod places;
 mod redo;
 pub mod restart;
 mod tables;

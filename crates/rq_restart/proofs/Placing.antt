@@ -1,0 +1,226 @@
+-- What is kept of places behind a record.
+use Rattle.std.proofs.Common.{◌≡◌, ◌↔◌, ◌⊎◌, inl, inr, ℕ, ◌+◌, Bool, true, false, not, ◌||◌, List, [], ◌∷◌, ◌++◌, length, refl, sym, ◌∙◌, ap, subst}
+use Rattle.std.proofs.lemmas.Bool.{not-true, not_from_false, or_parts}
+use Rattle.std.specs.List.{filter}
+use Rattle.std.proofs.lemmas.List.{append-nil}
+use Rattle.rq_model.specs.declared.txn.Txn.{Txn}
+use Rattle.rq_model.specs.declared.txn.Sub.{Sub}
+use Rattle.rq_model.specs.declared.record.Record.{Record}
+use Rattle.rq_model.specs.declared.record.Record.TheVariants as records
+use Rattle.rq_model.specs.Unended.{any_record}
+use Rattle.rq_model.specs.Vocabulary.{In, same_txn}
+use Rattle.rq_model.proofs.Lists.{In-filter}
+use Rattle.rq_log.specs.Spelled.{spelled}
+use Rattle.rq_model.specs.Bases.{is_base, standing}
+use Rattle.rq_model.proofs.Bases.{standing_plain}
+use Rattle.rq_analysis.specs.declared.dues.PendingUndo.{PendingUndo}
+use Rattle.rq_analysis.specs.declared.open_work.UndoableWrite.{UndoableWrite}
+use Rattle.rq_analysis.specs.Dues.{due_of, dues}
+use Rattle.rq_analysis.specs.OpenWorkView.{open_work_of, undoable_by}
+use Rattle.rq_analysis.proofs.Lists.{in_newest}
+use Rattle.rq_analysis.proofs.Planning as planning
+use Rattle.rq_views.specs.Log.{same_op}
+use Rattle.rq_views.specs.Items.{operation}
+use Rattle.rq_views.proofs.AllOpen.{filter_in}
+use Rattle.rq_restart.specs.declared.places.Place.{Place}
+use Rattle.rq_restart.specs.Places.{IsDueKept, IsKept, IsOpenIn, IsWriteKept, OpenPlaces, PlacesAreOpen, UndosHavePlaces, end_at, ends_operation, ends_txn, no_places, place_at, places_after, places_of, with_end, with_write, without_operation, without_txn, write_at}
+
+all_stay : (xs : List Place) → filter (λ p. not false) xs ≡ xs
+all_stay [] = refl
+all_stay (x ∷ xs) = ap (λ l. x ∷ l) (all_stay xs)
+
+none_stays : (xs : List Place) → filter (λ p. not true) xs ≡ []
+none_stays [] = refl
+none_stays (x ∷ xs) = none_stays xs
+
+abbrev places : List Place → List Place → OpenPlaces
+places writes ends = record { writes = writes; ends = ends }
+
+both : {a b c d : List Place} → a ≡ b → c ≡ d → places a c ≡ places b d
+both {a} {b} {c} {d} e f = ap (λ (l : List Place). places l c) e ∙ ap (places b) f
+
+-- as it was, with nothing added
+as_was : (xs : List Place) → xs ≡ filter (λ p. not false) xs ++ []
+as_was xs = sym (append-nil (filter (λ p. not false) xs) ∙ all_stay xs)
+
+module _ (lsn place : ℕ) (s : OpenPlaces) where
+  pub page_op_noted : (t : Txn) (n page slot : ℕ) (before after : List ℕ) → with_write (place_at lsn place t n) s ≡ places_after lsn place (records.PageOp t n page slot before after) s
+  page_op_noted t n page slot before after = both (ap (λ l. l ++ (place_at lsn place t n ∷ [])) (sym (all_stay s.writes))) (as_was s.ends)
+
+  pub op_end_noted : (t : Txn) (n level : ℕ) (deed : List ℕ) → with_end (place_at lsn place t n) (without_operation (operation t n) s) ≡ places_after lsn place (records.OpEnd t n level deed) s
+  op_end_noted t n level deed = both (sym (append-nil _)) (ap (λ l. l ++ (place_at lsn place t n ∷ [])) (sym (all_stay s.ends)))
+
+  pub op_void_noted : (t : Txn) (n : ℕ) → without_operation (operation t n) s ≡ places_after lsn place (records.OpVoid t n) s
+  op_void_noted t n = both (sym (append-nil _)) (as_was s.ends)
+
+  pub comp_end_noted : (t : Txn) (n undone : ℕ) → without_operation (operation t n) s ≡ places_after lsn place (records.CompEnd t n undone) s
+  comp_end_noted t n undone = both (sym (append-nil _)) (as_was s.ends)
+
+  pub commit_noted : (t : Txn) → without_txn t s ≡ places_after lsn place (records.Commit t) s
+  commit_noted t = both (as_was s.writes) (sym (append-nil _))
+
+  pub abort_end_noted : (t : Txn) → without_txn t s ≡ places_after lsn place (records.AbortEnd t) s
+  abort_end_noted t = both (as_was s.writes) (sym (append-nil _))
+
+  pub base_noted : (many i : ℕ) → no_places ≡ places_after lsn place (records.Base many i) s
+  base_noted many i = both (sym (append-nil _ ∙ none_stays s.writes)) (sym (append-nil _ ∙ none_stays s.ends))
+
+  pub page_undo_noted : (t : Txn) (n undone page slot : ℕ) (after : List ℕ) → s ≡ places_after lsn place (records.PageUndo t n undone page slot after) s
+  page_undo_noted t n undone page slot after = both (as_was s.writes) (as_was s.ends)
+
+  pub restart_noted : (i : ℕ) → s ≡ places_after lsn place (records.Restart i) s
+  restart_noted i = both (as_was s.writes) (as_was s.ends)
+
+-- ---- of a log
+
+in_left : (xs ys : List Place) (p : Place) → In p xs → In p (xs ++ ys)
+in_left (x ∷ xs) ys p (inl e) = inl e
+in_left (x ∷ xs) ys p (inr i) = inr (in_left xs ys p i)
+in_left [] ys p i = absurd i
+
+in_right : (xs ys : List Place) (p : Place) → In p ys → In p (xs ++ ys)
+in_right [] ys p i = i
+in_right (x ∷ xs) ys p i = inr (in_right xs ys p i)
+
+in_either : (xs ys : List Place) (p : Place) → In p (xs ++ ys) → In p xs ⊎ In p ys
+in_either [] ys p i = inr i
+in_either (x ∷ xs) ys p (inl e) = inl (inl e)
+in_either (x ∷ xs) ys p (inr i) = elim (in_either xs ys p i) [ inl a ↦ inl (inr a) | inr b ↦ inr b ]
+
+module _ (at : ℕ → ℕ → Record → List Place) (ends : Record → Place → Bool) (table : List Record → List Place) (none : table [] ≡ [])
+    (more : (r : Record) (log : List Record) → table (r ∷ log) ≡ filter (λ p. not (ends r p)) (table log) ++ at (length log + 1) (length (spelled log)) r)
+    (one : (lsn place : ℕ) (r : Record) (p : Place) → In p (at lsn place r) → at lsn place r ≡ p ∷ []) where
+  open_in : (log : List Record) (p : Place) → In p (table log) → IsOpenIn at ends log p
+  open_in [] p i = absurd (subst (In p) none i)
+  open_in (r ∷ log) p i = elim (in_either (filter (λ q. not (ends r q)) (table log)) (at (length log + 1) (length (spelled log)) r) p (subst (In p) (more r log) i)) [
+    | inl old ↦
+        let kept = In-filter (λ q. not (ends r q)) (table log) p old in
+        let k = open_in log p kept.0 in
+        record { newer = r ∷ k.newer; made = k.made; older = k.older; is = ap (λ l. r ∷ l) k.is; there = k.there; none_ends = ap (λ b. b || any_record (λ q. ends q p) k.newer) (not-true (ends r p) kept.1) ∙ k.none_ends }
+    | inr new ↦ record { newer = []; made = r; older = log; is = refl; there = one (length log + 1) (length (spelled log)) r p new; none_ends = refl }
+  ]
+
+  stays_in : (newer older : List Record) (r : Record) (p : Place) → at (length older + 1) (length (spelled older)) r ≡ p ∷ [] → any_record (λ q. ends q p) newer ≡ false → In p (table (newer ++ (r ∷ older)))
+  stays_in [] older r p there none_ends =
+      subst (In p) (sym (more r older)) (in_right (filter (λ q. not (ends r q)) (table older)) (at (length older + 1) (length (spelled older)) r) p (subst (In p) (sym there) (inl refl)))
+  stays_in (q ∷ newer) older r p there none_ends =
+      let log : List Record = newer ++ (r ∷ older) in
+      let none = or_parts (ends q p) (any_record (λ x. ends x p) newer) none_ends in
+      subst (In p) (sym (more q log)) (in_left (filter (λ x. not (ends q x)) (table log)) (at (length log + 1) (length (spelled log)) q) p
+      (filter_in (λ x. not (ends q x)) (table log) p (stays_in newer older r p there none.1) (not_from_false (ends q p) none.0)))
+
+  exactly_open : (log : List Record) (p : Place) → In p (table log) ↔ IsOpenIn at ends log p
+  exactly_open log p = (open_in log p, λ k. subst (λ l. In p (table l)) (sym k.is) (stays_in k.newer k.older k.made p k.there k.none_ends))
+
+one_write : (lsn place : ℕ) (r : Record) (p : Place) → In p (write_at lsn place r) → write_at lsn place r ≡ p ∷ []
+one_write lsn place (records.PageOp t n page slot before after) p (inl e) = ap (λ q. q ∷ []) (sym e)
+one_write lsn place (records.PageOp t n page slot before after) p (inr i) = absurd i
+one_write lsn place _ p i = absurd i
+
+one_end : (lsn place : ℕ) (r : Record) (p : Place) → In p (end_at lsn place r) → end_at lsn place r ≡ p ∷ []
+one_end lsn place (records.OpEnd t n level deed) p (inl e) = ap (λ q. q ∷ []) (sym e)
+one_end lsn place (records.OpEnd t n level deed) p (inr i) = absurd i
+one_end lsn place _ p i = absurd i
+
+pub places_are_open : PlacesAreOpen
+places_are_open = record {
+  writes = exactly_open write_at (λ r q. ends_operation r q.by) (λ log. (places_of log).writes) refl (λ r log. refl) one_write;
+  ends = exactly_open end_at (λ r q. ends_txn r q.by.txn) (λ log. (places_of log).ends) refl (λ r log. refl) one_end;
+}
+
+-- ---- of what is to be undone
+
+-- a record more leaves a record where it stands, and its place if its operation's are left
+kept_more : (log : List Record) (r : Record) (kept now : List Place) (lsn : ℕ) (by : Sub) (made : Record) → is_base r ≡ false → ((p : Place) → p.by ≡ by → In p kept → In p now) → IsKept log kept lsn by made → IsKept (r ∷ log) now lsn by made
+kept_more log r kept now lsn by made plain stays k = record {
+  place = k.place;
+  among = stays (record { lsn = lsn; by = by; place = k.place }) refl k.among;
+  there = (r ∷ k.there.0, k.there.1, standing_plain r log plain ∙ ap (λ l. r ∷ l) k.there.2, k.there.3);
+}
+
+-- where none are taken out
+left_in : (xs ys : List Place) (p : Place) → In p xs → In p (filter (λ q. not false) xs ++ ys)
+left_in xs ys p i = in_left (filter (λ q. not false) xs) ys p (subst (In p) (sym (all_stay xs)) i)
+
+write_more : (log : List Record) (r : Record) (w : UndoableWrite) → is_base r ≡ false → ((p : Place) → p.by ≡ w.by → In p (places_of log).writes → In p (places_of (r ∷ log)).writes) → IsWriteKept log w → IsWriteKept (r ∷ log) w
+write_more log r w plain stays k = (k.0, kept_more log r (places_of log).writes (places_of (r ∷ log)).writes w.lsn w.by _ plain stays k.1)
+
+-- of an operation that has no end yet
+other_in : (o : Sub) (w : UndoableWrite) (xs : List Place) → not (undoable_by o w) ≡ true → (p : Place) → p.by ≡ w.by → In p xs → In p (filter (λ q. not (same_op q.by o)) xs ++ [])
+other_in o w xs other p same i =
+    in_left (filter (λ q. not (same_op q.by o)) xs) [] p (filter_in (λ q. not (same_op q.by o)) xs p i (subst (λ b. not (same_op b o) ≡ true) (sym same) other))
+
+ended_more : (log : List Record) (r : Record) (o : Sub) (w : UndoableWrite) → is_base r ≡ false → (places_of (r ∷ log)).writes ≡ filter (λ q. not (same_op q.by o)) (places_of log).writes ++ [] → not (undoable_by o w) ≡ true → IsWriteKept log w → IsWriteKept (r ∷ log) w
+ended_more log r o w plain left other k = write_more log r w plain (λ p same i. subst (In p) (sym left) (other_in o w (places_of log).writes other p same i)) k
+
+still_more : (log : List Record) (r : Record) (w : UndoableWrite) (own : List Place) → is_base r ≡ false → (places_of (r ∷ log)).writes ≡ filter (λ q. not false) (places_of log).writes ++ own → IsWriteKept log w → IsWriteKept (r ∷ log) w
+still_more log r w own plain left k = write_more log r w plain (λ p same i. subst (In p) (sym left) (left_in (places_of log).writes own p i)) k
+
+write_kept : (log : List Record) (w : UndoableWrite) → In w (open_work_of log).undoable → IsWriteKept log w
+write_kept [] w i = absurd i
+write_kept (records.PageOp t n page slot before after ∷ log) w (inl e) =
+    let r : Record = records.PageOp t n page slot before after in
+    subst (IsWriteKept (r ∷ log)) (sym e) (
+      after,
+      record {
+        place = length (spelled log);
+        among = in_right (filter (λ q. not false) (places_of log).writes) (place_at (length log + 1) (length (spelled log)) t n ∷ []) (place_at (length log + 1) (length (spelled log)) t n) (inl refl);
+        there = ([], standing log, refl, refl);
+      },
+    )
+write_kept (records.PageOp t n page slot before after ∷ log) w (inr i) = still_more log (records.PageOp t n page slot before after) w (place_at (length log + 1) (length (spelled log)) t n ∷ []) refl refl (write_kept log w i)
+write_kept (records.PageUndo t n undone page slot after ∷ log) w i = still_more log (records.PageUndo t n undone page slot after) w [] refl refl (write_kept log w (in_newest (operation t n) (open_work_of log).undoable w i))
+write_kept (records.OpEnd t n level deed ∷ log) w i =
+    let k = In-filter (λ q. not (undoable_by (operation t n) q)) (open_work_of log).undoable w i in
+    ended_more log (records.OpEnd t n level deed) (operation t n) w refl refl k.1 (write_kept log w k.0)
+write_kept (records.OpVoid t n ∷ log) w i =
+    let k = In-filter (λ q. not (undoable_by (operation t n) q)) (open_work_of log).undoable w i in
+    ended_more log (records.OpVoid t n) (operation t n) w refl refl k.1 (write_kept log w k.0)
+write_kept (records.CompEnd t n undone ∷ log) w i =
+    let k = In-filter (λ q. not (undoable_by (operation t n) q)) (open_work_of log).undoable w i in
+    ended_more log (records.CompEnd t n undone) (operation t n) w refl refl k.1 (write_kept log w k.0)
+write_kept (records.Commit t ∷ log) w i = still_more log (records.Commit t) w [] refl refl (write_kept log w i)
+write_kept (records.AbortEnd t ∷ log) w i = still_more log (records.AbortEnd t) w [] refl refl (write_kept log w i)
+write_kept (records.Restart n ∷ log) w i = still_more log (records.Restart n) w [] refl refl (write_kept log w i)
+write_kept (records.Base many n ∷ log) w i = absurd i
+
+due_more : (log : List Record) (r : Record) (d : PendingUndo) → is_base r ≡ false → ((n : ℕ) (p : Place) → p.by ≡ operation d.txn n → In p (places_of log).ends → In p (places_of (r ∷ log)).ends) → IsDueKept log d → IsDueKept (r ∷ log) d
+due_more log r d plain stays k = (k.0, kept_more log r (places_of log).ends (places_of (r ∷ log)).ends d.lsn (operation d.txn k.0) _ plain (stays k.0) k.1)
+
+due_still : (log : List Record) (r : Record) (d : PendingUndo) (own : List Place) → is_base r ≡ false → (places_of (r ∷ log)).ends ≡ filter (λ q. not false) (places_of log).ends ++ own → IsDueKept log d → IsDueKept (r ∷ log) d
+due_still log r d own plain left k = due_more log r d plain (λ n p same i. subst (In p) (sym left) (left_in (places_of log).ends own p i)) k
+
+-- of a transaction that has no end yet
+due_ended : (log : List Record) (r : Record) (t : Txn) (d : PendingUndo) → is_base r ≡ false → (places_of (r ∷ log)).ends ≡ filter (λ q. not (same_txn q.by.txn t)) (places_of log).ends ++ [] → not (due_of t d) ≡ true → IsDueKept log d → IsDueKept (r ∷ log) d
+due_ended log r t d plain left other k = due_more log r d plain
+    (λ n p same i. subst (In p) (sym left) (in_left (filter (λ q. not (same_txn q.by.txn t)) (places_of log).ends) [] p
+    (filter_in (λ q. not (same_txn q.by.txn t)) (places_of log).ends p i (subst (λ (o : Sub). not (same_txn o.txn t) ≡ true) (sym same) other)))) k
+
+due_kept : (log : List Record) (d : PendingUndo) → In d (dues log) → IsDueKept log d
+due_kept [] d i = absurd i
+due_kept (records.OpEnd t n level deed ∷ log) d (inl e) =
+    let r : Record = records.OpEnd t n level deed in
+    subst (IsDueKept (r ∷ log)) (sym e) (
+      n,
+      record {
+        place = length (spelled log);
+        among = in_right (filter (λ q. not false) (places_of log).ends) (place_at (length log + 1) (length (spelled log)) t n ∷ []) (place_at (length log + 1) (length (spelled log)) t n) (inl refl);
+        there = ([], standing log, refl, refl);
+      },
+    )
+due_kept (records.OpEnd t n level deed ∷ log) d (inr i) = due_still log (records.OpEnd t n level deed) d (place_at (length log + 1) (length (spelled log)) t n ∷ []) refl refl (due_kept log d i)
+due_kept (records.CompEnd t n undone ∷ log) d i = due_still log (records.CompEnd t n undone) d [] refl refl (due_kept log d (planning.in_newest t (dues log) d i))
+due_kept (records.Commit t ∷ log) d i =
+    let k = In-filter (λ x. not (due_of t x)) (dues log) d i in
+    due_ended log (records.Commit t) t d refl refl k.1 (due_kept log d k.0)
+due_kept (records.AbortEnd t ∷ log) d i =
+    let k = In-filter (λ x. not (due_of t x)) (dues log) d i in
+    due_ended log (records.AbortEnd t) t d refl refl k.1 (due_kept log d k.0)
+due_kept (records.PageOp t n page slot before after ∷ log) d i = due_still log (records.PageOp t n page slot before after) d [] refl refl (due_kept log d i)
+due_kept (records.PageUndo t n undone page slot after ∷ log) d i = due_still log (records.PageUndo t n undone page slot after) d [] refl refl (due_kept log d i)
+due_kept (records.OpVoid t n ∷ log) d i = due_still log (records.OpVoid t n) d [] refl refl (due_kept log d i)
+due_kept (records.Restart n ∷ log) d i = due_still log (records.Restart n) d [] refl refl (due_kept log d i)
+due_kept (records.Base many n ∷ log) d i = absurd i
+
+pub undos_have_places : UndosHavePlaces
+undos_have_places = record { writes = write_kept; dues = due_kept }

@@ -1,0 +1,11 @@
+use Rattle.std.proofs.Common.{rules, ap, ◌∙◌, not}
+use Rattle.std.proofs.lemmas.Fn.{filter_same}
+use Rattle.rq_views.specs.Log.{same_op}
+use Rattle.rq_restart.specs.declared.places.Place.{Place}
+use Rattle.rq_restart.specs.Places.{without_operation}
+use Rattle.rq_restart.proofs.places.Places.end_operation.Goals as goal
+
+pub returns : goal.returns
+returns c =
+    let kept = filter_same _ (λ (p : Place). not (same_op p.by c.args.ended)) _ (λ x b f' k. search rules) _ _ c.retain.ensures.filtered in
+    ap (λ l. record { writes = l; ends = c.self.inside.ends.items }) kept ∙ ap (without_operation c.args.ended) c.self.view_is
