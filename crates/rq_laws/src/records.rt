@@ -1,11 +1,11 @@
 //! Records of the log, and what they come to as a restart goes through them.
-ghost use Rattle.std.specs.Prelude.{◌≡◌, ◌^◌, ◌<◌, [], IfOk, length};
+ghost use Rattle.std.specs.Prelude.{◌≡◌, ◌^◌, ◌<◌, [], IfOk, IfSome, length};
 ghost use Rattle.rq_log.specs.Places.{IsPlace};
 ghost use Rattle.rq_log.specs.Spelled.{spelled};
 
 use rq_analysis::{OpenWork, PendingUndos};
 use rq_disk::LogDevice;
-use rq_log::Log;
+use rq_log::{Log, LogReader};
 use rq_model::record::Record;
 use rq_model::refusal::{NoMemory, Refusal};
 use rq_model::txn::Lsn;
@@ -50,6 +50,24 @@ pub fn tells<L: LogDevice>(
         → told ≡ again)) }
 {
     (first.record_at(place), second.record_at(place))
+}
+
+/// At the place that was told before a record was read, the same one is read again. Excludes a cursor that tells another place,
+/// and one that reads what stands behind it.
+pub fn reads_again<L: LogDevice>(
+    reader: &mut LogReader<L>,
+) -> Result<Option<(Record, Record)>, Refusal>
+    ensures { IfOk result (λ read. IfSome read (λ both. L.honest reader.new.device → both.0 ≡ both.1)) }
+{
+    let place = reader.place();
+    match reader.next() {
+        Ok(Some((_, first))) => match reader.at(place) {
+            Ok(again) => Ok(Some((again, first))),
+            Err(refusal) => Err(refusal),
+        },
+        Ok(None) => Ok(None),
+        Err(refusal) => Err(refusal),
+    }
 }
 
 /// After a record, the same is to be taken back. Excludes a Commit that leaves what it committed to be taken back, and
