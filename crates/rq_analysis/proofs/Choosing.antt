@@ -1,7 +1,7 @@
 -- Which transaction is next is told by the stack and the transactions that are lost.
 use Rattle.std.proofs.Common.{◌≡◌, ◌≢◌, ℕ, ◌≤◌, true, false, not, nat_lt, List, [], ◌∷◌, map, Option, Some, None, inl, inr, refl, sym, ◌∙◌, ap, subst, arith}
 use Rattle.std.specs.List.{filter}
-use Rattle.std.proofs.lemmas.Bool.{cases_Bool, true≢false, false≢true, false_from_ne_true, or_parts, ltb-false}
+use Rattle.std.proofs.lemmas.Bool.{cases_Bool, true≢false, false≢true, false_from_ne_true, ltb-false}
 use Rattle.std.proofs.lemmas.Bool.Decides.{nat_tests}
 use Rattle.rq_model.specs.declared.txn.Txn.{Txn}
 use Rattle.rq_model.specs.declared.record.Record.{Record}
@@ -22,6 +22,7 @@ use Rattle.rq_sound.specs.Sound.{IsSound}
 use Rattle.rq_sound.proofs.UndoStarts.{txns}
 use Rattle.rq_analysis.specs.declared.dues.PendingUndo.{PendingUndo}
 use Rattle.rq_analysis.specs.Choices.{AreLost, least_free, lesser_in}
+use Rattle.rq_analysis.proofs.Stacks.{none_own}
 use Rattle.rq_analysis.specs.Dues.{any_due, due_of, dues, finished_due}
 use Rattle.rq_analysis.specs.Lost.{lost_row}
 use Rattle.rq_analysis.specs.Moves.{IsAbortMove}
@@ -63,10 +64,6 @@ lost_stay s now (Ends r idle aborting none e) k = subst AreLost (sym e)
     (txns_without r.txn s.rows ∙ ap (filter (λ (u : Txn). not (same_txn r.txn u))) k ∙ sym (lost_ended r.txn s.records))
 
 -- nothing is due of a transaction that has no finished deed left
-pub none_filtered : (t : Txn) (ds : List PendingUndo) → any_due t ds ≡ false → filter (due_of t) ds ≡ []
-none_filtered t [] e = refl
-none_filtered t (d ∷ ds) e = let k = or_parts (due_of t d) (any_due t ds) e in rw k.0 (none_filtered t ds k.1)
-
 some_filtered : (t : Txn) (ds : List PendingUndo) → any_due t ds ≡ true → filter (due_of t) ds ≢ []
 some_filtered t [] e = absurd (false≢true e)
 some_filtered t (d ∷ ds) e = elim (cases_Bool (due_of t d)) [
@@ -87,7 +84,7 @@ module _ (s : State) (k : IsSound s) (r : Row) (j : In r s.rows) where
     | inl none ↦ none
     | inr some ↦
         let h = split_last r.finished some in
-        let bad : placed_one h.1 ∷ placed h.0 ≡ [] = sym (placed_more h.0 h.1) ∙ ap placed (sym h.2) ∙ sym own ∙ ap (map placed_due) (none_filtered r.txn (dues s.records) e) in
+        let bad : placed_one h.1 ∷ placed h.0 ≡ [] = sym (placed_more h.0 h.1) ∙ ap placed (sym h.2) ∙ sym own ∙ ap (map placed_due) (none_own (due_of r.txn) (dues s.records) e) in
         absurd (cc bad)
   ]
 

@@ -2,7 +2,7 @@ pub mod Noting
 pub mod Lists
 pub mod Undoable
 pub mod Undos
-pub mod Places
+pub mod Stacks
 pub mod Next
 pub mod Moving
 pub mod Settled
@@ -15,7 +15,6 @@ pub mod Working
 pub mod Stopping
 pub mod Turning
 pub mod Owing
-pub mod Stack
 pub mod Choosing
 pub mod Numbering
 pub mod Recovering

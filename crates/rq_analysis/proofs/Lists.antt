@@ -1,17 +1,16 @@
 -- Lists: what is left out, what is put in, and what stands first.
-use Rattle.std.proofs.Common.{◌≡◌, ◌<◌, ◌≤◌, Bool, true, false, not, List, [], ◌∷◌, ◌++◌, length, ◌⊎◌, ◌||◌, Some, inl, inr, refl, sym, ◌∙◌, ap, subst, arith}
+use Rattle.std.proofs.Common.{◌≡◌, ◌<◌, ◌≤◌, Bool, true, false, not, List, [], ◌∷◌, ◌++◌, length, ◌⊎◌, Some, inl, inr, refl, sym, ◌∙◌, ap, subst, arith}
 use Rattle.std.specs.List.{filter}
-use Rattle.std.proofs.lemmas.Bool.{cases_Bool, true≢false, false≢true, false_from_ne_true, or_cases, or_left, not-true}
+use Rattle.std.proofs.lemmas.Bool.{cases_Bool, true≢false, false≢true, false_from_ne_true, or_cases, not-true}
 use Rattle.std.proofs.lemmas.Option.{same_Some}
 use Rattle.rq_model.specs.declared.txn.Sub.{Sub}
 use Rattle.rq_model.specs.Vocabulary.{In, first}
 use Rattle.rq_model.proofs.Lists.{In-filter}
 use Rattle.rq_views.specs.Log.{same_op}
 use Rattle.rq_views.proofs.Overlay.{same_is, same_self}
-use Rattle.rq_views.proofs.AllOpen.{filter_in, tail}
+use Rattle.rq_views.proofs.AllOpen.{filter_in}
 use Rattle.rq_analysis.specs.declared.open_work.UndoableWrite.{UndoableWrite}
-use Rattle.rq_analysis.specs.OpenWorkView.{undoable_by, has_sub, with_sub, without_sub, without_newest, without_undoable}
-use Rattle.rq_analysis.specs.Pages.{any_undoable}
+use Rattle.rq_analysis.specs.OpenWorkView.{undoable_by, has_sub, with_sub, without_sub, without_undoable}
 
 pub first_in : {X : Type 0} (xs : List X) (x : X) → first xs ≡ Some x → In x xs
 first_in [] x e = cc
@@ -70,48 +69,5 @@ in_without o os x h = let k = In-filter (λ u. not (same_op o u)) os x h in (k.0
 pub without_in : (o : Sub) (os : List Sub) (x : Sub) → In x os → same_op o x ≡ false → In x (without_sub o os)
 without_in o os x h e = filter_in (λ u. not (same_op o u)) os x h (ap not e)
 
--- undoable writes
-pub in_newest : (o : Sub) (ps : List UndoableWrite) (x : UndoableWrite) → In x (without_newest o ps) → In x ps
-in_newest o [] x h = h
-in_newest o (p ∷ ps) x h = elim (cases_Bool (undoable_by o p)) [
-  | inl t ↦ inr (rw t at h)
-  | inr n ↦ elim (rw n at h) [ inl e ↦ inl e | inr i ↦ inr (in_newest o ps x i) ]
-]
-
 pub in_undoable : (o : Sub) (ps : List UndoableWrite) (x : UndoableWrite) → In x (without_undoable o ps) → In x ps × (undoable_by o x ≡ false)
 in_undoable o ps x h = let k = In-filter (λ p. not (undoable_by o p)) ps x h in (k.0, not-true (undoable_by o x) k.1)
-
-pub own_newest : (o : Sub) (ps : List UndoableWrite) → filter (undoable_by o) (without_newest o ps) ≡ tail (filter (undoable_by o) ps)
-own_newest o [] = refl
-own_newest o (p ∷ ps) = elim (cases_Bool (undoable_by o p)) [
-  | inl t ↦ rw t refl
-  | inr n ↦ rw n (rw n (own_newest o ps))
-]
-
-pub own_none : (o : Sub) (ps : List UndoableWrite) → filter (undoable_by o) (without_undoable o ps) ≡ []
-own_none o [] = refl
-own_none o (p ∷ ps) = elim (cases_Bool (undoable_by o p)) [
-  | inl t ↦ rw t (own_none o ps)
-  | inr n ↦ rw n (rw n (own_none o ps))
-]
-
-pub other_newest : (f : UndoableWrite → Bool) (o : Sub) (ps : List UndoableWrite) → ((x : UndoableWrite) → undoable_by o x ≡ true → f x ≡ false) → filter f (without_newest o ps) ≡ filter f ps
-other_newest f o [] h = refl
-other_newest f o (p ∷ ps) h = elim (cases_Bool (undoable_by o p)) [
-  | inl t ↦ rw (t, h p t) refl
-  | inr n ↦ elim (cases_Bool (f p)) [ inl a ↦ rw (n, a) (ap (λ l. p ∷ l) (other_newest f o ps h)) | inr b ↦ rw (n, b) (other_newest f o ps h) ]
-]
-
-pub other_none : (f : UndoableWrite → Bool) (o : Sub) (ps : List UndoableWrite) → ((x : UndoableWrite) → undoable_by o x ≡ true → f x ≡ false) → filter f (without_undoable o ps) ≡ filter f ps
-other_none f o [] h = refl
-other_none f o (p ∷ ps) h = elim (cases_Bool (undoable_by o p)) [
-  | inl t ↦ rw (t, h p t) (other_none f o ps h)
-  | inr n ↦ elim (cases_Bool (f p)) [ inl a ↦ rw (n, a) (ap (λ l. p ∷ l) (other_none f o ps h)) | inr b ↦ rw (n, b) (other_none f o ps h) ]
-]
-
-pub none_own : (o : Sub) (ps : List UndoableWrite) → any_undoable o ps ≡ false → filter (undoable_by o) ps ≡ []
-none_own o [] h = refl
-none_own o (p ∷ ps) h = elim (cases_Bool (undoable_by o p)) [
-  | inl t ↦ absurd (true≢false (sym (or_left (undoable_by o p) (any_undoable o ps) t) ∙ h))
-  | inr n ↦ let e : (undoable_by o p || any_undoable o ps) ≡ any_undoable o ps = rw n refl in rw n (none_own o ps (sym e ∙ h))
-]

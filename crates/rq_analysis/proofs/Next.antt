@@ -13,11 +13,11 @@ use Rattle.rq_model.proofs.Lists.{same_is}
 use Rattle.rq_views.specs.Log.{same_op}
 use Rattle.rq_views.proofs.Overlay.{same_is as op_is, same_self as op_self}
 use Rattle.rq_analysis.specs.declared.open_work.UndoableWrite.{UndoableWrite}
-use Rattle.rq_analysis.specs.OpenWorkView.{OpenWorkView, has_sub}
+use Rattle.rq_analysis.specs.OpenWorkView.{OpenWorkView, has_sub, undoable_by}
 use Rattle.rq_analysis.specs.Pages.{NoneIsSpent, IsNextUndo, any_undoable, op_less, txn_less, undo_of, void_of}
 use Rattle.rq_analysis.specs.Pages.IsNextUndo.{Voids, Undoes}
 use Rattle.rq_analysis.specs.Least.{least_in, lesser_in}
-use Rattle.rq_analysis.proofs.Places.{any_reverse}
+use Rattle.rq_analysis.proofs.Stacks.{any_reverse}
 
 txn_through : (a b c : Txn) → txn_less a b ≡ true → txn_less b c ≡ true → txn_less a c ≡ true
 txn_through a b c n m = grind (arith, nat_tests, n, m)
@@ -134,7 +134,7 @@ none_of (p ∷ ps) e = absurd (let k : slice_get (p ∷ ps) (length (p ∷ ps) -
 
 module _ (h : OpenWorkView) (ps : List UndoableWrite) (os : List Sub) (undoable : h.undoable ≡ reverse ps) (unfinished : h.unfinished ≡ os) where
   any_same : (o : Sub) → any_undoable o h.undoable ≡ any_undoable o ps
-  any_same o = ap (any_undoable o) undoable ∙ any_reverse o ps
+  any_same o = ap (any_undoable o) undoable ∙ any_reverse (undoable_by o) ps
 
   has_same : (o : Sub) → has_sub o h.unfinished ≡ has_sub o os
   has_same o = ap (has_sub o) unfinished

@@ -10,8 +10,9 @@ use Rattle.rq_model.specs.Unended.{any_record}
 use Rattle.rq_model.specs.Vocabulary.{In, first, same_txn}
 use Rattle.rq_model.proofs.Lists.{In-filter, same_is}
 use Rattle.rq_views.proofs.AllOpen.{tail}
+use Rattle.rq_analysis.proofs.Stacks.{other_newest, other_none, own_newest}
 use Rattle.rq_analysis.specs.declared.dues.PendingUndo.{PendingUndo}
-use Rattle.rq_analysis.specs.Dues.{but_newest, but_own, due_of, dues}
+use Rattle.rq_analysis.specs.Dues.{but_newest, due_of, dues}
 use Rattle.rq_analysis.proofs.Marks.{none_finished}
 use Rattle.rq_analysis.proofs.Noting.{filter_twice, filter_same}
 use Rattle.rq_analysis.specs.LogTables.{lsn_due}
@@ -95,27 +96,6 @@ but_first n ms m h e =
 apart : (u t : Txn) → same_txn u t ≡ false → (d : PendingUndo) → due_of u d ≡ true → due_of t d ≡ false
 apart u t n d e = ap (λ v. same_txn v t) (same_is d.txn u e) ∙ n
 
-own_newest : (t : Txn) (ds : List PendingUndo) → filter (due_of t) (but_newest t ds) ≡ tail (filter (due_of t) ds)
-own_newest t [] = refl
-own_newest t (d ∷ ds) = elim (cases_Bool (due_of t d)) [
-  | inl y ↦ rw y refl
-  | inr n ↦ rw n (rw n (own_newest t ds))
-]
-
-other_newest : (t u : Txn) (ds : List PendingUndo) → same_txn u t ≡ false → filter (due_of t) (but_newest u ds) ≡ filter (due_of t) ds
-other_newest t u [] off = refl
-other_newest t u (d ∷ ds) off = elim (cases_Bool (due_of u d)) [
-  | inl y ↦ (let other = apart u t off d y in rw (y, other) refl)
-  | inr n ↦ elim (cases_Bool (due_of t d)) [ inl a ↦ rw (n, a) (ap (λ l. d ∷ l) (other_newest t u ds off)) | inr b ↦ rw (n, b) (other_newest t u ds off) ]
-]
-
-other_own : (t u : Txn) (ds : List PendingUndo) → same_txn u t ≡ false → filter (due_of t) (but_own u ds) ≡ filter (due_of t) ds
-other_own t u [] off = refl
-other_own t u (d ∷ ds) off = elim (cases_Bool (due_of u d)) [
-  | inl y ↦ (let other = apart u t off d y in rw (y, other) (other_own t u ds off))
-  | inr n ↦ elim (cases_Bool (due_of t d)) [ inl a ↦ rw (n, a) (ap (λ l. d ∷ l) (other_own t u ds off)) | inr b ↦ rw (n, b) (other_own t u ds off) ]
-]
-
 map_rest : (ds : List PendingUndo) → map lsn_of (tail ds) ≡ tail (map lsn_of ds)
 map_rest [] = refl
 map_rest (d ∷ ds) = refl
@@ -142,17 +122,17 @@ dues_kept (records.CompEnd u n lsn ∷ log) f t g = elim (cases_Bool (same_txn u
   | inl y ↦
       let is : u ≡ t = same_is u t y in
       let named : first (left_of t log) ≡ Some lsn = ap (λ (v : Txn). first (left_of v log)) (sym is) ∙ f.0.takes_back in
-      ap (λ (v : Txn). map lsn_of (filter (due_of t) (but_newest v (dues log)))) is ∙ ap (map lsn_of) (own_newest t (dues log)) ∙ map_rest (filter (due_of t) (dues log)) ∙ ap tail (dues_kept log f.1 t g)
+      ap (λ (v : Txn). map lsn_of (filter (due_of t) (but_newest v (dues log)))) is ∙ ap (map lsn_of) (own_newest (due_of t) (dues log)) ∙ map_rest (filter (due_of t) (dues log)) ∙ ap tail (dues_kept log f.1 t g)
       ∙ sym (but_first (length log + 1) (left_of t log) lsn (below_filter (is_left t log) (length log + 1) (ends_of t log) (ends_below t log)) named)
       ∙ taken_own u t lsn log y
-  | inr m ↦ ap (map lsn_of) (other_newest t u (dues log) m) ∙ dues_kept log f.1 t g ∙ taken_other u t lsn log m
+  | inr m ↦ ap (map lsn_of) (other_newest (due_of u) (due_of t) (dues log) (apart u t m)) ∙ dues_kept log f.1 t g ∙ taken_other u t lsn log m
 ]
 dues_kept (records.Commit u ∷ log) f t g =
     let k = or_parts (same_txn u t || false) (has_end log t) g in
-    ap (map lsn_of) (other_own t u (dues log) (or_parts (same_txn u t) false k.0).0) ∙ dues_kept log f.1 t k.1
+    ap (map lsn_of) (other_none (due_of u) (due_of t) (dues log) (apart u t (or_parts (same_txn u t) false k.0).0)) ∙ dues_kept log f.1 t k.1
 dues_kept (records.AbortEnd u ∷ log) f t g =
     let k = or_parts (same_txn u t) (has_end log t) g in
-    ap (map lsn_of) (other_own t u (dues log) k.0) ∙ dues_kept log f.1 t k.1
+    ap (map lsn_of) (other_none (due_of u) (due_of t) (dues log) (apart u t k.0)) ∙ dues_kept log f.1 t k.1
 dues_kept (records.Base many i ∷ log) f t g = sym (ap (filter (is_left t (records.Base many i ∷ log))) (ap (ends_of t) f.0.begins ∙ none_finished t many))
 dues_kept (_ ∷ log) f t g = dues_kept log f.1 t g
 

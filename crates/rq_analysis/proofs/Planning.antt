@@ -1,11 +1,10 @@
 -- What is due first can be taken back.
 use Rattle.std.proofs.Common.{◌≡◌, ◌<◌, ◌/◌, ◌++◌, ℕ, not, List, [], ◌∷◌, Option, Some, None, inl, inr, refl, false, sym, ◌∙◌, ap, subst, arith}
-use Rattle.std.proofs.lemmas.Bool.{cases_Bool, eq-eqb}
+use Rattle.std.proofs.lemmas.Bool.{eq-eqb}
 use Rattle.rq_model.specs.declared.record.Deed.{Deed}
 use Rattle.rq_model.specs.declared.record.Deed.TheVariants.{Append, UnlinkHead, Close}
 use Rattle.rq_model.specs.declared.record.Record.{Record}
 use Rattle.rq_model.specs.declared.record.Record.TheVariants as records
-use Rattle.rq_model.specs.declared.txn.Txn.{Txn}
 use Rattle.rq_model.specs.Deeds.{deed_in}
 use Rattle.rq_model.specs.Unended.{lost}
 use Rattle.rq_model.specs.Vocabulary.{In}
@@ -36,18 +35,12 @@ use Rattle.rq_sound.specs.Inverses.{StandsOn}
 use Rattle.rq_sound.proofs.Inverses.{may_be_undone, open_deed}
 use Rattle.rq_analysis.specs.declared.dues.PendingUndo.{PendingUndo}
 use Rattle.rq_analysis.specs.Choices.{least_free}
-use Rattle.rq_analysis.specs.Dues.{but_newest, deed_due, due_of, dues, finished_due}
+use Rattle.rq_analysis.specs.Dues.{deed_due, due_of, dues, finished_due}
 use Rattle.rq_analysis.specs.Moves.{newest_store}
 use Rattle.rq_analysis.specs.Walk.{DuesCanBeUndone, IsBetween, ShowsUndone, StandsLast}
 use Rattle.rq_analysis.proofs.Choosing.{chosen_back}
+use Rattle.rq_analysis.proofs.Stacks.{in_newest}
 use Rattle.rq_analysis.proofs.Logging.{come_sizes, come_sound}
-
-pub in_newest : (t : Txn) (ds : List PendingUndo) (d : PendingUndo) → In d (but_newest t ds) → In d ds
-in_newest t [] d i = i
-in_newest t (e ∷ ds) d i = elim (cases_Bool (due_of t e)) [
-  | inl y ↦ inr (rw y at i)
-  | inr n ↦ elim (rw n at i) [ inl is ↦ inl is | inr j ↦ inr (in_newest t ds d j) ]
-]
 
 -- what a due has of its OpEnd
 abbrev Reads : Sizes → PendingUndo → Type 0
@@ -59,7 +52,7 @@ reads_in z (records.OpEnd t n level deed ∷ log) d r s i = elim i [
   | inl e ↦ (let told = r.0.1 in subst (Reads z) (sym e) (told.1 ∙ ap (λ (o : Option Deed). Some (told_deed o)) (sym told.1), s.0))
   | inr j ↦ reads_in z log d r.1 s.1 j
 ]
-reads_in z (records.CompEnd t n undone ∷ log) d r s i = reads_in z log d r.1 s.1 (in_newest t (dues log) d i)
+reads_in z (records.CompEnd t n undone ∷ log) d r s i = reads_in z log d r.1 s.1 (in_newest (due_of t) (dues log) d i)
 reads_in z (records.Commit t ∷ log) d r s i = reads_in z log d r.1 s.1 (In-filter (λ e. not (due_of t e)) (dues log) d i).0
 reads_in z (records.AbortEnd t ∷ log) d r s i = reads_in z log d r.1 s.1 (In-filter (λ e. not (due_of t e)) (dues log) d i).0
 reads_in z (records.Base many k ∷ log) d r s i = absurd i

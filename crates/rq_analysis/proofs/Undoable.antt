@@ -21,7 +21,8 @@ use Rattle.rq_store.specs.Whole.{BeforesAreSlots}
 use Rattle.rq_analysis.specs.declared.open_work.UndoableWrite.{UndoableWrite}
 use Rattle.rq_analysis.specs.OpenWorkView.{undoable_by, without_newest, without_undoable, open_work_of}
 use Rattle.rq_analysis.proofs.Quiet.{unbegun, unbegun_lsns}
-use Rattle.rq_analysis.proofs.Lists.{own_newest, own_none, other_newest, other_none, in_newest, in_undoable, in_with, with_in, in_without, without_in, op_other}
+use Rattle.rq_analysis.proofs.Stacks.{in_newest, other_newest, other_none, own_newest, own_none}
+use Rattle.rq_analysis.proofs.Lists.{in_undoable, in_with, with_in, in_without, without_in, op_other}
 
 abbrev pub IsLegal : Sizes → List Record → Type 0
 IsLegal z log = IsLegalLog (layout_of z) (items z log)
@@ -71,16 +72,16 @@ pub apart : (p o : Sub) → same_op p o ≡ false → (x : UndoableWrite) → un
 apart p o n x e = ap (λ y. same_op y o) (op_is x.by p e) ∙ n
 
 own_rest : (p o : Sub) (ps : List UndoableWrite) → same_op p o ≡ true → filter (undoable_by o) (without_newest p ps) ≡ tail (filter (undoable_by o) ps)
-own_rest p o ps e = subst (λ q. filter (undoable_by o) (without_newest q ps) ≡ tail (filter (undoable_by o) ps)) (sym (op_is p o e)) (own_newest o ps)
+own_rest p o ps e = subst (λ q. filter (undoable_by o) (without_newest q ps) ≡ tail (filter (undoable_by o) ps)) (sym (op_is p o e)) (own_newest (undoable_by o) ps)
 
 own_gone : (p o : Sub) (ps : List UndoableWrite) → same_op p o ≡ true → filter (undoable_by o) (without_undoable p ps) ≡ []
-own_gone p o ps e = subst (λ q. filter (undoable_by o) (without_undoable q ps) ≡ []) (sym (op_is p o e)) (own_none o ps)
+own_gone p o ps e = subst (λ q. filter (undoable_by o) (without_undoable q ps) ≡ []) (sym (op_is p o e)) (own_none (undoable_by o) ps)
 
 ended_writes : (z : Sizes) (o p : Sub) (log : List Record) → places z o (undoable log) ≡ written z o log
     → places z o (without_undoable p (undoable log)) ≡ map write_place (cond (same_op p o) [] ((left_by z log).writes o))
 ended_writes z o p log ih = elim (cases_Bool (same_op p o)) [
   | inl y ↦ ap (map (undoable_place z)) (own_gone p o (undoable log) y) ∙ rw y refl
-  | inr n ↦ ap (map (undoable_place z)) (other_none (undoable_by o) p (undoable log) (apart p o n)) ∙ ih ∙ rw n refl
+  | inr n ↦ ap (map (undoable_place z)) (other_none (undoable_by p) (undoable_by o) (undoable log) (apart p o n)) ∙ ih ∙ rw n refl
 ]
 
 -- of each operation, its writes not undone
@@ -92,7 +93,7 @@ own_writes z o (PageOp t n page slot before after ∷ log) g = elim (cases_Bool 
 ]
 own_writes z o (PageUndo t n undone page slot after ∷ log) g = elim (cases_Bool (same_op (operation t n) o)) [
   | inl y ↦ ap (map (undoable_place z)) (own_rest (operation t n) o (undoable log) y) ∙ map_rest z (filter (undoable_by o) (undoable log)) ∙ ap rest_places (own_writes z o log g.1) ∙ sym (write_rest ((left_by z log).writes o)) ∙ rw y refl
-  | inr m ↦ ap (map (undoable_place z)) (other_newest (undoable_by o) (operation t n) (undoable log) (apart (operation t n) o m)) ∙ own_writes z o log g.1 ∙ rw m refl
+  | inr m ↦ ap (map (undoable_place z)) (other_newest (undoable_by (operation t n)) (undoable_by o) (undoable log) (apart (operation t n) o m)) ∙ own_writes z o log g.1 ∙ rw m refl
 ]
 own_writes z o (OpEnd t n level deed ∷ log) g = ended_writes z o (operation t n) log (own_writes z o log g.1)
 own_writes z o (OpVoid t n ∷ log) g = ended_writes z o (operation t n) log (own_writes z o log g.1)
@@ -101,7 +102,7 @@ own_writes z o (Base many i ∷ log) g = sym (ap (map write_place) (idle_writes 
 own_writes z o (_ ∷ log) g = own_writes z o log g.1
 
 other_end : (o p : Sub) (log : List Record) (ns : List ℕ) → same_op p o ≡ false → map lsn_of (filter (undoable_by o) (undoable log)) ≡ ns → map lsn_of (filter (undoable_by o) (without_undoable p (undoable log))) ≡ ns
-other_end o p log ns n ih = ap (map lsn_of) (other_none (undoable_by o) p (undoable log) (apart p o n)) ∙ ih
+other_end o p log ns n ih = ap (map lsn_of) (other_none (undoable_by p) (undoable_by o) (undoable log) (apart p o n)) ∙ ih
 
 -- and their LSNs, where it has no end
 pub own_lsns : (z : Sizes) (o : Sub) (log : List Record) → IsLegal z log → over o (items z log) ≡ false → map lsn_of (filter (undoable_by o) (open_work_of log).undoable) ≡ lsns o (items z log)
@@ -112,7 +113,7 @@ own_lsns z o (PageOp t n page slot before after ∷ log) w g = elim (cases_Bool 
 ]
 own_lsns z o (PageUndo t n undone page slot after ∷ log) w g = elim (cases_Bool (same_op (operation t n) o)) [
   | inl y ↦ ap (map lsn_of) (own_rest (operation t n) o (undoable log) y) ∙ lsn_rest (filter (undoable_by o) (undoable log)) ∙ ap rest_numbers (own_lsns z o log w.1 g) ∙ rw y refl
-  | inr m ↦ ap (map lsn_of) (other_newest (undoable_by o) (operation t n) (undoable log) (apart (operation t n) o m)) ∙ own_lsns z o log w.1 g ∙ rw m refl
+  | inr m ↦ ap (map lsn_of) (other_newest (undoable_by (operation t n)) (undoable_by o) (undoable log) (apart (operation t n) o m)) ∙ own_lsns z o log w.1 g ∙ rw m refl
 ]
 own_lsns z o (OpEnd t n level deed ∷ log) w g = let k = or_parts (same_op (operation t n) o) (over o (items z log)) g in other_end o (operation t n) log (lsns o (items z log)) k.0 (own_lsns z o log w.1 k.1)
 own_lsns z o (OpVoid t n ∷ log) w g = let k = or_parts (same_op (operation t n) o) (over o (items z log)) g in other_end o (operation t n) log (lsns o (items z log)) k.0 (own_lsns z o log w.1 k.1)
@@ -159,7 +160,7 @@ undoable_noted (PageOp t n page slot before after ∷ log) p h = elim h [
   | inl e ↦ with_in (operation t n) (unfinished log) p.by (inl (ap (λ (q : UndoableWrite). q.by) e))
   | inr i ↦ with_in (operation t n) (unfinished log) p.by (inr (undoable_noted log p i))
 ]
-undoable_noted (PageUndo t n undone page slot after ∷ log) p h = undoable_noted log p (in_newest (operation t n) (undoable log) p h)
+undoable_noted (PageUndo t n undone page slot after ∷ log) p h = undoable_noted log p (in_newest (undoable_by (operation t n)) (undoable log) p h)
 undoable_noted (OpEnd t n level deed ∷ log) p h = let k = in_undoable (operation t n) (undoable log) p h in without_in (operation t n) (unfinished log) p.by (undoable_noted log p k.0) (op_other p.by (operation t n) k.1)
 undoable_noted (OpVoid t n ∷ log) p h = let k = in_undoable (operation t n) (undoable log) p h in without_in (operation t n) (unfinished log) p.by (undoable_noted log p k.0) (op_other p.by (operation t n) k.1)
 undoable_noted (CompEnd t n undone ∷ log) p h = let k = in_undoable (operation t n) (undoable log) p h in without_in (operation t n) (unfinished log) p.by (undoable_noted log p k.0) (op_other p.by (operation t n) k.1)
@@ -173,7 +174,7 @@ undoable_before z (PageOp t n page slot before after ∷ log) b p h = elim h [
   | inl e ↦ subst (λ (q : UndoableWrite). IsSlotOf z q.page q.slot q.before) (sym e) b.0
   | inr i ↦ undoable_before z log b.1 p i
 ]
-undoable_before z (PageUndo t n undone page slot after ∷ log) b p h = undoable_before z log b.1 p (in_newest (operation t n) (undoable log) p h)
+undoable_before z (PageUndo t n undone page slot after ∷ log) b p h = undoable_before z log b.1 p (in_newest (undoable_by (operation t n)) (undoable log) p h)
 undoable_before z (OpEnd t n level deed ∷ log) b p h = undoable_before z log b.1 p (in_undoable (operation t n) (undoable log) p h).0
 undoable_before z (OpVoid t n ∷ log) b p h = undoable_before z log b.1 p (in_undoable (operation t n) (undoable log) p h).0
 undoable_before z (CompEnd t n undone ∷ log) b p h = undoable_before z log b.1 p (in_undoable (operation t n) (undoable log) p h).0

@@ -26,7 +26,8 @@ use Rattle.rq_analysis.specs.OpenWorkView.{OpenWorkView, open_work_of, has_sub, 
 use Rattle.rq_analysis.specs.Pages.{IsSpent, IsNextUndo, UndoesBehind, IsUndoing, IsUndone, void_of, undo_of, work}
 use Rattle.rq_analysis.specs.Pages.IsNextUndo.{Voids, Undoes}
 use Rattle.rq_analysis.specs.PageUndoTheorems.{IsUndoneFrom}
-use Rattle.rq_analysis.proofs.Lists.{sub_in, none_own, filter_le, filter_less}
+use Rattle.rq_analysis.proofs.Lists.{sub_in, filter_le, filter_less}
+use Rattle.rq_analysis.proofs.Stacks.{none_own}
 use Rattle.rq_analysis.proofs.Noting.{noted_unfinished, noted_active, pairs_of}
 use Rattle.rq_analysis.proofs.Undoable.{Place, undoable_place, write_place, lsn_of, own_writes, own_lsns, noted_way, under_began, under_open, undoable_noted, undoable_before, noted_order}
 
@@ -43,7 +44,7 @@ void_whole : (z : Sizes) (log : List Record) (o : Sub) → IsWhole z log → IsS
 void_whole z log o w h =
     let i : In o (open_work_of log).unfinished = sub_in o (open_work_of log).unfinished h.unfinished in
     let way = noted_way z log w.legal o i in
-    let none : map write_place ((left_by z log).writes o) ≡ [] = sym (own_writes z o log w.legal) ∙ ap (map (undoable_place z)) (none_own o (open_work_of log).undoable h.none) in
+    let none : map write_place ((left_by z log).writes o) ≡ [] = sym (own_writes z o log w.legal) ∙ ap (map (undoable_place z)) (none_own (undoable_by o) (open_work_of log).undoable h.none) in
     record {
       legal = (record { all_undone = no_places ((left_by z log).writes o) none; begun = under_began z o log way; going = under_open z o log way }, w.legal);
       told = (tt, w.told);

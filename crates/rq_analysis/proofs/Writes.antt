@@ -14,7 +14,7 @@ use Rattle.rq_views.proofs.Overlay.{same_is as op_is}
 use Rattle.rq_views.proofs.AllOpen.{tail}
 use Rattle.rq_analysis.specs.declared.open_work.UndoableWrite.{UndoableWrite}
 use Rattle.rq_analysis.specs.OpenWorkView.{open_work_of, undoable_at, undoable_by, without_newest, without_undoable}
-use Rattle.rq_analysis.proofs.Lists as undone
+use Rattle.rq_analysis.proofs.Stacks as stacks
 use Rattle.rq_analysis.proofs.Marks.{none_written}
 use Rattle.rq_analysis.proofs.Noting.{filter_twice, filter_same}
 use Rattle.rq_analysis.proofs.Undoable.{apart, undoable}
@@ -97,7 +97,7 @@ but_first n qs p h e =
     ap (filter (λ q. not (nat_eq p.lsn q.lsn))) k.1 ∙ rw own (all_but p.lsn k.0 b.1) ∙ ap tail (sym k.1)
 
 ended_other : (u o : Sub) (log : List Record) → same_op u o ≡ false → filter (undoable_by o) (without_undoable u (undoable log)) ≡ filter (undoable_by o) (undoable log)
-ended_other u o log n = undone.other_none (undoable_by o) u (undoable log) (apart u o n)
+ended_other u o log n = stacks.other_none (undoable_by u) (undoable_by o) (undoable log) (apart u o n)
 
 undone_one : (u o : Sub) (lsn : ℕ) (log : List Record) → same_op u o ≡ false → standing o log ≡ filter (λ p. not ((same_op u o && nat_eq lsn p.lsn) || any_record (undoes o p.lsn) log)) (writes_of o log)
 undone_one u o lsn log n = filter_same (stands o log) (λ p. not ((same_op u o && nat_eq lsn p.lsn) || any_record (undoes o p.lsn) log)) (writes_of o log) (λ p. rw n refl)
@@ -121,10 +121,10 @@ undoable_kept (records.PageUndo t n lsn page slot after ∷ log) f o g = elim (c
   | inl y ↦
       let is : operation t n ≡ o = op_is (operation t n) o y in
       let named : first (standing o log) ≡ Some (undoable_at lsn (operation t n) page slot after) = ap (λ (u : Sub). first (standing u log)) (sym is) ∙ f.0.undoes in
-      ap (λ (u : Sub). filter (undoable_by o) (without_newest u (undoable log))) is ∙ undone.own_newest o (undoable log) ∙ ap tail (undoable_kept log f.1 o g)
+      ap (λ (u : Sub). filter (undoable_by o) (without_newest u (undoable log))) is ∙ stacks.own_newest (undoable_by o) (undoable log) ∙ ap tail (undoable_kept log f.1 o g)
       ∙ sym (but_first (length log + 1) (standing o log) (undoable_at lsn (operation t n) page slot after) (below_filter (stands o log) (length log + 1) (writes_of o log) (writes_below o log)) named)
       ∙ undone_own (operation t n) o lsn log y
-  | inr m ↦ undone.other_newest (undoable_by o) (operation t n) (undoable log) (apart (operation t n) o m) ∙ undoable_kept log f.1 o g ∙ undone_one (operation t n) o lsn log m
+  | inr m ↦ stacks.other_newest (undoable_by (operation t n)) (undoable_by o) (undoable log) (apart (operation t n) o m) ∙ undoable_kept log f.1 o g ∙ undone_one (operation t n) o lsn log m
 ]
 undoable_kept (records.OpEnd t n level deed ∷ log) f o g = let k = or_parts (same_op (operation t n) o) (has_op_end o log) g in ended_other (operation t n) o log k.0 ∙ undoable_kept log f.1 o k.1
 undoable_kept (records.OpVoid t n ∷ log) f o g = let k = or_parts (same_op (operation t n) o) (has_op_end o log) g in ended_other (operation t n) o log k.0 ∙ undoable_kept log f.1 o k.1

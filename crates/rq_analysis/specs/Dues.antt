@@ -1,7 +1,7 @@
 -- What is to be taken back, as a stack: the deeds of transactions with neither Commit nor AbortEnd that no inverse took
 -- back, the newest first.
-use Rattle.std.specs.Prelude.{◌≡◌, ℕ, ◌+◌, ◌≤◌, Bool, false, not, ◌||◌, cond, List, [], ◌∷◌, ◌++◌, length, Some}
-use Rattle.std.specs.List.{filter}
+use Rattle.std.specs.Prelude.{◌≡◌, ℕ, ◌+◌, ◌≤◌, Bool, not, List, [], ◌∷◌, ◌++◌, length, Some}
+use Rattle.std.specs.List.{filter, list_any}
 use Rattle.rq_model.specs.declared.txn.Txn.{Txn}
 use Rattle.rq_model.specs.declared.record.Deed.{Deed}
 use Rattle.rq_model.specs.declared.record.Record.{Record}
@@ -14,19 +14,18 @@ use Rattle.rq_txn.specs.Rows.{Row, found_row}
 use Rattle.rq_store.specs.State.{State}
 use Rattle.rq_sound.specs.Sound.{IsSound}
 use Rattle.rq_analysis.specs.declared.dues.PendingUndo.{PendingUndo}
+use Rattle.rq_analysis.specs.Stacks.{but_newest_of}
 
 abbrev pub due_of : Txn → PendingUndo → Bool
 due_of t d = same_txn d.txn t
 
 -- all but the newest of the transaction's
 abbrev pub but_newest : Txn → List PendingUndo → List PendingUndo
-but_newest t [] = []
-but_newest t (d ∷ ds) = cond (due_of t d) ds (d ∷ but_newest t ds)
+but_newest t = but_newest_of (due_of t)
 
 -- something of the transaction's is due
 abbrev pub any_due : Txn → List PendingUndo → Bool
-any_due t [] = false
-any_due t (d ∷ ds) = due_of t d || any_due t ds
+any_due t = list_any (due_of t)
 
 -- those of others
 abbrev pub but_own : Txn → List PendingUndo → List PendingUndo

@@ -1,3 +1,4 @@
+pub mod Stacks
 pub mod OpenWorkView
 pub mod Pages
 pub mod Least

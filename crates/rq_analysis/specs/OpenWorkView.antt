@@ -10,6 +10,7 @@ use Rattle.rq_views.specs.Log.{same_op}
 use Rattle.rq_views.specs.Items.{operation}
 use Rattle.rq_model.specs.Incarnations.{incarnation_one}
 use Rattle.rq_analysis.specs.declared.open_work.UndoableWrite.{UndoableWrite}
+use Rattle.rq_analysis.specs.Stacks.{but_newest_of}
 
 -- the incarnation, the operations that wrote a slot and have no end, their writes that are not undone, the newest first,
 -- and the transactions that finished an operation and have no end
@@ -40,8 +41,7 @@ undoable_by o p = same_op p.by o
 
 -- all but the newest of the operation's
 abbrev pub without_newest : Sub → List UndoableWrite → List UndoableWrite
-without_newest o [] = []
-without_newest o (p ∷ ps) = cond (undoable_by o p) ps (p ∷ without_newest o ps)
+without_newest o = but_newest_of (undoable_by o)
 
 -- those of other operations
 abbrev pub without_undoable : Sub → List UndoableWrite → List UndoableWrite

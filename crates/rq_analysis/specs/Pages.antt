@@ -1,5 +1,6 @@
 -- How a restart undoes operations that have no end: slot by slot, by records of its own.
 use Rattle.std.specs.Prelude.{◌≡◌, ℕ, ◌+◌, ◌&&◌, ◌||◌, Bool, true, false, nat_eq, nat_lt, List, [], ◌∷◌, ◌++◌, length}
+use Rattle.std.specs.List.{list_any}
 use Rattle.rq_model.specs.declared.txn.Txn.{Txn}
 use Rattle.rq_model.specs.declared.txn.Sub.{Sub}
 use Rattle.rq_model.specs.declared.record.Record.{Record}
@@ -16,8 +17,7 @@ abbrev pub op_less : Sub → Sub → Bool
 op_less a b = txn_less a.txn b.txn || (same_txn a.txn b.txn && nat_lt a.number b.number)
 
 abbrev pub any_undoable : Sub → List UndoableWrite → Bool
-any_undoable o [] = false
-any_undoable o (p ∷ ps) = undoable_by o p || any_undoable o ps
+any_undoable o = list_any (undoable_by o)
 
 -- the operation has no end, and all its writes are undone
 pub record IsSpent (h : OpenWorkView) (o : Sub) : Type 0 where

@@ -14,7 +14,7 @@ use Rattle.rq_analysis.specs.OpenWorkView.{open_work_of, with_txn, without_txn}
 use Rattle.rq_analysis.specs.declared.dues.PendingUndo.{PendingUndo}
 use Rattle.rq_analysis.specs.Choices.{least_free, lesser_in}
 use Rattle.rq_analysis.specs.Dues.{any_due, but_own, due_of, dues}
-use Rattle.rq_analysis.proofs.Planning.{in_newest}
+use Rattle.rq_analysis.proofs.Stacks.{in_newest}
 
 own_in : (t : Txn) (ds : List PendingUndo) (d : PendingUndo) → In d (but_own t ds) → In d ds
 own_in t ds d i = (In-filter (λ (x : PendingUndo). not (due_of t x)) ds d i).0
@@ -33,7 +33,7 @@ due_told P Q older one (OpEnd t n level deed ∷ log) q d i = elim i [
   | inl e ↦ subst P (sym e) (one t n level deed log q)
   | inr j ↦ due_told P Q older one log (older (OpEnd t n level deed) log refl q) d j
 ]
-due_told P Q older one (CompEnd t n undone ∷ log) q d i = due_told P Q older one log (older (CompEnd t n undone) log refl q) d (in_newest t (dues log) d i)
+due_told P Q older one (CompEnd t n undone ∷ log) q d i = due_told P Q older one log (older (CompEnd t n undone) log refl q) d (in_newest (due_of t) (dues log) d i)
 due_told P Q older one (Commit t ∷ log) q d i = due_told P Q older one log (older (Commit t) log refl q) d (own_in t (dues log) d i)
 due_told P Q older one (PageOp t n page slot before after ∷ log) q d i = due_told P Q older one log (older (PageOp t n page slot before after) log refl q) d i
 due_told P Q older one (PageUndo t n undone page slot after ∷ log) q d i = due_told P Q older one log (older (PageUndo t n undone page slot after) log refl q) d i
@@ -202,6 +202,6 @@ due_active (Commit u ∷ log) d i e =
 due_active (AbortEnd u ∷ log) d i e =
     let k = or_parts (ends_txn d.txn (AbortEnd u)) (has_end log d.txn) e in
     other_in u d.txn (open_work_of log).active k.0 (due_active log d (own_in u (dues log) d i) k.1)
-due_active (CompEnd u n undone ∷ log) d i e = due_active log d (in_newest u (dues log) d i) e
+due_active (CompEnd u n undone ∷ log) d i e = due_active log d (in_newest (due_of u) (dues log) d i) e
 due_active (Base many j ∷ log) d i e = absurd i
 due_active (_ ∷ log) d i e = due_active log d i e

@@ -17,8 +17,7 @@ use Rattle.rq_analysis.specs.declared.dues.PendingUndo.{PendingUndo}
 use Rattle.rq_analysis.specs.declared.open_work.UndoableWrite.{UndoableWrite}
 use Rattle.rq_analysis.specs.Dues.{due_of, dues}
 use Rattle.rq_analysis.specs.OpenWorkView.{open_work_of, undoable_by}
-use Rattle.rq_analysis.proofs.Lists.{in_newest}
-use Rattle.rq_analysis.proofs.Planning as planning
+use Rattle.rq_analysis.proofs.Stacks.{in_newest}
 use Rattle.rq_views.specs.Log.{same_op}
 use Rattle.rq_views.specs.Items.{operation}
 use Rattle.rq_views.proofs.AllOpen.{filter_in}
@@ -169,7 +168,7 @@ write_kept (records.PageOp t n page slot before after ∷ log) w (inl e) =
       },
     )
 write_kept (records.PageOp t n page slot before after ∷ log) w (inr i) = still_more log (records.PageOp t n page slot before after) w (place_at (length log + 1) (length (spelled log)) t n ∷ []) refl refl (write_kept log w i)
-write_kept (records.PageUndo t n undone page slot after ∷ log) w i = still_more log (records.PageUndo t n undone page slot after) w [] refl refl (write_kept log w (in_newest (operation t n) (open_work_of log).undoable w i))
+write_kept (records.PageUndo t n undone page slot after ∷ log) w i = still_more log (records.PageUndo t n undone page slot after) w [] refl refl (write_kept log w (in_newest (undoable_by (operation t n)) (open_work_of log).undoable w i))
 write_kept (records.OpEnd t n level deed ∷ log) w i =
     let k = In-filter (λ q. not (undoable_by (operation t n) q)) (open_work_of log).undoable w i in
     ended_more log (records.OpEnd t n level deed) (operation t n) w refl refl k.1 (write_kept log w k.0)
@@ -209,7 +208,7 @@ due_kept (records.OpEnd t n level deed ∷ log) d (inl e) =
       },
     )
 due_kept (records.OpEnd t n level deed ∷ log) d (inr i) = due_still log (records.OpEnd t n level deed) d (place_at (length log + 1) (length (spelled log)) t n ∷ []) refl refl (due_kept log d i)
-due_kept (records.CompEnd t n undone ∷ log) d i = due_still log (records.CompEnd t n undone) d [] refl refl (due_kept log d (planning.in_newest t (dues log) d i))
+due_kept (records.CompEnd t n undone ∷ log) d i = due_still log (records.CompEnd t n undone) d [] refl refl (due_kept log d (in_newest (due_of t) (dues log) d i))
 due_kept (records.Commit t ∷ log) d i =
     let k = In-filter (λ x. not (due_of t x)) (dues log) d i in
     due_ended log (records.Commit t) t d refl refl k.1 (due_kept log d k.0)

@@ -17,10 +17,11 @@ use Rattle.rq_views.specs.Items.{operation}
 use Rattle.rq_store.specs.Opening.{MayRedo, Redoes}
 use Rattle.rq_store.specs.Fitting.{told_by}
 use Rattle.rq_analysis.specs.declared.open_work.UndoableWrite.{UndoableWrite}
-use Rattle.rq_analysis.specs.OpenWorkView.{OpenWorkView, open_work_of}
+use Rattle.rq_analysis.specs.OpenWorkView.{OpenWorkView, open_work_of, undoable_by}
 use Rattle.rq_analysis.specs.Pages.{IsNextUndo, IsUndoing, work}
 use Rattle.rq_analysis.specs.Pages.IsNextUndo.{Voids, Undoes}
-use Rattle.rq_analysis.proofs.Lists.{in_newest, in_undoable, in_with, in_without, sub_in}
+use Rattle.rq_analysis.proofs.Lists.{in_undoable, in_with, in_without, sub_in}
+use Rattle.rq_analysis.proofs.Stacks.{in_newest}
 use Rattle.rq_analysis.proofs.Undos.{undo_leaves_less, undoing_more}
 use Rattle.rq_analysis.specs.Rules.{CanBeRead}
 use Rattle.rq_restart.specs.Found.{MayComeNext}
@@ -53,7 +54,7 @@ undoable_range (PageOp t n page slot before after ∷ log) a p h = elim h [
   | inl e ↦ subst IsUndoableInRange (sym e) ((a.0.0.0, a.0.0.1), omega arith, a.0.0.2)
   | inr i ↦ undoable_range log a.1 p i
 ]
-undoable_range (PageUndo t n undone page slot after ∷ log) a p h = undoable_range log a.1 p (in_newest (operation t n) (open_work_of log).undoable p h)
+undoable_range (PageUndo t n undone page slot after ∷ log) a p h = undoable_range log a.1 p (in_newest (undoable_by (operation t n)) (open_work_of log).undoable p h)
 undoable_range (OpEnd t n level deed ∷ log) a p h = undoable_range log a.1 p (in_undoable (operation t n) (open_work_of log).undoable p h).0
 undoable_range (OpVoid t n ∷ log) a p h = undoable_range log a.1 p (in_undoable (operation t n) (open_work_of log).undoable p h).0
 undoable_range (CompEnd t n undone ∷ log) a p h = undoable_range log a.1 p (in_undoable (operation t n) (open_work_of log).undoable p h).0

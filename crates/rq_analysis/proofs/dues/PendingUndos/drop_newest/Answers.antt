@@ -1,6 +1,6 @@
 use Rattle.std.proofs.Common.{ap, sym, ◌∙◌, reverse}
-use Rattle.rq_analysis.specs.Dues.{any_due, but_newest}
-use Rattle.rq_analysis.proofs.Stack.{any_reverse, none_newest, taken_in}
+use Rattle.rq_analysis.specs.Dues.{any_due, but_newest, due_of}
+use Rattle.rq_analysis.proofs.Stacks.{any_reverse, none_newest, taken_in}
 use Rattle.rq_analysis.proofs.dues.PendingUndos.drop_newest.Goals as goal
 
 pub returns-in-Some : goal.returns-in-Some
@@ -8,10 +8,10 @@ returns-in-Some c =
     let items = c.self.inside.dues.items in
     let found = c.in-Some.ensures in
     ap reverse c.remove.ensures.by_index.2
-    ∙ taken_in c.args.txn c.deref.result.now items c.in-Some.place c.remove.result c.deref.ensures.value found.place (found.own c.remove.result) found.newest
+    ∙ taken_in (due_of c.args.txn) c.deref.result.now items c.in-Some.place c.remove.result c.deref.ensures.value found.place (found.own c.remove.result) found.newest
     ∙ ap (but_newest c.args.txn) c.self.view_is
 
 pub returns-in_default : goal.returns-in_default
-returns-in_default c = sym (none_newest c.args.txn c.args.self.now
-    (ap (any_due c.args.txn) (sym c.self.view_is) ∙ any_reverse c.args.txn c.self.inside.dues.items
+returns-in_default c = sym (none_newest (due_of c.args.txn) c.args.self.now
+    (ap (any_due c.args.txn) (sym c.self.view_is) ∙ any_reverse (due_of c.args.txn) c.self.inside.dues.items
     ∙ ap (any_due c.args.txn) (sym c.deref.ensures.value) ∙ c.in_default.ensures.none))

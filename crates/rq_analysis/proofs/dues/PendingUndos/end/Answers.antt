@@ -3,7 +3,7 @@ use Rattle.std.proofs.lemmas.Fn.{filter_same}
 use Rattle.rq_analysis.specs.declared.dues.PendingUndo.{PendingUndo}
 use Rattle.rq_analysis.specs.Dues.{but_own, due_of}
 use Rattle.rq_analysis.proofs.dues.PendingUndos.end.Goals as goal
-use Rattle.rq_analysis.proofs.Places.{filter_reverse}
+use Rattle.rq_analysis.proofs.Stacks.{filter_reverse}
 
 pub returns : goal.returns
 returns c =

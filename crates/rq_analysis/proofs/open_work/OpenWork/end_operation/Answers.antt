@@ -2,7 +2,7 @@ use Rattle.std.proofs.Common.{rules, ap, ◌∙◌, reverse, not}
 use Rattle.std.proofs.lemmas.Fn.{filter_same}
 use Rattle.rq_analysis.specs.declared.open_work.UndoableWrite.{UndoableWrite}
 use Rattle.rq_analysis.specs.OpenWorkView.{OpenWorkView, undoable_by, without_undoable, without_sub}
-use Rattle.rq_analysis.proofs.Places.{filter_reverse}
+use Rattle.rq_analysis.proofs.Stacks.{filter_reverse}
 use Rattle.rq_analysis.proofs.open_work.OpenWork.end_operation.Goals as goal
 
 pub returns : goal.returns

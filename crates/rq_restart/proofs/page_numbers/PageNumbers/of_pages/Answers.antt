@@ -1,4 +1,4 @@
-use Rattle.std.proofs.Common.{rules, ◌≡◌, ◌↔◌, ℕ, ◌+◌, ◌<◌, ◌≤◌, sym, ◌∙◌, ap, subst, arith}
+use Rattle.std.proofs.Common.{rules, ◌≡◌, ◌↔◌, ℕ, ◌<◌, ◌≤◌, ◌∙◌, ap, subst, arith}
 use Rattle.rq_page.specs.Sizes.{page_count}
 use Rattle.rq_store.specs.Fitting.{image_in}
 use Rattle.rq_store.specs.Opening.{IsCounted}
