@@ -140,6 +140,7 @@ impl ChainLevel {
     }
 
     // The plan of a send.
+    #[inline(never)]
     fn plan_send(
         &mut self,
         room: Vec<SlotWrite>,
@@ -186,6 +187,7 @@ impl ChainLevel {
     }
 
     // The plan of a receive.
+    #[inline(never)]
     fn plan_receive(
         &self,
         room: Vec<SlotWrite>,
