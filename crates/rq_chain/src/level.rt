@@ -276,6 +276,7 @@ impl ChainLevel {
     }
 
     // The plan of the inverse of a receive.
+    #[inline(never)]
     fn plan_return(
         &mut self,
         room: Vec<SlotWrite>,
@@ -447,6 +448,7 @@ fn reopened(
 }
 
 // The plan of the inverse of a send.
+#[inline(never)]
 fn unlinked_tail(
     room: Vec<SlotWrite>,
     layout: &Layout,
