@@ -1,5 +1,5 @@
 -- What is noted of a legal log: the operations and transactions in it that have no end.
-use Rattle.std.proofs.Common.{◌≡◌, ℕ, ◌+◌, ◌≤◌, List, [], ◌∷◌, ◌++◌, length, refl, sym, ◌∙◌, ap, Bool, true, false, not, cond, ◌&&◌, ◌||◌, nat_eq, Option, Some, None, inl, inr, arith}
+use Rattle.std.proofs.Common.{◌≡◌, ℕ, ◌+◌, ◌≤◌, List, [], ◌∷◌, ◌++◌, length, refl, sym, ◌∙◌, ap, Bool, true, false, not, ◌&&◌, ◌||◌, nat_eq, Option, Some, inl, inr, arith}
 use Rattle.std.specs.List.{filter, list_any}
 use Rattle.std.proofs.lemmas.Bool.{cases_Bool, true≢false, and_parts, eqb-true}
 use Rattle.std.specs.Prelude.{map}
@@ -11,7 +11,6 @@ use Rattle.rq_model.specs.declared.txn.Txn.{Txn}
 use Rattle.rq_model.specs.declared.record.Record.{Record}
 use Rattle.rq_model.specs.declared.record.Record.TheVariants as records
 use Rattle.rq_model.specs.Vocabulary.{same_txn, has_txn}
-use Rattle.rq_model.specs.Deeds.{deed_in}
 use Rattle.rq_model.specs.Content.{Ending, ending, ending_by, has_end}
 use Rattle.rq_model.specs.Unended.{any_record, operation_ended, has_pair, add_pair, operations, unfinished, add_txn, workers, lost}
 use Rattle.rq_model.proofs.Lists.{same_is}
@@ -129,7 +128,7 @@ filter_same f g xs h = let e : f ≡ g = λ i. λ x. h x i in ap (λ k. filter k
 pub noted_active : (z : Sizes) (log : List Record) → IsLegalLog (layout_of z) (items z log) → ReadsItsDeeds log → (open_work_of log).active ≡ lost log
 noted_active z [] k r = refl
 noted_active z (records.OpEnd t n level deed ∷ log) k r =
-    let e : ending (records.OpEnd t n level deed) ≡ ending_by t (Some r.0.1.0) = ap (λ l. ending_by t (cond (nat_eq l 1) (deed_in deed) None)) r.0.0 ∙ ap (ending_by t) r.0.1.1 in
+    let e : ending (records.OpEnd t n level deed) ≡ ending_by t (Some r.0.0.0) = ap (ending_by t) r.0.0.1 in
     let open_one : has_end log t ≡ false = sym (has_end_same z t log) ∙ k.0.running in
     ap (with_txn t) (noted_active z log k.1 r.1)
     ∙ sym (txn_more (λ u. not (has_end log u)) (workers log) t (ap not open_one))

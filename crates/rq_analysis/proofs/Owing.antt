@@ -7,7 +7,7 @@ use Rattle.rq_model.specs.declared.txn.Txn.{Txn}
 use Rattle.rq_model.specs.declared.record.Deed.{Deed}
 use Rattle.rq_model.specs.declared.record.Record.{Record}
 use Rattle.rq_model.specs.declared.record.Record.TheVariants as records
-use Rattle.rq_model.specs.Deeds.{deed_in}
+use Rattle.rq_model.specs.Deeds.{deed_by}
 use Rattle.rq_model.specs.Vocabulary.{In, same_txn}
 use Rattle.rq_model.proofs.Lists.{In-filter, In-map, same_self, In-last}
 use Rattle.rq_page.specs.Sizes.{Sizes}
@@ -63,7 +63,7 @@ dues_are z (records.AbortEnd t ∷ log) k =
     map_but_own t (dues log) ∙ ap (but_all (owned_by t)) (dues_are z log k.1)
     ∙ others_stay t (all_open (items z log)) (own_open t (items z log) ∙ k.0.empty)
 dues_are z (records.OpEnd t n level deed ∷ log) k =
-    let d : Deed = told_deed (deed_in deed) in
+    let d : Deed = told_deed (deed_by level deed) in
     ap (λ (l : List Owned). record { txn = t; placed = record { lsn = length log + 1; deed = d } } ∷ l) (dues_are z log k.1)
     ∙ ap (λ (k : ℕ). record { txn = t; placed = record { lsn = k + 1; deed = d } } ∷ all_open (items z log)) (sym (length-map log (item_of z)))
 dues_are z (records.Base many i ∷ log) k = sym (all_closed (items z log) i k.0 (layout_of z) k.1)

@@ -5,7 +5,7 @@ use Rattle.rq_model.specs.declared.record.Deed.{Deed}
 use Rattle.rq_model.specs.declared.record.Deed.TheVariants.{Append, UnlinkHead, Close}
 use Rattle.rq_model.specs.declared.record.Record.{Record}
 use Rattle.rq_model.specs.declared.record.Record.TheVariants as records
-use Rattle.rq_model.specs.Deeds.{deed_in}
+use Rattle.rq_model.specs.Deeds.{deed_by}
 use Rattle.rq_model.specs.Unended.{lost}
 use Rattle.rq_model.specs.Vocabulary.{In}
 use Rattle.rq_model.proofs.Lists.{In-filter}
@@ -44,12 +44,12 @@ use Rattle.rq_analysis.proofs.Logging.{come_sizes, come_sound}
 
 -- what a due has of its OpEnd
 abbrev Reads : Sizes → PendingUndo → Type 0
-Reads z d = (deed_in d.deed ≡ Some (deed_due d)) × (deed_sender (deed_due d) < sender_count z)
+Reads z d = (deed_by d.level d.deed ≡ Some (deed_due d)) × (deed_sender (deed_due d) < sender_count z)
 
 reads_in : (z : Sizes) (log : List Record) (d : PendingUndo) → ReadsItsDeeds log → InStore z log → In d (dues log) → Reads z d
 reads_in z [] d r s i = absurd i
 reads_in z (records.OpEnd t n level deed ∷ log) d r s i = elim i [
-  | inl e ↦ (let told = r.0.1 in subst (Reads z) (sym e) (told.1 ∙ ap (λ (o : Option Deed). Some (told_deed o)) (sym told.1), s.0))
+  | inl e ↦ (let told = r.0.0 in subst (Reads z) (sym e) (told.1 ∙ ap (λ (o : Option Deed). Some (told_deed o)) (sym told.1), s.0))
   | inr j ↦ reads_in z log d r.1 s.1 j
 ]
 reads_in z (records.CompEnd t n undone ∷ log) d r s i = reads_in z log d r.1 s.1 (in_newest (due_of t) (dues log) d i)
@@ -58,7 +58,7 @@ reads_in z (records.AbortEnd t ∷ log) d r s i = reads_in z log d r.1 s.1 (In-f
 reads_in z (records.Base many k ∷ log) d r s i = absurd i
 reads_in z (_ ∷ log) d r s i = reads_in z log d r.1 s.1 i
 
-pub due_reads : (z : Sizes) (log : List Record) (d : PendingUndo) → IsWhole z log → In d (dues log) → (deed_in d.deed ≡ Some (deed_due d)) × (deed_sender (deed_due d) < sender_count z)
+pub due_reads : (z : Sizes) (log : List Record) (d : PendingUndo) → IsWhole z log → In d (dues log) → (deed_by d.level d.deed ≡ Some (deed_due d)) × (deed_sender (deed_due d) < sender_count z)
 due_reads z log d w i = reads_in z log d w.reads w.in_store i
 
 -- a store with nothing under way stands on its pages with no rows

@@ -8,7 +8,7 @@ use Rattle.rq_model.specs.declared.record.Record.{Record}
 use Rattle.rq_model.specs.declared.record.Record.TheVariants as records
 use Rattle.rq_model.specs.Bases.{earlier, is_base, marked, marks}
 use Rattle.rq_model.specs.Content.{has_end}
-use Rattle.rq_model.specs.Deeds.{deed_in}
+use Rattle.rq_model.specs.Deeds.{deed_by}
 use Rattle.rq_model.specs.Vocabulary.{first, is_some, same_txn}
 use Rattle.rq_model.proofs.Lists.{In-filter, same_is}
 use Rattle.rq_page.specs.Sizes.{Sizes, address}
@@ -16,7 +16,6 @@ use Rattle.rq_page.specs.Slots.{Slot, IsSlotOf, held_in, slot_bytes}
 use Rattle.rq_page.proofs.Spellings.{slot_is_spelling}
 use Rattle.rq_views.specs.Log.{Item, IsNewest, Places, Write, same_op, state_of}
 use Rattle.rq_views.specs.Log.Item.{PageOp, PageUndo, OpEnd, OpVoid, CompEnd, Commit, AbortEnd, Restart}
-use Rattle.rq_level.specs.Meaning.{meaning_of}
 use Rattle.rq_views.specs.Plans.{IsPlan}
 use Rattle.rq_views.specs.Plans.Turn.{Did}
 use Rattle.rq_views.specs.InStore.{IsStranger}
@@ -46,11 +45,6 @@ use Rattle.rq_analysis.proofs.Operations.{has_op_end_same, noted_there, number_k
 use Rattle.rq_analysis.proofs.Owed.{dues_kept}
 use Rattle.rq_analysis.proofs.Owed as owed
 use Rattle.rq_analysis.proofs.Writes.{undoable_kept}
-
--- the chain level reads its deeds
-chain_reads : (level : ℕ) (deed : List ℕ) → level ≡ 1 → is_some (deed_in deed) ≡ true → (meaning_of level).reads deed ≡ true
-unfolding meaning_of
-chain_reads level deed one some = ap (λ (n : ℕ). (meaning_of n).reads deed) one ∙ some
 
 way : (l : Places) (log : List Item) (o : Sub) → began o log ≡ true → over o log ≡ false → under_way o log ≡ true
 way l log o b g = rw (b, g) refl
@@ -203,11 +197,11 @@ module _ (z : Sizes) (log : List Record) (w : IsWhole z log) (f : FollowAll (mar
       record {
         running = marked_running t log (sym (has_end_same z t log) ∙ k.running);
         going = marked_going (operation t n) log (has_op_end_same z (operation t n) log ∙ k.going);
-        begun = begun_known (operation t n) k.going (written_began (layout_of z) (items z log) (operation t n) (λ e. plan_some (layout_of z) (Did (told_deed (deed_in deed))) (subst (IsPlan (layout_of z) (Did (told_deed (deed_in deed)))) e k.plan)));
+        begun = begun_known (operation t n) k.going (written_began (layout_of z) (items z log) (operation t n) (λ e. plan_some (layout_of z) (Did (told_deed (deed_by level deed))) (subst (IsPlan (layout_of z) (Did (told_deed (deed_by level deed)))) e k.plan)));
         numbered = tt;
         undoes = tt;
         takes_back = tt;
-        reads = chain_reads level deed v.reads.0.0 (ap is_some v.reads.0.1.1);
+        reads = ap is_some v.reads.0.0.1;
         begins = tt;
       }
   next_follows (records.OpVoid t n) v plain =

@@ -1,5 +1,5 @@
 -- Who finished an operation in a log and has not ended: each once, and of the running incarnation.
-use Rattle.std.proofs.Common.{◌≡◌, ◌<◌, ◌≤◌, Bool, true, false, not, cond, ◌||◌, nat_eq, List, [], ◌∷◌, ◌++◌, Option, Some, None, inl, inr, refl, sym, ◌∙◌, ap, arith}
+use Rattle.std.proofs.Common.{◌≡◌, ◌<◌, ◌≤◌, Bool, true, false, not, cond, ◌||◌, List, [], ◌∷◌, ◌++◌, Option, Some, None, inl, inr, refl, sym, ◌∙◌, ap, arith}
 use Rattle.std.specs.List.{filter}
 use Rattle.std.proofs.lemmas.Bool.{cases_Bool, true≢false, false≢true, or_parts, or_from, or_cases, or_left, or_right, cases_lt, not-true}
 use Rattle.rq_model.specs.declared.txn.Txn.{Txn}
@@ -7,7 +7,7 @@ use Rattle.rq_model.specs.declared.record.Deed.{Deed}
 use Rattle.rq_model.specs.declared.record.Record.{Record}
 use Rattle.rq_model.specs.declared.record.Record.TheVariants as records
 use Rattle.rq_model.specs.Vocabulary.{In, Op, same_txn, has_txn}
-use Rattle.rq_model.specs.Deeds.{deed_in}
+use Rattle.rq_model.specs.Deeds.{deed_by}
 use Rattle.rq_model.specs.Commits.{op_of, ops_told}
 use Rattle.rq_model.specs.Content.{Ending, Said, ending, ending_by, kept, deeds, has_end}
 use Rattle.rq_model.specs.Incarnations.{InOrder, incarnation_of, txn_of}
@@ -132,7 +132,7 @@ ended_by t u (Some d) ts b ih h = elim (or_cases (same_txn u t) (has_txn t ts) (
 
 worker_did : (z : Sizes) (t : Txn) (log : List Record) → has_txn t (workers log) ≡ true → has_deed t (items z log) ≡ true
 worker_did z t [] h = h
-worker_did z t (records.OpEnd u n level deed ∷ log) h = ended_by t u (cond (nat_eq level 1) (deed_in deed) None) (workers log) (has_deed t (items z log)) (worker_did z t log) h
+worker_did z t (records.OpEnd u n level deed ∷ log) h = ended_by t u (deed_by level deed) (workers log) (has_deed t (items z log)) (worker_did z t log) h
 worker_did z t (_ ∷ log) h = worker_did z t log h
 
 -- who did something and has not ended is of the running incarnation: a restart comes behind the ends of all

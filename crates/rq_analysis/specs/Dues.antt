@@ -6,7 +6,7 @@ use Rattle.rq_model.specs.declared.txn.Txn.{Txn}
 use Rattle.rq_model.specs.declared.record.Deed.{Deed}
 use Rattle.rq_model.specs.declared.record.Record.{Record}
 use Rattle.rq_model.specs.declared.record.Record.TheVariants.{AbortEnd, Base, CompEnd, Commit, OpEnd}
-use Rattle.rq_model.specs.Deeds.{deed_in}
+use Rattle.rq_model.specs.Deeds.{deed_by}
 use Rattle.rq_model.specs.Vocabulary.{In, same_txn}
 use Rattle.rq_views.specs.Items.{told_deed}
 use Rattle.rq_txn.specs.declared.Finished.{Finished}
@@ -44,7 +44,7 @@ dues [] = []
 dues (r ∷ log) = dues_after (length log + 1) r (dues log)
 
 abbrev pub deed_due : PendingUndo → Deed
-deed_due d = told_deed (deed_in d.deed)
+deed_due d = told_deed (deed_by d.level d.deed)
 
 abbrev pub finished_due : PendingUndo → Finished
 finished_due d = record { lsn = d.lsn; deed = deed_due d }

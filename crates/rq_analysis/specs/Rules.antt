@@ -5,12 +5,12 @@ use Rattle.rq_model.specs.declared.txn.Txn.{Txn}
 use Rattle.rq_model.specs.declared.txn.Sub.{Sub}
 use Rattle.rq_model.specs.declared.record.Record.{Record}
 use Rattle.rq_model.specs.declared.record.Record.TheVariants.{PageOp, PageUndo, OpEnd, OpVoid, CompEnd, Base}
-use Rattle.rq_model.specs.Vocabulary.{first, same_txn}
+use Rattle.rq_model.specs.Deeds.{deed_by}
+use Rattle.rq_model.specs.Vocabulary.{first, is_some, same_txn}
 use Rattle.rq_model.specs.Content.{has_end}
 use Rattle.rq_model.specs.Bases.{marks}
 use Rattle.rq_model.specs.Incarnations.{IsNext, incarnation_of, txn_of}
 use Rattle.rq_model.specs.Unended.{any_record}
-use Rattle.rq_level.specs.Meaning.{meaning_of}
 use Rattle.rq_views.specs.Log.{same_op}
 use Rattle.rq_views.specs.Items.{operation}
 use Rattle.rq_views.specs.Legal.{is_of}
@@ -114,7 +114,7 @@ TakesBackNewest log (CompEnd t n undone) = first (left_of t log) ≡ Some undone
 TakesBackNewest log _ = Unit {0}
 
 abbrev pub CanBeRead : Record → Type 0
-CanBeRead (OpEnd t n level deed) = (meaning_of level).reads deed ≡ true
+CanBeRead (OpEnd t n level deed) = is_some (deed_by level deed) ≡ true
 CanBeRead _ = Unit {0}
 
 abbrev pub BeginsLog : List Record → Record → Type 0

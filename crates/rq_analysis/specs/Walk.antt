@@ -6,7 +6,7 @@ use Rattle.rq_model.specs.declared.record.Deed.TheVariants.{Append, UnlinkHead, 
 use Rattle.rq_model.specs.declared.record.Record.{Record}
 use Rattle.rq_model.specs.declared.record.Record.TheVariants.{AbortEnd}
 use Rattle.rq_model.specs.declared.txn.Txn.{Txn}
-use Rattle.rq_model.specs.Deeds.{deed_in}
+use Rattle.rq_model.specs.Deeds.{deed_by}
 use Rattle.rq_model.specs.Unended.{lost}
 use Rattle.rq_model.specs.Vocabulary.{In}
 use Rattle.rq_page.specs.declared.cell.Cell.{Cell}
@@ -147,7 +147,7 @@ pub record ShowsUndone (z : Sizes) (images : List (List ℕ)) (log : List Record
 -- that of any such store).
 pub record DuesCanBeUndone : Type 0 where
   pub reads : (z : Sizes) (log : List Record) (d : PendingUndo) → IsWhole z log → In d (dues log)
-      → (deed_in d.deed ≡ Some (deed_due d)) × (deed_sender (deed_due d) < sender_count z)
+      → (deed_by d.level d.deed ≡ Some (deed_due d)) × (deed_sender (deed_due d) < sender_count z)
   pub may : (base : State) (images : List (List ℕ)) (log : List Record) (d : PendingUndo) (ds : List PendingUndo) → IsSound base
       → IsBetween base images log → least_free (dues log) (lost log) ≡ None → dues log ≡ d ∷ ds
       → ShowsUndone base.sizes images log (deed_due d)

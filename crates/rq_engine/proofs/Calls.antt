@@ -4,7 +4,7 @@ use Rattle.std.specs.List.{sum_by, slice_get, slice_index_or}
 use Rattle.std.proofs.lemmas.Bool.{cases_Bool, false_from_ne_true, eqb-true, eq-eqb, and_from, lt-ltb}
 use Rattle.std.proofs.lemmas.List.Sums.{sum_by-cons}
 use Rattle.std.proofs.lemmas.Option.{slice_get_within, slice_get-get_or, same_Some}
-use Rattle.rq_model.specs.Deeds.{deed_in, spelled_deed}
+use Rattle.rq_model.specs.Deeds.{TellsItself}
 use Rattle.rq_model.specs.declared.txn.Txn.{Txn}
 use Rattle.rq_model.specs.declared.txn.Sub.{Sub}
 use Rattle.rq_model.specs.declared.record.Deed.{Deed}
@@ -175,7 +175,7 @@ module _ (s : State) (f : Bool) (o res : ℕ) (k : IsConsistent s f o res) (sub 
   same_end : (left : ℕ) → left + end_bytes aim ≡ res → left + end_bytes gd.under.aim ≡ res
   same_end left e = let c : end_bytes gd.under.aim ≡ end_bytes aim = ap end_bytes gd.so.1 in omega (arith, c, e)
 
-  pub end_kept : (d : Deed) (x : Record) (end : Finished) (left : ℕ) → left + end_bytes aim ≡ res → 1 ≤ end.lsn → end.deed ≡ deed_of aim → deed_in (spelled_deed end.deed) ≡ Some end.deed → IsConsistent (record s { rows = change_row sub.txn (row_finished end) s.rows; records = x ∷ s.records; waiting = without_taken d s.waiting }) f (o - 1) left
+  pub end_kept : (d : Deed) (x : Record) (end : Finished) (left : ℕ) → left + end_bytes aim ≡ res → 1 ≤ end.lsn → end.deed ≡ deed_of aim → TellsItself end.deed → IsConsistent (record s { rows = change_row sub.txn (row_finished end) s.rows; records = x ∷ s.records; waiting = without_taken d s.waiting }) f (o - 1) left
   end_kept d x end left e low is reads = kept_finished s f o res k sub.txn gd.row gd.found gd.under x end left d gd.is all_made (same_end left e)
       (record { lsn = low; sender = subst (λ (y : Deed). deed_sender y < sender_count s.sizes) (sym is) end_sender; reads = reads })
 

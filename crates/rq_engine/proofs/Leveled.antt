@@ -8,7 +8,8 @@ use Rattle.rq_model.specs.declared.refusal.Refusal.TheVariants as why
 use Rattle.rq_model.specs.declared.txn.Txn.{Txn}
 use Rattle.rq_model.specs.declared.record.Deed.TheVariants.{Append, UnlinkHead, Close as Close_deed}
 use Rattle.rq_model.specs.declared.record.Record.{Record}
-use Rattle.rq_model.specs.Deeds.{deed_in, spelled_deed}
+use Rattle.rq_model.specs.Deeds.{deed_by, spelled_deed, TellsItself}
+use Rattle.rq_model.proofs.Deeds.{told_by_its_level}
 use Rattle.rq_model.specs.Tests.{log_full}
 use Rattle.rq_page.specs.declared.cell.Cell.{Cell}
 use Rattle.rq_page.specs.declared.cell.CellSlot.{CellSlot}
@@ -30,7 +31,7 @@ use Rattle.rq_groups.specs.declared.End.TheVariants.{Receiving}
 use Rattle.rq_level.specs.ChainPlans.{TellsDamage}
 use Rattle.rq_level.specs.declared.writes.Plan.{Plan}
 use Rattle.rq_level.specs.declared.writes.SlotWrite.{SlotWrite}
-use Rattle.rq_level.specs.Ops.{Doing, Job, chain_job, doing_in}
+use Rattle.rq_level.specs.Ops.{Doing, Job, chain_job, doing_in, doing_level}
 use Rattle.rq_level.specs.Ops.Doing.{Send, Receive, Close}
 use Rattle.rq_txn.specs.declared.Aim.TheVariants as aims
 use Rattle.rq_txn.specs.Rows.{latched_in}
@@ -88,19 +89,22 @@ some_deed : (a b : Deed) → Some a ≡ Some b → a ≡ b
 some_deed a b e = cc
 
 -- bytes that are a deed's spelling, and are read as it
-pub told_by : (bytes : List ℕ) (d : Deed) → bytes ≡ spelled_deed d → deed_in bytes ≡ Some d → IsTold bytes
-told_by bytes d spelled reads =
-    let is : told_deed (deed_in bytes) ≡ d = ap told_deed reads in
+pub told_by : (level : ℕ) (bytes : List ℕ) (d : Deed) → bytes ≡ spelled_deed d → deed_by level bytes ≡ Some d → IsTold level bytes
+told_by level bytes d spelled reads =
+    let is : told_deed (deed_by level bytes) ≡ d = ap told_deed reads in
     record { reads = reads ∙ ap (λ (e : Deed). Some e) (sym is); spelled = ap spelled_deed is ∙ sym spelled }
 
-module _ (s : State) (d : Doing) (p : Plan) (h : IsPlanOf (known_part s) d p) where
+module _ (s : State) (d : Doing) (p : Plan) (h : IsPlanOf (known_part s) d p) (level : ℕ) (of_level : level ≡ doing_level d) where
+  pub plan_reads : deed_by level p.deed ≡ Some h.deed
+  plan_reads = ap (λ n. deed_by n p.deed) of_level ∙ h.reads
+
   -- with its deed
-  pub deed_plan : doing_sender d < sender_count s.sizes → IsDeedPlan s d (planned_of p)
+  pub deed_plan : doing_sender d < sender_count s.sizes → IsDeedPlan s d (planned_of level p)
   deed_plan inside =
-      let deed : h.deed ≡ told_deed (deed_in p.deed) = sym (ap told_deed h.reads) in
-      let asked : IsDeedFor d (told_deed (deed_in p.deed)) = subst (IsDeedFor d) deed h.asked in
-      let from : IsPlannedFrom s.sizes (slots_now s) p.writes.items (Did (told_deed (deed_in p.deed))) = subst (λ (e : Deed). IsPlannedFrom s.sizes (slots_now s) p.writes.items (Did e)) deed h.follows.0 in
-      let sender = sender_is d (told_deed (deed_in p.deed)) asked in
+      let deed : h.deed ≡ told_deed (deed_by level p.deed) = sym (ap told_deed plan_reads) in
+      let asked : IsDeedFor d (told_deed (deed_by level p.deed)) = subst (IsDeedFor d) deed h.asked in
+      let from : IsPlannedFrom s.sizes (slots_now s) p.writes.items (Did (told_deed (deed_by level p.deed))) = subst (λ (e : Deed). IsPlannedFrom s.sizes (slots_now s) p.writes.items (Did e)) deed h.follows.0 in
+      let sender = sender_is d (told_deed (deed_by level p.deed)) asked in
       record {
         asked = asked;
         planned = from;
@@ -109,16 +113,20 @@ module _ (s : State) (d : Doing) (p : Plan) (h : IsPlanOf (known_part s) d p) wh
         fits = record {
           sender = omega (arith, sender, inside);
           slots = h.slots;
-          count = few_of s.sizes (slots_now s) p.writes.items (told_deed (deed_in p.deed)) from;
-          some = spelled_some (told_deed (deed_in p.deed));
-          reads = subst (λ (e : Deed). deed_in (spelled_deed e) ≡ Some e) deed (ap deed_in (sym h.told) ∙ h.reads);
+          count = few_of s.sizes (slots_now s) p.writes.items (told_deed (deed_by level p.deed)) from;
+          some = spelled_some (told_deed (deed_by level p.deed));
+          reads = subst TellsItself deed (ap (λ n. deed_by n (spelled_deed h.deed)) (told_by_its_level level p.deed h.deed plan_reads) ∙ ap (deed_by level) (sym h.told) ∙ plan_reads);
         };
       }
 
 -- ---- what is asked, and what is said of what is found
 
 pub chain_asked : (job : Job) (d : Doing) → job ≡ chain_job d → doing_in job.bytes ≡ Some d → asked_by job ≡ Some (Do d)
-chain_asked job d is told = ap (λ (j : Job). asked_in j.undo job.bytes) is ∙ ap to_do told
+chain_asked job d is told = ap (λ (j : Job). asked_in j.undo j.level job.bytes) is ∙ by_level d ∙ ap to_do told where
+  by_level : (d : Doing) → asked_in false (doing_level d) job.bytes ≡ to_do (doing_in job.bytes)
+  by_level (Send g tag body) = refl
+  by_level (Receive g) = refl
+  by_level (Close g) = refl
 
 pub send_asked : (job : Job) (g tag : ℕ) (body : List ℕ) → length body ≤ 216 → job ≡ chain_job (Send g tag body) → (length body ≤ 216 → doing_in job.bytes ≡ Some (Send g tag body)) → asked_by job ≡ Some (Do (Send g tag body))
 send_asked job g tag body short is told = chain_asked job (Send g tag body) is (told short)

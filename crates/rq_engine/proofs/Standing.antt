@@ -9,7 +9,7 @@ use Rattle.rq_model.specs.declared.record.Deed.TheVariants.{Append, Close, Unlin
 use Rattle.rq_model.specs.declared.record.Record.TheVariants as records
 use Rattle.rq_model.specs.declared.refusal.Refusal.{Refusal}
 use Rattle.rq_model.specs.declared.refusal.Refusal.TheVariants.{DiskWrite}
-use Rattle.rq_model.specs.Deeds.{deed_in, spelled_deed}
+use Rattle.rq_model.specs.Deeds.{TellsItself}
 use Rattle.rq_model.specs.History.{Call}
 use Rattle.rq_model.specs.History.Call.{Start_close, Commit, Start_send, Start_receive, Start_receive_from, Step, Finish, Force, Hand_over}
 use Rattle.rq_model.specs.History.Entry.{Refused}
@@ -109,8 +109,8 @@ module _ (s : State) (k : IsSound s) (r : Row) (u : Under) (at_row : found_row r
     free = free;
   }
 
-  reads_of : (d : Deed) → u.aim ≡ Doing d → deed_in (spelled_deed (deed_of u.aim)) ≡ Some (deed_of u.aim) → deed_in (spelled_deed d) ≡ Some d
-  reads_of d aim h = subst (λ x. deed_in (spelled_deed x) ≡ Some x) (ap deed_of aim) h
+  reads_of : (d : Deed) → u.aim ≡ Doing d → TellsItself (deed_of u.aim) → TellsItself d
+  reads_of d aim h = subst TellsItself (ap deed_of aim) h
 
   -- a send
   own_send : (e tag : ℕ) (body : List ℕ) → IsSendPlan s.sizes (slots_in s.sizes s.images) u e tag body → Passes (size_of s.sizes) (ledger_of s) (Start_send r.txn (record { sender = e; tag = tag; body = body }))

@@ -1,7 +1,7 @@
 -- A planned close.
-use Rattle.std.specs.Prelude.{◌≡◌, ℕ, ◌/◌, ◌<◌, Bool, true, Some}
+use Rattle.std.specs.Prelude.{◌≡◌, ℕ, ◌/◌, ◌<◌, Bool, true}
 use Rattle.rq_model.specs.declared.record.Deed.TheVariants.{Close}
-use Rattle.rq_model.specs.Deeds.{deed_in, spelled_deed}
+use Rattle.rq_model.specs.Deeds.{TellsItself}
 use Rattle.rq_page.specs.Sizes.{Sizes, directory_at, sender_count}
 use Rattle.rq_views.specs.Log.{Slots}
 use Rattle.rq_txn.specs.declared.Aim.TheVariants.{Doing}
@@ -15,7 +15,7 @@ pub record IsClosePlan (z : Sizes) (q : Slots) (u : Under) (sender : ℕ) : Type
   pub below : sender < sender_count z
   pub marking : IsMarking z q u.writes sender true
   pub aim : u.aim ≡ Doing (Close sender)
-  pub reads : deed_in (spelled_deed (deed_of u.aim)) ≡ Some (deed_of u.aim)
+  pub reads : TellsItself (deed_of u.aim)
 
 -- a close of the group needs a latched page
 abbrev pub close_latched : State → ℕ → Bool

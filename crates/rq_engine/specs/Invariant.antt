@@ -2,7 +2,7 @@
 use Rattle.std.specs.Prelude.{◌≡◌, ℕ, ◌+◌, ◌-◌, ◌*◌, ◌^◌, ◌<◌, ◌≤◌, Bool, false, length, Option, Some, None}
 use Rattle.std.specs.List.{sum_by}
 use Rattle.rq_model.specs.Vocabulary.{In}
-use Rattle.rq_model.specs.Deeds.{deed_in, spelled_deed}
+use Rattle.rq_model.specs.Deeds.{spelled_deed, TellsItself}
 use Rattle.rq_disk.specs.declared.device.LogDevice as log_device
 use Rattle.rq_log.specs.Logged.{Logged, IsSettled}
 use Rattle.rq_page.specs.Sizes.{Sizes, sender_count}
@@ -33,7 +33,7 @@ room_one r = room_of r.under
 
 -- what its record will say is in range, and a deed's bytes tell the deed
 abbrev pub EndFits : Aim → Type 0
-EndFits (Doing d) = (1 ≤ length (spelled_deed d)) × (length (spelled_deed d) ≤ 256) × (deed_in (spelled_deed d) ≡ Some d)
+EndFits (Doing d) = (1 ≤ length (spelled_deed d)) × (length (spelled_deed d) ≤ 256) × TellsItself d
 EndFits (Undoing lsn d) = 1 ≤ lsn
 
 -- what is so of an operation under way
@@ -52,7 +52,7 @@ UnderConsistent z (Some u) = IsUnderConsistent z u
 pub record IsDoneConsistent (z : Sizes) (f : Finished) : Type 0 where
   pub lsn : 1 ≤ f.lsn
   pub sender : deed_sender f.deed < sender_count z
-  pub reads : deed_in (spelled_deed f.deed) ≡ Some f.deed
+  pub reads : TellsItself f.deed
 
 -- what is so of a transaction that has not ended, where no more than so many records are logged or owed
 pub record IsRowConsistent (z : Sizes) (incarnation begins total : ℕ) (r : Row) : Type 0 where

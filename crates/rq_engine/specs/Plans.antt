@@ -5,7 +5,7 @@ use Rattle.rq_model.specs.declared.record.Record.{Record}
 use Rattle.rq_model.specs.declared.refusal.Refusal.{Refusal}
 use Rattle.rq_model.specs.declared.refusal.Refusal.TheVariants as why
 use Rattle.rq_model.specs.declared.txn.Txn.{Txn}
-use Rattle.rq_model.specs.Deeds.{deed_in, spelled_deed}
+use Rattle.rq_model.specs.Deeds.{deed_by, spelled_deed, TellsItself}
 use Rattle.rq_model.specs.Tests.{log_full}
 use Rattle.rq_page.specs.Sizes.{Sizes, sender_count}
 use Rattle.rq_views.specs.Items.{told_deed}
@@ -45,8 +45,9 @@ pub record Planned : Type 0 where
   pub writes : List SlotWrite
   pub deed : Deed
 
-abbrev pub planned_of : Plan → Planned
-planned_of p = record { writes = p.writes.items; deed = told_deed (deed_in p.deed) }
+-- as a level planned it
+abbrev pub planned_of : (level : ℕ) → Plan → Planned
+planned_of level p = record { writes = p.writes.items; deed = told_deed (deed_by level p.deed) }
 
 -- the operation that a plan begins as
 abbrev pub under_plan : ℕ → Planned → Under
@@ -58,7 +59,7 @@ pub record FitsPlan (z : Sizes) (plan : Planned) : Type 0 where
   pub slots : AreSlotWrites z plan.writes
   pub count : length plan.writes ≤ 3
   pub some : 1 ≤ length (spelled_deed plan.deed)
-  pub reads : deed_in (spelled_deed plan.deed) ≡ Some plan.deed
+  pub reads : TellsItself plan.deed
 
 -- A plan of what is to be done, from the slots as they are, on pages that nobody has latched.
 pub record IsDeedPlan (s : State) (d : Doing) (plan : Planned) : Type 0 where

@@ -26,9 +26,6 @@ use rq_model::txn::{Lsn, Sub};
 use rq_record::shows_size;
 use rq_txn::{Aim, Finished, Gist, Operation, ToldDeed, Transactions};
 
-/// The level of the chain operations.
-pub(crate) const CHAIN_LEVEL: u8 = 1;
-
 impl<P: PageDevice, L: LogDevice, B: Level> Engine<P, L, B> {
     /// Makes the next slot write of an operation, with its record. Takes no memory and touches no device.
     ///
@@ -146,7 +143,7 @@ impl<P: PageDevice, L: LogDevice, B: Level> Engine<P, L, B> {
         let record = Record::OpEnd {
             txn: sub.txn,
             operation: sub.number,
-            level: CHAIN_LEVEL,
+            level: deed.level(),
             deed: *deed.bytes(),
         };
         shows_size(&record);

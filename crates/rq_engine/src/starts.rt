@@ -1,5 +1,6 @@
 //! Starts of what is to be done: a send, a receive or a close.
 ghost use Rattle.std.specs.Prelude.{◌≡◌, ◌≢◌, IfErr, OnOk, OnErr, Some, false, true};
+ghost use Rattle.rq_model.specs.Vocabulary.{is_some};
 ghost use Rattle.rq_level.specs.Ops.{Doing};
 ghost use Rattle.rq_txn.specs.Rows.{change_row, row_started, under_of};
 ghost use Rattle.rq_txn.specs.Told.{IsTold};
@@ -45,14 +46,15 @@ impl<P: PageDevice, L: LogDevice, B: Level> Engine<P, L, B> {
         ensures refused { OnErr result (self.new ≡ self.old) }
     {
         match self.plan(op) {
-            Ok(plan) => self.start(txn, number, end, plan),
+            Ok(plan) => self.start(txn, number, end, op.level(), plan),
             Err(refusal) => Err(refusal),
         }
     }
 
-    // What the level plans for an operation that is to be done.
+    // What its level plans for an operation that is to be done.
     fn plan(&mut self, op: &Op) -> Result<Plan, Refusal>
         requires forward { op.now.undo ≡ false }
+        requires some { is_some (asked_by op.now) ≡ true }
         requires asked { IsOfStore self.old.state.sizes (asked_by op.now) }
         ensures same { self.new ≡ self.old }
         ensures planned { IsPlanned (known_part self.old.state) (asked_by op.now) result }
@@ -61,16 +63,24 @@ impl<P: PageDevice, L: LogDevice, B: Level> Engine<P, L, B> {
         self.planner.plan(room, &self.pages, &self.transactions, op)
     }
 
-    // Takes the lock and the room of a planned operation, and lets it begin; where that is refused, the lock is given back.
-    fn start(&mut self, txn: Txn, number: u64, end: End, plan: Plan) -> Result<(), Refusal>
+    // Takes the lock and the room of an operation that the level of this number planned, and lets it begin; where that is
+    // refused, the lock is given back.
+    fn start(
+        &mut self,
+        txn: Txn,
+        number: u64,
+        end: End,
+        level: u8,
+        plan: Plan,
+    ) -> Result<(), Refusal>
         requires ready { HasNothingUnderWay self.old.state txn number }
         requires free { is_free_end txn end self.old.state.ends ≡ true }
-        requires told { IsTold plan.deed }
-        requires fits { FitsPlan self.old.state.sizes (planned_of plan) }
+        requires told { IsTold level plan.deed }
+        requires fits { FitsPlan self.old.state.sizes (planned_of level plan) }
         requires log { HasRoom self.old.state plan.writes.items }
         ensures started { OnOk result (self.new.state ≡ record self.old.state {
           rows = change_row txn
-              (row_started (under_plan number (planned_of plan))) self.old.state.rows;
+              (row_started (under_plan number (planned_of level plan))) self.old.state.rows;
           ends = with_end txn end self.old.state.ends;
         }) }
         ensures devices { LeavesDevices self.old self.new }
@@ -88,7 +98,7 @@ impl<P: PageDevice, L: LogDevice, B: Level> Engine<P, L, B> {
             number,
             writes,
             made: 0,
-            aim: Aim::Doing(ToldDeed::new(deed)),
+            aim: Aim::Doing(ToldDeed::new(level, deed)),
         };
         let newly = self.ends.take(txn, end)?;
         match self.launch(txn, operation, room) {

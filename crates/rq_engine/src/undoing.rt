@@ -17,12 +17,12 @@ ghost use Rattle.rq_engine.specs.Receives.{undoing_of};
 ghost use Rattle.rq_engine.specs.Sends.{HasRoom};
 ghost use Rattle.rq_engine.specs.Aborts.{IsTurnedBack, UndoSays};
 ghost use Rattle.rq_store.specs.State.{ledger_of, op_done};
+ghost use Rattle.rq_model.specs.Vocabulary.{is_some};
 ghost use Rattle.rq_planner.specs.Answered.{IsPlanned};
 ghost use Rattle.rq_planner.specs.Asked.{IsOfStore, Undo, asked_back};
 ghost use Rattle.rq_engine.specs.Plans.{HasTurnedBack, IsStartOf, known_part};
 
 use crate::engine::Engine;
-use crate::operations::CHAIN_LEVEL;
 use crate::starts::{CHAIN_RECORDS, CLOSE_RECORDS};
 use rq_disk::{LogDevice, PageDevice};
 use rq_level::{Level, Plan, SlotWrite};
@@ -85,17 +85,18 @@ impl<P: PageDevice, L: LogDevice, B: Level> Engine<P, L, B> {
         ensures plain { IfErr result (λ r. r ≢ Refusal.Failed) }
         ensures refused { OnErr result (self.new ≡ self.old) }
     {
-        match self.plan_inverse(done.deed.bytes()) {
+        match self.plan_inverse(done.deed.level(), done.deed.bytes()) {
             Ok(plan) => self.start_undo(txn, number, done, plan.writes),
             Err(refusal) => Err(refusal),
         }
     }
 
-    // What the level plans to take back the deed that the bytes tell.
-    fn plan_inverse(&mut self, deed: &DeedBytes) -> Result<Plan, Refusal>
-        requires { IsOfStore self.old.state.sizes (asked_back deed.now) }
+    // What the level of this number plans to take back the deed that it tells by the bytes.
+    fn plan_inverse(&mut self, level: u8, deed: &DeedBytes) -> Result<Plan, Refusal>
+        requires some { is_some (asked_back level deed.now) ≡ true }
+        requires asked { IsOfStore self.old.state.sizes (asked_back level deed.now) }
         ensures same { self.new ≡ self.old }
-        ensures planned { IsPlanned (known_part self.old.state) (asked_back deed.now) result }
+        ensures planned { IsPlanned (known_part self.old.state) (asked_back level deed.now) result }
     {
         let room = self.transactions.spare();
         self.planner.plan_inverse(
@@ -103,7 +104,7 @@ impl<P: PageDevice, L: LogDevice, B: Level> Engine<P, L, B> {
             room,
             &self.pages,
             &self.transactions,
-            CHAIN_LEVEL,
+            level,
             deed,
         )
     }

@@ -11,7 +11,7 @@ use Rattle.rq_level.specs.Meaning.{Meaning}
 use Rattle.rq_level.specs.OwnState.{AreAmong, IsAnew, KeepsAnew, with_bytes, without}
 use Rattle.rq_level.proofs.Based.{each_in}
 
-module _ (m : Meaning) (lawful : IsLawful m) where
+module _ (level : ℕ) (m : Meaning) (lawful : IsLawful level m) where
   abbrev Far : List ℕ → Type 0
   Far places = AllByRecursion (λ (a : ℕ). a ≢ 1) places
 

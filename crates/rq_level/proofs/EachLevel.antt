@@ -22,8 +22,8 @@ use Rattle.rq_model.specs.Deeds.{deed_in}
 use Rattle.rq_model.specs.declared.record.Deed.{Deed}
 use Rattle.rq_model.specs.declared.record.Deed.TheVariants.{Append, UnlinkHead, Close as Close_deed}
 use Rattle.rq_level.specs.Asked.{noted_each}
-use Rattle.rq_level.specs.Meaning.{Redo, IsAppliedOnce, meaning_of, page_meaning}
-use Rattle.rq_level.specs.Lawful.{IsNotGiven, AllLawful, AppliedTwiceIsOnce, MayHaveNoPlan}
+use Rattle.rq_level.specs.Meaning.{Redo, IsAppliedOnce, meaning_of, page_meaning, chain_meaning, no_meaning}
+use Rattle.rq_level.specs.Lawful.{IsNotGiven, IsLawful, AllLawful, AppliedTwiceIsOnce, MayHaveNoPlan}
 use Rattle.rq_level.specs.declared.slots.Given.{Given}
 use Rattle.rq_level.specs.declared.writes.SlotWrite.{SlotWrite}
 use Rattle.rq_level.proofs.Counted.{few_planned, few_undone, few_written, few_taken_back, silent_undone, silent_taken_back}
@@ -196,9 +196,8 @@ writes_for : (undo : Bool) (k : LevelState) (w : Option Overwrite) (given : List
 writes_for true k w given r after h = may_damage k r after h
 writes_for false k w given r after h = refuses_write k w given r after h
 
-pub all_lawful : AllLawful
-unfolding meaning_of
-all_lawful zero = record {
+pages_lawful : IsLawful 0 page_meaning
+pages_lawful = record {
   refuses = λ k job given latched r after h. writes_for job.undo k (overwrite_in job.bytes) given r after h;
   refuses_undo = refuses_page;
   count = λ k job given latched p after h. few_written job.undo k (overwrite_in job.bytes) given p after h;
@@ -218,11 +217,10 @@ all_lawful zero = record {
   asks = λ job given. asks_page given job.undo (overwrite_in job.bytes);
   few = λ job given h. gathered.few_written_over job.undo (overwrite_in job.bytes) given h;
   told = λ k job given latched p after h. inr (pages.tells_none k given latched p after job h);
-  deeds = λ b e. absurd (false≢true e);
   silent = λ k told given latched p after h. (silent_taken_back k told given latched p after h).0;
-  replies = λ k job given latched p after h d told. absurd (pages.tells_no_deed k given latched p after job h d told);
+  replies = λ k job given latched p after h d told. cc told;
   replies_undo = λ k told given latched p after h. (silent_taken_back k told given latched p after h).1;
-  inverse = λ z d v q k job given latched p after h sizes told. absurd (pages.tells_no_deed k given latched p after job h d told);
+  inverse = λ z d v q k job given latched p after h sizes told. cc told;
   ended = λ q k job given latched p after h. ap (noted_each page_meaning q (map (λ (w : SlotWrite). w.at) p.writes.items)) (pages.kept k given latched p after job h);
   ended_undo = λ q k told given latched p after h. ap (noted_each page_meaning q (map (λ (w : SlotWrite). w.at) p.writes.items)) (pages.back_kept k given latched p after told h);
   last = λ k a x y. refl;
@@ -230,7 +228,9 @@ all_lawful zero = record {
   alone = λ k z a i x e n o. (refl, refl, refl);
   room = λ k a x. (refl, refl);
 }
-all_lawful (suc zero) = record {
+
+chains_lawful : IsLawful 1 chain_meaning
+chains_lawful = record {
   refuses = λ k job given latched r after h. plans_for job.undo k.sizes (doing_in job.bytes) k given latched r after h;
   refuses_undo = refuses_record;
   count = λ k job given latched p after h. few_planned job.undo k.sizes (doing_in job.bytes) k given latched p after h;
@@ -250,7 +250,6 @@ all_lawful (suc zero) = record {
   asks = λ job given. asks_job given job.undo job.bytes;
   few = λ job given h. gathered.few_asked job.undo job.bytes given h;
   told = λ k job given latched p after h. chains.plan_told job.undo k.sizes (doing_in job.bytes) k given latched p after h;
-  deeds = λ b e. e;
   silent = λ k told given latched p after h. (silent_undone k told given latched p after h).0;
   replies = λ k job given latched p after h. chains.plan_replies job.undo k.sizes (doing_in job.bytes) k given latched p after h;
   replies_undo = λ k told given latched p after h. (silent_undone k told given latched p after h).1;
@@ -262,7 +261,9 @@ all_lawful (suc zero) = record {
   alone = alone;
   room = keeps_room;
 }
-all_lawful (suc (suc n)) = record {
+
+none_lawful : (n : ℕ) → IsLawful n no_meaning
+none_lawful n = record {
   refuses = λ k job given latched r after h. may_damage k r after h;
   refuses_undo = λ k told given latched r after h. may_damage k r after h;
   count = λ k job given latched p after h. absurd h;
@@ -282,7 +283,6 @@ all_lawful (suc (suc n)) = record {
   asks = λ job given. tt;
   few = λ job given h. gathered.few_asks_none given h;
   told = λ k job given latched p after h. absurd h;
-  deeds = λ b e. absurd (false≢true e);
   silent = λ k told given latched p after h. absurd h;
   replies = λ k job given latched p after h. absurd h;
   replies_undo = λ k told given latched p after h. absurd h;
@@ -294,6 +294,12 @@ all_lawful (suc (suc n)) = record {
   alone = λ k z a i x e n o. (refl, refl, refl);
   room = λ k a x. (refl, refl);
 }
+
+pub all_lawful : AllLawful
+unfolding meaning_of
+all_lawful zero = pages_lawful
+all_lawful (suc zero) = chains_lawful
+all_lawful (suc (suc n)) = none_lawful (suc (suc n))
 
 -- applying a record again
 not_less : (n m : ℕ) → n ≡ m → nat_lt n m ≡ false

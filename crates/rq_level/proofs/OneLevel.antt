@@ -1,9 +1,10 @@
 -- One level of several changes.
-use Rattle.std.proofs.Common.{◌≡◌, ℕ, zero, suc, ◌+◌, ◌<◌, List, [], ◌∷◌, length, map, get_or, set, sym, ap, ◌∙◌, subst, arith}
-use Rattle.std.proofs.lemmas.List.{map-set, get_or-map, length-map, get_or-set_same}
+use Rattle.std.proofs.Common.{◌≡◌, ℕ, zero, suc, ◌+◌, ◌<◌, ◌≤◌, List, [], ◌∷◌, length, map, get_or, set, refl, sym, ap, ◌∙◌, subst, inl, inr, arith}
+use Rattle.std.proofs.lemmas.Bool.{cases_eq}
+use Rattle.std.proofs.lemmas.List.{map-set, get_or-map, length-map, length-set, get_or-set_same, get_or-set_other}
 use Rattle.std.proofs.Math.Seq.{map-set_same}
 use Rattle.rq_level.specs.LevelState.{LevelState}
-use Rattle.rq_level.specs.Meaning.{Meaning, meaning_of, kept_at, CountOn}
+use Rattle.rq_level.specs.Meaning.{AreTold, Meaning, meaning_of, kept_at, CountOn}
 
 pub kept_here : {X : Type 0} (kept : X → LevelState) (xs : List X) (i : ℕ) (x : X) (old : List LevelState) → map kept xs ≡ old → x ≡ get_or xs i x → i < length old → kept_at old i ≡ kept x
 kept_here kept xs i x old e at h = ap (λ o. kept_at o i) (sym e) ∙ get_or-map kept xs i x _ (omega (arith, ap length e, length-map xs kept)) ∙ ap kept (sym at)
@@ -45,3 +46,33 @@ one_answered kept level xs i x y old P e at h inv p =
     subst (P (meaning_of i) (kept_at old i)) (sym (kept_there kept xs i y old e h))
     (subst (λ (k : LevelState). P (meaning_of i) k (kept y)) (sym (kept_here kept xs i x old e at h))
     (subst (λ (n : ℕ). P (meaning_of n) (kept x) (kept y)) (number_here level kept xs i x old e at h inv) p))
+
+-- ---- all are told, one after the other
+
+-- those of smaller numbers were told of a slot, and the others not yet
+pub record AreToldBelow (m a : ℕ) (bytes : List ℕ) (old now : List LevelState) : Type 0 where
+  pub count : length now ≡ length old
+  pub told : (i : ℕ) → i < m → kept_at now i ≡ (meaning_of i).note (kept_at old i) a bytes
+  pub rest : (i : ℕ) → m ≤ i → kept_at now i ≡ kept_at old i
+
+pub none_told : (a : ℕ) (bytes : List ℕ) (old : List LevelState) → AreToldBelow 0 a bytes old old
+none_told a bytes old = record { count = refl; told = λ i lt. absurd (omega (arith, lt)); rest = λ i le. refl }
+
+pub one_told : (m a : ℕ) (bytes : List ℕ) (old mid now : List LevelState) → AreToldBelow m a bytes old mid → m < length old
+    → now ≡ set mid m ((meaning_of m).note (kept_at mid m) a bytes) → AreToldBelow (m + 1) a bytes old now
+one_told m a bytes old mid now h inside e =
+    let k : LevelState = (meaning_of m).note (kept_at mid m) a bytes in
+    let here : m < length mid = (let c = h.count in omega (arith, c, inside)) in
+    record {
+      count = ap length e ∙ length-set mid m k ∙ h.count;
+      told = λ i lt. elim (cases_eq i m) [
+        | inl same ↦
+            ap (kept_at now) same ∙ ap (λ (l : List LevelState). kept_at l m) e ∙ get_or-set_same mid m k _ here
+            ∙ ap (λ (x : LevelState). (meaning_of m).note x a bytes) (h.rest m (omega arith)) ∙ ap (λ n. (meaning_of n).note (kept_at old n) a bytes) (sym same)
+        | inr other ↦ ap (λ (l : List LevelState). kept_at l i) e ∙ get_or-set_other mid m i k _ other ∙ h.told i (omega (arith, lt, other))
+      ];
+      rest = λ i le. ap (λ (l : List LevelState). kept_at l i) e ∙ get_or-set_other mid m i k _ (λ same. omega (arith, le, same)) ∙ h.rest i (omega (arith, le));
+    }
+
+pub all_told : (a n : ℕ) (bytes : List ℕ) (old now : List LevelState) → AreToldBelow n a bytes old now → length old ≤ n → AreTold a bytes old now
+all_told a n bytes old now h le = record { count = h.count; each = λ i lt. h.told i (omega (arith, lt, le)) }

@@ -4,7 +4,7 @@ use Rattle.rq_model.specs.declared.record.Record.{Record}
 use Rattle.rq_model.specs.declared.refusal.Refusal.{Refusal}
 use Rattle.rq_model.specs.declared.refusal.Refusal.TheVariants as why
 use Rattle.rq_model.specs.declared.record.Deed.{Deed}
-use Rattle.rq_model.specs.Deeds.{deed_in}
+use Rattle.rq_model.specs.Deeds.{deed_by}
 use Rattle.rq_model.specs.Vocabulary.{is_some}
 use Rattle.rq_page.specs.Sizes.{Sizes, IsCellAddress, place_of}
 use Rattle.rq_views.specs.Chain.{View}
@@ -37,7 +37,8 @@ abbrev pub IsUntouchedAt : ℕ → LevelState → LevelState → Type 0
 IsUntouchedAt i now k = (now.sizes ≡ k.sizes) × (flag_at now.free i ≡ flag_at k.free i)
     × (flag_at now.reserved i ≡ flag_at k.reserved i)
 
-pub record IsLawful (m : Meaning) : Type 0 where
+-- of the level of this number
+pub record IsLawful (n : ℕ) (m : Meaning) : Type 0 where
   -- what is not planned leaves what the level keeps, and is refused for memory, a latch or damage alone
   pub refuses : (k : LevelState) (job : Job) (given : List Given) (latched : List ℕ) (r : Refusal) (after : LevelState)
       → m.plans k job given latched (Err r) after → MayHaveNoPlan r × (after ≡ k)
@@ -68,24 +69,23 @@ pub record IsLawful (m : Meaning) : Type 0 where
   pub takes : OfPlans m (λ k job given latched p after. Chooses k given after p)
   pub takes_undo : OfBacks m (λ k told given latched p after. ChoosesBack told k given after p)
   -- the writes of a plan that tells a deed are of slots of the store, and so are those of what takes it back
-  pub slots : OfPlans m (λ k job given latched p after. m.reads p.deed ≡ true → AreOfSlots k p)
+  pub slots : OfPlans m (λ k job given latched p after. is_some (deed_by n p.deed) ≡ true → AreOfSlots k p)
   pub slots_undo : OfBacks m (λ k told given latched p after. AreBackOfSlots told k p)
   -- it asks for no slot twice, and for three at most
   pub asks : (job : Job) (given : List Given) → IsNotGiven given (m.want job given)
   pub few : (job : Job) (given : List Given) → IsGathered m job given → length given ≤ 3
   -- a plan tells a deed that the level reads, or none, and then has no reply; what takes something back tells none
-  pub told : OfPlans m (λ k job given latched p after. (m.reads p.deed ≡ true) ⊎ ((p.deed ≡ []) × (reply_of p ≡ None)))
-  -- of the levels there are, this holds: what one reads is a deed of chains, by which the law below on inverses reads it
-  pub deeds : (b : List ℕ) → m.reads b ≡ true → is_some (deed_in b) ≡ true
+  pub told : OfPlans m (λ k job given latched p after. (is_some (deed_by n p.deed) ≡ true)
+      ⊎ ((p.deed ≡ []) × (reply_of p ≡ None)))
   pub silent : OfBacks m (λ k told given latched p after. p.deed ≡ [])
   -- a plan replies what the end of its deed answers; what takes an operation back, that it is undone
-  pub replies : OfPlans m (λ k job given latched p after. (d : Deed) → deed_in p.deed ≡ Some d
+  pub replies : OfPlans m (λ k job given latched p after. (d : Deed) → deed_by n p.deed ≡ Some d
       → reply_of p ≡ Some (answer_of d))
   pub replies_undo : OfBacks m (λ k told given latched p after. reply_of p ≡ answer_back told)
   -- a plan does to its sender's chain what its deed tells. What takes that back leaves what was done meanwhile on the
   -- other end. Neither changes another chain
   pub inverse : (z : Sizes) (d : Deed) (v : View) (q : Slots) → OfPlans m (λ k job given latched p after. k.sizes ≡ Some z
-      → deed_in p.deed ≡ Some d → AreOverHeld q (newest_first z p) → ShowsAt (layout_of z) q (deed_sender d) v
+      → deed_by n p.deed ≡ Some d → AreOverHeld q (newest_first z p) → ShowsAt (layout_of z) q (deed_sender d) v
       → LeavesOthers m z d v q p)
   -- once the slots that a plan writes were noted, whatever they hold, the level keeps what it would without the plan
   pub ended : (q : ℕ → List ℕ) → OfPlans m (λ k job given latched p after.
@@ -111,7 +111,7 @@ AppliedTwiceIsOnce = (w : Option Redo) (old once twice : List ℕ) (lsn : ℕ) (
 
 -- each level keeps its laws
 abbrev pub AllLawful : Type 0
-AllLawful = (n : ℕ) → IsLawful (meaning_of n)
+AllLawful = (n : ℕ) → IsLawful n (meaning_of n)
 
 -- and keeps of a store what its slots, read anew, would give
 abbrev pub AllKeepAnew : Type 0

@@ -1,10 +1,8 @@
 -- What the level of each number does.
-use Rattle.std.specs.Prelude.{◌≡◌, ℕ, zero, suc, ◌+◌, ◌≤◌, nat_lt, Bool, true, false, List, [], ◌∷◌, Option, None, Some, Result, Ok, slice_index_or}
+use Rattle.std.specs.Prelude.{◌≡◌, ℕ, zero, suc, ◌+◌, ◌<◌, ◌≤◌, nat_lt, Bool, true, false, List, [], ◌∷◌, Option, None, Some, Result, Ok, length, slice_index_or}
 use Rattle.rq_model.specs.declared.record.Record.{Record}
 use Rattle.rq_model.specs.declared.record.Record.TheVariants.{PageOp, PageUndo}
 use Rattle.rq_model.specs.declared.refusal.Refusal.{Refusal}
-use Rattle.rq_model.specs.Deeds.{deed_in}
-use Rattle.rq_model.specs.Vocabulary.{is_some}
 use Rattle.rq_page.specs.Pages.{lsn_of, IsWritten}
 use Rattle.rq_level.specs.LevelState.{LevelState, nothing_kept, noted}
 use Rattle.rq_level.specs.Ops.{Job}
@@ -18,8 +16,6 @@ use Rattle.rq_level.specs.declared.writes.Plan.{Plan}
 use Rattle.rq_page.specs.Sizes.{Sizes}
 
 pub record Meaning : Type 1 where
-  -- the bytes are a deed of the level
-  pub reads : List ℕ → Bool
   -- the slot that it asks for next, if it asks for one
   pub want : Job → List Given → Option ℕ
   -- what it may answer to an operation that is to be planned, and what it keeps then
@@ -41,7 +37,6 @@ OfBacks m P = (k : LevelState) (told : Record) (given : List Given) (latched : L
 
 abbrev pub chain_meaning : Meaning
 chain_meaning = record {
-  reads = λ deed. is_some (deed_in deed);
   want = job_wanted;
   plans = chain_plans;
   undoes = chain_undoes;
@@ -50,7 +45,6 @@ chain_meaning = record {
 
 abbrev pub page_meaning : Meaning
 page_meaning = record {
-  reads = λ deed. false;
   want = page_wants;
   plans = page_plans;
   undoes = page_undoes;
@@ -60,7 +54,6 @@ page_meaning = record {
 -- a level that is none refuses everything
 abbrev pub no_meaning : Meaning
 no_meaning = record {
-  reads = λ deed. false;
   want = λ job given. None;
   plans = λ k job given latched answer after. RefusesUnread k answer after;
   undoes = λ k r given latched answer after. RefusesUnread k answer after;
@@ -111,6 +104,11 @@ IsRedo (Some w) = (1 ≤ w.slot) × (w.slot ≤ 15)
 -- what the level of a number keeps
 abbrev pub kept_at : List LevelState → ℕ → LevelState
 kept_at ks i = slice_index_or ks i nothing_kept
+
+-- each level was told of a slot
+pub record AreTold (a : ℕ) (bytes : List ℕ) (old new : List LevelState) : Type 0 where
+  pub count : length new ≡ length old
+  pub each : (i : ℕ) → i < length old → kept_at new i ≡ (meaning_of i).note (kept_at old i) a bytes
 
 -- numbers that count on by one
 abbrev pub CountOn : ℕ → List ℕ → Type 0

@@ -8,7 +8,7 @@ pub record Job : Type 0 where
   pub undo : Bool
   pub bytes : List ℕ
 
--- what the level of chains can be asked to do
+-- what levels that have deeds can be asked to do
 pub data Doing : Type 0 where
   Send : (sender tag : ℕ) → (body : List ℕ) → Doing
   Receive : (sender : ℕ) → Doing
@@ -38,9 +38,19 @@ doing_in [] = None
 doing_in (kind ∷ fields) =
     cond (nat_eq kind 1) (send_in fields) (cond (nat_eq kind 2) (receive_in fields) (cond (nat_eq kind 3) (close_in fields) None))
 
--- to do this on the level of chains
+-- what they ask the level of this number for: that of chains is asked so
+abbrev pub doing_by : (level : ℕ) → List ℕ → Option Doing
+doing_by level bytes = cond (nat_eq level 1) (doing_in bytes) None
+
+-- the level that does it
+abbrev pub doing_level : Doing → ℕ
+doing_level (Send s tag body) = 1
+doing_level (Receive s) = 1
+doing_level (Close s) = 1
+
+-- to do this on its level
 abbrev pub chain_job : Doing → Job
-chain_job d = record { level = 1; undo = false; bytes = spelled_doing d }
+chain_job d = record { level = doing_level d; undo = false; bytes = spelled_doing d }
 
 -- what the level of single slots can be asked to do: to have a slot hold these bytes
 pub record Overwrite : Type 0 where

@@ -1,5 +1,7 @@
 //! The interface of a level of recovery.
 ghost use Rattle.std.specs.Prelude.{◌≡◌, ◌≤◌, ℕ};
+ghost use Rattle.rq_model.specs.Deeds.{deed_by};
+ghost use Rattle.rq_model.specs.Vocabulary.{is_some};
 ghost use Rattle.rq_level.specs.LevelState.{LevelState};
 ghost use Rattle.rq_level.specs.Lawful.{AllKeepAnew, AllLawful, AppliedTwiceIsOnce};
 ghost use Rattle.rq_level.specs.Meaning.{meaning_of, wish, AreOf, redo_of, AppliesOnce, IsRedo, IsAppliedOnce};
@@ -36,7 +38,7 @@ pub trait Level: Drop {
 
     /// Whether these bytes are a deed of this level. Takes no memory.
     fn reads(&self, deed: &[u8]) -> bool
-        ensures { result ≡ (meaning_of (level self.now)).reads deed.now };
+        ensures { result ≡ is_some (deed_by (level self.now) deed.now) };
 
     /// What it needs to see next of the slots that the operation writes.
     fn want(&self, op: &Op, given: &Slots) -> Want

@@ -1,7 +1,9 @@
 //! All levels of a store.
 ghost use Rattle.std.specs.Prelude.{◌≡◌, ℕ, ◌<◌, length, map, slice_set};
+ghost use Rattle.rq_model.specs.Deeds.{deed_by};
+ghost use Rattle.rq_model.specs.Vocabulary.{is_some};
 ghost use Rattle.rq_level.specs.LevelState.{LevelState};
-ghost use Rattle.rq_level.specs.Meaning.{meaning_of, wish, AreOf, redo_of, AppliesOnce, IsRedo, kept_at, CountOn};
+ghost use Rattle.rq_level.specs.Meaning.{meaning_of, wish, AreOf, redo_of, AppliesOnce, AreTold, IsRedo, kept_at, CountOn};
 
 use crate::level::{Level, Want};
 use crate::op::Op;
@@ -50,7 +52,7 @@ impl<B: Level> Levels<B> {
     /// Whether the bytes are a deed of the level.
     pub fn reads(&self, level: usize, deed: &[u8]) -> bool
         requires { level < length self.now }
-        ensures { result ≡ (meaning_of level).reads deed.now }
+        ensures { result ≡ is_some (deed_by level deed.now) }
     {
         self.all[level].reads(deed)
     }
@@ -111,8 +113,17 @@ impl<B: Level> Levels<B> {
         it.redo(page, lsn, record)
     }
 
-    /// Tells the level of a slot.
-    pub fn noted(&mut self, level: usize, at: Addr, bytes: &Slot)
+    /// Tells each level of a slot, in the order of their numbers.
+    pub fn noted(&mut self, at: Addr, bytes: &Slot)
+        ensures { AreTold at bytes.now self.old self.new }
+    {
+        for level in 0..self.all.len() {
+            self.tell(level, at, bytes);
+        }
+    }
+
+    // Tells one of them.
+    fn tell(&mut self, level: usize, at: Addr, bytes: &Slot)
         requires { level < length self.old }
         ensures { self.new ≡ slice_set self.old level ((meaning_of level).note (kept_at self.old level) at bytes.now) }
     {

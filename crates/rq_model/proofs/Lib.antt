@@ -21,4 +21,5 @@ pub mod Sent
 pub mod JudgedRefusals
 pub mod JudgedLogs
 pub mod Bases
+pub mod Deeds
 mod Padded

@@ -9,9 +9,9 @@ use Rattle.rq_model.specs.declared.message.Message.{Message}
 use Rattle.rq_model.specs.Vocabulary.{same_txn, last_or}
 use Rattle.rq_model.specs.History.{Group}
 use Rattle.rq_model.specs.Ledger.{tag_of}
-use Rattle.rq_model.specs.Deeds.{deed_in}
+use Rattle.rq_model.specs.Deeds.{deed_by}
 
--- what a deed of the chain level says
+-- what a deed says
 pub data Said : Type 0 where
   Added : (message : Message) → Said
   Removed : (message : Message) → Said
@@ -31,9 +31,9 @@ abbrev pub ending_by : Txn → Option Deed → Option Ending
 ending_by txn None = None
 ending_by txn (Some deed) = Some (record { txn = txn; said = said deed })
 
--- An OpEnd of the chain level tells what its deed says. No other record ends an operation that counts.
+-- An OpEnd tells what the deed of its level says. No other record ends an operation that counts.
 abbrev pub ending : Record → Option Ending
-ending (OpEnd txn operation level deed) = ending_by txn (cond (nat_eq level 1) (deed_in deed) None)
+ending (OpEnd txn operation level deed) = ending_by txn (deed_by level deed)
 ending _ = None
 
 abbrev pub commits_txn : Txn → Record → Bool

@@ -1,5 +1,5 @@
--- How a deed of the chain level stands in bytes.
-use Rattle.std.specs.Prelude.{ℕ, ◌+◌, cond, ◌&&◌, not, List, [], ◌∷◌, ◌++◌, Option, Some, None, nat_eq, nat_lt, length, drop}
+-- How deeds stand in bytes, and which level's they are.
+use Rattle.std.specs.Prelude.{◌≡◌, ℕ, ◌+◌, cond, ◌&&◌, not, List, [], ◌∷◌, ◌++◌, Option, Some, None, nat_eq, nat_lt, length, drop}
 use Rattle.byteorder.specs.Endian.{big_bytes, big_number}
 use Rattle.rq_model.specs.declared.record.Deed.{Deed}
 use Rattle.rq_model.specs.declared.record.Deed.TheVariants.{Append, UnlinkHead, Close}
@@ -31,9 +31,23 @@ unlink_head_in fields =
 abbrev pub close_in : List ℕ → Option Deed
 close_in fields = cond (nat_eq (length fields) 4) (Some (Close (big_number 4 fields))) None
 
--- the deed that these bytes are, if they are one
+-- the deed of chains that these bytes are, if they are one
 abbrev pub deed_in : List ℕ → Option Deed
 deed_in [] = None
 deed_in (kind ∷ fields) =
     cond (nat_eq kind 1) (append_in fields) (cond (nat_eq kind 2) (unlink_head_in fields)
     (cond (nat_eq kind 3) (close_in fields) None))
+
+-- the level that does it
+abbrev pub deed_level : Deed → ℕ
+deed_level (Append sender sequence tag previous body) = 1
+deed_level (UnlinkHead sender sequence tag body) = 1
+deed_level (Close sender) = 1
+
+-- the deed of this level that these bytes are, if they are one
+abbrev pub deed_by : (level : ℕ) → List ℕ → Option Deed
+deed_by level bytes = cond (nat_eq level 1) (deed_in bytes) None
+
+-- its level reads it in its bytes
+abbrev pub TellsItself : Deed → Type 0
+TellsItself d = deed_by (deed_level d) (spelled_deed d) ≡ Some d

@@ -7,7 +7,7 @@ use Rattle.rq_model.specs.declared.record.Record.TheVariants.{OpEnd}
 use Rattle.rq_model.specs.declared.refusal.Refusal.{Refusal}
 use Rattle.rq_model.specs.declared.refusal.Refusal.TheVariants as why
 use Rattle.rq_model.specs.declared.txn.Txn.{Txn}
-use Rattle.rq_model.specs.Deeds.{deed_in}
+use Rattle.rq_model.specs.Deeds.{deed_by, deed_in}
 use Rattle.rq_model.specs.Legal.{OnFound}
 use Rattle.rq_page.specs.declared.cell.Cell.{Cell}
 use Rattle.rq_page.specs.Sizes.{Sizes, IsCellAddress, directory_at, place_of, sender_count}
@@ -154,12 +154,13 @@ module _ (s : State) (k : LevelState) (given : List Given) (latched : List ℕ) 
     damaged = λ damage d is can. judged d r (subst (λ (x : Option Deed). HasGatheredFor s given (to_undo x)) is h).all (subst (λ (x : Option Deed). Undoes (Some s.sizes) x k given latched (Err r) after) is m) damage can;
   }
 
-  pub back_judged : (n : ℕ) (t : Txn) (number level : ℕ) (deed : List ℕ) (answer : Result Plan Refusal) → n ≡ 1 → HasGatheredFor s given (asked_back deed)
-      → (meaning_of n).undoes k (OpEnd t number level deed) given latched answer after → IsJudgedBack s.sizes (slots_now s) (deed_in deed) answer
+  pub back_judged : (t : Txn) (number level : ℕ) (deed : List ℕ) (answer : Result Plan Refusal) → level ≡ 1 → HasGatheredFor s given (asked_back level deed)
+      → (meaning_of 1).undoes k (OpEnd t number level deed) given latched answer after → IsJudgedBack s.sizes (slots_now s) (deed_by level deed) answer
   unfolding meaning_of
-  back_judged n t number level deed answer one h m =
-      let law : Undoes k.sizes (deed_in deed) k given latched answer after = subst (λ (x : ℕ). (meaning_of x).undoes k (OpEnd t number level deed) given latched answer after) one m in
-      back_judged_as (deed_in deed) answer h (subst (λ (z : Option Sizes). Undoes z (deed_in deed) k given latched answer after) keeps.sizes law)
+  back_judged t number level deed answer one h law =
+      let at : deed_by level deed ≡ deed_in deed = ap (λ (n : ℕ). deed_by n deed) one in
+      subst (λ (o : Option Deed). IsJudgedBack s.sizes (slots_now s) o answer) (sym at)
+      (back_judged_as (deed_in deed) answer (subst (λ (o : Option Deed). HasGatheredFor s given (to_undo o)) at h) (subst (λ (z : Option Sizes). Undoes z (deed_in deed) k given latched answer after) keeps.sizes law))
 
 -- what is not gathered is not refused as damage
 pub not_judged : (s : State) (asked : Option Asked) (r : Refusal) (o : Option Deed) → IsNotGathered s asked r → IsJudgedBack s.sizes (slots_now s) o (Err r)
@@ -192,8 +193,8 @@ never_latched z q (UnlinkHead g n tag body) c h = elim h [
 ]
 never_latched z q (Close g) c h = false≢true h
 
-module _ (z : Sizes) (images : List (List ℕ)) (rows : List Row) (none : rows ≡ []) (bytes : List ℕ) where
-  pub taken_back : (d : Deed) (p : Plan) → deed_in bytes ≡ Some d → IsPlanBack (known z images rows) d p → CanBeTakenBack z (slots_in z images) d → IsTakingBack z (slots_in z images) bytes p.writes.items
+module _ (z : Sizes) (images : List (List ℕ)) (rows : List Row) (none : rows ≡ []) (level : ℕ) (bytes : List ℕ) where
+  pub taken_back : (d : Deed) (p : Plan) → deed_by level bytes ≡ Some d → IsPlanBack (known z images rows) d p → CanBeTakenBack z (slots_in z images) d → IsTakingBack z (slots_in z images) (deed_by level bytes) p.writes.items
   taken_back d p reads back can = record {
     deed = d;
     reads = reads;
@@ -203,7 +204,7 @@ module _ (z : Sizes) (images : List (List ℕ)) (rows : List Row) (none : rows �
     lowest = subst (λ (rs : List Row). InverseTakesLowest z (slots_in z images) rs d p.writes.items) none back.lowest;
   }
 
-  pub not_held_up : OnFound (asked_back bytes) (IsHeldUp (known z images rows)) → CannotBeTakenBack z (slots_in z images) (deed_in bytes)
+  pub not_held_up : OnFound (asked_back level bytes) (IsHeldUp (known z images rows)) → CannotBeTakenBack z (slots_in z images) (deed_by level bytes)
   not_held_up held d is can =
       let on : IsHeldUp (known z images rows) (Undo d) = subst (λ (o : Option Asked). OnFound o (IsHeldUp (known z images rows))) (ap to_undo is) held in
       never_latched z (slots_in z images) d can (subst (λ (rs : List Row). InverseIsLatched z (slots_in z images) rs d) none on)

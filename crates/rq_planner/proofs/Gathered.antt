@@ -1,10 +1,10 @@
 -- The slots that are wanted are gathered, and come to an end.
 use Rattle.std.proofs.Common.{◌≡◌, ℕ, ◌+◌, ◌/◌, ◌%◌, ◌<◌, ◌≤◌, ◌++◌, cond, nat_eq, List, [], ◌∷◌, Bool, true, false, Option, Some, None, refl, sym, ◌∙◌, ap, subst, inl, inr, arith}
-use Rattle.std.proofs.lemmas.Bool.{cases_Bool, eq-eqb, false≢true}
+use Rattle.std.proofs.lemmas.Bool.{cases_Bool, eq-eqb, eqb-true, false≢true}
 use Rattle.std.specs.Bool.{OnTrue}
 use Rattle.rq_model.specs.declared.record.Deed.{Deed}
 use Rattle.rq_model.specs.Deeds.{deed_in}
-use Rattle.rq_model.specs.Vocabulary.{In}
+use Rattle.rq_model.specs.Vocabulary.{In, is_some}
 use Rattle.rq_page.specs.Slots.{IsSlotOf, held_in}
 use Rattle.rq_views.specs.Stored.{IsStoreSlot}
 use Rattle.rq_level.specs.declared.level.Want.{Want}
@@ -24,7 +24,17 @@ use Rattle.rq_planner.specs.Asked.{Asked, IsOfStore, asked_by, asked_in, needed_
 use Rattle.rq_planner.specs.Asked.Asked.{Do, Undo}
 use Rattle.rq_planner.specs.Answered.{HasGathered}
 
--- ---- what the level of chains wants
+-- ---- what is asked, and what the level of chains wants
+
+-- what is asked is asked of the level of chains
+pub of_chains : (undo : Bool) (level : ℕ) (bytes : List ℕ) → is_some (asked_in undo level bytes) ≡ true → level ≡ 1
+of_chains undo level bytes some = elim (cases_Bool (nat_eq level 1)) [
+  | inl one ↦ eqb-true level 1 one
+  | inr other ↦ absurd (none undo other some)
+] where
+  none : (b : Bool) → nat_eq level 1 ≡ false → is_some (asked_in b level bytes) ≡ true → ⊥
+  none true n e = false≢true (rw n at e)
+  none false n e = false≢true (rw n at e)
 
 wish_slot : (o : Option ℕ) (a : ℕ) → wish o ≡ wants.Slot a → o ≡ Some a
 wish_slot None a e = absurd (let no : wants.Ready ≡ wants.Slot a = e in cc)
@@ -68,12 +78,12 @@ module _ (s : State) (given : List Given) (h : AreGivenFrom s given) where
         subst (λ (o : Option ℕ). IsWantedOf s given o []) (sym none) (nothing s given h)
     by_deed (Some d) back told inside = wants_needed.undoes s given job d h (record { back = back; told = told }) (inside (Undo d) refl)
 
-    by_undo : (b : Bool) → job.undo ≡ b → as_asked (asked_in b job.bytes)
+    by_undo : (b : Bool) → job.undo ≡ b → as_asked (asked_in b 1 job.bytes)
     by_undo true e = by_deed (deed_in job.bytes) e refl
     by_undo false e = by_doing (doing_in job.bytes) e refl
 
-    pub wanted_for : IsOfStore s.sizes (asked_by job) → IsWantedOf s given (job_wanted job given) (needed_by (slots_now s) (asked_by job))
-    wanted_for inside = by_undo job.undo refl inside
+    pub wanted_for : job.level ≡ 1 → IsOfStore s.sizes (asked_by job) → IsWantedOf s given (job_wanted job given) (needed_by (slots_now s) (asked_by job))
+    wanted_for one = subst (λ n. as_asked (asked_in job.undo n job.bytes)) (sym one) (by_undo job.undo refl)
 
 -- ---- gathering
 

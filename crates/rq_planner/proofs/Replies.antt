@@ -11,6 +11,7 @@ use Rattle.rq_model.specs.declared.refusal.Damage.{Damage}
 use Rattle.rq_model.specs.declared.refusal.Refusal.{Refusal}
 use Rattle.rq_model.specs.declared.refusal.Refusal.TheVariants as why
 use Rattle.rq_model.specs.declared.txn.Txn.{Txn}
+use Rattle.rq_model.specs.Vocabulary.{is_some}
 use Rattle.rq_model.specs.Deeds.{deed_in}
 use Rattle.rq_page.specs.declared.cell.Cell.{Cell}
 use Rattle.rq_page.specs.Sizes.{Sizes, cell_at, directory_at, place_of, sender_count}
@@ -28,7 +29,7 @@ use Rattle.rq_level.specs.declared.writes.SlotWrite.{SlotWrite}
 use Rattle.rq_level.specs.Given.{has_page}
 use Rattle.rq_level.specs.LevelState.{LevelState, IsLowest, NoneToTake, flag_at}
 use Rattle.rq_level.specs.Meaning.{meaning_of}
-use Rattle.rq_level.specs.Ops.{Doing, Job, doing_in}
+use Rattle.rq_level.specs.Ops.{Doing, Job, doing_in, doing_level}
 use Rattle.rq_level.specs.Ops.Doing.{Send, Receive, Close}
 use Rattle.rq_level.specs.Writes.{AreSlotWrites, IsFirstAt, answer_of, replied, reply_of, write_of, writes_of}
 use Rattle.rq_txn.specs.Rows.{Row, latched_in}
@@ -45,6 +46,7 @@ use Rattle.rq_sound.proofs.Wants.{levels_find}
 use Rattle.rq_sound.specs.Lowest.{AreAllLatched, AreLatchedBelow, FirstIsLowest}
 use Rattle.rq_planner.specs.Asked.{Asked, IsOfStore, asked_back, asked_by, asked_in, doing_sender, known, needed_by, slots_for, to_do, to_undo}
 use Rattle.rq_planner.specs.Asked.Asked.{Do, Undo}
+use Rattle.rq_planner.proofs.Gathered.{of_chains}
 use Rattle.rq_planner.specs.Answered.{HasGatheredFor, IsAnswered, IsHeldUp, IsNewestDeed, IsPlanBack, IsPlanFor, IsNotGathered, IsPlanOf, MayBeAsked}
 
 -- the first write of a plan is of the cell that it takes
@@ -313,19 +315,28 @@ module _ (s : State) (k : LevelState) (given : List Given) (latched : List ℕ) 
   by_told told (Some d) (Ok p) h law m = planned_answer s k (Undo d) after p (undo_plan s k given latched keeps on d p after h m) (undo_plan s k given latched keeps on d p after h m).slots (undo_free s k given latched keeps on d p after h m) (λ rows kept. planned_kept.undoes (record s { rows = rows }) k told given latched p after kept law)
   by_told told (Some d) (Err r) h law m = undo_refused d r h m
 
-  pub plan_answered : (n : ℕ) (job : Job) (answer : Result Plan Refusal) → n ≡ 1 → job.undo ≡ false → HasGatheredFor s given (asked_by job) → IsOfStore s.sizes (asked_by job)
-      → (meaning_of n).plans k job given latched answer after → IsAnswered s k (asked_by job) answer after
+  pub plan_answered : (job : Job) (answer : Result Plan Refusal) → job.level ≡ 1 → job.undo ≡ false → HasGatheredFor s given (asked_by job) → IsOfStore s.sizes (asked_by job)
+      → (meaning_of 1).plans k job given latched answer after → IsAnswered s k (asked_by job) answer after
   unfolding meaning_of
-  plan_answered n job answer one forward h inside m =
-      let law : chain_plans k job given latched answer after = subst (λ (x : ℕ). (meaning_of x).plans k job given latched answer after) one m in
+  plan_answered job answer one forward h inside law =
+      let at : asked_by job ≡ to_do (doing_in job.bytes) = ap (λ (n : ℕ). asked_in job.undo n job.bytes) one ∙ ap (λ (b : Bool). asked_in b 1 job.bytes) forward in
       let plans : Plans (Some s.sizes) (doing_in job.bytes) k given latched answer after =
       subst (λ (z : Option Sizes). Plans z (doing_in job.bytes) k given latched answer after) keeps.sizes (subst (λ (b : Bool). PlansFor b k.sizes (doing_in job.bytes) k given latched answer after) forward law) in
-      subst (λ (b : Bool). IsAnswered s k (asked_in b job.bytes) answer after) (sym forward)
-      (by_doing job (doing_in job.bytes) answer (subst (λ (b : Bool). HasGatheredFor s given (asked_in b job.bytes)) forward h) (subst (λ (b : Bool). IsOfStore s.sizes (asked_in b job.bytes)) forward inside) law plans)
+      subst (λ (a : Option Asked). IsAnswered s k a answer after) (sym at)
+      (by_doing job (doing_in job.bytes) answer (subst (HasGatheredFor s given) at h) (subst (IsOfStore s.sizes) at inside) law plans)
 
-  pub back_answered : (n : ℕ) (t : Txn) (number level : ℕ) (deed : List ℕ) (answer : Result Plan Refusal) → n ≡ 1 → HasGatheredFor s given (asked_back deed)
-      → (meaning_of n).undoes k (OpEnd t number level deed) given latched answer after → IsAnswered s k (asked_back deed) answer after
+  pub back_answered : (t : Txn) (number level : ℕ) (deed : List ℕ) (answer : Result Plan Refusal) → level ≡ 1 → HasGatheredFor s given (asked_back level deed)
+      → (meaning_of 1).undoes k (OpEnd t number level deed) given latched answer after → IsAnswered s k (asked_back level deed) answer after
   unfolding meaning_of
-  back_answered n t number level deed answer one h m =
-      let law : Undoes k.sizes (deed_in deed) k given latched answer after = subst (λ (x : ℕ). (meaning_of x).undoes k (OpEnd t number level deed) given latched answer after) one m in
-      by_told (OpEnd t number level deed) (deed_in deed) answer h law (subst (λ (z : Option Sizes). Undoes z (deed_in deed) k given latched answer after) keeps.sizes law)
+  back_answered t number level deed answer one h law =
+      let at : asked_back level deed ≡ to_undo (deed_in deed) = ap (λ (n : ℕ). asked_back n deed) one in
+      subst (λ (a : Option Asked). IsAnswered s k a answer after) (sym at)
+      (by_told (OpEnd t number level deed) (deed_in deed) answer (subst (HasGatheredFor s given) at h) law (subst (λ (z : Option Sizes). Undoes z (deed_in deed) k given latched answer after) keeps.sizes law))
+
+-- what is to be done is asked of the level that does it
+pub asked_of : (job : Job) (d : Doing) → asked_by job ≡ Some (Do d) → job.level ≡ doing_level d
+asked_of job d e = of_chains job.undo job.level job.bytes (ap is_some e) ∙ sym (chains_do d) where
+  chains_do : (d : Doing) → doing_level d ≡ 1
+  chains_do (Send g tag body) = refl
+  chains_do (Receive g) = refl
+  chains_do (Close g) = refl

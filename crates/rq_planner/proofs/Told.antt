@@ -1,8 +1,10 @@
 -- A level that is told of slots as they are.
-use Rattle.std.proofs.Common.{◌≡◌, ℕ, ◌+◌, ◌/◌, ◌%◌, ◌<◌, ◌≤◌, cond, false, zero, suc, List, [], ◌∷◌, Option, Some, refl, sym, ◌∙◌, ap, subst, arith}
+use Rattle.std.proofs.Common.{◌≡◌, ℕ, ◌+◌, ◌/◌, ◌%◌, ◌<◌, ◌≤◌, cond, false, nat_eq, List, [], ◌∷◌, Option, Some, length, refl, sym, ◌∙◌, ap, subst, arith}
 use Rattle.std.specs.Prelude.{IfSome}
-use Rattle.std.proofs.lemmas.Bool.{lt-ltb}
+use Rattle.std.proofs.lemmas.Bool.{lt-ltb, ne_eqb}
 use Rattle.std.specs.List.{slice_get}
+use Rattle.rq_model.specs.Deeds.{deed_by}
+use Rattle.rq_model.specs.Vocabulary.{is_some}
 use Rattle.rq_page.specs.Formatted.{IsFormatted}
 use Rattle.rq_page.specs.Pages.{slot_of}
 use Rattle.rq_page.specs.Sizes.{Sizes, IsCellAddress, IsInRange, cell_at, cell_count}
@@ -14,7 +16,7 @@ use Rattle.rq_views.specs.Stored.{IsStoreSlot, slot_at, slots_in}
 use Rattle.rq_pool.specs.Pooled.{IsPool}
 use Rattle.rq_level.specs.declared.writes.SlotWrite.{SlotWrite}
 use Rattle.rq_level.specs.LevelState.{LevelState, noted}
-use Rattle.rq_level.specs.Meaning.{meaning_of}
+use Rattle.rq_level.specs.Meaning.{AreTold, kept_at, meaning_of}
 use Rattle.rq_level.specs.Writes.{AreSlotWrites}
 use Rattle.rq_level.proofs.Superblock.{sizes_told}
 use Rattle.rq_sound.specs.Chosen.{KeepsBeside, KnowsFirst, first_place}
@@ -24,21 +26,22 @@ use Rattle.rq_sound.proofs.Gathering.{cell_of_store}
 use Rattle.rq_txn.specs.Rows.{Row}
 use Rattle.rq_planner.specs.Asked.{known}
 
--- ---- the sizes
+-- ---- the level of chains, and the sizes
 
-pub first_noted : (n a : ℕ) (k after : LevelState) (z : Sizes) (image bytes : List ℕ) → n ≡ 1 → a ≡ 1 → after ≡ (meaning_of n).note k a bytes → IsInRange z → IsFormatted z 0 image → bytes ≡ slot_of 1 image → after ≡ record k { sizes = Some z }
+-- the level of chains is told as each is
+pub chains_told : (a : ℕ) (bytes : List ℕ) (old new : List LevelState) → AreTold a bytes old new → 1 < length old → kept_at new 1 ≡ noted (kept_at old 1) a bytes
 unfolding meaning_of
-first_noted n a k after z image bytes one first e range is at =
-    e ∙ ap (λ (m : ℕ). (meaning_of m).note k a bytes) one ∙ ap (λ (m : ℕ). noted k m bytes) first ∙ ap (λ (o : Option Sizes). record k { sizes = o }) (sizes_told z image bytes range is at)
+chains_told a bytes old new told handed = told.each 1 handed
+
+pub first_noted : (a : ℕ) (k after : LevelState) (z : Sizes) (image bytes : List ℕ) → a ≡ 1 → after ≡ noted k a bytes → IsInRange z → IsFormatted z 0 image → bytes ≡ slot_of 1 image → after ≡ record k { sizes = Some z }
+first_noted a k after z image bytes first e range is at =
+    e ∙ ap (λ (m : ℕ). noted k m bytes) first ∙ ap (λ (o : Option Sizes). record k { sizes = o }) (sizes_told z image bytes range is at)
 
 -- ---- deeds
 
 -- no level of a greater number reads any
-pub none_reads : (n : ℕ) (deed : List ℕ) → 2 ≤ n → false ≡ (meaning_of n).reads deed
-unfolding meaning_of
-none_reads zero deed le = absurd (omega (arith, le))
-none_reads (suc zero) deed le = absurd (omega (arith, le))
-none_reads (suc (suc n)) deed le = refl
+pub none_reads : (n : ℕ) (deed : List ℕ) → 2 ≤ n → false ≡ is_some (deed_by n deed)
+none_reads n deed le = let other : nat_eq n 1 ≡ false = ne_eqb n 1 (λ e. omega (arith, e, le)) in rw other refl
 
 -- ---- slots
 
@@ -55,9 +58,8 @@ empty_stands z images a free empty cell pool spelling is here e =
     e ∙ sym (ap slot_bytes held) ∙ (spelling z (a / 16) (a % 16) (slot_at images a) (pool.slots a stands)).1
 
 -- the level was told of it by these bytes
-pub empty_noted : (n a : ℕ) (k after : LevelState) (empty bytes : List ℕ) → n ≡ 1 → after ≡ (meaning_of n).note k a empty → empty ≡ bytes → after ≡ noted k a bytes
-unfolding meaning_of
-empty_noted n a k after empty bytes one e same = e ∙ ap (λ (m : ℕ). (meaning_of m).note k a empty) one ∙ ap (noted k a) same
+pub empty_noted : (a : ℕ) (k after : LevelState) (empty bytes : List ℕ) → after ≡ noted k a empty → empty ≡ bytes → after ≡ noted k a bytes
+empty_noted a k after empty bytes e same = e ∙ ap (noted k a) same
 
 module _ (z : Sizes) (images : List (List ℕ)) where
   pub knows_cell : (k after : LevelState) (a count : ℕ) → a ≡ cell_at z count → count < cell_count z → after ≡ noted k a (slot_at images a) → KnowsFirst z (slots_in z images) k count → KnowsFirst z (slots_in z images) after (count + 1)

@@ -4,7 +4,7 @@ use Rattle.rq_model.specs.declared.record.Deed.{Deed}
 use Rattle.rq_model.specs.declared.record.Deed.TheVariants.{Append, UnlinkHead, Close as Close_deed}
 use Rattle.rq_model.specs.declared.refusal.Refusal.{Refusal}
 use Rattle.rq_model.specs.declared.refusal.Refusal.TheVariants as why
-use Rattle.rq_model.specs.Deeds.{deed_in, spelled_deed}
+use Rattle.rq_model.specs.Deeds.{deed_by, spelled_deed}
 use Rattle.rq_model.specs.Legal.{OnFound}
 use Rattle.rq_page.specs.Sizes.{Sizes, cell_count}
 use Rattle.rq_views.specs.Items.{items}
@@ -16,7 +16,7 @@ use Rattle.rq_level.specs.declared.slots.Given.{Given}
 use Rattle.rq_level.specs.declared.writes.Plan.{Plan}
 use Rattle.rq_level.specs.declared.writes.SlotWrite.{SlotWrite}
 use Rattle.rq_level.specs.LevelState.{LevelState}
-use Rattle.rq_level.specs.Ops.{Doing}
+use Rattle.rq_level.specs.Ops.{Doing, doing_level}
 use Rattle.rq_level.specs.Ops.Doing.{Send, Receive, Close}
 use Rattle.rq_level.specs.Writes.{AreSlotWrites, answer_of, reply_of}
 use Rattle.rq_txn.specs.declared.Finished.{Finished}
@@ -73,7 +73,7 @@ pub record IsPlanOf (s : State) (d : Doing) (p : Plan) : Type 0 where
   pub deed : Deed
   pub asked : IsDeedFor d deed
   pub told : p.deed ≡ spelled_deed deed
-  pub reads : deed_in p.deed ≡ Some deed
+  pub reads : deed_by (doing_level d) p.deed ≡ Some deed
   pub answer : reply_of p ≡ Some (answer_of deed)
   pub follows : IsUnlatchedPlan s p (Did deed)
   pub slots : AreSlotWrites s.sizes p.writes.items

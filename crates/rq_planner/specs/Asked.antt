@@ -1,12 +1,12 @@
--- What is asked of the level of chains, and what it needs for that.
+-- What is asked of a level, and what it needs for that.
 use Rattle.std.specs.Prelude.{◌≡◌, ℕ, ◌<◌, true, false, Bool, List, [], ◌∷◌, Option, None, Some}
 use Rattle.rq_model.specs.declared.record.Deed.{Deed}
-use Rattle.rq_model.specs.Deeds.{deed_in}
+use Rattle.rq_model.specs.Deeds.{deed_by}
 use Rattle.rq_page.specs.Sizes.{Sizes, directory_at, sender_count}
 use Rattle.rq_views.specs.Log.{Slots}
 use Rattle.rq_views.specs.Plans.{deed_sender}
 use Rattle.rq_views.specs.Plans.Turn.{Undid}
-use Rattle.rq_level.specs.Ops.{Doing, Job, doing_in}
+use Rattle.rq_level.specs.Ops.{Doing, Job, doing_by}
 use Rattle.rq_level.specs.Ops.Doing.{Send, Receive, Close}
 use Rattle.rq_pool.specs.Pooled.{Pooled}
 use Rattle.rq_txn.specs.Rows.{Row}
@@ -60,17 +60,17 @@ abbrev pub to_undo : Option Deed → Option Asked
 to_undo None = None
 to_undo (Some d) = Some (Undo d)
 
--- what bytes ask that are to be a deed to take back, if they are one
-abbrev pub asked_back : List ℕ → Option Asked
-asked_back bytes = to_undo (deed_in bytes)
+-- what bytes ask of a level that are to be a deed of it to take back, if they are one
+abbrev pub asked_back : (level : ℕ) → List ℕ → Option Asked
+asked_back level bytes = to_undo (deed_by level bytes)
 
--- what these bytes ask, if they ask anything
-abbrev pub asked_in : (undo : Bool) → List ℕ → Option Asked
-asked_in true bytes = asked_back bytes
-asked_in false bytes = to_do (doing_in bytes)
+-- what these bytes ask of a level, if they ask anything
+abbrev pub asked_in : (undo : Bool) (level : ℕ) → List ℕ → Option Asked
+asked_in true level bytes = asked_back level bytes
+asked_in false level bytes = to_do (doing_by level bytes)
 
 abbrev pub asked_by : Job → Option Asked
-asked_by job = asked_in job.undo job.bytes
+asked_by job = asked_in job.undo job.level job.bytes
 
 -- it is of a sender of the store
 abbrev pub IsOfStore : Sizes → Option Asked → Type 0

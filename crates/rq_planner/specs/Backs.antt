@@ -4,7 +4,6 @@ use Rattle.rq_model.specs.declared.record.Deed.{Deed}
 use Rattle.rq_model.specs.declared.record.Deed.TheVariants.{Append, UnlinkHead, Close}
 use Rattle.rq_model.specs.declared.refusal.Refusal.{Refusal}
 use Rattle.rq_model.specs.declared.refusal.Refusal.TheVariants as why
-use Rattle.rq_model.specs.Deeds.{deed_in}
 use Rattle.rq_page.specs.declared.cell.Cell.{Cell}
 use Rattle.rq_page.specs.declared.directory.Directory.{Directory}
 use Rattle.rq_page.specs.Sizes.{Sizes, IsCellAddress, directory_at, sender_count}
@@ -74,11 +73,11 @@ pub record IsJudgedBack (z : Sizes) (q : Slots) (told : Option Deed) (answer : R
   pub can : IfOk answer (λ p. (d : Deed) → told ≡ Some d → CanBeTakenBack z q d)
   pub damaged : IfErr answer (λ r. TellsDamage r → CannotBeTakenBack z q told)
 
--- The writes take back the deed that these bytes tell, as its level plans them over the slots as they are: it was done last
--- at its end of its group there, and a message is put back into the lowest free cell.
-pub record IsTakingBack (z : Sizes) (q : Slots) (bytes : List ℕ) (ws : List SlotWrite) : Type 0 where
+-- The writes take back the deed that is told, as its level plans them over the slots as they are: it was done last at its
+-- end of its group there, and a message is put back into the lowest free cell.
+pub record IsTakingBack (z : Sizes) (q : Slots) (told : Option Deed) (ws : List SlotWrite) : Type 0 where
   pub deed : Deed
-  pub reads : deed_in bytes ≡ Some deed
+  pub reads : told ≡ Some deed
   pub can : CanBeTakenBack z q deed
   pub planned : IsPlannedFrom z q ws (Undid deed)
   pub slots : AreSlotWrites z ws

@@ -1,6 +1,7 @@
 //! Levels that are handed in for a store.
 ghost use Rattle.std.specs.Prelude.{◌≡◌};
-ghost use Rattle.rq_level.specs.Meaning.{meaning_of};
+ghost use Rattle.rq_model.specs.Deeds.{deed_by};
+ghost use Rattle.rq_model.specs.Vocabulary.{is_some};
 ghost use Rattle.rq_planner.specs.Handed.{AreForStores, HasRoom};
 
 use rq_level::{Level, Levels};
@@ -35,7 +36,7 @@ impl<B: Level> StoreLevels<B> {
     /// Whether there is a level of this number, and the bytes are a deed of it.
     #[tactic(auto, using(crate::proofs::Told::none_reads))]
     pub fn reads(&self, level: u8, deed: &[u8]) -> bool
-        ensures { result ≡ (meaning_of level).reads deed.now }
+        ensures { result ≡ is_some (deed_by level deed.now) }
     {
         let level = level as usize;
         if level >= self.levels.len() {

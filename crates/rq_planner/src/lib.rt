@@ -7,12 +7,9 @@
 mod deeds;
 mod gathering;
 mod handed;
-mod operations;
 mod planner;
 mod planning;
 mod telling;
 
 pub use handed::StoreLevels;
 pub use planner::Planner;
-pub use planning::{plan, plan_inverse};
-pub use telling::tell_store;

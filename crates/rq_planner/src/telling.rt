@@ -1,10 +1,11 @@
-//! Tells a level of slots as they are.
-ghost use Rattle.std.specs.Prelude.{◌≡◌, ◌↔◌, ◌≤◌, IfErr, IfOk, IfSome, IsTrue, List, Some, length};
+//! Tells levels of slots as they are.
+ghost use Rattle.std.specs.Prelude.{◌≡◌, ◌↔◌, ◌<◌, ◌≤◌, IfErr, IfOk, IfSome, IsTrue, List, Some, length};
 ghost use Rattle.rq_page.specs.Cells.{free_bytes};
 ghost use Rattle.rq_page.specs.Sizes.{IsCellAddress, cell_count};
 ghost use Rattle.rq_page.specs.Slots.{Free};
 ghost use Rattle.rq_views.specs.Stored.{IsStoreSlot, slot_at, slots_in};
 ghost use Rattle.rq_level.specs.LevelState.{noted};
+ghost use Rattle.rq_level.specs.Meaning.{kept_at};
 ghost use Rattle.rq_level.specs.Writes.{AreSlotWrites};
 ghost use Rattle.rq_txn.specs.Rows.{Row};
 ghost use Rattle.rq_sound.specs.Chosen.{KeepsBeside, first_place};
@@ -12,7 +13,7 @@ ghost use Rattle.rq_sound.specs.Levels.{KeepsCells};
 ghost use Rattle.rq_planner.specs.Asked.{known_from};
 
 use rq_disk::PageDevice;
-use rq_level::{Level, Plan, SlotWrite};
+use rq_level::{Level, Levels, Plan, SlotWrite};
 use rq_model::record::Slot;
 use rq_model::refusal::Refusal;
 use rq_page::addr::Addr;
@@ -23,59 +24,59 @@ use rq_pool::Pages;
 /// Gives back the cell of what was planned, where there is a plan and it takes one.
 pub(crate) fn give_back<P: PageDevice, B: Level>(
     pages: &Pages<P>,
-    level: &mut B,
+    levels: &mut Levels<B>,
     answer: &Result<Plan, Refusal>,
 )
-    requires number { B.level level.old ≡ 1 }
+    requires handed { 1 < length levels.old }
     requires slots { IfOk answer.now (λ p. AreSlotWrites pages.now.sizes p.writes.items) }
-    ensures same { B.level level.new ≡ 1 }
-    ensures planned { IfOk answer.now (λ p. (rows : List Row) → KeepsBeside (known_from pages.now rows) (B.kept level.old) (first_place p.writes.items)
-        → KeepsCells (known_from pages.now rows) (B.kept level.new)) }
-    ensures refused { IfErr answer.now (λ _. B.kept level.new ≡ B.kept level.old) }
+    ensures handed { length levels.new ≡ length levels.old }
+    ensures planned { IfOk answer.now (λ p. (rows : List Row) → KeepsBeside (known_from pages.now rows) (kept_at levels.old 1) (first_place p.writes.items)
+        → KeepsCells (known_from pages.now rows) (kept_at levels.new 1)) }
+    ensures refused { IfErr answer.now (λ _. kept_at levels.new 1 ≡ kept_at levels.old 1) }
 {
     match answer {
-        Ok(plan) => unreserve(pages, level, &plan.writes),
+        Ok(plan) => unreserve(pages, levels, &plan.writes),
         Err(_) => {}
     }
 }
 
-/// Gives back the cell of a plan, where it takes one: tells the level of the plan's first slot as it is. The cell may be
+/// Gives back the cell of a plan, where it takes one: tells the levels of the plan's first slot as it is. The cell may be
 /// chosen again.
 pub(crate) fn unreserve<P: PageDevice, B: Level>(
     pages: &Pages<P>,
-    level: &mut B,
+    levels: &mut Levels<B>,
     writes: &[SlotWrite],
 )
-    requires number { B.level level.old ≡ 1 }
+    requires handed { 1 < length levels.old }
     requires slots { AreSlotWrites pages.now.sizes writes.now }
-    ensures same { B.level level.new ≡ 1 }
-    ensures cells { (rows : List Row) → KeepsBeside (known_from pages.now rows) (B.kept level.old) (first_place writes.now)
-        → KeepsCells (known_from pages.now rows) (B.kept level.new) }
+    ensures handed { length levels.new ≡ length levels.old }
+    ensures cells { (rows : List Row) → KeepsBeside (known_from pages.now rows) (kept_at levels.old 1) (first_place writes.now)
+        → KeepsCells (known_from pages.now rows) (kept_at levels.new 1) }
 {
     if let Some(write) = writes.first() {
-        tell(pages, level, write.at);
+        tell(pages, levels, write.at);
     }
 }
 
-/// Tells a level a store in which nothing is under way: the superblock's slot that tells the sizes, and then each slot of
+/// Tells levels a store in which nothing is under way: the superblock's slot that tells the sizes, and then each slot of
 /// the directory pages and of the cells.
-pub fn tell_store<P: PageDevice, B: Level>(pages: &Pages<P>, level: &mut B)
-    requires number { B.level level.old ≡ 1 }
-    requires free { cell_count pages.now.sizes ≤ length (B.kept level.old).free }
-    requires chosen { cell_count pages.now.sizes ≤ length (B.kept level.old).reserved }
-    ensures same { B.level level.new ≡ 1 }
-    ensures cells { (rows : List Row) → KeepsCells (known_from pages.now rows) (B.kept level.new) }
+pub(crate) fn tell_store<P: PageDevice, B: Level>(pages: &Pages<P>, levels: &mut Levels<B>)
+    requires handed { 1 < length levels.old }
+    requires free { cell_count pages.now.sizes ≤ length (kept_at levels.old 1).free }
+    requires chosen { cell_count pages.now.sizes ≤ length (kept_at levels.old 1).reserved }
+    ensures handed { length levels.new ≡ length levels.old }
+    ensures cells { (rows : List Row) → KeepsCells (known_from pages.now rows) (kept_at levels.new 1) }
 {
-    tell_sizes(pages, level);
+    tell_sizes(pages, levels);
     let layout = pages.layout();
     for sender in 0..layout.senders() {
-        tell(pages, level, layout.directory_of(sender));
+        tell(pages, levels, layout.directory_of(sender));
     }
     let empty = CellSlot::Free.encode();
     let mut free = free_from(pages, 0);
     for place in 0..layout.cell_slots() {
         let at = layout.cell_addr(place);
-        tell_cell(pages, level, at, &free, &empty);
+        tell_cell(pages, levels, at, &free, &empty);
         let next = free_behind(pages, &free, at, place + 1);
         free = next;
     }
@@ -104,27 +105,27 @@ fn free_behind<P: PageDevice>(
     *free
 }
 
-// Tells a level of a cell's slot as it is. That of the next free cell is not read: its bytes are given.
+// Tells levels of a cell's slot as it is. That of the next free cell is not read: its bytes are given.
 fn tell_cell<P: PageDevice, B: Level>(
     pages: &Pages<P>,
-    level: &mut B,
+    levels: &mut Levels<B>,
     at: Addr,
     free: &Option<Addr>,
     empty: &Slot,
 )
-    requires number { B.level level.old ≡ 1 }
+    requires handed { 1 < length levels.old }
     requires cell { IsCellAddress pages.now.sizes at }
     requires free { IfSome free.now (λ a. slots_in pages.now.sizes pages.now.images a ≡ Free) }
     requires empty { empty.now ≡ free_bytes }
-    ensures same { B.level level.new ≡ 1 }
-    ensures told { B.kept level.new ≡ noted (B.kept level.old) at (slot_at pages.now.images at) }
+    ensures handed { length levels.new ≡ length levels.old }
+    ensures told { kept_at levels.new 1 ≡ noted (kept_at levels.old 1) at (slot_at pages.now.images at) }
 {
     if is_at(free, at) {
         pages.layout();
         Layout::slots_are_spellings();
-        level.noted(at, empty);
+        levels.noted(at, empty);
     } else {
-        tell(pages, level, at);
+        tell(pages, levels, at);
     }
 }
 
@@ -138,23 +139,23 @@ fn is_at(free: &Option<Addr>, at: Addr) -> bool
     }
 }
 
-// Tells a level the sizes of the store.
-fn tell_sizes<P: PageDevice, B: Level>(pages: &Pages<P>, level: &mut B)
-    requires { B.level level.old ≡ 1 }
-    ensures same { B.level level.new ≡ 1 }
-    ensures told { B.kept level.new ≡ record (B.kept level.old) { sizes = Some pages.now.sizes } }
+// Tells levels the sizes of the store.
+fn tell_sizes<P: PageDevice, B: Level>(pages: &Pages<P>, levels: &mut Levels<B>)
+    requires { 1 < length levels.old }
+    ensures handed { length levels.new ≡ length levels.old }
+    ensures told { kept_at levels.new 1 ≡ record (kept_at levels.old 1) { sizes = Some pages.now.sizes } }
 {
     pages.shows_kept();
     let superblock = pages.page(0).unwrap();
-    level.noted(Addr::new(0, 1), superblock.slot(1));
+    levels.noted(Addr::new(0, 1), superblock.slot(1));
 }
 
-/// Tells a level of a slot as it is.
-pub(crate) fn tell<P: PageDevice, B: Level>(pages: &Pages<P>, level: &mut B, at: Addr)
-    requires number { B.level level.old ≡ 1 }
+/// Tells levels of a slot as it is.
+pub(crate) fn tell<P: PageDevice, B: Level>(pages: &Pages<P>, levels: &mut Levels<B>, at: Addr)
+    requires handed { 1 < length levels.old }
     requires slot { IsStoreSlot pages.now.sizes at }
-    ensures same { B.level level.new ≡ 1 }
-    ensures told { B.kept level.new ≡ noted (B.kept level.old) at (slot_at pages.now.images at) }
+    ensures handed { length levels.new ≡ length levels.old }
+    ensures told { kept_at levels.new 1 ≡ noted (kept_at levels.old 1) at (slot_at pages.now.images at) }
 {
-    level.noted(at, pages.slot(at).unwrap());
+    levels.noted(at, pages.slot(at).unwrap());
 }

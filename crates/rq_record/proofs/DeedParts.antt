@@ -8,7 +8,8 @@ use Rattle.rq_model.specs.declared.record.Deed.TheVariants.{Append, UnlinkHead, 
 use Rattle.rq_record.specs.declared.reading.Stop.{Stop}
 use Rattle.rq_record.specs.declared.reading.Stop.TheVariants.{Bad}
 use Rattle.rq_bytes.specs.Number.{AreBytes, number}
-use Rattle.rq_model.specs.Deeds.{spelled_deed, deed_in}
+use Rattle.rq_model.specs.Deeds.{spelled_deed, deed_in, TellsItself}
+use Rattle.rq_model.proofs.Deeds.{by_its_level}
 use Rattle.rq_record.specs.Deeds.{IsBody, IsDeed}
 use Rattle.rq_record.specs.Reading.{◌>>=◌, number_at, positive_at}
 use Rattle.rq_record.specs.DeedReading.{append_at, unlink_head_at, close_at, deed_at, deed_of}
@@ -198,8 +199,8 @@ pub decoded_told : (bytes : List ℕ) (o : Option Deed) → o ≡ deed_of (deed_
 decoded_told bytes o e = e ∙ read_is bytes
 
 -- the spelling of a deed tells that deed
-pub deeds_are_told : (d : Deed) → IsDeed d → deed_in (spelled_deed d) ≡ Some d
-deeds_are_told d is = sym (read_is (spelled_deed d)) ∙ ap deed_of (deed_again d is)
+pub deeds_are_told : (d : Deed) → IsDeed d → TellsItself d
+deeds_are_told d is = by_its_level d ∙ sym (read_is (spelled_deed d)) ∙ ap deed_of (deed_again d is)
 
 abbrev some : Deed → Option Deed
 some d = Some d

@@ -1,8 +1,8 @@
 -- Which deeds have a spelling.
-use Rattle.std.specs.Prelude.{◌≡◌, ℕ, ◌<◌, ◌≤◌, ◌^◌, List, length, Some}
+use Rattle.std.specs.Prelude.{◌≡◌, ℕ, ◌<◌, ◌≤◌, ◌^◌, List, length}
 use Rattle.rq_model.specs.declared.record.Deed.{Deed}
 use Rattle.rq_model.specs.declared.record.Deed.TheVariants.{Append, UnlinkHead, Close}
-use Rattle.rq_model.specs.Deeds.{spelled_deed, deed_in}
+use Rattle.rq_model.specs.Deeds.{spelled_deed, TellsItself}
 use Rattle.rq_bytes.specs.Number.{AreBytes}
 
 -- what a deed may say: sequences begin at 1
@@ -31,4 +31,4 @@ EachDeedHasItsSpelling = (d e : Deed) → IsDeed d → IsDeed e → spelled_deed
 
 -- the spelling of a deed tells that deed
 abbrev pub DeedsAreTold : Type 0
-DeedsAreTold = (d : Deed) → IsDeed d → deed_in (spelled_deed d) ≡ Some d
+DeedsAreTold = (d : Deed) → IsDeed d → TellsItself d

@@ -1,9 +1,9 @@
-//! Deeds of the chain level as bytes.
+//! Deeds as bytes.
 ghost use Rattle.std.specs.Prelude.{◌≡◌, ◌+◌, ◌≤◌, ◌++◌, ◌∷◌, length, IfSome, Some};
 ghost use Rattle.rq_model.specs.declared.record.Deed.{Deed};
 ghost use Rattle.rq_model.specs.declared.record.Deed.TheVariants.{Append, Close, UnlinkHead};
 ghost use Rattle.rq_bytes.specs.Number.{number};
-ghost use Rattle.rq_model.specs.Deeds.{spelled_deed, deed_in};
+ghost use Rattle.rq_model.specs.Deeds.{spelled_deed, deed_in, deed_by};
 ghost use Rattle.rq_record.specs.Deeds.{IsDeed, IsBody};
 ghost use Rattle.rq_record.specs.Reading.{Gives};
 ghost use Rattle.rq_record.specs.DeedReading.{append_at, unlink_head_at, close_at, deed_at, deed_of};
@@ -90,13 +90,23 @@ fn deed_if_any(bytes: &[u8]) -> Option<Deed>
     }
 }
 
-/// The deed whose spelling the bytes are, all of them; none where they are no deed's.
+/// The deed of chains whose spelling the bytes are, all of them; none where they are no deed's.
 pub fn decode_deed(bytes: &[u8]) -> Option<Deed>
     ensures some { IfSome result (λ deed. IsDeed deed × (bytes.now ≡ spelled_deed deed)) }
     ensures only { (deed : Deed) → IsDeed deed → bytes.now ≡ spelled_deed deed → result ≡ Some deed }
     ensures told { result ≡ deed_in bytes.now }
 {
     deed_if_any(bytes)
+}
+
+/// The deed that the level of this number tells by these bytes; none where they are none of its deeds.
+pub fn decode_told(level: u8, bytes: &[u8]) -> Option<Deed>
+    ensures { result ≡ deed_by level bytes.now }
+{
+    match level {
+        1 => decode_deed(bytes),
+        _ => None,
+    }
 }
 
 // A body has 216 bytes at most.

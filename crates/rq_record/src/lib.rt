@@ -7,7 +7,7 @@ mod reading;
 mod step;
 mod writing;
 
-pub use deed::{decode_deed, encode_append, encode_close, encode_unlink_head};
+pub use deed::{decode_deed, decode_told, encode_append, encode_close, encode_unlink_head};
 pub use laws::{deeds_are_told, framed, lengths, one_deed, one_spelling};
 pub use reading::{decode, decode_into};
 pub use rq_model::record::{Deed, Record};

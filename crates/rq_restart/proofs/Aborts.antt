@@ -13,6 +13,7 @@ use Rattle.rq_model.specs.declared.refusal.Damage.TheVariants as damage
 use Rattle.rq_model.specs.declared.txn.Txn.{Txn}
 use Rattle.rq_model.specs.Incarnations.{Extends, incarnation_of, is_plain}
 use Rattle.rq_model.proofs.Cuts.{extends_join}
+use Rattle.rq_model.specs.Deeds.{deed_by}
 use Rattle.rq_model.specs.Unended.{lost}
 use Rattle.rq_model.specs.Vocabulary.{In, same_txn}
 use Rattle.rq_page.specs.Sizes.{Sizes}
@@ -129,7 +130,7 @@ module _ (z : Sizes) (a b : List Record) (old mid : Paged) (repeated : RepeatedS
   aborting_join c h k = same_aborting z (RepeatedSince z a old) a b c h (aborting_weaker z (RepeatedSince z b mid) (RepeatedSince z a old) since b c k)
 
 -- what is planned over the pages as they are
-pub planned_here : (z : Sizes) (log : List Record) (old : Paged) (d : PendingUndo) (ws : List SlotWrite) → IsTakingBack z (slots_on z old) d.deed ws → IsPlannedOn z (RepeatedSince z log old log) d ws
+pub planned_here : (z : Sizes) (log : List Record) (old : Paged) (d : PendingUndo) (ws : List SlotWrite) → IsTakingBack z (slots_on z old) (deed_by d.level d.deed) ws → IsPlannedOn z (RepeatedSince z log old log) d ws
 planned_here z log old d ws plan = record { pages = old; on_pages = λ first k. k; plan = plan }
 
 -- ---- writes of an operation

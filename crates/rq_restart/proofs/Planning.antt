@@ -5,7 +5,7 @@ use Rattle.rq_model.specs.declared.record.Deed.TheVariants.{Append, UnlinkHead, 
 use Rattle.rq_model.specs.declared.record.Record.{Record}
 use Rattle.rq_model.specs.declared.refusal.Refusal.{Refusal}
 use Rattle.rq_model.specs.declared.refusal.Refusal.TheVariants as why
-use Rattle.rq_model.specs.Deeds.{deed_in}
+use Rattle.rq_model.specs.Deeds.{deed_by}
 use Rattle.rq_page.specs.declared.directory.Directory.{Directory}
 use Rattle.rq_page.specs.Sizes.{Sizes, directory_at, sender_count}
 use Rattle.rq_page.specs.Slots.Slot.{Sender}
@@ -91,10 +91,10 @@ shows_can z images log d low shows =
 -- ---- what the level plans
 
 -- the deed that is read is what is due
-deed_is : (d : PendingUndo) (deed : Deed) → deed_in d.deed ≡ Some deed → deed_due d ≡ deed
+deed_is : (d : PendingUndo) (deed : Deed) → deed_by d.level d.deed ≡ Some deed → deed_due d ≡ deed
 deed_is d deed e = ap told_deed e
 
-module _ (z : Sizes) (q : Slots) (due : PendingUndo) (ws : List SlotWrite) (b : IsTakingBack z q due.deed ws) where
+module _ (z : Sizes) (q : Slots) (due : PendingUndo) (ws : List SlotWrite) (b : IsTakingBack z q (deed_by due.level due.deed) ws) where
   pub plan_is : IsPlannedFrom z q ws (Undid (deed_due due))
   plan_is = subst (λ (d : Deed). IsPlannedFrom z q ws (Undid d)) (sym (deed_is due b.deed b.reads)) b.planned
 
@@ -102,7 +102,7 @@ module _ (z : Sizes) (q : Slots) (due : PendingUndo) (ws : List SlotWrite) (b : 
   lowest_is = subst (λ (d : Deed). InverseTakesLowest z q [] d ws) (sym (deed_is due b.deed b.reads)) b.lowest
 
 -- and why it plans nothing
-pub why_not_planned : (z : Sizes) (images : List (List ℕ)) (due : PendingUndo) (r : Refusal) → IsRefusedBack z (slots_in z images) (deed_in due.deed) r → PlanStops z images due (blamed_on due.lsn r)
+pub why_not_planned : (z : Sizes) (images : List (List ℕ)) (due : PendingUndo) (r : Refusal) → IsRefusedBack z (slots_in z images) (deed_by due.level due.deed) r → PlanStops z images due (blamed_on due.lsn r)
 why_not_planned z images due why.NoMemory f = tt
 why_not_planned z images due (why.Damaged x) f = (refl, f)
 why_not_planned z images due _ f = absurd f

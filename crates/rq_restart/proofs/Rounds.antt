@@ -10,6 +10,7 @@ use Rattle.rq_model.specs.declared.refusal.Refusal.TheVariants as why
 use Rattle.rq_model.specs.declared.refusal.Damage.TheVariants as damage
 use Rattle.rq_model.specs.declared.txn.Sub.{Sub}
 use Rattle.rq_model.specs.declared.txn.Txn.{Txn}
+use Rattle.rq_model.specs.Deeds.{deed_by}
 use Rattle.rq_model.specs.Unended.{lost}
 use Rattle.rq_model.specs.Vocabulary.{In, same_txn}
 use Rattle.rq_page.specs.Sizes.{Sizes}
@@ -174,7 +175,7 @@ module _ {P : Type 0} (z : Sizes) (log : List Record) (old : Pooled P) (f : Anal
         in_txns (x ∷ rows) q i = elim i [ inl e ↦ inl (ap (λ (y : Row). y.txn) e) | inr j ↦ inr (in_txns rows q j) ]
 
     -- it can be planned
-    pub begin_shown : (ws : List SlotWrite) (n : ℕ) → IsTakingBack z (slots_in z old.images) d.deed ws → n ≡ number_of d.txn f.numbers + 1 → OfStore z shown (IsShownWithin log old d n ws 0)
+    pub begin_shown : (ws : List SlotWrite) (n : ℕ) → IsTakingBack z (slots_in z old.images) (deed_by d.level d.deed) ws → n ≡ number_of d.txn f.numbers + 1 → OfStore z shown (IsShownWithin log old d n ws 0)
     begin_shown ws n back number x base k same b =
         let all : List Record = rebased x log in
         let planned : IsPlannedFrom base.sizes (slots_in base.sizes old.images) ws (Undid (deed_due d)) = subst (λ y. IsPlannedFrom y (slots_in y old.images) ws (Undid (deed_due d))) (sym same) (plan_is z (slots_in z old.images) d ws back) in

@@ -7,7 +7,7 @@ use Rattle.rq_model.specs.declared.refusal.Refusal.{Refusal}
 use Rattle.rq_model.specs.declared.refusal.Refusal.TheVariants as why
 use Rattle.rq_model.specs.declared.refusal.Damage.TheVariants as damage
 use Rattle.rq_model.specs.declared.txn.Txn.{Txn}
-use Rattle.rq_model.specs.Deeds.{deed_in}
+use Rattle.rq_model.specs.Deeds.{deed_by}
 use Rattle.rq_page.specs.Sizes.{Sizes}
 use Rattle.rq_views.specs.Stored.{slots_in}
 use Rattle.rq_level.specs.declared.writes.SlotWrite.{SlotWrite}
@@ -76,7 +76,7 @@ pub record AbortsBehind (log now : List Record) : Type 0 where
 pub record IsPlannedOn (z : Sizes) (on : Paged → Type 0) (due : PendingUndo) (ws : List SlotWrite) : Type 0 where
   pub pages : Paged
   pub on_pages : on pages
-  pub plan : IsTakingBack z (slots_on z pages) due.deed ws
+  pub plan : IsTakingBack z (slots_on z pages) (deed_by due.level due.deed) ws
 
 -- what is taken back in each round is planned over pages of which this is so, and of the log before the round
 abbrev pub ArePlanned : Sizes → (List Record → Paged → Type 0) → List Record → List Round → Type 0
@@ -158,7 +158,7 @@ pub record IsFull (z : Sizes) (behind : List Record → Type 0) (before : List R
 
 -- what is due is told by no deed, or by one that the slots of these pages do not show to be done last
 abbrev pub IsNotUndone : Sizes → List (List ℕ) → PendingUndo → Type 0
-IsNotUndone z images due = CannotBeTakenBack z (slots_in z images) (deed_in due.deed)
+IsNotUndone z images due = CannotBeTakenBack z (slots_in z images) (deed_by due.level due.deed)
 
 -- Behind the log that these pages are of, what is due cannot be taken back: the slots do not show that it was done last, or
 -- its transaction has had 2^64 - 1 operations.

@@ -8,6 +8,7 @@ ghost use Rattle.rq_analysis.specs.declared.dues.PendingUndo.{PendingUndo};
 ghost use Rattle.rq_analysis.specs.Choices.{least_free};
 ghost use Rattle.rq_record.specs.Spelling.{IsTxnInRange};
 ghost use Rattle.rq_store.specs.Steps.{page_op};
+ghost use Rattle.rq_model.specs.Deeds.{deed_by};
 ghost use Rattle.rq_model.specs.Vocabulary.{In};
 ghost use Rattle.rq_restart.specs.Aborting.{AbortStops, AbortingStops, HasAborted, HasGoneOn, IsMaking, IsShownWithin, PlanStops, blamed_on, with_writes};
 ghost use Rattle.rq_restart.specs.Checked.{IsEnded};
@@ -220,7 +221,7 @@ fn plan<P: PageDevice, B: Level>(
     requires { KnowsCells pages.now.sizes pages.now.images planner.old }
     ensures cells { KnowsCells pages.now.sizes pages.now.images planner.new }
     ensures back { IfOk result (λ writes. IsTakingBack pages.now.sizes (slots_in pages.now.sizes pages.now.images)
-        due.now.deed writes.items) }
+        (deed_by due.now.level due.now.deed) writes.items) }
     ensures stops { IfErr result (λ e. PlanStops pages.now.sizes pages.now.images due.now e) }
 {
     match planner.plan_inverse_alone(alloc, pages, due.level, &due.deed) {

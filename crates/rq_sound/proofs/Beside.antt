@@ -1,12 +1,12 @@
 -- What a record of one transaction leaves of what the log says of another.
-use Rattle.std.proofs.Common.{◌≡◌, ℕ, ◌+◌, ◌≤◌, ◌&&◌, ◌||◌, List, ◌∷◌, refl, sym, ◌∙◌, ap, subst, true, false, not, Option, Some, arith}
+use Rattle.std.proofs.Common.{◌≡◌, ℕ, ◌+◌, ◌≤◌, ◌&&◌, ◌||◌, List, ◌∷◌, refl, sym, ◌∙◌, ap, subst, true, false, not, Option, arith}
 use Rattle.std.proofs.lemmas.Bool.{cond-false}
 use Rattle.rq_model.specs.declared.txn.Txn.{Txn}
 use Rattle.rq_model.specs.declared.record.Deed.{Deed}
 use Rattle.rq_model.specs.declared.record.Record.{Record}
 use Rattle.rq_model.specs.declared.record.Record.TheVariants.{Commit, AbortEnd}
 use Rattle.rq_model.specs.Vocabulary.{same_txn}
-use Rattle.rq_model.specs.Deeds.{deed_in, spelled_deed}
+use Rattle.rq_model.specs.Deeds.{TellsItself}
 use Rattle.rq_model.specs.Content.{has_end, deeds, kept, ending_by}
 use Rattle.rq_model.specs.Rules.{any_use, uses_send, uses_receive}
 use Rattle.rq_page.specs.Sizes.{Sizes}
@@ -46,7 +46,7 @@ says_page z log t q n w e = record {
   under_way_is = λ m. ap (λ b. (b || began (operation q m) (items z log)) && not (over (operation q m) (items z log))) (other_op t q n m e);
 }
 
-pub says_end : (z : Sizes) (log : List Record) (t q : Txn) (n : ℕ) (d : Deed) → deed_in (spelled_deed d) ≡ Some d → same_txn t q ≡ false → SaysSame z log (op_end t n d ∷ log) q
+pub says_end : (z : Sizes) (log : List Record) (t q : Txn) (n : ℕ) (d : Deed) → TellsItself d → same_txn t q ≡ false → SaysSame z log (op_end t n d ∷ log) q
 says_end z log t q n d reads e = record {
   running = refl;
   earlier_is = refl;

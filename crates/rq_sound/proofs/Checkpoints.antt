@@ -4,10 +4,11 @@ use Rattle.std.proofs.Common.{◌≡◌, ℕ, ◌+◌, ◌-◌, inl, inr, List, 
 use Rattle.std.proofs.lemmas.Bool.{cases_Bool, false≢true, true≢false}
 use Rattle.rq_model.specs.declared.txn.Txn.{Txn}
 use Rattle.rq_model.specs.declared.txn.Sub.{Sub}
+use Rattle.rq_model.specs.declared.record.Deed.{Deed}
 use Rattle.rq_model.specs.declared.record.Record.{Record}
 use Rattle.rq_model.specs.declared.record.Record.TheVariants as records
 use Rattle.rq_model.specs.Bases.{based}
-use Rattle.rq_model.specs.Content.{Ending, Said, deeds, has_end, kept, said}
+use Rattle.rq_model.specs.Content.{Said, deeds, ending_by, has_end, kept, said}
 use Rattle.rq_model.specs.History.{Call, Entry}
 use Rattle.rq_model.specs.Ledger.{Ledger, kept_in}
 use Rattle.rq_model.specs.Replay.{Reply}
@@ -26,7 +27,6 @@ use Rattle.rq_store.specs.Whole.{IsWhole}
 use Rattle.rq_store.proofs.Begun.{begun_all}
 use Rattle.rq_store.proofs.Fitting.{fits_more, slot_holds}
 use Rattle.rq_store.proofs.Within.{all_within}
-use Rattle.rq_store.proofs.Opening.{ending_is}
 use Rattle.rq_sound.specs.Calls.{checkpointed}
 use Rattle.rq_sound.specs.ModelSteps.{IsModelStep}
 use Rattle.rq_sound.specs.Sound.{IsSound}
@@ -41,9 +41,9 @@ deedless : (z : Sizes) (t : Txn) (log : List Record) → ReadsItsDeeds log → d
 deedless z t [] r h = refl
 deedless z t (records.OpEnd u n level deed ∷ log) r h =
     let rest = deeds (λ v. same_txn v t) log in
-    let e : cond (same_txn u t) (said r.0.1.0 ∷ rest) rest ≡ [] = sym (ap (λ (y : Option Ending). kept (λ v. same_txn v t) y rest) (ending_is u n level deed r.0.1.0 r.0.0 r.0.1.1)) ∙ h in
+    let e : cond (same_txn u t) (said r.0.0.0 ∷ rest) rest ≡ [] = sym (ap (λ (y : Option Deed). kept (λ v. same_txn v t) (ending_by u y) rest) r.0.0.1) ∙ h in
     elim (cases_Bool (same_txn u t)) [
-      | inl y ↦ absurd (let bad : said r.0.1.0 ∷ rest ≡ [] = rw y at e in some_none bad)
+      | inl y ↦ absurd (let bad : said r.0.0.0 ∷ rest ≡ [] = rw y at e in some_none bad)
       | inr off ↦ rw off (deedless z t log r.1 (rw off at e))
     ]
 deedless z t (records.PageOp u n page slot before after ∷ log) r h = deedless z t log r.1 h

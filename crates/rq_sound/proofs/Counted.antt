@@ -14,7 +14,7 @@ use Rattle.rq_model.specs.declared.record.Record.TheVariants.{AbortEnd}
 use Rattle.rq_model.specs.Vocabulary.{In, Op, taken_from}
 use Rattle.rq_model.specs.Content.{said}
 use Rattle.rq_model.specs.Commits.{op_of}
-use Rattle.rq_model.specs.Deeds.{deed_in, spelled_deed}
+use Rattle.rq_model.specs.Deeds.{TellsItself}
 use Rattle.rq_page.specs.Sizes.{Sizes, cell_count, address}
 use Rattle.rq_page.specs.Slots.{IsSlotOf, held_in}
 use Rattle.rq_views.specs.Log.{Slots, Write, put, applied, HasBefores}
@@ -214,7 +214,7 @@ still_covered ws vs d (Some v) fewer ne h = at v.aim refl h where
 
 -- an operation ends whose writes are all made
 module _ (z : Sizes) (log : List Record) (ends : HeldEnds) (rows : List Row) (cells : ℕ) (waiting ws : List ℕ) (t : Txn) (r : Row) (u : Under) (d : Deed) (whole : IsWhole z log) (c : AreCounted z log rows cells waiting) (distinct : AreDistinct rows)
-    (at_row : found_row t rows ≡ Some r) (under : r.under ≡ Some u) (aim : u.aim ≡ Doing d) (made : u.made ≡ length u.writes) (g : FollowsPlan z log ends t u) (reads : deed_in (spelled_deed d) ≡ Some d)
+    (at_row : found_row t rows ≡ Some r) (under : r.under ≡ Some u) (aim : u.aim ≡ Doing d) (made : u.made ≡ length u.writes) (g : FollowsPlan z log ends t u) (reads : TellsItself d)
     (fewer : (g : ℕ) → waits ws g ≡ waits waiting g - took g d) (apart : (q : Row) → In q rows → q.txn ≢ t → (v : Under) → q.under ≡ Some v → deed_sender d ≢ deed_sender (deed_of v.aim)) where
   abbrev f : Finished
   f = record { lsn = length log + 1; deed = d }

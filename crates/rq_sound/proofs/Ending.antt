@@ -1,5 +1,5 @@
 -- The end of an operation whose writes are all made: a send, a receive or a close.
-use Rattle.std.proofs.Common.{◌≡◌, ◌≢◌, ℕ, ◌+◌, ◌-◌, ◌<◌, ◌≤◌, ◌++◌, ◌||◌, List, [], ◌∷◌, length, reverse, refl, sym, ◌∙◌, ap, subst, true, false, cond, nat_eq, Option, Some, None, inl, inr, arith}
+use Rattle.std.proofs.Common.{◌≡◌, ◌≢◌, ℕ, ◌+◌, ◌-◌, ◌<◌, ◌≤◌, ◌++◌, ◌||◌, List, [], ◌∷◌, length, reverse, refl, sym, ◌∙◌, ap, subst, true, false, cond, Option, Some, None, inl, inr, arith}
 use Rattle.std.proofs.lemmas.Bool.{cond-true, false≢true, or_from, or_cases, eqb-true}
 use Rattle.std.proofs.lemmas.List.{length-map}
 use Rattle.rq_model.specs.declared.txn.Txn.{Txn}
@@ -7,7 +7,7 @@ use Rattle.rq_model.specs.declared.record.Deed.{Deed}
 use Rattle.rq_model.specs.declared.record.Deed.TheVariants.{Append, UnlinkHead, Close}
 use Rattle.rq_model.specs.declared.record.Record.{Record}
 use Rattle.rq_model.specs.Vocabulary.{In, same_txn}
-use Rattle.rq_model.specs.Deeds.{deed_in, spelled_deed}
+use Rattle.rq_model.specs.Deeds.{deed_by, deed_level, spelled_deed, TellsItself}
 use Rattle.rq_model.specs.Content.{said, deeds, kept, ending_by, removed, added, has_commit}
 use Rattle.rq_model.specs.Rules.{any_use, uses_send, uses_receive, MayEnd, EndingMay}
 use Rattle.rq_model.proofs.Lists.{same_self}
@@ -100,7 +100,7 @@ module _ (z : Sizes) (log : List Record) (ends : HeldEnds) (rows : List Row) (i 
   f = record { lsn = length log + 1; deed = d }
 
   abbrev said_deed : Deed
-  said_deed = told_deed (deed_in (spelled_deed d))
+  said_deed = told_deed (deed_by (deed_level d) (spelled_deed d))
 
   here : In r rows
   here = place z log ends rows i b k incarnation some r at_row
@@ -114,7 +114,7 @@ module _ (z : Sizes) (log : List Record) (ends : HeldEnds) (rows : List Row) (i 
   forward : r.aborting ≡ false
   forward = aim_is r u.aim d aim g.2
 
-  reads : deed_in (spelled_deed d) ≡ Some d
+  reads : TellsItself d
   reads = subst ReadsFor aim g.0.reads
 
   deed_is : said_deed ≡ d
@@ -160,8 +160,8 @@ module _ (z : Sizes) (log : List Record) (ends : HeldEnds) (rows : List Row) (i 
   whole_finish = record {
     legal = (may, whole.legal);
     told = (told_here, whole.told);
-    rules = (subst (EndingMay log) (sym (ap (λ (y : Option Deed). ending_by t (cond (nat_eq 1 1) y None)) reads)) rule, (λ v e. absurd (false≢true e)), whole.rules);
-    reads = ((refl, (d, reads), own.forward forward), whole.reads);
+    rules = (subst (EndingMay log) (sym (ap (ending_by t) reads)) rule, (λ v e. absurd (false≢true e)), whole.rules);
+    reads = (((d, reads), own.forward forward), whole.reads);
     in_store = (subst (λ e. deed_sender e < sender_count z) (sym deed_is) below, whole.in_store);
     befores = (tt, whole.befores);
     based = (tt, whole.based);
@@ -180,7 +180,7 @@ module _ (z : Sizes) (log : List Record) (ends : HeldEnds) (rows : List Row) (i 
       ∙ sym (placed_more r.finished f)
 
   deeds_now : deeds (λ v. same_txn v t) (x ∷ log) ≡ said d ∷ deeds (λ v. same_txn v t) log
-  deeds_now = ap (λ (y : Option Deed). kept (λ v. same_txn v t) (ending_by t (cond (nat_eq 1 1) y None)) (deeds (λ v. same_txn v t) log)) reads ∙ cond-true (same_txn t t) _ _ (same_self t)
+  deeds_now = ap (λ (y : Option Deed). kept (λ v. same_txn v t) (ending_by t y) (deeds (λ v. same_txn v t) log)) reads ∙ cond-true (same_txn t t) _ _ (same_self t)
 
   own_now : IsRow z (x ∷ log) ends i b (row_finished f r)
   own_now = record {

@@ -11,7 +11,7 @@ use Rattle.rq_model.specs.declared.record.Deed.{Deed}
 use Rattle.rq_model.specs.declared.record.Record.{Record}
 use Rattle.rq_model.specs.declared.record.Record.TheVariants.{Commit, AbortEnd}
 use Rattle.rq_model.specs.Vocabulary.{same_txn}
-use Rattle.rq_model.specs.Deeds.{deed_in, spelled_deed}
+use Rattle.rq_model.specs.Deeds.{deed_by, deed_level, spelled_deed, TellsItself}
 use Rattle.rq_page.specs.Sizes.{Sizes, address, directory_at, sender_count}
 use Rattle.rq_page.specs.Slots.{held_in}
 use Rattle.rq_views.specs.Log.{Write, HasBefores, Untouched, same_op, Wrote, Done}
@@ -87,10 +87,10 @@ module _ (z : Sizes) (log : List Record) (ends : HeldEnds) (t : Txn) (u : Under)
       }
 
   -- another operation ends, of another sender
-  pub other_ends : (d : Deed) → deed_in (spelled_deed d) ≡ Some d → deed_sender d ≢ deed_sender (deed_of u.aim) → FollowsPlan z (op_end v n d ∷ log) ends t u
+  pub other_ends : (d : Deed) → TellsItself d → deed_sender d ≢ deed_sender (deed_of u.aim) → FollowsPlan z (op_end v n d ∷ log) ends t u
   other_ends d reads ne =
-      let deed_is : told_deed (deed_in (spelled_deed d)) ≡ d = ap told_deed reads in
-      let other : (deed_sender (told_deed (deed_in (spelled_deed d))) == deed_sender (deed_of u.aim)) ≡ false = elim (cases_Bool (deed_sender (told_deed (deed_in (spelled_deed d))) == deed_sender (deed_of u.aim))) [
+      let deed_is : told_deed (deed_by (deed_level d) (spelled_deed d)) ≡ d = ap told_deed reads in
+      let other : (deed_sender (told_deed (deed_by (deed_level d) (spelled_deed d))) == deed_sender (deed_of u.aim)) ≡ false = elim (cases_Bool (deed_sender (told_deed (deed_by (deed_level d) (spelled_deed d))) == deed_sender (deed_of u.aim))) [
         | inl y ↦ absurd (ne (sym (ap deed_sender deed_is) ∙ eqb-true _ _ y))
         | inr k ↦ k
       ] in
@@ -103,7 +103,7 @@ module _ (z : Sizes) (log : List Record) (ends : HeldEnds) (t : Txn) (u : Under)
         written = cond-false (same_op by o) _ _ not_own ∙ g.written;
         owes = owes_other (layout_of z).page (left_by z log) o (latched_by u) (drop u.made (writes_of z u.writes)) (Done by) slots_good (not_own, not_own_back) g.owes;
         plan = g.plan;
-        told = subst (TellsFor u.aim) (sym (ap (λ b. if b then with_turn (Did (told_deed (deed_in (spelled_deed d)))) (view (items z log) (deed_sender (deed_of u.aim))) else view (items z log) (deed_sender (deed_of u.aim))) other)) g.told;
+        told = subst (TellsFor u.aim) (sym (ap (λ b. if b then with_turn (Did (told_deed (deed_by (deed_level d) (spelled_deed d)))) (view (items z log) (deed_sender (deed_of u.aim))) else view (items z log) (deed_sender (deed_of u.aim))) other)) g.told;
         held = g.held;
         sender = g.sender;
         reads = g.reads;

@@ -6,7 +6,7 @@ use Rattle.rq_model.specs.declared.txn.Txn.{Txn}
 use Rattle.rq_model.specs.declared.record.Deed.{Deed}
 use Rattle.rq_model.specs.declared.record.Deed.TheVariants.{Append, UnlinkHead, Close}
 use Rattle.rq_model.specs.Commits.{committed_of}
-use Rattle.rq_model.specs.Deeds.{spelled_deed, deed_in}
+use Rattle.rq_model.specs.Deeds.{TellsItself}
 use Rattle.rq_model.specs.Ledger.{Open, ended_in, found}
 use Rattle.rq_model.specs.Legal.{start_of}
 use Rattle.rq_model.specs.Tests.{Passes, cells_in_use, has_closed, is_aborting}
@@ -182,7 +182,7 @@ module _ (s : State) (k : IsSound s) where
         omega (arith, ne, b)
 
   -- what passes the tests may be done
-  pub may_do : (r : Row) (u : Under) (d : Deed) → IsNew s r u (aims.Doing d) → IsPlannedFrom s.sizes q u.writes (Did d) → deed_in (spelled_deed d) ≡ Some d → HasWaiting s.waiting d
+  pub may_do : (r : Row) (u : Under) (d : Deed) → IsNew s r u (aims.Doing d) → IsPlannedFrom s.sizes q u.writes (Did d) → TellsItself d → HasWaiting s.waiting d
       → Passes (size_of s.sizes) (ledger_of s) (start_of r.txn (job_of d)) → MayDo s r u d
   may_do r u (Append g n tag previous body) new p reads wait h =
       let below = known r new.idle g h.1.1.1.1.0 in

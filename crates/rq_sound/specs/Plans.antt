@@ -1,8 +1,8 @@
 -- What a planned operation is over the slots that it is planned from: a send, a receive, a close, or an inverse.
-use Rattle.std.specs.Prelude.{◌≡◌, ℕ, ◌+◌, ◌/◌, true, false, Bool, List, [], ◌∷◌, ◌++◌, map, reverse, Option, Some}
+use Rattle.std.specs.Prelude.{◌≡◌, ℕ, ◌+◌, ◌/◌, true, false, Bool, List, [], ◌∷◌, ◌++◌, map, reverse, Option}
 use Rattle.rq_model.specs.declared.record.Deed.{Deed}
 use Rattle.rq_model.specs.declared.record.Deed.TheVariants.{Append, UnlinkHead, Close}
-use Rattle.rq_model.specs.Deeds.{spelled_deed, deed_in}
+use Rattle.rq_model.specs.Deeds.{TellsItself}
 use Rattle.rq_model.specs.Legal.{start_of}
 use Rattle.rq_model.specs.Tests.{Passes}
 use Rattle.rq_page.specs.declared.cell.Cell.{Cell}
@@ -114,7 +114,7 @@ pub record IsNew (s : State) (r : Row) (u : Under) (aim : Aim) : Type 0 where
 -- a receive that is planned apart from levels is planned so.
 pub record PlansMayStart : Type 0 where
   pub deeds : (s : State) (r : Row) (u : Under) (d : Deed) → IsSound s → IsNew s r u (aims.Doing d)
-      → IsPlannedFrom s.sizes (slots_now s) u.writes (Did d) → deed_in (spelled_deed d) ≡ Some d
+      → IsPlannedFrom s.sizes (slots_now s) u.writes (Did d) → TellsItself d
       → HasWaiting s.waiting d → Passes (size_of s.sizes) (ledger_of s) (start_of r.txn (job_of d)) → MayDo s r u d
   pub inverses : (s : State) (r : Row) (u : Under) (rest : List Finished) (f : Finished) → IsSound s
       → IsNew s r u (aims.Undoing f.lsn f.deed) → IsPlannedFrom s.sizes (slots_now s) u.writes (Undid f.deed)

@@ -4,7 +4,7 @@ use Rattle.rq_model.specs.declared.txn.Txn.{Txn}
 use Rattle.rq_model.specs.declared.record.Record.{Record}
 use Rattle.rq_model.specs.Bases.{earlier}
 use Rattle.rq_model.specs.Vocabulary.{In, same_txn}
-use Rattle.rq_model.specs.Deeds.{spelled_deed, deed_in}
+use Rattle.rq_model.specs.Deeds.{TellsItself}
 use Rattle.rq_model.specs.Content.{has_end, deeds}
 use Rattle.rq_model.specs.Rules.{any_use, uses_send, uses_receive}
 use Rattle.rq_page.specs.Sizes.{Sizes, sender_count}
@@ -34,7 +34,7 @@ TellsFor (aims.Undoing lsn d) v = Unit {0}
 
 -- and what its OpEnd spells can be read
 abbrev pub ReadsFor : Aim → Type 0
-ReadsFor (aims.Doing d) = deed_in (spelled_deed d) ≡ Some d
+ReadsFor (aims.Doing d) = TellsItself d
 ReadsFor (aims.Undoing lsn d) = Unit {0}
 
 -- What is so of an operation under way, whatever else is: its plan fits the slots of its pages as they were at its

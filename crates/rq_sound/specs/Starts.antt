@@ -3,7 +3,7 @@ use Rattle.std.specs.Prelude.{◌≡◌, ℕ, ◌+◌, ◌<◌, ◌≤◌, true,
 use Rattle.rq_model.specs.declared.txn.Txn.{Txn}
 use Rattle.rq_model.specs.declared.record.Deed.{Deed}
 use Rattle.rq_model.specs.declared.record.Deed.TheVariants.{Append, UnlinkHead, Close}
-use Rattle.rq_model.specs.Deeds.{spelled_deed, deed_in}
+use Rattle.rq_model.specs.Deeds.{TellsItself}
 use Rattle.rq_page.specs.Sizes.{cell_count, sender_count}
 use Rattle.rq_views.specs.Claims.{appends_of}
 use Rattle.rq_views.specs.Groups.{on_sending_end}
@@ -51,7 +51,7 @@ pub record MayDo (s : State) (r : Row) (u : Under) (d : Deed) : Type 0 where
   pub aim : u.aim ≡ aims.Doing d
   pub forward : r.aborting ≡ false
   pub sender : deed_sender d < sender_count s.sizes
-  pub reads : deed_in (spelled_deed d) ≡ Some d
+  pub reads : TellsItself d
   pub end : IsEndFree r.txn d s.ends
   pub not_closed : on_sending_end (deed_sender d) d ≡ true
       → (view (items s.sizes s.records) (deed_sender d)).closed ≡ false

@@ -1,5 +1,5 @@
 -- A store that is opened over a legal log in which everything has ended.
-use Rattle.std.proofs.Common.{◌≡◌, ℕ, zero, suc, ◌+◌, ◌<◌, ◌≤◌, ◌-◌, ◌&&◌, ◌||◌, List, [], ◌∷◌, ◌++◌, length, map, refl, sym, ◌∙◌, ap, subst, Bool, true, false, not, Option, Some, None, inl, inr, nat_eq, cond, arith}
+use Rattle.std.proofs.Common.{◌≡◌, ℕ, zero, suc, ◌+◌, ◌<◌, ◌≤◌, ◌-◌, ◌&&◌, ◌||◌, List, [], ◌∷◌, ◌++◌, length, map, refl, sym, ◌∙◌, ap, subst, Bool, true, false, not, Option, Some, inl, inr, nat_eq, cond, arith}
 use Rattle.std.specs.List.{filter}
 use Rattle.std.specs.Prelude.{slice_index_or}
 use Rattle.std.proofs.lemmas.Bool.{cases_Bool, true≢false, false≢true, or_parts, or_from, and_parts, and_left, and_right, eqb-true, not-false, cases_eq}
@@ -10,9 +10,7 @@ use Rattle.rq_model.specs.declared.txn.Txn.{Txn}
 use Rattle.rq_model.specs.declared.txn.Sub.{Sub}
 use Rattle.rq_model.specs.declared.record.Record.{Record}
 use Rattle.rq_model.specs.declared.record.Record.TheVariants as records
-use Rattle.rq_model.specs.declared.record.Deed.{Deed}
 use Rattle.rq_model.specs.Vocabulary.{same_txn, has_txn}
-use Rattle.rq_model.specs.Deeds.{deed_in}
 use Rattle.rq_model.specs.Ledger.{Done, Ledger, after, rest_in, kept_in, sent_in, tag_of}
 use Rattle.rq_model.specs.History.Entry.{Restarted}
 use Rattle.rq_model.specs.Tests.{below, count_rest}
@@ -173,16 +171,12 @@ none_kept f (u ∷ ts) t e h = elim (cases_Bool (f u)) [
   ]
 ]
 
--- what the record of an operation's end that can be read tells
-pub ending_is : (u : Txn) (m level : ℕ) (deed : List ℕ) (d : Deed) → level ≡ 1 → deed_in deed ≡ Some d → ending (records.OpEnd u m level deed) ≡ ending_by u (Some d)
-ending_is u m level deed d one read = ap (λ l. ending_by u (cond (nat_eq l 1) (deed_in deed) None)) one ∙ ap (ending_by u) read
-
 -- a transaction that ended no operation has no deeds
 idler : (z : Sizes) (t : Txn) (log : List Record) → ReadsItsDeeds log → has_txn t (workers log) ≡ false → (open_deeds t (items z log) ≡ []) × (deeds (λ u. same_txn u t) log ≡ [])
 idler z t [] r h = (refl, refl)
 idler z t (records.PageOp u m page slot before after ∷ log) r h = idler z t log r.1 h
 idler z t (records.OpEnd u m level deed ∷ log) r h =
-    let e = ending_is u m level deed r.0.1.0 r.0.0 r.0.1.1 in
+    let e : ending (records.OpEnd u m level deed) ≡ ending_by u (Some r.0.0.0) = ap (ending_by u) r.0.0.1 in
     let p = txn_added t u (workers log) (ap (λ (x : Option Ending). has_txn t (add_txn x (workers log))) (sym e) ∙ h) in
     let ih = idler z t log r.1 p.0 in
     (rw p.1 ih.0, ap (λ (x : Option Ending). kept (λ v. same_txn v t) x (deeds (λ v. same_txn v t) log)) e ∙ rw p.1 ih.1)
@@ -283,7 +277,7 @@ idle_worker : (z : Sizes) (t : Txn) (log : List Record) → ReadsItsDeeds log �
 idle_worker z t [] r h = refl
 idle_worker z t (records.PageOp u m page slot before after ∷ log) r h = idle_worker z t log r.1 h
 idle_worker z t (records.OpEnd u m level deed ∷ log) r h =
-    let e = ending_is u m level deed r.0.1.0 r.0.0 r.0.1.1 in
+    let e : ending (records.OpEnd u m level deed) ≡ ending_by u (Some r.0.0.0) = ap (ending_by u) r.0.0.1 in
     let p = txn_added t u (workers log) (ap (λ (x : Option Ending). has_txn t (add_txn x (workers log))) (sym e) ∙ h) in
     or_from (same_txn u t) (has_deed t (items z log)) p.1 (idle_worker z t log r.1 p.0)
 idle_worker z t (_ ∷ log) r h = idle_worker z t log r.1 h

@@ -1,6 +1,6 @@
 -- A log spelled in bytes goes back to the slots and deeds that it was spelled from.
-use Rattle.std.proofs.Common.{◌≡◌, ℕ, ◌/◌, ◌%◌, ◌<◌, ◌≤◌, List, [], ◌∷◌, Some, refl, sym, ◌∙◌, ap, subst, arith}
-use Rattle.rq_model.specs.Deeds.{deed_in, spelled_deed}
+use Rattle.std.proofs.Common.{◌≡◌, ℕ, ◌/◌, ◌%◌, ◌<◌, ◌≤◌, List, [], ◌∷◌, refl, sym, ◌∙◌, ap, subst, arith}
+use Rattle.rq_model.specs.Deeds.{TellsItself}
 use Rattle.rq_page.specs.Kinds.{kind_of}
 use Rattle.rq_page.specs.Sizes.{Sizes, sender_count}
 use Rattle.rq_page.specs.Slots.{Slot, MayHold, IsSlotOf, held_in, slot_bytes}
@@ -22,7 +22,7 @@ pub record MayStandAt (z : Sizes) (a : ℕ) (x : Slot) : Type 0 where
 abbrev pub IsSpelt : Sizes → Item → Type 0
 IsSpelt z (PageOp o w) = MayStandAt z w.at w.before × MayStandAt z w.at w.after
 IsSpelt z (PageUndo o u at after) = MayStandAt z at after
-IsSpelt z (OpEnd o d) = (deed_in (spelled_deed d) ≡ Some d) × (deed_sender d < sender_count z)
+IsSpelt z (OpEnd o d) = TellsItself d × (deed_sender d < sender_count z)
 IsSpelt z _ = Unit {0}
 
 abbrev pub AreSpelt : Sizes → List Item → Type 0

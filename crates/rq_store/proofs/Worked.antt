@@ -132,10 +132,10 @@ spelt = (tt, (tt, (tt, ((has_b, undid_b), ((cell_b, none_b), (tt, (cell_b, stopp
 
 -- what its deeds tell
 one_reads : ReadsItsDeeds (spelled_log committed_one)
-one_reads = (refl, ((refl, (sends 0, refl), refl), (tt, (tt, (tt, tt)))))
+one_reads = (refl, (((sends 0, refl), refl), (tt, (tt, (tt, tt)))))
 
 two_reads : ReadsItsDeeds (spelled_log done_two)
-two_reads = ((refl, (takes 0, refl), refl), (tt, (tt, ((refl, (sends 15, refl), refl), (tt, (tt, one_reads))))))
+two_reads = (((takes 0, refl), refl), (tt, (tt, (((sends 15, refl), refl), (tt, (tt, one_reads))))))
 
 reads : ReadsItsDeeds (spelled_log restarted)
 reads = (tt, (tt, (tt, (tt, (tt, (tt, (tt, (tt, (tt, (tt, (tt, two_reads)))))))))))

@@ -1,7 +1,7 @@
 -- What a planned send and a planned receive are, over the slots that they are planned from.
 use Rattle.std.specs.Prelude.{◌≡◌, ℕ, ◌+◌, ◌<◌, ◌≤◌, true, List, reverse, Option, Some, None}
 use Rattle.rq_model.specs.declared.record.Deed.TheVariants.{Append, UnlinkHead}
-use Rattle.rq_model.specs.Deeds.{deed_in, spelled_deed}
+use Rattle.rq_model.specs.Deeds.{TellsItself}
 use Rattle.rq_page.specs.declared.cell.Cell.{Cell}
 use Rattle.rq_page.specs.declared.directory.Directory.{Directory}
 use Rattle.rq_page.specs.Sizes.{Sizes, IsCellAddress, directory_at, sender_count}
@@ -35,7 +35,7 @@ pub record IsSendPlan (z : Sizes) (q : Slots) (u : Under) (sender tag : ℕ) (bo
   pub beside : Stands_at q directory.tail old
   pub aim : u.aim ≡ Doing (Append sender (directory.sent + 1) tag directory.last_tag body)
   pub writes : reverse (writes_of z u.writes) ≡ append_writes (layout_of z) sender directory new tag body old
-  pub reads : deed_in (spelled_deed (deed_of u.aim)) ≡ Some (deed_of u.aim)
+  pub reads : TellsItself (deed_of u.aim)
 
 -- the operation takes the first message of a sender's chain, planned from these slots, and nothing of it is made
 pub record IsTakePlan (z : Sizes) (q : Slots) (u : Under) (sender : ℕ) : Type 0 where
@@ -50,7 +50,7 @@ pub record IsTakePlan (z : Sizes) (q : Slots) (u : Under) (sender : ℕ) : Type 
   pub beside : Stands_at q cell.next next
   pub aim : u.aim ≡ Doing (UnlinkHead sender (directory.received + 1) cell.tag cell.body)
   pub writes : reverse (writes_of z u.writes) ≡ unlink_head_writes (layout_of z) sender directory cell next
-  pub reads : deed_in (spelled_deed (deed_of u.aim)) ≡ Some (deed_of u.aim)
+  pub reads : TellsItself (deed_of u.aim)
 
 -- a message waits for t: its receiving end is free for t, and one waits
 abbrev pub WaitsFor : State → Txn → ℕ → Type 0

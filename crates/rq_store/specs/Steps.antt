@@ -3,7 +3,7 @@ use Rattle.std.specs.Prelude.{◌≡◌, ◌≢◌, ℕ, ◌+◌, ◌<◌, ◌�
 use Rattle.rq_model.specs.declared.txn.Txn.{Txn}
 use Rattle.rq_model.specs.declared.record.Record.{Record}
 use Rattle.rq_model.specs.declared.record.Record.TheVariants.{PageOp, OpEnd}
-use Rattle.rq_model.specs.Deeds.{spelled_deed}
+use Rattle.rq_model.specs.Deeds.{deed_level, spelled_deed}
 use Rattle.rq_model.specs.declared.record.Deed.{Deed}
 use Rattle.rq_model.specs.declared.record.Deed.TheVariants.{Append, UnlinkHead, Close}
 use Rattle.rq_model.specs.Replay.{Reply}
@@ -34,7 +34,7 @@ page_op t n w = PageOp t n (w.at / 16) (w.at % 16) w.before w.after
 
 -- the record of an operation's end
 abbrev pub op_end : Txn → ℕ → Deed → Record
-op_end t n d = OpEnd t n 1 (spelled_deed d)
+op_end t n d = OpEnd t n (deed_level d) (spelled_deed d)
 
 -- what the end of an operation gives
 abbrev pub gave_done : Deed → Reply

@@ -5,7 +5,7 @@ use Rattle.rq_model.specs.declared.record.Record.{Record}
 use Rattle.rq_model.specs.declared.record.Record.TheVariants as records
 use Rattle.rq_model.specs.Content.{content, no_group}
 use Rattle.rq_model.specs.Unended.{unfinished, lost}
-use Rattle.rq_model.specs.Deeds.{spelled_deed}
+use Rattle.rq_model.specs.Deeds.{deed_level, spelled_deed}
 use Rattle.rq_model.specs.History.{Group}
 use Rattle.rq_page.specs.Slots.{slot_bytes}
 use Rattle.rq_views.specs.Log.{Item}
@@ -21,7 +21,7 @@ use Rattle.rq_store.specs.Whole.{IsWhole}
 abbrev pub record_of : Item → Record
 record_of (PageOp o w) = records.PageOp o.txn o.number (w.at / 16) (w.at % 16) (slot_bytes w.before) (slot_bytes w.after)
 record_of (PageUndo o u at after) = records.PageUndo o.txn o.number u (at / 16) (at % 16) (slot_bytes after)
-record_of (OpEnd o d) = records.OpEnd o.txn o.number 1 (spelled_deed d)
+record_of (OpEnd o d) = records.OpEnd o.txn o.number (deed_level d) (spelled_deed d)
 record_of (OpVoid o) = records.OpVoid o.txn o.number
 record_of (CompEnd o u) = records.CompEnd o.txn o.number u
 record_of (Commit t) = records.Commit t

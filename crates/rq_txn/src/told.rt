@@ -1,7 +1,7 @@
 //! Deeds, as levels tell them.
 ghost use Rattle.std.specs.Prelude.{◌≡◌, ◌+◌, ◌≤◌, Some, drop, length};
 ghost use Rattle.byteorder.specs.Endian.{big_number};
-ghost use Rattle.rq_model.specs.Deeds.{deed_in, spelled_deed, unlink_head_in};
+ghost use Rattle.rq_model.specs.Deeds.{deed_by, deed_in, deed_level, spelled_deed, unlink_head_in};
 ghost use Rattle.rq_views.specs.Plans.{deed_sender};
 ghost use Rattle.rq_txn.specs.Told.{IsTold};
 ghost use Rattle.rq_txn.specs.Gists.{gist_in, gist_of, message_in, message_of};
@@ -9,31 +9,34 @@ ghost use Rattle.rq_txn.specs.Gists.{gist_in, gist_of, message_in, message_of};
 use byteorder::{BigEndian, ByteOrder};
 use rq_model::message::{BODY_LIMIT, Body, Message};
 use rq_model::record::{Deed, DeedBytes};
-use rq_record::decode_deed;
+use rq_record::decode_told;
 use std::marker::Model;
 
-/// A deed, in the bytes that its level told. Contracts see the deed.
+/// A deed, in the bytes that its level told, with the level's number. Contracts see the deed.
 #[derive(Clone, Copy)]
 pub struct ToldDeed {
+    level: u8,
     bytes: DeedBytes,
 }
 
 impl Model for ToldDeed {
-    ghost use Rattle.std.proofs.Common.{ap};
+    ghost use Rattle.std.proofs.Common.{ap, ◌∙◌};
     ghost use Rattle.rq_model.specs.declared.record.Deed.{Deed};
-    ghost use Rattle.rq_model.specs.Deeds.{deed_in, spelled_deed};
+    ghost use Rattle.rq_model.specs.Deeds.{deed_by, deed_level, spelled_deed};
+    ghost use Rattle.rq_model.proofs.Deeds.{told_by_its_level};
     ghost use Rattle.rq_views.specs.Items.{told_deed};
     ghost use Rattle.rq_txn.specs.Told.{IsTold};
 
     ghost Value = { Deed };
 
-    ghost view = { λ t. told_deed (deed_in t.bytes) };
+    ghost view = { λ t. told_deed (deed_by t.level t.bytes) };
 
-    ghost invariant = { λ t. IsTold t.bytes };
+    ghost invariant = { λ t. IsTold t.level t.bytes };
 
-    ghost inverse = { λ d. record { bytes = spelled_deed d } };
+    ghost inverse = { λ d. record { level = deed_level d; bytes = spelled_deed d } };
 
-    ghost inverse_ok = { λ t h. ap (λ bytes. record { bytes = bytes }) h.spelled };
+    ghost inverse_ok = { λ t h. ap (λ bytes. record { level = deed_level (told_deed (deed_by t.level t.bytes)); bytes = bytes }) h.spelled
+        ∙ ap (λ level. record { level = level; bytes = t.bytes }) (told_by_its_level t.level t.bytes _ h.reads) };
 }
 
 /// What is counted of a deed: of which kind it is, whose group it is of, and the tag of a message that was sent.
@@ -48,18 +51,25 @@ pub enum Gist {
 }
 
 impl ToldDeed {
-    /// The deed that these bytes are the spelling of.
-    pub fn new(bytes: DeedBytes) -> Self
-        requires { IsTold bytes }
-        ensures { deed_in bytes ≡ Some result }
+    /// The deed of this level that these bytes are the spelling of.
+    pub fn new(level: u8, bytes: DeedBytes) -> Self
+        requires { IsTold level bytes }
+        ensures { deed_by level bytes ≡ Some result }
     {
-        ToldDeed { bytes }
+        ToldDeed { level, bytes }
+    }
+
+    /// The number of its level.
+    pub fn level(&self) -> u8
+        ensures { result ≡ deed_level self.now }
+    {
+        self.level
     }
 
     /// Its bytes.
     pub fn bytes(&self) -> &DeedBytes
         ensures spelled { result.now ≡ spelled_deed self.now }
-        ensures reads { deed_in result.now ≡ Some self.now }
+        ensures reads { deed_by (deed_level self.now) result.now ≡ Some self.now }
     {
         &self.bytes
     }
@@ -68,21 +78,21 @@ impl ToldDeed {
     pub fn deed(&self) -> Deed
         ensures { result ≡ self.now }
     {
-        decode_deed(self.bytes.as_slice()).unwrap()
+        decode_told(self.level, self.bytes.as_slice()).unwrap()
     }
 
     /// What is counted of it.
     pub fn gist(&self) -> Gist
         ensures { result ≡ gist_of self.now }
     {
-        gist_in(self.bytes.as_slice()).unwrap()
+        gist_in(self.level, self.bytes.as_slice()).unwrap()
     }
 
     /// The message that was taken, where one was.
     pub fn message(&self) -> Option<Message>
         ensures { result ≡ message_of self.now }
     {
-        message_in(self.bytes.as_slice())
+        message_in(self.level, self.bytes.as_slice())
     }
 
     /// Whose group it is of.
@@ -97,8 +107,18 @@ impl ToldDeed {
     }
 }
 
-// What is counted of the deed that these bytes tell; none where they tell none.
-fn gist_in(bytes: &[u8]) -> Option<Gist>
+// What is counted of the deed that a level tells by these bytes; none where it tells none.
+fn gist_in(level: u8, bytes: &[u8]) -> Option<Gist>
+    ensures { result ≡ gist_in (deed_by level bytes.now) }
+{
+    match level {
+        1 => chain_gist(bytes),
+        _ => None,
+    }
+}
+
+// What is counted of a deed of chains.
+fn chain_gist(bytes: &[u8]) -> Option<Gist>
     ensures { result ≡ gist_in (deed_in bytes.now) }
 {
     match bytes {
@@ -134,8 +154,18 @@ fn gist_in(bytes: &[u8]) -> Option<Gist>
     }
 }
 
-// The message that was taken by the deed that these bytes tell; none where they tell no such deed.
-fn message_in(bytes: &[u8]) -> Option<Message>
+// The message that was taken by the deed that a level tells by these bytes; none where it tells no such deed.
+fn message_in(level: u8, bytes: &[u8]) -> Option<Message>
+    ensures { result ≡ message_in (deed_by level bytes.now) }
+{
+    match level {
+        1 => chain_message(bytes),
+        _ => None,
+    }
+}
+
+// The message that was taken by a deed of chains.
+fn chain_message(bytes: &[u8]) -> Option<Message>
     ensures { result ≡ message_in (deed_in bytes.now) }
 {
     match bytes {

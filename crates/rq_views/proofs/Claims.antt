@@ -8,7 +8,7 @@ use Rattle.rq_model.specs.declared.record.Deed.{Deed}
 use Rattle.rq_model.specs.declared.record.Deed.TheVariants.{Append, UnlinkHead, Close}
 use Rattle.rq_model.specs.declared.record.Record.{Record}
 use Rattle.rq_model.specs.declared.record.Record.TheVariants as records
-use Rattle.rq_model.specs.Deeds.{deed_in}
+use Rattle.rq_model.specs.Deeds.{deed_by}
 use Rattle.rq_model.specs.Tests.{below}
 use Rattle.rq_model.proofs.Counts.{sum_none}
 use Rattle.rq_page.specs.Sizes.{Sizes, cell_count, sender_count}
@@ -68,7 +68,7 @@ claimed_is z [] g k = let e = sum_none (sender_count z) in omega (arith, e)
 claimed_is z (records.PageOp t n page slot before after ∷ log) g k = claimed_is z log g.1 k.1
 claimed_is z (records.OpEnd t n level deed ∷ log) g k =
     let ih = claimed_is z log g.1 k.1 in
-    let d : Deed = told_deed (deed_in deed) in
+    let d : Deed = told_deed (deed_by level deed) in
     let a = turned z log (operation t n) (Did d) g.1 k.0 g.0.plan in
     let b = (did_counts d).0 in
     let c = (did_counts d).1 in

@@ -1,13 +1,13 @@
 -- What the chains of committed transactions hold is the content of the log.
-use Rattle.std.proofs.Common.{◌≡◌, ℕ, ◌+◌, ◌-◌, ◌≤◌, List, [], ◌∷◌, length, refl, sym, ◌∙◌, ap, subst, true, false, cond, Some, None, inl, inr, arith, ◌||◌, nat_eq}
-use Rattle.std.proofs.lemmas.Bool.{cases_Bool, or_parts, or_left, eq-eqb}
+use Rattle.std.proofs.Common.{◌≡◌, ℕ, ◌+◌, ◌-◌, ◌≤◌, List, [], ◌∷◌, length, refl, sym, ◌∙◌, ap, subst, true, false, cond, Option, Some, inl, inr, arith, ◌||◌}
+use Rattle.std.proofs.lemmas.Bool.{cases_Bool, or_parts, or_left}
 use Rattle.std.proofs.lemmas.List.{length-map, length-drop}
 use Rattle.rq_model.specs.declared.txn.Txn.{Txn}
 use Rattle.rq_model.specs.declared.record.Deed.{Deed}
 use Rattle.rq_model.specs.declared.record.Record.{Record}
 use Rattle.rq_model.specs.declared.record.Record.TheVariants.{PageOp, PageUndo, OpEnd, OpVoid, CompEnd, Commit, Restart, AbortEnd, Base}
 use Rattle.rq_model.specs.Vocabulary.{same_txn}
-use Rattle.rq_model.specs.Deeds.{deed_in}
+use Rattle.rq_model.specs.Deeds.{deed_by}
 use Rattle.rq_model.specs.History.{Group}
 use Rattle.rq_model.specs.Content.{Said, said, ending_by, kept, deeds, content, has_commit, has_end, added, removed, shape, with_own}
 use Rattle.rq_model.specs.Rules.{KeepsRules}
@@ -23,16 +23,15 @@ use Rattle.rq_views.specs.Committed.{IsViewOf, message_of}
 use Rattle.rq_views.proofs.Committed.{say, committed_own}
 
 -- the deeds of a transaction that has not ended and undid nothing are those that its OpEnds tell
-told_end : (t u : Txn) (n : ℕ) (level : ℕ) (bytes : List ℕ) (d : Deed) (ps : List Placed) (ds : List Said) → level ≡ 1 → deed_in bytes ≡ Some d → say ps ≡ ds
-    → say (cond (same_txn u t) (record { lsn = n; deed = told_deed (deed_in bytes) } ∷ ps) ps) ≡ kept (only t) (ending_by u (cond (nat_eq level 1) (deed_in bytes) None)) ds
-told_end t u n level bytes d ps ds l e h =
-    let one : nat_eq level 1 ≡ true = eq-eqb level 1 l in
-    rw (one, e) (elim (cases_Bool (same_txn u t)) [ inl y ↦ rw y (ap (λ x. said d ∷ x) h) | inr k ↦ rw k h ])
+told_end : (t u : Txn) (n : ℕ) (told : Option Deed) (d : Deed) (ps : List Placed) (ds : List Said) → told ≡ Some d → say ps ≡ ds
+    → say (cond (same_txn u t) (record { lsn = n; deed = told_deed told } ∷ ps) ps) ≡ kept (only t) (ending_by u told) ds
+told_end t u n told d ps ds e h =
+    rw e (elim (cases_Bool (same_txn u t)) [ inl y ↦ rw y (ap (λ x. said d ∷ x) h) | inr k ↦ rw k h ])
 
 pub own_deeds : (z : Sizes) (t : Txn) (log : List Record) → ReadsItsDeeds log → has_end log t ≡ false → has_undone log t ≡ false → say (open_deeds t (items z log)) ≡ deeds (only t) log
 own_deeds z t [] g e n = refl
 own_deeds z t (OpEnd u k level bytes ∷ log) g e n =
-    told_end t u (length (items z log) + 1) level bytes g.0.1.0 (open_deeds t (items z log)) (deeds (only t) log) g.0.0 g.0.1.1 (own_deeds z t log g.1 e n)
+    told_end t u (length (items z log) + 1) (deed_by level bytes) g.0.0.0 (open_deeds t (items z log)) (deeds (only t) log) g.0.0.1 (own_deeds z t log g.1 e n)
 own_deeds z t (CompEnd u k undone ∷ log) g e n = elim (cases_Bool (same_txn u t)) [
   | inl y ↦ let bad : true ≡ false = rw y at n in absurd (cc)
   | inr m ↦ let rest : has_undone log t ≡ false = rw m at n in rw m (own_deeds z t log g.1 e rest)

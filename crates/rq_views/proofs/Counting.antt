@@ -12,7 +12,7 @@ use Rattle.std.proofs.lemmas.List.{length-append, length-drop}
 use Rattle.std.proofs.lemmas.List.Sums.{length-filter}
 use Rattle.std.proofs.lemmas.Bool.{cases_Bool, cases_eq, cases_order, cond-true, cond-false, eq-eqb}
 use Rattle.rq_model.specs.Vocabulary.{same_txn}
-use Rattle.rq_model.specs.Deeds.{deed_in}
+use Rattle.rq_model.specs.Deeds.{deed_by}
 use Rattle.rq_model.specs.Tests.{below}
 use Rattle.rq_model.proofs.Counts.{sum_same, sum_change, sum_none}
 use Rattle.rq_page.specs.Sizes.{Sizes, IsCellAddress, cell_count, cell_at, place_of, sender_count}
@@ -221,7 +221,7 @@ pub deeds_in_store : (z : Sizes) (t : Txn) (log : List Record) → InStore z log
 deeds_in_store z t [] h = tt
 deeds_in_store z t (records.OpEnd u n level deed ∷ log) h =
     let ps = open_deeds t (items z log) in
-    let p : Placed = record { lsn = length (items z log) + 1; deed = told_deed (deed_in deed) } in
+    let p : Placed = record { lsn = length (items z log) + 1; deed = told_deed (deed_by level deed) } in
     choose_store z (same_txn u t) (p ∷ ps) ps (h.0, deeds_in_store z t log h.1) (deeds_in_store z t log h.1)
 deeds_in_store z t (records.CompEnd u n undone ∷ log) h =
     let ps = open_deeds t (items z log) in
@@ -267,6 +267,6 @@ formatted_counts z =
 pub quiet_counts : (z : Sizes) (log : List Record) → IsLegalLog (layout_of z) (items z log) → InStore z log
     → count_used z (state_of (layout_of z) (items z log)).quiet ≡ sum_by (λ s. length (view (items z log) s).messages) (below (sender_count z))
 quiet_counts z [] h k = formatted_counts z ∙ sym (sum_none (sender_count z))
-quiet_counts z (records.OpEnd t n level deed ∷ log) h k = turn_counts z log (operation t n) (Did (told_deed (deed_in deed))) h.1 k.1 k.0 h.0.plan (quiet_counts z log h.1 k.1)
+quiet_counts z (records.OpEnd t n level deed ∷ log) h k = turn_counts z log (operation t n) (Did (told_deed (deed_by level deed))) h.1 k.1 k.0 h.0.plan (quiet_counts z log h.1 k.1)
 quiet_counts z (records.CompEnd t n undone ∷ log) h k = undone_counts z log (operation t n) undone (open_deeds t (items z log)) h.1 k.1 (deeds_in_store z t log k.1) h.0.plan (quiet_counts z log h.1 k.1)
 quiet_counts z (_ ∷ log) h k = quiet_counts z log h.1 k.1

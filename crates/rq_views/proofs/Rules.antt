@@ -1,6 +1,6 @@
 -- Where only the holder of an end uses it, nobody else has anything open there, and what it takes is there.
-use Rattle.std.proofs.Common.{◌≡◌, ◌≢◌, ℕ, ◌+◌, ◌-◌, ◌<◌, ◌||◌, List, [], ◌∷◌, length, refl, sym, ◌∙◌, ap, subst, Bool, true, false, not, cond, nat_eq, Some, None, inl, inr, arith}
-use Rattle.std.proofs.lemmas.Bool.{cases_Bool, true≢false, false≢true, eq-eqb, eqb-true, and_from, or_parts}
+use Rattle.std.proofs.Common.{◌≡◌, ◌≢◌, ℕ, ◌+◌, ◌-◌, ◌<◌, ◌||◌, List, [], ◌∷◌, length, refl, sym, ◌∙◌, ap, subst, Bool, true, false, not, cond, Option, Some, inl, inr, arith}
+use Rattle.std.proofs.lemmas.Bool.{cases_Bool, true≢false, false≢true, eqb-true, and_from, or_parts}
 use Rattle.std.proofs.lemmas.List.{length-map, length-drop}
 use Rattle.rq_model.specs.declared.txn.Txn.{Txn}
 use Rattle.rq_model.specs.declared.record.Deed.{Deed}
@@ -8,7 +8,7 @@ use Rattle.rq_model.specs.declared.record.Deed.TheVariants.{Append, UnlinkHead, 
 use Rattle.rq_model.specs.declared.record.Record.{Record}
 use Rattle.rq_model.specs.declared.record.Record.TheVariants as records
 use Rattle.rq_model.specs.Vocabulary.{same_txn}
-use Rattle.rq_model.specs.Deeds.{deed_in}
+use Rattle.rq_model.specs.Deeds.{deed_by}
 use Rattle.rq_model.specs.History.{Group}
 use Rattle.rq_model.specs.Content.{Said, said, kept, ending_by, deeds, content, has_end, has_commit, removed, added, shape}
 use Rattle.rq_model.specs.Rules.{holds, any_use, uses_send, uses_receive, MayEnd, EndingMay, KeepsRules}
@@ -51,16 +51,14 @@ ended z t (records.AbortEnd u ∷ log) k h = elim (cases_Bool (same_txn u t)) [
 ended z t (_ ∷ log) k h = ended z t log k.1 h
 
 pub one_unused : (f : Said → Bool) (p : Deed → Bool) → ((d : Deed) → f (said d) ≡ p d)
-    → (t u : Txn) (n level : ℕ) (bytes : List ℕ) (d : Deed) (ps : List Placed) (ds : List Said) → level ≡ 1
-    → deed_in bytes ≡ Some d
+    → (t u : Txn) (n : ℕ) (told : Option Deed) (d : Deed) (ps : List Placed) (ds : List Said) → told ≡ Some d
     → (any_use f ds ≡ false → side p ps ≡ [])
-    → any_use f (kept (λ v. same_txn v t) (ending_by u (cond (nat_eq level 1) (deed_in bytes) None)) ds) ≡ false
-    → side p (cond (same_txn u t) (record { lsn = n; deed = told_deed (deed_in bytes) } ∷ ps) ps) ≡ []
-one_unused f p same t u n level bytes d ps ds l e k h =
-    let one : nat_eq level 1 ≡ true = eq-eqb level 1 l in
+    → any_use f (kept (λ v. same_txn v t) (ending_by u told) ds) ≡ false
+    → side p (cond (same_txn u t) (record { lsn = n; deed = told_deed told } ∷ ps) ps) ≡ []
+one_unused f p same t u n told d ps ds e k h =
     elim (cases_Bool (same_txn u t)) [
-      | inl y ↦ let s = or_parts (f (said d)) (any_use f ds) (rw (one, e, y) at h) in rw (e, y, sym (same d) ∙ s.0) (k s.1)
-      | inr m ↦ rw m (k (rw (one, e, m) at h))
+      | inl y ↦ let s = or_parts (f (said d)) (any_use f ds) (rw (e, y) at h) in rw (e, y, sym (same d) ∙ s.0) (k s.1)
+      | inr m ↦ rw m (k (rw (e, m) at h))
     ]
 
 -- who never used an end has nothing open at it
@@ -69,8 +67,8 @@ pub unused : (f : Said → Bool) (p : Deed → Bool) → ((d : Deed) → f (said
     → side p (open_deeds t (items z log)) ≡ []
 unused f p same z t [] g e = refl
 unused f p same z t (records.OpEnd u k level bytes ∷ log) g e =
-    one_unused f p same t u (length (items z log) + 1) level bytes g.0.1.0 (open_deeds t (items z log))
-    (deeds (λ v. same_txn v t) log) g.0.0 g.0.1.1 (unused f p same z t log g.1) e
+    one_unused f p same t u (length (items z log) + 1) (deed_by level bytes) g.0.0.0 (open_deeds t (items z log))
+    (deeds (λ v. same_txn v t) log) g.0.0.1 (unused f p same z t log g.1) e
 unused f p same z t (records.CompEnd u k undone ∷ log) g e = elim (cases_Bool (same_txn u t)) [
   | inl y ↦ rw y (rest_alone p (open_deeds t (items z log)) (unused f p same z t log g.1 e))
   | inr m ↦ rw m (unused f p same z t log g.1 e)
@@ -153,16 +151,14 @@ some_open z [] u ws h e = h
 some_open z (p ∷ ps) u ws h e = cc
 
 -- an OpEnd whose deed can be read
-end_turn : (z : Sizes) (log : List Record) (t : Txn) (level : ℕ) (bytes : List ℕ) (d : Deed) → level ≡ 1
-    → deed_in bytes ≡ Some d → IsLegalLog (layout_of z) (items z log) → KeepsRules log → ReadsItsDeeds log → has_undone log t ≡ false
-    → EndingMay log (ending_by t (cond (nat_eq level 1) (deed_in bytes) None))
-    → TellsView (told_deed (deed_in bytes)) (view (items z log) (deed_sender (told_deed (deed_in bytes)))) → (s : ℕ)
-    → MayTurn (items z log) t (told_deed (deed_in bytes)) s
-end_turn z log t level bytes d l e legal rules reads forward may told s =
-    let one : nat_eq level 1 ≡ true = eq-eqb level 1 l in
-    let here : (s : ℕ) → MayEnd log s t (said d) = rw (one, e) at may in
-    let tells : TellsView d (view (items z log) (deed_sender d)) = rw e at told in
-    rw e (turn z log t d legal rules reads forward here tells s)
+end_turn : (z : Sizes) (log : List Record) (t : Txn) (told : Option Deed) (d : Deed) → told ≡ Some d → IsLegalLog (layout_of z) (items z log) → KeepsRules log → ReadsItsDeeds log → has_undone log t ≡ false
+    → EndingMay log (ending_by t told)
+    → TellsView (told_deed told) (view (items z log) (deed_sender (told_deed told))) → (s : ℕ)
+    → MayTurn (items z log) t (told_deed told) s
+end_turn z log t told d e legal rules reads forward may tells s =
+    let here : (s : ℕ) → MayEnd log s t (said d) = rw e at may in
+    let over : TellsView d (view (items z log) (deed_sender d)) = rw e at tells in
+    rw e (turn z log t d legal rules reads forward here over s)
 
 -- the rule of groups over views
 pub rules_groups : (z : Sizes) (log : List Record) → IsLegalLog (layout_of z) (items z log) → KeepsRules log → ReadsItsDeeds log
@@ -172,5 +168,5 @@ rules_groups z (records.PageOp t n page slot before after ∷ log) g k r h = (tt
 rules_groups z (records.CompEnd t n u ∷ log) g k r h =
     (some_open z (open_deeds t (items z log)) u _ g.0.plan, rules_groups z log g.1 k.2 r.1 h.1)
 rules_groups z (records.OpEnd t n level deed ∷ log) g k r h =
-    (end_turn z log t level deed r.0.1.0 r.0.0 r.0.1.1 g.1 k.2 r.1 r.0.2 k.0 h.0, rules_groups z log g.1 k.2 r.1 h.1)
+    (end_turn z log t (deed_by level deed) r.0.0.0 r.0.0.1 g.1 k.2 r.1 r.0.1 k.0 h.0, rules_groups z log g.1 k.2 r.1 h.1)
 rules_groups z (_ ∷ log) g k r h = (tt, rules_groups z log g.1 k.2 r.1 h.1)

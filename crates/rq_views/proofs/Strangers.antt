@@ -3,11 +3,11 @@ use Rattle.rq_model.specs.declared.txn.Txn.{Txn}
 use Rattle.rq_model.specs.declared.record.Deed.{Deed}
 use Rattle.rq_model.specs.declared.record.Record.{Record}
 use Rattle.rq_model.specs.declared.record.Record.TheVariants as records
-use Rattle.std.proofs.Common.{◌≡◌, ℕ, ◌==◌, ◌||◌, List, [], ◌∷◌, false, cond, refl, sym, ap, ◌∙◌, Option, None, Some, nat_eq}
+use Rattle.std.proofs.Common.{◌≡◌, ℕ, ◌==◌, ◌||◌, List, [], ◌∷◌, false, refl, sym, ap, ◌∙◌, Option, None, Some}
 use Rattle.std.proofs.lemmas.Bool.{or_parts, or_from, and_left}
 use Rattle.std.proofs.Math.Bool.{or-false}
 use Rattle.rq_model.specs.Vocabulary.{same_txn}
-use Rattle.rq_model.specs.Deeds.{deed_in}
+use Rattle.rq_model.specs.Deeds.{deed_by}
 use Rattle.rq_model.specs.Content.{Said, ending, ending_by, kept, deeds}
 use Rattle.rq_model.specs.Unended.{any_record}
 use Rattle.rq_model.specs.Commits.{ops_told, told}
@@ -81,7 +81,7 @@ kept_other t u None ds h = refl
 kept_other t u (Some d) ds h = rw h refl
 
 pub told_other : (t : Txn) (r : Record) (ds : List Said) → mentions t r ≡ false → kept (λ v. same_txn v t) (ending r) ds ≡ ds
-told_other t (records.OpEnd u k level deed) ds h = kept_other t u (cond (nat_eq level 1) (deed_in deed) None) ds h
+told_other t (records.OpEnd u k level deed) ds h = kept_other t u (deed_by level deed) ds h
 told_other t _ ds h = refl
 
 pub stranger_said : (t : Txn) (log : List Record) → IsStranger t log → deeds (λ v. same_txn v t) log ≡ []

@@ -145,7 +145,7 @@ refused = record {
   gap = λ h. let e = h refl in omega (arith, e);
   settled = refl;
   not_ended = λ h. false≢true (h.ended t2 refl);
-  deed_after_undo = λ log t n m k level deed h. (let e : true ≡ false = rw (same_self t) at h.2 in true≢false e);
+  deed_after_undo = λ log t n m k level deed h. (let e : true ≡ false = rw (same_self t) at h.1 in true≢false e);
   commit_after_undo = λ log t m k h. (let e : true ≡ false = rw (same_self t) at h in true≢false e);
   undo_met = ((refl, refl, refl), ([], refl, refl), ((8, 105 ∷ []) ∷ [], refl, refl));
   undo_not_met = two_takes;

@@ -4,7 +4,7 @@ use Rattle.rq_model.specs.declared.txn.Txn.{Txn}
 use Rattle.rq_model.specs.declared.record.Record.{Record}
 use Rattle.rq_model.specs.declared.record.Record.TheVariants as records
 use Rattle.rq_model.specs.Vocabulary.{same_txn}
-use Rattle.rq_model.specs.Deeds.{deed_in}
+use Rattle.rq_model.specs.Deeds.{deed_by}
 use Rattle.rq_model.specs.Unended.{any_record}
 use Rattle.rq_page.specs.Sizes.{Sizes, IsCellAddress, sender_count, sender_at}
 use Rattle.rq_page.specs.Slots.{Slot, IsSlotOf}
@@ -17,7 +17,7 @@ use Rattle.rq_views.specs.Items.{told_deed}
 abbrev pub InStoreOne : Sizes → Record → Type 0
 InStoreOne z (records.PageOp t n page slot before after) = IsSlotOf z page slot after
 InStoreOne z (records.PageUndo t n undone page slot after) = IsSlotOf z page slot after
-InStoreOne z (records.OpEnd t n level deed) = deed_sender (told_deed (deed_in deed)) < sender_count z
+InStoreOne z (records.OpEnd t n level deed) = deed_sender (told_deed (deed_by level deed)) < sender_count z
 InStoreOne z _ = Unit {0}
 
 -- every record of the log is of the store

@@ -7,7 +7,7 @@ use Rattle.rq_model.specs.declared.record.Deed.TheVariants.{Close}
 use Rattle.rq_model.specs.declared.record.Record.{Record}
 use Rattle.rq_model.specs.declared.record.Record.TheVariants as records
 use Rattle.rq_model.specs.Vocabulary.{same_txn}
-use Rattle.rq_model.specs.Deeds.{deed_in}
+use Rattle.rq_model.specs.Deeds.{deed_by}
 use Rattle.rq_page.specs.Sizes.{Sizes, address, directory_at, sender_at, sender_count}
 use Rattle.rq_page.specs.Slots.{Slot, held_in}
 use Rattle.rq_page.specs.Slots.Slot.{Free, Sender}
@@ -28,7 +28,7 @@ item_of z (records.PageOp t n page slot before after) = PageOp (operation t n)
     (record { at = address page slot; before = held_in z page before; after = held_in z page after })
 item_of z (records.PageUndo t n undone page slot after) = PageUndo (operation t n) undone (address page slot)
     (held_in z page after)
-item_of z (records.OpEnd t n level deed) = OpEnd (operation t n) (told_deed (deed_in deed))
+item_of z (records.OpEnd t n level deed) = OpEnd (operation t n) (told_deed (deed_by level deed))
 item_of z (records.OpVoid t n) = OpVoid (operation t n)
 item_of z (records.CompEnd t n undone) = CompEnd (operation t n) undone
 item_of z (records.Commit t) = Commit t
@@ -62,11 +62,9 @@ abbrev pub has_undone : List Record → Txn → Bool
 has_undone [] t = false
 has_undone (r ∷ log) t = cond (compensates t r) true (has_undone log t)
 
--- an OpEnd is of the chain level and its deed can be read; a transaction that undid something does nothing more and
--- doesn't commit
+-- the deed of an OpEnd can be read; a transaction that undid something does nothing more and doesn't commit
 abbrev pub ReadsOne : List Record → Record → Type 0
-ReadsOne log (records.OpEnd t n level deed) =
-    (level ≡ 1) × ((d : Deed) × (deed_in deed ≡ Some d)) × (has_undone log t ≡ false)
+ReadsOne log (records.OpEnd t n level deed) = ((d : Deed) × (deed_by level deed ≡ Some d)) × (has_undone log t ≡ false)
 ReadsOne log (records.Commit t) = has_undone log t ≡ false
 ReadsOne log _ = Unit {0}
 

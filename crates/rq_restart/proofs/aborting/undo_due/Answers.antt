@@ -1,6 +1,7 @@
 use Rattle.std.proofs.Common.{◌≡◌, ℕ, ◌∷◌, ◌+◌, ◌≤◌, inr, ◌^◌, rules, length, take, inl, refl, ◌∙◌, sym, ap, subst, arith}
 use Rattle.std.proofs.lemmas.Bool.{cases_lt}
 use Rattle.rq_model.specs.declared.record.Record.{Record}
+use Rattle.rq_model.specs.Deeds.{deed_by}
 use Rattle.rq_model.specs.Vocabulary.{In}
 use Rattle.rq_page.specs.Sizes.{Sizes}
 use Rattle.rq_views.specs.Stored.{slots_in}
@@ -59,7 +60,7 @@ returns-in_err-make_all-clause-stops g c =
     let first = c.requires.first in
     let refusal = c.in_err-make_all.field-0.0 in
     let number : n ≡ number_of d.txn c.args.analysis.now.numbers + 1 = (let e : c.in-Some.operation ≡ c.greatest.result + 1 = search rules in e ∙ ap (λ (m : ℕ). m + 1) c.greatest.ensures) in
-    let back : IsTakingBack z (slots_in z old.images) d.deed ws = subst (IsTakingBack z (slots_in z old.images) d.deed) (sym c.deref.ensures.value) c.in_ok-writes.ensures.back in
+    let back : IsTakingBack z (slots_in z old.images) (deed_by d.level d.deed) ws = subst (IsTakingBack z (slots_in z old.images) (deed_by d.level d.deed)) (sym c.deref.ensures.value) c.in_ok-writes.ensures.back in
     let begun = begin_shown z log old c.args.analysis.now c.requires.found d first.0 first.1 c.requires.none ws n back number in
     let planned : IsPlannedOn z (RepeatedSince z log (paged old) log) d ws = planned_here z log (paged old) d ws back in
     let next : IsTakenNext log d n = taken_next z log old c.args.analysis.now c.requires.found d first.0 first.1 c.requires.none n number in
@@ -101,7 +102,7 @@ returns-in_err-append-clause-stops g c =
     let r : Record = comp_end d.txn n d.lsn in
     let refusal = c.in_err-append.field-0.0 in
     let number : n ≡ number_of d.txn c.args.analysis.now.numbers + 1 = (let e : c.in-Some.operation ≡ c.greatest.result + 1 = search rules in e ∙ ap (λ (m : ℕ). m + 1) c.greatest.ensures) in
-    let back : IsTakingBack z (slots_in z old.images) d.deed ws = subst (IsTakingBack z (slots_in z old.images) d.deed) (sym c.deref.ensures.value) c.in_ok-writes.ensures.back in
+    let back : IsTakingBack z (slots_in z old.images) (deed_by d.level d.deed) ws = subst (IsTakingBack z (slots_in z old.images) (deed_by d.level d.deed)) (sym c.deref.ensures.value) c.in_ok-writes.ensures.back in
     let begun = begin_shown z log old c.args.analysis.now c.requires.found d first.0 first.1 c.requires.none ws n back number in
     let all = IsShownWithin mid pages d n ws (length ws) in
     let step : StepStops (length mid) (Belongs z mid r (paged pages)) refusal = subst (λ y. StepStops (length mid) (Belongs y mid r (paged pages)) refusal) made.stays.sizes c.in_err-append.ensures.stops in
@@ -128,7 +129,7 @@ returns-clause-gone_on g c =
     let last = c.in_ok-append.ensures in
     let r : Record = comp_end d.txn n d.lsn in
     let number : n ≡ number_of d.txn c.args.analysis.now.numbers + 1 = (let e : c.in-Some.operation ≡ c.greatest.result + 1 = search rules in e ∙ ap (λ (m : ℕ). m + 1) c.greatest.ensures) in
-    let back : IsTakingBack z (slots_in z old.images) d.deed ws = subst (IsTakingBack z (slots_in z old.images) d.deed) (sym c.deref.ensures.value) c.in_ok-writes.ensures.back in
+    let back : IsTakingBack z (slots_in z old.images) (deed_by d.level d.deed) ws = subst (IsTakingBack z (slots_in z old.images) (deed_by d.level d.deed)) (sym c.deref.ensures.value) c.in_ok-writes.ensures.back in
     let begun = begin_shown z log old c.args.analysis.now c.requires.found d first.0 first.1 c.requires.none ws n back number in
     let before = IsShownWithin log old d n ws 0 in
     let all = IsShownWithin mid pages d n ws (length ws) in

@@ -2,6 +2,7 @@ use Rattle.std.proofs.Common.{◌≡◌, ◌+◌, refl, sym, ap, ◌∙◌, subs
 use Rattle.rq_store.specs.State.{State}
 use Rattle.rq_engine.specs.Answers.{IsUnderWay}
 use Rattle.rq_model.specs.Deeds.{spelled_deed}
+use Rattle.rq_model.proofs.Deeds.{has_level}
 use Rattle.rq_engine.proofs.Calls.{AllMade, going_range, going_owed, end_fits, end_room, end_kept}
 use Rattle.rq_txn.specs.declared.Aim.TheVariants.{Doing}
 use Rattle.rq_engine.proofs.Opened.{state_is}
@@ -15,7 +16,8 @@ append-lsn-requires-clause-record g c =
     let low = f.0 in
     let high = f.1 in
     let d : length c.bytes.result.now ≡ length (spelled_deed c.args.deed.now) = ap length c.bytes.ensures.spelled in
-    (r.0, r.1, omega arith, omega (arith, low, d), omega (arith, high, d))
+    let some = has_level c.args.deed.now in
+    (r.0, r.1, omega (arith, some), omega (arith, low, d), omega (arith, high, d))
 
 pub append-lsn-requires-clause-room : goal.append-lsn-requires-clause-room
 append-lsn-requires-clause-room g c =

@@ -1,7 +1,7 @@
-use Rattle.std.proofs.Common.{rules, ◌≡◌, ◌<◌, ◌≤◌, length, refl, sym, ◌∙◌, ap, subst, arith, Some}
+use Rattle.std.proofs.Common.{rules, ◌≡◌, ◌<◌, ◌≤◌, length, refl, sym, ◌∙◌, ap, subst, arith}
 use Rattle.std.specs.Global.{Vec}
 use Rattle.std.specs.Vec.{vec_len}
-use Rattle.rq_model.specs.Deeds.{deed_in, spelled_deed}
+use Rattle.rq_model.specs.Deeds.{deed_by, spelled_deed, TellsItself}
 use Rattle.rq_page.specs.Sizes.{sender_count}
 use Rattle.rq_views.specs.Items.{told_deed}
 use Rattle.rq_views.specs.Plans.{deed_sender}
@@ -18,7 +18,7 @@ items_count v = search rules
 pub launch-requires-clause-fits : goal.launch-requires-clause-fits
 launch-requires-clause-fits g c =
     let s = c.args.self.now.state in
-    let d : told_deed (deed_in c.args.plan.deed) ≡ c.new.result = ap told_deed c.new.ensures in
+    let d : told_deed (deed_by c.args.level c.args.plan.deed) ≡ c.new.result = ap told_deed c.new.ensures in
     let spelled : spelled_deed c.new.result ≡ c.args.plan.deed = ap spelled_deed (sym d) ∙ c.requires.told.spelled in
     let bytes : length c.as_slice.result.now ≡ length c.args.plan.deed = ap length c.as_slice.ensures.bytes in
     let size : length (spelled_deed c.new.result) ≡ length c.args.plan.deed = ap length spelled in
@@ -26,7 +26,7 @@ launch-requires-clause-fits g c =
     let within = c.as_slice.ensures.within in
     let sender : deed_sender c.new.result < sender_count s.sizes = subst (λ e. deed_sender e < sender_count s.sizes) d c.requires.fits.sender in
     let some : 1 ≤ length (spelled_deed c.new.result) = subst (λ e. 1 ≤ length (spelled_deed e)) d c.requires.fits.some in
-    let reads : deed_in (spelled_deed c.new.result) ≡ Some c.new.result = subst (λ e. deed_in (spelled_deed e) ≡ Some e) d c.requires.fits.reads in
+    let reads : TellsItself c.new.result = subst TellsItself d c.requires.fits.reads in
     let fits : EndFits (Doing c.new.result) = (some, omega (arith, size, bytes, within), reads) in
     record {
       made = refl;

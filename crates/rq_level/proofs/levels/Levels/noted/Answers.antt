@@ -1,7 +1,21 @@
-use Rattle.rq_level.proofs.OneLevel.{one_noted}
+use Rattle.std.proofs.Common.{◌≡◌, ◌∙◌, length, sym, ap, arith}
+use Rattle.std.proofs.lemmas.List.{length-map}
+use Rattle.rq_level.proofs.OneLevel.{all_told, none_told, one_told}
 use Rattle.rq_level.proofs.levels.Levels.noted.Goals as goal
 
+pub loop-level-init : goal.loop-level-init
+loop-level-init g c = none_told c.args.at c.args.bytes.now c.args.self.now
+
+pub loop-level-preserved : goal.loop-level-preserved
+loop-level-preserved g c =
+    let n : length c.args.self.now ≡ length c.self.inside.all.items = ap length (sym c.self.view_is) ∙ length-map c.self.inside.all.items g.B.Level.kept in
+    let end = c.len-level-end.ensures in
+    let below = c.loop-level-test.true in
+    one_told c.loop-level.level c.args.at c.args.bytes.now c.args.self.now c.loop-level.self c.tell.new.self c.loop-level.invariant (omega (arith, n, end, below)) c.tell.ensures
+
 pub returns : goal.returns
-returns g c = one_noted g.B.Level.kept g.B.Level.level c.self.inside.all.items c.args.level c.index_mut-it.result.now c.noted.new.self c.args.self.now
-    (λ m k. m.note k c.args.at c.args.bytes.now)
-    c.self.view_is c.index_mut-it.ensures.value c.requires c.self.invariant c.noted.ensures.kept
+returns g c =
+    let n : length c.args.self.now ≡ length c.self.inside.all.items = ap length (sym c.self.view_is) ∙ length-map c.self.inside.all.items g.B.Level.kept in
+    let end = c.len-level-end.ensures in
+    let above = c.loop-level-test.false in
+    all_told c.args.at c.loop-level.level c.args.bytes.now c.args.self.now c.loop-level.self c.loop-level.invariant (omega (arith, n, end, above))
