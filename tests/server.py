@@ -545,31 +545,36 @@ def is_busy(connection):
 
 
 def shared_forces(program, _):
-    """Commits that wait together are forced together. What nobody waits for is forced once a second."""
-    with failing(SHIM) as (beside, words), store(program) as folder:
+    """Commits that wait together are forced together, whoever serves them. What nobody waits for is forced once a second."""
+    with failing(SHIM) as (beside, words):
         syncs = beside / "syncs"
         words.update(FAILING=str(beside), SYNCS=str(syncs), MILLIS="50")
-        with serving(program, folder, "--workers", 1, environment=words) as server:
-            opened = [server.raw() for _ in range(16)]
-            for stream in opened:
-                stream.sendall(BEGIN)
-                read_bytes(stream, len(BEGUN) + 8)
-            time.sleep(1.5)  # until the page writer rests
-            before = syncs.stat().st_size
-            for stream in opened:
-                stream.sendall(COMMIT)
-            for stream in opened:
-                read_bytes(stream, 11)
-            assert 0 < syncs.stat().st_size - before <= 8, "16 commits"
-            time.sleep(1.5)
-            before, until = syncs.stat().st_size, time.monotonic() + 0.5
-            while time.monotonic() < until:
-                opened[0].sendall(BEGIN + ABORT)
-                read_bytes(opened[0], len(BEGUN) + 8 + 3)
-            assert syncs.stat().st_size - before <= 4, "aborts"
-            wait_until(lambda: syncs.stat().st_size > before, 3)
-            for stream in opened:
-                stream.close()
+        for workers in (1, 8):
+            with store(program) as folder, serving(program, folder, "--workers", workers, environment=words) as server:
+                forces_of_sixteen(server, syncs)
+
+
+def forces_of_sixteen(server, syncs):
+    opened = [server.raw() for _ in range(16)]
+    for stream in opened:
+        stream.sendall(BEGIN)
+        read_bytes(stream, len(BEGUN) + 8)
+    time.sleep(1.5)  # until the page writer rests
+    before = syncs.stat().st_size
+    for stream in opened:
+        stream.sendall(COMMIT)
+    for stream in opened:
+        read_bytes(stream, 11)
+    assert 0 < syncs.stat().st_size - before <= 4, "16 commits"
+    time.sleep(1.5)
+    before, until = syncs.stat().st_size, time.monotonic() + 0.5
+    while time.monotonic() < until:
+        opened[0].sendall(BEGIN + ABORT)
+        read_bytes(opened[0], len(BEGUN) + 8 + 3)
+    assert syncs.stat().st_size - before <= 4, "aborts"
+    wait_until(lambda: syncs.stat().st_size > before, 3)
+    for stream in opened:
+        stream.close()
 
 
 def failing_force(program, _):

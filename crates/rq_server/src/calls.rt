@@ -2,11 +2,12 @@
 ghost use Rattle.std.specs.Prelude.{◌≡◌};
 
 use crate::notices::Notices;
+use crate::turns::Turns;
 use rq_model::txn::Lsn;
 use rq_shared::mark::{Mark, MarkPass};
 use rq_workers::steps::Steps;
 use std::io::Error;
-use std::sync::{Mutex, Wait};
+use std::sync::Wait;
 
 /// Where a worker reads how far the log is forced.
 #[derive(Drop)]
@@ -28,13 +29,12 @@ impl<'a> MarkReader<'a> {
     }
 }
 
-/// What a worker calls the store by: its steps, the mark, and what it tells the other threads. Workers take turns: one that has
-/// its turn meets no operation of another under way, but one that is held.
+/// What a worker calls the store by: its steps, the mark, its turns, and what it tells the other threads.
 #[derive(Drop)]
 pub(crate) struct Calls<'a, S: Steps> {
     pub(crate) steps: S,
     reader: MarkReader<'a>,
-    pub(crate) turns: &'a Mutex<()>,
+    pub(crate) turns: &'a Turns,
     notices: &'a Notices,
 }
 
@@ -42,7 +42,7 @@ impl<'a, S: Steps> Calls<'a, S> {
     pub(crate) fn new(
         steps: S,
         reader: MarkReader<'a>,
-        turns: &'a Mutex<()>,
+        turns: &'a Turns,
         notices: &'a Notices,
     ) -> Self {
         Calls {
@@ -63,6 +63,16 @@ impl<'a, S: Steps> Calls<'a, S> {
     pub(crate) fn force_up_to(&mut self, lsn: Lsn) {
         if self.reader.read() < lsn {
             self.force();
+        }
+    }
+
+    /// Waits for the force of another worker, where the log is not forced as far as this. Forces where that one did not reach as
+    /// far, or none came.
+    pub(crate) fn await_force<R: Wait>(&mut self, rt: &R, lsn: Lsn) {
+        let seen = self.notices.forces();
+        if self.reader.read() < lsn {
+            self.notices.await_force(rt, seen);
+            self.force_up_to(lsn);
         }
     }
 

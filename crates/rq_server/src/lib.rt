@@ -16,6 +16,7 @@ mod rounds;
 mod server;
 mod steps;
 mod stopped;
+mod turns;
 
 pub use crate::length::LogLength;
 pub use crate::server::{Plan, serve};

@@ -10,6 +10,12 @@ const NO_MORE_FILES: [i32; 2] = [23, 24];
 /// How many milliseconds a thread sleeps at most that waits for others to be ready.
 const START_MILLIS: u64 = 10;
 
+/// How many milliseconds a worker sleeps at most that waits for the force of another.
+const FORCE_MILLIS: u64 = 100;
+
+/// How many numbers 32 bits tell, of which a thread that sleeps on a count is woken.
+const LOW_HALVES: u64 = 0x1_0000_0000;
+
 /// Counts that all threads of a server share.
 #[derive(Drop)]
 pub(crate) struct Notices {
@@ -57,6 +63,14 @@ impl Notices {
     /// A force was made.
     pub(crate) fn note_force(&self) {
         self.forces.fetch_add(1, Ordering::SeqCst);
+        self.forces.wake_all();
+    }
+
+    /// Sleeps until another force is made, where so many were, but not for long. It may wake early.
+    pub(crate) fn await_force<R: Wait>(&self, rt: &R, seen: u64) {
+        let low_half = (seen % LOW_HALVES) as u32;
+        self.forces
+            .park_timeout(rt, low_half, Duration::from_millis(FORCE_MILLIS));
     }
 
     /// How many forces were made.

@@ -255,21 +255,32 @@ impl Connections {
         }
     }
 
-    // Carries out what was asked, up to commits that wait, and forces once for all of these. Whether none waits any more: one does
-    // where there was no memory for the force. A call that is held is made again behind a force, which frees memory.
+    // Carries out what was asked, up to commits that wait, and has these forced. Whether none waits any more: one does where there was no
+    // memory for the force.
     fn take_turn<S: Steps, R: Wait>(&mut self, rt: &R, calls: &mut Calls<'_, S>) -> bool {
+        self.carry_out_in_turn(rt, calls);
+        if let Some(lsn) = self.last_awaited() {
+            calls.await_force(rt, lsn);
+            self.ask_receipts(rt, calls);
+        }
+        self.last_awaited().is_none()
+    }
+
+    // Carries out what was asked, and forces once for the commits of all that left it to this turn, unless it leaves it too. A call
+    // that is held is made again behind a force, which frees memory.
+    fn carry_out_in_turn<S: Steps, R: Wait>(&mut self, rt: &R, calls: &mut Calls<'_, S>) {
         let turns = calls.turns;
-        let _turn = turns.lock(rt);
+        turns.come();
+        let mut owed = turns.turn.lock(rt);
+        turns.begin();
         self.carry_out(rt, calls);
         if self.is_any_held() {
             calls.force();
             self.go_on(rt, calls);
         }
-        if let Some(lsn) = self.last_awaited() {
+        if let Some(lsn) = turns.due(&mut owed, self.last_awaited()) {
             calls.force_up_to(lsn);
-            self.ask_receipts(rt, calls);
         }
-        self.last_awaited().is_none()
     }
 
     fn carry_out<S: Steps, R: Wait>(&mut self, rt: &R, calls: &mut Calls<'_, S>) {
@@ -398,7 +409,7 @@ impl Connections {
     // Whether each is over then, and nothing is held.
     fn lose_each<S: Steps, R: Wait>(&mut self, rt: &R, calls: &mut Calls<'_, S>) -> bool {
         let turns = calls.turns;
-        let _turn = turns.lock(rt);
+        let _turn = turns.turn.lock(rt);
         let mut is_any_held = false;
         for token in 0..self.connections.capacity() {
             if let Some(connection) = self.connections.get_mut(token) {
@@ -483,7 +494,7 @@ fn fate_of<S: Steps, R: Wait + Clock>(
         return fate_behind_answers(rt, connection);
     }
     let turns = calls.turns;
-    let _turn = turns.lock(rt);
+    let _turn = turns.turn.lock(rt);
     connection.lose(rt, &mut calls.steps);
     if connection.is_held() {
         Fate::Stays

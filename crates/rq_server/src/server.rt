@@ -10,6 +10,7 @@ use crate::notices::Notices;
 use crate::rounds::{Connections, Ears, hears_input, poll_at};
 use crate::steps::ServerSteps;
 use crate::stopped::Stopped;
+use crate::turns::Turns;
 use mio::Poll;
 use mio::net::TcpListener as Listener;
 use rq_disk::{LogDevice, PageDevice};
@@ -48,8 +49,7 @@ pub struct Plan {
 #[derive(Drop)]
 struct Common {
     mark: Mark,
-    // held by the worker that has its turn
-    turns: Mutex<()>,
+    turns: Turns,
     notices: Notices,
     door: Mutex<Door>,
     plan: Plan,
@@ -170,7 +170,7 @@ fn common_of<R: Net>(
     };
     let common = Common {
         mark,
-        turns: Mutex::new(()),
+        turns: Turns::new(plan.workers),
         notices: Notices::new(),
         door: Mutex::new(Door::new(listener, plan.sessions)),
         plan,
