@@ -4,9 +4,8 @@ ghost use Rattle.std.specs.Bool.{OnTrue, OnFalse};
 ghost use Rattle.rq_page.specs.Sizes.{IsCellAddress, place_of};
 ghost use Rattle.rq_level.specs.LevelState.{LevelState, IsLowest, NoneToTake, NoneFree, SomeFree, reserved_at, told_sizes, is_cell_address, noted_cell, noted};
 ghost use Rattle.rq_level.specs.Given.{AreGiven};
-ghost use Rattle.rq_level.specs.ChainPlans.{CanSend, IsSent, RefusesTaking, CanReceive, IsReceived, RefusesOther, CanMark, IsMarked, IsClosed, CanUnlinkTail, IsTailUnlinked, CanPutBack, IsReturned, IsReopened, IsInverse, IsOfSender, Plans, Undoes};
+ghost use Rattle.rq_level.specs.ChainPlans.{CanSend, IsSent, RefusesTaking, CanReceive, IsReceived, RefusesOther, CanMark, IsMarked, IsClosed, CanUnlinkTail, IsTailUnlinked, CanPutBack, IsReturned, IsReopened, IsInverse, IsOfSender, Undoes};
 ghost use Rattle.rq_level.specs.declared.writes.Plan.{Plan};
-ghost use Rattle.rq_chain.specs.Doings.{IsShort, told_one};
 ghost use Rattle.rq_chain.specs.Refusing.{NoCell};
 
 use crate::cells::FreeCells;
@@ -115,28 +114,6 @@ impl ChainLevel {
     {
         prove!(layout.cell_slots() <= CELLS_LIMIT * SLOTS);
         self.cells.note(layout.cell_place(at), free);
-    }
-
-    // The plan of what is asked.
-    fn plan_doing(
-        &mut self,
-        room: Vec<SlotWrite>,
-        layout: &Layout,
-        doing: &Doing,
-        given: &Slots,
-        latched: &PageSet,
-    ) -> Result<Plan, Refusal>
-        requires given { AreGiven layout.now given.now }
-        requires short { IsShort doing.now }
-        ensures { Plans (Some layout.now) (Some (told_one doing.now)) self.old given.now latched.now.pages result self.new }
-    {
-        match doing {
-            Doing::Send { sender, tag, body } => {
-                self.plan_send(room, layout, given, latched, *sender, *tag, body)
-            }
-            Doing::Receive { sender } => self.plan_receive(room, layout, given, *sender),
-            Doing::Close { sender } => self.plan_close(room, layout, given, *sender),
-        }
     }
 
     // The plan of a send.
@@ -363,10 +340,14 @@ impl Level for ChainLevel {
         let Some(layout) = self.layout else {
             return Err(Refusal::Damaged(Damage::Page(0)));
         };
-        let Some(doing) = read_doing(op.bytes()) else {
-            return Err(Refusal::Damaged(Damage::Page(0)));
-        };
-        self.plan_doing(room, &layout, &doing, given, latched)
+        match read_doing(op.bytes()) {
+            Some(Doing::Send { sender, tag, body }) => {
+                self.plan_send(room, &layout, given, latched, sender, tag, body)
+            }
+            Some(Doing::Receive { sender }) => self.plan_receive(room, &layout, given, sender),
+            Some(Doing::Close { sender }) => self.plan_close(room, &layout, given, sender),
+            None => Err(Refusal::Damaged(Damage::Page(0))),
+        }
     }
 
     fn undo(
