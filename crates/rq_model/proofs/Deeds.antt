@@ -21,13 +21,6 @@ told_by_its_level level bytes d told = elim (cases_Bool (nat_eq level 1)) [
   | inr other ↦ let none : None ≡ Some d = rw other at told in cc
 ]
 
--- by bytes of chains, as all are
-pub told_in_chains : (level : ℕ) (bytes : List ℕ) (d : Deed) → deed_by level bytes ≡ Some d → deed_in bytes ≡ Some d
-told_in_chains level bytes d told = elim (cases_Bool (nat_eq level 1)) [
-  | inl one ↦ rw one at told
-  | inr other ↦ let none : None ≡ Some d = rw other at told in cc
-]
-
 -- what a deed's level reads in its bytes
 pub by_its_level : (d : Deed) → deed_by (deed_level d) (spelled_deed d) ≡ deed_in (spelled_deed d)
 by_its_level (Append sender sequence tag previous body) = refl
