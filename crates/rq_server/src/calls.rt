@@ -59,20 +59,20 @@ impl<'a, S: Steps> Calls<'a, S> {
         self.steps.seen(stamped);
     }
 
-    /// Forces, where the log is not forced as far as this.
-    pub(crate) fn force_up_to(&mut self, lsn: Lsn) {
-        if self.reader.read() < lsn {
-            self.force();
-        }
+    /// How far the log is forced.
+    pub(crate) fn forced(&mut self) -> Lsn {
+        self.reader.read()
     }
 
     /// Waits for the force of another worker, where the log is not forced as far as this. Forces where that one did not reach as
     /// far, or none came.
     pub(crate) fn await_force<R: Wait>(&mut self, rt: &R, lsn: Lsn) {
         let seen = self.notices.forces();
-        if self.reader.read() < lsn {
+        if self.forced() < lsn {
             self.notices.await_force(rt, seen);
-            self.force_up_to(lsn);
+            if self.forced() < lsn {
+                self.force();
+            }
         }
     }
 

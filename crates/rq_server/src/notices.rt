@@ -21,7 +21,7 @@ const LOW_HALVES: u64 = 0x1_0000_0000;
 pub(crate) struct Notices {
     // how many rounds were made, a long one counted more than once
     rounds: AtomicU64,
-    // how many forces were made
+    // how many forces were made or refused
     forces: AtomicU64,
     // how often the store refused a force
     failures: AtomicU64,
@@ -60,7 +60,7 @@ impl Notices {
         self.rounds.load(Ordering::SeqCst)
     }
 
-    /// A force was made.
+    /// A force was made, or refused: who waits for one is woken.
     pub(crate) fn note_force(&self) {
         self.forces.fetch_add(1, Ordering::SeqCst);
         self.forces.wake_all();

@@ -1,5 +1,5 @@
-//! Rounds: a worker waits until some of its connections have said something, carries that out, forces the log once for the
-//! commits among it, and answers.
+//! Rounds: a worker waits until some of its connections have said something, carries that out, has the commits among it
+//! forced, and answers.
 use crate::calls::Calls;
 use crate::connection::Connection;
 use crate::door::{Door, Entered};
@@ -258,17 +258,19 @@ impl Connections {
     // Carries out what was asked, up to commits that wait, and has these forced. Whether none waits any more: one does where there was no
     // memory for the force.
     fn take_turn<S: Steps, R: Wait>(&mut self, rt: &R, calls: &mut Calls<'_, S>) -> bool {
-        self.carry_out_in_turn(rt, calls);
+        let is_left = self.carry_out_in_turn(rt, calls);
         if let Some(lsn) = self.last_awaited() {
-            calls.await_force(rt, lsn);
+            if is_left {
+                calls.await_force(rt, lsn);
+            }
             self.ask_receipts(rt, calls);
         }
         self.last_awaited().is_none()
     }
 
-    // Carries out what was asked, and forces once for the commits of all that left it to this turn, unless it leaves it too. A call
-    // that is held is made again behind a force, which frees memory.
-    fn carry_out_in_turn<S: Steps, R: Wait>(&mut self, rt: &R, calls: &mut Calls<'_, S>) {
+    // Carries out what was asked, and forces once for the commits of all that left it to this turn. True where it leaves that too, or
+    // nothing is to be forced. A call that is held is made again behind a force, which frees memory.
+    fn carry_out_in_turn<S: Steps, R: Wait>(&mut self, rt: &R, calls: &mut Calls<'_, S>) -> bool {
         let turns = calls.turns;
         turns.come();
         let mut owed = turns.turn.lock(rt);
@@ -278,9 +280,11 @@ impl Connections {
             calls.force();
             self.go_on(rt, calls);
         }
-        if let Some(lsn) = turns.due(&mut owed, self.last_awaited()) {
-            calls.force_up_to(lsn);
+        let is_due = turns.is_due(&mut owed, calls.forced(), self.last_awaited());
+        if is_due {
+            calls.force();
         }
+        !is_due
     }
 
     fn carry_out<S: Steps, R: Wait>(&mut self, rt: &R, calls: &mut Calls<'_, S>) {

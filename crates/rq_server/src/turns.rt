@@ -10,7 +10,7 @@ pub(crate) struct Turns {
     pub(crate) turn: Mutex<Owed>,
     // how many workers wait for their turn
     waiting: AtomicU64,
-    // how often in a row a force may be left to others
+    // how often in a row a force may be left to others: once less than there are workers
     most_left: u32,
 }
 
@@ -24,7 +24,7 @@ pub(crate) struct Owed {
 }
 
 impl Turns {
-    /// Of so many workers: each may leave a force to the others once.
+    /// Of so many workers.
     pub(crate) fn new(workers: u32) -> Self {
         Turns {
             turn: Mutex::new(Owed { lsn: 0, left: 0 }),
@@ -48,14 +48,16 @@ impl Turns {
         self.waiting.load(Ordering::SeqCst) != 0
     }
 
-    /// Up to which LSN a turn is to force at its end, where commits up to this one wait; None where it is left to others.
-    pub(crate) fn due(&self, owed: &mut Owed, awaited: Option<Lsn>) -> Option<Lsn> {
+    /// Whether a turn is to force at its end: where commits wait for that, and it is not left to others. The log is forced up to
+    /// `forced`, and the turn's own commits wait up to `awaited`.
+    pub(crate) fn is_due(&self, owed: &mut Owed, forced: Lsn, awaited: Option<Lsn>) -> bool {
         owed.lsn = owed.lsn.max(awaited.unwrap_or(0));
-        if owed.left < self.most_left && self.is_awaited() {
+        let is_owed = owed.lsn > forced;
+        if is_owed && owed.left < self.most_left && self.is_awaited() {
             owed.left = owed.left.saturating_add(1);
-            return None;
+            return false;
         }
         owed.left = 0;
-        Some(owed.lsn)
+        is_owed
     }
 }
