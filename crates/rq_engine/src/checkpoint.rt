@@ -1,5 +1,5 @@
 //! Checkpoints: one record in the place of all.
-ghost use Rattle.std.specs.Prelude.{◌≡◌, ◌<◌, ◌≤◌, ◌↔◌, ℕ, IfOk, IfErr, OnOk, Err, true, false, List, [], length};
+ghost use Rattle.std.specs.Prelude.{◌≡◌, ◌<◌, ◌≤◌, ◌↔◌, ℕ, IfOk, IfErr, OnOk, Err, true, false, [], length};
 ghost use Rattle.rq_model.specs.History.Call.{Checkpoint};
 ghost use Rattle.rq_model.specs.Replay.Reply.{Gave_checkpoint};
 ghost use Rattle.rq_disk.specs.Device.{Only};

@@ -140,14 +140,9 @@ impl<P: PageDevice, L: LogDevice, B: Level> Engine<P, L, B> {
         } }
         ensures devices { LeavesDevices self.old self.new }
     {
-        let record = Record::OpEnd {
-            txn: sub.txn,
-            operation: sub.number,
-            level: deed.level(),
-            deed: *deed.bytes(),
-        };
-        shows_size(&record);
-        let lsn = self.log.append(&record);
+        let lsn = self
+            .log
+            .append_op_end(sub.txn, sub.number, deed.level(), deed.bytes());
         let finished = Finished { lsn, deed: *deed };
         self.transactions.note(sub.txn, finished);
         leave_out_taken(&mut self.waiting, deed);

@@ -1,22 +1,18 @@
 //! Receives.
 ghost use Rattle.std.specs.Prelude.{⊤, ◌≡◌, ◌≢◌, ◌↔◌, Err, ◌+◌, ◌<◌, ◌≤◌, ◌^◌, IfOk, IfErr, IfSome, IfNone, None, OnErr, ℕ, Some, true, false, List};
-ghost use Rattle.rq_model.specs.History.{Call};
 ghost use Rattle.rq_model.specs.History.Call.{Start_receive, Start_receive_from};
-ghost use Rattle.rq_model.specs.Tests.{NoneHolds, log_full, ready_tests};
-ghost use Rattle.rq_page.specs.Sizes.{sender_count};
 ghost use Rattle.rq_level.specs.Ops.Doing.{Receive};
 ghost use Rattle.rq_groups.specs.Ends.{has_held, is_held};
 ghost use Rattle.rq_groups.specs.Waiting.{waits};
-ghost use Rattle.rq_store.specs.State.{ledger_of};
 ghost use Rattle.rq_sound.specs.Sound.{IsSound};
 ghost use Rattle.rq_engine.specs.Earlier.{on, IsEarlier};
 ghost use Rattle.rq_model.specs.declared.record.Record.{Record};
 ghost use Rattle.rq_store.specs.Plans.{NoneWaits, WaitsFor};
 ghost use Rattle.rq_engine.specs.Applied.{TakesUnlatched};
 ghost use Rattle.rq_engine.specs.Opened.{LeavesDevices};
-ghost use Rattle.rq_engine.specs.Answers.{AnswersLegally, HasNothingUnderWay};
-ghost use Rattle.rq_engine.specs.Lists.{IsTakeStarted, TakeSays, TakeFromSays};
-ghost use Rattle.rq_engine.specs.Receives.{IsTakeCall, started_of};
+ghost use Rattle.rq_engine.specs.Answers.{AnswersLegally};
+ghost use Rattle.rq_engine.specs.Lists.{TakeSays, TakeFromSays};
+ghost use Rattle.rq_engine.specs.Receives.{started_of};
 ghost use Rattle.rq_planner.specs.Asked.{Do};
 ghost use Rattle.rq_engine.specs.Plans.{HasStarted, IsStartOf, IsTakeOf, MayTake};
 

@@ -2,7 +2,7 @@
 #![tactic(auto)]
 
 ghost use Rattle.std.specs.Prelude.{◌≡◌, ◌+◌, ◌-◌, ◌^◌, ◌⊎◌, ◌<◌, ◌≤◌, ◌∷◌, None, Some, OnOk, OnErr, IfOk, IfErr, IsErrOf, true, false, length};
-ghost use Rattle.rq_model.specs.declared.record.Record.TheVariants.{Base, PageOp};
+ghost use Rattle.rq_model.specs.declared.record.Record.TheVariants.{Base, OpEnd, PageOp};
 ghost use Rattle.rq_model.specs.Bases.{based, gone, is_base, standing};
 ghost use Rattle.rq_disk.specs.Device.{Only, FailureIsCounted};
 ghost use Rattle.rq_record.specs.Spelling.{IsInRange, spelling};
@@ -20,11 +20,12 @@ pub use crate::counting::last_lsn;
 use crate::past::Past;
 pub use crate::reading::LogReader;
 use rq_disk::LogDevice;
-use rq_model::record::{Record, Slot};
+use rq_model::record::{DeedBytes, Record, Slot};
 use rq_model::refusal::{NoMemory, Refusal};
 use rq_model::txn::{Lsn, Txn};
 use rq_record::{
-    PAGE_OP_BYTES, base_bytes, encode, put_page_op, shows_fits, shows_size, spelled_len,
+    OP_END_BYTES, PAGE_OP_BYTES, base_bytes, encode, put_op_end, put_page_op, shows_fits,
+    shows_size, spelled_len,
 };
 use std::alloc::Global;
 use std::marker::Model;
@@ -251,6 +252,32 @@ impl<L: LogDevice> Log<L> {
             slot,
             before: *before,
             after: *after,
+        };
+        shows_fits(&added);
+        shows_size(&added);
+        self.past.add_plain(&added);
+        self.last += 1;
+        self.last
+    }
+
+    /// Adds the end of an operation, as `append` does, from where its deed stands.
+    pub fn append_op_end(&mut self, txn: Txn, operation: u64, level: u8, deed: &DeedBytes) -> Lsn
+        requires record { IsInRange (OpEnd txn operation level deed.now) }
+        requires room { 30 + length deed.now ≤ self.old.reserved }
+        requires count { length self.old.records < 2 ^ 64 - 1 }
+        requires running { self.old.failed ≡ false }
+        ensures { IsAppended self.old (OpEnd txn operation level deed.now) (30 + length deed.now) result self.new }
+    {
+        let spelled = OP_END_BYTES + deed.as_slice().len();
+        self.reserved -= spelled;
+        self.size = self.size.saturating_add(spelled as u64);
+        put_op_end(&mut self.buffer, &txn, operation, level, deed);
+        // For contracts alone: nothing reads it when the program runs.
+        let added = Record::OpEnd {
+            txn,
+            operation,
+            level,
+            deed: *deed,
         };
         shows_fits(&added);
         shows_size(&added);

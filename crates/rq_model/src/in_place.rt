@@ -40,20 +40,17 @@ impl<const N: usize> InPlace<N> {
         })
     }
 
-    /// A copy of the one's bytes and, behind them, the other's; none where they are more than `N`.
-    pub fn joined(front: &[u8], rest: &[u8]) -> Option<Self>
-        ensures fits { IsSome result ↔ (length front.now + length rest.now ≤ N) }
-        ensures same { IfSome result (λ b. b ≡ front.now ++ rest.now) }
+    /// A copy of the one's bytes and, behind them, the other's.
+    pub fn joined(front: &[u8], rest: &[u8]) -> Self
+        requires { length front.now + length rest.now ≤ N }
+        ensures { result ≡ front.now ++ rest.now }
     {
-        if front.len() > N || rest.len() > N - front.len() {
-            return None;
-        }
         let len = front.len() + rest.len();
         let mut bytes = [0; N];
         let all = &mut bytes[..];
         all[..front.len()].copy_from_slice(front);
         all[front.len()..len].copy_from_slice(rest);
-        Some(InPlace { bytes, len })
+        InPlace { bytes, len }
     }
 
     /// The bytes.

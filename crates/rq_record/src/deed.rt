@@ -154,14 +154,6 @@ fn close_front(sender: u32) -> [u8; 5]
     front
 }
 
-// The bytes of the one and then those of the other.
-fn joined(front: &[u8], body: &[u8]) -> DeedBytes
-    requires { length front.now + length body.now ≤ 256 }
-    ensures { result ≡ front.now ++ body.now }
-{
-    DeedBytes::joined(front, body).unwrap()
-}
-
 /// The spelling of the deed of a send. It tells the deed, where the sequence is not 0.
 #[tactic(auto, unfolding(rq_bytes::specs::Number::number))]
 pub fn encode_append(sender: u32, sequence: u64, tag: u64, previous: u64, body: &Body) -> DeedBytes
@@ -170,7 +162,7 @@ pub fn encode_append(sender: u32, sequence: u64, tag: u64, previous: u64, body: 
     ensures size { (1 ≤ length result) × (length result ≤ 256) }
 {
     shows_body_fits(body);
-    joined(
+    DeedBytes::joined(
         &append_front(sender, sequence, tag, previous),
         body.as_slice(),
     )
@@ -184,7 +176,7 @@ pub fn encode_unlink_head(sender: u32, sequence: u64, tag: u64, body: &Body) -> 
     ensures size { (1 ≤ length result) × (length result ≤ 256) }
 {
     shows_body_fits(body);
-    joined(&unlink_head_front(sender, sequence, tag), body.as_slice())
+    DeedBytes::joined(&unlink_head_front(sender, sequence, tag), body.as_slice())
 }
 
 /// The spelling of the deed of a close. It tells the deed.
@@ -194,5 +186,5 @@ pub fn encode_close(sender: u32) -> DeedBytes
     ensures told { deed_in result ≡ Some (Close sender) }
     ensures size { (1 ≤ length result) × (length result ≤ 256) }
 {
-    joined(&close_front(sender), &[])
+    DeedBytes::joined(&close_front(sender), &[])
 }

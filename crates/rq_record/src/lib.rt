@@ -12,7 +12,9 @@ pub use laws::{deeds_are_told, framed, lengths, one_deed, one_spelling};
 pub use reading::{decode, decode_into};
 pub use rq_model::record::{Deed, Record};
 pub use step::{Decoded, Step};
-pub use writing::{base_bytes, encode, put_page_op, shows_fits, shows_size, spelled_len};
+pub use writing::{
+    base_bytes, encode, put_op_end, put_page_op, shows_fits, shows_size, spelled_len,
+};
 
 /// The bytes of a PageOp record.
 pub const PAGE_OP_BYTES: usize = 546;

@@ -146,6 +146,21 @@ fn front_of_page_op(txn: &Txn, operation: u64, page: u32, slot: u8) -> [u8; 34]
     front
 }
 
+// What stands before the deed of an operation's end.
+#[tactic(auto, unfolding(rq_bytes::specs::Number::number, crate::specs::Spelling::txn_bytes))]
+fn front_of_op_end(size: u32, txn: &Txn, operation: u64, level: u8) -> [u8; 30]
+    ensures { result ≡ number 4 size ++ (3 ∷ (txn_bytes txn.now ++ (number 8 operation ++ level ∷ []))) }
+{
+    let mut front = [0; 30];
+    BigEndian::write_u32(&mut front, size);
+    front[4] = 3;
+    BigEndian::write_u64(&mut front[5..], txn.incarnation);
+    BigEndian::write_u64(&mut front[13..], txn.count);
+    BigEndian::write_u64(&mut front[21..], operation);
+    front[29] = level;
+    front
+}
+
 // A record of each kind, put at the end.
 
 /// Puts a PageOp at the end, in room that is reserved.
@@ -192,17 +207,19 @@ fn put_page_undo(
     put(out, after.as_slice());
 }
 
+/// Puts an OpEnd at the end, in room that is reserved.
 #[tactic(auto, using(crate::proofs::Spelled::spellings))]
-fn put_op_end(out: &mut Vec<u8>, txn: &Txn, operation: u64, level: u8, deed: &DeedBytes)
+pub fn put_op_end(out: &mut Vec<u8>, txn: &Txn, operation: u64, level: u8, deed: &DeedBytes)
     requires { vec_len out.old + (30 + length deed.now) ≤ vec_capacity out.old }
     ensures items { out.new.items
         ≡ out.old.items ++ spelling (Record.OpEnd txn.now operation level deed.now) }
     ensures capacity { vec_capacity out.old ≤ vec_capacity out.new }
 {
     let deed = deed.as_slice();
-    put_head(out, 26 + deed.len() as u32, 3, txn);
-    put_u64(out, operation);
-    put_byte(out, level);
+    put(
+        out,
+        &front_of_op_end(26 + deed.len() as u32, txn, operation, level),
+    );
     put(out, deed);
 }
 

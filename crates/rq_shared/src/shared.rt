@@ -1,5 +1,5 @@
 //! The kept engine under one lock.
-ghost use Rattle.std.specs.Prelude.{◌≡◌, ◌+◌, false, List, length, sum_by, IfSome, IfNone};
+ghost use Rattle.std.specs.Prelude.{◌≡◌, ◌+◌, List, length, sum_by, IfSome, IfNone};
 ghost use Rattle.rq_shared.specs.Calls.{CountsTaken, IsCalled, IsForced, IsTaken};
 ghost use Rattle.rq_shared.specs.Begun.{BeginsFrom};
 ghost use Rattle.rq_shared.specs.Entries.{BeginsSound, Follows, WasSound};

@@ -8,8 +8,8 @@ use Rattle.rq_txn.specs.declared.Aim.TheVariants.{Doing}
 use Rattle.rq_engine.proofs.Opened.{state_is}
 use Rattle.rq_engine.proofs.engine.Engine.end.Goals as goal
 
-pub append-lsn-requires-clause-record : goal.append-lsn-requires-clause-record
-append-lsn-requires-clause-record g c =
+pub append_op_end-lsn-requires-clause-record : goal.append_op_end-lsn-requires-clause-record
+append_op_end-lsn-requires-clause-record g c =
     let h = subst (λ (s : State). IsUnderWay s c.args.sub (AllMade (Doing c.args.deed.now))) (sym (state_is c.self.view_is)) c.requires.ready in
     let r = going_range _ _ _ _ c.self.invariant.kept c.args.sub (AllMade (Doing c.args.deed.now)) h in
     let f = end_fits _ _ _ _ c.self.invariant.kept c.args.sub (Doing c.args.deed.now) h in
@@ -19,13 +19,12 @@ append-lsn-requires-clause-record g c =
     let some = has_level c.args.deed.now in
     (r.0, r.1, omega (arith, some), omega (arith, low, d), omega (arith, high, d))
 
-pub append-lsn-requires-clause-room : goal.append-lsn-requires-clause-room
-append-lsn-requires-clause-room g c =
+pub append_op_end-lsn-requires-clause-room : goal.append_op_end-lsn-requires-clause-room
+append_op_end-lsn-requires-clause-room g c =
     let h = subst (λ (s : State). IsUnderWay s c.args.sub (AllMade (Doing c.args.deed.now))) (sym (state_is c.self.view_is)) c.requires.ready in
     let r = end_room _ _ _ _ c.self.invariant.kept c.args.sub (Doing c.args.deed.now) h in
-    let e = c.shows_size.ensures in
     let d : length c.bytes.result.now ≡ length (spelled_deed c.args.deed.now) = ap length c.bytes.ensures.spelled in
-    omega (arith, r, e, d)
+    omega (arith, r, d)
 
 pub overflow_sub-self : goal.overflow_sub-self
 overflow_sub-self g c =
@@ -36,11 +35,11 @@ pub invariant_of-self : goal.invariant_of-self
 invariant_of-self g c =
     let h = subst (λ (s : State). IsUnderWay s c.args.sub (AllMade (Doing c.args.deed.now))) (sym (state_is c.self.view_is)) c.requires.ready in
     let d : length c.bytes.result.now ≡ length (spelled_deed c.args.deed.now) = ap length c.bytes.ensures.spelled in
-    let room : c.append-lsn.new.self.reserved + (30 + length (spelled_deed c.args.deed.now)) ≡ c.self.inside.log.reserved = (let a = c.append-lsn.ensures.reserved in let b = c.shows_size.ensures in omega (arith, a, b, d)) in
-    let failed : c.self.inside.log.failed ≡ c.append-lsn.new.self.failed = c.self.invariant.kept.fails (ap (λ (s : State). s.failed) (state_is c.self.view_is) ∙ c.requires.running) ∙ sym c.append-lsn.ensures.failed in
+    let room : c.append_op_end-lsn.new.self.reserved + (30 + length (spelled_deed c.args.deed.now)) ≡ c.self.inside.log.reserved = (let a = c.append_op_end-lsn.ensures.reserved in omega (arith, a, d)) in
+    let failed : c.self.inside.log.failed ≡ c.append_op_end-lsn.new.self.failed = c.self.invariant.kept.fails (ap (λ (s : State). s.failed) (state_is c.self.view_is) ∙ c.requires.running) ∙ sym c.append_op_end-lsn.ensures.failed in
     record {
-      kept = rw (c.note.ensures, c.leave_out_taken.ensures, c.append-lsn.ensures.records, c.append-lsn.ensures.forced, sym failed)
-          (end_kept _ _ _ _ c.self.invariant.kept c.args.sub (Doing c.args.deed.now) h c.args.deed.now _ _ c.append-lsn.new.self.reserved room (let l = c.append-lsn.ensures.lsn in let r = ap length c.append-lsn.ensures.records in omega (arith, l, r)) refl (end_fits _ _ _ _ c.self.invariant.kept c.args.sub (Doing c.args.deed.now) h).2);
-      durable = rw (c.append-lsn.ensures.settled) c.self.invariant.durable;
+      kept = rw (c.note.ensures, c.leave_out_taken.ensures, c.append_op_end-lsn.ensures.records, c.append_op_end-lsn.ensures.forced, sym failed)
+          (end_kept _ _ _ _ c.self.invariant.kept c.args.sub (Doing c.args.deed.now) h c.args.deed.now _ _ c.append_op_end-lsn.new.self.reserved room (let l = c.append_op_end-lsn.ensures.lsn in let r = ap length c.append_op_end-lsn.ensures.records in omega (arith, l, r)) refl (end_fits _ _ _ _ c.self.invariant.kept c.args.sub (Doing c.args.deed.now) h).2);
+      durable = rw (c.append_op_end-lsn.ensures.settled) c.self.invariant.durable;
       cells = c.self.invariant.cells;
     }
