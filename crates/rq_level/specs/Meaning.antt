@@ -4,6 +4,7 @@ use Rattle.rq_model.specs.declared.record.Record.{Record}
 use Rattle.rq_model.specs.declared.record.Record.TheVariants.{PageOp, PageUndo}
 use Rattle.rq_model.specs.declared.refusal.Refusal.{Refusal}
 use Rattle.rq_page.specs.Pages.{lsn_of, IsWritten}
+use Rattle.rq_page.specs.Formatted.{IsHeaderOf}
 use Rattle.rq_level.specs.LevelState.{LevelState, nothing_kept, noted}
 use Rattle.rq_level.specs.Ops.{Job}
 use Rattle.rq_level.specs.Given.{AreGiven}
@@ -91,6 +92,8 @@ pub record IsAppliedOnce (old : List ℕ) (lsn : ℕ) (w : Redo) (made : Bool) (
   pub answer : made ≡ nat_lt (lsn_of old) lsn
   pub done : made ≡ true → IsWritten old new w.slot w.after lsn
   pub kept : made ≡ false → new ≡ old
+  -- it has the header of each place whose header it had
+  pub header : (z : Sizes) (page : ℕ) → IsHeaderOf z page old → IsHeaderOf z page new
 
 abbrev pub AppliesOnce : Option Redo → List ℕ → ℕ → Bool → List ℕ → Type 0
 AppliesOnce None old lsn made new = (made ≡ false) × (new ≡ old)

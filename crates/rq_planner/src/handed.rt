@@ -11,7 +11,7 @@ use std::alloc::{AllocError, Global};
 /// the cells of the greatest store. They were told of nothing yet, or of another store.
 #[derive(Drop)]
 pub struct StoreLevels<B: Level> {
-    pub(crate) levels: Levels<B>,
+    pub levels: Levels<B>,
     ghost fit: { AreForStores levels },
 }
 

@@ -1,5 +1,5 @@
 -- What stays so of the pages of a store as a slot is written.
-use Rattle.std.proofs.Common.{◌≡◌, ◌≢◌, ◌≤◌, ℕ, ◌/◌, ◌%◌, List, length, sym, ap, subst, arith, ◌∙◌, inl, inr}
+use Rattle.std.proofs.Common.{◌≡◌, ◌≢◌, ◌≤◌, ℕ, ◌/◌, ◌%◌, Bool, true, List, Option, None, Some, length, sym, ap, subst, arith, ◌∙◌, inl, inr}
 use Rattle.std.proofs.lemmas.List.{length-map}
 use Rattle.std.proofs.lemmas.Bool.{cases_eq}
 use Rattle.rq_page.specs.Sizes.{Sizes}
@@ -8,7 +8,9 @@ use Rattle.rq_page.specs.Slots.{IsSlotOf}
 use Rattle.rq_page.specs.Formatted.{IsFormatted, IsHeaderOf}
 use Rattle.rq_views.specs.Stored.{slot_at, AreSlots}
 use Rattle.rq_pool.specs.declared.Frame.{Frame}
+use Rattle.rq_level.specs.Meaning.{AppliesOnce, Redo}
 use Rattle.rq_pool.specs.Pooled.{IsPool, image_at}
+use Rattle.rq_pool.specs.Writing.{IsRedoAt}
 use Rattle.rq_pool.specs.Frames.{image_of, images_of, framed_at}
 
 -- each slot is one of the store
@@ -52,3 +54,11 @@ pool_written z y old new at image lsn sizes pool low fits count written header o
       superblock = subst (λ (r : List ℕ). IsFormatted z 0 r) (sym (others 0 (λ e. absurd (omega (arith, e, low))))) pool.superblock;
       headers = λ p from to. header_written z (images_of old) (images_of new) (at / 16) p (header z p) others (pool.headers p from to);
     }
+
+-- what a record writes, where it was applied to its page
+pub redone_page : (z : Sizes) (at : ℕ) (w : Option Redo) (old new : List ℕ) (lsn : ℕ) (made : Bool) → IsRedoAt z at w → AppliesOnce w old lsn made new
+    → made ≡ true → (image : List ℕ) × IsSlotOf z (at / 16) (at % 16) image × IsWritten old new (at % 16) image lsn
+    × ((x : Sizes) (p : ℕ) → IsHeaderOf x p old → IsHeaderOf x p new)
+redone_page z at None old new lsn made told is so = absurd told
+redone_page z at (Some w) old new lsn made told is so =
+    (w.after, told.1, subst (λ (n : ℕ). IsWritten old new n w.after lsn) told.0 (is.done so), is.header)

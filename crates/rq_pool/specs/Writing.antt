@@ -1,10 +1,12 @@
 -- What is written back to a device of pages.
-use Rattle.std.specs.Prelude.{◌≡◌, ℕ, ◌+◌, ◌%◌, ◌^◌, ◌<◌, ◌≤◌, true, false, Bool, List, Result, Ok, Err, slice_set}
+use Rattle.std.specs.Prelude.{◌≡◌, ℕ, ◌+◌, ◌/◌, ◌%◌, ◌^◌, ◌<◌, ◌≤◌, true, false, Bool, List, Option, None, Some, Result, Ok, Err, slice_set}
 use Rattle.rq_model.specs.declared.refusal.Refusal.{Refusal}
 use Rattle.rq_model.specs.declared.refusal.Refusal.TheVariants as why
 use Rattle.rq_disk.specs.Device.{Leaves, Holds, NoMore, Written as OrWritten, Elapses}
 use Rattle.rq_disk.specs.declared.device.PageDevice.{Ghosts}
-use Rattle.rq_page.specs.Sizes.{page_count}
+use Rattle.rq_page.specs.Sizes.{Sizes, page_count}
+use Rattle.rq_page.specs.Slots.{IsSlotOf}
+use Rattle.rq_level.specs.Meaning.{Redo}
 use Rattle.rq_page.specs.Pages.{lsn_of}
 use Rattle.rq_pool.specs.declared.Written.{Written}
 use Rattle.rq_pool.specs.declared.Written.TheVariants.{Done, Nothing}
@@ -62,3 +64,8 @@ pub record MayHaveSynced {P : Type 0} (g : Ghosts P) (old new : P) : Type 0 wher
   pub same : g.seen new ≡ g.seen old
   pub crash : NoMore (g.may_be old) (g.may_be new)
   pub time : Elapses (g.moment old) (g.moment new) (g.left_since old) (g.left_since new) (Leaves (g.may_be new))
+
+-- what a record writes may stand at an address
+abbrev pub IsRedoAt : Sizes → ℕ → Option Redo → Type 0
+IsRedoAt z at None = ⊥
+IsRedoAt z at (Some w) = (w.slot ≡ at % 16) × IsSlotOf z (at / 16) (at % 16) w.after

@@ -1,7 +1,7 @@
 //! The pages of the store, all of them in memory, over their device.
 #![tactic(auto)]
 
-ghost use Rattle.std.specs.Prelude.{◌≡◌, ◌≢◌, ◌↔◌, ◌<◌, ◌≤◌, ◌+◌, ◌/◌, ◌%◌, ℕ, true, false, IsSome, IsTrue, IfSome, IfNone, IfErr, IfOk, OnOk, replicate, slice_set};
+ghost use Rattle.std.specs.Prelude.{◌≡◌, ◌≢◌, ◌↔◌, ◌<◌, ◌≤◌, ◌+◌, ◌/◌, ◌%◌, ℕ, true, false, IsSome, IsTrue, IfSome, IfNone, IfErr, IfOk, OnOk, length, replicate, slice_set};
 ghost use Rattle.std.specs.Bool.{OnFalse};
 ghost use Rattle.rq_page.specs.Sizes.{IsCellAddress, page_count, sender_count, directory_at, place_of};
 ghost use Rattle.rq_page.specs.Pages.{IsWritten, lsn_of};
@@ -9,18 +9,20 @@ ghost use Rattle.rq_page.specs.Slots.{Free, Sender, held_in, IsSlotOf, IsCellOf,
 ghost use Rattle.rq_views.specs.Log.{cell_in, put};
 ghost use Rattle.rq_views.specs.Stored.{IsStoreSlot, slot_at, slots_in, is_used, count_used};
 ghost use Rattle.rq_disk.specs.Device.{FailureIsCounted, Only};
+ghost use Rattle.rq_level.specs.Meaning.{AppliesOnce, redo_of};
 ghost use Rattle.rq_pool.specs.Pooled.{IsPool, image_at, is_changed};
 
 mod frames;
 mod free;
 mod reading;
 
-use crate::frames::{mark_written, write_slot};
+use crate::frames::{mark_written, redo_frame, write_slot};
 use crate::free::note_slot;
 use crate::reading::{read_frames, read_superblock};
 use rq_bitset::Index;
 use rq_disk::PageDevice;
-use rq_model::record::Slot;
+use rq_level::{Level, Levels};
+use rq_model::record::{Record, Slot};
 use rq_model::refusal::Refusal;
 use rq_model::txn::Lsn;
 use rq_page::addr::Addr;
@@ -129,7 +131,7 @@ impl<P: PageDevice + Drop> Pages<P> {
 }
 
 impl<P: PageDevice> Pages<P> {
-    ghost use Rattle.rq_pool.specs.Writing.{AnswersWhen, DeviceAfter, HasChangeBeyond, IsUnwritten, MayHaveSynced, NoChangeBeyond, changed_after};
+    ghost use Rattle.rq_pool.specs.Writing.{AnswersWhen, DeviceAfter, HasChangeBeyond, IsRedoAt, IsUnwritten, MayHaveSynced, NoChangeBeyond, changed_after};
     ghost use Rattle.rq_pool.specs.Pooled.{AreOver};
 
     /// What is so of the pages of each store, for proofs: it runs no code. Where the device has been honest, each page
@@ -188,6 +190,34 @@ impl<P: PageDevice> Pages<P> {
     {
         write_slot(&mut self.frames, at, image, lsn);
         note_slot(&mut self.free, &self.layout, &self.frames, at);
+    }
+
+    /// Has the level of single slots apply a record, which writes the slot at this address, to its page, where the page is
+    /// older, and answers whether it did.
+    pub fn redo<B: Level>(
+        &mut self,
+        levels: &mut Levels<B>,
+        at: Addr,
+        lsn: Lsn,
+        record: &Record,
+    ) -> bool
+        requires level { 0 < length levels.old }
+        requires place { IsStoreSlot self.old.sizes at }
+        requires write { IsRedoAt self.old.sizes at (redo_of «record».now) }
+        ensures kept { levels.new ≡ levels.old }
+        ensures page { AppliesOnce (redo_of «record».now) (image_at self.old.images (at / 16)) lsn result
+            (image_at self.new.images (at / 16)) }
+        ensures others { (p : ℕ) → p ≢ at / 16 → image_at self.new.images p ≡ image_at self.old.images p }
+        ensures changed { IsTrue result → self.new.changed ≡ slice_set self.old.changed (at / 16) true }
+        ensures same { result ≡ false → self.new.changed ≡ self.old.changed }
+        ensures sizes { self.new.sizes ≡ self.old.sizes }
+        ensures device { self.new.device ≡ self.old.device }
+    {
+        let made = redo_frame(&mut self.frames, levels, at.page(), lsn, record);
+        if made {
+            note_slot(&mut self.free, &self.layout, &self.frames, at);
+        }
+        made
     }
 
     /// Writes a page to the device, where it has a change that was not written and the log is forced up to its

@@ -1,22 +1,26 @@
 //! Records that a restart makes behind the log that it read.
-ghost use Rattle.std.specs.Prelude.{◌≡◌, ◌∷◌, ◌+◌, IfErr, OnOk, None, false, length};
+ghost use Rattle.std.specs.Prelude.{◌≡◌, ◌∷◌, ◌+◌, IfErr, IsTrue, OnOk, None, false, length};
 ghost use Rattle.rq_log.specs.Spelled.{AreSpelled};
 ghost use Rattle.rq_model.specs.Bases.{is_base};
+ghost use Rattle.rq_page.specs.Slots.{IsSlotOf};
 ghost use Rattle.rq_pool.specs.Pooled.{IsPool};
 ghost use Rattle.rq_record.specs.Spelling.{IsInRange};
-ghost use Rattle.rq_store.specs.Fitting.{told_by};
+ghost use Rattle.rq_store.specs.Fitting.{image_in, told_by};
+ghost use Rattle.rq_store.specs.Opening.{IsRedone, MayRedo, Redoes};
 ghost use Rattle.rq_analysis.specs.Rules.{CanBeRead};
 ghost use Rattle.rq_restart.specs.Found.{IsAnalysisOf};
-ghost use Rattle.rq_restart.specs.Repeating.{Belongs, IsRecordRedone, paged};
+ghost use Rattle.rq_restart.specs.Repeating.{Belongs, IsMarked, IsRecordRedone, Marks, paged};
 ghost use Rattle.rq_restart.specs.Undoing.{HandsOverNothing, StepStops};
 
 use crate::analysis::Analysis;
-use crate::redo::redo_record;
+use crate::redo::may_redo;
 use rq_disk::{LogDevice, PageDevice};
 use rq_log::Log;
 use rq_model::limits::LOG_LIMIT;
-use rq_model::record::Record;
+use rq_model::record::{Record, Slot};
 use rq_model::refusal::{Damage, Refusal};
+use rq_model::txn::Lsn;
+use rq_page::addr::Addr;
 use rq_pool::Pages;
 use rq_record::{shows_fits, spelled_len};
 
@@ -56,12 +60,66 @@ pub(crate) fn append<P: PageDevice + Drop, L: LogDevice + Drop>(
     shows_fits(undo);
     log.reserve(spelled_len(undo))?;
     let is_next = analysis.note(lsn, true, undo)?;
-    if !is_next || !redo_record(pages, lsn, undo) {
+    if !is_next || !make(pages, lsn, undo) {
         return Err(Refusal::Damaged(Damage::Record(lsn)));
     }
     log.append(undo);
     shows_pool(pages);
     Ok(())
+}
+
+// Makes what a record writes, where its page is older. False where the record doesn't fit the store.
+fn make<P: PageDevice + Drop>(pages: &mut Pages<P>, lsn: Lsn, undo: &Record) -> bool
+    ensures redone { IsTrue result → Redoes (told_by undo.now) lsn (image_in pages.old.images)
+        (image_in pages.new.images) }
+    ensures marked { IsTrue result → Marks (told_by undo.now) lsn (paged pages.old) pages.new.changed }
+    ensures same { told_by undo.now ≡ None → pages.new ≡ pages.old }
+    ensures checked { IsTrue result → MayRedo pages.old.sizes (image_in pages.old.images) lsn undo.now }
+    ensures refused { result ≡ false → MayRedo pages.old.sizes (image_in pages.old.images) lsn undo.now → ⊥ }
+    ensures sizes { pages.new.sizes ≡ pages.old.sizes }
+    ensures device { pages.new.device ≡ pages.old.device }
+{
+    if !may_redo(pages, lsn, undo) {
+        return false;
+    }
+    match undo {
+        Record::PageOp {
+            page,
+            slot,
+            after,
+            ..
+        } => make_write(pages, lsn, *page, *slot, after),
+        Record::PageUndo {
+            page,
+            slot,
+            after,
+            ..
+        } => make_write(pages, lsn, *page, *slot, after),
+        _ => {}
+    }
+    true
+}
+
+// Writes the slot, if the page is older. It is one that the store has.
+fn make_write<P: PageDevice + Drop>(
+    pages: &mut Pages<P>,
+    lsn: Lsn,
+    page: u32,
+    slot: u8,
+    after: &Slot,
+)
+    requires { IsSlotOf pages.old.sizes page slot after.now }
+    ensures redone { IsRedone (record { page = page; slot = slot; after = after.now }) lsn (image_in pages.old.images)
+        (image_in pages.new.images) }
+    ensures marked { IsMarked (record { page = page; slot = slot; after = after.now }) lsn
+        (paged pages.old) pages.new.changed }
+    ensures sizes { pages.new.sizes ≡ pages.old.sizes }
+    ensures device { pages.new.device ≡ pages.old.device }
+{
+    let old = pages.page(page).unwrap();
+    if old.lsn() < lsn {
+        pages.set_slot(Addr::new(page, slot), after, lsn);
+    }
 }
 
 /// That the pages are those of a store.

@@ -5,13 +5,12 @@ ghost use Rattle.rq_model.specs.Bases.{is_base};
 ghost use Rattle.rq_log.specs.Reading.{EndsShort};
 ghost use Rattle.rq_page.specs.Sizes.{Sizes, page_count};
 ghost use Rattle.rq_page.specs.Pages.{lsn_of, slot_of};
-ghost use Rattle.rq_page.specs.Slots.{IsSlotOf};
-ghost use Rattle.rq_store.specs.Opening.{IsRedone, Redoes, IsSoundTold, MayRedo};
+ghost use Rattle.rq_store.specs.Opening.{Redoes, IsSoundTold, MayRedo};
 ghost use Rattle.rq_store.specs.Fitting.{told_by, image_in};
 ghost use Rattle.rq_analysis.specs.Rules.{CanBeRead};
 ghost use Rattle.rq_restart.specs.Found.{IsAnalysisOf};
 ghost use Rattle.rq_restart.specs.Numbers.{AreNumbersOf, NamesFirst};
-ghost use Rattle.rq_restart.specs.Repeating.{ArePagesCounted, IsMarked, IsRecordRedone, Marks, Paged, Repeats, paged};
+ghost use Rattle.rq_restart.specs.Repeating.{ArePagesCounted, IsRecordRedone, Marks, Paged, Repeats, paged};
 ghost use Rattle.rq_restart.specs.Refused.{IsStoppedBehind, NotRepeated};
 
 use crate::analysis::Analysis;
@@ -53,7 +52,7 @@ pub(crate) fn repeat_history<P: PageDevice + Drop, L: LogDevice, B: Level>(
     alloc: Global,
     pages: &mut Pages<P>,
     reader: &mut LogReader<L>,
-    levels: &StoreLevels<B>,
+    levels: &mut StoreLevels<B>,
 ) -> Result<Analysis, Refusal>
     requires none_read { reader.old.records ≡ [] }
     requires untouched { reader.old.device ≡ reader.old.first }
@@ -98,7 +97,7 @@ fn stands_for_others(record: &Record) -> bool
 fn check_and_redo<P: PageDevice + Drop, B: Level>(
     pages: &mut Pages<P>,
     analysis: &mut Analysis,
-    levels: &StoreLevels<B>,
+    levels: &mut StoreLevels<B>,
     lsn: Lsn,
     record: &Record,
 ) -> Result<(), Refusal>
@@ -117,7 +116,7 @@ fn check_and_redo<P: PageDevice + Drop, B: Level>(
     if !is_next || !may_redo(pages, lsn, record) {
         return Err(Refusal::Damaged(Damage::Record(lsn)));
     }
-    apply(pages, lsn, record);
+    apply(pages, levels, lsn, record);
     Ok(())
 }
 
@@ -131,30 +130,8 @@ fn can_be_read<B: Level>(levels: &StoreLevels<B>, record: &Record) -> bool
     }
 }
 
-/// Makes what a record writes, where its page is older. False where the record doesn't fit the store.
-pub(crate) fn redo_record<P: PageDevice + Drop>(
-    pages: &mut Pages<P>,
-    lsn: Lsn,
-    record: &Record,
-) -> bool
-    ensures redone { IsTrue result → Redoes (told_by «record».now) lsn (image_in pages.old.images)
-        (image_in pages.new.images) }
-    ensures marked { IsTrue result → Marks (told_by «record».now) lsn (paged pages.old) pages.new.changed }
-    ensures same { told_by «record».now ≡ None → pages.new ≡ pages.old }
-    ensures checked { IsTrue result → MayRedo pages.old.sizes (image_in pages.old.images) lsn «record».now }
-    ensures refused { result ≡ false → MayRedo pages.old.sizes (image_in pages.old.images) lsn «record».now → ⊥ }
-    ensures sizes { pages.new.sizes ≡ pages.old.sizes }
-    ensures device { pages.new.device ≡ pages.old.device }
-{
-    let may = may_redo(pages, lsn, record);
-    if may {
-        apply(pages, lsn, record);
-    }
-    may
-}
-
-// Whether a record fits the store: what it writes may stand there, over what stands there.
-fn may_redo<P: PageDevice + Drop>(pages: &Pages<P>, lsn: Lsn, record: &Record) -> bool
+/// Whether a record fits the store: what it writes may stand there, over what stands there.
+pub(crate) fn may_redo<P: PageDevice + Drop>(pages: &Pages<P>, lsn: Lsn, record: &Record) -> bool
     ensures { IsTrue result ↔ MayRedo pages.now.sizes (image_in pages.now.images) lsn «record».now }
 {
     match record {
@@ -178,30 +155,25 @@ fn may_redo<P: PageDevice + Drop>(pages: &Pages<P>, lsn: Lsn, record: &Record) -
     }
 }
 
-// Makes what a record writes, where its page is older.
-fn apply<P: PageDevice + Drop>(pages: &mut Pages<P>, lsn: Lsn, record: &Record)
+// Has the level of single slots make what a record writes, where its page is older.
+fn apply<P: PageDevice + Drop, B: Level>(
+    pages: &mut Pages<P>,
+    levels: &mut StoreLevels<B>,
+    lsn: Lsn,
+    record: &Record,
+)
     requires { MayRedo pages.old.sizes (image_in pages.old.images) lsn «record».now }
     ensures redone { Redoes (told_by «record».now) lsn (image_in pages.old.images) (image_in pages.new.images) }
     ensures marked { Marks (told_by «record».now) lsn (paged pages.old) pages.new.changed }
-    ensures same { told_by «record».now ≡ None → pages.new ≡ pages.old }
     ensures sizes { pages.new.sizes ≡ pages.old.sizes }
     ensures device { pages.new.device ≡ pages.old.device }
 {
-    match record {
-        Record::PageOp {
-            page,
-            slot,
-            after,
-            ..
-        } => redo_slot(pages, lsn, *page, *slot, after),
-        Record::PageUndo {
-            page,
-            slot,
-            after,
-            ..
-        } => redo_slot(pages, lsn, *page, *slot, after),
-        _ => {}
-    }
+    let at = match record {
+        Record::PageOp { page, slot, .. } => Addr::new(*page, *slot),
+        Record::PageUndo { page, slot, .. } => Addr::new(*page, *slot),
+        _ => return,
+    };
+    pages.redo(&mut levels.levels, at, lsn, record);
 }
 
 // Whether a slot of the store is written, to what may stand there.
@@ -227,26 +199,4 @@ fn is_over<P: PageDevice + Drop>(
 {
     let old = pages.page(page).unwrap();
     old.lsn() >= lsn || are_equal(old.slot(slot), before)
-}
-
-// Writes the slot, if the page is older. It is one that the store has.
-fn redo_slot<P: PageDevice + Drop>(
-    pages: &mut Pages<P>,
-    lsn: Lsn,
-    page: u32,
-    slot: u8,
-    after: &Slot,
-)
-    requires { IsSlotOf pages.old.sizes page slot after.now }
-    ensures redone { IsRedone (record { page = page; slot = slot; after = after.now }) lsn (image_in pages.old.images)
-        (image_in pages.new.images) }
-    ensures marked { IsMarked (record { page = page; slot = slot; after = after.now }) lsn
-        (paged pages.old) pages.new.changed }
-    ensures sizes { pages.new.sizes ≡ pages.old.sizes }
-    ensures device { pages.new.device ≡ pages.old.device }
-{
-    let old = pages.page(page).unwrap();
-    if old.lsn() < lsn {
-        pages.set_slot(Addr::new(page, slot), after, lsn);
-    }
 }

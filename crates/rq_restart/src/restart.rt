@@ -132,14 +132,14 @@ fn restart_log<P: PageDevice + Drop, L: LogDevice + Drop, B: Level>(
     alloc: Global,
     mut pages: Pages<P>,
     log: L,
-    levels: StoreLevels<B>,
+    mut levels: StoreLevels<B>,
 ) -> Result<Opened<P, L, B>, Stopped<P, L>>
     ensures opened { IfOk result (λ o. OpensLog L.LogDevice pages o.pages log o.log o.cells o.tables.waiting o.tables.sent
         o.tables.planner o.report) }
     ensures refused { IfErr result (λ stopped. RefusesLog L.LogDevice pages stopped.pages log stopped.log
         stopped.refusal) }
 {
-    match read_and_redo(alloc, &mut pages, log, &levels) {
+    match read_and_redo(alloc, &mut pages, log, &mut levels) {
         Ok((mut log, mut analysis, numbers)) => {
             match finish_restart(alloc, &mut pages, &mut log, &mut analysis, &numbers, levels) {
                 Ok((tables, report)) => {
@@ -175,7 +175,7 @@ fn read_and_redo<P: PageDevice + Drop, L: LogDevice + Drop, B: Level>(
     alloc: Global,
     pages: &mut Pages<P>,
     log: L,
-    levels: &StoreLevels<B>,
+    levels: &mut StoreLevels<B>,
 ) -> Result<(Log<L>, Analysis, PageNumbers), rq_log::RefusedLog<L>>
     ensures read { IfOk result (λ read. IsLogRead L.LogDevice log read.0) }
     ensures found { IfOk result (λ read. IsAnalysisOf read.1 read.0.records) }

@@ -5,7 +5,7 @@ use Rattle.rq_restart.specs.Repeating.{paged}
 use Rattle.rq_restart.proofs.Going.{found_next}
 use Rattle.rq_restart.proofs.Undos.{belongs_then, one_repeated}
 use Rattle.rq_restart.proofs.appending.append.Goals as goal
-use Rattle.rq_restart.proofs.appending.append.Goals.{then-not-is_next-via-then-not-is_next, then-not-is_next-via-else-not-is_next+then-not-redo_record}
+use Rattle.rq_restart.proofs.appending.append.Goals.{then-not-is_next-via-then-not-is_next, then-not-is_next-via-else-not-is_next+then-not-make}
 
 pub append-requires-clause-record : goal.append-requires-clause-record
 append-requires-clause-record g c = c.requires.range c.shows_kept.ensures.log.spelled
@@ -22,7 +22,7 @@ returns-then-not-is_next-clause-stops g c =
           let k = belongs_then z z log c.args.undo.now refl (c.last-lsn.result + 1) (ap (λ n. n + 1) c.last-lsn.ensures) (paged c.args.pages.now) b in
           elim c.then-not-is_next.branch [
             | then-not-is_next-via-then-not-is_next w ↦ absurd (false≢true (rw w.if-not-is_next.true at ((c.in_ok-is_next.ensures.next log c.requires.found c.requires.plain (λ y. c.requires.readable, λ q. refl)).1 k.0)))
-            | then-not-is_next-via-else-not-is_next+then-not-redo_record w ↦ w.redo_record.ensures.refused w.if-not-redo_record.true k.1
+            | then-not-is_next-via-else-not-is_next+then-not-make w ↦ w.make.ensures.refused w.if-not-make.true k.1
           ],
     )
 
@@ -30,8 +30,8 @@ pub returns-clause-repeated : goal.returns-clause-repeated
 returns-clause-repeated g c =
     let z = c.args.pages.now.sizes in
     let log = c.args.log.now.records in
-    one_repeated z z log c.args.undo.now refl (c.last-lsn.result + 1) (ap (λ n. n + 1) c.last-lsn.ensures) (paged c.args.pages.now) (paged c.redo_record.new.pages)
-    ((c.in_ok-is_next.ensures.next log c.requires.found c.requires.plain (λ y. c.requires.readable, λ q. refl)).0 c.if-not-is_next.false) (c.if-not-redo_record.ensures.checked refl) (c.if-not-redo_record.ensures.redone refl) (c.if-not-redo_record.ensures.marked refl)
+    one_repeated z z log c.args.undo.now refl (c.last-lsn.result + 1) (ap (λ n. n + 1) c.last-lsn.ensures) (paged c.args.pages.now) (paged c.make.new.pages)
+    ((c.in_ok-is_next.ensures.next log c.requires.found c.requires.plain (λ y. c.requires.readable, λ q. refl)).0 c.if-not-is_next.false) (c.if-not-make.ensures.checked refl) (c.if-not-make.ensures.redone refl) (c.if-not-make.ensures.marked refl)
 
 pub returns-clause-found : goal.returns-clause-found
 returns-clause-found g c =
