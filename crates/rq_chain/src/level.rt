@@ -320,6 +320,10 @@ impl Level for ChainLevel {
         decode_deed(deed).is_some()
     }
 
+    fn keeps(&self) -> bool {
+        true
+    }
+
     fn want(&self, op: &Op, given: &Slots) -> Want {
         match wanted(op, given) {
             None => Want::Ready,

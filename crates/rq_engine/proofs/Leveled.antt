@@ -31,7 +31,7 @@ use Rattle.rq_groups.specs.declared.End.TheVariants.{Receiving}
 use Rattle.rq_level.specs.ChainPlans.{TellsDamage}
 use Rattle.rq_level.specs.declared.writes.Plan.{Plan}
 use Rattle.rq_level.specs.declared.writes.SlotWrite.{SlotWrite}
-use Rattle.rq_level.specs.Ops.{Doing, Job, chain_job, doing_in, doing_level}
+use Rattle.rq_level.specs.Ops.{Doing, Job, chain_job, doing_by, doing_in, doing_level}
 use Rattle.rq_level.specs.Ops.Doing.{Send, Receive, Close}
 use Rattle.rq_txn.specs.declared.Aim.TheVariants as aims
 use Rattle.rq_txn.specs.Rows.{latched_in}
@@ -42,7 +42,7 @@ use Rattle.rq_sound.specs.Groups.{slots_now}
 use Rattle.rq_sound.specs.Plans.{IsMarking, IsPlannedFrom, IsReceive, IsSend}
 use Rattle.rq_sound.specs.Sound.{IsSound}
 use Rattle.rq_planner.specs.Answered.{IsDeedFor, IsHeldUp, IsPlanOf, MayBeAsked, RefusesPlan}
-use Rattle.rq_planner.specs.Asked.{Asked, asked_by, asked_in, doing_sender, to_do}
+use Rattle.rq_planner.specs.Asked.{Asked, doing_sender}
 use Rattle.rq_planner.specs.Asked.Asked.{Do}
 use Rattle.rq_engine.specs.Closes.{IsClosePlan, close_latched}
 use Rattle.rq_engine.specs.Earlier.{IsEarlier, on}
@@ -82,7 +82,7 @@ few_of z q us (UnlinkHead g n tag body) p =
     omega (arith, a, b)
 few_of z q us (Close_deed g) p = let a = of_writes z us _ p.writes in omega (arith, a)
 
-pub some_doing : (a b : Doing) → Some (Do a) ≡ Some (Do b) → a ≡ b
+pub some_doing : (a b : Doing) → Some a ≡ Some b → a ≡ b
 some_doing a b e = cc
 
 some_deed : (a b : Deed) → Some a ≡ Some b → a ≡ b
@@ -121,18 +121,15 @@ module _ (s : State) (d : Doing) (p : Plan) (h : IsPlanOf (known_part s) d p) (l
 
 -- ---- what is asked, and what is said of what is found
 
-pub chain_asked : (job : Job) (d : Doing) → job ≡ chain_job d → doing_in job.bytes ≡ Some d → asked_by job ≡ Some (Do d)
-chain_asked job d is told = ap (λ (j : Job). asked_in j.undo j.level job.bytes) is ∙ by_level d ∙ ap to_do told where
-  by_level : (d : Doing) → asked_in false (doing_level d) job.bytes ≡ to_do (doing_in job.bytes)
+pub chain_asked : (job : Job) (d : Doing) → job ≡ chain_job d → doing_in job.bytes ≡ Some d → doing_by job.level job.bytes ≡ Some d
+chain_asked job d is told = ap (λ (j : Job). doing_by j.level job.bytes) is ∙ by_level d ∙ told where
+  by_level : (d : Doing) → doing_by (doing_level d) job.bytes ≡ doing_in job.bytes
   by_level (Send g tag body) = refl
   by_level (Receive g) = refl
   by_level (Close g) = refl
 
-pub send_asked : (job : Job) (g tag : ℕ) (body : List ℕ) → length body ≤ 216 → job ≡ chain_job (Send g tag body) → (length body ≤ 216 → doing_in job.bytes ≡ Some (Send g tag body)) → asked_by job ≡ Some (Do (Send g tag body))
+pub send_asked : (job : Job) (g tag : ℕ) (body : List ℕ) → length body ≤ 216 → job ≡ chain_job (Send g tag body) → (length body ≤ 216 → doing_in job.bytes ≡ Some (Send g tag body)) → doing_by job.level job.bytes ≡ Some (Send g tag body)
 send_asked job g tag body short is told = chain_asked job (Send g tag body) is (told short)
-
-pub some_asked : (a b : Asked) → Some a ≡ Some b → a ≡ b
-some_asked a b e = cc
 
 -- ---- what a start answers
 

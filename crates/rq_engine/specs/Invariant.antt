@@ -1,5 +1,5 @@
 -- What is so of the fields of every engine, whatever log it was opened over.
-use Rattle.std.specs.Prelude.{◌≡◌, ℕ, ◌+◌, ◌-◌, ◌*◌, ◌^◌, ◌<◌, ◌≤◌, Bool, false, length, Option, Some, None}
+use Rattle.std.specs.Prelude.{◌≡◌, ℕ, ◌+◌, ◌-◌, ◌*◌, ◌^◌, ◌<◌, ◌≤◌, Bool, false, List, length, Option, Some, None}
 use Rattle.std.specs.List.{sum_by}
 use Rattle.rq_model.specs.Vocabulary.{In}
 use Rattle.rq_model.specs.Deeds.{spelled_deed, TellsItself}
@@ -94,8 +94,8 @@ pub record IsConsistent (s : State) (failed : Bool) (owed reserved : ℕ) : Type
   pub few : (g : ℕ) → waits s.waiting g + sum_by done_one s.rows ≤ length s.records
   pub sent : AreSendsConsistent s.sizes (length s.records) (sum_by done_one s.rows) s.sent
 
--- And when its log was last forced, a crash would have left that log alone; and its level knows the cells.
-pub record IsEngine {L : Type 0} (g : log_device.Ghosts L) (s : State) (log : Logged L) (owed : ℕ) (known : LevelState)
+-- And when its log was last forced, a crash would have left that log alone; and its levels know the cells.
+pub record IsEngine {L : Type 0} (g : log_device.Ghosts L) (s : State) (log : Logged L) (owed : ℕ) (known : List LevelState)
     : Type 0 where
   pub kept : IsConsistent s log.failed owed log.reserved
   pub durable : IsSettled g log

@@ -30,7 +30,6 @@ use Rattle.rq_sound.specs.Plans.{AreUnlatched, IsPlannedFrom}
 use Rattle.rq_sound.specs.Sound.{IsSound}
 use Rattle.rq_planner.specs.Answered.{IsDeedFor, IsHeldUp, MayBeAsked, RefusesPlan, SendTakesLowest}
 use Rattle.rq_planner.specs.Asked.{Asked, doing_sender, known}
-use Rattle.rq_planner.specs.Asked.Asked.{Do}
 use Rattle.rq_engine.specs.Aborts.{UndoTakesLowest}
 use Rattle.rq_engine.specs.Answers.{HasNothingUnderWay}
 use Rattle.rq_engine.specs.Earlier.{IsEarlier, IsSoundOver, on}
@@ -93,9 +92,9 @@ pub record MayStart (s : State) (t : Txn) (n : ℕ) (end : End) (d : Doing) : Ty
   pub inside : doing_sender d < sender_count s.sizes
 
 -- something is asked that may
-pub record IsToStart (s : State) (t : Txn) (n : ℕ) (end : End) (asked : Option Asked) : Type 0 where
+pub record IsToStart (s : State) (t : Txn) (n : ℕ) (end : End) (asked : Option Doing) : Type 0 where
   pub doing : Doing
-  pub is : asked ≡ Some (Do doing)
+  pub is : asked ≡ Some doing
   pub may : MayStart s t n end doing
 
 -- it was planned, and is under way with its lock

@@ -1,12 +1,13 @@
 //! Starts of what is to be done: a send, a receive or a close.
-ghost use Rattle.std.specs.Prelude.{◌≡◌, ◌≢◌, IfErr, OnOk, OnErr, Some, false, true};
+ghost use Rattle.std.specs.Prelude.{◌≡◌, ◌≢◌, ◌<◌, IfErr, OnOk, OnErr, Some, false, true};
 ghost use Rattle.rq_model.specs.Vocabulary.{is_some};
-ghost use Rattle.rq_level.specs.Ops.{Doing};
+ghost use Rattle.rq_page.specs.Sizes.{sender_count};
+ghost use Rattle.rq_level.specs.Ops.{Doing, doing_by};
 ghost use Rattle.rq_txn.specs.Rows.{change_row, row_started, under_of};
 ghost use Rattle.rq_txn.specs.Told.{IsTold};
 ghost use Rattle.rq_groups.specs.Sides.{is_free_end, with_end};
 ghost use Rattle.rq_planner.specs.Answered.{IsPlanned};
-ghost use Rattle.rq_planner.specs.Asked.{Do, IsOfStore, asked_by};
+ghost use Rattle.rq_planner.specs.Asked.{Do, doing_sender};
 ghost use Rattle.rq_engine.specs.Opened.{LeavesDevices};
 ghost use Rattle.rq_engine.specs.Answers.{HasNothingUnderWay};
 ghost use Rattle.rq_engine.specs.Plans.{FitsPlan, HasStarted, IsStartOf, IsToStart, is_latched, known_part, planned_of, under_plan};
@@ -38,8 +39,8 @@ impl<P: PageDevice, L: LogDevice, B: Level> Engine<P, L, B> {
         op: &Op,
     ) -> Result<(), Refusal>
         requires forward { op.now.undo ≡ false }
-        requires may { IsToStart self.old.state txn number end (asked_by op.now) }
-        ensures started { (d : Doing) → asked_by op.now ≡ Some (Do d) → IsStartOf self.old.state (Do d)
+        requires may { IsToStart self.old.state txn number end (doing_by op.now.level op.now.bytes) }
+        ensures started { (d : Doing) → doing_by op.now.level op.now.bytes ≡ Some d → IsStartOf self.old.state (Do d)
             (HasStarted self.old.state txn number end d self.new.state) result }
         ensures devices { LeavesDevices self.old self.new }
         ensures plain { IfErr result (λ r. r ≢ Refusal.Failed) }
@@ -54,10 +55,10 @@ impl<P: PageDevice, L: LogDevice, B: Level> Engine<P, L, B> {
     // What its level plans for an operation that is to be done.
     fn plan(&mut self, op: &Op) -> Result<Plan, Refusal>
         requires forward { op.now.undo ≡ false }
-        requires some { is_some (asked_by op.now) ≡ true }
-        requires asked { IsOfStore self.old.state.sizes (asked_by op.now) }
+        requires asked { is_some (doing_by op.now.level op.now.bytes) ≡ true }
         ensures same { self.new ≡ self.old }
-        ensures planned { IsPlanned (known_part self.old.state) (asked_by op.now) result }
+        ensures planned { (d : Doing) → doing_by op.now.level op.now.bytes ≡ Some d
+            → doing_sender d < sender_count self.old.state.sizes → IsPlanned (known_part self.old.state) (Do d) result }
     {
         let room = self.transactions.spare();
         self.planner.plan(room, &self.pages, &self.transactions, op)

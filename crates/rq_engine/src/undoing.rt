@@ -1,5 +1,5 @@
 //! What an abort undoes: the inverses of finished operations.
-ghost use Rattle.std.specs.Prelude.{◌≡◌, ◌≢◌, ◌↔◌, ◌≤◌, Err, IfOk, IfErr, OnOk, OnErr, Some, false, true, length, List};
+ghost use Rattle.std.specs.Prelude.{◌≡◌, ◌≢◌, ◌↔◌, ◌<◌, ◌≤◌, Err, IfOk, IfErr, OnOk, OnErr, Some, false, true, length, List};
 ghost use Rattle.rq_model.specs.History.Call.{Undo_next};
 ghost use Rattle.rq_model.specs.Tests.{log_full, undo_cost};
 ghost use Rattle.rq_model.specs.Commits.{op_of};
@@ -19,7 +19,11 @@ ghost use Rattle.rq_engine.specs.Aborts.{IsTurnedBack, UndoSays};
 ghost use Rattle.rq_store.specs.State.{ledger_of, op_done};
 ghost use Rattle.rq_model.specs.Vocabulary.{is_some};
 ghost use Rattle.rq_planner.specs.Answered.{IsPlanned};
-ghost use Rattle.rq_planner.specs.Asked.{IsOfStore, Undo, asked_back};
+ghost use Rattle.rq_planner.specs.Asked.{Undo};
+ghost use Rattle.rq_model.specs.declared.record.Deed.{Deed};
+ghost use Rattle.rq_model.specs.Deeds.{deed_by};
+ghost use Rattle.rq_page.specs.Sizes.{sender_count};
+ghost use Rattle.rq_views.specs.Plans.{deed_sender};
 ghost use Rattle.rq_engine.specs.Plans.{HasTurnedBack, IsStartOf, known_part};
 
 use crate::engine::Engine;
@@ -93,10 +97,10 @@ impl<P: PageDevice, L: LogDevice, B: Level> Engine<P, L, B> {
 
     // What the level of this number plans to take back the deed that it tells by the bytes.
     fn plan_inverse(&mut self, level: u8, deed: &DeedBytes) -> Result<Plan, Refusal>
-        requires some { is_some (asked_back level deed.now) ≡ true }
-        requires asked { IsOfStore self.old.state.sizes (asked_back level deed.now) }
+        requires { is_some (deed_by level deed.now) ≡ true }
         ensures same { self.new ≡ self.old }
-        ensures planned { IsPlanned (known_part self.old.state) (asked_back level deed.now) result }
+        ensures planned { (d : Deed) → deed_by level deed.now ≡ Some d → deed_sender d < sender_count self.old.state.sizes
+            → IsPlanned (known_part self.old.state) (Undo d) result }
     {
         let room = self.transactions.spare();
         self.planner.plan_inverse(

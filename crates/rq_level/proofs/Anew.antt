@@ -1,14 +1,15 @@
 -- What a level keeps is what the slots, read anew, would give.
-use Rattle.std.proofs.Common.{◌≡◌, ◌≢◌, if◌then◌else◌, not, cond, ℕ, List, [], ◌∷◌, ◌++◌, Bool, All, refl, sym, ap, ◌∙◌, subst, inl, inr}
+use Rattle.std.proofs.Common.{◌≡◌, ◌≢◌, if◌then◌else◌, not, cond, ℕ, List, [], ◌∷◌, ◌++◌, map, Bool, All, refl, sym, ap, ◌∙◌, subst, inl, inr}
 use Rattle.std.specs.List.{AllByRecursion}
 use Rattle.std.proofs.lemmas.Bool.{cases_eq, eq-eqb, ne_eqb}
 use Rattle.std.proofs.lemmas.List.Elements.{recursion_from_All}
 use Rattle.rq_model.specs.Vocabulary.{In}
-use Rattle.rq_level.specs.Asked.{noted_each, written_at}
+use Rattle.rq_level.specs.Asked.{MayChoose, noted_each, written_at}
 use Rattle.rq_level.specs.LevelState.{LevelState}
 use Rattle.rq_level.specs.Lawful.{IsLawful}
 use Rattle.rq_level.specs.Meaning.{Meaning}
 use Rattle.rq_level.specs.OwnState.{AreAmong, IsAnew, KeepsAnew, with_bytes, without}
+use Rattle.rq_level.specs.declared.writes.SlotWrite.{SlotWrite}
 use Rattle.rq_level.proofs.Based.{each_in}
 
 module _ (level : ℕ) (m : Meaning) (lawful : IsLawful level m) where
@@ -108,7 +109,15 @@ module _ (level : ℕ) (m : Meaning) (lawful : IsLawful level m) where
     far_of [] h = tt
     far_of (x ∷ xs) h = (each_in (λ (a : ℕ). a ≢ 1) all far x h.0, far_of xs h.1)
 
-    -- a plan whose slots are forgotten once they were noted
+    -- once the slots of a plan were noted, it is forgotten
+    ended : (q : ℕ → List ℕ) (k after : LevelState) (ws : List SlotWrite) → MayChoose m k ws after
+        → noted_each m q (map (λ (w : SlotWrite). w.at) ws) after ≡ noted_each m q (map (λ (w : SlotWrite). w.at) ws) k
+    ended q k after [] may = may
+    ended q k after (w ∷ ws) may = elim may [
+      | inl e ↦ ap (noted_each m q (map (λ (x : SlotWrite). x.at) (w ∷ ws))) e
+      | inr c ↦ ap (noted_each m q (map (λ (x : SlotWrite). x.at) ws)) (c.back (q w.at))
+    ]
+
     planned : (k after : LevelState) (q : ℕ → List ℕ) (left places : List ℕ) → AreAmong all left → AreAmong all places → IsAnew m opened all k q left → noted_each m q places after ≡ noted_each m q places k → IsAnew m opened all after q (places ++ left)
     planned k after q left places inside among h ended =
         let these = recursion_from_All (λ (a : ℕ). In a all) places among in
@@ -118,8 +127,8 @@ module _ (level : ℕ) (m : Meaning) (lawful : IsLawful level m) where
 
     pub keeps_anew : KeepsAnew m opened all
     keeps_anew = record {
-      plans = λ q left k job given latched p after m inside among h. planned k after q left (written_at p) inside among h (lawful.ended q k job given latched p after m);
-      undoes = λ q left k told given latched p after m inside among h. planned k after q left (written_at p) inside among h (lawful.ended_undo q k told given latched p after m);
+      plans = λ q left k job given latched p after m inside among h. planned k after q left (written_at p) inside among h (ended q k after p.writes.items (lawful.chooses k job given latched p after m));
+      undoes = λ q left k told given latched p after m inside among h. planned k after q left (written_at p) inside among h (ended q k after p.writes.items (lawful.chooses_undo k told given latched p after m));
       notes = λ k q left a x inside i h.
           let na : a ≢ 1 = each_in (λ (a : ℕ). a ≢ 1) all far a i in
           dropped q a x na left k (far_of left (recursion_from_All (λ (b : ℕ). In b all) left inside)) ∙ ap (λ l. m.note l a x) h ∙ sym (written q a x na all opened far i);

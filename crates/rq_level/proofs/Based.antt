@@ -62,7 +62,7 @@ holds_at z given a x bytes e h = subst (HoldsBytes z a x) e h
 same_bytes : (z : Sizes) (page slot : ℕ) (x y : List ℕ) → IsSlotOf z page slot x → IsSlotOf z page slot y → held_in z page x ≡ held_in z page y → x ≡ y
 same_bytes z page slot x y is it e = sym (slot_is_spelling z page slot x is).1 ∙ ap slot_bytes e ∙ (slot_is_spelling z page slot y it).1
 
-free_is : (z : Sizes) (page slot : ℕ) (x : List ℕ) → IsSlotOf z page slot x → held_in z page x ≡ Free → x ≡ free_bytes
+pub free_is : (z : Sizes) (page slot : ℕ) (x : List ℕ) → IsSlotOf z page slot x → held_in z page x ≡ Free → x ≡ free_bytes
 free_is z page slot x is e = sym (slot_is_spelling z page slot x is).1 ∙ ap slot_bytes e
 
 -- ---- a cell that may be taken

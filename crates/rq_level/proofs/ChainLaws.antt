@@ -1,5 +1,5 @@
 -- What the level of chains keeps to.
-use Rattle.std.proofs.Common.{◌≡◌, ◌≢◌, ◌⊎◌, ℕ, List, [], ◌∷◌, Bool, true, false, Option, None, Some, Ok, map, option_map, reverse, refl, sym, ap, ◌∙◌, subst, inl}
+use Rattle.std.proofs.Common.{◌≡◌, ◌≢◌, ◌⊎◌, ℕ, ◌/◌, ◌%◌, arith, List, [], ◌∷◌, Bool, true, false, Option, None, Some, Ok, map, option_map, reverse, refl, sym, ap, ◌∙◌, subst, inl, inr}
 use Rattle.std.proofs.lemmas.List.{reverse-reverse, set-set}
 use Rattle.rq_model.specs.declared.record.Deed.{Deed}
 use Rattle.rq_model.specs.declared.record.Deed.TheVariants.{Append, UnlinkHead, Close as Close_deed}
@@ -8,16 +8,17 @@ use Rattle.rq_model.specs.declared.record.Record.TheVariants as records
 use Rattle.rq_model.specs.Deeds.{deed_in}
 use Rattle.rq_model.specs.Vocabulary.{In, is_some}
 use Rattle.rq_page.specs.declared.cell.Cell.{Cell}
+use Rattle.rq_page.specs.Cells.{free_bytes}
 use Rattle.rq_page.specs.Sizes.{Sizes, IsCellAddress, place_of}
-use Rattle.rq_page.specs.Slots.{Free}
+use Rattle.rq_page.specs.Slots.{Free, Slot}
 use Rattle.rq_views.specs.Log.{Write}
 use Rattle.rq_views.specs.Plans.{relinked}
-use Rattle.rq_level.specs.Asked.{AreWanted, IsGathered, job_back, AreNoted, AreOver, AreBackOver, AreWritten, AsksForNone, noted_each, Knows, AreAsGiven, AreOverSlots, Chooses, ChoosesBack, AreOfSlots, AreBackOfSlots}
+use Rattle.rq_level.specs.Asked.{AreWanted, IsGathered, job_back, AreNoted, AreOver, AreBackOver, AreWritten, AsksForNone, Knows, AreAsGiven, AreOverSlots, Chooses, ChoosesBack, MayChoose, AreOfSlots, AreBackOfSlots}
 use Rattle.rq_level.specs.ChainPlans as chain
 use Rattle.rq_level.specs.ChainPlans.{Plans, PlansFor, Undoes, chain_plans, chain_undoes, job_wanted}
 use Rattle.rq_level.specs.Given.{AreGiven, given_at}
 use Rattle.rq_level.specs.LevelState.{LevelState, IsLowest, is_free_slot, noted, noted_cell, reserved_at}
-use Rattle.rq_level.specs.Meaning.{AreOf, chain_meaning}
+use Rattle.rq_level.specs.Meaning.{AreOf, Meaning, chain_meaning}
 use Rattle.rq_level.specs.Ops.{Doing, Job, doing_in}
 use Rattle.rq_level.specs.Ops.Doing.{Send, Receive, Close}
 use Rattle.rq_level.specs.Writes.{AreSlotWrites, answer_of, replied, reply_of, writes_of}
@@ -25,7 +26,7 @@ use Rattle.rq_level.specs.declared.slots.Given.{Given}
 use Rattle.rq_level.specs.declared.writes.Replies.TheVariants as replies
 use Rattle.rq_level.specs.declared.writes.Plan.{Plan}
 use Rattle.rq_level.specs.declared.writes.SlotWrite.{SlotWrite}
-use Rattle.rq_level.proofs.Based.{IsChainPlan, IsSomething, all_each, are_over, chosen, done, holds_at, holds_free, known_free, lowest_cell, noted_there, over_slots, undone, was_given}
+use Rattle.rq_level.proofs.Based.{IsChainPlan, IsSomething, all_each, are_over, chosen, done, holds_at, holds_free, free_is, known_free, lowest_cell, noted_there, over_slots, undone, was_given}
 use Rattle.rq_level.proofs.Gathered.{IsTouched, done_touched, undone_touched}
 
 -- a plan is of a store whose sizes were told, and what was asked for is written
@@ -130,64 +131,75 @@ pub back_slots : (k : LevelState) (told : Record) (given : List Given) (latched 
 back_slots k (records.OpEnd t n level deed) given latched p after h = slots k given latched p after _ (backed k given latched p after (records.OpEnd t n level deed) h)
 back_slots k _ given latched p after h = absurd h
 
--- ---- a plan is forgotten once its slots were noted
+-- ---- what a plan chooses
 
-module _ (q : ℕ → List ℕ) where
-  abbrev Forgets : List SlotWrite → LevelState → LevelState → Type 0
-  Forgets ws l k = noted_each chain_meaning q (map (λ (w : SlotWrite). w.at) ws) l ≡ noted_each chain_meaning q (map (λ (w : SlotWrite). w.at) ws) k
+free_first : is_free_slot free_bytes ≡ true
+unfolding free_bytes
+free_first = refl
 
-  abbrev at_first : List Write → ℕ
-  at_first [] = 0
-  at_first (w ∷ ws) = w.at
+some_sizes : (y z : Sizes) → Some y ≡ Some z → y ≡ z
+some_sizes y z e = cc
 
-  from_first : (z : Sizes) (ws : List SlotWrite) (v : Write) (rest : List Write) (l k : LevelState) → writes_of z ws ≡ v ∷ rest → ((x : List ℕ) → noted l v.at x ≡ noted k v.at x) → Forgets ws l k
-  from_first z [] v rest l k e h = absurd (let no : ◌≡◌ {A = List Write} [] (v ∷ rest) = e in cc)
-  from_first z (w ∷ ws) v rest l k e h =
-      let at : w.at ≡ v.at = ap at_first e in
-      ap (noted_each chain_meaning q (map (λ (x : SlotWrite). x.at) ws)) (subst (λ n. noted l n (q w.at) ≡ noted k n (q w.at)) (sym at) (h (q w.at)))
+abbrev at_first : List Write → ℕ
+at_first [] = 0
+at_first (w ∷ ws) = w.at
 
-  -- the cell that it takes is written first
-  new_first : (z : Sizes) (ws : List SlotWrite) (d : Write) (at : ℕ) (o : Option Cell) (f : Cell → Cell) (v : Write) (l k : LevelState) → reverse (writes_of z ws) ≡ d ∷ relinked at o f (v ∷ [])
-      → ((x : List ℕ) → noted l v.at x ≡ noted k v.at x) → Forgets ws l k
-  new_first z ws d at None f v l k e h = from_first z ws v (d ∷ []) l k (sym (reverse-reverse (writes_of z ws)) ∙ ap reverse e) h
-  new_first z ws d at (Some c) f v l k e h = from_first z ws v (_ ∷ d ∷ []) l k (sym (reverse-reverse (writes_of z ws)) ∙ ap reverse e) h
+abbrev before_first : List Write → Slot
+before_first [] = Free
+before_first (w ∷ ws) = w.before
 
-  reservation_ends : (z : Sizes) (k : LevelState) (a : ℕ) (x : List ℕ) → k.sizes ≡ Some z → IsCellAddress z a → noted (reserved_at z k a) a x ≡ noted k a x
-  reservation_ends z k a x told cell =
-      noted_there z (reserved_at z k a) a x told cell
-      ∙ ap (λ (r : List Bool). record (noted_cell z k (place_of z a) (is_free_slot x)) { reserved = r }) (set-set k.reserved (place_of z a) true false)
-      ∙ sym (noted_there z k a x told cell)
+from_first : (z : Sizes) (ws : List SlotWrite) (v : Write) (rest : List Write) (l k : LevelState) → writes_of z ws ≡ v ∷ rest → v.before ≡ Free → AreSlotWrites z ws → k.sizes ≡ Some z → IsCellAddress z v.at → ((x : List ℕ) → noted l v.at x ≡ noted k v.at x)
+    → MayChoose chain_meaning k ws l
+from_first z [] v rest l k e free are told cell h = absurd (let no : ◌≡◌ {A = List Write} [] (v ∷ rest) = e in cc)
+from_first z (w ∷ ws) v rest l k e free are told cell h = inr (record {
+  cell = λ y same. subst (λ (o : Sizes). IsCellAddress o w.at) (some_sizes z y (sym told ∙ same)) (subst (IsCellAddress z) (sym (ap at_first e)) cell);
+  free = ap is_free_slot (free_is z (w.at / 16) (w.at % 16) w.before (are 0 w (omega arith)).before (ap before_first e ∙ free)) ∙ free_first;
+  back = subst (λ n. (x : List ℕ) → noted l n x ≡ noted k n x) (sym (ap at_first e)) h;
+})
 
-  same_kept : (ws : List SlotWrite) (l k : LevelState) → l ≡ k → Forgets ws l k
-  same_kept ws l k e = ap (noted_each chain_meaning q (map (λ (w : SlotWrite). w.at) ws)) e
+-- the cell that it takes is written first
+new_first : (z : Sizes) (ws : List SlotWrite) (d : Write) (at : ℕ) (o : Option Cell) (f : Cell → Cell) (v : Write) (l k : LevelState) → reverse (writes_of z ws) ≡ d ∷ relinked at o f (v ∷ []) → v.before ≡ Free → AreSlotWrites z ws → k.sizes ≡ Some z → IsCellAddress z v.at
+    → ((x : List ℕ) → noted l v.at x ≡ noted k v.at x) → MayChoose chain_meaning k ws l
+new_first z ws d at None f v l k e = from_first z ws v (d ∷ []) l k (sym (reverse-reverse (writes_of z ws)) ∙ ap reverse e)
+new_first z ws d at (Some c) f v l k e = from_first z ws v (_ ∷ d ∷ []) l k (sym (reverse-reverse (writes_of z ws)) ∙ ap reverse e)
 
-  module _ (k : LevelState) (given : List Given) (latched : List ℕ) (p : Plan) (after : LevelState) where
-    taken : (z : Sizes) (a : ℕ) → k.sizes ≡ Some z → IsLowest z k latched a → after ≡ reserved_at z k a → (x : List ℕ) → noted after a x ≡ noted k a x
-    taken z a told l kept x = ap (λ (m : LevelState). noted m a x) kept ∙ reservation_ends z k a x told (lowest_cell z k latched a l)
+reservation_ends : (z : Sizes) (k : LevelState) (a : ℕ) (x : List ℕ) → k.sizes ≡ Some z → IsCellAddress z a → noted (reserved_at z k a) a x ≡ noted k a x
+reservation_ends z k a x told cell =
+    noted_there z (reserved_at z k a) a x told cell
+    ∙ ap (λ (r : List Bool). record (noted_cell z k (place_of z a) (is_free_slot x)) { reserved = r }) (set-set k.reserved (place_of z a) true false)
+    ∙ sym (noted_there z k a x told cell)
 
-    done_forgets : (z : Option Sizes) (d : Option Doing) → k.sizes ≡ z → Plans z d k given latched (Ok p) after → Forgets p.writes.items after k
-    done_forgets (Some z) (Some (Send s tag body)) told h = new_first z p.writes.items _ _ h.can.old _ _ after k h.writes (taken z h.new told h.lowest h.kept)
-    done_forgets (Some z) (Some (Receive s)) told h = same_kept p.writes.items after k h.kept
-    done_forgets (Some z) (Some (Close s)) told h = same_kept p.writes.items after k h.kept
-    done_forgets (Some z) None told h = absurd h
-    done_forgets None (Some d) told h = absurd h
-    done_forgets None None told h = absurd h
+pub same_kept : (m : Meaning) (ws : List SlotWrite) (l k : LevelState) → l ≡ k → MayChoose m k ws l
+same_kept m [] l k e = e
+same_kept m (w ∷ ws) l k e = inl e
 
-    undone_forgets : (z : Option Sizes) (d : Option Deed) → k.sizes ≡ z → Undoes z d k given latched (Ok p) after → Forgets p.writes.items after k
-    undone_forgets (Some z) (Some (Append s n tag previous body)) told h = same_kept p.writes.items after k h.kept
-    undone_forgets (Some z) (Some (UnlinkHead s n tag body)) told h = new_first z p.writes.items _ _ h.can.old _ _ after k h.writes (taken z h.new told h.lowest h.kept)
-    undone_forgets (Some z) (Some (Close_deed s)) told h = same_kept p.writes.items after k h.kept
-    undone_forgets (Some z) None told h = absurd h
-    undone_forgets None (Some d) told h = absurd h
-    undone_forgets None None told h = absurd h
+module _ (k : LevelState) (given : List Given) (latched : List ℕ) (p : Plan) (after : LevelState) where
+  taken : (z : Sizes) (a : ℕ) → k.sizes ≡ Some z → IsLowest z k latched a → after ≡ reserved_at z k a → (x : List ℕ) → noted after a x ≡ noted k a x
+  taken z a told l kept x = ap (λ (m : LevelState). noted m a x) kept ∙ reservation_ends z k a x told (lowest_cell z k latched a l)
 
-  pub plan_forgets : (undo : Bool) (k : LevelState) (d : Option Doing) (given : List Given) (latched : List ℕ) (p : Plan) (after : LevelState) → PlansFor undo k.sizes d k given latched (Ok p) after → Forgets p.writes.items after k
-  plan_forgets true k d given latched p after h = absurd h
-  plan_forgets false k d given latched p after h = done_forgets k given latched p after k.sizes d refl h
+  done_chooses : (z : Option Sizes) (d : Option Doing) → k.sizes ≡ z → Plans z d k given latched (Ok p) after → MayChoose chain_meaning k p.writes.items after
+  done_chooses (Some z) (Some (Send s tag body)) told h = new_first z p.writes.items _ _ h.can.old _ _ after k h.writes refl h.slots told (lowest_cell z k latched h.new h.lowest) (taken z h.new told h.lowest h.kept)
+  done_chooses (Some z) (Some (Receive s)) told h = same_kept chain_meaning p.writes.items after k h.kept
+  done_chooses (Some z) (Some (Close s)) told h = same_kept chain_meaning p.writes.items after k h.kept
+  done_chooses (Some z) None told h = absurd h
+  done_chooses None (Some d) told h = absurd h
+  done_chooses None None told h = absurd h
 
-  pub back_forgets : (k : LevelState) (told : Record) (given : List Given) (latched : List ℕ) (p : Plan) (after : LevelState) → chain_undoes k told given latched (Ok p) after → Forgets p.writes.items after k
-  back_forgets k (records.OpEnd t n level deed) given latched p after h = undone_forgets k given latched p after k.sizes (deed_in deed) refl h
-  back_forgets k _ given latched p after h = absurd h
+  undone_chooses : (z : Option Sizes) (d : Option Deed) → k.sizes ≡ z → Undoes z d k given latched (Ok p) after → MayChoose chain_meaning k p.writes.items after
+  undone_chooses (Some z) (Some (Append s n tag previous body)) told h = same_kept chain_meaning p.writes.items after k h.kept
+  undone_chooses (Some z) (Some (UnlinkHead s n tag body)) told h = new_first z p.writes.items _ _ h.can.old _ _ after k h.writes refl h.slots told (lowest_cell z k latched h.new h.lowest) (taken z h.new told h.lowest h.kept)
+  undone_chooses (Some z) (Some (Close_deed s)) told h = same_kept chain_meaning p.writes.items after k h.kept
+  undone_chooses (Some z) None told h = absurd h
+  undone_chooses None (Some d) told h = absurd h
+  undone_chooses None None told h = absurd h
+
+pub plan_chooses : (undo : Bool) (k : LevelState) (d : Option Doing) (given : List Given) (latched : List ℕ) (p : Plan) (after : LevelState) → PlansFor undo k.sizes d k given latched (Ok p) after → MayChoose chain_meaning k p.writes.items after
+plan_chooses true k d given latched p after h = absurd h
+plan_chooses false k d given latched p after h = done_chooses k given latched p after k.sizes d refl h
+
+pub back_chooses : (k : LevelState) (told : Record) (given : List Given) (latched : List ℕ) (p : Plan) (after : LevelState) → chain_undoes k told given latched (Ok p) after → MayChoose chain_meaning k p.writes.items after
+back_chooses k (records.OpEnd t n level deed) given latched p after h = undone_chooses k given latched p after k.sizes (deed_in deed) refl h
+back_chooses k _ given latched p after h = absurd h
 
 -- ---- the deed that a plan tells
 
@@ -199,7 +211,7 @@ deed_read (Some z) None k given latched p after h = absurd h
 deed_read None (Some d) k given latched p after h = absurd h
 deed_read None None k given latched p after h = absurd h
 
-pub plan_told : (undo : Bool) (z : Option Sizes) (d : Option Doing) (k : LevelState) (given : List Given) (latched : List ℕ) (p : Plan) (after : LevelState) → PlansFor undo z d k given latched (Ok p) after → (is_some (deed_in p.deed) ≡ true) ⊎ ((p.deed ≡ []) × (reply_of p ≡ None))
+pub plan_told : (undo : Bool) (z : Option Sizes) (d : Option Doing) (k : LevelState) (given : List Given) (latched : List ℕ) (p : Plan) (after : LevelState) → PlansFor undo z d k given latched (Ok p) after → (is_some (deed_in p.deed) ≡ true) ⊎ ((p.deed ≡ []) × (reply_of 1 p ≡ None))
 plan_told true z d k given latched p after h = absurd h
 plan_told false z d k given latched p after h = inl (deed_read z d k given latched p after h)
 
@@ -212,6 +224,6 @@ by_deed (Some z) None k given latched p after h = absurd h
 by_deed None (Some d) k given latched p after h = absurd h
 by_deed None None k given latched p after h = absurd h
 
-pub plan_replies : (undo : Bool) (z : Option Sizes) (d : Option Doing) (k : LevelState) (given : List Given) (latched : List ℕ) (p : Plan) (after : LevelState) → PlansFor undo z d k given latched (Ok p) after → (e : Deed) → deed_in p.deed ≡ Some e → reply_of p ≡ Some (answer_of e)
+pub plan_replies : (undo : Bool) (z : Option Sizes) (d : Option Doing) (k : LevelState) (given : List Given) (latched : List ℕ) (p : Plan) (after : LevelState) → PlansFor undo z d k given latched (Ok p) after → (e : Deed) → deed_in p.deed ≡ Some e → reply_of 1 p ≡ Some (answer_of e)
 plan_replies true z d k given latched p after h e told = absurd h
 plan_replies false z d k given latched p after h e told = ap (λ r. replied r (deed_in p.deed)) (by_deed z d k given latched p after h) ∙ ap (option_map answer_of) told

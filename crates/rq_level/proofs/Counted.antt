@@ -99,15 +99,15 @@ silent None (Some d) k given latched p after h = absurd h
 silent None None k given latched p after h = absurd h
 
 pub silent_undone : (k : LevelState) (told : Record) (given : List Given) (latched : List ℕ) (p : Plan) (after : LevelState)
-    → chain_undoes k told given latched (Ok p) after → (p.deed ≡ []) × (reply_of p ≡ answer_back told)
+    → chain_undoes k told given latched (Ok p) after → (p.deed ≡ []) × (reply_of 1 p ≡ answer_back told)
 silent_undone k (records.OpEnd t n level deed) given latched p after h = let i = silent k.sizes (deed_in deed) k given latched p after h in (i.0, ap (λ r. replied r (deed_in p.deed)) i.1)
 silent_undone k _ given latched p after h = absurd h
 
-silent_back : (k : LevelState) (is : Bool) (a : ℕ) (before after : List ℕ) (p : Plan) (kept : LevelState) → TakesBack k is a before after (Ok p) kept → (p.deed ≡ []) × (reply_of p ≡ None)
-silent_back k true a before after p kept h = (h.0.deed, ap (λ r. replied r (deed_in p.deed)) h.0.reply)
+silent_back : (k : LevelState) (is : Bool) (a : ℕ) (before after : List ℕ) (p : Plan) (kept : LevelState) → TakesBack k is a before after (Ok p) kept → (p.deed ≡ []) × (reply_of 0 p ≡ None)
+silent_back k true a before after p kept h = (h.0.deed, ap (λ r. replied r None) h.0.reply)
 silent_back k false a before after p kept h = absurd h
 
 pub silent_taken_back : (k : LevelState) (told : Record) (given : List Given) (latched : List ℕ) (p : Plan) (after : LevelState)
-    → page_undoes k told given latched (Ok p) after → (p.deed ≡ []) × (reply_of p ≡ answer_back told)
+    → page_undoes k told given latched (Ok p) after → (p.deed ≡ []) × (reply_of 0 p ≡ answer_back told)
 silent_taken_back k (records.PageOp t n page slot x y) given latched p after h = silent_back k (is_slot_number slot) (page * 16 + slot) x y p after h
 silent_taken_back k _ given latched p after h = absurd h

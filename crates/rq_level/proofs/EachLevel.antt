@@ -1,5 +1,5 @@
 -- Each level keeps its laws.
-use Rattle.std.proofs.Common.{◌≡◌, ℕ, zero, suc, ◌+◌, ◌*◌, nat_lt, Err, arith, List, Bool, true, false, cond, nat_eq, Option, None, Some, map, length, set, refl, sym, ap, ◌∙◌, inl, inr}
+use Rattle.std.proofs.Common.{◌≡◌, ℕ, zero, suc, ◌+◌, ◌*◌, nat_lt, Err, arith, List, Bool, true, false, cond, nat_eq, Option, None, Some, length, set, refl, sym, ap, ◌∙◌, inl, inr}
 use Rattle.std.proofs.lemmas.Bool.{cases_Bool, false≢true, le-ltb}
 use Rattle.rq_page.specs.Pages.{lsn_of}
 use Rattle.std.proofs.lemmas.List.{length-set, set-set}
@@ -21,11 +21,9 @@ use Rattle.rq_level.specs.ChainPlans.{unless_given, link_wanted, behind, behind_
 use Rattle.rq_model.specs.Deeds.{deed_in}
 use Rattle.rq_model.specs.declared.record.Deed.{Deed}
 use Rattle.rq_model.specs.declared.record.Deed.TheVariants.{Append, UnlinkHead, Close as Close_deed}
-use Rattle.rq_level.specs.Asked.{noted_each}
 use Rattle.rq_level.specs.Meaning.{Redo, IsAppliedOnce, meaning_of, page_meaning, chain_meaning, no_meaning}
 use Rattle.rq_level.specs.Lawful.{IsNotGiven, IsLawful, AllLawful, AppliedTwiceIsOnce, MayHaveNoPlan}
 use Rattle.rq_level.specs.declared.slots.Given.{Given}
-use Rattle.rq_level.specs.declared.writes.SlotWrite.{SlotWrite}
 use Rattle.rq_level.proofs.Counted.{few_planned, few_undone, few_written, few_taken_back, silent_undone, silent_taken_back}
 use Rattle.rq_level.proofs.Noting.{alone, any_order}
 use Rattle.rq_level.proofs.ChainLaws as chains
@@ -221,8 +219,8 @@ pages_lawful = record {
   replies = λ k job given latched p after h d told. cc told;
   replies_undo = λ k told given latched p after h. (silent_taken_back k told given latched p after h).1;
   inverse = λ z d v q k job given latched p after h sizes told. cc told;
-  ended = λ q k job given latched p after h. ap (noted_each page_meaning q (map (λ (w : SlotWrite). w.at) p.writes.items)) (pages.kept k given latched p after job h);
-  ended_undo = λ q k told given latched p after h. ap (noted_each page_meaning q (map (λ (w : SlotWrite). w.at) p.writes.items)) (pages.back_kept k given latched p after told h);
+  chooses = λ k job given latched p after h. chains.same_kept page_meaning p.writes.items after k (pages.kept k given latched p after job h);
+  chooses_undo = λ k told given latched p after h. chains.same_kept page_meaning p.writes.items after k (pages.back_kept k given latched p after told h);
   last = λ k a x y. refl;
   commutes = λ k a b x y m n o. refl;
   alone = λ k z a i x e n o. (refl, refl, refl);
@@ -254,8 +252,8 @@ chains_lawful = record {
   replies = λ k job given latched p after h. chains.plan_replies job.undo k.sizes (doing_in job.bytes) k given latched p after h;
   replies_undo = λ k told given latched p after h. (silent_undone k told given latched p after h).1;
   inverse = λ z d v q k job given latched p after h sizes. back.taken_back job.undo z (doing_in job.bytes) k given latched p after d v q sizes h;
-  ended = λ q k job given latched p after h. chains.plan_forgets q job.undo k (doing_in job.bytes) given latched p after h;
-  ended_undo = chains.back_forgets;
+  chooses = λ k job given latched p after h. chains.plan_chooses job.undo k (doing_in job.bytes) given latched p after h;
+  chooses_undo = chains.back_chooses;
   last = twice;
   commutes = any_order;
   alone = alone;
@@ -287,8 +285,8 @@ none_lawful n = record {
   replies = λ k job given latched p after h. absurd h;
   replies_undo = λ k told given latched p after h. absurd h;
   inverse = λ z d v q k job given latched p after h. absurd h;
-  ended = λ q k job given latched p after h. absurd h;
-  ended_undo = λ q k told given latched p after h. absurd h;
+  chooses = λ k job given latched p after h. absurd h;
+  chooses_undo = λ k told given latched p after h. absurd h;
   last = λ k a x y. refl;
   commutes = λ k a b x y m n o. refl;
   alone = λ k z a i x e n o. (refl, refl, refl);

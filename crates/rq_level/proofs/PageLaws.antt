@@ -1,7 +1,6 @@
 -- What the level of single slots keeps to.
 use Rattle.std.proofs.Common.{◌≡◌, cond, ℕ, ◌+◌, ◌*◌, List, [], ◌∷◌, Bool, true, false, Option, None, Some, Ok, map, All, refl, sym, ap, ◌∙◌, subst, inl}
 use Rattle.std.proofs.lemmas.List.Elements.{All-cons, All-nil, recursion_from_All}
-use Rattle.rq_model.specs.Deeds.{deed_in}
 use Rattle.rq_model.specs.declared.record.Record.{Record}
 use Rattle.rq_model.specs.declared.record.Record.TheVariants as records
 use Rattle.rq_model.specs.Vocabulary.{In}
@@ -79,8 +78,8 @@ module _ (k : LevelState) (given : List Given) (latched : List ℕ) (p : Plan) (
   back_kept (records.PageOp t n page slot x y) h = (back_one (is_slot_number slot) (page * 16 + slot) x y h).2
   back_kept _ h = absurd h
 
-  pub tells_none : (job : Job) → page_plans k job given latched (Ok p) after → (p.deed ≡ []) × (reply_of p ≡ None)
-  tells_none job h = let m = written job.undo k (overwrite_in job.bytes) given p after h in (m.3.plan.deed, ap (λ r. replied r (deed_in p.deed)) m.3.plan.reply)
+  pub tells_none : (job : Job) → page_plans k job given latched (Ok p) after → (p.deed ≡ []) × (reply_of 0 p ≡ None)
+  tells_none job h = let m = written job.undo k (overwrite_in job.bytes) given p after h in (m.3.plan.deed, ap (λ r. replied r None) m.3.plan.reply)
 
   pub back_writes : (told : Record) → page_undoes k told given latched (Ok p) after → IsGathered page_meaning (job_back told) given → AreWritten given p
   back_writes (records.PageOp t n page slot x y) h g = all_in (none_within (λ n. In n (map (λ (w : SlotWrite). w.at) p.writes.items)) given [] given refl g)

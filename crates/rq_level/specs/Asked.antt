@@ -1,13 +1,13 @@
 -- What a level asks for before it plans, what its writes are over, which cell it chooses, and slots noted one after another.
-use Rattle.std.specs.Prelude.{◌≡◌, ◌/◌, ◌%◌, ◌+◌, ◌*◌, ℕ, true, List, [], ◌∷◌, ◌++◌, Option, None, Some, map, All}
+use Rattle.std.specs.Prelude.{◌≡◌, ◌⊎◌, ◌/◌, ◌%◌, ◌+◌, ◌*◌, ℕ, true, List, [], ◌∷◌, ◌++◌, Option, None, Some, map, All}
 use Rattle.rq_model.specs.declared.record.Record.{Record}
 use Rattle.rq_model.specs.declared.record.Record.TheVariants.{OpEnd, PageOp}
 use Rattle.rq_model.specs.Vocabulary.{In}
 use Rattle.rq_page.specs.Cells.{free_bytes}
-use Rattle.rq_page.specs.Sizes.{Sizes}
+use Rattle.rq_page.specs.Sizes.{Sizes, IsCellAddress}
 use Rattle.rq_page.specs.Slots.{IsSlotOf}
 use Rattle.rq_views.specs.Stored.{IsStoreSlot}
-use Rattle.rq_level.specs.LevelState.{LevelState, IsLowest, reserved_at}
+use Rattle.rq_level.specs.LevelState.{LevelState, IsLowest, is_free_slot, reserved_at}
 use Rattle.rq_level.specs.Ops.{Job}
 use Rattle.rq_level.specs.Given.{given_at}
 use Rattle.rq_level.specs.PagePlans.{IsOneWrite}
@@ -101,6 +101,17 @@ AreOverSlots q ws = All (λ w. w.before ≡ q w.at) ws
 abbrev pub Chooses : LevelState → List Given → LevelState → Plan → Type 0
 Chooses k given after p = (z : Sizes) (w : SlotWrite) → k.sizes ≡ Some z → In w p.writes.items → given_at w.at given ≡ None
     → after ≡ reserved_at z k w.at
+
+-- the cell of this write was chosen, over a free one; to note its slot gives it back
+pub record IsChosen (m : Meaning) (k : LevelState) (w : SlotWrite) (after : LevelState) : Type 0 where
+  pub cell : (z : Sizes) → k.sizes ≡ Some z → IsCellAddress z w.at
+  pub free : is_free_slot w.before ≡ true
+  pub back : (x : List ℕ) → m.note after w.at x ≡ m.note k w.at x
+
+-- what a plan chooses is the first slot that it writes, if it chooses one
+abbrev pub MayChoose : Meaning → LevelState → List SlotWrite → LevelState → Type 0
+MayChoose m k [] after = after ≡ k
+MayChoose m k (w ∷ ws) after = (after ≡ k) ⊎ IsChosen m k w after
 
 -- what takes back a slot write chooses nothing
 abbrev pub ChoosesBack : Record → LevelState → List Given → LevelState → Plan → Type 0

@@ -15,7 +15,7 @@ use Rattle.rq_level.specs.LevelState.{LevelState, flag_at}
 use Rattle.rq_level.specs.Ops.{Job}
 use Rattle.rq_level.specs.Given.{given_at}
 use Rattle.rq_level.specs.Writes.{answer_of, reply_of}
-use Rattle.rq_level.specs.Asked.{IsGathered, job_back, answer_back, AreNoted, AreOver, AreBackOver, AreWritten, AsksForNone, noted_each, written_at, Knows, AreAsGiven, StandsYet, AreOverSlots, Chooses, ChoosesBack, AreOfSlots, AreBackOfSlots}
+use Rattle.rq_level.specs.Asked.{IsGathered, job_back, answer_back, AreNoted, AreOver, AreBackOver, AreWritten, AsksForNone, Knows, AreAsGiven, StandsYet, AreOverSlots, Chooses, ChoosesBack, MayChoose, AreOfSlots, AreBackOfSlots}
 use Rattle.rq_level.specs.OwnState.{OwnStateIsAnew}
 use Rattle.rq_level.specs.TakenBack.{AreOverHeld, LeavesOthers, newest_first}
 use Rattle.rq_level.specs.Meaning.{Meaning, OfPlans, OfBacks, AreOf, Redo, AppliesOnce, meaning_of}
@@ -76,22 +76,20 @@ pub record IsLawful (n : ℕ) (m : Meaning) : Type 0 where
   pub few : (job : Job) (given : List Given) → IsGathered m job given → length given ≤ 3
   -- a plan tells a deed that the level reads, or none, and then has no reply; what takes something back tells none
   pub told : OfPlans m (λ k job given latched p after. (is_some (deed_by n p.deed) ≡ true)
-      ⊎ ((p.deed ≡ []) × (reply_of p ≡ None)))
+      ⊎ ((p.deed ≡ []) × (reply_of n p ≡ None)))
   pub silent : OfBacks m (λ k told given latched p after. p.deed ≡ [])
   -- a plan replies what the end of its deed answers; what takes an operation back, that it is undone
   pub replies : OfPlans m (λ k job given latched p after. (d : Deed) → deed_by n p.deed ≡ Some d
-      → reply_of p ≡ Some (answer_of d))
-  pub replies_undo : OfBacks m (λ k told given latched p after. reply_of p ≡ answer_back told)
+      → reply_of n p ≡ Some (answer_of d))
+  pub replies_undo : OfBacks m (λ k told given latched p after. reply_of n p ≡ answer_back told)
   -- a plan does to its sender's chain what its deed tells. What takes that back leaves what was done meanwhile on the
   -- other end. Neither changes another chain
   pub inverse : (z : Sizes) (d : Deed) (v : View) (q : Slots) → OfPlans m (λ k job given latched p after. k.sizes ≡ Some z
       → deed_by n p.deed ≡ Some d → AreOverHeld q (newest_first z p) → ShowsAt (layout_of z) q (deed_sender d) v
       → LeavesOthers m z d v q p)
-  -- once the slots that a plan writes were noted, whatever they hold, the level keeps what it would without the plan
-  pub ended : (q : ℕ → List ℕ) → OfPlans m (λ k job given latched p after.
-      noted_each m q (written_at p) after ≡ noted_each m q (written_at p) k)
-  pub ended_undo : (q : ℕ → List ℕ) → OfBacks m (λ k told given latched p after.
-      noted_each m q (written_at p) after ≡ noted_each m q (written_at p) k)
+  -- a plan leaves what the level keeps, or chooses the cell that it writes first
+  pub chooses : OfPlans m (λ k job given latched p after. MayChoose m k p.writes.items after)
+  pub chooses_undo : OfBacks m (λ k told given latched p after. MayChoose m k p.writes.items after)
   -- a slot that is noted again counts as it was noted last
   pub last : (k : LevelState) (a : ℕ) (x y : List ℕ) → m.note (m.note k a x) a y ≡ m.note k a y
   -- slots are noted in any order, but for the one that tells the sizes

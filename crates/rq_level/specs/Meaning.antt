@@ -26,6 +26,10 @@ pub record Meaning : Type 1 where
   -- what it keeps once a slot is noted
   pub note : LevelState → ℕ → List ℕ → LevelState
 
+-- it keeps nothing of the slots that it is told of
+pub record NotesNothing (m : Meaning) : Type 0 where
+  pub same : (k : LevelState) (a : ℕ) (bytes : List ℕ) → m.note k a bytes ≡ k
+
 -- of each plan of something to do
 abbrev pub OfPlans : Meaning → (LevelState → Job → List Given → List ℕ → Plan → LevelState → Type 0) → Type 0
 OfPlans m P = (k : LevelState) (job : Job) (given : List Given) (latched : List ℕ) (p : Plan) (after : LevelState)

@@ -2,7 +2,7 @@
 use Rattle.std.specs.Prelude.{◌≡◌, ℕ, ◌/◌, ◌%◌, List, [], ◌∷◌, Option, None, Some, map, option_map, All}
 use Rattle.rq_model.specs.declared.record.Deed.{Deed}
 use Rattle.rq_model.specs.declared.record.Deed.TheVariants.{Append, UnlinkHead, Close}
-use Rattle.rq_model.specs.Deeds.{deed_in}
+use Rattle.rq_model.specs.Deeds.{deed_by}
 use Rattle.rq_page.specs.Sizes.{Sizes}
 use Rattle.rq_page.specs.Slots.{held_in, IsSlotOf}
 use Rattle.rq_views.specs.Log.{Write}
@@ -46,6 +46,6 @@ replied replies.Nothing told = None
 replied replies.Deed told = option_map answer_of told
 replied replies.Undone told = Some gives.Undone
 
--- what the end of a planned operation replies
-abbrev pub reply_of : Plan → Option Outcome
-reply_of p = replied p.reply (deed_in p.deed)
+-- what the end of an operation replies that the level of this number planned
+abbrev pub reply_of : (level : ℕ) → Plan → Option Outcome
+reply_of level p = replied p.reply (deed_by level p.deed)

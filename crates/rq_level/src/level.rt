@@ -1,10 +1,10 @@
 //! The interface of a level of recovery.
-ghost use Rattle.std.specs.Prelude.{◌≡◌, ◌≤◌, ℕ};
+ghost use Rattle.std.specs.Prelude.{◌≡◌, ◌≤◌, ℕ, false};
 ghost use Rattle.rq_model.specs.Deeds.{deed_by};
 ghost use Rattle.rq_model.specs.Vocabulary.{is_some};
 ghost use Rattle.rq_level.specs.LevelState.{LevelState};
 ghost use Rattle.rq_level.specs.Lawful.{AllKeepAnew, AllLawful, AppliedTwiceIsOnce};
-ghost use Rattle.rq_level.specs.Meaning.{meaning_of, wish, AreOf, redo_of, AppliesOnce, IsRedo, IsAppliedOnce};
+ghost use Rattle.rq_level.specs.Meaning.{meaning_of, wish, AreOf, redo_of, AppliesOnce, IsRedo, IsAppliedOnce, NotesNothing};
 
 use crate::op::Op;
 use crate::slots::{PageSet, Slots};
@@ -39,6 +39,10 @@ pub trait Level: Drop {
     /// Whether these bytes are a deed of this level. Takes no memory.
     fn reads(&self, deed: &[u8]) -> bool
         ensures { result ≡ is_some (deed_by (level self.now) deed.now) };
+
+    /// Whether it keeps anything of the slots that it is told of.
+    fn keeps(&self) -> bool
+        ensures { result ≡ false → NotesNothing (meaning_of (level self.now)) };
 
     /// What it needs to see next of the slots that the operation writes.
     fn want(&self, op: &Op, given: &Slots) -> Want
@@ -94,6 +98,10 @@ impl Level for Box<dyn Level + Send> {
 
     fn reads(&self, deed: &[u8]) -> bool {
         (**self).reads(deed)
+    }
+
+    fn keeps(&self) -> bool {
+        (**self).keeps()
     }
 
     fn want(&self, op: &Op, given: &Slots) -> Want {

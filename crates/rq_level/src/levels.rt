@@ -3,7 +3,7 @@ ghost use Rattle.std.specs.Prelude.{◌≡◌, ℕ, ◌<◌, length, map, slice_
 ghost use Rattle.rq_model.specs.Deeds.{deed_by};
 ghost use Rattle.rq_model.specs.Vocabulary.{is_some};
 ghost use Rattle.rq_level.specs.LevelState.{LevelState};
-ghost use Rattle.rq_level.specs.Meaning.{meaning_of, wish, AreOf, redo_of, AppliesOnce, AreTold, IsRedo, kept_at, CountOn};
+ghost use Rattle.rq_level.specs.Meaning.{meaning_of, wish, AreOf, redo_of, AppliesOnce, AreTold, IsRedo, NotesNothing, kept_at, CountOn};
 
 use crate::level::{Level, Want};
 use crate::op::Op;
@@ -20,17 +20,21 @@ use std::marker::Model;
 #[derive(Drop)]
 pub struct Levels<B: Level> {
     all: Vec<B>,
+    // How many of the first keep nothing.
+    idle: usize,
 }
 
 impl<B: Level> Model for Levels<B> {
     ghost use Rattle.std.specs.Prelude.{◌≡◌, ◌<◌, ℕ, List, length, map, slice_index_or};
     ghost use Rattle.rq_level.specs.LevelState.{LevelState};
+    ghost use Rattle.rq_level.specs.Meaning.{NotesNothing, meaning_of};
 
     ghost Value = { List LevelState };
 
     ghost view = { λ a. map (λ b. B.kept b) a.all.items };
 
-    ghost invariant = { λ a. (i : ℕ) (d : _) → i < length a.all.items → B.level (slice_index_or a.all.items i d) ≡ i };
+    ghost invariant = { λ a. ((i : ℕ) (d : _) → i < length a.all.items → B.level (slice_index_or a.all.items i d) ≡ i)
+        × ((i : ℕ) → i < a.idle → NotesNothing (meaning_of i)) };
 }
 
 impl<B: Level> Levels<B> {
@@ -39,7 +43,8 @@ impl<B: Level> Levels<B> {
         requires { CountOn 0 (map (λ b. B.level b) all.items) }
         ensures { result ≡ map (λ b. B.kept b) all.items }
     {
-        Levels { all }
+        let idle = idle_of(&all);
+        Levels { all, idle }
     }
 
     /// How many there are.
@@ -113,11 +118,11 @@ impl<B: Level> Levels<B> {
         it.redo(page, lsn, record)
     }
 
-    /// Tells each level of a slot, in the order of their numbers.
+    /// Tells each level of a slot that keeps anything, in the order of their numbers.
     pub fn noted(&mut self, at: Addr, bytes: &Slot)
         ensures { AreTold at bytes.now self.old self.new }
     {
-        for level in 0..self.all.len() {
+        for level in self.idle..self.all.len() {
             self.tell(level, at, bytes);
         }
     }
@@ -130,4 +135,17 @@ impl<B: Level> Levels<B> {
         let it = &mut self.all[level];
         it.noted(at, bytes);
     }
+}
+
+// How many of the first levels keep nothing.
+fn idle_of<B: Level>(all: &[B]) -> usize
+    requires { CountOn 0 (map (λ b. B.level b) all.now) }
+    ensures { (i : ℕ) → i < result → NotesNothing (meaning_of i) }
+{
+    for number in 0..all.len() {
+        if all[number].keeps() {
+            return number;
+        }
+    }
+    all.len()
 }

@@ -1,7 +1,7 @@
 //! Levels of recovery: what an operation wants to see, what is planned of it, and what a level keeps of the store.
 //!
 //! A level is known by its number alone: `Meaning` says what the level of each number does, `IsLawful` the laws that all
-//! of them keep. `rq_planner`, which drives them for the engine and for restarts, knows the meaning of level 1.
+//! of them keep. `rq_planner` drives them for the engine and for restarts.
 #![tactic(auto)]
 
 mod level;

@@ -42,6 +42,13 @@ impl Level for StoreLevel {
         }
     }
 
+    fn keeps(&self) -> bool {
+        match self {
+            StoreLevel::Slots(level) => level.keeps(),
+            StoreLevel::Chains(level) => level.keeps(),
+        }
+    }
+
     fn want(&self, op: &Op, given: &Slots) -> Want {
         match self {
             StoreLevel::Slots(level) => level.want(op, given),
@@ -98,11 +105,10 @@ pub fn levels_of_store(alloc: Global) -> Result<StoreLevels<StoreLevel>, AllocEr
     let Ok(chains) = ChainLevel::new(alloc) else {
         return Err(AllocError);
     };
-    StoreLevels::new(
-        alloc,
-        StoreLevel::Slots(PageLevel),
-        StoreLevel::Chains(chains),
-    )
+    let mut levels = Vec::with_capacity(alloc, 2)?;
+    levels.push(StoreLevel::Slots(PageLevel))?;
+    levels.push(StoreLevel::Chains(chains))?;
+    Ok(StoreLevels::new(levels))
 }
 
 /// So many sets of them.

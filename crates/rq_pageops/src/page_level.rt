@@ -34,6 +34,10 @@ impl Level for PageLevel {
         false
     }
 
+    fn keeps(&self) -> bool {
+        false
+    }
+
     fn want(&self, op: &Op, given: &Slots) -> Want {
         if op.is_undo() {
             return Want::Ready;

@@ -3,12 +3,10 @@ use Rattle.std.proofs.Common.{◌≡◌, ℕ, ◌<◌, not, List, [], ◌∷◌,
 use Rattle.std.proofs.lemmas.Bool.{cases_eq, false≢true, true≢false}
 use Rattle.rq_model.specs.declared.record.Deed.{Deed}
 use Rattle.rq_model.specs.declared.record.Deed.TheVariants.{Append, UnlinkHead, Close}
-use Rattle.rq_model.specs.declared.record.Record.TheVariants.{OpEnd}
 use Rattle.rq_model.specs.declared.refusal.Refusal.{Refusal}
 use Rattle.rq_model.specs.declared.refusal.Refusal.TheVariants as why
-use Rattle.rq_model.specs.declared.txn.Txn.{Txn}
 use Rattle.rq_model.specs.Deeds.{deed_by, deed_in}
-use Rattle.rq_model.specs.Legal.{OnFound}
+use Rattle.rq_model.specs.Vocabulary.{is_some}
 use Rattle.rq_page.specs.declared.cell.Cell.{Cell}
 use Rattle.rq_page.specs.Sizes.{Sizes, IsCellAddress, directory_at, place_of, sender_count}
 use Rattle.rq_page.specs.Slots.Slot.{Free, Used, Sender}
@@ -22,7 +20,7 @@ use Rattle.rq_level.specs.declared.slots.Given.{Given}
 use Rattle.rq_level.specs.declared.writes.Plan.{Plan}
 use Rattle.rq_level.specs.Given.{GivenHolds}
 use Rattle.rq_level.specs.LevelState.{LevelState, NoneFree, flag_at}
-use Rattle.rq_level.specs.Meaning.{meaning_of}
+use Rattle.rq_level.specs.Meaning.{chain_meaning, kept_at, meaning_of}
 use Rattle.rq_txn.specs.Rows.{Row}
 use Rattle.rq_store.specs.Plans.{Stands_at}
 use Rattle.rq_store.specs.State.{State}
@@ -33,10 +31,12 @@ use Rattle.rq_sound.specs.Wants.{AreGivenOf}
 use Rattle.rq_sound.proofs.Levels.{levels_plan}
 use Rattle.rq_sound.specs.Inverses.{InverseIsLatched, InverseTakesLowest}
 use Rattle.rq_sound.proofs.Wants.{given_parts, given_named}
-use Rattle.rq_planner.specs.Asked.{Asked, IsOfStore, asked_back, asked_sender, known, to_undo}
+use Rattle.rq_planner.specs.Asked.{known}
 use Rattle.rq_planner.specs.Asked.Asked.{Undo}
-use Rattle.rq_planner.specs.Answered.{HasGatheredFor, IsHeldUp, IsNotGathered, IsPlanBack}
-use Rattle.rq_planner.specs.Backs.{CanBeTakenBack, CannotBeTakenBack, IsJudgedBack, IsShut, IsTakingBack, SentLast, TakenLast}
+use Rattle.rq_planner.specs.Answered.{IsAnswered, IsHeldUp, IsPlanBack, KnowsCells, MayUndo, to_take_back}
+use Rattle.rq_planner.proofs.Knowing.{cells_known, of_chains}
+use Rattle.rq_planner.proofs.Replies.{HasGatheredFor, from_wanted, of_undo, wants_undo}
+use Rattle.rq_planner.specs.Backs.{CanBeTakenBack, IsJudgedBack, IsShut, IsTakingBack, SentLast, TakenLast}
 
 -- ---- what was given of slots that hold it
 
@@ -147,26 +147,29 @@ module _ (s : State) (k : LevelState) (given : List Given) (latched : List ℕ) 
   judged (Close g) (why.Damaged x) h m damage can = m.0.1 (can_open s given g can h)
   judged d r h m damage can = absurd damage
 
-  back_judged_as : (o : Option Deed) (answer : Result Plan Refusal) → HasGatheredFor s given (to_undo o) → Undoes (Some s.sizes) o k given latched answer after → IsJudgedBack s.sizes (slots_now s) o answer
-  back_judged_as o (Ok p) h m = record { can = λ d is. can_be d p h.has.gathered (subst (λ (x : Option Deed). Undoes (Some s.sizes) x k given latched (Ok p) after) is m); damaged = tt }
-  back_judged_as o (Err r) h m = record {
-    can = tt;
-    damaged = λ damage d is can. judged d r (subst (λ (x : Option Deed). HasGatheredFor s given (to_undo x)) is h).all (subst (λ (x : Option Deed). Undoes (Some s.sizes) x k given latched (Err r) after) is m) damage can;
-  }
+  pub judged_back : (d : Deed) (answer : Result Plan Refusal) → HasGatheredFor s given (Undo d) → Undoes (Some s.sizes) (Some d) k given latched answer after → IsJudgedBack s.sizes (slots_now s) d answer
+  judged_back d (Ok p) h m = record { can = can_be d p h.gathered m; damaged = tt }
+  judged_back d (Err r) h m = record { can = tt; damaged = λ damage can. judged d r h.all m damage can }
 
-  pub back_judged : (t : Txn) (number level : ℕ) (deed : List ℕ) (answer : Result Plan Refusal) → level ≡ 1 → HasGatheredFor s given (asked_back level deed)
-      → (meaning_of 1).undoes k (OpEnd t number level deed) given latched answer after → IsJudgedBack s.sizes (slots_now s) (deed_by level deed) answer
+module _ (z : Sizes) (images : List (List ℕ)) (rows : List Row) (levels : List LevelState) (knows : KnowsCells z images levels) (answer : Result Plan Refusal) where
+  abbrev s : State
+  s = known z images rows
+
+  abbrev keeps : KeepsCells s (kept_at levels 1)
+  keeps = cells_known z images levels rows knows
+
+  of_one : (level : ℕ) (deed : List ℕ) → IsAnswered s (meaning_of 1) (to_take_back level deed) (MayUndo s (meaning_of 1) (kept_at levels 1) level deed) answer → (d : Deed) → deed_in deed ≡ Some d → deed_sender d < sender_count z → IsJudgedBack z (slots_now s) d answer
   unfolding meaning_of
-  back_judged t number level deed answer one h law =
-      let at : deed_by level deed ≡ deed_in deed = ap (λ (n : ℕ). deed_by n deed) one in
-      subst (λ (o : Option Deed). IsJudgedBack s.sizes (slots_now s) o answer) (sym at)
-      (back_judged_as (deed_in deed) answer (subst (λ (o : Option Deed). HasGatheredFor s given (to_undo o)) at h) (subst (λ (z : Option Sizes). Undoes z (deed_in deed) k given latched answer after) keeps.sizes law))
+  of_one level deed h d told inside =
+      from_wanted s (to_take_back level deed) (Undo d) (wants_undo s (kept_at levels 1) keeps level d deed told inside) (MayUndo s chain_meaning (kept_at levels 1) level deed) (IsJudgedBack z (slots_now s) d)
+      (record { can = tt; damaged = λ x. absurd x }) (λ held. record { can = tt; damaged = λ x. absurd x })
+      (λ given a has m. judged_back s (kept_at levels 1) given m.latched keeps m.on m.after d a has (of_undo s (kept_at levels 1) keeps d deed level given a told m)) answer h
 
--- what is not gathered is not refused as damage
-pub not_judged : (s : State) (asked : Option Asked) (r : Refusal) (o : Option Deed) → IsNotGathered s asked r → IsJudgedBack s.sizes (slots_now s) o (Err r)
-not_judged s asked why.NoMemory o h = record { can = tt; damaged = λ x. absurd x }
-not_judged s asked why.Latched o h = record { can = tt; damaged = λ x. absurd x }
-not_judged s asked _ o h = absurd h
+  pub back_judged : (level : ℕ) (deed : List ℕ) (d : Deed) → deed_by level deed ≡ Some d → deed_sender d < sender_count z → IsAnswered s (meaning_of level) (to_take_back level deed) (MayUndo s (meaning_of level) (kept_at levels level) level deed) answer
+      → IsJudgedBack z (slots_now s) d answer
+  back_judged level deed d told inside h =
+      let one : level ≡ 1 = of_chains level (deed_in deed) (ap is_some told) in
+      of_one level deed (subst (λ n. IsAnswered s (meaning_of n) (to_take_back level deed) (MayUndo s (meaning_of n) (kept_at levels n) level deed) answer) one h) d (sym (ap (λ n. deed_by n deed) one) ∙ told) inside
 
 -- ---- where nothing is under way
 
@@ -174,12 +177,6 @@ pub can_below : (z : Sizes) (q : Slots) (d : Deed) → CanBeTakenBack z q d → 
 can_below z q (Append g n tag previous body) c = c.below
 can_below z q (UnlinkHead g n tag body) c = c.below
 can_below z q (Close g) c = c.below
-
-pub of_store : (z : Sizes) (asked : Option Asked) (d : Deed) → asked ≡ Some (Undo d) → deed_sender d < sender_count z → IsOfStore z asked
-of_store z asked d is low a e =
-    let same : Some (Undo d) ≡ Some a = sym is ∙ e in
-    let one : Undo d ≡ a = cc same in
-    subst (λ (b : Asked). asked_sender b < sender_count z) one low
 
 nobody : (xs : List ℕ) → any_latched [] xs ≡ false
 nobody [] = refl
@@ -193,6 +190,9 @@ never_latched z q (UnlinkHead g n tag body) c h = elim h [
 ]
 never_latched z q (Close g) c h = false≢true h
 
+pub same_deed : (d e : Deed) → Some d ≡ Some e → d ≡ e
+same_deed d e is = cc
+
 module _ (z : Sizes) (images : List (List ℕ)) (rows : List Row) (none : rows ≡ []) (level : ℕ) (bytes : List ℕ) where
   pub taken_back : (d : Deed) (p : Plan) → deed_by level bytes ≡ Some d → IsPlanBack (known z images rows) d p → CanBeTakenBack z (slots_in z images) d → IsTakingBack z (slots_in z images) (deed_by level bytes) p.writes.items
   taken_back d p reads back can = record {
@@ -204,7 +204,5 @@ module _ (z : Sizes) (images : List (List ℕ)) (rows : List Row) (none : rows �
     lowest = subst (λ (rs : List Row). InverseTakesLowest z (slots_in z images) rs d p.writes.items) none back.lowest;
   }
 
-  pub not_held_up : OnFound (asked_back level bytes) (IsHeldUp (known z images rows)) → CannotBeTakenBack z (slots_in z images) (deed_by level bytes)
-  not_held_up held d is can =
-      let on : IsHeldUp (known z images rows) (Undo d) = subst (λ (o : Option Asked). OnFound o (IsHeldUp (known z images rows))) (ap to_undo is) held in
-      never_latched z (slots_in z images) d can (subst (λ (rs : List Row). InverseIsLatched z (slots_in z images) rs d) none on)
+  pub not_held_up : (d : Deed) → IsHeldUp (known z images rows) (Undo d) → CanBeTakenBack z (slots_in z images) d → ⊥
+  not_held_up d held can = never_latched z (slots_in z images) d can (subst (λ (rs : List Row). InverseIsLatched z (slots_in z images) rs d) none held)

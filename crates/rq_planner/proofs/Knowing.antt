@@ -1,96 +1,217 @@
--- A level that knows the cells of a store, whatever is under way there.
-use Rattle.std.proofs.Common.{set, ◌≡◌, ◌≢◌, ℕ, ◌/◌, ◌<◌, List, [], length, refl, sym, ◌∙◌, ap, subst, Bool, true, false, not, nat_eq, Option, Some, Result, Ok, Err, IfOk, IfErr, inl, inr, arith}
-use Rattle.std.proofs.lemmas.Bool.{cases_Bool, cases_eq, eqb-true, false≢true, false_from_ne_true, true≢false}
-use Rattle.std.proofs.lemmas.List.{length-set}
-use Rattle.rq_page.specs.Sizes.{Sizes, IsCellAddress, cell_at, cell_count, place_of}
-use Rattle.rq_page.specs.Slots.{held_in}
-use Rattle.rq_page.proofs.Addresses.{cells_have_places, places_are_cells}
-use Rattle.rq_views.specs.Log.{put}
-use Rattle.rq_views.specs.Stored.{IsStoreSlot, is_used, slot_at, slots_in}
-use Rattle.rq_views.proofs.Overlay.{put_at, put_off}
+-- Levels that know the slots of a store, whatever is under way there.
+use Rattle.std.proofs.Common.{set, ◌≡◌, ◌≢◌, ◌⊎◌, ℕ, zero, suc, ◌+◌, ◌/◌, ◌%◌, ◌<◌, ◌≤◌, cond, List, [], ◌∷◌, length, refl, sym, ◌∙◌, ap, subst, Bool, true, false, not, nat_eq, Option, None, Result, Ok, Err, IfOk, IfErr, inl, inr, arith}
+use Rattle.std.specs.List.{slice_get}
+use Rattle.std.proofs.lemmas.Bool.{cases_Bool, cases_eq, eqb-true, false≢true}
+use Rattle.std.proofs.lemmas.List.{get_or-set_other, length-set}
+use Rattle.rq_model.specs.Vocabulary.{is_some}
+use Rattle.rq_page.specs.Sizes.{Sizes, address, cell_at, cell_count, directory_at, place_of, sender_count}
+use Rattle.rq_page.specs.Pages.{IsWritten, slot_of}
+use Rattle.rq_page.proofs.Addresses.{cells_have_places}
+use Rattle.rq_pool.specs.Pooled.{image_at}
+use Rattle.rq_views.specs.Stored.{IsStoreSlot, is_used, slot_at}
 use Rattle.rq_model.specs.declared.refusal.Refusal.{Refusal}
+use Rattle.rq_model.specs.declared.record.Record.{Record}
+use Rattle.rq_level.specs.declared.slots.Given.{Given}
 use Rattle.rq_level.specs.declared.writes.Plan.{Plan}
-use Rattle.rq_level.specs.LevelState.{LevelState, flag_at, is_cell_address, is_free_slot, noted, noted_cell, noted_in}
-use Rattle.rq_level.proofs.Noting.{is_cell}
+use Rattle.rq_level.specs.declared.writes.SlotWrite.{SlotWrite}
+use Rattle.rq_level.specs.Asked.{MayChoose}
+use Rattle.rq_level.specs.LevelState.{LevelState, flag_at, is_free_slot, noted, noted_cell}
+use Rattle.rq_level.specs.Meaning.{AreTold, kept_at, meaning_of}
+use Rattle.rq_level.specs.Ops.{Job}
+use Rattle.rq_level.proofs.Based.{noted_there}
+use Rattle.rq_level.proofs.EachLevel.{all_lawful}
 use Rattle.rq_txn.specs.Rows.{Row}
-use Rattle.rq_sound.specs.Chosen.{KeepsBeside, first_place}
 use Rattle.rq_sound.specs.Levels.{KeepsCells}
-use Rattle.rq_sound.proofs.KeptCells.{cell_is, flag_other, flag_same, free_by_byte, place_is}
-use Rattle.rq_planner.specs.Answered.{IsAnswered, KnowsCells}
-use Rattle.rq_planner.specs.Asked.{Asked, known}
+use Rattle.rq_sound.proofs.Gathering.{cell_of_store}
+use Rattle.rq_sound.proofs.KeptCells.{flag_same, free_by_byte}
+use Rattle.rq_planner.specs.Answered.{KnowsCells, KnowsSizes, KnowsThose, MayBeTold}
+use Rattle.rq_planner.specs.Asked.{known}
 use Rattle.rq_planner.proofs.Told.{slot_is}
 
--- ---- a slot is written
+-- ---- levels that keep what others keep
 
-module _ (z : Sizes) (images new : List (List ℕ)) (k : LevelState) (a : ℕ) (bytes : List ℕ) (store : IsStoreSlot z a)
-    (now : (b : ℕ) → slots_in z new b ≡ put (slots_in z images) a (held_in z (a / 16) bytes) b) (h : KnowsCells z images k) where
-  abbrev p : ℕ
-  p = place_of z a
+pub same_levels : (old now : List LevelState) → length now ≡ length old → ((i : ℕ) → i < length old → kept_at now i ≡ kept_at old i) → now ≡ old
+same_levels [] [] n h = refl
+same_levels [] (y ∷ now) n h = absurd (omega (arith, n))
+same_levels (x ∷ old) [] n h = absurd (omega (arith, n))
+same_levels (x ∷ old) (y ∷ now) n h =
+    let rest : now ≡ old = same_levels old now (omega (arith, n)) (λ i lt. h (suc i) (omega (arith, lt))) in
+    ap (λ z. z ∷ now) (h zero (omega arith)) ∙ ap (λ zs. x ∷ zs) rest
 
-  abbrev free_now : Bool
-  free_now = is_free_slot bytes
+module _ (old mid : List LevelState) (n : ℕ) (changed : mid ≡ set old n (kept_at mid n)) where
+  count_stays : length mid ≡ length old
+  count_stays = ap length changed ∙ length-set old n (kept_at mid n)
 
-  not_first : nat_eq a 1 ≡ false
-  not_first = false_from_ne_true (nat_eq a 1) (λ y. let e = eqb-true a 1 y in let low = store.page_low in omega (arith, e, low))
+  others_stay : (i : ℕ) → i ≢ n → kept_at mid i ≡ kept_at old i
+  others_stay i ne = ap (λ ks. kept_at ks i) changed ∙ get_or-set_other old n i (kept_at mid n) _ ne
 
-  noted_as : noted k a bytes ≡ noted_in (Some z) k a bytes
-  noted_as = (let n = not_first in rw n refl) ∙ ap (λ (o : Option Sizes). noted_in o k a bytes) h.sizes
+  -- one that keeps what it kept
+  pub one_stays : kept_at mid n ≡ kept_at old n → mid ≡ old
+  one_stays same = same_levels old mid count_stays (λ i lt. elim (cases_eq i n) [ inl e ↦ ap (kept_at mid) e ∙ same ∙ ap (kept_at old) (sym e) | inr ne ↦ others_stay i ne ])
 
-  other_place : is_cell_address z a ≡ false → (i : ℕ) → i < cell_count z → cell_at z i ≢ a
-  other_place n i lt e = true≢false (sym (cell_is z a (subst (IsCellAddress z) e (cells_have_places z i lt).0)) ∙ n)
+  -- what it chose is given back
+  module _ (z : Sizes) (images : List (List ℕ)) (knows : KnowsCells z images old) (sizes : KnowsSizes z old n) (now : List LevelState) where
+    again_at : (a i : ℕ) → IsStoreSlot z a → i < length old → (k : LevelState) → (meaning_of i).note k a (slot_at images a) ≡ (meaning_of i).note (kept_at old i) a (slot_at images a) → (meaning_of i).note k a (slot_at images a) ≡ kept_at old i
+    again_at a i store lt k e = e ∙ knows.again i a lt store
 
-  of_no_cell : is_cell_address z a ≡ false → KnowsCells z new k
-  of_no_cell n = record {
-    sizes = h.sizes;
-    free_count = h.free_count;
-    chosen_count = h.chosen_count;
-    free = λ i lt. h.free i lt ∙ ap (λ x. not (is_used x)) (sym (now (cell_at z i) ∙ put_off (slots_in z images) a (held_in z (a / 16) bytes) (cell_at z i) (other_place n i lt)));
-    chosen = h.chosen;
+    told_back : (w : SlotWrite) → IsStoreSlot z w.at → AreTold w.at (slot_at images w.at) mid now → ((x : List ℕ) → (meaning_of n).note (kept_at mid n) w.at x ≡ (meaning_of n).note (kept_at old n) w.at x) → now ≡ old
+    told_back w store told back = same_levels old now (told.count ∙ count_stays) (λ i lt.
+        told.each i (let c = count_stays in omega (arith, c, lt)) ∙ again_at w.at i store lt (kept_at mid i) (elim (cases_eq i n) [
+          | inl e ↦ subst (λ m. (meaning_of m).note (kept_at mid m) w.at (slot_at images w.at) ≡ (meaning_of m).note (kept_at old m) w.at (slot_at images w.at)) (sym e) (back (slot_at images w.at))
+          | inr ne ↦ ap (λ k. (meaning_of i).note k w.at (slot_at images w.at)) (others_stay i ne)
+        ]))
+
+    pub given_back : (ws : List SlotWrite) → MayChoose (meaning_of n) (kept_at old n) ws (kept_at mid n) → MayBeTold z images (slice_get ws 0) mid now → now ≡ old
+    given_back [] same told = told ∙ one_stays same
+    given_back (w ∷ ws) may told = elim may [
+      | inl same ↦ elim told [
+        | inl t ↦ told_back w t.0 t.1 (λ x. ap (λ k. (meaning_of n).note k w.at x) same)
+        | inr t ↦ t.1 ∙ one_stays same
+      ]
+      | inr c ↦ elim told [
+        | inl t ↦ told_back w t.0 t.1 c.back
+        | inr t ↦ absurd (t.0 c.free (cell_of_store z w.at (c.cell z sizes.1)))
+      ]
+    ]
+
+    -- after a plan, and after one of what takes something back
+    pub plan_same : (job : Job) (given : List Given) (latched : List ℕ) (answer : Result Plan Refusal) → (meaning_of n).plans (kept_at old n) job given latched answer (kept_at mid n)
+        → IfOk answer (λ p. MayBeTold z images (slice_get p.writes.items 0) mid now) → IfErr answer (λ _. now ≡ mid) → now ≡ old
+    plan_same job given latched (Ok p) m told left = given_back p.writes.items ((all_lawful n).chooses (kept_at old n) job given latched p (kept_at mid n) m) told
+    plan_same job given latched (Err r) m told left = left ∙ one_stays (((all_lawful n).refuses (kept_at old n) job given latched r (kept_at mid n) m).1)
+
+    pub undo_same : (r : Record) (given : List Given) (latched : List ℕ) (answer : Result Plan Refusal) → (meaning_of n).undoes (kept_at old n) r given latched answer (kept_at mid n)
+        → IfOk answer (λ p. MayBeTold z images (slice_get p.writes.items 0) mid now) → IfErr answer (λ _. now ≡ mid) → now ≡ old
+    undo_same r given latched (Ok p) m told left = given_back p.writes.items ((all_lawful n).chooses_undo (kept_at old n) r given latched p (kept_at mid n) m) told
+    undo_same r given latched (Err e) m told left = left ∙ one_stays (((all_lawful n).refuses_undo (kept_at old n) r given latched e (kept_at mid n) m).1)
+
+-- ---- a slot is told
+
+-- All levels are told of a slot as it is, and those that they knew did not change.
+pub told_more : (Old New : ℕ → Type 0) (z : Sizes) (images new : List (List ℕ)) (old now : List LevelState) (a : ℕ) (bytes : List ℕ) → AreTold a bytes old now → bytes ≡ slot_at new a → a ≢ 1 → ((b : ℕ) → Old b → b ≢ 1)
+    → ((b : ℕ) → New b → (b ≡ a) ⊎ (Old b × (slot_at new b ≡ slot_at images b))) → KnowsThose Old z images old → KnowsThose New z new now
+told_more Old New z images new old now a bytes told is first apart more h = record {
+  again = again;
+  chains = ((let n = told.count in let two = h.chains.0 in omega (arith, n, two)), ap (λ (k : LevelState). k.sizes) (told.each 1 h.chains.0) ∙ ((all_lawful 1).alone (kept_at old 1) z a (suc (place_of z a)) bytes h.chains.1 first (λ c e. omega (arith, e))).0 ∙ h.chains.1);
+  free_count = (let e = ap (λ (k : LevelState). length k.free) (told.each 1 h.chains.0) in let r = ((all_lawful 1).room (kept_at old 1) a bytes).0 in let n = h.free_count in omega (arith, e, r, n));
+  chosen_count = (let e = ap (λ (k : LevelState). length k.reserved) (told.each 1 h.chains.0) in let r = ((all_lawful 1).room (kept_at old 1) a bytes).1 in let n = h.chosen_count in omega (arith, e, r, n));
+} where
+  again : (i b : ℕ) → i < length now → New b → (meaning_of i).note (kept_at now i) b (slot_at new b) ≡ kept_at now i
+  again i b lt these =
+      let inside : i < length old = (let n = told.count in omega (arith, n, lt)) in
+      let is_told = told.each i inside in
+      let note = (meaning_of i).note in
+      ap (λ k. note k b (slot_at new b)) is_told ∙ elim (cases_eq b a) [
+        | inl same ↦
+            ap (λ n. note (note (kept_at old i) a bytes) n (slot_at new n)) same ∙ ap (λ x. note (note (kept_at old i) a bytes) a x) (sym is)
+            ∙ (all_lawful i).last (kept_at old i) a bytes bytes ∙ sym is_told
+        | inr ne ↦ elim (more b these) [
+          | inl same ↦ absurd (ne same)
+          | inr m ↦
+              ap (note (note (kept_at old i) a bytes) b) m.1 ∙ (all_lawful i).commutes (kept_at old i) a b bytes (slot_at images b) first (apart b m.0) (λ e. ne (sym e))
+              ∙ ap (λ k. note k a bytes) (h.again i b inside m.0) ∙ sym is_told
+        ]
+      ]
+
+pub not_sizes : (z : Sizes) (a : ℕ) → IsStoreSlot z a → a ≢ 1
+not_sizes z a store e = let low = store.page_low in omega (arith, e, low)
+
+-- a slot was written, and no other
+pub knows_written : (z : Sizes) (images new : List (List ℕ)) (old now : List LevelState) (a : ℕ) (bytes : List ℕ) → IsStoreSlot z a → bytes ≡ slot_at new a → ((b : ℕ) → IsStoreSlot z b → b ≢ a → slot_at new b ≡ slot_at images b)
+    → AreTold a bytes old now → KnowsCells z images old → KnowsCells z new now
+knows_written z images new old now a bytes store is others told h =
+    told_more (IsStoreSlot z) (IsStoreSlot z) z images new old now a bytes told is (not_sizes z a store) (not_sizes z) (λ b stands. elim (cases_eq b a) [ inl same ↦ inl same | inr ne ↦ inr (stands, others b stands ne) ]) h
+
+-- by a write into its page
+pub knows_put : (z : Sizes) (images new : List (List ℕ)) (old now : List LevelState) (a : ℕ) (bytes : List ℕ) (lsn : ℕ) → IsStoreSlot z a → IsWritten (image_at images (a / 16)) (image_at new (a / 16)) (a % 16) bytes lsn → ((p : ℕ) → p ≢ a / 16 → image_at new p ≡ image_at images p)
+    → AreTold a bytes old now → KnowsCells z images old → KnowsCells z new now
+knows_put z images new old now a bytes lsn store page others = knows_written z images new old now a bytes store (sym page.slot) (λ b stands ne. elim (cases_eq (b / 16) (a / 16)) [
+  | inl same ↦
+      ap (λ p. slot_of (b % 16) (image_at new p)) same
+      ∙ page.others (b % 16) stands.slot (omega arith) (λ e. ne (omega (arith, same, e)))
+      ∙ ap (λ p. slot_of (b % 16) (image_at images p)) (sym same)
+  | inr off ↦ ap (slot_of (b % 16)) (others (b / 16) off)
+])
+
+-- ---- the cells
+
+notes_one : (z : Sizes) (images : List (List ℕ)) (levels : List LevelState) (a : ℕ) → KnowsCells z images levels → IsStoreSlot z a → noted (kept_at levels 1) a (slot_at images a) ≡ kept_at levels 1
+unfolding meaning_of
+notes_one z images levels a h store = h.again 1 a h.chains.0 store
+
+-- the level of chains knows the cells
+pub cells_known : (z : Sizes) (images : List (List ℕ)) (levels : List LevelState) (rows : List Row) → KnowsCells z images levels → KeepsCells (known z images rows) (kept_at levels 1)
+cells_known z images levels rows h = record {
+  sizes = h.chains.1;
+  free_count = h.free_count;
+  chosen_count = h.chosen_count;
+  free = λ i lt.
+      let cell = (cells_have_places z i lt).0 in
+      ap (λ (x : LevelState). flag_at x.free i) (sym (stays i lt)) ∙ flag_same k.free i (byte i) (let n = h.free_count in omega (arith, n, lt))
+      ∙ free_by_byte z (cell_at z i) (slot_at images (cell_at z i)) cell ∙ ap (λ x. not (is_used x)) (sym (slot_is z images (cell_at z i) (cell_of_store z (cell_at z i) cell)));
+  chosen = λ i lt e. absurd (false≢true (sym (ap (λ (x : LevelState). flag_at x.reserved i) (sym (stays i lt)) ∙ flag_same k.reserved i false (let n = h.chosen_count in omega (arith, n, lt))) ∙ e));
+} where
+  k : LevelState
+  k = kept_at levels 1
+
+  byte : ℕ → Bool
+  byte i = is_free_slot (slot_at images (cell_at z i))
+
+  -- its flags are those of its slot
+  stays : (i : ℕ) → i < cell_count z → noted_cell z k i (byte i) ≡ k
+  stays i lt =
+      let p = cells_have_places z i lt in
+      ap (λ n. noted_cell z k n (byte i)) (sym p.1) ∙ sym (noted_there z k (cell_at z i) (slot_at images (cell_at z i)) h.chains.1 p.0) ∙ notes_one z images levels (cell_at z i) h (cell_of_store z (cell_at z i) p.0)
+
+-- ---- all slots of a store, one after the other
+
+abbrev pub AreBelow : Sizes → ℕ → ℕ → Type 0
+AreBelow z bound a = IsStoreSlot z a × (a < bound)
+
+module _ (z : Sizes) (images : List (List ℕ)) where
+  -- none are below the first
+  pub none_below : (levels : List LevelState) → KnowsSizes z levels 1 → cell_count z ≤ length (kept_at levels 1).free → cell_count z ≤ length (kept_at levels 1).reserved → KnowsThose (AreBelow z (directory_at 0)) z images levels
+  none_below levels chains free chosen = record {
+    again = λ i a lt b. absurd (let low = b.0.page_low in let high = b.1 in omega (arith, low, high));
+    chains = chains;
+    free_count = free;
+    chosen_count = chosen;
   }
 
-  of_cell : is_cell_address z a ≡ true → KnowsCells z new (noted_cell z k p free_now)
-  of_cell y =
-      let cell = is_cell z a y in
-      let place = places_are_cells z a cell in
-      let free_lt : p < length k.free = (let n = h.free_count in let lt = place.0 in omega (arith, n, lt)) in
-      let chosen_lt : p < length k.reserved = (let n = h.chosen_count in let lt = place.0 in omega (arith, n, lt)) in
-      record {
-        sizes = h.sizes;
-        free_count = (let l = length-set k.free p free_now in let n = h.free_count in omega (arith, l, n));
-        chosen_count = (let l = length-set k.reserved p false in let n = h.chosen_count in omega (arith, l, n));
-        free = λ i lt. elim (cases_eq i p) [
-          | inl same ↦
-              let here : cell_at z i ≡ a = ap (cell_at z) same ∙ place.1 in
-              ap (flag_at (set k.free p free_now)) same ∙ flag_same k.free p free_now free_lt ∙ free_by_byte z a bytes cell
-              ∙ ap (λ x. not (is_used x)) (sym (now (cell_at z i) ∙ put_at (slots_in z images) a (held_in z (a / 16) bytes) (cell_at z i) here))
-          | inr ne ↦ flag_other k.free p i free_now ne ∙ h.free i lt ∙ ap (λ x. not (is_used x)) (sym (now (cell_at z i) ∙ put_off (slots_in z images) a (held_in z (a / 16) bytes) (cell_at z i) (λ e. ne (place_is z a i lt e))))
-        ];
-        chosen = λ i lt e. elim (cases_eq i p) [
-          | inl same ↦ absurd (false≢true (sym (ap (flag_at (set k.reserved p false)) same ∙ flag_same k.reserved p false chosen_lt) ∙ e))
-          | inr ne ↦ h.chosen i lt (sym (flag_other k.reserved p i false ne) ∙ e)
-        ];
-      }
+  -- the next slot is told
+  pub next_below : (base n : ℕ) (old now : List LevelState) → let at = address (base + n / 15) (1 + n % 15) in let next = address (base + (n + 1) / 15) (1 + (n + 1) % 15) in
+      1 ≤ base → AreTold at (slot_at images at) old now → KnowsThose (AreBelow z at) z images old → KnowsThose (AreBelow z next) z images now
+  next_below base n old now low told h =
+      told_more _ _ z images images old now (address (base + n / 15) (1 + n % 15)) _ told refl (λ e. omega (arith, e, low)) (λ b below. not_sizes z b below.0) (λ b below. elim (cases_eq b (address (base + n / 15) (1 + n % 15))) [
+        | inl same ↦ inl same
+        | inr ne ↦ inr ((below.0, (let high = below.1 in let slot = below.0.slot in omega (arith, ne, high, slot))), refl)
+      ]) h
 
-  pub knows_written : KnowsCells z new (noted k a bytes)
-  knows_written = subst (KnowsCells z new) (sym noted_as) (elim (cases_Bool (is_cell_address z a)) [
-    | inl y ↦ rw y (of_cell y)
-    | inr n ↦ rw n (of_no_cell n)
-  ])
+  -- all are below the end
+  pub all_below : (levels : List LevelState) → KnowsThose (AreBelow z (cell_at z (cell_count z))) z images levels → KnowsCells z images levels
+  all_below levels h = record {
+    again = λ i a lt store. h.again i a lt (store, (let high = store.page_high in omega (arith, high)));
+    chains = h.chains;
+    free_count = h.free_count;
+    chosen_count = h.chosen_count;
+  }
 
--- the slot is told as it is then, and no other differs
-pub knows_again : (z : Sizes) (images new : List (List ℕ)) (k after : LevelState) (a : ℕ) → IsStoreSlot z a → ((b : ℕ) → b ≢ a → slots_in z new b ≡ slots_in z images b) → KnowsCells z images k → after ≡ noted k a (slot_at new a) → KnowsCells z new after
-knows_again z images new k after a store others h e = subst (KnowsCells z new) (sym e) (knows_written z images new k a (slot_at new a) store now h) where
-  now : (b : ℕ) → slots_in z new b ≡ put (slots_in z images) a (held_in z (a / 16) (slot_at new a)) b
-  now b = elim (cases_eq b a) [
-    | inl same ↦ ap (slots_in z new) same ∙ slot_is z new a store ∙ sym (put_at (slots_in z images) a (held_in z (a / 16) (slot_at new a)) b same)
-    | inr ne ↦ others b ne ∙ sym (put_off (slots_in z images) a (held_in z (a / 16) (slot_at new a)) b ne)
-  ]
+  -- the first cell is behind the last sender
+  pub cells_behind : (levels : List LevelState) → KnowsThose (AreBelow z (directory_at (sender_count z))) z images levels → KnowsThose (AreBelow z (cell_at z 0)) z images levels
+  cells_behind levels h = record {
+    again = λ i a lt b. h.again i a lt (b.0, (let high = b.1 in omega (arith, high)));
+    chains = h.chains;
+    free_count = h.free_count;
+    chosen_count = h.chosen_count;
+  }
 
--- ---- what is planned
+-- ---- what can be asked, and what a deed tells, is of a level that was told the sizes
 
--- what a plan chose is given back
-pub given_back : (z : Sizes) (images : List (List ℕ)) (rows : List Row) (k planned new : LevelState) (asked : Option Asked) (answer : Result Plan Refusal)
-    → KnowsCells z images k → IsAnswered (known z images rows) k asked answer planned
-    → IfOk answer (λ p. (rs : List Row) → KeepsBeside (known z images rs) planned (first_place p.writes.items) → KeepsCells (known z images rs) new) → IfErr answer (λ _. new ≡ planned) → KnowsCells z images new
-given_back z images rows k planned new asked (Ok p) knows a back same = back [] (a.chosen [] knows)
-given_back z images rows k planned new asked (Err r) knows a back same = subst (KnowsCells z images) (sym (same ∙ a.refused)) knows
+pub of_chains : {X : Type 0} (level : ℕ) (o : Option X) → is_some (cond (nat_eq level 1) o None) ≡ true → level ≡ 1
+of_chains level o some = elim (cases_Bool (nat_eq level 1)) [
+  | inl one ↦ eqb-true level 1 one
+  | inr other ↦ absurd (false≢true (sym (ap (λ b. is_some (cond b o None)) other) ∙ some))
+]
+
+pub knows_asked : {X : Type 0} (z : Sizes) (images : List (List ℕ)) (levels : List LevelState) (level : ℕ) (o : Option X) → KnowsCells z images levels → is_some (cond (nat_eq level 1) o None) ≡ true → KnowsSizes z levels level
+knows_asked z images levels level o h some = subst (KnowsSizes z levels) (sym (of_chains level o some)) h.chains

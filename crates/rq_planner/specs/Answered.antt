@@ -1,56 +1,92 @@
--- What a store is answered that asks the level of chains for a plan.
-use Rattle.std.specs.Prelude.{◌≡◌, ◌⊎◌, ℕ, ◌≤◌, ◌<◌, ◌^◌, true, false, List, [], ◌∷◌, ◌++◌, length, Option, Some, Result, IfErr, IfOk}
+-- What a store is answered that asks a level for a plan, and what levels keep of it.
+use Rattle.std.specs.Prelude.{◌≡◌, ◌⊎◌, ℕ, ◌/◌, ◌≤◌, ◌<◌, ◌^◌, true, false, List, [], ◌∷◌, ◌++◌, length, Option, None, Some, Result, Ok, Err, IfErr, IfOk}
 use Rattle.rq_model.specs.declared.record.Deed.{Deed}
 use Rattle.rq_model.specs.declared.record.Deed.TheVariants.{Append, UnlinkHead, Close as Close_deed}
 use Rattle.rq_model.specs.declared.refusal.Refusal.{Refusal}
 use Rattle.rq_model.specs.declared.refusal.Refusal.TheVariants as why
 use Rattle.rq_model.specs.Deeds.{deed_by, spelled_deed}
-use Rattle.rq_model.specs.Legal.{OnFound}
+use Rattle.rq_model.specs.declared.record.Record.TheVariants.{OpEnd}
+use Rattle.rq_model.specs.declared.txn.Txn.{Txn}
 use Rattle.rq_page.specs.Sizes.{Sizes, cell_count}
 use Rattle.rq_views.specs.Items.{items}
 use Rattle.rq_views.specs.Legal.{view}
 use Rattle.rq_views.specs.Log.{Slots}
 use Rattle.rq_views.specs.Plans.Turn.{Did, Undid}
+use Rattle.rq_views.specs.Stored.{IsStoreSlot, slot_at}
+use Rattle.rq_level.specs.Asked.{IsGathered as AreWantedBy}
 use Rattle.rq_level.specs.ChainPlans.{IsInverse, TellsDamage}
 use Rattle.rq_level.specs.declared.slots.Given.{Given}
 use Rattle.rq_level.specs.declared.writes.Plan.{Plan}
 use Rattle.rq_level.specs.declared.writes.SlotWrite.{SlotWrite}
-use Rattle.rq_level.specs.LevelState.{LevelState}
-use Rattle.rq_level.specs.Ops.{Doing, doing_level}
+use Rattle.rq_level.specs.LevelState.{LevelState, is_free_slot}
+use Rattle.rq_level.specs.Meaning.{AreTold, Meaning, kept_at, meaning_of}
+use Rattle.rq_level.specs.Ops.{Doing, Job, doing_level}
 use Rattle.rq_level.specs.Ops.Doing.{Send, Receive, Close}
 use Rattle.rq_level.specs.Writes.{AreSlotWrites, answer_of, reply_of}
 use Rattle.rq_txn.specs.declared.Finished.{Finished}
-use Rattle.rq_txn.specs.Rows.{Row}
+use Rattle.rq_txn.specs.Rows.{Row, latched_in}
 use Rattle.rq_groups.specs.Waiting.{waits}
 use Rattle.rq_store.specs.State.{State}
 use Rattle.rq_sound.specs.Calls.{IsIdle}
-use Rattle.rq_sound.specs.Chosen.{KeepsBeside, first_place}
 use Rattle.rq_sound.specs.Gathering.{AreGivenFrom}
 use Rattle.rq_sound.specs.Groups.{slots_now}
 use Rattle.rq_sound.specs.Latching.{any_latched}
-use Rattle.rq_sound.specs.Levels.{IsGathered, KeepsCells, IsUnlatchedPlan}
+use Rattle.rq_sound.specs.Levels.{AreLatched, IsGathered, IsUnlatchedPlan}
 use Rattle.rq_sound.specs.Sound.{IsSound}
-use Rattle.rq_sound.specs.Wants.{AreGivenOf}
 use Rattle.rq_sound.specs.Lowest.{AreAllLatched, FirstIsLowest}
 use Rattle.rq_sound.specs.Inverses.{InverseIsLatched, InverseTakesLowest}
-use Rattle.rq_planner.specs.Asked.{Asked, known, needed_by, slots_for}
+use Rattle.rq_planner.specs.Asked.{Asked, known, slots_for}
 use Rattle.rq_planner.specs.Asked.Asked.{Do, Undo}
 
--- slots of the store were given as they are, of pages that nobody has latched
-pub record HasGathered (s : State) (given : List Given) : Type 0 where
+-- ---- by a level of any number
+
+-- slots of the store were given, as the level wanted them, each as it is, of pages that nobody has latched
+pub record HasGathered (s : State) (m : Meaning) (job : Job) (given : List Given) : Type 0 where
+  pub wanted : AreWantedBy m job given
   pub from : AreGivenFrom s given
   pub gathered : IsGathered s given
 
--- all that is needed for what is asked
-pub record HasGatheredFor (s : State) (given : List Given) (asked : Option Asked) : Type 0 where
-  pub has : HasGathered s given
-  pub all : AreGivenOf s given (needed_by (slots_now s) asked)
+-- why it is not given the slot at this address: want of memory, or a latch on its page; or the store has no such slot
+abbrev pub IsWithheld : State → ℕ → Refusal → Type 0
+IsWithheld s a why.NoMemory = Unit {0}
+IsWithheld s a why.Latched = latched_in s.rows (a / 16) ≡ true
+IsWithheld s a (why.Damaged x) = IsStoreSlot s.sizes a → ⊥
+IsWithheld s a _ = ⊥
 
--- why not: want of memory, or a latch on a page of one of those slots
-abbrev pub IsNotGathered : State → Option Asked → Refusal → Type 0
-IsNotGathered s asked why.NoMemory = Unit {0}
-IsNotGathered s asked why.Latched = any_latched s.rows (needed_by (slots_now s) asked) ≡ true
-IsNotGathered s asked _ = ⊥
+-- Where it wants no other slot, the answer is one that it may give, or memory is wanting. Else there is no plan.
+abbrev pub ComesFrom : State → (wanted : Option ℕ) → (May : Result Plan Refusal → Type 0) → Result Plan Refusal → Type 0
+ComesFrom s None May answer = May answer ⊎ (answer ≡ Err why.NoMemory)
+ComesFrom s (Some a) May (Ok p) = ⊥
+ComesFrom s (Some a) May (Err r) = IsWithheld s a r
+
+-- The answer to a job comes from slots that the level wanted for it. It may give these from all of them.
+pub record IsAnswered (s : State) (m : Meaning) (job : Job) (May : List Given → Result Plan Refusal → Type 0)
+    (answer : Result Plan Refusal) : Type 0 where
+  pub given : List Given
+  pub has : HasGathered s m job given
+  pub comes : ComesFrom s (m.want job given) (May given) answer
+
+-- where it keeps this, to something to do
+pub record MayPlan (s : State) (m : Meaning) (k : LevelState) (job : Job) (given : List Given) (answer : Result Plan Refusal)
+    : Type 0 where
+  pub latched : List ℕ
+  pub on : AreLatched s latched
+  pub after : LevelState
+  pub plans : m.plans k job given latched answer after
+
+-- and to a deed that is to be taken back
+pub record MayUndo (s : State) (m : Meaning) (k : LevelState) (level : ℕ) (deed : List ℕ) (given : List Given)
+    (answer : Result Plan Refusal) : Type 0 where
+  pub latched : List ℕ
+  pub on : AreLatched s latched
+  pub txn : Txn
+  pub number : ℕ
+  pub after : LevelState
+  pub undoes : m.undoes k (OpEnd txn number level deed) given latched answer after
+
+-- the job of taking back a deed
+abbrev pub to_take_back : (level : ℕ) → List ℕ → Job
+to_take_back level deed = record { level = level; undo = true; bytes = deed }
 
 -- ---- plans
 
@@ -74,7 +110,7 @@ pub record IsPlanOf (s : State) (d : Doing) (p : Plan) : Type 0 where
   pub asked : IsDeedFor d deed
   pub told : p.deed ≡ spelled_deed deed
   pub reads : deed_by (doing_level d) p.deed ≡ Some deed
-  pub answer : reply_of p ≡ Some (answer_of deed)
+  pub answer : reply_of (doing_level d) p ≡ Some (answer_of deed)
   pub follows : IsUnlatchedPlan s p (Did deed)
   pub slots : AreSlotWrites s.sizes p.writes.items
   pub lowest : SendTakesLowest s.sizes (slots_now s) s.rows d p.writes.items
@@ -124,27 +160,37 @@ RefusesPlan IsHeld why.Latched = IsHeld
 RefusesPlan IsHeld (why.Damaged x) = Unit {0}
 RefusesPlan IsHeld r = ⊥
 
--- What is answered to what is asked. What nothing can be read from has no plan, and no latch holds it up.
-pub record IsPlanned (s : State) (asked : Option Asked) (answer : Result Plan Refusal) : Type 0 where
-  pub plan : IfOk answer (λ p. OnFound asked (λ a. IsPlanFor s a p))
+-- What is answered to what is asked.
+pub record IsPlanned (s : State) (asked : Asked) (answer : Result Plan Refusal) : Type 0 where
+  pub plan : IfOk answer (IsPlanFor s asked)
   -- it is refused as latched exactly where latches hold it up
-  pub free : IfOk answer (λ p. OnFound asked (IsHeldUp s) → ⊥)
-  pub causes : IfErr answer (RefusesPlan (OnFound asked (IsHeldUp s)))
+  pub free : IfOk answer (λ p. IsHeldUp s asked → ⊥)
+  pub causes : IfErr answer (RefusesPlan (IsHeldUp s asked))
   -- a sound store with these pages and rows that may do it is not refused for what its slots hold
-  pub sound : (whole : State) → known whole.sizes whole.images whole.rows ≡ s → IsSound whole
-      → OnFound asked (MayBeAsked whole) → IfErr answer (λ r. TellsDamage r → ⊥)
+  pub sound : (whole : State) → known whole.sizes whole.images whole.rows ≡ s → IsSound whole → MayBeAsked whole asked
+      → IfErr answer (λ r. TellsDamage r → ⊥)
 
--- The same, with what the level keeps then. It knows the cell that a plan chose, whatever else is under way on these pages.
-pub record IsAnswered (s : State) (k : LevelState) (asked : Option Asked) (answer : Result Plan Refusal)
-    (after : LevelState) : Type 0 where
-  pub planned : IsPlanned s asked answer
-  pub slots : IfOk answer (λ p. AreSlotWrites s.sizes p.writes.items)
-  pub chosen : IfOk answer (λ p. (rows : List Row) → KeepsCells (record s { rows = rows }) k
-      → KeepsBeside (record s { rows = rows }) after (first_place p.writes.items))
-  pub refused : IfErr answer (λ r. after ≡ k)
+-- ---- what levels keep
 
--- ---- by a planner
+-- the level of this number was told the sizes
+abbrev pub KnowsSizes : Sizes → List LevelState → ℕ → Type 0
+KnowsSizes z levels n = (n < length levels) × ((kept_at levels n).sizes ≡ Some z)
 
--- A level knows the cells of a store with these pages, whatever is under way there: it has chosen none of them.
-abbrev pub KnowsCells : Sizes → List (List ℕ) → LevelState → Type 0
-KnowsCells z images k = KeepsCells (known z images []) k
+-- Levels know those slots of a store, whatever is under way there: to note one again, as it is, changes nothing that any
+-- of them keeps. That of chains was told the sizes, and has room for the cells.
+pub record KnowsThose (Those : ℕ → Type 0) (z : Sizes) (images : List (List ℕ)) (levels : List LevelState) : Type 0 where
+  pub again : (i a : ℕ) → i < length levels → Those a
+      → (meaning_of i).note (kept_at levels i) a (slot_at images a) ≡ kept_at levels i
+  pub chains : KnowsSizes z levels 1
+  pub free_count : cell_count z ≤ length (kept_at levels 1).free
+  pub chosen_count : cell_count z ≤ length (kept_at levels 1).reserved
+
+-- they know the cells, and all its other slots
+abbrev pub KnowsCells : Sizes → List (List ℕ) → List LevelState → Type 0
+KnowsCells z images levels = KnowsThose (IsStoreSlot z) z images levels
+
+-- the slot of this write is told as it is, where a free cell stands in it; otherwise nothing is
+abbrev pub MayBeTold : Sizes → List (List ℕ) → Option SlotWrite → (old new : List LevelState) → Type 0
+MayBeTold z images None old new = new ≡ old
+MayBeTold z images (Some w) old new = (IsStoreSlot z w.at × AreTold w.at (slot_at images w.at) old new)
+    ⊎ ((is_free_slot w.before ≡ true → IsStoreSlot z w.at → ⊥) × (new ≡ old))

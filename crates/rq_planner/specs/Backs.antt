@@ -69,9 +69,9 @@ IsRefusedBack z q told (why.Damaged x) = CannotBeTakenBack z q told
 IsRefusedBack z q told _ = ⊥
 
 -- a deed has a plan only where the slots hold what its inverse needs, and only otherwise is it refused as damage
-pub record IsJudgedBack (z : Sizes) (q : Slots) (told : Option Deed) (answer : Result Plan Refusal) : Type 0 where
-  pub can : IfOk answer (λ p. (d : Deed) → told ≡ Some d → CanBeTakenBack z q d)
-  pub damaged : IfErr answer (λ r. TellsDamage r → CannotBeTakenBack z q told)
+pub record IsJudgedBack (z : Sizes) (q : Slots) (d : Deed) (answer : Result Plan Refusal) : Type 0 where
+  pub can : IfOk answer (λ p. CanBeTakenBack z q d)
+  pub damaged : IfErr answer (λ r. TellsDamage r → CanBeTakenBack z q d → ⊥)
 
 -- The writes take back the deed that is told, as its level plans them over the slots as they are: it was done last at its
 -- end of its group there, and a message is put back into the lowest free cell.

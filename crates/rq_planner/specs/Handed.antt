@@ -8,7 +8,7 @@ pub record HasRoom (k : LevelState) : Type 0 where
   pub free : 983040 ≤ length k.free
   pub chosen : 983040 ≤ length k.reserved
 
--- the second of them, which plans operations, has that room
+-- there are those of numbers 0 and 1, and that which plans chains has that room
 pub record AreForStores (levels : List LevelState) : Type 0 where
   pub two : 1 < length levels
   pub room : HasRoom (kept_at levels 1)

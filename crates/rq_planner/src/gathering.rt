@@ -1,20 +1,20 @@
 //! Gathers the slots that a level wants.
-ghost use Rattle.std.specs.Prelude.{◌≡◌, ◌<◌, IfErr, OnOk, Some, length, true};
-ghost use Rattle.rq_model.specs.Vocabulary.{is_some};
-ghost use Rattle.rq_level.specs.Meaning.{kept_at};
-ghost use Rattle.rq_planner.specs.Answered.{HasGatheredFor, IsNotGathered};
-ghost use Rattle.rq_planner.specs.Asked.{IsOfStore, asked_by, known_from};
+ghost use Rattle.std.specs.Prelude.{◌≡◌, IfErr, Err, None, OnOk};
+ghost use Rattle.rq_level.specs.Meaning.{meaning_of};
+ghost use Rattle.rq_planner.specs.Answered.{HasGathered, IsAnswered, KnowsSizes};
+ghost use Rattle.rq_planner.specs.Asked.{known_from};
 
 use rq_disk::PageDevice;
 use rq_level::{Level, Levels, Op, Slots, Want};
-use rq_model::refusal::Refusal;
+use rq_model::refusal::{Damage, Refusal};
 use rq_pool::Pages;
 use rq_txn::Transactions;
 
 /// Gathers what the level of an operation wants to see for it, each slot as it is.
 ///
 /// # Errors
-/// `Latched` where one of them is on a page that an operation under way has latched; `NoMemory`.
+/// `Latched` where one of them is on a page that an operation under way has latched; `Damaged` where the store has no such
+/// slot; `NoMemory`.
 pub(crate) fn gather<P: PageDevice, B: Level>(
     pages: &Pages<P>,
     transactions: &Transactions,
@@ -22,19 +22,21 @@ pub(crate) fn gather<P: PageDevice, B: Level>(
     op: &Op,
     slots: &mut Slots,
 ) -> Result<(), Refusal>
-    requires handed { 1 < length levels.now }
-    requires told { (kept_at levels.now 1).sizes ≡ Some pages.now.sizes }
-    requires some { is_some (asked_by op.now) ≡ true }
-    requires asked { IsOfStore pages.now.sizes (asked_by op.now) }
-    ensures all { OnOk result (HasGatheredFor (known_from pages.now transactions.now) slots.new (asked_by op.now)) }
-    ensures refusal { IfErr result (IsNotGathered (known_from pages.now transactions.now) (asked_by op.now)) }
+    requires { KnowsSizes pages.now.sizes levels.now op.now.level }
+    ensures all { OnOk result (HasGathered (known_from pages.now transactions.now) (meaning_of op.now.level) op.now slots.new) }
+    ensures none { OnOk result ((meaning_of op.now.level).want op.now slots.new ≡ None) }
+    ensures refusal { IfErr result (λ r. IsAnswered (known_from pages.now transactions.now) (meaning_of op.now.level) op.now
+        (λ given answer. ⊥) (Err r)) }
 {
     slots.clear();
     while let Want::Slot(at) = levels.want(op.level() as usize, op, slots) {
         if transactions.has_latched(at.page()) {
             return Err(Refusal::Latched);
         }
-        slots.add(at, pages.slot(at).unwrap())?;
+        let Some(bytes) = pages.slot(at) else {
+            return Err(Refusal::Damaged(Damage::Page(0)));
+        };
+        slots.add(at, bytes)?;
     }
     Ok(())
 }

@@ -1,14 +1,14 @@
 //! Levels that are handed in for a store.
-ghost use Rattle.std.specs.Prelude.{◌≡◌};
+ghost use Rattle.std.specs.Prelude.{◌≡◌, ◌<◌, length, map};
 ghost use Rattle.rq_model.specs.Deeds.{deed_by};
 ghost use Rattle.rq_model.specs.Vocabulary.{is_some};
-ghost use Rattle.rq_planner.specs.Handed.{AreForStores, HasRoom};
+ghost use Rattle.rq_level.specs.Meaning.{CountOn};
+ghost use Rattle.rq_planner.specs.Handed.{AreForStores};
 
 use rq_level::{Level, Levels};
-use std::alloc::{AllocError, Global};
 
-/// The levels of a store, of whatever size it may be: that of single slots, and that which plans operations, with room for
-/// the cells of the greatest store. They were told of nothing yet, or of another store.
+/// The levels of a store, of whatever size it may be: that of single slots, that of chains with room for the cells of the
+/// greatest store, and any others. They were told of nothing yet, or of another store.
 #[derive(Drop)]
 pub struct StoreLevels<B: Level> {
     pub levels: Levels<B>,
@@ -16,21 +16,14 @@ pub struct StoreLevels<B: Level> {
 }
 
 impl<B: Level> StoreLevels<B> {
-    /// These levels.
-    ///
-    /// # Errors
-    /// Where memory is wanting.
-    pub fn new(alloc: Global, slots: B, operations: B) -> Result<StoreLevels<B>, AllocError>
-        requires slots { B.level slots ≡ 0 }
-        requires operations { B.level operations ≡ 1 }
-        requires room { HasRoom (B.kept operations) }
+    /// These levels, in the order of their numbers.
+    pub fn new(levels: Vec<B>) -> StoreLevels<B>
+        requires numbers { CountOn 0 (map (λ b. B.level b) levels.items) }
+        requires fit { AreForStores (map (λ b. B.kept b) levels.items) }
     {
-        let mut all = Vec::with_capacity(alloc, 2)?;
-        all.push(slots)?;
-        all.push(operations)?;
-        Ok(StoreLevels {
-            levels: Levels::new(all),
-        })
+        StoreLevels {
+            levels: Levels::new(levels),
+        }
     }
 
     /// Whether there is a level of this number, and the bytes are a deed of it.

@@ -1,19 +1,21 @@
 //! Planners: the levels of a store, with the slots that they are given.
-ghost use Rattle.std.specs.Prelude.{◌≡◌, ◌≢◌, ℕ, List, ◌≤◌, IfErr, IfOk, false, length, true};
+ghost use Rattle.std.specs.Prelude.{◌≡◌, ◌<◌, ◌≤◌, IfErr, IfOk, Some, false, length};
+ghost use Rattle.rq_model.specs.declared.record.Deed.{Deed};
 ghost use Rattle.rq_model.specs.Deeds.{deed_by};
-ghost use Rattle.rq_model.specs.Vocabulary.{is_some};
-ghost use Rattle.rq_page.specs.Sizes.{cell_count};
-ghost use Rattle.rq_level.specs.LevelState.{noted};
-ghost use Rattle.rq_planner.specs.Answered.{IsPlanned, KnowsCells};
-ghost use Rattle.rq_planner.specs.Asked.{IsOfStore, asked_back, asked_by, known_from};
+ghost use Rattle.rq_page.specs.Sizes.{cell_count, sender_count};
+ghost use Rattle.rq_views.specs.Plans.{deed_sender};
+ghost use Rattle.rq_views.specs.Stored.{IsStoreSlot, slot_at, slots_in};
+ghost use Rattle.rq_level.specs.Meaning.{AreTold, kept_at, meaning_of};
+ghost use Rattle.rq_level.specs.Ops.{Doing, doing_by};
+ghost use Rattle.rq_planner.specs.Answered.{IsAnswered, IsPlanned, KnowsCells, KnowsSizes, MayPlan, MayUndo, to_take_back};
+ghost use Rattle.rq_planner.specs.Asked.{Do, Undo, doing_sender, known_from};
 ghost use Rattle.rq_planner.specs.Backs.{IsJudgedBack, IsRefusedBack, IsTakingBack};
-ghost use Rattle.rq_planner.specs.Handed.{HasRoom};
-ghost use Rattle.rq_views.specs.Stored.{IsStoreSlot, slots_in};
+ghost use Rattle.rq_planner.specs.Handed.{AreForStores};
 
 use crate::deeds::deed_of_store;
 use crate::handed::StoreLevels;
 use crate::planning::{plan, plan_inverse};
-use crate::telling::{give_back, tell, tell_store, unreserve};
+use crate::telling::{tell, tell_store};
 use rq_disk::PageDevice;
 use rq_level::{Level, Levels, Op, Plan, SlotWrite, Slots};
 use rq_model::record::{DeedBytes, Slot};
@@ -25,7 +27,7 @@ use std::alloc::Global;
 use std::marker::Model;
 
 /// The levels of a store, with the slots that they are given. What is asked goes to the level that it names, and each level is
-/// told of each slot that is written. Contracts see what the level of chains keeps.
+/// told of each slot that is written. Contracts see what each level keeps.
 ///
 /// What a plan chose is given back as soon as it is planned: from the start of the operation on, the latch of its page
 /// keeps others from choosing it.
@@ -37,12 +39,12 @@ pub struct Planner<B: Level> {
 
 impl<B: Level> Model for Planner<B> {
     ghost use Rattle.std.specs.Prelude.{◌<◌, length};
+    ghost use Rattle.std.specs.Prelude.{List};
     ghost use Rattle.rq_level.specs.LevelState.{LevelState};
-    ghost use Rattle.rq_level.specs.Meaning.{kept_at};
 
-    ghost Value = { LevelState };
+    ghost Value = { List LevelState };
 
-    ghost view = { λ p. kept_at p.levels 1 };
+    ghost view = { λ p. p.levels };
 
     ghost invariant = { λ p. 1 < length p.levels };
 }
@@ -50,7 +52,7 @@ impl<B: Level> Model for Planner<B> {
 impl<B: Level> Planner<B> {
     /// Of these levels, as they are.
     pub fn new(alloc: Global, levels: StoreLevels<B>) -> Self
-        ensures { HasRoom result }
+        ensures { AreForStores result }
     {
         Planner {
             levels: levels.levels,
@@ -60,8 +62,8 @@ impl<B: Level> Planner<B> {
 
     /// Tells the levels a store in which nothing is under way, for whose cells there is room.
     pub fn tell<P: PageDevice>(&mut self, pages: &Pages<P>)
-        requires free { cell_count pages.now.sizes ≤ length self.old.free }
-        requires chosen { cell_count pages.now.sizes ≤ length self.old.reserved }
+        requires free { cell_count pages.now.sizes ≤ length (kept_at self.old 1).free }
+        requires chosen { cell_count pages.now.sizes ≤ length (kept_at self.old 1).reserved }
         ensures { KnowsCells pages.now.sizes pages.now.images self.new }
     {
         tell_store(pages, &mut self.levels);
@@ -69,22 +71,21 @@ impl<B: Level> Planner<B> {
 
     /// A slot was written. Takes no memory.
     pub fn noted(&mut self, at: Addr, bytes: &Slot)
-        ensures { self.new ≡ noted self.old at bytes.now }
+        ensures { AreTold at bytes.now self.old self.new }
     {
         self.levels.noted(at, bytes);
     }
 
-    /// The slot at this address may have been written, and no other. Takes no memory.
+    /// The slot at this address may have been written. Takes no memory.
     pub fn renew<P: PageDevice>(&mut self, pages: &Pages<P>, at: Addr)
         requires { IsStoreSlot pages.now.sizes at }
-        ensures { (images : List (List ℕ)) → KnowsCells pages.now.sizes images self.old
-            → ((a : ℕ) → a ≢ at → slots_in pages.now.sizes pages.now.images a ≡ slots_in pages.now.sizes images a)
-            → KnowsCells pages.now.sizes pages.now.images self.new }
+        ensures { AreTold at (slot_at pages.now.images at) self.old self.new }
     {
         tell(pages, &mut self.levels, at);
     }
 
-    /// The plan of an operation, from the slots as they are. Its writes are put into `room`.
+    /// The plan of an operation by its level, from the slots as they are. Its writes are put into `room`. What it chose is
+    /// given back.
     ///
     /// # Errors
     /// `Latched` where it needs a page that an operation under way has latched, or a cell of which none is free on another
@@ -97,23 +98,25 @@ impl<B: Level> Planner<B> {
         transactions: &Transactions,
         op: &Op,
     ) -> Result<Plan, Refusal>
-        requires cells { KnowsCells pages.now.sizes pages.now.images self.old }
+        requires known { KnowsCells pages.now.sizes pages.now.images self.old }
+        requires level { KnowsSizes pages.now.sizes self.old op.now.level }
         requires forward { op.now.undo ≡ false }
-        requires some { is_some (asked_by op.now) ≡ true }
-        requires asked { IsOfStore pages.now.sizes (asked_by op.now) }
-        ensures cells { KnowsCells pages.now.sizes pages.now.images self.new }
-        ensures planned { IsPlanned (known_from pages.now transactions.now) (asked_by op.now) result }
+        ensures same { self.new ≡ self.old }
+        ensures answered { IsAnswered (known_from pages.now transactions.now) (meaning_of op.now.level) op.now
+            (MayPlan (known_from pages.now transactions.now) (meaning_of op.now.level) (kept_at self.old op.now.level) op.now)
+            result }
+        ensures planned { (d : Doing) → doing_by op.now.level op.now.bytes ≡ Some d
+            → doing_sender d < sender_count pages.now.sizes
+            → IsPlanned (known_from pages.now transactions.now) (Do d) result }
     {
-        let answer = plan(
+        plan(
             room,
             pages,
             transactions,
             &mut self.levels,
             op,
             &mut self.slots,
-        );
-        give_back(pages, &mut self.levels, &answer);
-        answer
+        )
     }
 
     /// The plan of what takes back the deed that the level of this number tells by the bytes, as `plan` does.
@@ -129,15 +132,17 @@ impl<B: Level> Planner<B> {
         level: u8,
         deed: &DeedBytes,
     ) -> Result<Plan, Refusal>
-        requires cells { KnowsCells pages.now.sizes pages.now.images self.old }
-        requires some { is_some (asked_back level deed.now) ≡ true }
-        requires asked { IsOfStore pages.now.sizes (asked_back level deed.now) }
-        ensures cells { KnowsCells pages.now.sizes pages.now.images self.new }
-        ensures planned { IsPlanned (known_from pages.now transactions.now) (asked_back level deed.now) result }
-        ensures judged { IsJudgedBack pages.now.sizes (slots_in pages.now.sizes pages.now.images) (deed_by level deed.now)
-            result }
+        requires known { KnowsCells pages.now.sizes pages.now.images self.old }
+        requires level { KnowsSizes pages.now.sizes self.old level }
+        ensures same { self.new ≡ self.old }
+        ensures answered { IsAnswered (known_from pages.now transactions.now) (meaning_of level) (to_take_back level deed.now)
+            (MayUndo (known_from pages.now transactions.now) (meaning_of level) (kept_at self.old level) level deed.now) result }
+        ensures planned { (d : Deed) → deed_by level deed.now ≡ Some d → deed_sender d < sender_count pages.now.sizes
+            → IsPlanned (known_from pages.now transactions.now) (Undo d) result }
+        ensures judged { (d : Deed) → deed_by level deed.now ≡ Some d → deed_sender d < sender_count pages.now.sizes
+            → IsJudgedBack pages.now.sizes (slots_in pages.now.sizes pages.now.images) d result }
     {
-        let answer = plan_inverse(
+        plan_inverse(
             alloc,
             room,
             pages,
@@ -146,9 +151,7 @@ impl<B: Level> Planner<B> {
             level,
             deed,
             &mut self.slots,
-        );
-        give_back(pages, &mut self.levels, &answer);
-        answer
+        )
     }
 
     /// The writes that take back the deed that the level of this number tells by the bytes, where nothing is under way.
@@ -164,7 +167,7 @@ impl<B: Level> Planner<B> {
         deed: &DeedBytes,
     ) -> Result<Vec<SlotWrite>, Refusal>
         requires { KnowsCells pages.now.sizes pages.now.images self.old }
-        ensures cells { KnowsCells pages.now.sizes pages.now.images self.new }
+        ensures same { self.new ≡ self.old }
         ensures plan { IfOk result (λ writes. IsTakingBack pages.now.sizes
             (slots_in pages.now.sizes pages.now.images) (deed_by level deed.now) writes.items) }
         ensures refused { IfErr result (λ r. IsRefusedBack pages.now.sizes
@@ -174,20 +177,8 @@ impl<B: Level> Planner<B> {
             return Err(Refusal::Damaged(Damage::Page(0)));
         };
         let nobody = Transactions::new(alloc);
-        match plan_inverse(
-            alloc,
-            Vec::new(alloc),
-            pages,
-            &nobody,
-            &mut self.levels,
-            level,
-            deed,
-            &mut self.slots,
-        ) {
-            Ok(plan) => {
-                unreserve(pages, &mut self.levels, &plan.writes);
-                Ok(plan.writes)
-            }
+        match self.plan_inverse(alloc, Vec::new(alloc), pages, &nobody, level, deed) {
+            Ok(plan) => Ok(plan.writes),
             // Nobody has latched a page.
             Err(Refusal::Latched) => Err(Refusal::Damaged(Damage::Page(0))),
             Err(refusal) => Err(refusal),

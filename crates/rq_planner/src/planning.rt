@@ -1,15 +1,11 @@
 //! Plans of operations, and of what takes them back.
-ghost use Rattle.std.specs.Prelude.{◌≡◌, ◌<◌, false, length, true};
-ghost use Rattle.rq_sound.specs.Levels.{KeepsCells};
-ghost use Rattle.rq_planner.specs.Answered.{IsAnswered};
-ghost use Rattle.rq_model.specs.Deeds.{deed_by};
-ghost use Rattle.rq_model.specs.Vocabulary.{is_some};
-ghost use Rattle.rq_level.specs.Meaning.{kept_at};
-ghost use Rattle.rq_planner.specs.Asked.{IsOfStore, asked_back, asked_by, known_from};
-ghost use Rattle.rq_planner.specs.Backs.{IsJudgedBack};
-ghost use Rattle.rq_views.specs.Stored.{slots_in};
+ghost use Rattle.std.specs.Prelude.{◌≡◌};
+ghost use Rattle.rq_level.specs.Meaning.{kept_at, meaning_of};
+ghost use Rattle.rq_planner.specs.Answered.{IsAnswered, KnowsCells, KnowsSizes, MayPlan, MayUndo, to_take_back};
+ghost use Rattle.rq_planner.specs.Asked.{known_from};
 
 use crate::gathering::gather;
+use crate::telling::give_back;
 use rq_disk::PageDevice;
 use rq_level::{Level, Levels, Op, Plan, SlotWrite, Slots};
 use rq_model::record::{DeedBytes, Record};
@@ -19,11 +15,12 @@ use rq_pool::Pages;
 use rq_txn::Transactions;
 use std::alloc::Global;
 
-/// Has the level of an operation plan it from the slots as they are, which are gathered into `slots`.
+/// Has the level of an operation plan it from the slots as they are, which are gathered into `slots`. What it chose is given
+/// back.
 ///
 /// # Errors
-/// `Latched` where it needs a page that an operation under way has latched, or a cell of which none is free on another
-/// page, and only there; `NoMemory`; of a store that is not sound, or where the operation may not be done, also `Damaged`.
+/// Those of the level; `Latched` where it wants a slot of a page that an operation under way has latched; `Damaged` where it
+/// wants one that the store has not; `NoMemory`.
 pub(crate) fn plan<P: PageDevice, B: Level>(
     room: Vec<SlotWrite>,
     pages: &Pages<P>,
@@ -32,17 +29,19 @@ pub(crate) fn plan<P: PageDevice, B: Level>(
     op: &Op,
     slots: &mut Slots,
 ) -> Result<Plan, Refusal>
-    requires handed { 1 < length levels.old }
-    requires cells { KeepsCells (known_from pages.now transactions.now) (kept_at levels.old 1) }
-    requires forward { op.now.undo ≡ false }
-    requires some { is_some (asked_by op.now) ≡ true }
-    requires asked { IsOfStore pages.now.sizes (asked_by op.now) }
-    ensures handed { length levels.new ≡ length levels.old }
-    ensures answered { IsAnswered (known_from pages.now transactions.now) (kept_at levels.old 1) (asked_by op.now)
-        result (kept_at levels.new 1) }
+    requires known { KnowsCells pages.now.sizes pages.now.images levels.old }
+    requires level { KnowsSizes pages.now.sizes levels.old op.now.level }
+    ensures same { levels.new ≡ levels.old }
+    ensures answered { IsAnswered (known_from pages.now transactions.now) (meaning_of op.now.level) op.now
+        (MayPlan (known_from pages.now transactions.now) (meaning_of op.now.level) (kept_at levels.old op.now.level) op.now)
+        result }
 {
     match gather(pages, transactions, levels, op, slots) {
-        Ok(()) => levels.plan(room, op.level() as usize, op, slots, transactions.latched()),
+        Ok(()) => {
+            let answer = levels.plan(room, op.level() as usize, op, slots, transactions.latched());
+            give_back(pages, levels, &answer);
+            answer
+        }
         Err(refusal) => Err(refusal),
     }
 }
@@ -50,7 +49,7 @@ pub(crate) fn plan<P: PageDevice, B: Level>(
 /// Has the level of this number plan what takes back the deed that the bytes tell, as `plan` does.
 ///
 /// # Errors
-/// `Latched`, `NoMemory`; of a store that is not sound, or where the operation may not be undone, also `Damaged`.
+/// As those of `plan`.
 pub(crate) fn plan_inverse<P: PageDevice, B: Level>(
     alloc: Global,
     room: Vec<SlotWrite>,
@@ -61,15 +60,11 @@ pub(crate) fn plan_inverse<P: PageDevice, B: Level>(
     deed: &DeedBytes,
     slots: &mut Slots,
 ) -> Result<Plan, Refusal>
-    requires handed { 1 < length levels.old }
-    requires cells { KeepsCells (known_from pages.now transactions.now) (kept_at levels.old 1) }
-    requires some { is_some (asked_back level deed.now) ≡ true }
-    requires asked { IsOfStore pages.now.sizes (asked_back level deed.now) }
-    ensures handed { length levels.new ≡ length levels.old }
-    ensures answered { IsAnswered (known_from pages.now transactions.now) (kept_at levels.old 1)
-        (asked_back level deed.now) result (kept_at levels.new 1) }
-    ensures judged { IsJudgedBack pages.now.sizes (slots_in pages.now.sizes pages.now.images) (deed_by level deed.now)
-        result }
+    requires known { KnowsCells pages.now.sizes pages.now.images levels.old }
+    requires level { KnowsSizes pages.now.sizes levels.old level }
+    ensures same { levels.new ≡ levels.old }
+    ensures answered { IsAnswered (known_from pages.now transactions.now) (meaning_of level) (to_take_back level deed.now)
+        (MayUndo (known_from pages.now transactions.now) (meaning_of level) (kept_at levels.old level) level deed.now) result }
 {
     let Ok(op) = Op::undo(alloc, level, deed.as_slice()) else {
         return Err(Refusal::NoMemory);
@@ -85,7 +80,11 @@ pub(crate) fn plan_inverse<P: PageDevice, B: Level>(
         deed: *deed,
     };
     match gather(pages, transactions, levels, &op, slots) {
-        Ok(()) => levels.undo(room, level as usize, &end, slots, transactions.latched()),
+        Ok(()) => {
+            let answer = levels.undo(room, level as usize, &end, slots, transactions.latched());
+            give_back(pages, levels, &answer);
+            answer
+        }
         Err(refusal) => Err(refusal),
     }
 }

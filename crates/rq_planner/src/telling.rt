@@ -1,16 +1,11 @@
 //! Tells levels of slots as they are.
-ghost use Rattle.std.specs.Prelude.{◌≡◌, ◌↔◌, ◌<◌, ◌≤◌, IfErr, IfOk, IfSome, IsTrue, List, Some, length};
+ghost use Rattle.std.specs.Prelude.{◌≡◌, ◌↔◌, ◌<◌, ◌≤◌, IfErr, IfOk, IfSome, IsTrue, Some, length, slice_get};
 ghost use Rattle.rq_page.specs.Cells.{free_bytes};
 ghost use Rattle.rq_page.specs.Sizes.{IsCellAddress, cell_count};
 ghost use Rattle.rq_page.specs.Slots.{Free};
 ghost use Rattle.rq_views.specs.Stored.{IsStoreSlot, slot_at, slots_in};
-ghost use Rattle.rq_level.specs.LevelState.{noted};
-ghost use Rattle.rq_level.specs.Meaning.{kept_at};
-ghost use Rattle.rq_level.specs.Writes.{AreSlotWrites};
-ghost use Rattle.rq_txn.specs.Rows.{Row};
-ghost use Rattle.rq_sound.specs.Chosen.{KeepsBeside, first_place};
-ghost use Rattle.rq_sound.specs.Levels.{KeepsCells};
-ghost use Rattle.rq_planner.specs.Asked.{known_from};
+ghost use Rattle.rq_level.specs.Meaning.{AreTold, kept_at};
+ghost use Rattle.rq_planner.specs.Answered.{KnowsCells, MayBeTold};
 
 use rq_disk::PageDevice;
 use rq_level::{Level, Levels, Plan, SlotWrite};
@@ -21,18 +16,15 @@ use rq_page::cell::CellSlot;
 use rq_page::layout::Layout;
 use rq_pool::Pages;
 
-/// Gives back the cell of what was planned, where there is a plan and it takes one.
+/// Gives back the cell of what was planned, where there is a plan and it chose one.
 pub(crate) fn give_back<P: PageDevice, B: Level>(
     pages: &Pages<P>,
     levels: &mut Levels<B>,
     answer: &Result<Plan, Refusal>,
 )
-    requires handed { 1 < length levels.old }
-    requires slots { IfOk answer.now (λ p. AreSlotWrites pages.now.sizes p.writes.items) }
-    ensures handed { length levels.new ≡ length levels.old }
-    ensures planned { IfOk answer.now (λ p. (rows : List Row) → KeepsBeside (known_from pages.now rows) (kept_at levels.old 1) (first_place p.writes.items)
-        → KeepsCells (known_from pages.now rows) (kept_at levels.new 1)) }
-    ensures refused { IfErr answer.now (λ _. kept_at levels.new 1 ≡ kept_at levels.old 1) }
+    ensures planned { IfOk answer.now (λ p. MayBeTold pages.now.sizes pages.now.images (slice_get p.writes.items 0)
+        levels.old levels.new) }
+    ensures refused { IfErr answer.now (λ _. levels.new ≡ levels.old) }
 {
     match answer {
         Ok(plan) => unreserve(pages, levels, &plan.writes),
@@ -40,21 +32,22 @@ pub(crate) fn give_back<P: PageDevice, B: Level>(
     }
 }
 
-/// Gives back the cell of a plan, where it takes one: tells the levels of the plan's first slot as it is. The cell may be
-/// chosen again.
-pub(crate) fn unreserve<P: PageDevice, B: Level>(
+// Tells the levels of the first slot of a plan as it is, where a free cell stands in it.
+fn unreserve<P: PageDevice, B: Level>(
     pages: &Pages<P>,
     levels: &mut Levels<B>,
     writes: &[SlotWrite],
 )
-    requires handed { 1 < length levels.old }
-    requires slots { AreSlotWrites pages.now.sizes writes.now }
-    ensures handed { length levels.new ≡ length levels.old }
-    ensures cells { (rows : List Row) → KeepsBeside (known_from pages.now rows) (kept_at levels.old 1) (first_place writes.now)
-        → KeepsCells (known_from pages.now rows) (kept_at levels.new 1) }
+    ensures { MayBeTold pages.now.sizes pages.now.images (slice_get writes.now 0) levels.old levels.new }
 {
-    if let Some(write) = writes.first() {
-        tell(pages, levels, write.at);
+    let Some(write) = writes.first() else {
+        return;
+    };
+    if write.before[0] != 0 {
+        return;
+    }
+    if let Some(bytes) = pages.slot(write.at) {
+        levels.noted(write.at, bytes);
     }
 }
 
@@ -64,8 +57,7 @@ pub(crate) fn tell_store<P: PageDevice, B: Level>(pages: &Pages<P>, levels: &mut
     requires handed { 1 < length levels.old }
     requires free { cell_count pages.now.sizes ≤ length (kept_at levels.old 1).free }
     requires chosen { cell_count pages.now.sizes ≤ length (kept_at levels.old 1).reserved }
-    ensures handed { length levels.new ≡ length levels.old }
-    ensures cells { (rows : List Row) → KeepsCells (known_from pages.now rows) (kept_at levels.new 1) }
+    ensures { KnowsCells pages.now.sizes pages.now.images levels.new }
 {
     tell_sizes(pages, levels);
     let layout = pages.layout();
@@ -113,12 +105,10 @@ fn tell_cell<P: PageDevice, B: Level>(
     free: &Option<Addr>,
     empty: &Slot,
 )
-    requires handed { 1 < length levels.old }
     requires cell { IsCellAddress pages.now.sizes at }
     requires free { IfSome free.now (λ a. slots_in pages.now.sizes pages.now.images a ≡ Free) }
     requires empty { empty.now ≡ free_bytes }
-    ensures handed { length levels.new ≡ length levels.old }
-    ensures told { kept_at levels.new 1 ≡ noted (kept_at levels.old 1) at (slot_at pages.now.images at) }
+    ensures { AreTold at (slot_at pages.now.images at) levels.old levels.new }
 {
     if is_at(free, at) {
         pages.layout();
@@ -152,10 +142,8 @@ fn tell_sizes<P: PageDevice, B: Level>(pages: &Pages<P>, levels: &mut Levels<B>)
 
 /// Tells levels of a slot as it is.
 pub(crate) fn tell<P: PageDevice, B: Level>(pages: &Pages<P>, levels: &mut Levels<B>, at: Addr)
-    requires handed { 1 < length levels.old }
-    requires slot { IsStoreSlot pages.now.sizes at }
-    ensures handed { length levels.new ≡ length levels.old }
-    ensures told { kept_at levels.new 1 ≡ noted (kept_at levels.old 1) at (slot_at pages.now.images at) }
+    requires { IsStoreSlot pages.now.sizes at }
+    ensures { AreTold at (slot_at pages.now.images at) levels.old levels.new }
 {
     levels.noted(at, pages.slot(at).unwrap());
 }

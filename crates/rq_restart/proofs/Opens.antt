@@ -122,7 +122,7 @@ module _ {P L : Type 0} (p : page_device.Ghosts P) (l : log_device.Ghosts L) (pa
 
   -- an engine over what was made of the pages and of the log
   module _ (loaded : Pooled P) (pages_sound : ArePages loaded.sizes loaded.images) (seen : p.honest loaded.device → AreSeen (p.seen pages) loaded.images (page_count loaded.sizes)) (unchanged : loaded.changed ≡ replicate (page_count loaded.sizes) false)
-      (cause : p.faults loaded.device ≡ p.faults pages) (only : OnlyRead p pages loaded.device) (now : Pooled P) (new : Logged L) (cells : ℕ) (waiting : List ℕ) (sent : SentBy) (planner : LevelState) (report : Report) (o : OpensLog l loaded now log new cells waiting sent planner report) where
+      (cause : p.faults loaded.device ≡ p.faults pages) (only : OnlyRead p pages loaded.device) (now : Pooled P) (new : Logged L) (cells : ℕ) (waiting : List ℕ) (sent : SentBy) (planner : List LevelState) (report : Report) (o : OpensLog l loaded now log new cells waiting sent planner report) where
     abbrev pub engine : OpenStore P L
     engine = record {
       state = engine_over now.sizes now.images new.records new.forced report.incarnation cells waiting sent;

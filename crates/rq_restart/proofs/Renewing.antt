@@ -1,12 +1,10 @@
 -- Slots that the write of a record leaves.
-use Rattle.std.proofs.Common.{◌≡◌, ◌≢◌, ℕ, ◌/◌, ◌%◌, ◌≤◌, cond, nat_lt, List, refl, sym, ◌∙◌, ap, subst, inl, inr, arith}
-use Rattle.std.proofs.lemmas.Bool.{cases_Bool, cases_eq, cases_lt, ltb-true}
+use Rattle.std.proofs.Common.{◌≡◌, ◌≢◌, ℕ, ◌/◌, ◌%◌, ◌≤◌, List, sym, ◌∙◌, ap, subst, inl, inr, arith}
+use Rattle.std.proofs.lemmas.Bool.{cases_eq, cases_lt}
 use Rattle.rq_model.specs.declared.txn.Txn.{Txn}
 use Rattle.rq_page.specs.Pages.{lsn_of, slot_of}
 use Rattle.rq_page.specs.Sizes.{Sizes, address}
-use Rattle.rq_page.specs.Slots.{held_in}
-use Rattle.rq_page.specs.Slots.Slot.{Free}
-use Rattle.rq_views.specs.Stored.{slot_at, slots_in}
+use Rattle.rq_views.specs.Stored.{IsStoreSlot, slot_at}
 use Rattle.rq_level.specs.declared.writes.SlotWrite.{SlotWrite}
 use Rattle.rq_level.specs.LevelState.{LevelState}
 use Rattle.rq_pool.specs.Pooled.{Pooled}
@@ -32,16 +30,9 @@ module _ (z : Sizes) (old new : List (List ℕ)) (w : ToldWrite) (lsn : ℕ) (r 
     | inr off ↦ ap (slot_of (a % 16)) (r.others (a / 16) off)
   ]
 
-  -- all other slots are what they were
-  elsewhere : (a : ℕ) → a ≢ address w.page w.slot → slots_in z new a ≡ slots_in z old a
-  elsewhere a ne = elim (cases_Bool (nat_lt 0 (a % 16))) [
-    | inl y ↦ ap (λ x. cond (nat_lt 0 (a % 16)) (held_in z (a / 16) x) Free) (same_bytes a ne (let low = ltb-true 0 (a % 16) y in omega (arith, low)))
-    | inr n ↦ rw n refl
-  ]
-
-pub write_elsewhere : (z : Sizes) (old new : List (List ℕ)) (t : Txn) (n lsn : ℕ) (w : SlotWrite) → Redoes (told_by (page_op t n w)) lsn (image_in old) (image_in new) → (a : ℕ) → a ≢ w.at → slots_in z new a ≡ slots_in z old a
-write_elsewhere z old new t n lsn w r a ne = elsewhere z old new (record { page = w.at / 16; slot = w.at % 16; after = w.after }) lsn r a (λ e. ne (e ∙ address_is w.at))
+pub write_elsewhere : (z : Sizes) (old new : List (List ℕ)) (t : Txn) (n lsn : ℕ) (w : SlotWrite) → Redoes (told_by (page_op t n w)) lsn (image_in old) (image_in new) → (a : ℕ) → IsStoreSlot z a → a ≢ w.at → slot_at new a ≡ slot_at old a
+write_elsewhere z old new t n lsn w r a stands ne = same_bytes z old new (record { page = w.at / 16; slot = w.at % 16; after = w.after }) lsn r a (λ e. ne (e ∙ address_is w.at)) stands.slot
 
 -- pages that are what they were have the cells that they had
-pub cells_same : {P : Type 0} (old new : Pooled P) (k : LevelState) → new ≡ old → KnowsCells old.sizes old.images k → KnowsCells new.sizes new.images k
+pub cells_same : {P : Type 0} (old new : Pooled P) (k : List LevelState) → new ≡ old → KnowsCells old.sizes old.images k → KnowsCells new.sizes new.images k
 cells_same {P} old new k e h = subst (λ (p : Pooled P). KnowsCells p.sizes p.images k) (sym e) h

@@ -54,7 +54,7 @@ module _ {P L : Type 0} (p : Ghosts P) (l : log_device.Ghosts L) (pages : P) (lo
   first_is : paged loaded ≡ as_read loaded.sizes loaded.images
   first_is = ap (λ (f : List Bool). record { image = image_in loaded.images; changed = f }) unchanged
 
-  pub was_checked : (now : Pooled P) (new : Logged L) (cells : ℕ) (waiting : List ℕ) (sent : SentBy) (planner : LevelState) (report : Report) → OpensLog l loaded now log new cells waiting sent planner report → WasChecked p l pages log now.sizes (paged now) new.records now.device new.device
+  pub was_checked : (now : Pooled P) (new : Logged L) (cells : ℕ) (waiting : List ℕ) (sent : SentBy) (planner : List LevelState) (report : Report) → OpensLog l loaded now log new cells waiting sent planner report → WasChecked p l pages log now.sizes (paged now) new.records now.device new.device
   was_checked now new cells waiting sent planner report o =
       let n = o.restarted.ready.count in
       let e = ap length o.repeated.begun in

@@ -138,7 +138,7 @@ module _ {L : Type 0} (g : log_device.Ghosts L) where
   -- Behind the log that was read the next incarnation was begun, as the report says, and the tables tell what these pages
   -- do: an engine may be opened over it.
   pub record IsRestarted (z : Sizes) (images : List (List ℕ)) (old new : Logged L) (waiting : List ℕ) (sent : SentBy)
-      (planner : LevelState) (report : Report) : Type 0 where
+      (planner : List LevelState) (report : Report) : Type 0 where
     pub forced : new.forced ≡ length new.records
     pub reports : (e : List Record) → IsPast e old.records
         → Reports z (rebased e old.records) new.records report.incarnation report.records report.unfinished report.lost
@@ -183,7 +183,7 @@ module _ {L : Type 0} (g : log_device.Ghosts L) where
   -- Over pages that were first so the log was read, gone through and mended, and the next incarnation begun: with these
   -- tables an engine may be opened over it.
   pub record OpensLog {P : Type 0} (first now : Pooled P) (log : L) (new : Logged L) (cells : ℕ) (waiting : List ℕ)
-      (sent : SentBy) (planner : LevelState) (report : Report) : Type 0 where
+      (sent : SentBy) (planner : List LevelState) (report : Report) : Type 0 where
     pub sizes : now.sizes ≡ first.sizes
     pub device : now.device ≡ first.device
     pub pool : IsPool now.sizes now.images

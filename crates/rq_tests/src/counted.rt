@@ -76,6 +76,10 @@ impl Level for Counted {
         self.level.reads(deed)
     }
 
+    fn keeps(&self) -> bool {
+        self.level.keeps()
+    }
+
     fn want(&self, op: &Op, given: &Slots) -> Want {
         self.level.want(op, given)
     }

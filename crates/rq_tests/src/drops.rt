@@ -45,10 +45,10 @@ fn open_and_close<B: Level>(
     requires room { HasRoom (B.kept chains) }
 {
     let (pages, log) = store(alloc, is_formatted)?;
-    let Ok(levels) = StoreLevels::new(alloc, slots, chains) else {
-        return Err(AllocError);
-    };
-    match opened(alloc, pages, log, levels) {
+    let mut levels = Vec::with_capacity(alloc, 2)?;
+    levels.push(slots)?;
+    levels.push(chains)?;
+    match opened(alloc, pages, log, StoreLevels::new(levels)) {
         Some(engine) => Ok(given_back(engine, drops)),
         None => Ok(Dropped::Refused {
             closed: drops.load(Ordering::SeqCst),

@@ -1,17 +1,32 @@
-use Rattle.std.proofs.Common.{ℕ, ◌≡◌, ◌∙◌, subst}
+use Rattle.std.proofs.Common.{◌≡◌, ℕ, slice_set, subst}
 use Rattle.rq_level.specs.Meaning.{kept_at, meaning_of}
-use Rattle.rq_planner.specs.Asked.{asked_by, known_from}
-use Rattle.rq_planner.proofs.Gathered.{of_chains}
-use Rattle.rq_planner.proofs.Replies.{not_gathered, plan_answered}
+use Rattle.rq_planner.specs.Answered.{MayPlan}
+use Rattle.rq_planner.specs.Asked.{known_from}
+use Rattle.rq_planner.proofs.Gathered.{answered, not_from}
+use Rattle.rq_planner.proofs.Knowing.{plan_same}
 use Rattle.rq_planner.proofs.planning.plan.Goals as goal
+
+pub returns-in-Ok-clause-same : goal.returns-in-Ok-clause-same
+returns-in-Ok-clause-same g c =
+    let old = c.args.levels.now in
+    let mid = c.plan-answer.new.self in
+    plan_same old mid c.args.op.now.level (subst (λ (n : ℕ). mid ≡ slice_set old n (kept_at mid n)) c.level.ensures c.plan-answer.ensures.others) c.args.pages.now.sizes c.args.pages.now.images c.requires.known c.requires.level c.give_back.new.levels
+    c.args.op.now c.gather.new.slots c.latched.result.now.pages c.plan-answer.result
+    (subst (λ (n : ℕ). (meaning_of n).plans (kept_at old n) c.args.op.now c.gather.new.slots c.latched.result.now.pages c.plan-answer.result (kept_at mid n)) c.level.ensures c.plan-answer.ensures.answer)
+    c.give_back.ensures.planned c.give_back.ensures.refused
 
 pub returns-in-Ok-clause-answered : goal.returns-in-Ok-clause-answered
 returns-in-Ok-clause-answered g c =
-    let job = c.args.op.now in
-    let one : job.level ≡ 1 = of_chains job.undo job.level job.bytes c.requires.some in
-    plan_answered (known_from c.args.pages.now c.args.transactions.now) (kept_at c.args.levels.now 1) c.gather.new.slots c.latched.result.now.pages c.requires.cells c.latched.ensures (kept_at c.plan.new.self 1)
-    job c.plan.result one c.requires.forward c.in-Ok.ensures.all c.requires.asked
-    (subst (λ (n : ℕ). (meaning_of n).plans (kept_at c.args.levels.now n) job c.gather.new.slots c.latched.result.now.pages c.plan.result (kept_at c.plan.new.self n)) (c.level.ensures ∙ one) c.plan.ensures.answer)
+    let s = known_from c.args.pages.now c.args.transactions.now in
+    let n = c.args.op.now.level in
+    let old = c.args.levels.now in
+    let mid = c.plan-answer.new.self in
+    answered s (meaning_of n) c.args.op.now (MayPlan s (meaning_of n) (kept_at old n) c.args.op.now) c.gather.new.slots c.plan-answer.result c.in-Ok.ensures.all c.in-Ok.ensures.none (record {
+      latched = c.latched.result.now.pages;
+      on = c.latched.ensures;
+      after = kept_at mid n;
+      plans = subst (λ (i : ℕ). (meaning_of i).plans (kept_at old i) c.args.op.now c.gather.new.slots c.latched.result.now.pages c.plan-answer.result (kept_at mid i)) c.level.ensures c.plan-answer.ensures.answer;
+    })
 
 pub returns-in-Err-clause-answered : goal.returns-in-Err-clause-answered
-returns-in-Err-clause-answered g c = not_gathered (known_from c.args.pages.now c.args.transactions.now) (kept_at c.args.levels.now 1) (asked_by c.args.op.now) c.in-Err.refusal c.in-Err.ensures.refusal
+returns-in-Err-clause-answered g c = not_from _ _ _ _ c.in-Err.refusal c.in-Err.ensures.refusal

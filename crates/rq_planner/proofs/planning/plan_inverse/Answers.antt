@@ -1,41 +1,45 @@
-use Rattle.std.proofs.Common.{ℕ, ◌≡◌, true, ◌∙◌, ap, subst}
-use Rattle.rq_level.specs.Meaning.{kept_at, meaning_of}
+use Rattle.std.proofs.Common.{◌≡◌, ◌∙◌, None, [], Err, ap, subst}
 use Rattle.rq_model.specs.declared.record.Record.TheVariants.{OpEnd}
-use Rattle.rq_store.specs.State.{State}
-use Rattle.rq_planner.specs.Answered.{HasGatheredFor, IsNotGathered}
-use Rattle.rq_planner.specs.Asked.{asked_back, asked_by, asked_in, known_from}
-use Rattle.rq_planner.proofs.Gathered.{of_chains}
-use Rattle.rq_planner.proofs.Replies.{back_answered, not_gathered}
-use Rattle.rq_planner.proofs.Backs.{back_judged, not_judged}
+use Rattle.rq_level.specs.Meaning.{kept_at, meaning_of}
+use Rattle.rq_level.specs.Ops.{Job}
+use Rattle.rq_planner.specs.Answered.{HasGathered, IsAnswered, MayUndo, to_take_back}
+use Rattle.rq_planner.specs.Asked.{known_from}
+use Rattle.rq_planner.proofs.Gathered.{answered, no_memory, none_gathered, not_from}
+use Rattle.rq_planner.proofs.Knowing.{undo_same}
 use Rattle.rq_planner.proofs.planning.plan_inverse.Goals as goal
+
+pub returns-in_default-clause-answered : goal.returns-in_default-clause-answered
+returns-in_default-clause-answered g c =
+    let s = known_from c.args.pages.now c.args.transactions.now in
+    no_memory s (meaning_of c.args.level) (to_take_back c.args.level c.args.deed.now) _ [] (none_gathered s (meaning_of c.args.level) (to_take_back c.args.level c.args.deed.now))
+
+pub returns-in-Ok-gather-clause-same : goal.returns-in-Ok-gather-clause-same
+returns-in-Ok-gather-clause-same g c =
+    undo_same c.args.levels.now c.undo-answer.new.self c.args.level c.undo-answer.ensures.others c.args.pages.now.sizes c.args.pages.now.images c.requires.known c.requires.level c.give_back.new.levels
+    (OpEnd (record { incarnation = 1; count = 1 }) 1 c.args.level c.args.deed.now) c.gather.new.slots c.latched.result.now.pages c.undo-answer.result c.undo-answer.ensures.answer
+    c.give_back.ensures.planned c.give_back.ensures.refused
 
 pub returns-in-Ok-gather-clause-answered : goal.returns-in-Ok-gather-clause-answered
 returns-in-Ok-gather-clause-answered g c =
-    let s : State = known_from c.args.pages.now c.args.transactions.now in
-    let asked : asked_by c.in-Ok.op ≡ asked_back c.args.level c.args.deed.now = ap asked_by c.in-Ok.ensures ∙ ap (asked_in true c.args.level) c.as_slice.ensures.bytes in
-    let one : c.args.level ≡ 1 = of_chains true c.args.level c.args.deed.now c.requires.some in
-    back_answered s (kept_at c.args.levels.now 1) c.gather.new.slots c.latched.result.now.pages c.requires.cells c.latched.ensures (kept_at c.undo-in-Ok-gather.new.self 1)
-    (record { incarnation = 1; count = 1 }) 1 c.args.level c.args.deed.now c.undo-in-Ok-gather.result
-    one (subst (HasGatheredFor s c.gather.new.slots) asked c.in-Ok-gather.ensures.all)
-    (subst (λ (n : ℕ). (meaning_of n).undoes (kept_at c.args.levels.now n) (OpEnd (record { incarnation = 1; count = 1 }) 1 c.args.level c.args.deed.now) c.gather.new.slots c.latched.result.now.pages c.undo-in-Ok-gather.result (kept_at c.undo-in-Ok-gather.new.self n)) one c.undo-in-Ok-gather.ensures.answer)
-
-pub returns-in-Ok-gather-clause-judged : goal.returns-in-Ok-gather-clause-judged
-returns-in-Ok-gather-clause-judged g c =
-    let s : State = known_from c.args.pages.now c.args.transactions.now in
-    let asked : asked_by c.in-Ok.op ≡ asked_back c.args.level c.args.deed.now = ap asked_by c.in-Ok.ensures ∙ ap (asked_in true c.args.level) c.as_slice.ensures.bytes in
-    let one : c.args.level ≡ 1 = of_chains true c.args.level c.args.deed.now c.requires.some in
-    back_judged s (kept_at c.args.levels.now 1) c.gather.new.slots c.latched.result.now.pages c.requires.cells c.latched.ensures (kept_at c.undo-in-Ok-gather.new.self 1)
-    (record { incarnation = 1; count = 1 }) 1 c.args.level c.args.deed.now c.undo-in-Ok-gather.result
-    one (subst (HasGatheredFor s c.gather.new.slots) asked c.in-Ok-gather.ensures.all)
-    (subst (λ (n : ℕ). (meaning_of n).undoes (kept_at c.args.levels.now n) (OpEnd (record { incarnation = 1; count = 1 }) 1 c.args.level c.args.deed.now) c.gather.new.slots c.latched.result.now.pages c.undo-in-Ok-gather.result (kept_at c.undo-in-Ok-gather.new.self n)) one c.undo-in-Ok-gather.ensures.answer)
+    let s = known_from c.args.pages.now c.args.transactions.now in
+    let n = c.args.level in
+    let job : c.in-Ok.op ≡ to_take_back n c.args.deed.now = c.in-Ok.ensures ∙ ap (to_take_back n) c.as_slice.ensures.bytes in
+    answered s (meaning_of n) (to_take_back n c.args.deed.now) (MayUndo s (meaning_of n) (kept_at c.args.levels.now n) n c.args.deed.now) c.gather.new.slots c.undo-answer.result
+    (subst (λ (j : Job). HasGathered s (meaning_of j.level) j c.gather.new.slots) job c.in-Ok-gather.ensures.all)
+    (subst (λ (j : Job). (meaning_of j.level).want j c.gather.new.slots ≡ None) job c.in-Ok-gather.ensures.none)
+    (record {
+      latched = c.latched.result.now.pages;
+      on = c.latched.ensures;
+      txn = record { incarnation = 1; count = 1 };
+      number = 1;
+      after = kept_at c.undo-answer.new.self n;
+      undoes = c.undo-answer.ensures.answer;
+    })
 
 pub returns-in-Err-clause-answered : goal.returns-in-Err-clause-answered
 returns-in-Err-clause-answered g c =
-    let s : State = known_from c.args.pages.now c.args.transactions.now in
-    let asked : asked_by c.in-Ok.op ≡ asked_back c.args.level c.args.deed.now = ap asked_by c.in-Ok.ensures ∙ ap (asked_in true c.args.level) c.as_slice.ensures.bytes in
-    not_gathered s (kept_at c.args.levels.now 1) (asked_back c.args.level c.args.deed.now) c.in-Err.refusal (subst (λ a. IsNotGathered s a c.in-Err.refusal) asked c.in-Err.ensures.refusal)
-
-pub returns-in-Err-clause-judged : goal.returns-in-Err-clause-judged
-returns-in-Err-clause-judged g c =
-    let s : State = known_from c.args.pages.now c.args.transactions.now in
-    not_judged s (asked_by c.in-Ok.op) c.in-Err.refusal _ c.in-Err.ensures.refusal
+    let s = known_from c.args.pages.now c.args.transactions.now in
+    let n = c.args.level in
+    let job : c.in-Ok.op ≡ to_take_back n c.args.deed.now = c.in-Ok.ensures ∙ ap (to_take_back n) c.as_slice.ensures.bytes in
+    not_from s (meaning_of n) (to_take_back n c.args.deed.now) (MayUndo s (meaning_of n) (kept_at c.args.levels.now n) n c.args.deed.now) c.in-Err.refusal
+    (subst (λ (j : Job). IsAnswered s (meaning_of j.level) j (λ given answer. ⊥) (Err c.in-Err.refusal)) job c.in-Err.ensures.refusal)

@@ -1,18 +1,18 @@
 use Rattle.std.specs.Prelude.{IfSome}
-use Rattle.std.proofs.Common.{◌≡◌, length}
+use Rattle.std.proofs.Common.{◌≡◌}
+use Rattle.rq_page.specs.Sizes.{cell_at, directory_at}
 use Rattle.rq_page.specs.Slots.Slot.{Free}
 use Rattle.rq_views.specs.Stored.{slots_in}
-use Rattle.rq_sound.specs.Chosen.{KnowsFirst}
-use Rattle.rq_level.specs.Meaning.{kept_at}
+use Rattle.rq_planner.specs.Answered.{KnowsThose}
+use Rattle.rq_planner.proofs.Knowing.{AreBelow}
 use Rattle.rq_planner.proofs.telling.tell_store.Given as goal
 
--- the level knows the sizes, and no cell
+-- the levels know the slots so far
 abbrev pub invariant-loop-sender : goal.invariant-loop-sender
-invariant-loop-sender g l = (length l.levels ≡ length l.fn.levels) × KnowsFirst l.pages.sizes (slots_in l.pages.sizes l.pages.images) (kept_at l.levels 1) 0
+invariant-loop-sender g l = KnowsThose (AreBelow l.pages.sizes (directory_at l.sender)) l.pages.sizes l.pages.images l.levels
 
--- it knows the cells so far, and the next free one is a free one
+-- and the next free cell is a free one
 abbrev pub invariant-loop-place : goal.invariant-loop-place
 invariant-loop-place g l =
-    (length l.levels ≡ length l.fn.levels)
-    × KnowsFirst l.pages.sizes (slots_in l.pages.sizes l.pages.images) (kept_at l.levels 1) l.place
+    KnowsThose (AreBelow l.pages.sizes (cell_at l.pages.sizes l.place)) l.pages.sizes l.pages.images l.levels
     × IfSome l.free (λ a. slots_in l.pages.sizes l.pages.images a ≡ Free)

@@ -5,8 +5,9 @@ use Rattle.rq_page.specs.Sizes.{Sizes}
 use Rattle.rq_pool.specs.Pooled.{IsPool}
 use Rattle.rq_record.specs.Spelling.{IsInRange}
 use Rattle.rq_store.specs.Steps.{page_op}
-use Rattle.rq_views.specs.Stored.{IsStoreSlot}
+use Rattle.rq_views.specs.Stored.{IsStoreSlot, slot_at}
 use Rattle.rq_planner.specs.Answered.{KnowsCells}
+use Rattle.rq_planner.proofs.Knowing.{knows_written}
 use Rattle.rq_level.specs.Writes.{IsSlotWrite}
 use Rattle.rq_level.specs.declared.writes.SlotWrite.{SlotWrite}
 use Rattle.rq_analysis.specs.Rules.{CanBeRead}
@@ -59,7 +60,10 @@ loop-index-preserved g c =
       active = rest.1 ∙ kept.active;
       stays = and_then kept.stays made.stays;
       room = made.room ∙ kept.room;
-      cells = c.renew.ensures old.images (subst (λ y. KnowsCells y old.images c.loop-index.planner) (sym made.stays.sizes) kept.cells) (write_elsewhere new.sizes old.images new.images d.txn n (length log + 1) w one.redone);
+      cells =
+          let stands : IsStoreSlot new.sizes w.at = subst (λ y. IsStoreSlot y w.at) (sym (made.stays.sizes ∙ kept.stays.sizes)) slot.place in
+          knows_written new.sizes old.images new.images c.loop-index.planner c.renew.new.self w.at (slot_at new.images w.at) stands refl (write_elsewhere new.sizes old.images new.images d.txn n (length log + 1) w one.redone) c.renew.ensures
+          (subst (λ y. KnowsCells y old.images c.loop-index.planner) (sym made.stays.sizes) kept.cells);
     }
 
 pub renew-requires : goal.renew-requires

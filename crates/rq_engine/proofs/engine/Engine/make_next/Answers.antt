@@ -11,7 +11,7 @@ use Rattle.rq_store.specs.Fitting.{image_in}
 use Rattle.rq_store.specs.Steps.{IsPutIn, page_op}
 use Rattle.rq_engine.specs.Answers.{IsUnderWay}
 use Rattle.rq_engine.proofs.Calls.{Next, MakesNext, under_is, going_range, going_owed, next_slot, next_room, next_more, next_kept}
-use Rattle.rq_planner.proofs.Knowing.{knows_written}
+use Rattle.rq_planner.proofs.Knowing.{knows_put}
 use Rattle.rq_engine.proofs.Opened.{state_is, changed_is}
 use Rattle.rq_engine.proofs.engine.Engine.make_next.Goals as goal
 
@@ -64,9 +64,9 @@ invariant_of-self g c =
       kept = rw (c.step.ensures, c.set_slot.ensures.sizes, c.append_page_op-lsn.ensures.records, c.append_page_op-lsn.ensures.forced, sym failed)
           (next_kept _ _ _ _ c.self.invariant.kept c.args.sub c.in-Some-next_write.write.now h _ c.set_slot.new.self.images c.append_page_op-lsn.new.self.reserved room);
       durable = rw (c.append_page_op-lsn.ensures.settled) c.self.invariant.durable;
-      cells = rw (c.noted.ensures, c.set_slot.ensures.sizes)
-          (knows_written c.self.inside.pages.sizes c.self.inside.pages.images c.set_slot.new.self.images c.self.inside.planner c.in-Some-next_write.write.now.at c.in-Some-next_write.write.now.after
-          (next_slot _ _ _ _ c.self.invariant.kept c.args.sub c.in-Some-next_write.write.now h).place c.set_slot.ensures.slots c.self.invariant.cells);
+      cells = rw (c.set_slot.ensures.sizes)
+          (knows_put c.self.inside.pages.sizes c.self.inside.pages.images c.set_slot.new.self.images c.self.inside.planner c.noted.new.self c.in-Some-next_write.write.now.at c.in-Some-next_write.write.now.after _
+          (next_slot _ _ _ _ c.self.invariant.kept c.args.sub c.in-Some-next_write.write.now h).place c.set_slot.ensures.page c.set_slot.ensures.others c.noted.ensures c.self.invariant.cells);
     }
 
 pub returns-clause-made : goal.returns-clause-made

@@ -1,15 +1,13 @@
-use Rattle.std.proofs.Common.{◌≡◌, ◌<◌, Some, refl, sym, ◌∙◌, ap, subst, arith}
-use Rattle.rq_model.specs.Legal.{OnFound}
+use Rattle.std.proofs.Common.{Some, refl, sym, ◌∙◌, ap, subst, arith}
+use Rattle.rq_model.specs.Deeds.{deed_by}
 use Rattle.rq_model.specs.Tests.{undo_cost}
 use Rattle.rq_model.specs.Vocabulary.{is_some}
 use Rattle.rq_level.specs.Writes.{AreSlotWrites}
-use Rattle.rq_page.specs.Sizes.{sender_count}
 use Rattle.rq_views.specs.Stored.{slots_in}
 use Rattle.rq_txn.specs.declared.Aim.TheVariants.{Undoing}
 use Rattle.rq_txn.specs.Rows.{change_row, row_started}
 use Rattle.rq_store.specs.State.{State, op_done}
-use Rattle.rq_planner.specs.Answered.{IsHeldUp, IsPlanBack, IsPlanFor, MayBeAsked, RefusesPlan}
-use Rattle.rq_planner.specs.Asked.{Asked, asked_back, asked_sender, to_undo}
+use Rattle.rq_planner.specs.Answered.{IsPlanBack}
 use Rattle.rq_planner.specs.Asked.Asked.{Undo}
 use Rattle.rq_engine.specs.Aborts.{IsTurnedBack}
 use Rattle.rq_engine.specs.Earlier.{on}
@@ -17,18 +15,13 @@ use Rattle.rq_engine.specs.Invariant.{IsDoneConsistent}
 use Rattle.rq_engine.specs.Plans.{HasTurnedBack, known_part}
 use Rattle.rq_engine.specs.Sends.{HasRoom}
 use Rattle.rq_engine.proofs.Inverses.{cost_is, few_writes}
-use Rattle.rq_engine.proofs.Leveled.{never_failed, plain_memory, some_asked, start_answered, start_refused}
+use Rattle.rq_engine.proofs.Leveled.{never_failed, plain_memory, start_answered, start_refused}
 use Rattle.rq_engine.proofs.Opened.{state_is}
 use Rattle.rq_engine.proofs.SendCalls.{has_room}
 use Rattle.rq_engine.proofs.engine.Engine.start_inverse.Goals as goal
 
-pub plan_inverse-requires-clause-some : goal.plan_inverse-requires-clause-some
-plan_inverse-requires-clause-some g c = ap is_some (ap (λ n. asked_back n c.bytes.result.now) c.level.ensures ∙ ap to_undo c.bytes.ensures.reads)
-
-pub plan_inverse-requires-clause-asked : goal.plan_inverse-requires-clause-asked
-plan_inverse-requires-clause-asked g c a e =
-    let asked : asked_back c.level.result c.bytes.result.now ≡ Some (Undo c.args.done.now.deed) = ap (λ n. asked_back n c.bytes.result.now) c.level.ensures ∙ ap to_undo c.bytes.ensures.reads in
-    subst (λ (x : Asked). asked_sender x < sender_count c.args.self.now.state.sizes) (some_asked (Undo c.args.done.now.deed) a (sym asked ∙ e)) c.requires.kept.sender
+pub plan_inverse-requires : goal.plan_inverse-requires
+plan_inverse-requires g c = ap is_some (ap (λ n. deed_by n c.bytes.result.now) c.level.ensures ∙ c.bytes.ensures.reads)
 
 pub start_undo-requires-clause-ready : goal.start_undo-requires-clause-ready
 start_undo-requires-clause-ready g c = subst (λ (x : State). IsTurnedBack x c.args.txn c.args.number (Some c.args.done.now)) (sym (state_is c.in-Ok.ensures.same)) c.requires.ready
@@ -39,13 +32,13 @@ start_undo-requires-clause-kept g c = subst (λ (x : State). IsDoneConsistent x.
 pub start_undo-requires-clause-slots : goal.start_undo-requires-clause-slots
 start_undo-requires-clause-slots g c =
     let s = c.args.self.now.state in
-    let p : IsPlanBack (known_part s) c.args.done.now.deed c.in-Ok.plan = subst (λ o. OnFound o (λ a. IsPlanFor (known_part s) a c.in-Ok.plan)) (ap (λ n. asked_back n c.bytes.result.now) c.level.ensures ∙ ap to_undo c.bytes.ensures.reads) c.in-Ok.ensures.planned.plan in
+    let p : IsPlanBack (known_part s) c.args.done.now.deed c.in-Ok.plan = (c.in-Ok.ensures.planned c.args.done.now.deed (ap (λ n. deed_by n c.bytes.result.now) c.level.ensures ∙ c.bytes.ensures.reads) c.requires.kept.sender).plan in
     subst (λ (x : State). AreSlotWrites x.sizes c.in-Ok.plan.writes.items) (sym (state_is c.in-Ok.ensures.same)) p.slots
 
 pub start_undo-requires-clause-count : goal.start_undo-requires-clause-count
 start_undo-requires-clause-count g c =
     let s = c.args.self.now.state in
-    let p : IsPlanBack (known_part s) c.args.done.now.deed c.in-Ok.plan = subst (λ o. OnFound o (λ a. IsPlanFor (known_part s) a c.in-Ok.plan)) (ap (λ n. asked_back n c.bytes.result.now) c.level.ensures ∙ ap to_undo c.bytes.ensures.reads) c.in-Ok.ensures.planned.plan in
+    let p : IsPlanBack (known_part s) c.args.done.now.deed c.in-Ok.plan = (c.in-Ok.ensures.planned c.args.done.now.deed (ap (λ n. deed_by n c.bytes.result.now) c.level.ensures ∙ c.bytes.ensures.reads) c.requires.kept.sender).plan in
     let few = few_writes s.sizes (slots_in s.sizes s.images) c.in-Ok.plan.writes.items c.args.done.now.deed p.follows.0 in
     let four = cost_is c.args.done.now.deed in
     omega (arith, few, four)
@@ -53,7 +46,7 @@ start_undo-requires-clause-count g c =
 pub start_undo-requires-clause-log : goal.start_undo-requires-clause-log
 start_undo-requires-clause-log g c =
     let s = c.args.self.now.state in
-    let p : IsPlanBack (known_part s) c.args.done.now.deed c.in-Ok.plan = subst (λ o. OnFound o (λ a. IsPlanFor (known_part s) a c.in-Ok.plan)) (ap (λ n. asked_back n c.bytes.result.now) c.level.ensures ∙ ap to_undo c.bytes.ensures.reads) c.in-Ok.ensures.planned.plan in
+    let p : IsPlanBack (known_part s) c.args.done.now.deed c.in-Ok.plan = (c.in-Ok.ensures.planned c.args.done.now.deed (ap (λ n. deed_by n c.bytes.result.now) c.level.ensures ∙ c.bytes.ensures.reads) c.requires.kept.sender).plan in
     subst (λ (x : State). HasRoom x c.in-Ok.plan.writes.items) (sym (state_is c.in-Ok.ensures.same))
     (has_room s c.in-Ok.plan.writes.items (undo_cost (Some (op_done c.args.done.now))) c.requires.log (few_writes s.sizes (slots_in s.sizes s.images) c.in-Ok.plan.writes.items c.args.done.now.deed p.follows.0))
 
@@ -61,27 +54,25 @@ pub returns-in-Ok-clause-started : goal.returns-in-Ok-clause-started
 returns-in-Ok-clause-started g c =
     let s = c.args.self.now.state in
     let f = c.args.done.now in
-    let asked : asked_back c.level.result c.bytes.result.now ≡ Some (Undo f.deed) = ap (λ n. asked_back n c.bytes.result.now) c.level.ensures ∙ ap to_undo c.bytes.ensures.reads in
-    let p : IsPlanBack (known_part s) f.deed c.in-Ok.plan = subst (λ o. OnFound o (λ a. IsPlanFor (known_part s) a c.in-Ok.plan)) asked c.in-Ok.ensures.planned.plan in
-    start_answered s (Undo f.deed) (HasTurnedBack s c.args.txn c.args.number f c.start_undo.new.self.state) c.start_undo.result
-    (λ held. c.in-Ok.ensures.planned.free (subst (λ o. OnFound o (IsHeldUp (known_part s))) (sym asked) held))
-    (λ is. record {
+    let is = c.in-Ok.ensures.planned f.deed (ap (λ n. deed_by n c.bytes.result.now) c.level.ensures ∙ c.bytes.ensures.reads) c.requires.kept.sender in
+    let p : IsPlanBack (known_part s) f.deed c.in-Ok.plan = is.plan in
+    start_answered s (Undo f.deed) (HasTurnedBack s c.args.txn c.args.number f c.start_undo.new.self.state) c.start_undo.result is.free
+    (λ begun. record {
       writes = c.in-Ok.plan.writes.items;
       planned = record { planned = p.follows.0; slots = p.slots; free = p.follows.1; lowest = p.lowest };
-      state = is ∙ ap (λ (x : State). record x { rows = change_row c.args.txn (row_started (record { number = c.args.number; writes = c.in-Ok.plan.writes.items; made = 0; aim = Undoing f.lsn f.deed })) x.rows }) (state_is c.in-Ok.ensures.same);
+      state = begun ∙ ap (λ (x : State). record x { rows = change_row c.args.txn (row_started (record { number = c.args.number; writes = c.in-Ok.plan.writes.items; made = 0; aim = Undoing f.lsn f.deed })) x.rows }) (state_is c.in-Ok.ensures.same);
     })
     c.start_undo.ensures.started c.start_undo.ensures.refusal
 
 pub returns-in-Err-clause-started : goal.returns-in-Err-clause-started
 returns-in-Err-clause-started g c =
     let s = c.args.self.now.state in
-    let asked : asked_back c.level.result c.bytes.result.now ≡ Some (Undo c.args.done.now.deed) = ap (λ n. asked_back n c.bytes.result.now) c.level.ensures ∙ ap to_undo c.bytes.ensures.reads in
-    start_refused s (Undo c.args.done.now.deed) _ c.in-Err.refusal
-    (subst (λ o. RefusesPlan (OnFound o (IsHeldUp (known_part s))) c.in-Err.refusal) asked c.in-Err.ensures.planned.causes)
-    (λ earlier long k may. c.in-Err.ensures.planned.sound (on earlier s) refl k (subst (λ o. OnFound o (MayBeAsked (on earlier s))) (sym asked) may))
+    let is = c.in-Err.ensures.planned c.args.done.now.deed (ap (λ n. deed_by n c.bytes.result.now) c.level.ensures ∙ c.bytes.ensures.reads) c.requires.kept.sender in
+    start_refused s (Undo c.args.done.now.deed) _ c.in-Err.refusal is.causes (λ earlier long k may. is.sound (on earlier s) refl k may)
 
 pub returns-in-Ok-clause-plain : goal.returns-in-Ok-clause-plain
 returns-in-Ok-clause-plain g c = plain_memory c.start_undo.result c.start_undo.ensures.refusal
 
 pub returns-in-Err-clause-plain : goal.returns-in-Err-clause-plain
-returns-in-Err-clause-plain g c = never_failed _ c.in-Err.refusal c.in-Err.ensures.planned.causes
+returns-in-Err-clause-plain g c =
+    never_failed _ c.in-Err.refusal (c.in-Err.ensures.planned c.args.done.now.deed (ap (λ n. deed_by n c.bytes.result.now) c.level.ensures ∙ c.bytes.ensures.reads) c.requires.kept.sender).causes

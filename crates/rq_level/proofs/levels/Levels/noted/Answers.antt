@@ -4,7 +4,7 @@ use Rattle.rq_level.proofs.OneLevel.{all_told, none_told, one_told}
 use Rattle.rq_level.proofs.levels.Levels.noted.Goals as goal
 
 pub loop-level-init : goal.loop-level-init
-loop-level-init g c = none_told c.args.at c.args.bytes.now c.args.self.now
+loop-level-init g c = none_told c.self.inside.idle c.args.at c.args.bytes.now c.args.self.now c.self.invariant.1
 
 pub loop-level-preserved : goal.loop-level-preserved
 loop-level-preserved g c =

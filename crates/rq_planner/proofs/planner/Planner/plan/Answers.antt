@@ -1,14 +1,14 @@
-use Rattle.std.proofs.Common.{sym, subst}
+use Rattle.std.proofs.Common.{List, subst}
 use Rattle.rq_level.specs.LevelState.{LevelState}
-use Rattle.rq_level.specs.Meaning.{kept_at}
-use Rattle.rq_planner.specs.Answered.{KnowsCells}
-use Rattle.rq_planner.specs.Asked.{asked_by}
-use Rattle.rq_planner.proofs.Knowing.{given_back}
+use Rattle.rq_level.specs.Meaning.{kept_at, meaning_of}
+use Rattle.rq_planner.specs.Answered.{IsAnswered, MayPlan}
+use Rattle.rq_planner.specs.Asked.{known_from}
+use Rattle.rq_planner.proofs.Replies.{plan_answered}
 use Rattle.rq_planner.proofs.planner.Planner.plan.Goals as goal
 
-pub returns-clause-cells : goal.returns-clause-cells
-returns-clause-cells g c =
-    let z = c.args.pages.now.sizes in
-    let images = c.args.pages.now.images in
-    let knows = subst (λ (k : LevelState). KnowsCells z images k) (sym c.self.view_is) c.requires.cells in
-    given_back z images c.args.transactions.now (kept_at c.self.inside.levels 1) (kept_at c.plan-answer.new.levels 1) (kept_at c.give_back.new.levels 1) (asked_by c.args.op.now) c.plan-answer.result knows c.plan-answer.ensures.answered c.give_back.ensures.planned c.give_back.ensures.refused
+pub returns-clause-planned : goal.returns-clause-planned
+returns-clause-planned g c d told inside =
+    let s = known_from c.args.pages.now c.args.transactions.now in
+    let op = c.args.op.now in
+    plan_answered c.args.pages.now.sizes c.args.pages.now.images c.args.transactions.now c.args.self.now c.requires.known c.plan.result op d c.requires.forward told inside
+    (subst (λ (ks : List LevelState). IsAnswered s (meaning_of op.level) op (MayPlan s (meaning_of op.level) (kept_at ks op.level) op) c.plan.result) c.self.view_is c.plan.ensures.answered)

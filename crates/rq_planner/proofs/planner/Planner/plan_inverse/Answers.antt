@@ -1,14 +1,22 @@
-use Rattle.std.proofs.Common.{sym, subst}
+use Rattle.std.proofs.Common.{List, subst}
 use Rattle.rq_level.specs.LevelState.{LevelState}
-use Rattle.rq_level.specs.Meaning.{kept_at}
-use Rattle.rq_planner.specs.Answered.{KnowsCells}
-use Rattle.rq_planner.specs.Asked.{asked_back}
-use Rattle.rq_planner.proofs.Knowing.{given_back}
+use Rattle.rq_level.specs.Meaning.{kept_at, meaning_of}
+use Rattle.rq_planner.specs.Answered.{IsAnswered, MayUndo, to_take_back}
+use Rattle.rq_planner.specs.Asked.{known_from}
+use Rattle.rq_planner.proofs.Backs.{back_judged}
+use Rattle.rq_planner.proofs.Replies.{back_answered}
 use Rattle.rq_planner.proofs.planner.Planner.plan_inverse.Goals as goal
 
-pub returns-clause-cells : goal.returns-clause-cells
-returns-clause-cells g c =
-    let z = c.args.pages.now.sizes in
-    let images = c.args.pages.now.images in
-    let knows = subst (λ (k : LevelState). KnowsCells z images k) (sym c.self.view_is) c.requires.cells in
-    given_back z images c.args.transactions.now (kept_at c.self.inside.levels 1) (kept_at c.plan_inverse-answer.new.levels 1) (kept_at c.give_back.new.levels 1) (asked_back c.args.level c.args.deed.now) c.plan_inverse-answer.result knows c.plan_inverse-answer.ensures.answered c.give_back.ensures.planned c.give_back.ensures.refused
+pub returns-clause-planned : goal.returns-clause-planned
+returns-clause-planned g c d told inside =
+    let s = known_from c.args.pages.now c.args.transactions.now in
+    let n = c.args.level in
+    back_answered c.args.pages.now.sizes c.args.pages.now.images c.args.transactions.now c.args.self.now c.requires.known c.plan_inverse.result n c.args.deed.now d told inside
+    (subst (λ (ks : List LevelState). IsAnswered s (meaning_of n) (to_take_back n c.args.deed.now) (MayUndo s (meaning_of n) (kept_at ks n) n c.args.deed.now) c.plan_inverse.result) c.self.view_is c.plan_inverse.ensures.answered)
+
+pub returns-clause-judged : goal.returns-clause-judged
+returns-clause-judged g c d told inside =
+    let s = known_from c.args.pages.now c.args.transactions.now in
+    let n = c.args.level in
+    back_judged c.args.pages.now.sizes c.args.pages.now.images c.args.transactions.now c.args.self.now c.requires.known c.plan_inverse.result n c.args.deed.now d told inside
+    (subst (λ (ks : List LevelState). IsAnswered s (meaning_of n) (to_take_back n c.args.deed.now) (MayUndo s (meaning_of n) (kept_at ks n) n c.args.deed.now) c.plan_inverse.result) c.self.view_is c.plan_inverse.ensures.answered)
