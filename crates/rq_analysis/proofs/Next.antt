@@ -14,8 +14,8 @@ use Rattle.rq_views.specs.Log.{same_op}
 use Rattle.rq_views.proofs.Overlay.{same_is as op_is, same_self as op_self}
 use Rattle.rq_analysis.specs.declared.open_work.UndoableWrite.{UndoableWrite}
 use Rattle.rq_analysis.specs.OpenWorkView.{OpenWorkView, has_sub, undoable_by}
-use Rattle.rq_analysis.specs.Pages.{NoneIsSpent, IsNextUndo, any_undoable, op_less, txn_less, undo_of, void_of}
-use Rattle.rq_analysis.specs.Pages.IsNextUndo.{Voids, Undoes}
+use Rattle.rq_analysis.specs.Pages.{NoneIsSpent, IsNewestUndoable, IsNextUndo, any_undoable, op_less, txn_less, void_of}
+use Rattle.rq_analysis.specs.Pages.IsNextUndo.{Voids}
 use Rattle.rq_analysis.specs.Least.{least_in, lesser_in}
 use Rattle.rq_analysis.proofs.Stacks.{any_reverse}
 
@@ -148,8 +148,8 @@ module _ (h : OpenWorkView) (ps : List UndoableWrite) (os : List Sub) (undoable 
   none_spent : least_in ps os ≡ None → NoneIsSpent h
   none_spent e = let k : IsLooked ps os None = subst (IsLooked ps os) e (looked ps os) in λ o i. any_same o ∙ k o (sym (has_same o) ∙ i)
 
-  pub undoes_next : (p : UndoableWrite) → least_in ps os ≡ None → slice_get ps (length ps - 1) ≡ Some p → IsNextUndo h (undo_of p)
-  undoes_next p e last = let k = newest_of ps p last in Undoes p k.0 (none_spent e) (undoable ∙ k.1) refl
+  pub newest_next : (p : UndoableWrite) → least_in ps os ≡ None → slice_get ps (length ps - 1) ≡ Some p → IsNewestUndoable h p
+  newest_next p e last = let k = newest_of ps p last in record { none = none_spent e; older = k.0; first = undoable ∙ k.1 }
 
   pub nothing_next : least_in ps os ≡ None → slice_get ps (length ps - 1) ≡ None → h.unfinished ≡ []
   nothing_next e last = let none = none_of ps last in nothing h.unfinished (λ o i. true≢false (sym (none_spent e o i) ∙ any_same o ∙ ap (any_undoable o) none)) where

@@ -1,6 +1,6 @@
 -- What is to be taken back, as a stack: the deeds of transactions with neither Commit nor AbortEnd that no inverse took
 -- back, the newest first.
-use Rattle.std.specs.Prelude.{◌≡◌, ℕ, ◌+◌, ◌≤◌, Bool, not, List, [], ◌∷◌, ◌++◌, length, Some}
+use Rattle.std.specs.Prelude.{◌≡◌, ℕ, ◌+◌, ◌≤◌, Bool, not, List, [], ◌∷◌, ◌++◌, length, Option, Some, None}
 use Rattle.std.specs.List.{filter, list_any}
 use Rattle.rq_model.specs.declared.txn.Txn.{Txn}
 use Rattle.rq_model.specs.declared.record.Deed.{Deed}
@@ -26,6 +26,10 @@ but_newest t = but_newest_of (due_of t)
 -- something of the transaction's is due
 abbrev pub any_due : Txn → List PendingUndo → Bool
 any_due t = list_any (due_of t)
+
+abbrev pub lsn_due : Option PendingUndo → Option ℕ
+lsn_due None = None
+lsn_due (Some d) = Some d.lsn
 
 -- those of others
 abbrev pub but_own : Txn → List PendingUndo → List PendingUndo

@@ -9,7 +9,7 @@ use Rattle.rq_model.specs.Vocabulary.{first}
 use Rattle.rq_views.specs.Items.{operation}
 use Rattle.rq_analysis.specs.OpenWorkView.{OpenWorkView, open_work_of, has_sub, undoable_at, undoable_by}
 use Rattle.rq_analysis.specs.declared.dues.PendingUndo.{PendingUndo}
-use Rattle.rq_analysis.specs.Dues.{due_of, dues}
+use Rattle.rq_analysis.specs.Dues.{due_of, dues, lsn_due}
 use Rattle.rq_analysis.specs.Numbers.{number_of, numbers}
 use Rattle.rq_analysis.specs.Runs.{Counts, has_count}
 
@@ -32,9 +32,11 @@ pub record AreTablesOf (log : List Record) (h : OpenWorkView) (ds : List Pending
   pub numbers : os ≡ numbers log
   pub ended : c ≡ ended log
 
-abbrev pub lsn_due : Option PendingUndo → Option ℕ
-lsn_due None = None
-lsn_due (Some d) = Some d.lsn
+-- a PageUndo puts back what stood before the newest write of its operation
+abbrev pub PutsBack : OpenWorkView → Record → Type 0
+PutsBack h (PageUndo t n undone page slot after) =
+    first (filter (undoable_by (operation t n)) h.undoable) ≡ Some (undoable_at undone (operation t n) page slot after)
+PutsBack h _ = Unit {0}
 
 -- what is asked of a record by what is kept, but that its deed is read
 abbrev pub Passes : OpenWorkView → List PendingUndo → List Sub → Counts → Record → Type 0
@@ -43,8 +45,7 @@ Passes h ds os c (PageOp t n page slot before after) =
     × ((has_sub (operation t n) h.unfinished ≡ true) ⊎ (n ≡ number_of t os + 1))
 Passes h ds os c (PageUndo t n undone page slot after) =
     (has_count t.count c ≡ false)
-    × (has_sub (operation t n) h.unfinished ≡ true)
-    × (first (filter (undoable_by (operation t n)) h.undoable) ≡ Some (undoable_at undone (operation t n) page slot after))
+    × (has_sub (operation t n) h.unfinished ≡ true) × PutsBack h (PageUndo t n undone page slot after)
 Passes h ds os c (OpEnd t n level deed) = (has_count t.count c ≡ false) × (has_sub (operation t n) h.unfinished ≡ true)
 Passes h ds os c (OpVoid t n) = (has_count t.count c ≡ false) × (has_sub (operation t n) h.unfinished ≡ true)
 Passes h ds os c (CompEnd t n undone) =

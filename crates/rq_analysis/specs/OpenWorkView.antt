@@ -1,5 +1,5 @@
 -- What the records of a log come to, one after the other. Everything has ended before a Base: it begins anew there.
-use Rattle.std.specs.Prelude.{ℕ, ◌+◌, Bool, false, not, ◌||◌, cond, List, [], ◌∷◌, ◌++◌, length}
+use Rattle.std.specs.Prelude.{ℕ, ◌+◌, Bool, false, not, ◌||◌, cond, List, [], ◌∷◌, ◌++◌, length, Option, Some, None}
 use Rattle.std.specs.List.{filter}
 use Rattle.rq_model.specs.declared.txn.Txn.{Txn}
 use Rattle.rq_model.specs.declared.txn.Sub.{Sub}
@@ -38,6 +38,10 @@ without_txn t ts = filter (λ u. not (same_txn t u)) ts
 
 abbrev pub undoable_by : Sub → UndoableWrite → Bool
 undoable_by o p = same_op p.by o
+
+abbrev pub lsn_undoable : Option UndoableWrite → Option ℕ
+lsn_undoable None = None
+lsn_undoable (Some p) = Some p.lsn
 
 -- all but the newest of the operation's
 abbrev pub without_newest : Sub → List UndoableWrite → List UndoableWrite

@@ -7,6 +7,8 @@ use Rattle.rq_model.specs.declared.record.Record.{Record}
 use Rattle.rq_model.specs.declared.record.Record.TheVariants.{PageUndo, OpVoid}
 use Rattle.rq_model.specs.Vocabulary.{same_txn}
 use Rattle.rq_analysis.specs.declared.open_work.UndoableWrite.{UndoableWrite}
+use Rattle.rq_analysis.specs.declared.open_work.NextUndo.{NextUndo}
+use Rattle.rq_analysis.specs.declared.open_work.NextUndo.TheVariants.{Void, Write}
 use Rattle.rq_analysis.specs.OpenWorkView.{OpenWorkView, open_work_of, has_sub, undoable_by}
 
 -- rising number: by incarnation, then count, then operation
@@ -39,6 +41,17 @@ undo_of p = PageUndo p.by.txn p.by.number p.lsn p.page p.slot p.before
 pub data IsNextUndo (h : OpenWorkView) (r : Record) : Type 0 where
   Voids : (o : Sub) → IsSpent h o → ((p : Sub) → IsSpent h p → op_less p o ≡ false) → r ≡ void_of o → IsNextUndo h r
   Undoes : (p : UndoableWrite) → (ps : List UndoableWrite) → NoneIsSpent h → h.undoable ≡ p ∷ ps → r ≡ undo_of p → IsNextUndo h r
+
+-- the write is the newest of all, where each operation without an end has one
+pub record IsNewestUndoable (h : OpenWorkView) (p : UndoableWrite) : Type 0 where
+  pub none : NoneIsSpent h
+  pub older : List UndoableWrite
+  pub first : h.undoable ≡ p ∷ older
+
+-- what is undone next is an operation that is voided, or the write with this LSN
+abbrev pub IsUndoneNext : OpenWorkView → NextUndo → Type 0
+IsUndoneNext h (Void o) = IsNextUndo h (void_of o)
+IsUndoneNext h (Write lsn) = (p : UndoableWrite) × (p.lsn ≡ lsn) × IsNewestUndoable h p
 
 -- each of these records, the newest first, is the next one behind the log
 abbrev pub UndoesBehind : List Record → List Record → Type 0

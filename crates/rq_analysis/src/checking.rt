@@ -4,47 +4,50 @@ ghost use Rattle.std.specs.List.{filter};
 ghost use Rattle.rq_model.specs.declared.record.Record.{Record as AnyRecord};
 ghost use Rattle.rq_model.specs.Incarnations.{IsNext, incarnation_of};
 ghost use Rattle.rq_model.specs.Vocabulary.{first};
-ghost use Rattle.rq_analysis.specs.OpenWorkView.{undoable_at, undoable_by};
-ghost use Rattle.rq_analysis.specs.Dues.{due_of};
+ghost use Rattle.rq_analysis.specs.Dues.{due_of, lsn_due};
 ghost use Rattle.rq_analysis.specs.Numbers.{number_of};
-ghost use Rattle.rq_analysis.specs.LogTables.{AreTablesOf, Passes, lsn_due};
+ghost use Rattle.rq_analysis.specs.LogTables.{AreTablesOf, Passes, PutsBack};
 ghost use Rattle.rq_analysis.specs.Rules.{CanBeRead, FollowAll, FollowsRules, IsReadInOrder};
 
 use crate::ended::EndedTransactions;
 use crate::open_work::sub;
 use crate::{LastOperations, OpenWork, PendingUndos};
-use rq_model::record::{Record, Slot};
-use rq_model::txn::{Lsn, Sub, Txn};
+use rq_model::record::Record;
+use rq_model::txn::{Lsn, Txn};
 
 /// Whether the record may stand behind the log of which these are kept, whose records followed the rules. It is the next
-/// of its incarnation, and it is told whether the deed in it, if there is one, is read by its level.
+/// of its incarnation, and it is told whether the deed in it, if there is one, is read by its level, and whether it puts back
+/// what stood before the newest write of its operation, if it is a PageUndo.
 pub fn follows(
     open_work: &OpenWork,
     dues: &PendingUndos,
     numbers: &LastOperations,
     ended: &EndedTransactions,
     reads: bool,
+    puts_back: bool,
     record: &Record,
 ) -> bool
     ensures { (log : List AnyRecord) → AreTablesOf log open_work.now dues.now numbers.now ended.now → FollowAll log
         → IsReadInOrder log → IsNext (incarnation_of log) «record».now → (IsTrue reads ↔ CanBeRead «record».now)
-        → (IsTrue result ↔ FollowsRules log «record».now) }
+        → (IsTrue puts_back ↔ PutsBack open_work.now «record».now) → (IsTrue result ↔ FollowsRules log «record».now) }
 {
     if !reads {
         return false;
     }
-    passes(open_work, dues, numbers, ended, record)
+    passes(open_work, dues, numbers, ended, puts_back, record)
 }
 
-// By what is kept alone, but for its deed.
+// By what is kept alone, but for its deed and what it puts back.
 fn passes(
     open_work: &OpenWork,
     dues: &PendingUndos,
     numbers: &LastOperations,
     ended: &EndedTransactions,
+    puts_back: bool,
     record: &Record,
 ) -> bool
-    ensures { IsTrue result ↔ Passes open_work.now dues.now numbers.now ended.now «record».now }
+    ensures { (IsTrue puts_back ↔ PutsBack open_work.now «record».now)
+        → (IsTrue result ↔ Passes open_work.now dues.now numbers.now ended.now «record».now) }
 {
     match record {
         Record::PageOp { txn, operation, .. } => {
@@ -52,18 +55,8 @@ fn passes(
                 && (open_work.is_unfinished(sub(txn, *operation))
                     || is_new(numbers, txn, *operation))
         }
-        Record::PageUndo {
-            txn,
-            operation,
-            undone,
-            page,
-            slot,
-            after,
-        } => {
-            let by = sub(txn, *operation);
-            !ended.has(*txn)
-                && open_work.is_unfinished(by)
-                && undoes_newest(open_work, by, *undone, *page, *slot, after)
+        Record::PageUndo { txn, operation, .. } => {
+            !ended.has(*txn) && open_work.is_unfinished(sub(txn, *operation)) && puts_back
         }
         Record::OpEnd { txn, operation, .. } | Record::OpVoid { txn, operation } => {
             !ended.has(*txn) && open_work.is_unfinished(sub(txn, *operation))
@@ -90,36 +83,12 @@ fn is_new(numbers: &LastOperations, txn: &Txn, operation: u64) -> bool
     operation > 0 && numbers.greatest(*txn) == operation - 1
 }
 
-// Whether the operation's newest write that stands has this LSN and place, and these bytes before it.
-fn undoes_newest(
-    open_work: &OpenWork,
-    sub: Sub,
-    undone: Lsn,
-    page: u32,
-    slot: u8,
-    after: &Slot,
-) -> bool
-    ensures { IsTrue result ↔ (first (filter (undoable_by sub) open_work.now.undoable)
-        ≡ Some (undoable_at undone sub page slot after.now)) }
-{
-    match open_work.newest_undoable(sub) {
-        Some(write) => {
-            write.by == sub
-                && write.lsn == undone
-                && write.page == page
-                && write.slot == slot
-                && write.before == *after
-        }
-        None => false,
-    }
-}
-
 // Whether the newest of the transaction's dues has this LSN.
 fn takes_back_newest(dues: &PendingUndos, txn: Txn, undone: Lsn) -> bool
     ensures { IsTrue result ↔ (lsn_due (first (filter (due_of txn) dues.now)) ≡ Some undone) }
 {
     match dues.next_of(txn) {
-        Some(due) => due.lsn == undone,
+        Some(lsn) => lsn == undone,
         None => false,
     }
 }

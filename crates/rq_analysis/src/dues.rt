@@ -2,13 +2,14 @@
 ghost use Rattle.std.specs.Prelude.{◌≡◌, ◌∷◌, ◌+◌, ◌<◌, [], IfSome, IfNone, MatchOption, OnOk, OnErr, Some, List, true, false, drop, length, slice_index_or};
 ghost use Rattle.std.specs.List.{filter};
 ghost use Rattle.rq_model.specs.Vocabulary.{first};
-ghost use Rattle.rq_analysis.specs.Dues.{any_due, but_newest, but_own, due_of, dues, dues_after};
+ghost use Rattle.rq_analysis.specs.Dues.{any_due, but_newest, but_own, due_of, dues, dues_after, lsn_due};
 
 use rq_model::record::{DeedBytes, Record};
 use rq_model::refusal::NoMemory;
 use rq_model::txn::{Lsn, Txn};
 use std::alloc::Global;
 use std::marker::Model;
+use std::snapshot::Snapshot;
 
 /// What a finished operation of a transaction without an end did that no inverse took back.
 #[derive(Clone, Copy)]
@@ -23,12 +24,57 @@ pub struct PendingUndo {
     pub deed: DeedBytes,
 }
 
+/// What is kept of that: whose it is, and where it is told. Contracts see all of it.
+#[derive(Drop)]
+pub struct KeptUndo {
+    txn: Txn,
+    lsn: Lsn,
+    told: Snapshot<PendingUndo>,
+}
+
+impl Model for KeptUndo {
+    ghost use Rattle.std.specs.Prelude.{◌≡◌};
+    ghost use Rattle.rq_analysis.specs.declared.dues.PendingUndo.{PendingUndo};
+
+    ghost Value = { PendingUndo };
+
+    ghost view = { λ k. k.told.value };
+
+    ghost invariant = { λ k. (k.txn ≡ k.told.value.txn) × (k.lsn ≡ k.told.value.lsn) };
+}
+
+impl KeptUndo {
+    fn of(due: &PendingUndo) -> KeptUndo
+        ensures { result ≡ due.now }
+    {
+        KeptUndo {
+            txn: due.txn,
+            lsn: due.lsn,
+            told: Snapshot::of(due),
+        }
+    }
+
+    /// Whose it is.
+    pub fn txn(&self) -> Txn
+        ensures { result ≡ self.now.txn }
+    {
+        self.txn
+    }
+
+    /// The LSN of its OpEnd.
+    pub fn lsn(&self) -> Lsn
+        ensures { result ≡ self.now.lsn }
+    {
+        self.lsn
+    }
+}
+
 /// What is to be taken back of the transactions of a log that have neither Commit nor AbortEnd. Contracts see it as a
 /// stack, the newest first.
 #[derive(Drop)]
 pub struct PendingUndos {
     /// In the order of their records.
-    dues: Vec<PendingUndo>,
+    dues: Vec<KeptUndo>,
 }
 
 impl Model for PendingUndos {
@@ -64,12 +110,12 @@ impl PendingUndos {
                 level,
                 deed,
                 ..
-            } => self.add(PendingUndo {
+            } => self.add(KeptUndo::of(&PendingUndo {
                 txn: *txn,
                 lsn,
                 level: *level,
                 deed: *deed,
-            }),
+            })),
             Record::CompEnd { txn, .. } => {
                 self.drop_newest(*txn);
                 Ok(())
@@ -87,18 +133,18 @@ impl PendingUndos {
     }
 
     /// What is taken back next.
-    pub fn newest(&self) -> Option<PendingUndo>
-        ensures { MatchOption result (self.now ≡ []) (λ due. (older : List PendingUndo) × (self.now ≡ due ∷ older)) }
+    pub fn newest(&self) -> Option<&KeptUndo>
+        ensures { MatchOption result (self.now ≡ []) (λ due. (older : List PendingUndo) × (self.now ≡ due.now ∷ older)) }
     {
-        self.dues.last().copied()
+        self.dues.last()
     }
 
-    /// What is taken back next of what the transaction did.
-    pub fn next_of(&self, txn: Txn) -> Option<PendingUndo>
-        ensures { result ≡ first (filter (due_of txn) self.now) }
+    /// The LSN of what is taken back next of what the transaction did.
+    pub fn next_of(&self, txn: Txn) -> Option<Lsn>
+        ensures { result ≡ lsn_due (first (filter (due_of txn) self.now)) }
     {
         match newest_of(&self.dues, txn) {
-            Some(place) => Some(self.dues[place]),
+            Some(place) => Some(self.dues[place].lsn()),
             None => None,
         }
     }
@@ -110,7 +156,7 @@ impl PendingUndos {
         has_due(&self.dues, txn)
     }
 
-    fn add(&mut self, due: PendingUndo) -> Result<(), NoMemory>
+    fn add(&mut self, due: KeptUndo) -> Result<(), NoMemory>
         ensures ok { OnOk result (self.new ≡ due ∷ self.old) }
         ensures err { OnErr result (self.new ≡ self.old) }
     {
@@ -133,12 +179,12 @@ impl PendingUndos {
     fn end(&mut self, txn: Txn)
         ensures { self.new ≡ but_own txn self.old }
     {
-        self.dues.retain(|due| due.txn != txn);
+        self.dues.retain(|due| due.txn() != txn);
     }
 }
 
 // The place of the newest of these that is the transaction's.
-fn newest_of(dues: &[PendingUndo], txn: Txn) -> Option<usize>
+fn newest_of(dues: &[KeptUndo], txn: Txn) -> Option<usize>
     ensures place { IfSome result (λ i. i < length dues.now) }
     ensures own { IfSome result (λ i. (d : PendingUndo) → due_of txn (slice_index_or dues.now i d) ≡ true) }
     ensures newest { IfSome result (λ i. any_due txn (drop (i + 1) dues.now) ≡ false) }
@@ -147,7 +193,7 @@ fn newest_of(dues: &[PendingUndo], txn: Txn) -> Option<usize>
     let mut place = dues.len();
     while place > 0 {
         place -= 1;
-        if dues[place].txn == txn {
+        if dues[place].txn() == txn {
             return Some(place);
         }
     }
@@ -155,11 +201,11 @@ fn newest_of(dues: &[PendingUndo], txn: Txn) -> Option<usize>
 }
 
 // Whether one of these is the transaction's.
-fn has_due(dues: &[PendingUndo], txn: Txn) -> bool
+fn has_due(dues: &[KeptUndo], txn: Txn) -> bool
     ensures { result ≡ any_due txn dues.now }
 {
     for due in dues {
-        if due.txn == txn {
+        if due.txn() == txn {
             return true;
         }
     }

@@ -15,10 +15,10 @@ ghost use Rattle.rq_analysis.specs.Laws.{Laws};
 
 pub use checking::follows;
 pub use choices::next_end;
-pub use dues::{PendingUndo, PendingUndos};
+pub use dues::{KeptUndo, PendingUndo, PendingUndos};
 pub use ended::EndedTransactions;
 pub use numbers::LastOperations;
-pub use open_work::{OpenWork, UndoableWrite};
+pub use open_work::{NextUndo, OpenWork, UndoableWrite};
 
 /// What undoing makes of a log and of a store, and what records may follow: each field is a theorem.
 pub fn laws()

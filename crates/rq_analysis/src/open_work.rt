@@ -3,8 +3,8 @@ ghost use Rattle.std.specs.Prelude.{◌≡◌, ◌↔◌, ◌<◌, ◌+◌, IsTr
 ghost use Rattle.std.specs.List.{filter};
 ghost use Rattle.rq_model.specs.Incarnations.{IsNext, IsOf};
 ghost use Rattle.rq_model.specs.Vocabulary.{first};
-ghost use Rattle.rq_analysis.specs.OpenWorkView.{open_work_of, open_work_after, has_sub, undoable_by, with_sub, without_newest, without_undoable, without_sub, with_txn, without_txn};
-ghost use Rattle.rq_analysis.specs.Pages.{IsNextUndo, any_undoable, op_less, undo_of, void_of};
+ghost use Rattle.rq_analysis.specs.OpenWorkView.{open_work_of, open_work_after, has_sub, lsn_undoable, undoable_by, with_sub, without_newest, without_undoable, without_sub, with_txn, without_txn};
+ghost use Rattle.rq_analysis.specs.Pages.{IsUndoneNext, any_undoable, op_less};
 ghost use Rattle.rq_analysis.specs.Least.{least_in, lesser_in};
 
 use rq_model::record::{Record, Slot};
@@ -12,6 +12,7 @@ use rq_model::refusal::Refusal;
 use rq_model::txn::{Lsn, Sub, Txn};
 use std::alloc::Global;
 use std::marker::Model;
+use std::snapshot::Snapshot;
 
 /// A slot write that may have to be undone.
 #[derive(Clone, Copy)]
@@ -26,6 +27,58 @@ pub struct UndoableWrite {
     pub before: Slot,
 }
 
+// What is kept of it. Contracts see all of it.
+#[derive(Drop)]
+struct KeptWrite {
+    lsn: Lsn,
+    by: Sub,
+    told: Snapshot<UndoableWrite>,
+}
+
+impl Model for KeptWrite {
+    ghost use Rattle.std.specs.Prelude.{◌≡◌};
+    ghost use Rattle.rq_analysis.specs.declared.open_work.UndoableWrite.{UndoableWrite};
+
+    ghost Value = { UndoableWrite };
+
+    ghost view = { λ k. k.told.value };
+
+    ghost invariant = { λ k. (k.lsn ≡ k.told.value.lsn) × (k.by ≡ k.told.value.by) };
+}
+
+impl KeptWrite {
+    fn of(write: &UndoableWrite) -> KeptWrite
+        ensures { result ≡ write.now }
+    {
+        KeptWrite {
+            lsn: write.lsn,
+            by: write.by,
+            told: Snapshot::of(write),
+        }
+    }
+
+    fn lsn(&self) -> Lsn
+        ensures { result ≡ self.now.lsn }
+    {
+        self.lsn
+    }
+
+    fn by(&self) -> Sub
+        ensures { result ≡ self.now.by }
+    {
+        self.by
+    }
+}
+
+/// What is undone next of operations that have no end.
+#[derive(Clone, Copy, PartialEq, Eq)]
+pub enum NextUndo {
+    /// The operation is voided: all its writes are undone.
+    Void(Sub),
+    /// The write whose record has this LSN is undone.
+    Write(Lsn),
+}
+
 /// What the records of a log leave open, one after the other: the last incarnation, the operations that wrote a slot and
 /// have no end, with their writes that are not undone, and the transactions that finished an operation and have no end.
 #[derive(Drop)]
@@ -33,7 +86,7 @@ pub struct OpenWork {
     incarnation: u64,
     unfinished: Vec<Sub>,
     /// In the order of their records.
-    undoable: Vec<UndoableWrite>,
+    undoable: Vec<KeptWrite>,
     active: Vec<Txn>,
 }
 
@@ -99,12 +152,12 @@ impl OpenWork {
         self.unfinished.contains(&sub)
     }
 
-    /// The newest write of the operation that is not undone.
-    pub fn newest_undoable(&self, sub: Sub) -> Option<UndoableWrite>
-        ensures { result ≡ first (filter (undoable_by sub) self.now.undoable) }
+    /// The LSN of the newest write of the operation that is not undone.
+    pub fn newest_undoable(&self, sub: Sub) -> Option<Lsn>
+        ensures { result ≡ lsn_undoable (first (filter (undoable_by sub) self.now.undoable)) }
     {
         match newest_of(&self.undoable, sub) {
-            Some(place) => Some(self.undoable[place]),
+            Some(place) => Some(self.undoable[place].lsn()),
             None => None,
         }
     }
@@ -140,13 +193,13 @@ impl OpenWork {
             } => {
                 let by = sub(txn, *operation);
                 self.begin_operation(by)?;
-                self.add_undoable(UndoableWrite {
+                self.add_undoable(KeptWrite::of(&UndoableWrite {
                     lsn,
                     by,
                     page: *page,
                     slot: *slot,
                     before: *before,
-                })?;
+                }))?;
                 Ok(self.is_ours(txn))
             }
             Record::PageUndo { txn, operation, .. } => {
@@ -169,15 +222,15 @@ impl OpenWork {
         }
     }
 
-    /// The next record by which operations without an end are undone; none where all have their end.
-    pub fn next_undo(&self) -> Option<Record>
-        ensures some { IfSome result (λ r. IsNextUndo self.now r) }
+    /// What is undone next of operations without an end; nothing where all have their end.
+    pub fn next_undo(&self) -> Option<NextUndo>
+        ensures some { IfSome result (λ next. IsUndoneNext self.now next) }
         ensures none { IfNone result (self.now.unfinished ≡ []) }
     {
         match least_without_writes(&self.unfinished, &self.undoable) {
-            Some(least) => Some(void_record(least)),
+            Some(least) => Some(NextUndo::Void(least)),
             None => match self.undoable.last() {
-                Some(newest) => Some(undo_record(newest)),
+                Some(newest) => Some(NextUndo::Write(newest.lsn())),
                 None => None,
             },
         }
@@ -212,7 +265,7 @@ impl OpenWork {
         }
     }
 
-    fn add_undoable(&mut self, write: UndoableWrite) -> Result<(), Refusal>
+    fn add_undoable(&mut self, write: KeptWrite) -> Result<(), Refusal>
         ensures ok { OnOk result (self.new ≡ record self.old { undoable = write ∷ self.old.undoable }) }
         ensures err { IfErr result (λ e. e ≡ Refusal.NoMemory) }
     {
@@ -238,7 +291,7 @@ impl OpenWork {
         } }
     {
         self.unfinished.retain(|sub| ended != *sub);
-        self.undoable.retain(|write| write.by != ended);
+        self.undoable.retain(|write| write.by() != ended);
     }
 
     fn begin_transaction(&mut self, txn: Txn) -> Result<(), Refusal>
@@ -271,30 +324,8 @@ pub(crate) fn sub(txn: &Txn, operation: u64) -> Sub
     }
 }
 
-fn void_record(sub: Sub) -> Record
-    ensures { result ≡ void_of sub }
-{
-    Record::OpVoid {
-        txn: sub.txn,
-        operation: sub.number,
-    }
-}
-
-fn undo_record(write: &UndoableWrite) -> Record
-    ensures { result ≡ undo_of write.now }
-{
-    Record::PageUndo {
-        txn: write.by.txn,
-        operation: write.by.number,
-        undone: write.lsn,
-        page: write.page,
-        slot: write.slot,
-        after: write.before,
-    }
-}
-
 // The place of the newest of these writes that is the operation's.
-fn newest_of(undoable: &[UndoableWrite], sub: Sub) -> Option<usize>
+fn newest_of(undoable: &[KeptWrite], sub: Sub) -> Option<usize>
     ensures place { IfSome result (λ i. i < length undoable.now) }
     ensures own { IfSome result (λ i. (d : UndoableWrite) → undoable_by sub (slice_index_or undoable.now i d) ≡ true) }
     ensures newest { IfSome result (λ i. any_undoable sub (drop (i + 1) undoable.now) ≡ false) }
@@ -303,7 +334,7 @@ fn newest_of(undoable: &[UndoableWrite], sub: Sub) -> Option<usize>
     let mut place = undoable.len();
     while place > 0 {
         place -= 1;
-        if undoable[place].by == sub {
+        if undoable[place].by() == sub {
             return Some(place);
         }
     }
@@ -311,11 +342,11 @@ fn newest_of(undoable: &[UndoableWrite], sub: Sub) -> Option<usize>
 }
 
 // Whether one of these writes is the operation's.
-fn has_undoable(undoable: &[UndoableWrite], sub: Sub) -> bool
+fn has_undoable(undoable: &[KeptWrite], sub: Sub) -> bool
     ensures { result ≡ any_undoable sub undoable.now }
 {
     for write in undoable {
-        if write.by == sub {
+        if write.by() == sub {
             return true;
         }
     }
@@ -323,7 +354,7 @@ fn has_undoable(undoable: &[UndoableWrite], sub: Sub) -> bool
 }
 
 // Of these operations the least of which none of these writes is.
-fn least_without_writes(unfinished: &[Sub], undoable: &[UndoableWrite]) -> Option<Sub>
+fn least_without_writes(unfinished: &[Sub], undoable: &[KeptWrite]) -> Option<Sub>
     ensures { result ≡ least_in undoable.now unfinished.now }
 {
     let mut place = unfinished.len();

@@ -236,6 +236,7 @@ module _ {P : Type 0} (z : Sizes) (came : Type 0) (log mid : List Record) (old n
 
   pub stops_join : (one other : List Record → Type 0) → (came → (l : List Record) → one l → other l) → (e : Refusal) → AbortStops z one mid now between e → AbortStops z other log old before e
   stops_join one other j why.NoMemory s = tt
+  stops_join one other j why.DiskRead s = tt
   stops_join one other j why.LogFull s = record {
     last = s.last;
     aborting = j g.aborting s.last s.aborting;

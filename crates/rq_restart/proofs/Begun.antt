@@ -50,7 +50,7 @@ use Rattle.rq_log.proofs.Runs.{AreAllSpelled-drop}
 use Rattle.rq_log.proofs.Parsing.{one_log}
 use Rattle.rq_restart.proofs.Going.{left_belongs}
 use Rattle.rq_restart.proofs.Pasts.{added_join, begun_added, incarnation_on, mended_added, opened_on, undoing_added, undoing_on, work_on}
-use Rattle.rq_restart.proofs.Repeated.{all_up_to, few_read, repeated_read}
+use Rattle.rq_restart.proofs.Repeated.{all_up_to, few_read, follow_marked, repeated_read}
 use Rattle.rq_restart.proofs.Undos.{undo_is_no_base}
 
 -- it extends the log, and is of its incarnation
@@ -105,12 +105,16 @@ undoing_incarnation log undone u = ap incarnation_of (sym u.are) ∙ behind_inca
 pub rolled_back_incarnation : (log rolled_back : List Record) → IsRolledBack log rolled_back → incarnation_of rolled_back ≡ incarnation_of log
 rolled_back_incarnation log rolled_back m = aborting_incarnation m.undone rolled_back m.aborting ∙ undoing_incarnation log m.undone m.undoes.undoing
 
-module _ (log rolled_back : List Record) (m : IsRolledBack log rolled_back) (h : OpenWorkView) (noted : h ≡ open_work_of rolled_back) (last : ℕ) (is : last ≡ h.incarnation) where
+module _ (rolled_back : List Record) (h : OpenWorkView) (noted : h ≡ open_work_of rolled_back) (last : ℕ) (is : last ≡ h.incarnation) where
   pub last_is : last ≡ incarnation_of rolled_back
   last_is = is ∙ ap (λ (n : OpenWorkView). n.incarnation) noted ∙ noted_incarnation rolled_back
 
   pub begins : (now : List Record) → now ≡ records.Restart (last + 1) ∷ rolled_back → now ≡ next_restart rolled_back ∷ rolled_back
   begins now e = e ∙ ap (λ n. records.Restart (n + 1) ∷ rolled_back) last_is
+
+module _ (log rolled_back : List Record) (m : IsRolledBack log rolled_back) (h : OpenWorkView) (noted : h ≡ open_work_of rolled_back) (last : ℕ) (is : last ≡ h.incarnation) where
+  is_last : last ≡ incarnation_of rolled_back
+  is_last = last_is rolled_back h noted last is
 
   pub reports : (z : Sizes) (now : List Record) (incarnation count unfinished_count gone : ℕ)
       → (incarnation ≡ last + 1) × (count ≡ length now) × (unfinished_count ≡ length (open_work_of log).unfinished) × (gone ≡ length (open_work_of log).active)
@@ -119,7 +123,7 @@ module _ (log rolled_back : List Record) (m : IsRolledBack log rolled_back) (h :
       let all : List Record = rebased e log in
       let read : open_work_of log ≡ open_work_of (marked all) = ap open_work_of (sym past) in
       record {
-        incarnation_is = told.0 ∙ ap (λ n. n + 1) (last_is ∙ rolled_back_incarnation log rolled_back m ∙ sym (incarnation_on e log past));
+        incarnation_is = told.0 ∙ ap (λ n. n + 1) (is_last ∙ rolled_back_incarnation log rolled_back m ∙ sym (incarnation_on e log past));
         records_are = told.1;
         unfinished_read = told.2 ∙ ap (λ (x : OpenWorkView). length x.unfinished) read;
         lost_read = told.3 ∙ ap (λ (x : OpenWorkView). length x.active) read;
@@ -136,7 +140,7 @@ module _ (log rolled_back : List Record) (m : IsRolledBack log rolled_back) (h :
     full : 2 ^ 50 ≤ length rolled_back
     full = elim b.0 [
       | inl is_full ↦ is_full
-      | inr many ↦ let read = repeated_read z rolled_back first now_paged repeated in let few = few_read rolled_back read.0 read.1 in let e = last_is in omega (arith, few, e, many)
+      | inr many ↦ let read = repeated_read z rolled_back first now_paged repeated in let few = few_read rolled_back read.0 (follow_marked rolled_back read.1) in let e = is_last in omega (arith, few, e, many)
     ]
   not_begun z first now_paged _ before now untouched repeated planned recovered was b = absurd b
 

@@ -205,3 +205,10 @@ due_active (AbortEnd u ∷ log) d i e =
 due_active (CompEnd u n undone ∷ log) d i e = due_active log d (in_newest (due_of u) (dues log) d i) e
 due_active (Base many j ∷ log) d i e = absurd i
 due_active (_ ∷ log) d i e = due_active log d i e
+
+-- what is read again of what is due first is due first
+pub as_told : (ds : List PendingUndo) (first d : PendingUndo) (older : List PendingUndo) → ds ≡ first ∷ older → d ≡ first → (rest : List PendingUndo) × (ds ≡ d ∷ rest)
+as_told ds first d older is same = (older, is ∙ ap (λ (x : PendingUndo). x ∷ older) (sym same))
+
+pub with_first : (ds : List PendingUndo) (a b : PendingUndo) (xs ys : List PendingUndo) → ds ≡ a ∷ xs → ds ≡ b ∷ ys → ds ≡ a ∷ ys
+with_first ds a b xs ys e f = (let k : a ∷ xs ≡ b ∷ ys = sym e ∙ f in let same : a ≡ b = cc in f ∙ ap (λ (x : PendingUndo). x ∷ ys) (sym same))

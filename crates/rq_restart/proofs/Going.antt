@@ -1,11 +1,11 @@
 -- Going through a log, one record after the other.
-use Rattle.std.proofs.Common.{◌≡◌, ◌⊎◌, inl, inr, true, false, ℕ, ◌+◌, ◌-◌, ◌%◌, ◌^◌, ◌≤◌, List, ◌∷◌, length, refl, sym, ◌∙◌, ap, subst, arith}
+use Rattle.std.proofs.Common.{◌≡◌, ◌⊎◌, inl, inr, true, false, ℕ, ◌+◌, ◌-◌, ◌%◌, ◌^◌, ◌<◌, ◌≤◌, min, List, length-append, ◌∷◌, length, refl, sym, ◌∙◌, ap, subst, arith}
 use Rattle.rq_model.specs.declared.refusal.Refusal.{Refusal}
 use Rattle.rq_model.specs.declared.refusal.Refusal.TheVariants as why
 use Rattle.rq_model.specs.declared.refusal.Damage.TheVariants as damage
 use Rattle.rq_disk.specs.declared.device.LogDevice.{Ghosts}
 use Rattle.rq_log.specs.Reading.{BeginsWith, HasMoreBehind, IsDamagedBehind, IsRead, StopsFor}
-use Rattle.rq_log.specs.Spelled.{AreSpelled}
+use Rattle.rq_log.specs.Spelled.{AreSpelled, spelled, spelled_all}
 use Rattle.rq_model.specs.declared.record.Record.{Record}
 use Rattle.rq_page.specs.Sizes.{Sizes}
 use Rattle.rq_store.specs.Opening.{FitsUpTo, IsLeft, MayRedo}
@@ -18,30 +18,44 @@ use Rattle.rq_analysis.specs.Dues.{dues, dues_after}
 use Rattle.rq_analysis.specs.Numbers.{numbers_after}
 use Rattle.rq_analysis.specs.LogTables.{ended_after}
 use Rattle.rq_model.specs.declared.record.Record.TheVariants as records
-use Rattle.rq_model.specs.Bases.{base_lsn, is_base, marked, marks}
+use Rattle.rq_model.specs.Bases.{base_lsn, is_base, marked, marks, standing}
+use Rattle.rq_model.proofs.Bases.{standing_plain}
 use Rattle.rq_model.specs.Incarnations.{IsNext}
+use Rattle.rq_analysis.specs.Rules.{FollowAll, IsNextIn}
 use Rattle.rq_analysis.proofs.Marked.{marked_incarnation, marked_length}
 use Rattle.rq_analysis.proofs.Whole.{follow_marks, whole_logs}
 use Rattle.rq_restart.specs.declared.analysis.Analysis.{Analysis}
-use Rattle.rq_restart.specs.Found.{IsAnalysisOf, MayComeNext, analysis_after}
+use Rattle.rq_restart.specs.Found.{IsAnalysisOf, analysis_after}
 use Rattle.rq_restart.specs.Refused.{IsBadNext, IsStoppedBehind, IsWanting, NotRepeated}
 use Rattle.rq_restart.specs.Repeating.{Belongs, Paged, Repeats}
-use Rattle.rq_record.specs.Spelling.{IsRecord}
-use Rattle.rq_restart.proofs.Repeated.{first_less, next_in, order_more, up_to}
+use Rattle.rq_record.specs.Spelling.{IsRecord, spelling}
+use Rattle.rq_restart.specs.Places.{places_after, places_of}
+use Rattle.rq_restart.proofs.Placing.{base_noted}
+use Rattle.rq_restart.proofs.Repeated.{first_less, marked_more, next_in, order_more, up_to}
 
--- what is found with one record more
-pub found_next : (f k : Analysis) (log : List Record) (r : Record) (lsn : ℕ) → lsn ≡ length log + 1 → is_base r ≡ false → IsAnalysisOf f log → MayComeNext log r → k ≡ analysis_after lsn r f → IsAnalysisOf k (r ∷ log)
-found_next f k log r lsn place plain are may e = record {
+-- how many bytes are known with one record more
+size_more : (log : List Record) (r : Record) → is_base r ≡ false → length (spelled log) + length (spelling r) ≡ length (spelled (r ∷ log))
+size_more log r plain = sym (ap (λ l. length (spelled_all l)) (standing_plain r log plain) ∙ length-append (spelled_all (standing log)) (spelling r))
+
+-- what is found with one record more, which is the next of its incarnation
+pub found_next : (f k : Analysis) (log : List Record) (r : Record) (lsn : ℕ) → lsn ≡ length log + 1 → is_base r ≡ false → length (spelled (r ∷ log)) < 2 ^ 64 → IsAnalysisOf f log → IsNextIn log r → k ≡ analysis_after lsn r f → IsAnalysisOf k (r ∷ log)
+found_next f k log r lsn place plain few are next e = record {
   open_work = ap (λ (x : Analysis). x.open_work) e ∙ ap (open_work_after lsn r) are.open_work ∙ ap (λ n. open_work_after n r (open_work_of log)) place;
   dues = ap (λ (x : Analysis). x.dues) e ∙ ap (dues_after lsn r) are.dues ∙ ap (λ n. dues_after n r (dues log)) place;
   numbers = ap (λ (x : Analysis). x.numbers) e ∙ ap (numbers_after r) are.numbers;
   ended = ap (λ (x : Analysis). x.ended) e ∙ ap (ended_after r) are.ended;
-  order = order_more log r plain may.next are.order;
-  follow = (may.follows, are.follow);
+  places = ap (λ (x : Analysis). x.places) e ∙ ap (places_after lsn f.size r) are.places ∙ ap (λ n. places_after n f.size r (places_of log)) place ∙ ap (λ n. places_after (length log + 1) n r (places_of log)) are.size;
+  size =
+      let is = ap (λ (x : Analysis). x.size) e in
+      let before = are.size in
+      let all = size_more log r plain in
+      omega (arith, is, before, all, few);
+  order = order_more log r plain next are.order;
+  marked = marked_more log r plain are.marked;
 }
 
 -- and behind a Base, with which a log begins
-module _ (f k : Analysis) (many i lsn : ℕ) (some : 1 ≤ i) (within : i ≤ many) (e : k ≡ analysis_after lsn (records.Base many i) f) where
+module _ (f k : Analysis) (many i lsn : ℕ) (some : 1 ≤ i) (within : i ≤ many) (none : f.size ≡ 0) (few : length (spelling (records.Base many i)) < 2 ^ 64) (e : k ≡ analysis_after lsn (records.Base many i) f) where
   abbrev begun : List Record
   begun = records.Base many i ∷ marks many
 
@@ -51,9 +65,14 @@ module _ (f k : Analysis) (many i lsn : ℕ) (some : 1 ≤ i) (within : i ≤ ma
     dues = ap (λ (x : Analysis). x.dues) e;
     numbers = ap (λ (x : Analysis). x.numbers) e;
     ended = ap (λ (x : Analysis). x.ended) e;
+    places = ap (λ (x : Analysis). x.places) e ∙ sym (base_noted lsn f.size f.places many i) ∙ base_noted (length (marks many) + 1) (length (spelled (marks many))) (places_of (marks many)) many i;
+    size = (let is = ap (λ (x : Analysis). x.size) e in omega (arith, is, none, few));
     order = ((some, within), tt);
-    follow = (record { running = tt; going = tt; begun = tt; numbered = tt; undoes = tt; takes_back = tt; reads = tt; begins = refl }, follow_marks many);
+    marked = refl;
   }
+
+  pub follow_base : FollowAll begun
+  follow_base = (record { running = tt; going = tt; begun = tt; numbered = tt; undoes = tt; takes_back = tt; reads = tt; begins = refl }, follow_marks many)
 
 -- a Base makes nothing of the pages
 pub base_is : (r : Record) → is_base r ≡ true → (many : ℕ) × (i : ℕ) × (r ≡ records.Base many i)

@@ -23,3 +23,4 @@ pub mod Following
 pub mod Numbers
 pub mod Pasts
 pub mod Placing
+pub mod ReadAgain

@@ -23,10 +23,7 @@ use Rattle.rq_model.specs.Bases.{IsMarked, gone, standing}
 use Rattle.rq_engine.specs.Earlier.{rebased}
 use Rattle.rq_restart.specs.Past.{WhereLeft}
 use Rattle.rq_restart.proofs.Begun.{begun_behind, last_is}
-
-module _ {L : Type 0} (g : Ghosts L) (only_now : (d : L) (c : List ℕ) → g.left_since d (g.moment d) c → g.may_leave d c) where
-  pub still : (d : L) → IsRead g d d
-  still d = record { same = refl; honest = λ h. h; leaves = λ c left. left; moments = started g d (g.may_leave d) (only_now d) }
+use Rattle.rq_restart.proofs.Undos.{still}
 
 -- memory was wanting before anything was read
 pub stopped_at_once : {L : Type 0} (g : Ghosts L) (only_now : (d : L) (c : List ℕ) → g.left_since d (g.moment d) c → g.may_leave d c) (z : Sizes) (first : Paged) (e : Refusal) (old new : L) → e ≡ why.NoMemory → new ≡ old → IsStoppedBehind g z first e old new
@@ -40,13 +37,11 @@ stopped_at_once g only_now z first e old new is same = record {
   read = subst (λ d. IsRead g old d) (sym same) (still g only_now old);
 }
 
--- nothing was done to the device of the log
-pub left_alone : {L : Type 0} (g : Ghosts L) (only_now : (d : L) (c : List ℕ) → g.left_since d (g.moment d) c → g.may_leave d c) (z : Sizes) (pages : Paged) (old new : Logged L) → new.device ≡ old.device → LeavesLog g z pages old new
-left_alone g only_now z pages old new same = record {
-  honest = λ h. subst g.honest same h;
-  any_moment = λ first before h are reads.
-      let Q : List ℕ → Type 0 = WasLeftOrBegun g z first.image old.device old.records in
-      subst (λ d. LeavesOnly g old.device d Q) (sym same) (started g old.device Q (λ c left. inl (only_now old.device c left)));
+-- the device of the log was only read
+pub left_alone : {L : Type 0} (g : Ghosts L) (z : Sizes) (pages : Paged) (old new : Logged L) → IsRead g old.device new.device → LeavesLog g z pages old new
+left_alone g z pages old new read = record {
+  honest = read.honest;
+  any_moment = λ first before h are reads. weaker g old.device new.device (g.may_leave old.device) (WasLeftOrBegun g z first.image old.device old.records) read.moments (λ c left. inl left);
 }
 
 -- records are forced behind what was read
@@ -59,19 +54,21 @@ forced_behind g old new log kept records same grown forced are run =
           (subst (λ rs. LeavesOnly g old new (λ c. g.may_leave old c ⊎ GoesOn (standing rs) (log.forced - gone rs) (g.seen old) c)) grown (subst (λ d. LeavesOnly g d new (λ c. g.may_leave d c ⊎ GoesOn (standing log.records) (log.forced - gone log.records) (g.seen d) c)) same run))
 
 -- they undo what has no end, and begin the next incarnation
-pub begun_moment : {L : Type 0} (g : Ghosts L) (z : Sizes) (images : Images) (older rolled_back : List Record) (r : Record) (kept : ℕ) (old mid new : L) → mid ≡ old → IsRolledBack older rolled_back → WhereLeft z images older (λ e. IsRecovered z (rebased e older) (rebased e rolled_back)) → r ≡ next_restart rolled_back
+pub begun_moment : {L : Type 0} (g : Ghosts L) (z : Sizes) (images : Images) (older rolled_back : List Record) (r : Record) (kept : ℕ) (old mid new : L) → IsRead g old mid → IsRolledBack older rolled_back → WhereLeft z images older (λ e. IsRecovered z (rebased e older) (rebased e rolled_back)) → r ≡ next_restart rolled_back
     → AreSpelled older → EndsWith older (g.seen old) → LeavesOnly g mid new (WasLeftOrForced g mid (r ∷ rolled_back) kept) → LeavesOnly g old new (WasLeftOrBegun g z images old older)
-begun_moment g z images older rolled_back r kept old mid new same m recovered is are read run =
-    weaker g old new (WasLeftOrForced g old (r ∷ rolled_back) kept) (WasLeftOrBegun g z images old older) (subst (λ d. LeavesOnly g d new (WasLeftOrForced g d (r ∷ rolled_back) kept)) same run)
-    (λ c. ⊎_elim (λ was. inl was) (λ on. inr (begun_behind z images older rolled_back r kept (g.seen old) c m recovered is are read on.0 on.1)))
+begun_moment g z images older rolled_back r kept old mid new only m recovered is are read run =
+    joined g old mid new (WasLeftOrBegun g z images old older) (weaker g old mid (g.may_leave old) (WasLeftOrBegun g z images old older) only.moments (λ c was. inl was))
+    (weaker g mid new (WasLeftOrForced g mid (r ∷ rolled_back) kept) (WasLeftOrBegun g z images old older) run
+    (λ c. ⊎_elim (λ was. inl (only.leaves c was)) (λ on. inr (begun_behind z images older rolled_back r kept (g.seen old) c m recovered is are read on.0 (subst (λ seen. GoesOn (standing (r ∷ rolled_back)) (kept - gone (r ∷ rolled_back)) seen c) only.same on.1)))))
 
 -- so it is of the log that was gone through, whether it was begun or not
-pub begun_left : {L : Type 0} (g : Ghosts L) (z : Sizes) (pages last : Paged) (old mid new : Logged L) → mid.device ≡ old.device → IsRolledBackSince z old.records mid.records pages last → (h : OpenWorkView) (count : ℕ) → h ≡ open_work_of mid.records → count ≡ h.incarnation
+pub begun_left : {L : Type 0} (g : Ghosts L) (z : Sizes) (pages last : Paged) (old mid new : Logged L) → IsRead g old.device mid.device → (g.honest mid.device → IsRolledBackSince z old.records mid.records pages last) → (h : OpenWorkView) (count : ℕ) → h ≡ open_work_of mid.records → count ≡ h.incarnation
     → (g.honest new.device → g.honest mid.device) → (g.honest new.device → LeavesOnly g mid.device new.device (WasLeftOrForced g mid.device (records.Restart (count + 1) ∷ mid.records) mid.forced)) → LeavesLog g z pages old new
-begun_left g z pages last old mid new same m h count noted is honest run = record {
-  honest = λ h. subst g.honest same (honest h);
+begun_left g z pages last old mid new only since h count noted is honest run = record {
+  honest = λ h. only.honest (honest h);
   any_moment = λ first before k are read.
-      begun_moment g z first.image old.records mid.records (records.Restart (count + 1)) mid.forced old.device mid.device new.device same m.is (m.recovered first before) (ap (λ n. records.Restart (n + 1)) (last_is old.records mid.records m.is h noted count is)) are read (run k);
+      let m = since (honest k) in
+      begun_moment g z first.image old.records mid.records (records.Restart (count + 1)) mid.forced old.device mid.device new.device only m.is (m.recovered first before) (ap (λ n. records.Restart (n + 1)) (last_is mid.records h noted count is)) are read (run k);
 }
 
 -- beside these pages
@@ -92,7 +89,7 @@ module _ {L : Type 0} (g : Ghosts L) (z : Sizes) (images : Images) where
       (λ c. ⊎_elim (λ was. inl (crash c was)) (λ is. inr (record { older = older; reads = read; marks = marks; begun = subst (λ seen. IsBegunBehind z images older seen c) same is }))))
 
 -- the log was read whole beside pages that were first so, and then gone on with
-pub begins_at_most : {L : Type 0} (g : Ghosts L) (z y : Sizes) (first mid : Paged) (old : L) (read new : Logged L) → y ≡ z → IsLogRead g old read → Repeats y read.records first mid → LeavesLog g y mid read new → BeginsAtMost g z first.image old new.device
+pub begins_at_most : {L : Type 0} (g : Ghosts L) (z y : Sizes) (first mid : Paged) (old : L) (read new : Logged L) → y ≡ z → IsLogRead g old read → (g.honest read.device → Repeats y read.records first mid) → LeavesLog g y mid read new → BeginsAtMost g z first.image old new.device
 begins_at_most g z y first mid old read new same was repeated left =
     let there : LeavesLog g z mid read new = subst (λ x. LeavesLog g x mid read new) same left in
-    read_first g z first.image old read.device new.device read.records was.marks there.honest was.reads was.are_spelled was.only.same was.only.leaves was.only.moments (λ h are reads. there.any_moment first (subst (λ x. Repeats x read.records first mid) same repeated) h are reads)
+    read_first g z first.image old read.device new.device read.records was.marks there.honest was.reads was.are_spelled was.only.same was.only.leaves was.only.moments (λ h are reads. there.any_moment first (subst (λ x. Repeats x read.records first mid) same (repeated (there.honest h))) h are reads)

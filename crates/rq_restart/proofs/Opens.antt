@@ -13,7 +13,7 @@ use Rattle.rq_level.specs.LevelState.{LevelState}
 use Rattle.rq_log.specs.Logged.{Logged}
 use Rattle.rq_page.specs.Sizes.{Sizes, page_count}
 use Rattle.rq_pool.specs.Pooled.{IsPool, Pooled}
-use Rattle.rq_pool.specs.Reading.{ArePages, AreSeen, OnlyRead}
+use Rattle.rq_pool.specs.Reading.{ArePages, AreSeen, IsSuperblock, OnlyRead}
 use Rattle.rq_sound.specs.Sound.{IsSound}
 use Rattle.rq_store.specs.Fitting.{image_in}
 use Rattle.rq_store.specs.Opening.{IsLeft, next_restart, opened}
@@ -30,7 +30,7 @@ use Rattle.rq_restart.specs.Checked.{as_read}
 use Rattle.rq_restart.specs.Opens.{Opens, OpensOver, Recovers, Refuses}
 use Rattle.rq_restart.specs.Past.{IsPast, WhereLeft}
 use Rattle.rq_restart.specs.Repeating.{paged}
-use Rattle.rq_restart.specs.Restarting.{IsBegun, IsLeftOn, IsReadAs, IsRefusedFor, LogStops, OpensLog, Reports, Stops, WasChecked}
+use Rattle.rq_restart.specs.Restarting.{IsBegun, IsLeftOn, IsReadAs, IsRefusedFor, OpensLog, Reports, Stops, StopsOver, WasChecked}
 use Rattle.rq_restart.specs.Refused.{MayBeShut}
 use Rattle.rq_restart.proofs.Begun.{begun_commits, begun_sound, engine_over, opened_over, rolled_back_incarnation, sound_over}
 use Rattle.rq_restart.proofs.Loading.{load_shut, one_size, shut_log}
@@ -52,10 +52,10 @@ module _ {P L : Type 0} (p : page_device.Ghosts P) (l : log_device.Ghosts L) (pa
           (λ on.
           let same = one_size z y (seen 0) block (told_on y seen read.1 read.2 (read.3 on.honest)) in
           (left_read y seen read.1 older (read.3 on.honest) (subst (λ x. IsLeft x seen older) same on.left), sym same))
-          e (p.faults pages) (p.faults new_pages) (l.faults log) (l.faults new_log) (log_shut y read.1 older r read.5)
+          e (p.faults pages) (p.faults new_pages) (l.faults log) (l.faults new_log) (log_shut y read.1 older r (read.5.over r.honest))
     ];
   } where
-    log_shut : (y : Sizes) (images : List (List ℕ)) (older : List Record) → IsReadAs l log new_log older → LogStops l y (as_read y images) e log new_log → MayBeShut (IsLeft y (image_in images) older) y older e (l.faults log) (l.faults new_log)
+    log_shut : (y : Sizes) (images : List (List ℕ)) (older : List Record) → IsReadAs l log new_log older → StopsOver l y (as_read y images) e log new_log → MayBeShut (IsLeft y (image_in images) older) y older e (l.faults log) (l.faults new_log)
     log_shut y images older r (inl stopped) = stopped_shut l y older (as_read y images) log new_log e r stopped
     log_shut y images older r (inr read) = shut_over y read.0 older (as_read y images) e (l.faults log) (l.faults new_log) _ (λ marks. read_is read.0 older (l.seen log) marks read.1 r.are_spelled (read.2 r.honest) r.reads) r.are_spelled read.3
 
@@ -137,8 +137,9 @@ module _ {P L : Type 0} (p : page_device.Ghosts P) (l : log_device.Ghosts L) (pa
         let e : List Record = earlier older in
         let is : o.read.records ≡ marked older = read_is o.read.records older (l.seen log) o.was_read.marks o.was_read.are_spelled r.are_spelled (o.was_read.reads (o.honest r.honest)) r.reads in
         let back : rebased e o.read.records ≡ older = ap (rebased e) is ∙ earlier_back older r.are_spelled in
-        let begun : IsBegun (marked older) new = subst (λ rs. IsBegun rs new) is (record { rolled_back = o.repeated.rolled_back; rolls_back = o.repeated.rolled_back_on.rolls_back; records = o.repeated.begun; forced = o.restarted.forced; running = o.restarted.ready.running }) in
-        let told : Reports now.sizes older new.records report.incarnation report.records report.unfinished report.lost = subst (λ rs. Reports now.sizes rs new.records report.incarnation report.records report.unfinished report.lost) back (o.restarted.reports e (subst (IsPast e) (sym is) (past_of older r.are_spelled))) in
+        let repeated = o.repeated r.honest in
+        let begun : IsBegun (marked older) new = subst (λ rs. IsBegun rs new) is (record { rolled_back = repeated.rolled_back; rolls_back = repeated.rolled_back_on.rolls_back; records = repeated.begun; forced = o.restarted.forced; running = o.restarted.ready.running }) in
+        let told : Reports now.sizes older new.records report.incarnation report.records report.unfinished report.lost = subst (λ rs. Reports now.sizes rs new.records report.incarnation report.records report.unfinished report.lost) back (o.restarted.reports r.honest e (subst (IsPast e) (sym is) (past_of older r.are_spelled))) in
         record {
           reports = told;
           value = opened_over now.sizes now.images (marked older) new report.incarnation cells waiting sent begun (told.incarnation_is ∙ ap (λ n. n + 1) (sym (marked_incarnation older))) o.cells_used o.restarted.told.told o.restarted.told.told_sent;
@@ -148,12 +149,12 @@ module _ {P L : Type 0} (p : page_device.Ghosts P) (l : log_device.Ghosts L) (pa
 
     pub opens : Opens p l pages log engine report
     opens =
-        let checked : WasChecked p l pages log now.sizes (paged now) new.records now.device new.device = was_checked p l pages log loaded pages_sound seen unchanged now new cells waiting sent planner report o in
+        let checked : l.honest new.device → WasChecked p l pages log now.sizes (paged now) new.records now.device new.device = was_checked p l pages log loaded pages_sound seen unchanged now new cells waiting sent planner report o in
         record {
-          sizes = λ h. told_on now.sizes (p.seen pages) checked.images checked.sound (checked.seen h);
+          sizes = λ h. subst (λ z. IsSuperblock z (p.seen pages 0)) (sym o.sizes) (told_on loaded.sizes (p.seen pages) loaded.images pages_sound (seen (subst p.honest o.device h)));
           checked = checked;
           over = all;
-          recovers = λ older r on. recovers engine report o.pool checked older r (all older r) on;
+          recovers = λ older r on. recovers engine report o.pool (checked r.honest) older r (all older r) on;
           reads = o.restarted.ready.reads;
           durable = o.restarted.ready.durable;
           untried = refl;

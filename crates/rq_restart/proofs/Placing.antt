@@ -1,7 +1,7 @@
 -- What is kept of places behind a record.
-use Rattle.std.proofs.Common.{◌≡◌, ◌↔◌, ◌⊎◌, inl, inr, ℕ, ◌+◌, Bool, true, false, not, ◌||◌, List, [], ◌∷◌, ◌++◌, length, refl, sym, ◌∙◌, ap, subst}
-use Rattle.std.proofs.lemmas.Bool.{not-true, not_from_false, or_parts}
-use Rattle.std.specs.List.{filter}
+use Rattle.std.proofs.Common.{◌≡◌, ◌≢◌, ◌↔◌, ◌⊎◌, inl, inr, ℕ, zero, suc, ◌+◌, ◌<◌, ◌≤◌, get_or, arith, Bool, true, false, not, ◌||◌, List, [], ◌∷◌, ◌++◌, length, refl, sym, ◌∙◌, ap, subst}
+use Rattle.std.proofs.lemmas.Bool.{eq-eqb, eqb-true, not-true, not_from_false, or_parts, true≢false}
+use Rattle.std.specs.List.{filter, list_any}
 use Rattle.std.proofs.lemmas.List.{append-nil}
 use Rattle.rq_model.specs.declared.txn.Txn.{Txn}
 use Rattle.rq_model.specs.declared.txn.Sub.{Sub}
@@ -10,6 +10,7 @@ use Rattle.rq_model.specs.declared.record.Record.TheVariants as records
 use Rattle.rq_model.specs.Unended.{any_record}
 use Rattle.rq_model.specs.Vocabulary.{In, same_txn}
 use Rattle.rq_model.proofs.Lists.{In-filter}
+use Rattle.rq_log.specs.Places.{IsAt}
 use Rattle.rq_log.specs.Spelled.{spelled}
 use Rattle.rq_model.specs.Bases.{is_base, standing}
 use Rattle.rq_model.proofs.Bases.{standing_plain}
@@ -22,7 +23,7 @@ use Rattle.rq_views.specs.Log.{same_op}
 use Rattle.rq_views.specs.Items.{operation}
 use Rattle.rq_views.proofs.AllOpen.{filter_in}
 use Rattle.rq_restart.specs.declared.places.Place.{Place}
-use Rattle.rq_restart.specs.Places.{IsDueKept, IsKept, IsOpenIn, IsWriteKept, OpenPlaces, PlacesAreOpen, UndosHavePlaces, end_at, ends_operation, ends_txn, no_places, place_at, places_after, places_of, with_end, with_write, without_operation, without_txn, write_at}
+use Rattle.rq_restart.specs.Places.{IsDueKept, IsKept, IsOpenIn, IsWriteKept, OpenPlaces, PlacesAreOpen, UndosHavePlaces, end_at, ends_operation, ends_txn, has_lsn, no_places, place_at, places_after, places_of, with_end, with_write, without_operation, without_txn, write_at}
 
 all_stay : (xs : List Place) → filter (λ p. not false) xs ≡ xs
 all_stay [] = refl
@@ -220,6 +221,87 @@ due_kept (records.PageUndo t n undone page slot after ∷ log) d i = due_still l
 due_kept (records.OpVoid t n ∷ log) d i = due_still log (records.OpVoid t n) d [] refl refl (due_kept log d i)
 due_kept (records.Restart n ∷ log) d i = due_still log (records.Restart n) d [] refl refl (due_kept log d i)
 due_kept (records.Base many n ∷ log) d i = absurd i
+
+-- ---- of a record with this LSN one place is kept at most
+
+module _ (at : ℕ → ℕ → Record → List Place) (ends : Record → Place → Bool) (table : List Record → List Place) (none : table [] ≡ [])
+    (more : (r : Record) (log : List Record) → table (r ∷ log) ≡ filter (λ p. not (ends r p)) (table log) ++ at (length log + 1) (length (spelled log)) r)
+    (one : (lsn place : ℕ) (r : Record) (p : Place) → In p (at lsn place r) → at lsn place r ≡ p ∷ []) (own : (lsn place : ℕ) (r : Record) (p : Place) → In p (at lsn place r) → p.lsn ≡ lsn) where
+  old_or_new : (r : Record) (log : List Record) (p : Place) → In p (table (r ∷ log)) → In p (table log) ⊎ In p (at (length log + 1) (length (spelled log)) r)
+  old_or_new r log p i = elim (in_either (filter (λ q. not (ends r q)) (table log)) (at (length log + 1) (length (spelled log)) r) p (subst (In p) (more r log) i)) [
+    | inl old ↦ inl (In-filter (λ q. not (ends r q)) (table log) p old).0
+    | inr new ↦ inr new
+  ]
+
+  lsn_within : (log : List Record) (p : Place) → In p (table log) → p.lsn ≤ length log
+  lsn_within [] p i = absurd (subst (In p) none i)
+  lsn_within (r ∷ log) p i = elim (old_or_new r log p i) [
+    | inl old ↦ (let k = lsn_within log p old in omega (arith, k))
+    | inr new ↦ (let k = own (length log + 1) (length (spelled log)) r p new in omega (arith, k))
+  ]
+
+  one_kept : (log : List Record) (p q : Place) → In p (table log) → In q (table log) → p.lsn ≡ q.lsn → p ≡ q
+  one_kept [] p q i j e = absurd (subst (In p) none i)
+  one_kept (r ∷ log) p q i j e =
+      let n = length log + 1 in
+      let place = length (spelled log) in
+      elim (old_or_new r log p i) [
+        | inl old ↦ elim (old_or_new r log q j) [
+          | inl also ↦ one_kept log p q old also e
+          | inr new ↦ (let a = lsn_within log p old in let b = own n place r q new in absurd (omega (arith, a, b, e)))
+        ]
+        | inr new ↦ elim (old_or_new r log q j) [
+          | inl old ↦ (let a = lsn_within log q old in let b = own n place r p new in absurd (omega (arith, a, b, e)))
+          | inr also ↦ (let same : p ∷ [] ≡ q ∷ [] = sym (one n place r p new) ∙ one n place r q also in let is : p ≡ q = cc in is)
+        ]
+      ]
+
+own_write : (lsn place : ℕ) (r : Record) (p : Place) → In p (write_at lsn place r) → p.lsn ≡ lsn
+own_write lsn place (records.PageOp t n page slot before after) p (inl e) = ap (λ (q : Place). q.lsn) e
+own_write lsn place (records.PageOp t n page slot before after) p (inr i) = absurd i
+own_write lsn place _ p i = absurd i
+
+own_end : (lsn place : ℕ) (r : Record) (p : Place) → In p (end_at lsn place r) → p.lsn ≡ lsn
+own_end lsn place (records.OpEnd t n level deed) p (inl e) = ap (λ (q : Place). q.lsn) e
+own_end lsn place (records.OpEnd t n level deed) p (inr i) = absurd i
+own_end lsn place _ p i = absurd i
+
+-- the record of a write that is not undone stands where its LSN is kept, and is of its operation
+pub write_there : (log : List Record) (w : UndoableWrite) (p : Place) → In w (open_work_of log).undoable → In p (places_of log).writes → p.lsn ≡ w.lsn → (p.by ≡ w.by) × ((after : List ℕ) × IsAt log p.place (records.PageOp w.by.txn w.by.number w.page w.slot w.before after))
+write_there log w p i j e =
+    let k = write_kept log w i in
+    let q : Place = record { lsn = w.lsn; by = w.by; place = k.1.place } in
+    let same : p ≡ q = one_kept write_at (λ r x. ends_operation r x.by) (λ log. (places_of log).writes) refl (λ r log. refl) one_write own_write log p q j k.1.among e in
+    (ap (λ (x : Place). x.by) same, (k.0, subst (λ n. IsAt log n (records.PageOp w.by.txn w.by.number w.page w.slot w.before k.0)) (sym (ap (λ (x : Place). x.place) same)) k.1.there))
+
+pub write_found : (log : List Record) (w : UndoableWrite) → In w (open_work_of log).undoable → ((p : Place) → In p (places_of log).writes → p.lsn ≢ w.lsn) → ⊥
+write_found log w i none = let k = write_kept log w i in none (record { lsn = w.lsn; by = w.by; place = k.1.place }) k.1.among refl
+
+-- so does that of what is to be taken back
+pub due_there : (log : List Record) (d : PendingUndo) (p : Place) → In d (dues log) → In p (places_of log).ends → p.lsn ≡ d.lsn → (n : ℕ) × IsAt log p.place (records.OpEnd d.txn n d.level d.deed)
+due_there log d p i j e =
+    let k = due_kept log d i in
+    let q : Place = record { lsn = d.lsn; by = operation d.txn k.0; place = k.1.place } in
+    let same : p ≡ q = one_kept end_at (λ r x. ends_txn r x.by.txn) (λ log. (places_of log).ends) refl (λ r log. refl) one_end own_end log p q j k.1.among e in
+    (k.0, subst (λ n. IsAt log n (records.OpEnd d.txn k.0 d.level d.deed)) (sym (ap (λ (x : Place). x.place) same)) k.1.there)
+
+pub due_found : (log : List Record) (d : PendingUndo) → In d (dues log) → ((p : Place) → In p (places_of log).ends → p.lsn ≢ d.lsn) → ⊥
+due_found log d i none = let k = due_kept log d i in none (record { lsn = d.lsn; by = operation d.txn k.0; place = k.1.place }) k.1.among refl
+
+-- ---- among those that are kept
+
+pub in_there : (ps : List Place) (i : ℕ) (p : Place) → i < length ps → In (get_or ps i p) ps
+in_there [] i p lt = absurd (omega (arith, lt))
+in_there (x ∷ ps) zero p lt = inl refl
+in_there (x ∷ ps) (suc i) p lt = inr (in_there ps i p (omega (arith, lt)))
+
+pub lsn_is : (lsn : ℕ) (p : Place) → has_lsn lsn p ≡ true → p.lsn ≡ lsn
+lsn_is lsn p e = eqb-true p.lsn lsn e
+
+pub none_with : (lsn : ℕ) (ps : List Place) → list_any (has_lsn lsn) ps ≡ false → (p : Place) → In p ps → p.lsn ≢ lsn
+none_with lsn [] none p i = absurd i
+none_with lsn (x ∷ ps) none p (inl e) = λ same. let k = or_parts (has_lsn lsn x) (list_any (has_lsn lsn) ps) none in absurd (true≢false (sym (eq-eqb x.lsn lsn (ap (λ (y : Place). y.lsn) (sym e) ∙ same)) ∙ k.0))
+none_with lsn (x ∷ ps) none p (inr i) = none_with lsn ps (or_parts (has_lsn lsn x) (list_any (has_lsn lsn) ps) none).1 p i
 
 pub undos_have_places : UndosHavePlaces
 undos_have_places = record { writes = write_kept; dues = due_kept }

@@ -80,19 +80,19 @@ module _ (z : Sizes) (log : List Record) (first : Paged) (left : IsLeft z first.
   pub all_up_to : (last : Paged) → Repeats z (marked log) first last → AreUpTo (length log) last
   all_up_to last h = up_to log (oldest_all log) (omega arith) refl last h
 
--- where no number of the pages is beyond so many records, none is once one more of them is repeated
-pub counted_within : (z : Sizes) (n : ℕ) (log : List Record) (r : Record) (old new : Paged) → IsRecordRedone z log r old new → length log + 1 ≤ n → ArePagesCounted z n old → ArePagesCounted z n new
-counted_within z n log r old new one le all p low high = by (told_by r) one.redone one.belongs.may.write where
-  by : (w : Option ToldWrite) → Redoes w (length log + 1) old.image new.image → IsSoundWrite z (length log + 1) w → IsCounted z n p (new.image p)
+-- where no number of the pages is beyond so many records, none is once one more of them is written
+pub written_within : (z : Sizes) (n k : ℕ) (r : Record) (old new : Paged) → Redoes (told_by r) k old.image new.image → IsSoundWrite z k (told_by r) → k ≤ n → ArePagesCounted z n old → ArePagesCounted z n new
+written_within z n k r old new redone sound_write le all p low high = by (told_by r) redone sound_write where
+  by : (w : Option ToldWrite) → Redoes w k old.image new.image → IsSoundWrite z k w → IsCounted z n p (new.image p)
   by None same sound = subst (IsCounted z n p) (sym (same p)) (all p low high)
   by (Some w) made sound = elim (cases_eq p w.page) [
     | inr ne ↦ subst (IsCounted z n p) (sym (made.others p ne)) (all p low high)
-    | inl same ↦ subst (λ q. IsCounted z n q (new.image q)) (sym same) (elim (cases_lt (lsn_of (old.image w.page)) (length log + 1)) [
+    | inl same ↦ subst (λ q. IsCounted z n q (new.image q)) (sym same) (elim (cases_lt (lsn_of (old.image w.page)) k) [
       | inr ge ↦ subst (IsCounted z n w.page) (sym (made.kept ge)) (subst (λ q. IsCounted z n q (old.image q)) same (all p low high))
       | inl lt ↦ written (subst (λ q. IsCounted z n q (old.image q)) same (all p low high)) (made.made lt)
     ])
   ] where
-    written : IsCounted z n w.page (old.image w.page) → IsWritten (old.image w.page) (new.image w.page) w.slot w.after (length log + 1) → IsCounted z n w.page (new.image w.page)
+    written : IsCounted z n w.page (old.image w.page) → IsWritten (old.image w.page) (new.image w.page) w.slot w.after k → IsCounted z n w.page (new.image w.page)
     written c is = record {
       lsn = (let e = is.lsn in omega (arith, e, le));
       slots = λ j a b. elim (cases_eq j w.slot) [
@@ -101,8 +101,18 @@ counted_within z n log r old new one le all p low high = by (told_by r) one.redo
       ];
     }
 
+-- so it is of one that was repeated
+pub counted_within : (z : Sizes) (n : ℕ) (log : List Record) (r : Record) (old new : Paged) → IsRecordRedone z log r old new → length log + 1 ≤ n → ArePagesCounted z n old → ArePagesCounted z n new
+counted_within z n log r old new one le all = written_within z n (length log + 1) r old new one.redone one.belongs.may.write le all
+
+pub counted_longer : (z : Sizes) (count : ℕ) (pages : Paged) → ArePagesCounted z count pages → ArePagesCounted z (count + 1) pages
+counted_longer z count pages all p low high = let c = all p low high in record { lsn = (let e = c.lsn in omega (arith, e)); slots = λ j a b. (let s = c.slots j a b in omega (arith, s)) }
+
+pub written_more : (z : Sizes) (count : ℕ) (r : Record) (old new : Paged) → Redoes (told_by r) (count + 1) old.image new.image → IsSoundWrite z (count + 1) (told_by r) → ArePagesCounted z count old → ArePagesCounted z (count + 1) new
+written_more z count r old new redone sound all = written_within z (count + 1) (count + 1) r old new redone sound (omega arith) (counted_longer z count old all)
+
 pub counted_more : (z : Sizes) (log : List Record) (r : Record) (old new : Paged) → IsRecordRedone z log r old new → ArePagesCounted z (length log) old → ArePagesCounted z (length log + 1) new
-counted_more z log r old new one all = counted_within z (length log + 1) log r old new one (omega arith) (λ p low high. let c = all p low high in record { lsn = (let e = c.lsn in omega (arith, e)); slots = λ j a b. (let s = c.slots j a b in omega (arith, s)) })
+counted_more z log r old new one all = counted_within z (length log + 1) log r old new one (omega arith) (counted_longer z (length log) old all)
 
 -- nor once all are
 pub repeated_counted : (z : Sizes) (n : ℕ) (log : List Record) (first last : Paged) → Repeats z log first last → length log ≤ n → ArePagesCounted z n first → ArePagesCounted z n last
@@ -119,14 +129,14 @@ repeated_read z (q ∷ log) first last r =
     ((r.2.belongs.next, older.0), (r.2.belongs.follows, older.1))
 
 -- there are no more incarnations than records
-pub few_read : (log : List Record) → IsReadInOrder log → FollowAll log → incarnation_of log ≤ length log
+pub few_read : (log : List Record) → IsReadInOrder log → IsMarked log → incarnation_of log ≤ length log
 few_read [] o f = omega arith
 few_read (records.Base many i ∷ log) o f =
     let few = o.0.1 in
-    let all = ap (λ (l : List Record). length l) f.0.begins ∙ length_marks many in
+    let all = ap (λ (l : List Record). length l) f ∙ length_marks many in
     omega (arith, few, all)
-few_read (records.Restart i ∷ log) o f = (let ih = few_read log o.1 f.1 in let e : i ≡ incarnation_of log + 1 = o.0 in omega (arith, ih, e))
-few_read (_ ∷ log) o f = let ih = few_read log o.1 f.1 in omega (arith, ih)
+few_read (records.Restart i ∷ log) o f = (let ih = few_read log o.1 f in let e : i ≡ incarnation_of log + 1 = o.0 in omega (arith, ih, e))
+few_read (_ ∷ log) o f = let ih = few_read log o.1 f in omega (arith, ih)
 
 -- before its Base stand marks alone
 pub follow_marked : (log : List Record) → FollowAll log → IsMarked log
@@ -146,3 +156,8 @@ next_of log _ plain n = n
 -- one record more was read
 pub order_more : (log : List Record) (r : Record) → is_base r ≡ false → IsNextIn log r → IsReadInOrder log → IsReadInOrder (r ∷ log)
 order_more log r plain n o = (n, before_from (Unit {0}) r plain o)
+
+-- and before its Base stand marks alone, still
+pub marked_more : (log : List Record) (r : Record) → is_base r ≡ false → IsMarked log → IsMarked (r ∷ log)
+marked_more log (records.Base many i) plain m = absurd (cc plain)
+marked_more log _ plain m = m

@@ -27,6 +27,7 @@ use Rattle.rq_restart.specs.Refused.{MayBeShut, WhyShut}
 use Rattle.rq_restart.specs.Numbers.{AreNumbersOf, NamesFirst}
 use Rattle.rq_restart.specs.Checked.{IsReadAndRedone, WasReadAndRedone, as_read}
 use Rattle.rq_restart.specs.RolledBack.{IsRolledBackOn, RollbackStops}
+use Rattle.rq_restart.specs.Undoing.{FailsWith}
 use Rattle.rq_restart.specs.Repeating.{ArePagesCounted, Paged, paged, Repeats}
 use Rattle.rq_engine.specs.Earlier.{rebased}
 use Rattle.rq_model.specs.Bases.{IsMarked, earlier, marked}
@@ -42,6 +43,7 @@ use Rattle.rq_restart.proofs.Pasts.{aborting_added, added_join, begun_added, ear
 -- of a device that was left alone, what follows from that
 pub shut_by : {U V : Type 0} (z : Sizes) (log : List Record) (first : Paged) (e : Refusal) (before now : ℕ) → (U → V) → WhyShut z log first e before now U → WhyShut z log first e before now V
 shut_by z log first why.NoMemory before now f h = (h.0, f h.1)
+shut_by z log first why.DiskRead before now f h = (h.0, h.1, f h.2)
 shut_by z log first why.LogFull before now f h = (h.0, h.1, f h.2)
 shut_by z log first why.DiskWrite before now f h = h
 shut_by z log first (why.Damaged (damage.Record lsn)) before now f h = (h.0, h.1, f h.2)
@@ -54,10 +56,11 @@ module _ {P L : Type 0} (p : Ghosts P) (l : log_device.Ghosts L) (pages : P) (lo
   first_is : paged loaded ≡ as_read loaded.sizes loaded.images
   first_is = ap (λ (f : List Bool). record { image = image_in loaded.images; changed = f }) unchanged
 
-  pub was_checked : (now : Pooled P) (new : Logged L) (cells : ℕ) (waiting : List ℕ) (sent : SentBy) (planner : List LevelState) (report : Report) → OpensLog l loaded now log new cells waiting sent planner report → WasChecked p l pages log now.sizes (paged now) new.records now.device new.device
-  was_checked now new cells waiting sent planner report o =
+  pub was_checked : (now : Pooled P) (new : Logged L) (cells : ℕ) (waiting : List ℕ) (sent : SentBy) (planner : List LevelState) (report : Report) → OpensLog l loaded now log new cells waiting sent planner report → l.honest new.device → WasChecked p l pages log now.sizes (paged now) new.records now.device new.device
+  was_checked now new cells waiting sent planner report o honest =
+      let repeated = o.repeated honest in
       let n = o.restarted.ready.count in
-      let e = ap length o.repeated.begun in
+      let e = ap length repeated.begun in
       subst (λ d. WasChecked p l pages log now.sizes (paged now) new.records d new.device) (sym o.device)
       (subst (λ z. WasChecked p l pages log z (paged now) new.records loaded.device new.device) (sym o.sizes) (record {
         images = loaded.images;
@@ -67,9 +70,9 @@ module _ {P L : Type 0} (p : Ghosts P) (l : log_device.Ghosts L) (pages : P) (lo
         marks = o.was_read.marks;
         are_spelled = o.was_read.are_spelled;
         reads = λ h. o.was_read.reads (o.honest h);
-        rolled_back = o.repeated.rolled_back;
-        rolled_back_on = subst (λ first. IsRolledBackOn loaded.sizes o.read.records o.repeated.rolled_back first (paged now)) first_is o.repeated.rolled_back_on;
-        begun = o.repeated.begun;
+        rolled_back = repeated.rolled_back;
+        rolled_back_on = subst (λ first. IsRolledBackOn loaded.sizes o.read.records repeated.rolled_back first (paged now)) first_is repeated.rolled_back_on;
+        begun = repeated.begun;
         room = omega (arith, n, e);
       }))
 
@@ -114,6 +117,7 @@ shut_left z log first why.LogFull before now untouched e past h = λ left.
     let long = length_on e room.now (added.past past) (added.based left.whole.based) in
     let full = room.full in
     record { now = rebased e room.now; recovering = room.recovering e past left; full = omega (arith, long, full) }
+shut_left z log first why.DiskRead before now untouched e past h = h.0
 shut_left z log first why.DiskWrite before now untouched e past h = h.0
 shut_left z log first (why.Damaged (damage.Record lsn)) before now untouched e past h = λ left. elim h.0 [
   | inl undo ↦ no_bad_undo z log first lsn undo e past left
@@ -132,8 +136,9 @@ gone_through z log first last n numbers e counted before k =
     record { repeated = before; counted_read = read; counted = repeated_counted z (length log) log first last before (omega arith) read }
 
 -- why what had no end was not undone, or was and left chains that are not whole
-pub rollback_shut : (z : Sizes) (log : List Record) (first : Paged) (e : Refusal) (before now : ℕ) (untouched : Type 0) → WasReadAndRedone z log first → now ≡ before → untouched → RollbackStops z log first e → WhyShut z log first e before now untouched
+pub rollback_shut : (z : Sizes) (log : List Record) (first : Paged) (e : Refusal) (before now : ℕ) (untouched : Type 0) → WasReadAndRedone z log first → FailsWith e before now → untouched → RollbackStops z log first e → WhyShut z log first e before now untouched
 rollback_shut z log first why.NoMemory before now untouched was same here s = (same, here)
+rollback_shut z log first why.DiskRead before now untouched was more here s = (more, was, here)
 rollback_shut z log first why.LogFull before now untouched was same here s = (s, was, here)
 rollback_shut z log first (why.Damaged (damage.Record lsn)) before now untouched was same here s = (s, was, here)
 rollback_shut z log first (why.Damaged (damage.Page page)) before now untouched was same here s = (inr (s, was), here)
@@ -153,6 +158,7 @@ shut_over z log older first e before now untouched is told h = each e h where
 
   each : (e : Refusal) → WhyShut z log first e before now untouched → MayBeShut (IsLeft z first.image older) z older e before now
   each why.NoMemory h = h.0
+  each why.DiskRead h = h.0
   each why.DiskWrite h = h.0
   each why.LogFull h = over why.LogFull (marks h.1.0 h.1.1.repeated) h
   each (why.Damaged (damage.Record lsn)) h = over (why.Damaged (damage.Record lsn)) (marks h.1.0 h.1.1.repeated) h

@@ -175,12 +175,14 @@ module _ {P : Type 0} (z : Sizes) (log undone : List Record) (mid : Pooled P) (u
 -- why operations were not undone, or then transactions, is why the log was not mended
 pub undo_rolls_nothing_back : (z : Sizes) (log : List Record) (first : Paged) (e : Refusal) → UndoStops z log first e → RollbackStops z log first e
 undo_rolls_nothing_back z log first why.NoMemory s = tt
+undo_rolls_nothing_back z log first why.DiskRead s = tt
 undo_rolls_nothing_back z log first why.LogFull s = record { undone = s.undone; undoing = s.undoing; now = s.undone; aborting = aborting_none z (RepeatedFrom z first) s.undone; turn = inl refl; none_lost = λ e. refl; full = s.full; recovering = λ e past left. Undoing (undoing_on e log past left.whole.based s.undone s.undoing) }
 undo_rolls_nothing_back z log first (why.Damaged (damage.Record lsn)) s = inl s
 undo_rolls_nothing_back z log first _ s = absurd s
 
 pub abort_rolls_nothing_back : {P : Type 0} (z : Sizes) (log undone : List Record) (mid : Pooled P) → IsUndone log undone → IsPool z mid.images → (IsEnded undone → ⊥) → (first : Paged) → Repeats z undone first (paged mid) → (e : Refusal) → AbortingStops z undone mid e → RollbackStops z log first e
 abort_rolls_nothing_back z log undone mid u pool some first repeated why.NoMemory s = tt
+abort_rolls_nothing_back z log undone mid u pool some first repeated why.DiskRead s = tt
 abort_rolls_nothing_back z log undone mid u pool some first repeated why.LogFull s = record {
   undone = undone;
   undoing = u.undoing;

@@ -52,7 +52,9 @@ use Rattle.rq_restart.specs.declared.analysis.Analysis.{Analysis}
 use Rattle.rq_restart.specs.Aborting.{AbortStops, CannotBeTaken, IsAbortingFrom, IsBadStep, IsNotUndone, IsOnItsWay, IsShown, IsShownWithin, IsTakenNext, OfStore, PlanStops, RepeatedSince}
 use Rattle.rq_restart.specs.Aborting.IsBadStep.{BadDue}
 use Rattle.rq_restart.specs.Aborting.IsOnItsWay.{Between, Within}
+use Rattle.rq_restart.specs.Again.{NotToldFor}
 use Rattle.rq_restart.specs.Checked.{IsEnded}
+use Rattle.rq_disk.specs.declared.device.LogDevice.{Ghosts}
 use Rattle.rq_restart.specs.Found.{IsAnalysisOf}
 use Rattle.rq_restart.specs.Repeating.{Belongs, IsRecordRedone, Paged, Repeats, paged}
 use Rattle.rq_restart.proofs.Aborts.{aborting_none, active_lost}
@@ -342,3 +344,10 @@ end_rest log now f h t are then grown off = (
 -- where nothing is due, and nobody has an end left to be made, all have ended
 pub all_ended : (log : List Record) (f : Analysis) → IsAnalysisOf f log → f.dues ≡ [] → least_free f.dues f.open_work.active ≡ None → IsEnded log
 all_ended log f are nothing none = ap (λ (x : OpenWorkView). x.active) (sym are.open_work) ∙ nobody_left f.open_work.active (ap (λ ds. least_free ds f.open_work.active) (sym nothing) ∙ none)
+
+-- what is to be taken back is not told again where the log is full or the device fails
+pub told_stops : {P L : Type 0} (z : Sizes) (log : List Record) (old : Pooled P) (f : Analysis) → IsAnalysisOf f log → (g : Ghosts L) (was now : L) (e : Refusal) → NotToldFor g e (length log) was now → g.honest now → AbortStops z (IsAbortingFrom z log old) log old (IsShown log old) e
+told_stops z log old f are g was now why.LogFull n h = record { last = log; aborting = aborting_none z (RepeatedSince z log (paged old)) log; full = n.0; way = shown_way z log old f are }
+told_stops z log old f are g was now why.DiskRead n h = tt
+told_stops z log old f are g was now (why.Damaged (damage.Record m)) n h = absurd (n.1 h)
+told_stops z log old f are g was now _ n h = absurd n

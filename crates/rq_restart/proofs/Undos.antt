@@ -1,15 +1,20 @@
 -- Undoing operations that have no end, record by record.
-use Rattle.std.proofs.Common.{◌≡◌, ℕ, ◌+◌, ◌<◌, false, List, [], ◌∷◌, length, inl, inr, refl, sym, ◌∙◌, ap, subst, arith}
+use Rattle.std.specs.List.{filter}
+use Rattle.std.proofs.Common.{◌≡◌, ℕ, ◌+◌, ◌<◌, true, false, List, [], ◌∷◌, length, inl, inr, refl, sym, ◌∙◌, ap, subst, arith}
 use Rattle.rq_model.specs.declared.record.Record.{Record}
 use Rattle.rq_model.specs.declared.record.Record.TheVariants.{PageOp, PageUndo, OpEnd, OpVoid, CompEnd, Base}
 use Rattle.rq_model.specs.declared.refusal.Refusal.{Refusal}
 use Rattle.rq_model.specs.declared.refusal.Refusal.TheVariants as why
 use Rattle.rq_model.specs.declared.refusal.Damage.TheVariants as damage
 use Rattle.rq_model.specs.declared.txn.Sub.{Sub}
-use Rattle.rq_model.specs.Vocabulary.{In}
+use Rattle.rq_model.specs.Vocabulary.{In, first}
 use Rattle.rq_page.specs.Sizes.{Sizes}
 use Rattle.rq_pool.specs.Pooled.{Pooled}
+use Rattle.rq_disk.specs.declared.device.LogDevice.{Ghosts}
 use Rattle.rq_log.specs.Logged.{Logged}
+use Rattle.rq_log.specs.Reading.{IsRead}
+use Rattle.rq_log.proofs.Keeping.{read_twice}
+use Rattle.rq_log.proofs.Moments.{started}
 use Rattle.rq_record.specs.Spelling.{IsInRange, IsSlotNumber, IsTxnInRange}
 use Rattle.rq_model.specs.Bases.{is_base}
 use Rattle.rq_log.specs.Spelled.{AreSpelled}
@@ -23,14 +28,17 @@ use Rattle.rq_analysis.specs.Pages.IsNextUndo.{Voids, Undoes}
 use Rattle.rq_analysis.proofs.Lists.{in_undoable, in_with, in_without, sub_in}
 use Rattle.rq_analysis.proofs.Stacks.{in_newest}
 use Rattle.rq_analysis.proofs.Undos.{undo_leaves_less, undoing_more}
+use Rattle.rq_analysis.specs.LogTables.{PutsBack}
 use Rattle.rq_analysis.specs.Rules.{CanBeRead}
+use Rattle.rq_views.proofs.Overlay.{same_self as op_self}
+use Rattle.rq_restart.specs.Again.{IsLike, IsLikeUndo}
 use Rattle.rq_restart.specs.Found.{MayComeNext}
 use Rattle.rq_restart.specs.Repeating.{ArePagesCounted, Belongs, IsRecordRedone, Marks, Paged, Repeats}
 use Rattle.rq_restart.specs.Undoing.{HandsOverNothing, StepStops, UndoStops}
 use Rattle.rq_restart.proofs.Repeated.{before_from, counted_more}
 
 -- what a log's records say is in range, and so is what is noted of them
-abbrev IsOpInRange : Sub → Type 0
+abbrev pub IsOpInRange : Sub → Type 0
 IsOpInRange o = IsTxnInRange o.txn × (0 < o.number)
 
 noted_range : (log : List Record) → AreSpelled log → (o : Sub) → In o (open_work_of log).unfinished → IsOpInRange o
@@ -45,10 +53,10 @@ noted_range (CompEnd t n undone ∷ log) a o h = noted_range log a.1 o (in_witho
 noted_range (Base many i ∷ log) a o h = absurd h
 noted_range (_ ∷ log) a o h = noted_range log a.1 o h
 
-abbrev IsUndoableInRange : UndoableWrite → Type 0
+abbrev pub IsUndoableInRange : UndoableWrite → Type 0
 IsUndoableInRange p = IsOpInRange p.by × (0 < p.lsn) × IsSlotNumber p.slot
 
-undoable_range : (log : List Record) → AreSpelled log → (p : UndoableWrite) → In p (open_work_of log).undoable → IsUndoableInRange p
+pub undoable_range : (log : List Record) → AreSpelled log → (p : UndoableWrite) → In p (open_work_of log).undoable → IsUndoableInRange p
 undoable_range [] a p h = absurd h
 undoable_range (PageOp t n page slot before after ∷ log) a p h = elim h [
   | inl e ↦ subst IsUndoableInRange (sym e) ((a.0.0.0, a.0.0.1), omega arith, a.0.0.2)
@@ -71,6 +79,23 @@ pub undo_is_no_base : (h : OpenWorkView) (r : Record) → IsNextUndo h r → is_
 undo_is_no_base h r (Voids o spent least e) = ap is_base e
 undo_is_no_base h r (Undoes p ps none first e) = ap is_base e
 
+-- but for what it writes a record is in range, and leaves the same open
+pub like_range : (q r : Record) → IsLike q r → IsInRange q → IsInRange r
+like_range (PageUndo t n undone page slot after) r k h = subst IsInRange (sym k.4) (h.0, h.1, h.2, k.3)
+like_range _ r k h = subst IsInRange (sym k) h
+
+like_reads : (q r : Record) → IsLike q r → CanBeRead q → CanBeRead r
+like_reads (PageUndo t n undone page slot after) r k h = subst CanBeRead (sym k.4) tt
+like_reads _ r k h = subst CanBeRead (sym k) h
+
+like_plain : (q r : Record) → IsLike q r → is_base q ≡ false → is_base r ≡ false
+like_plain (PageUndo t n undone page slot after) r k h = ap is_base k.4
+like_plain _ r k h = ap is_base k ∙ h
+
+like_work : (q r : Record) (log : List Record) → IsLike q r → open_work_of (r ∷ log) ≡ open_work_of (q ∷ log)
+like_work (PageUndo t n undone page slot after) r log k = ap (λ x. open_work_of (x ∷ log)) k.4
+like_work _ r log k = ap (λ x. open_work_of (x ∷ log)) k
+
 pub undo_range : (log : List Record) (h : OpenWorkView) (r : Record) → h ≡ open_work_of log → AreSpelled log → IsNextUndo h r → IsInRange r
 undo_range log h r e a next = by (subst (λ k. IsNextUndo k r) e next) where
   by : IsNextUndo (open_work_of log) r → IsInRange r
@@ -79,15 +104,55 @@ undo_range log h r e a next = by (subst (λ k. IsNextUndo k r) e next) where
       let k = undoable_range log a p (rw undoable (inl refl)) in
       rw is (k.0.0, k.0.1, k.1, k.2)
 
--- nothing is handed over, one record after the other
-pub none_handed : {P L : Type 0} (pages : Pooled P) (log : Logged L) → log.failed ≡ false → HandsOverNothing pages pages log log
-none_handed pages log running = record { sizes = refl; pages_device = refl; log_device = refl; forced = refl; running = running; settled = refl }
+module _ (log : List Record) (h : OpenWorkView) (r : Record) (is : h ≡ open_work_of log) (like : IsLikeUndo h r) where
+  pub like_undo_range : AreSpelled log → IsInRange r
+  like_undo_range are = like_range like.0 r like.2 (undo_range log h like.0 is are like.1)
 
-pub and_then : {P L : Type 0} {a b c : Pooled P} {x y z : Logged L} → HandsOverNothing a b x y → HandsOverNothing b c y z → HandsOverNothing a c x z
-and_then h k = record {
+  pub like_undo_reads : CanBeRead r
+  like_undo_reads = like_reads like.0 r like.2 (undo_reads h like.0 like.1)
+
+  pub like_undo_plain : is_base r ≡ false
+  like_undo_plain = like_plain like.0 r like.2 (undo_is_no_base h like.0 like.1)
+
+  pub like_undo_less : (after : OpenWorkView) (grown : List Record) → grown ≡ r ∷ log → after ≡ open_work_of grown → work after < work h
+  like_undo_less after grown more noted =
+      let less : work (open_work_of (like.0 ∷ log)) < work (open_work_of log) = undo_leaves_less log like.0 (subst (λ j. IsNextUndo j like.0) is like.1) in
+      let a : work after ≡ work (open_work_of (like.0 ∷ log)) = ap work (noted ∙ ap open_work_of more ∙ like_work like.0 r log like.2) in
+      let b : work h ≡ work (open_work_of log) = ap work is in
+      omega (arith, less, a, b)
+
+-- the record that is next puts back what stood before
+pub next_puts_back : (log : List Record) (h : OpenWorkView) (r : Record) → IsNextUndo h r → PutsBack h r
+next_puts_back log h r (Voids o spent least e) = subst (PutsBack h) (sym e) tt
+next_puts_back log h r (Undoes p ps none f e) = subst (PutsBack h) (sym e) (
+  let own : undoable_by p.by p ≡ true = op_self p.by in
+  ap (λ (l : List UndoableWrite). first (filter (undoable_by p.by) l)) f ∙ rw own refl
+)
+
+module _ {L : Type 0} (g : Ghosts L) (only_now : (d : L) (c : List ℕ) → g.left_since d (g.moment d) c → g.may_leave d c) where
+  pub still : (d : L) → IsRead g d d
+  still d = record { same = refl; honest = λ h. h; leaves = λ c left. left; moments = started g d (g.may_leave d) (only_now d) }
+
+-- nothing is handed over, one record after the other
+pub none_handed : {P L : Type 0} (g : Ghosts L) → ((d : L) (c : List ℕ) → g.left_since d (g.moment d) c → g.may_leave d c) → (pages : Pooled P) (log : Logged L) → log.failed ≡ false → HandsOverNothing g pages pages log log
+none_handed g only_now pages log running = record { sizes = refl; pages_device = refl; read = still g only_now log.device; forced = refl; running = running; settled = refl }
+
+-- a record was read again
+pub one_read : {P L : Type 0} (g : Ghosts L) (pages : Pooled P) (log now : Logged L) → log.failed ≡ false → now ≡ record log { device = now.device } → IsRead g log.device now.device → HandsOverNothing g pages pages log now
+one_read g pages log now running same read = record {
+  sizes = refl;
+  pages_device = refl;
+  read = read;
+  forced = ap (λ (l : Logged _). l.forced) same;
+  running = ap (λ (l : Logged _). l.failed) same ∙ running;
+  settled = ap (λ (l : Logged _). l.settled) same;
+}
+
+pub and_then : {P L : Type 0} {g : Ghosts L} {a b c : Pooled P} {x y z : Logged L} → HandsOverNothing g a b x y → HandsOverNothing g b c y z → HandsOverNothing g a c x z
+and_then {P} {L} {g} {a} {b} {c} {x} {y} {z} h k = record {
   sizes = k.sizes ∙ h.sizes;
   pages_device = k.pages_device ∙ h.pages_device;
-  log_device = k.log_device ∙ h.log_device;
+  read = read_twice g x.device y.device z.device h.read k.read;
   forced = k.forced ∙ h.forced;
   running = k.running;
   settled = k.settled ∙ h.settled;
@@ -122,15 +187,9 @@ module _ (z y : Sizes) (log last : List Record) (first now : Paged) (sizes : y �
     counted = λ before. subst (λ n. ArePagesCounted z n after) (let e : length last + 1 ≡ length (r ∷ last) = omega arith in e) (counted_more z last r now after (subst (λ x. IsRecordRedone x last r now after) sizes one) (k.counted before));
   })
 
-  pub going_less : (r : Record) (h after : OpenWorkView) (grown : List Record) → h ≡ open_work_of last → IsNextUndo h r → grown ≡ r ∷ last → after ≡ open_work_of grown → work after < work h
-  going_less r h after grown is next more noted =
-      let less : work (open_work_of (r ∷ last)) < work (open_work_of last) = undo_leaves_less last r (subst (λ j. IsNextUndo j r) is next) in
-      let a : work after ≡ work (open_work_of (r ∷ last)) = ap work (noted ∙ ap open_work_of more) in
-      let b : work h ≡ work (open_work_of last) = ap work is in
-      omega (arith, less, a, b)
-
   pub going_stops : (r : Record) (h : OpenWorkView) (e : Refusal) → h ≡ open_work_of last → IsNextUndo h r → StepStops (length last) (Belongs y last r now) e → (start : Paged) → Repeats z log start first → UndoStops z log start e
   going_stops r h why.NoMemory is next s start before = tt
+  going_stops r h why.DiskRead is next s start before = tt
   going_stops r h why.LogFull is next s start before = record { undone = last; undoing = k.undoing; full = s }
   going_stops r h (why.Damaged (damage.Record lsn)) is next s start before = record {
     undone = last;

@@ -187,6 +187,7 @@ pub record IsBadAbort {P : Type 0} (z : Sizes) (behind : List Record → Type 0)
 abbrev pub AbortStops : {P : Type 0} → Sizes → (List Record → Type 0) → List Record → Pooled P
     → (List Record → State → Type 0) → Refusal → Type 0
 AbortStops z behind log old before why.NoMemory = Unit {0}
+AbortStops z behind log old before why.DiskRead = Unit {0}
 AbortStops z behind log old before why.LogFull = IsFull z behind before
 AbortStops z behind log old before (why.Damaged (damage.Record lsn)) = IsBadAbort z behind log old before lsn
 AbortStops z behind log old before _ = ⊥

@@ -14,3 +14,4 @@ pub mod Aborting
 pub mod RolledBack
 pub mod Numbers
 pub mod Places
+pub mod Again

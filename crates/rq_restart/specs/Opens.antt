@@ -47,7 +47,7 @@ module _ {P L : Type 0} (p : page_device.Ghosts P) (l : log_device.Ghosts L) (pa
   -- the store that was opened on these devices, and what is reported of it
   pub record Opens (s : OpenStore P L) (report : Report) : Type 0 where
     pub sizes : p.honest s.pages → IsSuperblock s.state.sizes (p.seen pages 0)
-    pub checked : WasChecked p l pages log s.state.sizes (paged (pooled s)) s.state.records s.pages s.log
+    pub checked : l.honest s.log → WasChecked p l pages log s.state.sizes (paged (pooled s)) s.state.records s.pages s.log
     pub over : (older : List Record) → IsReadAs l log s.log older → OpensOver p pages older s report
     pub recovers : (older : List Record) → IsReadAs l log s.log older → IsLeftOn p s.state.sizes pages s.pages older
         → Recovers older s report

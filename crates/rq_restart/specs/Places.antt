@@ -1,5 +1,5 @@
 -- Where the records stand that tell what may have to be undone, as the records of a log come one after the other.
-use Rattle.std.specs.Prelude.{◌≡◌, ◌↔◌, ℕ, ◌+◌, Bool, true, false, not, List, [], ◌∷◌, ◌++◌, length}
+use Rattle.std.specs.Prelude.{◌≡◌, ◌↔◌, ℕ, ◌+◌, Bool, true, false, nat_eq, not, List, [], ◌∷◌, ◌++◌, length}
 use Rattle.std.specs.List.{filter}
 use Rattle.rq_model.specs.declared.txn.Txn.{Txn}
 use Rattle.rq_model.specs.declared.txn.Sub.{Sub}
@@ -71,6 +71,9 @@ without_operation o s = record s { writes = filter (λ p. not (same_op p.by o)) 
 
 abbrev pub without_txn : Txn → OpenPlaces → OpenPlaces
 without_txn t s = record s { ends = filter (λ p. not (same_txn p.by.txn t)) s.ends }
+
+abbrev pub has_lsn : ℕ → Place → Bool
+has_lsn lsn p = nat_eq p.lsn lsn
 
 -- those of a log, once its records were taken one after the other
 abbrev pub places_of : List Record → OpenPlaces

@@ -56,9 +56,10 @@ BeginsNot why.DiskWrite records last before now untouched = now ≡ (before + 1)
 BeginsNot _ records last before now untouched = ⊥
 
 -- Why a store over this log, which was read and gone through, was not opened, and where; with the failures of the log's device before and after it, and
--- that it was left alone.
+-- that it was only read.
 abbrev pub WhyShut : Sizes → List Record → Paged → Refusal → ℕ → ℕ → Type 0 → Type 0
 WhyShut z log first why.NoMemory before now untouched = (now ≡ before) × untouched
+WhyShut z log first why.DiskRead before now untouched = (now ≡ (before + 1) % 2 ^ 64) × WasReadAndRedone z log first × untouched
 WhyShut z log first why.LogFull before now untouched = HasNoRoom z first log
     × WasReadAndRedone z log first × untouched
 WhyShut z log first why.DiskWrite before now untouched = (now ≡ (before + 1) % 2 ^ 64) × WasReadAndRedone z log first

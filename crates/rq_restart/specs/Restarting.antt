@@ -1,5 +1,5 @@
 -- What a restart finds.
-use Rattle.std.specs.Prelude.{◌≡◌, ◌⊎◌, ℕ, ◌+◌, ◌-◌, ◌%◌, ◌^◌, ◌<◌, ◌≤◌, false, List, ◌∷◌, drop, length}
+use Rattle.std.specs.Prelude.{◌≡◌, ◌≢◌, ◌⊎◌, ℕ, ◌+◌, ◌-◌, ◌%◌, ◌^◌, ◌<◌, ◌≤◌, false, List, ◌∷◌, drop, length}
 use Rattle.rq_model.specs.declared.record.Record.{Record}
 use Rattle.rq_model.specs.declared.refusal.Refusal.{Refusal}
 use Rattle.rq_model.specs.declared.refusal.Refusal.TheVariants as why
@@ -35,6 +35,7 @@ use Rattle.rq_model.specs.Bases.{IsMarked, gone, marked, standing}
 use Rattle.rq_engine.specs.Earlier.{rebased}
 use Rattle.rq_restart.specs.Past.{IsPast, WhereLeft}
 use Rattle.rq_restart.specs.Refused.{IsStoppedBehind, WhyShut}
+use Rattle.rq_restart.specs.Undoing.{FailsWith}
 
 -- Behind the log that was read stand the records by which what has no end is undone, and then one that begins the
 -- incarnation after the last. All are forced.
@@ -140,7 +141,7 @@ module _ {L : Type 0} (g : log_device.Ghosts L) where
   pub record IsRestarted (z : Sizes) (images : List (List ℕ)) (old new : Logged L) (waiting : List ℕ) (sent : SentBy)
       (planner : List LevelState) (report : Report) : Type 0 where
     pub forced : new.forced ≡ length new.records
-    pub reports : (e : List Record) → IsPast e old.records
+    pub reports : g.honest new.device → (e : List Record) → IsPast e old.records
         → Reports z (rebased e old.records) new.records report.incarnation report.records report.unfinished report.lost
     pub told : AreTold z images (length new.records) waiting sent
     pub known : KnowsCells z images planner
@@ -162,13 +163,19 @@ module _ {L : Type 0} (g : log_device.Ghosts L) where
   BeginsAtMost z images old new =
       g.honest new → LeavesOnly g old new (λ c. g.may_leave old c ⊎ IsBegunOn z images (g.seen old) c)
 
-  -- Why a store with these pages was not opened over a log: going through it as it was read stopped behind some of its
+  -- Why a store with these pages was not opened over the log of an honest device: going through it as it was read stopped behind some of its
   -- records, or all of them were read and gone through, and then this.
-  abbrev pub LogStops : Sizes → Paged → Refusal → L → L → Type 0
-  LogStops z first e old new =
+  abbrev pub StopsOver : Sizes → Paged → Refusal → L → L → Type 0
+  StopsOver z first e old new =
       IsStoppedBehind g z first e old new
       ⊎ ((older : List Record) × AreSpelled older × (g.honest new → EndsWith older (g.seen old))
       × WhyShut z older first e (g.faults old) (g.faults new) (IsRead g old new))
+
+  -- the same, and of any device whether it failed, and that it was only read unless it failed in a write
+  pub record LogStops (z : Sizes) (first : Paged) (e : Refusal) (old new : L) : Type 0 where
+    pub counted : FailsWith e (g.faults old) (g.faults new)
+    pub read : (e ≢ why.DiskWrite) → IsRead g old new
+    pub over : g.honest new → StopsOver z first e old new
 
   -- the log was read, all of it
   pub record IsLogRead (log : L) (read : Logged L) : Type 0 where
@@ -193,7 +200,7 @@ module _ {L : Type 0} (g : log_device.Ghosts L) where
     pub honest : g.honest new.device → g.honest read.device
     -- what is behind it
     pub restarted : IsRestarted now.sizes now.images read new waiting sent planner report
-    pub repeated : HasRepeated first.sizes read.records new.records (paged first) (paged now)
+    pub repeated : g.honest new.device → HasRepeated first.sizes read.records new.records (paged first) (paged now)
     pub any_moment : BeginsAtMost first.sizes (image_in first.images) log new.device
 
   -- The store with these pages was not opened over the log, and why; both devices are given back.

@@ -103,6 +103,7 @@ LinkStops z q _ = ⊥
 -- why the log was not mended, or the chains are not whole once it is
 abbrev pub RollbackStops : Sizes → List Record → Paged → Refusal → Type 0
 RollbackStops z log first why.NoMemory = Unit {0}
+RollbackStops z log first why.DiskRead = Unit {0}
 RollbackStops z log first why.LogFull = HasNoRoom z first log
 RollbackStops z log first (why.Damaged (damage.Record lsn)) = IsBadUndo z log first lsn ⊎ IsBadRollback z log first lsn
 RollbackStops z log first (why.Damaged (damage.Page page)) = IsUnlinked z log first page

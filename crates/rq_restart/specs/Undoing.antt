@@ -1,22 +1,24 @@
 -- Undoing operations that have no end, and where that stops.
-use Rattle.std.specs.Prelude.{◌≡◌, ℕ, ◌+◌, ◌^◌, ◌≤◌, false, List, length}
+use Rattle.std.specs.Prelude.{◌≡◌, ℕ, ◌+◌, ◌%◌, ◌^◌, ◌≤◌, false, List, length}
 use Rattle.rq_model.specs.declared.record.Record.{Record}
 use Rattle.rq_model.specs.declared.refusal.Refusal.{Refusal}
 use Rattle.rq_model.specs.declared.refusal.Refusal.TheVariants as why
 use Rattle.rq_model.specs.declared.refusal.Damage.TheVariants as damage
 use Rattle.rq_page.specs.Sizes.{Sizes}
 use Rattle.rq_pool.specs.Pooled.{Pooled}
+use Rattle.rq_disk.specs.declared.device.LogDevice.{Ghosts}
 use Rattle.rq_log.specs.Logged.{Logged}
+use Rattle.rq_log.specs.Reading.{IsRead}
 use Rattle.rq_analysis.specs.OpenWorkView.{open_work_of}
 use Rattle.rq_analysis.specs.Pages.{IsNextUndo, IsUndoing}
 use Rattle.rq_restart.specs.Repeating.{Paged, Belongs, Repeats}
 
--- Records were made behind the log, on the pages too, and nothing was handed over: both have the devices that they had, and
--- the log has not failed.
-pub record HandsOverNothing {P L : Type 0} (old new : Pooled P) (log now : Logged L) : Type 0 where
+-- Records were made behind the log, on the pages too, and nothing was handed over: the pages have the device that they had,
+-- that of the log was only read, and the log has not failed.
+pub record HandsOverNothing {P L : Type 0} (g : Ghosts L) (old new : Pooled P) (log now : Logged L) : Type 0 where
   pub sizes : new.sizes ≡ old.sizes
   pub pages_device : new.device ≡ old.device
-  pub log_device : now.device ≡ log.device
+  pub read : IsRead g log.device now.device
   pub forced : now.forced ≡ log.forced
   pub running : now.failed ≡ false
   pub settled : now.settled ≡ log.settled
@@ -41,9 +43,21 @@ pub record IsBadUndo (z : Sizes) (log : List Record) (first : Paged) (lsn : ℕ)
 -- why the operations of a log that have no end were not undone, once history was repeated
 abbrev pub UndoStops : Sizes → List Record → Paged → Refusal → Type 0
 UndoStops z log first why.NoMemory = Unit {0}
+UndoStops z log first why.DiskRead = Unit {0}
 UndoStops z log first why.LogFull = IsFullUndo log
 UndoStops z log first (why.Damaged (damage.Record lsn)) = IsBadUndo z log first lsn
 UndoStops z log first _ = ⊥
+
+-- a refusal that names a device tells that it failed once more; another tells that it did not
+abbrev pub FailsWith : Refusal → ℕ → ℕ → Type 0
+FailsWith why.DiskRead before now = now ≡ (before + 1) % 2 ^ 64
+FailsWith why.DiskWrite before now = now ≡ (before + 1) % 2 ^ 64
+FailsWith _ before now = now ≡ before
+
+abbrev pub NamesNoDevice : Refusal → Type 0
+NamesNoDevice why.DiskRead = ⊥
+NamesNoDevice why.DiskWrite = ⊥
+NamesNoDevice _ = Unit {0}
 
 -- why one such record was not made behind so many
 abbrev pub StepStops : ℕ → Type 0 → Refusal → Type 0

@@ -1,11 +1,12 @@
 //! Undoing lost transactions, one after the other, by the inverses of what they did.
-ghost use Rattle.std.specs.Prelude.{◌≡◌, ◌∷◌, ◌<◌, IfOk, IfErr, OnOk, OnErr, None, false, List, [], length, take};
+ghost use Rattle.std.specs.Prelude.{◌≡◌, ◌∷◌, ◌<◌, IfOk, IfErr, MatchOption, OnOk, OnErr, None, false, List, [], length, take};
 ghost use Rattle.rq_views.specs.Stored.{slots_in};
 ghost use Rattle.rq_level.specs.Writes.{AreSlotWrites};
 ghost use Rattle.rq_planner.specs.Answered.{KnowsCells};
 ghost use Rattle.rq_planner.specs.Backs.{IsTakingBack};
 ghost use Rattle.rq_analysis.specs.declared.dues.PendingUndo.{PendingUndo};
 ghost use Rattle.rq_analysis.specs.Choices.{least_free};
+ghost use Rattle.rq_analysis.specs.Rules.{FollowAll};
 ghost use Rattle.rq_record.specs.Spelling.{IsTxnInRange};
 ghost use Rattle.rq_store.specs.Steps.{page_op};
 ghost use Rattle.rq_model.specs.Deeds.{deed_by};
@@ -13,8 +14,10 @@ ghost use Rattle.rq_model.specs.Vocabulary.{In};
 ghost use Rattle.rq_restart.specs.Aborting.{AbortStops, AbortingStops, HasAborted, HasGoneOn, IsMaking, IsShownWithin, PlanStops, blamed_on, with_writes};
 ghost use Rattle.rq_restart.specs.Checked.{IsEnded};
 ghost use Rattle.rq_restart.specs.Found.{IsAnalysisOf};
-ghost use Rattle.rq_restart.specs.Undoing.{HandsOverNothing};
+ghost use Rattle.rq_restart.specs.Repeating.{ArePagesCounted, paged};
+ghost use Rattle.rq_restart.specs.Undoing.{FailsWith, HandsOverNothing};
 
+use crate::again::due_again;
 use crate::analysis::Analysis;
 use crate::appending::append;
 use rq_analysis::{PendingUndo, next_end};
@@ -24,7 +27,7 @@ use rq_log::Log;
 use rq_model::limits::LOG_LIMIT;
 use rq_model::record::Record;
 use rq_model::refusal::{Damage, Refusal};
-use rq_model::txn::Lsn;
+use rq_model::txn::{Lsn, Txn};
 use rq_planner::Planner;
 use rq_pool::Pages;
 use std::alloc::Global;
@@ -34,8 +37,8 @@ use std::alloc::Global;
 /// are made behind the log, of which these are the findings, and nothing is handed over.
 ///
 /// # Errors
-/// `NoMemory`; `LogFull` where the log is at its greatest length; `Damaged` with the number of the OpEnd that cannot be
-/// taken back, or of a record that would not belong where it has to stand.
+/// `NoMemory`; `DiskRead`; `LogFull` where the log is at its greatest length; `Damaged` with the number of the OpEnd that
+/// cannot be taken back or that the device gives no more, or of a record that would not belong where it has to stand.
 pub(crate) fn abort_lost<P: PageDevice + Drop, L: LogDevice + Drop, B: Level>(
     alloc: Global,
     pages: &mut Pages<P>,
@@ -44,16 +47,24 @@ pub(crate) fn abort_lost<P: PageDevice + Drop, L: LogDevice + Drop, B: Level>(
     planner: &mut Planner<B>,
 ) -> Result<(), Refusal>
     requires found { IsAnalysisOf analysis.old log.old.records }
+    requires follow { L.honest log.old.device → FollowAll log.old.records }
     requires running { log.old.failed ≡ false }
     requires cells { KnowsCells pages.old.sizes pages.old.images planner.old }
-    ensures gone_on { OnOk result (HasAborted pages.old.sizes log.old.records pages.old log.new.records pages.new) }
+    ensures gone_on { OnOk result (L.honest log.new.device
+        → HasAborted pages.old.sizes log.old.records pages.old log.new.records pages.new) }
+    ensures counted { OnOk result (ArePagesCounted pages.old.sizes (length log.old.records) (paged pages.old)
+        → ArePagesCounted pages.old.sizes (length log.new.records) (paged pages.new)) }
     ensures ended { OnOk result (IsEnded log.new.records) }
     ensures none { OnOk result (IsEnded log.old.records → (log.new.records ≡ log.old.records) × (pages.new ≡ pages.old)) }
     ensures found { OnOk result (IsAnalysisOf analysis.new log.new.records) }
+    ensures follow { OnOk result (L.honest log.new.device → FollowAll log.new.records) }
     ensures cells { OnOk result (KnowsCells pages.new.sizes pages.new.images planner.new) }
-    ensures stops { IfErr result (λ e. AbortingStops pages.old.sizes log.old.records pages.old e) }
+    ensures stops { IfErr result (λ e. L.honest log.new.device
+        → AbortingStops pages.old.sizes log.old.records pages.old e) }
+    ensures fails { IfErr result (λ e. FailsWith e (L.faults log.old.device) (L.faults log.new.device)) }
+    ensures cause { OnOk result (L.faults log.new.device ≡ L.faults log.old.device) }
     ensures some { OnErr result (IsEnded log.old.records → ⊥) }
-    ensures stays { HandsOverNothing pages.old pages.new log.old log.new }
+    ensures stays { HandsOverNothing L.LogDevice pages.old pages.new log.old log.new }
     ensures room { OnOk result (log.new.reserved ≡ log.old.reserved) }
 {
     if analysis.open_work.all_ended() {
@@ -71,13 +82,21 @@ fn end_idle<P: PageDevice + Drop, L: LogDevice + Drop>(
     analysis: &mut Analysis,
 ) -> Result<(), Refusal>
     requires found { IsAnalysisOf analysis.old log.old.records }
+    requires follow { L.honest log.old.device → FollowAll log.old.records }
     requires running { log.old.failed ≡ false }
-    ensures gone_on { OnOk result (HasAborted pages.old.sizes log.old.records pages.old log.new.records pages.new) }
+    ensures gone_on { OnOk result (L.honest log.new.device
+        → HasAborted pages.old.sizes log.old.records pages.old log.new.records pages.new) }
+    ensures counted { OnOk result (ArePagesCounted pages.old.sizes (length log.old.records) (paged pages.old)
+        → ArePagesCounted pages.old.sizes (length log.new.records) (paged pages.new)) }
     ensures same { OnOk result (pages.new ≡ pages.old) }
     ensures none { OnOk result (least_free analysis.new.dues analysis.new.open_work.active ≡ None) }
     ensures found { OnOk result (IsAnalysisOf analysis.new log.new.records) }
-    ensures stops { IfErr result (λ e. AbortingStops pages.old.sizes log.old.records pages.old e) }
-    ensures stays { HandsOverNothing pages.old pages.new log.old log.new }
+    ensures follow { OnOk result (L.honest log.new.device → FollowAll log.new.records) }
+    ensures stops { IfErr result (λ e. L.honest log.new.device
+        → AbortingStops pages.old.sizes log.old.records pages.old e) }
+    ensures fails { IfErr result (λ e. FailsWith e (L.faults log.old.device) (L.faults log.new.device)) }
+    ensures cause { OnOk result (L.faults log.new.device ≡ L.faults log.old.device) }
+    ensures stays { HandsOverNothing L.LogDevice pages.old pages.new log.old log.new }
     ensures room { OnOk result (log.new.reserved ≡ log.old.reserved) }
 {
     while let Some(txn) = next_end(analysis.open_work.active(), &analysis.dues) {
@@ -95,24 +114,45 @@ fn undo_all_due<P: PageDevice + Drop, L: LogDevice + Drop, B: Level>(
     planner: &mut Planner<B>,
 ) -> Result<(), Refusal>
     requires found { IsAnalysisOf analysis.old log.old.records }
+    requires follow { L.honest log.old.device → FollowAll log.old.records }
     requires none { least_free analysis.old.dues analysis.old.open_work.active ≡ None }
     requires running { log.old.failed ≡ false }
     requires cells { KnowsCells pages.old.sizes pages.old.images planner.old }
-    ensures gone_on { OnOk result (HasAborted pages.old.sizes log.old.records pages.old log.new.records pages.new) }
+    ensures gone_on { OnOk result (L.honest log.new.device
+        → HasAborted pages.old.sizes log.old.records pages.old log.new.records pages.new) }
+    ensures counted { OnOk result (ArePagesCounted pages.old.sizes (length log.old.records) (paged pages.old)
+        → ArePagesCounted pages.old.sizes (length log.new.records) (paged pages.new)) }
     ensures ended { OnOk result (IsEnded log.new.records) }
     ensures found { OnOk result (IsAnalysisOf analysis.new log.new.records) }
+    ensures follow { OnOk result (L.honest log.new.device → FollowAll log.new.records) }
     ensures cells { OnOk result (KnowsCells pages.new.sizes pages.new.images planner.new) }
-    ensures stops { IfErr result (λ e. AbortingStops pages.old.sizes log.old.records pages.old e) }
-    ensures stays { HandsOverNothing pages.old pages.new log.old log.new }
+    ensures stops { IfErr result (λ e. L.honest log.new.device
+        → AbortingStops pages.old.sizes log.old.records pages.old e) }
+    ensures fails { IfErr result (λ e. FailsWith e (L.faults log.old.device) (L.faults log.new.device)) }
+    ensures cause { OnOk result (L.faults log.new.device ≡ L.faults log.old.device) }
+    ensures stays { HandsOverNothing L.LogDevice pages.old pages.new log.old log.new }
     ensures room { OnOk result (log.new.reserved ≡ log.old.reserved) }
 {
-    while let Some(due) = analysis.dues.newest() {
+    while let Some((txn, lsn)) = newest_due(analysis) {
+        log.shows_kept();
+        let due = due_again(log, analysis, txn, lsn)?;
         undo_due(alloc, pages, log, analysis, planner, &due)?;
-        if !analysis.dues.owes(due.txn) {
-            append(pages, log, analysis, &Record::AbortEnd { txn: due.txn })?;
+        if !analysis.dues.owes(txn) {
+            append(pages, log, analysis, &Record::AbortEnd { txn })?;
         }
     }
     Ok(())
+}
+
+// Whose what is taken back next is, and the LSN of its OpEnd.
+fn newest_due(analysis: &Analysis) -> Option<(Txn, Lsn)>
+    ensures { MatchOption result (analysis.now.dues ≡ []) (λ due. (first : PendingUndo) × (older : List PendingUndo)
+        × (analysis.now.dues ≡ first ∷ older) × (first.txn ≡ due.0) × (first.lsn ≡ due.1)) }
+{
+    match analysis.dues.newest() {
+        Some(due) => Some((due.txn(), due.lsn())),
+        None => None,
+    }
 }
 
 // Takes back what is due first.
@@ -125,18 +165,27 @@ fn undo_due<P: PageDevice + Drop, L: LogDevice + Drop, B: Level>(
     due: &PendingUndo,
 ) -> Result<(), Refusal>
     requires found { IsAnalysisOf analysis.old log.old.records }
+    requires follow { L.honest log.old.device → FollowAll log.old.records }
     requires none { least_free analysis.old.dues analysis.old.open_work.active ≡ None }
-    requires first { (older : List PendingUndo) × (analysis.old.dues ≡ due.now ∷ older) }
+    requires first { (first : PendingUndo) × (older : List PendingUndo) × (analysis.old.dues ≡ first ∷ older)
+        × (first.txn ≡ due.now.txn) × (first.lsn ≡ due.now.lsn) × (L.honest log.old.device → due.now ≡ first) }
     requires running { log.old.failed ≡ false }
     requires cells { KnowsCells pages.old.sizes pages.old.images planner.old }
-    ensures gone_on { OnOk result (HasAborted pages.old.sizes log.old.records pages.old log.new.records pages.new) }
-    ensures rest { OnOk result (analysis.old.dues ≡ due.now ∷ analysis.new.dues) }
-    ensures lost { OnOk result (In due.now.txn analysis.old.open_work.active) }
+    ensures gone_on { OnOk result (L.honest log.new.device
+        → HasAborted pages.old.sizes log.old.records pages.old log.new.records pages.new) }
+    ensures counted { OnOk result (ArePagesCounted pages.old.sizes (length log.old.records) (paged pages.old)
+        → ArePagesCounted pages.old.sizes (length log.new.records) (paged pages.new)) }
+    ensures rest { OnOk result ((first : PendingUndo) × (analysis.old.dues ≡ first ∷ analysis.new.dues)) }
+    ensures lost { OnOk result (L.honest log.new.device → In due.now.txn analysis.old.open_work.active) }
     ensures active { OnOk result (analysis.new.open_work.active ≡ analysis.old.open_work.active) }
     ensures found { OnOk result (IsAnalysisOf analysis.new log.new.records) }
+    ensures follow { OnOk result (L.honest log.new.device → FollowAll log.new.records) }
     ensures cells { OnOk result (KnowsCells pages.new.sizes pages.new.images planner.new) }
-    ensures stops { IfErr result (λ e. AbortingStops pages.old.sizes log.old.records pages.old e) }
-    ensures stays { HandsOverNothing pages.old pages.new log.old log.new }
+    ensures stops { IfErr result (λ e. L.honest log.new.device
+        → AbortingStops pages.old.sizes log.old.records pages.old e) }
+    ensures fails { IfErr result (λ e. FailsWith e (L.faults log.old.device) (L.faults log.new.device)) }
+    ensures cause { OnOk result (L.faults log.new.device ≡ L.faults log.old.device) }
+    ensures stays { HandsOverNothing L.LogDevice pages.old pages.new log.old log.new }
     ensures room { OnOk result (log.new.reserved ≡ log.old.reserved) }
 {
     log.shows_kept();
@@ -168,24 +217,30 @@ fn make_all<P: PageDevice + Drop, L: LogDevice + Drop, B: Level>(
     writes: &[SlotWrite],
 ) -> Result<(), Refusal>
     requires found { IsAnalysisOf analysis.old log.old.records }
+    requires follow { L.honest log.old.device → FollowAll log.old.records }
     requires txn { IsTxnInRange due.now.txn }
     requires number { 0 < operation }
     requires slots { AreSlotWrites pages.old.sizes writes.now }
     requires running { log.old.failed ≡ false }
     requires cells { KnowsCells pages.old.sizes pages.old.images planner.old }
-    ensures gone_on { OnOk result (HasGoneOn pages.old.sizes
+    ensures gone_on { OnOk result (L.honest log.new.device → HasGoneOn pages.old.sizes
         (with_writes due.now.txn operation (take (length writes.now) writes.now) log.old.records ≡ log.new.records)
         log.old.records log.new.records pages.old pages.new
         (IsShownWithin log.old.records pages.old due.now operation writes.now 0)
         (IsShownWithin log.new.records pages.new due.now operation writes.now (length writes.now))) }
+    ensures counted { OnOk result (ArePagesCounted pages.old.sizes (length log.old.records) (paged pages.old)
+        → ArePagesCounted pages.old.sizes (length log.new.records) (paged pages.new)) }
     ensures rest { OnOk result ((analysis.new.dues ≡ analysis.old.dues)
         × (analysis.new.open_work.active ≡ analysis.old.open_work.active)) }
     ensures found { OnOk result (IsAnalysisOf analysis.new log.new.records) }
+    ensures follow { OnOk result (L.honest log.new.device → FollowAll log.new.records) }
     ensures cells { OnOk result (KnowsCells pages.new.sizes pages.new.images planner.new) }
-    ensures stops { IfErr result (λ e. AbortStops pages.old.sizes
+    ensures stops { IfErr result (λ e. L.honest log.new.device → AbortStops pages.old.sizes
         (IsMaking due.now.txn operation writes.now log.old.records) log.old.records pages.old
         (IsShownWithin log.old.records pages.old due.now operation writes.now 0) e) }
-    ensures stays { HandsOverNothing pages.old pages.new log.old log.new }
+    ensures fails { IfErr result (λ e. FailsWith e (L.faults log.old.device) (L.faults log.new.device)) }
+    ensures device { log.new.device ≡ log.old.device }
+    ensures stays { HandsOverNothing L.LogDevice pages.old pages.new log.old log.new }
     ensures room { OnOk result (log.new.reserved ≡ log.old.reserved) }
 {
     for index in 0..writes.len() {

@@ -3,13 +3,16 @@ ghost use Rattle.std.specs.Prelude.{◌≡◌, ◌↔◌, List, IsTrue, IfOk, If
 ghost use Rattle.rq_model.specs.declared.record.Record.{Record as AnyRecord};
 ghost use Rattle.rq_model.specs.Bases.{is_base};
 ghost use Rattle.rq_model.specs.Incarnations.{IsNext};
-ghost use Rattle.rq_analysis.specs.Rules.{CanBeRead};
+ghost use Rattle.rq_analysis.specs.LogTables.{PutsBack};
+ghost use Rattle.rq_analysis.specs.Rules.{CanBeRead, FollowAll};
 ghost use Rattle.rq_restart.specs.Found.{IsAnalysisOf, MayComeNext, analysis_after};
 
+use crate::places::Places;
 use rq_analysis::{EndedTransactions, LastOperations, OpenWork, PendingUndos, follows};
 use rq_model::record::Record;
 use rq_model::refusal::Refusal;
 use rq_model::txn::Lsn;
+use rq_record::spelled_len;
 use std::alloc::Global;
 
 /// What the records of a log come to, one after the other.
@@ -23,6 +26,10 @@ pub(crate) struct Analysis {
     pub numbers: LastOperations,
     /// Which transactions of the running incarnation have ended.
     pub ended: EndedTransactions,
+    /// Where what may have to be undone is told.
+    pub places: Places,
+    /// How many bytes they take.
+    pub size: u64,
 }
 
 impl Analysis {
@@ -35,18 +42,29 @@ impl Analysis {
             dues: PendingUndos::new(alloc),
             numbers: LastOperations::new(alloc),
             ended: EndedTransactions::new(alloc),
+            places: Places::new(alloc),
+            size: 0,
         }
     }
 
-    /// Takes the next record, which has this LSN; the deed in it, if there is one, is read by its level or not. False where
-    /// it may not come there: it doesn't belong to the running incarnation, isn't the next, or breaks the rules of a log.
+    /// Takes the next record, which has this LSN; the deed in it, if there is one, is read by its level or
+    /// not, and it puts back what stood before the newest write of its operation, if it is a PageUndo, or not. False where it
+    /// may not come there: it doesn't belong to the running incarnation, isn't the next, or breaks the rules of a log.
     ///
     /// # Errors
     /// `NoMemory`.
-    pub(crate) fn note(&mut self, lsn: Lsn, reads: bool, record: &Record) -> Result<bool, Refusal>
-        ensures next { IfOk result (λ is_next. (log : List AnyRecord) → IsAnalysisOf self.old log
+    pub(crate) fn note(
+        &mut self,
+        lsn: Lsn,
+        reads: bool,
+        puts_back: bool,
+        record: &Record,
+    ) -> Result<bool, Refusal>
+        ensures next { IfOk result (λ is_next. (log : List AnyRecord) → IsAnalysisOf self.old log → FollowAll log
             → is_base «record».now ≡ false → (IsTrue reads ↔ CanBeRead «record».now)
+            → (IsTrue puts_back ↔ PutsBack self.old.open_work «record».now)
             → (IsTrue is_next ↔ MayComeNext log «record».now)) }
+        ensures order { IfOk result (λ is_next. IsTrue is_next → IsNext self.old.open_work.incarnation «record».now) }
         ensures noted { OnOk result (self.new ≡ analysis_after lsn «record».now self.old) }
         ensures err { IfErr result (λ e. e ≡ Refusal.NoMemory) }
     {
@@ -56,6 +74,7 @@ impl Analysis {
             &self.numbers,
             &self.ended,
             reads,
+            puts_back,
             record,
         );
         let is_next = self.keep(lsn, record)?;
@@ -80,9 +99,12 @@ impl Analysis {
         ensures noted { OnOk result (self.new ≡ analysis_after lsn «record».now self.old) }
         ensures err { IfErr result (λ e. e ≡ Refusal.NoMemory) }
     {
+        self.places.note(lsn, record, self.size)?;
         self.dues.note(lsn, record)?;
         self.numbers.note(record)?;
         self.ended.note(record)?;
-        self.open_work.note(lsn, record)
+        let is_next = self.open_work.note(lsn, record)?;
+        self.size = self.size.saturating_add(spelled_len(record) as u64);
+        Ok(is_next)
     }
 }

@@ -5,12 +5,13 @@ ghost use Rattle.rq_model.specs.Bases.{is_base};
 ghost use Rattle.rq_page.specs.Slots.{IsSlotOf};
 ghost use Rattle.rq_pool.specs.Pooled.{IsPool};
 ghost use Rattle.rq_record.specs.Spelling.{IsInRange};
-ghost use Rattle.rq_store.specs.Fitting.{image_in, told_by};
+ghost use Rattle.rq_store.specs.Fitting.{told_by, image_in};
 ghost use Rattle.rq_store.specs.Opening.{IsRedone, MayRedo, Redoes};
-ghost use Rattle.rq_analysis.specs.Rules.{CanBeRead};
+ghost use Rattle.rq_analysis.specs.LogTables.{PutsBack};
+ghost use Rattle.rq_analysis.specs.Rules.{CanBeRead, FollowAll};
 ghost use Rattle.rq_restart.specs.Found.{IsAnalysisOf};
-ghost use Rattle.rq_restart.specs.Repeating.{Belongs, IsMarked, IsRecordRedone, Marks, paged};
-ghost use Rattle.rq_restart.specs.Undoing.{HandsOverNothing, StepStops};
+ghost use Rattle.rq_restart.specs.Repeating.{ArePagesCounted, Belongs, IsMarked, IsRecordRedone, Marks, paged};
+ghost use Rattle.rq_restart.specs.Undoing.{FailsWith, HandsOverNothing, StepStops};
 
 use crate::analysis::Analysis;
 use crate::redo::may_redo;
@@ -37,19 +38,28 @@ pub(crate) fn append<P: PageDevice + Drop, L: LogDevice + Drop>(
     undo: &Record,
 ) -> Result<(), Refusal>
     requires found { IsAnalysisOf analysis.old log.old.records }
+    requires follow { L.honest log.old.device → FollowAll log.old.records }
     requires running { log.old.failed ≡ false }
     requires range { AreSpelled log.old.records → IsInRange undo.now }
     requires readable { CanBeRead undo.now }
+    requires puts_back { L.honest log.old.device → PutsBack analysis.old.open_work undo.now }
     requires plain { is_base undo.now ≡ false }
     ensures records { OnOk result (log.new.records ≡ undo.now ∷ log.old.records) }
     ensures found { OnOk result (IsAnalysisOf analysis.new log.new.records) }
-    ensures repeated { OnOk result (IsRecordRedone pages.old.sizes log.old.records undo.now (paged pages.old)
-        (paged pages.new)) }
+    ensures follow { OnOk result (L.honest log.new.device → FollowAll log.new.records) }
+    ensures repeated { OnOk result (L.honest log.new.device
+        → IsRecordRedone pages.old.sizes log.old.records undo.now (paged pages.old) (paged pages.new)) }
+    ensures written { OnOk result (Redoes (told_by undo.now) (length log.old.records + 1) (image_in pages.old.images)
+        (image_in pages.new.images)) }
+    ensures counted { OnOk result (ArePagesCounted pages.old.sizes (length log.old.records) (paged pages.old)
+        → ArePagesCounted pages.old.sizes (length log.new.records) (paged pages.new)) }
     ensures pool { OnOk result (IsPool pages.new.sizes pages.new.images) }
     ensures same { OnOk result (told_by undo.now ≡ None → pages.new ≡ pages.old) }
-    ensures stops { IfErr result (λ e. StepStops (length log.old.records)
+    ensures stops { IfErr result (λ e. L.honest log.new.device → StepStops (length log.old.records)
         (Belongs pages.old.sizes log.old.records undo.now (paged pages.old)) e) }
-    ensures stays { HandsOverNothing pages.old pages.new log.old log.new }
+    ensures fails { IfErr result (λ e. FailsWith e (L.faults log.old.device) (L.faults log.new.device)) }
+    ensures device { log.new.device ≡ log.old.device }
+    ensures stays { HandsOverNothing L.LogDevice pages.old pages.new log.old log.new }
     ensures room { OnOk result (log.new.reserved ≡ log.old.reserved) }
 {
     log.shows_kept();
@@ -59,7 +69,7 @@ pub(crate) fn append<P: PageDevice + Drop, L: LogDevice + Drop>(
     let lsn = log.last() + 1;
     shows_fits(undo);
     log.reserve(spelled_len(undo))?;
-    let is_next = analysis.note(lsn, true, undo)?;
+    let is_next = analysis.note(lsn, true, true, undo)?;
     if !is_next || !make(pages, lsn, undo) {
         return Err(Refusal::Damaged(Damage::Record(lsn)));
     }

@@ -2,6 +2,7 @@
 #![tactic(auto)]
 
 mod aborting;
+mod again;
 mod analysis;
 mod appending;
 pub mod format;

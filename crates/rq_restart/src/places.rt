@@ -1,7 +1,10 @@
 //! Where the records stand that tell what a restart may have to undo.
-ghost use Rattle.std.specs.Prelude.{◌≡◌, OnOk, OnErr};
+ghost use Rattle.std.specs.Prelude.{◌≡◌, ◌≢◌, ◌<◌, OnOk, OnErr, IfSome, IfNone, true, false, length, slice_index_or};
+ghost use Rattle.std.specs.List.{list_any};
+ghost use Rattle.rq_model.specs.Vocabulary.{In};
+ghost use Rattle.rq_restart.specs.declared.places.Place.{Place};
 ghost use Rattle.rq_views.specs.Items.{operation};
-ghost use Rattle.rq_restart.specs.Places.{no_places, place_at, places_after, without_operation, without_txn, with_end, with_write};
+ghost use Rattle.rq_restart.specs.Places.{has_lsn, no_places, place_at, places_after, without_operation, without_txn, with_end, with_write};
 
 use rq_model::record::Record;
 use rq_model::refusal::NoMemory;
@@ -58,6 +61,28 @@ impl Places {
         ensures { result.now ≡ self.now.ends }
     {
         &self.ends
+    }
+
+    /// Where the PageOp with this LSN stands, if that is kept.
+    pub fn write_with(&self, lsn: Lsn) -> Option<Place>
+        ensures some { IfSome result (λ p. In p self.now.writes × (p.lsn ≡ lsn)) }
+        ensures none { IfNone result ((p : Place) → In p self.now.writes → p.lsn ≢ lsn) }
+    {
+        match index_of(&self.writes, lsn) {
+            Some(index) => Some(self.writes[index]),
+            None => None,
+        }
+    }
+
+    /// Where the OpEnd with this LSN stands, if that is kept.
+    pub fn end_with(&self, lsn: Lsn) -> Option<Place>
+        ensures some { IfSome result (λ p. In p self.now.ends × (p.lsn ≡ lsn)) }
+        ensures none { IfNone result ((p : Place) → In p self.now.ends → p.lsn ≢ lsn) }
+    {
+        match index_of(&self.ends, lsn) {
+            Some(index) => Some(self.ends[index]),
+            None => None,
+        }
     }
 
     /// Takes the next record, which has this LSN and stands there: the place of a PageOp or OpEnd is added, and those of the
@@ -145,6 +170,22 @@ impl Places {
     }
 }
 
+// The index of the newest of these that is of a record with this LSN.
+fn index_of(places: &[Place], lsn: Lsn) -> Option<usize>
+    ensures within { IfSome result (λ i. i < length places.now) }
+    ensures own { IfSome result (λ i. (p : Place) → has_lsn lsn (slice_index_or places.now i p) ≡ true) }
+    ensures none { IfNone result (list_any (has_lsn lsn) places.now ≡ false) }
+{
+    let mut index = places.len();
+    while index > 0 {
+        index -= 1;
+        if places[index].lsn == lsn {
+            return Some(index);
+        }
+    }
+    None
+}
+
 // Where a record of this operation stands.
 fn stands(lsn: Lsn, txn: &Txn, number: u64, place: u64) -> Place
     ensures { result ≡ place_at lsn place txn.now number }
@@ -156,7 +197,7 @@ fn stands(lsn: Lsn, txn: &Txn, number: u64, place: u64) -> Place
     }
 }
 
-fn sub(txn: &Txn, number: u64) -> Sub
+pub(crate) fn sub(txn: &Txn, number: u64) -> Sub
     ensures { result ≡ operation txn.now number }
 {
     Sub { txn: *txn, number }

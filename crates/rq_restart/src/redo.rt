@@ -1,18 +1,22 @@
 //! Going through a log: each slot write that is not on its page yet is made there.
-ghost use Rattle.std.specs.Prelude.{◌≡◌, ◌↔◌, ◌≤◌, ◌<◌, ◌+◌, ◌∷◌, [], List, IsTrue, None, false, IfOk, IfErr, OnOk, length};
+ghost use Rattle.std.specs.Prelude.{◌≡◌, ◌↔◌, ◌≤◌, ◌<◌, ◌+◌, ◌^◌, ◌∷◌, [], List, IsTrue, None, false, IfOk, IfErr, OnOk, length};
 ghost use Rattle.rq_model.specs.declared.record.Record.{Record as AnyRecord};
 ghost use Rattle.rq_model.specs.Bases.{is_base};
-ghost use Rattle.rq_log.specs.Reading.{EndsShort};
+ghost use Rattle.rq_log.specs.Reading.{EndsShort, IsRead};
+ghost use Rattle.rq_log.specs.Spelled.{spelled};
 ghost use Rattle.rq_page.specs.Sizes.{Sizes, page_count};
 ghost use Rattle.rq_page.specs.Pages.{lsn_of, slot_of};
 ghost use Rattle.rq_store.specs.Opening.{Redoes, IsSoundTold, MayRedo};
 ghost use Rattle.rq_store.specs.Fitting.{told_by, image_in};
-ghost use Rattle.rq_analysis.specs.Rules.{CanBeRead};
+ghost use Rattle.rq_analysis.specs.LogTables.{PutsBack};
+ghost use Rattle.rq_analysis.specs.Rules.{CanBeRead, FollowAll};
 ghost use Rattle.rq_restart.specs.Found.{IsAnalysisOf};
 ghost use Rattle.rq_restart.specs.Numbers.{AreNumbersOf, NamesFirst};
 ghost use Rattle.rq_restart.specs.Repeating.{ArePagesCounted, IsRecordRedone, Marks, Paged, Repeats, paged};
 ghost use Rattle.rq_restart.specs.Refused.{IsStoppedBehind, NotRepeated};
+ghost use Rattle.rq_restart.specs.Undoing.{FailsWith, NamesNoDevice};
 
+use crate::again::puts_back;
 use crate::analysis::Analysis;
 use crate::page_numbers::PageNumbers;
 use rq_bytes::equal::are_equal;
@@ -57,12 +61,17 @@ pub(crate) fn repeat_history<P: PageDevice + Drop, L: LogDevice, B: Level>(
     requires none_read { reader.old.records ≡ [] }
     requires untouched { reader.old.device ≡ reader.old.first }
     ensures found { IfOk result (λ analysis. IsAnalysisOf analysis reader.new.records) }
-    ensures repeated { OnOk result (Repeats pages.old.sizes reader.new.records (paged pages.old) (paged pages.new)) }
+    ensures repeated { OnOk result (L.honest reader.new.device
+        → Repeats pages.old.sizes reader.new.records (paged pages.old) (paged pages.new)) }
+    ensures counted { OnOk result (ArePagesCounted pages.old.sizes (length reader.new.records) (paged pages.old)
+        → ArePagesCounted pages.old.sizes (length reader.new.records) (paged pages.new)) }
     ensures whole { OnOk result (L.honest reader.new.device
         → EndsShort reader.new.records reader.new.left (L.seen reader.new.first)) }
     ensures cause { OnOk result (L.faults reader.new.device ≡ L.faults reader.new.first) }
-    ensures stopped { IfErr result (λ e. IsStoppedBehind L.LogDevice pages.old.sizes (paged pages.old) e
-        reader.new.first reader.new.device) }
+    ensures stopped { IfErr result (λ e. L.honest reader.new.device → IsStoppedBehind L.LogDevice pages.old.sizes
+        (paged pages.old) e reader.new.first reader.new.device) }
+    ensures fails { IfErr result (λ e. FailsWith e (L.faults reader.new.first) (L.faults reader.new.device)) }
+    ensures read { IsRead L.LogDevice reader.new.first reader.new.device }
     ensures first { reader.new.first ≡ reader.old.first }
     ensures sizes { pages.new.sizes ≡ pages.old.sizes }
     ensures device { pages.new.device ≡ pages.old.device }
@@ -77,7 +86,12 @@ pub(crate) fn repeat_history<P: PageDevice + Drop, L: LogDevice, B: Level>(
                 Err(refusal) => return Err(refusal),
             }
         } else {
-            match check_and_redo(pages, &mut analysis, levels, reader.last(), &record) {
+            let puts_back = match puts_back(reader, &analysis, reader.last(), &record) {
+                Ok(puts_back) => puts_back,
+                Err(refusal) => return Err(refusal),
+            };
+            reader.shows_read();
+            match check_and_redo(pages, &mut analysis, levels, reader.last(), puts_back, &record) {
                 Ok(()) => {}
                 Err(refusal) => return Err(refusal),
             }
@@ -99,20 +113,26 @@ fn check_and_redo<P: PageDevice + Drop, B: Level>(
     analysis: &mut Analysis,
     levels: &mut StoreLevels<B>,
     lsn: Lsn,
+    puts_back: bool,
     record: &Record,
 ) -> Result<(), Refusal>
     requires plain { is_base «record».now ≡ false }
     ensures found { OnOk result ((older : List AnyRecord) → lsn ≡ length older + 1 → IsAnalysisOf analysis.old older
-        → IsAnalysisOf analysis.new («record».now ∷ older)) }
+        → length (spelled («record».now ∷ older)) < 2 ^ 64 → IsAnalysisOf analysis.new («record».now ∷ older)) }
     ensures repeated { OnOk result ((older : List AnyRecord) → lsn ≡ length older + 1
-        → IsAnalysisOf analysis.old older
+        → IsAnalysisOf analysis.old older → FollowAll older → (IsTrue puts_back ↔ PutsBack analysis.old.open_work «record».now)
         → IsRecordRedone pages.old.sizes older «record».now (paged pages.old) (paged pages.new)) }
+    ensures written { OnOk result (Redoes (told_by «record».now) lsn (image_in pages.old.images)
+        (image_in pages.new.images)) }
+    ensures sound { OnOk result (MayRedo pages.old.sizes (image_in pages.old.images) lsn «record».now) }
     ensures not { IfErr result (λ e. (older : List AnyRecord) → lsn ≡ length older + 1
-        → IsAnalysisOf analysis.old older → NotRepeated pages.old.sizes older «record».now (paged pages.old) e) }
+        → IsAnalysisOf analysis.old older → FollowAll older → (IsTrue puts_back ↔ PutsBack analysis.old.open_work «record».now)
+        → NotRepeated pages.old.sizes older «record».now (paged pages.old) e) }
+    ensures err { IfErr result (λ e. NamesNoDevice e) }
     ensures sizes { pages.new.sizes ≡ pages.old.sizes }
     ensures device { pages.new.device ≡ pages.old.device }
 {
-    let is_next = analysis.note(lsn, can_be_read(levels, record), record)?;
+    let is_next = analysis.note(lsn, can_be_read(levels, record), puts_back, record)?;
     if !is_next || !may_redo(pages, lsn, record) {
         return Err(Refusal::Damaged(Damage::Record(lsn)));
     }

@@ -1,11 +1,13 @@
 //! Opening a store that a crash, or nothing at all, left behind.
-ghost use Rattle.std.specs.Prelude.{◌≡◌, ◌+◌, ◌<◌, ◌≤◌, ◌∷◌, IfOk, IfErr, OnOk, false, length};
+ghost use Rattle.std.specs.Prelude.{◌≡◌, ◌≢◌, ◌+◌, ◌<◌, ◌≤◌, ◌∷◌, IfOk, IfErr, OnOk, false, length};
 ghost use Rattle.rq_model.specs.declared.record.Record.TheVariants as records;
 ghost use Rattle.rq_model.specs.declared.record.Record.{Record};
 ghost use Rattle.rq_views.specs.Stored.{slots_in};
 ghost use Rattle.rq_log.specs.Crash.{LeavesOnly};
+ghost use Rattle.rq_log.specs.Reading.{IsRead};
 ghost use Rattle.rq_pool.specs.Pooled.{IsPool};
 ghost use Rattle.rq_planner.specs.Answered.{KnowsCells};
+ghost use Rattle.rq_analysis.specs.Rules.{FollowAll};
 ghost use Rattle.rq_chain_check.specs.Links.{AreLinked};
 ghost use Rattle.rq_restart.specs.Repeating.{ArePagesCounted, Paged, Repeats, paged, slots_on};
 ghost use Rattle.rq_restart.specs.Opens.{KeepsStores, Opens, Refuses};
@@ -14,7 +16,7 @@ ghost use Rattle.rq_restart.specs.Refused.{BeginsNot, IsStoppedBehind, WhyShut};
 ghost use Rattle.rq_restart.specs.Numbers.{AreNumbersOf};
 ghost use Rattle.rq_restart.specs.Found.{IsAnalysisOf};
 ghost use Rattle.rq_restart.specs.RolledBack.{HasRepeated, IsRolledBackSince, LinkStops, RollbackStops};
-ghost use Rattle.rq_restart.specs.Undoing.{HandsOverNothing};
+ghost use Rattle.rq_restart.specs.Undoing.{FailsWith, HandsOverNothing};
 ghost use Rattle.rq_restart.specs.Underway.{pages_left, log_left};
 
 use crate::aborting::abort_lost;
@@ -179,11 +181,15 @@ fn read_and_redo<P: PageDevice + Drop, L: LogDevice + Drop, B: Level>(
 ) -> Result<(Log<L>, Analysis, PageNumbers), rq_log::RefusedLog<L>>
     ensures read { IfOk result (λ read. IsLogRead L.LogDevice log read.0) }
     ensures found { IfOk result (λ read. IsAnalysisOf read.1 read.0.records) }
-    ensures repeated { IfOk result (λ read. Repeats pages.new.sizes read.0.records (paged pages.old)
-        (paged pages.new)) }
+    ensures repeated { IfOk result (λ read. L.honest read.0.device
+        → Repeats pages.new.sizes read.0.records (paged pages.old) (paged pages.new)) }
+    ensures counted { IfOk result (λ read. ArePagesCounted pages.new.sizes (length read.0.records) (paged pages.old)
+        → ArePagesCounted pages.new.sizes (length read.0.records) (paged pages.new)) }
     ensures numbers { IfOk result (λ read. AreNumbersOf pages.new.sizes (paged pages.old) read.2.numbers.items) }
-    ensures stopped { IfErr result (λ stopped. IsStoppedBehind L.LogDevice pages.old.sizes (paged pages.old)
-        stopped.refusal log stopped.device) }
+    ensures stopped { IfErr result (λ stopped. L.honest stopped.device → IsStoppedBehind L.LogDevice pages.old.sizes
+        (paged pages.old) stopped.refusal log stopped.device) }
+    ensures fails { IfErr result (λ stopped. FailsWith stopped.refusal (L.faults log) (L.faults stopped.device)
+        × IsRead L.LogDevice log stopped.device) }
     ensures sizes { pages.new.sizes ≡ pages.old.sizes }
     ensures device { pages.new.device ≡ pages.old.device }
 {
@@ -221,8 +227,10 @@ fn finish_restart<P: PageDevice + Drop, L: LogDevice + Drop, B: Level>(
 ) -> Result<(EngineTables<B>, Report), Refusal>
     requires found { IsAnalysisOf analysis.old log.old.records }
     requires running { log.old.failed ≡ false }
-    requires pages { (first : Paged) × Repeats pages.old.sizes log.old.records first (paged pages.old)
-        × AreNumbersOf pages.old.sizes first numbers.now.numbers.items }
+    requires pages { (first : Paged) × (L.honest log.old.device → Repeats pages.old.sizes log.old.records first (paged pages.old))
+        × AreNumbersOf pages.old.sizes first numbers.now.numbers.items
+        × (ArePagesCounted pages.old.sizes (length log.old.records) first
+        → ArePagesCounted pages.old.sizes (length log.old.records) (paged pages.old)) }
     // What the log comes to, and what is left of it.
     ensures restarted { IfOk result (λ begun. IsRestarted L.LogDevice pages.new.sizes pages.new.images log.old log.new
         begun.0.waiting begun.0.sent begun.0.planner begun.1) }
@@ -232,13 +240,17 @@ fn finish_restart<P: PageDevice + Drop, L: LogDevice + Drop, B: Level>(
     ensures pool { OnOk result (IsPool pages.new.sizes pages.new.images) }
     ensures pages { pages.new.device ≡ pages.old.device }
     // What was checked, or why it was refused.
-    ensures checked { OnOk result ((first : Paged) → Repeats pages.old.sizes log.old.records first (paged pages.old)
+    ensures checked { OnOk result (L.honest log.new.device → (first : Paged)
+        → Repeats pages.old.sizes log.old.records first (paged pages.old)
         → AreNumbersOf pages.old.sizes first numbers.now.numbers.items
         → HasRepeated pages.old.sizes log.old.records log.new.records first (paged pages.new)) }
-    ensures shut { IfErr result (λ e. (first : Paged) → Repeats pages.old.sizes log.old.records first (paged pages.old)
+    ensures shut { IfErr result (λ e. L.honest log.new.device → (first : Paged)
+        → Repeats pages.old.sizes log.old.records first (paged pages.old)
         → AreNumbersOf pages.old.sizes first numbers.now.numbers.items
         → WhyShut pages.old.sizes log.old.records first e (L.faults log.old.device) (L.faults log.new.device)
-        (log.new.device ≡ log.old.device)) }
+        (IsRead L.LogDevice log.old.device log.new.device)) }
+    ensures fails { IfErr result (λ e. FailsWith e (L.faults log.old.device) (L.faults log.new.device)) }
+    ensures read { IfErr result (λ e. (e ≢ Refusal.DiskWrite) → IsRead L.LogDevice log.old.device log.new.device) }
 {
     check_page_numbers(numbers, log.last())?;
     let unfinished = analysis.open_work.unfinished();
@@ -273,23 +285,27 @@ fn undo_all<P: PageDevice + Drop, L: LogDevice + Drop, B: Level>(
     levels: StoreLevels<B>,
 ) -> Result<(u64, Planner<B>), Refusal>
     requires found { IsAnalysisOf analysis.old log.old.records }
+    requires follow { L.honest log.old.device → FollowAll log.old.records }
     requires running { log.old.failed ≡ false }
-    ensures rolls_back { OnOk result (IsRolledBackSince pages.old.sizes log.old.records log.new.records (paged pages.old)
-        (paged pages.new)) }
+    ensures rolls_back { OnOk result (L.honest log.new.device → IsRolledBackSince pages.old.sizes log.old.records log.new.records
+        (paged pages.old) (paged pages.new)) }
     ensures counted { OnOk result (ArePagesCounted pages.old.sizes (length log.old.records) (paged pages.old)
         → ArePagesCounted pages.old.sizes (length log.new.records) (paged pages.new)) }
     ensures linked { OnOk result (AreLinked pages.old.sizes (slots_on pages.old.sizes (paged pages.new))) }
     ensures lost { IfOk result (λ rolled_back. rolled_back.0 ≡ length analysis.old.open_work.active) }
     ensures known { IfOk result (λ rolled_back. KnowsCells pages.new.sizes pages.new.images rolled_back.1) }
     ensures found { OnOk result (IsAnalysisOf analysis.new log.new.records) }
-    ensures stops { IfErr result (λ e. (first : Paged) → Repeats pages.old.sizes log.old.records first (paged pages.old)
+    ensures stops { IfErr result (λ e. L.honest log.new.device → (first : Paged)
+        → Repeats pages.old.sizes log.old.records first (paged pages.old)
         → RollbackStops pages.old.sizes log.old.records first e) }
-    ensures stays { HandsOverNothing pages.old pages.new log.old log.new }
+    ensures fails { IfErr result (λ e. FailsWith e (L.faults log.old.device) (L.faults log.new.device)) }
+    ensures cause { OnOk result (L.faults log.new.device ≡ L.faults log.old.device) }
+    ensures stays { HandsOverNothing L.LogDevice pages.old pages.new log.old log.new }
     ensures room { OnOk result (log.new.reserved ≡ log.old.reserved) }
 {
+    let lost = analysis.open_work.active().len() as u64;
     undo_unfinished(pages, log, analysis)?;
     let mut planner = planner_of(alloc, pages, levels);
-    let lost = analysis.open_work.active().len() as u64;
     abort_lost(alloc, pages, log, analysis, &mut planner)?;
     check_links(alloc, pages)?;
     Ok((lost, planner))

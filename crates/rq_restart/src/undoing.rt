@@ -2,10 +2,12 @@
 ghost use Rattle.std.specs.Prelude.{◌≡◌, IfErr, OnOk, false, length};
 ghost use Rattle.rq_pool.specs.Pooled.{IsPool};
 ghost use Rattle.rq_analysis.specs.Pages.{IsUndone};
+ghost use Rattle.rq_analysis.specs.Rules.{FollowAll};
 ghost use Rattle.rq_restart.specs.Found.{IsAnalysisOf};
 ghost use Rattle.rq_restart.specs.Repeating.{ArePagesCounted, Paged, Repeats, paged};
-ghost use Rattle.rq_restart.specs.Undoing.{HandsOverNothing, UndoStops};
+ghost use Rattle.rq_restart.specs.Undoing.{FailsWith, HandsOverNothing, UndoStops};
 
+use crate::again::undo_record;
 use crate::analysis::Analysis;
 use crate::appending::{append, shows_pool};
 use rq_disk::{LogDevice, PageDevice};
@@ -17,28 +19,35 @@ use rq_pool::Pages;
 /// undone. The records of it are made behind the log, of which these are the findings, and nothing is handed over.
 ///
 /// # Errors
-/// `NoMemory`; `LogFull` where the log is at its greatest length; `Damaged` with the number of a record that would not
-/// belong where it has to stand.
+/// `NoMemory`; `DiskRead`; `LogFull` where the log is at its greatest length; `Damaged` with the number of a record that
+/// would not belong where it has to stand, or that the device gives no more.
 pub(crate) fn undo_unfinished<P: PageDevice + Drop, L: LogDevice + Drop>(
     pages: &mut Pages<P>,
     log: &mut Log<L>,
     analysis: &mut Analysis,
 ) -> Result<(), Refusal>
     requires found { IsAnalysisOf analysis.old log.old.records }
+    requires follow { L.honest log.old.device → FollowAll log.old.records }
     requires running { log.old.failed ≡ false }
-    ensures undone { OnOk result (IsUndone log.old.records log.new.records) }
+    ensures undone { OnOk result (L.honest log.new.device → IsUndone log.old.records log.new.records) }
     ensures found { OnOk result (IsAnalysisOf analysis.new log.new.records) }
-    ensures repeated { OnOk result ((first : Paged) → Repeats pages.old.sizes log.old.records first (paged pages.old)
+    ensures follow { OnOk result (L.honest log.new.device → FollowAll log.new.records) }
+    ensures repeated { OnOk result (L.honest log.new.device → (first : Paged)
+        → Repeats pages.old.sizes log.old.records first (paged pages.old)
         → Repeats pages.old.sizes log.new.records first (paged pages.new)) }
     ensures counted { OnOk result (ArePagesCounted pages.old.sizes (length log.old.records) (paged pages.old)
         → ArePagesCounted pages.old.sizes (length log.new.records) (paged pages.new)) }
     ensures pool { OnOk result (IsPool pages.new.sizes pages.new.images) }
-    ensures stops { IfErr result (λ e. (first : Paged) → Repeats pages.old.sizes log.old.records first (paged pages.old)
+    ensures stops { IfErr result (λ e. L.honest log.new.device → (first : Paged)
+        → Repeats pages.old.sizes log.old.records first (paged pages.old)
         → UndoStops pages.old.sizes log.old.records first e) }
-    ensures stays { HandsOverNothing pages.old pages.new log.old log.new }
+    ensures fails { IfErr result (λ e. FailsWith e (L.faults log.old.device) (L.faults log.new.device)) }
+    ensures cause { OnOk result (L.faults log.new.device ≡ L.faults log.old.device) }
+    ensures stays { HandsOverNothing L.LogDevice pages.old pages.new log.old log.new }
     ensures room { OnOk result (log.new.reserved ≡ log.old.reserved) }
 {
-    while let Some(undo) = analysis.open_work.next_undo() {
+    while let Some(next) = analysis.open_work.next_undo() {
+        let undo = undo_record(log, analysis, next)?;
         append(pages, log, analysis, &undo)?;
     }
     shows_pool(pages);

@@ -1,9 +1,19 @@
-use Rattle.std.proofs.Common.{◌≡◌, ◌∷◌, ◌+◌, rules, ap, refl, subst, sym}
+use Rattle.std.proofs.Common.{◌≡◌, ◌∷◌, ◌+◌, ◌^◌, ◌≤◌, ◌<◌, length, rules, ap, refl, subst, sym, arith}
 use Rattle.std.proofs.lemmas.Bool.{false≢true}
-use Rattle.rq_restart.specs.Found.{IsAnalysisOf}
-use Rattle.rq_restart.specs.Repeating.{paged}
+use Rattle.rq_analysis.specs.Rules.{FollowAll}
+use Rattle.rq_log.specs.Spelled.{AreAllSpelled, AreSpelled}
+use Rattle.rq_log.specs.Logged.{Logged}
+use Rattle.rq_log.specs.Reading.{IsRead}
+use Rattle.rq_model.proofs.Bases.{standing_plain}
+use Rattle.rq_store.specs.Fitting.{image_in, told_by}
+use Rattle.rq_store.specs.Opening.{MayRedo, Redoes}
+use Rattle.rq_restart.specs.Found.{IsAnalysisOf, MayComeNext}
+use Rattle.rq_restart.specs.Repeating.{ArePagesCounted, paged}
+use Rattle.rq_restart.proofs.Following.{next_of_found}
 use Rattle.rq_restart.proofs.Going.{found_next}
-use Rattle.rq_restart.proofs.Undos.{belongs_then, one_repeated}
+use Rattle.rq_restart.proofs.ReadAgain.{few_spelled}
+use Rattle.rq_restart.proofs.Repeated.{written_more}
+use Rattle.rq_restart.proofs.Undos.{belongs_then, one_repeated, still}
 use Rattle.rq_restart.proofs.appending.append.Goals as goal
 use Rattle.rq_restart.proofs.appending.append.Goals.{then-not-is_next-via-then-not-is_next, then-not-is_next-via-else-not-is_next+then-not-make}
 
@@ -14,29 +24,75 @@ pub append-requires-clause-plain : goal.append-requires-clause-plain
 append-requires-clause-plain g c = c.requires.plain
 
 pub returns-then-not-is_next-clause-stops : goal.returns-then-not-is_next-clause-stops
-returns-then-not-is_next-clause-stops g c =
+returns-then-not-is_next-clause-stops g c = λ k.
+    let h : g.L.LogDevice.honest c.args.log.now.device = subst g.L.LogDevice.honest (ap (λ (l : Logged _). l.device) c.in_ok-reserve.ensures.ok) k in
     let z = c.args.pages.now.sizes in
     let log = c.args.log.now.records in (
       ap (λ n. n + 1) c.last-lsn.ensures,
       λ b.
           let k = belongs_then z z log c.args.undo.now refl (c.last-lsn.result + 1) (ap (λ n. n + 1) c.last-lsn.ensures) (paged c.args.pages.now) b in
           elim c.then-not-is_next.branch [
-            | then-not-is_next-via-then-not-is_next w ↦ absurd (false≢true (rw w.if-not-is_next.true at ((c.in_ok-is_next.ensures.next log c.requires.found c.requires.plain (λ y. c.requires.readable, λ q. refl)).1 k.0)))
+            | then-not-is_next-via-then-not-is_next w ↦ absurd (false≢true (rw w.if-not-is_next.true at ((c.in_ok-is_next.ensures.next log c.requires.found (c.requires.follow h) c.requires.plain (λ y. c.requires.readable, λ q. refl) (λ y. c.requires.puts_back h, λ q. refl)).1 k.0)))
             | then-not-is_next-via-else-not-is_next+then-not-make w ↦ w.make.ensures.refused w.if-not-make.true k.1
           ],
     )
 
 pub returns-clause-repeated : goal.returns-clause-repeated
-returns-clause-repeated g c =
+returns-clause-repeated g c = λ h.
     let z = c.args.pages.now.sizes in
     let log = c.args.log.now.records in
+    let honest : g.L.LogDevice.honest c.args.log.now.device = search (rules, h) in
     one_repeated z z log c.args.undo.now refl (c.last-lsn.result + 1) (ap (λ n. n + 1) c.last-lsn.ensures) (paged c.args.pages.now) (paged c.make.new.pages)
-    ((c.in_ok-is_next.ensures.next log c.requires.found c.requires.plain (λ y. c.requires.readable, λ q. refl)).0 c.if-not-is_next.false) (c.if-not-make.ensures.checked refl) (c.if-not-make.ensures.redone refl) (c.if-not-make.ensures.marked refl)
+    ((c.in_ok-is_next.ensures.next log c.requires.found (c.requires.follow honest) c.requires.plain (λ y. c.requires.readable, λ q. refl) (λ y. c.requires.puts_back honest, λ q. refl)).0 c.if-not-is_next.false) (c.if-not-make.ensures.checked refl) (c.if-not-make.ensures.redone refl) (c.if-not-make.ensures.marked refl)
+
+pub returns-clause-follow : goal.returns-clause-follow
+returns-clause-follow g c = λ h.
+    let log = c.args.log.now.records in
+    let honest : g.L.LogDevice.honest c.args.log.now.device = search (rules, h) in
+    let grown : c.append.new.self.records ≡ c.args.undo.now ∷ log = search rules in
+    let next : MayComeNext log c.args.undo.now = (c.in_ok-is_next.ensures.next log c.requires.found (c.requires.follow honest) c.requires.plain (λ y. c.requires.readable, λ q. refl) (λ y. c.requires.puts_back honest, λ q. refl)).0 c.if-not-is_next.false in
+    subst FollowAll (sym grown) (next.follows, c.requires.follow honest)
+
+pub returns-clause-written : goal.returns-clause-written
+returns-clause-written g c =
+    subst (λ n. Redoes (told_by c.args.undo.now) n (image_in c.args.pages.now.images) (image_in c.make.new.pages.images)) (ap (λ n. n + 1) c.last-lsn.ensures) (c.if-not-make.ensures.redone refl)
+
+pub returns-clause-counted : goal.returns-clause-counted
+returns-clause-counted g c = λ before.
+    let z = c.args.pages.now.sizes in
+    let log = c.args.log.now.records in
+    let r = c.args.undo.now in
+    let place = ap (λ n. n + 1) c.last-lsn.ensures in
+    let grown : c.append.new.self.records ≡ r ∷ log = search rules in
+    let longer : length log + 1 ≡ length c.append.new.self.records = (let e = ap length grown in omega (arith, e)) in
+    let may : MayRedo z (image_in c.args.pages.now.images) (length log + 1) r = subst (λ n. MayRedo z (image_in c.args.pages.now.images) n r) place (c.if-not-make.ensures.checked refl) in
+    let redone : Redoes (told_by r) (length log + 1) (image_in c.args.pages.now.images) (image_in c.make.new.pages.images) = subst (λ n. Redoes (told_by r) n (image_in c.args.pages.now.images) (image_in c.make.new.pages.images)) place (c.if-not-make.ensures.redone refl) in
+    subst (λ n. ArePagesCounted z n (paged c.make.new.pages)) longer (written_more z (length log) r (paged c.args.pages.now) (paged c.make.new.pages) redone may.write before)
+
+pub returns-clause-stays : goal.returns-clause-stays
+returns-clause-stays g c =
+    let l = g.L.LogDevice in
+    let device : c.append.new.self.device ≡ c.args.log.now.device = search rules in
+    let forced : c.append.new.self.forced ≡ c.args.log.now.forced = search rules in
+    let settled : c.append.new.self.settled ≡ c.args.log.now.settled = search rules in
+    record {
+      sizes = c.make.ensures.sizes;
+      pages_device = c.make.ensures.device;
+      read = subst (IsRead l c.args.log.now.device) (sym device) (still l g.met.L.LogDevice.only_now c.args.log.now.device);
+      forced = forced;
+      running = c.append.ensures.failed;
+      settled = settled;
+    }
 
 pub returns-clause-found : goal.returns-clause-found
 returns-clause-found g c =
     let log = c.args.log.now.records in
-    let place = ap (λ n. n + 1) c.last-lsn.ensures in
-    let next = (c.in_ok-is_next.ensures.next log c.requires.found c.requires.plain (λ y. c.requires.readable, λ q. refl)).0 c.if-not-is_next.false in
-    let grown : c.append.new.self.records ≡ c.args.undo.now ∷ log = search rules in
-    subst (IsAnalysisOf c.note.new.self) (sym grown) (found_next c.args.analysis.now c.note.new.self log c.args.undo.now (c.last-lsn.result + 1) place c.requires.plain c.requires.found next c.in_ok-is_next.ensures.noted)
+    let r = c.args.undo.now in
+    let f = c.args.analysis.now in
+    let are = c.requires.found in
+    let spelled_before = c.shows_kept.ensures.log.spelled in
+    let told : AreSpelled (r ∷ log) = subst AreAllSpelled (sym (standing_plain r log c.requires.plain)) ((c.requires.range spelled_before, c.shows_fits.ensures), spelled_before) in
+    let few = few_spelled (r ∷ log) told (let k = c.last.ensures in let low = c.if-last-ge-LOG_LIMIT.false in omega (arith, k, low)) in
+    let grown : c.append.new.self.records ≡ r ∷ log = search rules in
+    let next = next_of_found f log r are c.requires.plain (c.in_ok-is_next.ensures.order c.if-not-is_next.false) in
+    subst (IsAnalysisOf c.note.new.self) (sym grown) (found_next f c.note.new.self log r (c.last-lsn.result + 1) (ap (λ n. n + 1) c.last-lsn.ensures) c.requires.plain few are next c.in_ok-is_next.ensures.noted)

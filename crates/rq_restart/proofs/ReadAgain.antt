@@ -1,0 +1,238 @@
+-- What a record tells that is read again.
+use Rattle.std.proofs.Common.{◌≡◌, ◌≢◌, ◌↔◌, ◌⊎◌, inl, inr, ℕ, ◌+◌, ◌%◌, ◌^◌, ◌<◌, ◌≤◌, ◌&&◌, Bool, true, false, nat_lt, List, [], ◌∷◌, ◌++◌, length, Result, Ok, Err, Option, Some, None, refl, sym, ◌∙◌, ap, subst, arith, append_assoc}
+use Rattle.std.specs.Prelude.{IfOk, IfErr, IfNone, IsTrue}
+use Rattle.std.specs.List.{filter}
+use Rattle.std.proofs.lemmas.Bool.{and_from, and_parts, cases_Bool, lt-ltb, ltb-true, true≢false, false≢true}
+use Rattle.rq_model.specs.declared.record.Record.{Record}
+use Rattle.rq_model.specs.declared.record.Record.TheVariants as records
+use Rattle.rq_model.specs.declared.refusal.Refusal.{Refusal}
+use Rattle.rq_model.specs.declared.refusal.Refusal.TheVariants as why
+use Rattle.rq_model.specs.declared.refusal.Damage.TheVariants as damage
+use Rattle.rq_model.specs.declared.txn.Sub.{Sub}
+use Rattle.rq_model.specs.declared.txn.Txn.{Txn}
+use Rattle.rq_model.specs.Bases.{is_base, standing}
+use Rattle.rq_model.proofs.Bases.{length_standing, standing_plain}
+use Rattle.rq_model.specs.Vocabulary.{In, first}
+use Rattle.rq_model.proofs.Lists.{In-filter}
+use Rattle.rq_disk.specs.declared.device.LogDevice.{Ghosts}
+use Rattle.rq_log.specs.Places.{IsAt, IsPlace, NotReadAgainFor, StandsAt}
+use Rattle.rq_log.specs.Places as log_places
+use Rattle.rq_log.specs.Spelled.{AreSpelled, spelled, spelled_all}
+use Rattle.rq_log.proofs.Keeping.{few_bytes}
+use Rattle.rq_record.specs.Spelling.{IsSlotNumber}
+use Rattle.rq_views.specs.Items.{operation}
+use Rattle.rq_views.proofs.Overlay.{same_is}
+use Rattle.rq_analysis.specs.declared.dues.PendingUndo.{PendingUndo}
+use Rattle.rq_analysis.specs.declared.open_work.UndoableWrite.{UndoableWrite}
+use Rattle.rq_analysis.specs.declared.open_work.NextUndo.TheVariants.{Void, Write}
+use Rattle.rq_analysis.specs.Dues.{dues}
+use Rattle.rq_analysis.specs.LogTables.{PutsBack}
+use Rattle.rq_analysis.proofs.Lists.{first_in}
+use Rattle.rq_analysis.specs.OpenWorkView.{OpenWorkView, lsn_undoable, open_work_of, undoable_at, undoable_by}
+use Rattle.rq_analysis.specs.Pages.{IsNextUndo, IsUndoneNext, undo_of}
+use Rattle.rq_analysis.specs.Pages.IsNextUndo.{Undoes}
+use Rattle.rq_restart.specs.declared.analysis.Analysis.{Analysis}
+use Rattle.rq_restart.specs.declared.places.Place.{Place}
+use Rattle.rq_restart.specs.Again.{IsLikeUndo, NotGivenFor, NotReadFor, NotToldFor, WroteOver, due_told, told_again, undo_told}
+use Rattle.rq_restart.specs.Found.{IsAnalysisOf}
+use Rattle.rq_restart.specs.Places.{OpenPlaces}
+use Rattle.rq_restart.proofs.Placing.{due_found, due_there, write_found, write_there}
+use Rattle.rq_restart.proofs.Undos.{undoable_range}
+
+-- where a value is sure, so is what follows from it
+pub ok_under : {A E : Type 0} (sure : Type 0) (x : Result A E) (a : A) (Q : A → Type 0) → (sure → x ≡ Ok a) → Q a → IfOk x (λ r. sure → Q r)
+ok_under {A} {E} sure (Ok r) a Q is q = λ h. let e : ◌≡◌ {A = Result A E} (Ok r) (Ok a) = is h in let same : a ≡ r = cc in subst Q same q
+ok_under sure (Err e) a Q is q = tt
+
+pub err_under : {A E : Type 0} (sure : Type 0) (x : Result A E) (a : A) → (sure → x ≡ Ok a) → IfErr x (λ e. sure → ⊥)
+err_under sure (Ok r) a is = tt
+err_under {A} {E} sure (Err e) a is = λ h. let bad : ◌≡◌ {A = Result A E} (Err e) (Ok a) = is h in cc
+
+pub none_map : {A : Type 0} (x : Option A) (P Q : Type 0) → (P → Q) → IfNone x P → IfNone x Q
+none_map None P Q f h = f h
+none_map (Some a) P Q f h = tt
+
+-- the same of what is so of each of these
+pub ok_due : {E : Type 0} (sure : Type 0) (x : Result PendingUndo E) (ds : List PendingUndo) (t : Txn) (lsn : ℕ) → (sure → (e : PendingUndo) → In e ds → e.txn ≡ t → e.lsn ≡ lsn → x ≡ Ok e)
+    → IfOk x (λ d. sure → (e : PendingUndo) → In e ds → e.txn ≡ t → e.lsn ≡ lsn → d ≡ e)
+ok_due {E} sure (Ok d) ds t lsn f = λ h e i of at. let k : ◌≡◌ {A = Result PendingUndo E} (Ok d) (Ok e) = f h e i of at in cc
+ok_due sure (Err e) ds t lsn f = tt
+
+-- and why there is none
+pub err_told : {A L : Type 0} (g : Ghosts L) (old new : L) (count n : ℕ) (x : Result A Refusal) (a : A) → IfErr x (λ e. e ≡ why.Damaged (damage.Record n)) → (g.honest new → x ≡ Ok a) → g.faults new ≡ g.faults old → IfErr x (λ e. NotToldFor g e count old new)
+err_told g old new count n (Ok r) a named is same = tt
+err_told {A} g old new count n (Err e) a named is same = subst (λ x. NotToldFor g x count old new) (sym named) (same, λ h. let bad : ◌≡◌ {A = Result A Refusal} (Err e) (Ok a) = is h in cc)
+
+-- ---- a log that has room
+
+pub few_spelled : (log : List Record) → AreSpelled log → length log ≤ 2 ^ 50 → length (spelled log) < 2 ^ 64
+few_spelled log are few =
+    let a = few_bytes (standing log) are in
+    let b = length_standing log in
+    omega (arith, a, b, few)
+
+module _ (log : List Record) (place : ℕ) where
+  at_place : (r : Record) → IsAt log place r → IsPlace log place
+  at_place r k = (k.0 ++ r ∷ [], k.1, k.2 ∙ sym (append_assoc k.0 (r ∷ []) k.1), k.3)
+
+  pub given : (r : Record) (next : ℕ) → StandsAt log place (Some (r, next)) → (s : Record) → IsAt log place s → r ≡ s
+  given r next k s at = (let e : ◌≡◌ {A = Option (Record × ℕ)} (Some (r, next)) (Some (s, length (spelled_all (s ∷ at.1)))) = k.next at.0 at.1 s at.2 at.3 in let pair : (r, next) ≡ (s, length (spelled_all (s ∷ at.1))) = cc in ap (λ (x : Record × ℕ). x.0) pair)
+
+  pub none_given : StandsAt log place None → (s : Record) → IsAt log place s → ⊥
+  none_given k s at = (let e : ◌≡◌ {A = Option (Record × ℕ)} None (Some (s, length (spelled_all (s ∷ at.1)))) = k.next at.0 at.1 s at.2 at.3 in cc)
+
+  pub why_not_given : {L : Type 0} (g : Ghosts L) (old new : L) (lsn : ℕ) → length (spelled log) < 2 ^ 64 → (e : Refusal) → log_places.NotToldFor g e log place old new → NotGivenFor g (told_again lsn e) lsn log place old new
+  why_not_given g old new lsn few why.DiskRead h = h.0
+  why_not_given g old new lsn few (why.Damaged (damage.Record n)) h = (refl, h.1, λ honest r at. h.2 honest few (at_place r at))
+  why_not_given g old new lsn few _ h = absurd h
+
+-- a record that stands there is given, unless the device fails
+pub not_told : {L : Type 0} (g : Ghosts L) (old new : L) (lsn place : ℕ) (log : List Record) (r : Record) → IsAt log place r → (e : Refusal) → NotGivenFor g e lsn log place old new → NotToldFor g e (length log) old new
+not_told g old new lsn place log r at why.LogFull h = h
+not_told g old new lsn place log r at why.DiskRead h = h
+not_told g old new lsn place log r at (why.Damaged (damage.Record n)) h = (h.1, λ honest. h.2 honest r at)
+not_told g old new lsn place log r at _ h = absurd h
+
+-- ---- the newest write of all
+
+module _ (f : Analysis) (log : List Record) (are : IsAnalysisOf f log) (lsn : ℕ) (next : IsUndoneNext f.open_work (Write lsn)) where
+  abbrev pub p : UndoableWrite
+  p = next.0
+
+  there : In p (open_work_of log).undoable
+  there = subst (λ (h : OpenWorkView). In p h.undoable) are.open_work (subst (In p) (sym next.2.first) (inl refl))
+
+  pub write_is_kept : ((q : Place) → In q f.places.writes → q.lsn ≢ lsn) → ⊥
+  write_is_kept none = write_found log p there (λ q i e. none q (subst (λ (s : OpenPlaces). In q s.writes) (sym are.places) i) (e ∙ next.1))
+
+  module _ (kept : Place) (among : In kept f.places.writes) (same : kept.lsn ≡ lsn) where
+    pub stands : (kept.by ≡ p.by) × ((after : List ℕ) × IsAt log kept.place (records.PageOp p.by.txn p.by.number p.page p.slot p.before after))
+    stands = write_there log p kept there (subst (λ (s : OpenPlaces). In kept s.writes) are.places among) (same ∙ sym next.1)
+
+    abbrev pub told : Record
+    told = records.PageOp p.by.txn p.by.number p.page p.slot p.before stands.1.0
+
+    pub write_at : IsAt log kept.place told
+    write_at = stands.1.1
+
+    undone_is : (page slot : ℕ) (bytes : List ℕ) → records.PageUndo kept.by.txn kept.by.number kept.lsn page slot bytes ≡ records.PageUndo p.by.txn p.by.number p.lsn page slot bytes
+    undone_is page slot bytes = ap (λ (o : Sub). records.PageUndo o.txn o.number kept.lsn page slot bytes) stands.0 ∙ ap (λ n. records.PageUndo p.by.txn p.by.number n page slot bytes) (same ∙ sym next.1)
+
+    -- whatever is read, the record that is made is its operation's
+    pub write_like : (r : Record) → IfOk (undo_told kept r) (λ u. IsLikeUndo f.open_work u)
+    write_like (records.PageOp t n page slot before after) = elim (cases_Bool (nat_lt 0 slot && nat_lt slot 16)) [
+      | inl y ↦ rw y (
+        let k = and_parts (nat_lt 0 slot) (nat_lt slot 16) y in
+        let low = ltb-true 0 slot k.0 in
+        let high = ltb-true slot 16 k.1 in (
+          undo_of p,
+          Undoes p next.2.older next.2.none next.2.first refl,
+          (page, slot, before, (omega (arith, low), omega (arith, high)), undone_is page slot before),
+        )
+      )
+      | inr n ↦ rw n tt
+    ]
+    write_like _ = tt
+
+    pub write_named : (r : Record) → IfErr (undo_told kept r) (λ e. e ≡ why.Damaged (damage.Record kept.lsn))
+    write_named (records.PageOp t n page slot before after) = elim (cases_Bool (nat_lt 0 slot && nat_lt slot 16)) [ inl y ↦ rw y tt | inr n ↦ rw n refl ]
+    write_named _ = refl
+
+    -- and where the record is the one that stands there it is the one that is next
+    module _ (spelled_is : AreSpelled log) where
+      in_range : (nat_lt 0 p.slot && nat_lt p.slot 16) ≡ true
+      in_range =
+          let k = undoable_range log spelled_is p there in
+          let low = k.2.0 in
+          let high = k.2.1 in
+          and_from (nat_lt 0 p.slot) (nat_lt p.slot 16) (lt-ltb 0 p.slot (omega (arith, low))) (lt-ltb p.slot 16 (omega (arith, high)))
+
+      pub write_told : undo_told kept told ≡ Ok (undo_of p)
+      write_told = rw in_range (ap (λ r. Ok r) (undone_is p.page p.slot p.before))
+
+      pub write_next : IsNextUndo f.open_work (undo_of p)
+      write_next = Undoes p next.2.older next.2.none next.2.first refl
+
+-- ---- what is to be taken back
+
+pub due_like : (t : Txn) (lsn : ℕ) (r : Record) → IfOk (due_told t lsn r) (λ d. (d.txn ≡ t) × (d.lsn ≡ lsn))
+due_like t lsn (records.OpEnd u n level deed) = (refl, refl)
+due_like t lsn _ = tt
+
+pub due_named : (t : Txn) (lsn : ℕ) (r : Record) → IfErr (due_told t lsn r) (λ e. e ≡ why.Damaged (damage.Record lsn))
+due_named t lsn (records.OpEnd u n level deed) = tt
+due_named t lsn _ = refl
+
+module _ (f : Analysis) (log : List Record) (are : IsAnalysisOf f log) (t : Txn) (lsn : ℕ) (d : PendingUndo) (i : In d f.dues) (of : d.txn ≡ t) (at : d.lsn ≡ lsn) where
+  pub due_is_kept : ((q : Place) → In q f.places.ends → q.lsn ≢ lsn) → ⊥
+  due_is_kept none = due_found log d (subst (In d) are.dues i) (λ q j same. none q (subst (λ (s : OpenPlaces). In q s.ends) (sym are.places) j) (same ∙ at))
+
+  module _ (kept : Place) (among : In kept f.places.ends) (same : kept.lsn ≡ lsn) where
+    pub end_stands : (n : ℕ) × IsAt log kept.place (records.OpEnd d.txn n d.level d.deed)
+    end_stands = due_there log d kept (subst (In d) are.dues i) (subst (λ (s : OpenPlaces). In kept s.ends) are.places among) (same ∙ sym at)
+
+    abbrev pub end_told : Record
+    end_told = records.OpEnd d.txn end_stands.0 d.level d.deed
+
+    pub end_at : IsAt log kept.place end_told
+    end_at = end_stands.1
+
+    pub due_is : due_told t lsn end_told ≡ Ok d
+    due_is =
+        ap (λ (x : PendingUndo). Ok x) (ap (λ (x : Txn). record { txn = x; lsn = lsn; level = d.level; deed = d.deed }) (sym of) ∙ ap (λ (x : ℕ). record { txn = d.txn; lsn = x; level = d.level; deed = d.deed }) (sym at))
+
+-- ---- a PageUndo that is read
+
+undoable_is : (w : UndoableWrite) (lsn : ℕ) (o : Sub) (page slot : ℕ) (bytes : List ℕ) → w.lsn ≡ lsn → w.by ≡ o → w.page ≡ page → w.slot ≡ slot → w.before ≡ bytes → w ≡ undoable_at lsn o page slot bytes
+undoable_is w lsn o page slot bytes a b c d e =
+    ap (λ n. undoable_at n w.by w.page w.slot w.before) a ∙ ap (λ (x : Sub). undoable_at lsn x w.page w.slot w.before) b
+    ∙ ap (λ n. undoable_at lsn o n w.slot w.before) c ∙ ap (λ n. undoable_at lsn o page n w.before) d ∙ ap (λ l. undoable_at lsn o page slot l) e
+
+module _ (f : Analysis) (older : List Record) (are : IsAnalysisOf f older) (o : Sub) (undone : ℕ) where
+  abbrev pub newest : Option UndoableWrite
+  newest = first (filter (undoable_by o) f.open_work.undoable)
+
+  pub some_lsn : (x : Option UndoableWrite) → lsn_undoable x ≡ Some undone → (w : UndoableWrite) × (x ≡ Some w) × (w.lsn ≡ undone)
+  some_lsn None e = (let bad : ◌≡◌ {A = Option ℕ} None (Some undone) = e in cc)
+  some_lsn (Some w) e = (w, refl, (let is : ◌≡◌ {A = Option ℕ} (Some w.lsn) (Some undone) = e in let same : w.lsn ≡ undone = cc in same))
+
+  module _ (e : lsn_undoable newest ≡ Some undone) where
+    abbrev pub w : UndoableWrite
+    w = (some_lsn newest e).0
+
+    is_newest : newest ≡ Some w
+    is_newest = (some_lsn newest e).1
+
+    w_in : In w f.open_work.undoable × (undoable_by o w ≡ true)
+    w_in = In-filter (undoable_by o) f.open_work.undoable w (first_in (filter (undoable_by o) f.open_work.undoable) w is_newest)
+
+    there_now : In w (open_work_of older).undoable
+    there_now = subst (λ (h : OpenWorkView). In w h.undoable) are.open_work w_in.0
+
+    pub newest_is_kept : ((q : Place) → In q f.places.writes → q.lsn ≢ undone) → ⊥
+    newest_is_kept none = write_found older w there_now (λ q i same. none q (subst (λ (s : OpenPlaces). In q s.writes) (sym are.places) i) (same ∙ (some_lsn newest e).2))
+
+    module _ (kept : Place) (among : In kept f.places.writes) (same : kept.lsn ≡ undone) where
+      pub newest_stands : (kept.by ≡ w.by) × ((after : List ℕ) × IsAt older kept.place (records.PageOp w.by.txn w.by.number w.page w.slot w.before after))
+      newest_stands = write_there older w kept there_now (subst (λ (s : OpenPlaces). In kept s.writes) are.places among) (same ∙ sym (some_lsn newest e).2)
+
+      abbrev pub newest_told : Record
+      newest_told = records.PageOp w.by.txn w.by.number w.page w.slot w.before newest_stands.1.0
+
+      -- it stands there behind one record more
+      pub newest_at : (r : Record) → is_base r ≡ false → IsAt (r ∷ older) kept.place newest_told
+      newest_at r plain = let k = newest_stands.1.1 in (r ∷ k.0, k.1, standing_plain r older plain ∙ ap (λ l. r ∷ l) k.2, k.3)
+
+      pub put_back : (page slot : ℕ) (bytes : List ℕ) → WroteOver newest_told page slot bytes ↔ (newest ≡ Some (undoable_at undone o page slot bytes))
+      put_back page slot bytes = (
+        λ k. is_newest ∙ ap Some (undoable_is w undone o page slot bytes (some_lsn newest e).2 (same_is w.by o w_in.1) k.0 k.1 k.2),
+        λ k. let is : Some w ≡ Some (undoable_at undone o page slot bytes) = sym is_newest ∙ k in
+            let one : w ≡ undoable_at undone o page slot bytes = cc in
+            (ap (λ (x : UndoableWrite). x.page) one, ap (λ (x : UndoableWrite). x.slot) one, ap (λ (x : UndoableWrite). x.before) one),
+      )
+
+-- the record that was read at a place is that which stands there, unless the device failed
+pub not_read : {L : Type 0} (g : Ghosts L) (old new : L) (lsn place : ℕ) (log : List Record) (r : Record) → IsAt log place r → (e : Refusal) → NotReadAgainFor g e log place old new → NotReadFor g (told_again lsn e) old new
+not_read g old new lsn place log r at why.DiskRead h = h
+not_read g old new lsn place log r at (why.Damaged (damage.Record n)) h = (h.1, λ honest. h.2 honest r at)
+not_read g old new lsn place log r at _ h = absurd h

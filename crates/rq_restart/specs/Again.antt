@@ -1,0 +1,68 @@
+-- Records that are read again, where they are to be undone.
+use Rattle.std.specs.Prelude.{◌≡◌, ℕ, ◌+◌, ◌%◌, ◌^◌, ◌≤◌, ◌&&◌, nat_lt, cond, List, length, Result, Ok, Err}
+use Rattle.rq_model.specs.declared.record.Record.{Record}
+use Rattle.rq_model.specs.declared.record.Record.TheVariants.{PageOp, PageUndo, OpEnd}
+use Rattle.rq_model.specs.declared.refusal.Refusal.{Refusal}
+use Rattle.rq_model.specs.declared.refusal.Refusal.TheVariants as why
+use Rattle.rq_model.specs.declared.refusal.Damage.TheVariants as damage
+use Rattle.rq_model.specs.declared.txn.Txn.{Txn}
+use Rattle.rq_disk.specs.declared.device.LogDevice.{Ghosts}
+use Rattle.rq_log.specs.Places.{IsAt}
+use Rattle.rq_record.specs.Spelling.{IsSlotNumber}
+use Rattle.rq_analysis.specs.declared.dues.PendingUndo.{PendingUndo}
+use Rattle.rq_analysis.specs.OpenWorkView.{OpenWorkView}
+use Rattle.rq_analysis.specs.Pages.{IsNextUndo}
+use Rattle.rq_restart.specs.declared.places.Place.{Place}
+
+-- but for what a PageUndo writes, and where, the records are the same
+abbrev pub IsLike : Record → Record → Type 0
+IsLike (PageUndo t n undone page slot after) r =
+    (p : ℕ) × (s : ℕ) × (bytes : List ℕ) × IsSlotNumber s × (r ≡ PageUndo t n undone p s bytes)
+IsLike q r = r ≡ q
+
+-- but for that it is the record that undoes what is next
+abbrev pub IsLikeUndo : OpenWorkView → Record → Type 0
+IsLikeUndo h r = (q : Record) × IsNextUndo h q × IsLike q r
+
+-- the write with this place is undone, as this record tells it
+abbrev pub undo_told : Place → Record → Result Record Refusal
+undo_told p (PageOp t n page slot before after) =
+    cond (nat_lt 0 slot && nat_lt slot 16) (Ok (PageUndo p.by.txn p.by.number p.lsn page slot before)) (Err (why.Damaged (damage.Record p.lsn)))
+undo_told p _ = Err (why.Damaged (damage.Record p.lsn))
+
+-- what the transaction's OpEnd with this LSN did, as this record tells it
+abbrev pub due_told : Txn → ℕ → Record → Result PendingUndo Refusal
+due_told t lsn (OpEnd u n level deed) = Ok (record { txn = t; lsn = lsn; level = level; deed = deed })
+due_told t lsn _ = Err (why.Damaged (damage.Record lsn))
+
+-- the record wrote this slot, over these bytes
+abbrev pub WroteOver : Record → ℕ → ℕ → List ℕ → Type 0
+WroteOver (PageOp t n p s before after) page slot bytes = (p ≡ page) × (s ≡ slot) × (before ≡ bytes)
+WroteOver _ page slot bytes = ⊥
+
+-- a device that fails is told, and else the record that is not given
+abbrev pub told_again : ℕ → Refusal → Refusal
+told_again lsn why.DiskRead = why.DiskRead
+told_again lsn _ = why.Damaged (damage.Record lsn)
+
+module _ {L : Type 0} (g : Ghosts L) where
+  -- why the record of a place was not given: the device failed, or gave another than before; or the log has no room
+  abbrev pub NotGivenFor : Refusal → ℕ → List Record → ℕ → L → L → Type 0
+  NotGivenFor why.LogFull lsn records place old new = (2 ^ 50 ≤ length records) × (g.faults new ≡ g.faults old)
+  NotGivenFor why.DiskRead lsn records place old new = g.faults new ≡ (g.faults old + 1) % 2 ^ 64
+  NotGivenFor (why.Damaged (damage.Record n)) lsn records place old new = (n ≡ lsn) × (g.faults new ≡ g.faults old)
+      × (g.honest new → (r : Record) → IsAt records place r → ⊥)
+  NotGivenFor _ lsn records place old new = ⊥
+
+  -- the same of a record that stands there, behind which so many records stand in the log
+  abbrev pub NotToldFor : Refusal → ℕ → L → L → Type 0
+  NotToldFor why.LogFull count old new = (2 ^ 50 ≤ count) × (g.faults new ≡ g.faults old)
+  NotToldFor why.DiskRead count old new = g.faults new ≡ (g.faults old + 1) % 2 ^ 64
+  NotToldFor (why.Damaged (damage.Record n)) count old new = (g.faults new ≡ g.faults old) × (g.honest new → ⊥)
+  NotToldFor _ count old new = ⊥
+
+  -- the same while the log is read
+  abbrev pub NotReadFor : Refusal → L → L → Type 0
+  NotReadFor why.DiskRead old new = g.faults new ≡ (g.faults old + 1) % 2 ^ 64
+  NotReadFor (why.Damaged (damage.Record n)) old new = (g.faults new ≡ g.faults old) × (g.honest new → ⊥)
+  NotReadFor _ old new = ⊥

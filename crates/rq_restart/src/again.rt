@@ -1,0 +1,257 @@
+//! Records of a log that are read again, where they are to be undone.
+ghost use Rattle.std.specs.Prelude.{◌≡◌, ◌↔◌, ◌∷◌, List, Some, IsTrue, IfOk, IfErr, IfSome, IfNone, OnOk, false, length};
+ghost use Rattle.std.specs.List.{filter};
+ghost use Rattle.rq_model.specs.declared.record.Record.{Record as AnyRecord};
+ghost use Rattle.rq_model.specs.Bases.{is_base};
+ghost use Rattle.rq_model.specs.Vocabulary.{In, first};
+ghost use Rattle.rq_log.specs.Places.{IsAt};
+ghost use Rattle.rq_log.specs.Reading.{IsRead};
+ghost use Rattle.rq_analysis.specs.declared.dues.PendingUndo.{PendingUndo as Due};
+ghost use Rattle.rq_analysis.specs.LogTables.{PutsBack};
+ghost use Rattle.rq_analysis.specs.OpenWorkView.{lsn_undoable, undoable_by};
+ghost use Rattle.rq_analysis.specs.Pages.{IsNextUndo, IsUndoneNext, void_of};
+ghost use Rattle.rq_restart.specs.Again.{IsLikeUndo, NotGivenFor, NotReadFor, NotToldFor, WroteOver, due_told, told_again, undo_told};
+ghost use Rattle.rq_restart.specs.Found.{IsAnalysisOf};
+
+use crate::analysis::Analysis;
+use crate::places::{Place, sub};
+use rq_analysis::{NextUndo, PendingUndo};
+use rq_disk::LogDevice;
+use rq_log::{Log, LogReader};
+use rq_model::limits::LOG_LIMIT;
+use rq_model::record::{Record, Slot};
+use rq_model::refusal::{Damage, Refusal};
+use rq_model::txn::{Lsn, Sub, Txn};
+
+/// The record by which is undone what is next, as these are the findings of the log.
+///
+/// # Errors
+/// `DiskRead`; `LogFull` where the log is at its greatest length; `Damaged` with the LSN of the record that tells what is
+/// undone, where the device gives that no more.
+pub(crate) fn undo_record<L: LogDevice>(
+    log: &mut Log<L>,
+    analysis: &Analysis,
+    next: NextUndo,
+) -> Result<Record, Refusal>
+    requires found { IsAnalysisOf analysis.now log.old.records }
+    requires next { IsUndoneNext analysis.now.open_work next }
+    requires running { log.old.failed ≡ false }
+    ensures like { IfOk result (λ r. IsLikeUndo analysis.now.open_work r) }
+    ensures is { IfOk result (λ r. L.honest log.new.device → IsNextUndo analysis.now.open_work r) }
+    ensures err { IfErr result (λ e. NotToldFor L.LogDevice e (length log.old.records) log.old.device log.new.device) }
+    ensures cause { OnOk result (L.faults log.new.device ≡ L.faults log.old.device) }
+    ensures same { log.new ≡ record log.old { device = log.new.device } }
+    ensures read { IsRead L.LogDevice log.old.device log.new.device }
+{
+    match next {
+        NextUndo::Void(sub) => Ok(void_record(sub)),
+        NextUndo::Write(lsn) => undo_write(log, analysis, lsn),
+    }
+}
+
+fn void_record(sub: Sub) -> Record
+    ensures { result ≡ void_of sub }
+{
+    Record::OpVoid {
+        txn: sub.txn,
+        operation: sub.number,
+    }
+}
+
+// The record by which the newest write of all is undone, which has this LSN.
+fn undo_write<L: LogDevice>(
+    log: &mut Log<L>,
+    analysis: &Analysis,
+    lsn: Lsn,
+) -> Result<Record, Refusal>
+    requires found { IsAnalysisOf analysis.now log.old.records }
+    requires next { IsUndoneNext analysis.now.open_work (NextUndo.Write lsn) }
+    requires running { log.old.failed ≡ false }
+    ensures like { IfOk result (λ r. IsLikeUndo analysis.now.open_work r) }
+    ensures is { IfOk result (λ r. L.honest log.new.device → IsNextUndo analysis.now.open_work r) }
+    ensures err { IfErr result (λ e. NotToldFor L.LogDevice e (length log.old.records) log.old.device log.new.device) }
+    ensures cause { OnOk result (L.faults log.new.device ≡ L.faults log.old.device) }
+    ensures same { log.new ≡ record log.old { device = log.new.device } }
+    ensures read { IsRead L.LogDevice log.old.device log.new.device }
+{
+    log.shows_kept();
+    match analysis.places.write_with(lsn) {
+        Some(kept) => match record_again(log, kept.place, lsn) {
+            Ok(told) => undone_as(&kept, &told),
+            Err(refusal) => Err(refusal),
+        },
+        None => Err(Refusal::Damaged(Damage::Record(lsn))),
+    }
+}
+
+fn undone_as(kept: &Place, told: &Record) -> Result<Record, Refusal>
+    ensures { result ≡ undo_told kept.now told.now }
+{
+    match told {
+        Record::PageOp {
+            page,
+            slot,
+            before,
+            ..
+        } => {
+            if 0 < *slot && *slot < 16 {
+                Ok(Record::PageUndo {
+                    txn: kept.by.txn,
+                    operation: kept.by.number,
+                    undone: kept.lsn,
+                    page: *page,
+                    slot: *slot,
+                    after: *before,
+                })
+            } else {
+                Err(Refusal::Damaged(Damage::Record(kept.lsn)))
+            }
+        }
+        _ => Err(Refusal::Damaged(Damage::Record(kept.lsn))),
+    }
+}
+
+/// What the OpEnd with this LSN did, which is the transaction's and is to be taken back.
+///
+/// # Errors
+/// Those of `undo_record`.
+pub(crate) fn due_again<L: LogDevice>(
+    log: &mut Log<L>,
+    analysis: &Analysis,
+    txn: Txn,
+    lsn: Lsn,
+) -> Result<PendingUndo, Refusal>
+    requires found { IsAnalysisOf analysis.now log.old.records }
+    requires due { (d : Due) × In d analysis.now.dues × (d.txn ≡ txn) × (d.lsn ≡ lsn) }
+    requires running { log.old.failed ≡ false }
+    ensures like { IfOk result (λ d. (d.txn ≡ txn) × (d.lsn ≡ lsn)) }
+    ensures is { IfOk result (λ d. L.honest log.new.device → (e : Due) → In e analysis.now.dues → e.txn ≡ txn → e.lsn ≡ lsn
+        → d ≡ e) }
+    ensures err { IfErr result (λ e. NotToldFor L.LogDevice e (length log.old.records) log.old.device log.new.device) }
+    ensures cause { OnOk result (L.faults log.new.device ≡ L.faults log.old.device) }
+    ensures same { log.new ≡ record log.old { device = log.new.device } }
+    ensures read { IsRead L.LogDevice log.old.device log.new.device }
+{
+    log.shows_kept();
+    match analysis.places.end_with(lsn) {
+        Some(kept) => match record_again(log, kept.place, lsn) {
+            Ok(told) => due_as(txn, lsn, &told),
+            Err(refusal) => Err(refusal),
+        },
+        None => Err(Refusal::Damaged(Damage::Record(lsn))),
+    }
+}
+
+fn due_as(txn: Txn, lsn: Lsn, told: &Record) -> Result<PendingUndo, Refusal>
+    ensures { result ≡ due_told txn lsn told.now }
+{
+    match told {
+        Record::OpEnd { level, deed, .. } => Ok(PendingUndo {
+            txn,
+            lsn,
+            level: *level,
+            deed: *deed,
+        }),
+        _ => Err(Refusal::Damaged(Damage::Record(lsn))),
+    }
+}
+
+// The record that stands at this place, which has this LSN.
+fn record_again<L: LogDevice>(
+    log: &mut Log<L>,
+    place: u64,
+    lsn: Lsn,
+) -> Result<Record, Refusal>
+    requires running { log.old.failed ≡ false }
+    ensures is { IfOk result (λ r. L.honest log.new.device → (s : AnyRecord) → IsAt log.old.records place s → r ≡ s) }
+    ensures err { IfErr result (λ e. NotGivenFor L.LogDevice e lsn log.old.records place log.old.device log.new.device) }
+    ensures cause { OnOk result (L.faults log.new.device ≡ L.faults log.old.device) }
+    ensures same { log.new ≡ record log.old { device = log.new.device } }
+    ensures read { IsRead L.LogDevice log.old.device log.new.device }
+{
+    log.shows_kept();
+    if log.last() >= LOG_LIMIT {
+        return Err(Refusal::LogFull);
+    }
+    match log.record_at(place) {
+        Ok(Some((record, _))) => Ok(record),
+        Ok(None) => Err(Refusal::Damaged(Damage::Record(lsn))),
+        Err(refusal) => Err(not_given(lsn, refusal)),
+    }
+}
+
+// Why the record with this LSN was not given again.
+fn not_given(lsn: Lsn, refusal: Refusal) -> Refusal
+    ensures { result ≡ told_again lsn refusal }
+{
+    match refusal {
+        Refusal::DiskRead => Refusal::DiskRead,
+        _ => Refusal::Damaged(Damage::Record(lsn)),
+    }
+}
+
+/// Whether a record that was read behind those of which these are the findings, and has this LSN, puts back what stood
+/// before the newest write of its operation, if it is a PageUndo.
+///
+/// # Errors
+/// `DiskRead`; `Damaged` with that LSN where the device gives the record of the write no more.
+pub(crate) fn puts_back<L: LogDevice>(
+    reader: &mut LogReader<L>,
+    analysis: &Analysis,
+    lsn: Lsn,
+    next: &Record,
+) -> Result<bool, Refusal>
+    requires found { (older : List AnyRecord) × IsAnalysisOf analysis.now older × (reader.old.records ≡ next.now ∷ older) }
+    requires plain { is_base next.now ≡ false }
+    ensures told { IfOk result (λ yes. L.honest reader.new.device → (IsTrue yes ↔ PutsBack analysis.now.open_work next.now)) }
+    ensures err { IfErr result (λ e. NotReadFor L.LogDevice e reader.old.device reader.new.device) }
+    ensures cause { OnOk result (L.faults reader.new.device ≡ L.faults reader.old.device) }
+    ensures same { reader.new ≡ record reader.old { device = reader.new.device } }
+    ensures read { IsRead L.LogDevice reader.old.device reader.new.device }
+{
+    match next {
+        Record::PageUndo {
+            txn,
+            operation,
+            undone,
+            page,
+            slot,
+            after,
+        } => match place_of_newest(analysis, sub(txn, *operation), *undone) {
+            Some(kept) => match reader.at(kept.place) {
+                Ok(told) => Ok(wrote_over(&told, *page, *slot, after)),
+                Err(refusal) => Err(not_given(lsn, refusal)),
+            },
+            None => Ok(false),
+        },
+        _ => Ok(true),
+    }
+}
+
+// Where the newest write of the operation is told, if it has this LSN.
+fn place_of_newest(analysis: &Analysis, by: Sub, undone: Lsn) -> Option<Place>
+    ensures some { IfSome result (λ p. In p analysis.now.places.writes × (p.lsn ≡ undone)
+        × (lsn_undoable (first (filter (undoable_by by) analysis.now.open_work.undoable)) ≡ Some undone)) }
+    ensures none { IfNone result ((older : List AnyRecord) → IsAnalysisOf analysis.now older
+        → lsn_undoable (first (filter (undoable_by by) analysis.now.open_work.undoable)) ≡ Some undone → ⊥) }
+{
+    match analysis.open_work.newest_undoable(by) {
+        Some(newest) => { if newest == undone { analysis.places.write_with(undone) } else { None } }
+        None => None,
+    }
+}
+
+// Whether the record wrote this slot, over these bytes.
+fn wrote_over(told: &Record, page: u32, slot: u8, bytes: &Slot) -> bool
+    ensures { IsTrue result ↔ WroteOver told.now page slot bytes.now }
+{
+    match told {
+        Record::PageOp {
+            page: written,
+            slot: place,
+            before,
+            ..
+        } => *written == page && *place == slot && *before == *bytes,
+        _ => false,
+    }
+}
