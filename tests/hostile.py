@@ -344,7 +344,7 @@ def wants_more(server, acknowledged, streams, sender):
     return False
 
 
-# No allocation that is large is made while the file WANTING is there.
+# No allocation that is large is made while the file WANTING is there. With ONCE the first that is not takes the file away.
 LARGE = """#define _GNU_SOURCE
 #include <dlfcn.h>
 #include <errno.h>
@@ -355,6 +355,7 @@ LARGE = """#define _GNU_SOURCE
 static int wants(size_t size) {
     const char *path = getenv("WANTING");
     if (size <= 512 || !path || access(path, F_OK)) return 0;
+    if (getenv("ONCE")) unlink(path);
     errno = ENOMEM;
     return 1;
 }
@@ -417,6 +418,24 @@ def hold_one(server, wanting, is_lost, end):
         end()
         assert server.ended() == (1, b"fault 1 NoMemory\n")  # of the last force
         wanting.unlink()
+
+
+def held_to_the_end(program, _):
+    """A connection of which no more comes ends, though the last call that it asked for was held until a force."""
+    with failing(LARGE) as (beside, words), store(program, 1, 40) as folder:
+        wanting = beside / "wanting"
+        words.update(WANTING=str(wanting), ONCE="1")
+        with serving(program, folder, "--workers", 1, environment=words) as server, server.raw() as stream:
+            stream.sendall(BEGIN + 300 * frame_of(2, bytes(12)))
+            read_bytes(stream, 19 + 300 * 3)
+            server.process.send_signal(signal.SIGSTOP)
+            wanting.touch()
+            stream.sendall(frame_of(7))
+            stream.shutdown(socket.SHUT_WR)
+            server.process.send_signal(signal.SIGCONT)
+            assert read_bytes(stream, 3) == frame_of(135)
+            assert not wanting.exists()
+            assert stream.recv(1) == b""
 
 
 def is_refused(connection):
@@ -1095,8 +1114,8 @@ def long_session(program, chosen, workers):
 
 
 TESTS = [
-    signals, any_signal, pauses, closed_streams, full_streams, same_port, little_at_start, little_under_load, held_calls, file_limit,
-    no_files, long_pages, two_programs, checkpoint_beside_a_start, other_files, no_rights, vanished_folder, moved_folder, small_disk,
+    signals, any_signal, pauses, closed_streams, full_streams, same_port, little_at_start, little_under_load, held_calls, held_to_the_end,
+    file_limit, no_files, long_pages, two_programs, checkpoint_beside_a_start, other_files, no_rights, vanished_folder, moved_folder, small_disk,
     short_calls, any_frames,
 ]  # fmt: skip
 

@@ -54,7 +54,7 @@ use Rattle.rq_restart.specs.Once.{OneLogEach, OneSizeEach}
 use Rattle.rq_restart.specs.declared.restart.Report.{Report}
 use Rattle.rq_core.specs.Happenings.{Happening, Course, Tells, AddsCall, called}
 use Rattle.rq_core.specs.Happenings.Answer.{Answered, Crashed}
-use Rattle.rq_core.specs.Headline.{LeavesStores, LeftLast, IsHeadline}
+use Rattle.rq_core.specs.Headline.{AcknowledgedAreKept, LeavesStores, LeftLast, IsHeadline}
 use Rattle.rq_core.specs.Happened.{IsCrashed, IsOpened}
 use Rattle.rq_core.specs.World.{World, IsShut, IsOpen, Ran, CanCrash}
 use Rattle.rq_core.proofs.HalfMade.{LeftBehind, devices_after}
@@ -307,7 +307,9 @@ module _ {P L : Type 0} (p : page_device.Ghosts P) (l : log_device.Ghosts L) (ho
     tells = tells;
     legal = legal;
     order = fifo h legal;
-    acknowledged = λ newer older t lsn e i. subst (λ k. In t (commits k)) e (stay newer older t lsn (subst (IsLegal (size_of z)) (sym e) legal) i);
-    leaves = leaves;
+    acknowledged = kept h legal;
+    leaves = λ images bytes a b. let w = leaves images bytes a b in (w.0, w.1, w.2, kept (crash_to w.0 h ∷ h) w.2.legal);
     left = last;
-  }
+  } where
+    kept : (k : List Entry) → IsLegal (size_of z) k → AcknowledgedAreKept k
+    kept k is newer older t lsn e i = subst (λ (x : List Entry). In t (commits x)) e (stay newer older t lsn (subst (IsLegal (size_of z)) (sym e) is) i)

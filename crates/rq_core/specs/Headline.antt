@@ -6,7 +6,7 @@ use Rattle.rq_model.specs.Vocabulary.{In}
 use Rattle.rq_model.specs.History.{Entry, commits}
 use Rattle.rq_model.specs.History.Entry.{Acknowledged, Committed}
 use Rattle.rq_model.specs.Legal.{IsLegal}
-use Rattle.rq_model.specs.Promises.{FifoThroughout, EndsInCrash}
+use Rattle.rq_model.specs.Promises.{FifoThroughout, EndsInCrash, crash_to}
 use Rattle.rq_disk.specs.declared.device.LogDevice as log_device
 use Rattle.rq_disk.specs.declared.device.PageDevice as page_device
 use Rattle.rq_page.specs.Sizes.{Sizes}
@@ -28,6 +28,11 @@ module _ {P L : Type 0} (p : page_device.Ghosts P) (l : log_device.Ghosts L) (z 
   LeavesStores h pages log = EachPair p l pages log (λ images bytes. (now : List Record) × IsStore z now images bytes
       × EndsInCrash (size_of z) h now)
 
+  -- and each commit that was acknowledged is among those that it keeps
+  abbrev pub LeavesAcknowledged : List Entry → P → L → Type 0
+  LeavesAcknowledged h pages log = EachPair p l pages log (λ images bytes. (now : List Record)
+      × IsStore z now images bytes × EndsInCrash (size_of z) h now × AcknowledgedAreKept (crash_to now h ∷ h))
+
   -- after a crash that left so many records, whatever a crash now leaves are exactly so many, with those before the Base
   abbrev pub LeftBy : Answer → P → L → Type 0
   LeftBy (Crashed n) pages log =
@@ -48,5 +53,5 @@ module _ {P L : Type 0} (p : page_device.Ghosts P) (l : log_device.Ghosts L) (z 
     pub legal : IsLegal (size_of z) history
     pub order : FifoThroughout history
     pub acknowledged : AcknowledgedAreKept history
-    pub leaves : LeavesStores history pages log
+    pub leaves : LeavesAcknowledged history pages log
     pub left : LeftLast course pages log

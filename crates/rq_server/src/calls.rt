@@ -1,5 +1,5 @@
 //! What a worker calls the store by.
-ghost use Rattle.std.specs.Prelude.{◌≡◌};
+ghost use Rattle.std.specs.Prelude.{◌≡◌, ◌≤◌};
 
 use crate::notices::Notices;
 use crate::turns::Turns;
@@ -24,7 +24,11 @@ impl<'a> MarkReader<'a> {
         MarkReader { mark, seat }
     }
 
-    fn read(&mut self) -> Lsn {
+    // How far the log is forced, and no less than what was read before.
+    fn read(&mut self) -> Lsn
+        ensures saw { result ≡ self.new.seat.saw }
+        ensures grown { self.old.seat.saw ≤ result }
+    {
         self.mark.read(&mut self.seat)
     }
 }
@@ -54,7 +58,22 @@ impl<'a, S: Steps> Calls<'a, S> {
     }
 
     /// Forces, which frees the memory of what is buffered.
-    pub(crate) fn force(&mut self) {
+    pub(crate) fn force<R: Wait>(&mut self, rt: &R) {
+        let turns = self.turns;
+        let _forcing = turns.forcing.lock(rt);
+        self.make_force();
+    }
+
+    /// Forces, where the log is not forced as far as this once no other worker forces.
+    pub(crate) fn force_up_to<R: Wait>(&mut self, rt: &R, lsn: Lsn) {
+        let turns = self.turns;
+        let _forcing = turns.forcing.lock(rt);
+        if self.forced() < lsn {
+            self.make_force();
+        }
+    }
+
+    fn make_force(&mut self) {
         let stamped = self.steps.force();
         self.steps.seen(stamped);
     }
@@ -64,16 +83,15 @@ impl<'a, S: Steps> Calls<'a, S> {
         self.reader.read()
     }
 
-    /// Waits for the force of another worker, where the log is not forced as far as this. Forces where that one did not reach as
-    /// far, or none came.
+    /// Waits for the force of another worker, where the log is not forced as far as this, but not for long. Forces where that one
+    /// did not reach as far, or none came.
     pub(crate) fn await_force<R: Wait>(&mut self, rt: &R, lsn: Lsn) {
         let seen = self.notices.forces();
-        if self.forced() < lsn {
-            self.notices.await_force(rt, seen);
-            if self.forced() < lsn {
-                self.force();
-            }
+        if self.forced() >= lsn {
+            return;
         }
+        self.notices.await_force(rt, seen);
+        self.force_up_to(rt, lsn);
     }
 
     /// No connection can be taken.

@@ -88,6 +88,17 @@ impl Connection {
         self.is_held
     }
 
+    /// Whether a call of it is left to be made: for what was asked, for a commit that waits, or to end its session.
+    pub(crate) fn has_calls_left(&self) -> bool {
+        !self.asked.is_empty() || self.awaited.is_some() || self.is_held || self.is_to_be_lost()
+    }
+
+    // Whether nothing more will be asked, and its session has not ended.
+    fn is_to_be_lost(&self) -> bool {
+        let is_ended = matches!(self.line, Line::Deaf | Line::Ended);
+        is_ended && !self.is_lost && !self.session_is_over
+    }
+
     /// Whether nothing is left to be read, carried out or written.
     pub(crate) fn is_over(&self) -> bool {
         self.session_is_over && !self.is_held_up() && !matches!(self.line, Line::Deaf)
@@ -190,6 +201,7 @@ impl Connection {
         if self.is_held {
             let came = self.serving.go_on(rt, steps);
             self.take_down(came);
+            self.lose_if_ended(rt, steps);
         }
     }
 
@@ -222,8 +234,8 @@ impl Connection {
 
     // Where all is carried out, and nothing more will be asked, the session is lost.
     fn lose_if_ended<S: Steps, R: Wait>(&mut self, rt: &R, steps: &mut S) {
-        let is_ended = matches!(self.line, Line::Deaf | Line::Ended);
-        if is_ended && self.asked.is_empty() && self.awaited.is_none() && !self.is_held {
+        let is_served = self.asked.is_empty() && self.awaited.is_none() && !self.is_held;
+        if self.is_to_be_lost() && is_served {
             self.lose(rt, steps);
         }
     }

@@ -11,7 +11,7 @@ const NO_MORE_FILES: [i32; 2] = [23, 24];
 const START_MILLIS: u64 = 10;
 
 /// How many milliseconds a worker sleeps at most that waits for the force of another.
-const FORCE_MILLIS: u64 = 100;
+const FORCE_MILLIS: u64 = 5;
 
 /// How many numbers 32 bits tell, of which a thread that sleeps on a count is woken.
 const LOW_HALVES: u64 = 0x1_0000_0000;
@@ -73,7 +73,7 @@ impl Notices {
             .park_timeout(rt, low_half, Duration::from_millis(FORCE_MILLIS));
     }
 
-    /// How many forces were made.
+    /// How many forces were made, or refused.
     pub(crate) fn forces(&self) -> u64 {
         self.forces.load(Ordering::SeqCst)
     }

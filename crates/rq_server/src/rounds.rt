@@ -219,7 +219,7 @@ impl Connections {
             return;
         }
         self.hear();
-        let is_forced = self.take_turn(rt, calls);
+        let is_forced = !self.has_calls_left() || self.take_turn(rt, calls);
         self.answer(rt, poll, calls);
         self.is_held = self.is_any_held();
         calls.note_round();
@@ -255,6 +255,18 @@ impl Connections {
         }
     }
 
+    // Whether a call of one of them is left to be made.
+    fn has_calls_left(&self) -> bool {
+        for at in 0..self.count() {
+            if let Some(connection) = self.connections.get(self.token_at(at)) {
+                if connection.has_calls_left() {
+                    return true;
+                }
+            }
+        }
+        false
+    }
+
     // Carries out what was asked, up to commits that wait, and has these forced. Whether none waits any more: one does where there was no
     // memory for the force.
     fn take_turn<S: Steps, R: Wait>(&mut self, rt: &R, calls: &mut Calls<'_, S>) -> bool {
@@ -277,12 +289,12 @@ impl Connections {
         turns.begin();
         self.carry_out(rt, calls);
         if self.is_any_held() {
-            calls.force();
+            calls.force(rt);
             self.go_on(rt, calls);
         }
         let is_due = turns.is_due(&mut owed, calls.forced(), self.last_awaited());
         if is_due {
-            calls.force();
+            calls.force_up_to(rt, owed.lsn());
         }
         !is_due
     }
@@ -359,8 +371,9 @@ impl Connections {
             return Fate::Stays;
         };
         let fate = fate_of(rt, connection, calls);
-        if matches!(fate, Fate::Parts) || connection.is_behind() {
-            report_again(poll, connection, token);
+        let is_to_be_reported = matches!(fate, Fate::Parts) || connection.is_behind();
+        if is_to_be_reported && !report_again(poll, connection, token) {
+            return cut_off(rt, connection, calls);
         }
         fate
     }
@@ -423,7 +436,7 @@ impl Connections {
             }
         }
         if is_any_held {
-            calls.force();
+            calls.force(rt);
         }
         !is_any_held
     }
@@ -497,6 +510,15 @@ fn fate_of<S: Steps, R: Wait + Clock>(
     if connection.write_answers(rt) {
         return fate_behind_answers(rt, connection);
     }
+    cut_off(rt, connection, calls)
+}
+
+// Ends a connection that nothing more can be said to or heard of, unless a call of it is held.
+fn cut_off<S: Steps, R: Wait>(
+    rt: &R,
+    connection: &mut Connection,
+    calls: &mut Calls<'_, S>,
+) -> Fate {
     let turns = calls.turns;
     let _turn = turns.turn.lock(rt);
     connection.lose(rt, &mut calls.steps);
@@ -522,10 +544,10 @@ fn register(poll: &Poll, stream: &mut TcpStream, token: usize) -> io::Result<()>
     poll.registry().register(stream, Token(token), interest)
 }
 
-// Has a connection reported again.
-fn report_again(poll: &Poll, connection: &mut Connection, token: usize) {
+// Has a connection reported again. False where the system can't.
+fn report_again(poll: &Poll, connection: &mut Connection, token: usize) -> bool {
     let interest = Interest::READABLE | Interest::WRITABLE;
-    let _ = poll
-        .registry()
-        .reregister(&mut connection.stream, Token(token), interest);
+    poll.registry()
+        .reregister(&mut connection.stream, Token(token), interest)
+        .is_ok()
 }

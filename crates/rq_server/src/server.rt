@@ -132,7 +132,7 @@ pub fn serve<
     );
     let refused = force_last(rt, &shared, last);
     match (served, refused) {
-        (Ok(_), Some(refusal)) => Err(Stopped::NotForced(refusal)),
+        (Ok(_) | Err(Stopped::Deaf), Some(refusal)) => Err(Stopped::NotForced(refusal)),
         (served, _) => served,
     }
 }
@@ -178,12 +178,14 @@ fn common_of<R: Net>(
     Ok((common, seat, polls))
 }
 
-// Whether the first worker waits for the end of standard input too.
+// Whether each worker waits for the end of standard input too.
 fn is_input_heard(polls: &[Poll]) -> bool {
-    match polls.first() {
-        Some(poll) => hears_input(poll),
-        None => false,
+    for poll in polls {
+        if !hears_input(poll) {
+            return false;
+        }
     }
+    true
 }
 
 // Where each worker waits.
