@@ -55,6 +55,11 @@ def cell(sequence, before=0, behind=0, sender=0):
     return slot.ljust(SLOT, b"\0")
 
 
+def client(number, count=0, tag=0):
+    """What a client marked."""
+    return numbers_of((1, 1), (0, 3), (number, 4), (count, 8), (tag, 8)).ljust(SLOT, b"\0")
+
+
 # the first message of sender 0 in the first cell of a small store, whose address is 33, and the slot of its group then
 MESSAGE, ONE_SENT = cell(1), group(1, 0, 33, 33)
 # what was sent has been received
@@ -446,14 +451,19 @@ def put_back(number):
 # ---- pages
 
 
-def formatted(directory=1, cells=1):
+def formatted(directory=1, cells=1, tags=0):
     """The pages of a store as it is formatted, one behind the other."""
-    pages = bytearray((1 + directory + cells) * PAGE)
-    pages[SLOT : SLOT + 20] = b"RQMSTORE" + numbers_of((1, 4), (directory, 4), (cells, 4))
-    for number in range(1, 1 + directory + cells):
-        pages[number * PAGE + 8 : number * PAGE + 13] = numbers_of((number, 4), (1 if number <= directory else 2, 1))
+    behind = 1 + directory + cells
+    pages = bytearray((behind + tags) * PAGE)
+    version = 2 if tags else 1
+    pages[SLOT : SLOT + 24] = b"RQMSTORE" + numbers_of((version, 4), (directory, 4), (cells, 4), (tags, 4))
+    for number in range(1, behind + tags):
+        kind = 1 if number <= directory else 2 if number < behind else 3
+        pages[number * PAGE + 8 : number * PAGE + 13] = numbers_of((number, 4), (kind, 1))
     for sender in range(15 * directory):
         put(pages, 1 + sender // 15, 1 + sender % 15, group(sender=sender), 0)
+    for number in range(15 * tags):
+        put(pages, behind + number // 15, 1 + number % 15, client(number), 0)
     return pages
 
 
@@ -643,6 +653,55 @@ def several_faults():
     yield beyond, [BEGUN, b"\0"], at_page(1)
 
 
+def with_tags(*changes):
+    """The same with a tag page, whose client 3 marked 70."""
+    pages = formatted(tags=1)
+    put(pages, 1, 1, ONE_SENT, 3)
+    put(pages, 2, 1, MESSAGE, 2)
+    put(pages, 3, 4, client(3, 1, 70), 3)
+    for number, place, byte in changes:
+        pages[number * PAGE + place] = byte
+    return pages
+
+
+def tag_pages():
+    yield with_tags(), ONE_COMMITTED, OPENED
+    # of the superblock the version and the number of tag pages, and its zeros
+    for place, byte in ((267, 1), (267, 3), (279, 0), (278, 4), (278, 8), (280, 1)):
+        yield with_tags((0, place, byte)), ONE_COMMITTED, at_page(0)
+    # its number, its kind, the zeros of its header and its LSN
+    for place, byte in ((11, 2), (12, 2), (12, 1), (13, 1), (7, 6)):
+        yield with_tags((3, place, byte)), ONE_COMMITTED, at_page(3)
+    # of a client its state, its zeros, its number, its count and the zeros behind
+    for place, byte in ((1024, 2), (1024, 0), (1025, 1), (1027, 1), (1031, 4), (1039, 6), (1048, 1), (1279, 1)):
+        yield with_tags((3, place, byte)), ONE_COMMITTED, at_page(3)
+    yield with_tags((3, 1039, 5), (3, 1047, 9)), ONE_COMMITTED, OPENED
+    # no link names a slot of a tag page
+    yield with_tags((2, 287, 49)), ONE_COMMITTED, at_page(2)
+    yield with_tags((1, 303, 49)), ONE_COMMITTED, at_page(1)
+    # a page that is missing, and one behind the last
+    yield with_tags()[: 3 * PAGE], ONE_COMMITTED, UNREAD
+    yield with_tags() + bytes([7] * PAGE), ONE_COMMITTED, OPENED
+
+
+def writes_of_tag_pages():
+    """A write of a tag page may stand in the log; where its operation has no end, it is undone."""
+    marked = write(1, 3, 4, client(3), client(3, 1, 70))
+    for records, said in (
+        ([BEGUN, marked], OPENED), ([BEGUN, marked, undo(1, 2, 3, 4, client(3))], OPENED),
+        ([BEGUN, write(1, 3, 4, client(3), client(3, 2, 70))], OPENED),
+        # its count is beyond the log, its client another, its state none, or it is no client's slot
+        ([BEGUN, write(1, 3, 4, client(3), client(3, 3, 70))], at_record(2)),
+        ([BEGUN, write(1, 3, 4, client(3), client(4, 1, 70))], at_record(2)),
+        ([BEGUN, write(1, 3, 4, client(3), FREE)], at_record(2)), ([BEGUN, write(1, 3, 4, client(3), MESSAGE)], at_record(2)),
+        # something else stands there, and there is no such page
+        ([BEGUN, write(1, 3, 4, client(3, 1), client(3, 1, 70))], at_record(2)),
+        ([BEGUN, write(1, 4, 4, client(3), client(3, 1, 70))], at_record(2)),
+    ):  # fmt: skip
+        yield formatted(tags=1), records, said
+    yield formatted(), [BEGUN, marked], at_record(2)
+
+
 def other_lengths():
     """Pages behind those of the store, and one that is missing."""
     yield formatted() + bytes([7] * PAGE), [], OPENED
@@ -653,7 +712,7 @@ def other_lengths():
 
 PAGES = [
     pages_that_were_written, superblocks, headers, slots, more_sent_than_there_are_records, before_images, no_cell_is_free, chains,
-    chains_beside_a_whole_one, chains_on_two_pages, bases, several_faults, other_lengths,
+    chains_beside_a_whole_one, chains_on_two_pages, bases, several_faults, tag_pages, writes_of_tag_pages, other_lengths,
 ]  # fmt: skip
 
 

@@ -243,9 +243,10 @@ def files_of(folder):
     return {file.name: file.read_bytes() for file in folder.iterdir()}
 
 
-def format_store(program, folder, directory=1, cells=2, **words):
+def format_store(program, folder, directory=1, cells=2, tags=None, **words):
     """What is printed, and the exit status."""
     command = [program, "format", str(folder), "--directory", str(directory), "--cells", str(cells)]
+    command += [] if tags is None else ["--tags", str(tags)]
     ended = subprocess.run(command, stdout=subprocess.PIPE, timeout=LONGEST, env=dict(os.environ, **words))
     return ended.stdout, ended.returncode
 
@@ -256,6 +257,20 @@ def made(program):
         with folder_of() as folder:
             assert format_store(program, folder, directory, cells) == (b"formatted %d %d\n" % (directory, cells), 0)
             assert files_of(folder) == {"pages": bytes(formatted(directory, cells)), "log": b""}, (directory, cells)
+    with folder_of() as folder:
+        assert format_store(program, folder, 1, 1, 1) == (b"formatted 1 1 1\n", 0)
+        files = files_of(folder)
+        assert files == {"pages": bytes(formatted(1, 1, 1)), "log": b""}
+        # a superblock of version 2
+        told = bytes.fromhex("52514d53544f5245 00000002 00000001 00000001 00000001")
+        assert files["pages"][:PAGE] == (bytes(256) + told).ljust(PAGE, b"\0")
+    for tags in (0, 1025, "", "x"):
+        with folder_of() as folder:
+            assert format_store(program, folder, 1, 1, tags) == (b"", 2), tags
+            assert files_of(folder) == {}, tags
+        command = [program, "run", "--directory", "1", "--cells", "1", "--tags", str(tags)]
+        ran = subprocess.run(command, stdin=subprocess.DEVNULL, stdout=subprocess.PIPE, timeout=LONGEST)
+        assert (ran.stdout, ran.returncode) == (b"", 2), tags
 
 
 def there(program):

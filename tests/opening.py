@@ -50,6 +50,17 @@ class Cell:
         return (fields + b"".join(each.to_bytes(8, "big") for each in numbers) + self.body).ljust(SLOT, b"\0")
 
 
+class Client:
+    """A client's slot."""
+
+    def __init__(self, slot):
+        self.client, self.count, self.tag = number(slot, 4, 4), number(slot, 8), number(slot, 16)
+
+    def slot(self):
+        fields = bytes([1, 0, 0, 0]) + self.client.to_bytes(4, "big")
+        return (fields + self.count.to_bytes(8, "big") + self.tag.to_bytes(8, "big")).ljust(SLOT, b"\0")
+
+
 class Deed:
     """What an OpEnd tells; None of `of` where no level reads it."""
 
@@ -70,12 +81,14 @@ class Pages:
     def __init__(self, held):
         if len(held) < PAGE:
             raise Fault(SHORT)
-        self.directory, self.cells = number(held, SLOT + 12, 4), number(held, SLOT + 16, 4)
-        block = b"RQMSTORE" + (1).to_bytes(4, "big") + held[SLOT + 12 : SLOT + 20]
+        version, self.directory, self.cells, self.tags = (number(held, SLOT + at, 4) for at in (8, 12, 16, 20))
+        block = b"RQMSTORE" + held[SLOT + 8 : SLOT + 24]
         in_range = 1 <= self.directory <= 1024 and 1 <= self.cells <= 65536
+        in_range = in_range and ((version, self.tags) == (1, 0) or (version == 2 and 1 <= self.tags <= 1024))
         if not in_range or held[:PAGE] != bytes(SLOT) + block.ljust(PAGE - SLOT, b"\0"):
             raise at_page(0)
-        self.count, self.senders = 1 + self.directory + self.cells, SLOTS * self.directory
+        self.tags_from, self.senders = 1 + self.directory + self.cells, SLOTS * self.directory
+        self.count = self.tags_from + self.tags
         self.lsn, self.slots = [0], {}
         for page in range(1, self.count):
             self.take(page, held[page * PAGE : (page + 1) * PAGE])
@@ -83,7 +96,7 @@ class Pages:
     def take(self, page, held):
         if len(held) < PAGE:
             raise Fault(SHORT)
-        kind = 1 if page <= self.directory else 2
+        kind = 1 if page <= self.directory else 2 if page < self.tags_from else 3
         if held[8:SLOT] != (page.to_bytes(4, "big") + bytes([kind])).ljust(SLOT - 8, b"\0"):
             raise at_page(page)
         self.lsn.append(number(held, 0))
@@ -93,7 +106,7 @@ class Pages:
                 raise at_page(page)
 
     def is_address(self, address):
-        return address == 0 or (self.directory < address // 16 < self.count and address % 16 > 0)
+        return address == 0 or (self.directory < address // 16 < self.tags_from and address % 16 > 0)
 
     def may_stand(self, page, place, slot):
         """Whether a slot of this page may hold these bytes."""
@@ -103,19 +116,23 @@ class Pages:
             group = Group(slot)
             own = group.state in (1, 2) and group.sender == SLOTS * (page - 1) + place - 1 and group.received <= group.sent
             return own and self.is_address(group.head) and self.is_address(group.tail) and slot == group.slot()
+        if page >= self.tags_from:
+            client = Client(slot)
+            return client.client == SLOTS * (page - self.tags_from) + place - 1 and slot == client.slot()
         if slot == bytes(SLOT):
             return True
         cell = Cell(slot)
         whole = slot[0] == 1 and number(slot, 2, 2) <= 216 and cell.sender < self.senders and cell.sequence > 0
         return whole and self.is_address(cell.next) and self.is_address(cell.before) and slot == cell.slot()
 
-    def sent(self, page, slot):
-        return Group(slot).sent if page <= self.directory else 0
+    def counted(self, page, slot):
+        """What a sender sent, or how often a client marked."""
+        return Group(slot).sent if page <= self.directory else 0 if page < self.tags_from else Client(slot).count
 
     def check_numbers(self, records):
-        """Neither an LSN nor a number of sends is beyond the log."""
+        """Neither an LSN nor such a number is beyond the log."""
         for page in range(1, self.count):
-            counts = [self.sent(page, self.slots[page, place]) for place in range(1, SLOTS + 1)]
+            counts = [self.counted(page, self.slots[page, place]) for place in range(1, SLOTS + 1)]
             if max([self.lsn[page], *counts]) > records:
                 raise at_page(page)
 
@@ -135,7 +152,7 @@ class Pages:
         return None if slot == bytes(SLOT) else Cell(slot)
 
     def addresses(self):
-        return (16 * page + place for page in range(1 + self.directory, self.count) for place in range(1, SLOTS + 1))
+        return (16 * page + place for page in range(1 + self.directory, self.tags_from) for place in range(1, SLOTS + 1))
 
     def lowest_free(self):
         return next((address for address in self.addresses() if self.cell(address) is None), None)
@@ -232,7 +249,7 @@ class Opening:
         greatest = self.numbers.get(txn, 0)
         if sub not in self.writes and sub[2] != greatest + 1:
             return False
-        if not self.pages.may_stand(page, place, after) or self.pages.sent(page, after) > lsn:
+        if not self.pages.may_stand(page, place, after) or self.pages.counted(page, after) > lsn:
             return False
         if self.pages.lsn[page] < lsn and self.pages.slots[page, place] != before:
             return False
@@ -245,7 +262,7 @@ class Opening:
         undone, page, place, after = *numbers[3:6], rest[-256:]
         if not self.writes.get(sub) or self.writes[sub][-1] != (undone, page, place, after):
             return False
-        if not self.pages.may_stand(page, place, after) or self.pages.sent(page, after) > lsn:
+        if not self.pages.may_stand(page, place, after) or self.pages.counted(page, after) > lsn:
             return False
         self.writes[sub].pop()
         self.pages.write(lsn, page, place, after)

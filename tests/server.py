@@ -673,7 +673,7 @@ def starts(program, _):
             [folder, "--port", 0, "--workers", 65], [folder, "--port", 0, "--frames", 7],
             [folder, "--port", 0, "--checkpoint-after", "x"], [folder, "--port", 0, "--checkpoint-after", -1],
             [folder, "--port", 0, "--checkpoint-after", 2**64], [folder, "--port", 0, "--checkpoint-after"],
-            [folder, "--port", 0, "--frames", 66562], [folder, "--port", 0, "--sessions", "x"], [folder, "--port", 0, "more"],
+            [folder, "--port", 0, "--frames", 67586], [folder, "--port", 0, "--sessions", "x"], [folder, "--port", 0, "more"],
         ):  # fmt: skip
             assert said(*words) == (2, b""), words
         missing = b"the store cannot be opened: No such file or directory (os error 2)\n"

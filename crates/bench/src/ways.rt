@@ -40,7 +40,7 @@ pub fn run<R: Print + Eprint + AllocGlobal + Threads + Wait + Sync>(
 
 // A store with a directory page and a cell page for each caller.
 fn small_engine(alloc: Global) -> Option<Store> {
-    new_engine(alloc, Layout::new(CALLERS, CALLERS)?)
+    new_engine(alloc, Layout::new(CALLERS, CALLERS, 0)?)
 }
 
 /// Calls of a store under an audit.

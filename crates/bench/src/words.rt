@@ -63,7 +63,11 @@ pub fn number(words: &[String], place: usize) -> Option<u32> {
 
 /// The sizes of a store: the directory pages at a place, and the cell pages behind them.
 pub fn sizes(words: &[String], place: usize) -> Option<Layout> {
-    Layout::new(number(words, place)?, number(words, place.checked_add(1)?)?)
+    Layout::new(
+        number(words, place)?,
+        number(words, place.checked_add(1)?)?,
+        0,
+    )
 }
 
 /// All of standard input.

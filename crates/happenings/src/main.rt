@@ -47,7 +47,7 @@ fn layout_of_words<R: AllocGlobal + Env>(rt: &R) -> io::Result<Option<Layout>> {
 }
 
 fn layout_of(words: &[String]) -> Option<Layout> {
-    Layout::new(number(words, 1)?, number(words, 2)?)
+    Layout::new(number(words, 1)?, number(words, 2)?, 0)
 }
 
 fn number(words: &[String], place: usize) -> Option<u32> {

@@ -49,7 +49,7 @@ greatest_same z t (r ∷ log) = ap (λ u. max (number_in t u) (greatest_number t
 
 -- no log needs more of a store here than that it has sizes
 any_sizes : Sizes
-any_sizes = record { directory = 0; cells = 0 }
+any_sizes = record { directory = 0; cells = 0; tags = 0 }
 
 -- of a log that follows the rules no operation is known below its Base
 follows_anew : (t : Txn) (log : List Record) → FollowAll log → NoneBelow any_sizes t log

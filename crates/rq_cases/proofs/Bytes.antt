@@ -207,13 +207,15 @@ name_bytes =
 superblock_bytes_are : AreBytes (superblock_bytes sizes)
 unfolding superblock_bytes superblock_front
 superblock_bytes_are =
-    let c : List ℕ = big_bytes 4 1 in
+    let d : List ℕ = big_bytes 4 0 in
+    let c : List ℕ = big_bytes 4 1 ++ d in
     let b : List ℕ = big_bytes 4 1 ++ c in
     let a : List ℕ = big_bytes 4 1 ++ b in
-    AreBytes-append (codes "RQMSTORE" ++ a) (replicate 236 0)
+    AreBytes-append (codes "RQMSTORE" ++ a) (replicate 232 0)
     (AreBytes-append (codes "RQMSTORE") a name_bytes
-    (AreBytes-append (big_bytes 4 1) b (are_big 4 1) (AreBytes-append (big_bytes 4 1) c (are_big 4 1) (are_big 4 1))))
-    (AreBytes-zeros 236)
+    (AreBytes-append (big_bytes 4 1) b (are_big 4 1)
+    (AreBytes-append (big_bytes 4 1) c (are_big 4 1) (AreBytes-append (big_bytes 4 1) d (are_big 4 1) (are_big 4 0)))))
+    (AreBytes-zeros 232)
 
 either_bytes : (b : Bool) (x y : List ℕ) → AreBytes x → AreBytes y → AreBytes (if b then x else y)
 either_bytes true x y h g = h

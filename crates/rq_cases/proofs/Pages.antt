@@ -30,6 +30,7 @@ range = record {
   directory_high = omega arith;
   cells_low = omega arith;
   cells_high = omega arith;
+  tags_high = omega arith;
 }
 
 -- how long slots are

@@ -14,7 +14,7 @@ use Rattle.rq_level.specs.declared.writes.SlotWrite.{SlotWrite}
 
 -- one directory page and one cell page: 15 senders and 15 cells
 abbrev pub sizes : Sizes
-sizes = record { directory = 1; cells = 1 }
+sizes = record { directory = 1; cells = 1; tags = 0 }
 
 -- a page's header, and behind it its slots
 abbrev pub part : ℕ → ℕ → ℕ → (ℕ → List ℕ) → ℕ → List ℕ

@@ -8,7 +8,7 @@ use Rattle.rq_page.specs.Cells.{cell_bytes, cell_in, free_bytes}
 use Rattle.rq_page.specs.Directories.{directory_bytes, directory_in}
 use Rattle.rq_page.proofs.CellBytes.{cell_in-cell_bytes}
 use Rattle.rq_page.proofs.DirectoryBytes.{directory_in-directory_bytes}
-use Rattle.rq_page.specs.Slots.{Slot, Free, Used, Sender, held_in, slot_bytes, MayHold, IsCellOf, IsDirectoryOf, IsSlotOf}
+use Rattle.rq_page.specs.Slots.{Slot, Free, Used, Sender, Client, held_in, slot_bytes, MayHold, IsCellOf, IsDirectoryOf, IsSlotOf}
 use Rattle.rq_page.specs.declared.cell.Cell.{Cell}
 use Rattle.rq_page.specs.declared.directory.Directory.{Directory}
 use Rattle.rq_page.specs.declared.directory.DirectorySlot.{DirectorySlot}
@@ -50,6 +50,7 @@ group_as : (z : Sizes) (slot : ℕ) (s : ℕ) (bytes : List ℕ) (x : Slot) → 
     → sender_at (directory_at s / 16) slot ≡ s → MayHold (Some kind.Directory) z (directory_at s / 16) slot x → IsGroupTold z s bytes
 group_as z slot s bytes Free h p e may = absurd may
 group_as z slot s bytes (Used c) h p e may = absurd may
+group_as z slot s bytes (Client k) h p e may = absurd may
 group_as z slot s bytes (Sender r d) h p e may =
     let own : r ≡ s = may.own ∙ e in
     let fits : IsDirectoryOf z s (record { sender = r; directory = d }) = subst (λ (n : ℕ). IsDirectoryOf z n (record { sender = r; directory = d })) e may in
@@ -79,6 +80,7 @@ cell_as : (z : Sizes) (a slot : ℕ) (bytes : List ℕ) (x : Slot) → held_in z
 cell_as z a slot bytes Free h p may = ToldFree h p
 cell_as z a slot bytes (Used c) h p may = ToldUsed c h may p
 cell_as z a slot bytes (Sender s d) h p may = absurd may
+cell_as z a slot bytes (Client k) h p may = absurd may
 
 pub cell_held : (z : Sizes) (a : ℕ) (bytes : List ℕ) → IsCellAddress z a → IsSlotOf z (a / 16) (a % 16) bytes → IsCellTold z a bytes
 cell_held z a bytes is slot =

@@ -48,7 +48,7 @@ directory_told z s x below may =
 
 -- addresses of cells and of directory slots are slots of the store
 pub cell_place : (z : Sizes) (a : ℕ) → IsCellAddress z a → IsStoreSlot z a
-cell_place z a is = record { page_low = omega (arith, is.above); page_high = is.below; slot = is.slot }
+cell_place z a is = record { page_low = omega (arith, is.above); page_high = omega (arith, is.below); slot = is.slot }
 
 pub directory_place : (z : Sizes) (s : ℕ) → s < sender_count z → IsStoreSlot z (directory_at s)
 directory_place z s below =

@@ -494,5 +494,6 @@ fn told_layout(bytes: &Slot) -> Option<Layout>
     Layout::new(
         BigEndian::read_u32(&bytes[12..]),
         BigEndian::read_u32(&bytes[16..]),
+        BigEndian::read_u32(&bytes[20..]),
     )
 }

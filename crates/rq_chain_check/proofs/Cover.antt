@@ -10,7 +10,7 @@ use Rattle.rq_model.proofs.Counts.{sum_more, sum_change, sum_none}
 use Rattle.rq_model.proofs.Lists.{In-parts}
 use Rattle.rq_page.specs.Sizes.{Sizes, IsCellAddress, cell_at, cell_count, place_of, sender_count}
 use Rattle.rq_page.specs.Slots.{Slot}
-use Rattle.rq_page.specs.Slots.Slot.{Free, Used, Sender}
+use Rattle.rq_page.specs.Slots.Slot.{Free, Used, Sender, Client}
 use Rattle.rq_page.specs.declared.cell.Cell.{Cell}
 use Rattle.rq_page.proofs.Addresses.{places_are_cells}
 use Rattle.rq_views.specs.Chain.{Node}
@@ -141,6 +141,7 @@ cell_used : (x : Slot) (c : Cell) → cell_in x ≡ Some c → is_used x ≡ tru
 cell_used Free c e = absurd (let k : ◌≡◌ {A = Option Cell} None (Some c) = e in cc)
 cell_used (Used d) c e = refl
 cell_used (Sender s d) c e = absurd (let k : ◌≡◌ {A = Option Cell} None (Some c) = e in cc)
+cell_used (Client k) c e = absurd (let n : ◌≡◌ {A = Option Cell} None (Some c) = e in cc)
 
 -- a cell of a chain is used
 pub met_used : (n : ℕ) (q : Slots) (cs : ℕ → List Node) (a : ℕ) → AreChains n q cs → IsMet n cs a → is_used (q a) ≡ true

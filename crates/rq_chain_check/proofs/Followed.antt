@@ -70,6 +70,7 @@ held_used None bytes e = absurd (false≢true e)
 held_used (Some kind.Superblock) bytes e = absurd (false≢true e)
 held_used (Some kind.Directory) bytes e = absurd (false≢true e)
 held_used (Some kind.Cells) bytes e = refl
+held_used (Some kind.Tags) bytes e = absurd (false≢true e)
 
 -- only cells are used
 pub used_is_cell : (z : Sizes) (images : List (List ℕ)) (a : ℕ) → is_used (slots_in z images a) ≡ true → IsCellAddress z a

@@ -11,7 +11,7 @@ use Rattle.rq_model.specs.Vocabulary.{In, is_some}
 use Rattle.rq_model.proofs.Counts.{sum_same}
 use Rattle.rq_page.specs.Sizes.{Sizes, IsCellAddress, sender_count}
 use Rattle.rq_page.specs.Slots.{Slot}
-use Rattle.rq_page.specs.Slots.Slot.{Free, Used, Sender}
+use Rattle.rq_page.specs.Slots.Slot.{Free, Used, Sender, Client}
 use Rattle.rq_views.specs.Chain.{View, Node, message}
 use Rattle.rq_views.specs.InStore.{InStore, IsInPlace}
 use Rattle.rq_views.specs.Items.{items, layout_of, operation}
@@ -59,6 +59,7 @@ used_in_place : (z : Sizes) (a : ℕ) (x : Slot) → is_used x ≡ true → IsIn
 used_in_place z a Free e h = absurd (false≢true e)
 used_in_place z a (Used c) e h = h
 used_in_place z a (Sender s d) e h = absurd (false≢true e)
+used_in_place z a (Client k) e h = absurd (false≢true e)
 
 module _ (z : Sizes) (log : List Record) (legal : IsLegalLog (layout_of z) (items z log)) (store : InStore z log) (idle : (o : Sub) → under_way o (items z log) ≡ false) where
   abbrev slots : Slots

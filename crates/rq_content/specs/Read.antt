@@ -12,7 +12,7 @@ use Rattle.rq_page.specs.declared.directory.Directory.{Directory}
 use Rattle.rq_page.specs.Directories.{new_directory}
 use Rattle.rq_page.specs.Sizes.{Sizes, directory_at, sender_count}
 use Rattle.rq_page.specs.Slots.{Slot}
-use Rattle.rq_page.specs.Slots.Slot.{Free, Used, Sender}
+use Rattle.rq_page.specs.Slots.Slot.{Free, Used, Sender, Client}
 use Rattle.rq_views.specs.Chain.{Cells}
 use Rattle.rq_views.specs.Log.{cells_of}
 use Rattle.rq_views.specs.Stored.{slots_in}
@@ -105,6 +105,7 @@ abbrev pub directory_of : Slot → Directory
 directory_of Free = new_directory
 directory_of (Used c) = new_directory
 directory_of (Sender s d) = d
+directory_of (Client k) = new_directory
 
 -- what is shown of s, by its directory slot and with deeds left out
 abbrev pub shown_group : Cells → ℕ → Directory → Before → Group

@@ -17,10 +17,11 @@ use Rattle.rq_page.specs.declared.layout.PageKind.{PageKind}
 use Rattle.rq_page.specs.declared.layout.PageKind.TheVariants as kinds
 use Rattle.rq_page.specs.Cells.{cell_slot_in}
 use Rattle.rq_page.specs.Directories.{directory_in}
+use Rattle.rq_page.specs.Clients.{client_in}
 use Rattle.rq_page.specs.Kinds.{kind_of}
 use Rattle.rq_page.specs.Sizes.{IsCellAddress, Sizes, directory_at, sender_count}
 use Rattle.rq_page.specs.Slots.{held_for, held_in, of_cell_slot}
-use Rattle.rq_page.specs.Slots.Slot.{Free, Sender, Used}
+use Rattle.rq_page.specs.Slots.Slot.{Free, Sender, Used, Client}
 use Rattle.rq_views.specs.Stored.{slot_at, slots_in}
 use Rattle.rq_views.proofs.Stands.{page_of_cells}
 use Rattle.rq_views.specs.Items.{told_deed}
@@ -278,6 +279,7 @@ used_cell z images a c e = elim (cases_Bool (nat_lt 0 (a % 16))) [
     at y (Some kinds.Superblock) k e = absurd (let bad : Free ≡ Used c = e in cc)
     at y (Some kinds.Directory) k e = absurd (let bad : Sender (directory_in (slot_at images a)).sender (directory_in (slot_at images a)).directory ≡ Used c = e in cc)
     at y (Some kinds.Cells) k e = of_cell (cell_slot_in (slot_at images a)) e y k
+    at y (Some kinds.Tags) k e = absurd (let bad : Client (client_in (slot_at images a)) ≡ Used c = e in cc)
 
 pub take_plan : (s : State) (g n : ℕ) (plan : Planned) → g < sender_count s.sizes → IsDeedPlan s (Receive g) plan → IsTakePlan s.sizes (slots_now s) (under_plan n plan) g
 take_plan s g n plan below h = at plan.deed refl h.asked h.planned where

@@ -52,7 +52,12 @@ fn exit_status(made: &Result<(), Fault>, printed: &io::Result<()>) -> u8
 fn print_formatted<W: Write>(writer: &mut W, layout: &Layout) -> io::Result<()> {
     let directory = layout.directory();
     let cells = layout.cells();
-    writeln!(writer, "formatted {directory} {cells}")
+    let tags = layout.tags();
+    if tags == 0 {
+        writeln!(writer, "formatted {directory} {cells}")
+    } else {
+        writeln!(writer, "formatted {directory} {cells} {tags}")
+    }
 }
 
 /// Makes the pages and the empty log of a store in a folder, which is there. All of it is durable then, the names of

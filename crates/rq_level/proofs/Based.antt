@@ -11,8 +11,8 @@ use Rattle.rq_model.proofs.Lists.{In-map, In-reverse, In-to}
 use Rattle.rq_page.specs.declared.cell.Cell.{Cell}
 use Rattle.rq_page.specs.declared.layout.PageKind.{PageKind}
 use Rattle.rq_page.specs.Cells.{free_bytes}
-use Rattle.rq_page.specs.Sizes.{Sizes, IsCellAddress, cell_at, page_count, place_of}
-use Rattle.rq_page.specs.Slots.{Slot, Free, Used, Sender, IsSlotOf, held_for, held_in, slot_bytes}
+use Rattle.rq_page.specs.Sizes.{Sizes, IsCellAddress, cell_at, tags_from, place_of}
+use Rattle.rq_page.specs.Slots.{Slot, Free, Used, Sender, Client, IsSlotOf, held_for, held_in, slot_bytes}
 use Rattle.rq_page.proofs.Addresses.{cells_have_places, kind_cells}
 use Rattle.rq_page.proofs.Spellings.{slot_is_spelling}
 use Rattle.rq_views.specs.Log.{Write}
@@ -73,7 +73,7 @@ flag_gone (f ∷ flags) zero = refl
 flag_gone (f ∷ flags) (suc i) = flag_gone flags i
 
 pub cell_is : (z : Sizes) (a : ℕ) → IsCellAddress z a → is_cell_address z a ≡ true
-cell_is z a c = and_from _ _ (lt-ltb z.directory (a / 16) c.above) (and_from _ _ (lt-ltb (a / 16) (page_count z) c.below) (lt-ltb 0 (a % 16) c.slot))
+cell_is z a c = and_from _ _ (lt-ltb z.directory (a / 16) c.above) (and_from _ _ (lt-ltb (a / 16) (tags_from z) c.below) (lt-ltb 0 (a % 16) c.slot))
 
 pub lowest_cell : (z : Sizes) (k : LevelState) (latched : List ℕ) (a : ℕ) → IsLowest z k latched a → IsCellAddress z a
 lowest_cell z k latched a l = subst (IsCellAddress z) (sym l.at) (cells_have_places z l.place l.below).0
@@ -110,6 +110,7 @@ abbrev pub IsSomething : Slot → Type 0
 IsSomething Free = ⊥
 IsSomething (Used c) = Unit {0}
 IsSomething (Sender s d) = Unit {0}
+IsSomething (Client k) = Unit {0}
 
 -- the slot was given and holds something, or it is the lowest cell that may be taken, which is chosen
 abbrev pub IsBased : Sizes → LevelState → List Given → List ℕ → LevelState → Write → Type 0

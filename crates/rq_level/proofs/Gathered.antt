@@ -14,9 +14,10 @@ use Rattle.rq_page.specs.declared.layout.PageKind.{PageKind}
 use Rattle.rq_page.specs.declared.layout.PageKind.TheVariants as kind
 use Rattle.rq_page.specs.Cells.{cell_slot_in}
 use Rattle.rq_page.specs.Directories.{directory_in}
+use Rattle.rq_page.specs.Clients.{client_in}
 use Rattle.rq_page.specs.Kinds.{kind_of}
 use Rattle.rq_page.specs.Sizes.{Sizes, directory_at, sender_count}
-use Rattle.rq_page.specs.Slots.{Slot, Free, Used, Sender, held_for, held_in, of_cell_slot, of_directory_slot}
+use Rattle.rq_page.specs.Slots.{Slot, Free, Used, Sender, Client, held_for, held_in, of_cell_slot, of_directory_slot}
 use Rattle.rq_page.proofs.Addresses.{kind_directory, senders_have_slots}
 use Rattle.rq_level.specs.Asked.{AreWanted}
 use Rattle.rq_level.specs.ChainPlans as chain
@@ -179,6 +180,7 @@ read_for None c bytes e = absurd (let no : Free ≡ Used c = e in cc)
 read_for (Some kind.Superblock) c bytes e = absurd (let no : Free ≡ Used c = e in cc)
 read_for (Some kind.Directory) c bytes e = absurd (let no : of_directory_slot (directory_in bytes) ≡ Used c = e in cc)
 read_for (Some kind.Cells) c bytes e = used_is (cell_slot_in bytes) c e
+read_for (Some kind.Tags) c bytes e = absurd (let no : Client (client_in bytes) ≡ Used c = e in cc)
 
 module _ (P : ℕ → Type 0) (whole : List Given) where
   abbrev pub Within : Want → Type 0

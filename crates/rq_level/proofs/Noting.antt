@@ -2,7 +2,7 @@
 use Rattle.std.proofs.Common.{◌≡◌, ◌≢◌, ℕ, ◌/◌, ◌%◌, nat_lt, ◌&&◌, List, Bool, true, false, Option, None, Some, set, refl, sym, ap, ◌∙◌, subst, inl, inr}
 use Rattle.std.proofs.lemmas.Bool.{cases_Bool, ne_eqb, and_parts, ltb-true}
 use Rattle.std.proofs.lemmas.List.{get_or-set_other, set_comm}
-use Rattle.rq_page.specs.Sizes.{Sizes, IsCellAddress, cell_at, place_of, page_count}
+use Rattle.rq_page.specs.Sizes.{Sizes, IsCellAddress, cell_at, place_of, tags_from}
 use Rattle.rq_page.proofs.Addresses.{places_are_cells}
 use Rattle.rq_level.specs.Lawful.{IsUntouchedAt}
 use Rattle.rq_level.specs.LevelState.{LevelState, noted, noted_in, noted_cell, is_cell_address, is_free_slot}
@@ -14,8 +14,8 @@ cells_apart z k i j x y n =
 
 pub is_cell : (z : Sizes) (a : ℕ) → is_cell_address z a ≡ true → IsCellAddress z a
 is_cell z a e =
-    let first = and_parts (nat_lt z.directory (a / 16)) (nat_lt (a / 16) (page_count z) && nat_lt 0 (a % 16)) e in
-    let rest = and_parts (nat_lt (a / 16) (page_count z)) (nat_lt 0 (a % 16)) first.1 in
+    let first = and_parts (nat_lt z.directory (a / 16)) (nat_lt (a / 16) (tags_from z) && nat_lt 0 (a % 16)) e in
+    let rest = and_parts (nat_lt (a / 16) (tags_from z)) (nat_lt 0 (a % 16)) first.1 in
     record { above = ltb-true _ _ first.0; below = ltb-true _ _ rest.0; slot = ltb-true _ _ rest.1 }
 
 -- two cells have two places

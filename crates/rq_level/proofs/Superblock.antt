@@ -10,16 +10,21 @@ use Rattle.rq_level.specs.LevelState.{in_range, sizes_at, told_sizes}
 
 within : (z : Sizes) → IsInRange z → in_range z ≡ true
 within z r =
-    and_from (nat_le 1 z.directory && nat_le z.directory 1024) (nat_le 1 z.cells && nat_le z.cells 65536)
+    and_from ((nat_le 1 z.directory && nat_le z.directory 1024) && (nat_le 1 z.cells && nat_le z.cells 65536)) (nat_le z.tags 1024)
+    (and_from (nat_le 1 z.directory && nat_le z.directory 1024) (nat_le 1 z.cells && nat_le z.cells 65536)
     (and_from (nat_le 1 z.directory) (nat_le z.directory 1024) (le-leb 1 z.directory r.directory_low) (le-leb z.directory 1024 r.directory_high))
-    (and_from (nat_le 1 z.cells) (nat_le z.cells 65536) (le-leb 1 z.cells r.cells_low) (le-leb z.cells 65536 r.cells_high))
+    (and_from (nat_le 1 z.cells) (nat_le z.cells 65536) (le-leb 1 z.cells r.cells_low) (le-leb z.cells 65536 r.cells_high)))
+    (le-leb z.tags 1024 r.tags_high)
 
-both : (z : Sizes) (d c : ℕ) → d ≡ z.directory → c ≡ z.cells → (let made : Sizes = record { directory = d; cells = c } in made) ≡ z
-both z d c a b = ap (λ (n : ℕ). let made : Sizes = record { directory = n; cells = c } in made) a ∙ ap (λ (n : ℕ). let made : Sizes = record { directory = z.directory; cells = n } in made) b
+all : (z : Sizes) (d c t : ℕ) → d ≡ z.directory → c ≡ z.cells → t ≡ z.tags → (let made : Sizes = record { directory = d; cells = c; tags = t } in made) ≡ z
+all z d c t a b e =
+    ap (λ (n : ℕ). let made : Sizes = record { directory = n; cells = c; tags = t } in made) a
+    ∙ ap (λ (n : ℕ). let made : Sizes = record { directory = z.directory; cells = n; tags = t } in made) b
+    ∙ ap (λ (n : ℕ). let made : Sizes = record { directory = z.directory; cells = z.cells; tags = n } in made) e
 
 -- the superblock's slot tells them
 pub sizes_told : (z : Sizes) (image bytes : List ℕ) → IsInRange z → IsFormatted z 0 image → bytes ≡ slot_of 1 image → told_sizes bytes ≡ Some z
 sizes_told z image bytes range is at =
     let told = formats.told_sizes z image range is in
-    let made : sizes_at bytes ≡ z = both z (number_at 4 12 bytes) (number_at 4 16 bytes) (ap (number_at 4 12) at ∙ told.0) (ap (number_at 4 16) at ∙ told.1) in
+    let made : sizes_at bytes ≡ z = all z (number_at 4 12 bytes) (number_at 4 16 bytes) (number_at 4 20 bytes) (ap (number_at 4 12) at ∙ told.0) (ap (number_at 4 16) at ∙ told.1) (ap (number_at 4 20) at ∙ told.2) in
     ap (λ (l : Sizes). cond (in_range l) (Some l) None) made ∙ ap (λ (b : Bool). cond b (Some z) None) (within z range)

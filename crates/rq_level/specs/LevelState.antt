@@ -1,7 +1,7 @@
 -- What the level of chains keeps of a store: its sizes, and of each cell whether it is free and whether a plan has chosen it.
 use Rattle.std.specs.Prelude.{◌≡◌, ℕ, ◌/◌, ◌%◌, ◌<◌, ◌&&◌, not, cond, nat_eq, nat_lt, nat_le, Bool, true, false, List, [], Option, None, Some, slice_index_or, slice_set}
 use Rattle.rq_bytes.specs.Number.{number_at}
-use Rattle.rq_page.specs.Sizes.{Sizes, page_count, cell_count, cell_at, place_of}
+use Rattle.rq_page.specs.Sizes.{Sizes, tags_from, cell_count, cell_at, place_of}
 use Rattle.rq_level.specs.Given.{has_page}
 
 -- the flags of cells are by their places
@@ -43,16 +43,17 @@ reserved_at z k a = record k { reserved = slice_set k.reserved (place_of z a) tr
 
 -- the sizes that a superblock's slot tells, where a store may have them
 abbrev pub sizes_at : List ℕ → Sizes
-sizes_at bytes = record { directory = number_at 4 12 bytes; cells = number_at 4 16 bytes }
+sizes_at bytes = record { directory = number_at 4 12 bytes; cells = number_at 4 16 bytes; tags = number_at 4 20 bytes }
 
 abbrev pub in_range : Sizes → Bool
-in_range z = (nat_le 1 z.directory && nat_le z.directory 1024) && (nat_le 1 z.cells && nat_le z.cells 65536)
+in_range z =
+    (nat_le 1 z.directory && nat_le z.directory 1024) && (nat_le 1 z.cells && nat_le z.cells 65536) && nat_le z.tags 1024
 
 abbrev pub told_sizes : List ℕ → Option Sizes
 told_sizes bytes = cond (in_range (sizes_at bytes)) (Some (sizes_at bytes)) None
 
 abbrev pub is_cell_address : Sizes → ℕ → Bool
-is_cell_address z a = nat_lt z.directory (a / 16) && (nat_lt (a / 16) (page_count z) && nat_lt 0 (a % 16))
+is_cell_address z a = nat_lt z.directory (a / 16) && (nat_lt (a / 16) (tags_from z) && nat_lt 0 (a % 16))
 
 -- a slot of a cell page is one of a free cell where its first byte is zero
 abbrev pub is_free_slot : List ℕ → Bool

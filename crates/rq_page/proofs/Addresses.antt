@@ -1,7 +1,7 @@
 -- Addresses of cells and directory slots, and the kinds of their pages.
 use Rattle.std.proofs.Common.{◌≡◌, ℕ, ◌<◌, ◌≤◌, Some, arith}
 use Rattle.std.proofs.lemmas.Bool.Decides.{nat_tests}
-use Rattle.rq_page.specs.Sizes.{Sizes, page_count}
+use Rattle.rq_page.specs.Sizes.{Sizes, page_count, tags_from}
 use Rattle.rq_page.specs.Kinds.{kind_of}
 use Rattle.rq_page.specs.Places.{CellsHavePlaces, PlacesAreCells, CellsRise, SendersHaveSlots}
 use Rattle.rq_page.specs.declared.layout.PageKind.TheVariants as kind
@@ -23,5 +23,8 @@ senders_have_slots l sender lt = (omega arith, omega arith, omega arith, omega a
 pub kind_directory : (l : Sizes) (page : ℕ) → 1 ≤ page → page ≤ l.directory → kind_of l page ≡ Some kind.Directory
 kind_directory l page low high = grind (arith, nat_tests)
 
-pub kind_cells : (l : Sizes) (page : ℕ) → l.directory < page → page < page_count l → kind_of l page ≡ Some kind.Cells
+pub kind_cells : (l : Sizes) (page : ℕ) → l.directory < page → page < tags_from l → kind_of l page ≡ Some kind.Cells
 kind_cells l page low high = grind (arith, nat_tests)
+
+pub kind_tags : (l : Sizes) (page : ℕ) → tags_from l ≤ page → page < page_count l → kind_of l page ≡ Some kind.Tags
+kind_tags l page low high = grind (arith, nat_tests)

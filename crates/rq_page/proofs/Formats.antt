@@ -24,7 +24,7 @@ one_more P n below here k low high =
 
 -- the sizes that a superblock tells
 pub told_sizes : (l : Sizes) (image : List ℕ) → IsInRange l → IsFormatted l 0 image
-    → (number_at 4 12 (slot_of 1 image) ≡ l.directory) × (number_at 4 16 (slot_of 1 image) ≡ l.cells)
+    → (number_at 4 12 (slot_of 1 image) ≡ l.directory) × (number_at 4 16 (slot_of 1 image) ≡ l.cells) × (number_at 4 20 (slot_of 1 image) ≡ l.tags)
 unfolding superblock_bytes superblock_front
 told_sizes l image range is =
     let first : slot_of 1 image ≡ superblock_bytes l = is.slots 1 (omega arith) (omega arith) in
@@ -32,4 +32,6 @@ told_sizes l image range is =
     big_number-reads_back 4 l.directory (drop 16 (superblock_bytes l)) (omega (arith, range.directory_high)) in
     let cells : big_number 4 (big_bytes 4 l.cells ++ drop 20 (superblock_bytes l)) ≡ l.cells =
     big_number-reads_back 4 l.cells (drop 20 (superblock_bytes l)) (omega (arith, range.cells_high)) in
-    (ap (number_at 4 12) first ∙ directory, ap (number_at 4 16) first ∙ cells)
+    let tags : big_number 4 (big_bytes 4 l.tags ++ drop 24 (superblock_bytes l)) ≡ l.tags =
+    big_number-reads_back 4 l.tags (drop 24 (superblock_bytes l)) (omega (arith, range.tags_high)) in
+    (ap (number_at 4 12) first ∙ directory, ap (number_at 4 16) first ∙ cells, ap (number_at 4 20) first ∙ tags)

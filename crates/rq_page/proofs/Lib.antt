@@ -1,6 +1,7 @@
 pub mod Addresses
 pub mod CellBytes
 pub mod DirectoryBytes
+pub mod ClientBytes
 pub mod PageParts
 pub mod Spellings
 pub mod Formats

@@ -3,6 +3,7 @@ pub mod Kinds
 pub mod Places
 pub mod Cells
 pub mod Directories
+pub mod Clients
 pub mod Pages
 pub mod Slots
 pub mod Formatted

@@ -1,10 +1,11 @@
 -- The sizes of a store, and where its pages, senders and cells stand.
 use Rattle.std.specs.Prelude.{◌≡◌, ℕ, ◌+◌, ◌-◌, ◌*◌, ◌/◌, ◌%◌, ◌<◌, ◌≤◌, ◌⊎◌}
 
--- how many directory pages and cell pages a store has
+-- how many directory, cell and tag pages a store has
 pub record Sizes : Type 0 where
   pub directory : ℕ
   pub cells : ℕ
+  pub tags : ℕ
 
 -- what a store may have
 pub record IsInRange (l : Sizes) : Type 0 where
@@ -12,9 +13,14 @@ pub record IsInRange (l : Sizes) : Type 0 where
   pub directory_high : l.directory ≤ 1024
   pub cells_low : 1 ≤ l.cells
   pub cells_high : l.cells ≤ 65536
+  pub tags_high : l.tags ≤ 1024
+
+-- the page behind the cells, where the tag pages begin
+abbrev pub tags_from : Sizes → ℕ
+tags_from l = 1 + l.directory + l.cells
 
 abbrev pub page_count : Sizes → ℕ
-page_count l = 1 + l.directory + l.cells
+page_count l = 1 + l.directory + l.cells + l.tags
 
 abbrev pub sender_count : Sizes → ℕ
 sender_count l = 15 * l.directory
@@ -34,6 +40,10 @@ directory_at sender = address (1 + sender / 15) (1 + sender % 15)
 abbrev pub sender_at : ℕ → ℕ → ℕ
 sender_at page slot = 15 * (page - 1) + (slot - 1)
 
+-- the client whose slot of a tag page this is
+abbrev pub client_at : Sizes → ℕ → ℕ → ℕ
+client_at l page slot = 15 * (page - tags_from l) + (slot - 1)
+
 -- where the cell with this place among the cells stands, counted from 0
 abbrev pub cell_at : Sizes → ℕ → ℕ
 cell_at l place = address (1 + l.directory + place / 15) (1 + place % 15)
@@ -45,7 +55,7 @@ place_of l a = 15 * (a / 16 - (1 + l.directory)) + (a % 16 - 1)
 -- the address is that of a slot of a cell page
 pub record IsCellAddress (l : Sizes) (a : ℕ) : Type 0 where
   pub above : l.directory < a / 16
-  pub below : a / 16 < page_count l
+  pub below : a / 16 < tags_from l
   pub slot : 0 < a % 16
 
 -- what may stand where a slot names another

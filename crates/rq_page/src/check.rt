@@ -2,12 +2,13 @@
 ghost use Rattle.std.specs.Prelude.{◌≡◌, ◌<◌, ◌↔◌, IsTrue};
 ghost use Rattle.rq_page.specs.Sizes.{IsLink};
 ghost use Rattle.rq_page.specs.Cells.{IsCell, IsCellSlot};
-ghost use Rattle.rq_page.specs.Slots.{IsCellOf, IsDirectoryOf, IsSlotOf, SpellingTells, SlotIsSpelling, HoldsCell, HoldsDirectory, MayStand};
+ghost use Rattle.rq_page.specs.Slots.{IsCellOf, IsDirectoryOf, IsSlotOf, SpellingTells, SlotIsSpelling, HoldsCell, HoldsDirectory, HoldsClient, MayStand};
 ghost use Rattle.rq_page.specs.Formatted.{IsHeaderOf, count_in};
 ghost use Rattle.rq_page.specs.Directories.{IsDirectorySlot};
 
 use crate::addr::Addr;
 use crate::cell::{Cell, CellSlot};
+use crate::client::ClientSlot;
 use crate::directory::DirectorySlot;
 use crate::layout::{Layout, PageKind};
 use crate::numbers::u64_at;
@@ -25,7 +26,7 @@ impl Layout {
         }
     }
 
-    /// Whether these bytes are a slot of a directory or cell page of the store, at this place.
+    /// Whether these bytes are a slot of a page of the store behind the first, at this place.
     ///
     /// Of the superblock's page no slot is: `check_superblock` reads it whole.
     pub fn check_slot(&self, page: u32, slot: u8, bytes: &Slot) -> bool
@@ -39,19 +40,19 @@ impl Layout {
                 self.check_directory_slot(self.sender_at(page, slot), bytes)
             }
             Some(PageKind::Cells) => self.check_cell_slot(bytes),
+            Some(PageKind::Tags) => check_client_slot(self.client_at(page, slot), bytes),
             _ => false,
         }
     }
 
     /// The number in a slot that the length of the log bounds: of a directory slot how many messages were
-    /// sent, of any other slot 0.
+    /// sent, of a client's how often it marked, of any other slot 0.
     pub fn count(&self, page: u32, bytes: &Slot) -> u64
         ensures { result ≡ count_in self.now page bytes.now }
     {
-        if page != 0 && page <= self.directory() {
-            u64_at(bytes, 8)
-        } else {
-            0
+        match self.kind(page) {
+            Some(PageKind::Directory) | Some(PageKind::Tags) => u64_at(bytes, 8),
+            Some(PageKind::Superblock) | Some(PageKind::Cells) | None => 0,
         }
     }
 
@@ -115,5 +116,15 @@ impl Layout {
         ensures { IsTrue result ↔ IsLink self.now addr }
     {
         addr.is_none() || self.is_cell_address(addr)
+    }
+}
+
+// Whether these bytes are a client's slot.
+fn check_client_slot(client: u32, bytes: &Slot) -> bool
+    ensures { IsTrue result ↔ HoldsClient client bytes.now }
+{
+    match ClientSlot::decode(bytes) {
+        None => false,
+        Some(held) => held.client == client,
     }
 }

@@ -1,9 +1,10 @@
 //! What a formatted store holds, page by page, and the superblock, which says how large a store is.
 ghost use Rattle.std.specs.Prelude.{◌≡◌, ◌≤◌, ◌<◌, ◌↔◌, IfSome, IsTrue, Some};
 ghost use Rattle.rq_page.specs.Sizes.{Sizes, IsInRange, page_count};
-ghost use Rattle.rq_page.specs.Formatted.{superblock_front, superblock_bytes, formatted_slot, IsFormatted};
+ghost use Rattle.rq_page.specs.Formatted.{version_of, superblock_front, superblock_bytes, formatted_slot, IsFormatted};
 
 use crate::cell::CellSlot;
+use crate::client::ClientSlot;
 use crate::directory::{Directory, DirectorySlot};
 use crate::layout::{Layout, PageKind, SLOTS};
 use crate::numbers::u32_at;
@@ -12,11 +13,8 @@ use byteorder::{BigEndian, ByteOrder};
 use rq_bytes::Fields;
 use rq_model::record::{SLOT_BYTES, Slot};
 
-// The version of the format.
-const VERSION: u32 = 1;
-
 // The bytes of the superblock's slot before its zeros.
-const FRONT_BYTES: usize = 20;
+const FRONT_BYTES: usize = 24;
 
 // The slot of the superblock that is not zeros.
 const SUPERBLOCK_SLOT: u8 = 1;
@@ -24,7 +22,8 @@ const SUPERBLOCK_SLOT: u8 = 1;
 impl Layout {
     ghost use Rattle.rq_page.specs.Kinds.{kind_of};
 
-    /// Makes a page that of a formatted store: no record was applied, groups are open and empty, cells are free.
+    /// Makes a page that of a formatted store: no record was applied, groups are open and empty, cells are free, and no
+    /// client marked a tag.
     pub fn format(&self, page: u32, out: &mut Page)
         requires { page < page_count self.now }
         ensures { IsFormatted self.now page out.new }
@@ -55,8 +54,10 @@ impl Layout {
                 directory: Directory::new(),
             };
             held.encode()
-        } else {
+        } else if page < self.tags_from() {
             CellSlot::Free.encode()
+        } else {
+            ClientSlot::new(self.client_at(page, slot)).encode()
         }
     }
 
@@ -66,7 +67,7 @@ impl Layout {
         ensures only { (l : Sizes) → IsInRange l → IsFormatted l 0 image.now → result ≡ Some l }
     {
         let told = image.slot(SUPERBLOCK_SLOT);
-        let layout = Layout::new(u32_at(told, 12), u32_at(told, 16))?;
+        let layout = Layout::new(u32_at(told, 12), u32_at(told, 16), u32_at(told, 20))?;
         if layout.is_formatted(0, PageKind::Superblock, image) {
             Some(layout)
         } else {
@@ -91,6 +92,13 @@ impl Layout {
         true
     }
 
+    // The version of the format.
+    fn version(&self) -> u32
+        ensures { result ≡ version_of self.now }
+    {
+        if self.tags() == 0 { 1 } else { 2 }
+    }
+
     // Slot 1 of the superblock.
     fn superblock(&self) -> Slot
         ensures { result ≡ superblock_bytes self.now }
@@ -107,9 +115,10 @@ impl Layout {
     {
         let mut out = [0; FRONT_BYTES];
         out[..8].copy_from_slice(b"RQMSTORE");
-        BigEndian::write_u32(&mut out[8..], VERSION);
+        BigEndian::write_u32(&mut out[8..], self.version());
         BigEndian::write_u32(&mut out[12..], self.directory());
         BigEndian::write_u32(&mut out[16..], self.cells());
+        BigEndian::write_u32(&mut out[20..], self.tags());
         out
     }
 }

@@ -1,6 +1,6 @@
 //! Where the pages, senders and cells of a store stand.
 ghost use Rattle.std.specs.Prelude.{◌≡◌, ◌↔◌, ◌≤◌, ◌<◌, IsTrue, IsSome, IfSome};
-ghost use Rattle.rq_page.specs.Sizes.{Sizes, IsInRange, IsCellAddress, page_count, sender_count, cell_count, directory_at, sender_at, cell_at, place_of};
+ghost use Rattle.rq_page.specs.Sizes.{Sizes, IsInRange, IsCellAddress, page_count, tags_from, sender_count, cell_count, directory_at, sender_at, client_at, cell_at, place_of};
 
 use crate::addr::Addr;
 use std::marker::Model;
@@ -14,6 +14,9 @@ pub const DIRECTORY_LIMIT: u32 = 1024;
 /// The most cell pages that a store may have.
 pub const CELLS_LIMIT: u32 = 65536;
 
+/// The most tag pages that a store may have.
+pub const TAGS_LIMIT: u32 = 1024;
+
 /// What a page is for.
 #[derive(Clone, Copy, PartialEq, Eq)]
 pub enum PageKind {
@@ -23,6 +26,8 @@ pub enum PageKind {
     Directory,
     /// Each slot holds one message, or is free.
     Cells,
+    /// Each slot is that of one client.
+    Tags,
 }
 
 impl PageKind {
@@ -36,17 +41,19 @@ impl PageKind {
             PageKind::Superblock => 0,
             PageKind::Directory => 1,
             PageKind::Cells => 2,
+            PageKind::Tags => 3,
         }
     }
 }
 
-/// How many directory and cell pages a store has, 1 to 1,024 and 1 to 65,536. Contracts see both numbers.
+/// How many directory, cell and tag pages a store has: 1 to 1,024, 1 to 65,536 and at most 1,024. Contracts see the numbers.
 ///
-/// Page 0 is the superblock, then come the directory pages, then the cell pages.
+/// Page 0 is the superblock, then come the directory pages, then the cell pages, then the tag pages.
 #[derive(Clone, Copy, PartialEq, Eq)]
 pub struct Layout {
     directory: u32,
     cells: u32,
+    tags: u32,
 }
 
 impl Model for Layout {
@@ -54,27 +61,32 @@ impl Model for Layout {
 
     ghost Value = { Sizes };
 
-    ghost view = { λ l. record { directory = l.directory; cells = l.cells } };
+    ghost view = { λ l. record { directory = l.directory; cells = l.cells; tags = l.tags } };
 
-    ghost invariant = { λ l. IsInRange (record { directory = l.directory; cells = l.cells }) };
+    ghost invariant = { λ l. IsInRange (record { directory = l.directory; cells = l.cells; tags = l.tags }) };
 
-    ghost inverse = { λ l. record { directory = l.directory; cells = l.cells } };
+    ghost inverse = { λ l. record { directory = l.directory; cells = l.cells; tags = l.tags } };
 }
 
 impl Layout {
     ghost use Rattle.rq_page.specs.Kinds.{kind_of};
 
-    /// The layout of so many directory and cell pages; none where a number is out of range.
-    pub fn new(directory: u32, cells: u32) -> Option<Self>
-        ensures fits { IsSome result ↔ IsInRange (record { directory = directory; cells = cells }) }
-        ensures sizes { IfSome result (λ l. l ≡ record { directory = directory; cells = cells }) }
+    /// The layout of so many directory, cell and tag pages; none where a number is out of range.
+    pub fn new(directory: u32, cells: u32, tags: u32) -> Option<Self>
+        ensures fits { IsSome result ↔ IsInRange (record { directory = directory; cells = cells; tags = tags }) }
+        ensures sizes { IfSome result (λ l. l ≡ record { directory = directory; cells = cells; tags = tags }) }
     {
         let in_range = directory >= 1
             && directory <= DIRECTORY_LIMIT
             && cells >= 1
-            && cells <= CELLS_LIMIT;
+            && cells <= CELLS_LIMIT
+            && tags <= TAGS_LIMIT;
         if in_range {
-            Some(Layout { directory, cells })
+            Some(Layout {
+                directory,
+                cells,
+                tags,
+            })
         } else {
             None
         }
@@ -96,12 +108,28 @@ impl Layout {
         self.cells
     }
 
+    /// How many tag pages there are.
+    pub fn tags(&self) -> u32
+        ensures number { result ≡ self.now.tags }
+        ensures in_range { IsInRange self.now }
+    {
+        self.tags
+    }
+
+    /// The page behind the cells, where the tag pages begin.
+    pub fn tags_from(&self) -> u32
+        ensures number { result ≡ tags_from self.now }
+        ensures in_range { IsInRange self.now }
+    {
+        1 + self.directory + self.cells
+    }
+
     /// How many pages there are.
     pub fn pages(&self) -> u32
         ensures number { result ≡ page_count self.now }
         ensures in_range { IsInRange self.now }
     {
-        1 + self.directory + self.cells
+        1 + self.directory + self.cells + self.tags
     }
 
     /// How many senders there are. They are numbered from 0.
@@ -129,8 +157,10 @@ impl Layout {
             Some(PageKind::Superblock)
         } else if page <= self.directory {
             Some(PageKind::Directory)
-        } else if page < 1 + self.directory + self.cells {
+        } else if page < self.tags_from() {
             Some(PageKind::Cells)
+        } else if page < self.pages() {
+            Some(PageKind::Tags)
         } else {
             None
         }
@@ -157,11 +187,26 @@ impl Layout {
         SLOTS * (page - 1) + (slot as u32 - 1)
     }
 
+    /// The client whose slot of a tag page this is.
+    pub fn client_at(&self, page: u32, slot: u8) -> u32
+        requires page_low { tags_from self.now ≤ page }
+        requires page_high { page < page_count self.now }
+        requires slot_low { 1 ≤ slot }
+        requires slot_high { slot ≤ 15 }
+        ensures { result ≡ client_at self.now page slot }
+    {
+        let from = self.tags_from();
+        prove!(from <= page && page - from <= TAGS_LIMIT);
+        SLOTS * (page - from) + (slot as u32 - 1)
+    }
+
     /// Whether an address is that of a cell.
     pub fn is_cell_address(&self, addr: Addr) -> bool
         ensures { IsTrue result ↔ IsCellAddress self.now addr }
     {
-        addr.page() > self.directory as u64 && addr.page() < self.pages() as u64 && addr.slot() != 0
+        addr.page() > self.directory as u64
+            && addr.page() < self.tags_from() as u64
+            && addr.slot() != 0
     }
 
     /// The address of the cell with a place among the cells, counted from 0 in rising address.

@@ -17,12 +17,12 @@ use Rattle.rq_pool.proofs.Readings.{earlier}
 pub record AreNotedTo (z : Sizes) (images : List (List ℕ)) (flags : List ℕ) (n : ℕ) : Type 0 where
   pub room : cell_count z ≤ 64 * length flags
   pub noted : (k : ℕ) → k < cell_count z → cell_at z k / 16 < n → IsNoted z images flags k
-  pub later : (k : ℕ) → n ≤ cell_at z k / 16 → flag_at flags k ≡ 0
+  pub later : (k : ℕ) → (k < cell_count z → n ≤ cell_at z k / 16) → flag_at flags k ≡ 0
 
 -- the flags of a page's cells before a slot are noted, and all others are as before
 pub record AreNotedOf (z : Sizes) (images : List (List ℕ)) (old flags : List ℕ) (page slot : ℕ) : Type 0 where
   pub noted : (k : ℕ) → k < cell_count z → cell_at z k / 16 ≡ page → cell_at z k % 16 < slot → IsNoted z images flags k
-  pub others : (k : ℕ) → cell_at z k / 16 ≢ page → flag_at flags k ≡ flag_at old k
+  pub others : (k : ℕ) → (k < cell_count z → cell_at z k / 16 ≢ page) → flag_at flags k ≡ flag_at old k
   pub same : length flags ≡ length old
 
 -- a cell whose slot is as it was
@@ -43,19 +43,19 @@ rest_stays old new at a image lsn written others low other =
     ]
 
 -- a slot was written, and noted
-pub index_written : (z : Sizes) (old new : List (List ℕ)) (flags now : List ℕ) (at : ℕ) (image : List ℕ) (lsn : ℕ) → IsFreeIndex z old flags → at / 16 < page_count z
+pub index_written : (z : Sizes) (old new : List (List ℕ)) (flags now : List ℕ) (at : ℕ) (image : List ℕ) (lsn : ℕ) → IsFreeIndex z old flags
     → IsWritten (image_at old (at / 16)) (image_at new (at / 16)) (at % 16) image lsn → ((p : ℕ) → p ≢ at / 16 → image_at new p ≡ image_at old p)
-    → ((k : ℕ) → k < cell_count z → cell_at z k ≡ at → IsNoted z new now k) → ((k : ℕ) → cell_at z k ≢ at → flag_at now k ≡ flag_at flags k) → length now ≡ length flags
+    → ((k : ℕ) → k < cell_count z → cell_at z k ≡ at → IsNoted z new now k) → ((k : ℕ) → (k < cell_count z → cell_at z k ≢ at) → flag_at now k ≡ flag_at flags k) → length now ≡ length flags
     → IsFreeIndex z new now
-index_written z old new flags now at image lsn index high written elsewhere noted others same = record {
+index_written z old new flags now at image lsn index written elsewhere noted others same = record {
   room = let r = index.room in omega (arith, r, same);
   cells = λ k lt. elim (cases_eq (cell_at z k) at) [
     | inl here ↦ noted k lt here
     | inr other ↦
         let slot : slot_at new (cell_at z k) ≡ slot_at old (cell_at z k) = rest_stays old new at (cell_at z k) image lsn written elsewhere ((cells_have_places z k lt).0.slot) other in
-        others k other ∙ index.cells k lt ∙ ap free_flag (sym (slot_stays z old new (cell_at z k) slot))
+        others k (λ _. other) ∙ index.cells k lt ∙ ap free_flag (sym (slot_stays z old new (cell_at z k) slot))
   ];
-  beyond = λ k past. others k (λ e. absurd (omega (arith, e, high, past))) ∙ index.beyond k past;
+  beyond = λ k past. others k (λ lt e. absurd (omega (arith, lt, past))) ∙ index.beyond k past;
 }
 
 -- no cell stands on the first page
@@ -64,7 +64,7 @@ noted_none z images flags room none = record { room = room; noted = λ k _ low. 
 
 -- one page more is read, and noted
 pub noted_more : (z : Sizes) (images new : List (List ℕ)) (flags now : List ℕ) (n : ℕ) (page : List ℕ) → new ≡ images ++ page ∷ [] → length images ≡ n → AreNotedTo z images flags n
-    → ((k : ℕ) → k < cell_count z → cell_at z k / 16 ≡ n → IsNoted z new now k) → ((k : ℕ) → cell_at z k / 16 ≢ n → flag_at now k ≡ flag_at flags k) → length now ≡ length flags
+    → ((k : ℕ) → k < cell_count z → cell_at z k / 16 ≡ n → IsNoted z new now k) → ((k : ℕ) → (k < cell_count z → cell_at z k / 16 ≢ n) → flag_at now k ≡ flag_at flags k) → length now ≡ length flags
     → AreNotedTo z new now (n + 1)
 noted_more z images new flags now n page grown count before noted others same = record {
   room = let r = before.room in omega (arith, r, same);
@@ -73,9 +73,9 @@ noted_more z images new flags now n page grown count before noted others same = 
     | inr other ↦
         let within : cell_at z k / 16 < n = omega (arith, low, other) in
         let slot : slot_at new (cell_at z k) ≡ slot_at images (cell_at z k) = ap (slot_of (cell_at z k % 16)) (earlier images new n page grown count (cell_at z k / 16) within) in
-        others k other ∙ before.noted k lt within ∙ ap free_flag (sym (slot_stays z images new (cell_at z k) slot))
+        others k (λ _. other) ∙ before.noted k lt within ∙ ap free_flag (sym (slot_stays z images new (cell_at z k) slot))
   ];
-  later = λ k past. others k (λ e. absurd (omega (arith, e, past))) ∙ before.later k (omega (arith, past));
+  later = λ k past. others k (λ lt e. let p = past lt in absurd (omega (arith, e, p))) ∙ before.later k (λ lt. let p = past lt in omega (arith, p));
 }
 
 -- all pages are
@@ -83,7 +83,7 @@ pub index_whole : (z : Sizes) (images : List (List ℕ)) (flags : List ℕ) (n :
 index_whole z images flags n all before = record {
   room = before.room;
   cells = λ k lt. before.noted k lt (omega (arith, lt, all));
-  beyond = λ k past. before.later k (omega (arith, past, all));
+  beyond = λ k past. before.later k (λ lt. absurd (omega (arith, lt, past)));
 }
 
 -- ---- what the index tells

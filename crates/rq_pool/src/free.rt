@@ -17,7 +17,8 @@ pub(crate) fn note_page(free: &mut Index, layout: &Layout, frames: &[Frame], num
     requires room { cell_count layout.now ≤ 64 * length free.old }
     ensures noted { (k : ℕ) → k < cell_count layout.now → cell_at layout.now k / 16 ≡ number
         → IsNoted layout.now (images_of frames.now) free.new k }
-    ensures others { (k : ℕ) → cell_at layout.now k / 16 ≢ number → flag_at free.new k ≡ flag_at free.old k }
+    ensures others { (k : ℕ) → (k < cell_count layout.now → cell_at layout.now k / 16 ≢ number)
+        → flag_at free.new k ≡ flag_at free.old k }
     ensures same { length free.new ≡ length free.old }
 {
     for slot in 1..SLOTS as u8 + 1 {
@@ -31,7 +32,8 @@ pub(crate) fn note_slot(free: &mut Index, layout: &Layout, frames: &[Frame], at:
     requires room { cell_count layout.now ≤ 64 * length free.old }
     ensures noted { (k : ℕ) → k < cell_count layout.now → cell_at layout.now k ≡ at
         → IsNoted layout.now (images_of frames.now) free.new k }
-    ensures others { (k : ℕ) → cell_at layout.now k ≢ at → flag_at free.new k ≡ flag_at free.old k }
+    ensures others { (k : ℕ) → (k < cell_count layout.now → cell_at layout.now k ≢ at)
+        → flag_at free.new k ≡ flag_at free.old k }
     ensures same { length free.new ≡ length free.old }
 {
     if layout.is_cell_address(at) {

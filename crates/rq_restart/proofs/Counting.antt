@@ -11,8 +11,8 @@ use Rattle.rq_page.specs.declared.layout.PageKind.TheVariants as kind
 use Rattle.rq_page.specs.Sizes.{Sizes, page_count, sender_count, directory_at}
 use Rattle.rq_page.specs.Directories.{directory_in}
 use Rattle.rq_page.specs.Slots.{Slot, held_in, held_for}
-use Rattle.rq_page.specs.Slots.Slot.{Free, Used, Sender}
-use Rattle.rq_page.specs.Formatted.{count_in}
+use Rattle.rq_page.specs.Slots.Slot.{Free, Used, Sender, Client}
+use Rattle.rq_page.specs.Formatted.{count_in, count_for}
 use Rattle.rq_page.proofs.Addresses.{senders_have_slots, kind_directory}
 use Rattle.rq_views.specs.Stored.{slot_at, slots_in}
 use Rattle.rq_pool.proofs.Slots.{slots_here}
@@ -74,15 +74,14 @@ all_counted told n ws count c =
 sent_within : (z : Sizes) (n page : ℕ) (bytes : List ℕ) → 1 ≤ page → page ≤ z.directory → count_in z page bytes ≤ n → sent_told (held_for (Some kind.Directory) bytes) ≤ n
 unfolding directory_in
 sent_within z n page bytes low high h =
-    let behind : (page == 0) ≡ false = grind (arith, nat_tests) in
-    let directory : nat_le page z.directory ≡ true = grind (arith, nat_tests) in
-    rw behind at (rw directory at h)
+    subst (λ k. count_for k bytes ≤ n) (kind_directory z page low high) h
 
 -- those that wait were sent
 waits_were_sent : (x : Slot) → messages_told x ≤ sent_told x
 waits_were_sent Free = omega arith
 waits_were_sent (Used c) = omega arith
 waits_were_sent (Sender s d) = omega arith
+waits_were_sent (Client k) = omega arith
 
 module _ (z : Sizes) (images : List (List ℕ)) where
   abbrev directory_of : ℕ → Slot

@@ -1,6 +1,6 @@
 -- The pages behind the first, and then the first.
-use Rattle.std.proofs.Common.{◌⊎◌, ℕ, ◌≤◌, ◌<◌, ◌==◌, ◌∙◌, List, zero, suc, inl, inr, ⊎_elim, sym, subst, arith}
-use Rattle.std.proofs.lemmas.Bool.{cond-false}
+use Rattle.std.proofs.Common.{◌⊎◌, ℕ, ◌+◌, ◌≤◌, ◌<◌, ◌==◌, ◌∙◌, List, zero, suc, inl, inr, ⊎_elim, sym, subst, arith}
+use Rattle.std.proofs.lemmas.Bool.{cases_eq, cond-false, cond-true, eq-eqb, ne_eqb}
 use Rattle.rq_views.proofs.Chains.{no_eq}
 use Rattle.rq_page.specs.Sizes.{Sizes, page_count}
 use Rattle.rq_page.specs.Formatted.{IsFormatted}
@@ -11,6 +11,14 @@ use Rattle.rq_restart.specs.Formatting.{IsBeforeOrFormatted, SuperblockIsLast, W
 pub formatted_all : (z : Sizes) (old new : ℕ → List ℕ) (image : List ℕ) → ((p : ℕ) → 1 ≤ p → p < page_count z → IsFormatted z p (old p)) → Holds old 0 image new → IsFormatted z 0 image → (p : ℕ) → p < page_count z → IsFormatted z p (new p)
 formatted_all z old new image h holds first zero lt = subst (IsFormatted z 0) (sym (holds 0)) first
 formatted_all z old new image h holds first (suc p) lt = subst (IsFormatted z (suc p)) (sym (holds (suc p) ∙ cond-false (suc p == 0) image (old (suc p)) (no_eq (suc p) 0 (λ e. absurd (omega (arith, e)))))) (h (suc p) (omega arith) lt)
+
+-- one page more is formatted
+pub formatted_more : (z : Sizes) (n : ℕ) (old new : ℕ → List ℕ) (image : List ℕ) → ((p : ℕ) → 1 ≤ p → p < n → IsFormatted z p (old p)) → Holds old n image new → IsFormatted z n image
+    → (p : ℕ) → 1 ≤ p → p < n + 1 → IsFormatted z p (new p)
+formatted_more z n old new image h holds is p low lt = elim (cases_eq p n) [
+  | inl same ↦ subst (IsFormatted z p) (sym (holds p ∙ cond-true (p == n) image (old p) (eq-eqb p n same))) (subst (λ k. IsFormatted z k image) (sym same) is)
+  | inr off ↦ subst (IsFormatted z p) (sym (holds p ∙ cond-false (p == n) image (old p) (ne_eqb p n off))) (h p low (omega (arith, lt, off)))
+]
 
 module _ {P : Type 0} (p : Ghosts P) (z : Sizes) (old : P) where
   -- time goes on

@@ -20,7 +20,9 @@ one_size y z image h k =
     let b = told_sizes z image k.range k.formatted in
     let d : y.directory ≡ z.directory = sym a.0 ∙ b.0 in
     let c : y.cells ≡ z.cells = sym a.1 ∙ b.1 in
-    ap (λ n. record { directory = n; cells = y.cells }) d ∙ ap (λ n. record { directory = z.directory; cells = n }) c
+    let t : y.tags ≡ z.tags = sym a.2 ∙ b.2 in
+    ap (λ n. record { directory = n; cells = y.cells; tags = y.tags }) d ∙ ap (λ n. record { directory = z.directory; cells = n; tags = y.tags }) c
+    ∙ ap (λ n. record { directory = z.directory; cells = z.cells; tags = n }) t
 
 sound : (z : Sizes) (seen : ℕ → List ℕ) (older : List Record) (page : ℕ) → IsSuperblock z (seen 0) → IsLeft z seen older → IsDamaged seen page → ⊥
 sound z seen older page block left (inl first) = first.1 z block

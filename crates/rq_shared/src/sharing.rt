@@ -25,7 +25,7 @@ impl Sharing for Brand {
 
     ghost taking = { 0 };
 
-    ghost begins = { opened (record { directory = 0; cells = 0 }) [] [] };
+    ghost begins = { opened (record { directory = 0; cells = 0; tags = 0 }) [] [] };
 }
 
 /// The ledger of the entries that are taken of an audit. It has as many parts as that of the calls.

@@ -303,7 +303,7 @@ noted_known = record {
   notes = λ z q k count a bytes store now h. known_at z q k count a bytes store now h count (λ i lt low ne. lt);
   notes_next = λ z q k count bytes lt now h.
       let cell = (cells_have_places z count lt).0 in
-      known_at z q k count (cell_at z count) bytes (record { page_low = (let low = cell.above in omega (arith, low)); page_high = cell.below; slot = cell.slot }) now h (count + 1)
+      known_at z q k count (cell_at z count) bytes (record { page_low = (let low = cell.above in omega (arith, low)); page_high = (let high = cell.below in omega (arith, high)); slot = cell.slot }) now h (count + 1)
       (λ i less low ne. elim (cases_eq i count) [ inl same ↦ absurd (ne (ap (cell_at z) same)) | inr other ↦ omega (arith, less, other) ]);
   all = λ s k h. record {
     sizes = h.sizes;

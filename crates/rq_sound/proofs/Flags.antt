@@ -11,7 +11,7 @@ use Rattle.rq_page.specs.declared.cell.Cell.{Cell}
 use Rattle.rq_page.specs.declared.directory.Directory.{Directory}
 use Rattle.rq_page.specs.Sizes.{sender_count, directory_at}
 use Rattle.rq_page.specs.Slots.{Slot}
-use Rattle.rq_page.specs.Slots.Slot.{Free, Used, Sender}
+use Rattle.rq_page.specs.Slots.Slot.{Free, Used, Sender, Client}
 use Rattle.rq_views.specs.Log.{Slots, Write, applied, HasBefores, Places}
 use Rattle.rq_views.specs.Legal.{under_way, view}
 use Rattle.rq_views.specs.Plans.{IsPlan, relinked}
@@ -42,6 +42,7 @@ abbrev flag_of : Slot → Bool
 flag_of Free = false
 flag_of (Used c) = false
 flag_of (Sender s d) = d.closed
+flag_of (Client k) = false
 
 -- what of the writes is over the slot leaves its flag
 abbrev LeaveFlag : ℕ → List Write → Type 0

@@ -55,7 +55,7 @@ names_cell : (z : Sizes) (b : ℕ) → IsLink z b → nat_eq b 0 ≡ false → I
 names_cell z b l n = ⊎_elim (λ (e : b ≡ 0). absurd (true≢false (sym (eq-eqb b 0 e) ∙ n))) (λ (c : IsCellAddress z b). c) l
 
 pub cell_of_store : (z : Sizes) (b : ℕ) → IsCellAddress z b → IsStoreSlot z b
-cell_of_store z b c = record { page_low = (let low = c.above in omega (arith, low)); page_high = c.below; slot = c.slot }
+cell_of_store z b c = record { page_low = (let low = c.above in omega (arith, low)); page_high = (let high = c.below in omega (arith, high)); slot = c.slot }
 
 module _ (s : State) (given : List Given) (h : AreGivenFrom s given) where
   -- what a slot holds that was given

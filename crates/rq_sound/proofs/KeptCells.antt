@@ -5,7 +5,7 @@ use Rattle.std.proofs.lemmas.List.{get_or-set_other, get_or-set_same}
 use Rattle.rq_model.specs.declared.txn.Txn.{Txn}
 use Rattle.rq_model.specs.Vocabulary.{In, same_txn}
 use Rattle.rq_model.proofs.Lists.{same_is}
-use Rattle.rq_page.specs.Sizes.{Sizes, IsCellAddress, cell_at, cell_count, page_count, place_of}
+use Rattle.rq_page.specs.Sizes.{Sizes, IsCellAddress, cell_at, cell_count, tags_from, place_of}
 use Rattle.rq_page.specs.Slots.{held_for, held_in}
 use Rattle.rq_page.proofs.Addresses.{cells_have_places, kind_cells}
 use Rattle.rq_views.specs.Stored.{is_used}
@@ -47,7 +47,7 @@ pub place_is : (z : Sizes) (a i : ℕ) → i < cell_count z → cell_at z i ≡ 
 place_is z a i lt e = sym (cells_have_places z i lt).1 ∙ ap (place_of z) e
 
 pub cell_is : (z : Sizes) (a : ℕ) → IsCellAddress z a → is_cell_address z a ≡ true
-cell_is z a c = and_from _ _ (lt-ltb z.directory (a / 16) c.above) (and_from _ _ (lt-ltb (a / 16) (page_count z) c.below) (lt-ltb 0 (a % 16) c.slot))
+cell_is z a c = and_from _ _ (lt-ltb z.directory (a / 16) c.above) (and_from _ _ (lt-ltb (a / 16) (tags_from z) c.below) (lt-ltb 0 (a % 16) c.slot))
 
 -- a slot of a cell page is free by its first byte
 pub free_by_byte : (z : Sizes) (a : ℕ) (bytes : List ℕ) → IsCellAddress z a → is_free_slot bytes ≡ not (is_used (held_in z (a / 16) bytes))

@@ -15,7 +15,7 @@ use Rattle.rq_page.specs.declared.cell.Cell.{Cell}
 use Rattle.rq_page.specs.declared.directory.Directory.{Directory}
 use Rattle.rq_page.specs.Sizes.{Sizes, IsCellAddress, cell_at, cell_count, directory_at, place_of, sender_count}
 use Rattle.rq_page.specs.Slots.{Slot}
-use Rattle.rq_page.specs.Slots.Slot.{Free, Used, Sender}
+use Rattle.rq_page.specs.Slots.Slot.{Free, Used, Sender, Client}
 use Rattle.rq_page.proofs.Addresses.{cells_have_places, places_are_cells}
 use Rattle.rq_views.specs.Chain.{Shows, View, directory_appended}
 use Rattle.rq_views.specs.InStore.{AllStand, IsInPlace, WritesStand}
@@ -151,6 +151,7 @@ module _ (s : State) (k : IsSound s) where
     at Free h = refl
     at (Used c) h = absurd (let b = h.slot in omega (arith, b))
     at (Sender g d) h = absurd (let b = h.slot in omega (arith, b))
+    at (Client k) h = absurd (let b = h.slot in omega (arith, b))
 
   same_at : (a : ℕ) → (0 < a → off a) → q a ≡ completed s a
   same_at a h = elim (cases_eq a 0) [

@@ -11,7 +11,7 @@ use Rattle.rq_model.proofs.Counts.{sum_more}
 use Rattle.rq_page.specs.declared.cell.Cell.{Cell}
 use Rattle.rq_page.specs.Sizes.{Sizes, IsCellAddress, cell_count, cell_at}
 use Rattle.rq_page.specs.Slots.{Slot}
-use Rattle.rq_page.specs.Slots.Slot.{Free, Used, Sender}
+use Rattle.rq_page.specs.Slots.Slot.{Free, Used, Sender, Client}
 use Rattle.rq_page.proofs.Addresses.{cells_have_places}
 use Rattle.rq_views.specs.Log.{Slots, Write, Places, applied, HasBefores}
 use Rattle.rq_views.specs.Chain.{directory_appended}
@@ -182,6 +182,7 @@ pub free_from : (z : Sizes) (a : ℕ) (x : Slot) → IsInPlace z a x → IsCellA
 free_from z a Free h c n = refl
 free_from z a (Used x) h c n = absurd (true≢false n)
 free_from z a (Sender s d) h c n = absurd (let x = h.high in let y = c.above in omega (arith, x, y))
+free_from z a (Client k) h c n = absurd (let x = h.low in let y = c.below in omega (arith, x, y))
 
 -- where fewer cells are used than there are, one is free
 pub some_free : (z : Sizes) (q : Slots) → AllStand z q → count_used z q < cell_count z → (a : ℕ) × IsCellAddress z a × (q a ≡ Free)

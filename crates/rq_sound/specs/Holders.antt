@@ -12,7 +12,7 @@ use Rattle.rq_model.specs.Vocabulary.{In, Op, sent_for, taken_from}
 use Rattle.rq_page.specs.declared.cell.Cell.{Cell}
 use Rattle.rq_page.specs.Sizes.{Sizes, directory_at, sender_count}
 use Rattle.rq_page.specs.Slots.{Slot}
-use Rattle.rq_page.specs.Slots.Slot.{Free, Used, Sender}
+use Rattle.rq_page.specs.Slots.Slot.{Free, Used, Sender, Client}
 use Rattle.rq_views.specs.Chain.{Cells, View}
 use Rattle.rq_views.specs.Committed.{IsViewOf}
 use Rattle.rq_views.specs.Items.{layout_of}
@@ -45,6 +45,7 @@ abbrev pub chain_of : Cells → Slot → List Message
 chain_of m Free = []
 chain_of m (Used c) = []
 chain_of m (Sender g d) = chain_from m (d.sent - d.received) d.head
+chain_of m (Client k) = []
 
 -- the messages in a group's chain, as the slots hold them
 abbrev pub chain_in : Slots → ℕ → List Message

@@ -8,7 +8,7 @@ use Rattle.rq_model.specs.Tests.{Passes, starts}
 use Rattle.rq_model.specs.Vocabulary.{last}
 use Rattle.rq_page.specs.Sizes.{IsCellAddress, directory_at}
 use Rattle.rq_page.specs.Slots.{Slot}
-use Rattle.rq_page.specs.Slots.Slot.{Free, Used, Sender}
+use Rattle.rq_page.specs.Slots.Slot.{Free, Used, Sender, Client}
 use Rattle.rq_views.specs.Claims.{appends_of, takes_of}
 use Rattle.rq_views.specs.InStore.{WritesStand}
 use Rattle.rq_views.specs.Items.{layout_of}
@@ -32,21 +32,25 @@ abbrev pub head_in : Slot → ℕ
 head_in Free = 0
 head_in (Used c) = 0
 head_in (Sender g d) = d.head
+head_in (Client k) = 0
 
 abbrev pub tail_in : Slot → ℕ
 tail_in Free = 0
 tail_in (Used c) = 0
 tail_in (Sender g d) = d.tail
+tail_in (Client k) = 0
 
 abbrev pub next_in : Slot → ℕ
 next_in Free = 0
 next_in (Used c) = c.next
 next_in (Sender g d) = 0
+next_in (Client k) = 0
 
 abbrev pub prev_in : Slot → ℕ
 prev_in Free = 0
 prev_in (Used c) = c.prev
 prev_in (Sender g d) = 0
+prev_in (Client k) = 0
 
 -- the slot that a link names: none where it is 0
 abbrev pub named : ℕ → List ℕ

@@ -9,13 +9,14 @@ use Rattle.rq_model.specs.declared.record.Record.TheVariants as records
 use Rattle.rq_page.specs.declared.cell.Cell.{Cell}
 use Rattle.rq_page.specs.declared.layout.PageKind.{PageKind}
 use Rattle.rq_page.specs.declared.layout.PageKind.TheVariants as kind
-use Rattle.rq_page.specs.Sizes.{Sizes, page_count, address}
+use Rattle.rq_page.specs.Sizes.{Sizes, page_count, tags_from, address}
 use Rattle.rq_page.specs.Kinds.{kind_of}
 use Rattle.rq_page.specs.Directories.{directory_in}
+use Rattle.rq_page.specs.Clients.{client_in}
 use Rattle.rq_page.specs.Pages.{lsn_of, slot_of}
 use Rattle.rq_page.specs.Slots.{Slot, held_in, held_for, IsSlotOf, IsSlotFor}
-use Rattle.rq_page.specs.Slots.Slot.{Free, Used, Sender}
-use Rattle.rq_page.specs.Formatted.{count_in}
+use Rattle.rq_page.specs.Slots.Slot.{Free, Used, Sender, Client}
+use Rattle.rq_page.specs.Formatted.{count_in, count_for}
 use Rattle.rq_views.specs.Log.{Item, Places, Slots, Write, put, rest_of, IsNewest, same_op, state_of}
 use Rattle.rq_views.specs.Log.Item.{PageOp, PageUndo, OpEnd, OpVoid, CompEnd}
 use Rattle.rq_views.specs.Plans.{Turn, IsPlan, relinked}
@@ -24,22 +25,24 @@ use Rattle.rq_views.specs.Legal.{IsLegalLog, onto}
 use Rattle.rq_views.specs.Items.{items, item_of, layout_of, formatted_at}
 use Rattle.rq_views.specs.InStore.{InStore, InStoreOne}
 use Rattle.rq_views.proofs.Overlay.{put_at, put_off}
-use Rattle.rq_views.proofs.Stands.{page_of_cells, page_of_directory}
+use Rattle.rq_views.proofs.Stands.{page_of_cells, page_of_directory, page_of_tags}
 use Rattle.rq_store.specs.Fitting.{left_by, oldest, told_by, FitsPage}
 use Rattle.rq_store.specs.Whole.{BeforesAreSlots}
 use Rattle.rq_store.specs.Opening.{FitsUpTo, IsBeforeIn, IsSoundTold, IsSoundWrite, MayRedo, IsCounted}
 use Rattle.rq_store.proofs.Redoing.{oldest_legal, oldest_store, before_is}
 
--- the sender of the slot, where it is one's directory slot, sent no more than this
+-- a directory slot tells of no more that was sent than this, and a client's of no more that it marked
 abbrev SentWithin : ℕ → Slot → Type 0
 SentWithin n Free = Unit {0}
 SentWithin n (Used c) = Unit {0}
 SentWithin n (Sender s d) = d.sent ≤ n
+SentWithin n (Client k) = k.count ≤ n
 
 more : (n : ℕ) (x : Slot) → SentWithin n x → SentWithin (suc n) x
 more n Free h = tt
 more n (Used c) h = tt
 more n (Sender s d) h = omega (arith, h)
+more n (Client k) h = omega (arith, h)
 
 -- a write adds one at most to what was sent
 abbrev AddsOne : Write → Type 0
@@ -126,27 +129,25 @@ bounded l (CompEnd p u ∷ log) start k = over l log (λ o. same_op p o) (bounde
 bounded l (_ ∷ log) start k = same l log (bounded l log start k.1)
 
 formatted_within : (z : Sizes) (a : ℕ) → SentWithin 0 (formatted_at z a)
-formatted_within z a = elim (cases_Bool (nat_lt 0 (a / 16) && nat_le (a / 16) z.directory && nat_lt 0 (a % 16))) [ inl y ↦ rw y (omega arith) | inr n ↦ rw n tt ]
+formatted_within z a = elim (cases_Bool (nat_lt 0 (a / 16) && nat_le (a / 16) z.directory && nat_lt 0 (a % 16))) [
+  | inl y ↦ rw y (omega arith)
+  | inr n ↦ rw n (elim (cases_Bool (nat_lt 0 (a % 16) && nat_le (tags_from z) (a / 16) && nat_lt (a / 16) (page_count z))) [ inl y ↦ rw y (omega arith) | inr m ↦ rw m tt ])
+]
 
 slots_within : (z : Sizes) (log : List Record) → IsLegalLog (layout_of z) (items z log) → (a : ℕ) → SentWithin (length log) ((left_by z log).slots a)
 slots_within z log k a = subst (λ n. SentWithin n ((left_by z log).slots a)) (length-map log (item_of z)) ((bounded (layout_of z) (items z log) (formatted_within z) k).0 a)
 
 -- the number in a slot that holds so much
-directory_count : (z : Sizes) (n page : ℕ) (bytes : List ℕ) → (page == 0) ≡ false → nat_le page z.directory ≡ true → (directory_in bytes).directory.sent ≤ n → count_in z page bytes ≤ n
-unfolding directory_in
-directory_count z n page bytes e f h = rw e (rw f h)
+counted_for : (n : ℕ) (k : Option PageKind) (bytes : List ℕ) → SentWithin n (held_for k bytes) → count_for k bytes ≤ n
+unfolding directory_in client_in
+counted_for n None bytes h = omega arith
+counted_for n (Some kind.Superblock) bytes h = omega arith
+counted_for n (Some kind.Directory) bytes h = h
+counted_for n (Some kind.Cells) bytes h = omega arith
+counted_for n (Some kind.Tags) bytes h = h
 
 counted : (z : Sizes) (n page : ℕ) (bytes : List ℕ) → SentWithin n (held_in z page bytes) → count_in z page bytes ≤ n
-counted z n page bytes h = elim (cases_Bool (page == 0)) [
-  | inl y ↦ rw y (omega arith)
-  | inr behind ↦ elim (cases_Bool (nat_le page z.directory)) [
-    | inl y ↦
-        let is : held_in z page bytes ≡ held_for (Some kind.Directory) bytes = rw behind (rw y refl) in
-        let k : SentWithin n (held_for (Some kind.Directory) bytes) = subst (SentWithin n) is h in
-        directory_count z n page bytes behind y k
-    | inr m ↦ rw behind (rw m (omega arith))
-  ]
-]
+counted z n page bytes h = counted_for n (kind_of z page) bytes h
 
 -- no number of a page that fits a legal log is beyond its end
 pub fits_counted : (z : Sizes) (log : List Record) (p : ℕ) (image : List ℕ) → IsLegalLog (layout_of z) (items z log) → FitsPage z log p image → IsCounted z (length log) p image
@@ -173,14 +174,15 @@ sound_write z (records.PageOp t n page slot before after) log k store = sound_to
 sound_write z (records.PageUndo t n undone page slot after) log k store = sound_told z (records.PageUndo t n undone page slot after) log page slot after k store refl
 sound_write z _ log k store = tt
 
--- a slot of the store is on a directory or cell page
+-- a slot of the store is on a page behind the first
 pub page_of_slot : (z : Sizes) (page slot : ℕ) (bytes : List ℕ) → IsSlotOf z page slot bytes → (1 ≤ page) × (page < page_count z)
 page_of_slot z page slot bytes h = by (kind_of z page) refl h.held where
   by : (k : Option PageKind) → kind_of z page ≡ k → IsSlotFor k z page slot bytes → (1 ≤ page) × (page < page_count z)
   by None e f = absurd f
   by (Some kind.Superblock) e f = absurd f
   by (Some kind.Directory) e f = let p = page_of_directory z page e in let low = p.0 in let high = p.1 in (low, omega (arith, high))
-  by (Some kind.Cells) e f = let p = page_of_cells z page e in let low = p.0 in let high = p.1 in (omega (arith, low), high)
+  by (Some kind.Cells) e f = let p = page_of_cells z page e in let low = p.0 in let high = p.1 in (omega (arith, low), omega (arith, high))
+  by (Some kind.Tags) e f = let p = page_of_tags z page e in let low = p.0 in (omega (arith, low), p.1)
 
 -- a legal log passes each check of going through it
 pub may_redo : (z : Sizes) (log : List Record) (image : ℕ → List ℕ) (k : ℕ) (r : Record) → IsLegalLog (layout_of z) (items z log) → InStore z log → BeforesAreSlots z log

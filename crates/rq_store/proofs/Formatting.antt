@@ -1,16 +1,18 @@
 -- The pages of a formatted store fit the empty log.
-use Rattle.std.proofs.Common.{◌≡◌, ℕ, ◌/◌, ◌%◌, ◌<◌, ◌≤◌, ◌++◌, ◌∷◌, List, [], replicate, refl, sym, ◌∙◌, ap, subst, Bool, true, false, cond, Option, Some, None, nat_lt, nat_le, ◌&&◌, arith}
-use Rattle.std.proofs.lemmas.Bool.{lt-ltb}
+use Rattle.std.proofs.Common.{◌≡◌, ℕ, ◌/◌, ◌%◌, ◌<◌, ◌≤◌, ◌++◌, ◌∷◌, List, [], replicate, refl, sym, ◌∙◌, ap, subst, Bool, true, false, cond, Option, Some, None, nat_lt, nat_le, ◌&&◌, not, inl, inr, arith}
+use Rattle.std.proofs.lemmas.Bool.{lt-ltb, cases_lt}
+use Rattle.std.proofs.lemmas.Bool.Decides.{nat_tests}
 use Rattle.std.proofs.lemmas.List.{append_assoc}
 use Rattle.byteorder.specs.Endian.{big_bytes, big_number}
 use Rattle.byteorder.specs.Numbers.{big_number-reads_back}
 use Rattle.rq_page.specs.declared.layout.PageKind.{PageKind}
-use Rattle.rq_page.specs.Sizes.{Sizes, IsInRange, page_count, address, sender_at}
+use Rattle.rq_page.specs.Sizes.{Sizes, IsInRange, page_count, tags_from, address, sender_at, client_at}
 use Rattle.rq_page.specs.Kinds.{kind_of, kind_byte}
 use Rattle.rq_page.specs.Directories.{new_directory}
+use Rattle.rq_page.specs.Clients.{new_client}
 use Rattle.rq_page.specs.Pages.{lsn_of, header_bytes, header_front}
 use Rattle.rq_page.specs.Slots.{Slot, held_in, IsSlotOf}
-use Rattle.rq_page.specs.Slots.Slot.{Free, Sender}
+use Rattle.rq_page.specs.Slots.Slot.{Free, Sender, Client}
 use Rattle.rq_page.specs.Formatted.{IsFormatted, IsHeaderFor, formatted_content, formatted_slot}
 use Rattle.rq_page.proofs.FormattedSlots.{formatted_holds}
 use Rattle.rq_page.proofs.PageParts.{lsn_of_header}
@@ -27,20 +29,34 @@ no_lsn : (k : Option PageKind) (page : ℕ) (image : List ℕ) → IsHeaderFor k
 no_lsn None page image h = absurd h
 no_lsn (Some k) page image h = lsn_of_header image ∙ ap (big_number 8) h ∙ header_lsn page (kind_byte k)
 
+abbrev tag_by_place : Sizes → ℕ → ℕ → Slot
+tag_by_place z page slot = cond (nat_lt 0 slot && nat_le (tags_from z) page && nat_lt page (page_count z)) (Client (new_client (client_at z page slot))) Free
+
 abbrev by_place : Sizes → ℕ → ℕ → Slot
-by_place z page slot = cond (nat_lt 0 page && nat_le page z.directory && nat_lt 0 slot) (Sender (sender_at page slot) new_directory) Free
+by_place z page slot = cond (nat_lt 0 page && nat_le page z.directory && nat_lt 0 slot) (Sender (sender_at page slot) new_directory) (tag_by_place z page slot)
 
 -- what stands there by address is what stands there by page and slot
-formatted_there : (z : Sizes) (page slot : ℕ) → 1 ≤ page → 1 ≤ slot → slot ≤ 15 → formatted_at z (address page slot) ≡ formatted_content z page slot
-formatted_there z page slot low slot_low slot_high =
+formatted_there : (z : Sizes) (page slot : ℕ) → 1 ≤ page → page < page_count z → 1 ≤ slot → slot ≤ 15 → formatted_at z (address page slot) ≡ formatted_content z page slot
+formatted_there z page slot low high slot_low slot_high =
     let p : address page slot / 16 ≡ page = omega arith in
     let n : address page slot % 16 ≡ slot = omega arith in
     let x : nat_lt 0 page ≡ true = lt-ltb 0 page low in
     let y : nat_lt 0 slot ≡ true = lt-ltb 0 slot slot_low in
-    ap (λ i. by_place z i (address page slot % 16)) p ∙ ap (by_place z page) n ∙ rw x (rw y (and_true (nat_le page z.directory))) where
-      and_true : (b : Bool) → cond (b && true) (Sender (sender_at page slot) new_directory) Free ≡ cond b (Sender (sender_at page slot) new_directory) Free
-      and_true true = refl
-      and_true false = refl
+    let w : nat_lt page (page_count z) ≡ true = lt-ltb page (page_count z) high in
+    ap (λ i. by_place z i (address page slot % 16)) p ∙ ap (by_place z page) n
+    ∙ rw x (rw y (rw w (by_kind (nat_le page z.directory) (nat_lt page (tags_from z)) (nat_le (tags_from z) page) behind))) where
+      behind : nat_le (tags_from z) page ≡ not (nat_lt page (tags_from z))
+      behind = elim (cases_lt page (tags_from z)) [
+        | inl lt ↦ let a : nat_lt page (tags_from z) ≡ true = grind (arith, nat_tests) in let b : nat_le (tags_from z) page ≡ false = grind (arith, nat_tests) in rw a b
+        | inr le ↦ let a : nat_lt page (tags_from z) ≡ false = grind (arith, nat_tests) in let b : nat_le (tags_from z) page ≡ true = grind (arith, nat_tests) in rw a b
+      ]
+
+      by_kind : (b t u : Bool) → u ≡ not t
+          → cond (b && true) (Sender (sender_at page slot) new_directory) (cond (u && true) (Client (new_client (client_at z page slot))) Free)
+          ≡ cond b (Sender (sender_at page slot) new_directory) (cond t Free (Client (new_client (client_at z page slot))))
+      by_kind true t u e = refl
+      by_kind false true u e = rw e refl
+      by_kind false false u e = rw e refl
 
 -- a formatted page fits
 pub formatted_page : (z : Sizes) (page : ℕ) (image : List ℕ) → IsInRange z → 1 ≤ page → page < page_count z → IsFormatted z page image → FitsPage z [] page image
@@ -51,7 +67,7 @@ formatted_page z page image range low high h =
       slots = λ n a b. subst (IsSlotOf z page n) (sym (h.slots n a b)) (holds n a b).0;
       within = omega (arith, none);
       stamped = subst (λ n. IsStamp page (oldest n [])) (sym none) tt;
-      held = subst (λ n. HoldsPage z page image (oldest n [])) (sym none) (λ n a b. ap (held_in z page) (h.slots n a b) ∙ (holds n a b).1 ∙ sym (formatted_there z page n low a b));
+      held = subst (λ n. HoldsPage z page image (oldest n [])) (sym none) (λ n a b. ap (held_in z page) (h.slots n a b) ∙ (holds n a b).1 ∙ sym (formatted_there z page n low high a b));
     }
 
 -- so do the pages of a formatted store

@@ -11,7 +11,7 @@ use Rattle.rq_page.specs.Sizes.{Sizes, page_count, address}
 use Rattle.rq_page.specs.Kinds.{kind_of}
 use Rattle.rq_page.specs.Pages.{lsn_of, slot_of, IsWritten}
 use Rattle.rq_page.specs.Slots.{Slot, held_in, held_for, slot_bytes, IsSlotOf}
-use Rattle.rq_page.specs.Slots.Slot.{Free, Used, Sender}
+use Rattle.rq_page.specs.Slots.Slot.{Free, Used, Sender, Client}
 use Rattle.rq_page.proofs.Spellings.{slot_is_spelling}
 use Rattle.rq_views.specs.Log.{Slots, put}
 use Rattle.rq_views.specs.Legal.{IsLegalLog}
@@ -19,7 +19,7 @@ use Rattle.rq_views.specs.Items.{items, layout_of}
 use Rattle.rq_views.specs.InStore.{InStore, InStoreOne, IsInPlace, AllStand}
 use Rattle.rq_views.specs.Stored.{IsStoreSlot, slots_in, slot_at}
 use Rattle.rq_views.proofs.Overlay.{put_at, put_off}
-use Rattle.rq_views.proofs.Stands.{slots_stand, page_of_cells, page_of_directory}
+use Rattle.rq_views.proofs.Stands.{slots_stand, page_of_cells, page_of_directory, page_of_tags}
 use Rattle.rq_store.specs.Fitting.{left_by, oldest, ToldWrite, told_by, IsOfPage, IsStamp, HoldsPage, HoldsBase, AllHoldBase, FitsPage, FitsLog, image_in}
 use Rattle.rq_store.specs.Whole.{BeforesAreSlots}
 use Rattle.rq_store.specs.Opening.{FitsPageUpTo, FitsUpTo, Redoes}
@@ -177,8 +177,9 @@ redo_all z log image h p low high =
 -- what stands at no slot of the store
 elsewhere : (z : Sizes) (q : Slots) (a : ℕ) (x : Slot) → q a ≡ x → AllStand z q → (IsStoreSlot z a → ⊥) → x ≡ Free
 elsewhere z q a Free e h none = refl
-elsewhere z q a (Used c) e h none = let s = subst (IsInPlace z a) e (h a) in let low = s.above in let high = s.below in let n = s.slot in absurd (none (record { page_low = omega (arith, low); page_high = high; slot = n }))
+elsewhere z q a (Used c) e h none = let s = subst (IsInPlace z a) e (h a) in let low = s.above in let high = s.below in let n = s.slot in absurd (none (record { page_low = omega (arith, low); page_high = omega (arith, high); slot = n }))
 elsewhere z q a (Sender s d) e h none = let s = subst (IsInPlace z a) e (h a) in let low = s.low in let high = s.high in let n = s.slot in absurd (none (record { page_low = low; page_high = omega (arith, high); slot = n }))
+elsewhere z q a (Client k) e h none = let s = subst (IsInPlace z a) e (h a) in let low = s.low in let n = s.slot in absurd (none (record { page_low = omega (arith, low); page_high = s.high; slot = n }))
 
 none_held : (z : Sizes) (page : ℕ) (bytes : List ℕ) → ((1 ≤ page) → page < page_count z → ⊥) → held_in z page bytes ≡ Free
 none_held z page bytes h = by (kind_of z page) refl where
@@ -186,7 +187,8 @@ none_held z page bytes h = by (kind_of z page) refl where
   by None e = refl
   by (Some kind.Superblock) e = refl
   by (Some kind.Directory) e = let p = page_of_directory z page e in let low = p.0 in let high = p.1 in absurd (h low (omega (arith, high)))
-  by (Some kind.Cells) e = let p = page_of_cells z page e in let low = p.0 in let high = p.1 in absurd (h (omega (arith, low)) high)
+  by (Some kind.Cells) e = let p = page_of_cells z page e in let low = p.0 in let high = p.1 in absurd (h (omega (arith, low)) (omega (arith, high)))
+  by (Some kind.Tags) e = let p = page_of_tags z page e in let low = p.0 in absurd (h (omega (arith, low)) p.1)
 
 -- so the slots of such pages are those of the log
 pub redone_slots : (z : Sizes) (log : List Record) (images : List (List ℕ)) → InStore z log → FitsUpTo z (image_in images) log (length log) → (a : ℕ) → slots_in z images a ≡ (left_by z log).slots a

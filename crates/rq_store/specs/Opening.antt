@@ -6,7 +6,7 @@ use Rattle.rq_model.specs.Tests.{below}
 use Rattle.rq_page.specs.Sizes.{Sizes, page_count, directory_at, sender_count}
 use Rattle.rq_page.specs.Pages.{lsn_of, slot_of, IsWritten}
 use Rattle.rq_page.specs.Slots.{Slot, IsSlotOf}
-use Rattle.rq_page.specs.Slots.Slot.{Free, Used, Sender}
+use Rattle.rq_page.specs.Slots.Slot.{Free, Used, Sender, Client}
 use Rattle.rq_page.specs.Formatted.{count_in}
 use Rattle.rq_views.specs.Stored.{slots_in, count_used}
 use Rattle.rq_groups.specs.Sent.{SentBy}
@@ -48,6 +48,7 @@ abbrev pub messages_told : Slot → ℕ
 messages_told Free = 0
 messages_told (Used c) = 0
 messages_told (Sender s d) = d.sent - d.received
+messages_told (Client k) = 0
 
 -- by sender, how many messages wait where nothing is open
 abbrev pub waiting_in : Sizes → List (List ℕ) → List ℕ
@@ -58,11 +59,13 @@ abbrev pub sent_told : Slot → ℕ
 sent_told Free = 0
 sent_told (Used c) = 0
 sent_told (Sender s d) = d.sent
+sent_told (Client k) = 0
 
 abbrev pub tag_told : Slot → ℕ
 tag_told Free = 0
 tag_told (Used c) = 0
 tag_told (Sender s d) = d.last_tag
+tag_told (Client k) = 0
 
 -- what each sender's sends come to where nothing is open
 abbrev pub sent_in_slots : Sizes → List (List ℕ) → SentBy

@@ -79,7 +79,7 @@ fn given_back<B: Level>(engine: Engine<MemPages, MemLog, B>, drops: &AtomicU64) 
 
 // The devices of a small store, which may be formatted.
 fn store(alloc: Global, is_formatted: bool) -> Result<(MemPages, MemLog), AllocError> {
-    let Some(layout) = Layout::new(1, 1) else {
+    let Some(layout) = Layout::new(1, 1, 0) else {
         return Err(AllocError);
     };
     let switch = Switch::new(alloc)?;

@@ -24,19 +24,19 @@ type Small = Engine<MemPages, MemLog, StoreLevel>;
 
 /// A store of one directory and one cell page over devices in memory, formatted and opened.
 pub fn small_engine(alloc: Global) -> Result<Small, &'static str> {
-    let layout = Layout::new(1, 1).ok_or("a small store")?;
+    let layout = Layout::new(1, 1, 0).ok_or("a small store")?;
     engine_over(alloc, layout, Switch::new(alloc).map_err(|_| "memory")?)
 }
 
 /// One of two directory and two cell pages.
 pub fn wide_engine(alloc: Global) -> Result<Small, &'static str> {
-    let layout = Layout::new(2, 2).ok_or("a wide store")?;
+    let layout = Layout::new(2, 2, 0).ok_or("a wide store")?;
     engine_over(alloc, layout, Switch::new(alloc).map_err(|_| "memory")?)
 }
 
 // A small store whose next force fails.
 fn failing_engine(alloc: Global) -> Result<Small, &'static str> {
-    let layout = Layout::new(1, 1).ok_or("a small store")?;
+    let layout = Layout::new(1, 1, 0).ok_or("a small store")?;
     let switch = Switch::new(alloc).map_err(|_| "memory")?;
     let Ok(for_store) = switch.share() else {
         return Err("memory");

@@ -6,7 +6,7 @@ use Rattle.std.proofs.lemmas.List.{length-append}
 use Rattle.rq_views.specs.Chain.{Node, last, Linked, View, message}
 use Rattle.rq_page.specs.Slots.{Slot}
 use Rattle.rq_views.specs.Log.{Slots, put, cell_in, cells_of, Write, HasBefores, Places}
-use Rattle.rq_page.specs.Slots.Slot.{Free, Used, Sender}
+use Rattle.rq_page.specs.Slots.Slot.{Free, Used, Sender, Client}
 use Rattle.rq_views.specs.Plans.{ShowsAt, with_next, unlink_tail_writes, IsUnlinkTail}
 use Rattle.rq_views.proofs.Chains.{end_linked, front_linked, last_is, last_append, last_pos, other_place}
 use Rattle.rq_views.proofs.Overlay.{put_off}
@@ -16,6 +16,7 @@ pub used_from : (x : Slot) (c : Cell) → cell_in x ≡ Some c → x ≡ Used c
 used_from Free c e = cc
 used_from (Used b) c e = ap (λ y. Used y) (some_is b c e)
 used_from (Sender s d) c e = cc
+used_from (Client k) c e = cc
 
 pub apart_from : (q : Slots) (a b s : ℕ) (d : Directory) (c : Cell) → q a ≡ Sender s d → q b ≡ Used c → a ≢ b
 apart_from q a b s d c e f h = let k : Used c ≡ Sender s d = sym f ∙ ap q (sym h) ∙ e in cc

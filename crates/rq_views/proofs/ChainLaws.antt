@@ -6,7 +6,7 @@ use Rattle.std.proofs.lemmas.Bool.{cases_eq, cond-true, cond-false, eq-eqb}
 use Rattle.rq_views.specs.Chain.{Cells, written, View, Shows, IsForeign, relink_next, cells_appended, directory_appended, view_appended}
 use Rattle.rq_page.specs.Slots.{Slot}
 use Rattle.rq_views.specs.Log.{Slots, cell_in, cells_of, put, Write, applied, HasBefores, Places}
-use Rattle.rq_page.specs.Slots.Slot.{Free, Used, Sender}
+use Rattle.rq_page.specs.Slots.Slot.{Free, Used, Sender, Client}
 use Rattle.rq_views.specs.Plans.{ShowsAt, IsForeignSlot, Spares, LinksTo, with_next, append_writes, IsAppend}
 use Rattle.rq_views.proofs.Chains.{no_eq, none_some, frame, frame_foreign, tail_used, append_shows}
 use Rattle.rq_views.proofs.Overlay.{put_at, put_off}
@@ -29,6 +29,7 @@ foreign_cell : (s : ℕ) (x : Slot) → IsForeignSlot s x → IsForeign s (cell_
 foreign_cell s Free h = tt
 foreign_cell s (Used c) h = h
 foreign_cell s (Sender r d) h = tt
+foreign_cell s (Client k) h = tt
 
 -- slots that differ from others only where these are foreign to s show the same of s
 pub shows_frame : (l : Places) (q r : Slots) (s : ℕ) (v : View) → ((a : ℕ) → (r a ≡ q a) ⊎ IsForeignSlot s (q a)) → ShowsAt l q s v → ShowsAt l r s v

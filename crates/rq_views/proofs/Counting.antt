@@ -6,7 +6,7 @@ use Rattle.rq_model.specs.declared.record.Record.{Record}
 use Rattle.rq_model.specs.declared.record.Record.TheVariants as records
 use Rattle.rq_model.specs.declared.txn.Sub.{Sub}
 use Rattle.rq_model.specs.declared.txn.Txn.{Txn}
-use Rattle.std.proofs.Common.{◌≡◌, ◌≢◌, ℕ, ◌+◌, ◌-◌, ◌/◌, ◌%◌, ◌<◌, ◌≤◌, ◌==◌, ◌&&◌, inl, inr, List, [], ◌∷◌, ◌++◌, length, map, Bool, true, false, cond, nat_lt, nat_le, refl, sym, ap, subst, ◌∙◌, arith, Option, None, Some}
+use Rattle.std.proofs.Common.{◌≡◌, ◌≢◌, ℕ, ◌+◌, ◌-◌, ◌/◌, ◌%◌, ◌<◌, ◌≤◌, ◌==◌, ◌&&◌, ◌⊎◌, inl, inr, List, [], ◌∷◌, ◌++◌, length, map, Bool, true, false, cond, nat_lt, nat_le, refl, sym, ap, subst, ◌∙◌, arith, Option, None, Some}
 use Rattle.std.specs.List.{sum_by}
 use Rattle.std.proofs.lemmas.List.{length-append, length-drop}
 use Rattle.std.proofs.lemmas.List.Sums.{length-filter}
@@ -15,9 +15,9 @@ use Rattle.rq_model.specs.Vocabulary.{same_txn}
 use Rattle.rq_model.specs.Deeds.{deed_by}
 use Rattle.rq_model.specs.Tests.{below}
 use Rattle.rq_model.proofs.Counts.{sum_same, sum_change, sum_none}
-use Rattle.rq_page.specs.Sizes.{Sizes, IsCellAddress, cell_count, cell_at, place_of, sender_count}
+use Rattle.rq_page.specs.Sizes.{Sizes, IsCellAddress, page_count, tags_from, cell_count, cell_at, place_of, sender_count}
 use Rattle.rq_page.specs.Slots.{Slot}
-use Rattle.rq_page.specs.Slots.Slot.{Free, Used, Sender}
+use Rattle.rq_page.specs.Slots.Slot.{Free, Used, Sender, Client}
 use Rattle.rq_page.proofs.Addresses.{places_are_cells, cells_rise}
 use Rattle.rq_views.specs.Chain.{Node, first, last, message, View, all_but_last}
 use Rattle.rq_views.specs.Log.{Slots, Write, put, applied, HasBefores, Places, state_of}
@@ -70,18 +70,19 @@ count_even z q at x e =
     ]) in
     count_is z (put q at x) ∙ sum_same (λ i. used_one (put q at x (cell_at z i))) (λ i. used_one (q (cell_at z i))) (cell_count z) (λ i lt. same (cell_at z i)) ∙ sym (count_is z q)
 
-count_by : (z : Sizes) (q : Slots) (at : ℕ) (x y : Slot) → q at ≡ y → IsInPlace z at y → IsInPlace z at x → count_used z (put q at x) + used_one (q at) ≡ count_used z q + used_one x
-count_by z q at (Used c) y e h k = count_cell z q at (Used c) k
-count_by z q at Free (Used c) e h k = count_cell z q at Free h
-count_by z q at (Sender s d) (Used c) e h k = count_cell z q at (Sender s d) h
-count_by z q at Free Free e h k = let n : used_one (q at) ≡ 0 = ap used_one e in let c = count_even z q at Free (sym n) in omega arith
-count_by z q at Free (Sender r b) e h k = let n : used_one (q at) ≡ 0 = ap used_one e in let c = count_even z q at Free (sym n) in omega arith
-count_by z q at (Sender s d) Free e h k = let n : used_one (q at) ≡ 0 = ap used_one e in let c = count_even z q at (Sender s d) (sym n) in omega arith
-count_by z q at (Sender s d) (Sender r b) e h k = let n : used_one (q at) ≡ 0 = ap used_one e in let c = count_even z q at (Sender s d) (sym n) in omega arith
+-- a slot in its place is that of a cell, or no message stands in it
+cell_or_none : (z : Sizes) (a : ℕ) (x : Slot) → IsInPlace z a x → IsCellAddress z a ⊎ (used_one x ≡ 0)
+cell_or_none z a Free h = inr refl
+cell_or_none z a (Used c) h = inl h
+cell_or_none z a (Sender s d) h = inr refl
+cell_or_none z a (Client k) h = inr refl
 
 -- a write counts what it uses and no longer what it was over
 pub count_put : (z : Sizes) (q : Slots) (at : ℕ) (x : Slot) → IsInPlace z at (q at) → IsInPlace z at x → count_used z (put q at x) + used_one (q at) ≡ count_used z q + used_one x
-count_put z q at x h k = count_by z q at x (q at) refl h k
+count_put z q at x h k = elim (cell_or_none z at x k) [
+  | inl c ↦ count_cell z q at x c
+  | inr n ↦ elim (cell_or_none z at (q at) h) [ inl c ↦ count_cell z q at x c | inr m ↦ let c = count_even z q at x (n ∙ sym m) in omega arith ]
+]
 
 abbrev pub used_before : List Write → ℕ
 used_before [] = 0
@@ -260,7 +261,10 @@ undone_counts z log o u (p ∷ ps) legal store fine plan ih = turn_counts z log 
 
 formatted_counts : (z : Sizes) → count_used z (formatted_at z) ≡ 0
 formatted_counts z =
-    let none : (a : ℕ) → used_one (formatted_at z a) ≡ 0 = (λ a. elim (cases_Bool (nat_lt 0 (a / 16) && nat_le (a / 16) z.directory && nat_lt 0 (a % 16))) [ inl y ↦ rw y refl | inr n ↦ rw n refl ]) in
+    let none : (a : ℕ) → used_one (formatted_at z a) ≡ 0 = (λ a. elim (cases_Bool (nat_lt 0 (a / 16) && nat_le (a / 16) z.directory && nat_lt 0 (a % 16))) [
+      | inl y ↦ rw y refl
+      | inr n ↦ rw n (elim (cases_Bool (nat_lt 0 (a % 16) && nat_le (tags_from z) (a / 16) && nat_lt (a / 16) (page_count z))) [ inl y ↦ rw y refl | inr m ↦ rw m refl ])
+    ]) in
     count_is z (formatted_at z) ∙ sum_same (λ i. used_one (formatted_at z (cell_at z i))) (λ i. 0) (cell_count z) (λ i lt. none (cell_at z i)) ∙ sum_none (cell_count z)
 
 -- the cells that whole operations use are the messages of all chains

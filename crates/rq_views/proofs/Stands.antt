@@ -14,39 +14,66 @@ use Rattle.rq_page.specs.declared.cell.Cell.{Cell}
 use Rattle.rq_page.specs.Cells.{cell_slot_in}
 use Rattle.rq_page.specs.Directories.{new_directory}
 use Rattle.rq_page.specs.Kinds.{kind_of}
-use Rattle.rq_page.specs.Sizes.{Sizes, IsCellAddress, page_count, address, sender_at, directory_at}
+use Rattle.rq_page.specs.Sizes.{Sizes, IsCellAddress, page_count, tags_from, address, sender_at, directory_at, client_at}
 use Rattle.rq_page.specs.Slots.{Slot, IsSlotOf, IsSlotFor, held_for, held_in, of_cell_slot}
 use Rattle.rq_page.specs.Slots.Slot.{Used, Sender}
-use Rattle.rq_page.proofs.Addresses.{kind_directory, kind_cells, senders_have_slots}
+use Rattle.rq_page.proofs.Addresses.{kind_directory, kind_cells, kind_tags, senders_have_slots}
 use Rattle.rq_views.specs.Log.{Slots, Write, put, applied, same_op, rest_of, state_of}
 use Rattle.rq_views.specs.Legal.{IsLayout}
-use Rattle.rq_views.specs.Items.{items, operation, layout_of, formatted_at}
+use Rattle.rq_views.specs.Items.{items, operation, layout_of, formatted_at, formatted_tag}
 use Rattle.rq_views.specs.InStore.{InStore, IsDirectoryAddress, IsInPlace, AllStand, WritesStand}
 use Rattle.rq_views.proofs.Overlay.{put_at, put_off}
 
+no_kind : (z : Sizes) (page : ℕ) → page_count z ≤ page → kind_of z page ≡ None
+no_kind z page h = grind (arith, nat_tests)
+
+first_kind : (z : Sizes) (page : ℕ) → page ≤ 0 → kind_of z page ≡ Some kind.Superblock
+first_kind z page h = grind (arith, nat_tests)
+
 -- a page of a kind stands among the pages of that kind
-pub page_of_cells : (z : Sizes) (page : ℕ) → kind_of z page ≡ Some kind.Cells → (z.directory < page) × (page < page_count z)
+pub page_of_cells : (z : Sizes) (page : ℕ) → kind_of z page ≡ Some kind.Cells → (z.directory < page) × (page < tags_from z)
 page_of_cells z page e = elim (cases_lt z.directory page) [
-  | inl above ↦ elim (cases_lt page (page_count z)) [
+  | inl above ↦ elim (cases_lt page (tags_from z)) [
     | inl below ↦ (above, below)
-    | inr out ↦ let k : kind_of z page ≡ None = grind (arith, nat_tests) in let bad : ◌≡◌ {A = Option PageKind} None (Some kind.Cells) = sym k ∙ e in absurd (cc)
+    | inr out ↦ elim (cases_lt page (page_count z)) [
+      | inl within ↦ let bad : ◌≡◌ {A = Option PageKind} (Some kind.Tags) (Some kind.Cells) = sym (kind_tags z page out within) ∙ e in absurd (cc)
+      | inr beyond ↦ let bad : ◌≡◌ {A = Option PageKind} None (Some kind.Cells) = sym (no_kind z page beyond) ∙ e in absurd (cc)
+    ]
   ]
   | inr within ↦ elim (cases_lt 0 page) [
     | inl low ↦ let bad : ◌≡◌ {A = Option PageKind} (Some kind.Directory) (Some kind.Cells) = sym (kind_directory z page low within) ∙ e in absurd (cc)
-    | inr none ↦ let k : kind_of z page ≡ Some kind.Superblock = grind (arith, nat_tests) in let bad : ◌≡◌ {A = Option PageKind} (Some kind.Superblock) (Some kind.Cells) = sym k ∙ e in absurd (cc)
+    | inr none ↦ let bad : ◌≡◌ {A = Option PageKind} (Some kind.Superblock) (Some kind.Cells) = sym (first_kind z page none) ∙ e in absurd (cc)
   ]
 ]
 
 pub page_of_directory : (z : Sizes) (page : ℕ) → kind_of z page ≡ Some kind.Directory → (1 ≤ page) × (page ≤ z.directory)
 page_of_directory z page e = elim (cases_lt 0 page) [
   | inl low ↦ elim (cases_lt z.directory page) [
-    | inl above ↦ elim (cases_lt page (page_count z)) [
+    | inl above ↦ elim (cases_lt page (tags_from z)) [
       | inl below ↦ let bad : ◌≡◌ {A = Option PageKind} (Some kind.Cells) (Some kind.Directory) = sym (kind_cells z page above below) ∙ e in absurd (cc)
-      | inr out ↦ let k : kind_of z page ≡ None = grind (arith, nat_tests) in let bad : ◌≡◌ {A = Option PageKind} None (Some kind.Directory) = sym k ∙ e in absurd (cc)
+      | inr out ↦ elim (cases_lt page (page_count z)) [
+        | inl tag ↦ let bad : ◌≡◌ {A = Option PageKind} (Some kind.Tags) (Some kind.Directory) = sym (kind_tags z page out tag) ∙ e in absurd (cc)
+        | inr beyond ↦ let bad : ◌≡◌ {A = Option PageKind} None (Some kind.Directory) = sym (no_kind z page beyond) ∙ e in absurd (cc)
+      ]
     ]
     | inr within ↦ (low, within)
   ]
-  | inr none ↦ let k : kind_of z page ≡ Some kind.Superblock = grind (arith, nat_tests) in let bad : ◌≡◌ {A = Option PageKind} (Some kind.Superblock) (Some kind.Directory) = sym k ∙ e in absurd (cc)
+  | inr none ↦ let bad : ◌≡◌ {A = Option PageKind} (Some kind.Superblock) (Some kind.Directory) = sym (first_kind z page none) ∙ e in absurd (cc)
+]
+
+pub page_of_tags : (z : Sizes) (page : ℕ) → kind_of z page ≡ Some kind.Tags → (tags_from z ≤ page) × (page < page_count z)
+page_of_tags z page e = elim (cases_lt page (page_count z)) [
+  | inl within ↦ elim (cases_lt page (tags_from z)) [
+    | inl below ↦ elim (cases_lt z.directory page) [
+      | inl above ↦ let bad : ◌≡◌ {A = Option PageKind} (Some kind.Cells) (Some kind.Tags) = sym (kind_cells z page above below) ∙ e in absurd (cc)
+      | inr directory ↦ elim (cases_lt 0 page) [
+        | inl low ↦ let bad : ◌≡◌ {A = Option PageKind} (Some kind.Directory) (Some kind.Tags) = sym (kind_directory z page low directory) ∙ e in absurd (cc)
+        | inr none ↦ let bad : ◌≡◌ {A = Option PageKind} (Some kind.Superblock) (Some kind.Tags) = sym (first_kind z page none) ∙ e in absurd (cc)
+      ]
+    ]
+    | inr out ↦ (out, within)
+  ]
+  | inr beyond ↦ let bad : ◌≡◌ {A = Option PageKind} None (Some kind.Tags) = sym (no_kind z page beyond) ∙ e in absurd (cc)
 ]
 
 cell_stands : (z : Sizes) (a : ℕ) (x : CellSlot) → IsCellAddress z a → IsInPlace z a (of_cell_slot x)
@@ -66,12 +93,28 @@ held_stands z (Some kind.Directory) page slot bytes low high e h =
 held_stands z (Some kind.Cells) page slot bytes low high e h =
     let at = page_of_cells z page e in
     let one : z.directory < page = at.0 in
-    let two : page < page_count z = at.1 in
+    let two : page < tags_from z = at.1 in
     cell_stands z (address page slot) (cell_slot_in bytes) (record { above = omega arith; below = omega arith; slot = omega arith })
+held_stands z (Some kind.Tags) page slot bytes low high e h =
+    let at = page_of_tags z page e in
+    let p : address page slot / 16 ≡ page = omega arith in
+    let n : address page slot % 16 ≡ slot = omega arith in
+    let one : tags_from z ≤ page = at.0 in
+    let two : page < page_count z = at.1 in
+    record { own = h.held.own ∙ sym (ap (λ k. client_at z k slot) p) ∙ ap (client_at z (address page slot / 16)) (sym n); low = omega arith; high = omega arith; slot = omega arith }
 
 -- a slot of the store stands where it may
 pub slot_stands : (z : Sizes) (page slot : ℕ) (bytes : List ℕ) → IsSlotOf z page slot bytes → IsInPlace z (address page slot) (held_in z page bytes)
 slot_stands z page slot bytes h = held_stands z (kind_of z page) page slot bytes h.low h.high refl h.held
+
+tag_stands : (z : Sizes) (a : ℕ) → IsInPlace z a (formatted_tag z a)
+tag_stands z a = elim (cases_Bool (nat_lt 0 (a % 16) && nat_le (tags_from z) (a / 16) && nat_lt (a / 16) (page_count z))) [
+  | inl y ↦
+      let p = and_parts (nat_lt 0 (a % 16) && nat_le (tags_from z) (a / 16)) (nat_lt (a / 16) (page_count z)) y in
+      let r = and_parts (nat_lt 0 (a % 16)) (nat_le (tags_from z) (a / 16)) p.0 in
+      rw y (record { own = refl; low = leb-true (tags_from z) (a / 16) r.1; high = ltb-true (a / 16) (page_count z) p.1; slot = ltb-true 0 (a % 16) r.0 })
+  | inr n ↦ rw n tt
+]
 
 -- so does each slot of a formatted store
 pub formatted_stands : (z : Sizes) → AllStand z (formatted_at z)
@@ -80,7 +123,7 @@ formatted_stands z a = elim (cases_Bool (nat_lt 0 (a / 16) && nat_le (a / 16) z.
       let p = and_parts (nat_lt 0 (a / 16) && nat_le (a / 16) z.directory) (nat_lt 0 (a % 16)) y in
       let r = and_parts (nat_lt 0 (a / 16)) (nat_le (a / 16) z.directory) p.0 in
       rw y (record { own = refl; low = ltb-true 0 (a / 16) r.0; high = leb-true (a / 16) z.directory r.1; slot = ltb-true 0 (a % 16) p.1 })
-  | inr n ↦ rw n tt
+  | inr n ↦ rw n (tag_stands z a)
 ]
 
 put_stands : (z : Sizes) (q : Slots) (at : ℕ) (x : Slot) → AllStand z q → IsInPlace z at x → AllStand z (put q at x)

@@ -6,9 +6,9 @@ use Rattle.rq_model.specs.declared.record.Record.TheVariants as records
 use Rattle.rq_model.specs.Vocabulary.{same_txn}
 use Rattle.rq_model.specs.Deeds.{deed_by}
 use Rattle.rq_model.specs.Unended.{any_record}
-use Rattle.rq_page.specs.Sizes.{Sizes, IsCellAddress, sender_count, sender_at}
+use Rattle.rq_page.specs.Sizes.{Sizes, IsCellAddress, page_count, tags_from, sender_count, sender_at, client_at}
 use Rattle.rq_page.specs.Slots.{Slot, IsSlotOf}
-use Rattle.rq_page.specs.Slots.Slot.{Free, Used, Sender}
+use Rattle.rq_page.specs.Slots.Slot.{Free, Used, Sender, Client}
 use Rattle.rq_views.specs.Log.{Slots, Write}
 use Rattle.rq_views.specs.Plans.{deed_sender}
 use Rattle.rq_views.specs.Items.{told_deed}
@@ -32,11 +32,20 @@ pub record IsDirectoryAddress (z : Sizes) (s a : ℕ) : Type 0 where
   pub high : a / 16 ≤ z.directory
   pub slot : 1 ≤ a % 16
 
--- a message stands in a cell, and what the directory says of a sender in the sender's directory slot
+-- the address is that of the slot of client c
+pub record IsClientAddress (z : Sizes) (c a : ℕ) : Type 0 where
+  pub own : c ≡ client_at z (a / 16) (a % 16)
+  pub low : tags_from z ≤ a / 16
+  pub high : a / 16 < page_count z
+  pub slot : 1 ≤ a % 16
+
+-- a message stands in a cell, what the directory says of a sender in the sender's directory slot, and what a client
+-- marked in the client's
 abbrev pub IsInPlace : Sizes → ℕ → Slot → Type 0
 IsInPlace z a Free = Unit {0}
 IsInPlace z a (Used c) = IsCellAddress z a
 IsInPlace z a (Sender s d) = IsDirectoryAddress z s a
+IsInPlace z a (Client k) = IsClientAddress z k.client a
 
 -- each slot stands where it may
 abbrev pub AllStand : Sizes → Slots → Type 0

@@ -8,10 +8,11 @@ use Rattle.rq_model.specs.declared.record.Record.{Record}
 use Rattle.rq_model.specs.declared.record.Record.TheVariants as records
 use Rattle.rq_model.specs.Vocabulary.{same_txn}
 use Rattle.rq_model.specs.Deeds.{deed_by}
-use Rattle.rq_page.specs.Sizes.{Sizes, address, directory_at, sender_at, sender_count}
+use Rattle.rq_page.specs.Sizes.{Sizes, address, directory_at, sender_at, sender_count, page_count, tags_from, client_at}
 use Rattle.rq_page.specs.Slots.{Slot, held_in}
-use Rattle.rq_page.specs.Slots.Slot.{Free, Sender}
+use Rattle.rq_page.specs.Slots.Slot.{Free, Sender, Client}
 use Rattle.rq_page.specs.Directories.{new_directory}
+use Rattle.rq_page.specs.Clients.{new_client}
 use Rattle.rq_views.specs.Log.{Item, Places}
 use Rattle.rq_views.specs.Log.Item.{PageOp, PageUndo, OpEnd, OpVoid, CompEnd, Commit, AbortEnd, Restart}
 
@@ -39,10 +40,14 @@ item_of z (records.AbortEnd t) = AbortEnd t
 abbrev pub items : Sizes → List Record → List Item
 items z log = map (item_of z) log
 
--- what stands at each address of a formatted store
+-- what stands at each address of a formatted store: on a tag page, and on any
+abbrev pub formatted_tag : Sizes → ℕ → Slot
+formatted_tag z a = cond (nat_lt 0 (a % 16) && nat_le (tags_from z) (a / 16) && nat_lt (a / 16) (page_count z))
+    (Client (new_client (client_at z (a / 16) (a % 16)))) Free
+
 abbrev pub formatted_at : Sizes → ℕ → Slot
 formatted_at z a = cond (nat_lt 0 (a / 16) && nat_le (a / 16) z.directory && nat_lt 0 (a % 16))
-    (Sender (sender_at (a / 16) (a % 16)) new_directory) Free
+    (Sender (sender_at (a / 16) (a % 16)) new_directory) (formatted_tag z a)
 
 abbrev pub layout_of : Sizes → Places
 layout_of z = record {

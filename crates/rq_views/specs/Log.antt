@@ -5,7 +5,7 @@ use Rattle.rq_model.specs.declared.txn.Sub.{Sub}
 use Rattle.rq_model.specs.declared.txn.Txn.{Txn}
 use Rattle.rq_model.specs.Vocabulary.{same_txn}
 use Rattle.rq_page.specs.Slots.{Slot}
-use Rattle.rq_page.specs.Slots.Slot.{Free, Used, Sender}
+use Rattle.rq_page.specs.Slots.Slot.{Free, Used, Sender, Client}
 use Rattle.std.specs.Prelude.{◌≡◌, ◌≢◌, ℕ, ◌==◌, ◌&&◌, ◌||◌, List, [], ◌∷◌, Bool, false, cond, if◌then◌else◌, Option, None, Some}
 use Rattle.rq_views.specs.Chain.{Cells}
 
@@ -17,6 +17,7 @@ abbrev pub cell_in : Slot → Option Cell
 cell_in Free = None
 cell_in (Used c) = Some c
 cell_in (Sender s d) = None
+cell_in (Client k) = None
 
 abbrev pub cells_of : Slots → Cells
 cells_of q = λ a. cell_in (q a)

@@ -6,7 +6,7 @@ use Rattle.std.specs.Prelude.{◌≡◌, ◌≢◌, ℕ, ◌+◌, ◌-◌, ◌<�
 use Rattle.rq_views.specs.Chain.{View, Shows, directory_appended, view_appended, view_tail_unlinked, view_put_back}
 use Rattle.rq_page.specs.Slots.{Slot}
 use Rattle.rq_views.specs.Log.{Slots, Write, cells_of, Places}
-use Rattle.rq_page.specs.Slots.Slot.{Free, Used, Sender}
+use Rattle.rq_page.specs.Slots.Slot.{Free, Used, Sender, Client}
 use Rattle.rq_model.specs.declared.record.Deed.TheVariants.{Append, UnlinkHead, Close}
 
 -- the slots show this view of the sender
@@ -20,6 +20,7 @@ abbrev pub IsForeignSlot : ℕ → Slot → Type 0
 IsForeignSlot s Free = Unit {0}
 IsForeignSlot s (Used c) = c.sender ≢ s
 IsForeignSlot s (Sender r d) = r ≢ s
+IsForeignSlot s (Client k) = Unit {0}
 
 -- no write is over a slot of s
 abbrev pub Spares : ℕ → List Write → Type 0

@@ -17,7 +17,7 @@ use Rattle.rq_model.specs.declared.record.Deed.TheVariants.{Append, UnlinkHead, 
 use Rattle.rq_views.specs.Log.Item.{PageOp, PageUndo, OpEnd, OpVoid, CompEnd, Commit, AbortEnd, Restart}
 
 abbrev pub sizes : Sizes
-sizes = record { directory = 2; cells = 2 }
+sizes = record { directory = 2; cells = 2; tags = 0 }
 
 abbrev pub small : Places
 small = layout_of sizes

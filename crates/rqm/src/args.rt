@@ -1,6 +1,6 @@
 //! The words of the command line.
 use clap::{Arg, ArgAction, ArgMatches, Command, Error};
-use rq_page::layout::{CELLS_LIMIT, DIRECTORY_LIMIT, Layout};
+use rq_page::layout::{CELLS_LIMIT, DIRECTORY_LIMIT, Layout, TAGS_LIMIT};
 use std::alloc::{AllocError, Global};
 use std::io::ErrorKind;
 use std::rt::Env;
@@ -12,7 +12,7 @@ const VERSION: &str = "0.1.0";
 /// The fewest and the most frames that a pool may have. For now the pool holds all pages.
 const FEWEST_FRAMES: i64 = 8;
 
-const MOST_FRAMES: i64 = 66_561;
+const MOST_FRAMES: i64 = 67_585;
 
 /// How many threads serve connections where the words don't say it, and at most.
 const WORKERS: u32 = 4;
@@ -125,7 +125,8 @@ fn folder(alloc: Global, matches: &ArgMatches<'_>) -> Result<Option<String>, All
 fn layout(matches: &ArgMatches<'_>) -> Option<Layout> {
     let directory = matches.get_one::<u32>("directory")?;
     let cells = matches.get_one::<u32>("cells")?;
-    Layout::new(directory, cells)
+    let tags = matches.get_one::<u32>("tags").unwrap_or(0);
+    Layout::new(directory, cells, tags)
 }
 
 fn command<'a>(alloc: Global) -> Result<Command<'a>, AllocError> {
@@ -146,6 +147,7 @@ fn run_command<'a>(alloc: Global) -> Result<Command<'a>, AllocError> {
         .about("Runs a script from standard input over a store in memory")
         .arg(directory(alloc))?
         .arg(cells(alloc))?
+        .arg(tags(alloc))?
         .arg(frames(alloc))
 }
 
@@ -154,7 +156,8 @@ fn format_command<'a>(alloc: Global) -> Result<Command<'a>, AllocError> {
         .about("Makes the files of an empty store in a folder that is there")
         .arg(named_folder(alloc, "Where the files are made"))?
         .arg(directory(alloc))?
-        .arg(cells(alloc))
+        .arg(cells(alloc))?
+        .arg(tags(alloc))
 }
 
 fn serve_command<'a>(alloc: Global) -> Result<Command<'a>, AllocError> {
@@ -237,6 +240,11 @@ fn directory<'a>(alloc: Global) -> Arg<'a> {
 fn cells<'a>(alloc: Global) -> Arg<'a> {
     let help = "Cell pages, of 15 messages each";
     number(alloc, "cells", help, 1, i64::from(CELLS_LIMIT)).required(true)
+}
+
+fn tags<'a>(alloc: Global) -> Arg<'a> {
+    let help = "Tag pages, of 15 clients each; none where it is not said";
+    number(alloc, "tags", help, 1, i64::from(TAGS_LIMIT))
 }
 
 fn number<'a>(alloc: Global, name: &'a str, help: &'a str, least: i64, most: i64) -> Arg<'a> {

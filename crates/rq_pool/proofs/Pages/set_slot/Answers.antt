@@ -14,7 +14,7 @@ invariant_of-self g c =
       over_set g.P.PageDevice _ _ _ _ _ _ _ kept.0
           (pool_written _ _ _ _ _ _ _ (ap (λ (v : Pooled _). v.sizes) c.self.view_is) kept.0.pool c.requires.place.page_low c.requires.image wrote.count wrote.page wrote.header wrote.others)
           high wrote.changed wrote.others,
-      index_written _ _ _ _ _ _ _ _ kept.1 high wrote.page wrote.others (rw c.deref.ensures.value at note.noted) note.others note.same,
+      index_written _ _ _ _ _ _ _ _ kept.1 wrote.page wrote.others (rw c.deref.ensures.value at note.noted) note.others note.same,
     )
 
 pub returns-clause-pool : goal.returns-clause-pool

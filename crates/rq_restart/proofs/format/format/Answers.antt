@@ -1,4 +1,4 @@
-use Rattle.std.proofs.Common.{ℕ, ◌≤◌, ◌<◌, [], sym, subst, arith}
+use Rattle.std.proofs.Common.{ℕ, ◌≤◌, ◌<◌, ◌∙◌, [], sym, subst, arith}
 use Rattle.std.proofs.lemmas.Result.{on_ok_weaker}
 use Rattle.rq_page.specs.Sizes.{Sizes, page_count}
 use Rattle.rq_disk.specs.Device.{Holds}
@@ -6,8 +6,29 @@ use Rattle.rq_store.specs.Fitting.{FitsLog}
 use Rattle.rq_store.proofs.Formatting.{formatted_fits}
 use Rattle.rq_store.proofs.Based.{unbased}
 use Rattle.rq_store.proofs.Cutting.{only_fit}
-use Rattle.rq_restart.proofs.Formats.{formatted_all, other_written, others_synced, first_written, first_synced, within_written, within_synced}
+use Rattle.rq_restart.proofs.Formats.{formatted_all, formatted_more, other_written, others_synced, first_written, first_synced, within_written, within_synced}
 use Rattle.rq_restart.proofs.format.format.Goals as goal
+
+pub loop-number-preserved : goal.loop-number-preserved
+loop-number-preserved g c =
+    let z : Sizes = c.args.layout.now in
+    let p = g.P.PageDevice in
+    let l = c.loop-number in
+    let new = c.write_formatted.new.pages in
+    let image = c.write_formatted.new.page in
+    let wrote = c.write_formatted.ensures in
+    let done = c.in_ok-write_formatted.ensures in
+    let low : 1 ≤ l.number = omega (arith, l.auto.number) in
+    let below : l.number < page_count z = let e = c.pages-number-end.ensures.number in let t = c.loop-number-test.true in omega (arith, e, t) in
+    record {
+      formatted = formatted_more z l.number (p.seen l.pages) (p.seen new) image l.invariant.formatted done.written wrote.formatted;
+      untold = other_written p z c.args.pages.now l.pages new l.number image l.invariant.untold low wrote.crash wrote.time;
+      within = within_written p z c.args.pages.now l.pages new l.number image l.invariant.within below wrote.formatted wrote.crash wrote.time;
+      others = λ q high. wrote.others q (λ e. absurd (omega (arith, e, below, high))) ∙ l.invariant.others q high;
+      honest = λ h. l.invariant.honest (wrote.honest h);
+      stands = λ h s. absurd (done.runs h (l.invariant.stands (wrote.honest h) s));
+      cause = done.cause ∙ l.invariant.cause;
+    }
 
 pub returns-clause-fits : goal.returns-clause-fits
 returns-clause-fits g c =
