@@ -759,7 +759,7 @@ def power_is_cut(program):
     """The power is cut in each call of a checkpoint: what was synced holds what the store held, also where pages are on the disk before that.
     Behind a whole one it is all, and so is what is committed then."""
     for files in (WHOLE, BASED):
-        for words, told in each_call(28):
+        for words, told in each_call(29):
             with powered(**files) as power:
                 checkpoint(program, power.folder, NAMES="1", STOPS="1", **words, **power.words)
                 assert power.holds() == power.holds(pages=files_of(power.folder)["pages"]) == HELD, words
@@ -774,7 +774,7 @@ def cuts_that_lose(program, left_out):
     """Where a sync is left out or comes late: how often a checkpoint is cut so that the store holds something else, or is not the one
     that it has made."""
     lose = 0
-    for words, told in each_call(29 if "LATE" in left_out else 28):
+    for words, told in each_call(30 if "LATE" in left_out else 29):
         with powered(**WHOLE) as power:
             checkpoint(program, power.folder, NAMES="1", STOPS="1", **words, **power.words, **left_out)
             lose += power.holds() != HELD or not told.exists() and power.left() != files_of(power.folder)

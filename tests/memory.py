@@ -202,7 +202,7 @@ class Lists:
             elif at == place and line.startswith(b"restart-stop"):
                 line = re.sub(rb"(?<=restart-stop )([0-9]+) [0-9+]+", rb"\1 0", line)  # the append is not made, and the machine stops
             elif at == place:
-                world.happen(b"fail %d" % (world.store.devices.reads() + 1 if line == b"restart" else call))
+                world.happen(b"fail %d" % (world.store.reads_of_restart() + 1 if line == b"restart" else call))
                 world.printed.pop()
             world.happen(line, picked_at(lines, told, at))
         return world.printed

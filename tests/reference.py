@@ -201,7 +201,8 @@ class Devices:
         return [bytes_of(record) for record in self.records[max(0, self.base() - 1) :]]
 
     def reads(self):
-        """How many reads an opening makes: each page, and the log in windows until one comes short."""
+        """How many reads an opening makes: each page, the log in windows until one comes short, and for each record of a write that
+        was undone the one of that write again."""
         sizes = self.sizes()
         total, read, taken, reads, short = sum(sizes) + self.torn, 0, 0, len(self.pages), False
         for size in [*sizes, 0]:
@@ -211,12 +212,15 @@ class Devices:
                 read += min(total - read, room)
                 reads += 1
             taken += size
-        return reads
+        return reads + sum(record[0] == "back" for record in self.records[max(0, self.base() - 1) :])
+
+    def read(self):
+        if not self.meet("read"):
+            raise Refused("DiskRead")
 
     def read_all(self):
         for _ in range(self.reads()):
-            if not self.meet("read"):
-                raise Refused("DiskRead")
+            self.read()
 
     def add(self, record):
         """Adds a record to the buffer, with its change of a page, and answers its LSN."""
@@ -301,7 +305,8 @@ class Chains:
 
 
 class Mending:
-    """What a restart does before the next incarnation begins, record by record."""
+    """What a restart does before the next incarnation begins, record by record. Each record by which it knows what to undo is read
+    again."""
 
     def __init__(self, store):
         self.devices, self.chains = store.devices, store.chains
@@ -359,6 +364,7 @@ class Mending:
         writes = [write for writes in self.open_writes.values() for write in writes]
         for lsn, record in sorted(writes, key=lambda write: -write[0]):
             sub = record[1]
+            self.devices.read()
             self.devices.add(("back", sub, record[2], lsn))
             self.open_writes[sub].pop()
             if not self.open_writes[sub]:
@@ -374,6 +380,7 @@ class Mending:
         while self.due:
             lsn, record = self.due.pop()
             txn, deed = record[1][0], record[2]
+            self.devices.read()
             self.undo(txn, lsn, deed)
             if not self.has_due(txn):
                 self.devices.add(("abort", txn))
@@ -482,7 +489,11 @@ class Store:
             self.met["BaseLost"] += devices.base() > 0 and mending.lost_count > 0
             self.met["BaseUnfinished"] += devices.base() > 0 and mending.unfinished > 0
             self.is_cut = False
-        mending.run()
+        try:
+            mending.run()
+        except Refused:
+            del devices.records[devices.handed :]
+            raise
         incarnation = 1 + max((record[1] for record in devices.records if record[0] == "restart"), default=0)
         devices.add(("restart", incarnation))
         torn = devices.torn
@@ -506,6 +517,11 @@ class Store:
         mending = Mending(self)
         idle = [txn for txn in mending.lost if not mending.has_due(txn)]
         return bool(idle) and bool(mending.due)
+
+    def reads_of_restart(self):
+        """How many reads a restart makes: those of an opening, and one of each record by which it knows what to undo."""
+        mending = Mending(self)
+        return self.devices.reads() + sum(map(len, mending.open_writes.values())) + len(mending.due)
 
     def records_wanted(self):
         """How many records a restart makes of a store that is not open."""

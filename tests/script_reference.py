@@ -276,7 +276,7 @@ class Script:
         devices = self.store.devices
         before = len(devices.records)
         if keep is not None and keep < self.store.records_wanted() and not {"read", "write"} & devices.armed:
-            left = self.store.restart_stopped(devices.reads() + (2 if devices.torn else 1), keep)
+            left = self.store.restart_stopped(self.store.reads_of_restart() + (2 if devices.torn else 1), keep)
             self.stops += left > before
             return f"stopped {left}".encode()
         incarnation, unfinished, lost = self.store.restart()

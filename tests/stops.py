@@ -170,8 +170,7 @@ def drawn_keep(draw):
 
 def calls_of_restart(world):
     """How many device calls a restart makes: its reads, a cut where a torn end is left, an append and a force."""
-    devices = world.store.devices
-    return devices.reads() + (1 if devices.torn else 0) + 2
+    return world.store.reads_of_restart() + (1 if world.store.devices.torn else 0) + 2
 
 
 def fault(program, base, lines):

@@ -123,7 +123,7 @@ class Drawing:
 
     def call_of_restart(self):
         """A device call of a restart, or one behind its last: most times its append, which is cut between any two records."""
-        append = self.store.devices.reads() + (2 if self.store.devices.torn else 1)
+        append = self.store.reads_of_restart() + (2 if self.store.devices.torn else 1)
         return self.random.randrange(append + 3) if self.is_first_of(4) else append
 
     def acknowledgement(self):
@@ -243,7 +243,7 @@ class Calls(courses.Drawing):
             call, keep = self.random.randrange(self.store.calls_of_checkpoint() + 1), self.random.choice([0, 2, 5, "all"])
             return self.happen("stop-in", call, *self.left([keep, *["old"] * self.random.randrange(2)]), "checkpoint")
         if name == "restart" and words:
-            append = self.store.devices.reads() + (2 if self.store.devices.torn else 1)
+            append = self.store.reads_of_restart() + (2 if self.store.devices.torn else 1)
             return self.happen("restart-stop", append + self.random.randrange(2), words[0], "-")
         if name == "force" and self.is_first_of(4):
             self.happen("hand-over")

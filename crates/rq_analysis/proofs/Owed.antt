@@ -15,7 +15,6 @@ use Rattle.rq_analysis.specs.declared.dues.PendingUndo.{PendingUndo}
 use Rattle.rq_analysis.specs.Dues.{but_newest, due_of, dues, lsn_due}
 use Rattle.rq_analysis.proofs.Marks.{none_finished}
 use Rattle.rq_analysis.proofs.Noting.{filter_twice, filter_same}
-
 use Rattle.rq_analysis.specs.Rules.{FollowAll, ends_of, left_of, takes_back}
 use Rattle.rq_analysis.proofs.Lists.{first_in, first_split}
 

@@ -68,7 +68,7 @@ use Rattle.rq_chain_check.proofs.Sound.{sound_linked}
 use Rattle.rq_restart.specs.Repeating.{Paged, Repeats, slots_on}
 use Rattle.rq_analysis.specs.Pages.{IsUndone}
 use Rattle.rq_restart.specs.RolledBack.{IsRolledBack}
-use Rattle.rq_restart.specs.Restarting.{LogStops}
+use Rattle.rq_restart.specs.Restarting.{LogStops, StopsOver}
 use Rattle.rq_restart.proofs.Aborts.{aborting_none, behind_none, active_lost}
 use Rattle.rq_analysis.specs.Recovered.IsRecovered.{NoneLost}
 use Rattle.rq_analysis.specs.Recovered.IsRecovering.{Undoing}
@@ -447,29 +447,33 @@ module _ (n : ℕ) (pages : MemPages) (log : MemLog) (h : Hold pages formatted_p
         formatted_are,
         λ honest p below. sym (ap (λ (seen : Images). seen p) (pages_seen_are pages formatted_pages h.0)),
         refl,
-        inr (
-          restarts n,
-          are_spelled n low,
-          λ honest. ends_all (standing (restarts n)) (mem_log.seen log) (log_seen log (restarts n) h.1),
-          (
-            record {
-              undone = restarts n;
-              undoing = undoing_none (restarts n);
-              now = restarts n;
-              aborting = aborting_none sizes (RepeatedFrom sizes read_pages) (restarts n);
-              turn = inl refl;
-              none_lost = λ e. refl;
-              full = omega (arith, e, le);
-              recovering = λ e past left. Undoing (undoing_none (rebased e (restarts n)));
-            },
-            (read_pages, gone n),
-            only_read log,
-          ),
-        ),
+        record {
+          counted = refl;
+          read = λ other. only_read log;
+          over = λ k. inr (
+            restarts n,
+            are_spelled n low,
+            λ honest. ends_all (standing (restarts n)) (mem_log.seen log) (log_seen log (restarts n) h.1),
+            (
+              record {
+                undone = restarts n;
+                undoing = undoing_none (restarts n);
+                now = restarts n;
+                aborting = aborting_none sizes (RepeatedFrom sizes read_pages) (restarts n);
+                turn = inl refl;
+                none_lost = λ e. refl;
+                full = omega (arith, e, le);
+                recovering = λ e past left. Undoing (undoing_none (rebased e (restarts n)));
+              },
+              (read_pages, gone n),
+              only_read log,
+            ),
+          );
+        },
       )
 
-  fits_restart : (z : Sizes) (first : Paged) (new : MemLog) → n < 2 ^ 50 → LogStops mem_log z first why.LogFull log new → ⊥
-  fits_restart z first new low (inl l) = ⊎_elim
+  fits_over : (z : Sizes) (first : Paged) (new : MemLog) → n < 2 ^ 50 → StopsOver mem_log z first why.LogFull log new → ⊥
+  fits_over z first new low (inl l) = ⊎_elim
       (λ s.
       let more = s.1 tt in
       let f = front_within (restarts n) l.front (mem_log.seen log) more.0 (are_spelled n (omega (arith, low))) l.are_spelled (ends_all (standing (restarts n)) (mem_log.seen log) (log_seen log (restarts n) h.1)) more.2 (follow_marked l.front (repeated_read z l.front first l.mid l.repeated).1) (whole n).based in
@@ -477,7 +481,7 @@ module _ (n : ℕ) (pages : MemPages) (log : MemLog) (h : Hold pages formatted_p
       let many = s.0 in
       omega (arith, f, e, many, low))
       (⊎_elim (λ w. (let e = w.0 in cc e)) (λ b. (let e = b.told in cc e))) l.why
-  fits_restart z first new low (inr r) =
+  fits_over z first new low (inr r) =
       let same : restarts n ≡ r.0 = the_log (restarts n) (restarts_plain n) r.0 (mem_log.seen log) (are_spelled n (omega (arith, low))) r.1 (log_seen log (restarts n) h.1) (r.2 tt) in
       let e = length_is n in
       let d : length (restarts n) ≡ length r.0 = ap (λ (x : List Record). length x) same in
@@ -486,6 +490,9 @@ module _ (n : ℕ) (pages : MemPages) (log : MemLog) (h : Hold pages formatted_p
       let f : length b.now ≡ length r.0 = ap (λ (x : List Record). length x) (b.none_lost (subst IsEnded same (ended n)) ∙ undone) in
       let long = b.full in
       omega (arith, low, e, d, f, long)
+
+  fits_restart : (z : Sizes) (first : Paged) (new : MemLog) → n < 2 ^ 50 → LogStops mem_log z first why.LogFull log new → ⊥
+  fits_restart z first new low s = fits_over z first new low (s.over tt)
 
 -- with nothing under way, what a call counts as is all that is counted
 room_for : (n cost : ℕ) (s : State) → sum_by owed (ledger_of s).open_ones ≡ 0 → n + cost ≤ 2 ^ 50

@@ -31,7 +31,7 @@ use Rattle.rq_store.specs.State.{ledger_of, size_of}
 use Rattle.rq_restart.specs.Checked.{as_read}
 use Rattle.rq_restart.proofs.Begun.{rolled_back_extends}
 use Rattle.rq_restart.specs.Repeating.{Paged, Repeats}
-use Rattle.rq_restart.specs.Restarting.{IsBegunOn, LogStops}
+use Rattle.rq_restart.specs.Restarting.{IsBegunOn, LogStops, StopsOver}
 use Rattle.rq_log.proofs.Parsing.{one_log}
 use Rattle.rq_restart.specs.Underway.{IsGoneOnWith, OfStores}
 use Rattle.rq_core.specs.Devices.{mem_log, mem_pages}
@@ -126,18 +126,21 @@ only_read d = record { same = refl; honest = λ h. h; leaves = λ c may. may; mo
 
 -- no log is refused so for these
 never_stops : (z : Sizes) (first : Paged) (old new : MemLog) → LogStops mem_log z first why.Full old new → ⊥
-never_stops z first old new (inl l) = ⊎_elim (λ s. s) (⊎_elim (λ w. (let e = w.0 in cc e)) (λ b. (let e = b.told in cc e))) l.why
-never_stops z first old new (inr r) = r.3
+never_stops z first old new s = over (s.over tt) where
+  over : StopsOver mem_log z first why.Full old new → ⊥
+  over (inl l) = ⊎_elim (λ s. s) (⊎_elim (λ w. (let e = w.0 in cc e)) (λ b. (let e = b.told in cc e))) l.why
+  over (inr r) = r.3
 
 -- nor as unfinished
 never_unfinished : (z : Sizes) (first : Paged) (old new : MemLog) → LogStops mem_log z first why.Unfinished old new → ⊥
-never_unfinished z first old new (inl l) = ⊎_elim (λ s. s) (⊎_elim (λ w. (let e = w.0 in cc e)) (λ b. (let e = b.told in cc e))) l.why
-never_unfinished z first old new (inr r) = r.3
+never_unfinished z first old new s = over (s.over tt) where
+  over : StopsOver mem_log z first why.Unfinished old new → ⊥
+  over (inl l) = ⊎_elim (λ s. s) (⊎_elim (λ w. (let e = w.0 in cc e)) (λ b. (let e = b.told in cc e))) l.why
+  over (inr r) = r.3
 
 -- where there is no room the log was only read
 full_read : (z : Sizes) (first : Paged) (old new : MemLog) → LogStops mem_log z first why.LogFull old new → IsRead mem_log old new
-full_read z first old new (inl l) = l.read
-full_read z first old new (inr r) = r.3.2
+full_read z first old new s = s.read (λ e. cc e)
 
 pub refusals : RefusalsAreJudged
 refusals = record {

@@ -327,7 +327,7 @@ module _ (fifo : (h : List Entry) → IsLegal small h → FifoThroughout h) (sta
     after_the_crash = after_the_crash;
     tells_nothing = λ pages log k. k.tells.2.0;
     loses_what_was_forced = λ course pages log records n told few may k.
-        forced_is_left course k.history pages log records n k.tells k.legal k.leaves told few may;
+        forced_is_left course k.history pages log records n k.tells k.legal (λ images bytes a b. let w = k.leaves images bytes a b in (w.0, w.1, w.2)) told few may;
     leaves_what_begins_no_record = λ course pages log may k.
         (let x = k.leaves (mem_pages.seen pages) no_record (some_pages pages) may in short_log x.0 x.1.are_spelled x.1.is);
     left = λ pages log h images bytes a b. (log_5, leaves_store pages log h images bytes a b, refl);

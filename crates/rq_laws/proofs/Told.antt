@@ -15,7 +15,9 @@ use Rattle.rq_record.specs.Decoding.{IfRecord, IsFront}
 use Rattle.rq_record.specs.Spelling.{BeginsRecord, HoldsRecord, IsRecord, spelling}
 use Rattle.rq_analysis.specs.declared.open_work.UndoableWrite.{UndoableWrite}
 use Rattle.rq_analysis.specs.OpenWorkView.{OpenWorkView, has_sub}
-use Rattle.rq_analysis.specs.Pages.{IsNextUndo, op_less, undo_of, void_of}
+use Rattle.rq_analysis.specs.declared.open_work.NextUndo.{NextUndo}
+use Rattle.rq_analysis.specs.declared.open_work.NextUndo.TheVariants.{Void, Write}
+use Rattle.rq_analysis.specs.Pages.{IsNextUndo, IsUndoneNext, NoneIsSpent, op_less, undo_of, void_of}
 use Rattle.rq_analysis.specs.Pages.IsNextUndo.{Voids, Undoes}
 use Rattle.rq_analysis.proofs.Next.{op_turn}
 use Rattle.rq_laws.specs.Alike.{PagesAlike}
@@ -85,22 +87,39 @@ first_one p q ps qs e = cc
 none_undoable : (p : UndoableWrite) (ps : List UndoableWrite) → [] ≡ p ∷ ps → ⊥
 none_undoable p ps e = cc
 
-undo_one : (h : OpenWorkView) (r s : Record) → IsNextUndo h r → IsNextUndo h s → r ≡ s
-undo_one h r s (Voids o spent least is) (Voids q other lowest are) = is ∙ ap void_of (least_one o q (lowest o spent) (least q other)) ∙ sym are
-undo_one h r s (Voids o spent least is) (Undoes p ps none undoable are) = absurd (true≢false (sym (none o spent.unfinished) ∙ spent.none))
-undo_one h r s (Undoes p ps none undoable is) (Voids o spent least are) = absurd (true≢false (sym (none o spent.unfinished) ∙ spent.none))
-undo_one h r s (Undoes p ps none undoable is) (Undoes q qs void others are) = is ∙ ap undo_of (first_one p q ps qs (sym undoable ∙ others)) ∙ sym are
+sub_of : (o q : Sub) → void_of o ≡ void_of q → o ≡ q
+sub_of o q e = (let t : o.txn ≡ q.txn = cc in let n : o.number ≡ q.number = cc in ap (λ x. record { txn = x; number = o.number }) t ∙ ap (λ x. record { txn = q.txn; number = x }) n)
 
-none_next : (h : OpenWorkView) (r : Record) → (h.unfinished ≡ [] → h.undoable ≡ []) → h.unfinished ≡ [] → IsNextUndo h r → ⊥
-none_next h r own e (Voids o spent least is) = true≢false (sym spent.unfinished ∙ ap (has_sub o) e)
-none_next h r own e (Undoes p ps none undoable is) = none_undoable p ps (sym (own e) ∙ undoable)
+voids_one : (h : OpenWorkView) (r s : Record) (o q : Sub) → r ≡ void_of o → s ≡ void_of q → IsNextUndo h r → IsNextUndo h s → o ≡ q
+voids_one h r s o q a b (Voids x spent least is) (Voids y other lowest are) = sub_of o q (sym a ∙ is ∙ ap void_of (least_one x y (lowest x spent) (least y other)) ∙ sym are ∙ b)
+voids_one h r s o q a b (Voids x spent least is) (Undoes p ps none undoable are) = absurd (true≢false (sym (none x spent.unfinished) ∙ spent.none))
+voids_one h r s o q a b (Undoes p ps none undoable is) second = absurd (let e : void_of o ≡ undo_of p = sym a ∙ is in cc e)
 
-undo_here : (h : OpenWorkView) (p q : Option Record) → (h.unfinished ≡ [] → h.undoable ≡ []) → IfSome p (IsNextUndo h) → IfNone p (h.unfinished ≡ []) → IfSome q (IsNextUndo h) → IfNone q (h.unfinished ≡ []) → p ≡ q
+-- nothing is voided where each has a write left
+voids_none : (h : OpenWorkView) (r : Record) (o : Sub) → r ≡ void_of o → NoneIsSpent h → IsNextUndo h r → ⊥
+voids_none h r o a none (Voids x spent least is) = true≢false (sym (none x spent.unfinished) ∙ spent.none)
+voids_none h r o a none (Undoes p ps other undoable is) = (let e : void_of o ≡ undo_of p = sym a ∙ is in cc e)
+
+undo_one : (h : OpenWorkView) (r s : NextUndo) → IsUndoneNext h r → IsUndoneNext h s → r ≡ s
+undo_one h (Void o) (Void q) f g = ap Void (voids_one h (void_of o) (void_of q) o q refl refl f g)
+undo_one h (Void o) (Write n) f g = absurd (voids_none h (void_of o) o refl g.2.none f)
+undo_one h (Write n) (Void o) f g = absurd (voids_none h (void_of o) o refl f.2.none g)
+undo_one h (Write n) (Write m) f g = ap Write (sym f.1 ∙ ap (λ (p : UndoableWrite). p.lsn) (first_one f.0 g.0 f.2.older g.2.older (sym f.2.first ∙ g.2.first)) ∙ g.1)
+
+voids_some : (h : OpenWorkView) (r : Record) → (h.unfinished ≡ [] → h.undoable ≡ []) → h.unfinished ≡ [] → IsNextUndo h r → ⊥
+voids_some h r own e (Voids o spent least is) = true≢false (sym spent.unfinished ∙ ap (has_sub o) e)
+voids_some h r own e (Undoes p ps none undoable is) = none_undoable p ps (sym (own e) ∙ undoable)
+
+none_next : (h : OpenWorkView) (r : NextUndo) → (h.unfinished ≡ [] → h.undoable ≡ []) → h.unfinished ≡ [] → IsUndoneNext h r → ⊥
+none_next h (Void o) own e f = voids_some h (void_of o) own e f
+none_next h (Write n) own e f = none_undoable f.0 f.2.older (sym (own e) ∙ f.2.first)
+
+undo_here : (h : OpenWorkView) (p q : Option NextUndo) → (h.unfinished ≡ [] → h.undoable ≡ []) → IfSome p (IsUndoneNext h) → IfNone p (h.unfinished ≡ []) → IfSome q (IsUndoneNext h) → IfNone q (h.unfinished ≡ []) → p ≡ q
 undo_here h None None own f n g m = refl
 undo_here h None (Some s) own f n g m = absurd (none_next h s own n g)
 undo_here h (Some r) None own f n g m = absurd (none_next h r own m f)
 undo_here h (Some r) (Some s) own f n g m = ap Some (undo_one h r s f g)
 
--- the record by which operations without an end are undone next is one
-pub undo_same : (h k : OpenWorkView) (p q : Option Record) → h ≡ k → (h.unfinished ≡ [] → h.undoable ≡ []) → IfSome p (IsNextUndo h) → IfNone p (h.unfinished ≡ []) → IfSome q (IsNextUndo k) → IfNone q (k.unfinished ≡ []) → p ≡ q
-undo_same h k p q is own f n = subst (λ (j : OpenWorkView). IfSome q (IsNextUndo j) → IfNone q (j.unfinished ≡ []) → p ≡ q) is (undo_here h p q own f n)
+-- what is undone next of operations without an end is one
+pub undo_same : (h k : OpenWorkView) (p q : Option NextUndo) → h ≡ k → (h.unfinished ≡ [] → h.undoable ≡ []) → IfSome p (IsUndoneNext h) → IfNone p (h.unfinished ≡ []) → IfSome q (IsUndoneNext k) → IfNone q (k.unfinished ≡ []) → p ≡ q
+undo_same h k p q is own f n = subst (λ (j : OpenWorkView). IfSome q (IsUndoneNext j) → IfNone q (j.unfinished ≡ []) → p ≡ q) is (undo_here h p q own f n)

@@ -3,7 +3,7 @@ ghost use Rattle.std.specs.Prelude.{◌≡◌, ◌^◌, ◌<◌, [], IfOk, IfSom
 ghost use Rattle.rq_log.specs.Places.{IsPlace};
 ghost use Rattle.rq_log.specs.Spelled.{spelled};
 
-use rq_analysis::{OpenWork, PendingUndos};
+use rq_analysis::{NextUndo, OpenWork, PendingUndos};
 use rq_disk::LogDevice;
 use rq_log::{Log, LogReader};
 use rq_model::record::Record;
@@ -98,9 +98,8 @@ pub fn notes(
     (first.note(lsn, record), second.note(lsn, record))
 }
 
-/// The record by which operations without an end are undone next is one. Excludes an operation that is voided with a
-/// write left.
-pub fn next_undo(first: &OpenWork, second: &OpenWork) -> (Option<Record>, Option<Record>)
+/// What is undone next of operations without an end is one. Excludes an operation that is voided with a write left.
+pub fn next_undo(first: &OpenWork, second: &OpenWork) -> (Option<NextUndo>, Option<NextUndo>)
     requires same { first.now ≡ second.now }
     requires own { first.now.unfinished ≡ [] → first.now.undoable ≡ [] }
     ensures { result.0 ≡ result.1 }

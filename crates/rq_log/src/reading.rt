@@ -183,6 +183,7 @@ impl<L: LogDevice> LogReader<L> {
         // The device.
         ensures cause { OnOk result (L.faults self.new.device ≡ L.faults self.old.device) }
         ensures first { self.new.first ≡ self.old.first }
+        ensures read { IsRead L.LogDevice self.old.device self.new.device }
         ensures reading { IsReading L.LogDevice self.new }
         ensures count { length self.new.records ≤ 2 ^ 50 }
     {
@@ -214,6 +215,7 @@ impl<L: LogDevice> LogReader<L> {
         // The device.
         ensures cause { OnOk result (L.faults self.new.device ≡ L.faults self.old.device) }
         ensures first { self.new.first ≡ self.old.first }
+        ensures read { IsRead L.LogDevice self.old.device self.new.device }
         ensures reading { IsReading L.LogDevice self.new }
         ensures count { length self.new.records ≤ 2 ^ 50 }
     {
@@ -236,6 +238,7 @@ impl<L: LogDevice> LogReader<L> {
         // The device.
         ensures cause { OnOk result (L.faults self.new.device ≡ L.faults self.old.device) }
         ensures first { self.new.first ≡ self.old.first }
+        ensures read { IsRead L.LogDevice self.old.device self.new.device }
     {
         self.stream.fill()?;
         if self.stream.unread().is_empty() {

@@ -1,5 +1,5 @@
 -- What a store is answered that asks a level for a plan, and what levels keep of it.
-use Rattle.std.specs.Prelude.{◌≡◌, ◌⊎◌, ℕ, ◌/◌, ◌≤◌, ◌<◌, ◌^◌, true, false, List, [], ◌∷◌, ◌++◌, length, Option, None, Some, Result, Ok, Err, IfErr, IfOk}
+use Rattle.std.specs.Prelude.{◌≡◌, ◌⊎◌, ℕ, ◌/◌, ◌%◌, ◌+◌, ◌≤◌, ◌<◌, ◌^◌, true, false, List, [], ◌∷◌, ◌++◌, length, Option, None, Some, Result, Ok, Err, IfErr, IfOk}
 use Rattle.rq_model.specs.declared.record.Deed.{Deed}
 use Rattle.rq_model.specs.declared.record.Deed.TheVariants.{Append, UnlinkHead, Close as Close_deed}
 use Rattle.rq_model.specs.declared.refusal.Refusal.{Refusal}
@@ -7,7 +7,7 @@ use Rattle.rq_model.specs.declared.refusal.Refusal.TheVariants as why
 use Rattle.rq_model.specs.Deeds.{deed_by, spelled_deed}
 use Rattle.rq_model.specs.declared.record.Record.TheVariants.{OpEnd}
 use Rattle.rq_model.specs.declared.txn.Txn.{Txn}
-use Rattle.rq_page.specs.Sizes.{Sizes, cell_count}
+use Rattle.rq_page.specs.Sizes.{Sizes, address, cell_count, tags_from}
 use Rattle.rq_views.specs.Items.{items}
 use Rattle.rq_views.specs.Legal.{view}
 use Rattle.rq_views.specs.Log.{Slots}
@@ -188,6 +188,10 @@ pub record KnowsThose (Those : ℕ → Type 0) (z : Sizes) (images : List (List 
 -- they know the cells, and all its other slots
 abbrev pub KnowsCells : Sizes → List (List ℕ) → List LevelState → Type 0
 KnowsCells z images levels = KnowsThose (IsStoreSlot z) z images levels
+
+-- where a client's slot stands
+abbrev pub client_slot : Sizes → ℕ → ℕ
+client_slot z client = address (tags_from z + client / 15) (1 + client % 15)
 
 -- the slot of this write is told as it is, where a free cell stands in it; otherwise nothing is
 abbrev pub MayBeTold : Sizes → List (List ℕ) → Option SlotWrite → (old new : List LevelState) → Type 0

@@ -1,11 +1,11 @@
 //! Tells levels of slots as they are.
-ghost use Rattle.std.specs.Prelude.{◌≡◌, ◌↔◌, ◌<◌, ◌≤◌, IfErr, IfOk, IfSome, IsTrue, Some, length, slice_get};
+ghost use Rattle.std.specs.Prelude.{◌≡◌, ◌↔◌, ◌*◌, ◌<◌, ◌≤◌, IfErr, IfOk, IfSome, IsTrue, Some, length, slice_get};
 ghost use Rattle.rq_page.specs.Cells.{free_bytes};
 ghost use Rattle.rq_page.specs.Sizes.{IsCellAddress, cell_count};
 ghost use Rattle.rq_page.specs.Slots.{Free};
 ghost use Rattle.rq_views.specs.Stored.{IsStoreSlot, slot_at, slots_in};
 ghost use Rattle.rq_level.specs.Meaning.{AreTold, kept_at};
-ghost use Rattle.rq_planner.specs.Answered.{KnowsCells, MayBeTold};
+ghost use Rattle.rq_planner.specs.Answered.{KnowsCells, MayBeTold, client_slot};
 
 use rq_disk::PageDevice;
 use rq_level::{Level, Levels, Plan, SlotWrite};
@@ -13,7 +13,7 @@ use rq_model::record::Slot;
 use rq_model::refusal::Refusal;
 use rq_page::addr::Addr;
 use rq_page::cell::CellSlot;
-use rq_page::layout::Layout;
+use rq_page::layout::{Layout, SLOTS};
 use rq_pool::Pages;
 
 /// Gives back the cell of what was planned, where there is a plan and it chose one.
@@ -52,7 +52,7 @@ fn unreserve<P: PageDevice, B: Level>(
 }
 
 /// Tells levels a store in which nothing is under way: the superblock's slot that tells the sizes, and then each slot of
-/// the directory pages and of the cells.
+/// the directory pages, of the cells and of the tag pages.
 pub(crate) fn tell_store<P: PageDevice, B: Level>(pages: &Pages<P>, levels: &mut Levels<B>)
     requires handed { 1 < length levels.old }
     requires free { cell_count pages.now.sizes ≤ length (kept_at levels.old 1).free }
@@ -72,6 +72,20 @@ pub(crate) fn tell_store<P: PageDevice, B: Level>(pages: &Pages<P>, levels: &mut
         let next = free_behind(pages, &free, at, place + 1);
         free = next;
     }
+    for client in 0..layout.tags() * SLOTS {
+        tell(pages, levels, client_addr(&layout, client));
+    }
+}
+
+// Where a client's slot stands.
+fn client_addr(layout: &Layout, client: u32) -> Addr
+    requires { client < 15 * layout.now.tags }
+    ensures { result ≡ client_slot layout.now client }
+{
+    Addr::new(
+        layout.tags_from() + client / SLOTS,
+        (1 + client % SLOTS) as u8,
+    )
 }
 
 // The first free cell whose place is this one or a later one.

@@ -1,5 +1,7 @@
 -- Chains that are not whole once the log is mended.
-use Rattle.std.proofs.Common.{List, refl}
+use Rattle.std.proofs.Common.{◌≡◌, ℕ, List, refl}
+use Rattle.rq_restart.specs.Undoing.{FailsWith}
+use Rattle.rq_views.specs.Log.{Slots}
 use Rattle.rq_model.specs.declared.record.Record.{Record}
 use Rattle.rq_model.specs.declared.refusal.Refusal.{Refusal}
 use Rattle.rq_model.specs.declared.refusal.Refusal.TheVariants as why
@@ -33,3 +35,9 @@ module _ {P : Type 0} (z : Sizes) (log rolled_back : List Record) (old : Paged) 
     none = λ e past left. faults_exact.none z (slots_in z new.images) page (left_linked e past left) s;
   }
   unlinked_stops _ s = absurd s
+
+-- no device failed in it
+pub link_fails : (z : Sizes) (q : Slots) (e : Refusal) (before now : ℕ) → now ≡ before → LinkStops z q e → FailsWith e before now
+link_fails z q why.NoMemory before now same s = same
+link_fails z q (why.Damaged (damage.Page page)) before now same s = same
+link_fails z q _ before now same s = absurd s

@@ -122,14 +122,14 @@ module _ (f : Analysis) (log : List Record) (are : IsAnalysisOf f log) (lsn : �
     pub write_like : (r : Record) → IfOk (undo_told kept r) (λ u. IsLikeUndo f.open_work u)
     write_like (records.PageOp t n page slot before after) = elim (cases_Bool (nat_lt 0 slot && nat_lt slot 16)) [
       | inl y ↦ rw y (
-        let k = and_parts (nat_lt 0 slot) (nat_lt slot 16) y in
-        let low = ltb-true 0 slot k.0 in
-        let high = ltb-true slot 16 k.1 in (
-          undo_of p,
-          Undoes p next.2.older next.2.none next.2.first refl,
-          (page, slot, before, (omega (arith, low), omega (arith, high)), undone_is page slot before),
-        )
-      )
+          let k = and_parts (nat_lt 0 slot) (nat_lt slot 16) y in
+          let low = ltb-true 0 slot k.0 in
+          let high = ltb-true slot 16 k.1 in (
+            undo_of p,
+            Undoes p next.2.older next.2.none next.2.first refl,
+            (page, slot, before, (omega (arith, low), omega (arith, high)), undone_is page slot before),
+          )
+          )
       | inr n ↦ rw n tt
     ]
     write_like _ = tt

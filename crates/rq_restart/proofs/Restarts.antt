@@ -1,5 +1,5 @@
 -- What a restart makes of a store that was left as a crash may leave one.
-use Rattle.std.proofs.Common.{◌≡◌, ℕ, ◌<◌, ◌≤◌, List, ◌∷◌, ◌++◌, length, false, sym, ◌∙◌, ap, subst, inl, inr, ◌⊎◌, ⊎_elim, arith, Bool, replicate}
+use Rattle.std.proofs.Common.{◌≡◌, ◌≢◌, refl, ℕ, ◌<◌, ◌≤◌, List, ◌∷◌, ◌++◌, length, false, sym, ◌∙◌, ap, subst, inl, inr, ◌⊎◌, ⊎_elim, arith, Bool, replicate}
 use Rattle.rq_model.specs.declared.record.Record.{Record}
 use Rattle.rq_model.specs.declared.refusal.Refusal.{Refusal}
 use Rattle.rq_model.specs.declared.refusal.Refusal.TheVariants as why
@@ -23,7 +23,7 @@ use Rattle.rq_store.proofs.Cutting.{all_fit_longer, no_more_fit}
 use Rattle.rq_store.proofs.Bounds.{fits_counted}
 use Rattle.rq_log.proofs.Moments.{weaker}
 use Rattle.rq_restart.specs.Restarting.{BeginsAtMost, BeginsFrom, IsBegun, IsBegunFrom, IsBegunOn, LogStops, IsRefusedFor, OpensLog, RefusesLog, WasChecked}
-use Rattle.rq_restart.specs.Refused.{MayBeShut, WhyShut}
+use Rattle.rq_restart.specs.Refused.{BeginsNot, MayBeShut, WhyShut}
 use Rattle.rq_restart.specs.Numbers.{AreNumbersOf, NamesFirst}
 use Rattle.rq_restart.specs.Checked.{IsReadAndRedone, WasReadAndRedone, as_read}
 use Rattle.rq_restart.specs.RolledBack.{IsRolledBackOn, RollbackStops}
@@ -49,6 +49,23 @@ shut_by z log first why.DiskWrite before now f h = h
 shut_by z log first (why.Damaged (damage.Record lsn)) before now f h = (h.0, h.1, f h.2)
 shut_by z log first (why.Damaged (damage.Page page)) before now f h = (h.0, f h.1)
 shut_by z log first _ before now f h = absurd h
+
+-- a refusal that begins no incarnation, or names a page, tells whether a device failed
+pub begins_fails : (e : Refusal) (records last before now : ℕ) (untouched : Type 0) → (untouched → now ≡ before) → BeginsNot e records last before now untouched → FailsWith e before now
+begins_fails why.NoMemory records last before now untouched f b = b.0
+begins_fails why.LogFull records last before now untouched f b = f b.1
+begins_fails why.DiskWrite records last before now untouched f b = b
+begins_fails _ records last before now untouched f b = absurd b
+
+pub begins_untouched : (e : Refusal) (records last before now : ℕ) (untouched : Type 0) → e ≢ why.DiskWrite → BeginsNot e records last before now untouched → untouched
+begins_untouched why.NoMemory records last before now untouched other b = b.1
+begins_untouched why.LogFull records last before now untouched other b = b.1
+begins_untouched why.DiskWrite records last before now untouched other b = absurd (other refl)
+begins_untouched _ records last before now untouched other b = absurd b
+
+pub names_fail : (z : Sizes) (records : ℕ) (first : Paged) (e : Refusal) (count : ℕ) → NamesFirst z records first e → FailsWith e count count
+names_fail z records first (why.Damaged (damage.Page page)) count h = refl
+names_fail z records first _ count h = absurd h
 
 -- what was checked, of a store that was read
 module _ {P L : Type 0} (p : Ghosts P) (l : log_device.Ghosts L) (pages : P) (log : L) (loaded : Pooled P) (sound : ArePages loaded.sizes loaded.images) (seen : p.honest loaded.device → AreSeen (p.seen pages) loaded.images (page_count loaded.sizes))

@@ -125,9 +125,9 @@ module _ (log : List Record) (h : OpenWorkView) (r : Record) (is : h ≡ open_wo
 pub next_puts_back : (log : List Record) (h : OpenWorkView) (r : Record) → IsNextUndo h r → PutsBack h r
 next_puts_back log h r (Voids o spent least e) = subst (PutsBack h) (sym e) tt
 next_puts_back log h r (Undoes p ps none f e) = subst (PutsBack h) (sym e) (
-  let own : undoable_by p.by p ≡ true = op_self p.by in
-  ap (λ (l : List UndoableWrite). first (filter (undoable_by p.by) l)) f ∙ rw own refl
-)
+    let own : undoable_by p.by p ≡ true = op_self p.by in
+    ap (λ (l : List UndoableWrite). first (filter (undoable_by p.by) l)) f ∙ rw own refl
+    )
 
 module _ {L : Type 0} (g : Ghosts L) (only_now : (d : L) (c : List ℕ) → g.left_since d (g.moment d) c → g.may_leave d c) where
   pub still : (d : L) → IsRead g d d

@@ -157,11 +157,7 @@ fn due_as(txn: Txn, lsn: Lsn, told: &Record) -> Result<PendingUndo, Refusal>
 }
 
 // The record that stands at this place, which has this LSN.
-fn record_again<L: LogDevice>(
-    log: &mut Log<L>,
-    place: u64,
-    lsn: Lsn,
-) -> Result<Record, Refusal>
+fn record_again<L: LogDevice>(log: &mut Log<L>, place: u64, lsn: Lsn) -> Result<Record, Refusal>
     requires running { log.old.failed ≡ false }
     ensures is { IfOk result (λ r. L.honest log.new.device → (s : AnyRecord) → IsAt log.old.records place s → r ≡ s) }
     ensures err { IfErr result (λ e. NotGivenFor L.LogDevice e lsn log.old.records place log.old.device log.new.device) }
@@ -236,7 +232,13 @@ fn place_of_newest(analysis: &Analysis, by: Sub, undone: Lsn) -> Option<Place>
         → lsn_undoable (first (filter (undoable_by by) analysis.now.open_work.undoable)) ≡ Some undone → ⊥) }
 {
     match analysis.open_work.newest_undoable(by) {
-        Some(newest) => { if newest == undone { analysis.places.write_with(undone) } else { None } }
+        Some(newest) => {
+            if newest == undone {
+                analysis.places.write_with(undone)
+            } else {
+                None
+            }
+        }
         None => None,
     }
 }

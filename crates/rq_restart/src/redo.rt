@@ -91,7 +91,14 @@ pub(crate) fn repeat_history<P: PageDevice + Drop, L: LogDevice, B: Level>(
                 Err(refusal) => return Err(refusal),
             };
             reader.shows_read();
-            match check_and_redo(pages, &mut analysis, levels, reader.last(), puts_back, &record) {
+            match check_and_redo(
+                pages,
+                &mut analysis,
+                levels,
+                reader.last(),
+                puts_back,
+                &record,
+            ) {
                 Ok(()) => {}
                 Err(refusal) => return Err(refusal),
             }

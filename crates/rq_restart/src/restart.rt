@@ -307,8 +307,10 @@ fn undo_all<P: PageDevice + Drop, L: LogDevice + Drop, B: Level>(
     undo_unfinished(pages, log, analysis)?;
     let mut planner = planner_of(alloc, pages, levels);
     abort_lost(alloc, pages, log, analysis, &mut planner)?;
-    check_links(alloc, pages)?;
-    Ok((lost, planner))
+    match check_links(alloc, pages) {
+        Ok(()) => Ok((lost, planner)),
+        Err(refusal) => Err(refusal),
+    }
 }
 
 fn begin_incarnation<L: LogDevice + Drop>(

@@ -15,5 +15,5 @@ invariant_of-self g c =
       over_set g.P.PageDevice _ _ _ _ _ _ _ kept.0
           (pool_written _ _ _ _ _ _ _ (ap (λ (v : Pooled _). v.sizes) c.self.view_is) kept.0.pool c.requires.place.page_low wrote.1 made.count wrote.2 wrote.3 made.others)
           high (made.changed c.if-made.true) made.others,
-      index_written _ _ _ _ _ _ _ _ kept.1 high wrote.2 made.others (rw c.deref.ensures.value at note.noted) note.others note.same,
+      index_written _ _ _ _ _ _ _ _ kept.1 wrote.2 made.others (rw c.deref.ensures.value at note.noted) note.others note.same,
     )

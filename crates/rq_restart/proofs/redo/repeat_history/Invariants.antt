@@ -1,13 +1,15 @@
-use Rattle.std.proofs.Common.{◌≡◌, ◌-◌, ◌^◌, length}
+use Rattle.std.proofs.Common.{◌≡◌, ℕ, ◌-◌, ◌^◌, ◌≤◌, length}
 use Rattle.rq_log.specs.Reading.{IsReading}
+use Rattle.rq_analysis.specs.Rules.{FollowAll}
 use Rattle.rq_restart.specs.Found.{IsAnalysisOf}
-use Rattle.rq_restart.specs.Repeating.{paged, Repeats}
+use Rattle.rq_restart.specs.Repeating.{ArePagesCounted, paged, Repeats}
 use Rattle.rq_restart.proofs.redo.repeat_history.Given as goal
 
 abbrev pub invariant-loop-analysis : goal.invariant-loop-analysis
 invariant-loop-analysis g l = record {
   found : IsAnalysisOf l.analysis l.reader.records;
-  repeated : Repeats l.fn.pages.sizes l.reader.records (paged l.fn.pages) (paged l.pages);
+  repeated : g.L.LogDevice.honest l.reader.device → Repeats l.fn.pages.sizes l.reader.records (paged l.fn.pages) (paged l.pages);
+  beyond : (n : ℕ) → length l.reader.records ≤ n → ArePagesCounted l.fn.pages.sizes n (paged l.fn.pages) → ArePagesCounted l.fn.pages.sizes n (paged l.pages);
   reading : IsReading g.L.LogDevice l.reader;
   first : l.reader.first ≡ l.fn.reader.first;
   counted : g.L.LogDevice.faults l.reader.device ≡ g.L.LogDevice.faults l.fn.reader.first;

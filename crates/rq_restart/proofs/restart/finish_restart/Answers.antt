@@ -7,10 +7,13 @@ use Rattle.rq_restart.specs.Refused.{WhyShut}
 use Rattle.rq_restart.specs.Repeating.{ArePagesCounted, Paged, Repeats, paged}
 use Rattle.rq_restart.specs.Restarting.{AreTold, Reports}
 use Rattle.rq_restart.proofs.Begun.{begins, last_is, not_begun, reports}
-use Rattle.rq_restart.proofs.Repeated.{few_read}
+use Rattle.rq_restart.proofs.Repeated.{few_read, repeated_read}
 use Rattle.rq_restart.proofs.Counting.{are_told}
 use Rattle.rq_restart.proofs.Moments.{begun_left, left_alone}
-use Rattle.rq_restart.proofs.Restarts.{beyond_shut, gone_through, rollback_shut}
+use Rattle.rq_restart.proofs.Undos.{still}
+use Rattle.rq_log.specs.Reading.{IsRead}
+use Rattle.rq_restart.specs.Undoing.{FailsWith}
+use Rattle.rq_restart.proofs.Restarts.{begins_fails, begins_untouched, beyond_shut, gone_through, names_fail, rollback_shut, shut_by}
 use Rattle.rq_engine.specs.Earlier.{rebased}
 use Rattle.rq_restart.proofs.restart.finish_restart.Goals as goal
 
@@ -18,8 +21,8 @@ pub begin_incarnation-requires-clause-low : goal.begin_incarnation-requires-clau
 begin_incarnation-requires-clause-low g c =
     let rollback = c.in_ok-lost.ensures in
     let now = c.undo_all.new.log.records in
-    let few = few_read now rollback.found.order rollback.found.follow in
-    let is = last_is c.args.log.now.records now rollback.rolls_back.is c.undo_all.new.analysis.open_work rollback.found.open_work c.incarnation.result c.incarnation.ensures in
+    let few = few_read now rollback.found.order rollback.found.marked in
+    let is = last_is now c.undo_all.new.analysis.open_work rollback.found.open_work c.incarnation.result c.incarnation.ensures in
     omega (arith, few, is)
 
 pub returns-in-Ok-clause-restarted : goal.returns-in-Ok-clause-restarted
@@ -28,7 +31,7 @@ returns-in-Ok-clause-restarted g c =
     let z = c.undo_all.new.pages.sizes in
     let images = c.undo_all.new.pages.images in
     let count : ℕ = length c.undo_all.new.log.records in
-    let counted : ArePagesCounted z count (paged c.undo_all.new.pages) = subst (λ y. ArePagesCounted y count (paged c.undo_all.new.pages)) (sym rollback.stays.sizes) (rollback.counted (gone_through c.args.pages.now.sizes c.args.log.now.records c.requires.pages.0 (paged c.args.pages.now) c.last.result c.args.numbers.now.numbers.items c.last.ensures c.in_ok-check_page_numbers.ensures.counted c.requires.pages.1 c.requires.pages.2).counted) in
+    let counted : ArePagesCounted z count (paged c.undo_all.new.pages) = subst (λ y. ArePagesCounted y count (paged c.undo_all.new.pages)) (sym rollback.stays.sizes) (rollback.counted (c.requires.pages.3 (subst (λ m. ArePagesCounted c.args.pages.now.sizes m c.requires.pages.0) c.last.ensures (c.in_ok-check_page_numbers.ensures.counted c.args.pages.now.sizes c.requires.pages.0 c.requires.pages.2)))) in
     let longer : count + 1 ≡ length c.begin_incarnation.new.log.records = (let e : length c.begin_incarnation.new.log.records ≡ length (records.Restart (c.incarnation.result + 1) ∷ c.undo_all.new.log.records) = ap length c.in-Ok.ensures.records in omega (arith, e)) in
     let told = c.in-Ok.ensures.report in
     let found = c.requires.found.open_work in
@@ -36,8 +39,8 @@ returns-in-Ok-clause-restarted g c =
     let now = c.begin_incarnation.new.log.records in
     record {
       forced = c.in-Ok.ensures.forced.0;
-      reports = λ e past. subst (λ y. Reports y (rebased e c.args.log.now.records) now t.incarnation t.records t.unfinished t.lost) (sym rollback.stays.sizes)
-          (reports c.args.log.now.records c.undo_all.new.log.records rollback.rolls_back.is c.undo_all.new.analysis.open_work rollback.found.open_work c.incarnation.result c.incarnation.ensures c.args.pages.now.sizes now
+      reports = λ hh e past. subst (λ y. Reports y (rebased e c.args.log.now.records) now t.incarnation t.records t.unfinished t.lost) (sym rollback.stays.sizes)
+          (reports c.args.log.now.records c.undo_all.new.log.records (rollback.rolls_back (c.begin_incarnation.ensures.honest hh)).is c.undo_all.new.analysis.open_work rollback.found.open_work c.incarnation.result c.incarnation.ensures c.args.pages.now.sizes now
           t.incarnation t.records t.unfinished t.lost
           (told.0, told.1, told.2 ∙ c.unfinished-unfinished.ensures ∙ ap (λ (h : OpenWorkView). length h.unfinished) found, told.3 ∙ rollback.lost ∙ ap (λ (h : OpenWorkView). length h.active) found)
           e past);
@@ -45,14 +48,14 @@ returns-in-Ok-clause-restarted g c =
       known = c.in_ok-tables.ensures.known;
       ready = c.in-Ok.ensures.ready;
       room = c.in-Ok.ensures.room ∙ rollback.room;
-      cause = c.in-Ok.ensures.cause ∙ ap g.L.LogDevice.faults rollback.stays.log_device;
+      cause = c.in-Ok.ensures.cause ∙ rollback.cause;
     }
 
 pub returns-in-Ok-clause-checked : goal.returns-in-Ok-clause-checked
-returns-in-Ok-clause-checked g c = λ first before k.
+returns-in-Ok-clause-checked g c = λ hh first before k.
     let rollback = c.in_ok-lost.ensures in
     let page_numbers = c.in_ok-check_page_numbers.ensures in
-    let rolls = rollback.rolls_back in
+    let rolls = rollback.rolls_back (c.begin_incarnation.ensures.honest hh) in
     record {
       rolled_back = c.undo_all.new.log.records;
       rolled_back_on = record {
@@ -63,34 +66,36 @@ returns-in-Ok-clause-checked g c = λ first before k.
         linked = rollback.linked;
         recovered = rolls.recovered first before;
       };
-      begun = begins c.args.log.now.records c.undo_all.new.log.records rolls.is c.undo_all.new.analysis.open_work rollback.found.open_work c.incarnation.result c.incarnation.ensures c.begin_incarnation.new.log.records c.in-Ok.ensures.records;
+      begun = begins c.undo_all.new.log.records c.undo_all.new.analysis.open_work rollback.found.open_work c.incarnation.result c.incarnation.ensures c.begin_incarnation.new.log.records c.in-Ok.ensures.records;
     }
 
 pub returns-in-Ok-clause-left : goal.returns-in-Ok-clause-left
 returns-in-Ok-clause-left g c =
     let rollback = c.in_ok-lost.ensures in
-    begun_left g.L.LogDevice c.args.pages.now.sizes (paged c.args.pages.now) (paged c.undo_all.new.pages) c.args.log.now c.undo_all.new.log c.begin_incarnation.new.log rollback.stays.log_device rollback.rolls_back
+    begun_left g.L.LogDevice c.args.pages.now.sizes (paged c.args.pages.now) (paged c.undo_all.new.pages) c.args.log.now c.undo_all.new.log c.begin_incarnation.new.log rollback.stays.read rollback.rolls_back
     c.undo_all.new.analysis.open_work c.incarnation.result rollback.found.open_work c.incarnation.ensures c.begin_incarnation.ensures.honest c.begin_incarnation.ensures.any_moment
 
 pub returns-in-Err-clause-left : goal.returns-in-Err-clause-left
 returns-in-Err-clause-left g c =
     let rollback = c.in_ok-lost.ensures in
-    begun_left g.L.LogDevice c.args.pages.now.sizes (paged c.args.pages.now) (paged c.undo_all.new.pages) c.args.log.now c.undo_all.new.log c.begin_incarnation.new.log rollback.stays.log_device rollback.rolls_back
+    begun_left g.L.LogDevice c.args.pages.now.sizes (paged c.args.pages.now) (paged c.undo_all.new.pages) c.args.log.now c.undo_all.new.log c.begin_incarnation.new.log rollback.stays.read rollback.rolls_back
     c.undo_all.new.analysis.open_work c.incarnation.result rollback.found.open_work c.incarnation.ensures c.begin_incarnation.ensures.honest c.begin_incarnation.ensures.any_moment
 
 pub returns-in-Err-clause-shut : goal.returns-in-Err-clause-shut
-returns-in-Err-clause-shut g c = λ first before k.
+returns-in-Err-clause-shut g c = λ hh first before k.
     let rollback = c.in_ok-lost.ensures in
     let page_numbers = c.in_ok-check_page_numbers.ensures in
-    let rolls = rollback.rolls_back in
+    let rolls = rollback.rolls_back (c.begin_incarnation.ensures.honest hh) in
     let z = c.args.pages.now.sizes in
     let older = c.args.log.now.records in
     let faults = g.L.LogDevice.faults in
     let new = c.begin_incarnation.new.log.device in
     let mid = c.undo_all.new.log.device in
     let was : WasReadAndRedone z older first = (paged c.args.pages.now, gone_through z older first (paged c.args.pages.now) c.last.result c.args.numbers.now.numbers.items c.last.ensures page_numbers.counted before k) in
-    subst (λ d. WhyShut z older first c.in-Err.refusal (faults d) (faults new) (new ≡ d)) rollback.stays.log_device
-    (not_begun older c.undo_all.new.log.records rolls.is c.undo_all.new.analysis.open_work rollback.found.open_work c.incarnation.result c.incarnation.ensures z first (paged c.undo_all.new.pages) c.in-Err.refusal (faults mid) (faults new) (new ≡ mid) (rolls.repeated first before) (rolls.planned first before) (rolls.recovered first before) was c.in-Err.ensures.err)
+    let l = g.L.LogDevice in
+    let old = c.args.log.now.device in
+    subst (λ n. WhyShut z older first c.in-Err.refusal n (faults new) (IsRead l old new)) rollback.cause
+    (shut_by z older first c.in-Err.refusal (faults mid) (faults new) (λ same. subst (IsRead l old) (sym same) rollback.stays.read) (not_begun older c.undo_all.new.log.records rolls.is c.undo_all.new.analysis.open_work rollback.found.open_work c.incarnation.result c.incarnation.ensures z first (paged c.undo_all.new.pages) c.in-Err.refusal (faults mid) (faults new) (new ≡ mid) (rolls.repeated first before) (rolls.planned first before) (rolls.recovered first before) was c.in-Err.ensures.err))
 
 pub returns-in_err-lost-clause-shut : goal.returns-in_err-lost-clause-shut
 returns-in_err-lost-clause-shut g c =
@@ -102,10 +107,11 @@ returns-in_err-lost-clause-shut g c =
     let faults = g.L.LogDevice.faults in
     let was = c.args.log.now.device in
     let now = c.undo_all.new.log.device in
-    let same : now ≡ was = c.undo_all.ensures.stays.log_device in
+    let only = c.undo_all.ensures.stays.read in
+    let l = g.L.LogDevice in
     let e = c.in_err-lost.field-0.0 in
-    let h : (first : Paged) → Repeats z older first old → AreNumbersOf z first numbers → WhyShut z older first e (faults was) (faults now) (now ≡ was) =
-    λ first before k. rollback_shut z older first e (faults was) (faults now) (now ≡ was) (old, gone_through z older first old c.last.result numbers c.last.ensures page_numbers.counted before k) (ap faults same) same (c.in_err-lost.ensures.stops first before) in
+    let h : l.honest now → (first : Paged) → Repeats z older first old → AreNumbersOf z first numbers → WhyShut z older first e (faults was) (faults now) (IsRead l was now) =
+    λ hh first before k. rollback_shut z older first e (faults was) (faults now) (IsRead l was now) (old, gone_through z older first old c.last.result numbers c.last.ensures page_numbers.counted before k) c.in_err-lost.ensures.fails only (c.in_err-lost.ensures.stops hh first before) in
     search (rules, h)
 
 pub returns-in_err-check_page_numbers-clause-shut : goal.returns-in_err-check_page_numbers-clause-shut
@@ -118,12 +124,37 @@ returns-in_err-check_page_numbers-clause-shut g c =
     let was = c.args.log.now.device in
     let faults = g.L.LogDevice.faults was in
     let e = c.in_err-check_page_numbers.field-0.0 in
-    let h : (first : Paged) → Repeats z older first old → AreNumbersOf z first numbers → WhyShut z older first e faults faults (was ≡ was) =
-    λ first before k. beyond_shut z older first old e faults faults (was ≡ was) before refl (subst (λ m. NamesFirst z m first e) n (c.in_err-check_page_numbers.ensures.names z first k)) in
+    let l = g.L.LogDevice in
+    let h : l.honest was → (first : Paged) → Repeats z older first old → AreNumbersOf z first numbers → WhyShut z older first e faults faults (IsRead l was was) =
+    λ hh first before k. beyond_shut z older first old e faults faults (IsRead l was was) before (still l g.met.L.LogDevice.only_now was) (subst (λ m. NamesFirst z m first e) n (c.in_err-check_page_numbers.ensures.names z first k)) in
     search (rules, h)
 
 pub returns-in_err-check_page_numbers-clause-left : goal.returns-in_err-check_page_numbers-clause-left
-returns-in_err-check_page_numbers-clause-left g c = left_alone g.L.LogDevice g.met.L.LogDevice.only_now c.args.pages.now.sizes (paged c.args.pages.now) c.args.log.now c.args.log.now refl
+returns-in_err-check_page_numbers-clause-left g c = left_alone g.L.LogDevice c.args.pages.now.sizes (paged c.args.pages.now) c.args.log.now c.args.log.now (still g.L.LogDevice g.met.L.LogDevice.only_now c.args.log.now.device)
 
 pub returns-in_err-tables-clause-left : goal.returns-in_err-tables-clause-left
-returns-in_err-tables-clause-left g c = left_alone g.L.LogDevice g.met.L.LogDevice.only_now c.args.pages.now.sizes (paged c.args.pages.now) c.args.log.now c.undo_all.new.log c.undo_all.ensures.stays.log_device
+returns-in_err-tables-clause-left g c = left_alone g.L.LogDevice c.args.pages.now.sizes (paged c.args.pages.now) c.args.log.now c.undo_all.new.log c.undo_all.ensures.stays.read
+
+pub undo_all-requires-clause-follow : goal.undo_all-requires-clause-follow
+undo_all-requires-clause-follow g c = λ h. (repeated_read c.args.pages.now.sizes c.args.log.now.records c.requires.pages.0 (paged c.args.pages.now) (c.requires.pages.1 h)).1
+
+pub returns-in-Err-clause-fails : goal.returns-in-Err-clause-fails
+returns-in-Err-clause-fails g c =
+    let faults = g.L.LogDevice.faults in
+    let rollback = c.in_ok-lost.ensures in
+    let new = c.begin_incarnation.new.log.device in
+    subst (λ n. FailsWith c.in-Err.refusal n (faults new)) rollback.cause (begins_fails c.in-Err.refusal (length c.undo_all.new.log.records) c.incarnation.result (faults c.undo_all.new.log.device) (faults new) (new ≡ c.undo_all.new.log.device) (ap faults) c.in-Err.ensures.err)
+
+pub returns-in-Err-clause-read : goal.returns-in-Err-clause-read
+returns-in-Err-clause-read g c = λ other.
+    let l = g.L.LogDevice in
+    let new = c.begin_incarnation.new.log.device in
+    let same : new ≡ c.undo_all.new.log.device = begins_untouched c.in-Err.refusal (length c.undo_all.new.log.records) c.incarnation.result (l.faults c.undo_all.new.log.device) (l.faults new) (new ≡ c.undo_all.new.log.device) other c.in-Err.ensures.err in
+    subst (IsRead l c.args.log.now.device) (sym same) c.in_ok-lost.ensures.stays.read
+
+pub returns-in_err-check_page_numbers-clause-fails : goal.returns-in_err-check_page_numbers-clause-fails
+returns-in_err-check_page_numbers-clause-fails g c =
+    let e = c.in_err-check_page_numbers.field-0.0 in
+    let faults = g.L.LogDevice.faults c.args.log.now.device in
+    let h : FailsWith e faults faults = names_fail c.args.pages.now.sizes c.last.result c.requires.pages.0 e faults (c.in_err-check_page_numbers.ensures.names c.args.pages.now.sizes c.requires.pages.0 c.requires.pages.2) in
+    search (rules, h)

@@ -1,6 +1,8 @@
 use Rattle.std.proofs.Common.{◌≡◌, sym, ◌∙◌, subst, inl, inr}
 use Rattle.rq_page.specs.Sizes.{Sizes}
 use Rattle.rq_log.specs.Reading.{IsRead}
+use Rattle.rq_log.proofs.Keeping.{read_twice}
+use Rattle.rq_restart.specs.Undoing.{FailsWith}
 use Rattle.rq_store.specs.Fitting.{image_in}
 use Rattle.rq_restart.specs.Refused.{WhyShut}
 use Rattle.rq_restart.specs.Repeating.{paged}
@@ -28,7 +30,7 @@ returns-in-Ok-finish_restart-clause-opened g c =
       was_read = read.read;
       honest = left.honest;
       restarted = went.restarted;
-      repeated = subst (λ (y : Sizes). HasRepeated y log.records c.finish_restart.new.log.records first (paged c.finish_restart.new.pages)) sizes (went.checked first read.repeated read.numbers);
+      repeated = λ k. subst (λ (y : Sizes). HasRepeated y log.records c.finish_restart.new.log.records first (paged c.finish_restart.new.pages)) sizes (went.checked k first (read.repeated (left.honest k)) read.numbers);
       any_moment = begins_at_most g.L.LogDevice c.args.pages.sizes mid.sizes first (paged mid) c.args.log log c.finish_restart.new.log sizes read.read read.repeated left;
     }
 
@@ -46,17 +48,22 @@ returns-in-Ok-clause-refused g c =
     let e = c.in-Err-finish_restart.refusal in
     let was = log.device in
     let last = c.finish_restart.new.log.device in
-    let shut : WhyShut z log.records first e (l.faults was) (l.faults last) (last ≡ was) = subst (λ (y : Sizes). WhyShut y log.records first e (l.faults was) (l.faults last) (last ≡ was)) sizes (c.in-Err-finish_restart.ensures.shut first read.repeated read.numbers) in
+    let fails = c.in-Err-finish_restart.ensures.fails in
+    let shut : l.honest last → WhyShut z log.records first e (l.faults was) (l.faults last) (IsRead l was last) = λ k. subst (λ (y : Sizes). WhyShut y log.records first e (l.faults was) (l.faults last) (IsRead l was last)) sizes (c.in-Err-finish_restart.ensures.shut k first (read.repeated (left.honest k)) read.numbers) in
     record {
       same = c.give_back.ensures ∙ c.finish_restart.ensures.pages ∙ c.read_and_redo.ensures.device;
-      stops = inr (
-        log.records,
-        read.read.are_spelled,
-        (λ h. read.read.reads (left.honest (subst l.honest back h))),
-        subst (λ d. WhyShut z log.records first e (l.faults c.args.log) (l.faults d) (IsRead l c.args.log d)) (sym back)
-            (subst (λ n. WhyShut z log.records first e n (l.faults last) (IsRead l c.args.log last)) read.read.counted
-            (shut_by z log.records first e (l.faults was) (l.faults last) (λ same. subst (IsRead l c.args.log) (sym same) read.read.only) shut)),
-      );
+      stops = record {
+        counted = subst (λ d. FailsWith e (l.faults c.args.log) (l.faults d)) (sym back) (subst (λ n. FailsWith e n (l.faults last)) read.read.counted fails);
+        read = λ other. subst (IsRead l c.args.log) (sym back) (read_twice l c.args.log was last read.read.only (c.in-Err-finish_restart.ensures.read other));
+        over = λ k. inr (
+          log.records,
+          read.read.are_spelled,
+          (λ h. read.read.reads (left.honest (subst l.honest back h))),
+          subst (λ d. WhyShut z log.records first e (l.faults c.args.log) (l.faults d) (IsRead l c.args.log d)) (sym back)
+              (subst (λ n. WhyShut z log.records first e n (l.faults last) (IsRead l c.args.log last)) read.read.counted
+              (shut_by z log.records first e (l.faults was) (l.faults last) (λ only. read_twice l c.args.log was last read.read.only only) (shut (subst l.honest back k)))),
+        );
+      };
       any_moment = subst (BeginsAtMost l z (image_in c.args.pages.images) c.args.log) (sym back)
           (begins_at_most l z mid.sizes first (paged mid) c.args.log log c.finish_restart.new.log sizes read.read read.repeated left);
     }
@@ -64,9 +71,13 @@ returns-in-Ok-clause-refused g c =
 pub returns-clause-refused : goal.returns-clause-refused
 returns-clause-refused g c = record {
   same = c.give_back-in-Err.ensures ∙ c.read_and_redo.ensures.device;
-  stops = inl c.in-Err.ensures.stopped;
-  any_moment = only_read g.L.LogDevice c.args.pages.sizes (image_in c.args.pages.images) c.args.log c.in-Err.stopped.device c.in-Err.ensures.stopped.read.moments;
+  stops = record {
+    counted = c.in-Err.ensures.fails.0;
+    read = λ other. c.in-Err.ensures.fails.1;
+    over = λ h. inl (c.in-Err.ensures.stopped h);
+  };
+  any_moment = only_read g.L.LogDevice c.args.pages.sizes (image_in c.args.pages.images) c.args.log c.in-Err.stopped.device c.in-Err.ensures.fails.1.moments;
 }
 
 pub finish_restart-requires-clause-pages : goal.finish_restart-requires-clause-pages
-finish_restart-requires-clause-pages g c = (paged c.args.pages, c.in-Ok.ensures.repeated, c.in-Ok.ensures.numbers)
+finish_restart-requires-clause-pages g c = (paged c.args.pages, c.in-Ok.ensures.repeated, c.in-Ok.ensures.numbers, c.in-Ok.ensures.counted)
