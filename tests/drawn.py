@@ -138,7 +138,7 @@ def agrees(door):
         lines, expected = door.cases.lines_of(name)
         if door.unknown in lines:
             continue
-        # the reference has no tag pages
+        # no script marks a tag yet
         sizes = [int(word) for word in door.cases.words_of(name) if word.isdigit()][:2]
         if door.replay(lines, sizes, ())[0] != expected:
             print(f"the reference does not print what stands beside {name}")

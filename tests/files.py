@@ -264,6 +264,11 @@ def made(program):
         # a superblock of version 2
         told = bytes.fromhex("52514d53544f5245 00000002 00000001 00000001 00000001")
         assert files["pages"][:PAGE] == (bytes(256) + told).ljust(PAGE, b"\0")
+    with folder_of() as folder:
+        assert format_store(program, folder, 2, 3, 5) == (b"formatted 2 3 5\n", 0)
+        assert files_of(folder) == {"pages": bytes(formatted(2, 3, 5)), "log": b""}
+    with folder_of() as folder:
+        assert format_store(program, folder, 1, 1, 1024) == (b"formatted 1 1 1024\n", 0)
     for tags in (0, 1025, "", "x"):
         with folder_of() as folder:
             assert format_store(program, folder, 1, 1, tags) == (b"", 2), tags

@@ -406,12 +406,12 @@ UNDOINGS = {"append": "SendUndone", "take": "TakeUndone", "close": "CloseUndone"
 
 
 class Store:
-    """A store of so many directory and cell pages, formatted and not open yet. What is worth counting is added to `met`."""
+    """A store of so many directory, cell and tag pages, formatted and not open yet. What is worth counting is added to `met`."""
 
-    def __init__(self, directory, cells, met=None):
+    def __init__(self, directory, cells, met=None, tags=0):
         self.directory, self.cells = directory, cells
         self.senders, self.room = directory * SLOTS, cells * SLOTS
-        self.devices = Devices(1 + directory + cells)
+        self.devices = Devices(1 + directory + cells + tags)
         self.chains = Chains(directory, cells)
         self.met = Counter() if met is None else met
         self.commits = []  # (transaction, LSN, its deeds), in order

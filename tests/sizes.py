@@ -1,7 +1,7 @@
 #!/usr/bin/env python3
 """Runs scripts of real size by the proved program: as many open transactions as a store may have, a thousand operations in one
-transaction, a log that a restart reads by many windows, one over pages as they were formatted, and a store of as many senders as
-there may be. What each line has to print is worked out from docs/SCRIPTS.md, as the line is made.
+transaction, a log that a restart reads by many windows, one over pages as they were formatted, and stores of as many senders, and of
+as many tag pages, as there may be. What each line has to print is worked out from docs/SCRIPTS.md, as the line is made.
 
     python3 tests/sizes.py [--program PROGRAM]
 """
@@ -13,6 +13,8 @@ from cases import built, first_difference, shown
 
 MOST_OPEN = 4096  # transactions that have not ended
 MOST_DIRECTORY = 1024  # directory pages
+MOST_TAGS = 1024  # tag pages
+MOST_FRAMES = 67585  # one for each page of the greatest store behind the first
 SLOTS = 15  # of a page
 WINDOW = 65536  # bytes that a restart reads at a time
 WRITE_BYTES = 546  # of the record of a slot write
@@ -22,8 +24,8 @@ MOST_SECONDS = 120  # of one run
 class Run:
     """A script, and what it has to print; with the length of each group's chain and of the log, by the table of records."""
 
-    def __init__(self, name, directory, cells):
-        self.name, self.directory, self.cells = name, directory, cells
+    def __init__(self, name, directory, cells, *more):
+        self.name, self.words = name, ["run", "--directory", str(directory), "--cells", str(cells), *more]
         self.lines, self.expected = [], ["restarted 1 unfinished 0 lost 0"]
         self.incarnation, self.begun, self.records, self.writes = 1, 0, 1, 0
         self.chain = [0] * (SLOTS * directory)
@@ -84,10 +86,9 @@ class Run:
 
     def fault(self, program):
         """What is wrong with what it prints; None where nothing is."""
-        words = ["run", "--directory", str(self.directory), "--cells", str(self.cells)]
         script = "".join(f"{line}\n" for line in self.lines).encode()
         try:
-            ran = subprocess.run([program, *words], input=script, capture_output=True, timeout=MOST_SECONDS)
+            ran = subprocess.run([program, *self.words], input=script, capture_output=True, timeout=MOST_SECONDS)
         except subprocess.TimeoutExpired:
             return f"did not end in {MOST_SECONDS} seconds"
         expected = "".join(f"{line}\n" for line in self.expected).encode()
@@ -198,6 +199,18 @@ def most_senders():
     return run
 
 
+def most_tags():
+    """A store of as many tag pages as there may be, with as many frames, works as any other."""
+    run = Run("the most tag pages and frames", 1, 1, "--tags", str(MOST_TAGS), "--frames", str(MOST_FRAMES))
+    txn = run.begin()
+    run.send(txn, 0, 7, "kept")
+    run.commit(txn)
+    run.force()
+    run.restart(0, 0)
+    run.dump({0: (1, 0, ["kept"])})
+    return run
+
+
 def one_message_at_a_time():
     """A thousand messages are sent and received, one at a time. A restart has the whole log, and pages as they were formatted."""
     run = Run("a thousand messages, one at a time", 1, 1)
@@ -222,7 +235,7 @@ def main():
     chosen = words.parse_args()
     program = built(chosen.program, "rqm")
     wrong = False
-    for run in (most_transactions(), long_transaction(), long_log(), one_message_at_a_time(), most_senders()):
+    for run in (most_transactions(), long_transaction(), long_log(), one_message_at_a_time(), most_senders(), most_tags()):
         fault = run.fault(program)
         wrong = wrong or fault is not None
         print(f"{run.name}: {fault or f'{len(run.lines)} lines print what they should'}")

@@ -37,8 +37,8 @@ def call_of(text):
 class World:
     """A store to which anything may happen. `printed` has a line for each happening so far; `met` is counted as by a store."""
 
-    def __init__(self, directory, cells, met=None):
-        self.store = Store(directory, cells, met)
+    def __init__(self, directory, cells, tags=0, met=None):
+        self.store = Store(directory, cells, met, tags)
         self.met = self.store.met
         self.printed = []
         self.numbers = {}  # transaction and LSN of the commit that a happening answered, by its number from 1
@@ -228,9 +228,9 @@ def picked_at(lines, told, at):
     return None
 
 
-def printed_by(lines, directory, cells, told=(), met=None):
+def printed_by(lines, sizes, told=()):
     """What all happenings come to. The lines told say which group a receive takes from."""
-    world = World(directory, cells, met)
+    world = World(*sizes)
     for at, line in enumerate(lines):
         world.happen(line, picked_at(lines, told, at))
     return world.printed

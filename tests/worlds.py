@@ -50,8 +50,8 @@ LENGTH = 160
 
 
 def sizes_of(seed):
-    """Directory pages and cell pages of the store of a seed."""
-    return {0: (2, 2), 5: (1, 2), 7: (3, 2)}.get(seed % 9 if seed % 3 else 0, (1, 1))
+    """Directory pages, cell pages and tag pages of the store of a seed."""
+    return {0: (2, 2, 0), 5: (1, 2, 1), 7: (3, 2, 0)}.get(seed % 9 if seed % 3 else 0, (1, 1, 0))
 
 
 class Drawing:
@@ -331,7 +331,7 @@ class Worlds(drawn.Door):
     name, crate, courses, wanted = "happenings", "happenings", 1500, WANTED
 
     def words(self, sizes):
-        return [str(sizes[0]), str(sizes[1])]
+        return [str(size) for size in sizes]
 
     def draw(self, seed, met):
         drawing = Drawing(seed // 3, met) if seed % 3 == 0 else Calls(seed - seed // 3, met)
@@ -343,7 +343,7 @@ class Worlds(drawn.Door):
         return lines[:at] + [renumbered(line, at, end) for line in lines[end:]]
 
     def replay(self, lines, sizes, told):
-        return printed_by(lines, *sizes, told), 0
+        return printed_by(lines, sizes, told), 0
 
     def runs_more(self, program):
         """Each device call of each list fails in turn, whichever images a crash leaves."""

@@ -1,5 +1,6 @@
 //! Lets what standard input says happen to a store in memory, a happening a line, and prints what each came to. Its words:
-//! how many directory and cell pages the store has. It is formatted, and not open before the first `restart`.
+//! how many directory and cell pages the store has, and tag pages where it has any. It is formatted, and not open before the first
+//! `restart`.
 #![tactic(auto)]
 
 mod line;
@@ -47,7 +48,12 @@ fn layout_of_words<R: AllocGlobal + Env>(rt: &R) -> io::Result<Option<Layout>> {
 }
 
 fn layout_of(words: &[String]) -> Option<Layout> {
-    Layout::new(number(words, 1)?, number(words, 2)?, 0)
+    let tags = if words.len() < 4 {
+        0
+    } else {
+        number(words, 3)?
+    };
+    Layout::new(number(words, 1)?, number(words, 2)?, tags)
 }
 
 fn number(words: &[String], place: usize) -> Option<u32> {

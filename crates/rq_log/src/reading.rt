@@ -1,7 +1,8 @@
 //! Reads the records of a device, one after the other.
-ghost use Rattle.std.specs.Prelude.{◌≡◌, ◌≢◌, ◌⊎◌, ◌^◌, ◌<◌, ◌≤◌, None, IfOk, IfErr, IfSome, IfNone, OnOk, OnErr, [], length, true, false};
+ghost use Rattle.std.specs.Prelude.{◌≡◌, ◌≢◌, ◌⊎◌, ◌^◌, ◌<◌, ◌≤◌, ℕ, None, IfOk, IfErr, IfSome, IfNone, OnOk, OnErr, [], drop, length, true, false};
 ghost use Rattle.std.specs.Bool.{OnTrue, OnFalse};
 ghost use Rattle.rq_model.specs.Bases.{is_base, with_next};
+ghost use Rattle.rq_record.specs.Decoding.{IsFront};
 ghost use Rattle.rq_record.specs.Spelling.{IsInRange};
 ghost use Rattle.rq_model.specs.declared.record.Record.{Record};
 ghost use Rattle.rq_log.specs.Places.{IsAt, NotReadAgainFor};
@@ -150,6 +151,9 @@ impl<L: LogDevice> LogReader<L> {
     pub fn at(&mut self, place: u64) -> Result<Record, Refusal>
         ensures found { IfOk result (λ r. L.honest self.new.device → (s : Record)
             → IsAt self.old.records place s → r ≡ s) }
+        // It is what stands there of the device, taken or not.
+        ensures front { IfOk result (λ r. L.honest self.new.device → (used : ℕ)
+            × IsFront r used (drop place (L.seen self.old.device))) }
         ensures err { IfErr result (λ e. NotReadAgainFor L.LogDevice e self.old.records place self.old.device
             self.new.device) }
         ensures cause { OnOk result (L.faults self.new.device ≡ L.faults self.old.device) }

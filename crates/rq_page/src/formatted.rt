@@ -22,8 +22,8 @@ const SUPERBLOCK_SLOT: u8 = 1;
 impl Layout {
     ghost use Rattle.rq_page.specs.Kinds.{kind_of};
 
-    /// Makes a page that of a formatted store: no record was applied, groups are open and empty, cells are free, and no
-    /// client marked a tag.
+    /// Makes a page that of a formatted store. No record was applied, groups are open and empty, cells are free, and no client
+    /// marked a tag.
     pub fn format(&self, page: u32, out: &mut Page)
         requires { page < page_count self.now }
         ensures { IsFormatted self.now page out.new }

@@ -1,4 +1,4 @@
-//! Where the pages, senders and cells of a store stand.
+//! Where the pages, senders, cells and clients of a store stand.
 ghost use Rattle.std.specs.Prelude.{◌≡◌, ◌↔◌, ◌≤◌, ◌<◌, IsTrue, IsSome, IfSome};
 ghost use Rattle.rq_page.specs.Sizes.{Sizes, IsInRange, IsCellAddress, page_count, tags_from, sender_count, cell_count, directory_at, sender_at, client_at, cell_at, place_of};
 

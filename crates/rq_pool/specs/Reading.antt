@@ -24,7 +24,7 @@ pub record IsSuperblock (z : Sizes) (image : List ℕ) : Type 0 where
   pub range : IsInRange z
   pub formatted : IsFormatted z 0 image
 
--- the header and the slots of a directory or cell page are those of its place
+-- the header and the slots of a page behind the first are those of its place
 pub record IsSoundPage (z : Sizes) (page : ℕ) (image : List ℕ) : Type 0 where
   pub header : IsHeaderOf z page image
   pub slots : (n : ℕ) → 1 ≤ n → n ≤ 15 → IsSlotOf z page n (slot_of n image)

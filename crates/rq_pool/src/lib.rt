@@ -33,10 +33,12 @@ use rq_page::page::Page;
 use std::alloc::Global;
 use std::marker::Model;
 
-/// A page, and whether it was changed since it was read or written.
+/// A page in memory.
 #[derive(Drop)]
 pub struct Frame {
+    /// The page.
     pub page: Page,
+    /// Whether it was changed since it was read or written.
     pub changed: bool,
 }
 
@@ -81,7 +83,9 @@ impl<P: PageDevice> Model for Pages<P> {
 /// Pages that could not be had: why, and their device.
 #[derive(Drop)]
 pub struct RefusedPages<P> {
+    /// Why.
     pub refusal: Refusal,
+    /// Their device, which was only read.
     pub device: P,
 }
 
@@ -89,8 +93,10 @@ impl<P: PageDevice + Drop> Pages<P> {
     ghost use Rattle.rq_pool.specs.Reading.{ArePages, AreSeen, OnlyRead, StopsFor, device_of};
 
     /// Reads every page, and checks each as it is read: the superblock, then each page's header and slots.
-    /// It stops by `DiskRead`, by `Damaged` with the number of the first page that is none of a store's, or,
-    /// where the superblock tells the sizes, by `NoMemory`.
+    ///
+    /// # Errors
+    /// `DiskRead`; `Damaged` with the number of the first page that is none of a store's; `NoMemory`, where the superblock
+    /// tells the sizes.
     #[tactic(auto, using(crate::proofs::Over::over_loaded))]
     pub fn load(alloc: Global, mut device: P) -> Result<Pages<P>, RefusedPages<P>>
         ensures pages { IfOk result (λ pages. ArePages pages.sizes pages.images) }
@@ -161,7 +167,7 @@ impl<P: PageDevice> Pages<P> {
         }
     }
 
-    /// What stands at an address of a directory or cell page; none where the store has no such slot.
+    /// What stands at an address of a page behind the first; none where the store has no such slot.
     pub fn slot(&self, at: Addr) -> Option<&Slot>
         ensures known { IsSome result ↔ IsStoreSlot self.now.sizes at }
         ensures bytes { IfSome result (λ slot. slot.now ≡ slot_at self.now.images at) }
@@ -192,8 +198,8 @@ impl<P: PageDevice> Pages<P> {
         note_slot(&mut self.free, &self.layout, &self.frames, at);
     }
 
-    /// Has the level of single slots apply a record, which writes the slot at this address, to its page, where the page is
-    /// older, and answers whether it did.
+    /// Has the level of single slots apply a record to its page, where the page is older. The record writes the slot at this
+    /// address. Whether it was applied.
     pub fn redo<B: Level>(
         &mut self,
         levels: &mut Levels<B>,
@@ -316,8 +322,7 @@ impl<P: PageDevice> Pages<P> {
         }
     }
 
-    /// The free cell with the lowest address whose place among the cells is this one or a later one; none where each of
-    /// these is used.
+    /// The free cell with the lowest address, from this place among the cells on; none where each of these is used.
     pub fn next_free(&self, from: u32) -> Option<Addr>
         ensures cell { IfSome result (λ a. IsCellAddress self.now.sizes a) }
         ensures free { IfSome result (λ a. slots_in self.now.sizes self.now.images a ≡ Free) }

@@ -1,5 +1,6 @@
 //! What a worker calls the store by.
-ghost use Rattle.std.specs.Prelude.{◌≡◌, ◌≤◌};
+ghost use Rattle.std.specs.Prelude.{◌≡◌, ◌≤◌, ◌⊎◌};
+ghost use Rattle.rq_serving.specs.Carried.{IsForce};
 
 use crate::notices::Notices;
 use crate::turns::Turns;
@@ -58,14 +59,19 @@ impl<'a, S: Steps> Calls<'a, S> {
     }
 
     /// Forces, which frees the memory of what is buffered.
-    pub(crate) fn force<R: Wait>(&mut self, rt: &R) {
+    pub(crate) fn force<R: Wait>(&mut self, rt: &R)
+        ensures { IsForce S.made S.forced S.told self.old.steps self.new.steps }
+    {
         let turns = self.turns;
         let _forcing = turns.forcing.lock(rt);
         self.make_force();
     }
 
     /// Forces, where the log is not forced as far as this once no other worker forces.
-    pub(crate) fn force_up_to<R: Wait>(&mut self, rt: &R, lsn: Lsn) {
+    pub(crate) fn force_up_to<R: Wait>(&mut self, rt: &R, lsn: Lsn)
+        ensures reached { (lsn ≤ self.new.reader.seat.saw) ⊎ IsForce S.made S.forced S.told self.old.steps self.new.steps }
+        ensures grown { self.old.reader.seat.saw ≤ self.new.reader.seat.saw }
+    {
         let turns = self.turns;
         let _forcing = turns.forcing.lock(rt);
         if self.forced() < lsn {
@@ -73,13 +79,20 @@ impl<'a, S: Steps> Calls<'a, S> {
         }
     }
 
-    fn make_force(&mut self) {
+    fn make_force(&mut self)
+        ensures forced { IsForce S.made S.forced S.told self.old.steps self.new.steps }
+        ensures same { self.new.reader ≡ self.old.reader }
+    {
         let stamped = self.steps.force();
         self.steps.seen(stamped);
     }
 
     /// How far the log is forced.
-    pub(crate) fn forced(&mut self) -> Lsn {
+    pub(crate) fn forced(&mut self) -> Lsn
+        ensures saw { result ≡ self.new.reader.seat.saw }
+        ensures grown { self.old.reader.seat.saw ≤ result }
+        ensures same { self.new.steps ≡ self.old.steps }
+    {
         self.reader.read()
     }
 

@@ -1,5 +1,7 @@
 //! Rounds: a worker waits until some of its connections have said something, carries that out, has the commits among it
 //! forced, and answers.
+ghost use Rattle.std.specs.Prelude.{◌≡◌, ◌⊎◌, ◌≤◌, ℕ, IfSome, Some};
+
 use crate::calls::Calls;
 use crate::connection::Connection;
 use crate::door::{Door, Entered};
@@ -246,9 +248,10 @@ impl Connections {
         }
     }
 
+    // Reads those that were reported.
     fn hear(&mut self) {
-        for at in 0..self.count() {
-            let token = self.token_at(at);
+        for at in 0..self.active.len() {
+            let token = self.active.get(at).copied().unwrap_or(DOOR);
             if let Some(connection) = self.connections.get_mut(token) {
                 connection.hear(&mut self.piece);
             }
@@ -493,7 +496,11 @@ fn is_late<R: Clock>(rt: &R, since: Instant) -> bool {
 }
 
 // The later of two, where there are any.
-fn later(one: Option<Lsn>, other: Option<Lsn>) -> Option<Lsn> {
+fn later(one: Option<Lsn>, other: Option<Lsn>) -> Option<Lsn>
+    ensures one { IfSome one (λ lsn. (last : ℕ) × (result ≡ Some last) × (lsn ≤ last)) }
+    ensures other { IfSome other (λ lsn. (last : ℕ) × (result ≡ Some last) × (lsn ≤ last)) }
+    ensures among { IfSome result (λ last. (one ≡ Some last) ⊎ (other ≡ Some last)) }
+{
     match (one, other) {
         (Some(one), Some(other)) => Some(one.max(other)),
         (None, other) => other,

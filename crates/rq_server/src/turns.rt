@@ -1,5 +1,5 @@
 //! The turns that workers take at the store, and the force that several of them share.
-ghost use Rattle.std.specs.Prelude.{◌≡◌, ◌<◌, ◌+◌, IsTrue, MatchOption, max, true};
+ghost use Rattle.std.specs.Prelude.{◌≡◌, ◌<◌, ◌≤◌, ◌+◌, ◌-◌, IsTrue, MatchOption, max, true};
 ghost use Rattle.std.specs.Bool.{OnFalse};
 
 use rq_model::txn::Lsn;
@@ -30,7 +30,9 @@ pub(crate) struct Owed {
 
 impl Turns {
     /// Of so many workers.
-    pub(crate) fn new(workers: u32) -> Self {
+    pub(crate) fn new(workers: u32) -> Self
+        ensures { result.most_left ≡ workers - 1 }
+    {
         Turns {
             turn: Mutex::new(Owed { lsn: 0, left: 0 }),
             forcing: Mutex::new(()),
@@ -56,7 +58,13 @@ impl Turns {
 
     /// Whether a turn is to force at its end: where commits wait for that, and it is not left to others. The log is forced up to
     /// `forced`, and the turn's own commits wait up to `awaited`.
-    pub(crate) fn is_due(&self, owed: &mut Owed, forced: Lsn, awaited: Option<Lsn>) -> bool {
+    pub(crate) fn is_due(&self, owed: &mut Owed, forced: Lsn, awaited: Option<Lsn>) -> bool
+        ensures owed { MatchOption awaited (owed.new.lsn ≡ owed.old.lsn) (λ lsn. owed.new.lsn ≡ max owed.old.lsn lsn) }
+        ensures due { IsTrue result → (forced < owed.new.lsn) × (owed.new.left ≡ 0) }
+        ensures left { OnFalse result (forced < owed.new.lsn → (owed.old.left < self.now.most_left)
+            × (owed.new.left ≡ owed.old.left + 1)) }
+        ensures idle { owed.new.lsn ≤ forced → owed.new.left ≡ 0 }
+    {
         owed.is_due(forced, awaited, self.is_awaited(), self.most_left)
     }
 }
@@ -79,7 +87,9 @@ impl Owed {
         most_left: u32,
     ) -> bool
         ensures owed { MatchOption awaited (self.new.lsn ≡ self.old.lsn) (λ lsn. self.new.lsn ≡ max self.old.lsn lsn) }
-        ensures due { IsTrue result → (forced < self.new.lsn) × (self.new.left ≡ 0) }
+        ensures due { IsTrue result → (forced < self.new.lsn) × (self.new.left ≡ 0)
+            × (others_wait ≡ true → most_left ≤ self.old.left) }
+        ensures idle { self.new.lsn ≤ forced → self.new.left ≡ 0 }
         ensures left { OnFalse result (forced < self.new.lsn → (others_wait ≡ true) × (self.old.left < most_left)
             × (self.new.left ≡ self.old.left + 1)) }
     {

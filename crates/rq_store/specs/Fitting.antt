@@ -61,7 +61,7 @@ pub record FitsPage (z : Sizes) (log : List Record) (p : ℕ) (image : List ℕ)
   pub stamped : IsStamp p (oldest (lsn_of image) log)
   pub held : HoldsPage z p image (oldest (lsn_of image) log)
 
--- the first page tells the sizes, and the directory and cell pages fit the log
+-- the first page tells the sizes, and the pages behind it fit the log
 pub record FitsLog (z : Sizes) (image : ℕ → List ℕ) (log : List Record) : Type 0 where
   pub superblock : IsFormatted z 0 (image 0)
   pub headers : (p : ℕ) → 1 ≤ p → p < page_count z → IsHeaderOf z p (image p)
