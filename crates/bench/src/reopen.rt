@@ -23,8 +23,8 @@ const MESSAGES_A_FORCE: u32 = 256;
 /// How many senders there are at least in a store.
 const SENDERS: u32 = 15;
 
-/// Makes a store whose log has so many messages, sent and received, each by a transaction of its own, and whose pages are as
-/// they were formatted. Prints how many messages there are.
+/// Makes a store whose log has so many messages, sent and received, each by a transaction of its own. The store's pages
+/// are as they were formatted. Prints how many messages there are.
 pub fn make<R: Print + AllocGlobal + Files<File = File>>(
     rt: &R,
     words: &[String],

@@ -18,8 +18,8 @@ use std::sync::Wait;
 use std::sync::ledger::Blank;
 use std::thread::Threads;
 
-/// Makes the calls of so many batches of rounds for each of four senders, by 1 or 4 threads, and prints how many were answered;
-/// how many starts were Latched goes to standard error.
+/// Makes the calls of so many batches of rounds for each of four senders, by 1 or 4 threads. Prints how many were
+/// answered. How many starts were Latched goes to standard error.
 pub fn run<R: Print + Eprint + AllocGlobal + Threads + Wait + Sync>(
     rt: &R,
     words: &[String],

@@ -1,11 +1,13 @@
-//! A list of happenings, one a line: a name and numbers, with one blank between two words. A transaction is written `2.1`,
-//! an operation `2.1 3`. What a crash keeps is two words: how many unforced records, and perhaps how many bytes
-//! of the next, `3+20`; and of each page the place of its image, `0,2,1`, or `-` where none is said.
+//! A list of happenings, one a line: a name and numbers, with one blank between two words. A transaction is written
+//! `2.1`, an operation `2.1 3`. What a crash keeps is two words. The first is how many unforced records, and perhaps
+//! how many bytes of the next, `3+20`. The second is of each page the place of its image, `0,2,1`, or `-` where none is
+//! said.
 //!
-//! Calls: `begin`, `start-send TXN SENDER TAG BODY` (the body is the rest of the line), `start-receive TXN`,
-//! `start-receive-from TXN SENDER`, `start-close TXN SENDER`, `step OPERATION`, `finish OPERATION`, `commit TXN`,
-//! `start-abort TXN`, `undo-next TXN`, `end-abort TXN`, `hand-over`, `force`, `checkpoint`, `write PAGE`, `last SENDER`,
-//! `content`.
+//! Calls of a transaction: `begin`, `start-send TXN SENDER TAG BODY` (the body is the rest of the line), `commit TXN`.
+//! Its receives and closes: `start-receive TXN`, `start-receive-from TXN SENDER`, `start-close TXN SENDER`.
+//! Calls of an operation: `step OPERATION`, `finish OPERATION`.
+//! Calls of an abort: `start-abort TXN`, `undo-next TXN`, `end-abort TXN`.
+//! Calls of the store: `hand-over`, `force`, `checkpoint`, `write PAGE`, `last SENDER`, `content`.
 //! The others: `ack N`, `fail N`, `crash KEPT`, `stop-in N KEPT CALL`, `restart`, `restart-stop N KEPT`.
 use crate::line::Line;
 use rq_core::happening::{Choice, Happening};

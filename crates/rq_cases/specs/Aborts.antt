@@ -44,8 +44,8 @@ log_counted = page_op t1 2 count_back ∷ log_emptied
 abbrev pub log_undone : List Record
 log_undone = CompEnd t1 2 4 ∷ log_counted
 
--- 1.1, which has sent, is turned to abort; the inverse of its send is started, its slots are written, it is finished;
--- the abort is ended
+-- 1.1, which has sent, is turned to abort. The inverse of its send is started, its slots are written, and it is finished. Then
+-- the abort is ended.
 abbrev pub turned : State
 turned = lists (aborting_row t1 (did_send ∷ []) 1 ∷ []) sends_to_0 sent_pages log_4 1 1 1 0
 

@@ -37,8 +37,8 @@ LeadsNot base audit new = (pages : MemPages) (log : MemLog)
 abbrev pub beyond : State
 beyond = record forced { forced = 6 }
 
--- a restart opened it over a log that a Base begins, and knows nothing of the record that stood before that; a transaction is
--- begun then
+-- A restart opened it over a log that a Base begins, and knows nothing of the record that stood before that. Then a transaction
+-- is begun.
 abbrev pub behind_a_base : State
 behind_a_base = opened sizes formatted_pages (Base 1 1 ∷ Restart 0 ∷ [])
 

@@ -18,8 +18,8 @@ pub record Cases : Type 0 where
   -- A run of a small store, page by page in bytes: a message is sent, committed, forced and received. Each of its
   -- states is sound, and each call a step of the model.
   pub run_is_sound : RunIsSound
-  -- A whole call over devices in memory, the force of a committed message, with what its clauses ask; and what no call may
-  -- answer or make, field by field.
+  -- A whole call over devices in memory, the force of a committed message, with what its clauses ask. What no call may answer
+  -- or make, field by field.
   pub calls_are_applied : CallsAreApplied
   -- A store between two happenings, open, shut or fresh, as a history leaves it; and stores that it doesn't.
   pub worlds_are_judged : WorldsAreJudged

@@ -1,5 +1,5 @@
--- Runs of calls of both devices, crashes that a course may meet, and pages and logs over their devices: over the worked
--- run, and what isn't so.
+-- Runs of calls of both devices, crashes that a course may meet, and pages and logs over their devices. They are over the
+-- worked run, beside what isn't so.
 use Rattle.std.specs.Prelude.{◌≢◌, ℕ, ◌<◌, List, ◌∷◌, length}
 use Rattle.rq_model.specs.declared.record.Record.{Record}
 use Rattle.rq_model.specs.Bases.{marked}

@@ -1,4 +1,4 @@
--- A store between two happenings, open, shut or fresh, and what a run of happenings says at its end: over the worked
+-- A store between two happenings, open, shut or fresh, and what a run of happenings says at its end. Both are over the worked
 -- run, with devices in memory.
 use Rattle.std.specs.Prelude.{◌≢◌, ℕ, ◌<◌, List, [], ◌∷◌, ◌++◌, length, take}
 use Rattle.rq_model.specs.declared.record.Record.{Record}

@@ -17,9 +17,9 @@ abbrev pub AreOnce : List ℕ → Type 0
 AreOnce [] = Unit {0}
 AreOnce (a ∷ others) = (In a others → ⊥) × AreOnce others
 
--- These cells are the whole chain of s: they are used, carry s and the numbers from received + 1 to sent in order, each
--- names the one before it and the next one, 0 at the ends; and the directory slot of s names the first and the last, 0
--- where there is none.
+-- These cells are the whole chain of s. They are used, and carry s and the numbers from received + 1 to sent in order. Each
+-- names the one before it and the next one, 0 at the ends. The directory slot of s names the first and the last, 0 where there
+-- is none.
 pub record IsChain (q : Slots) (s : ℕ) (ns : List Node) : Type 0 where
   pub directory : Directory
   pub at : q (directory_at s) ≡ Sender s directory

@@ -13,8 +13,8 @@ use Rattle.rq_txn.specs.Rows.{any_under}
 use Rattle.rq_sound.specs.Sound.{IsSound}
 use Rattle.rq_chain_check.specs.Links.{AreLinked, IsFault}
 
--- The chains are whole in the slots that a whole log with nothing unfinished leaves; and so in a sound store that is
--- opened over any log, and in each that has no operation under way.
+-- The chains are whole in the slots that a whole log with nothing unfinished leaves. So they are in a sound store that is
+-- opened over any log. So they are in each sound store that has no operation under way.
 pub record SoundStoresAreLinked : Type 0 where
   pub left : (z : Sizes) (q : Slots) (log : List Record) → IsWhole z log → unfinished log ≡ []
       → ((a : ℕ) → q a ≡ (left_by z log).slots a) → AreLinked z q

@@ -22,12 +22,13 @@ use std::alloc::Global;
 
 /// Where the chains of the senders are not whole, the page to be named; none where they are.
 ///
-/// A sender's chain is whole where the cells from its head on, each by the link of the one before, are used, carry the
-/// sender and the sequence numbers from received + 1 to sent in order, and name the one before, and the last one is its
-/// tail; where nothing is left, it has neither head nor tail. Each used cell is to stand in one chain.
+/// A sender's chain is whole where the cells from its head on, each by the link of the one before, are as follows. They
+/// are used and carry the sender. Their sequence numbers go from received + 1 to sent in order. Each names the one
+/// before, and the last one is the tail. Where nothing is left, the chain has neither head nor tail. Each used cell is
+/// to stand in one chain.
 ///
-/// The page is that of the directory slot of the first sender whose chain is not whole; else the first one with a used
-/// cell that is in no chain.
+/// The page is that of the directory slot of the first sender whose chain is not whole. Else it is the first page with
+/// a used cell that is in no chain.
 ///
 /// # Errors
 /// `NoMemory`.
@@ -94,7 +95,7 @@ fn is_end(group: &Directory, last: Addr, next: Addr) -> bool
     group.received <= group.sent && next.is_none() && last == group.tail
 }
 
-// The link of the cell at an address, where that cell is used, carries the sender and this number, and names the one
+// The link of the cell at an address. That cell has to be used, to carry the sender and this number, and to name the one
 // before it; else none.
 fn linked_cell<P: PageDevice>(
     pages: &Pages<P>,

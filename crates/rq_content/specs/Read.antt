@@ -31,8 +31,8 @@ group_of g = record {
   rest = g.rest.items;
 }
 
--- What a directory slot says where deeds are left out: how many messages were sent, the last tag before the first send
--- that is left out, whether the group is closed, and what the deeds took.
+-- What a directory slot says where deeds are left out. It says how many messages were sent, and the last tag before the first
+-- send that is left out. It also says whether the group is closed, and what the deeds took.
 pub record Before : Type 0 where
   pub sent : ℕ
   pub previous : Option ℕ

@@ -23,8 +23,8 @@ use Rattle.rq_core.specs.Runs.{GivesUp, Happened, IsRefused, MemWorld}
 use Rattle.rq_core.specs.Views.{answer_in, happens}
 use Rattle.rq_core.specs.World.World.{Is_open, Is_shut}
 
--- what outlives a crash: so many of the records that are not forced, so many bytes of the next one, and of each page the
--- image at its place, or the newest
+-- What outlives a crash. It is so many of the records that are not forced, and so many bytes of the next one. Of each page it
+-- is the image at its place, or the newest.
 pub record Outlives : Type 0 where
   pub keep : ℕ
   pub torn : ℕ

@@ -31,8 +31,8 @@ use Rattle.rq_core.specs.Happenings.Happening.{Crashes, Stops_in, Stops_restart}
 use Rattle.rq_core.specs.World.{World}
 use Rattle.rq_core.specs.World.World.{Is_open, Is_shut}
 
--- the last event of a store that is open before a crash, and its answer: between two calls a hand-over, since what was
--- not handed over may outlive it too; inside a call that call, in which a device failed
+-- The last event of a store that is open before a crash, and its answer. Between two calls it is a hand-over, since what was
+-- not handed over may outlive the crash too. Inside a call it is that call, in which a device failed.
 abbrev pub IsLast : Happening → Event → Reply → Type 0
 IsLast Crashes e r = e ≡ event.HandOver
 IsLast (Stops_in call) e r = (call_of e ≡ call) × (f : Refusal) × (r ≡ reply.Refused f) × (is_of_device f ≡ true)
@@ -53,8 +53,8 @@ module _ {P L : Type 0} (p : page_device.Ghosts P) (l : log_device.Ghosts L) whe
     pub reply_is : reply ≡ gave told
     pub applied : Applied p l old event told new
 
-  -- what a crash leaves of both devices: of each, one of those that it may leave, and of the log so many records, with those
-  -- before its Base
+  -- What a crash leaves of both devices. Of each it is one of those that it may leave. Of the log it is so many records, with
+  -- those before its Base.
   pub record IsCrashed (pages new_pages : P) (log new_log : L) (count : ℕ) : Type 0 where
     pub pages_left : (images : Images) → Leaves (p.may_be new_pages) images → Leaves (p.may_be pages) images
     pub pages_only : (page : ℕ) → Only (p.seen new_pages page) (p.may_be new_pages page)
@@ -62,8 +62,8 @@ module _ {P L : Type 0} (p : page_device.Ghosts P) (l : log_device.Ghosts L) whe
     pub log_only : (bytes : List ℕ) → l.may_leave new_log bytes → bytes ≡ l.seen new_log
     pub holds : LastLsn (l.seen new_log) count
 
-  -- what is so of every open store, if no checkpoint has failed, whatever stood before its Base: a crash leaves a part of
-  -- its log, with pages that fit
+  -- What is so of every open store, if no checkpoint has failed, whatever stood before its Base. A crash leaves a part of its
+  -- log, with pages that fit.
   abbrev pub Keeps : OpenStore P L → Type 0
   Keeps s = s.replacing ≡ false → l.honest s.log → (e : List Record) → IsEarlier e s.state → IsSound (on e s.state)
       → AreFit p (over e s) → LeavesCut p l (over e s)

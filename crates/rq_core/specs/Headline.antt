@@ -22,8 +22,8 @@ AcknowledgedAreKept h = (newer older : List Entry) (t : Txn) (lsn : ℕ) → new
     → In (Committed t lsn) older → In t (commits h)
 
 module _ {P L : Type 0} (p : page_device.Ghosts P) (l : log_device.Ghosts L) (z : Sizes) where
-  -- Whatever a crash now leaves of both devices is a store, for some records that stood before its Base, and the crash that
-  -- leaves it may end the history: its content is that of the commits that it keeps.
+  -- Whatever a crash now leaves of both devices is a store, for some records that stood before its Base. The crash that leaves
+  -- it may end the history. The store's content is that of the commits that it keeps.
   abbrev pub LeavesStores : List Entry → P → L → Type 0
   LeavesStores h pages log = EachPair p l pages log (λ images bytes. (now : List Record) × IsStore z now images bytes
       × EndsInCrash (size_of z) h now)
@@ -43,10 +43,10 @@ module _ {P L : Type 0} (p : page_device.Ghosts P) (l : log_device.Ghosts L) (z 
   LeftLast [] pages log = Unit {0}
   LeftLast (a ∷ course) pages log = LeftBy a.1 pages log
 
-  -- What is so of every course, with both devices as they are at its end. For some choice of the groups that were
-  -- picked its answers tell a history in which each reply is legal, each crash keeps what it must, and each restart
-  -- opens what was left. At every place of it what committed transactions took from a sender is a beginning of what
-  -- they sent for it; an acknowledged commit stays.
+  -- What is so of every course, with both devices as they are at its end. For some choice of the groups that were picked its
+  -- answers tell a history. In it each reply is legal, each crash keeps what it must, and each restart opens what was left. At
+  -- every place of it what committed transactions took from a sender is a beginning of what they sent for it; an acknowledged
+  -- commit stays.
   pub record IsHeadline (course : Course) (pages : P) (log : L) : Type 0 where
     pub history : List Entry
     pub tells : Tells course history

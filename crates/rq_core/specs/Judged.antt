@@ -30,8 +30,8 @@ use Rattle.rq_core.specs.World.World.{Is_open, Is_shut}
 abbrev pub Asked : Call → Reply → OpenStore MemPages MemLog → OpenStore MemPages MemLog → Type 0
 Asked call reply old new = IsAsked mem_pages mem_log (Some call) reply old new
 
--- Why a restart was refused, by the log that it read: for want of memory, for a device that failed then, or as LogFull
--- where that log is at its greatest length. It is never refused for what stands on its devices.
+-- Why a restart was refused, by the log that it read. Memory was wanting, a device failed then, or it was refused as LogFull.
+-- For LogFull that log is at its greatest length. It is never refused for what stands on its devices.
 pub record IsRefusedOver (z : Sizes) (pages : MemPages) (log : MemLog) (refusal : Refusal) (new_pages : MemPages)
     (new_log : MemLog) : Type 0 where
   pub read : List Record

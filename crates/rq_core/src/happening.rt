@@ -31,8 +31,9 @@ pub enum Happening {
     Fail(u64),
     /// The power fails.
     Crash(Choice),
-    /// The power fails at the nth device call of a call: that one is made where it is an append or a page write, and
-    /// not made otherwise. Where the call makes fewer, it is the call itself. What was not handed over then is gone.
+    /// The power fails at the nth device call of a call. That device call is made where it is an append or a page
+    /// write, and not made otherwise. Where the call makes fewer, it is the call itself. What was not handed over then
+    /// is gone.
     StopIn(Event, u64, Choice),
     /// The store is opened.
     Restart,

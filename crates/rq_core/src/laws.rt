@@ -20,10 +20,10 @@ use rq_model::laws::{
 };
 use rq_restart::laws::{one_log, one_size};
 
-/// Of every history with legal replies, and with crashes and restarts as they may come: at every place of it, what
-/// committed transactions received from each sender is a beginning of its committed sends, in order, each once; the
-/// content that is shown is the rest; acknowledged commits survive; a committed close ends its sender; and none
-/// means that no free group holds a message, both ways.
+/// Of every history with legal replies, and with crashes and restarts as they may come. At every place of it, what
+/// committed transactions received from each sender is a beginning of its committed sends, in order, each once. The
+/// content that is shown is the rest. Acknowledged commits survive. A committed close ends its sender. None means that
+/// no free group holds a message, both ways.
 pub fn always()
     ensures order { (size : Size) (history : List Entry) → IsLegal size history → FifoThroughout history }
     ensures rest { (size : Size) → ContentIsTheRest size }
@@ -37,13 +37,13 @@ pub fn always()
     nothing_behind_close();
 }
 
-/// Worked courses: one with three crashes, a stop in a call and one in a restart, and a refused restart tells a legal
-/// history; and what tells none.
+/// Worked courses. One with three crashes, a stop in a call, a stop in a restart, and a refused restart tells a legal
+/// history. The rest is what tells none.
 pub fn courses_are_judged()
     ensures { AreJudged }
 {}
 
-/// Of every run: its answers tell a history with legal replies, and all that the headline says; and each store that it
+/// Of every run. Its answers tell a history with legal replies, and all that the headline says. Each store that it
 /// meets is sound, and stands where the history ends that led to it.
 pub fn a_run_is_told()
     ensures met { (z : Sizes) (c : Course) (w : MemWorld) → Led z c w → Ran z c w }

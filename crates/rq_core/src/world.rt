@@ -88,9 +88,9 @@ impl World {
 
     /// All of this happens to the store, one after the other. There is an entry for each, in order: what the call, the
     /// crash or the restart came to at the store that it met. What they tell is a history in which each reply is legal,
-    /// each crash keeps what it must, and each restart opens what was left; and whatever a crash at its end leaves is a
-    /// store with exactly what is committed. Each restart of a store that is not open takes the last of the sets of levels;
-    /// those that are left over are dropped.
+    /// each crash keeps what it must, and each restart opens what was left. Whatever a crash at its end leaves is a
+    /// store with exactly the content of the commits that it keeps. Each acknowledged commit is one of them. Each
+    /// restart of a store that is not open takes the last of the sets of levels; those that are left over are dropped.
     ///
     /// # Errors
     /// Where memory is wanting, or no set of levels is left for a restart.

@@ -45,8 +45,8 @@ IsOver old new = (new ≡ old) × (has_failed old ≡ true)
 abbrev pub HasErred : (failed : FileCall) (old new : List FileCall) → Type 0
 HasErred failed old new = IsOver old new ⊎ (new ≡ failed ∷ old)
 
--- A sync leaves what is there now and nothing else; not so where one of these had failed before it: what was to be
--- written may be lost then, though this one was made, and all may be left that might have been.
+-- A sync leaves what is there now and nothing else, unless a call that was no read had failed before it. Then what was to be
+-- written may be lost, though this sync was made. All may be left then that might have been.
 abbrev pub after_sync : (had_failed : Bool) (before now : Type 0) → Type 0
 after_sync true before now = before
 after_sync false before now = now

@@ -20,9 +20,9 @@ log_bytes held (Unreplaced bytes ∷ calls) = log_bytes held calls
 log_bytes held (Synced ∷ calls) = log_bytes held calls
 log_bytes held (Missed ∷ calls) = log_bytes held calls
 
--- What a crash may leave: what was there at the last force, or at an append since, or one that failed, with the first
--- few of its bytes; or, behind a cut, made or not, as much as it leaves or more; or what it was replaced by. A force behind a
--- call that failed is none.
+-- What a crash may leave. It is what was there at the last force, or at an append since, or one that failed, with the first few
+-- of its bytes. Or, behind a cut, made or not, it is as much as that leaves, or more. Or it is what the log was replaced by. A
+-- force behind a call that failed is none.
 abbrev pub log_may_leave : List ℕ → List FileCall → List ℕ → Type 0
 log_may_leave held [] c = c ≡ held
 log_may_leave held (Gave at bytes ∷ calls) c = log_may_leave held calls c
@@ -86,7 +86,7 @@ LogAgrees held first (Missed ∷ calls) = LogAgrees held first calls
 abbrev pub LogLeftSince : List ℕ → List FileCall → ℕ → List ℕ → Type 0
 LogLeftSince held calls t c = (k : ℕ) × (k + t ≤ length calls) × log_may_leave held (drop k calls) c
 
--- Why such a file's device that ends there may err: it is over, its own call of the file failed, or the bytes would end beyond
+-- Why such a file's device that ends there may err. It is over, its own call of the file failed, or the bytes would end beyond
 -- its last place.
 abbrev pub LogErred : ℕ → LogAsk → (old new : List FileCall) → Type 0
 LogErred end (LogAsk.Reads at) old new = HasErred (Denied at) old new

@@ -63,8 +63,8 @@ abbrev pub reaches : Option ℕ → ℕ → Bool
 reaches None count = true
 reaches (Some place) count = nat_lt count place
 
--- of a page the image at a place among the synced one, which is 0, and those written since, in order; where
--- there is none so far, the newest
+-- Of a page the image at a place. Place 0 is the synced one, and those written since follow in order. Where none stands at that
+-- place, it is the newest.
 abbrev pub image_after : List (ℕ × List ℕ) → List ℕ → ℕ → Option ℕ → List ℕ
 image_after [] synced page place = synced
 image_after (w ∷ ws) synced page place =

@@ -87,8 +87,8 @@ WasWrittenSince (Unreplaced bytes ∷ calls) p c = WasWrittenSince calls p c
 WasWrittenSince (Synced ∷ calls) p c = after_sync (has_failed calls) (WasWrittenSince calls p c) ⊥
 WasWrittenSince (Missed ∷ calls) p c = WasWrittenSince calls p c
 
--- A crash may leave of a page its image at the last sync that made all durable, and each one that was written since, or
--- was to be; and nothing else.
+-- A crash may leave of a page its image at the last sync that made all durable. It may leave each one that was written since,
+-- or was to be. It leaves nothing else.
 abbrev pub PageFilesLeave : Type 0
 PageFilesLeave =
     (held : Images) (calls : List FileCall) (p : ℕ) (c : List ℕ) → page_may_be held calls p c
@@ -112,7 +112,7 @@ PagesAgree held (Missed ∷ calls) = PagesAgree held calls
 abbrev pub PagesLeftSince : Images → List FileCall → ℕ → Images → Type 0
 PagesLeftSince held calls t c = (k : ℕ) × (k + t ≤ length calls) × Leaves (page_may_be held (drop k calls)) c
 
--- Why such a file's device of so many pages may err: there is no such page, it is over, or its own call of the file failed.
+-- Why such a file's device of so many pages may err. There is no such page, it is over, or its own call of the file failed.
 abbrev pub PageErred : ℕ → PageAsk → (old new : List FileCall) → Type 0
 PageErred count (PageAsk.Reads page) old new =
     ((count ≤ page) × (new ≡ old)) ⊎ HasErred (Denied (page * 4096)) old new

@@ -68,8 +68,8 @@ pub record FilesAreJudged : Type 0 where
   -- which calls end a device
   pub ends : has_failed (Gave 0 seven ∷ Missed ∷ Took 0 seven ∷ []) ≡ true
   pub goes_on : has_failed (Synced ∷ Gave 0 seven ∷ Denied 0 ∷ Took 0 seven ∷ []) ≡ false
-  -- a call errs behind a write or a sync that failed, or in its own call of the file, and neither for an earlier one nor for
-  -- one of another kind
+  -- A call errs behind a write or a sync that failed, or in its own call of the file. It errs neither for an earlier one nor
+  -- for one of another kind.
   pub erred_behind : PageErred 9 (Pages.Reads 1) (Missed ∷ []) (Missed ∷ [])
   pub erred_in_it : PageErred 9 (Pages.Reads 1) (Took 0 seven ∷ []) (Denied 4096 ∷ Took 0 seven ∷ [])
   pub erred_outside : PageErred 1 (Pages.Writes 1 seven) [] []

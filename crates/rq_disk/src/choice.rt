@@ -9,8 +9,8 @@ pub enum PageChoice {
     Synced,
     /// Of each page the newest image.
     Newest,
-    /// Of each page, by number, the image at this place among the one at the last sync, which is 0, and those
-    /// written since, in order. A place that is too large is the newest, and so is one that is missing.
+    /// Of each page, by number, the image at this place. Place 0 is the image at the last sync, and those written since
+    /// follow in order. A place that is too large is the newest, and so is one that is missing.
     Places(Vec<u64>),
 }
 

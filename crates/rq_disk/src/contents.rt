@@ -12,7 +12,7 @@ pub trait FileContents: Drop {
     ghost bytes: { List ℕ };
 }
 
-/// For a program to name. Of files that held anything at all, what is proved at this type says nothing: what a program
+/// For a program to name. Of files that held anything at all, what is proved at this type says nothing. What a program
 /// may know of its files is proved over `S: FileContents`.
 #[derive(Drop)]
 pub struct Unknown;

@@ -1,9 +1,8 @@
-//! What callers may know of a device of pages and of a device of a log: what reads give, what a crash now
-//! may leave, and what a crash at some moment since an earlier one may have left.
+//! What callers may know of a device of pages and of a device of a log. They may know what reads give, and what a crash
+//! now may leave. They may also know what a crash at some moment since an earlier one may have left.
 //!
-//! Callers are generic in both, and reach everything through the ghost members. A call that errs has done
-//! nothing, or the device has stopped in it, its work done or not: each clause on what a crash leaves stands
-//! on every answer.
+//! Callers are generic in both, and reach everything through the ghost members. A call that errs has done nothing, or
+//! the device has stopped in it, its work done or not. So each clause on what a crash leaves stands on every answer.
 ghost use Rattle.std.specs.Prelude.{◌≡◌, ◌≢◌, ◌⊎◌, ◌≤◌, ◌-◌, ◌++◌, List, ℕ, length, take, drop, min, IfOk, OnOk, OnErr, IsErr};
 ghost use Rattle.rq_disk.specs.Device.{Images, PageAsk, LogAsk, Leaves, Holds, Written, NoMore, Appended, CutOff, Replaced, IsCutBetween, Only, Elapses, ElapsesThrough, FailureIsCounted, Stays};
 ghost use Rattle.rq_disk.specs.Records.{AreRecords};

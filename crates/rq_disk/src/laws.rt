@@ -7,8 +7,8 @@ pub fn files_are_judged()
     ensures { FilesAreJudged }
 {}
 
-/// What a crash may leave of a page in a file: exactly its image at the last sync that made all durable, and each image
-/// that was written since, or was to be written in a call that failed.
+/// What a crash may leave of a page in a file. It is exactly the image at the last sync that made all durable, and each
+/// image that was written since. An image that was to be written in a call that failed is one of these.
 pub fn page_files_leave()
     ensures { PageFilesLeave }
 {}

@@ -269,9 +269,9 @@ impl MemLog {
         self.bytes.len() - end
     }
 
-    /// What a crash leaves where of the records that are not forced the first `keep` outlive it, or all where
-    /// there are fewer, and of the one behind them the first `torn` bytes, at most all but one. All of it counts as
-    /// forced from then on, and the log runs. The count of failures and the switch stay.
+    /// What a crash leaves. Of the records that are not forced the first `keep` outlive it, or all where there are
+    /// fewer. Of the record behind them the first `torn` bytes outlive it, at most all but one. All that is left counts
+    /// as forced from then on, and the log runs. The count of failures and the switch stay.
     pub fn crash(self, keep: u64, torn: u64) -> MemLog
         ensures log { log_of result ≡ fresh_log (crashed_log keep torn (log_of self)) }
         ensures may_leave { MayLeave (log_of self) (log_reads (log_of result)) }

@@ -6,8 +6,8 @@ use rq_bytes::GhostList;
 use std::marker::Model;
 use std::snapshot::Snapshot;
 
-/// A call of a file: what it gave or wrote, from a place on; a read or a write there that failed, with what was to be
-/// written; a cut, what took its place or a sync, which was made or failed.
+/// A call of a file. It gave or wrote bytes from a place on. Or a read or a write there failed, and the write is noted
+/// with what was to be written. Or it was a cut, a replacement or a sync, which was made or failed.
 #[derive(Drop)]
 pub(crate) enum Note {
     Gave(u64, Snapshot<GhostList<u8>>),

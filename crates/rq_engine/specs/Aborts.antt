@@ -64,7 +64,7 @@ IsAborted old t new = ((n : ℕ) × IsTurnedBack old t n None)
       records = AbortEnd t ∷ old.records;
     })
 
--- The inverse of what an aborting transaction did last was started: it is the transaction's next operation, and takes the
+-- The inverse of what an aborting transaction did last was started. It is the transaction's next operation, and takes the
 -- lowest free cell where it takes one.
 pub record IsUndoStarted (old : State) (sub : Sub) (new : State) : Type 0 where
   pub under : Under
@@ -80,8 +80,8 @@ abbrev pub UndoSays : State → Txn → Option Sub → State → Type 0
 UndoSays old t (Some sub) new = (sub.txn ≡ t) × IsUndoStarted old sub new
 UndoSays old t None new = ((n : ℕ) × IsTurnedBack old t n None) × (new ≡ old)
 
--- An inverse whose writes are made was ended by the record that names what it undid: that is no longer among what its
--- transaction did, a message that it had taken waits again, and the cell of one that it had sent is free.
+-- An inverse whose writes are made was ended by the record that names what it undid. That is no longer among what its
+-- transaction did. A message that the undone operation had taken waits again. The cell of a message that it had sent is free.
 pub record IsUndoFinished (old : State) (sub : Sub) (new : State) : Type 0 where
   pub lsn : ℕ
   pub deed : Deed

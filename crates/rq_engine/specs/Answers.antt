@@ -49,8 +49,8 @@ Refuses s call r = IsSound s → IsModelStep s call (Gave_refusal r) s × IsCaus
 abbrev pub RefusesOver : State → Call → Refusal → Type 0
 RefusesOver s call r = (e : List Record) → IsEarlier e s → Refuses (on e s) call r
 
--- The call with its answer is an entry that may come next where the store goes back to a legal log and both devices
--- have been honest up to its end, and the store after it is what that entry makes of it.
+-- The call with its answer is an entry that may come next. It is one where the store goes back to a legal log and both devices
+-- have been honest up to the call's end. The store after it is what that entry makes of it.
 abbrev pub AnswersLegally : {P L X : Type 0} → page_device.Ghosts P → log_device.Ghosts L
     → OpenStore P L → Call → (X → Gave) → Result X Refusal → OpenStore P L → Type 0
 AnswersLegally p l old call gave (Ok x) new = AreHonest p l new → (e : List Record) → IsEarlier e old.state

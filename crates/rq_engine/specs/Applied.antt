@@ -58,8 +58,8 @@ abbrev pub SteppedSay : {P L : Type 0} → OpenStore P L → Reply → OpenStore
 SteppedSay old (reply.Stepped p) new = StepChanges old p new
 SteppedSay old _ new = new.changed ≡ old.changed
 
--- which pages count as changed then: a step adds the page that it writes, a page that is written out is taken off; what a
--- checkpoint takes off is said with that
+-- Which pages count as changed then. A step adds the page that it writes, and a page that is written out is taken off. What a
+-- checkpoint takes off is said with that.
 abbrev pub ChangesSay : {P L : Type 0} → OpenStore P L → Event → Reply → OpenStore P L → Type 0
 ChangesSay old (event.Step sub) r new = SteppedSay old r new
 ChangesSay old (event.WritePage page) r new = new.changed ≡ changed_after old.changed page (written_by r)
@@ -92,8 +92,9 @@ TakesUnlatched s c (Ok None) = Unit {0}
 TakesUnlatched s c (Ok (Some sub)) = IsLatched s c → ⊥
 TakesUnlatched s c (Err r) = OnLatched (IsLatched s c) r
 
--- a start is refused as latched only where whatever it may start needs a page that another has latched, or a cell of
--- which none is free outside those, and starts nothing there; want of memory may come in its place
+-- A start is refused as latched only where others' latches stand in the way of whatever it may start. That needs a page that
+-- another has latched, or a cell of which none is free outside those. Nothing is started there. Want of memory may come in the
+-- refusal's place.
 abbrev pub LatchedSay : State → Event → Reply → Type 0
 LatchedSay s (event.StartSend txn sender tag body) r = LatchedReply s (call_of (event.StartSend txn sender tag body)) r
 LatchedSay s (event.StartReceive txn) r = LatchedReply s (Start_receive txn) r
@@ -147,8 +148,8 @@ KeepsOrBased p l old _ new = Unit {0}
 -- The call was made, and answered so.
 pub record Applied {P L : Type 0} (p : page_device.Ghosts P) (l : log_device.Ghosts L) (old : OpenStore P L)
     (e : Event) (r : Reply) (new : OpenStore P L) : Type 0 where
-  -- of a sound store over honest devices, whatever its earlier records were: the entry that event and reply say may come next, and a refusal has its cause;
-  -- and whatever its devices, latches are judged
+  -- Of a sound store over honest devices, whatever its earlier records were. The entry that event and reply say may come next,
+  -- and a refusal has its cause. Whatever the devices, latches are judged.
   pub steps : AreHonest p l new → (earlier : List Record) → IsEarlier earlier old.state → IsSound (on earlier old.state)
       → IsModelStep (on earlier old.state) (call_of e) (gave r) (on earlier new.state)
   pub cause : AreHonest p l new → (earlier : List Record) → IsEarlier earlier old.state → IsSound (on earlier old.state)

@@ -24,8 +24,8 @@ use Rattle.rq_model.specs.Bases.{based}
 abbrev pub IsCutOrBased : State → Images → List ℕ → Type 0
 IsCutOrBased s images bytes = IsCut s images bytes ⊎ IsCut (checkpointed s) images bytes
 
--- of a sound store over honest devices whose pages fit: they fit after the call, if that did not fail, and a crash at any moment of it
--- leaves such
+-- Of a sound store over honest devices whose pages fit. They fit after the call, if the store has not failed then. A crash at
+-- any moment of it leaves a cut of the store as it was, or as it was to be.
 pub record StaysFitOrBased {P L : Type 0} (p : page_device.Ghosts P) (l : log_device.Ghosts L) (old new : OpenStore P L)
     : Type 0 where
   pub fit : new.state.failed ≡ false → AreFit p new
@@ -44,8 +44,8 @@ IsBeginningOrBase records forced bytes = IsBeginning records forced bytes ⊎ ((
 abbrev pub HasFewer : List Bool → List Bool → Type 0
 HasFewer old new = (page : ℕ) → is_changed old page ≡ false → is_changed new page ≡ false
 
--- One record can be put in the place of all: the store runs, no transaction is open, the log has room for it, and no page that is to be
--- written tells a record that is not there.
+-- One record can be put in the place of all. The store runs, no transaction is open, and the log has room for it. No page that
+-- is to be written tells a record that is not there.
 pub record MayMakeOneRecord {P L : Type 0} (s : OpenStore P L) : Type 0 where
   pub running : s.state.failed ≡ false
   pub none_open : s.state.rows ≡ []

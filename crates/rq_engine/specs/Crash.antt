@@ -25,9 +25,9 @@ AreFit p s = AllFit (p.may_be s.pages) s.state.sizes (oldest s.state.forced s.st
 abbrev pub commits_left : List Record → ℕ → ℕ
 commits_left log lost = kept_in (length (drop lost log)) (committed_of log)
 
--- These are the pages and the log of a store that was left so: the first bytes of its records, which are the first records,
--- with all that are forced and the one that began the incarnation, and a torn end perhaps, of the next; and pages that fit
--- them. Its content is that of the first commits, with all that no crash may take.
+-- These are the pages and the log of a store that was left so. The log is the first bytes of the store's records. They are its
+-- first records, with a torn end perhaps, of the next. All that are forced are among them, and the one that began the
+-- incarnation. The pages of the store fit them. Its content is that of the first commits, with all that no crash may take.
 pub record IsCut (s : State) (images : Images) (bytes : List ℕ) : Type 0 where
   pub lost : ℕ
   pub forced : lost + s.forced ≤ length s.records

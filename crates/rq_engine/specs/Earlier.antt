@@ -1,5 +1,5 @@
--- Other records in place of those of which nothing is known. A store that was opened over a log that tells only how many
--- records stood before it has a mark for each of those, which no log has: a Restart of incarnation 0.
+-- Other records in place of those of which nothing is known. A store may be opened over a log that tells only how many records
+-- stood before it. It has a mark for each of those, a Restart of incarnation 0, which no log has.
 use Rattle.std.specs.Prelude.{◌≡◌, zero, List, [], ◌∷◌, length}
 use Rattle.rq_model.specs.declared.record.Record.{Record}
 use Rattle.rq_model.specs.declared.record.Record.TheVariants.{Restart}

@@ -71,16 +71,15 @@ total_of s = length s.records + owed_by s.rows
 abbrev pub done_one : Row → ℕ
 done_one r = length r.finished
 
--- A number and a tag is kept of each sender; no sender has more committed messages, with those that open transactions may
--- have sent, than there are records.
+-- A number and a tag is kept of each sender. No sender has more committed messages than there are records, those that open
+-- transactions may have sent included.
 pub record AreSendsConsistent (z : Sizes) (records done : ℕ) (sent : SentBy) : Type 0 where
   pub counts : length sent.counts ≡ sender_count z
   pub tags : length sent.tags ≡ sender_count z
   pub few : (g : ℕ) → sent_count sent g + done ≤ records
 
--- The room in the log for what operations under way have yet to log is reserved, and no more, and with it the log is
--- not over its greatest length. No more messages wait, with those that open transactions may have sent, than there are
--- records.
+-- The room in the log for what operations under way have yet to log is reserved, and no more. With it the log is not over its
+-- greatest length. No more messages wait, with those that open transactions may have sent, than there are records.
 pub record IsConsistent (s : State) (failed : Bool) (owed reserved : ℕ) : Type 0 where
   pub incarnation : 1 ≤ s.incarnation
   pub low : s.incarnation ≤ length s.records

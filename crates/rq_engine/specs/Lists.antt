@@ -45,8 +45,8 @@ pub record IsBegun (old : State) (t : Txn) (new : State) : Type 0 where
   pub number : t ≡ record { incarnation = old.incarnation; count = old.begins + 1 }
   pub lists : new ≡ record old { rows = fresh_row t ∷ old.rows; begins = old.begins + 1 }
 
--- An operation was started by a plan: it is the next of its transaction, which had none under way and now holds the end
--- of the group.
+-- An operation was started by a plan. It is the next of its transaction, which had none under way and now holds the end of the
+-- group.
 pub record IsStarted (old : State) (sub : Sub) (end : End) (cells : ℕ) (IsPlan : Under → Type 0) (new : State)
     : Type 0 where
   pub under : Under
@@ -117,8 +117,8 @@ FinishSays old sub o new = IsFinished old sub o new
 abbrev pub done_by : State → Txn → List Finished
 done_by s t = finished_of (found_row t s.rows)
 
--- A transaction with nothing under way was committed: its record is the newest, its row and its ends are gone, what it
--- sent waits and is counted, the last with its tag, and the cells of what it took are free.
+-- A transaction with nothing under way was committed. Its record is the newest, and its row and its ends are gone. What it sent
+-- waits and is counted, the last with its tag. The cells of what it took are free.
 pub record IsCommitted (old : State) (t : Txn) (number : CommitNo) (new : State) : Type 0 where
   pub txn : number.txn ≡ t
   pub lsn : number.lsn ≡ length old.records + 1

@@ -11,8 +11,8 @@ use Rattle.rq_pool.specs.Pooled.{Pooled}
 use Rattle.rq_pool.specs.Writing.{AnswersWhen}
 use Rattle.rq_store.specs.State.{State}
 
--- an open store: its lists, its devices, of each page whether it was changed since it was read or written, and whether a
--- checkpoint has failed as it replaced the log: a crash leaves that as it was, or as it was to be
+-- An open store: its lists, its devices, and of each page whether it was changed since it was read or written. It also has
+-- whether a checkpoint has failed as it replaced the log. Where one has, a crash leaves the log as it was, or as it was to be.
 pub record OpenStore (P L : Type 0) : Type 0 where
   pub state : State
   -- the device of the pages
@@ -35,15 +35,16 @@ LeavesDevices old new = (new.pages ≡ old.pages) × (new.log ≡ old.log) × (n
 abbrev pub pooled : {P L : Type 0} → OpenStore P L → Pooled P
 pooled s = record { device = s.pages; sizes = s.state.sizes; images = s.state.images; changed = s.changed }
 
--- Why nothing was handed over or forced: the store had failed before, and nothing changes, or the device of the log
--- failed now, as its count of failures tells.
+-- Why nothing was handed over or forced. The store had failed before, and nothing changes. Or the device of the log failed now,
+-- as its count of failures tells.
 abbrev pub NotWritten : {P L : Type 0} → log_device.Ghosts L → OpenStore P L → OpenStore P L → Refusal → Type 0
 NotWritten g old new why.Failed = (old.state.failed ≡ true) × (new ≡ old)
 NotWritten g old new why.DiskWrite = (old.state.failed ≡ false) × (g.faults new.log ≡ (g.faults old.log + 1) % 2 ^ 64)
 NotWritten g old new _ = ⊥
 
--- Why no record was told of a place of the log: the store had failed, and nothing changes; or the log's device failed now, which was
--- handed what stands there, or gave other bytes than that; or the place is none of the log's. Damage has no number.
+-- Why no record was told of a place of the log. The store had failed, and nothing changes. Or the log's device failed now,
+-- which was handed what stands there. Or it gave other bytes than that, or the place is none of the log's. Damage has no
+-- number.
 abbrev pub NotTold : {P L : Type 0} → log_device.Ghosts L → OpenStore P L → ℕ → OpenStore P L → Refusal → Type 0
 NotTold g old place new why.Failed = (old.state.failed ≡ true) × (new ≡ old)
 NotTold g old place new why.DiskRead = (old.state.failed ≡ false) × (g.faults new.log ≡ (g.faults old.log + 1) % 2 ^ 64)
@@ -52,8 +53,8 @@ NotTold g old place new (why.Damaged (damage.Record lsn)) = (old.state.failed �
     × (g.faults new.log ≡ g.faults old.log) × (g.honest new.log → IsPlace old.state.records place → ⊥)
 NotTold g old place new _ = ⊥
 
--- When a page that is to be written out is answered so. The store had failed before; or the page has no change that was
--- not written; or it has one, and the record of its last change is forced, or is not.
+-- When a page that is to be written out is answered so. The store had failed before. Or the page has no change that was not
+-- written. Or it has one, and the record of its last change is forced, or is not.
 abbrev pub WritesWhen : {P L : Type 0} → OpenStore P L → ℕ → Result Written Refusal → Type 0
 WritesWhen s page (Err why.Failed) = s.state.failed ≡ true
 WritesWhen s page (Err r) = (s.state.failed ≡ false) × AnswersWhen (pooled s) page s.state.forced (Err r)

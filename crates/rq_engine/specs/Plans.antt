@@ -83,7 +83,7 @@ records_of (Send g tag body) = 4
 records_of (Receive g) = 4
 records_of (Close g) = 2
 
--- It may start as far as its tests tell: its transaction has nothing under way, its lock is free, the log has room, and it is
+-- It may start as far as its tests tell. Its transaction has nothing under way, its lock is free, and the log has room. It is
 -- of a sender of the store.
 pub record MayStart (s : State) (t : Txn) (n : ℕ) (end : End) (d : Doing) : Type 0 where
   pub ready : HasNothingUnderWay s t n

@@ -123,8 +123,8 @@ abbrev pub ForcedSay : {P L : Type 0} → log_device.Ghosts L → OpenStore P L 
 ForcedSay g old new (reply.Refused r) = NotWritten g old new r
 ForcedSay g old new _ = HasForced g old new
 
--- what an event and its reply say of the log's device: it stays as it is, but where records are handed over or forced; what a
--- checkpoint makes of it is said with that
+-- What an event and its reply say of the log's device. It stays as it is, but where records are handed over or forced. What a
+-- checkpoint makes of it is said with that.
 abbrev pub LogSays : {P L : Type 0} → log_device.Ghosts L → OpenStore P L → OpenStore P L → Event → Reply → Type 0
 LogSays g old new event.HandOver r = HandedSay g old new r
 LogSays g old new event.Force r = ForcedSay g old new r
@@ -149,8 +149,8 @@ written_by (reply.Written w) = Ok w
 written_by (reply.Refused r) = Err r
 written_by _ = Ok Nothing
 
--- what an event and its reply say of the pages' device: it stays as it is, but where a page is written; what a checkpoint makes
--- of it is said with that
+-- What an event and its reply say of the pages' device. It stays as it is, but where a page is written. What a checkpoint makes
+-- of it is said with that.
 abbrev pub PagesSay : {P L : Type 0} → page_device.Ghosts P → OpenStore P L → OpenStore P L → Event → Reply → Type 0
 PagesSay g old new (event.WritePage page) r = DeviceAfter g page (image_at old.state.images page) old.pages new.pages
     (written_by r)

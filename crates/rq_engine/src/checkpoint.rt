@@ -19,13 +19,13 @@ use rq_model::refusal::Refusal;
 use rq_model::txn::Lsn;
 
 impl<P: PageDevice, L: LogDevice, B: Level> Engine<P, L, B> {
-    /// Makes the log one record, where no transaction is open: forces it, writes every page that was changed, makes the pages
-    /// durable, and puts a Base in the place of all records. Answers its LSN, with which later records count on. Every commit
-    /// is then durable. It takes no memory.
+    /// Makes the log one record, where no transaction is open. It forces the log, writes every page that was changed,
+    /// and makes the pages durable. Then it puts a Base in the place of all records. Answers its LSN, with which later
+    /// records count on. Every commit is then durable. It takes no memory.
     ///
     /// # Errors
-    /// `Failed`; `NotQuiet` where a transaction is open; `LogFull`; `NotForced`, only where a page tells the LSN of a record that is
-    /// not there; `DiskWrite`, behind which a crash leaves the log as it was or as it was to be.
+    /// `Failed`. `NotQuiet` where a transaction is open. `LogFull`. `NotForced`, only where a page tells the LSN of a
+    /// record that is not there. `DiskWrite`, behind which a crash leaves the log as it was or as it was to be.
     pub fn checkpoint(&mut self) -> Result<Lsn, Refusal>
         // The entry that it is; what it makes of the store and both devices; why it was refused, and what that leaves.
         ensures answered { AnswersLegally P.PageDevice L.LogDevice self.old Checkpoint

@@ -41,9 +41,9 @@ use std::alloc::Global;
 use std::marker::Model;
 
 /// A store that is open, with what is under way in it. Contracts see its two devices, which pages have a change that
-/// was not written, and its `State`: the sizes of the store, the rows of transactions that have not ended, the ends
-/// that they hold, the images of the pages, the records of the log and how many are forced, whether the store has
-/// failed, and the counts that it keeps.
+/// was not written, and its `State`. The state has the sizes, the rows of transactions that have not ended, the ends
+/// that they hold, and the images of the pages. It also has the records of the log, how many are forced, whether the
+/// store has failed, and the counts that it keeps.
 #[derive(Drop)]
 pub struct Engine<P: PageDevice, L: LogDevice, B: Level> {
     pub(crate) alloc: Global,
@@ -205,8 +205,8 @@ impl<P: PageDevice, L: LogDevice, B: Level> Engine<P, L, B> {
     ghost use Rattle.rq_model.specs.Tests.{IsUnready};
     ghost use Rattle.rq_model.specs.Tests.{NoneHolds, ready_tests};
 
-    /// What a crash at this moment leaves of the log, and where no checkpoint has failed of both devices; that each record has a
-    /// spelling, and that a Base is forced, for proofs: it runs no code.
+    /// For proofs: what a crash at this moment leaves of the log, and where no checkpoint has failed of both devices.
+    /// It shows too that each record has a spelling, and that a Base is forced. It runs no code.
     pub fn shows_kept(&self)
         ensures running { self.now.state.failed ≡ false → self.now.replacing ≡ false }
         ensures order { self.now.state.forced ≤ length self.now.state.records }

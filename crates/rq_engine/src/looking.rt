@@ -11,9 +11,10 @@ use rq_model::record::Record;
 use rq_model::refusal::Refusal;
 
 impl<P: PageDevice, L: LogDevice, B: Level> Engine<P, L, B> {
-    /// The record that stands at a place of the log, which is counted in bytes from its front, and the place behind it; none at
-    /// the log's end. Buffered records are there, too. The first place is 0, and each other one was answered since the last
-    /// checkpoint: nothing is said of one where no record begins. It is no event: it changes nothing.
+    /// The record that stands at a place of the log, and the place behind it. None at the log's end. A place is counted
+    /// in bytes from the log's front. Buffered records are there, too. The first place is 0, and each other one was
+    /// answered since the last checkpoint: nothing is said of one where no record begins. It is no event: it changes
+    /// nothing.
     ///
     /// # Errors
     /// `Failed`, `DiskRead`; `Damaged`, with no number, where the device gave other bytes than it was handed.

@@ -29,7 +29,7 @@ pub(crate) const CHAIN_RECORDS: u64 = 4;
 pub(crate) const CLOSE_RECORDS: u64 = 2;
 
 impl<P: PageDevice, L: LogDevice, B: Level> Engine<P, L, B> {
-    // Has what is asked planned from the slots as they are, takes its lock and all that its steps and its end need, and
+    // Has what is asked planned from the slots as they are. Takes its lock and all that its steps and its end need, and
     // lets it begin.
     pub(crate) fn start_planned(
         &mut self,
@@ -64,8 +64,8 @@ impl<P: PageDevice, L: LogDevice, B: Level> Engine<P, L, B> {
         self.planner.plan(room, &self.pages, &self.transactions, op)
     }
 
-    // Takes the lock and the room of an operation that the level of this number planned, and lets it begin; where that is
-    // refused, the lock is given back.
+    // Takes the lock and the room of an operation that the level of this number planned, and lets it begin. Where that
+    // is refused, the lock is given back.
     fn start(
         &mut self,
         txn: Txn,

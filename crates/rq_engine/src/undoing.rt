@@ -48,7 +48,7 @@ fn undo_records(deed: &ToldDeed) -> u64
 }
 
 impl<P: PageDevice, L: LogDevice, B: Level> Engine<P, L, B> {
-    /// Starts to undo what an aborting transaction did last and has not undone: takes everything that the steps and the
+    /// Starts to undo what an aborting transaction did last and has not undone. Takes everything that the steps and the
     /// finish of the inverse will need. None where nothing is left to undo.
     ///
     /// # Errors
@@ -77,7 +77,7 @@ impl<P: PageDevice, L: LogDevice, B: Level> Engine<P, L, B> {
         }
     }
 
-    // Has the inverse of a finished operation planned from the slots as they are, takes all that its steps and its end
+    // Has the inverse of a finished operation planned from the slots as they are. Takes all that its steps and its end
     // need, and lets it begin.
     fn start_inverse(&mut self, txn: Txn, number: u64, done: &Finished) -> Result<(), Refusal>
         requires ready { IsTurnedBack self.old.state txn number (Some done.now) }

@@ -64,10 +64,10 @@ fn print_formatted<W: Write>(writer: &mut W, layout: &Layout) -> io::Result<()> 
 /// both files too. What else is there stays, as a `log.new` that a crash left.
 ///
 /// # Errors
-/// `Exists` where either name is taken; `Open` where a file or its lock, or the folder, cannot be had, as where no folder
-/// is named; `Refused` with
-/// `NoMemory` where a path cannot be made, and with `DiskWrite` where a file or the folder fails. Unless both files
-/// could be made none is left (but the pages, where removing them fails); after that what was made is left.
+/// `Exists` where either name is taken. `Open` where a file or its lock, or the folder, cannot be had, as where no
+/// folder is named. `Refused` with `NoMemory` where a path cannot be made, and with `DiskWrite` where a file or the
+/// folder fails. Unless both files could be made none is left (but the pages, where removing them fails); after that
+/// what was made is left.
 pub fn format_folder<R: Files<File = File> + AllocGlobal>(
     rt: &R,
     folder: &str,
@@ -141,8 +141,8 @@ fn no_memory(fault: Fault) -> NotOpened {
     }
 }
 
-/// Opens the file at a path. Anything else that stands there is `Unsupported`, and is not opened: a pipe would have its opener
-/// wait, and what is written to a device is lost.
+/// Opens the file at a path. Anything else that stands there is `Unsupported`, and is not opened. A pipe would have its
+/// opener wait, and what is written to a device is lost.
 pub(crate) fn open_file<R: Files<File = File>>(
     rt: &R,
     path: &PathBuf,

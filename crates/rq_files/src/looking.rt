@@ -103,8 +103,8 @@ fn log_in<S: FileContents>(file: File, len: u64) -> FileLog<S, ReadFile>
 /// How large the store in a folder is, as the first of its pages tells. The file of pages may be longer.
 ///
 /// # Errors
-/// `Open` where it is no file that can be read; `Refused` with `NoMemory` where its path cannot be made, with `DiskRead` where that
-/// page cannot be read, and with `Damaged` where it tells nothing.
+/// `Open` where it is no file that can be read. `Refused` with `NoMemory` where its path cannot be made. `Refused` with
+/// `DiskRead` where that page cannot be read, and with `Damaged` where it tells nothing.
 pub fn look_at_layout<R: Files<File = File> + AllocGlobal>(
     rt: &R,
     folder: &str,

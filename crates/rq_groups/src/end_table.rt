@@ -27,8 +27,8 @@ pub(crate) enum Change {
     Undid,
 }
 
-/// The ends of one side. Contracts see those that are held, the newest first. No call goes over all of them: the
-/// holder of an end stands at the place of its sender, and each transaction's ends are a chain.
+/// The ends of one side. Contracts see those that are held, the newest first. No call goes over all of them. The holder
+/// of an end stands at the place of its sender, and each transaction's ends are a chain.
 #[derive(Drop)]
 pub(crate) struct EndTable {
     holders: Holders,

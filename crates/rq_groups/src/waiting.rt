@@ -95,7 +95,7 @@ impl Waiting {
         self.index.put(place, waiting > 0);
     }
 
-    /// The least sender at or after this one of which a message waits, and whose receiving end nobody holds; none where
+    /// The least sender at or after this one of which a message waits, and whose receiving end nobody holds. None where
     /// there is no such sender.
     pub fn next_free(&self, ends: &Ends, from: u32) -> Option<u32>
         ensures some { IfSome result (λ s. (from ≤ s) × (s < length self.now) × (1 ≤ waits self.now s)

@@ -29,8 +29,8 @@ lines (r ∷ log) = lines_one r (lines log) (line_of (length log + 1) r)
 abbrev pub listed_text : List Record → ℕ → List ℕ
 listed_text log left = lines log ++ torn_text left
 
--- The bytes are a log's, with a proper beginning of a record behind it perhaps, and what a writer holds grew by the line of
--- each record, the one on that beginning, and then the log's report.
+-- The bytes are a log's, with a proper beginning of a record behind it perhaps. What a writer holds grew by the line of each
+-- record, the one on that beginning, and then the log's report.
 pub record IsInspected (bytes : List ℕ) (old new : Option (List ℕ)) : Type 0 where
   pub log : List Record
   pub are_spelled : AreSpelled log
@@ -41,8 +41,8 @@ pub record IsInspected (bytes : List ℕ) (old new : Option (List ℕ)) : Type 0
   pub told : IsReport log report
   pub written : Appends old new (listed_text log left ++ report_text report)
 
--- The bytes begin with these records, and the line of each is written, and nothing else but the line on their end, if these
--- are all.
+-- The bytes begin with these records, and the line of each is written. Nothing else is written but the line on their end, if
+-- these are all.
 pub record IsBegun (bytes : List ℕ) (Written : List ℕ → Type 0) : Type 0 where
   pub log : List Record
   pub are_spelled : AreSpelled log
@@ -50,8 +50,8 @@ pub record IsBegun (bytes : List ℕ) (Written : List ℕ → Type 0) : Type 0 w
   pub begins : BeginsWith log bytes
   pub written : Written (lines log) ⊎ ((left : ℕ) × EndsShort log left bytes × Written (listed_text log left))
 
--- Behind these records the bytes go on with what is none, the record with this number; the line of each of those before it
--- is written, and nothing else.
+-- Behind these records the bytes go on with what is none, the record with this number. The line of each of those before it is
+-- written, and nothing else.
 pub record IsCutShort (bytes : List ℕ) (Written : List ℕ → Type 0) (lsn : ℕ) : Type 0 where
   pub log : List Record
   pub are_spelled : AreSpelled log

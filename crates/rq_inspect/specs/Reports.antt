@@ -80,8 +80,8 @@ abbrev pub stands : (Record → Bool) → (Record → Bool) → List Record → 
 stands begins ends [] = false
 stands begins ends (r ∷ log) = not (ends r) && (begins r || stands begins ends log)
 
--- What a log comes to that was read once, and of which some records were read a second time: an operation is named that
--- wrote a slot behind its end, if it has one, and no end of which is among those; a transaction likewise.
+-- What a log comes to that was read once, and of which some records were read a second time. An operation is named that wrote a
+-- slot behind its end, if it has one. No end of it is among those read again. A transaction is named likewise.
 pub record Tells (log again : List Record) (r : Reported) : Type 0 where
   pub records : r.records ≡ length log
   pub unfinished : (t : Txn) (n : ℕ) → names_operation t n r.unfinished

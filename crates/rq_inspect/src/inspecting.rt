@@ -35,14 +35,14 @@ pub enum Stop {
     Output(io::Error),
 }
 
-/// Writes the line of each record of a log, one on the proper beginning of a record behind them, if there is such a torn
-/// end, and then its report. The log is read, and not changed: it is handed back. One in
-/// which an operation or a transaction seems to have no end is read a second time, since its end may stand before what it
-/// ends.
+/// Writes the line of each record of a log, and at last its report. Where a proper beginning of a record stands behind
+/// them, a torn end, it has a line before the report. The log is read, and not changed: it is handed back. One in which
+/// an operation or a transaction seems to have no end is read a second time. Its end may stand before what it ends.
 ///
 /// # Errors
-/// `Refused` with `Damaged` and the LSN of the first record that is none, behind the lines of those before it; with `LogFull`
-/// where more is there than 2^50 records; with `DiskRead` or `NoMemory`. `Output` where the writer failed.
+/// `Refused` with `Damaged` and the LSN of the first record that is none, behind the lines of those before it.
+/// `Refused` with `LogFull` where more is there than 2^50 records, and with `DiskRead` or `NoMemory`. `Output` where
+/// the writer failed.
 pub fn inspect<L: LogDevice + Drop, W: Write>(
     alloc: Global,
     log: L,

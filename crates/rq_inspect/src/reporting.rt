@@ -18,11 +18,11 @@ use std::io;
 use std::io::Write;
 use std::marker::Model;
 
-/// What the records of a log come to, read one after the other: the LSN of the last, the operations that are unfinished, the
-/// transactions that are lost, and those that committed. It keeps no more than these, as long as no record of an operation
+/// What the records of a log come to, read one after the other. It has the LSN of the last, the unfinished operations,
+/// the lost transactions, and those that committed. It keeps no more than these, as long as no record of an operation
 /// or of a transaction stands behind its end.
 ///
-/// A log where one does has to be read twice: the first time each record is noted, and the second time what has an end
+/// A log where one does has to be read twice. The first time each record is noted, and the second time what has an end
 /// anywhere is struck out.
 #[derive(Drop)]
 pub struct Report {

@@ -31,8 +31,8 @@ pub fn begin<P: PageDevice, L: LogDevice, B: Level>(
 }
 
 /// A commit answers the same number, leaves the same state, and leaves the pages alone. Excludes a number that
-/// `acknowledged` is then asked with in vain, a commit that keeps its ends held, one that has what it sent wait before,
-/// or twice, and one that leaves the cells of what it took in use.
+/// `acknowledged` is then asked with in vain, and a commit that keeps its ends held. Excludes one that has what it sent
+/// wait before, or twice. Excludes one that leaves the cells of what it took in use.
 pub fn commit<P: PageDevice, L: LogDevice, B: Level>(
     first: &mut Engine<P, L, B>,
     second: &mut Engine<P, L, B>,
@@ -93,7 +93,7 @@ pub fn acknowledged<P: PageDevice, L: LogDevice, B: Level>(
     (first.acknowledged(number), second.acknowledged(number))
 }
 
-/// A hand-over leaves the same state, and both logs read as the same bytes; where one is refused, so is the other, but
+/// A hand-over leaves the same state, and both logs read as the same bytes. Where one is refused, so is the other, but
 /// for a device that failed. Excludes one that does nothing, and a refusal of a store that runs.
 pub fn hand_over<P: PageDevice, L: LogDevice, B: Level>(
     first: &mut Engine<P, L, B>,
@@ -108,8 +108,8 @@ pub fn hand_over<P: PageDevice, L: LogDevice, B: Level>(
     (first.hand_over(), second.hand_over())
 }
 
-/// A force forces the same records and leaves the same state, both logs read as the same bytes, and a crash leaves the
-/// same of both; where one is refused, so is the other, but for a device that failed. Excludes one that counts what it
+/// A force forces the same records and leaves the same state. Both logs read as the same bytes, and a crash leaves the
+/// same of both. Where one is refused, so is the other, but for a device that failed. Excludes one that counts what it
 /// did not hand over, or did not force, and a refusal of a store that runs.
 pub fn force<P: PageDevice, L: LogDevice, B: Level>(
     first: &mut Engine<P, L, B>,
@@ -127,10 +127,11 @@ pub fn force<P: PageDevice, L: LogDevice, B: Level>(
     (first.force(), second.force())
 }
 
-/// A checkpoint answers the same LSN and leaves the same state; both logs read as the same bytes, and a crash leaves the same of both
-/// devices. Where one is refused, so is the other, but for a device that failed, and never for memory. Refused for the same they leave
-/// the same state; unless a device failed, the same store. Excludes a contract that leaves open the LSN, what is forced or written, when
-/// a checkpoint is refused, or whether the store runs on behind a failure.
+/// A checkpoint answers the same LSN and leaves the same state. Both logs read as the same bytes, and a crash leaves
+/// the same of both devices. Where one is refused, so is the other, but for a device that failed, and never for memory.
+/// Refused for the same they leave the same state; unless a device failed, the same store. Excludes a contract that
+/// leaves open the LSN, what is forced or written, or when a checkpoint is refused. Excludes one that leaves open
+/// whether the store runs on behind a failure.
 pub fn checkpoint<P: PageDevice, L: LogDevice, B: Level>(
     first: &mut Engine<P, L, B>,
     second: &mut Engine<P, L, B>,
@@ -169,9 +170,10 @@ pub fn last_tag<P: PageDevice, L: LogDevice, B: Level>(
     (first.last_tag(sender), second.last_tag(sender))
 }
 
-/// A page that goes out leaves the same state, the same pages to be written, and what both devices read of each page;
-/// where one is refused, so is the other for the same, but for a device that failed. Excludes a page that goes out before
-/// its last record is forced, one that is answered as written and is not, and one that stays to be written.
+/// A page that goes out leaves the same state, the same pages to be written, and what both devices read of each page.
+/// Where one is refused, so is the other for the same, but for a device that failed. Excludes a page that goes out
+/// before its last record is forced, and one that is answered as written and is not. Excludes one that stays to be
+/// written.
 pub fn write_page<P: PageDevice, L: LogDevice, B: Level>(
     first: &mut Engine<P, L, B>,
     second: &mut Engine<P, L, B>,

@@ -128,7 +128,8 @@ pub fn step<P: PageDevice, L: LogDevice, B: Level>(
 }
 
 /// The end of an operation answers the same and leaves the same state. Excludes one that counts the cell of a message
-/// as free that is taken and not committed, that has a message wait that is not committed, or that gives ends back.
+/// as free that is taken and not committed. Excludes one that has a message wait that is not committed, and one that
+/// gives ends back.
 pub fn finish<P: PageDevice, L: LogDevice, B: Level>(
     first: &mut Engine<P, L, B>,
     second: &mut Engine<P, L, B>,

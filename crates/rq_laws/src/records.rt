@@ -70,8 +70,8 @@ pub fn reads_again<L: LogDevice>(
     }
 }
 
-/// After a record, the same is to be taken back. Excludes a Commit that leaves what it committed to be taken back, and
-/// an end of an inverse that leaves due what the inverse took back.
+/// After a record, the same is to be taken back. Excludes a Commit that leaves what it committed to be taken back.
+/// Excludes an end of an inverse that leaves due what the inverse took back.
 pub fn dues(
     first: &mut PendingUndos,
     second: &mut PendingUndos,

@@ -10,10 +10,10 @@ use rq_planner::StoreLevels;
 use rq_restart::restart::{Report, Stopped, restart};
 use std::alloc::Global;
 
-/// Two restarts over one log begin the same incarnation, and report the same of it. What else an opened store
-/// has follows from its sizes, pages and records. Excludes an incarnation, and with it transaction numbers, that are
-/// given again; last tags, or how many messages wait, that come from elsewhere than the directory; and cells that are
-/// counted otherwise.
+/// Two restarts over one log begin the same incarnation, and report the same of it. What else an opened store has
+/// follows from its sizes, pages and records. Excludes an incarnation that is given again, and with it transaction
+/// numbers. Excludes last tags, or how many messages wait, that come from elsewhere than the directory. Excludes cells
+/// that are counted otherwise.
 pub fn restarts<P: PageDevice + Drop, L: LogDevice + Drop, B: Level>(
     alloc: Global,
     pages: P,

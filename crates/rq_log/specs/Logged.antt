@@ -50,8 +50,8 @@ module _ {L : Type 0} (g : Ghosts L) where
   abbrev pub LeavesReplaced : Logged L → ℕ → Type 0
   LeavesReplaced log i = (c : List ℕ) → g.may_leave log.device c → IsBeginning log.records log.forced c ⊎ (c ≡ spelled (based i log.records))
 
-  -- a crash might have left it of the log before, or it is what was read then with the first of the records that were
-  -- not handed over
+  -- A crash might have left it of the log before. Or it is what was read then, with the first of the records that were not
+  -- handed over.
   abbrev pub WasLeftOrGoesOn : Logged L → List ℕ → Type 0
   WasLeftOrGoesOn log c = g.may_leave log.device c ⊎ GoesOn (held log) (kept log) (g.seen log.device) c
 

@@ -14,8 +14,8 @@ abbrev pub IsPlaceAmong : List Record → ℕ → Type 0
 IsPlaceAmong records place = (newer : List Record) × (older : List Record) × (records ≡ newer ++ older)
     × (place ≡ length (spelled_all older))
 
--- It is what stands at a place: behind the records that end there the next one, with the place where that ends; none
--- exactly at the end of all.
+-- It is what stands at a place. Behind the records that end there it is the next one, with the place where that ends. It is
+-- none exactly at the end of all.
 pub record StandsAmong (records : List Record) (place : ℕ) (found : Option (Record × ℕ)) : Type 0 where
   pub next : (newer older : List Record) (r : Record) → records ≡ newer ++ (r ∷ older) → place ≡ length (spelled_all older)
       → found ≡ Some (r, length (spelled_all (r ∷ older)))
@@ -47,8 +47,8 @@ module _ {L : Type 0} (g : Ghosts L) where
       × (g.honest new → HoldsRecord bytes → ⊥)
   NoneHeldFor _ bytes old new = ⊥
 
-  -- Why it was not told what stands at a place: the device failed, which was handed what stands there; or gave other bytes than it
-  -- was handed; or the place is none of the log's. Damage has no number.
+  -- Why it was not told what stands at a place. The device failed, which was handed what stands there. Or it gave other bytes
+  -- than it was handed. Or the place is none of the log's. Damage has no number.
   abbrev pub NotToldFor : Refusal → List Record → ℕ → L → L → Type 0
   NotToldFor why.DiskRead records place old new = (g.faults new ≡ (g.faults old + 1) % 2 ^ 64)
       × (g.honest new → length (spelled records) < 2 ^ 64 → place < length (g.seen old))

@@ -43,7 +43,8 @@ pub record IsDamagedBehind (records : List Record) (bytes : List ℕ) : Type 0 w
   pub no_beginning : BeginsRecord rest → ⊥
   pub is : bytes ≡ spelled records ++ rest
 
--- what a record that is read behind so many counts: one more, or, if it is a Base, which has to be the first, all that it stands for
+-- What a record that is read behind so many counts. It counts one more, or, if it is a Base, all that it stands for. A Base has
+-- to be the first.
 pub record IsReadBehind (last : ℕ) (r : Record) (lsn : ℕ) : Type 0 where
   pub first : (is_base r ≡ false) ⊎ (last ≡ 0)
   pub counts : (log : List Record) → length log ≡ last → lsn ≡ length (with_next r log)

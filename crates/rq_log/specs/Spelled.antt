@@ -47,8 +47,8 @@ AreFirst records kept bytes = (lost : ℕ) × (lost + kept ≤ length records) �
 abbrev pub IsBeginning : List Record → ℕ → List ℕ → Type 0
 IsBeginning log forced bytes = AreFirst (standing log) (forced - gone log) bytes
 
--- These bytes are the records that were read with the first of those behind them: the first so many records and perhaps
--- more, and then a torn end, which is of the next of them, or of the end that was read.
+-- These bytes are the records that were read, with the first of those behind them. They are the first so many records and
+-- perhaps more, and then a torn end. That is of the next of them, or of the end that was read.
 pub record GoesOn (records : List Record) (kept : ℕ) (seen bytes : List ℕ) : Type 0 where
   -- so many records come behind what was read
   pub behind : ℕ

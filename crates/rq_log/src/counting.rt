@@ -9,8 +9,8 @@ use rq_model::record::Record;
 use rq_model::txn::Lsn;
 use rq_record::{Step, decode};
 
-/// The LSN of the last whole record of a log with these bytes: how many stand there, with those that a Base in front
-/// stands for.
+/// The LSN of the last whole record of a log with these bytes. It counts the records that stand there, with those that
+/// a Base in front stands for.
 pub fn last_lsn(bytes: &[u8]) -> Lsn
     ensures log { LastLsn bytes.now result }
     ensures counted { IsCounted bytes.now result }

@@ -13,8 +13,9 @@ use rq_model::refusal::{Damage, Refusal};
 use rq_record::{PAGE_OP_BYTES, Step, decode};
 
 impl<L: LogDevice> Log<L> {
-    /// The record that stands at a place, which is counted in bytes from the log's front, and the place behind it; none at the
-    /// log's end. Records that are not handed over are there, too. Nothing is said of a place where no record begins.
+    /// The record that stands at a place, and the place behind it. None at the log's end. A place is counted in bytes
+    /// from the log's front. Records that are not handed over are there, too. Nothing is said of a place where no
+    /// record begins.
     ///
     /// # Errors
     /// `Failed`, `DiskRead`; `Damaged`, with no number, where the device gave other bytes than it was handed.

@@ -203,9 +203,9 @@ impl<L: LogDevice> LogReader<L> {
     /// record. Where none is read the lent one may hold anything.
     ///
     /// # Errors
-    /// `Damaged` with the LSN of the next record, where what is left begins with no record, nor is a proper beginning of
-    /// one, or with a Base behind others; `DiskRead`; `LogFull` where bytes are left behind as many records as a log may
-    /// have.
+    /// `Damaged` with the LSN of the next record, where what is left begins with no record and is no proper beginning
+    /// of one. `Damaged` too where it begins with a Base behind others. `DiskRead`. `LogFull` where bytes are left
+    /// behind as many records as a log may have.
     pub fn next_into(&mut self, into: &mut Record) -> Result<bool, Refusal>
         // What is read then.
         ensures some { IfOk result (λ found. OnTrue found (self.new.records ≡ with_next into.new self.old.records)) }

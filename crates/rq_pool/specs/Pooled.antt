@@ -21,8 +21,8 @@ image_at images page = slice_index_or images page []
 abbrev pub is_changed : List Bool → ℕ → Bool
 is_changed changed page = slice_index_or changed page false
 
--- what is so of the pages of a store: they are all there, the first tells the sizes, and behind it each header is the
--- one of its place and each slot is one of the store
+-- What is so of the pages of a store. They are all there, and the first tells the sizes. Behind it each header is the one of
+-- its place, and each slot is one of the store.
 pub record IsPool (z : Sizes) (images : List (List ℕ)) : Type 0 where
   pub range : IsInRange z
   pub count : length images ≡ page_count z

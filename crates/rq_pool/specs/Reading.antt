@@ -47,8 +47,8 @@ pub record IsDamagedPage (z : Sizes) (seen : Images) (page : ℕ) : Type 0 where
   pub bad : IsSoundPage z page (seen page) → ⊥
   pub first : (p : ℕ) → 1 ≤ p → p < page → IsSoundPage z p (seen p)
 
--- the page is the first that is none of a store's: it is the superblock and tells no sizes, or it is not sound by the
--- sizes that are told
+-- The page is the first that is none of a store's. It is the superblock and tells no sizes, or it is not sound by the sizes
+-- that are told.
 abbrev pub IsDamaged : Images → ℕ → Type 0
 IsDamaged seen page =
     ((page ≡ 0) × ((z : Sizes) → IsSuperblock z (seen 0) → ⊥)) ⊎ ((z : Sizes) × IsDamagedPage z seen page)

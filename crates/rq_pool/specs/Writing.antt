@@ -57,8 +57,8 @@ DeviceAfter g page image old new (Err why.DiskWrite) =
     MayHaveWritten g page image old new × (g.faults new ≡ (g.faults old + 1) % 2 ^ 64)
 DeviceAfter g page image old new (Err _) = new ≡ old
 
--- the device was synced, or has failed in it: it reads as before, a crash leaves no image that it did not leave before, and
--- time goes on
+-- The device was synced, or has failed in it. It reads as before, and a crash leaves no image that it did not leave before.
+-- Time goes on.
 pub record MayHaveSynced {P : Type 0} (g : Ghosts P) (old new : P) : Type 0 where
   pub honest : g.honest new → g.honest old
   pub same : g.seen new ≡ g.seen old

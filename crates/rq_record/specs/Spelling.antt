@@ -47,9 +47,8 @@ IsTxnInRange txn = (0 < txn.incarnation) × (0 < txn.count)
 abbrev pub IsSlotNumber : ℕ → Type 0
 IsSlotNumber slot = (1 ≤ slot) × (slot ≤ 15)
 
--- what a record may say: incarnations, counts, operation numbers, LSNs and levels begin at 1, a page
--- has slots 1 to 15, and a deed is 1 to 256 bytes. Before a base stood fewer than 2 ^ 50 records, at
--- least one of each incarnation.
+-- What a record may say. Incarnations, counts, operation numbers, LSNs and levels begin at 1. A page has slots 1 to 15, and a
+-- deed is 1 to 256 bytes. Before a base stood fewer than 2 ^ 50 records, at least one of each incarnation.
 abbrev pub IsInRange : Record → Type 0
 IsInRange (PageOp txn operation page slot before after) = IsTxnInRange txn × (0 < operation) × IsSlotNumber slot
 IsInRange (PageUndo txn operation undone page slot after) = IsTxnInRange txn × (0 < operation) × (0 < undone)

@@ -396,8 +396,8 @@ fn front_of(input: &[u8], into: &mut Record) -> Decoded
     }
 }
 
-/// Writes the record at the front of the bytes over a lent one, and answers what stands there: a record with bytes behind it
-/// or none, a proper beginning of a record, or neither.
+/// Writes the record at the front of the bytes over a lent one, and answers what stands there. That is a record with
+/// bytes behind it or none, a proper beginning of a record, or neither.
 pub fn decode_into(input: &[u8], into: &mut Record) -> Decoded
     ensures front { IfRecord (step_with result into.new) (λ r used. IsFront r used input.now) }
     ensures found { (r : Record) (rest : List ℕ) → IsRecord r → input.now ≡ spelling r ++ rest

@@ -295,8 +295,8 @@ fn put_base(out: &mut Vec<u8>, records: u64, incarnation: u64)
     put(out, &base_bytes(records, incarnation));
 }
 
-/// The spelling of a record that a program holds is as long as its kind says, for proofs: a call at a
-/// record of a known kind says the number of its bytes.
+/// For proofs: the spelling of a record that a program holds is as long as its kind says. A call at a record of a known
+/// kind says the number of its bytes.
 pub fn shows_size(record: &Record)
     ensures { length (spelling «record».now) ≡ length_of «record».now }
 {

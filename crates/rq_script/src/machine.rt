@@ -167,7 +167,7 @@ impl<K: Drop, D: Drop, M: Medium<K, D>> Machine<K, D, M> {
         CommandResult::Restarted(report)
     }
 
-    // Opens the store after a crash up to the append of its records, and leaves it as the machine does that stops once so
+    // Opens the store after a crash up to the append of its records. Leaves it as the machine does that stops once so
     // many of them are kept. Where there are no more than that, or where that append shall fail, the store is opened.
     fn stop_in_restart(&mut self, devices: D, kept: u64) -> CommandResult {
         if self.medium.switch().is_armed(CallKind::Write) {

@@ -13,10 +13,10 @@ use std::alloc::Global;
 use std::io;
 use std::io::{Read, Write};
 
-/// Runs a script to its end, or to a fault, and answers the exit status: 0, or 1 after a fault. What its
-/// commands print is written as they are carried out. A script's refusals are lines like any other. The opening takes a set
-/// of levels, the last one that is left, and so does each restart; a `restart N` that makes no more than N records takes
-/// two. Where none is left, `fault 1 NoMemory` is printed.
+/// Runs a script to its end, or to a fault, and answers the exit status: 0, or 1 after a fault. What its commands print
+/// is written as they are carried out. A script's refusals are lines like any other. The opening takes a set of levels,
+/// the last one that is left, and so does each restart. A `restart N` that makes no more than N records takes two.
+/// Where none is left, `fault 1 NoMemory` is printed.
 pub fn run_script<R: Read, W: Write, B: Level>(
     alloc: Global,
     reader: &mut R,
@@ -37,8 +37,8 @@ pub fn run_script<R: Read, W: Write, B: Level>(
     }
 }
 
-/// How many sets of levels a script may take: one for the opening, one for each line that begins with `restart`, and one
-/// more where a number stands behind that.
+/// How many sets of levels a script may take. It takes one for the opening, and one for each line that begins with
+/// `restart`. Such a line takes one more where a number stands behind that.
 pub fn sets_wanted(script: &[u8]) -> usize {
     let mut sets: usize = 1;
     for line in script.split(|byte| *byte == b'\n') {

@@ -120,8 +120,8 @@ impl Connection {
         self.is_last = true;
     }
 
-    /// Reads what was said, a few pieces of this length at most. A client that has asked more than was carried out is not heard, nor
-    /// one that does not read its answers, unless it may have ended.
+    /// Reads what was said, a few pieces of this length at most. A client that has asked more than was carried out is
+    /// not heard. A client that does not read its answers is not heard either, unless it may have ended.
     pub(crate) fn hear(&mut self, piece: &mut [u8]) {
         if self.parted.is_some() {
             self.read_away(piece);
@@ -175,8 +175,8 @@ impl Connection {
         }
     }
 
-    /// Carries out what was asked, up to a commit that waits for its receipt or a call that is to be made again, and as much as a
-    /// round takes. For a client that does not read its answers nothing is begun but its end.
+    /// Carries out what was asked, as much as a round takes. It stops at a commit that waits for its receipt, or a call
+    /// that is to be made again. For a client that does not read its answers nothing is begun but its end.
     pub(crate) fn carry_out<S: Steps, R: Wait>(&mut self, rt: &R, steps: &mut S) {
         self.go_on(rt, steps);
         if self.is_held_up() {

@@ -160,8 +160,8 @@ impl<R: Wait> Gate for PagePace<'_, R> {
     }
 }
 
-/// Holds who makes checkpoints until the log is long and something was forced since the last try: what ends a transaction is forced
-/// within a second or two. It says no once the server ends.
+/// Holds who makes checkpoints until the log is long and something was forced since the last try. What ends a
+/// transaction is forced within a second or two. It says no once the server ends.
 #[derive(Drop)]
 pub(crate) struct CheckpointPace<'a, K: LogLength, R: Wait> {
     rt: &'a R,

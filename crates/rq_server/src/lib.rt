@@ -1,9 +1,9 @@
-//! The server: workers that each serve many connections in rounds over one store, a thread that forces what nobody waits for,
-//! one that writes pages, and one that makes checkpoints.
+//! The server: workers that each serve many connections in rounds over one store. Beside them one thread forces what
+//! nobody waits for, one writes pages, and one makes checkpoints.
 //!
-//! It makes no promise of its own beyond safety. What a client can rely on is said of what it stands on: frames (`rq_wire`),
-//! sessions (`rq_session`, `rq_serving`), the step interface and its loops (`rq_workers`), and the shared engine with its mark
-//! (`rq_shared`).
+//! It makes no promise of its own beyond safety. What a client can rely on is said of what it stands on. `rq_wire` says
+//! it of frames, `rq_session` and `rq_serving` of sessions. `rq_workers` says it of the step interface and its loops,
+//! and `rq_shared` of the shared engine with its mark.
 #![tactic(auto)]
 
 mod calls;

@@ -35,15 +35,15 @@ const INPUT: usize = 0xFFFF_FFFE;
 
 const STANDARD_INPUT: i32 = 0;
 
-/// How many milliseconds pass before a connection that the system had no room for is tried again, or a call that is held, or a force
-/// that was refused.
+/// How many milliseconds pass before something is tried again. It is a connection that the system had no room for, a
+/// call that is held, or a force that was refused.
 const AGAIN_MILLIS: u64 = 10;
 
 /// How often a call that is held is made again where all sessions are lost.
 const LAST_TRIES: u32 = 100;
 
-/// How many milliseconds a worker sleeps at most, where there is an end to the sessions that another may come to, or something is
-/// read away.
+/// How many milliseconds a worker sleeps at most in two cases. There is an end to the sessions that another may come
+/// to, or something is read away.
 const LIMITED_MILLIS: u64 = 100;
 
 /// Where a worker waits: for connections at this listener, and for what its own ones say.

@@ -15,9 +15,9 @@ use std::sync::Wait;
 /// After how many calls a thread takes the audit, so that it does not grow where nothing is forced.
 const CALLS_A_TAKE: u32 = 256;
 
-/// The calls of a worker or of a loop. Stamps are dropped, and the audit is taken and dropped with each force and after many
-/// calls. A force is made known to the server's other threads, as are many calls of one round, and a store that has failed to who
-/// runs it.
+/// The calls of a worker or of a loop. Stamps are dropped, and the audit is taken and dropped with each force and after
+/// many calls. A force is made known to the server's other threads, and so are many calls of one round. A store that
+/// has failed is made known to who runs it.
 #[derive(Drop)]
 pub(crate) struct ServerSteps<'a, P: PageDevice, L: LogDevice, B: Level, G: Sharing, R: Wait> {
     inner: SharedSteps<'a, P, L, B, G, R, DropStamps>,

@@ -77,8 +77,8 @@ impl Owed {
         self.lsn
     }
 
-    // Whether a turn is to force at its end: where what is owed is not forced yet, unless others wait for their turn and it was
-    // left to others less than so many times in a row.
+    // Whether a turn is to force at its end. It is where what is owed is not forced yet, and not left to others. It is
+    // left to others where they wait for their turn, less than so many times in a row.
     fn is_due(
         &mut self,
         forced: Lsn,

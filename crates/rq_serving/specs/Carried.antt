@@ -61,8 +61,8 @@ IsCome has_stopped (Await commit) c = c ≡ came.Waits commit.lsn
 IsCome has_stopped (Answer answer) c = c ≡ came.Answered answer
 IsCome has_stopped End c = c ≡ came.Ended
 
--- One call was made, its stamp handed on, the gate asked at point 3 where that is a slot's write, and the session told
--- what the stamp says: what is to be done next.
+-- One call was made, and its stamp handed on. The gate was asked at point 3 where the call is a slot's write. The session was
+-- told what the stamp says, and from that comes what is to be done next.
 pub record IsCall {G S : Type 0} (answers_by : G → List (ℕ × Bool)) (made_by handed_to : S → List Stamped)
     (gate asked_gate : Asking G) (old new : S) (e : Event) (before : Session) (next : Action) (after : Session) : Type 0 where
   pub stamp : Stamped
@@ -74,8 +74,7 @@ pub record IsCall {G S : Type 0} (answers_by : G → List (ℕ × Bool)) (made_b
   pub lost : after.lost ≡ before.lost
   pub stage : after.stage ≡ (after_reply before.lost before.stage stamp.reply).stage
 
--- One call for a session: what the gate was asked and said before it, the stamp that answered it, and what the gate was
--- asked and said behind it.
+-- One call for a session: the stamp that answered it, and what the gate was asked and said before it and behind it.
 pub record Round : Type 0 where
   pub before : List (ℕ × Bool)
   pub stamp : Stamped
@@ -95,8 +94,8 @@ said_in (r ∷ older) = r.behind ++ (r.before ++ said_in older)
 abbrev pub has_stopped : List Round → Bool → Bool
 has_stopped rounds stopped = said_no (said_in rounds) || stopped
 
--- The call that was to be made was made. The gate was asked at point 4 before a call that is made again, and at point 3
--- behind a slot's write; where it had said no the call is one of an operation under way.
+-- The call that was to be made was made. The gate was asked at point 4 before a call that is made again, and at point 3 behind
+-- a slot's write. Where it had said no, the call is one of an operation under way.
 pub record IsMade (stopped : Bool) (first : Action) (r : Round) : Type 0 where
   pub asks : IsAsked first r.stamp.event
   pub before : IsAskedAt (is_again first) 4 r.before
@@ -139,8 +138,8 @@ IsHeld lost stopped from first [] to held c = ⊥
 IsHeld lost stopped from first (r ∷ older) to held c =
     (event : Event) × Turns lost stopped from first (r ∷ older) to (Again event) × (held ≡ Some event) × (c ≡ came.Held)
 
--- A session was carried on from what it was to do, by calls through the step interface alone, each of which it asked for,
--- and is to do this next. The gate was asked at its points and nowhere else.
+-- A session was carried on from what it was to do, by calls through the step interface alone. It asked for each of them, and is
+-- to do this next. The gate was asked at its points and nowhere else.
 pub record IsGoing {G S : Type 0} (answers_by : G → List (ℕ × Bool)) (made_by handed_to : S → List Stamped)
     (gate asked_gate : Asking G) (old new : S) (before : Session) (first : Action) (after : Session) (next : Action) : Type 0 where
   pub rounds : List Round
@@ -151,8 +150,8 @@ pub record IsGoing {G S : Type 0} (answers_by : G → List (ℕ × Bool)) (made_
   pub turns : Turns before.lost gate.stopped before.stage first rounds after.stage next
   pub goes_on : DoesNothingAgain rounds next
 
--- It was carried on so until this came, and this call is held then. Where the first call was to be made again, and the gate's no
--- kept it from that, the gate was asked once more than in the rounds, of which there are none.
+-- It was carried on so until this came, and this call is held then. Where the first call was to be made again, the gate's no
+-- may have kept it from that. Then the gate was asked once more than in the rounds, of which there are none.
 pub record IsCarried {G S : Type 0} (answers_by : G → List (ℕ × Bool)) (made_by handed_to : S → List Stamped)
     (gate asked_gate : Asking G) (old new : S) (before : Session) (first : Action) (after : Session) (held : Option Event)
     (c : Served) : Type 0 where
@@ -165,7 +164,8 @@ pub record IsCarried {G S : Type 0} (answers_by : G → List (ℕ × Bool)) (mad
   pub goes : CallsNoMore before.lost gate.stopped asked_gate.stopped before.stage first rounds last after.stage held c
       ⊎ ((last ≡ []) × IsHeld before.lost gate.stopped before.stage first rounds after.stage held c)
 
--- what came of a request: it was carried on with the call that it asks for, where none was held, or had its answer with no call
+-- What came of a request. It was carried on with the call that it asks for, where none was held. Or it had its answer with no
+-- call.
 abbrev pub IsServed : {G S : Type 0} → (G → List (ℕ × Bool)) → (S → List Stamped) → (S → List Stamped) → Asking G
     → Asking G → S → S → Session → Option Event → Request → Session → Option Event → Served → Type 0
 IsServed answers_by made_by handed_to gate asked_gate old new before was_held request after held c =
@@ -175,7 +175,7 @@ IsServed answers_by made_by handed_to gate asked_gate old new before was_held re
     ⊎ ((n.call ≡ None) × (new ≡ old) × (asked_gate ≡ gate) × (after.lost ≡ before.lost)
     × (after.stage ≡ n.stage) × (held ≡ was_held) × (c ≡ came_with n.answer))
 
--- the session was carried on with what it is to do; where that is the call that was held, it stays held, and nothing is done
+-- The session was carried on with what it is to do. Where that is the call that was held, it stays held, and nothing is done.
 abbrev pub CarriesOrHolds : {G S : Type 0} → (G → List (ℕ × Bool)) → (S → List Stamped) → (S → List Stamped) → Asking G
     → Asking G → S → S → Session → Option Event → Action → Session → Option Event → Served → Type 0
 CarriesOrHolds answers_by made_by handed_to gate asked_gate old new before None first after held c =
@@ -191,8 +191,8 @@ IsLost answers_by made_by handed_to gate asked_gate old new before was_held afte
     (mid : Session) × (mid.lost ≡ true) × (mid.stage ≡ n.stage)
     × CarriesOrHolds answers_by made_by handed_to gate asked_gate old new mid was_held n.action after held c
 
--- What came of asking for the receipt of a commit: it was asked for once, whatever the gate has said, and the session
--- carried on with what that told.
+-- What came of asking for the receipt of a commit. It was asked for once, whatever the gate has said. The session was carried
+-- on with what that told.
 pub record IsAskedFor {G S : Type 0} (answers_by : G → List (ℕ × Bool)) (made_by handed_to : S → List Stamped)
     (gate asked_gate : Asking G) (old new : S) (number : CommitNo) (before after : Session) (held : Option Event) (c : Served) : Type 0 where
   pub mid : S
@@ -219,8 +219,8 @@ AreOwn lost stopped from first [] to next t = Unit {0}
 AreOwn lost stopped from first (r ∷ older) to next t =
     IsOwn (own t.0) (call_of r.stamp.event) × AreOwn lost stopped from first older t.0 t.1 t.2
 
--- what is called for a session names no transaction but its own, and a begin comes only where it has none; so does what
--- is to be done next, and where that is to wait, it is for the commit that the session awaits
+-- What is called for a session names no transaction but its own, and a begin comes only where it has none. What is to be done
+-- next does so too. Where that is to wait, it is for the commit that the session awaits.
 abbrev pub CallsAreOwn : Type 0
 CallsAreOwn =
     (lost stopped : Bool) (from : Stage) (first : Action) (rounds : List Round) (to : Stage) (next : Action)

@@ -27,15 +27,15 @@ pub enum Served {
     Waits(Lsn),
     /// A call was refused that passes by itself: it is held, to be made again (`go_on`).
     Held,
-    /// The session has ended, or the gate has said no and the next call would be none of an operation under way; or there
-    /// was nothing to be done: a request came while a commit waits or a call is held, a receipt was asked for where no commit
-    /// waits, or the session was to go on with no call held.
+    /// The session has ended, or the gate has said no and the next call would be none of an operation under way. Or
+    /// there was nothing to be done, in one of three cases. A request came while a commit waits or a call is held. A
+    /// receipt was asked for where no commit waits. The session was to go on with no call held.
     Ended,
 }
 
-/// A session with the gate through which it is served. The step interface is lent to each call, so that many sessions have one.
-/// The gate is asked between two steps of an operation, and before a call is made again. Once it has said no an operation
-/// under way is finished, and no other call is made for a request or a connection that is lost.
+/// A session with the gate through which it is served. The step interface is lent to each call, so that many sessions
+/// have one. The gate is asked between two steps of an operation, and before a call is made again. Once it has said no,
+/// an operation under way is finished. No other call is made then for a request or a connection that is lost.
 #[derive(Drop)]
 pub struct ServedSession<G: Gate> {
     gate: Asking<G>,
@@ -67,9 +67,9 @@ impl<G: Gate> ServedSession<G> {
         !self.gate.has_stopped()
     }
 
-    /// Carries a request out: makes the calls that the session asks for, one after the other, until there is an answer,
-    /// or a commit waits for its receipt, or a call is held, or the session ends, or the gate has said no and no operation is
-    /// under way.
+    /// Carries a request out: makes the calls that the session asks for, one after the other. It goes on until there is
+    /// an answer, a commit waits for its receipt, a call is held, or the session ends. It also ends where the gate has
+    /// said no and no operation is under way.
     pub fn request<S: Steps, R: Wait>(&mut self, rt: &R, steps: &mut S, request: Request) -> Served
         ensures { IsServed G.answers S.made S.told self.old.gate self.new.gate steps.old steps.new self.old.session self.old.held request self.new.session self.new.held result }
     {

@@ -207,8 +207,8 @@ held_after s (replies.Committed commit) = held.Free
 held_after s replies.Aborted = held.Free
 held_after s _ = held_in s
 
--- the stage is the one of what is to be done, the transaction stands as it was told where the session has not ended,
--- and an abort that is under way, or another request, stays so
+-- The stage is the one of what is to be done. The transaction stands as it was told where the session has not ended. An abort
+-- that is under way, or another request, stays so.
 pub record Follows (s : Stage) (what : Reply) (n : Next) : Type 0 where
   pub stage : IsStageAt n.action n.stage
   pub txn : (n ≡ ended) ⊎ (held_in n.stage ≡ held_after s what)

@@ -3,11 +3,11 @@ ghost use Rattle.rq_session.specs.Laws.{EachReply, EachMayAgain, EachRequest, Ea
 ghost use Rattle.rq_session.specs.Tells.{EachAnswer, EachAsk, EachKeeps, EachWait, EachEnd, EachStage, OneReply, OneFirst, OneLoss};
 
 /// At each reply: a call names the session's own transaction, and a begin is asked for only where there is none. A wait
-/// is for the commit of that transaction, as it was told just now, or for the one that was awaited before.
-/// The transaction stays until its own commit is told and awaited, the end of its abort is told and answered, or the
-/// session ends, and only a begin that was answered gives one. A request under way stays under way, or gets its one
-/// answer, or the session ends. A call is made again only where memory was wanting in an operation or an abort under
-/// way, or latches or frames for an undo. Committed is answered only at the receipt of that commit.
+/// is for the commit of that transaction, as it was told just now, or for the one that was awaited before. The
+/// transaction stays until its own commit is told and awaited, the end of its abort is told and answered, or the
+/// session ends. Only a begin that was answered gives one. A request under way stays under way, or gets its one answer,
+/// or the session ends. A call is made again only where memory was wanting in an operation or an abort under way, or
+/// latches or frames for an undo. Committed is answered only at the receipt of that commit.
 pub fn each_reply()
     ensures { EachReply }
 {}
@@ -24,34 +24,34 @@ pub fn each_request()
     ensures { EachRequest }
 {}
 
-/// While a request is under way, and once the session has ended, no further one is taken: nothing is called and
-/// answered, and the session stays where it is.
+/// While a request is under way, and once the session has ended, no further one is taken. Nothing is called and
+/// answered then, and the session stays where it is.
 pub fn not_taken()
     ensures { NotTaken }
 {}
 
-/// What is answered was told: at each stage an answer is given exactly where the call that was asked for last was told
+/// What is answered was told. At each stage an answer is given exactly where the call that was asked for last was told
 /// what the answer says. A refusal is answered by the same refusal, a message by that message, and a commit by the
 /// receipt of it. (So of a session whose connection is not lost.)
 pub fn each_answer()
     ensures { EachAnswer }
 {}
 
-/// A call is made exactly where what was told asks for it: an operation that was started is stepped until all of it is
-/// written, and then finished; an abort finishes what was left under way, starts, undoes each operation in turn, and
+/// A call is made exactly where what was told asks for it. An operation that was started is stepped until all of it is
+/// written, and then finished. An abort finishes what was left under way, starts, undoes each operation in turn, and
 /// ends. Also where the connection is lost.
 pub fn each_ask()
     ensures { EachAsk }
 {}
 
-/// A commit is awaited exactly where it was told and is that of the session's own transaction, and from then on until
-/// its receipt or the store's failure is told.
+/// A commit is awaited exactly where it was told and is that of the session's own transaction. It is awaited from then
+/// on until its receipt or the store's failure is told.
 pub fn each_wait()
     ensures { EachWait }
 {}
 
-/// A session ends exactly where it is told what no call of that kind is answered, or something when it asked for
-/// nothing; and, where the connection is lost, once the abort is done or was refused for good.
+/// A session ends exactly in these cases. It is told what no call of that kind is answered. It is told something when
+/// it asked for nothing. Its connection is lost, and its abort is done or was refused for good.
 pub fn each_end()
     ensures { EachEnd }
 {}
@@ -62,8 +62,8 @@ pub fn each_stage()
     ensures { EachStage }
 {}
 
-/// Once the connection is lost, the session's transaction, as it is, is aborted by calls of its own, the first of which
-/// is the call under way, or what an abort begins with; where it has none the session ends.
+/// Once the connection is lost, the session's transaction, as it is, is aborted by calls of its own. The first of these
+/// is the call under way, or what an abort begins with. Where there is no transaction the session ends.
 pub fn each_loss()
     ensures { EachLoss }
 {}
@@ -73,7 +73,7 @@ pub fn lost_answers_nothing()
     ensures { LostAnswersNothing }
 {}
 
-/// The laws of single turns leave one session: it keeps them at each reply, and what keeps them at a reply, at a request or
+/// The laws of single turns leave one session. It keeps them at each reply. What keeps them at a reply, at a request or
 /// at the connection's loss is what the session does there, and where it stands then.
 pub fn one_session()
     ensures keeps { EachKeeps }
@@ -82,9 +82,9 @@ pub fn one_session()
     ensures loss { OneLoss }
 {}
 
-/// Over a whole session: a request is taken only when the one before it is answered, each has one answer, and up
-/// to the loss of the connection or the session's end each request but the one under way has it. So the answers
-/// are in the requests' order.
+/// Over a whole session a request is taken only when the one before it is answered, and has at most one answer. Up to
+/// the loss of the connection or the session's end, each request but the one under way is answered. So the answers are
+/// in the requests' order.
 pub fn one_answer_each()
     ensures { OneAnswerEach }
 {}

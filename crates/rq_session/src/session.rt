@@ -11,11 +11,11 @@ use crate::turns::{turn, turn_at_loss};
 use rq_engine::event::{CommitNo, Event, Reply};
 use rq_wire::{Answer, Request};
 
-/// The session of one connection. It has at most one transaction, takes a request once the one before it is
-/// answered, and says each call that is to be made for it.
+/// The session of one connection. It has at most one transaction, and takes a request once the one before it is
+/// answered. It says each call that is to be made for it.
 ///
-/// A request is carried out so: `input` says the first call, or leaves its answer in `answer`; each reply goes
-/// to `reply`, which says what is to be done next, until that is an answer or the session's end.
+/// A request is carried out so: `input` says the first call, or leaves its answer in `answer`. Each reply goes to
+/// `reply`, which says what is to be done next. That goes on until there is an answer or the session's end.
 #[derive(Drop)]
 pub struct Session {
     stage: Stage,
@@ -91,9 +91,8 @@ impl Session {
         next.action
     }
 
-    /// What is to be done next, once the connection has ended or was at fault; the call that was asked for
-    /// last is then not to be made. The operation under way is finished, the transaction undone, and the
-    /// session ends.
+    /// What is to be done next, once the connection has ended or was at fault. The call that was asked for last is then
+    /// not to be made. The operation under way is finished, the transaction undone, and the session ends.
     pub fn lost(&mut self) -> Action
         ensures action { result ≡ (after_loss self.old.stage).action }
         ensures lost { self.new ≡ record self.old { stage = (after_loss self.old.stage).stage; lost = true } }

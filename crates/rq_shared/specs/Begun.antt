@@ -18,8 +18,8 @@ pub record IsLedFrom (first : State) (calls : ℕ) (s : State) : Type 0 where
   pub leads : (earlier : List Record) → IsEarlier earlier first → IsSound (on earlier first)
       → LeadsOver earlier first before s
 
--- Over devices that have been honest since, as many calls as entries were taken led from this store to the engine with which
--- the audit begins. Under this premise the store was sound, with some earlier records.
+-- Over devices that have been honest since, calls led from this store to the engine with which the audit begins. They are as
+-- many as entries were taken. Under this premise the store was sound, with some earlier records.
 abbrev pub BeginsFrom : {P L : Type 0} → page_device.Ghosts P → log_device.Ghosts L → Type 0 → State → Audited P L → Type 0
 BeginsFrom p l premise first k =
     AreHonest p l k.engine → IsLedFrom first k.taken k.base.state × (premise → IsSoundOver first)

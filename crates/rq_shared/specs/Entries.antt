@@ -41,8 +41,8 @@ answer_of n = (n.call, n.gave)
 abbrev pub answers : List Noted → List (Call × Gave)
 answers ns = reverse (map answer_of ns)
 
--- With these earlier records the audit's calls, with what they gave, lead from the one store's ledger to the other's, which
--- goes back to a legal log then.
+-- With these earlier records the audit's calls, with what they gave, lead from the one store's ledger to the other's. The other
+-- store goes back to a legal log then.
 abbrev pub LeadsOver : List Record → State → List Noted → State → Type 0
 LeadsOver e old audit new = IsSound (on e new)
     × Replays (size_of old.sizes) (ledger_of (on e old)) (answers audit) (ledger_of (on e new))
@@ -73,8 +73,8 @@ WasSound p l premise engine = premise → AreHonest p l engine → IsSoundOver e
 abbrev pub BeginsSound : {P L : Type 0} → page_device.Ghosts P → log_device.Ghosts L → Type 0 → Audited P L → Type 0
 BeginsSound p l premise k = premise → AreHonest p l k.engine → IsSoundOver k.base.state
 
--- an audit that was taken: the engine as it was when one was taken before, how many entries were taken until then, and
--- the entries since
+-- An audit that was taken. It has the engine as it was when one was taken before, how many entries were taken until then, and
+-- the entries since.
 pub record TakenAudit (P L : Type 0) : Type 0 where
   pub base : OpenStore P L
   pub before : ℕ

@@ -22,14 +22,14 @@ pub record IsReceiptOf (audit : List Noted) (n : Number) : Type 0 where
   pub committed : IsGivenIn audit (Gave_commit n)
   pub acknowledged : IsGivenIn audit (Gave_receipt (Some n))
 
--- these bytes are the log's first records, those that a Base stands for among them, with a torn end perhaps, and the commit is
--- one of theirs
+-- These bytes are the log's first records, those that a Base stands for among them, with a torn end perhaps. The commit is one
+-- of these records.
 abbrev pub KeepsCommit : List Record → Done → List ℕ → Type 0
 KeepsCommit records d bytes = (lost : ℕ) × EndsWith (drop lost records) bytes
     × In d (committed_of (drop lost records))
 
--- With these earlier records the number names a commit of the store that stands behind them, in every log that a crash may
--- leave: of its records, or where a checkpoint has failed of a Base that stands for all of them.
+-- With these earlier records the number names a commit of the store that stands behind them. The commit is in every log that a
+-- crash may leave. That is a log of its records, or where a checkpoint has failed of a Base that stands for all of them.
 pub record IsDurable {P L : Type 0} (l : log_device.Ghosts L) (earlier : List Record) (s : OpenStore P L) (n : Number) : Type 0 where
   pub commit : Done
   pub txn : commit.txn ≡ n.txn

@@ -44,8 +44,8 @@ impl<G: Sharing> Pass<G> {
     }
 }
 
-/// What lies under the lock: the kept engine, how many calls left an entry, those whose entries were taken included, and
-/// how many entries passes took. Contracts see the kept engine.
+/// What lies under the lock: the kept engine and two counts. One is how many calls left an entry, those whose entries
+/// were taken included. The other is how many entries passes took. Contracts see the kept engine.
 #[derive(Drop)]
 pub(crate) struct Guarded<P: PageDevice, L: LogDevice, B: Level, G: Sharing> {
     kept: Kept<P, L, B>,

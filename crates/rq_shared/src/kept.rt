@@ -99,9 +99,9 @@ impl Stamped {
     }
 }
 
-/// An engine, and an entry for each of its calls since the audit was last taken. Contracts see the engine, the
-/// entries, and the engine as it was then, with the number of entries taken before: from that one, the entries
-/// replay to the engine.
+/// An engine, and an entry for each of its calls since the audit was last taken. Contracts see the engine and the
+/// entries. They also see the engine as it was then, and the number of entries taken before. From that engine the
+/// entries replay to the engine as it is.
 #[derive(Drop)]
 pub struct Kept<P: PageDevice, L: LogDevice, B: Level> {
     alloc: Global,
@@ -200,8 +200,8 @@ impl<P: PageDevice + Drop, L: LogDevice + Drop, B: Level> Kept<P, L, B> {
         self.engine.record_at(place)
     }
 
-    /// The engine as it was when the audit was last taken, with the number of entries taken before, and the entries
-    /// since, in order: they replay from that engine to the engine as it is. Then nothing is in the audit.
+    /// The engine as it was when the audit was last taken, the number of entries taken before, and the entries since,
+    /// in order. The entries replay from that engine to the engine as it is. Then nothing is in the audit.
     pub fn take(&mut self) -> Taken<P, L, B>
         ensures base { (result.base ≡ self.old.base) × (result.before ≡ self.old.taken) }
         ensures entries { result.audit ≡ self.old.audit }
@@ -231,8 +231,8 @@ impl<P: PageDevice + Drop, L: LogDevice + Drop, B: Level> Kept<P, L, B> {
         self.audit.as_slice()
     }
 
-    /// For proofs: what a crash at this moment leaves of the log, where no checkpoint has failed and else; that each record has a spelling, and that a Base is forced;
-    /// and that the entries replay. It runs no code.
+    /// For proofs: what a crash at this moment leaves of the log, where no checkpoint has failed and else. It shows too
+    /// that each record has a spelling, that a Base is forced, and that the entries replay. It runs no code.
     pub fn shows_kept(&self)
         ensures leaves { self.now.engine.replacing ≡ false → L.honest self.now.engine.log → (bytes : List ℕ) → L.may_leave self.now.engine.log bytes
             → IsBeginning self.now.engine.state.records self.now.engine.state.forced bytes }

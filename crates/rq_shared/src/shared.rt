@@ -126,9 +126,9 @@ impl<P: PageDevice + Drop, L: LogDevice + Drop, B: Level, G: Sharing> Shared<P, 
         self.lock.force(rt, pass, mark, seat)
     }
 
-    /// The entries since the audit was last taken, once the lock is free, as `Kept::take` answers them: they replay
-    /// from the engine as it was then, which was sound under the premise of the sharing, where the devices were honest.
-    /// Then nothing is in the audit. The pass counts the entries.
+    /// The entries since the audit was last taken, once the lock is free, as `Kept::take` answers them. They replay
+    /// from the engine as it was then. Where the devices were honest, that engine was sound under the premise of the
+    /// sharing. Then nothing is in the audit. The pass counts the entries.
     pub fn take_audit<R: Wait>(&self, rt: &R, pass: &mut Pass<G>) -> Taken<P, L, B>
         ensures taken { IsTaken P.PageDevice L.LogDevice G.premise result }
         ensures counted { CountsTaken pass.old (length result.audit) pass.new }
@@ -191,9 +191,9 @@ impl<P: PageDevice + Drop, L: LogDevice + Drop, B: Level, G: Sharing> EngineLock
         self.guarded.lock(rt).force(pass, mark, seat)
     }
 
-    /// The entries since the audit was last taken, once the lock is free, as `Kept::take` answers them: they replay
-    /// from the engine as it was then, which was sound under the premise of the sharing, where the devices were honest.
-    /// Then nothing is in the audit. The pass counts the entries.
+    /// The entries since the audit was last taken, once the lock is free, as `Kept::take` answers them. They replay
+    /// from the engine as it was then. Where the devices were honest, that engine was sound under the premise of the
+    /// sharing. Then nothing is in the audit. The pass counts the entries.
     pub fn take_audit<R: Wait>(&self, rt: &R, pass: &mut Pass<G>) -> Taken<P, L, B>
         ensures taken { IsTaken P.PageDevice L.LogDevice G.premise result }
         ensures counted { CountsTaken pass.old (length result.audit) pass.new }

@@ -6,9 +6,9 @@ ghost use Rattle.rq_store.specs.Opening.{opened};
 use std::marker::{Brand, PhantomData};
 use std::sync::ledger::Ledger;
 
-/// One sharing of an engine: the ledger of its calls, the name of the ledger of the entries that are taken, the premise
-/// under which the engine was sound as it was shared, and what it was then. Whoever shares an engine picks them. The premise
-/// may always be that very fact, that it was sound.
+/// One sharing of an engine. It has the ledger of the engine's calls, and the name of the ledger of the entries that
+/// are taken. It also has the premise under which the engine was sound as it was shared, and what the engine was then.
+/// Whoever shares an engine picks them. The premise may always be that very fact, that it was sound.
 pub trait Sharing: Ledger {
     /// The premise.
     ghost premise: { Type 0 };

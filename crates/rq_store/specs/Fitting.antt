@@ -53,8 +53,8 @@ HoldsBase z log p image = lsn_of image ≤ base_lsn log → HoldsPage z p image 
 abbrev pub AllHoldBase : Sizes → (ℕ → List ℕ) → List Record → Type 0
 AllHoldBase z image log = (p : ℕ) → 1 ≤ p → p < page_count z → HoldsBase z log p (image p)
 
--- A page of the store, as the first records of the log leave it: as many of them as its LSN says, and the last of these
--- wrote it.
+-- A page of the store, as the first records of the log leave it. They are as many as its LSN says, and the last of them wrote
+-- it.
 pub record FitsPage (z : Sizes) (log : List Record) (p : ℕ) (image : List ℕ) : Type 0 where
   pub slots : (n : ℕ) → 1 ≤ n → n ≤ 15 → IsSlotOf z p n (slot_of n image)
   pub within : lsn_of image ≤ length log

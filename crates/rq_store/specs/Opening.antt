@@ -91,13 +91,13 @@ opened z images log = record {
   sent = sent_in_slots z images;
 }
 
--- a record that tells a write of a slot of the store, no number of whose slot is beyond the record's LSN, and whose
--- before-image stands there where the page is older
+-- The before-image of a slot's write stands in its slot, where the page is older than the record.
 abbrev pub IsBeforeIn : Record → ℕ → (ℕ → List ℕ) → Type 0
 IsBeforeIn (PageOp t n page slot before after) lsn image = lsn_of (image page) < lsn
     → slot_of slot (image page) ≡ before
 IsBeforeIn _ lsn image = Unit {0}
 
+-- a write of a slot of the store, no number of whose slot is beyond the record's LSN
 pub record IsSoundTold (z : Sizes) (lsn : ℕ) (w : ToldWrite) : Type 0 where
   pub slot : IsSlotOf z w.page w.slot w.after
   pub count : count_in z w.page w.after ≤ lsn

@@ -19,8 +19,7 @@ use Rattle.rq_store.specs.Fitting.{image_in}
 abbrev pub Continues : List Record → List Record → Type 0
 Continues older newer = (n : ℕ) × (drop n newer ≡ older)
 
--- A slot write is made in the pages: its page has the LSN of the next record, the others stay, and each is of its
--- place.
+-- A slot write is made in the pages. Its page has the LSN of the next record, the others stay, and each is of its place.
 pub record IsPutIn (s : State) (w : SlotWrite) (images : List (List ℕ)) : Type 0 where
   pub page : IsWritten (image_in s.images (w.at / 16)) (image_in images (w.at / 16)) (w.at % 16) w.after
       (length s.records + 1)

@@ -60,10 +60,10 @@ impl Frames {
         }
     }
 
-    /// The requests that a further piece completes. Of all bytes fed so far, the requests given so far are those of
-    /// the longest list of whole good frames at their front, and the fault is the one behind them. After a fault each
-    /// piece gives no requests and the same fault, and changes nothing: whatever stands behind a fault, the requests and
-    /// the fault are the same.
+    /// The requests that a further piece completes. Of all bytes fed so far, the requests given so far are those of the
+    /// longest list of whole good frames at their front. The fault is the one behind them. After a fault each piece
+    /// gives no requests and the same fault, and changes nothing. Whatever stands behind a fault, the requests and the
+    /// fault are the same.
     ///
     /// # Errors
     /// `NoMemory`, but not after a fault; the piece is then as if it had not been fed.

@@ -17,8 +17,9 @@ pub fn fronts_are_spelled()
     ensures { FrontsAreSpelled }
 {}
 
-/// A fault is told exactly where there is one: a length of 0 or over 512 as soon as its two bytes are there, a kind that is
-/// no request's as soon as its byte is there, or all that the length counts, where no request's frame is.
+/// A fault is told exactly where there is one. A length of 0 or over 512 is a fault as soon as its two bytes are there.
+/// A kind that is no request's is one as soon as its byte is there. All that the length counts is one as soon as it is
+/// there, where it is no request's frame.
 pub fn faults_are_told()
     ensures { FaultsAreTold }
 {}

@@ -59,8 +59,9 @@ abbrev pub passed_at : ℕ → List Act → Bool
 passed_at point (Asked p passed ∷ acts) = (p == point) && passed
 passed_at point _ = false
 
--- What may be called behind these acts: a part of an operation at any time, a page's write directly behind a gate that was
--- passed at point 2, a checkpoint behind one at point 5; nothing else. A force is none: that is the interface's own.
+-- What may be called behind these acts. A part of an operation may be called at any time. A page's write may be, directly
+-- behind a gate that was passed at point 2. A checkpoint may be, behind one at point 5. Nothing else may be. A force is none:
+-- that is the interface's own.
 abbrev pub may_call : List Act → Call → Bool
 may_call acts (Write_page page) = passed_at 2 acts
 may_call acts Checkpoint = passed_at 5 acts
@@ -81,10 +82,10 @@ pub record Work (S : Type 0) : Type 0 where
   pub done : List Act
   pub begun : S
 
--- What is so of a worker: what its gate answered since it took that, and at which points, and what was called, forced by
--- the interface's own force, and handed on, through its step interface since it took that is what it did, and so often
--- was memory wanting for a copy; as many calls more are counted as left an entry; what the interface shows is at least
--- what was forced, and nothing was done but what may be.
+-- What is so of a worker. What its gate answered since it took that, and at which points, is what it did. So is what was
+-- called, forced by the interface's own force, and handed on, through its step interface since it took that. So is how
+-- often memory was wanting for a copy. As many calls more are counted as left an entry. What the interface shows is at least
+-- what was forced. Nothing was done but what may be.
 pub record IsWork {G S : Type 0} (answers_by : G → List (ℕ × Bool)) (made_by forced_by told_by : S → List Stamped)
     (lacked_by counted_by shown_by : S → ℕ) (gate : G) (steps : S) (begun : G × S) (done : List Act) (has_stopped : Bool) : Type 0 where
   pub asked : answers_by gate ≡ asked_in done ++ answers_by begun.0

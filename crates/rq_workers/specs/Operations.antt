@@ -58,9 +58,9 @@ abbrev pub after_part : Part → Sub → Heard → Stage
 after_part p sub (heard.Refused NoMemory) = Due_again p sub
 after_part p sub h = once_answered p sub h
 
--- How an act leads on, in an operation whose start is this call. The gate is asked at point 3 between two steps and at
--- point 4 before a call is tried again; where it says no, an operation that is started goes on all the same. A start for
--- a copy of whose body memory is wanting counts as refused for memory.
+-- How an act leads on, in an operation whose start is this call. The gate is asked at point 3 between two steps and at point 4
+-- before a call is tried again. Where it says no, an operation that is started goes on all the same. A start for a copy of
+-- whose body memory is wanting counts as refused for memory.
 abbrev pub LeadsOn : Call → Stage → Act → Stage → Type 0
 LeadsOn c Starting (Made s) next = (call_of s.value.event ≡ c) × (next ≡ after_start (heard_of s.value.reply))
 LeadsOn c Starting Lacked next = (has_body c ≡ true) × (next ≡ Refused_start (heard.Refused NoMemory))

@@ -111,10 +111,10 @@ impl<G: Gate + Drop, S: Steps> Worker<G, S> {
         answer
     }
 
-    /// The gate and the step interface. What the gate was asked and answered since the worker took it, and what was
-    /// called through the step interface, forced by its own force, and handed on, is what the worker did, and what `shown`
-    /// says is at least what was forced. Each force came directly behind a gate that was passed for it, each page's write
-    /// and each checkpoint too, and every other call was one of an operation.
+    /// The gate and the step interface. What the gate was asked and answered since the worker took it is what the
+    /// worker did. So is what was called through the step interface, forced by its own force, and handed on. What
+    /// `shown` says is at least what was forced. Each force came directly behind a gate that was passed for it, and so
+    /// did each page's write and each checkpoint. Every other call was one of an operation.
     pub fn into_parts(self) -> (G, S)
         ensures asked { G.answers result.0 ≡ asked_in self.done ++ G.answers self.begun.0 }
         ensures made { S.made result.1 ≡ stamps_in self.done ++ S.made self.begun.1 }

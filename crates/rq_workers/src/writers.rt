@@ -24,8 +24,9 @@ impl<G: Gate + Drop, S: Steps> Worker<G, S> {
         unreachable!()
     }
 
-    /// Writes the pages of a store of so many, by rising number and again from the first, whenever the gate lets it
-    /// through, until the gate says no. A page that cannot go out yet has its turn again in the next round.
+    /// Writes the pages of a store of so many, by rising number and again from the first. It writes one whenever the
+    /// gate lets it through, until the gate says no. A page that cannot go out yet has its turn again in the next
+    /// round.
     pub fn write_pages<R: Wait>(&mut self, rt: &R, pages: u32)
         ensures { Did (IsPageWriting pages) self.old self.new }
     {
