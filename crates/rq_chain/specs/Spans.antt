@@ -1,15 +1,15 @@
 -- Which slots of a chain an operation asks for: a sender's directory slot, and cells at an end of its chain.
-use Rattle.std.specs.Prelude.{ℕ, cond, List, Option, None, Some}
+use Rattle.std.specs.Prelude.{ℕ, cond, List, [], ◌∷◌, Option, None, Some}
 use Rattle.rq_model.specs.declared.record.Deed.{Deed}
 use Rattle.rq_model.specs.declared.record.Deed.TheVariants as deeds
-use Rattle.rq_model.specs.Deeds.{deed_in}
+use Rattle.rq_model.specs.Deeds.{deed_by}
 use Rattle.rq_page.specs.declared.directory.Directory.{Directory}
 use Rattle.rq_page.specs.Directories.{directory_in}
 use Rattle.rq_page.specs.Sizes.{directory_at}
-use Rattle.rq_level.specs.ChainPlans.{head_wanted, link_wanted, tail_wanted}
+use Rattle.rq_level.specs.ChainPlans.{along_from, to_next, to_prev}
 use Rattle.rq_level.specs.declared.slots.Given.{Given}
 use Rattle.rq_level.specs.Given.{given_at}
-use Rattle.rq_level.specs.Ops.{Doing, Job, doing_in}
+use Rattle.rq_level.specs.Ops.{Doing, Job, doing_by}
 use Rattle.rq_level.specs.Ops.Doing.{Send, Receive, Close}
 use Rattle.rq_chain.specs.declared.spans.Reach.{Reach}
 use Rattle.rq_chain.specs.declared.spans.Reach.TheVariants.{Nothing, Tail, TailAndPrevious, Head, HeadAndNext}
@@ -29,15 +29,15 @@ span_of_deed (Some (deeds.UnlinkHead s n tag body)) = Some (record { sender = s;
 span_of_deed (Some (deeds.Close s)) = Some (record { sender = s; reach = Nothing })
 
 abbrev pub span_of_job : Job → Option Span
-span_of_job job = cond job.undo (span_of_deed (deed_in job.bytes)) (span_of_doing (doing_in job.bytes))
+span_of_job job = cond job.undo (span_of_deed (deed_by job.level job.bytes)) (span_of_doing (doing_by job.level job.bytes))
 
 -- the next of the cells that was not given
 abbrev pub cells_wanted : Reach → Directory → List Given → Option ℕ
 cells_wanted Nothing d given = None
-cells_wanted Tail d given = link_wanted d.tail given
-cells_wanted TailAndPrevious d given = tail_wanted d.tail given
-cells_wanted Head d given = link_wanted d.head given
-cells_wanted HeadAndNext d given = head_wanted d.head given
+cells_wanted Tail d given = along_from [] d.tail given
+cells_wanted TailAndPrevious d given = along_from (to_prev ∷ []) d.tail given
+cells_wanted Head d given = along_from [] d.head given
+cells_wanted HeadAndNext d given = along_from (to_next ∷ []) d.head given
 
 -- the directory slot, and then the cells
 abbrev pub slots_wanted : Span → Option (List ℕ) → List Given → Option ℕ

@@ -25,7 +25,7 @@ pub(crate) enum Doing<'a> {
     },
 }
 
-/// What these bytes ask for; none where they ask for nothing.
+/// What these bytes ask the level of chains for; none where they ask it for nothing.
 pub(crate) fn read_doing(bytes: &[u8]) -> Option<Doing<'_>>
     ensures told { told result ≡ doing_in bytes.now }
     ensures short { IfSome result IsShort }

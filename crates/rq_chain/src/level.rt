@@ -22,7 +22,7 @@ use rq_model::txn::Lsn;
 use rq_page::addr::Addr;
 use rq_page::layout::{CELLS_LIMIT, Layout, SLOTS};
 use rq_page::page::Page;
-use rq_record::{decode_deed, encode_append, encode_close, encode_unlink_head};
+use rq_record::{decode_deed, decode_told, encode_append, encode_close, encode_unlink_head};
 use std::alloc::Global;
 use std::marker::Model;
 
@@ -338,7 +338,7 @@ impl Level for ChainLevel {
         given: &Slots,
         latched: &PageSet,
     ) -> Result<Plan, Refusal> {
-        if op.is_undo() {
+        if op.is_undo() || op.level() != 1 {
             return Err(Refusal::Damaged(Damage::Page(0)));
         }
         let Some(layout) = self.layout else {
@@ -361,13 +361,13 @@ impl Level for ChainLevel {
         given: &Slots,
         latched: &PageSet,
     ) -> Result<Plan, Refusal> {
-        let Record::OpEnd { deed, .. } = record else {
+        let Record::OpEnd { level, deed, .. } = record else {
             return Err(Refusal::Damaged(Damage::Page(0)));
         };
         let Some(layout) = self.layout else {
             return Err(Refusal::Damaged(Damage::Page(0)));
         };
-        let Some(deed) = decode_deed(deed.as_slice()) else {
+        let Some(deed) = decode_told(*level, deed.as_slice()) else {
             return Err(Refusal::Damaged(Damage::Page(0)));
         };
         self.plan_undo(room, &layout, &deed, given, latched)

@@ -26,11 +26,13 @@ pub(crate) struct Span {
     pub(crate) reach: Reach,
 }
 
-/// What an operation asks for; none where its bytes ask for nothing.
+/// What an operation asks for; none where its bytes ask this level for nothing.
 pub(crate) fn span_of(op: &Op) -> Option<Span>
     ensures { result ≡ span_of_job op.now }
 {
-    if op.is_undo() {
+    if op.level() != 1 {
+        None
+    } else if op.is_undo() {
         span_of_deed(op.bytes())
     } else {
         span_of_doing(op.bytes())

@@ -1,10 +1,10 @@
 //! Which slots operations need to see.
-ghost use Rattle.std.specs.Prelude.{◌≡◌, ◌+◌, ◌≤◌, Some, length};
+ghost use Rattle.std.specs.Prelude.{◌≡◌, ◌+◌, ◌≤◌, [], ◌∷◌, Some, length};
 ghost use Rattle.rq_bytes.specs.Number.{number_at};
-ghost use Rattle.rq_page.specs.Cells.{cell_in, cell_slot_in};
+ghost use Rattle.rq_page.specs.Cells.{cell_in};
 ghost use Rattle.rq_page.specs.Directories.{directory_in};
 ghost use Rattle.rq_page.specs.Sizes.{directory_at};
-ghost use Rattle.rq_level.specs.ChainPlans.{before, behind, link_wanted, head_wanted, job_wanted, tail_wanted, unless_given};
+ghost use Rattle.rq_level.specs.ChainPlans.{along_from, job_wanted, to_next, to_prev, unless_given};
 ghost use Rattle.rq_level.specs.Given.{given_at};
 ghost use Rattle.rq_chain.specs.Spans.{span_wanted};
 
@@ -62,7 +62,7 @@ fn slot_wanted(at: Addr, given: &Slots) -> Option<Addr>
 
 // The slot that a link names, where it was not given.
 fn link_wanted(at: Addr, given: &Slots) -> Option<Addr>
-    ensures { result ≡ link_wanted at given.now }
+    ensures { result ≡ along_from [] at given.now }
 {
     if at.number() == 0 {
         return None;
@@ -72,7 +72,7 @@ fn link_wanted(at: Addr, given: &Slots) -> Option<Addr>
 
 // The head's slot, and then the one behind it.
 fn head_wanted(at: Addr, given: &Slots) -> Option<Addr>
-    ensures { result ≡ head_wanted at given.now }
+    ensures { result ≡ along_from (to_next ∷ []) at given.now }
 {
     if at.number() == 0 {
         return None;
@@ -85,7 +85,7 @@ fn head_wanted(at: Addr, given: &Slots) -> Option<Addr>
 
 // The slot behind a cell.
 fn behind(bytes: &Slot, given: &Slots) -> Option<Addr>
-    ensures { result ≡ behind (cell_slot_in bytes.now) given.now }
+    ensures { result ≡ along_from [] (to_next bytes.now) given.now }
 {
     if bytes[0] == 0 {
         return None;
@@ -95,7 +95,7 @@ fn behind(bytes: &Slot, given: &Slots) -> Option<Addr>
 
 // The tail's slot, and then the one before it.
 fn tail_wanted(at: Addr, given: &Slots) -> Option<Addr>
-    ensures { result ≡ tail_wanted at given.now }
+    ensures { result ≡ along_from (to_prev ∷ []) at given.now }
 {
     if at.number() == 0 {
         return None;
@@ -108,7 +108,7 @@ fn tail_wanted(at: Addr, given: &Slots) -> Option<Addr>
 
 // The slot before a cell.
 fn before(bytes: &Slot, given: &Slots) -> Option<Addr>
-    ensures { result ≡ before (cell_slot_in bytes.now) given.now }
+    ensures { result ≡ along_from [] (to_prev bytes.now) given.now }
 {
     if bytes[0] == 0 {
         return None;

@@ -32,7 +32,7 @@ use Rattle.rq_groups.specs.declared.End.TheVariants.{Receiving}
 use Rattle.rq_level.specs.ChainPlans.{TellsDamage}
 use Rattle.rq_level.specs.declared.writes.Plan.{Plan}
 use Rattle.rq_level.specs.declared.writes.SlotWrite.{SlotWrite}
-use Rattle.rq_level.specs.Ops.{Doing, Job, chain_job, doing_by, doing_in, doing_level}
+use Rattle.rq_level.specs.Ops.{Doing, doing_level}
 use Rattle.rq_level.specs.Ops.Doing.{Send, Receive, Close}
 use Rattle.rq_txn.specs.declared.Aim.TheVariants as aims
 use Rattle.rq_txn.specs.Rows.{latched_in}
@@ -119,18 +119,6 @@ module _ (s : State) (d : Doing) (p : Plan) (h : IsPlanOf (known_part s) d p) (l
           reads = subst TellsItself deed (ap (λ n. deed_by n (spelled_deed h.deed)) (told_by_its_level level p.deed h.deed plan_reads) ∙ ap (deed_by level) (sym h.told) ∙ plan_reads);
         };
       }
-
--- ---- what is asked, and what is said of what is found
-
-pub chain_asked : (job : Job) (d : Doing) → job ≡ chain_job d → doing_in job.bytes ≡ Some d → doing_by job.level job.bytes ≡ Some d
-chain_asked job d is told = ap (λ (j : Job). doing_by j.level job.bytes) is ∙ by_level d ∙ told where
-  by_level : (d : Doing) → doing_by (doing_level d) job.bytes ≡ doing_in job.bytes
-  by_level (Send g tag body) = refl
-  by_level (Receive g) = refl
-  by_level (Close g) = refl
-
-pub send_asked : (job : Job) (g tag : ℕ) (body : List ℕ) → length body ≤ 216 → job ≡ chain_job (Send g tag body) → (length body ≤ 216 → doing_in job.bytes ≡ Some (Send g tag body)) → doing_by job.level job.bytes ≡ Some (Send g tag body)
-send_asked job g tag body short is told = chain_asked job (Send g tag body) is (told short)
 
 -- ---- what a start answers
 

@@ -9,7 +9,7 @@ use Rattle.rq_model.specs.declared.record.Record.{Record}
 use Rattle.rq_model.specs.declared.record.Record.TheVariants as records
 use Rattle.rq_model.specs.declared.refusal.Refusal.{Refusal}
 use Rattle.rq_model.specs.declared.refusal.Refusal.TheVariants as why
-use Rattle.rq_model.specs.Deeds.{deed_in, spelled_deed}
+use Rattle.rq_model.specs.Deeds.{deed_by, spelled_deed}
 use Rattle.rq_page.specs.declared.cell.Cell.{Cell}
 use Rattle.rq_page.specs.declared.directory.Directory.{Directory}
 use Rattle.rq_page.specs.Sizes.{Sizes, cell_at, directory_at}
@@ -23,7 +23,7 @@ use Rattle.rq_level.specs.ChainPlans.{Beside, CanMark, CanReceive, CanSend, CanP
 use Rattle.rq_level.specs.Given.{AreGiven, GivenHolds, HoldsBytes, IsGiven, given_at}
 use Rattle.rq_level.specs.LevelState.{LevelState, IsLowest, reserved_at}
 use Rattle.rq_level.specs.Meaning.{AreOf, meaning_of}
-use Rattle.rq_level.specs.Ops.{Doing, Job, doing_in}
+use Rattle.rq_level.specs.Ops.{Doing, Job, doing_by}
 use Rattle.rq_level.specs.Ops.Doing.{Send, Receive, Close}
 use Rattle.rq_chain.proofs.Givens.{same_held}
 use Rattle.rq_sound.proofs.PlanFits.{same_cell}
@@ -198,7 +198,7 @@ undoes_alike (Some z) _ k given latched (Err r) (Err v) x y all f h = (tt, tt)
 
 record_alike : (k : LevelState) (told : Record) (given : List Given) (latched : List ℕ) (p q : Result Plan Refusal) (x y : LevelState) → AreOf k.sizes given
     → chain_undoes k told given latched p x → chain_undoes k told given latched q y → Alike k.sizes p q x y
-record_alike k (records.OpEnd t n level deed) given latched p q x y all f h = undoes_alike k.sizes (deed_in deed) k given latched p q x y all f h
+record_alike k (records.OpEnd t n level deed) given latched p q x y all f h = undoes_alike k.sizes (deed_by level deed) k given latched p q x y all f h
 record_alike k _ given latched p q x y all f h = unread_alike k.sizes k p q x y f h
 
 -- levels of chains that keep the same plan alike
@@ -206,7 +206,7 @@ pub level_plans : (n m : ℕ) (k j : LevelState) (job : Job) (given : List Given
     → (meaning_of n).plans k job given latched p x → (meaning_of m).plans j job given latched q y → Alike k.sizes p q x y
 unfolding meaning_of
 level_plans n m k j job given latched p q x y one also same all f h =
-    for_alike job.undo k.sizes (doing_in job.bytes) k given latched p q x y all
+    for_alike job.undo k.sizes (doing_by job.level job.bytes) k given latched p q x y all
     (subst (λ (i : ℕ). (meaning_of i).plans k job given latched p x) one f)
     (subst (λ (v : LevelState). (meaning_of 1).plans v job given latched q y) (sym same) (subst (λ (i : ℕ). (meaning_of i).plans j job given latched q y) also h))
 

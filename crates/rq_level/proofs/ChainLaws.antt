@@ -1,11 +1,12 @@
 -- What the level of chains keeps to.
-use Rattle.std.proofs.Common.{◌≡◌, ◌≢◌, ◌⊎◌, ℕ, ◌/◌, ◌%◌, arith, List, [], ◌∷◌, Bool, true, false, Option, None, Some, Ok, map, option_map, reverse, refl, sym, ap, ◌∙◌, subst, inl, inr}
+use Rattle.std.proofs.Common.{◌≡◌, ◌≢◌, ◌⊎◌, ℕ, ◌/◌, ◌%◌, arith, List, [], ◌∷◌, Bool, true, false, cond, nat_eq, Option, None, Some, Ok, map, option_map, reverse, refl, sym, ap, ◌∙◌, subst, inl, inr}
+use Rattle.std.proofs.lemmas.Bool.{cases_Bool, eqb-true, false≢true}
 use Rattle.std.proofs.lemmas.List.{reverse-reverse, set-set}
 use Rattle.rq_model.specs.declared.record.Deed.{Deed}
 use Rattle.rq_model.specs.declared.record.Deed.TheVariants.{Append, UnlinkHead, Close as Close_deed}
 use Rattle.rq_model.specs.declared.record.Record.{Record}
 use Rattle.rq_model.specs.declared.record.Record.TheVariants as records
-use Rattle.rq_model.specs.Deeds.{deed_in}
+use Rattle.rq_model.specs.Deeds.{deed_by, deed_in}
 use Rattle.rq_model.specs.Vocabulary.{In, is_some}
 use Rattle.rq_page.specs.declared.cell.Cell.{Cell}
 use Rattle.rq_page.specs.Cells.{free_bytes}
@@ -13,13 +14,13 @@ use Rattle.rq_page.specs.Sizes.{Sizes, IsCellAddress, place_of}
 use Rattle.rq_page.specs.Slots.{Free, Slot}
 use Rattle.rq_views.specs.Log.{Write}
 use Rattle.rq_views.specs.Plans.{relinked}
-use Rattle.rq_level.specs.Asked.{AreWanted, IsGathered, job_back, AreNoted, AreOver, AreBackOver, AreWritten, AsksForNone, Knows, AreAsGiven, AreOverSlots, Chooses, ChoosesBack, MayChoose, AreOfSlots, AreBackOfSlots}
+use Rattle.rq_level.specs.Asked.{AreWanted, IsGathered, job_back, TellsDeedOf, AreNoted, AreOver, AreBackOver, AreWritten, AsksForNone, Knows, AreAsGiven, AreOverSlots, Chooses, ChoosesBack, MayChoose, AreOfSlots, AreBackOfSlots}
 use Rattle.rq_level.specs.ChainPlans as chain
 use Rattle.rq_level.specs.ChainPlans.{Plans, PlansFor, Undoes, chain_plans, chain_undoes, job_wanted}
 use Rattle.rq_level.specs.Given.{AreGiven, given_at}
 use Rattle.rq_level.specs.LevelState.{LevelState, IsLowest, is_free_slot, noted, noted_cell, reserved_at}
 use Rattle.rq_level.specs.Meaning.{AreOf, Meaning, chain_meaning}
-use Rattle.rq_level.specs.Ops.{Doing, Job, doing_in}
+use Rattle.rq_level.specs.Ops.{Doing, Job, doing_by, doing_in}
 use Rattle.rq_level.specs.Ops.Doing.{Send, Receive, Close}
 use Rattle.rq_level.specs.Writes.{AreSlotWrites, answer_of, replied, reply_of, writes_of}
 use Rattle.rq_level.specs.declared.slots.Given.{Given}
@@ -49,13 +50,43 @@ module _ (k : LevelState) (given : List Given) (latched : List ℕ) (p : Plan) (
 
   planned : (job : Job) → chain_plans k job given latched (Ok p) after → IsOfStore k given latched p after (job_wanted job)
   planned job h = by job.undo h where
-    by : (undo : Bool) → PlansFor undo k.sizes (doing_in job.bytes) k given latched (Ok p) after → IsOfStore k given latched p after (job_wanted (record { level = job.level; undo = undo; bytes = job.bytes }))
+    by : (undo : Bool) → PlansFor undo k.sizes (doing_by job.level job.bytes) k given latched (Ok p) after → IsOfStore k given latched p after (job_wanted (record { level = job.level; undo = undo; bytes = job.bytes }))
     by true m = absurd m
-    by false m = doing k.sizes (doing_in job.bytes) refl m
+    by false m = doing k.sizes (doing_by job.level job.bytes) refl m
 
   backed : (told : Record) → chain_undoes k told given latched (Ok p) after → IsOfStore k given latched p after (job_wanted (job_back told))
-  backed (records.OpEnd t n level deed) h = undoing k.sizes (deed_in deed) refl h
+  backed (records.OpEnd t n level deed) h = undoing k.sizes (deed_by level deed) refl h
   backed _ h = absurd h
+
+deed_back : (k : LevelState) (given : List Given) (latched : List ℕ) (p : Plan) (after : LevelState) (z : Option Sizes) (d : Option Deed) → Undoes z d k given latched (Ok p) after → is_some d ≡ true
+deed_back k given latched p after (Some z) (Some d) h = refl
+deed_back k given latched p after (Some z) None h = absurd h
+deed_back k given latched p after None (Some d) h = absurd h
+deed_back k given latched p after None None h = absurd h
+
+-- only the level of chains has deeds, and is asked for something
+pub of_chains : {X : Type 0} (n : ℕ) (o : Option X) → is_some (cond (nat_eq n 1) o None) ≡ true → n ≡ 1
+of_chains n o some = elim (cases_Bool (nat_eq n 1)) [
+  | inl one ↦ eqb-true n 1 one
+  | inr other ↦ absurd (false≢true (sym (ap (λ b. is_some (cond b o None)) other) ∙ some))
+]
+
+pub back_read : (k : LevelState) (told : Record) (given : List Given) (latched : List ℕ) (p : Plan) (after : LevelState) → chain_undoes k told given latched (Ok p) after → TellsDeedOf 1 told
+back_read k (records.OpEnd t n level deed) given latched p after h =
+    let some = deed_back k given latched p after k.sizes (deed_by level deed) h in
+    let one : level ≡ 1 = of_chains level (deed_in deed) some in
+    (one, sym (ap (λ l. is_some (deed_by l deed)) one) ∙ some)
+back_read k _ given latched p after h = absurd h
+
+doing_done : (k : LevelState) (given : List Given) (latched : List ℕ) (p : Plan) (after : LevelState) (undo : Bool) (z : Option Sizes) (d : Option Doing) → PlansFor undo z d k given latched (Ok p) after → is_some d ≡ true
+doing_done k given latched p after true z d h = absurd h
+doing_done k given latched p after false (Some z) (Some d) h = refl
+doing_done k given latched p after false (Some z) None h = absurd h
+doing_done k given latched p after false None (Some d) h = absurd h
+doing_done k given latched p after false None None h = absurd h
+
+pub plan_own : (k : LevelState) (job : Job) (given : List Given) (latched : List ℕ) (p : Plan) (after : LevelState) → chain_plans k job given latched (Ok p) after → job.level ≡ 1
+plan_own k job given latched p after h = of_chains job.level (doing_in job.bytes) (doing_done k given latched p after job.undo k.sizes (doing_by job.level job.bytes) h)
 
 -- ---- what its writes are over, and what it asks for
 
@@ -137,9 +168,6 @@ free_first : is_free_slot free_bytes ≡ true
 unfolding free_bytes
 free_first = refl
 
-some_sizes : (y z : Sizes) → Some y ≡ Some z → y ≡ z
-some_sizes y z e = cc
-
 abbrev at_first : List Write → ℕ
 at_first [] = 0
 at_first (w ∷ ws) = w.at
@@ -152,7 +180,9 @@ from_first : (z : Sizes) (ws : List SlotWrite) (v : Write) (rest : List Write) (
     → MayChoose chain_meaning k ws l
 from_first z [] v rest l k e free are told cell h = absurd (let no : ◌≡◌ {A = List Write} [] (v ∷ rest) = e in cc)
 from_first z (w ∷ ws) v rest l k e free are told cell h = inr (record {
-  cell = λ y same. subst (λ (o : Sizes). IsCellAddress o w.at) (some_sizes z y (sym told ∙ same)) (subst (IsCellAddress z) (sym (ap at_first e)) cell);
+  sizes = z;
+  told = told;
+  cell = subst (IsCellAddress z) (sym (ap at_first e)) cell;
   free = ap is_free_slot (free_is z (w.at / 16) (w.at % 16) w.before (are 0 w (omega arith)).before (ap before_first e ∙ free)) ∙ free_first;
   back = subst (λ n. (x : List ℕ) → noted l n x ≡ noted k n x) (sym (ap at_first e)) h;
 })
@@ -198,7 +228,7 @@ plan_chooses true k d given latched p after h = absurd h
 plan_chooses false k d given latched p after h = done_chooses k given latched p after k.sizes d refl h
 
 pub back_chooses : (k : LevelState) (told : Record) (given : List Given) (latched : List ℕ) (p : Plan) (after : LevelState) → chain_undoes k told given latched (Ok p) after → MayChoose chain_meaning k p.writes.items after
-back_chooses k (records.OpEnd t n level deed) given latched p after h = undone_chooses k given latched p after k.sizes (deed_in deed) refl h
+back_chooses k (records.OpEnd t n level deed) given latched p after h = undone_chooses k given latched p after k.sizes (deed_by level deed) refl h
 back_chooses k _ given latched p after h = absurd h
 
 -- ---- the deed that a plan tells

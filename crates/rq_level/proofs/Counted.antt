@@ -8,7 +8,7 @@ use Rattle.rq_model.specs.declared.record.Deed.{Deed}
 use Rattle.rq_model.specs.declared.record.Deed.TheVariants.{Append, UnlinkHead, Close as Close_deed}
 use Rattle.rq_model.specs.declared.record.Record.{Record}
 use Rattle.rq_model.specs.declared.record.Record.TheVariants as records
-use Rattle.rq_model.specs.Deeds.{deed_in}
+use Rattle.rq_model.specs.Deeds.{deed_by}
 use Rattle.rq_views.specs.Log.{Write}
 use Rattle.rq_views.specs.Plans.{relinked}
 use Rattle.rq_level.specs.LevelState.{LevelState}
@@ -63,7 +63,7 @@ undone None None k given latched p after h = absurd h
 
 pub few_undone : (k : LevelState) (told : Record) (given : List Given) (latched : List ℕ) (p : Plan) (after : LevelState)
     → chain_undoes k told given latched (Ok p) after → length p.writes.items ≤ 3
-few_undone k (records.OpEnd t n level deed) given latched p after h = undone k.sizes (deed_in deed) k given latched p after h
+few_undone k (records.OpEnd t n level deed) given latched p after h = undone k.sizes (deed_by level deed) k given latched p after h
 few_undone k _ given latched p after h = absurd h
 
 single : (a : ℕ) (before after : List ℕ) (ws : List SlotWrite) → IsOneWrite a before after ws → length ws ≤ 3
@@ -100,7 +100,7 @@ silent None None k given latched p after h = absurd h
 
 pub silent_undone : (k : LevelState) (told : Record) (given : List Given) (latched : List ℕ) (p : Plan) (after : LevelState)
     → chain_undoes k told given latched (Ok p) after → (p.deed ≡ []) × (reply_of 1 p ≡ answer_back told)
-silent_undone k (records.OpEnd t n level deed) given latched p after h = let i = silent k.sizes (deed_in deed) k given latched p after h in (i.0, ap (λ r. replied r (deed_in p.deed)) i.1)
+silent_undone k (records.OpEnd t n level deed) given latched p after h = let i = silent k.sizes (deed_by level deed) k given latched p after h in (i.0, ap (λ r. replied r (deed_by 1 p.deed)) i.1)
 silent_undone k _ given latched p after h = absurd h
 
 silent_back : (k : LevelState) (is : Bool) (a : ℕ) (before after : List ℕ) (p : Plan) (kept : LevelState) → TakesBack k is a before after (Ok p) kept → (p.deed ≡ []) × (reply_of 0 p ≡ None)

@@ -1,15 +1,11 @@
 -- Each level keeps its laws.
-use Rattle.std.proofs.Common.{◌≡◌, ℕ, zero, suc, ◌+◌, ◌*◌, nat_lt, Err, arith, List, Bool, true, false, cond, nat_eq, Option, None, Some, length, set, refl, sym, ap, ◌∙◌, inl, inr}
+use Rattle.std.proofs.Common.{◌≡◌, ◌≢◌, ℕ, zero, suc, ◌+◌, ◌*◌, ◌<◌, nat_lt, Err, arith, List, [], ◌∷◌, Bool, true, false, cond, nat_eq, Option, None, Some, length, set, refl, sym, ap, ◌∙◌, inl, inr}
 use Rattle.std.proofs.lemmas.Bool.{cases_Bool, false≢true, le-ltb}
 use Rattle.rq_page.specs.Pages.{lsn_of}
 use Rattle.std.proofs.lemmas.List.{length-set, set-set}
-use Rattle.rq_page.specs.declared.cell.CellSlot.{CellSlot}
-use Rattle.rq_page.specs.declared.cell.CellSlot.TheVariants as cells
-use Rattle.rq_page.specs.Cells.{cell_slot_in}
-use Rattle.rq_page.specs.Directories.{directory_in}
 use Rattle.rq_page.specs.Sizes.{Sizes, directory_at, place_of}
-use Rattle.rq_level.specs.LevelState.{LevelState, noted, noted_in, noted_cell, is_cell_address, is_free_slot}
-use Rattle.rq_level.specs.Ops.{Doing, Overwrite, doing_in, overwrite_in}
+use Rattle.rq_level.specs.LevelState.{LevelState, KnowsStore, noted, noted_in, noted_cell, is_cell_address, is_free_slot}
+use Rattle.rq_level.specs.Ops.{Doing, Overwrite, doing_by, doing_in, overwrite_by}
 use Rattle.rq_level.specs.PagePlans.{write_wants, PlansWrite, WritesFor, CannotOverwrite, TakesBack, is_slot_number, page_undoes}
 use Rattle.rq_model.specs.declared.record.Record.{Record}
 use Rattle.rq_model.specs.declared.record.Record.TheVariants as records
@@ -17,8 +13,9 @@ use Rattle.rq_model.specs.declared.refusal.Refusal.{Refusal}
 use Rattle.rq_model.specs.declared.refusal.Refusal.TheVariants as why
 use Rattle.rq_level.specs.Ops.Doing.{Send, Receive, Close}
 use Rattle.rq_level.specs.Given.{given_at}
-use Rattle.rq_level.specs.ChainPlans.{unless_given, link_wanted, behind, behind_head, head_wanted, send_wants, receive_wants, wanted, before, before_tail, tail_wanted, unlink_tail_wants, put_back_wants, undo_wanted, Plans, PlansFor, Undoes, RefusesUnread, RefusesTaking, RefusesOther, CanSend, CanReceive, CanMark, CanUnlinkTail, CanPutBack, chain_undoes}
-use Rattle.rq_model.specs.Deeds.{deed_in}
+use Rattle.rq_level.specs.ChainPlans.{unless_given, Link, along, asking, to_head, to_next, to_prev, to_tail, wanted, undo_wanted, Plans, PlansFor, Undoes, RefusesUnread, RefusesTaking, RefusesOther, CanSend, CanReceive, CanMark, CanUnlinkTail, CanPutBack, chain_undoes}
+use Rattle.rq_model.specs.Deeds.{deed_by, deed_in}
+use Rattle.rq_model.specs.Vocabulary.{is_some}
 use Rattle.rq_model.specs.declared.record.Deed.{Deed}
 use Rattle.rq_model.specs.declared.record.Deed.TheVariants.{Append, UnlinkHead, Close as Close_deed}
 use Rattle.rq_level.specs.Meaning.{Redo, IsAppliedOnce, meaning_of, page_meaning, chain_meaning, no_meaning}
@@ -35,62 +32,30 @@ unless : (given : List Given) (a : ℕ) (o : Option (List ℕ)) → given_at a g
 unless given a None e = e
 unless given a (Some bytes) e = tt
 
-link : (given : List Given) (a : ℕ) → IsNotGiven given (link_wanted a given)
-link given a = elim (cases_Bool (nat_eq a 0)) [ inl y ↦ rw y tt | inr n ↦ rw n (unless given a (given_at a given) refl) ]
+asks_next : (given : List Given) (a : ℕ) (link : Link) (next : ℕ → List Given → Option ℕ) → ((b : ℕ) → IsNotGiven given (next b given)) → (o : Option (List ℕ)) → given_at a given ≡ o
+    → IsNotGiven given (asking a (λ bytes l. cond (nat_eq (link bytes) 0) None (next (link bytes) l)) o given)
+asks_next given a link next h None e = e
+asks_next given a link next h (Some bytes) e = elim (cases_Bool (nat_eq (link bytes) 0)) [ inl y ↦ rw y tt | inr n ↦ rw n (h (link bytes)) ]
 
-next : (given : List Given) (c : CellSlot) → IsNotGiven given (behind c given)
-next given cells.Free = tt
-next given (cells.Used c) = link given c.next
-
-after_head : (given : List Given) (a : ℕ) (o : Option (List ℕ)) → given_at a given ≡ o → IsNotGiven given (behind_head a o given)
-after_head given a None e = e
-after_head given a (Some bytes) e = next given (cell_slot_in bytes)
-
-head : (given : List Given) (a : ℕ) → IsNotGiven given (head_wanted a given)
-head given a = elim (cases_Bool (nat_eq a 0)) [ inl y ↦ rw y tt | inr n ↦ rw n (after_head given a (given_at a given) refl) ]
-
-send : (given : List Given) (s : ℕ) (o : Option (List ℕ)) → given_at (directory_at s) given ≡ o → IsNotGiven given (send_wants s o given)
-send given s None e = e
-send given s (Some bytes) e = link given (directory_in bytes).directory.tail
-
-receive : (given : List Given) (s : ℕ) (o : Option (List ℕ)) → given_at (directory_at s) given ≡ o → IsNotGiven given (receive_wants s o given)
-receive given s None e = e
-receive given s (Some bytes) e = head given (directory_in bytes).directory.head
+asks_along : (given : List Given) (links : List Link) (a : ℕ) → IsNotGiven given (along links a given)
+asks_along given [] a = unless given a (given_at a given) refl
+asks_along given (link ∷ links) a = asks_next given a link (along links) (asks_along given links) (given_at a given) refl
 
 asks_chain : (given : List Given) (d : Option Doing) → IsNotGiven given (wanted d given)
 asks_chain given None = tt
-asks_chain given (Some (Send s tag body)) = send given s (given_at (directory_at s) given) refl
-asks_chain given (Some (Receive s)) = receive given s (given_at (directory_at s) given) refl
-asks_chain given (Some (Close s)) = unless given (directory_at s) (given_at (directory_at s) given) refl
-
-before_is : (given : List Given) (c : CellSlot) → IsNotGiven given (before c given)
-before_is given cells.Free = tt
-before_is given (cells.Used c) = link given c.prev
-
-after_tail : (given : List Given) (a : ℕ) (o : Option (List ℕ)) → given_at a given ≡ o → IsNotGiven given (before_tail a o given)
-after_tail given a None e = e
-after_tail given a (Some bytes) e = before_is given (cell_slot_in bytes)
-
-tail : (given : List Given) (a : ℕ) → IsNotGiven given (tail_wanted a given)
-tail given a = elim (cases_Bool (nat_eq a 0)) [ inl y ↦ rw y tt | inr n ↦ rw n (after_tail given a (given_at a given) refl) ]
-
-unlinks : (given : List Given) (s : ℕ) (o : Option (List ℕ)) → given_at (directory_at s) given ≡ o → IsNotGiven given (unlink_tail_wants s o given)
-unlinks given s None e = e
-unlinks given s (Some bytes) e = tail given (directory_in bytes).directory.tail
-
-returns : (given : List Given) (s : ℕ) (o : Option (List ℕ)) → given_at (directory_at s) given ≡ o → IsNotGiven given (put_back_wants s o given)
-returns given s None e = e
-returns given s (Some bytes) e = link given (directory_in bytes).directory.head
+asks_chain given (Some (Send s tag body)) = asks_along given (to_tail ∷ []) (directory_at s)
+asks_chain given (Some (Receive s)) = asks_along given (to_head ∷ to_next ∷ []) (directory_at s)
+asks_chain given (Some (Close s)) = asks_along given [] (directory_at s)
 
 asks_undo : (given : List Given) (d : Option Deed) → IsNotGiven given (undo_wanted d given)
 asks_undo given None = tt
-asks_undo given (Some (Append s n tag previous body)) = unlinks given s (given_at (directory_at s) given) refl
-asks_undo given (Some (UnlinkHead s n tag body)) = returns given s (given_at (directory_at s) given) refl
-asks_undo given (Some (Close_deed s)) = unless given (directory_at s) (given_at (directory_at s) given) refl
+asks_undo given (Some (Append s n tag previous body)) = asks_along given (to_tail ∷ to_prev ∷ []) (directory_at s)
+asks_undo given (Some (UnlinkHead s n tag body)) = asks_along given (to_head ∷ []) (directory_at s)
+asks_undo given (Some (Close_deed s)) = asks_along given [] (directory_at s)
 
-asks_job : (given : List Given) (undo : Bool) (bytes : List ℕ) → IsNotGiven given (cond undo (undo_wanted (deed_in bytes) given) (wanted (doing_in bytes) given))
-asks_job given true bytes = asks_undo given (deed_in bytes)
-asks_job given false bytes = asks_chain given (doing_in bytes)
+asks_job : (given : List Given) (undo : Bool) (e : Option Deed) (d : Option Doing) → IsNotGiven given (cond undo (undo_wanted e given) (wanted d given))
+asks_job given true e d = asks_undo given e
+asks_job given false e d = asks_chain given d
 
 asks_page : (given : List Given) (undo : Bool) (w : Option Overwrite) → IsNotGiven given (cond undo None (write_wants w given))
 asks_page given true w = tt
@@ -122,6 +87,19 @@ in_room (Some z) k a x = elim (cases_Bool (is_cell_address z a)) [ inl b ↦ rw 
 
 keeps_room : (k : LevelState) (a : ℕ) (x : List ℕ) → KeepsRoom (noted k a x) k
 keeps_room k a x = elim (cases_Bool (nat_eq a 1)) [ inl b ↦ rw b (refl, refl) | inr n ↦ rw n (in_room k.sizes k a x) ]
+
+stays_ready : (k : LevelState) (z : Sizes) (a : ℕ) (x : List ℕ) → a ≢ 1 → KnowsStore z k → KnowsStore z (noted k a x)
+stays_ready k z a x ne h = record {
+  sizes = (alone k z a (suc (place_of z a)) x h.sizes ne (λ cell e. omega (arith, e))).0 ∙ h.sizes;
+  free = (let n = h.free in let same = (keeps_room k a x).0 in omega (arith, n, same));
+  reserved = (let n = h.reserved in let same = (keeps_room k a x).1 in omega (arith, n, same));
+}
+
+there_is : {X : Type 0} (n : ℕ) (o : Option X) → is_some (cond (nat_eq n 1) o None) ≡ true → n < 2
+there_is n o some = let one = chains.of_chains n o some in omega (arith, one)
+
+no_sizes : (k : LevelState) (z y : Sizes) → k.sizes ≡ None → k.sizes ≡ Some y → y ≡ z
+no_sizes k z y none some = absurd (let no : None ≡ Some y = sym none ∙ some in cc)
 
 -- refusals
 may_damage : (k : LevelState) (r : Refusal) (after : LevelState) → RefusesUnread k (Err r) after → MayHaveNoPlan r × (after ≡ k)
@@ -162,7 +140,7 @@ refuses_back None None k given latched r after h = may_damage k r after h
 
 refuses_record : (k : LevelState) (told : Record) (given : List Given) (latched : List ℕ) (r : Refusal) (after : LevelState)
     → chain_undoes k told given latched (Err r) after → MayHaveNoPlan r × (after ≡ k)
-refuses_record k (records.OpEnd t n level deed) given latched r after h = refuses_back k.sizes (deed_in deed) k given latched r after h
+refuses_record k (records.OpEnd t n level deed) given latched r after h = refuses_back k.sizes (deed_by level deed) k given latched r after h
 refuses_record k _ given latched r after h = may_damage k r after h
 
 may_write : (given : List Given) (w : Overwrite) (r : Refusal) → CannotOverwrite given w r → MayHaveNoPlan r
@@ -196,9 +174,9 @@ writes_for false k w given r after h = refuses_write k w given r after h
 
 pages_lawful : IsLawful 0 page_meaning
 pages_lawful = record {
-  refuses = λ k job given latched r after h. writes_for job.undo k (overwrite_in job.bytes) given r after h;
+  refuses = λ k job given latched r after h. writes_for job.undo k (overwrite_by job.level job.bytes) given r after h;
   refuses_undo = refuses_page;
-  count = λ k job given latched p after h. few_written job.undo k (overwrite_in job.bytes) given p after h;
+  count = λ k job given latched p after h. few_written job.undo k (overwrite_by job.level job.bytes) given p after h;
   count_undo = few_taken_back;
   before = λ k job given latched p after h slots noted_so. pages.over k given latched p after job h;
   before_undo = λ k told given latched p after h slots noted_so. pages.over_back k given latched p after told h;
@@ -212,8 +190,8 @@ pages_lawful = record {
   takes_undo = λ k told given latched p after h. pages.back_takes k given latched p after told h;
   slots = λ k job given latched p after h read. absurd (false≢true read);
   slots_undo = λ k told given latched p after h. pages.back_slots k given latched p after told h;
-  asks = λ job given. asks_page given job.undo (overwrite_in job.bytes);
-  few = λ job given h. gathered.few_written_over job.undo (overwrite_in job.bytes) given h;
+  asks = λ job given. asks_page given job.undo (overwrite_by job.level job.bytes);
+  few = λ job given h. gathered.few_written_over job.undo (overwrite_by job.level job.bytes) given h;
   told = λ k job given latched p after h. inr (pages.tells_none k given latched p after job h);
   silent = λ k told given latched p after h. (silent_taken_back k told given latched p after h).0;
   replies = λ k job given latched p after h d told. cc told;
@@ -225,13 +203,19 @@ pages_lawful = record {
   commutes = λ k a b x y m n o. refl;
   alone = λ k z a i x e n o. (refl, refl, refl);
   room = λ k a x. (refl, refl);
+  no_others = no_sizes;
+  stays = λ k z a x ne h. h;
+  reads = λ bytes some. there_is 0 (deed_in bytes) some;
+  asked = λ bytes some. there_is 0 (doing_in bytes) some;
+  own = λ k job given latched p after h. pages.plan_own k given latched p after job h;
+  own_back = λ k told given latched p after h. pages.back_read k given latched p after told h;
 }
 
 chains_lawful : IsLawful 1 chain_meaning
 chains_lawful = record {
-  refuses = λ k job given latched r after h. plans_for job.undo k.sizes (doing_in job.bytes) k given latched r after h;
+  refuses = λ k job given latched r after h. plans_for job.undo k.sizes (doing_by job.level job.bytes) k given latched r after h;
   refuses_undo = refuses_record;
-  count = λ k job given latched p after h. few_planned job.undo k.sizes (doing_in job.bytes) k given latched p after h;
+  count = λ k job given latched p after h. few_planned job.undo k.sizes (doing_by job.level job.bytes) k given latched p after h;
   count_undo = few_undone;
   before = chains.over_plan;
   before_undo = chains.over_back;
@@ -245,19 +229,25 @@ chains_lawful = record {
   takes_undo = chains.back_takes;
   slots = λ k job given latched p after h read. chains.plan_slots k job given latched p after h;
   slots_undo = chains.back_slots;
-  asks = λ job given. asks_job given job.undo job.bytes;
-  few = λ job given h. gathered.few_asked job.undo job.bytes given h;
-  told = λ k job given latched p after h. chains.plan_told job.undo k.sizes (doing_in job.bytes) k given latched p after h;
+  asks = λ job given. asks_job given job.undo (deed_by job.level job.bytes) (doing_by job.level job.bytes);
+  few = λ job given h. gathered.few_asked job.undo (deed_by job.level job.bytes) (doing_by job.level job.bytes) given h;
+  told = λ k job given latched p after h. chains.plan_told job.undo k.sizes (doing_by job.level job.bytes) k given latched p after h;
   silent = λ k told given latched p after h. (silent_undone k told given latched p after h).0;
-  replies = λ k job given latched p after h. chains.plan_replies job.undo k.sizes (doing_in job.bytes) k given latched p after h;
+  replies = λ k job given latched p after h. chains.plan_replies job.undo k.sizes (doing_by job.level job.bytes) k given latched p after h;
   replies_undo = λ k told given latched p after h. (silent_undone k told given latched p after h).1;
-  inverse = λ z d v q k job given latched p after h sizes. back.taken_back job.undo z (doing_in job.bytes) k given latched p after d v q sizes h;
-  chooses = λ k job given latched p after h. chains.plan_chooses job.undo k (doing_in job.bytes) given latched p after h;
+  inverse = λ z d v q k job given latched p after h sizes. back.taken_back job.undo z (doing_by job.level job.bytes) k given latched p after d v q sizes h;
+  chooses = λ k job given latched p after h. chains.plan_chooses job.undo k (doing_by job.level job.bytes) given latched p after h;
   chooses_undo = chains.back_chooses;
   last = twice;
   commutes = any_order;
   alone = alone;
   room = keeps_room;
+  no_others = λ k z y h told. (let is : Some y ≡ Some z = sym told ∙ h.sizes in cc);
+  stays = stays_ready;
+  reads = λ bytes some. there_is 1 (deed_in bytes) some;
+  asked = λ bytes some. there_is 1 (doing_in bytes) some;
+  own = chains.plan_own;
+  own_back = chains.back_read;
 }
 
 none_lawful : (n : ℕ) → IsLawful n no_meaning
@@ -291,6 +281,12 @@ none_lawful n = record {
   commutes = λ k a b x y m n o. refl;
   alone = λ k z a i x e n o. (refl, refl, refl);
   room = λ k a x. (refl, refl);
+  no_others = no_sizes;
+  stays = λ k z a x ne h. h;
+  reads = λ bytes some. there_is n (deed_in bytes) some;
+  asked = λ bytes some. there_is n (doing_in bytes) some;
+  own = λ k job given latched p after h. absurd h;
+  own_back = λ k told given latched p after h. absurd h;
 }
 
 pub all_lawful : AllLawful

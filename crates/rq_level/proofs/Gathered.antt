@@ -4,7 +4,6 @@ use Rattle.std.proofs.lemmas.Bool.{eq-eqb}
 use Rattle.std.proofs.lemmas.List.{append_assoc}
 use Rattle.rq_model.specs.declared.record.Deed.{Deed}
 use Rattle.rq_model.specs.declared.record.Deed.TheVariants.{Append, UnlinkHead, Close as Close_deed}
-use Rattle.rq_model.specs.Deeds.{deed_in}
 use Rattle.rq_model.specs.Vocabulary.{In}
 use Rattle.rq_page.specs.declared.cell.Cell.{Cell}
 use Rattle.rq_page.specs.declared.cell.CellSlot.{CellSlot}
@@ -20,10 +19,9 @@ use Rattle.rq_page.specs.Sizes.{Sizes, directory_at, sender_count}
 use Rattle.rq_page.specs.Slots.{Slot, Free, Used, Sender, Client, held_for, held_in, of_cell_slot, of_directory_slot}
 use Rattle.rq_page.proofs.Addresses.{kind_directory, senders_have_slots}
 use Rattle.rq_level.specs.Asked.{AreWanted}
-use Rattle.rq_level.specs.ChainPlans as chain
-use Rattle.rq_level.specs.ChainPlans.{Beside, Plans, Undoes, IsSent, IsReceived, IsTailUnlinked, IsReturned, link_wanted, unless_given, behind, behind_head, head_wanted, before_tail, tail_wanted, send_wants, receive_wants, unlink_tail_wants, put_back_wants, undo_wanted, wanted}
+use Rattle.rq_level.specs.ChainPlans.{Beside, Plans, Undoes, IsSent, IsReceived, IsTailUnlinked, IsReturned, unless_given, Link, along, along_from, asking, link_of, to_head, to_next, to_prev, to_tail, undo_wanted, wanted}
 use Rattle.rq_level.specs.Given.{GivenHolds, given_at}
-use Rattle.rq_level.specs.Ops.{Doing, Overwrite, doing_in}
+use Rattle.rq_level.specs.Ops.{Doing, Overwrite}
 use Rattle.rq_level.specs.Ops.Doing.{Send, Receive, Close}
 use Rattle.rq_level.specs.PagePlans.{write_wants}
 use Rattle.rq_level.specs.declared.slots.Given.{Given}
@@ -38,10 +36,6 @@ abbrev pub Want : Type 0
 Want = List Given → Option ℕ
 
 -- this slot, and with its bytes what is wanted next
-abbrev asking : ℕ → (List ℕ → Want) → Option (List ℕ) → Want
-asking a next None given = Some a
-asking a next (Some bytes) given = next bytes given
-
 abbrev first : ℕ → (List ℕ → Want) → Want
 first a next given = asking a next (given_at a given) given
 
@@ -102,18 +96,15 @@ one_more n a next h = split a next (λ front rest. length rest ≤ suc n)
 fewer : (n m : ℕ) (w : Want) → n ≤ m → HasFew n w → HasFew m w
 fewer n m w le h front rest a = let few = h front rest a in omega (arith, few, le)
 
--- by what was given of a slot
-by_slot : (a : ℕ) (next : List ℕ → Want) (w : Option (List ℕ) → Want) → ((l : List Given) → w None l ≡ Some a) → ((bytes : List ℕ) (l : List Given) → w (Some bytes) l ≡ next bytes l) → first a next ≡ (λ l. w (given_at a l) l)
-by_slot a next w none some = same_want (first a next) (λ l. w (given_at a l) l) (λ l. same (given_at a l) l) where
-  same : (o : Option (List ℕ)) (l : List Given) → asking a next o l ≡ w o l
-  same None l = sym (none l)
-  same (Some bytes) l = sym (some bytes l)
-
-few_by_slot : (n : ℕ) (a : ℕ) (next : List ℕ → Want) (w : Option (List ℕ) → Want) → ((l : List Given) → w None l ≡ Some a) → ((bytes : List ℕ) (l : List Given) → w (Some bytes) l ≡ next bytes l) → ((bytes : List ℕ) → HasFew n (next bytes)) → HasFew (suc n) (λ l. w (given_at a l) l)
-few_by_slot n a next w none some h = subst (HasFew (suc n)) (by_slot a next w none some) (one_more n a next h)
+-- a slot alone
+alone : (a : ℕ) → first a (λ bytes l. None) ≡ (λ l. unless_given a (given_at a l))
+alone a = same_want (first a (λ bytes l. None)) (λ l. unless_given a (given_at a l)) (λ l. same (given_at a l) l) where
+  same : (o : Option (List ℕ)) (l : List Given) → asking a (λ bytes l. None) o l ≡ unless_given a o
+  same None l = refl
+  same (Some bytes) l = refl
 
 few_unless : (a : ℕ) → HasFew 1 (λ l. unless_given a (given_at a l))
-few_unless a = few_by_slot 0 a (λ bytes l. None) (λ o l. unless_given a o) (λ l. refl) (λ bytes l. refl) (λ bytes. none_few)
+few_unless a = subst (HasFew 1) (alone a) (one_more 0 a (λ bytes l. None) (λ bytes. none_few))
 
 few_from : (n : ℕ) (a : ℕ) (w : Want) → HasFew n w → HasFew n (λ l. cond (nat_eq a 0) None (w l))
 few_from n a w h = by (nat_eq a 0) where
@@ -121,38 +112,25 @@ few_from n a w h = by (nat_eq a 0) where
   by true = fewer 0 n (λ l. None) (omega arith) none_few
   by false = h
 
-few_link : (a : ℕ) → HasFew 1 (link_wanted a)
-few_link a = few_from 1 a (λ l. unless_given a (given_at a l)) (few_unless a)
-
-few_behind : (c : CellSlot) → HasFew 1 (behind c)
-few_behind cells.Free = fewer 0 1 (λ l. None) (omega arith) none_few
-few_behind (cells.Used c) = few_link c.next
-
-few_before : (c : CellSlot) → HasFew 1 (chain.before c)
-few_before cells.Free = fewer 0 1 (λ l. None) (omega arith) none_few
-few_before (cells.Used c) = few_link c.prev
-
-few_head : (a : ℕ) → HasFew 2 (head_wanted a)
-few_head a = few_from 2 a (λ l. behind_head a (given_at a l) l) (few_by_slot 1 a (λ bytes. behind (cell_slot_in bytes)) (behind_head a) (λ l. refl) (λ bytes l. refl) (λ bytes. few_behind (cell_slot_in bytes)))
-
-few_tail : (a : ℕ) → HasFew 2 (tail_wanted a)
-few_tail a = few_from 2 a (λ l. before_tail a (given_at a l) l) (few_by_slot 1 a (λ bytes. chain.before (cell_slot_in bytes)) (before_tail a) (λ l. refl) (λ bytes l. refl) (λ bytes. few_before (cell_slot_in bytes)))
+few_along : (links : List Link) (a : ℕ) → HasFew (suc (length links)) (along links a)
+few_along [] a = few_unless a
+few_along (link ∷ links) a = one_more (suc (length links)) a (λ bytes. along_from links (link bytes)) (λ bytes. few_from (suc (length links)) (link bytes) (along links (link bytes)) (few_along links (link bytes)))
 
 few_wanted : (d : Option Doing) → HasFew 3 (wanted d)
 few_wanted None = fewer 0 3 (λ l. None) (omega arith) none_few
-few_wanted (Some (Send s tag body)) = fewer 2 3 _ (omega arith) (few_by_slot 1 (directory_at s) (λ bytes. link_wanted (directory_in bytes).directory.tail) (send_wants s) (λ l. refl) (λ bytes l. refl) (λ bytes. few_link (directory_in bytes).directory.tail))
-few_wanted (Some (Receive s)) = few_by_slot 2 (directory_at s) (λ bytes. head_wanted (directory_in bytes).directory.head) (receive_wants s) (λ l. refl) (λ bytes l. refl) (λ bytes. few_head (directory_in bytes).directory.head)
+few_wanted (Some (Send s tag body)) = fewer 2 3 _ (omega arith) (few_along (to_tail ∷ []) (directory_at s))
+few_wanted (Some (Receive s)) = few_along (to_head ∷ to_next ∷ []) (directory_at s)
 few_wanted (Some (Close s)) = fewer 1 3 _ (omega arith) (few_unless (directory_at s))
 
 few_undo : (d : Option Deed) → HasFew 3 (undo_wanted d)
 few_undo None = fewer 0 3 (λ l. None) (omega arith) none_few
-few_undo (Some (Append s n tag previous body)) = few_by_slot 2 (directory_at s) (λ bytes. tail_wanted (directory_in bytes).directory.tail) (unlink_tail_wants s) (λ l. refl) (λ bytes l. refl) (λ bytes. few_tail (directory_in bytes).directory.tail)
-few_undo (Some (UnlinkHead s n tag body)) = fewer 2 3 _ (omega arith) (few_by_slot 1 (directory_at s) (λ bytes. link_wanted (directory_in bytes).directory.head) (put_back_wants s) (λ l. refl) (λ bytes l. refl) (λ bytes. few_link (directory_in bytes).directory.head))
+few_undo (Some (Append s n tag previous body)) = few_along (to_tail ∷ to_prev ∷ []) (directory_at s)
+few_undo (Some (UnlinkHead s n tag body)) = fewer 2 3 _ (omega arith) (few_along (to_head ∷ []) (directory_at s))
 few_undo (Some (Close_deed s)) = fewer 1 3 _ (omega arith) (few_unless (directory_at s))
 
-pub few_asked : (undo : Bool) (bytes : List ℕ) (given : List Given) → AreWanted (λ l. cond undo (undo_wanted (deed_in bytes) l) (wanted (doing_in bytes) l)) [] given → length given ≤ 3
-few_asked true bytes given h = few_undo (deed_in bytes) [] given h
-few_asked false bytes given h = few_wanted (doing_in bytes) [] given h
+pub few_asked : (undo : Bool) (e : Option Deed) (d : Option Doing) (given : List Given) → AreWanted (λ l. cond undo (undo_wanted e l) (wanted d l)) [] given → length given ≤ 3
+few_asked true e d given h = few_undo e [] given h
+few_asked false e d given h = few_wanted d [] given h
 
 pub few_written_over : (undo : Bool) (w : Option Overwrite) (given : List Given) → AreWanted (λ l. cond undo None (write_wants w l)) [] given → length given ≤ 3
 few_written_over true w given h = fewer 0 3 (λ l. None) (omega arith) none_few [] given h
@@ -202,12 +180,8 @@ module _ (P : ℕ → Type 0) (whole : List Given) where
       ])
       front rest w e
 
-  by_slot_within : (a : ℕ) (next : List ℕ → Want) (w : Option (List ℕ) → Want) → ((l : List Given) → w None l ≡ Some a) → ((bytes : List ℕ) (l : List Given) → w (Some bytes) l ≡ next bytes l) → P a
-      → ((bytes : List ℕ) → given_at a whole ≡ Some bytes → Within (next bytes)) → Within (λ l. w (given_at a l) l)
-  by_slot_within a next w none some p h = subst Within (by_slot a next w none some) (first_within a next p h)
-
   pub unless_within : (a : ℕ) → P a → Within (λ l. unless_given a (given_at a l))
-  unless_within a p = by_slot_within a (λ bytes l. None) (λ o l. unless_given a o) (λ l. refl) (λ bytes l. refl) p (λ bytes e. none_within)
+  unless_within a p = subst Within (alone a) (first_within a (λ bytes l. None) p (λ bytes e. none_within))
 
   from_within : (a : ℕ) (w : Want) → Within w → Within (λ l. cond (nat_eq a 0) None (w l))
   from_within a w h = by (nat_eq a 0) where
@@ -235,59 +209,66 @@ module _ (z : Sizes) (k : LevelState) (given : List Given) (latched : List ℕ) 
     touched : (v : Write) → GivenHolds z given v.at v.before → IsSomething v.before → In v m.all → IsTouched v.at
     touched v h some i = record { held = v.before; holds = h; some = some; written = is_written z k given latched p after m v i }
 
-    link_touched : (a : ℕ) (o : Option Cell) (f : Cell → Cell) (d : Write) (rest : List Write) → m.all ≡ d ∷ relinked a o f rest → Beside z given a o → Touches (link_wanted a)
-    link_touched a None f d rest e b = subst (λ n. Touches (link_wanted n)) (sym b) (none_within IsTouched given)
+    link_touched : (a : ℕ) (o : Option Cell) (f : Cell → Cell) (d : Write) (rest : List Write) → m.all ≡ d ∷ relinked a o f rest → Beside z given a o → Touches (along_from [] a)
+    link_touched a None f d rest e b = subst (λ n. Touches (along_from [] n)) (sym b) (none_within IsTouched given)
     link_touched a (Some c) f d rest e b =
         let w : Write = record { at = a; before = Used c; after = Used (f c) } in
-        from_within IsTouched given a (λ l. unless_given a (given_at a l)) (unless_within IsTouched given a (touched w b tt (subst (λ (ws : List Write). In w ws) (sym e) (inr (inl refl)))))
+        from_within IsTouched given a (along [] a) (unless_within IsTouched given a (touched w b tt (subst (λ (ws : List Write). In w ws) (sym e) (inr (inl refl)))))
 
   -- the last of a plan's writes
   last_in : (d c : Write) (a : ℕ) (o : Option Cell) (f : Cell → Cell) → In c (d ∷ relinked a o f (c ∷ []))
   last_in d c a None f = inr (inl refl)
   last_in d c a (Some x) f = inr (inr (inl refl))
 
-  sent_touched : (s tag : ℕ) (body : List ℕ) (after : LevelState) → IsSent z k given latched s tag body p after → Touches (λ l. send_wants s (given_at (directory_at s) l) l)
+  -- a link of a directory slot that was given, and of a cell
+  directory_leads : (s : ℕ) (d : Directory) (link : Directory → ℕ) (bytes : List ℕ) → s < sender_count z → GivenHolds z given (directory_at s) (Sender s d) → given_at (directory_at s) given ≡ Some bytes → link (directory_in bytes).directory ≡ link d
+  directory_leads s d link bytes below holds e = ap link (directory_read z s d bytes below (holds_at z given (directory_at s) _ bytes e holds))
+
+  cell_leads : (a : ℕ) (c : Cell) (link : Cell → ℕ) (bytes : List ℕ) → GivenHolds z given a (Used c) → given_at a given ≡ Some bytes → link_of link (cell_slot_in bytes) ≡ link c
+  cell_leads a c link bytes holds e = ap (link_of link) (read_for (kind_of z (a / 16)) c bytes (holds_at z given a _ bytes e holds))
+
+  sent_touched : (s tag : ℕ) (body : List ℕ) (after : LevelState) → IsSent z k given latched s tag body p after → Touches (along (to_tail ∷ []) (directory_at s))
   sent_touched s tag body after h =
       let m = done z (Some (Send s tag body)) k given latched p after h in
       let d = h.can.directory in
-      by_slot_within IsTouched given (directory_at s) (λ bytes. link_wanted (directory_in bytes).directory.tail) (send_wants s) (λ l. refl) (λ bytes l. refl)
+      first_within IsTouched given (directory_at s) (λ bytes. along_from [] (to_tail bytes))
       (touched after m _ h.can.directory_is tt (inl refl))
-      (λ bytes e. subst (λ n. Touches (link_wanted n)) (sym (ap (λ (x : Directory). x.tail) (directory_read z s d bytes h.can.below (holds_at z given (directory_at s) _ bytes e h.can.directory_is))))
+      (λ bytes e. subst (λ n. Touches (along_from [] n)) (sym (directory_leads s d (λ x. x.tail) bytes h.can.below h.can.directory_is e))
       (link_touched after m d.tail h.can.old _ _ _ refl h.can.beside))
 
-  received_touched : (s : ℕ) (after : LevelState) → IsReceived z k given s p after → Touches (λ l. receive_wants s (given_at (directory_at s) l) l)
+  received_touched : (s : ℕ) (after : LevelState) → IsReceived z k given s p after → Touches (along (to_head ∷ to_next ∷ []) (directory_at s))
   received_touched s after h =
       let m = done z (Some (Receive s)) k given latched p after h in
       let d = h.can.directory in
-      by_slot_within IsTouched given (directory_at s) (λ bytes. head_wanted (directory_in bytes).directory.head) (receive_wants s) (λ l. refl) (λ bytes l. refl)
+      first_within IsTouched given (directory_at s) (λ bytes. along_from (to_next ∷ []) (to_head bytes))
       (touched after m _ h.can.directory_is tt (inl refl))
-      (λ bytes e. subst (λ n. Touches (head_wanted n)) (sym (ap (λ (x : Directory). x.head) (directory_read z s d bytes h.can.below (holds_at z given (directory_at s) _ bytes e h.can.directory_is))))
-      (from_within IsTouched given d.head (λ l. behind_head d.head (given_at d.head l) l)
-      (by_slot_within IsTouched given d.head (λ bytes. behind (cell_slot_in bytes)) (behind_head d.head) (λ l. refl) (λ bytes l. refl)
+      (λ bytes e. subst (λ n. Touches (along_from (to_next ∷ []) n)) (sym (directory_leads s d (λ x. x.head) bytes h.can.below h.can.directory_is e))
+      (from_within IsTouched given d.head (along (to_next ∷ []) d.head)
+      (first_within IsTouched given d.head (λ bytes. along_from [] (to_next bytes))
       (touched after m _ h.can.head_is tt (last_in _ _ h.can.cell.next h.can.next _))
-      (λ bytes e. subst (λ x. Touches (behind x)) (sym (read_for (kind_of z (d.head / 16)) h.can.cell bytes (holds_at z given d.head _ bytes e h.can.head_is)))
+      (λ bytes e. subst (λ n. Touches (along_from [] n)) (sym (cell_leads d.head h.can.cell (λ c. c.next) bytes h.can.head_is e))
       (link_touched after m h.can.cell.next h.can.next _ _ _ refl h.can.beside)))))
 
-  unsent_touched : (s n tag previous : ℕ) (body : List ℕ) (after : LevelState) → IsTailUnlinked z k given s n previous p after → Touches (λ l. unlink_tail_wants s (given_at (directory_at s) l) l)
+  unsent_touched : (s n tag previous : ℕ) (body : List ℕ) (after : LevelState) → IsTailUnlinked z k given s n previous p after → Touches (along (to_tail ∷ to_prev ∷ []) (directory_at s))
   unsent_touched s n tag previous body after h =
       let m = undone z (Some (Append s n tag previous body)) k given latched p after h in
       let d = h.can.directory in
-      by_slot_within IsTouched given (directory_at s) (λ bytes. tail_wanted (directory_in bytes).directory.tail) (unlink_tail_wants s) (λ l. refl) (λ bytes l. refl)
+      first_within IsTouched given (directory_at s) (λ bytes. along_from (to_prev ∷ []) (to_tail bytes))
       (touched after m _ h.can.directory_is tt (inl refl))
-      (λ bytes e. subst (λ n. Touches (tail_wanted n)) (sym (ap (λ (x : Directory). x.tail) (directory_read z s d bytes h.can.below (holds_at z given (directory_at s) _ bytes e h.can.directory_is))))
-      (from_within IsTouched given d.tail (λ l. before_tail d.tail (given_at d.tail l) l)
-      (by_slot_within IsTouched given d.tail (λ bytes. chain.before (cell_slot_in bytes)) (before_tail d.tail) (λ l. refl) (λ bytes l. refl)
+      (λ bytes e. subst (λ n. Touches (along_from (to_prev ∷ []) n)) (sym (directory_leads s d (λ x. x.tail) bytes h.can.below h.can.directory_is e))
+      (from_within IsTouched given d.tail (along (to_prev ∷ []) d.tail)
+      (first_within IsTouched given d.tail (λ bytes. along_from [] (to_prev bytes))
       (touched after m _ h.can.tail_is tt (last_in _ _ h.can.cell.prev h.can.front _))
-      (λ bytes e. subst (λ x. Touches (chain.before x)) (sym (read_for (kind_of z (d.tail / 16)) h.can.cell bytes (holds_at z given d.tail _ bytes e h.can.tail_is)))
+      (λ bytes e. subst (λ n. Touches (along_from [] n)) (sym (cell_leads d.tail h.can.cell (λ c. c.prev) bytes h.can.tail_is e))
       (link_touched after m h.can.cell.prev h.can.front _ _ _ refl h.can.beside)))))
 
-  returned_touched : (s n tag : ℕ) (body : List ℕ) (after : LevelState) → IsReturned z k given latched s n tag body p after → Touches (λ l. put_back_wants s (given_at (directory_at s) l) l)
+  returned_touched : (s n tag : ℕ) (body : List ℕ) (after : LevelState) → IsReturned z k given latched s n tag body p after → Touches (along (to_head ∷ []) (directory_at s))
   returned_touched s n tag body after h =
       let m = undone z (Some (UnlinkHead s n tag body)) k given latched p after h in
       let d = h.can.directory in
-      by_slot_within IsTouched given (directory_at s) (λ bytes. link_wanted (directory_in bytes).directory.head) (put_back_wants s) (λ l. refl) (λ bytes l. refl)
+      first_within IsTouched given (directory_at s) (λ bytes. along_from [] (to_head bytes))
       (touched after m _ h.can.directory_is tt (inl refl))
-      (λ bytes e. subst (λ n. Touches (link_wanted n)) (sym (ap (λ (x : Directory). x.head) (directory_read z s d bytes h.can.below (holds_at z given (directory_at s) _ bytes e h.can.directory_is))))
+      (λ bytes e. subst (λ n. Touches (along_from [] n)) (sym (directory_leads s d (λ x. x.head) bytes h.can.below h.can.directory_is e))
       (link_touched after m d.head h.can.old _ _ _ refl h.can.beside))
 
   pub done_touched : (d : Option Doing) (after : LevelState) → Plans (Some z) d k given latched (Ok p) after → Touches (wanted d)

@@ -1,14 +1,15 @@
 -- What the level of single slots keeps to.
-use Rattle.std.proofs.Common.{◌≡◌, cond, ℕ, ◌+◌, ◌*◌, List, [], ◌∷◌, Bool, true, false, Option, None, Some, Ok, map, All, refl, sym, ap, ◌∙◌, subst, inl}
+use Rattle.std.proofs.Common.{◌≡◌, cond, nat_eq, ℕ, ◌+◌, ◌*◌, List, [], ◌∷◌, Bool, true, false, Option, None, Some, Ok, map, All, refl, sym, ap, ◌∙◌, subst, inl, inr}
+use Rattle.std.proofs.lemmas.Bool.{cases_Bool, eqb-true}
 use Rattle.std.proofs.lemmas.List.Elements.{All-cons, All-nil, recursion_from_All}
 use Rattle.rq_model.specs.declared.record.Record.{Record}
 use Rattle.rq_model.specs.declared.record.Record.TheVariants as records
 use Rattle.rq_model.specs.Vocabulary.{In}
-use Rattle.rq_level.specs.Asked.{AreWanted, IsGathered, job_back, AreOver, IsOver, AreBackOver, AreWritten, AreAsGiven, AreOverSlots, StandsYet, Chooses, ChoosesBack, AreBackOfSlots}
+use Rattle.rq_level.specs.Asked.{AreWanted, IsGathered, job_back, TellsDeedOf, AreOver, IsOver, AreBackOver, AreWritten, AreAsGiven, AreOverSlots, StandsYet, Chooses, ChoosesBack, AreBackOfSlots}
 use Rattle.rq_level.specs.Given.{given_at}
 use Rattle.rq_level.specs.LevelState.{LevelState}
 use Rattle.rq_level.specs.Meaning.{page_meaning}
-use Rattle.rq_level.specs.Ops.{Job, Overwrite, overwrite_in}
+use Rattle.rq_level.specs.Ops.{Job, Overwrite, overwrite_by, overwrite_in}
 use Rattle.rq_level.specs.PagePlans.{IsOneWrite, IsOverwritten, TakesBack, WritesFor, is_slot_number, page_plans, page_undoes, write_wants}
 use Rattle.rq_level.specs.declared.slots.Given.{Given}
 use Rattle.rq_level.specs.Writes.{replied, reply_of}
@@ -37,7 +38,7 @@ written false k (Some w) given p after h = (w, refl, refl, h.0, h.1)
 module _ (k : LevelState) (given : List Given) (latched : List ℕ) (p : Plan) (after : LevelState) where
   pub over : (job : Job) → page_plans k job given latched (Ok p) after → AreOver k given latched p.writes.items
   over job h =
-      let m = written job.undo k (overwrite_in job.bytes) given p after h in
+      let m = written job.undo k (overwrite_by job.level job.bytes) given p after h in
       of_one (λ v. IsOver k latched v (given_at v.at given)) m.0.at m.3.before m.0.after p.writes.items
       (λ v at is. subst (IsOver k latched v) (sym (ap (λ n. given_at n given) at ∙ m.3.given_is)) is) m.3.plan.write
 
@@ -51,7 +52,7 @@ module _ (k : LevelState) (given : List Given) (latched : List ℕ) (p : Plan) (
 
   pub plan_holds : (q : ℕ → List ℕ) (job : Job) → page_plans k job given latched (Ok p) after → AreAsGiven q given → AreOverSlots q p.writes.items
   plan_holds q job h as_is =
-      let m = written job.undo k (overwrite_in job.bytes) given p after h in
+      let m = written job.undo k (overwrite_by job.level job.bytes) given p after h in
       of_one (λ v. v.before ≡ q v.at) m.0.at m.3.before m.0.after p.writes.items
       (λ v at is. is ∙ was_given (λ a x. x ≡ q a) m.0.at given m.3.before as_is m.3.given_is ∙ ap q (sym at)) m.3.plan.write
 
@@ -69,17 +70,29 @@ module _ (k : LevelState) (given : List Given) (latched : List ℕ) (p : Plan) (
   asked false (Some w) h g = all_in (unless_within (λ n. In n (map (λ (w : SlotWrite). w.at) p.writes.items)) given w.at (one_written w.at h.0.before w.after p.writes.items h.0.plan.write) [] given refl g)
 
   pub plan_writes : (job : Job) → page_plans k job given latched (Ok p) after → IsGathered page_meaning job given → AreWritten given p
-  plan_writes job h g = asked job.undo (overwrite_in job.bytes) h g
+  plan_writes job h g = asked job.undo (overwrite_by job.level job.bytes) h g
 
   pub kept : (job : Job) → page_plans k job given latched (Ok p) after → after ≡ k
-  kept job h = (written job.undo k (overwrite_in job.bytes) given p after h).4
+  kept job h = (written job.undo k (overwrite_by job.level job.bytes) given p after h).4
 
   pub back_kept : (told : Record) → page_undoes k told given latched (Ok p) after → after ≡ k
   back_kept (records.PageOp t n page slot x y) h = (back_one (is_slot_number slot) (page * 16 + slot) x y h).2
   back_kept _ h = absurd h
 
+  pub plan_own : (job : Job) → page_plans k job given latched (Ok p) after → job.level ≡ 0
+  plan_own job h =
+      let m = written job.undo k (overwrite_by job.level job.bytes) given p after h in
+      elim (cases_Bool (nat_eq job.level 0)) [
+        | inl y ↦ eqb-true job.level 0 y
+        | inr n ↦ absurd (let no : None ≡ Some m.0 = sym (ap (λ b. cond b (overwrite_in job.bytes) None) n) ∙ m.1 in cc)
+      ]
+
+  pub back_read : (told : Record) → page_undoes k told given latched (Ok p) after → TellsDeedOf 0 told
+  back_read (records.PageOp t n page slot x y) h = tt
+  back_read _ h = absurd h
+
   pub tells_none : (job : Job) → page_plans k job given latched (Ok p) after → (p.deed ≡ []) × (reply_of 0 p ≡ None)
-  tells_none job h = let m = written job.undo k (overwrite_in job.bytes) given p after h in (m.3.plan.deed, ap (λ r. replied r None) m.3.plan.reply)
+  tells_none job h = let m = written job.undo k (overwrite_by job.level job.bytes) given p after h in (m.3.plan.deed, ap (λ r. replied r None) m.3.plan.reply)
 
   pub back_writes : (told : Record) → page_undoes k told given latched (Ok p) after → IsGathered page_meaning (job_back told) given → AreWritten given p
   back_writes (records.PageOp t n page slot x y) h g = all_in (none_within (λ n. In n (map (λ (w : SlotWrite). w.at) p.writes.items)) given [] given refl g)
@@ -88,7 +101,7 @@ module _ (k : LevelState) (given : List Given) (latched : List ℕ) (p : Plan) (
   -- each slot that is written was given
   pub plan_takes : (job : Job) → page_plans k job given latched (Ok p) after → Chooses k given after p
   plan_takes job h z w sizes i e =
-      let m = written job.undo k (overwrite_in job.bytes) given p after h in
+      let m = written job.undo k (overwrite_by job.level job.bytes) given p after h in
       let is : given_at w.at given ≡ Some m.3.before = each_in (λ v. given_at v.at given ≡ Some m.3.before) p.writes.items (recursion_from_All (λ (v : SlotWrite). given_at v.at given ≡ Some m.3.before) p.writes.items
       (of_one (λ v. given_at v.at given ≡ Some m.3.before) m.0.at m.3.before m.0.after p.writes.items (λ v at x. ap (λ n. given_at n given) at ∙ m.3.given_is) m.3.plan.write)) w i in
       absurd (let no : None ≡ Some m.3.before = sym e ∙ is in cc)

@@ -6,7 +6,7 @@ use Rattle.std.proofs.lemmas.List.{length-map}
 use Rattle.std.proofs.lemmas.List.Elements.{recursion_from_All}
 use Rattle.rq_model.specs.declared.record.Deed.{Deed}
 use Rattle.rq_model.specs.declared.record.Deed.TheVariants.{Append, UnlinkHead, Close as Close_deed}
-use Rattle.rq_model.specs.Deeds.{deed_in}
+use Rattle.rq_model.specs.Deeds.{deed_by}
 use Rattle.rq_page.specs.declared.cell.Cell.{Cell}
 use Rattle.rq_page.specs.Sizes.{Sizes}
 use Rattle.rq_page.specs.Slots.{Free, Used}
@@ -66,7 +66,7 @@ module _ (z : Sizes) (k : LevelState) (given : List Given) (latched : List ℕ) 
   HasPlan d = ShowsAt (layout_of z) q (deed_sender d) v → IsPlan (layout_of z) (Did d) (newest_first z p) × HasBefores (newest_first z p) q × (IsOpenFor d v → TellsView d v)
 
   -- the plan is of its deed, which tells the view
-  of_deed : (o : Option Doing) (d : Deed) → Plans (Some z) o k given latched (Ok p) after → deed_in p.deed ≡ Some d → HasPlan d
+  of_deed : (o : Option Doing) (d : Deed) → Plans (Some z) o k given latched (Ok p) after → deed_by 1 p.deed ≡ Some d → HasPlan d
   of_deed (Some (Send s tag body)) d h told = subst HasPlan (same_deed _ d (sym h.reads ∙ told)) is where
     is : HasPlan (Append s (h.can.directory.sent + 1) tag h.can.directory.last_tag body)
     is shows =
@@ -125,14 +125,14 @@ leaves_at z p q t v is fits shows = (
 )
 
 -- it is taken back to what the others alone led to
-module _ (z : Sizes) (k : LevelState) (given : List Given) (latched : List ℕ) (p : Plan) (after : LevelState) (d : Deed) (v : View) (q : Slots) (told : deed_in p.deed ≡ Some d) (over : AreOverHeld q (newest_first z p)) (shows : ShowsAt (layout_of z) q (deed_sender d) v) where
-  back_to : (u w : View) → with_turn (Undid d) u ≡ w → LeadsBack chain_meaning z (deed_sender d) p.deed u w
-  back_to u w e l t n level back held r kept x sizes h held_over shown =
+module _ (z : Sizes) (k : LevelState) (given : List Given) (latched : List ℕ) (p : Plan) (after : LevelState) (d : Deed) (v : View) (q : Slots) (told : deed_by 1 p.deed ≡ Some d) (over : AreOverHeld q (newest_first z p)) (shows : ShowsAt (layout_of z) q (deed_sender d) v) where
+  back_to : (u w : View) → with_turn (Undid d) u ≡ w → LeadsBack 1 chain_meaning z (deed_sender d) p.deed u w
+  back_to u w e l t n back held r kept x sizes h held_over shown =
       let is : Undoes (Some z) (Some d) l back held (Ok r) kept = subst (λ o. Undoes o (Some d) l back held (Ok r) kept) sizes (subst (λ o. Undoes l.sizes o l back held (Ok r) kept) told h) in
       let m = of_back z l back held r kept x u held_over d is shown in
       (m.1, subst (LeavesAt z r x (deed_sender d)) e (leaves_at z r x (Undid d) u m.0 m.1 shown))
 
-  leaves_others : (o : Option Doing) → Plans (Some z) o k given latched (Ok p) after → LeavesOthers chain_meaning z d v q p
+  leaves_others : (o : Option Doing) → Plans (Some z) o k given latched (Ok p) after → LeavesOthers 1 chain_meaning z d v q p
   leaves_others o h =
       let m = of_deed z k given latched p after q v over o d h told shows in
       record {
@@ -143,7 +143,7 @@ module _ (z : Sizes) (k : LevelState) (given : List Given) (latched : List ℕ) 
       }
 
 pub taken_back : (undo : Bool) (z : Sizes) (o : Option Doing) (k : LevelState) (given : List Given) (latched : List ℕ) (p : Plan) (after : LevelState) (d : Deed) (v : View) (q : Slots) → k.sizes ≡ Some z → PlansFor undo k.sizes o k given latched (Ok p) after
-    → deed_in p.deed ≡ Some d → AreOverHeld q (newest_first z p) → ShowsAt (layout_of z) q (deed_sender d) v → LeavesOthers chain_meaning z d v q p
+    → deed_by 1 p.deed ≡ Some d → AreOverHeld q (newest_first z p) → ShowsAt (layout_of z) q (deed_sender d) v → LeavesOthers 1 chain_meaning z d v q p
 taken_back true z o k given latched p after d v q sizes h told over shows = absurd h
 taken_back false z o k given latched p after d v q sizes h told over shows =
     leaves_others z k given latched p after d v q told over shows o (subst (λ s. Plans s o k given latched (Ok p) after) sizes h)

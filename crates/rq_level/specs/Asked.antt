@@ -2,7 +2,8 @@
 use Rattle.std.specs.Prelude.{◌≡◌, ◌⊎◌, ◌/◌, ◌%◌, ◌+◌, ◌*◌, ℕ, true, List, [], ◌∷◌, ◌++◌, Option, None, Some, map, All}
 use Rattle.rq_model.specs.declared.record.Record.{Record}
 use Rattle.rq_model.specs.declared.record.Record.TheVariants.{OpEnd, PageOp}
-use Rattle.rq_model.specs.Vocabulary.{In}
+use Rattle.rq_model.specs.Deeds.{deed_by}
+use Rattle.rq_model.specs.Vocabulary.{In, is_some}
 use Rattle.rq_page.specs.Cells.{free_bytes}
 use Rattle.rq_page.specs.Sizes.{Sizes, IsCellAddress}
 use Rattle.rq_page.specs.Slots.{IsSlotOf}
@@ -32,6 +33,11 @@ IsGathered m job given = AreWanted (m.want job) [] given
 abbrev pub job_back : Record → Job
 job_back (OpEnd t n level deed) = record { level = level; undo = true; bytes = deed }
 job_back _ = record { level = 0; undo = true; bytes = [] }
+
+-- an end tells a deed of the level of this number
+abbrev pub TellsDeedOf : (level : ℕ) → Record → Type 0
+TellsDeedOf l (OpEnd t n level deed) = (level ≡ l) × (is_some (deed_by l deed) ≡ true)
+TellsDeedOf l _ = Unit {0}
 
 -- what was given was noted so
 abbrev pub AreNoted : Meaning → LevelState → List Given → Type 0
@@ -104,7 +110,9 @@ Chooses k given after p = (z : Sizes) (w : SlotWrite) → k.sizes ≡ Some z →
 
 -- the cell of this write was chosen, over a free one; to note its slot gives it back
 pub record IsChosen (m : Meaning) (k : LevelState) (w : SlotWrite) (after : LevelState) : Type 0 where
-  pub cell : (z : Sizes) → k.sizes ≡ Some z → IsCellAddress z w.at
+  pub sizes : Sizes
+  pub told : k.sizes ≡ Some sizes
+  pub cell : IsCellAddress sizes w.at
   pub free : is_free_slot w.before ≡ true
   pub back : (x : List ℕ) → m.note after w.at x ≡ m.note k w.at x
 

@@ -8,7 +8,7 @@ use Rattle.rq_model.specs.declared.refusal.Damage.{Damage}
 use Rattle.rq_model.specs.declared.refusal.Damage.TheVariants as damage
 use Rattle.rq_model.specs.declared.refusal.Refusal.{Refusal}
 use Rattle.rq_model.specs.declared.refusal.Refusal.TheVariants as why
-use Rattle.rq_model.specs.Deeds.{spelled_deed, deed_in}
+use Rattle.rq_model.specs.Deeds.{spelled_deed, deed_by}
 use Rattle.rq_page.specs.declared.cell.Cell.{Cell}
 use Rattle.rq_page.specs.declared.cell.CellSlot.{CellSlot}
 use Rattle.rq_page.specs.declared.cell.CellSlot.TheVariants as cells
@@ -20,7 +20,7 @@ use Rattle.rq_page.specs.Slots.Slot.{Used, Sender}
 use Rattle.rq_views.specs.Plans.{append_writes, unlink_head_writes, unlink_tail_writes, put_back_writes, directory_write}
 use Rattle.rq_views.specs.Items.{layout_of}
 use Rattle.rq_level.specs.LevelState.{LevelState, IsLowest, NoneToTake, NoneFree, SomeFree, reserved_at}
-use Rattle.rq_level.specs.Ops.{Job, Doing, doing_in}
+use Rattle.rq_level.specs.Ops.{Job, Doing, doing_by}
 use Rattle.rq_level.specs.Ops.Doing.{Send, Receive, Close}
 use Rattle.rq_level.specs.Given.{given_at, GivenHolds}
 use Rattle.rq_level.specs.Writes.{writes_of, AreSlotWrites}
@@ -50,7 +50,7 @@ pub record IsSent (z : Sizes) (k : LevelState) (given : List Given) (latched : L
   pub writes : reverse (writes_of z p.writes.items) ≡ append_writes (layout_of z) s can.directory new tag body can.old
   pub slots : AreSlotWrites z p.writes.items
   pub deed : p.deed ≡ spelled_deed (Append s (can.directory.sent + 1) tag can.directory.last_tag body)
-  pub reads : deed_in p.deed ≡ Some (Append s (can.directory.sent + 1) tag can.directory.last_tag body)
+  pub reads : deed_by 1 p.deed ≡ Some (Append s (can.directory.sent + 1) tag can.directory.last_tag body)
   pub reply : p.reply ≡ replies.Deed
   pub kept : after ≡ reserved_at z k new
 
@@ -72,7 +72,7 @@ pub record IsReceived (z : Sizes) (k : LevelState) (given : List Given) (s : ℕ
   pub writes : reverse (writes_of z p.writes.items) ≡ unlink_head_writes (layout_of z) s can.directory can.cell can.next
   pub slots : AreSlotWrites z p.writes.items
   pub deed : p.deed ≡ spelled_deed (UnlinkHead s (can.directory.received + 1) can.cell.tag can.cell.body)
-  pub reads : deed_in p.deed ≡ Some (UnlinkHead s (can.directory.received + 1) can.cell.tag can.cell.body)
+  pub reads : deed_by 1 p.deed ≡ Some (UnlinkHead s (can.directory.received + 1) can.cell.tag can.cell.body)
   pub reply : p.reply ≡ replies.Deed
   pub kept : after ≡ k
 
@@ -94,7 +94,7 @@ pub record IsMarked (z : Sizes) (given : List Given) (s : ℕ) (closed : Bool) (
 pub record IsClosed (z : Sizes) (k : LevelState) (given : List Given) (s : ℕ) (p : Plan) (after : LevelState) : Type 0 where
   pub marked : IsMarked z given s true p
   pub deed : p.deed ≡ spelled_deed (Close_deed s)
-  pub reads : deed_in p.deed ≡ Some (Close_deed s)
+  pub reads : deed_by 1 p.deed ≡ Some (Close_deed s)
   pub reply : p.reply ≡ replies.Deed
   pub kept : after ≡ k
 
@@ -201,7 +201,7 @@ PlansFor false z doing k given latched answer after = Plans z doing k given latc
 
 abbrev pub chain_plans : LevelState → Job → List Given → List ℕ → Result Plan Refusal → LevelState → Type 0
 chain_plans k job given latched answer after =
-    PlansFor job.undo k.sizes (doing_in job.bytes) k given latched answer after
+    PlansFor job.undo k.sizes (doing_by job.level job.bytes) k given latched answer after
 
 -- the same of the inverse of what a deed tells
 abbrev pub Undoes : Option Sizes → Option Deed → LevelState → List Given → List ℕ → Result Plan Refusal → LevelState → Type 0
@@ -218,72 +218,68 @@ Undoes (Some z) (Some (Close_deed s)) k given latched (Err r) after =
     RefusesOther s (CanMark z given s false) r × (after ≡ k)
 Undoes _ _ k given latched answer after = RefusesUnread k answer after
 
--- a record that ends an operation tells its deed
+-- a record that ends an operation tells the deed of its level
 abbrev pub chain_undoes : LevelState → Record → List Given → List ℕ → Result Plan Refusal → LevelState → Type 0
-chain_undoes k (OpEnd t n level deed) given latched r after = Undoes k.sizes (deed_in deed) k given latched r after
+chain_undoes k (OpEnd t n level deed) given latched r after = Undoes k.sizes (deed_by level deed) k given latched r after
 chain_undoes k _ given latched answer after = RefusesUnread k answer after
 
--- the slot that a link names, where it was not given
+-- ---- which slots it asks for
+
+-- the slot, where it was not given
 abbrev pub unless_given : ℕ → Option (List ℕ) → Option ℕ
 unless_given a None = Some a
 unless_given a (Some bytes) = None
 
-abbrev pub link_wanted : ℕ → List Given → Option ℕ
-link_wanted a given = cond (nat_eq a 0) None (unless_given a (given_at a given))
+-- the slot, and once it was given what is asked for by its bytes
+abbrev pub asking : ℕ → (List ℕ → List Given → Option ℕ) → Option (List ℕ) → List Given → Option ℕ
+asking a next None given = Some a
+asking a next (Some bytes) given = next bytes given
 
--- the next cell's slot, if the head's slot holds a cell
-abbrev pub behind : CellSlot → List Given → Option ℕ
-behind cells.Free given = None
-behind (cells.Used c) given = link_wanted c.next given
+-- Where the bytes of a slot lead: those of a directory slot to an end of its chain, those of a cell to one beside it. 0 is
+-- nowhere.
+abbrev pub Link : Type 0
+Link = List ℕ → ℕ
 
-abbrev pub behind_head : ℕ → Option (List ℕ) → List Given → Option ℕ
-behind_head head None given = Some head
-behind_head head (Some bytes) given = behind (cell_slot_in bytes) given
+abbrev pub to_head : Link
+to_head bytes = (directory_in bytes).directory.head
 
-abbrev pub head_wanted : ℕ → List Given → Option ℕ
-head_wanted head given = cond (nat_eq head 0) None (behind_head head (given_at head given) given)
+abbrev pub to_tail : Link
+to_tail bytes = (directory_in bytes).directory.tail
 
-abbrev pub send_wants : ℕ → Option (List ℕ) → List Given → Option ℕ
-send_wants s None given = Some (directory_at s)
-send_wants s (Some bytes) given = link_wanted (directory_in bytes).directory.tail given
+-- a free cell leads nowhere
+abbrev pub link_of : (Cell → ℕ) → CellSlot → ℕ
+link_of link cells.Free = 0
+link_of link (cells.Used c) = link c
 
-abbrev pub receive_wants : ℕ → Option (List ℕ) → List Given → Option ℕ
-receive_wants s None given = Some (directory_at s)
-receive_wants s (Some bytes) given = head_wanted (directory_in bytes).directory.head given
+abbrev pub to_next : Link
+to_next bytes = link_of (λ c. c.next) (cell_slot_in bytes)
+
+abbrev pub to_prev : Link
+to_prev bytes = link_of (λ c. c.prev) (cell_slot_in bytes)
+
+-- the first that was not given of the slot at an address and of those to which links lead from there, one after the other
+abbrev pub along : List Link → ℕ → List Given → Option ℕ
+along [] a given = unless_given a (given_at a given)
+along (link ∷ links) a given =
+    asking a (λ bytes l. cond (nat_eq (link bytes) 0) None (along links (link bytes) l)) (given_at a given) given
+
+-- where a link leads, and on from there
+abbrev pub along_from : List Link → ℕ → List Given → Option ℕ
+along_from links a given = cond (nat_eq a 0) None (along links a given)
 
 abbrev pub wanted : Option Doing → List Given → Option ℕ
 wanted None given = None
-wanted (Some (Send s tag body)) given = send_wants s (given_at (directory_at s) given) given
-wanted (Some (Receive s)) given = receive_wants s (given_at (directory_at s) given) given
-wanted (Some (Close s)) given = unless_given (directory_at s) (given_at (directory_at s) given)
+wanted (Some (Send s tag body)) given = along (to_tail ∷ []) (directory_at s) given
+wanted (Some (Receive s)) given = along (to_head ∷ to_next ∷ []) (directory_at s) given
+wanted (Some (Close s)) given = along [] (directory_at s) given
 
--- the slot before the tail, if the tail's slot holds a cell
-abbrev pub before : CellSlot → List Given → Option ℕ
-before cells.Free given = None
-before (cells.Used c) given = link_wanted c.prev given
-
-abbrev pub before_tail : ℕ → Option (List ℕ) → List Given → Option ℕ
-before_tail tail None given = Some tail
-before_tail tail (Some bytes) given = before (cell_slot_in bytes) given
-
-abbrev pub tail_wanted : ℕ → List Given → Option ℕ
-tail_wanted tail given = cond (nat_eq tail 0) None (before_tail tail (given_at tail given) given)
-
-abbrev pub unlink_tail_wants : ℕ → Option (List ℕ) → List Given → Option ℕ
-unlink_tail_wants s None given = Some (directory_at s)
-unlink_tail_wants s (Some bytes) given = tail_wanted (directory_in bytes).directory.tail given
-
-abbrev pub put_back_wants : ℕ → Option (List ℕ) → List Given → Option ℕ
-put_back_wants s None given = Some (directory_at s)
-put_back_wants s (Some bytes) given = link_wanted (directory_in bytes).directory.head given
-
--- what the inverse of a deed's operation wants
+-- and for the inverse of what a deed tells
 abbrev pub undo_wanted : Option Deed → List Given → Option ℕ
 undo_wanted None given = None
-undo_wanted (Some (Append s n tag previous body)) given =
-    unlink_tail_wants s (given_at (directory_at s) given) given
-undo_wanted (Some (UnlinkHead s n tag body)) given = put_back_wants s (given_at (directory_at s) given) given
-undo_wanted (Some (Close_deed s)) given = unless_given (directory_at s) (given_at (directory_at s) given)
+undo_wanted (Some (Append s n tag previous body)) given = along (to_tail ∷ to_prev ∷ []) (directory_at s) given
+undo_wanted (Some (UnlinkHead s n tag body)) given = along (to_head ∷ []) (directory_at s) given
+undo_wanted (Some (Close_deed s)) given = along [] (directory_at s) given
 
 abbrev pub job_wanted : Job → List Given → Option ℕ
-job_wanted job given = cond job.undo (undo_wanted (deed_in job.bytes) given) (wanted (doing_in job.bytes) given)
+job_wanted job given =
+    cond job.undo (undo_wanted (deed_by job.level job.bytes) given) (wanted (doing_by job.level job.bytes) given)

@@ -1,5 +1,5 @@
 -- What every level keeps to, whatever its number.
-use Rattle.std.specs.Prelude.{◌≡◌, ◌≢◌, ◌≤◌, ◌⊎◌, ℕ, Bool, true, false, List, [], Option, None, Some, Err, length}
+use Rattle.std.specs.Prelude.{◌≡◌, ◌≢◌, ◌<◌, ◌≤◌, ◌⊎◌, ℕ, Bool, true, false, List, [], Option, None, Some, Err, length}
 use Rattle.rq_model.specs.declared.record.Record.{Record}
 use Rattle.rq_model.specs.declared.refusal.Refusal.{Refusal}
 use Rattle.rq_model.specs.declared.refusal.Refusal.TheVariants as why
@@ -12,13 +12,13 @@ use Rattle.rq_views.specs.Items.{layout_of}
 use Rattle.rq_views.specs.Log.{Slots}
 use Rattle.rq_views.specs.Plans.{ShowsAt, deed_sender}
 use Rattle.rq_level.specs.LevelState.{LevelState, flag_at}
-use Rattle.rq_level.specs.Ops.{Job}
+use Rattle.rq_level.specs.Ops.{Job, doing_by}
 use Rattle.rq_level.specs.Given.{given_at}
 use Rattle.rq_level.specs.Writes.{answer_of, reply_of}
-use Rattle.rq_level.specs.Asked.{IsGathered, job_back, answer_back, AreNoted, AreOver, AreBackOver, AreWritten, AsksForNone, Knows, AreAsGiven, StandsYet, AreOverSlots, Chooses, ChoosesBack, MayChoose, AreOfSlots, AreBackOfSlots}
+use Rattle.rq_level.specs.Asked.{IsGathered, job_back, answer_back, TellsDeedOf, AreNoted, AreOver, AreBackOver, AreWritten, AsksForNone, Knows, AreAsGiven, StandsYet, AreOverSlots, Chooses, ChoosesBack, MayChoose, AreOfSlots, AreBackOfSlots}
 use Rattle.rq_level.specs.OwnState.{OwnStateIsAnew}
 use Rattle.rq_level.specs.TakenBack.{AreOverHeld, LeavesOthers, newest_first}
-use Rattle.rq_level.specs.Meaning.{Meaning, OfPlans, OfBacks, AreOf, Redo, AppliesOnce, meaning_of}
+use Rattle.rq_level.specs.Meaning.{Meaning, OfPlans, OfBacks, AreOf, Redo, AppliesOnce, level_count, meaning_of}
 use Rattle.rq_level.specs.declared.slots.Given.{Given}
 
 abbrev pub IsNotGiven : List Given → Option ℕ → Type 0
@@ -86,7 +86,7 @@ pub record IsLawful (n : ℕ) (m : Meaning) : Type 0 where
   -- other end. Neither changes another chain
   pub inverse : (z : Sizes) (d : Deed) (v : View) (q : Slots) → OfPlans m (λ k job given latched p after. k.sizes ≡ Some z
       → deed_by n p.deed ≡ Some d → AreOverHeld q (newest_first z p) → ShowsAt (layout_of z) q (deed_sender d) v
-      → LeavesOthers m z d v q p)
+      → LeavesOthers n m z d v q p)
   -- a plan leaves what the level keeps, or chooses the cell that it writes first
   pub chooses : OfPlans m (λ k job given latched p after. MayChoose m k p.writes.items after)
   pub chooses_undo : OfBacks m (λ k told given latched p after. MayChoose m k p.writes.items after)
@@ -101,6 +101,15 @@ pub record IsLawful (n : ℕ) (m : Meaning) : Type 0 where
   -- noting keeps how many flags there are
   pub room : (k : LevelState) (a : ℕ) (x : List ℕ)
       → (length (m.note k a x).free ≡ length k.free) × (length (m.note k a x).reserved ≡ length k.reserved)
+  -- one that is ready for a store was told no other sizes, and stays ready when a slot is noted
+  pub no_others : (k : LevelState) (z y : Sizes) → m.ready z k → k.sizes ≡ Some y → y ≡ z
+  pub stays : (k : LevelState) (z : Sizes) (a : ℕ) (x : List ℕ) → a ≢ 1 → m.ready z k → m.ready z (m.note k a x)
+  -- bytes that are a deed, or ask for something to be done, are of a level that there is
+  pub reads : (bytes : List ℕ) → is_some (deed_by n bytes) ≡ true → n < level_count
+  pub asked : (bytes : List ℕ) → is_some (doing_by n bytes) ≡ true → n < level_count
+  -- what it plans is asked of it, and what it takes back tells one of its deeds
+  pub own : OfPlans m (λ k job given latched p after. job.level ≡ n)
+  pub own_back : OfBacks m (λ k told given latched p after. TellsDeedOf n told)
 
 -- a record that is applied again to its page changes nothing
 abbrev pub AppliedTwiceIsOnce : Type 0

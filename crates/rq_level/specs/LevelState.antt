@@ -1,5 +1,5 @@
 -- What the level of chains keeps of a store: its sizes, and of each cell whether it is free and whether a plan has chosen it.
-use Rattle.std.specs.Prelude.{◌≡◌, ℕ, ◌/◌, ◌%◌, ◌<◌, ◌&&◌, not, cond, nat_eq, nat_lt, nat_le, Bool, true, false, List, [], Option, None, Some, slice_index_or, slice_set}
+use Rattle.std.specs.Prelude.{◌≡◌, ℕ, ◌/◌, ◌%◌, ◌<◌, ◌≤◌, ◌&&◌, not, cond, nat_eq, nat_lt, nat_le, Bool, true, false, List, [], Option, None, Some, length, slice_index_or, slice_set}
 use Rattle.rq_bytes.specs.Number.{number_at}
 use Rattle.rq_page.specs.Sizes.{Sizes, tags_from, cell_count, cell_at, place_of}
 use Rattle.rq_level.specs.Given.{has_page}
@@ -12,6 +12,17 @@ pub record LevelState : Type 0 where
 
 abbrev pub nothing_kept : LevelState
 nothing_kept = record { sizes = None; free = []; reserved = [] }
+
+-- it was told these sizes, and has flags for each cell of such a store
+pub record KnowsStore (z : Sizes) (k : LevelState) : Type 0 where
+  pub sizes : k.sizes ≡ Some z
+  pub free : cell_count z ≤ length k.free
+  pub reserved : cell_count z ≤ length k.reserved
+
+-- it has flags for the cells of the greatest store
+pub record HasRoom (k : LevelState) : Type 0 where
+  pub free : 983040 ≤ length k.free
+  pub reserved : 983040 ≤ length k.reserved
 
 abbrev pub flag_at : List Bool → ℕ → Bool
 flag_at flags place = slice_index_or flags place false

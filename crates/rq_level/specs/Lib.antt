@@ -5,6 +5,7 @@ pub mod LevelState
 pub mod ChainPlans
 pub mod PagePlans
 pub mod Meaning
+pub mod Ready
 pub mod Asked
 pub mod OwnState
 pub mod TakenBack

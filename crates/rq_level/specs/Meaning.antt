@@ -5,7 +5,7 @@ use Rattle.rq_model.specs.declared.record.Record.TheVariants.{PageOp, PageUndo}
 use Rattle.rq_model.specs.declared.refusal.Refusal.{Refusal}
 use Rattle.rq_page.specs.Pages.{lsn_of, IsWritten}
 use Rattle.rq_page.specs.Formatted.{IsHeaderOf}
-use Rattle.rq_level.specs.LevelState.{LevelState, nothing_kept, noted}
+use Rattle.rq_level.specs.LevelState.{LevelState, KnowsStore, nothing_kept, noted}
 use Rattle.rq_level.specs.Ops.{Job}
 use Rattle.rq_level.specs.Given.{AreGiven}
 use Rattle.rq_level.specs.ChainPlans.{RefusesUnread, chain_plans, chain_undoes, job_wanted}
@@ -25,6 +25,8 @@ pub record Meaning : Type 1 where
   pub undoes : LevelState → Record → List Given → List ℕ → Result Plan Refusal → LevelState → Type 0
   -- what it keeps once a slot is noted
   pub note : LevelState → ℕ → List ℕ → LevelState
+  -- of a store with these sizes it was told all that it needs before its slots, and has room for what it keeps of them
+  pub ready : Sizes → LevelState → Type 0
 
 -- it keeps nothing of the slots that it is told of
 pub record NotesNothing (m : Meaning) : Type 0 where
@@ -46,6 +48,7 @@ chain_meaning = record {
   plans = chain_plans;
   undoes = chain_undoes;
   note = noted;
+  ready = KnowsStore;
 }
 
 abbrev pub page_meaning : Meaning
@@ -54,6 +57,7 @@ page_meaning = record {
   plans = page_plans;
   undoes = page_undoes;
   note = λ k a bytes. k;
+  ready = λ z k. k.sizes ≡ None;
 }
 
 -- a level that is none refuses everything
@@ -63,6 +67,7 @@ no_meaning = record {
   plans = λ k job given latched answer after. RefusesUnread k answer after;
   undoes = λ k r given latched answer after. RefusesUnread k answer after;
   note = λ k a bytes. k;
+  ready = λ z k. k.sizes ≡ None;
 }
 
 -- what the level of this number is
@@ -70,6 +75,10 @@ unfoldable pub meaning_of : ℕ → Meaning
 meaning_of zero = page_meaning
 meaning_of (suc zero) = chain_meaning
 meaning_of (suc (suc n)) = no_meaning
+
+-- how many levels there are: the others have no meaning
+abbrev pub level_count : ℕ
+level_count = 2
 
 -- what is wanted, as a level says it
 abbrev pub wish : Option ℕ → Want

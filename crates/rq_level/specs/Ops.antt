@@ -67,6 +67,10 @@ overwrite_in bytes =
     (Some (record { at = big_number 8 bytes; after = drop 8 bytes }))
     None
 
+-- what they ask the level of this number for: that of single slots is asked so
+abbrev pub overwrite_by : (level : ℕ) → List ℕ → Option Overwrite
+overwrite_by level bytes = cond (nat_eq level 0) (overwrite_in bytes) None
+
 -- to do this on the level of single slots
 abbrev pub page_job : ℕ → List ℕ → Job
 page_job a after = record { level = 0; undo = false; bytes = big_bytes 8 a ++ after }

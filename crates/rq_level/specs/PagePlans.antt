@@ -7,7 +7,7 @@ use Rattle.rq_model.specs.declared.refusal.Refusal.TheVariants as why
 use Rattle.rq_level.specs.ChainPlans.{RefusesUnread, unless_given}
 use Rattle.rq_level.specs.Given.{given_at}
 use Rattle.rq_level.specs.LevelState.{LevelState}
-use Rattle.rq_level.specs.Ops.{Job, Overwrite, overwrite_in}
+use Rattle.rq_level.specs.Ops.{Job, Overwrite, overwrite_by}
 use Rattle.rq_level.specs.declared.slots.Given.{Given}
 use Rattle.rq_level.specs.declared.writes.Plan.{Plan}
 use Rattle.rq_level.specs.declared.writes.Replies.TheVariants as replies
@@ -49,7 +49,7 @@ WritesFor false k w given answer after = PlansWrite k w given answer after
 
 -- What the level answers to what it reads. It keeps nothing.
 abbrev pub page_plans : LevelState → Job → List Given → List ℕ → Result Plan Refusal → LevelState → Type 0
-page_plans k job given latched answer after = WritesFor job.undo k (overwrite_in job.bytes) given answer after
+page_plans k job given latched answer after = WritesFor job.undo k (overwrite_by job.level job.bytes) given answer after
 
 -- a slot of a page is one of 1 to 15
 abbrev pub is_slot_number : ℕ → Bool
@@ -74,4 +74,4 @@ write_wants (Some w) given = unless_given w.at (given_at w.at given)
 
 -- what is taken back stands in its record, so that no slot is wanted
 abbrev pub page_wants : Job → List Given → Option ℕ
-page_wants job given = cond job.undo None (write_wants (overwrite_in job.bytes) given)
+page_wants job given = cond job.undo None (write_wants (overwrite_by job.level job.bytes) given)

@@ -29,21 +29,21 @@ abbrev pub LeavesAt : Sizes → Plan → Slots → ℕ → View → Type 0
 LeavesAt z p q s v = ShowsAt (layout_of z) (applied (newest_first z p) q) s v
     × ((r : ℕ) (x : View) → s ≢ r → ShowsAt (layout_of z) q r x → ShowsAt (layout_of z) (applied (newest_first z p) q) r x)
 
--- Over slots that show u for s, what takes back the operation whose end tells the deed leaves slots that show w. Each of
--- its writes is over what those before it leave, too.
-abbrev pub LeadsBack : Meaning → Sizes → ℕ → List ℕ → View → View → Type 0
-LeadsBack m z s deed u w = (k : LevelState) (t : Txn) (n level : ℕ) (given : List Given) (latched : List ℕ) (p : Plan)
-    (after : LevelState) (q : Slots) → k.sizes ≡ Some z → m.undoes k (OpEnd t n level deed) given latched (Ok p) after
+-- Over slots that show u for s, what takes back the operation of level l whose end tells the deed leaves slots that show
+-- w. Each of its writes is over what those before it leave, too.
+abbrev pub LeadsBack : (l : ℕ) → Meaning → Sizes → ℕ → List ℕ → View → View → Type 0
+LeadsBack l m z s deed u w = (k : LevelState) (t : Txn) (n : ℕ) (given : List Given) (latched : List ℕ) (p : Plan)
+    (after : LevelState) (q : Slots) → k.sizes ≡ Some z → m.undoes k (OpEnd t n l deed) given latched (Ok p) after
     → AreOverHeld q (newest_first z p) → ShowsAt (layout_of z) q s u
     → HasBefores (newest_first z p) q × LeavesAt z p q s w
 
--- The operation does to the view v what its deed tells. Operations on the other end lead on from there to u. They could be
+-- An operation of level l does to the view v what its deed tells. Operations on the other end lead on from there to u. They could be
 -- done without it too, with the same replies, and would lead from v to w. What takes it back leads from u to w.
-pub record LeavesOthers (m : Meaning) (z : Sizes) (d : Deed) (v : View) (q : Slots) (p : Plan) : Type 0 where
+pub record LeavesOthers (l : ℕ) (m : Meaning) (z : Sizes) (d : Deed) (v : View) (q : Slots) (p : Plan) : Type 0 where
   -- each write is over what those before it leave
   pub over : HasBefores (newest_first z p) q
   pub does : LeavesAt z p q (deed_sender d) (with_turn (Did d) v)
   pub takings : is_of_receiver (Did d) ≡ false → v.closed ≡ false → (ops : List Taking) (u w : View)
-      → AreTaken ops (with_turn (Did d) v) u → AreTaken ops v w → LeadsBack m z (deed_sender d) p.deed u w
+      → AreTaken ops (with_turn (Did d) v) u → AreTaken ops v w → LeadsBack l m z (deed_sender d) p.deed u w
   pub sendings : is_of_receiver (Did d) ≡ true → (ops : List Sending) (u w : View) → AreSent ops (with_turn (Did d) v) u
-      → AreSent ops v w → LeadsBack m z (deed_sender d) p.deed u w
+      → AreSent ops v w → LeadsBack l m z (deed_sender d) p.deed u w

@@ -1,6 +1,6 @@
 //! Operations to be planned.
 ghost use Rattle.std.specs.Prelude.{◌≡◌, ◌++◌, IfOk, Some, length, ◌≤◌, ◌<◌, ◌/◌, ◌%◌, ◌^◌, true, false};
-ghost use Rattle.rq_level.specs.Ops.{Job, doing_in, chain_job, Send, Receive, Close, page_job, overwrite_in};
+ghost use Rattle.rq_level.specs.Ops.{Job, doing_by, chain_job, Send, Receive, Close, page_job, overwrite_by};
 
 use byteorder::{BigEndian, ByteOrder};
 use rq_bytes::end::put;
@@ -35,7 +35,7 @@ impl Op {
         requires page { at / 16 < 2 ^ 32 }
         requires slot { 0 < at % 16 }
         ensures op { IfOk result (λ op. op ≡ page_job at after.now) }
-        ensures told { IfOk result (λ op. overwrite_in op.bytes ≡ Some (record { at = at; after = after.now })) }
+        ensures told { IfOk result (λ op. overwrite_by op.level op.bytes ≡ Some (record { at = at; after = after.now })) }
     {
         let mut front = [0; 8];
         BigEndian::write_u64(&mut front, at.number());
@@ -48,7 +48,7 @@ impl Op {
     /// `NoMemory`.
     pub fn send(alloc: Global, sender: u32, tag: u64, body: &[u8]) -> Result<Op, NoMemory>
         ensures op { IfOk result (λ op. op ≡ chain_job (Send sender tag body.now)) }
-        ensures told { IfOk result (λ op. length body.now ≤ 216 → doing_in op.bytes ≡ Some (Send sender tag body.now)) }
+        ensures told { IfOk result (λ op. length body.now ≤ 216 → doing_by op.level op.bytes ≡ Some (Send sender tag body.now)) }
     {
         let mut front = [0; 13];
         front[0] = 1;
@@ -63,7 +63,7 @@ impl Op {
     /// `NoMemory`.
     pub fn receive(alloc: Global, sender: u32) -> Result<Op, NoMemory>
         ensures op { IfOk result (λ op. op ≡ chain_job (Receive sender)) }
-        ensures told { IfOk result (λ op. doing_in op.bytes ≡ Some (Receive sender)) }
+        ensures told { IfOk result (λ op. doing_by op.level op.bytes ≡ Some (Receive sender)) }
     {
         let mut front = [0; 5];
         front[0] = 2;
@@ -77,7 +77,7 @@ impl Op {
     /// `NoMemory`.
     pub fn close(alloc: Global, sender: u32) -> Result<Op, NoMemory>
         ensures op { IfOk result (λ op. op ≡ chain_job (Close sender)) }
-        ensures told { IfOk result (λ op. doing_in op.bytes ≡ Some (Close sender)) }
+        ensures told { IfOk result (λ op. doing_by op.level op.bytes ≡ Some (Close sender)) }
     {
         let mut front = [0; 5];
         front[0] = 3;

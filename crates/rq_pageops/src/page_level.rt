@@ -1,7 +1,7 @@
 //! The level of single slots.
 ghost use Rattle.std.specs.Prelude.{◌≡◌, ◌+◌, ◌*◌, ◌<◌, ◌^◌, ◌/◌, ◌%◌, IfSome, IfNone, IfOk, Some, None};
 ghost use Rattle.rq_level.specs.LevelState.{LevelState};
-ghost use Rattle.rq_level.specs.Ops.{overwrite_in};
+ghost use Rattle.rq_level.specs.Ops.{overwrite_by, overwrite_in};
 ghost use Rattle.rq_level.specs.PagePlans.{IsWritePlan, PlansWrite, TakesBack, is_slot_number};
 
 use byteorder::{BigEndian, ByteOrder};
@@ -42,7 +42,7 @@ impl Level for PageLevel {
         if op.is_undo() {
             return Want::Ready;
         }
-        match read_overwrite(op.bytes()) {
+        match asked(op) {
             None => Want::Ready,
             Some((at, _)) => match given.get(at) {
                 None => Want::Slot(at),
@@ -61,7 +61,7 @@ impl Level for PageLevel {
         if op.is_undo() {
             return Err(Refusal::Damaged(Damage::Page(0)));
         }
-        plan_overwrite(room, op.bytes(), given)
+        plan_overwrite(room, op, given)
     }
 
     fn undo(
@@ -90,6 +90,18 @@ impl Level for PageLevel {
     fn noted(&mut self, _at: Addr, _bytes: &Slot) {}
 }
 
+// The slot that this level is asked to write over, and what it shall hold; none where it is asked for nothing.
+fn asked(op: &Op) -> Option<(Addr, &[u8; 256])>
+    ensures some { IfSome result (λ w. overwrite_by op.now.level op.now.bytes ≡ Some (record { at = w.0; after = w.1.now })) }
+    ensures slot { IfSome result (λ w. (0 < w.0 % 16) × (w.0 / 16 < 2 ^ 32)) }
+    ensures none { IfNone result (overwrite_by op.now.level op.now.bytes ≡ None) }
+{
+    if op.level() != 0 {
+        return None;
+    }
+    read_overwrite(op.bytes())
+}
+
 // The slot that these bytes ask to write over, and what it shall hold; none where they ask for nothing.
 fn read_overwrite(bytes: &[u8]) -> Option<(Addr, &[u8; 256])>
     ensures some { IfSome result (λ w. overwrite_in bytes.now ≡ Some (record { at = w.0; after = w.1.now })) }
@@ -113,10 +125,10 @@ fn read_overwrite(bytes: &[u8]) -> Option<(Addr, &[u8; 256])>
 }
 
 // The plan of writing over a slot.
-fn plan_overwrite(room: Vec<SlotWrite>, bytes: &[u8], given: &Slots) -> Result<Plan, Refusal>
-    ensures { (k : LevelState) → PlansWrite k (overwrite_in bytes.now) given.now result k }
+fn plan_overwrite(room: Vec<SlotWrite>, op: &Op, given: &Slots) -> Result<Plan, Refusal>
+    ensures { (k : LevelState) → PlansWrite k (overwrite_by op.now.level op.now.bytes) given.now result k }
 {
-    let Some((at, after)) = read_overwrite(bytes) else {
+    let Some((at, after)) = asked(op) else {
         return Err(Refusal::Damaged(Damage::Page(0)));
     };
     match given.get(at) {

@@ -1,10 +1,9 @@
 -- Levels that know the slots of a store, whatever is under way there.
-use Rattle.std.proofs.Common.{set, ◌≡◌, ◌≢◌, ◌⊎◌, ℕ, zero, suc, ◌+◌, ◌*◌, ◌/◌, ◌%◌, ◌<◌, ◌≤◌, cond, List, [], ◌∷◌, length, refl, sym, ◌∙◌, ap, subst, Bool, true, false, not, nat_eq, Option, None, Result, Ok, Err, IfOk, IfErr, inl, inr, arith}
+use Rattle.std.proofs.Common.{set, ◌≡◌, ◌≢◌, ◌⊎◌, ℕ, zero, suc, ◌+◌, ◌*◌, ◌/◌, ◌%◌, ◌<◌, ◌≤◌, List, [], ◌∷◌, length, refl, sym, ◌∙◌, ap, subst, Bool, true, false, not, Option, None, Some, Result, Ok, Err, IfOk, IfErr, inl, inr, arith}
 use Rattle.std.specs.List.{slice_get}
-use Rattle.std.proofs.lemmas.Bool.{cases_Bool, cases_eq, eqb-true, false≢true}
+use Rattle.std.proofs.lemmas.Bool.{cases_eq, false≢true}
 use Rattle.std.proofs.lemmas.List.{get_or-set_other, length-set}
-use Rattle.rq_model.specs.Vocabulary.{is_some}
-use Rattle.rq_page.specs.Sizes.{Sizes, address, cell_at, cell_count, directory_at, place_of, sender_count}
+use Rattle.rq_page.specs.Sizes.{Sizes, IsCellAddress, address, cell_at, cell_count, directory_at, sender_count}
 use Rattle.rq_page.specs.Pages.{IsWritten, slot_of}
 use Rattle.rq_page.proofs.Addresses.{cells_have_places}
 use Rattle.rq_pool.specs.Pooled.{image_at}
@@ -15,8 +14,9 @@ use Rattle.rq_level.specs.declared.slots.Given.{Given}
 use Rattle.rq_level.specs.declared.writes.Plan.{Plan}
 use Rattle.rq_level.specs.declared.writes.SlotWrite.{SlotWrite}
 use Rattle.rq_level.specs.Asked.{MayChoose}
-use Rattle.rq_level.specs.LevelState.{LevelState, flag_at, is_free_slot, noted, noted_cell}
-use Rattle.rq_level.specs.Meaning.{AreTold, kept_at, meaning_of}
+use Rattle.rq_level.specs.LevelState.{LevelState, KnowsStore, flag_at, is_free_slot, noted, noted_cell}
+use Rattle.rq_level.specs.Meaning.{AreOf, AreTold, kept_at, level_count, meaning_of}
+use Rattle.rq_level.specs.Given.{AreGiven}
 use Rattle.rq_level.specs.Ops.{Job}
 use Rattle.rq_level.proofs.Based.{noted_there}
 use Rattle.rq_level.proofs.EachLevel.{all_lawful}
@@ -24,7 +24,7 @@ use Rattle.rq_txn.specs.Rows.{Row}
 use Rattle.rq_sound.specs.Levels.{KeepsCells}
 use Rattle.rq_sound.proofs.Gathering.{cell_of_store}
 use Rattle.rq_sound.proofs.KeptCells.{flag_same, free_by_byte}
-use Rattle.rq_planner.specs.Answered.{KnowsCells, KnowsSizes, KnowsThose, MayBeTold, client_slot}
+use Rattle.rq_planner.specs.Answered.{KnowsCells, KnowsThose, MayBeTold, client_slot}
 use Rattle.rq_planner.specs.Asked.{known}
 use Rattle.rq_planner.proofs.Told.{slot_is}
 
@@ -50,7 +50,7 @@ module _ (old mid : List LevelState) (n : ℕ) (changed : mid ≡ set old n (kep
   one_stays same = same_levels old mid count_stays (λ i lt. elim (cases_eq i n) [ inl e ↦ ap (kept_at mid) e ∙ same ∙ ap (kept_at old) (sym e) | inr ne ↦ others_stay i ne ])
 
   -- what it chose is given back
-  module _ (z : Sizes) (images : List (List ℕ)) (knows : KnowsCells z images old) (sizes : KnowsSizes z old n) (now : List LevelState) where
+  module _ (z : Sizes) (images : List (List ℕ)) (knows : KnowsCells z images old) (inside : n < length old) (now : List LevelState) where
     again_at : (a i : ℕ) → IsStoreSlot z a → i < length old → (k : LevelState) → (meaning_of i).note k a (slot_at images a) ≡ (meaning_of i).note (kept_at old i) a (slot_at images a) → (meaning_of i).note k a (slot_at images a) ≡ kept_at old i
     again_at a i store lt k e = e ∙ knows.again i a lt store
 
@@ -70,7 +70,7 @@ module _ (old mid : List LevelState) (n : ℕ) (changed : mid ≡ set old n (kep
       ]
       | inr c ↦ elim told [
         | inl t ↦ told_back w t.0 t.1 c.back
-        | inr t ↦ absurd (t.0 c.free (cell_of_store z w.at (c.cell z sizes.1)))
+        | inr t ↦ absurd (t.0 c.free (cell_of_store z w.at (subst (λ y. IsCellAddress y w.at) ((all_lawful n).no_others (kept_at old n) z c.sizes (knows.ready n inside) c.told) c.cell)))
       ]
     ]
 
@@ -92,9 +92,10 @@ pub told_more : (Old New : ℕ → Type 0) (z : Sizes) (images new : List (List 
     → ((b : ℕ) → New b → (b ≡ a) ⊎ (Old b × (slot_at new b ≡ slot_at images b))) → KnowsThose Old z images old → KnowsThose New z new now
 told_more Old New z images new old now a bytes told is first apart more h = record {
   again = again;
-  chains = ((let n = told.count in let two = h.chains.0 in omega (arith, n, two)), ap (λ (k : LevelState). k.sizes) (told.each 1 h.chains.0) ∙ ((all_lawful 1).alone (kept_at old 1) z a (suc (place_of z a)) bytes h.chains.1 first (λ c e. omega (arith, e))).0 ∙ h.chains.1);
-  free_count = (let e = ap (λ (k : LevelState). length k.free) (told.each 1 h.chains.0) in let r = ((all_lawful 1).room (kept_at old 1) a bytes).0 in let n = h.free_count in omega (arith, e, r, n));
-  chosen_count = (let e = ap (λ (k : LevelState). length k.reserved) (told.each 1 h.chains.0) in let r = ((all_lawful 1).room (kept_at old 1) a bytes).1 in let n = h.chosen_count in omega (arith, e, r, n));
+  all = (let n = told.count in let many = h.all in omega (arith, n, many));
+  ready = λ i lt.
+      let inside : i < length old = (let n = told.count in omega (arith, n, lt)) in
+      subst ((meaning_of i).ready z) (sym (told.each i inside)) ((all_lawful i).stays (kept_at old i) z a bytes first (h.ready i inside));
 } where
   again : (i b : ℕ) → i < length now → New b → (meaning_of i).note (kept_at now i) b (slot_at new b) ≡ kept_at now i
   again i b lt these =
@@ -133,26 +134,49 @@ knows_put z images new old now a bytes lsn store page others = knows_written z i
   | inr off ↦ ap (slot_of (b % 16)) (others (b / 16) off)
 ])
 
+-- ---- each level
+
+-- a level that there is was handed in
+pub is_one : (z : Sizes) (images : List (List ℕ)) (levels : List LevelState) (n : ℕ) → KnowsCells z images levels → n < level_count → n < length levels
+is_one z images levels n h lt = (let many = h.all in omega (arith, many, lt))
+
+-- the slots of a store are of the sizes that a level was told
+pub of_store : (z : Sizes) (images : List (List ℕ)) (levels : List LevelState) (n : ℕ) (given : List Given) → KnowsCells z images levels → n < length levels → AreGiven z given → AreOf (kept_at levels n).sizes given
+of_store z images levels n given h lt are = by (kept_at levels n).sizes refl where
+  by : (o : Option Sizes) → (kept_at levels n).sizes ≡ o → AreOf o given
+  by None e = tt
+  by (Some y) e = subst (λ x. AreGiven x given) (sym ((all_lawful n).no_others (kept_at levels n) z y (h.ready n lt) e)) are
+
 -- ---- the cells
+
+chains_are : (z : Sizes) (images : List (List ℕ)) (levels : List LevelState) → KnowsCells z images levels → 1 < length levels
+chains_are z images levels h = is_one z images levels 1 h (omega arith)
 
 notes_one : (z : Sizes) (images : List (List ℕ)) (levels : List LevelState) (a : ℕ) → KnowsCells z images levels → IsStoreSlot z a → noted (kept_at levels 1) a (slot_at images a) ≡ kept_at levels 1
 unfolding meaning_of
-notes_one z images levels a h store = h.again 1 a h.chains.0 store
+notes_one z images levels a h store = h.again 1 a (chains_are z images levels h) store
+
+chains_ready : (z : Sizes) (images : List (List ℕ)) (levels : List LevelState) → KnowsCells z images levels → KnowsStore z (kept_at levels 1)
+unfolding meaning_of
+chains_ready z images levels h = h.ready 1 (chains_are z images levels h)
 
 -- the level of chains knows the cells
 pub cells_known : (z : Sizes) (images : List (List ℕ)) (levels : List LevelState) (rows : List Row) → KnowsCells z images levels → KeepsCells (known z images rows) (kept_at levels 1)
 cells_known z images levels rows h = record {
-  sizes = h.chains.1;
-  free_count = h.free_count;
-  chosen_count = h.chosen_count;
+  sizes = store.sizes;
+  free_count = store.free;
+  chosen_count = store.reserved;
   free = λ i lt.
       let cell = (cells_have_places z i lt).0 in
-      ap (λ (x : LevelState). flag_at x.free i) (sym (stays i lt)) ∙ flag_same k.free i (byte i) (let n = h.free_count in omega (arith, n, lt))
+      ap (λ (x : LevelState). flag_at x.free i) (sym (stays i lt)) ∙ flag_same k.free i (byte i) (let n = store.free in omega (arith, n, lt))
       ∙ free_by_byte z (cell_at z i) (slot_at images (cell_at z i)) cell ∙ ap (λ x. not (is_used x)) (sym (slot_is z images (cell_at z i) (cell_of_store z (cell_at z i) cell)));
-  chosen = λ i lt e. absurd (false≢true (sym (ap (λ (x : LevelState). flag_at x.reserved i) (sym (stays i lt)) ∙ flag_same k.reserved i false (let n = h.chosen_count in omega (arith, n, lt))) ∙ e));
+  chosen = λ i lt e. absurd (false≢true (sym (ap (λ (x : LevelState). flag_at x.reserved i) (sym (stays i lt)) ∙ flag_same k.reserved i false (let n = store.reserved in omega (arith, n, lt))) ∙ e));
 } where
   k : LevelState
   k = kept_at levels 1
+
+  store : KnowsStore z k
+  store = chains_ready z images levels h
 
   byte : ℕ → Bool
   byte i = is_free_slot (slot_at images (cell_at z i))
@@ -161,7 +185,7 @@ cells_known z images levels rows h = record {
   stays : (i : ℕ) → i < cell_count z → noted_cell z k i (byte i) ≡ k
   stays i lt =
       let p = cells_have_places z i lt in
-      ap (λ n. noted_cell z k n (byte i)) (sym p.1) ∙ sym (noted_there z k (cell_at z i) (slot_at images (cell_at z i)) h.chains.1 p.0) ∙ notes_one z images levels (cell_at z i) h (cell_of_store z (cell_at z i) p.0)
+      ap (λ n. noted_cell z k n (byte i)) (sym p.1) ∙ sym (noted_there z k (cell_at z i) (slot_at images (cell_at z i)) store.sizes p.0) ∙ notes_one z images levels (cell_at z i) h (cell_of_store z (cell_at z i) p.0)
 
 -- ---- all slots of a store, one after the other
 
@@ -170,12 +194,11 @@ AreBelow z bound a = IsStoreSlot z a × (a < bound)
 
 module _ (z : Sizes) (images : List (List ℕ)) where
   -- none are below the first
-  pub none_below : (levels : List LevelState) → KnowsSizes z levels 1 → cell_count z ≤ length (kept_at levels 1).free → cell_count z ≤ length (kept_at levels 1).reserved → KnowsThose (AreBelow z (directory_at 0)) z images levels
-  none_below levels chains free chosen = record {
+  pub none_below : (levels : List LevelState) → level_count ≤ length levels → ((i : ℕ) → i < length levels → (meaning_of i).ready z (kept_at levels i)) → KnowsThose (AreBelow z (directory_at 0)) z images levels
+  none_below levels all ready = record {
     again = λ i a lt b. absurd (let low = b.0.page_low in let high = b.1 in omega (arith, low, high));
-    chains = chains;
-    free_count = free;
-    chosen_count = chosen;
+    all = all;
+    ready = ready;
   }
 
   -- the next slot is told
@@ -191,36 +214,22 @@ module _ (z : Sizes) (images : List (List ℕ)) where
   pub all_below : (levels : List LevelState) → KnowsThose (AreBelow z (client_slot z (15 * z.tags))) z images levels → KnowsCells z images levels
   all_below levels h = record {
     again = λ i a lt store. h.again i a lt (store, (let high = store.page_high in omega (arith, high)));
-    chains = h.chains;
-    free_count = h.free_count;
-    chosen_count = h.chosen_count;
+    all = h.all;
+    ready = h.ready;
   }
 
   -- the first client is behind the last cell
   pub clients_behind : (levels : List LevelState) → KnowsThose (AreBelow z (cell_at z (cell_count z))) z images levels → KnowsThose (AreBelow z (client_slot z 0)) z images levels
   clients_behind levels h = record {
     again = λ i a lt b. h.again i a lt (b.0, (let high = b.1 in omega (arith, high)));
-    chains = h.chains;
-    free_count = h.free_count;
-    chosen_count = h.chosen_count;
+    all = h.all;
+    ready = h.ready;
   }
 
   -- the first cell is behind the last sender
   pub cells_behind : (levels : List LevelState) → KnowsThose (AreBelow z (directory_at (sender_count z))) z images levels → KnowsThose (AreBelow z (cell_at z 0)) z images levels
   cells_behind levels h = record {
     again = λ i a lt b. h.again i a lt (b.0, (let high = b.1 in omega (arith, high)));
-    chains = h.chains;
-    free_count = h.free_count;
-    chosen_count = h.chosen_count;
+    all = h.all;
+    ready = h.ready;
   }
-
--- ---- what can be asked, and what a deed tells, is of a level that was told the sizes
-
-pub of_chains : {X : Type 0} (level : ℕ) (o : Option X) → is_some (cond (nat_eq level 1) o None) ≡ true → level ≡ 1
-of_chains level o some = elim (cases_Bool (nat_eq level 1)) [
-  | inl one ↦ eqb-true level 1 one
-  | inr other ↦ absurd (false≢true (sym (ap (λ b. is_some (cond b o None)) other) ∙ some))
-]
-
-pub knows_asked : {X : Type 0} (z : Sizes) (images : List (List ℕ)) (levels : List LevelState) (level : ℕ) (o : Option X) → KnowsCells z images levels → is_some (cond (nat_eq level 1) o None) ≡ true → KnowsSizes z levels level
-knows_asked z images levels level o h some = subst (KnowsSizes z levels) (sym (of_chains level o some)) h.chains

@@ -1,4 +1,5 @@
 mod Told
+pub mod Handing
 mod Gathered
 pub mod Replies
 mod Backs

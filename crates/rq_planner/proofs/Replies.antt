@@ -1,5 +1,5 @@
 -- What is answered to what is asked of the level of chains: its answer, over what was gathered for it.
-use Rattle.std.proofs.Common.{◌≡◌, ⊎_elim, ℕ, ◌+◌, ◌/◌, ◌<◌, ◌≤◌, ◌++◌, not, List, [], ◌∷◌, reverse, Bool, true, false, Option, Some, None, Result, Ok, Err, option_map, refl, sym, ◌∙◌, ap, subst, inl, inr, arith}
+use Rattle.std.proofs.Common.{◌≡◌, ⊎_elim, ℕ, ◌+◌, ◌/◌, ◌<◌, ◌≤◌, ◌++◌, not, List, [], ◌∷◌, reverse, Bool, true, false, cond, Option, Some, None, Result, Ok, Err, option_map, refl, sym, ◌∙◌, ap, subst, inl, inr, arith}
 use Rattle.std.proofs.lemmas.Bool.{and_from, cases_Bool, cases_eq, cases_lt, or_from, true≢false}
 use Rattle.std.proofs.Math.Bool.{or-false}
 use Rattle.std.proofs.lemmas.List.{reverse-append, reverse-reverse}
@@ -29,6 +29,7 @@ use Rattle.rq_level.specs.Meaning.{chain_meaning, kept_at, meaning_of}
 use Rattle.rq_level.specs.Ops.{Doing, Job, doing_by, doing_in, doing_level}
 use Rattle.rq_level.specs.Ops.Doing.{Send, Receive, Close}
 use Rattle.rq_level.specs.Writes.{IsFirstAt, answer_of, replied, reply_of, write_of, writes_of}
+use Rattle.rq_level.proofs.ChainLaws.{of_chains}
 use Rattle.rq_txn.specs.Rows.{Row, latched_in}
 use Rattle.rq_store.specs.State.{State}
 use Rattle.rq_sound.specs.Gathering.{AreGivenFrom, IsToDo, IsWantedOf}
@@ -41,10 +42,10 @@ use Rattle.rq_sound.proofs.Gathering.{wants_needed}
 use Rattle.rq_sound.proofs.Levels.{levels_plan, levels_refuse, writes_latched}
 use Rattle.rq_sound.proofs.Wants.{levels_find}
 use Rattle.rq_sound.specs.Lowest.{AreAllLatched, AreLatchedBelow, FirstIsLowest}
-use Rattle.rq_planner.specs.Asked.{Asked, doing_sender, known, slots_for}
+use Rattle.rq_planner.specs.Asked.{Asked, IsOfStore, asked_by, doing_sender, known, slots_for}
 use Rattle.rq_planner.specs.Asked.Asked.{Do, Undo}
-use Rattle.rq_planner.proofs.Knowing.{cells_known, of_chains}
-use Rattle.rq_planner.specs.Answered.{ComesFrom, IsAnswered, IsHeldUp, IsNewestDeed, IsPlanBack, IsPlanFor, IsPlanned, IsPlanOf, KnowsCells, MayBeAsked, MayPlan, MayUndo, to_take_back}
+use Rattle.rq_planner.proofs.Knowing.{cells_known}
+use Rattle.rq_planner.specs.Answered.{ComesFrom, IsAnswered, IsHeldUp, IsNewestDeed, IsPlanBack, IsPlanFor, IsPlanned, IsPlannedBy, IsPlanOf, KnowsCells, MayBeAsked, MayPlan, MayUndo, to_take_back}
 
 -- the first write of a plan is of the cell that it takes
 takes_lowest : (z : Sizes) (q : Slots) (rows : List Row) (a : ℕ) (ws : List SlotWrite) → IsFirstAt a ws → AreLatchedBelow z q rows a → latched_in rows (a / 16) ≡ false → FirstIsLowest z q rows ws
@@ -319,46 +320,66 @@ module _ (s : State) (k : LevelState) (keeps : KeepsCells s k) where
       of_plan : (given : List Given) (answer : Result Plan Refusal) (m : MayPlan s chain_meaning k job given answer) → Plans (Some s.sizes) (Some d) k given m.latched answer m.after
       of_plan given answer m =
           subst (λ (o : Option Doing). Plans (Some s.sizes) o k given m.latched answer m.after) to.told
-          (subst (λ (z : Option Sizes). Plans z (doing_in job.bytes) k given m.latched answer m.after) keeps.sizes
-          (subst (λ (b : Bool). PlansFor b k.sizes (doing_in job.bytes) k given m.latched answer m.after) to.forward m.plans))
+          (subst (λ (z : Option Sizes). Plans z (doing_by job.level job.bytes) k given m.latched answer m.after) keeps.sizes
+          (subst (λ (b : Bool). PlansFor b k.sizes (doing_by job.level job.bytes) k given m.latched answer m.after) to.forward m.plans))
 
   -- of what takes a deed back
-  pub of_undo : (d : Deed) (deed : List ℕ) (level : ℕ) (given : List Given) (answer : Result Plan Refusal) → deed_in deed ≡ Some d → (m : MayUndo s chain_meaning k level deed given answer) → Undoes (Some s.sizes) (Some d) k given m.latched answer m.after
+  pub of_undo : (d : Deed) (deed : List ℕ) (level : ℕ) (given : List Given) (answer : Result Plan Refusal) → deed_by level deed ≡ Some d → (m : MayUndo s chain_meaning k level deed given answer) → Undoes (Some s.sizes) (Some d) k given m.latched answer m.after
   of_undo d deed level given answer told m =
       subst (λ (o : Option Deed). Undoes (Some s.sizes) o k given m.latched answer m.after) told
-      (subst (λ (z : Option Sizes). Undoes z (deed_in deed) k given m.latched answer m.after) keeps.sizes m.undoes)
+      (subst (λ (z : Option Sizes). Undoes z (deed_by level deed) k given m.latched answer m.after) keeps.sizes m.undoes)
 
-  pub wants_undo : (level : ℕ) (d : Deed) (deed : List ℕ) → deed_in deed ≡ Some d → deed_sender d < sender_count s.sizes → WantsFor s (to_take_back level deed) (Undo d)
+  pub wants_undo : (level : ℕ) (d : Deed) (deed : List ℕ) → deed_by level deed ≡ Some d → deed_sender d < sender_count s.sizes → WantsFor s (to_take_back level deed) (Undo d)
   wants_undo level d deed told inside given h = wants_needed.undoes s given (to_take_back level deed) d h (record { back = refl; told = told }) inside
 
-  to_undo_planned : (level : ℕ) (d : Deed) (deed : List ℕ) (answer : Result Plan Refusal) → deed_in deed ≡ Some d → deed_sender d < sender_count s.sizes → IsAnswered s chain_meaning (to_take_back level deed) (MayUndo s chain_meaning k level deed) answer → IsPlanned s (Undo d) answer
+  to_undo_planned : (level : ℕ) (d : Deed) (deed : List ℕ) (answer : Result Plan Refusal) → deed_by level deed ≡ Some d → deed_sender d < sender_count s.sizes → IsAnswered s chain_meaning (to_take_back level deed) (MayUndo s chain_meaning k level deed) answer → IsPlanned s (Undo d) answer
   to_undo_planned level d deed answer told inside h =
       from_wanted s (to_take_back level deed) (Undo d) (wants_undo level d deed told inside) (MayUndo s chain_meaning k level deed) (IsPlanned s (Undo d)) (memory_answer s (Undo d)) (latched_answer s (Undo d))
       (λ given answer has m. undid s k given m.latched keeps m.on m.after d answer has (of_undo d deed level given answer told m)) answer h
 
 -- ---- by the level that is asked
 
+some_asked : {a b : Asked} → Some a ≡ Some b → a ≡ b
+some_asked e = cc
+
 module _ (z : Sizes) (images : List (List ℕ)) (rows : List Row) (levels : List LevelState) (knows : KnowsCells z images levels) (answer : Result Plan Refusal) where
   abbrev s : State
   s = known z images rows
 
-  of_one : (job : Job) → IsAnswered s (meaning_of 1) job (MayPlan s (meaning_of 1) (kept_at levels 1) job) answer → (d : Doing) → job.undo ≡ false → doing_in job.bytes ≡ Some d → doing_sender d < sender_count z → IsPlanned s (Do d) answer
+  of_one : (job : Job) → IsAnswered s (meaning_of 1) job (MayPlan s (meaning_of 1) (kept_at levels 1) job) answer → (d : Doing) → job.undo ≡ false → doing_by job.level job.bytes ≡ Some d → doing_sender d < sender_count z → IsPlanned s (Do d) answer
   unfolding meaning_of
   of_one job h d forward told inside = to_do_planned s (kept_at levels 1) (cells_known z images levels rows knows) job d answer (record { forward = forward; told = told }) inside h
 
-  pub plan_answered : (job : Job) (d : Doing) → job.undo ≡ false → doing_by job.level job.bytes ≡ Some d → doing_sender d < sender_count z → IsAnswered s (meaning_of job.level) job (MayPlan s (meaning_of job.level) (kept_at levels job.level) job) answer → IsPlanned s (Do d) answer
+  plan_answered : (job : Job) (d : Doing) → job.undo ≡ false → doing_by job.level job.bytes ≡ Some d → doing_sender d < sender_count z → IsAnswered s (meaning_of job.level) job (MayPlan s (meaning_of job.level) (kept_at levels job.level) job) answer → IsPlanned s (Do d) answer
   plan_answered job d forward told inside h =
       let one : job.level ≡ 1 = of_chains job.level (doing_in job.bytes) (ap is_some told) in
-      of_one job (subst (λ n. IsAnswered s (meaning_of n) job (MayPlan s (meaning_of n) (kept_at levels n) job) answer) one h) d forward (sym (ap (λ n. doing_by n job.bytes) one) ∙ told) inside
+      of_one job (subst (λ n. IsAnswered s (meaning_of n) job (MayPlan s (meaning_of n) (kept_at levels n) job) answer) one h) d forward told inside
 
-  back_of_one : (level : ℕ) (deed : List ℕ) → IsAnswered s (meaning_of 1) (to_take_back level deed) (MayUndo s (meaning_of 1) (kept_at levels 1) level deed) answer → (d : Deed) → deed_in deed ≡ Some d → deed_sender d < sender_count z → IsPlanned s (Undo d) answer
+  back_of_one : (level : ℕ) (deed : List ℕ) → IsAnswered s (meaning_of 1) (to_take_back level deed) (MayUndo s (meaning_of 1) (kept_at levels 1) level deed) answer → (d : Deed) → deed_by level deed ≡ Some d → deed_sender d < sender_count z → IsPlanned s (Undo d) answer
   unfolding meaning_of
   back_of_one level deed h d told inside = to_undo_planned s (kept_at levels 1) (cells_known z images levels rows knows) level d deed answer told inside h
 
-  pub back_answered : (level : ℕ) (deed : List ℕ) (d : Deed) → deed_by level deed ≡ Some d → deed_sender d < sender_count z → IsAnswered s (meaning_of level) (to_take_back level deed) (MayUndo s (meaning_of level) (kept_at levels level) level deed) answer → IsPlanned s (Undo d) answer
+  back_answered : (level : ℕ) (deed : List ℕ) (d : Deed) → deed_by level deed ≡ Some d → deed_sender d < sender_count z → IsAnswered s (meaning_of level) (to_take_back level deed) (MayUndo s (meaning_of level) (kept_at levels level) level deed) answer → IsPlanned s (Undo d) answer
   back_answered level deed d told inside h =
       let one : level ≡ 1 = of_chains level (deed_in deed) (ap is_some told) in
-      back_of_one level deed (subst (λ n. IsAnswered s (meaning_of n) (to_take_back level deed) (MayUndo s (meaning_of n) (kept_at levels n) level deed) answer) one h) d (sym (ap (λ n. deed_by n deed) one) ∙ told) inside
+      back_of_one level deed (subst (λ n. IsAnswered s (meaning_of n) (to_take_back level deed) (MayUndo s (meaning_of n) (kept_at levels n) level deed) answer) one h) d told inside
+
+  -- whatever is asked
+  pub plan_says : (job : Job) → job.undo ≡ false → IsAnswered s (meaning_of job.level) job (MayPlan s (meaning_of job.level) (kept_at levels job.level) job) answer → IsPlannedBy s job answer
+  plan_says job forward h asked told inside = by (doing_by job.level job.bytes) refl (sym (ap (λ (b : Bool). cond b (option_map Undo (deed_by job.level job.bytes)) (option_map Do (doing_by job.level job.bytes))) forward) ∙ told) where
+    by : (o : Option Doing) → doing_by job.level job.bytes ≡ o → option_map Do o ≡ Some asked → IsPlanned s asked answer
+    by None e t = absurd (let no : None ≡ Some asked = t in cc)
+    by (Some d) e t = let is : Do d ≡ asked = some_asked t in subst (λ a. IsPlanned s a answer) is (plan_answered job d forward e (subst (IsOfStore z) (sym is) inside) h)
+
+  pub back_says : (level : ℕ) (deed : List ℕ) → IsAnswered s (meaning_of level) (to_take_back level deed) (MayUndo s (meaning_of level) (kept_at levels level) level deed) answer → IsPlannedBy s (to_take_back level deed) answer
+  back_says level deed h asked told inside = by (deed_by level deed) refl told where
+    by : (o : Option Deed) → deed_by level deed ≡ o → option_map Undo o ≡ Some asked → IsPlanned s asked answer
+    by None e t = absurd (let no : None ≡ Some asked = t in cc)
+    by (Some d) e t = let is : Undo d ≡ asked = some_asked t in subst (λ a. IsPlanned s a answer) is (back_answered level deed d e (subst (IsOfStore z) (sym is) inside) h)
+
+-- something that is to be done is asked for by its job
+pub asks_to_do : (job : Job) (d : Doing) → job.undo ≡ false → doing_by job.level job.bytes ≡ Some d → asked_by job ≡ Some (Do d)
+asks_to_do job d forward told = ap (λ (b : Bool). cond b (option_map Undo (deed_by job.level job.bytes)) (option_map Do (doing_by job.level job.bytes))) forward ∙ ap (option_map Do) told
 
 -- what is to be done is asked of the level that does it
 pub asked_of : (level : ℕ) (bytes : List ℕ) (d : Doing) → doing_by level bytes ≡ Some d → level ≡ doing_level d

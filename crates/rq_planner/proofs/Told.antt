@@ -1,7 +1,7 @@
 -- A level that is told of slots as they are.
-use Rattle.std.proofs.Common.{◌≡◌, ℕ, ◌/◌, ◌%◌, ◌<◌, ◌≤◌, cond, false, nat_eq, List, Option, Some, length, refl, sym, ◌∙◌, ap, subst, arith}
+use Rattle.std.proofs.Common.{◌≡◌, ℕ, ◌/◌, ◌%◌, ◌<◌, ◌≤◌, cond, false, List, Option, Some, length, sym, ◌∙◌, ap, subst, inl, inr, arith}
 use Rattle.std.specs.Prelude.{IfSome}
-use Rattle.std.proofs.lemmas.Bool.{lt-ltb, ne_eqb}
+use Rattle.std.proofs.lemmas.Bool.{cases_Bool, lt-ltb}
 use Rattle.rq_model.specs.Deeds.{deed_by}
 use Rattle.rq_model.specs.Vocabulary.{is_some}
 use Rattle.rq_page.specs.Formatted.{IsFormatted}
@@ -12,27 +12,30 @@ use Rattle.rq_page.specs.Slots.{SlotIsSpelling, held_in, slot_bytes}
 use Rattle.rq_page.specs.Slots.Slot.{Free}
 use Rattle.rq_views.specs.Stored.{IsStoreSlot, slot_at, slots_in}
 use Rattle.rq_pool.specs.Pooled.{IsPool}
-use Rattle.rq_level.specs.LevelState.{LevelState, noted}
-use Rattle.rq_level.specs.Meaning.{AreTold, kept_at, meaning_of}
+use Rattle.rq_level.specs.LevelState.{LevelState}
+use Rattle.rq_level.specs.Meaning.{AreTold, kept_at, level_count, meaning_of}
+use Rattle.rq_level.proofs.EachLevel.{all_lawful}
 use Rattle.rq_level.proofs.Superblock.{sizes_told}
+use Rattle.rq_planner.specs.Handed.{AreForStores}
 use Rattle.rq_sound.proofs.Gathering.{cell_of_store}
 
 -- ---- the sizes
 
--- the level of chains is told as each is
-pub chains_told : (a : ℕ) (bytes : List ℕ) (old new : List LevelState) → AreTold a bytes old new → 1 < length old → kept_at new 1 ≡ noted (kept_at old 1) a bytes
-unfolding meaning_of
-chains_told a bytes old new told handed = told.each 1 handed
-
-pub first_noted : (a : ℕ) (k after : LevelState) (z : Sizes) (image bytes : List ℕ) → a ≡ 1 → after ≡ noted k a bytes → IsInRange z → IsFormatted z 0 image → bytes ≡ slot_of 1 image → after ≡ record k { sizes = Some z }
-first_noted a k after z image bytes first e range is at =
-    e ∙ ap (λ (m : ℕ). noted k m bytes) first ∙ ap (λ (o : Option Sizes). record k { sizes = o }) (sizes_told z image bytes range is at)
+-- each level that may be handed in is ready once the first slot is told
+pub ready_told : (a : ℕ) (old new : List LevelState) (z : Sizes) (image bytes : List ℕ) → a ≡ 1 → AreForStores old → AreTold a bytes old new → IsInRange z → IsFormatted z 0 image → bytes ≡ slot_of 1 image
+    → (i : ℕ) → i < length new → (meaning_of i).ready z (kept_at new i)
+ready_told a old new z image bytes first h told range is at i lt =
+    let inside : i < length old = (let n = told.count in omega (arith, n, lt)) in
+    subst ((meaning_of i).ready z) (sym (told.each i inside ∙ ap (λ n. (meaning_of i).note (kept_at old i) n bytes) first)) (h.ready i z bytes inside range (sizes_told z image bytes range is at))
 
 -- ---- deeds
 
 -- no level of a greater number reads any
-pub none_reads : (n : ℕ) (deed : List ℕ) → 2 ≤ n → false ≡ is_some (deed_by n deed)
-none_reads n deed le = let other : nat_eq n 1 ≡ false = ne_eqb n 1 (λ e. omega (arith, e, le)) in rw other refl
+pub none_reads : (n : ℕ) (deed : List ℕ) → level_count ≤ n → false ≡ is_some (deed_by n deed)
+none_reads n deed le = elim (cases_Bool (is_some (deed_by n deed))) [
+  | inl some ↦ let lt = (all_lawful n).reads deed some in absurd (omega (arith, lt, le))
+  | inr none ↦ sym none
+]
 
 -- ---- slots
 

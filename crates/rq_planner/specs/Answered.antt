@@ -19,7 +19,7 @@ use Rattle.rq_level.specs.declared.slots.Given.{Given}
 use Rattle.rq_level.specs.declared.writes.Plan.{Plan}
 use Rattle.rq_level.specs.declared.writes.SlotWrite.{SlotWrite}
 use Rattle.rq_level.specs.LevelState.{LevelState, is_free_slot}
-use Rattle.rq_level.specs.Meaning.{AreTold, Meaning, kept_at, meaning_of}
+use Rattle.rq_level.specs.Meaning.{AreTold, Meaning, kept_at, level_count, meaning_of}
 use Rattle.rq_level.specs.Ops.{Doing, Job, doing_level}
 use Rattle.rq_level.specs.Ops.Doing.{Send, Receive, Close}
 use Rattle.rq_level.specs.Writes.{AreSlotWrites, answer_of, reply_of}
@@ -35,7 +35,7 @@ use Rattle.rq_sound.specs.Levels.{AreLatched, IsGathered, IsUnlatchedPlan}
 use Rattle.rq_sound.specs.Sound.{IsSound}
 use Rattle.rq_sound.specs.Lowest.{AreAllLatched, FirstIsLowest}
 use Rattle.rq_sound.specs.Inverses.{InverseIsLatched, InverseTakesLowest}
-use Rattle.rq_planner.specs.Asked.{Asked, known, slots_for}
+use Rattle.rq_planner.specs.Asked.{Asked, IsOfStore, asked_by, known, slots_for}
 use Rattle.rq_planner.specs.Asked.Asked.{Do, Undo}
 
 -- ---- by a level of any number
@@ -170,20 +170,19 @@ pub record IsPlanned (s : State) (asked : Asked) (answer : Result Plan Refusal) 
   pub sound : (whole : State) → known whole.sizes whole.images whole.rows ≡ s → IsSound whole → MayBeAsked whole asked
       → IfErr answer (λ r. TellsDamage r → ⊥)
 
+-- Where a job asks for something of the store, the answer is one to that.
+abbrev pub IsPlannedBy : State → Job → Result Plan Refusal → Type 0
+IsPlannedBy s job answer = (asked : Asked) → asked_by job ≡ Some asked → IsOfStore s.sizes asked → IsPlanned s asked answer
+
 -- ---- what levels keep
 
--- the level of this number was told the sizes
-abbrev pub KnowsSizes : Sizes → List LevelState → ℕ → Type 0
-KnowsSizes z levels n = (n < length levels) × ((kept_at levels n).sizes ≡ Some z)
-
 -- Levels know those slots of a store, whatever is under way there: to note one again, as it is, changes nothing that any
--- of them keeps. That of chains was told the sizes, and has room for the cells.
+-- of them keeps. There is one of each number, and each is ready for the store.
 pub record KnowsThose (Those : ℕ → Type 0) (z : Sizes) (images : List (List ℕ)) (levels : List LevelState) : Type 0 where
   pub again : (i a : ℕ) → i < length levels → Those a
       → (meaning_of i).note (kept_at levels i) a (slot_at images a) ≡ kept_at levels i
-  pub chains : KnowsSizes z levels 1
-  pub free_count : cell_count z ≤ length (kept_at levels 1).free
-  pub chosen_count : cell_count z ≤ length (kept_at levels 1).reserved
+  pub all : level_count ≤ length levels
+  pub ready : (i : ℕ) → i < length levels → (meaning_of i).ready z (kept_at levels i)
 
 -- they know the cells, and all its other slots
 abbrev pub KnowsCells : Sizes → List (List ℕ) → List LevelState → Type 0

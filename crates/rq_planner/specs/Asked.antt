@@ -1,10 +1,12 @@
 -- What is asked of a level, and what it needs for that.
-use Rattle.std.specs.Prelude.{ℕ, false, List, [], ◌∷◌}
+use Rattle.std.specs.Prelude.{ℕ, ◌<◌, cond, false, List, [], ◌∷◌, Option, option_map}
 use Rattle.rq_model.specs.declared.record.Deed.{Deed}
-use Rattle.rq_page.specs.Sizes.{Sizes, directory_at}
+use Rattle.rq_model.specs.Deeds.{deed_by}
+use Rattle.rq_page.specs.Sizes.{Sizes, directory_at, sender_count}
 use Rattle.rq_views.specs.Log.{Slots}
+use Rattle.rq_views.specs.Plans.{deed_sender}
 use Rattle.rq_views.specs.Plans.Turn.{Undid}
-use Rattle.rq_level.specs.Ops.{Doing}
+use Rattle.rq_level.specs.Ops.{Doing, Job, doing_by}
 use Rattle.rq_level.specs.Ops.Doing.{Send, Receive, Close}
 use Rattle.rq_pool.specs.Pooled.{Pooled}
 use Rattle.rq_txn.specs.Rows.{Row}
@@ -45,6 +47,15 @@ abbrev pub doing_sender : Doing → ℕ
 doing_sender (Send g tag body) = g
 doing_sender (Receive g) = g
 doing_sender (Close g) = g
+
+-- what a job asks for, if anything
+abbrev pub asked_by : Job → Option Asked
+asked_by job = cond job.undo (option_map Undo (deed_by job.level job.bytes)) (option_map Do (doing_by job.level job.bytes))
+
+-- it is of the store: its group is one of the store's
+abbrev pub IsOfStore : Sizes → Asked → Type 0
+IsOfStore z (Do d) = doing_sender d < sender_count z
+IsOfStore z (Undo d) = deed_sender d < sender_count z
 
 -- the slots that it needs, but for a free one
 abbrev pub slots_for : Slots → Asked → List ℕ

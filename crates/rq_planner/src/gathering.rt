@@ -1,7 +1,7 @@
 //! Gathers the slots that a level wants.
-ghost use Rattle.std.specs.Prelude.{◌≡◌, IfErr, Err, None, OnOk};
+ghost use Rattle.std.specs.Prelude.{◌≡◌, ◌<◌, IfErr, Err, None, OnOk, length};
 ghost use Rattle.rq_level.specs.Meaning.{meaning_of};
-ghost use Rattle.rq_planner.specs.Answered.{HasGathered, IsAnswered, KnowsSizes};
+ghost use Rattle.rq_planner.specs.Answered.{HasGathered, IsAnswered, KnowsCells};
 ghost use Rattle.rq_planner.specs.Asked.{known_from};
 
 use rq_disk::PageDevice;
@@ -22,7 +22,8 @@ pub(crate) fn gather<P: PageDevice, B: Level>(
     op: &Op,
     slots: &mut Slots,
 ) -> Result<(), Refusal>
-    requires { KnowsSizes pages.now.sizes levels.now op.now.level }
+    requires known { KnowsCells pages.now.sizes pages.now.images levels.now }
+    requires level { op.now.level < length levels.now }
     ensures all { OnOk result (HasGathered (known_from pages.now transactions.now) (meaning_of op.now.level) op.now slots.new) }
     ensures none { OnOk result ((meaning_of op.now.level).want op.now slots.new ≡ None) }
     ensures refusal { IfErr result (λ r. IsAnswered (known_from pages.now transactions.now) (meaning_of op.now.level) op.now

@@ -3,16 +3,16 @@ ghost use Rattle.std.specs.Prelude.{◌≡◌, ◌<◌, length, map};
 ghost use Rattle.rq_model.specs.Deeds.{deed_by};
 ghost use Rattle.rq_model.specs.Vocabulary.{is_some};
 ghost use Rattle.rq_level.specs.Meaning.{CountOn};
-ghost use Rattle.rq_planner.specs.Handed.{AreForStores};
+ghost use Rattle.rq_planner.specs.Handed.{AreForStores, AreForStores-prop};
 
 use rq_level::{Level, Levels};
 
-/// The levels of a store, of whatever size it may be: that of single slots, that of chains with room for the cells of the
-/// greatest store, and any others. They were told of nothing yet, or of another store.
+/// The levels of a store, of whatever size it may be: one of each number, and any others, each with room for what it keeps
+/// of the greatest store. They were told of nothing yet, or of another store.
 #[derive(Drop)]
 pub struct StoreLevels<B: Level> {
     pub levels: Levels<B>,
-    ghost fit: { AreForStores levels },
+    ghost fit: { AreForStores levels } by { AreForStores-prop levels },
 }
 
 impl<B: Level> StoreLevels<B> {

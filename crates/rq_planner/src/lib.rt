@@ -4,7 +4,6 @@
 //! The cell of each plan is given back at once, and a level that is told a store knows its cells.
 #![tactic(auto, unfolding(rq_level::specs::Meaning::meaning_of))]
 
-mod deeds;
 mod gathering;
 mod handed;
 mod planner;

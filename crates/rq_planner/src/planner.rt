@@ -1,18 +1,14 @@
 //! Planners: the levels of a store, with the slots that they are given.
-ghost use Rattle.std.specs.Prelude.{◌≡◌, ◌<◌, ◌≤◌, IfErr, IfOk, Some, false, length};
+ghost use Rattle.std.specs.Prelude.{◌≡◌, ◌<◌, IfErr, IfOk, Some, false, length};
 ghost use Rattle.rq_model.specs.declared.record.Deed.{Deed};
 ghost use Rattle.rq_model.specs.Deeds.{deed_by};
-ghost use Rattle.rq_page.specs.Sizes.{cell_count, sender_count};
-ghost use Rattle.rq_views.specs.Plans.{deed_sender};
 ghost use Rattle.rq_views.specs.Stored.{IsStoreSlot, slot_at, slots_in};
 ghost use Rattle.rq_level.specs.Meaning.{AreTold, kept_at, meaning_of};
-ghost use Rattle.rq_level.specs.Ops.{Doing, doing_by};
-ghost use Rattle.rq_planner.specs.Answered.{IsAnswered, IsPlanned, KnowsCells, KnowsSizes, MayPlan, MayUndo, to_take_back};
-ghost use Rattle.rq_planner.specs.Asked.{Do, Undo, doing_sender, known_from};
+ghost use Rattle.rq_planner.specs.Answered.{IsAnswered, IsPlannedBy, KnowsCells, MayPlan, MayUndo, to_take_back};
+ghost use Rattle.rq_planner.specs.Asked.{known_from};
 ghost use Rattle.rq_planner.specs.Backs.{IsJudgedBack, IsRefusedBack, IsTakingBack};
 ghost use Rattle.rq_planner.specs.Handed.{AreForStores};
 
-use crate::deeds::deed_of_store;
 use crate::handed::StoreLevels;
 use crate::planning::{plan, plan_inverse};
 use crate::telling::{tell, tell_store};
@@ -38,15 +34,12 @@ pub struct Planner<B: Level> {
 }
 
 impl<B: Level> Model for Planner<B> {
-    ghost use Rattle.std.specs.Prelude.{◌<◌, length};
     ghost use Rattle.std.specs.Prelude.{List};
     ghost use Rattle.rq_level.specs.LevelState.{LevelState};
 
     ghost Value = { List LevelState };
 
     ghost view = { λ p. p.levels };
-
-    ghost invariant = { λ p. 1 < length p.levels };
 }
 
 impl<B: Level> Planner<B> {
@@ -60,10 +53,9 @@ impl<B: Level> Planner<B> {
         }
     }
 
-    /// Tells the levels a store in which nothing is under way, for whose cells there is room.
+    /// Tells the levels a store in which nothing is under way.
     pub fn tell<P: PageDevice>(&mut self, pages: &Pages<P>)
-        requires free { cell_count pages.now.sizes ≤ length (kept_at self.old 1).free }
-        requires chosen { cell_count pages.now.sizes ≤ length (kept_at self.old 1).reserved }
+        requires { AreForStores self.old }
         ensures { KnowsCells pages.now.sizes pages.now.images self.new }
     {
         tell_store(pages, &mut self.levels);
@@ -99,15 +91,13 @@ impl<B: Level> Planner<B> {
         op: &Op,
     ) -> Result<Plan, Refusal>
         requires known { KnowsCells pages.now.sizes pages.now.images self.old }
-        requires level { KnowsSizes pages.now.sizes self.old op.now.level }
+        requires level { op.now.level < length self.old }
         requires forward { op.now.undo ≡ false }
         ensures same { self.new ≡ self.old }
         ensures answered { IsAnswered (known_from pages.now transactions.now) (meaning_of op.now.level) op.now
             (MayPlan (known_from pages.now transactions.now) (meaning_of op.now.level) (kept_at self.old op.now.level) op.now)
             result }
-        ensures planned { (d : Doing) → doing_by op.now.level op.now.bytes ≡ Some d
-            → doing_sender d < sender_count pages.now.sizes
-            → IsPlanned (known_from pages.now transactions.now) (Do d) result }
+        ensures planned { IsPlannedBy (known_from pages.now transactions.now) op.now result }
     {
         plan(
             room,
@@ -133,13 +123,12 @@ impl<B: Level> Planner<B> {
         deed: &DeedBytes,
     ) -> Result<Plan, Refusal>
         requires known { KnowsCells pages.now.sizes pages.now.images self.old }
-        requires level { KnowsSizes pages.now.sizes self.old level }
+        requires level { level < length self.old }
         ensures same { self.new ≡ self.old }
         ensures answered { IsAnswered (known_from pages.now transactions.now) (meaning_of level) (to_take_back level deed.now)
             (MayUndo (known_from pages.now transactions.now) (meaning_of level) (kept_at self.old level) level deed.now) result }
-        ensures planned { (d : Deed) → deed_by level deed.now ≡ Some d → deed_sender d < sender_count pages.now.sizes
-            → IsPlanned (known_from pages.now transactions.now) (Undo d) result }
-        ensures judged { (d : Deed) → deed_by level deed.now ≡ Some d → deed_sender d < sender_count pages.now.sizes
+        ensures planned { IsPlannedBy (known_from pages.now transactions.now) (to_take_back level deed.now) result }
+        ensures judged { (d : Deed) → deed_by level deed.now ≡ Some d
             → IsJudgedBack pages.now.sizes (slots_in pages.now.sizes pages.now.images) d result }
     {
         plan_inverse(
@@ -173,15 +162,17 @@ impl<B: Level> Planner<B> {
         ensures refused { IfErr result (λ r. IsRefusedBack pages.now.sizes
             (slots_in pages.now.sizes pages.now.images) (deed_by level deed.now) r) }
     {
-        let Some(_deed) = deed_of_store(pages, level, deed) else {
+        if level as usize >= self.levels.len() {
             return Err(Refusal::Damaged(Damage::Page(0)));
-        };
+        }
         let nobody = Transactions::new(alloc);
         match self.plan_inverse(alloc, Vec::new(alloc), pages, &nobody, level, deed) {
             Ok(plan) => Ok(plan.writes),
             // Nobody has latched a page.
             Err(Refusal::Latched) => Err(Refusal::Damaged(Damage::Page(0))),
-            Err(refusal) => Err(refusal),
+            Err(Refusal::Damaged(damage)) => Err(Refusal::Damaged(damage)),
+            // No level refuses for another cause than memory.
+            Err(_) => Err(Refusal::NoMemory),
         }
     }
 }

@@ -1,7 +1,7 @@
 //! Plans of operations, and of what takes them back.
-ghost use Rattle.std.specs.Prelude.{◌≡◌};
+ghost use Rattle.std.specs.Prelude.{◌≡◌, ◌<◌, length};
 ghost use Rattle.rq_level.specs.Meaning.{kept_at, meaning_of};
-ghost use Rattle.rq_planner.specs.Answered.{IsAnswered, KnowsCells, KnowsSizes, MayPlan, MayUndo, to_take_back};
+ghost use Rattle.rq_planner.specs.Answered.{IsAnswered, KnowsCells, MayPlan, MayUndo, to_take_back};
 ghost use Rattle.rq_planner.specs.Asked.{known_from};
 
 use crate::gathering::gather;
@@ -30,7 +30,7 @@ pub(crate) fn plan<P: PageDevice, B: Level>(
     slots: &mut Slots,
 ) -> Result<Plan, Refusal>
     requires known { KnowsCells pages.now.sizes pages.now.images levels.old }
-    requires level { KnowsSizes pages.now.sizes levels.old op.now.level }
+    requires level { op.now.level < length levels.old }
     ensures same { levels.new ≡ levels.old }
     ensures answered { IsAnswered (known_from pages.now transactions.now) (meaning_of op.now.level) op.now
         (MayPlan (known_from pages.now transactions.now) (meaning_of op.now.level) (kept_at levels.old op.now.level) op.now)
@@ -61,7 +61,7 @@ pub(crate) fn plan_inverse<P: PageDevice, B: Level>(
     slots: &mut Slots,
 ) -> Result<Plan, Refusal>
     requires known { KnowsCells pages.now.sizes pages.now.images levels.old }
-    requires level { KnowsSizes pages.now.sizes levels.old level }
+    requires level { level < length levels.old }
     ensures same { levels.new ≡ levels.old }
     ensures answered { IsAnswered (known_from pages.now transactions.now) (meaning_of level) (to_take_back level deed.now)
         (MayUndo (known_from pages.now transactions.now) (meaning_of level) (kept_at levels.old level) level deed.now) result }

@@ -1,11 +1,12 @@
 //! Tells levels of slots as they are.
-ghost use Rattle.std.specs.Prelude.{◌≡◌, ◌↔◌, ◌*◌, ◌<◌, ◌≤◌, IfErr, IfOk, IfSome, IsTrue, Some, length, slice_get};
+ghost use Rattle.std.specs.Prelude.{◌≡◌, ◌↔◌, ◌*◌, ◌<◌, ℕ, IfErr, IfOk, IfSome, IsTrue, Some, length, slice_get};
 ghost use Rattle.rq_page.specs.Cells.{free_bytes};
-ghost use Rattle.rq_page.specs.Sizes.{IsCellAddress, cell_count};
+ghost use Rattle.rq_page.specs.Sizes.{IsCellAddress};
 ghost use Rattle.rq_page.specs.Slots.{Free};
 ghost use Rattle.rq_views.specs.Stored.{IsStoreSlot, slot_at, slots_in};
-ghost use Rattle.rq_level.specs.Meaning.{AreTold, kept_at};
+ghost use Rattle.rq_level.specs.Meaning.{AreTold, kept_at, meaning_of};
 ghost use Rattle.rq_planner.specs.Answered.{KnowsCells, MayBeTold, client_slot};
+ghost use Rattle.rq_planner.specs.Handed.{AreForStores};
 
 use rq_disk::PageDevice;
 use rq_level::{Level, Levels, Plan, SlotWrite};
@@ -54,9 +55,7 @@ fn unreserve<P: PageDevice, B: Level>(
 /// Tells levels a store in which nothing is under way: the superblock's slot that tells the sizes, and then each slot of
 /// the directory pages, of the cells and of the tag pages.
 pub(crate) fn tell_store<P: PageDevice, B: Level>(pages: &Pages<P>, levels: &mut Levels<B>)
-    requires handed { 1 < length levels.old }
-    requires free { cell_count pages.now.sizes ≤ length (kept_at levels.old 1).free }
-    requires chosen { cell_count pages.now.sizes ≤ length (kept_at levels.old 1).reserved }
+    requires { AreForStores levels.old }
     ensures { KnowsCells pages.now.sizes pages.now.images levels.new }
 {
     tell_sizes(pages, levels);
@@ -145,9 +144,9 @@ fn is_at(free: &Option<Addr>, at: Addr) -> bool
 
 // Tells levels the sizes of the store.
 fn tell_sizes<P: PageDevice, B: Level>(pages: &Pages<P>, levels: &mut Levels<B>)
-    requires { 1 < length levels.old }
-    ensures handed { length levels.new ≡ length levels.old }
-    ensures told { kept_at levels.new 1 ≡ record (kept_at levels.old 1) { sizes = Some pages.now.sizes } }
+    requires { AreForStores levels.old }
+    ensures count { length levels.new ≡ length levels.old }
+    ensures ready { (i : ℕ) → i < length levels.new → (meaning_of i).ready pages.now.sizes (kept_at levels.new i) }
 {
     pages.shows_kept();
     let superblock = pages.page(0).unwrap();

@@ -7,7 +7,7 @@ use Rattle.rq_model.specs.declared.record.Deed.{Deed}
 use Rattle.rq_model.specs.declared.record.Deed.TheVariants.{Append, UnlinkHead, Close as Close_deed}
 use Rattle.rq_model.specs.declared.record.Record.{Record}
 use Rattle.rq_model.specs.declared.record.Record.TheVariants.{OpEnd}
-use Rattle.rq_model.specs.Deeds.{deed_in}
+use Rattle.rq_model.specs.Deeds.{deed_by}
 use Rattle.rq_model.specs.Vocabulary.{has_number}
 use Rattle.rq_page.specs.declared.cell.Cell.{Cell}
 use Rattle.rq_page.specs.Sizes.{Sizes, IsCellAddress, cell_at, cell_count, place_of}
@@ -25,7 +25,7 @@ use Rattle.rq_level.specs.declared.slots.Given.{Given}
 use Rattle.rq_level.specs.declared.writes.Plan.{Plan}
 use Rattle.rq_level.specs.declared.writes.SlotWrite.{SlotWrite}
 use Rattle.rq_level.specs.LevelState.{LevelState, flag_at, is_cell_address, is_free_slot, noted, noted_cell, noted_in, reserved_at}
-use Rattle.rq_level.specs.Ops.{Doing, doing_in}
+use Rattle.rq_level.specs.Ops.{Doing, doing_by}
 use Rattle.rq_level.specs.Ops.Doing.{Send, Receive, Close}
 use Rattle.rq_level.specs.Writes.{writes_of}
 use Rattle.rq_level.proofs.Noting.{is_cell}
@@ -147,12 +147,12 @@ refuses_for s k h false d given latched r after m = does_not s k h given latched
 -- a record that ends an operation is the one that tells a deed
 undone_by : (s : State) (k : LevelState) (h : KeepsCells s k) (told : Record) (given : List Given) (latched : List ℕ) (p : Plan) (after : LevelState)
     → chain_undoes k told given latched (Ok p) after → KeepsBeside s after (first_place p.writes.items)
-undone_by s k h (OpEnd t n level deed) given latched p after m = takes_back s k h given latched (deed_in deed) p after (of_sizes s k (λ o. Undoes o (deed_in deed) k given latched (Ok p) after) h m)
+undone_by s k h (OpEnd t n level deed) given latched p after m = takes_back s k h given latched (deed_by level deed) p after (of_sizes s k (λ o. Undoes o (deed_by level deed) k given latched (Ok p) after) h m)
 undone_by s k h told given latched p after m = absurd m
 
 left_by_refusal : (s : State) (k : LevelState) (h : KeepsCells s k) (told : Record) (given : List Given) (latched : List ℕ) (r : Refusal) (after : LevelState)
     → chain_undoes k told given latched (Err r) after → after ≡ k
-left_by_refusal s k h (OpEnd t n level deed) given latched r after m = leaves s k h given latched (deed_in deed) r after (of_sizes s k (λ o. Undoes o (deed_in deed) k given latched (Err r) after) h m)
+left_by_refusal s k h (OpEnd t n level deed) given latched r after m = leaves s k h given latched (deed_by level deed) r after (of_sizes s k (λ o. Undoes o (deed_by level deed) k given latched (Err r) after) h m)
 left_by_refusal s k h told given latched r after m = m.1
 
 -- ---- slots that are noted as they are
@@ -242,8 +242,8 @@ started_beside s r u ends k d m made h = record {
 
 pub planned_kept : PlannedCellsAreKept
 planned_kept = record {
-  plans = λ s k job given latched p after h m. plans_for s k h job.undo (doing_in job.bytes) given latched p after m;
-  refuses = λ s k job given latched r after h m. subst (KeepsCells s) (sym (refuses_for s k h job.undo (doing_in job.bytes) given latched r after m)) h;
+  plans = λ s k job given latched p after h m. plans_for s k h job.undo (doing_by job.level job.bytes) given latched p after m;
+  refuses = λ s k job given latched r after h m. subst (KeepsCells s) (sym (refuses_for s k h job.undo (doing_by job.level job.bytes) given latched r after m)) h;
   undoes = λ s k told given latched p after h m. undone_by s k h told given latched p after m;
   refuses_undo = λ s k told given latched r after h m. subst (KeepsCells s) (sym (left_by_refusal s k h told given latched r after m)) h;
   starts = started_beside;

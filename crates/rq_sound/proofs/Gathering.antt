@@ -4,7 +4,7 @@ use Rattle.std.proofs.lemmas.Bool.{cases_Bool, eq-eqb, eqb-true, or_left, or_rig
 use Rattle.std.proofs.lemmas.List.Elements.{All-append, All-cons, All-head, All-tail}
 use Rattle.rq_model.specs.declared.record.Deed.{Deed}
 use Rattle.rq_model.specs.declared.record.Deed.TheVariants.{Append, UnlinkHead, Close}
-use Rattle.rq_model.specs.Deeds.{deed_in}
+use Rattle.rq_model.specs.Deeds.{deed_by}
 use Rattle.rq_page.specs.declared.cell.CellSlot.{CellSlot}
 use Rattle.rq_page.specs.declared.cell.CellSlot.TheVariants as cells
 use Rattle.rq_page.specs.declared.layout.PageKind.{PageKind}
@@ -21,9 +21,9 @@ use Rattle.rq_views.specs.Plans.Turn.{Undid}
 use Rattle.rq_views.specs.Stored.{IsStoreSlot}
 use Rattle.rq_level.specs.declared.slots.Given.{Given}
 use Rattle.rq_level.specs.ChainPlans as chain
-use Rattle.rq_level.specs.ChainPlans.{job_wanted, link_wanted, unless_given}
+use Rattle.rq_level.specs.ChainPlans.{along, along_from, asking, job_wanted, link_of, to_head, to_next, to_prev, to_tail, unless_given}
 use Rattle.rq_level.specs.Given.{AreGiven, GivenHolds, HoldsBytes, IsGiven, given_at}
-use Rattle.rq_level.specs.Ops.{Doing, Job, doing_in}
+use Rattle.rq_level.specs.Ops.{Doing, Job, doing_by}
 use Rattle.rq_store.specs.State.{State}
 use Rattle.rq_txn.specs.Rows.{latched_in}
 use Rattle.rq_sound.specs.Groups.{slots_now}
@@ -97,18 +97,18 @@ module _ (s : State) (given : List Given) (h : AreGivenFrom s given) where
   one_wanted b store None e = first_wanted b [] store e
   one_wanted b store (Some bytes) e = more_wanted b bytes None [] e nothing
 
-  link_wants : (b : ℕ) → IsLink s.sizes b → IsWantedOf s given (link_wanted b given) (named b)
+  link_wants : (b : ℕ) → IsLink s.sizes b → IsWantedOf s given (along_from [] b given) (named b)
   link_wants b l = elim (cases_Bool (nat_eq b 0)) [
     | inl y ↦ rw y nothing
     | inr n ↦ rw n (one_wanted b (cell_of_store s.sizes b (names_cell s.sizes b l n)) (given_at b given) refl)
   ]
 
   -- the slots beside a cell
-  behind_slot : (x : CellSlot) → MayStand s.sizes x → IsWantedOf s given (chain.behind x given) (named (next_in (of_cell_slot x)))
+  behind_slot : (x : CellSlot) → MayStand s.sizes x → IsWantedOf s given (along_from [] (link_of (λ c. c.next) x) given) (named (next_in (of_cell_slot x)))
   behind_slot cells.Free m = nothing
   behind_slot (cells.Used c) m = link_wants c.next m.next
 
-  before_slot : (x : CellSlot) → MayStand s.sizes x → IsWantedOf s given (chain.before x given) (named (prev_in (of_cell_slot x)))
+  before_slot : (x : CellSlot) → MayStand s.sizes x → IsWantedOf s given (along_from [] (link_of (λ c. c.prev) x) given) (named (prev_in (of_cell_slot x)))
   before_slot cells.Free m = nothing
   before_slot (cells.Used c) m = link_wants c.prev m.prev
 
@@ -158,22 +158,22 @@ module _ (s : State) (given : List Given) (h : AreGivenFrom s given) where
     abbrev told : Option (List ℕ)
     told = given_at (directory_at g) given
 
-    sends : IsWantedOf s given (chain.send_wants g told given) (at_tail (slots_now s) g)
-    sends = from_group (λ o. chain.send_wants g o given) (λ x. named (tail_in x)) refl (λ bytes head tail. link_wants (directory_in bytes).directory.tail tail) told refl
+    sends : IsWantedOf s given (along (to_tail ∷ []) (directory_at g) given) (at_tail (slots_now s) g)
+    sends = from_group (λ o. asking (directory_at g) (λ bytes. along_from [] (to_tail bytes)) o given) (λ x. named (tail_in x)) refl (λ bytes head tail. link_wants (directory_in bytes).directory.tail tail) told refl
 
-    receives : IsWantedOf s given (chain.receive_wants g told given) (behind_head (slots_now s) g)
-    receives = from_group (λ o. chain.receive_wants g o given) (λ x. named (head_in x) ++ named (next_in (slots_now s (head_in x)))) refl
-        (λ bytes head tail. from_cell (directory_in bytes).directory.head (λ o. chain.behind_head (directory_in bytes).directory.head o given) next_in refl (λ b may. behind_slot (cell_slot_in b) may) head refl) told refl
+    receives : IsWantedOf s given (along (to_head ∷ to_next ∷ []) (directory_at g) given) (behind_head (slots_now s) g)
+    receives = from_group (λ o. asking (directory_at g) (λ bytes. along_from (to_next ∷ []) (to_head bytes)) o given) (λ x. named (head_in x) ++ named (next_in (slots_now s (head_in x)))) refl
+        (λ bytes head tail. from_cell (directory_in bytes).directory.head (λ o. asking (directory_in bytes).directory.head (λ b. along_from [] (to_next b)) o given) next_in refl (λ b may. behind_slot (cell_slot_in b) may) head refl) told refl
 
     marks : IsWantedOf s given (unless_given (directory_at g) told) (directory_at g ∷ [])
     marks = one_wanted (directory_at g) group_of_store told refl
 
-    unsends : IsWantedOf s given (chain.unlink_tail_wants g told given) (before_tail (slots_now s) g)
-    unsends = from_group (λ o. chain.unlink_tail_wants g o given) (λ x. named (tail_in x) ++ named (prev_in (slots_now s (tail_in x)))) refl
-        (λ bytes head tail. from_cell (directory_in bytes).directory.tail (λ o. chain.before_tail (directory_in bytes).directory.tail o given) prev_in refl (λ b may. before_slot (cell_slot_in b) may) tail refl) told refl
+    unsends : IsWantedOf s given (along (to_tail ∷ to_prev ∷ []) (directory_at g) given) (before_tail (slots_now s) g)
+    unsends = from_group (λ o. asking (directory_at g) (λ bytes. along_from (to_prev ∷ []) (to_tail bytes)) o given) (λ x. named (tail_in x) ++ named (prev_in (slots_now s (tail_in x)))) refl
+        (λ bytes head tail. from_cell (directory_in bytes).directory.tail (λ o. asking (directory_in bytes).directory.tail (λ b. along_from [] (to_prev b)) o given) prev_in refl (λ b may. before_slot (cell_slot_in b) may) tail refl) told refl
 
-    returns : IsWantedOf s given (chain.put_back_wants g told given) (at_head (slots_now s) g)
-    returns = from_group (λ o. chain.put_back_wants g o given) (λ x. named (head_in x)) refl (λ bytes head tail. link_wants (directory_in bytes).directory.head head) told refl
+    returns : IsWantedOf s given (along (to_head ∷ []) (directory_at g) given) (at_head (slots_now s) g)
+    returns = from_group (λ o. asking (directory_at g) (λ bytes. along_from [] (to_head bytes)) o given) (λ x. named (head_in x)) refl (λ bytes head tail. link_wants (directory_in bytes).directory.head head) told refl
 
   undoes : (d : Deed) → deed_sender d < sender_count s.sizes → IsWantedOf s given (chain.undo_wanted (Some d) given) (needed (slots_now s) (Undid d))
   undoes (Append g n tag previous body) inside = unsends g inside
@@ -183,12 +183,12 @@ module _ (s : State) (given : List Given) (h : AreGivenFrom s given) where
 -- what a job asks for is what it tells
 to_do : (given : List Given) (job : Job) (d : Doing) → IsToDo job d → job_wanted job given ≡ chain.wanted (Some d) given
 to_do given job d t =
-    ap (λ (b : Bool). cond b (chain.undo_wanted (deed_in job.bytes) given) (chain.wanted (doing_in job.bytes) given)) t.forward
+    ap (λ (b : Bool). cond b (chain.undo_wanted (deed_by job.level job.bytes) given) (chain.wanted (doing_by job.level job.bytes) given)) t.forward
     ∙ ap (λ (o : Option Doing). chain.wanted o given) t.told
 
 to_undo : (given : List Given) (job : Job) (d : Deed) → IsToUndo job d → job_wanted job given ≡ chain.undo_wanted (Some d) given
 to_undo given job d t =
-    ap (λ (b : Bool). cond b (chain.undo_wanted (deed_in job.bytes) given) (chain.wanted (doing_in job.bytes) given)) t.back
+    ap (λ (b : Bool). cond b (chain.undo_wanted (deed_by job.level job.bytes) given) (chain.wanted (doing_by job.level job.bytes) given)) t.back
     ∙ ap (λ (o : Option Deed). chain.undo_wanted o given) t.told
 
 pub wants_needed : WantsAreNeeded

@@ -2,7 +2,7 @@
 -- are given to it, one after the other.
 use Rattle.std.specs.Prelude.{◌≡◌, ℕ, ◌/◌, ◌%◌, ◌<◌, ◌++◌, false, true, List, [], ◌∷◌, Option, None, Some}
 use Rattle.rq_model.specs.declared.record.Deed.{Deed}
-use Rattle.rq_model.specs.Deeds.{deed_in}
+use Rattle.rq_model.specs.Deeds.{deed_by}
 use Rattle.rq_model.specs.Vocabulary.{In}
 use Rattle.rq_page.specs.Sizes.{directory_at, sender_count}
 use Rattle.rq_page.specs.Slots.{IsSlotOf, Slot, held_in}
@@ -12,7 +12,7 @@ use Rattle.rq_views.specs.Stored.{IsStoreSlot}
 use Rattle.rq_level.specs.declared.slots.Given.{Given}
 use Rattle.rq_level.specs.ChainPlans.{job_wanted}
 use Rattle.rq_level.specs.Given.{AreGiven, GivenHolds, given_at}
-use Rattle.rq_level.specs.Ops.{Doing, Job, doing_in}
+use Rattle.rq_level.specs.Ops.{Doing, Job, doing_by}
 use Rattle.rq_level.specs.Ops.Doing.{Send, Receive, Close}
 use Rattle.rq_store.specs.State.{State}
 use Rattle.rq_txn.specs.Rows.{latched_in}
@@ -26,14 +26,14 @@ pub record AreGivenFrom (s : State) (given : List Given) : Type 0 where
   pub of_store : AreGiven s.sizes given
   pub as_is : (a : ℕ) (x : Slot) → GivenHolds s.sizes given a x → slots_now s a ≡ x
 
--- the job is this, to be done; or what takes back this deed
+-- the job is this, to be done by the level that it names; or what takes back this deed of that level
 pub record IsToDo (job : Job) (d : Doing) : Type 0 where
   pub forward : job.undo ≡ false
-  pub told : doing_in job.bytes ≡ Some d
+  pub told : doing_by job.level job.bytes ≡ Some d
 
 pub record IsToUndo (job : Job) (d : Deed) : Type 0 where
   pub back : job.undo ≡ true
-  pub told : deed_in job.bytes ≡ Some d
+  pub told : deed_by job.level job.bytes ≡ Some d
 
 -- Of all the slots that an operation needs this one is wanted next: it is the store's, and was not given. None is where
 -- all were given.

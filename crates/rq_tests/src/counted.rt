@@ -1,7 +1,7 @@
 //! A level that counts how often it is dropped.
-ghost use Rattle.std.specs.Prelude.{◌≡◌, IfOk};
+ghost use Rattle.std.specs.Prelude.{◌≡◌, IfOk, None};
+ghost use Rattle.rq_level.specs.LevelState.{HasRoom};
 ghost use Rattle.rq_levels.specs.Words.{kept_of, number_of};
-ghost use Rattle.rq_planner.specs.Handed.{HasRoom};
 
 use rq_chain::ChainLevel;
 use rq_level::{Level, Op, PageSet, Plan, SlotWrite, Slots, Want};
@@ -25,7 +25,8 @@ pub struct Counted {
 impl Counted {
     /// The level of single slots, which counts its drops here.
     pub fn slots(drops: &Arc<AtomicU64, Global>) -> Result<Counted, AllocError>
-        ensures { IfOk result (λ c. number_of c.level ≡ 0) }
+        ensures number { IfOk result (λ c. number_of c.level ≡ 0) }
+        ensures sizes { IfOk result (λ c. (kept_of c.level).sizes ≡ None) }
     {
         match Arc::try_clone(drops) {
             Ok(drops) => Ok(Counted {

@@ -1,6 +1,6 @@
 //! How often levels are dropped that were handed in as boxes.
-ghost use Rattle.std.specs.Prelude.{◌≡◌};
-ghost use Rattle.rq_planner.specs.Handed.{HasRoom};
+ghost use Rattle.std.specs.Prelude.{◌≡◌, None};
+ghost use Rattle.rq_level.specs.LevelState.{HasRoom};
 
 use crate::counted::Counted;
 use rq_disk::{MemLog, MemPages, Switch};
@@ -42,6 +42,7 @@ fn open_and_close<B: Level>(
 ) -> Result<Dropped, AllocError>
     requires slots { B.level slots ≡ 0 }
     requires operations { B.level chains ≡ 1 }
+    requires sizes { (B.kept slots).sizes ≡ None }
     requires room { HasRoom (B.kept chains) }
 {
     let (pages, log) = store(alloc, is_formatted)?;

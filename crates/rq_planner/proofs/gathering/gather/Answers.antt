@@ -1,12 +1,19 @@
-use Rattle.std.proofs.Common.{◌≡◌, ℕ, Some, ◌/◌, refl, sym, ◌∙◌, ap}
+use Rattle.std.proofs.Common.{◌≡◌, ℕ, Some, ◌/◌, refl, sym, ◌∙◌, ap, arith}
 use Rattle.rq_page.specs.Slots.{held_in}
 use Rattle.rq_level.specs.Meaning.{meaning_of}
 use Rattle.rq_txn.specs.Rows.{latched_in}
 use Rattle.rq_store.specs.State.{State}
 use Rattle.rq_planner.specs.Asked.{known_from}
 use Rattle.rq_planner.proofs.Gathered.{fewer_left, one_more, wish_slot}
+use Rattle.rq_planner.proofs.Knowing.{of_store}
 use Rattle.rq_planner.proofs.Told.{slot_is}
 use Rattle.rq_planner.proofs.gathering.gather.Goals as goal
+
+pub want-requires-clause-given : goal.want-requires-clause-given
+want-requires-clause-given g c =
+    let is = c.level.ensures in
+    let inside = c.requires.level in
+    of_store c.args.pages.now.sizes c.args.pages.now.images c.args.levels.now c.level.result c.loop-at.slots c.requires.known (omega (arith, is, inside)) c.loop-at.invariant.from.of_store
 
 pub loop-at-preserved : goal.loop-at-preserved
 loop-at-preserved g c =

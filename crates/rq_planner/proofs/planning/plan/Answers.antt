@@ -1,10 +1,16 @@
-use Rattle.std.proofs.Common.{◌≡◌, ℕ, slice_set, subst}
+use Rattle.std.proofs.Common.{◌≡◌, ℕ, slice_set, subst, arith}
 use Rattle.rq_level.specs.Meaning.{kept_at, meaning_of}
 use Rattle.rq_planner.specs.Answered.{MayPlan}
 use Rattle.rq_planner.specs.Asked.{known_from}
 use Rattle.rq_planner.proofs.Gathered.{answered, not_from}
-use Rattle.rq_planner.proofs.Knowing.{plan_same}
+use Rattle.rq_planner.proofs.Knowing.{of_store, plan_same}
 use Rattle.rq_planner.proofs.planning.plan.Goals as goal
+
+pub plan-answer-requires-clause-given : goal.plan-answer-requires-clause-given
+plan-answer-requires-clause-given g c =
+    let is = c.level.ensures in
+    let inside = c.requires.level in
+    of_store c.args.pages.now.sizes c.args.pages.now.images c.args.levels.now c.level.result c.gather.new.slots c.requires.known (omega (arith, is, inside)) c.in-Ok.ensures.all.from.of_store
 
 pub returns-in-Ok-clause-same : goal.returns-in-Ok-clause-same
 returns-in-Ok-clause-same g c =

@@ -5,8 +5,12 @@ use Rattle.rq_level.specs.Ops.{Job}
 use Rattle.rq_planner.specs.Answered.{HasGathered, IsAnswered, MayUndo, to_take_back}
 use Rattle.rq_planner.specs.Asked.{known_from}
 use Rattle.rq_planner.proofs.Gathered.{answered, no_memory, none_gathered, not_from}
-use Rattle.rq_planner.proofs.Knowing.{undo_same}
+use Rattle.rq_planner.proofs.Knowing.{of_store, undo_same}
 use Rattle.rq_planner.proofs.planning.plan_inverse.Goals as goal
+
+pub undo-answer-requires-clause-given : goal.undo-answer-requires-clause-given
+undo-answer-requires-clause-given g c =
+    of_store c.args.pages.now.sizes c.args.pages.now.images c.args.levels.now c.args.level c.gather.new.slots c.requires.known c.requires.level c.in-Ok-gather.ensures.all.from.of_store
 
 pub returns-in_default-clause-answered : goal.returns-in_default-clause-answered
 returns-in_default-clause-answered g c =

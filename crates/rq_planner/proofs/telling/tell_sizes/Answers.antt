@@ -1,15 +1,14 @@
 use Rattle.std.proofs.Common.{◌≡◌, sym, subst}
 use Rattle.rq_page.specs.Formatted.{IsFormatted}
 use Rattle.rq_pool.specs.Pooled.{image_at}
-use Rattle.rq_level.specs.Meaning.{kept_at}
 use Rattle.rq_planner.proofs.Options.{some_told}
-use Rattle.rq_planner.proofs.Told.{chains_told, first_noted}
+use Rattle.rq_planner.proofs.Told.{ready_told}
 use Rattle.rq_planner.proofs.telling.tell_sizes.Goals as goal
 
-pub returns-clause-told : goal.returns-clause-told
-returns-clause-told g c =
+pub returns-clause-ready : goal.returns-clause-ready
+returns-clause-ready g c =
     let image : c.unwrap-superblock.result.now ≡ image_at c.args.pages.now.images 0 =
     some_told (λ page. page.now ≡ image_at c.args.pages.now.images 0) c.page.result c.unwrap-superblock.result c.unwrap-superblock.ensures c.page.ensures.image in
     let is : IsFormatted c.args.pages.now.sizes 0 c.unwrap-superblock.result.now = subst (IsFormatted c.args.pages.now.sizes 0) (sym image) c.shows_kept.ensures.pool.superblock in
-    first_noted c.new.result (kept_at c.args.levels.now 1) (kept_at c.noted.new.self 1) c.args.pages.now.sizes c.unwrap-superblock.result.now c.slot.result.now
-    c.new.ensures (chains_told c.new.result c.slot.result.now c.args.levels.now c.noted.new.self c.noted.ensures c.requires) c.shows_kept.ensures.pool.range is c.slot.ensures
+    ready_told c.new.result c.args.levels.now c.noted.new.self c.args.pages.now.sizes c.unwrap-superblock.result.now c.slot.result.now
+    c.new.ensures c.requires c.noted.ensures c.shows_kept.ensures.pool.range is c.slot.ensures

@@ -1,5 +1,4 @@
 use Rattle.std.proofs.Common.{◌≡◌, ◌+◌, ◌*◌, ◌∙◌, ap, subst, arith}
-use Rattle.rq_level.specs.LevelState.{LevelState}
 use Rattle.rq_level.specs.Meaning.{AreTold}
 use Rattle.rq_page.specs.Sizes.{Sizes, cell_at, cell_count, directory_at, sender_count, tags_from}
 use Rattle.rq_views.specs.Stored.{slot_at}
@@ -9,10 +8,9 @@ use Rattle.rq_planner.proofs.telling.tell_store.Goals as goal
 
 pub loop-sender-init : goal.loop-sender-init
 loop-sender-init g c =
-    let two = c.requires.handed in
-    let n = c.tell_sizes.ensures.handed in
-    let told = c.tell_sizes.ensures.told in
-    none_below c.args.pages.now.sizes c.args.pages.now.images c.tell_sizes.new.levels ((omega (arith, two, n)), ap (λ (k : LevelState). k.sizes) told) (rw told c.requires.free) (rw told c.requires.chosen)
+    let all = c.requires.all in
+    let n = c.tell_sizes.ensures.count in
+    none_below c.args.pages.now.sizes c.args.pages.now.images c.tell_sizes.new.levels (omega (arith, all, n)) c.tell_sizes.ensures.ready
 
 pub loop-sender-preserved : goal.loop-sender-preserved
 loop-sender-preserved g c =

@@ -3,7 +3,7 @@ use Rattle.rq_model.specs.declared.refusal.Refusal.TheVariants as why
 use Rattle.rq_level.specs.Ops.{Job}
 use Rattle.rq_level.specs.Ops.Doing.{Receive}
 use Rattle.rq_planner.specs.Asked.Asked.{Do}
-use Rattle.rq_engine.proofs.Leveled.{chain_asked, start_refused}
+use Rattle.rq_engine.proofs.Leveled.{start_refused}
 use Rattle.rq_engine.proofs.engine.Engine.start_take.Goals as goal
 
 pub returns-in_default-clause-started : goal.returns-in_default-clause-started
@@ -15,9 +15,9 @@ start_planned-requires-clause-forward g c = ap (λ (j : Job). j.undo) c.in-Ok.en
 pub start_planned-requires-clause-may : goal.start_planned-requires-clause-may
 start_planned-requires-clause-may g c = record {
   doing = Receive c.args.sender;
-  is = (chain_asked c.in-Ok.op (Receive c.args.sender) c.in-Ok.ensures.op c.in-Ok.ensures.told);
+  is = c.in-Ok.ensures.told;
   may = record { ready = c.requires.may.ready; free = c.requires.waits.1; log = c.requires.may.log; inside = c.requires.waits.0 };
 }
 
 pub returns-clause-started : goal.returns-clause-started
-returns-clause-started g c = c.start_planned.ensures.started (Receive c.args.sender) (chain_asked c.in-Ok.op (Receive c.args.sender) c.in-Ok.ensures.op c.in-Ok.ensures.told)
+returns-clause-started g c = c.start_planned.ensures.started (Receive c.args.sender) c.in-Ok.ensures.told
