@@ -1,11 +1,13 @@
 -- Lists that stand in the order of the log, and as contracts see them, the newest first.
-use Rattle.std.proofs.Common.{◌≡◌, ℕ, suc, ◌+◌, ◌<◌, Bool, true, false, not, List, [], ◌∷◌, ◌++◌, ◌||◌, Some, None, length, take, drop, get_or, reverse, refl, sym, ◌∙◌, ap, inl, inr, arith}
+use Rattle.std.proofs.Common.{◌≡◌, ℕ, suc, ◌+◌, ◌<◌, Bool, true, false, not, List, [], ◌∷◌, ◌++◌, ◌||◌, Option, Some, None, length, take, drop, get_or, reverse, refl, sym, ◌∙◌, ap, inl, inr, arith}
 use Rattle.std.specs.List.{filter, list_any}
 use Rattle.std.proofs.Math.Seq.{split_at}
 use Rattle.std.proofs.lemmas.Bool.{cases_Bool, or_parts}
 use Rattle.std.proofs.lemmas.List.{reverse-append}
 use Rattle.std.proofs.lemmas.List.Elements.{filter-append}
-use Rattle.std.proofs.lemmas.List.Folds.{list_any-append}
+use Rattle.std.proofs.lemmas.List.Folds.{list_any-append, list_any_at}
+use Rattle.std.specs.Option.{is_some}
+use Rattle.std.specs.Prelude.{IfNone, IfSome}
 use Rattle.std.proofs.Math.Bool.{or-false, or_comm}
 use Rattle.rq_model.specs.Vocabulary.{In, first}
 use Rattle.rq_views.proofs.AllOpen.{tail}
@@ -87,6 +89,11 @@ module _ {X : Type 0} (f : X → Bool) where
       ap (λ (l : List X). Some (get_or l i d)) (sym same)
       ∙ sym (first_front (reverse behind) (get_or now i d) (reverse (take i now)) (any_reverse behind ∙ none) own)
       ∙ ap (λ l. first (filter f l)) (sym (turned_at now i d lt)) ∙ ap (λ l. first (filter f (reverse l))) same
+
+  -- whether one was found
+  pub found_any : (ps : List X) (x : Option ℕ) (d : X) → IfSome x (λ i. i < length ps) → IfSome x (λ i. (e : X) → f (get_or ps i e) ≡ true) → IfNone x (list_any f ps ≡ false) → is_some x ≡ list_any f ps
+  found_any ps (Some i) d lt own none = sym (list_any_at f ps i d lt (own d))
+  found_any ps None d lt own none = sym none
 
   pub none_there : (ps : List X) → list_any f ps ≡ false → None ≡ first (filter f (reverse ps))
   none_there ps none = ap first (sym (none_own (reverse ps) (any_reverse ps ∙ none)))

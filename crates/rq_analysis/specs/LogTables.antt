@@ -1,5 +1,5 @@
 -- What is kept of a log, by which its next record is judged.
-use Rattle.std.specs.Prelude.{◌≡◌, ℕ, ◌+◌, ◌⊎◌, true, false, List, [], ◌∷◌, Option, Some, None}
+use Rattle.std.specs.Prelude.{◌≡◌, ◌+◌, ◌⊎◌, true, false, List, [], ◌∷◌, Some}
 use Rattle.std.specs.FinSet as set
 use Rattle.std.specs.List.{filter}
 use Rattle.rq_model.specs.declared.txn.Sub.{Sub}

@@ -200,14 +200,9 @@ fn newest_of(dues: &[KeptUndo], txn: Txn) -> Option<usize>
     None
 }
 
-// Whether one of these is the transaction's.
+// Whether one of these is the transaction's. The newest are looked at first, as they are taken back first.
 fn has_due(dues: &[KeptUndo], txn: Txn) -> bool
     ensures { result ≡ any_due txn dues.now }
 {
-    for due in dues {
-        if due.txn() == txn {
-            return true;
-        }
-    }
-    false
+    newest_of(dues, txn).is_some()
 }

@@ -345,12 +345,7 @@ fn newest_of(undoable: &[KeptWrite], sub: Sub) -> Option<usize>
 fn has_undoable(undoable: &[KeptWrite], sub: Sub) -> bool
     ensures { result ≡ any_undoable sub undoable.now }
 {
-    for write in undoable {
-        if write.by() == sub {
-            return true;
-        }
-    }
-    false
+    newest_of(undoable, sub).is_some()
 }
 
 // Of these operations the least of which none of these writes is.

@@ -2,3 +2,4 @@ pub mod Asked
 pub mod Answered
 pub mod Backs
 pub mod Handed
+pub mod PageUndos

@@ -6,6 +6,7 @@
 
 mod gathering;
 mod handed;
+mod page_undos;
 mod planner;
 mod planning;
 mod telling;

@@ -1,21 +1,26 @@
 //! Planners: the levels of a store, with the slots that they are given.
-ghost use Rattle.std.specs.Prelude.{◌≡◌, ◌<◌, IfErr, IfOk, Some, false, length};
+ghost use Rattle.std.specs.Prelude.{◌≡◌, ◌≢◌, ◌<◌, ◌/◌, ℕ, IfErr, IfOk, IsTrue, Some, true, false, length, slice_set};
 ghost use Rattle.rq_model.specs.declared.record.Deed.{Deed};
 ghost use Rattle.rq_model.specs.Deeds.{deed_by};
 ghost use Rattle.rq_views.specs.Stored.{IsStoreSlot, slot_at, slots_in};
-ghost use Rattle.rq_level.specs.Meaning.{AreTold, kept_at, meaning_of};
+ghost use Rattle.rq_level.specs.Meaning.{AppliesOnce, AreTold, kept_at, meaning_of, redo_of};
+ghost use Rattle.rq_pool.specs.Pooled.{image_at};
+ghost use Rattle.rq_pool.specs.Writing.{IsRedoAt};
 ghost use Rattle.rq_planner.specs.Answered.{IsAnswered, IsPlannedBy, KnowsCells, MayPlan, MayUndo, to_take_back};
 ghost use Rattle.rq_planner.specs.Asked.{known_from};
 ghost use Rattle.rq_planner.specs.Backs.{IsJudgedBack, IsRefusedBack, IsTakingBack};
 ghost use Rattle.rq_planner.specs.Handed.{AreForStores};
+ghost use Rattle.rq_planner.specs.PageUndos.{NotPutBackFor, PutsBackWrite};
 
 use crate::handed::StoreLevels;
+use crate::page_undos::undo_write;
 use crate::planning::{plan, plan_inverse};
 use crate::telling::{tell, tell_store};
 use rq_disk::PageDevice;
 use rq_level::{Level, Levels, Op, Plan, SlotWrite, Slots};
-use rq_model::record::{DeedBytes, Slot};
+use rq_model::record::{DeedBytes, Record, Slot};
 use rq_model::refusal::{Damage, Refusal};
+use rq_model::txn::Lsn;
 use rq_page::addr::Addr;
 use rq_pool::Pages;
 use rq_txn::Transactions;
@@ -35,11 +40,14 @@ pub struct Planner<B: Level> {
 
 impl<B: Level> Model for Planner<B> {
     ghost use Rattle.std.specs.Prelude.{List};
+    ghost use Rattle.std.specs.Prelude.{◌<◌, length};
     ghost use Rattle.rq_level.specs.LevelState.{LevelState};
 
     ghost Value = { List LevelState };
 
     ghost view = { λ p. p.levels };
+
+    ghost invariant = { λ p. 1 < length p.levels };
 }
 
 impl<B: Level> Planner<B> {
@@ -174,5 +182,39 @@ impl<B: Level> Planner<B> {
             // No level refuses for another cause than memory.
             Err(_) => Err(Refusal::NoMemory),
         }
+    }
+
+    /// The write that undoes what a PageOp wrote.
+    ///
+    /// # Errors
+    /// `NoMemory`; `Damaged` where the record is no PageOp, or of a slot that no page has.
+    pub fn undo_write(&mut self, alloc: Global, record: &Record) -> Result<SlotWrite, Refusal>
+        ensures same { self.new ≡ self.old }
+        ensures back { IfOk result (λ write. PutsBackWrite «record».now write) }
+        ensures err { IfErr result (λ e. NotPutBackFor «record».now e) }
+    {
+        undo_write(alloc, &mut self.levels, record)
+    }
+
+    /// Has the level of single slots apply a record to its page, as `Pages::redo` does.
+    pub fn redo<P: PageDevice>(
+        &mut self,
+        pages: &mut Pages<P>,
+        at: Addr,
+        lsn: Lsn,
+        record: &Record,
+    ) -> bool
+        requires place { IsStoreSlot pages.old.sizes at }
+        requires write { IsRedoAt pages.old.sizes at (redo_of «record».now) }
+        ensures same { self.new ≡ self.old }
+        ensures page { AppliesOnce (redo_of «record».now) (image_at pages.old.images (at / 16)) lsn result
+            (image_at pages.new.images (at / 16)) }
+        ensures others { (p : ℕ) → p ≢ at / 16 → image_at pages.new.images p ≡ image_at pages.old.images p }
+        ensures changed { IsTrue result → pages.new.changed ≡ slice_set pages.old.changed (at / 16) true }
+        ensures kept { result ≡ false → pages.new.changed ≡ pages.old.changed }
+        ensures sizes { pages.new.sizes ≡ pages.old.sizes }
+        ensures device { pages.new.device ≡ pages.old.device }
+    {
+        pages.redo(&mut self.levels, at, lsn, record)
     }
 }
