@@ -6,10 +6,10 @@ use Rattle.rq_model.specs.declared.refusal.Refusal.{Refusal}
 use Rattle.rq_model.specs.declared.refusal.Refusal.TheVariants.{DiskWrite}
 use Rattle.rq_model.specs.declared.message.Message.{Message}
 use Rattle.rq_model.specs.Vocabulary.{Op, In, has_number, ends, has_txn}
-use Rattle.rq_model.specs.Vocabulary.Op.{Send, Take, End}
+use Rattle.rq_model.specs.Vocabulary.Op.{Send, Take, End, Mark}
 use Rattle.rq_model.specs.History.{Job, Entry, Call, finished, did_by, ops_by, commits, is_send_by, sends_to, NoneAfterEnd}
-use Rattle.rq_model.specs.History.Job.{Sending, Taking, Ending, Undoing}
-use Rattle.rq_model.specs.History.Entry.{Begun, Started, None_free, None_from, Stepped, Ready, Did, Undid, Committed, Acknowledged, Aborting, None_left, Aborted, Handed_over, Forced, Checkpointed, Wrote, Told, Shown, Refused, Crash, Restarted}
+use Rattle.rq_model.specs.History.Job.{Sending, Taking, Ending, Marking, Undoing}
+use Rattle.rq_model.specs.History.Entry.{Begun, Started, None_free, None_from, Stepped, Ready, Did, Undid, Committed, Acknowledged, Aborting, None_left, Aborted, Handed_over, Forced, Checkpointed, Wrote, Told, Told_client, Shown, Refused, Crash, Restarted}
 use Rattle.rq_model.specs.Ledger.{Open, Done, Ledger, found, change, without, ops_of, after, ledger, started, stepped, writes, done_more, undone, fresh_one, any_ends, ended_in, add_number}
 use Rattle.rq_model.specs.Legal.{Legal, IsLegal, start_of, IsDoneBy}
 use Rattle.rq_model.specs.Tests.{Size, Passes, is_aborting, has_closed, free_to_send}
@@ -151,6 +151,8 @@ Clear-started z h l t n left (Ending r) o g good tied x p =
     (Change-held z h l t n r o (started n left (Ending r) o) g at.0 at.1 (not-false (free_to_send t r l.open_ones) p.1.1.1.1.1.0) refl refl (λ s e. cc) (λ m e. absurd (cc)))
 Clear-started z h l t n left (Taking r) o g good tied x p =
     Clear-change h (Started t n (Taking r)) l t (started n left (Taking r)) o g good x refl (Change-plain h l.committed l.open_ones o (started n left (Taking r) o) g (found_in t l.open_ones o x).0 refl refl (λ m e. absurd (cc)) (λ s e. absurd (cc)))
+Clear-started z h l t n left (Marking client tag) o g good tied x p =
+    Clear-change h (Started t n (Marking client tag)) l t (started n left (Marking client tag)) o g good x refl (Change-plain h l.committed l.open_ones o (started n left (Marking client tag) o) g (found_in t l.open_ones o x).0 refl refl (λ m e. absurd (cc)) (λ s e. absurd (cc)))
 Clear-started z h l t n left Undoing o g good tied x p =
     Clear-change h (Started t n Undoing) l t (started n left Undoing) o g good x refl (Change-plain h l.committed l.open_ones o (started n left Undoing o) g (found_in t l.open_ones o x).0 refl refl (λ m e. absurd (cc)) (λ s e. absurd (cc)))
 
@@ -159,6 +161,7 @@ did_end : (h : List Entry) (l : Ledger) (o : Open) (under : Option Job) (op : Op
 did_end h l o (Some (Ending r)) (End k) s g j u a e = let w : r ≡ s = sym a ∙ eqb-true k s e in g.end_held o s j (subst (λ x. o.under ≡ Some (Ending x)) w u)
 did_end h l o (Some (Sending r)) (Send m) s g j u a e = absurd (false≢true e)
 did_end h l o (Some (Taking r)) (Take m) s g j u a e = absurd (false≢true e)
+did_end h l o (Some (Marking client tag)) (Mark d v) s g j u a e = absurd (false≢true e)
 did_end h l o None op s g j u a e = absurd a
 did_end h l o (Some Undoing) op s g j u a e = absurd a
 did_end h l o (Some (Sending m)) (Take n) s g j u a e = absurd a
@@ -167,12 +170,19 @@ did_end h l o (Some (Taking m)) (Send n) s g j u a e = absurd a
 did_end h l o (Some (Taking m)) (End n) s g j u a e = absurd a
 did_end h l o (Some (Ending m)) (Send n) s g j u a e = absurd a
 did_end h l o (Some (Ending m)) (Take n) s g j u a e = absurd a
+did_end h l o (Some (Sending m)) (Mark d v) s g j u a e = absurd a
+did_end h l o (Some (Taking m)) (Mark d v) s g j u a e = absurd a
+did_end h l o (Some (Ending m)) (Mark d v) s g j u a e = absurd a
+did_end h l o (Some (Marking client tag)) (Send n) s g j u a e = absurd a
+did_end h l o (Some (Marking client tag)) (Take n) s g j u a e = absurd a
+did_end h l o (Some (Marking client tag)) (End n) s g j u a e = absurd a
 
 -- a send that is done was under way
 did_send : (l : Ledger) (o : Open) (under : Option Job) (op : Op) (s : ℕ) → IsDoneBy l o under op → sends_to s op ≡ true → (m : Message) × (under ≡ Some (Sending m)) × (m.sender ≡ s)
 did_send l o (Some (Sending m)) (Send n) s a e = (m, refl, ap (λ (x : Message). x.sender) (sym a) ∙ eqb-true n.sender s e)
 did_send l o (Some (Taking r)) (Take m) s a e = absurd (false≢true e)
 did_send l o (Some (Ending r)) (End m) s a e = absurd (false≢true e)
+did_send l o (Some (Marking client tag)) (Mark d v) s a e = absurd (false≢true e)
 did_send l o None op s a e = absurd a
 did_send l o (Some Undoing) op s a e = absurd a
 did_send l o (Some (Sending m)) (Take n) s a e = absurd a
@@ -181,6 +191,12 @@ did_send l o (Some (Taking m)) (Send n) s a e = absurd a
 did_send l o (Some (Taking m)) (End n) s a e = absurd a
 did_send l o (Some (Ending m)) (Send n) s a e = absurd a
 did_send l o (Some (Ending m)) (Take n) s a e = absurd a
+did_send l o (Some (Sending m)) (Mark d v) s a e = absurd a
+did_send l o (Some (Taking m)) (Mark d v) s a e = absurd a
+did_send l o (Some (Ending m)) (Mark d v) s a e = absurd a
+did_send l o (Some (Marking client tag)) (Send n) s a e = absurd a
+did_send l o (Some (Marking client tag)) (Take n) s a e = absurd a
+did_send l o (Some (Marking client tag)) (End n) s a e = absurd a
 
 -- while o has a send for s under way nobody alive has closed s
 none_closed : (h : List Entry) (l : Ledger) (o : Open) (m : Message) → Clear h l.committed l.open_ones → TiedAt h l → In o l.open_ones → o.under ≡ Some (Sending m) → (u : Txn) → In u (alive l.committed l.open_ones) → any_ends m.sender (ops_by h u) ≡ false
@@ -332,6 +348,7 @@ Clear-after z h l (Forced lsn) a good tied g = Clear-same h (Forced lsn) l.commi
 Clear-after z h l (Checkpointed lsn) a good tied g = Clear-same h (Checkpointed lsn) l.committed l.open_ones g refl
 Clear-after z h l (Wrote page done) a good tied g = Clear-same h (Wrote page done) l.committed l.open_ones g refl
 Clear-after z h l (Told s sent tag) a good tied g = Clear-same h (Told s sent tag) l.committed l.open_ones g refl
+Clear-after z h l (Told_client c count tag) a good tied g = Clear-same h (Told_client c count tag) l.committed l.open_ones g refl
 Clear-after z h l (Shown groups) a good tied g = Clear-same h (Shown groups) l.committed l.open_ones g refl
 
 pub Clear-ledger : (z : Size) (h : List Entry) → IsLegal z h → Clear h (ledger h).committed (ledger h).open_ones

@@ -7,7 +7,7 @@ use Rattle.std.proofs.lemmas.Bool.{cases_eq, eq-eqb, ne_eqb}
 use Rattle.rq_model.specs.declared.txn.Txn.{Txn}
 use Rattle.rq_model.specs.declared.record.Record.{Record}
 use Rattle.rq_model.specs.Vocabulary.{Op, sent_for, taken_from}
-use Rattle.rq_model.specs.Vocabulary.Op.{Send, Take, End}
+use Rattle.rq_model.specs.Vocabulary.Op.{Send, Take, End, Mark}
 use Rattle.rq_model.specs.History.{Group}
 use Rattle.rq_model.specs.Ledger.{Done, sent_in, taken_in, rest_in, group_in}
 use Rattle.rq_model.specs.Tests.{below, count_rest, is_sent}
@@ -81,6 +81,7 @@ sum_sent n (Send m ∷ ops) h =
     omega arith
 sum_sent n (Take m ∷ ops) h = sum_sent n ops h.1
 sum_sent n (End s ∷ ops) h = sum_sent n ops h.1
+sum_sent n (Mark client tag ∷ ops) h = sum_sent n ops h.1
 
 -- and so each message taken
 pub sum_taken : (n : ℕ) (ops : List Op) → AllBelow n ops → sum_by (λ s. length (filter_map (taken_from s) ops)) (below n) ≡ length (filter is_taken ops)
@@ -95,6 +96,7 @@ sum_taken n (Take m ∷ ops) h =
     let ih = sum_taken n ops h.1 in
     omega arith
 sum_taken n (End s ∷ ops) h = sum_taken n ops h.1
+sum_taken n (Mark client tag ∷ ops) h = sum_taken n ops h.1
 
 -- sums that gain and lose place by place
 pub sum_both : (f g u v : ℕ → ℕ) (n : ℕ) → ((i : ℕ) → f i + u i ≡ g i + v i) → sum_by f (below n) + sum_by u (below n) ≡ sum_by g (below n) + sum_by v (below n)

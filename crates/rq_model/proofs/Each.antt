@@ -9,10 +9,10 @@ use Rattle.rq_model.specs.declared.refusal.Refusal.{Refusal}
 use Rattle.rq_model.specs.declared.refusal.Refusal.TheVariants.{DiskWrite}
 use Rattle.rq_model.specs.declared.message.Message.{Message}
 use Rattle.rq_model.specs.Vocabulary.{Op, IsPrefix, In, same_txn, taken_from, has_number, front, is_some}
-use Rattle.rq_model.specs.Vocabulary.Op.{Send, Take, End}
+use Rattle.rq_model.specs.Vocabulary.Op.{Send, Take, End, Mark}
 use Rattle.rq_model.specs.History.{Job, Entry, Call}
-use Rattle.rq_model.specs.History.Job.{Sending, Taking, Ending, Undoing}
-use Rattle.rq_model.specs.History.Entry.{Begun, Started, None_free, None_from, Stepped, Ready, Did, Undid, Committed, Acknowledged, Aborting, None_left, Aborted, Handed_over, Forced, Checkpointed, Wrote, Told, Shown, Refused, Crash, Restarted}
+use Rattle.rq_model.specs.History.Job.{Sending, Taking, Ending, Marking, Undoing}
+use Rattle.rq_model.specs.History.Entry.{Begun, Started, None_free, None_from, Stepped, Ready, Did, Undid, Committed, Acknowledged, Aborting, None_left, Aborted, Handed_over, Forced, Checkpointed, Wrote, Told, Told_client, Shown, Refused, Crash, Restarted}
 use Rattle.rq_model.specs.Ledger.{Open, Done, Ledger, rest_in, found, without, ops_of, after, ledger, started, stepped, writes, done_more, undone, fresh_one, add_number, own_takes}
 use Rattle.rq_model.specs.Legal.{OnFound, At, CanStart, Legal, IsLegal, IsDoneBy, start_of}
 use Rattle.rq_model.specs.Tests.{free_to_receive, free_of, Size, Passes}
@@ -80,6 +80,7 @@ Changes-plain c os i b o p g j e r f n = record {
 pub Changes-started : (c : List Done) (os : List Open) (i b n k : ℕ) (o : Open) (job : Job) → Good c os i b → In o os → ((s : ℕ) → job ≡ Taking s → free_to_receive o.txn s os ≡ true) → Changes c os o (started n k job o)
 Changes-started c os i b n k o (Sending m) g j f = Changes-plain c os i b o (started n k (Sending m) o) g j refl refl (λ s. ([], append-nil (own_takes s o))) (λ s e. cc)
 Changes-started c os i b n k o (Ending r) g j f = Changes-plain c os i b o (started n k (Ending r) o) g j refl refl (λ s. ([], append-nil (own_takes s o))) (λ s e. cc)
+Changes-started c os i b n k o (Marking client tag) g j f = Changes-plain c os i b o (started n k (Marking client tag) o) g j refl refl (λ s. ([], append-nil (own_takes s o))) (λ s e. cc)
 Changes-started c os i b n k o Undoing g j f = Changes-plain c os i b o (started n k Undoing o) g j refl refl (λ s. ([], append-nil (own_takes s o))) (λ s e. cc)
 Changes-started c os i b n k o (Taking r) g j f = record {
   txn = refl;
@@ -115,6 +116,7 @@ Changes-did : (l : Ledger) (os : List Open) (i b : ℕ) (o : Open) (under : Opti
 Changes-did l os i b o (Some (Sending m)) (Send n) g j u a = Changes-plain l.committed os i b o (done_more (Send n) o) g j refl refl (λ s. ([], append-nil _ ∙ own_more s o (Send n) ∙ append-nil (own_takes s o))) (λ s e. cc)
 Changes-did l os i b o (Some (Taking r)) (Take m) g j u a = Changes-took l os i b r o m g j u a
 Changes-did l os i b o (Some (Ending r)) (End k) g j u a = Changes-plain l.committed os i b o (done_more (End k) o) g j refl refl (λ s. ([], append-nil _ ∙ own_more s o (End k) ∙ append-nil (own_takes s o))) (λ s e. cc)
+Changes-did l os i b o (Some (Marking client tag)) (Mark d v) g j u a = Changes-plain l.committed os i b o (done_more (Mark d v) o) g j refl refl (λ s. ([], append-nil _ ∙ own_more s o (Mark d v) ∙ append-nil (own_takes s o))) (λ s e. cc)
 Changes-did l os i b o None op g j u a = absurd a
 Changes-did l os i b o (Some Undoing) op g j u a = absurd a
 Changes-did l os i b o (Some (Sending m)) (Take n) g j u a = absurd a
@@ -123,6 +125,12 @@ Changes-did l os i b o (Some (Taking m)) (Send n) g j u a = absurd a
 Changes-did l os i b o (Some (Taking m)) (End n) g j u a = absurd a
 Changes-did l os i b o (Some (Ending m)) (Send n) g j u a = absurd a
 Changes-did l os i b o (Some (Ending m)) (Take n) g j u a = absurd a
+Changes-did l os i b o (Some (Sending m)) (Mark d v) g j u a = absurd a
+Changes-did l os i b o (Some (Taking m)) (Mark d v) g j u a = absurd a
+Changes-did l os i b o (Some (Ending m)) (Mark d v) g j u a = absurd a
+Changes-did l os i b o (Some (Marking client tag)) (Send n) g j u a = absurd a
+Changes-did l os i b o (Some (Marking client tag)) (Take n) g j u a = absurd a
+Changes-did l os i b o (Some (Marking client tag)) (End n) g j u a = absurd a
 
 -- a start of a receive has passed the test that its group is free
 started_free : (z : Size) (l : Ledger) (t : Txn) (job : Job) (s : ℕ) → Passes z l (start_of t job) → job ≡ Taking s → free_to_receive t s l.open_ones ≡ true
@@ -131,6 +139,7 @@ started_free z l t (Taking r) s p e =
     subst (λ x. free_to_receive t x l.open_ones ≡ true) w (not-false (free_to_receive t r l.open_ones) p.1.1.1.1.1.0)
 started_free z l t (Sending m) s p e = cc
 started_free z l t (Ending m) s p e = cc
+started_free z l t (Marking client tag) s p e = cc
 started_free z l t Undoing s p e = cc
 
 pub known : (l : Ledger) (t : Txn) → not (is_some (found t l.open_ones)) ≡ false → (o : Open) × (found t l.open_ones ≡ Some o)
@@ -230,6 +239,7 @@ Good-after z l (Forced lsn) a g = g
 Good-after z l (Checkpointed lsn) a g = g
 Good-after z l (Wrote page done) a g = g
 Good-after z l (Told s sent tag) a g = g
+Good-after z l (Told_client c count tag) a g = g
 Good-after z l (Shown groups) a g = g
 
 pub Good-ledger : (z : Size) (h : List Entry) → IsLegal z h → GoodAt (ledger h)

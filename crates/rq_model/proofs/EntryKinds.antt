@@ -4,7 +4,7 @@ use Rattle.rq_model.specs.declared.txn.Txn.{Txn}
 use Rattle.rq_model.specs.declared.refusal.Refusal.{Refusal}
 use Rattle.rq_model.specs.declared.refusal.Refusal.TheVariants.{DiskWrite}
 use Rattle.rq_model.specs.History.{Entry, Call}
-use Rattle.rq_model.specs.History.Entry.{Begun, Started, None_free, None_from, Stepped, Ready, Did, Undid, Committed, Acknowledged, Aborting, None_left, Aborted, Handed_over, Forced, Checkpointed, Wrote, Told, Shown, Refused, Crash, Restarted}
+use Rattle.rq_model.specs.History.Entry.{Begun, Started, None_free, None_from, Stepped, Ready, Did, Undid, Committed, Acknowledged, Aborting, None_left, Aborted, Handed_over, Forced, Checkpointed, Wrote, Told, Told_client, Shown, Refused, Crash, Restarted}
 use Rattle.rq_model.specs.Ledger.{Ledger, runs, after}
 
 -- the commits, the incarnation and what is forced stay, and no record is lost
@@ -51,6 +51,7 @@ kind (Aborted t) = Plain (λ l. same l (after (Aborted t) l) refl refl refl refl
 kind Handed_over = Plain (λ l. same l (after Handed_over l) refl refl refl refl (omega arith) refl) refl
 kind (Wrote page done) = Plain (λ l. same l (after (Wrote page done) l) refl refl refl refl (omega arith) refl) refl
 kind (Told s sent tag) = Plain (λ l. same l (after (Told s sent tag) l) refl refl refl refl (omega arith) refl) refl
+kind (Told_client c count tag) = Plain (λ l. same l (after (Told_client c count tag) l) refl refl refl refl (omega arith) refl) refl
 kind (Shown groups) = Plain (λ l. same l (after (Shown groups) l) refl refl refl refl (omega arith) refl) refl
 kind (Refused c r) = Plain (λ l. refused_same l c r) refl
 kind (Committed t lsn) = Commits t lsn

@@ -20,6 +20,7 @@ pub mod Bridges
 pub mod Sent
 pub mod JudgedRefusals
 pub mod JudgedLogs
+pub mod JudgedMarks
 pub mod Bases
 pub mod Deeds
 mod Padded

@@ -7,11 +7,11 @@ use Rattle.rq_model.specs.declared.txn.Txn.{Txn}
 use Rattle.rq_model.specs.declared.refusal.Refusal.{Refusal}
 use Rattle.rq_model.specs.declared.refusal.Refusal.TheVariants.{DiskWrite}
 use Rattle.rq_model.specs.declared.message.Message.{Message}
-use Rattle.rq_model.specs.Vocabulary.{Op, IsPrefix, In, same_txn, taken_from, sent_for}
-use Rattle.rq_model.specs.History.{Job, Entry, Call, ops_by, commits, sends, takes}
-use Rattle.rq_model.specs.History.Job.{Sending, Taking, Ending, Undoing}
-use Rattle.rq_model.specs.History.Entry.{Begun, Started, None_free, None_from, Stepped, Ready, Did, Undid, Committed, Acknowledged, Aborting, None_left, Aborted, Handed_over, Forced, Checkpointed, Wrote, Told, Shown, Refused, Crash, Restarted}
-use Rattle.rq_model.specs.Ledger.{Open, Done, Ledger, sent_in, taken_in, found, change, without, ops_of, after, ledger, started, stepped, writes, done_more, undone, fresh_one}
+use Rattle.rq_model.specs.Vocabulary.{Op, IsPrefix, In, same_txn, taken_from, sent_for, marked_for}
+use Rattle.rq_model.specs.History.{Job, Entry, Call, ops_by, commits, sends, takes, marks}
+use Rattle.rq_model.specs.History.Job.{Sending, Taking, Ending, Marking, Undoing}
+use Rattle.rq_model.specs.History.Entry.{Begun, Started, None_free, None_from, Stepped, Ready, Did, Undid, Committed, Acknowledged, Aborting, None_left, Aborted, Handed_over, Forced, Checkpointed, Wrote, Told, Told_client, Shown, Refused, Crash, Restarted}
+use Rattle.rq_model.specs.Ledger.{Open, Done, Ledger, sent_in, taken_in, marks_in, found, change, without, ops_of, after, ledger, started, stepped, writes, done_more, undone, fresh_one}
 use Rattle.rq_model.specs.Legal.{Legal, IsLegal, start_of}
 use Rattle.rq_model.specs.Tests.{Size, Passes, is_aborting}
 use Rattle.rq_model.proofs.Lists.{same_is, same_self}
@@ -151,6 +151,7 @@ Tied-started : (z : Size) (h : List Entry) (l : Ledger) (t : Txn) (n k : ℕ) (j
 Tied-started z h l t n k (Sending m) o g good x p = Tied-changed h (Started t n (Sending m)) l t (started n k (Sending m)) o g good x refl (λ u. refl) refl (λ a. (a, refl)) (λ a. cc)
 Tied-started z h l t n k (Taking m) o g good x p = Tied-changed h (Started t n (Taking m)) l t (started n k (Taking m)) o g good x refl (λ u. refl) refl (λ a. (a, refl)) (λ a. cc)
 Tied-started z h l t n k (Ending m) o g good x p = Tied-changed h (Started t n (Ending m)) l t (started n k (Ending m)) o g good x refl (λ u. refl) refl (λ a. (a, refl)) (λ a. cc)
+Tied-started z h l t n k (Marking c m) o g good x p = Tied-changed h (Started t n (Marking c m)) l t (started n k (Marking c m)) o g good x refl (λ u. refl) refl (λ a. (a, refl)) (λ a. cc)
 Tied-started z h l t n k Undoing o g good x p = Tied-changed h (Started t n Undoing) l t (started n k Undoing) o g good x refl (λ u. refl) refl (λ a. (a, refl)) (λ a. ap is_aborting (sym x) ∙ not-false (is_aborting (found t l.open_ones)) p.1.1.0)
 
 Tied-refused : (h : List Entry) (l : Ledger) (c : Call) (r : Refusal) → TiedAt h l → TiedAt (Refused c r ∷ h) (after (Refused c r) l)
@@ -190,6 +191,7 @@ Tied-after z h l (Forced lsn) a good g = Tied-all h (Forced lsn) l.committed l.o
 Tied-after z h l (Checkpointed lsn) a good g = Tied-all h (Checkpointed lsn) l.committed l.open_ones l.incarnation l.begins g refl (λ u. refl)
 Tied-after z h l (Wrote page done) a good g = Tied-all h (Wrote page done) l.committed l.open_ones l.incarnation l.begins g refl (λ u. refl)
 Tied-after z h l (Told s sent tag) a good g = Tied-all h (Told s sent tag) l.committed l.open_ones l.incarnation l.begins g refl (λ u. refl)
+Tied-after z h l (Told_client c count tag) a good g = Tied-all h (Told_client c count tag) l.committed l.open_ones l.incarnation l.begins g refl (λ u. refl)
 Tied-after z h l (Shown groups) a good g = Tied-all h (Shown groups) l.committed l.open_ones l.incarnation l.begins g refl (λ u. refl)
 
 pub Tied-empty : Tied [] [] [] 0 0
@@ -208,7 +210,7 @@ Tied-ledger z [] a = Tied-empty
 Tied-ledger z (e ∷ h) a = Tied-after z h (ledger h) e a.0 (Good-ledger z h a.1) (Tied-ledger z h a.1)
 
 -- going through the names is going through the transactions
-through : (F : Op → Option Message) (h : List Entry) (c : List Done) → ((d : Done) → In d c → ops_by h d.txn ≡ d.ops) → flat_map (λ t. filter_map F (ops_by h t)) (map (λ (d : Done). d.txn) c) ≡ flat_map (λ (d : Done). filter_map F d.ops) c
+through : {Y : Type 0} (F : Op → Option Y) (h : List Entry) (c : List Done) → ((d : Done) → In d c → ops_by h d.txn ≡ d.ops) → flat_map (λ t. filter_map F (ops_by h t)) (map (λ (d : Done). d.txn) c) ≡ flat_map (λ (d : Done). filter_map F d.ops) c
 through F h [] f = refl
 through F h (d ∷ c) f = ap (λ x. filter_map F x ++ flat_map (λ t. filter_map F (ops_by h t)) (map (λ (y : Done). y.txn) c)) (f d (inl refl)) ∙ ap (λ x. filter_map F d.ops ++ x) (through F h c (λ y j. f y (inr j)))
 
@@ -218,6 +220,9 @@ sends_are z h s a = let g = Tied-ledger z h a in ap (λ c. flat_map (λ t. filte
 
 pub takes_are : (z : Size) (h : List Entry) (s : ℕ) → IsLegal z h → takes h s ≡ taken_in (ledger h).committed s
 takes_are z h s a = let g = Tied-ledger z h a in ap (λ c. flat_map (λ t. filter_map (taken_from s) (ops_by h t)) c) (sym g.names) ∙ through (taken_from s) h (ledger h).committed g.done
+
+pub marks_are : (z : Size) (h : List Entry) (c : ℕ) → IsLegal z h → marks h c ≡ marks_in (ledger h).committed c
+marks_are z h c a = let g = Tied-ledger z h a in ap (λ ts. flat_map (λ t. filter_map (marked_for c) (ops_by h t)) ts) (sym g.names) ∙ through (marked_for c) h (ledger h).committed g.done
 
 pub ordered : (z : Size) (h : List Entry) (s : ℕ) → IsLegal z h → IsPrefix (takes h s) (sends h s)
 ordered z h s a = rw (takes_are z h s a, sends_are z h s a) ((Good-ledger z h a).now s)

@@ -5,14 +5,14 @@ use Rattle.std.proofs.lemmas.Bool.{cases_Bool, or_cases, or_parts, or_left, or_r
 use Rattle.rq_model.specs.declared.txn.Txn.{Txn}
 use Rattle.rq_model.specs.declared.refusal.Refusal.{Refusal}
 use Rattle.rq_model.specs.declared.refusal.Refusal.TheVariants.{DiskWrite}
-use Rattle.rq_model.specs.Vocabulary.{Op, In, same_txn, taken_from, sent_for, ends, has_txn}
-use Rattle.rq_model.specs.History.Entry.{Committed, Forced, Checkpointed, Refused, Crash, Restarted}
+use Rattle.rq_model.specs.Vocabulary.{Op, In, same_txn, taken_from, sent_for, last_or, ends, has_txn}
+use Rattle.rq_model.specs.History.Entry.{Committed, Forced, Checkpointed, Told_client, Refused, Crash, Restarted}
 use Rattle.rq_model.specs.Legal.{Legal, IsLegal}
 use Rattle.rq_model.specs.Tests.{Size}
 use Rattle.rq_model.proofs.Lists.{same_is, In-to, In-map}
-use Rattle.rq_model.proofs.Same.{Tied-ledger, sends_are, takes_are}
+use Rattle.rq_model.proofs.Same.{Tied-ledger, sends_are, takes_are, marks_are}
 use Rattle.std.proofs.lemmas.List.{drop-drop, drop-append-le, length-append, take-append-le, take-take, length-take, length-map, length_push}
-use Rattle.rq_model.specs.History.{Entry, Call, Fin, finished, did_by, ops_by, commits, committed_by, ended, closes_by, durable, durable_by, sends}
+use Rattle.rq_model.specs.History.{Entry, Call, Fin, finished, did_by, ops_by, commits, committed_by, ended, closes_by, durable, durable_by, sends, marks}
 use Rattle.rq_model.specs.Ledger.{Done, Ledger, after, ledger, any_ends, ended_in, group_in, sent_in, taken_in, tag_of}
 use Rattle.rq_model.specs.Groups.{group, with_ops, Survives}
 use Rattle.rq_model.proofs.Keeps.{taken_more, sent_more}
@@ -60,6 +60,10 @@ group_are z h s a =
     let x = sends_are z h s a in
     let y = takes_are z h s a in
     group_is _ _ _ _ _ _ _ _ _ _ (ap length x) (ap tag_of x) (ap length y) (ended_are z h s a) (ap (λ n. drop n (sends h s)) (ap length y) ∙ ap (drop (length (taken_in (ledger h).committed s))) x)
+
+-- what is told of a client is the number of its committed marks, and the last one's tag
+pub told_marks : (z : Size) (h : List Entry) (c count tag : ℕ) → IsLegal z (Told_client c count tag ∷ h) → (count ≡ length (marks h c)) × (tag ≡ last_or 0 (marks h c))
+told_marks z h c count tag a = let same = sym (marks_are z h c a.1) in (a.0.1 ∙ ap length same, a.0.2 ∙ ap (last_or 0) same)
 
 ended_join : (c : List Done) (d : Done) (s : ℕ) → ended_in (c ++ d ∷ []) s ≡ (ended_in c s || any_ends s d.ops)
 ended_join [] d s = elim (cases_Bool (any_ends s d.ops)) [ inl y ↦ rw y refl | inr n ↦ rw n refl ]

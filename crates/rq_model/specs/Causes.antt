@@ -3,7 +3,7 @@ use Rattle.std.specs.Prelude.{◌≡◌, Bool, true, false}
 use Rattle.rq_model.specs.declared.refusal.Refusal.{Refusal}
 use Rattle.rq_model.specs.declared.refusal.Refusal.TheVariants as why
 use Rattle.rq_model.specs.History.{Call}
-use Rattle.rq_model.specs.History.Call.{Step, Finish, Acknowledge, Start_abort, Hand_over, Force, Checkpoint, Write_page, Last_tag}
+use Rattle.rq_model.specs.History.Call.{Step, Finish, Acknowledge, Start_abort, Hand_over, Force, Checkpoint, Write_page, Last_tag, Client_tag}
 use Rattle.rq_model.specs.Replay.{Reply}
 use Rattle.rq_model.specs.Replay.Reply.{Gave_refusal}
 
@@ -14,6 +14,7 @@ takes_memory (Finish t n) = false
 takes_memory (Acknowledge t lsn) = false
 takes_memory (Start_abort t) = false
 takes_memory (Last_tag s) = false
+takes_memory (Client_tag c) = false
 takes_memory Hand_over = false
 takes_memory Force = false
 takes_memory Checkpoint = false

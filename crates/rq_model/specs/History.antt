@@ -5,14 +5,15 @@ use Rattle.std.specs.List.{filter_map, flat_map}
 use Rattle.rq_model.specs.declared.txn.Txn.{Txn}
 use Rattle.rq_model.specs.declared.refusal.Refusal.{Refusal}
 use Rattle.rq_model.specs.declared.message.Message.{Message}
-use Rattle.rq_model.specs.Vocabulary.{Op, same_txn, sent_for, taken_from, ends, has_txn, IsPrefix}
-use Rattle.rq_model.specs.Vocabulary.Op.{Send, Take, End}
+use Rattle.rq_model.specs.Vocabulary.{Op, same_txn, sent_for, taken_from, marked_for, ends, has_txn, IsPrefix}
+use Rattle.rq_model.specs.Vocabulary.Op.{Send, Take, End, Mark}
 
 -- What an operation under way is to do. Of a receive it is the group that was picked.
 pub data Job : Type 0 where
   Sending : (message : Message) → Job
   Taking : (sender : ℕ) → Job
   Ending : (sender : ℕ) → Job
+  Marking : (client tag : ℕ) → Job
   Undoing : Job
 
 -- The committed content of a group.
@@ -30,6 +31,7 @@ pub data Call : Type 0 where
   Start_receive : (t : Txn) → Call
   Start_receive_from : (t : Txn) (sender : ℕ) → Call
   Start_close : (t : Txn) (sender : ℕ) → Call
+  Start_mark : (t : Txn) (client tag : ℕ) → Call
   Step : (t : Txn) (number : ℕ) → Call
   Finish : (t : Txn) (number : ℕ) → Call
   Commit : (t : Txn) → Call
@@ -42,6 +44,7 @@ pub data Call : Type 0 where
   Checkpoint : Call
   Write_page : (page : ℕ) → Call
   Last_tag : (sender : ℕ) → Call
+  Client_tag : (client : ℕ) → Call
   Show : Call
 
 -- One call with its reply, a crash, or a restart.
@@ -64,6 +67,7 @@ pub data Entry : Type 0 where
   Checkpointed : (lsn : ℕ) → Entry
   Wrote : (page : ℕ) (done : Bool) → Entry
   Told : (sender sent tag : ℕ) → Entry
+  Told_client : (client count tag : ℕ) → Entry
   Shown : (groups : List Group) → Entry
   Refused : (call : Call) (refusal : Refusal) → Entry
   Crash : (kept records : ℕ) → Entry
@@ -116,6 +120,10 @@ sends h s = flat_map (λ t. filter_map (sent_for s) (ops_by h t)) (commits h)
 abbrev pub takes : List Entry → ℕ → List Message
 takes h s = flat_map (λ t. filter_map (taken_from s) (ops_by h t)) (commits h)
 
+-- the tags that committed transactions marked for client c
+abbrev pub marks : List Entry → ℕ → List ℕ
+marks h c = flat_map (λ t. filter_map (marked_for c) (ops_by h t)) (commits h)
+
 abbrev pub closes_by : List Txn → ℕ → Option Fin → Bool
 closes_by c s None = false
 closes_by c s (Some d) = has_txn d.txn c && ends s d.op
@@ -129,6 +137,7 @@ abbrev pub sends_to : ℕ → Op → Bool
 sends_to s (Send m) = nat_eq m.sender s
 sends_to s (Take m) = false
 sends_to s (End r) = false
+sends_to s (Mark client tag) = false
 
 abbrev pub is_send_by : List Txn → ℕ → Option Fin → Bool
 is_send_by c s None = false

@@ -4,20 +4,22 @@ use Rattle.std.specs.List.{filter, filter_map, flat_map, sum_by}
 use Rattle.rq_model.specs.declared.txn.Txn.{Txn}
 use Rattle.rq_model.specs.declared.refusal.Refusal.TheVariants.{DiskWrite}
 use Rattle.rq_model.specs.declared.message.Message.{Message}
-use Rattle.rq_model.specs.Vocabulary.{Op, last, same_txn, sent_for, taken_from, ends, has_number, last_or, front}
-use Rattle.rq_model.specs.Vocabulary.Op.{Send, Take, End}
+use Rattle.rq_model.specs.Vocabulary.{Op, last, same_txn, sent_for, taken_from, marked_for, ends, has_number, last_or, front}
+use Rattle.rq_model.specs.Vocabulary.Op.{Send, Take, End, Mark}
 use Rattle.rq_model.specs.History.{Job, Group, Entry}
-use Rattle.rq_model.specs.History.Job.{Sending, Taking, Ending, Undoing}
+use Rattle.rq_model.specs.History.Job.{Sending, Taking, Ending, Marking, Undoing}
 use Rattle.rq_model.specs.History.Entry.{Begun, Started, Did, Undid, Committed, Aborting, Aborted, Stepped, Forced, Checkpointed, Refused, Crash, Restarted}
 
--- A transaction that has not ended. Its operations are those finished and not undone, in order. Of the one under way,
--- `left` is how many of its slot writes are not made.
+-- A transaction that has not ended. Its operations are those finished and not undone, in order. It holds the sending and
+-- receiving ends of these senders, and the ends of the clients that it is `marking`. Of the operation under way, `left`
+-- is how many of its slot writes are not made.
 pub record Open : Type 0 where
   pub txn : Txn
   pub aborting : Bool
   pub ops : List Op
   pub sending : List ℕ
   pub receiving : List ℕ
+  pub marking : List ℕ
   pub number : ℕ
   pub under : Option Job
   pub left : ℕ
@@ -59,6 +61,9 @@ sent_in c s = flat_map (λ d. filter_map (sent_for s) d.ops) c
 
 abbrev pub taken_in : List Done → ℕ → List Message
 taken_in c s = flat_map (λ d. filter_map (taken_from s) d.ops) c
+
+abbrev pub marks_in : List Done → ℕ → List ℕ
+marks_in ds c = flat_map (λ d. filter_map (marked_for c) d.ops) ds
 
 abbrev pub any_ends : ℕ → List Op → Bool
 any_ends s [] = false
@@ -110,6 +115,7 @@ fresh_one t = record {
   ops = [];
   sending = [];
   receiving = [];
+  marking = [];
   number = 0;
   under = None;
   left = 0;
@@ -137,6 +143,12 @@ started n left (Ending s) o = record o {
   left = left;
   sending = add_number s o.sending;
 }
+started n left (Marking client tag) o = record o {
+  number = n;
+  under = Some (Marking client tag);
+  left = left;
+  marking = add_number client o.marking;
+}
 started n left Undoing o = record o { number = n; under = Some Undoing; left = left }
 
 abbrev pub stepped : Open → Open
@@ -161,12 +173,15 @@ undo_writes l None = 0
 undo_writes l (Some (Send m)) = cond (nat_lt 1 (in_chain l m.sender)) 3 2
 undo_writes l (Some (Take m)) = cond (nat_eq (in_chain l m.sender) 0) 2 3
 undo_writes l (Some (End s)) = 1
+undo_writes l (Some (Mark client tag)) = 1
 
--- how many slots an operation writes: a cell, the cell beside it where there is one, and the directory slot
+-- how many slots an operation writes: a cell, the cell beside it where there is one, and the directory slot; a close the
+-- last alone, a mark its client's slot
 abbrev pub writes : Ledger → Txn → Job → ℕ
 writes l t (Sending m) = cond (nat_eq (in_chain l m.sender) 0) 2 3
 writes l t (Taking s) = cond (nat_lt 1 (in_chain l s)) 3 2
 writes l t (Ending s) = 1
+writes l t (Marking client tag) = 1
 writes l t Undoing = undo_writes l (last (ops_of (found t l.open_ones)))
 
 abbrev pub done_more : Op → Open → Open

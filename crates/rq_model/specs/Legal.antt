@@ -3,13 +3,13 @@ use Rattle.std.specs.Prelude.{◌≡◌, ◌⊎◌, ℕ, ◌+◌, ◌<◌, ◌�
 use Rattle.rq_model.specs.declared.txn.Txn.{Txn}
 use Rattle.rq_model.specs.declared.refusal.Refusal.{Refusal}
 use Rattle.rq_model.specs.declared.refusal.Refusal.TheVariants.{NoMemory, DiskRead, Latched, PoolFull, DiskWrite, Damaged, NotForced}
-use Rattle.rq_model.specs.Vocabulary.{Op, last, is_some}
-use Rattle.rq_model.specs.Vocabulary.Op.{Send, Take, End}
+use Rattle.rq_model.specs.Vocabulary.{Op, last, last_or, is_some}
+use Rattle.rq_model.specs.Vocabulary.Op.{Send, Take, End, Mark}
 use Rattle.rq_model.specs.History.{Job, Entry, Call}
-use Rattle.rq_model.specs.History.Call.{Begin, Start_send, Start_receive, Start_receive_from, Start_close, Step, Finish, Commit, Acknowledge, Start_abort, Undo_next, End_abort, Hand_over, Force, Checkpoint, Write_page, Last_tag, Show}
-use Rattle.rq_model.specs.History.Job.{Sending, Taking, Ending, Undoing}
-use Rattle.rq_model.specs.History.Entry.{Begun, Started, None_free, None_from, Stepped, Ready, Did, Undid, Committed, Acknowledged, Aborting, None_left, Aborted, Handed_over, Forced, Checkpointed, Wrote, Told, Shown, Refused, Crash, Restarted}
-use Rattle.rq_model.specs.Ledger.{Open, Ledger, Phase, runs, kept_in, ledger, group_in, sent_in, rest_in, found, tag_of, own_takes}
+use Rattle.rq_model.specs.History.Call.{Begin, Start_send, Start_receive, Start_receive_from, Start_close, Start_mark, Step, Finish, Commit, Acknowledge, Start_abort, Undo_next, End_abort, Hand_over, Force, Checkpoint, Write_page, Last_tag, Client_tag, Show}
+use Rattle.rq_model.specs.History.Job.{Sending, Taking, Ending, Marking, Undoing}
+use Rattle.rq_model.specs.History.Entry.{Begun, Started, None_free, None_from, Stepped, Ready, Did, Undid, Committed, Acknowledged, Aborting, None_left, Aborted, Handed_over, Forced, Checkpointed, Wrote, Told, Told_client, Shown, Refused, Crash, Restarted}
+use Rattle.rq_model.specs.Ledger.{Open, Ledger, Phase, runs, kept_in, ledger, group_in, sent_in, marks_in, rest_in, found, tag_of, own_takes}
 use Rattle.rq_model.specs.Ledger.Phase.{Running, Stopped, Shut as Is_shut}
 use Rattle.rq_model.specs.Tests.{Size, below, free_to_receive, holds_for, first_of, tests, Passes, starts, writes_page}
 
@@ -40,12 +40,14 @@ IsDoneBy l o (Some (Sending m)) (Send n) = n ≡ m
 IsDoneBy l o (Some (Taking s)) (Take m) = (m.sender ≡ s)
     × (slice_get (rest_in l.committed s) (length (own_takes s o)) ≡ Some m)
 IsDoneBy l o (Some (Ending s)) (End r) = r ≡ s
+IsDoneBy l o (Some (Marking c tag)) (Mark d u) = (d ≡ c) × (u ≡ tag)
 IsDoneBy l o _ _ = ⊥
 
 abbrev pub start_of : Txn → Job → Call
 start_of t (Sending m) = Start_send t m
 start_of t (Taking s) = Start_receive_from t s
 start_of t (Ending s) = Start_close t s
+start_of t (Marking c tag) = Start_mark t c tag
 start_of t Undoing = Undo_next t
 
 -- what more a start needs
@@ -101,6 +103,8 @@ Legal z l (Checkpointed lsn) = Passes z l Checkpoint × (lsn ≡ l.records + 1)
 Legal z l (Wrote page done) = Passes z l (Write_page page)
 Legal z l (Told s sent tag) = Passes z l (Last_tag s) × (sent ≡ length (sent_in l.committed s))
     × (tag ≡ tag_of (sent_in l.committed s))
+Legal z l (Told_client c count tag) = Passes z l (Client_tag c) × (count ≡ length (marks_in l.committed c))
+    × (tag ≡ last_or 0 (marks_in l.committed c))
 Legal z l (Shown groups) = Passes z l Show × (groups ≡ map (group_in l.committed) (below z.senders))
 Legal z l (Refused c r) = LegalRefusal z l c r
 Legal z l (Crash kept records) = MayCrash l kept records

@@ -15,6 +15,7 @@ pub mod Promises
 pub mod Worked
 pub mod WorkedRefusals
 pub mod WorkedLogs
+pub mod WorkedMarks
 pub mod Tests
 pub mod Rules
 pub mod Commits

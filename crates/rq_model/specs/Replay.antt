@@ -4,11 +4,11 @@ use Rattle.std.specs.Prelude.{◌≡◌, ℕ, Bool, true, false, List, [], ◌�
 use Rattle.rq_model.specs.declared.txn.Txn.{Txn}
 use Rattle.rq_model.specs.declared.refusal.Refusal.{Refusal}
 use Rattle.rq_model.specs.declared.message.Message.{Message}
-use Rattle.rq_model.specs.Vocabulary.Op.{Send, Take, End}
+use Rattle.rq_model.specs.Vocabulary.Op.{Send, Take, End, Mark}
 use Rattle.rq_model.specs.History.{Group, Entry, Call}
-use Rattle.rq_model.specs.History.Call.{Begin, Start_send, Start_receive, Start_receive_from, Start_close, Step, Finish, Commit, Acknowledge, Start_abort, Undo_next, End_abort, Hand_over, Force, Checkpoint, Write_page, Last_tag, Show}
-use Rattle.rq_model.specs.History.Job.{Sending, Taking, Ending, Undoing}
-use Rattle.rq_model.specs.History.Entry.{Begun, Started, None_free, None_from, Stepped, Ready, Did, Undid, Committed, Acknowledged, Aborting, None_left, Aborted, Handed_over, Forced, Checkpointed, Wrote, Told, Shown, Refused}
+use Rattle.rq_model.specs.History.Call.{Begin, Start_send, Start_receive, Start_receive_from, Start_close, Start_mark, Step, Finish, Commit, Acknowledge, Start_abort, Undo_next, End_abort, Hand_over, Force, Checkpoint, Write_page, Last_tag, Client_tag, Show}
+use Rattle.rq_model.specs.History.Job.{Sending, Taking, Ending, Marking, Undoing}
+use Rattle.rq_model.specs.History.Entry.{Begun, Started, None_free, None_from, Stepped, Ready, Did, Undid, Committed, Acknowledged, Aborting, None_left, Aborted, Handed_over, Forced, Checkpointed, Wrote, Told, Told_client, Shown, Refused}
 use Rattle.rq_model.specs.Ledger.{Ledger, after}
 use Rattle.rq_model.specs.Legal.{Legal}
 use Rattle.rq_model.specs.Tests.{Size}
@@ -28,6 +28,7 @@ pub data Reply : Type 0 where
   Gave_sent : Reply
   Gave_message : (message : Message) → Reply
   Gave_closed : Reply
+  Gave_marked : Reply
   Gave_undone : Reply
   Gave_handed_over : Reply
   Gave_forced : (lsn : ℕ) → Reply
@@ -38,10 +39,11 @@ pub data Reply : Type 0 where
   Gave_receipt : (given : Option Number) → Reply
   Gave_written : (done : Bool) → Reply
   Gave_tag : (sent tag : ℕ) → Reply
+  Gave_client_tag : (count tag : ℕ) → Reply
   Gave_content : (groups : List Group) → Reply
   Gave_refusal : (refusal : Refusal) → Reply
 
--- No reply shows the group that was picked, and Sent does not show the message.
+-- No reply shows the group that was picked, Sent does not show the message, and Marked neither client nor tag.
 abbrev pub Says : Call → Reply → Entry → Type 0
 Says c (Gave_refusal r) e = e ≡ Refused c r
 Says Begin (Gave_txn t) e = e ≡ Begun t
@@ -51,11 +53,13 @@ Says (Start_receive t) Gave_none e = e ≡ None_free t
 Says (Start_receive_from t s) (Gave_sub u n) e = (u ≡ t) × (e ≡ Started t n (Taking s))
 Says (Start_receive_from t s) Gave_none e = e ≡ None_from t s
 Says (Start_close t s) (Gave_sub u n) e = (u ≡ t) × (e ≡ Started t n (Ending s))
+Says (Start_mark t c tag) (Gave_sub u n) e = (u ≡ t) × (e ≡ Started t n (Marking c tag))
 Says (Step t n) (Gave_lsn lsn) e = e ≡ Stepped t n lsn
 Says (Step t n) Gave_ready e = e ≡ Ready t n
 Says (Finish t n) Gave_sent e = (m : Message) × (e ≡ Did t n (Send m))
 Says (Finish t n) (Gave_message m) e = e ≡ Did t n (Take m)
 Says (Finish t n) Gave_closed e = (s : ℕ) × (e ≡ Did t n (End s))
+Says (Finish t n) Gave_marked e = (c : ℕ) × (tag : ℕ) × (e ≡ Did t n (Mark c tag))
 Says (Finish t n) Gave_undone e = e ≡ Undid t n
 Says (Commit t) (Gave_commit c) e = (c.txn ≡ t) × (e ≡ Committed t c.lsn)
 Says (Start_abort t) Gave_aborting e = e ≡ Aborting t
@@ -69,6 +73,7 @@ Says Force (Gave_forced lsn) e = e ≡ Forced lsn
 Says Checkpoint (Gave_checkpoint lsn) e = e ≡ Checkpointed lsn
 Says (Write_page page) (Gave_written done) e = e ≡ Wrote page done
 Says (Last_tag s) (Gave_tag sent tag) e = e ≡ Told s sent tag
+Says (Client_tag c) (Gave_client_tag count tag) e = e ≡ Told_client c count tag
 Says Show (Gave_content groups) e = e ≡ Shown groups
 Says _ _ e = ⊥
 

@@ -3,11 +3,11 @@ use Rattle.std.specs.Prelude.{◌≡◌, ℕ, zero, suc, ◌+◌, ◌-◌, ◌^�
 use Rattle.std.specs.List.{filter, sum_by}
 use Rattle.rq_model.specs.declared.txn.Txn.{Txn}
 use Rattle.rq_model.specs.declared.refusal.Refusal.{Refusal}
-use Rattle.rq_model.specs.declared.refusal.Refusal.TheVariants.{Failed, UnknownTransaction, NotOpen, Unfinished, UnknownSender, TooLong, SenderBusy, Closed, ReceiverBusy, TooManyTransactions, LogFull, UnknownOperation, NotQuiet, Full, DiskRead, Latched, PoolFull, DiskWrite, Damaged, NotForced}
+use Rattle.rq_model.specs.declared.refusal.Refusal.TheVariants.{Failed, UnknownTransaction, NotOpen, Unfinished, UnknownSender, TooLong, SenderBusy, Closed, ReceiverBusy, TooManyTransactions, LogFull, UnknownOperation, NotQuiet, UnknownClient, ClientBusy, Full, DiskRead, Latched, PoolFull, DiskWrite, Damaged, NotForced}
 use Rattle.rq_model.specs.Vocabulary.{Op, same_txn, has_number, first, last, is_some}
-use Rattle.rq_model.specs.Vocabulary.Op.{Send, Take, End}
+use Rattle.rq_model.specs.Vocabulary.Op.{Send, Take, End, Mark}
 use Rattle.rq_model.specs.History.{Job, Call}
-use Rattle.rq_model.specs.History.Call.{Begin, Start_send, Start_receive, Start_receive_from, Start_close, Step, Finish, Commit, Acknowledge, Start_abort, Undo_next, End_abort, Hand_over, Force, Checkpoint, Write_page, Last_tag, Show}
+use Rattle.rq_model.specs.History.Call.{Begin, Start_send, Start_receive, Start_receive_from, Start_close, Start_mark, Step, Finish, Commit, Acknowledge, Start_abort, Undo_next, End_abort, Hand_over, Force, Checkpoint, Write_page, Last_tag, Client_tag, Show}
 use Rattle.rq_model.specs.History.Job.{Sending}
 use Rattle.rq_model.specs.Ledger.{Open, Done, Ledger, runs, rest_in, ended_in, any_ends, found, own_takes}
 
@@ -15,6 +15,7 @@ use Rattle.rq_model.specs.Ledger.{Open, Done, Ledger, runs, rest_in, ended_in, a
 pub record Size : Type 0 where
   pub senders : ℕ
   pub cells : ℕ
+  pub clients : ℕ
 
 -- below n: 0, 1, .. in order
 abbrev pub below : ℕ → List ℕ
@@ -52,6 +53,9 @@ free_to_send t s os = free_of (λ o. o.sending) t s os
 
 abbrev pub free_to_receive : Txn → ℕ → List Open → Bool
 free_to_receive t s os = free_of (λ o. o.receiving) t s os
+
+abbrev pub free_to_mark : Txn → ℕ → List Open → Bool
+free_to_mark t c os = free_of (λ o. o.marking) t c os
 
 abbrev pub holds_for : Ledger → Open → ℕ → Bool
 holds_for l o s = nat_lt (length (own_takes s o)) (length (rest_in l.committed s))
@@ -91,6 +95,7 @@ undo_cost None = 0
 undo_cost (Some (Send m)) = 4
 undo_cost (Some (Take m)) = 4
 undo_cost (Some (End s)) = 2
+undo_cost (Some (Mark client tag)) = 2
 
 -- s is free for t, and holds a message for it
 abbrev pub gives : Ledger → Txn → Option Open → ℕ → Bool
@@ -158,6 +163,10 @@ tests z l (Start_close t s) =
     ready_tests l t false
     ++ ((not (nat_lt s z.senders), UnknownSender) ∷ (not (free_to_send t s l.open_ones), SenderBusy)
     ∷ (ended_in l.committed s || has_closed s o, Closed) ∷ (log_full l 2, LogFull) ∷ [])
+tests z l (Start_mark t c tag) =
+    ready_tests l t false
+    ++ ((not (nat_lt c z.clients), UnknownClient) ∷ (not (free_to_mark t c l.open_ones), ClientBusy)
+    ∷ (log_full l 2, LogFull) ∷ [])
 tests z l (Step t n) = (not (runs l.phase), Failed) ∷ (not (has_under n (found t l.open_ones)), UnknownOperation) ∷ []
 tests z l (Finish t n) =
     (not (runs l.phase), Failed) ∷ (not (has_under n (found t l.open_ones)), UnknownOperation)
@@ -173,6 +182,7 @@ tests z l (End_abort t) =
     (not (runs l.phase), Failed) ∷ (not (is_some o), UnknownTransaction) ∷ (not (is_aborting o), NotOpen)
     ∷ (is_busy o || has_done o, Unfinished) ∷ (log_full l 1, LogFull) ∷ []
 tests z l (Last_tag s) = (not (runs l.phase), Failed) ∷ (not (nat_lt s z.senders), UnknownSender) ∷ []
+tests z l (Client_tag c) = (not (runs l.phase), Failed) ∷ (not (nat_lt c z.clients), UnknownClient) ∷ []
 tests z l Show = (not (runs l.phase), Failed) ∷ (any_busy l.open_ones, Unfinished) ∷ []
 tests z l (Acknowledge t lsn) = (not (runs l.phase), Failed) ∷ []
 tests z l Hand_over = (not (runs l.phase), Failed) ∷ []
@@ -195,6 +205,7 @@ starts z l (Start_send t m) = true
 starts z l (Start_receive t) = any_gives (below z.senders) l t (found t l.open_ones)
 starts z l (Start_receive_from t s) = gives l t (found t l.open_ones) s
 starts z l (Start_close t s) = true
+starts z l (Start_mark t c tag) = true
 starts z l (Undo_next t) = is_some (newest (found t l.open_ones))
 starts z l _ = false
 

@@ -11,23 +11,34 @@ pub data Op : Type 0 where
   Send : (message : Message) → Op
   Take : (message : Message) → Op
   End : (sender : ℕ) → Op
+  Mark : (client tag : ℕ) → Op
 
 -- the message that was sent for s
 abbrev pub sent_for : ℕ → Op → Option Message
 sent_for s (Send m) = cond (nat_eq m.sender s) (Some m) None
 sent_for s (Take m) = None
 sent_for s (End r) = None
+sent_for s (Mark client tag) = None
 
 -- the message that was received from s
 abbrev pub taken_from : ℕ → Op → Option Message
 taken_from s (Send m) = None
 taken_from s (Take m) = cond (nat_eq m.sender s) (Some m) None
 taken_from s (End r) = None
+taken_from s (Mark client tag) = None
+
+-- the tag that was marked for the client
+abbrev pub marked_for : ℕ → Op → Option ℕ
+marked_for c (Send m) = None
+marked_for c (Take m) = None
+marked_for c (End r) = None
+marked_for c (Mark client tag) = cond (nat_eq client c) (Some tag) None
 
 abbrev pub ends : ℕ → Op → Bool
 ends s (Send m) = false
 ends s (Take m) = false
 ends s (End r) = nat_eq r s
+ends s (Mark client tag) = false
 
 abbrev pub has_number : ℕ → List ℕ → Bool
 has_number s [] = false

@@ -21,7 +21,7 @@ abbrev pub txn : ℕ → ℕ → Txn
 txn i c = record { incarnation = i; count = c }
 
 abbrev pub small : Size
-small = record { senders = 15; cells = 15 }
+small = record { senders = 15; cells = 15; clients = 15 }
 
 abbrev pub opened : List Entry
 opened = Restarted 1 1 ∷ []

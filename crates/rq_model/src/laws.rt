@@ -1,20 +1,22 @@
 //! What holds of every history with legal replies, and of every log that keeps its rules.
-ghost use Rattle.std.specs.Prelude.{◌≡◌, ◌∷◌, ◌++◌, ℕ, List, take};
+ghost use Rattle.std.specs.Prelude.{◌≡◌, ◌∷◌, ◌++◌, ℕ, List, take, length};
 ghost use Rattle.rq_model.specs.declared.txn.Txn.{Txn};
 ghost use Rattle.rq_model.specs.declared.record.Record.{Record};
 ghost use Rattle.rq_model.specs.declared.record.Record.TheVariants.{Commit};
-ghost use Rattle.rq_model.specs.Vocabulary.{same_txn};
+ghost use Rattle.rq_model.specs.Vocabulary.{last_or, same_txn};
 ghost use Rattle.rq_model.specs.Groups.{group, Survives, commits_left};
 ghost use Rattle.rq_model.specs.Content.{content, with_own, deeds};
 ghost use Rattle.rq_model.specs.Commits.{committed_of};
 ghost use Rattle.rq_model.specs.Rules.{KeepsRules};
 ghost use Rattle.rq_model.specs.Ledger.{ledger, group_in};
-ghost use Rattle.rq_model.specs.History.{Entry};
+ghost use Rattle.rq_model.specs.History.{Entry, marks};
+ghost use Rattle.rq_model.specs.History.Entry.{Told_client};
 ghost use Rattle.rq_model.specs.Promises.{AcknowledgedStay, CheckpointCrashGoesOn, CrashGoesOn, FifoThroughout, NothingBehindClose, ReceiptsAreExact, ReplayGoesOn, RestartGoesOn, ShutCrashGoesOn, StillStoreRefuses};
 ghost use Rattle.rq_model.specs.Legal.{IsLegal};
 ghost use Rattle.rq_model.specs.Tests.{Size};
 ghost use Rattle.rq_model.specs.Worked.{AreWorked};
 ghost use Rattle.rq_model.specs.WorkedLogs.{LogsAreWorked};
+ghost use Rattle.rq_model.specs.WorkedMarks.{MarksAreWorked};
 ghost use Rattle.rq_model.specs.WorkedRefusals.{RefusalsAreWorked};
 
 /// Over every history with legal replies, at every place of it: what committed transactions received from a sender is a
@@ -85,6 +87,13 @@ pub fn shown_is_committed()
         → group history s ≡ group_in (ledger history).committed s }
 {}
 
+/// What was told of a client is how many marks of it committed transactions made, and the tag of the last one, 0 where
+/// there is none.
+pub fn told_marks_are_committed()
+    ensures { (size : Size) (history : List Entry) (client count tag : ℕ) → IsLegal size (Told_client client count tag ∷ history)
+        → (count ≡ length (marks history client)) × (tag ≡ last_or 0 (marks history client)) }
+{}
+
 /// A Commit record adds to the content what its own transaction did, and changes nothing else.
 pub fn commit_adds_its_own()
     ensures { (s : ℕ) (t : Txn) (log : List Record) → KeepsRules (Commit t ∷ log)
@@ -105,6 +114,11 @@ pub fn histories_are_judged()
 /// Where refusals may come that no other worked history has, and where they may not.
 pub fn refusals_are_judged()
     ensures { RefusalsAreWorked }
+{}
+
+/// Worked histories with marks of clients, each legal or refused as it should be.
+pub fn marks_are_judged()
+    ensures { MarksAreWorked }
 {}
 
 /// Worked logs: which keep the rules, what they come to, and what those come to that don't.

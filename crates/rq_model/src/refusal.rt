@@ -64,6 +64,10 @@ pub enum Refusal {
     UnknownOperation,
     /// 21: a transaction has not ended.
     NotQuiet,
+    /// 22: the store has no such client.
+    UnknownClient,
+    /// 23: another transaction holds the client's end.
+    ClientBusy,
 }
 
 impl fmt::Display for Refusal {
@@ -88,7 +92,7 @@ impl From<NoMemory> for Refusal {
 impl Refusal {
     ghost use Rattle.rq_model.specs.Numbers.{number_of, name_of};
 
-    /// The refusal's number, 1 to 21.
+    /// The refusal's number, 1 to 23.
     pub fn number(&self) -> u8
         ensures { result ≡ number_of self.now }
     {
@@ -114,6 +118,8 @@ impl Refusal {
             Refusal::LogFull => 19,
             Refusal::UnknownOperation => 20,
             Refusal::NotQuiet => 21,
+            Refusal::UnknownClient => 22,
+            Refusal::ClientBusy => 23,
         }
     }
 
@@ -143,6 +149,8 @@ impl Refusal {
             Refusal::LogFull => "LogFull",
             Refusal::UnknownOperation => "UnknownOperation",
             Refusal::NotQuiet => "NotQuiet",
+            Refusal::UnknownClient => "UnknownClient",
+            Refusal::ClientBusy => "ClientBusy",
         }
     }
 }

@@ -28,6 +28,9 @@ sender_count l = 15 * l.directory
 abbrev pub cell_count : Sizes → ℕ
 cell_count l = 15 * l.cells
 
+abbrev pub client_count : Sizes → ℕ
+client_count l = 15 * l.tags
+
 -- the address of a slot
 abbrev pub address : ℕ → ℕ → ℕ
 address page slot = page * 16 + slot

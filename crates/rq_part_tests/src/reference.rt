@@ -17,6 +17,8 @@ enum Call {
     Take(u64),
     TakeFrom(u64, u32),
     Close(u64, u32),
+    /// A transaction, a client and a tag.
+    Mark(u64, u32, u64),
     /// A transaction, and the number of its operation.
     Step(u64, u64),
     Finish(u64, u64),
@@ -31,6 +33,8 @@ enum Call {
     Checkpoint,
     /// A sender.
     LastTag(u32),
+    /// A client.
+    ClientTag(u32),
     Content,
     /// A crash that leaves so many records.
     Crash(u64),
@@ -39,7 +43,7 @@ enum Call {
 }
 
 /// A call, and what it answers as a number: a count, an operation's number, an LSN, a message's tag; of a last tag that and a
-/// hundred times how many were sent; of a content how many messages are left, ten times how many were received, a hundred times
+/// hundred times how many were sent, of a client's the same of its marks; of a content how many messages are left, ten times how many were received, a hundred times
 /// how many were sent, and a thousand for each closed group; `REFUSED` and the number of a refusal; 1 for yes, and 0 where nothing
 /// is told. A message that says something else than what was sent comes to `OTHER`.
 type Row = (Call, u64);
@@ -94,6 +98,7 @@ fn ask(queue: &mut Reference, call: Call, commit: Option<(Txn, Lsn)>) -> Result<
                 .unwrap_or(0),
         ),
         Call::Close(count, sender) => queue.start_close(of(now, count), sender),
+        Call::Mark(count, client, tag) => queue.start_mark(of(now, count), client, tag),
         Call::Step(count, asked) => Ok(queue.step(of(now, count), asked)?.unwrap_or(0)),
         Call::Finish(count, asked) => finish(queue, of(now, count), asked),
         Call::Commit(count) => queue.commit(of(now, count)),
@@ -110,7 +115,8 @@ fn ask_other(queue: &mut Reference, call: Call, now: u64) -> Result<u64, Refusal
         Call::HandOver => queue.hand_over()?,
         Call::Force => return queue.force(),
         Call::Checkpoint => return queue.checkpoint(),
-        Call::LastTag(sender) => return last_tag(queue, sender),
+        Call::LastTag(sender) => return Ok(with_tag(queue.last_tag(sender)?)),
+        Call::ClientTag(client) => return Ok(with_tag(queue.client_tag(client)?)),
         Call::Content => return content(queue),
         Call::Crash(records) => return Ok(crash(queue, records)),
         Call::Restart(incarnation, records) => return Ok(restart(queue, incarnation, records)),
@@ -140,9 +146,9 @@ fn acknowledge(queue: &Reference, commit: Option<(Txn, Lsn)>) -> Result<u64, Ref
     }
 }
 
-fn last_tag(queue: &Reference, sender: u32) -> Result<u64, Refusal> {
-    let (sent, tag) = queue.last_tag(sender)?;
-    Ok(sent.saturating_mul(100).saturating_add(tag))
+// How many there are, and the last one's tag.
+fn with_tag((count, tag): (u64, u64)) -> u64 {
+    count.saturating_mul(100).saturating_add(tag)
 }
 
 fn content(queue: &Reference) -> Result<u64, Refusal> {
@@ -202,8 +208,9 @@ fn first_other(queue: &mut Reference, rows: &[Row]) -> Option<(usize, u64)> {
 }
 
 // Two messages, each with a body of its own, are committed; one is received and put back, and then received for good. What is
-// begun is undone, a close too; and one is closed. A checkpoint is made where none is open, and one is stopped by a crash.
-const ROWS: [Row; 85] = [
+// begun is undone, a close too; and one is closed. A checkpoint is made where none is open, and one is stopped by a crash. A
+// client is marked and the mark committed; another mark of it is undone.
+const ROWS: [Row; 109] = [
     (Call::Begin, 102),
     (Call::Restart(1, 1), 1),
     (Call::Begin, 1),
@@ -289,11 +296,35 @@ const ROWS: [Row; 85] = [
     (Call::Restart(4, 36), 1),
     (Call::Crash(38), 0),
     (Call::Crash(37), 1),
+    (Call::Mark(1, 3, 70), 102),
+    (Call::ClientTag(3), 102),
+    (Call::Restart(5, 40), 1),
+    (Call::Begin, 1),
+    (Call::Mark(1, 15, 70), 122),
+    (Call::Mark(1, 3, 70), 1),
+    (Call::Step(1, 1), 41),
+    (Call::Step(1, 1), 0),
+    (Call::Finish(1, 1), 0),
+    (Call::ClientTag(3), 0),
+    (Call::Begin, 2),
+    (Call::Mark(2, 3, 71), 123),
+    (Call::Commit(1), 43),
+    (Call::ClientTag(3), 170),
+    (Call::Mark(2, 3, 71), 1),
+    (Call::Step(2, 1), 44),
+    (Call::Finish(2, 1), 0),
+    (Call::StartAbort(2), 0),
+    (Call::Undo(2), 2),
+    (Call::Step(2, 2), 46),
+    (Call::Finish(2, 2), 0),
+    (Call::EndAbort(2), 0),
+    (Call::ClientTag(3), 170),
+    (Call::ClientTag(15), 122),
 ];
 
-// A store of one directory and one cell page.
+// A store of one directory, one cell and one tag page.
 #[test]
 fn lists_answer_each_call(rt: HostRuntime) {
-    let mut queue = Reference::new(rt.alloc(), 15, 15);
+    let mut queue = Reference::new(rt.alloc(), 15, 15, 15);
     assert_eq!(rt; first_other(&mut queue, &ROWS), None);
 }

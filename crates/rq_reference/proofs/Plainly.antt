@@ -128,7 +128,7 @@ pushed was before so_far more now x e g h = e ∙ ap (λ l. l ++ x ∷ []) g ∙
 pub pushed_none : {X : Type 0} (was before so_far more now : List X) → now ≡ before → before ≡ was ++ so_far → more ≡ so_far ++ [] → now ≡ was ++ more
 pushed_none was before so_far more now e g h = e ∙ g ∙ ap (λ l. was ++ l) (sym (append-nil so_far) ∙ sym h)
 
-last_at : {X : Type 0} (x : X) (xs : List X) (i : ℕ) (d : X) → i < length xs → last_or x (take (i + 1) xs) ≡ get_or xs i d
+pub last_at : {X : Type 0} (x : X) (xs : List X) (i : ℕ) (d : X) → i < length xs → last_or x (take (i + 1) xs) ≡ get_or xs i d
 last_at x [] i d l = absurd (omega arith)
 last_at x (y ∷ xs) zero d l = refl
 last_at x (y ∷ xs) (suc i) d l =

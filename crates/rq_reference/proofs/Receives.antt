@@ -8,7 +8,7 @@ use Rattle.rq_model.specs.declared.message.Message.{Message}
 use Rattle.rq_reference.specs.declared.rows.OpenTxn.{OpenTxn}
 use Rattle.rq_reference.specs.declared.rows.Act.{Act}
 use Rattle.rq_model.specs.Vocabulary.{Op, first, last, last_or, front, is_some, has_number, sent_for}
-use Rattle.rq_model.specs.Vocabulary.Op.{Send, Take, End}
+use Rattle.rq_model.specs.Vocabulary.Op.{Send, Take, End, Mark}
 use Rattle.rq_model.specs.History.{Job}
 use Rattle.rq_model.specs.History.Job.{Sending, Taking, Undoing}
 use Rattle.rq_model.specs.History.Call.{Start_receive, Finish}
@@ -16,7 +16,7 @@ use Rattle.rq_model.specs.History.Entry.{Started}
 use Rattle.rq_model.specs.Ledger.{Open, Done, Ledger, found, started, rest_in, sent_in, taken_in, after, change}
 use Rattle.rq_model.specs.Legal.{OnFound, At, IsDoneBy, Legal}
 use Rattle.rq_model.specs.Tests.{Size, below, gives, any_gives, free_to_receive, holds_for, Passes, log_full}
-use Rattle.rq_reference.specs.Plain.{StandsAt, open_of, op_of, sending_with, receiving_with, pick, receivable, ops_with, ComesTo, finish_entry}
+use Rattle.rq_reference.specs.Plain.{StandsAt, open_of, op_of, sending_with, receiving_with, marking_with, pick, receivable, ops_with, ComesTo, finish_entry}
 
 -- the last of a list stands at its last place
 last_or_got : {X : Type 0} (y : X) (ys : List X) (d : X) → last_or y ys ≡ get_or (y ∷ ys) (length ys) d
@@ -92,6 +92,7 @@ from_ops s (Send m ∷ ops) = elim (cases_Bool (nat_eq m.sender s)) [
 ]
 from_ops s (Take m ∷ ops) = from_ops s ops
 from_ops s (End r ∷ ops) = from_ops s ops
+from_ops s (Mark client tag ∷ ops) = from_ops s ops
 
 from_sent : (s : ℕ) (c : List Done) → From s (sent_in c s)
 from_sent s [] = tt
@@ -220,17 +221,18 @@ may_take z l t s n p g h =
     )
 
 -- a row with an operation under way
-abbrev pub with_work : OpenTxn → ℕ → ℕ → List ℕ → List ℕ → Job → Open
-with_work m n left s r j = record (open_of m) { number = n; under = Some j; left = left; sending = s; receiving = r }
+abbrev pub with_work : OpenTxn → ℕ → ℕ → List ℕ → List ℕ → List ℕ → Job → Open
+with_work m n left s r k j = record (open_of m) { number = n; under = Some j; left = left; sending = s; receiving = r; marking = k }
 
-started_cases : (m : OpenTxn) (n w : ℕ) (j : Job) → with_work m n w (sending_with j m.sending.items) (receiving_with j m.receiving.items) j ≡ started n w j (open_of m)
+started_cases : (m : OpenTxn) (n w : ℕ) (j : Job) → with_work m n w (sending_with j m.sending.items) (receiving_with j m.receiving.items) (marking_with j m.marking.items) j ≡ started n w j (open_of m)
 started_cases m n w (Sending x) = refl
 started_cases m n w _ = refl
 
-pub started_is : (m : OpenTxn) (n left w : ℕ) (s r : List ℕ) (j : Job) → left ≡ w → s ≡ sending_with j m.sending.items → r ≡ receiving_with j m.receiving.items
-    → with_work m n left s r j ≡ started n w j (open_of m)
-started_is m n left w s r j e g h =
-    ap (λ x. with_work m n x s r j) e ∙ ap (λ x. with_work m n w x r j) g ∙ ap (λ x. with_work m n w (sending_with j m.sending.items) x j) h ∙ started_cases m n w j
+pub started_is : (m : OpenTxn) (n left w : ℕ) (s r k : List ℕ) (j : Job) → left ≡ w → s ≡ sending_with j m.sending.items → r ≡ receiving_with j m.receiving.items → k ≡ marking_with j m.marking.items
+    → with_work m n left s r k j ≡ started n w j (open_of m)
+started_is m n left w s r k j e g h f =
+    ap (λ x. with_work m n x s r k j) e ∙ ap (λ x. with_work m n w x r k j) g ∙ ap (λ x. with_work m n w (sending_with j m.sending.items) x k j) h
+    ∙ ap (λ x. with_work m n w (sending_with j m.sending.items) (receiving_with j m.receiving.items) x j) f ∙ started_cases m n w j
 
 pub kept_txn : (n w : ℕ) (j : Job) (o : Open) → (started n w j o).txn ≡ o.txn
 kept_txn n w (Sending x) o = refl

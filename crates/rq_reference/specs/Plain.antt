@@ -5,15 +5,15 @@ use Rattle.rq_model.specs.declared.txn.Txn.{Txn}
 use Rattle.rq_model.specs.declared.refusal.Refusal.{Refusal}
 use Rattle.rq_model.specs.declared.refusal.Refusal.TheVariants.{Failed, UnknownOperation}
 use Rattle.rq_reference.specs.declared.rows.Act.{Act}
-use Rattle.rq_reference.specs.declared.rows.Act.TheVariants.{Sent, Taken, Closed}
+use Rattle.rq_reference.specs.declared.rows.Act.TheVariants.{Sent, Taken, Closed, Marked}
 use Rattle.rq_reference.specs.declared.rows.Work.{Work}
-use Rattle.rq_reference.specs.declared.rows.Work.TheVariants.{Sending as Sending_work, Taking as Taking_work, Closing as Closing_work, Undoing as Undoing_work}
+use Rattle.rq_reference.specs.declared.rows.Work.TheVariants.{Sending as Sending_work, Taking as Taking_work, Closing as Closing_work, Marking as Marking_work, Undoing as Undoing_work}
 use Rattle.rq_reference.specs.declared.rows.OpenTxn.{OpenTxn}
 use Rattle.rq_reference.specs.declared.rows.CommittedTxn.{CommittedTxn}
 use Rattle.rq_model.specs.Vocabulary.{Op, first, front, has_number}
-use Rattle.rq_model.specs.Vocabulary.Op.{Send, Take, End}
+use Rattle.rq_model.specs.Vocabulary.Op.{Send, Take, End, Mark}
 use Rattle.rq_model.specs.History.{Job, Call, Entry}
-use Rattle.rq_model.specs.History.Job.{Sending, Taking, Ending, Undoing}
+use Rattle.rq_model.specs.History.Job.{Sending, Taking, Ending, Marking, Undoing}
 use Rattle.rq_model.specs.History.Entry.{Refused, Ready, Stepped, Did, Undid, Started, None_free, None_from, None_left}
 use Rattle.rq_model.specs.Ledger.{Open, Done, Ledger, Phase, runs, after, found, kept_in, add_number, Rising}
 use Rattle.rq_model.specs.Ledger.Phase.{Running, Shut}
@@ -45,11 +45,13 @@ abbrev pub op_of : Act → Op
 op_of (Sent m) = Send m
 op_of (Taken m) = Take m
 op_of (Closed s) = End s
+op_of (Marked client tag) = Mark client tag
 
 abbrev pub job_of : Work → Job
 job_of (Sending_work m) = Sending m
 job_of (Taking_work s) = Taking s
 job_of (Closing_work s) = Ending s
+job_of (Marking_work client tag) = Marking client tag
 job_of Undoing_work = Undoing
 
 abbrev pub under_of : Option Work → Option Job
@@ -63,6 +65,7 @@ open_of o = record {
   ops = map op_of o.acts.items;
   sending = o.sending.items;
   receiving = o.receiving.items;
+  marking = o.marking.items;
   number = o.number;
   under = under_of o.work;
   left = o.left;
@@ -160,6 +163,10 @@ sending_with _ ns = ns
 abbrev pub receiving_with : Job → List ℕ → List ℕ
 receiving_with (Taking s) ns = add_number s ns
 receiving_with _ ns = ns
+
+abbrev pub marking_with : Job → List ℕ → List ℕ
+marking_with (Marking client tag) ns = add_number client ns
+marking_with _ ns = ns
 
 abbrev pub op_in : Option Act → Option Op
 op_in None = None

@@ -3,8 +3,8 @@
 #![tactic(auto)]
 
 ghost use Rattle.std.specs.Prelude.{◌≡◌, ◌≢◌, ◌↔◌, ◌⊎◌, not, ◌<◌, ◌≤◌, ◌-◌, ◌^◌, IfOk, IfErr, OnErr, OnOk, map, true};
-ghost use Rattle.rq_model.specs.History.Call.{Begin, Commit, Finish, Show, Step, Acknowledge, Start_abort, End_abort, Hand_over, Force, Checkpoint, Last_tag};
-ghost use Rattle.rq_model.specs.History.Entry.{Begun, Shown, Committed, Acknowledged, Aborting, Aborted, Handed_over, Forced, Checkpointed, Told, Crash, Restarted};
+ghost use Rattle.rq_model.specs.History.Call.{Begin, Commit, Finish, Show, Step, Acknowledge, Start_abort, End_abort, Hand_over, Force, Checkpoint, Last_tag, Client_tag};
+ghost use Rattle.rq_model.specs.History.Entry.{Begun, Shown, Committed, Acknowledged, Aborting, Aborted, Handed_over, Forced, Checkpointed, Told, Told_client, Crash, Restarted};
 ghost use Rattle.rq_model.specs.Vocabulary.{first, is_some};
 ghost use Rattle.rq_model.specs.Ledger.{empty, kept_in};
 ghost use Rattle.rq_model.specs.Ledger.Phase.{Shut};
@@ -31,6 +31,7 @@ pub struct Reference {
     alloc: Global,
     senders: u32,
     cells: u64,
+    clients: u32,
     committed: Vec<CommittedTxn>,
     open_txns: Vec<OpenTxn>,
     running: bool,
@@ -48,7 +49,7 @@ impl Model for Reference {
     ghost Value = { Stand };
 
     ghost view = { λ r. record {
-      size = record { senders = r.senders; cells = r.cells };
+      size = record { senders = r.senders; cells = r.cells; clients = r.clients };
       ledger = record {
         committed = map done_of r.committed.items;
         open_ones = map open_of r.open_txns.items;
@@ -74,16 +75,18 @@ impl Model for Reference {
 }
 
 impl Reference {
-    /// A store of so many senders and cells, not yet opened.
-    pub fn new(alloc: Global, senders: u32, cells: u64) -> Self
+    /// A store of so many senders, cells and clients, not yet opened.
+    pub fn new(alloc: Global, senders: u32, cells: u64, clients: u32) -> Self
         ensures empty { result.ledger ≡ empty }
         ensures senders { result.size.senders ≡ senders }
         ensures cells { result.size.cells ≡ cells }
+        ensures clients { result.size.clients ≡ clients }
     {
         Reference {
             alloc,
             senders,
             cells,
+            clients,
             committed: Vec::new(alloc),
             open_txns: Vec::new(alloc),
             running: false,
@@ -217,6 +220,7 @@ impl Reference {
             acts: Vec::new(self.alloc),
             sending: Vec::new(self.alloc),
             receiving: Vec::new(self.alloc),
+            marking: Vec::new(self.alloc),
             number: 0,
             work: None,
             left: 0,
@@ -459,6 +463,7 @@ impl Reference {
                 _ => Err(Refusal::NoMemory),
             },
             Work::Closing(sender) => Ok(Some(Act::Closed(sender))),
+            Work::Marking { client, tag } => Ok(Some(Act::Marked { client, tag })),
             Work::Undoing => Ok(None),
         }
     }
@@ -536,6 +541,26 @@ impl Reference {
         }
         match scans::sent(self.alloc, &self.committed, sender) {
             Ok(sent) => Ok((sent.len() as u64, scans::last_tag(&sent))),
+            Err(_) => Err(Refusal::NoMemory),
+        }
+    }
+
+    /// How many marks of the client are committed, and the tag of the last; 0 where there is none.
+    ///
+    /// # Errors
+    /// `Failed`, `UnknownClient`, `NoMemory`.
+    pub fn client_tag(&self, client: u32) -> Result<(u64, u64), Refusal>
+        ensures ok { IfOk result (λ told. May self.now (Told_client client told.0 told.1)) }
+        ensures refused { IfErr result (λ r. MayBeRefused self.now (Client_tag client) r) }
+    {
+        if !self.running {
+            return Err(Refusal::Failed);
+        }
+        if client >= self.clients {
+            return Err(Refusal::UnknownClient);
+        }
+        match scans::marks(self.alloc, &self.committed, client) {
+            Ok(marks) => Ok((marks.len() as u64, scans::last_of(&marks))),
             Err(_) => Err(Refusal::NoMemory),
         }
     }

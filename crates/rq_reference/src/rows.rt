@@ -12,6 +12,8 @@ pub enum Act {
     Taken(Message),
     /// The sender's group was closed.
     Closed(u32),
+    /// The tag was marked for the client.
+    Marked { client: u32, tag: u64 },
 }
 
 /// What the operation under way is to do.
@@ -23,6 +25,8 @@ pub enum Work {
     Taking(u32),
     /// To close the sender's group.
     Closing(u32),
+    /// To mark the tag for the client.
+    Marking { client: u32, tag: u64 },
     /// To undo what its transaction did last and has not undone.
     Undoing,
 }
@@ -40,6 +44,8 @@ pub struct OpenTxn {
     pub sending: Vec<u32>,
     /// The senders whose receiving end it holds.
     pub receiving: Vec<u32>,
+    /// The clients whose end it holds.
+    pub marking: Vec<u32>,
     /// The number of its newest operation; 0 before the first.
     pub number: u64,
     /// The operation under way.

@@ -1,8 +1,8 @@
 //! Looks over the rows of the reference.
-ghost use Rattle.rq_model.specs.Ledger.{add_number, any_ends, ended_in, group_in, own_sends, own_takes, rest_in, sent_in, tag_of, taken_in, kept_in};
-ghost use Rattle.rq_model.specs.Tests.{any_busy, below, count_rest, free_to_receive, free_to_send, is_sending, owed, pending};
-ghost use Rattle.rq_reference.specs.Plain.{PlaceOf, done_of, job_of, op_in, op_of, open_of, ops_with, pick, receiving_with, sending_with};
-ghost use Rattle.rq_model.specs.Vocabulary.{first, front, has_number, is_some, last, sent_for, taken_from};
+ghost use Rattle.rq_model.specs.Ledger.{add_number, any_ends, ended_in, group_in, marks_in, own_sends, own_takes, rest_in, sent_in, tag_of, taken_in, kept_in};
+ghost use Rattle.rq_model.specs.Tests.{any_busy, below, count_rest, free_to_mark, free_to_receive, free_to_send, is_sending, owed, pending};
+ghost use Rattle.rq_reference.specs.Plain.{PlaceOf, done_of, job_of, marking_with, op_in, op_of, open_of, ops_with, pick, receiving_with, sending_with};
+ghost use Rattle.rq_model.specs.Vocabulary.{first, front, has_number, is_some, last, last_or, marked_for, sent_for, taken_from};
 ghost use Rattle.std.specs.List.{filter_map, slice_get, sum_by};
 ghost use Rattle.std.specs.Prelude.{[], ◌∷◌, ◌≡◌, ◌+◌, ◌-◌, ◌++◌, ◌^◌, ◌≤◌, IfOk, OnOk, drop, length, map, min, nat_eq, nat_lt};
 
@@ -81,6 +81,16 @@ fn taken_by(act: &Act, sender: u32) -> Option<Message>
     }
 }
 
+/// The tag, if it was marked for the client.
+fn marked_by(act: &Act, wanted: u32) -> Option<u64>
+    ensures { result ≡ marked_for wanted (op_of act.now) }
+{
+    match act {
+        Act::Marked { client, tag } if *client == wanted => Some(*tag),
+        _ => None,
+    }
+}
+
 /// Adds what was sent for the sender.
 pub fn push_sent(all: &mut Vec<Message>, acts: &[Act], sender: u32) -> Result<(), AllocError>
     ensures { OnOk result (all.new.items ≡ all.old.items ++ filter_map (sent_for sender) (map op_of acts.now)) }
@@ -103,6 +113,40 @@ pub fn push_taken(all: &mut Vec<Message>, acts: &[Act], sender: u32) -> Result<(
         }
     }
     Ok(())
+}
+
+/// Adds the tags that were marked for the client.
+pub fn push_marks(all: &mut Vec<u64>, acts: &[Act], client: u32) -> Result<(), AllocError>
+    ensures { OnOk result (all.new.items ≡ all.old.items ++ filter_map (marked_for client) (map op_of acts.now)) }
+{
+    for act in acts {
+        if let Some(tag) = marked_by(act, client) {
+            all.push(tag)?;
+        }
+    }
+    Ok(())
+}
+
+/// The tags that committed transactions marked for the client, in order.
+pub fn marks(alloc: Global, committed: &[CommittedTxn], client: u32) -> Result<Vec<u64>, AllocError>
+    ensures { IfOk result (λ all. all.items ≡ marks_in (map done_of committed.now) client) }
+{
+    let mut all = Vec::new(alloc);
+    for row in committed {
+        push_marks(&mut all, &row.acts, client)?;
+    }
+    Ok(all)
+}
+
+/// The last of these; 0 where there is none.
+pub fn last_of(numbers: &[u64]) -> u64
+    ensures { result ≡ last_or 0 numbers.now }
+{
+    let mut last = 0;
+    for number in numbers {
+        last = *number;
+    }
+    last
 }
 
 /// What committed transactions sent for the sender, in order.
@@ -359,6 +403,7 @@ pub fn sending_with(alloc: Global, row: &OpenTxn, work: &Work) -> Result<Vec<u32
         Work::Sending(message) => with_number(alloc, &row.sending, message.sender),
         Work::Closing(sender) => with_number(alloc, &row.sending, *sender),
         Work::Taking(_) => Vec::from_slice(alloc, &row.sending),
+        Work::Marking { .. } => Vec::from_slice(alloc, &row.sending),
         Work::Undoing => Vec::from_slice(alloc, &row.sending),
     }
 }
@@ -371,7 +416,21 @@ pub fn receiving_with(alloc: Global, row: &OpenTxn, work: &Work) -> Result<Vec<u
         Work::Taking(sender) => with_number(alloc, &row.receiving, *sender),
         Work::Sending(_) => Vec::from_slice(alloc, &row.receiving),
         Work::Closing(_) => Vec::from_slice(alloc, &row.receiving),
+        Work::Marking { .. } => Vec::from_slice(alloc, &row.receiving),
         Work::Undoing => Vec::from_slice(alloc, &row.receiving),
+    }
+}
+
+/// The clients whose end the transaction holds once it does this too.
+pub fn marking_with(alloc: Global, row: &OpenTxn, work: &Work) -> Result<Vec<u32>, AllocError>
+    ensures { IfOk result (λ all. all.items ≡ marking_with (job_of work.now) row.now.marking.items) }
+{
+    match work {
+        Work::Marking { client, .. } => with_number(alloc, &row.marking, *client),
+        Work::Sending(_) => Vec::from_slice(alloc, &row.marking),
+        Work::Taking(_) => Vec::from_slice(alloc, &row.marking),
+        Work::Closing(_) => Vec::from_slice(alloc, &row.marking),
+        Work::Undoing => Vec::from_slice(alloc, &row.marking),
     }
 }
 
@@ -450,6 +509,18 @@ pub fn is_free_to_send(rows: &[OpenTxn], txn: Txn, sender: u32) -> bool
     true
 }
 
+/// Whether no other transaction holds the client's end.
+pub fn is_free_to_mark(rows: &[OpenTxn], txn: Txn, client: u32) -> bool
+    ensures { result ≡ free_to_mark txn client (map open_of rows.now) }
+{
+    for row in rows {
+        if row.txn != txn && has_number(&row.marking, client) {
+            return false;
+        }
+    }
+    true
+}
+
 /// Whether a send of the transaction is under way.
 fn is_sending(row: &OpenTxn) -> bool
     ensures { result ≡ is_sending (open_of row.now).under }
@@ -458,6 +529,7 @@ fn is_sending(row: &OpenTxn) -> bool
         Some(Work::Sending(_)) => true,
         Some(Work::Taking(_)) => false,
         Some(Work::Closing(_)) => false,
+        Some(Work::Marking { .. }) => false,
         Some(Work::Undoing) => false,
         None => false,
     }

@@ -1,14 +1,14 @@
 //! The starts of operations: what a transaction may start, and how it starts it.
 ghost use Rattle.std.specs.Prelude.{◌≡◌, ◌≢◌, ◌+◌, ◌||◌, ◌&&◌, IfOk, IfErr, OnErr, OnOk, Some, length, nat_eq, nat_lt};
 ghost use Rattle.std.specs.List.{slice_get};
-ghost use Rattle.rq_model.specs.History.Call.{Start_send, Start_receive, Start_receive_from, Start_close, Undo_next};
+ghost use Rattle.rq_model.specs.History.Call.{Start_send, Start_receive, Start_receive_from, Start_close, Start_mark, Undo_next};
 ghost use Rattle.rq_model.specs.History.Entry.{Started};
-ghost use Rattle.rq_model.specs.History.Job.{Ending, Sending};
+ghost use Rattle.rq_model.specs.History.Job.{Ending, Marking, Sending};
 ghost use Rattle.rq_model.specs.Ledger.{ended_in, found, in_chain, own_takes, rest_in, undo_writes, writes};
 ghost use Rattle.rq_model.specs.Legal.{At};
 ghost use Rattle.rq_reference.specs.Plain.{May, MayBeRefused, StandsAt, group_of, job_of, next, op_in, op_of, pick, receivable, receive_entry, receive_from_entry, undo_entry};
 ghost use Rattle.rq_model.specs.Vocabulary.{message_of, first, is_some};
-ghost use Rattle.rq_model.specs.Tests.{Passes, cells_in_use, free_to_receive, free_to_send, gives, has_closed, log_full, newest, undo_cost};
+ghost use Rattle.rq_model.specs.Tests.{Passes, cells_in_use, free_to_mark, free_to_receive, free_to_send, gives, has_closed, log_full, newest, undo_cost};
 ghost use Rattle.rq_model.specs.declared.refusal.Refusal.TheVariants.{NoMemory};
 
 use crate::rows::{Act, Work};
@@ -72,6 +72,20 @@ impl Reference {
         ensures { result ≡ free_to_receive txn sender self.now.ledger.open_ones }
     {
         scans::is_free_to_receive(&self.open_txns, txn, sender)
+    }
+
+    /// Whether the store has this client.
+    fn has_client(&self, client: u32) -> bool
+        ensures { result ≡ nat_lt client self.now.size.clients }
+    {
+        client < self.clients
+    }
+
+    /// Whether no other transaction holds the client's end.
+    fn is_free_to_mark(&self, txn: Txn, client: u32) -> bool
+        ensures { result ≡ free_to_mark txn client self.now.ledger.open_ones }
+    {
+        scans::is_free_to_mark(&self.open_txns, txn, client)
     }
 
     /// The message behind those that the transaction at this place took: what a receive of its from the sender gives.
@@ -147,6 +161,7 @@ impl Reference {
                 Ok(if length == 0 { 2 } else { 3 })
             }
             Some(Act::Closed(_)) => Ok(1),
+            Some(Act::Marked { .. }) => Ok(1),
         }
     }
 
@@ -165,6 +180,7 @@ impl Reference {
                 Ok(if length > 1 { 3 } else { 2 })
             }
             Work::Closing(_) => Ok(1),
+            Work::Marking { .. } => Ok(1),
             Work::Undoing => self.undo_writes(self.newest(txn, place)),
         }
     }
@@ -191,12 +207,16 @@ impl Reference {
         let Ok(receiving) = scans::receiving_with(self.alloc, row, &work) else {
             return Err(Refusal::NoMemory);
         };
+        let Ok(marking) = scans::marking_with(self.alloc, row, &work) else {
+            return Err(Refusal::NoMemory);
+        };
         let row = &mut self.open_txns[place];
         row.number = number + 1;
         row.work = Some(work);
         row.left = left;
         row.sending = sending;
         row.receiving = receiving;
+        row.marking = marking;
         Ok(number + 1)
     }
 
@@ -311,6 +331,40 @@ impl Reference {
         self.start(txn, place, Work::Closing(sender))
     }
 
+    /// Where the transaction stands that may mark the tag for the client.
+    fn marking_place(&self, txn: Txn, client: u32, tag: u64) -> Result<usize, Refusal>
+        ensures stands { IfOk result (λ place. StandsAt self.now.ledger txn place) }
+        ensures passes { OnOk result (Passes self.now.size self.now.ledger (Start_mark txn client tag)) }
+        ensures refused { IfErr result (λ r. MayBeRefused self.now (Start_mark txn client tag) r) }
+        ensures memory { IfErr result (λ r. r ≢ NoMemory) }
+    {
+        let place = self.ready_place(txn, false)?;
+        if !self.has_client(client) {
+            return Err(Refusal::UnknownClient);
+        }
+        if !self.is_free_to_mark(txn, client) {
+            return Err(Refusal::ClientBusy);
+        }
+        if self.is_log_full(2) {
+            return Err(Refusal::LogFull);
+        }
+        Ok(place)
+    }
+
+    /// Starts a mark of the tag for the client, and answers the operation's number.
+    ///
+    /// # Errors
+    /// `Failed`, `UnknownTransaction`, `NotOpen`, `Unfinished`, `UnknownClient`, `ClientBusy`, `LogFull`, `NoMemory`.
+    pub fn start_mark(&mut self, txn: Txn, client: u32, tag: u64) -> Result<u64, Refusal>
+        ensures ok { IfOk result (λ n. May self.old (Started txn n (Marking client tag))) }
+        ensures step { IfOk result (λ n. self.new ≡ next (Started txn n (Marking client tag)) self.old) }
+        ensures refused { IfErr result (λ r. MayBeRefused self.old (Start_mark txn client tag) r) }
+        ensures same { OnErr result (self.new ≡ self.old) }
+    {
+        let place = self.marking_place(txn, client, tag)?;
+        self.start(txn, place, Work::Marking { client, tag })
+    }
+
     /// Whether there is one of these groups to receive from, and no room in the log for it.
     fn is_too_full_for(&self, groups: &[u32]) -> bool
         ensures { result ≡ (is_some (first groups.now) && log_full self.now.ledger 4) }
@@ -407,6 +461,7 @@ impl Reference {
             Act::Sent(_) => 4,
             Act::Taken(_) => 4,
             Act::Closed(_) => 2,
+            Act::Marked { .. } => 2,
         }
     }
 

@@ -7,14 +7,14 @@ use Rattle.rq_model.specs.declared.record.Record.{Record}
 use Rattle.rq_model.specs.declared.record.Record.TheVariants.{Base, Restart, Commit as Commit_record}
 use Rattle.rq_model.specs.Vocabulary.{In}
 use Rattle.rq_model.specs.History.{Entry, Call}
-use Rattle.rq_model.specs.History.Call.{Begin, Start_send, Start_receive, Start_receive_from, Start_close, Step, Finish, Commit, Acknowledge, Start_abort, Undo_next, End_abort, Hand_over, Force, Checkpoint, Write_page, Last_tag, Show}
+use Rattle.rq_model.specs.History.Call.{Begin, Start_send, Start_receive, Start_receive_from, Start_close, Start_mark, Step, Finish, Commit, Acknowledge, Start_abort, Undo_next, End_abort, Hand_over, Force, Checkpoint, Write_page, Last_tag, Client_tag, Show}
 use Rattle.rq_model.specs.History.Entry.{Acknowledged, Committed, Crash, Restarted}
 use Rattle.rq_model.specs.Ledger.{Done, Ledger, after, found, ops_of}
 use Rattle.rq_model.specs.Tests.{Size}
 use Rattle.rq_model.specs.Legal.{Legal}
 use Rattle.rq_model.specs.Commits.{committed_of, told}
 use Rattle.rq_model.specs.Replay.{Number, Reply, Says, Replays}
-use Rattle.rq_model.specs.Replay.Reply.{Gave_txn, Gave_sub, Gave_none, Gave_nothing_left, Gave_lsn, Gave_ready, Gave_sent, Gave_message, Gave_closed, Gave_undone, Gave_handed_over, Gave_checkpoint, Gave_forced, Gave_aborting, Gave_aborted, Gave_commit, Gave_receipt, Gave_written, Gave_tag, Gave_content, Gave_refusal}
+use Rattle.rq_model.specs.Replay.Reply.{Gave_txn, Gave_sub, Gave_none, Gave_nothing_left, Gave_lsn, Gave_ready, Gave_sent, Gave_message, Gave_closed, Gave_marked, Gave_undone, Gave_handed_over, Gave_checkpoint, Gave_forced, Gave_aborting, Gave_aborted, Gave_commit, Gave_receipt, Gave_written, Gave_tag, Gave_client_tag, Gave_content, Gave_refusal}
 use Rattle.rq_model.proofs.EntryKinds.{Kind, kind}
 use Rattle.rq_model.proofs.EntryKinds.Kind.{Plain, Commits, Forces, Checkpoints, Crashes, Restarts}
 use Rattle.rq_model.proofs.Same.{In-append}
@@ -49,11 +49,13 @@ never_break (Start_receive t) Gave_none e s = ap is_break s
 never_break (Start_receive_from t sender) (Gave_sub u n) e s = ap is_break s.1
 never_break (Start_receive_from t sender) Gave_none e s = ap is_break s
 never_break (Start_close t sender) (Gave_sub u n) e s = ap is_break s.1
+never_break (Start_mark t client tag) (Gave_sub u n) e s = ap is_break s.1
 never_break (Step t n) (Gave_lsn lsn) e s = ap is_break s
 never_break (Step t n) Gave_ready e s = ap is_break s
 never_break (Finish t n) Gave_sent e s = ap is_break s.1
 never_break (Finish t n) (Gave_message m) e s = ap is_break s
 never_break (Finish t n) Gave_closed e s = ap is_break s.1
+never_break (Finish t n) Gave_marked e s = ap is_break s.2
 never_break (Finish t n) Gave_undone e s = ap is_break s
 never_break (Commit t) (Gave_commit c) e s = ap is_break s.1
 never_break (Start_abort t) Gave_aborting e s = ap is_break s
@@ -67,6 +69,7 @@ never_break Force (Gave_forced lsn) e s = ap is_break s
 never_break Checkpoint (Gave_checkpoint lsn) e s = ap is_break s
 never_break (Write_page page) (Gave_written done) e s = ap is_break s
 never_break (Last_tag sender) (Gave_tag sent tag) e s = ap is_break s
+never_break (Client_tag client) (Gave_client_tag count tag) e s = ap is_break s
 never_break Show (Gave_content groups) e s = ap is_break s
 never_break c g e s = absurd s
 

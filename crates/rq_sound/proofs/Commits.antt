@@ -9,7 +9,7 @@ use Rattle.rq_model.specs.declared.record.Deed.TheVariants.{Append, UnlinkHead, 
 use Rattle.rq_model.specs.declared.record.Record.{Record}
 use Rattle.rq_model.specs.declared.record.Record.TheVariants.{Commit as Commit_record}
 use Rattle.rq_model.specs.Vocabulary.{In, Op, same_txn, sent_for, taken_from}
-use Rattle.rq_model.specs.Vocabulary.Op.{Send, Take, End}
+use Rattle.rq_model.specs.Vocabulary.Op.{Send, Take, End, Mark}
 use Rattle.rq_model.specs.Counts.{AllBelow}
 use Rattle.rq_model.specs.Ledger.{Done, rest_in, group_in}
 use Rattle.rq_model.specs.Tests.{count_rest, below, is_sent}
@@ -61,6 +61,7 @@ none_beyond n g [] h m = refl
 none_beyond n g (Send x ∷ ops) h m = none_beyond n g ops h.1 m
 none_beyond n g (Take x ∷ ops) h m = rw (false_from_ne_true (nat_eq x.sender g) (λ y. let e = eqb-true x.sender g y in let b = h.0 in absurd (omega (arith, e, b, m)))) (none_beyond n g ops h.1 m)
 none_beyond n g (End x ∷ ops) h m = none_beyond n g ops h.1 m
+none_beyond n g (Mark client tag ∷ ops) h m = none_beyond n g ops h.1 m
 
 sends_many : (d : Deed) → cond (is_sent (op_of (said d))) 1 0 ≡ appends_of d
 sends_many (Append q n tag previous body) = refl

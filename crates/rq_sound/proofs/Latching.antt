@@ -42,7 +42,7 @@ use Rattle.rq_sound.specs.Sound.{IsSound}
 use Rattle.rq_sound.specs.Calls.{IsIdle}
 use Rattle.rq_sound.specs.Groups.{StandsAt, slots_now}
 use Rattle.rq_sound.specs.Plans.{AreOff}
-use Rattle.rq_sound.specs.Latching.{AllFreeLatched, Begins, IsLatched, LatchedIsExact, MayBePlanned, NeedsLatched, any_latched, at_head, at_tail, before_tail, behind_head, completed, head_in, named, needed, next_in, prev_in, tail_in}
+use Rattle.rq_sound.specs.Latching.{AllFreeLatched, Begins, IsLatched, LatchedIsExact, MayBePlanned, NeedsLatched, any_latched, at_head, at_tail, before_tail, behind_head, completed, head_in, is_mark, named, needed, next_in, prev_in, tail_in}
 use Rattle.rq_sound.proofs.ChainEnds.{empty_links, front_stands, head_stands, next_stands, tail_stands}
 use Rattle.rq_sound.proofs.FreeCells.{all_one}
 use Rattle.rq_sound.proofs.Going.{unlatched_is_quiet}
@@ -649,24 +649,25 @@ module _ (s : State) (k : IsSound s) where
       ]
 
   -- what passes the tests and has something to start can be planned where it is not latched
-  pub can_plan : (c : Call) → Passes (size_of z) (ledger_of s) c → starts (size_of z) (ledger_of s) c ≡ true → (IsLatched s c → ⊥) → Some_turn c
-  can_plan (Call.Start_send t m) h given free = some_send t m (known m.sender h.1.1.1.1.0) free
-  can_plan (Call.Start_receive t) h given free = let r = row_of t h.1.0 in some_any t r.0 r.1 given free
-  can_plan (Call.Start_receive_from t g) h given free =
+  pub can_plan : (c : Call) → is_mark c ≡ false → Passes (size_of z) (ledger_of s) c → starts (size_of z) (ledger_of s) c ≡ true → (IsLatched s c → ⊥) → Some_turn c
+  can_plan (Call.Start_send t m) plain h given free = some_send t m (known m.sender h.1.1.1.1.0) free
+  can_plan (Call.Start_receive t) plain h given free = let r = row_of t h.1.0 in some_any t r.0 r.1 given free
+  can_plan (Call.Start_receive_from t g) plain h given free =
       let r = row_of t h.1.0 in
       let own = (found_in t s.rows r.0 r.1).1 in
       let inside = known g h.1.1.1.1.0 in
       let e = subst (λ x. gives (ledger_of s) x (found x (ledger_of s).open_ones) g ≡ (is_free_for x g s.ends.receiving && nat_lt 0 (waits s.waiting g))) own (gives_is s k r.0 (subst (λ x. found_row x s.rows ≡ Some r.0) (sym own) r.1) g inside) in
       let w = waits_for t r.0 r.1 g inside (sym e ∙ given) in
       some_from t g inside w.2 free
-  can_plan (Call.Start_close t g) h given free = some_close t g (known g h.1.1.1.1.0) free
-  can_plan (Call.Undo_next t) h given free = some_newest t h given free
-  can_plan c h given free = absurd (false≢true given)
+  can_plan (Call.Start_close t g) plain h given free = some_close t g (known g h.1.1.1.1.0) free
+  can_plan (Call.Start_mark t client tag) plain h given free = absurd (true≢false plain)
+  can_plan (Call.Undo_next t) plain h given free = some_newest t h given free
+  can_plan c plain h given free = absurd (false≢true given)
 
 pub latched_exact : LatchedIsExact
 latched_exact = record {
   whole = λ s a k off. is_whole s k a off;
   as_read = λ s turn k. as_read s k turn;
   none = λ s c turn k h b p. never_both s k turn p (h.each turn b);
-  some = λ s c k h given free. can_plan s k c h given free;
+  some = λ s c k plain h given free. can_plan s k c plain h given free;
 }

@@ -1,5 +1,5 @@
 -- An open store as plain lists, and the ledger that it comes to.
-use Rattle.std.specs.Prelude.{ℕ, ◌+◌, ◌-◌, Bool, true, false, List, Option, Some, None, map, length}
+use Rattle.std.specs.Prelude.{ℕ, ◌+◌, ◌-◌, Bool, true, false, List, [], Option, Some, None, map, length}
 use Rattle.std.specs.List.{sum_by}
 use Rattle.rq_model.specs.declared.record.Deed.{Deed}
 use Rattle.rq_model.specs.declared.record.Deed.TheVariants.{Append, UnlinkHead, Close}
@@ -12,7 +12,7 @@ use Rattle.rq_model.specs.Ledger.Phase.{Running, Stopped}
 use Rattle.rq_model.specs.Tests.{Size}
 use Rattle.rq_model.specs.Content.{said}
 use Rattle.rq_model.specs.Commits.{op_of, committed_of}
-use Rattle.rq_page.specs.Sizes.{Sizes, sender_count, cell_count}
+use Rattle.rq_page.specs.Sizes.{Sizes, sender_count, cell_count, client_count}
 use Rattle.rq_txn.specs.declared.Finished.{Finished}
 use Rattle.rq_txn.specs.declared.Aim.{Aim}
 use Rattle.rq_txn.specs.declared.Aim.TheVariants.{Doing, Undoing}
@@ -39,7 +39,7 @@ pub record State : Type 0 where
   pub sent : SentBy
 
 abbrev pub size_of : Sizes → Size
-size_of z = record { senders = sender_count z; cells = cell_count z }
+size_of z = record { senders = sender_count z; cells = cell_count z; clients = client_count z }
 
 -- what a finished operation did
 abbrev pub op_done : Finished → Op
@@ -70,6 +70,7 @@ open_of ends r = record {
   ops = map op_done r.finished;
   sending = held_by r.txn ends.sending;
   receiving = held_by r.txn ends.receiving;
+  marking = [];
   number = r.number;
   under = job_under r.under;
   left = left_under r.under;

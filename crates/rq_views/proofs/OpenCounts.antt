@@ -15,7 +15,7 @@ use Rattle.rq_model.specs.Tests.{below, count_rest, is_sent}
 use Rattle.rq_model.specs.Content.{said, added, added_one, removed, removed_one}
 use Rattle.rq_model.specs.Commits.{op_of, ops_told, committed_of}
 use Rattle.rq_model.specs.Rules.{KeepsRules}
-use Rattle.rq_model.specs.Counts.{is_taken, op_sender, AllBelow}
+use Rattle.rq_model.specs.Counts.{is_taken, IsBelow, AllBelow}
 use Rattle.rq_model.proofs.Counts.{sum_more, sum_same, sum_both, sum_none, count_is_sum, sum_sent, sum_taken}
 use Rattle.rq_model.proofs.Told.{told_taken, told_sent}
 use Rattle.rq_model.proofs.Lists.{same_self, same_is}
@@ -147,19 +147,19 @@ sum_turn f n (t ∷ ts) =
     let d = sum_by-cons (λ u. sum_by (f u) (below n)) t ts in
     omega arith
 
-below_one_more : (n : ℕ) (ops : List Op) (op : Op) → AllBelow n ops → op_sender op < n → AllBelow n (ops ++ op ∷ [])
+below_one_more : (n : ℕ) (ops : List Op) (op : Op) → AllBelow n ops → IsBelow n op → AllBelow n (ops ++ op ∷ [])
 below_one_more n [] op h k = (k, tt)
 below_one_more n (x ∷ ops) op h k = (h.0, below_one_more n ops op h.1 k)
 
-said_sender : (d : Deed) → op_sender (op_of (said d)) ≡ deed_sender d
-said_sender (Append s n tag previous body) = refl
-said_sender (UnlinkHead s n tag body) = refl
-said_sender (Close s) = refl
+said_below : (n : ℕ) (d : Deed) → deed_sender d < n → IsBelow n (op_of (said d))
+said_below n (Append s k tag previous body) h = h
+said_below n (UnlinkHead s k tag body) h = h
+said_below n (Close s) h = h
 
 -- the operations that deeds of the store tell are of its senders
 pub ops_in_store : (z : Sizes) (ps : List Placed) → AllInStore z ps → AllBelow (sender_count z) (ops_told (say ps))
 ops_in_store z [] h = tt
-ops_in_store z (p ∷ ps) h = below_one_more (sender_count z) (ops_told (say ps)) (op_of (said p.deed)) (ops_in_store z ps h.1) (subst (λ s. s < sender_count z) (sym (said_sender p.deed)) h.0)
+ops_in_store z (p ∷ ps) h = below_one_more (sender_count z) (ops_told (say ps)) (op_of (said p.deed)) (ops_in_store z ps h.1) (said_below (sender_count z) p.deed h.0)
 
 -- what a transaction did and has not undone, where it has no Commit
 abbrev pub open_ops : Sizes → List Record → Txn → List Op

@@ -19,5 +19,8 @@ returns-in-Ok-Some-clause-ok c =
 pub returns-in-Closing-clause-ok : goal.returns-in-Closing-clause-ok
 returns-in-Closing-clause-ok c = rw c.in-Closing.is (on_place c.args.self.now.ledger c.args.txn c.args.place (fresh_one c.args.txn) _ c.requires (λ o. refl))
 
+pub returns-in-Marking-clause-ok : goal.returns-in-Marking-clause-ok
+returns-in-Marking-clause-ok c = rw c.in-Marking.is (on_place c.args.self.now.ledger c.args.txn c.args.place (fresh_one c.args.txn) _ c.requires (λ o. (refl, refl)))
+
 pub returns-in-Undoing-clause-ok : goal.returns-in-Undoing-clause-ok
 returns-in-Undoing-clause-ok c = rw c.in-Undoing.is (on_place c.args.self.now.ledger c.args.txn c.args.place (fresh_one c.args.txn) _ c.requires (λ o. refl))

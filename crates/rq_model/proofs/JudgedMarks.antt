@@ -1,0 +1,35 @@
+-- Worked histories with marks: that they are legal, and that others are not.
+use Rattle.std.proofs.Common.{rules, refl, arith}
+use Rattle.rq_model.specs.WorkedMarks.{MarksAreWorked}
+
+pub worked_marks : MarksAreWorked
+worked_marks = record {
+  told_none = search rules;
+  told_one = search rules;
+  told_of_another = search rules;
+  told_last_client = search rules;
+  told_no_client = search rules;
+  told_unknown = λ a. (let e = a.0.0.1.0 in cc e);
+  told_uncommitted = λ a. (let e = a.0.1 in omega (arith, e));
+  told_uncommitted_tag = λ a. (let e = a.0.2 in omega (arith, e));
+  told_committed = search rules;
+  told_after_loss = search rules;
+  told_without_undone = search rules;
+  told_last = search rules;
+  marks_in_order = refl;
+  marks_of_ledger = refl;
+  client_busy = search rules;
+  marked_while_busy = λ a. (let e = a.0.0.1.1.1.1.1.0 in cc e);
+  busy_for_nothing = λ a. (let e = a.0 in cc e);
+  busy_for_itself = λ a. (let e = a.0 in cc e);
+  marks_another = search rules;
+  unknown_client = search rules;
+  unknown_for_nothing = λ a. (let e = a.0 in cc e);
+  marks_unknown = λ a. (let e = a.0.0.1.1.1.1.0 in cc e);
+  marks_as_started = λ a. (let e = a.0.1.1 in omega (arith, e));
+  marks_after_write = λ a. (let e = a.0.0.1.1.0 in cc e);
+  writes_once = λ a. (let e = a.0.1 in omega (arith, e));
+  two_records_fit = search rules;
+  one_record_fits = search rules;
+  full_for_nothing = λ a. (let e = a.0 in cc e);
+}

@@ -1,0 +1,77 @@
+-- Worked histories with marks of clients: which are legal, what is told of a client, and which are not legal.
+use Rattle.std.specs.Prelude.{◌≡◌, ◌-◌, ◌^◌, ℕ, List, [], ◌∷◌, ◌++◌}
+use Rattle.rq_model.specs.declared.txn.Txn.{Txn}
+use Rattle.rq_model.specs.declared.refusal.Refusal.TheVariants.{UnknownClient, ClientBusy, LogFull}
+use Rattle.rq_model.specs.Vocabulary.Op.{Mark}
+use Rattle.rq_model.specs.History.{Entry, Call, marks}
+use Rattle.rq_model.specs.History.Call.{Start_mark, Client_tag}
+use Rattle.rq_model.specs.History.Job.{Marking, Undoing}
+use Rattle.rq_model.specs.History.Entry.{Begun, Started, Stepped, Did, Undid, Committed, Aborting, Aborted, Refused, Crash, Restarted, Told_client}
+use Rattle.rq_model.specs.Ledger.{ledger, marks_in}
+use Rattle.rq_model.specs.Legal.{IsLegal}
+use Rattle.rq_model.specs.Worked.{txn, small, opened, letter, sent}
+
+-- the entries of a mark, whose slot write has this LSN
+abbrev pub marked : Txn → ℕ → ℕ → ℕ → ℕ → List Entry
+marked t n client tag lsn = Did t n (Mark client tag) ∷ Stepped t n lsn ∷ Started t n (Marking client tag) ∷ []
+
+-- a mark and a send that are committed, and a mark of the same client that is not
+abbrev pub one_marked : List Entry
+one_marked = Committed (txn 1 1) 7 ∷ (sent (txn 1 1) 2 (letter 1 97) 4 ++ (marked (txn 1 1) 1 3 70 2 ++
+    (Begun (txn 1 1) ∷ opened)))
+
+abbrev pub two_marked : List Entry
+two_marked = Begun (txn 1 3) ∷ (marked (txn 1 2) 1 3 71 8 ++ (Begun (txn 1 2) ∷ one_marked))
+
+-- it is lost with a crash
+abbrev pub mark_lost : List Entry
+mark_lost = Restarted 2 13 ∷ Crash 1 9 ∷ two_marked
+
+-- it is undone, and another transaction marks the client twice and commits
+abbrev pub mark_undone : List Entry
+mark_undone = Aborted (txn 1 2) ∷ Undid (txn 1 2) 2 ∷ Stepped (txn 1 2) 2 10 ∷ Started (txn 1 2) 2 Undoing
+    ∷ Aborting (txn 1 2) ∷ two_marked
+
+abbrev pub marked_twice : List Entry
+marked_twice = Committed (txn 1 3) 17 ∷ (marked (txn 1 3) 2 3 73 15 ++ (marked (txn 1 3) 1 3 72 13 ++ mark_undone))
+
+-- a transaction in a log with so many records
+abbrev pub begun_behind : ℕ → List Entry
+begun_behind records = Begun (txn 1 1) ∷ Restarted 1 records ∷ []
+
+pub record MarksAreWorked : Type 0 where
+  -- what is told is what committed transactions marked
+  pub told_none : IsLegal small (Told_client 3 0 0 ∷ opened)
+  pub told_one : IsLegal small (Told_client 3 1 70 ∷ one_marked)
+  pub told_of_another : IsLegal small (Told_client 4 0 0 ∷ one_marked)
+  pub told_last_client : IsLegal small (Told_client 14 0 0 ∷ one_marked)
+  pub told_no_client : IsLegal small (Refused (Client_tag 15) UnknownClient ∷ one_marked)
+  pub told_unknown : IsLegal small (Told_client 15 0 0 ∷ one_marked) → ⊥
+  pub told_uncommitted : IsLegal small (Told_client 3 2 71 ∷ two_marked) → ⊥
+  pub told_uncommitted_tag : IsLegal small (Told_client 3 1 71 ∷ two_marked) → ⊥
+  pub told_committed : IsLegal small (Told_client 3 1 70 ∷ two_marked)
+  pub told_after_loss : IsLegal small (Told_client 3 1 70 ∷ mark_lost)
+  pub told_without_undone : IsLegal small (Told_client 3 1 70 ∷ mark_undone)
+  pub told_last : IsLegal small (Told_client 3 3 73 ∷ marked_twice)
+  pub marks_in_order : marks marked_twice 3 ≡ 70 ∷ 72 ∷ 73 ∷ []
+  pub marks_of_ledger : marks_in (ledger marked_twice).committed 3 ≡ 70 ∷ 72 ∷ 73 ∷ []
+  -- a client's end is held by one transaction until it ends
+  pub client_busy : IsLegal small (Refused (Start_mark (txn 1 3) 3 72) ClientBusy ∷ two_marked)
+  pub marked_while_busy : IsLegal small (Started (txn 1 3) 1 (Marking 3 72) ∷ two_marked) → ⊥
+  pub busy_for_nothing : IsLegal small (Refused (Start_mark (txn 1 3) 4 72) ClientBusy ∷ two_marked) → ⊥
+  pub busy_for_itself : IsLegal small (Refused (Start_mark (txn 1 2) 3 72) ClientBusy ∷ two_marked) → ⊥
+  pub marks_another : IsLegal small (Started (txn 1 3) 1 (Marking 4 72) ∷ two_marked)
+  -- a client is known or not, and this is asked before whether it is busy
+  pub unknown_client : IsLegal small (Refused (Start_mark (txn 1 3) 15 1) UnknownClient ∷ two_marked)
+  pub unknown_for_nothing : IsLegal small (Refused (Start_mark (txn 1 3) 14 1) UnknownClient ∷ two_marked) → ⊥
+  pub marks_unknown : IsLegal small (Started (txn 1 3) 1 (Marking 15 1) ∷ two_marked) → ⊥
+  -- a mark is as it was started, writes one slot, and counts as two records
+  pub marks_as_started : IsLegal small (Did (txn 1 1) 1 (Mark 3 71) ∷ Stepped (txn 1 1) 1 2
+      ∷ Started (txn 1 1) 1 (Marking 3 70) ∷ Begun (txn 1 1) ∷ opened) → ⊥
+  pub marks_after_write : IsLegal small (Did (txn 1 1) 1 (Mark 3 70) ∷ Started (txn 1 1) 1 (Marking 3 70)
+      ∷ Begun (txn 1 1) ∷ opened) → ⊥
+  pub writes_once : IsLegal small (Stepped (txn 1 1) 1 3 ∷ Stepped (txn 1 1) 1 2 ∷ Started (txn 1 1) 1 (Marking 3 70)
+      ∷ Begun (txn 1 1) ∷ opened) → ⊥
+  pub two_records_fit : IsLegal small (Started (txn 1 1) 1 (Marking 3 70) ∷ begun_behind (2 ^ 50 - 2))
+  pub one_record_fits : IsLegal small (Refused (Start_mark (txn 1 1) 3 70) LogFull ∷ begun_behind (2 ^ 50 - 1))
+  pub full_for_nothing : IsLegal small (Refused (Start_mark (txn 1 1) 3 70) LogFull ∷ begun_behind (2 ^ 50 - 2)) → ⊥
