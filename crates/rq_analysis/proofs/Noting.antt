@@ -158,8 +158,8 @@ any_txn t [] = refl
 any_txn t (u ∷ ts) = ap (λ b. same_txn u t || b) (any_txn t ts)
 
 -- what is there stays as it is
-pub sub_there : (h : OpenWorkView) (o : Sub) → has_sub o h.unfinished ≡ true → h ≡ record h { unfinished = with_sub o h.unfinished }
-sub_there h o e = rw e refl
+pub sub_there : (os : List Sub) (o : Sub) → has_sub o os ≡ true → os ≡ with_sub o os
+sub_there os o e = rw e refl
 
 pub txn_there : (h : OpenWorkView) (t : Txn) → has_txn t h.active ≡ true → h ≡ record h { active = with_txn t h.active }
 txn_there h t e = rw e refl

@@ -1,11 +1,16 @@
 //! What is to be taken back, as the records of a log tell it one after the other.
-ghost use Rattle.std.specs.Prelude.{◌≡◌, ◌∷◌, ◌+◌, ◌<◌, [], IfSome, IfNone, MatchOption, OnOk, OnErr, Some, List, true, false, drop, length, slice_index_or};
+ghost use Rattle.std.specs.Prelude.{◌≡◌, ◌↔◌, ◌∷◌, ◌+◌, ◌<◌, [], IfErr, IfOk, IfSome, IfNone, IsTrue, MatchOption, OnOk, OnErr, Some, List, true, false, drop, length, reverse, slice_index_or, vec_capacity, vec_len};
 ghost use Rattle.std.specs.List.{filter};
 ghost use Rattle.rq_model.specs.Vocabulary.{first};
+ghost use Rattle.rq_model.specs.Incarnations.{IsNext};
+ghost use Rattle.rq_analysis.specs.LogTables.{ended_after};
+ghost use Rattle.rq_analysis.specs.Numbers.{numbers_after};
+ghost use Rattle.rq_analysis.specs.OpenWorkView.{open_work_after};
 ghost use Rattle.rq_analysis.specs.Dues.{any_due, but_newest, but_own, due_of, dues, dues_after, lsn_due};
 
+use crate::{EndedTransactions, LastOperations, OpenWork};
 use rq_model::record::{DeedBytes, Record};
-use rq_model::refusal::NoMemory;
+use rq_model::refusal::Refusal;
 use rq_model::txn::{Lsn, Txn};
 use std::alloc::Global;
 use std::marker::Model;
@@ -96,39 +101,39 @@ impl PendingUndos {
         }
     }
 
-    /// Takes the next record, which has this LSN.
+    /// Takes the next record, which has this LSN, and has the other three take it: all of them, or none. False where it doesn't
+    /// belong to the running incarnation, or isn't the next.
     ///
     /// # Errors
     /// `NoMemory`: nothing changed.
-    pub fn note(&mut self, lsn: Lsn, record: &Record) -> Result<(), NoMemory>
+    pub fn note(
+        &mut self,
+        numbers: &mut LastOperations,
+        open_work: &mut OpenWork,
+        ended: &mut EndedTransactions,
+        lsn: Lsn,
+        record: &Record,
+    ) -> Result<bool, Refusal>
+        ensures next { IfOk result (λ is_next. IsTrue is_next ↔ IsNext open_work.old.incarnation «record».now) }
         ensures noted { OnOk result (self.new ≡ dues_after lsn «record».now self.old) }
-        ensures err { OnErr result (self.new ≡ self.old) }
+        ensures numbers { OnOk result (numbers.new ≡ numbers_after «record».now numbers.old) }
+        ensures open_work { OnOk result (open_work.new ≡ open_work_after lsn «record».now open_work.old) }
+        ensures ended { OnOk result (ended.new ≡ ended_after «record».now ended.old) }
+        ensures same { OnErr result (self.new ≡ self.old) }
+        ensures numbers_same { OnErr result (numbers.new ≡ numbers.old) }
+        ensures open_work_same { OnErr result (open_work.new ≡ open_work.old) }
+        ensures ended_same { OnErr result (ended.new ≡ ended.old) }
+        ensures err { IfErr result (λ e. e ≡ Refusal.NoMemory) }
     {
-        match record {
-            Record::OpEnd {
-                txn,
-                level,
-                deed,
-                ..
-            } => self.add(KeptUndo::of(&PendingUndo {
-                txn: *txn,
-                lsn,
-                level: *level,
-                deed: *deed,
-            })),
-            Record::CompEnd { txn, .. } => {
-                self.drop_newest(*txn);
-                Ok(())
+        if self.dues.try_reserve(1).is_err() {
+            return Err(Refusal::NoMemory);
+        }
+        match numbers.note(open_work, ended, lsn, record) {
+            Ok(is_next) => {
+                take(&mut self.dues, lsn, record);
+                Ok(is_next)
             }
-            Record::Commit { txn } | Record::AbortEnd { txn } => {
-                self.end(*txn);
-                Ok(())
-            }
-            Record::Base { .. } => {
-                self.dues.clear();
-                Ok(())
-            }
-            _ => Ok(()),
+            Err(refusal) => Err(refusal),
         }
     }
 
@@ -155,32 +160,56 @@ impl PendingUndos {
     {
         has_due(&self.dues, txn)
     }
+}
 
-    fn add(&mut self, due: KeptUndo) -> Result<(), NoMemory>
-        ensures ok { OnOk result (self.new ≡ due ∷ self.old) }
-        ensures err { OnErr result (self.new ≡ self.old) }
-    {
-        match self.dues.push(due) {
-            Ok(()) => Ok(()),
-            Err(_) => Err(NoMemory),
-        }
+// Takes the next record, which has this LSN, into a table that has room for one more.
+fn take(dues: &mut Vec<KeptUndo>, lsn: Lsn, record: &Record)
+    requires { vec_len dues.old < vec_capacity dues.old }
+    ensures { reverse dues.new.items ≡ dues_after lsn «record».now (reverse dues.old.items) }
+{
+    match record {
+        Record::OpEnd {
+            txn,
+            level,
+            deed,
+            ..
+        } => add(
+            dues,
+            &PendingUndo {
+                txn: *txn,
+                lsn,
+                level: *level,
+                deed: *deed,
+            },
+        ),
+        Record::CompEnd { txn, .. } => drop_newest(dues, *txn),
+        Record::Commit { txn } | Record::AbortEnd { txn } => end(dues, *txn),
+        Record::Base { .. } => dues.clear(),
+        _ => {}
     }
+}
 
-    // The newest of the transaction's is taken back.
-    fn drop_newest(&mut self, txn: Txn)
-        ensures { self.new ≡ but_newest txn self.old }
-    {
-        if let Some(place) = newest_of(&self.dues, txn) {
-            self.dues.remove(place);
-        }
-    }
+fn add(dues: &mut Vec<KeptUndo>, due: &PendingUndo)
+    requires { vec_len dues.old < vec_capacity dues.old }
+    ensures { reverse dues.new.items ≡ due.now ∷ reverse dues.old.items }
+{
+    dues.push_reserved(KeptUndo::of(due));
+}
 
-    // The transaction has ended: nothing that it did is to be taken back.
-    fn end(&mut self, txn: Txn)
-        ensures { self.new ≡ but_own txn self.old }
-    {
-        self.dues.retain(|due| due.txn() != txn);
+// The newest of the transaction's is taken back.
+fn drop_newest(dues: &mut Vec<KeptUndo>, txn: Txn)
+    ensures { reverse dues.new.items ≡ but_newest txn (reverse dues.old.items) }
+{
+    if let Some(place) = newest_of(dues, txn) {
+        dues.remove(place);
     }
+}
+
+// The transaction has ended: nothing that it did is to be taken back.
+fn end(dues: &mut Vec<KeptUndo>, txn: Txn)
+    ensures { reverse dues.new.items ≡ but_own txn (reverse dues.old.items) }
+{
+    dues.retain(|due| due.txn() != txn);
 }
 
 // The place of the newest of these that is the transaction's.

@@ -1,10 +1,14 @@
 //! The numbers of running transactions' operations, as the records of a log tell them one after the other.
-ghost use Rattle.std.specs.Prelude.{◌≡◌, OnOk, OnErr, List, []};
+ghost use Rattle.std.specs.Prelude.{◌≡◌, ◌↔◌, ◌<◌, IfErr, IfOk, IsTrue, OnOk, OnErr, List, [], vec_capacity, vec_len};
+ghost use Rattle.rq_model.specs.Incarnations.{IsNext};
+ghost use Rattle.rq_analysis.specs.LogTables.{ended_after};
+ghost use Rattle.rq_analysis.specs.OpenWorkView.{open_work_after};
 ghost use Rattle.rq_analysis.specs.Numbers.{number_of, numbers, numbers_after, numbers_but, numbers_left, with_number};
 
+use crate::{EndedTransactions, OpenWork};
 use rq_model::record::Record;
-use rq_model::refusal::NoMemory;
-use rq_model::txn::{Sub, Txn};
+use rq_model::refusal::Refusal;
+use rq_model::txn::{Lsn, Sub, Txn};
 use std::alloc::Global;
 use std::marker::Model;
 
@@ -33,29 +37,36 @@ impl LastOperations {
         }
     }
 
-    /// Takes the next record.
+    /// Takes the next record, which has this LSN, and has the other two take it: all of them, or none. False where it doesn't
+    /// belong to the running incarnation, or isn't the next.
     ///
     /// # Errors
     /// `NoMemory`: nothing changed.
-    pub fn note(&mut self, record: &Record) -> Result<(), NoMemory>
+    pub fn note(
+        &mut self,
+        open_work: &mut OpenWork,
+        ended: &mut EndedTransactions,
+        lsn: Lsn,
+        record: &Record,
+    ) -> Result<bool, Refusal>
+        ensures next { IfOk result (λ is_next. IsTrue is_next ↔ IsNext open_work.old.incarnation «record».now) }
         ensures noted { OnOk result (self.new ≡ numbers_after «record».now self.old) }
-        ensures err { OnErr result (self.new ≡ self.old) }
+        ensures open_work { OnOk result (open_work.new ≡ open_work_after lsn «record».now open_work.old) }
+        ensures ended { OnOk result (ended.new ≡ ended_after «record».now ended.old) }
+        ensures same { OnErr result (self.new ≡ self.old) }
+        ensures open_work_same { OnErr result (open_work.new ≡ open_work.old) }
+        ensures ended_same { OnErr result (ended.new ≡ ended.old) }
+        ensures err { IfErr result (λ e. e ≡ Refusal.NoMemory) }
     {
-        match record {
-            Record::PageOp { txn, operation, .. }
-            | Record::PageUndo { txn, operation, .. }
-            | Record::OpEnd { txn, operation, .. }
-            | Record::OpVoid { txn, operation }
-            | Record::CompEnd { txn, operation, .. } => self.raise(*txn, *operation),
-            Record::Commit { txn } | Record::AbortEnd { txn } => {
-                self.end(*txn);
-                Ok(())
+        if self.numbers.try_reserve(1).is_err() {
+            return Err(Refusal::NoMemory);
+        }
+        match note_both(open_work, ended, lsn, record) {
+            Ok(is_next) => {
+                take(&mut self.numbers, record);
+                Ok(is_next)
             }
-            Record::Base { .. } => {
-                self.numbers.clear();
-                Ok(())
-            }
-            Record::Restart { .. } => Ok(()),
+            Err(refusal) => Err(refusal),
         }
     }
 
@@ -65,36 +76,67 @@ impl LastOperations {
     {
         greatest_of(&self.numbers, txn)
     }
+}
 
-    fn raise(&mut self, txn: Txn, number: u64) -> Result<(), NoMemory>
-        ensures ok { OnOk result (self.new ≡ with_number (record { txn = txn; number = number }) self.old) }
-        ensures err { OnErr result (self.new ≡ self.old) }
-    {
-        if self.greatest(txn) >= number {
-            return Ok(());
-        }
-        match self.numbers.push(Sub { txn, number }) {
-            Ok(()) => {
-                self.leave(txn, number);
-                Ok(())
-            }
-            Err(_) => Err(NoMemory),
-        }
+// Has both take the next record, or none.
+fn note_both(
+    open_work: &mut OpenWork,
+    ended: &mut EndedTransactions,
+    lsn: Lsn,
+    record: &Record,
+) -> Result<bool, Refusal>
+    ensures next { IfOk result (λ is_next. IsTrue is_next ↔ IsNext open_work.old.incarnation «record».now) }
+    ensures open_work { OnOk result (open_work.new ≡ open_work_after lsn «record».now open_work.old) }
+    ensures ended { OnOk result (ended.new ≡ ended_after «record».now ended.old) }
+    ensures open_work_same { OnErr result (open_work.new ≡ open_work.old) }
+    ensures ended_same { OnErr result (ended.new ≡ ended.old) }
+    ensures err { IfErr result (λ e. e ≡ Refusal.NoMemory) }
+{
+    match ended.note(record) {
+        Ok(()) => open_work.note(lsn, record),
+        Err(_) => Err(Refusal::NoMemory),
     }
+}
 
-    // Of the transaction's numbers this one alone is left.
-    fn leave(&mut self, txn: Txn, number: u64)
-        ensures { self.new ≡ numbers_left txn number self.old }
-    {
-        self.numbers
-            .retain(|sub| txn != sub.txn || sub.number == number);
+// Takes the next record into a table that has room for one more.
+fn take(numbers: &mut Vec<Sub>, record: &Record)
+    requires { vec_len numbers.old < vec_capacity numbers.old }
+    ensures { numbers.new.items ≡ numbers_after «record».now numbers.old.items }
+{
+    match record {
+        Record::PageOp { txn, operation, .. }
+        | Record::PageUndo { txn, operation, .. }
+        | Record::OpEnd { txn, operation, .. }
+        | Record::OpVoid { txn, operation }
+        | Record::CompEnd { txn, operation, .. } => raise(numbers, *txn, *operation),
+        Record::Commit { txn } | Record::AbortEnd { txn } => end(numbers, *txn),
+        Record::Base { .. } => numbers.clear(),
+        Record::Restart { .. } => {}
     }
+}
 
-    fn end(&mut self, txn: Txn)
-        ensures { self.new ≡ numbers_but txn self.old }
-    {
-        self.numbers.retain(|sub| txn != sub.txn);
+fn raise(numbers: &mut Vec<Sub>, txn: Txn, number: u64)
+    requires { vec_len numbers.old < vec_capacity numbers.old }
+    ensures { numbers.new.items ≡ with_number (record { txn = txn; number = number }) numbers.old.items }
+{
+    if greatest_of(numbers, txn) >= number {
+        return;
     }
+    numbers.push_reserved(Sub { txn, number });
+    leave(numbers, txn, number);
+}
+
+// Of the transaction's numbers this one alone is left.
+fn leave(numbers: &mut Vec<Sub>, txn: Txn, number: u64)
+    ensures { numbers.new.items ≡ numbers_left txn number numbers.old.items }
+{
+    numbers.retain(|sub| txn != sub.txn || sub.number == number);
+}
+
+fn end(numbers: &mut Vec<Sub>, txn: Txn)
+    ensures { numbers.new.items ≡ numbers_but txn numbers.old.items }
+{
+    numbers.retain(|sub| txn != sub.txn);
 }
 
 fn greatest_of(numbers: &[Sub], txn: Txn) -> u64

@@ -1,11 +1,13 @@
 //! What the records of a log leave open: operations and transactions without an end.
-ghost use Rattle.std.specs.Prelude.{◌≡◌, ◌↔◌, ◌<◌, ◌+◌, IsTrue, IfOk, IfErr, IfSome, IfNone, OnOk, [], ◌∷◌, Some, true, false, drop, length, reverse, slice_index_or};
+ghost use Rattle.std.specs.Prelude.{◌≡◌, ◌↔◌, ◌<◌, ◌+◌, IsTrue, IfOk, IfErr, IfSome, IfNone, OnOk, OnErr, [], ◌∷◌, Some, true, false, drop, length, reverse, slice_index_or};
 ghost use Rattle.std.specs.List.{filter};
 ghost use Rattle.rq_model.specs.Incarnations.{IsNext, IsOf};
 ghost use Rattle.rq_model.specs.Vocabulary.{first};
 ghost use Rattle.rq_analysis.specs.OpenWorkView.{open_work_of, open_work_after, has_sub, lsn_undoable, undoable_by, with_sub, without_newest, without_undoable, without_sub, with_txn, without_txn};
 ghost use Rattle.rq_analysis.specs.Pages.{IsUndoneNext, any_undoable, op_less};
 ghost use Rattle.rq_analysis.specs.Least.{least_in, lesser_in};
+ghost use Rattle.rq_analysis.specs.LogTables.{ended_after};
+ghost use Rattle.rq_analysis.specs.Runs.{Counts};
 
 use rq_model::record::{Record, Slot};
 use rq_model::refusal::Refusal;
@@ -166,10 +168,12 @@ impl OpenWork {
     /// next.
     ///
     /// # Errors
-    /// `NoMemory`.
+    /// `NoMemory`, where it ends no transaction and begins no log: nothing changed.
     pub fn note(&mut self, lsn: Lsn, record: &Record) -> Result<bool, Refusal>
         ensures next { IfOk result (λ is_next. IsTrue is_next ↔ IsNext self.old.incarnation «record».now) }
         ensures noted { OnOk result (self.new ≡ open_work_after lsn «record».now self.old) }
+        ensures same { OnErr result (self.new ≡ self.old) }
+        ensures none_ends { OnErr result ((counts : Counts) → ended_after «record».now counts ≡ counts) }
         ensures err { IfErr result (λ e. e ≡ Refusal.NoMemory) }
     {
         match record {
@@ -191,15 +195,13 @@ impl OpenWork {
                 before,
                 ..
             } => {
-                let by = sub(txn, *operation);
-                self.begin_operation(by)?;
-                self.add_undoable(KeptWrite::of(&UndoableWrite {
+                self.add_write(&UndoableWrite {
                     lsn,
-                    by,
+                    by: sub(txn, *operation),
                     page: *page,
                     slot: *slot,
                     before: *before,
-                }))?;
+                })?;
                 Ok(self.is_ours(txn))
             }
             Record::PageUndo { txn, operation, .. } => {
@@ -207,8 +209,8 @@ impl OpenWork {
                 Ok(self.is_ours(txn))
             }
             Record::OpEnd { txn, operation, .. } => {
-                self.end_operation(sub(txn, *operation));
                 self.begin_transaction(*txn)?;
+                self.end_operation(sub(txn, *operation));
                 Ok(self.is_ours(txn))
             }
             Record::OpVoid { txn, operation } | Record::CompEnd { txn, operation, .. } => {
@@ -252,26 +254,24 @@ impl OpenWork {
         self.incarnation > 0 && txn.incarnation == self.incarnation
     }
 
-    fn begin_operation(&mut self, begun: Sub) -> Result<(), Refusal>
-        ensures ok { OnOk result (self.new ≡ record self.old { unfinished = with_sub begun self.old.unfinished }) }
+    // A write of an operation, which may be its first.
+    fn add_write(&mut self, write: &UndoableWrite) -> Result<(), Refusal>
+        ensures ok { OnOk result (self.new ≡ record self.old {
+          unfinished = with_sub write.now.by self.old.unfinished;
+          undoable = write.now ∷ self.old.undoable;
+        }) }
+        ensures same { OnErr result (self.new ≡ self.old) }
         ensures err { IfErr result (λ e. e ≡ Refusal.NoMemory) }
     {
-        if self.unfinished.contains(&begun) {
-            return Ok(());
+        if self.undoable.try_reserve(1).is_err() {
+            return Err(Refusal::NoMemory);
         }
-        match self.unfinished.push(begun) {
-            Ok(()) => Ok(()),
-            Err(_) => Err(Refusal::NoMemory),
-        }
-    }
-
-    fn add_undoable(&mut self, write: KeptWrite) -> Result<(), Refusal>
-        ensures ok { OnOk result (self.new ≡ record self.old { undoable = write ∷ self.old.undoable }) }
-        ensures err { IfErr result (λ e. e ≡ Refusal.NoMemory) }
-    {
-        match self.undoable.push(write) {
-            Ok(()) => Ok(()),
-            Err(_) => Err(Refusal::NoMemory),
+        match begin_operation(&mut self.unfinished, write.by) {
+            Ok(()) => {
+                self.undoable.push_reserved(KeptWrite::of(write));
+                Ok(())
+            }
+            Err(refusal) => Err(refusal),
         }
     }
 
@@ -296,6 +296,7 @@ impl OpenWork {
 
     fn begin_transaction(&mut self, txn: Txn) -> Result<(), Refusal>
         ensures ok { OnOk result (self.new ≡ record self.old { active = with_txn txn self.old.active }) }
+        ensures same { OnErr result (self.new ≡ self.old) }
         ensures err { IfErr result (λ e. e ≡ Refusal.NoMemory) }
     {
         if self.active.contains(&txn) {
@@ -311,6 +312,20 @@ impl OpenWork {
         ensures { self.new ≡ record self.old { active = without_txn txn self.old.active } }
     {
         self.active.retain(|open| txn != *open);
+    }
+}
+
+fn begin_operation(unfinished: &mut Vec<Sub>, begun: Sub) -> Result<(), Refusal>
+    ensures ok { OnOk result (unfinished.new.items ≡ with_sub begun unfinished.old.items) }
+    ensures same { OnErr result (unfinished.new.items ≡ unfinished.old.items) }
+    ensures err { IfErr result (λ e. e ≡ Refusal.NoMemory) }
+{
+    if unfinished.contains(&begun) {
+        return Ok(());
+    }
+    match unfinished.push(begun) {
+        Ok(()) => Ok(()),
+        Err(_) => Err(Refusal::NoMemory),
     }
 }
 

@@ -1,8 +1,10 @@
 -- What is kept of places behind a record.
-use Rattle.std.proofs.Common.{◌≡◌, ◌≢◌, ◌↔◌, ◌⊎◌, inl, inr, ℕ, zero, suc, ◌+◌, ◌<◌, ◌≤◌, get_or, arith, Bool, true, false, not, ◌||◌, List, [], ◌∷◌, ◌++◌, length, refl, sym, ◌∙◌, ap, subst}
-use Rattle.std.proofs.lemmas.Bool.{eq-eqb, eqb-true, not-true, not_from_false, or_parts, true≢false}
-use Rattle.std.specs.List.{filter, list_any}
+use Rattle.std.proofs.Common.{◌≡◌, ◌≢◌, ◌↔◌, ◌⊎◌, inl, inr, ℕ, zero, suc, ◌+◌, ◌-◌, ◌<◌, ◌≤◌, get_or, arith, Bool, true, false, not, ◌||◌, List, [], ◌∷◌, ◌++◌, length, refl, sym, ◌∙◌, ap, subst}
+use Rattle.std.proofs.lemmas.Bool.{cases_lt, not-true, not_from_false, or_parts}
+use Rattle.std.specs.List.{filter}
 use Rattle.std.proofs.lemmas.List.{append-nil}
+use Rattle.std.proofs.lemmas.List.Kept.{IsNonDecreasingBy-filter}
+use Rattle.std.proofs.lemmas.List.Sorted.{IsNonDecreasingBy-push, IsNonDecreasingBy-short}
 use Rattle.rq_model.specs.declared.txn.Txn.{Txn}
 use Rattle.rq_model.specs.declared.txn.Sub.{Sub}
 use Rattle.rq_model.specs.declared.record.Record.{Record}
@@ -23,7 +25,7 @@ use Rattle.rq_views.specs.Log.{same_op}
 use Rattle.rq_views.specs.Items.{operation}
 use Rattle.rq_views.proofs.AllOpen.{filter_in}
 use Rattle.rq_restart.specs.declared.places.Place.{Place}
-use Rattle.rq_restart.specs.Places.{IsDueKept, IsKept, IsOpenIn, IsWriteKept, OpenPlaces, PlacesAreOpen, UndosHavePlaces, end_at, ends_operation, ends_txn, has_lsn, no_places, place_at, places_after, places_of, with_end, with_write, without_operation, without_txn, write_at}
+use Rattle.rq_restart.specs.Places.{AreRising, IsDueKept, IsKept, IsOpenIn, IsWriteKept, OpenPlaces, PlacesAreOpen, UndosHavePlaces, end_at, ends_after, ends_operation, ends_txn, no_places, place_at, places_after, places_of, write_at, writes_after}
 
 all_stay : (xs : List Place) → filter (λ p. not false) xs ≡ xs
 all_stay [] = refl
@@ -40,36 +42,36 @@ both : {a b c d : List Place} → a ≡ b → c ≡ d → places a c ≡ places 
 both {a} {b} {c} {d} e f = ap (λ (l : List Place). places l c) e ∙ ap (places b) f
 
 -- as it was, with nothing added
-as_was : (xs : List Place) → xs ≡ filter (λ p. not false) xs ++ []
+pub as_was : (xs : List Place) → xs ≡ filter (λ p. not false) xs ++ []
 as_was xs = sym (append-nil (filter (λ p. not false) xs) ∙ all_stay xs)
 
-module _ (lsn place : ℕ) (s : OpenPlaces) where
-  pub page_op_noted : (t : Txn) (n page slot : ℕ) (before after : List ℕ) → with_write (place_at lsn place t n) s ≡ places_after lsn place (records.PageOp t n page slot before after) s
-  page_op_noted t n page slot before after = both (ap (λ l. l ++ (place_at lsn place t n ∷ [])) (sym (all_stay s.writes))) (as_was s.ends)
+pub one_more : (xs : List Place) (p : Place) → xs ++ (p ∷ []) ≡ filter (λ q. not false) xs ++ (p ∷ [])
+one_more xs p = ap (λ l. l ++ (p ∷ [])) (sym (all_stay xs))
 
-  pub op_end_noted : (t : Txn) (n level : ℕ) (deed : List ℕ) → with_end (place_at lsn place t n) (without_operation (operation t n) s) ≡ places_after lsn place (records.OpEnd t n level deed) s
-  op_end_noted t n level deed = both (sym (append-nil _)) (ap (λ l. l ++ (place_at lsn place t n ∷ [])) (sym (all_stay s.ends)))
+pub none_more : (xs : List Place) → xs ≡ xs ++ []
+none_more xs = sym (append-nil xs)
 
-  pub op_void_noted : (t : Txn) (n : ℕ) → without_operation (operation t n) s ≡ places_after lsn place (records.OpVoid t n) s
-  op_void_noted t n = both (sym (append-nil _)) (as_was s.ends)
+pub none_left : (xs : List Place) → [] ≡ filter (λ p. not true) xs ++ []
+none_left xs = sym (append-nil _ ∙ none_stays xs)
 
-  pub comp_end_noted : (t : Txn) (n undone : ℕ) → without_operation (operation t n) s ≡ places_after lsn place (records.CompEnd t n undone) s
-  comp_end_noted t n undone = both (sym (append-nil _)) (as_was s.ends)
+pub base_noted : (lsn place : ℕ) (s : OpenPlaces) (many i : ℕ) → no_places ≡ places_after lsn place (records.Base many i) s
+base_noted lsn place s many i = both (none_left s.writes) (none_left s.ends)
 
-  pub commit_noted : (t : Txn) → without_txn t s ≡ places_after lsn place (records.Commit t) s
-  commit_noted t = both (as_was s.writes) (sym (append-nil _))
+-- as each of the two lists is changed
+pub both_after : (lsn place : ℕ) (r : Record) (s : OpenPlaces) (writes ends old_writes old_ends : List Place) → writes ≡ writes_after lsn place r old_writes → ends ≡ ends_after lsn place r old_ends → places old_writes old_ends ≡ s → places writes ends ≡ places_after lsn place r s
+both_after lsn place r s writes ends old_writes old_ends a b is = both a b ∙ ap (places_after lsn place r) is
 
-  pub abort_end_noted : (t : Txn) → without_txn t s ≡ places_after lsn place (records.AbortEnd t) s
-  abort_end_noted t = both (as_was s.writes) (sym (append-nil _))
+-- ---- among places
 
-  pub base_noted : (many i : ℕ) → no_places ≡ places_after lsn place (records.Base many i) s
-  base_noted many i = both (sym (append-nil _ ∙ none_stays s.writes)) (sym (append-nil _ ∙ none_stays s.ends))
+pub in_there : (ps : List Place) (i : ℕ) (d : Place) → i < length ps → In (get_or ps i d) ps
+in_there [] i d lt = absurd (omega (arith, lt))
+in_there (x ∷ ps) zero d lt = inl refl
+in_there (x ∷ ps) (suc i) d lt = inr (in_there ps i d (omega (arith, lt)))
 
-  pub page_undo_noted : (t : Txn) (n undone page slot : ℕ) (after : List ℕ) → s ≡ places_after lsn place (records.PageUndo t n undone page slot after) s
-  page_undo_noted t n undone page slot after = both (as_was s.writes) (as_was s.ends)
-
-  pub restart_noted : (i : ℕ) → s ≡ places_after lsn place (records.Restart i) s
-  restart_noted i = both (as_was s.writes) (as_was s.ends)
+index_of : (ps : List Place) (p : Place) → In p ps → (k : ℕ) × (k < length ps) × (get_or ps k p ≡ p)
+index_of [] p i = absurd i
+index_of (x ∷ ps) p (inl e) = (zero, omega arith, sym e)
+index_of (x ∷ ps) p (inr i) = let rest = index_of ps p i in (suc rest.0, (let within = rest.1 in omega (arith, within)), rest.2)
 
 -- ---- of a log
 
@@ -121,12 +123,6 @@ one_end : (lsn place : ℕ) (r : Record) (p : Place) → In p (end_at lsn place 
 one_end lsn place (records.OpEnd t n level deed) p (inl e) = ap (λ q. q ∷ []) (sym e)
 one_end lsn place (records.OpEnd t n level deed) p (inr i) = absurd i
 one_end lsn place _ p i = absurd i
-
-pub places_are_open : PlacesAreOpen
-places_are_open = record {
-  writes = exactly_open write_at (λ r q. ends_operation r q.by) (λ log. (places_of log).writes) refl (λ r log. refl) one_write;
-  ends = exactly_open end_at (λ r q. ends_txn r q.by.txn) (λ log. (places_of log).ends) refl (λ r log. refl) one_end;
-}
 
 -- ---- of what is to be undone
 
@@ -222,7 +218,13 @@ due_kept (records.OpVoid t n ∷ log) d i = due_still log (records.OpVoid t n) d
 due_kept (records.Restart n ∷ log) d i = due_still log (records.Restart n) d [] refl refl (due_kept log d i)
 due_kept (records.Base many n ∷ log) d i = absurd i
 
--- ---- of a record with this LSN one place is kept at most
+-- ---- by rising LSN, and of a record with this LSN one place at most
+
+risen : (xs ys : List Place) → AreRising xs → ((p : Place) → In p ys → ys ≡ p ∷ []) → ((p q : Place) → In p xs → In q ys → p.lsn ≤ q.lsn) → AreRising (xs ++ ys)
+risen xs [] rise one above = subst AreRising (sym (append-nil xs)) rise
+risen xs (y ∷ ys) rise one above =
+    subst (λ l. AreRising (xs ++ l)) (sym (one y (inl refl)))
+    (IsNonDecreasingBy-push (λ (p : Place). p.lsn) xs y rise (λ d lt. above (get_or xs (length xs - 1) d) y (in_there xs (length xs - 1) d (omega (arith, lt))) (inl refl)))
 
 module _ (at : ℕ → ℕ → Record → List Place) (ends : Record → Place → Bool) (table : List Record → List Place) (none : table [] ≡ [])
     (more : (r : Record) (log : List Record) → table (r ∷ log) ≡ filter (λ p. not (ends r p)) (table log) ++ at (length log + 1) (length (spelled log)) r)
@@ -239,6 +241,14 @@ module _ (at : ℕ → ℕ → Record → List Place) (ends : Record → Place �
     | inl old ↦ (let k = lsn_within log p old in omega (arith, k))
     | inr new ↦ (let k = own (length log + 1) (length (spelled log)) r p new in omega (arith, k))
   ]
+
+  rise : (log : List Record) → AreRising (table log)
+  rise [] = subst AreRising (sym none) (IsNonDecreasingBy-short (λ (p : Place). p.lsn) [] (omega arith))
+  rise (r ∷ log) =
+      let old = filter (λ p. not (ends r p)) (table log) in
+      let new = at (length log + 1) (length (spelled log)) r in
+      subst AreRising (sym (more r log)) (risen old new (IsNonDecreasingBy-filter (λ (p : Place). p.lsn) (λ p. not (ends r p)) (table log) (rise log)) (one (length log + 1) (length (spelled log)) r)
+      (λ p q i j. let a = lsn_within log p (In-filter (λ x. not (ends r x)) (table log) p i).0 in let b = own (length log + 1) (length (spelled log)) r q j in omega (arith, a, b)))
 
   one_kept : (log : List Record) (p q : Place) → In p (table log) → In q (table log) → p.lsn ≡ q.lsn → p ≡ q
   one_kept [] p q i j e = absurd (subst (In p) none i)
@@ -266,6 +276,20 @@ own_end lsn place (records.OpEnd t n level deed) p (inl e) = ap (λ (q : Place).
 own_end lsn place (records.OpEnd t n level deed) p (inr i) = absurd i
 own_end lsn place _ p i = absurd i
 
+pub writes_rise : (log : List Record) → AreRising (places_of log).writes
+writes_rise = rise write_at (λ r q. ends_operation r q.by) (λ log. (places_of log).writes) refl (λ r log. refl) one_write own_write
+
+pub ends_rise : (log : List Record) → AreRising (places_of log).ends
+ends_rise = rise end_at (λ r q. ends_txn r q.by.txn) (λ log. (places_of log).ends) refl (λ r log. refl) one_end own_end
+
+pub places_are_open : PlacesAreOpen
+places_are_open = record {
+  writes = exactly_open write_at (λ r q. ends_operation r q.by) (λ log. (places_of log).writes) refl (λ r log. refl) one_write;
+  ends = exactly_open end_at (λ r q. ends_txn r q.by.txn) (λ log. (places_of log).ends) refl (λ r log. refl) one_end;
+  writes_rise = writes_rise;
+  ends_rise = ends_rise;
+}
+
 -- the record of a write that is not undone stands where its LSN is kept, and is of its operation
 pub write_there : (log : List Record) (w : UndoableWrite) (p : Place) → In w (open_work_of log).undoable → In p (places_of log).writes → p.lsn ≡ w.lsn → (p.by ≡ w.by) × ((after : List ℕ) × IsAt log p.place (records.PageOp w.by.txn w.by.number w.page w.slot w.before after))
 write_there log w p i j e =
@@ -288,20 +312,25 @@ due_there log d p i j e =
 pub due_found : (log : List Record) (d : PendingUndo) → In d (dues log) → ((p : Place) → In p (places_of log).ends → p.lsn ≢ d.lsn) → ⊥
 due_found log d i none = let k = due_kept log d i in none (record { lsn = d.lsn; by = operation d.txn k.0; place = k.1.place }) k.1.among refl
 
--- ---- among those that are kept
+-- ---- a place that is looked for by its LSN
 
-pub in_there : (ps : List Place) (i : ℕ) (p : Place) → i < length ps → In (get_or ps i p) ps
-in_there [] i p lt = absurd (omega (arith, lt))
-in_there (x ∷ ps) zero p lt = inl refl
-in_there (x ∷ ps) (suc i) p lt = inr (in_there ps i p (omega (arith, lt)))
+-- what a list gives beyond its end
+abbrev pub no_lsn : Place
+no_lsn = record { lsn = 0; by = record { txn = record { incarnation = 0; count = 0 }; number = 0 }; place = 0 }
 
-pub lsn_is : (lsn : ℕ) (p : Place) → has_lsn lsn p ≡ true → p.lsn ≡ lsn
-lsn_is lsn p e = eqb-true p.lsn lsn e
-
-pub none_with : (lsn : ℕ) (ps : List Place) → list_any (has_lsn lsn) ps ≡ false → (p : Place) → In p ps → p.lsn ≢ lsn
-none_with lsn [] none p i = absurd i
-none_with lsn (x ∷ ps) none p (inl e) = λ same. let k = or_parts (has_lsn lsn x) (list_any (has_lsn lsn) ps) none in absurd (true≢false (sym (eq-eqb x.lsn lsn (ap (λ (y : Place). y.lsn) (sym e) ∙ same)) ∙ k.0))
-none_with lsn (x ∷ ps) none p (inr i) = none_with lsn ps (or_parts (has_lsn lsn x) (list_any (has_lsn lsn) ps) none).1 p i
+-- behind all with a smaller LSN, where it is not the first of the others, there is none
+pub none_with : (ps : List Place) (i lsn : ℕ) → AreRising ps → ((k : ℕ) (d : Place) → k < i → (get_or ps k d).lsn < lsn) → ((k : ℕ) (d : Place) → i ≤ k → k < length ps → lsn ≤ (get_or ps k d).lsn) → (i < length ps → (d : Place) → (get_or ps i d).lsn ≢ lsn) → (p : Place) → In p ps → p.lsn ≢ lsn
+none_with ps i lsn rise below above other p there same =
+    let at = index_of ps p there in
+    let here = ap (λ (q : Place). q.lsn) at.2 in
+    elim (cases_lt at.0 i) [
+      | inl before ↦ let less = below at.0 p before in absurd (omega (arith, less, here, same))
+      | inr behind ↦
+          let within : i < length ps = let k = at.1 in omega (arith, k, behind) in
+          let first = above i p (omega arith) within in
+          let least = rise i at.0 p behind at.1 in
+          other within p (omega (arith, first, least, here, same))
+    ]
 
 pub undos_have_places : UndosHavePlaces
 undos_have_places = record { writes = write_kept; dues = due_kept }

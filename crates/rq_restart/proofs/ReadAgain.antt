@@ -1,6 +1,6 @@
 -- What a record tells that is read again.
-use Rattle.std.proofs.Common.{◌≡◌, ◌≢◌, ◌↔◌, ◌⊎◌, inl, inr, ℕ, ◌+◌, ◌%◌, ◌^◌, ◌<◌, ◌≤◌, ◌&&◌, Bool, true, false, nat_lt, List, [], ◌∷◌, ◌++◌, length, Result, Ok, Err, Option, Some, None, refl, sym, ◌∙◌, ap, subst, arith, append_assoc}
-use Rattle.std.specs.Prelude.{IfOk, IfErr, IfNone, IsTrue}
+use Rattle.std.proofs.Common.{◌≡◌, ◌≢◌, ◌↔◌, ◌⊎◌, inl, inr, ℕ, ◌+◌, ◌*◌, ◌/◌, ◌%◌, ◌^◌, ◌<◌, ◌≤◌, ◌&&◌, Bool, true, false, nat_lt, List, [], ◌∷◌, ◌++◌, length, Result, Ok, Err, Option, Some, None, refl, sym, ◌∙◌, ap, subst, arith, append_assoc}
+use Rattle.std.specs.Prelude.{IfOk, IfErr, IfNone, IfSome, IsTrue}
 use Rattle.std.specs.List.{filter}
 use Rattle.std.proofs.lemmas.Bool.{and_from, and_parts, cases_Bool, lt-ltb, ltb-true, true≢false, false≢true}
 use Rattle.rq_model.specs.declared.record.Record.{Record}
@@ -19,7 +19,7 @@ use Rattle.rq_log.specs.Places.{IsAt, IsPlace, NotReadAgainFor, StandsAt}
 use Rattle.rq_log.specs.Places as log_places
 use Rattle.rq_log.specs.Spelled.{AreSpelled, spelled, spelled_all}
 use Rattle.rq_log.proofs.Keeping.{few_bytes}
-use Rattle.rq_record.specs.Spelling.{IsSlotNumber}
+use Rattle.rq_record.specs.Spelling.{HasWidths, IsSlotNumber}
 use Rattle.rq_views.specs.Items.{operation}
 use Rattle.rq_views.proofs.Overlay.{same_is}
 use Rattle.rq_analysis.specs.declared.dues.PendingUndo.{PendingUndo}
@@ -33,10 +33,13 @@ use Rattle.rq_analysis.specs.Pages.{IsNextUndo, IsUndoneNext, undo_of}
 use Rattle.rq_analysis.specs.Pages.IsNextUndo.{Undoes}
 use Rattle.rq_restart.specs.declared.analysis.Analysis.{Analysis}
 use Rattle.rq_restart.specs.declared.places.Place.{Place}
-use Rattle.rq_restart.specs.Again.{IsLikeUndo, NotGivenFor, NotReadFor, NotToldFor, WroteOver, due_told, told_again, undo_told}
+use Rattle.rq_restart.specs.Again.{HasRecord, IsLikeUndo, NotGivenFor, NotReadFor, NotToldFor, NotUndoneFor, WroteOver, due_told, told_again, undo_told}
+use Rattle.rq_level.specs.declared.writes.SlotWrite.{SlotWrite}
+use Rattle.rq_planner.specs.PageUndos.{NotPutBackFor, PutsBackWrite}
+use Rattle.rq_restart.specs.Aborting.{blamed_on}
 use Rattle.rq_restart.specs.Found.{IsAnalysisOf}
-use Rattle.rq_restart.specs.Places.{OpenPlaces}
-use Rattle.rq_restart.proofs.Placing.{due_found, due_there, write_found, write_there}
+use Rattle.rq_restart.specs.Places.{AreRising, OpenPlaces}
+use Rattle.rq_restart.proofs.Placing.{due_found, due_there, ends_rise, write_found, write_there, writes_rise}
 use Rattle.rq_restart.proofs.Undos.{undoable_range}
 
 -- where a value is sure, so is what follows from it
@@ -51,6 +54,10 @@ err_under {A} {E} sure (Err e) a is = λ h. let bad : ◌≡◌ {A = Result A E}
 pub none_map : {A : Type 0} (x : Option A) (P Q : Type 0) → (P → Q) → IfNone x P → IfNone x Q
 none_map None P Q f h = f h
 none_map (Some a) P Q f h = tt
+
+pub some_map : {A : Type 0} (x : Option A) (P Q : A → Type 0) → ((a : A) → P a → Q a) → IfSome x P → IfSome x Q
+some_map None P Q f h = tt
+some_map (Some a) P Q f h = f a h
 
 -- the same of what is so of each of these
 pub ok_due : {E : Type 0} (sure : Type 0) (x : Result PendingUndo E) (ds : List PendingUndo) (t : Txn) (lsn : ℕ) → (sure → (e : PendingUndo) → In e ds → e.txn ≡ t → e.lsn ≡ lsn → x ≡ Ok e)
@@ -153,6 +160,64 @@ module _ (f : Analysis) (log : List Record) (are : IsAnalysisOf f log) (lsn : �
       pub write_next : IsNextUndo f.open_work (undo_of p)
       write_next = Undoes p next.2.older next.2.none next.2.first refl
 
+  -- so it can be read again
+  pub write_has : (ps : List Place) → ps ≡ f.places.writes → HasRecord log ps lsn
+  write_has ps e =
+      subst (λ l. HasRecord log l lsn) (sym e) (record {
+        rise = subst (λ (s : OpenPlaces). AreRising s.writes) (sym are.places) (writes_rise log);
+        kept = write_is_kept;
+        stands = λ p i same. (told p i same, write_at p i same);
+      })
+
+-- ---- as its level undoes it
+
+-- what is so of the one is so of the other, which is the same where there is one
+pub ok_of : {A E : Type 0} (x y : Result A E) (P : A → Type 0) → IfOk x (λ r. y ≡ Ok r) → IfOk y P → IfOk x P
+ok_of (Ok r) y P is h = subst (λ z. IfOk z P) is h
+ok_of (Err e) y P is h = tt
+
+module _ {L : Type 0} (g : Ghosts L) (old new : L) (count : ℕ) where
+  pub not_undone : (e : Refusal) → NotToldFor g e count old new → NotUndoneFor g e count old new
+  not_undone why.LogFull h = h
+  not_undone why.DiskRead h = h
+  not_undone (why.Damaged (damage.Record n)) h = h
+  not_undone _ h = absurd h
+
+  pub err_of : {A : Type 0} (x y : Result A Refusal) → IfErr x (λ e. (e ≡ why.NoMemory) ⊎ (y ≡ Err e)) → g.faults new ≡ g.faults old → IfErr y (λ e. NotToldFor g e count old new) → IfErr x (λ e. NotUndoneFor g e count old new)
+  err_of (Ok r) y wanting same h = tt
+  err_of (Err e) y wanting same h = elim wanting [
+    | inl none ↦ subst (λ z. NotUndoneFor g z count old new) (sym none) same
+    | inr is ↦ not_undone e (subst (λ z. IfErr z (λ w. NotToldFor g w count old new)) is h)
+  ]
+
+-- the write that puts back what the record found makes the record that is told
+pub put_back_told : (kept : Place) (r : Record) (w : SlotWrite) → PutsBackWrite r w → undo_told kept r ≡ Ok (records.PageUndo kept.by.txn kept.by.number kept.lsn (w.at / 16) (w.at % 16) w.after)
+put_back_told kept (records.PageOp t n page slot before after) w h =
+    let low = h.0 in
+    let high = h.1 in
+    let at = h.2 in
+    let in_page : (nat_lt 0 slot && nat_lt slot 16) ≡ true = and_from (nat_lt 0 slot) (nat_lt slot 16) (lt-ltb 0 slot (omega (arith, low))) (lt-ltb slot 16 (omega (arith, high))) in
+    let of_page : page ≡ w.at / 16 = omega (arith, at, high) in
+    let of_slot : slot ≡ w.at % 16 = omega (arith, at, high) in
+    rw in_page (ap (λ p. Ok (records.PageUndo kept.by.txn kept.by.number kept.lsn p slot before)) of_page ∙ ap (λ s. Ok (records.PageUndo kept.by.txn kept.by.number kept.lsn (w.at / 16) s before)) of_slot ∙ ap (λ b. Ok (records.PageUndo kept.by.txn kept.by.number kept.lsn (w.at / 16) (w.at % 16) b)) (sym h.4))
+put_back_told kept _ w h = absurd h
+
+pub not_put_back : (kept : Place) (r : Record) (e : Refusal) → HasWidths r → NotPutBackFor r e → (blamed_on kept.lsn e ≡ why.NoMemory) ⊎ (undo_told kept r ≡ Err (blamed_on kept.lsn e))
+not_put_back kept r why.NoMemory fits h = inl refl
+not_put_back kept (records.PageOp t n page slot before after) (why.Damaged d) fits h = elim (cases_Bool (nat_lt 0 slot && nat_lt slot 16)) [
+  | inl y ↦
+      let k = and_parts (nat_lt 0 slot) (nat_lt slot 16) y in
+      let low = ltb-true 0 slot k.0 in
+      let high = ltb-true slot 16 k.1 in
+      let wide = fits.2 in
+      let place : (page * 16 + slot) / 16 < 2 ^ 32 = omega (arith, wide, high) in
+      let there : 0 < (page * 16 + slot) % 16 = omega (arith, low, high) in
+      absurd (h (record { at = page * 16 + slot; before = after; after = before; page = place; slot = there }) (omega (arith, low), omega (arith, high), refl, refl, refl))
+  | inr n ↦ inr (rw n refl)
+]
+not_put_back kept _ (why.Damaged d) fits h = inr refl
+not_put_back kept r _ fits h = absurd h
+
 -- ---- what is to be taken back
 
 pub due_like : (t : Txn) (lsn : ℕ) (r : Record) → IfOk (due_told t lsn r) (λ d. (d.txn ≡ t) × (d.lsn ≡ lsn))
@@ -181,7 +246,18 @@ module _ (f : Analysis) (log : List Record) (are : IsAnalysisOf f log) (t : Txn)
     due_is =
         ap (λ (x : PendingUndo). Ok x) (ap (λ (x : Txn). record { txn = x; lsn = lsn; level = d.level; deed = d.deed }) (sym of) ∙ ap (λ (x : ℕ). record { txn = d.txn; lsn = x; level = d.level; deed = d.deed }) (sym at))
 
+  pub due_has : (ps : List Place) → ps ≡ f.places.ends → HasRecord log ps lsn
+  due_has ps e =
+      subst (λ l. HasRecord log l lsn) (sym e) (record {
+        rise = subst (λ (s : OpenPlaces). AreRising s.ends) (sym are.places) (ends_rise log);
+        kept = due_is_kept;
+        stands = λ p i same. (end_told p i same, end_at p i same);
+      })
+
 -- ---- a PageUndo that is read
+
+pub writes_of_rise : (f : Analysis) (older : List Record) → IsAnalysisOf f older → (ps : List Place) → ps ≡ f.places.writes → AreRising ps
+writes_of_rise f older are ps e = subst AreRising (sym e) (subst (λ (s : OpenPlaces). AreRising s.writes) (sym are.places) (writes_rise older))
 
 undoable_is : (w : UndoableWrite) (lsn : ℕ) (o : Sub) (page slot : ℕ) (bytes : List ℕ) → w.lsn ≡ lsn → w.by ≡ o → w.page ≡ page → w.slot ≡ slot → w.before ≡ bytes → w ≡ undoable_at lsn o page slot bytes
 undoable_is w lsn o page slot bytes a b c d e =

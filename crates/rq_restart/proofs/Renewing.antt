@@ -33,6 +33,6 @@ module _ (z : Sizes) (old new : List (List ℕ)) (w : ToldWrite) (lsn : ℕ) (r 
 pub write_elsewhere : (z : Sizes) (old new : List (List ℕ)) (t : Txn) (n lsn : ℕ) (w : SlotWrite) → Redoes (told_by (page_op t n w)) lsn (image_in old) (image_in new) → (a : ℕ) → IsStoreSlot z a → a ≢ w.at → slot_at new a ≡ slot_at old a
 write_elsewhere z old new t n lsn w r a stands ne = same_bytes z old new (record { page = w.at / 16; slot = w.at % 16; after = w.after }) lsn r a (λ e. ne (e ∙ address_is w.at)) stands.slot
 
--- pages that are what they were have the cells that they had
-pub cells_same : {P : Type 0} (old new : Pooled P) (k : List LevelState) → new ≡ old → KnowsCells old.sizes old.images k → KnowsCells new.sizes new.images k
-cells_same {P} old new k e h = subst (λ (p : Pooled P). KnowsCells p.sizes p.images k) (sym e) h
+-- pages that are what they were have the cells that they had, and levels that are what they were know them
+pub cells_same : {P : Type 0} (old new : Pooled P) (k now : List LevelState) → new ≡ old → now ≡ k → KnowsCells old.sizes old.images k → KnowsCells new.sizes new.images now
+cells_same {P} old new k now e same h = subst (KnowsCells new.sizes new.images) (sym same) (subst (λ (p : Pooled P). KnowsCells p.sizes p.images k) (sym e) h)

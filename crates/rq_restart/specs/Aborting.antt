@@ -201,7 +201,7 @@ PlanStops z images due why.NoMemory = Unit {0}
 PlanStops z images due (why.Damaged (damage.Record lsn)) = (lsn ≡ due.lsn) × IsNotUndone z images due
 PlanStops z images due _ = ⊥
 
--- why the OpEnd with this LSN is not taken back
+-- why what the record with this LSN tells is not undone
 abbrev pub blamed_on : ℕ → Refusal → Refusal
 blamed_on lsn why.NoMemory = why.NoMemory
 blamed_on lsn _ = why.Damaged (damage.Record lsn)

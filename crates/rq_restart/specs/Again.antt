@@ -1,17 +1,19 @@
 -- Records that are read again, where they are to be undone.
-use Rattle.std.specs.Prelude.{◌≡◌, ℕ, ◌+◌, ◌%◌, ◌^◌, ◌≤◌, ◌&&◌, nat_lt, cond, List, length, Result, Ok, Err}
+use Rattle.std.specs.Prelude.{◌≡◌, ◌≢◌, ℕ, ◌+◌, ◌%◌, ◌^◌, ◌≤◌, ◌&&◌, nat_lt, cond, List, length, Result, Ok, Err}
 use Rattle.rq_model.specs.declared.record.Record.{Record}
 use Rattle.rq_model.specs.declared.record.Record.TheVariants.{PageOp, PageUndo, OpEnd}
 use Rattle.rq_model.specs.declared.refusal.Refusal.{Refusal}
 use Rattle.rq_model.specs.declared.refusal.Refusal.TheVariants as why
 use Rattle.rq_model.specs.declared.refusal.Damage.TheVariants as damage
 use Rattle.rq_model.specs.declared.txn.Txn.{Txn}
+use Rattle.rq_model.specs.Vocabulary.{In}
 use Rattle.rq_disk.specs.declared.device.LogDevice.{Ghosts}
 use Rattle.rq_log.specs.Places.{IsAt}
 use Rattle.rq_record.specs.Spelling.{IsSlotNumber}
 use Rattle.rq_analysis.specs.declared.dues.PendingUndo.{PendingUndo}
 use Rattle.rq_analysis.specs.OpenWorkView.{OpenWorkView}
 use Rattle.rq_analysis.specs.Pages.{IsNextUndo}
+use Rattle.rq_restart.specs.Places.{AreRising}
 use Rattle.rq_restart.specs.declared.places.Place.{Place}
 
 -- but for what a PageUndo writes, and where, the records are the same
@@ -34,6 +36,12 @@ undo_told p _ = Err (why.Damaged (damage.Record p.lsn))
 abbrev pub due_told : Txn → ℕ → Record → Result PendingUndo Refusal
 due_told t lsn (OpEnd u n level deed) = Ok (record { txn = t; lsn = lsn; level = level; deed = deed })
 due_told t lsn _ = Err (why.Damaged (damage.Record lsn))
+
+-- a record with this LSN has its place among these, by rising LSN, and stands where each with this LSN says
+pub record HasRecord (log : List Record) (places : List Place) (lsn : ℕ) : Type 0 where
+  pub rise : AreRising places
+  pub kept : ((p : Place) → In p places → p.lsn ≢ lsn) → ⊥
+  pub stands : (p : Place) → In p places → p.lsn ≡ lsn → (r : Record) × IsAt log p.place r
 
 -- the record wrote this slot, over these bytes
 abbrev pub WroteOver : Record → ℕ → ℕ → List ℕ → Type 0
@@ -60,6 +68,11 @@ module _ {L : Type 0} (g : Ghosts L) where
   NotToldFor why.DiskRead count old new = g.faults new ≡ (g.faults old + 1) % 2 ^ 64
   NotToldFor (why.Damaged (damage.Record n)) count old new = (g.faults new ≡ g.faults old) × (g.honest new → ⊥)
   NotToldFor _ count old new = ⊥
+
+  -- why what such a record tells was not undone
+  abbrev pub NotUndoneFor : Refusal → ℕ → L → L → Type 0
+  NotUndoneFor why.NoMemory count old new = g.faults new ≡ g.faults old
+  NotUndoneFor e count old new = NotToldFor e count old new
 
   -- the same while the log is read
   abbrev pub NotReadFor : Refusal → L → L → Type 0

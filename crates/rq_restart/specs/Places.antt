@@ -1,6 +1,7 @@
 -- Where the records stand that tell what may have to be undone, as the records of a log come one after the other.
-use Rattle.std.specs.Prelude.{◌≡◌, ◌↔◌, ℕ, ◌+◌, Bool, true, false, nat_eq, not, List, [], ◌∷◌, ◌++◌, length}
+use Rattle.std.specs.Prelude.{◌≡◌, ◌↔◌, ℕ, ◌+◌, Bool, true, false, not, List, [], ◌∷◌, ◌++◌, length}
 use Rattle.std.specs.List.{filter}
+use Rattle.std.specs.List.Sorted.{IsNonDecreasingBy}
 use Rattle.rq_model.specs.declared.txn.Txn.{Txn}
 use Rattle.rq_model.specs.declared.txn.Sub.{Sub}
 use Rattle.rq_model.specs.declared.record.Record.{Record}
@@ -54,26 +55,24 @@ end_at lsn place (OpEnd t n level deed) = place_at lsn place t n ∷ []
 end_at lsn place _ = []
 
 -- those that the record doesn't end, and its own
+abbrev pub writes_after : ℕ → ℕ → Record → List Place → List Place
+writes_after lsn place r writes = filter (λ p. not (ends_operation r p.by)) writes ++ write_at lsn place r
+
+abbrev pub ends_after : ℕ → ℕ → Record → List Place → List Place
+ends_after lsn place r ends = filter (λ p. not (ends_txn r p.by.txn)) ends ++ end_at lsn place r
+
 abbrev pub places_after : ℕ → ℕ → Record → OpenPlaces → OpenPlaces
-places_after lsn place r s = record {
-  writes = filter (λ p. not (ends_operation r p.by)) s.writes ++ write_at lsn place r;
-  ends = filter (λ p. not (ends_txn r p.by.txn)) s.ends ++ end_at lsn place r;
-}
+places_after lsn place r s = record { writes = writes_after lsn place r s.writes; ends = ends_after lsn place r s.ends }
 
-abbrev pub with_write : Place → OpenPlaces → OpenPlaces
-with_write p s = record s { writes = s.writes ++ p ∷ [] }
+abbrev pub without_operation : Sub → List Place → List Place
+without_operation o places = filter (λ p. not (same_op p.by o)) places
 
-abbrev pub with_end : Place → OpenPlaces → OpenPlaces
-with_end p s = record s { ends = s.ends ++ p ∷ [] }
+abbrev pub without_txn : Txn → List Place → List Place
+without_txn t places = filter (λ p. not (same_txn p.by.txn t)) places
 
-abbrev pub without_operation : Sub → OpenPlaces → OpenPlaces
-without_operation o s = record s { writes = filter (λ p. not (same_op p.by o)) s.writes }
-
-abbrev pub without_txn : Txn → OpenPlaces → OpenPlaces
-without_txn t s = record s { ends = filter (λ p. not (same_txn p.by.txn t)) s.ends }
-
-abbrev pub has_lsn : ℕ → Place → Bool
-has_lsn lsn p = nat_eq p.lsn lsn
+-- each has no smaller LSN than those before
+abbrev pub AreRising : List Place → Type 0
+AreRising places = IsNonDecreasingBy (λ (p : Place). p.lsn) places
 
 -- those of a log, once its records were taken one after the other
 abbrev pub places_of : List Record → OpenPlaces
@@ -89,10 +88,13 @@ pub record IsOpenIn (at : ℕ → ℕ → Record → List Place) (ends : Record 
   pub there : at (length older + 1) (length (spelled older)) made ≡ p ∷ []
   pub none_ends : any_record (λ r. ends r p) newer ≡ false
 
--- They are the places of exactly the PageOps of operations that have no end, and of the OpEnds of transactions that have none.
+-- They are the places of exactly the PageOps of operations that have no end, and of the OpEnds of transactions that have none,
+-- by rising LSN.
 pub record PlacesAreOpen : Type 0 where
   pub writes : (log : List Record) (p : Place) → In p (places_of log).writes ↔ IsOpenIn write_at (λ r q. ends_operation r q.by) log p
   pub ends : (log : List Record) (p : Place) → In p (places_of log).ends ↔ IsOpenIn end_at (λ r q. ends_txn r q.by.txn) log p
+  pub writes_rise : (log : List Record) → AreRising (places_of log).writes
+  pub ends_rise : (log : List Record) → AreRising (places_of log).ends
 
 -- among these places is that of the operation's record with this LSN, and this record stands there
 pub record IsKept (log : List Record) (kept : List Place) (lsn : ℕ) (by : Sub) (r : Record) : Type 0 where

@@ -11,13 +11,13 @@ ghost use Rattle.rq_record.specs.Spelling.{IsTxnInRange};
 ghost use Rattle.rq_store.specs.Steps.{page_op};
 ghost use Rattle.rq_model.specs.Deeds.{deed_by};
 ghost use Rattle.rq_model.specs.Vocabulary.{In};
-ghost use Rattle.rq_restart.specs.Aborting.{AbortStops, AbortingStops, HasAborted, HasGoneOn, IsMaking, IsShownWithin, PlanStops, blamed_on, with_writes};
+ghost use Rattle.rq_restart.specs.Aborting.{AbortStops, AbortingStops, HasAborted, HasGoneOn, IsMaking, IsShownWithin, PlanStops, with_writes};
 ghost use Rattle.rq_restart.specs.Checked.{IsEnded};
 ghost use Rattle.rq_restart.specs.Found.{IsAnalysisOf};
 ghost use Rattle.rq_restart.specs.Repeating.{ArePagesCounted, paged};
 ghost use Rattle.rq_restart.specs.Undoing.{FailsWith, HandsOverNothing};
 
-use crate::again::due_again;
+use crate::again::{blamed, due_again};
 use crate::analysis::Analysis;
 use crate::appending::append;
 use rq_analysis::{PendingUndo, next_end};
@@ -70,16 +70,17 @@ pub(crate) fn abort_lost<P: PageDevice + Drop, L: LogDevice + Drop, B: Level>(
     if analysis.open_work.all_ended() {
         return Ok(());
     }
-    end_idle(pages, log, analysis)?;
+    end_idle(pages, log, analysis, planner)?;
     undo_all_due(alloc, pages, log, analysis, planner)?;
     Ok(())
 }
 
 // Ends the transactions without an end that have nothing left to be taken back.
-fn end_idle<P: PageDevice + Drop, L: LogDevice + Drop>(
+fn end_idle<P: PageDevice + Drop, L: LogDevice + Drop, B: Level>(
     pages: &mut Pages<P>,
     log: &mut Log<L>,
     analysis: &mut Analysis,
+    planner: &mut Planner<B>,
 ) -> Result<(), Refusal>
     requires found { IsAnalysisOf analysis.old log.old.records }
     requires follow { L.honest log.old.device → FollowAll log.old.records }
@@ -98,9 +99,10 @@ fn end_idle<P: PageDevice + Drop, L: LogDevice + Drop>(
     ensures cause { OnOk result (L.faults log.new.device ≡ L.faults log.old.device) }
     ensures stays { HandsOverNothing L.LogDevice pages.old pages.new log.old log.new }
     ensures room { OnOk result (log.new.reserved ≡ log.old.reserved) }
+    ensures planner { planner.new ≡ planner.old }
 {
     while let Some(txn) = next_end(analysis.open_work.active(), &analysis.dues) {
-        append(pages, log, analysis, &Record::AbortEnd { txn })?;
+        append(pages, log, analysis, planner, &Record::AbortEnd { txn })?;
     }
     Ok(())
 }
@@ -138,7 +140,7 @@ fn undo_all_due<P: PageDevice + Drop, L: LogDevice + Drop, B: Level>(
         let due = due_again(log, analysis, txn, lsn)?;
         undo_due(alloc, pages, log, analysis, planner, &due)?;
         if !analysis.dues.owes(txn) {
-            append(pages, log, analysis, &Record::AbortEnd { txn })?;
+            append(pages, log, analysis, planner, &Record::AbortEnd { txn })?;
         }
     }
     Ok(())
@@ -202,7 +204,7 @@ fn undo_due<P: PageDevice + Drop, L: LogDevice + Drop, B: Level>(
         operation,
         undone: due.lsn,
     };
-    append(pages, log, analysis, &end)?;
+    append(pages, log, analysis, planner, &end)?;
     Ok(())
 }
 
@@ -246,7 +248,7 @@ fn make_all<P: PageDevice + Drop, L: LogDevice + Drop, B: Level>(
     for index in 0..writes.len() {
         let write = &writes[index];
         let undo = written(due, operation, write);
-        append(pages, log, analysis, &undo)?;
+        append(pages, log, analysis, planner, &undo)?;
         planner.renew(pages, write.at);
     }
     Ok(())
@@ -282,15 +284,5 @@ fn plan<P: PageDevice, B: Level>(
     match planner.plan_inverse_alone(alloc, pages, due.level, &due.deed) {
         Ok(writes) => Ok(writes),
         Err(refusal) => Err(blamed(due.lsn, refusal)),
-    }
-}
-
-// Why the OpEnd with this LSN is not taken back: memory is wanting, or what it tells cannot be.
-fn blamed(lsn: Lsn, refusal: Refusal) -> Refusal
-    ensures { result ≡ blamed_on lsn refusal }
-{
-    match refusal {
-        Refusal::NoMemory => Refusal::NoMemory,
-        _ => Refusal::Damaged(Damage::Record(lsn)),
     }
 }

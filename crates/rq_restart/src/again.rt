@@ -1,6 +1,7 @@
 //! Records of a log that are read again, where they are to be undone.
-ghost use Rattle.std.specs.Prelude.{◌≡◌, ◌↔◌, ◌∷◌, List, Some, IsTrue, IfOk, IfErr, IfSome, IfNone, OnOk, false, length};
+ghost use Rattle.std.specs.Prelude.{◌≡◌, ◌↔◌, ◌⊎◌, ◌∷◌, ◌/◌, ◌%◌, Ok, Err, List, Some, IsTrue, IfOk, IfErr, IfSome, IfNone, OnOk, false, length};
 ghost use Rattle.std.specs.List.{filter};
+ghost use Rattle.rq_model.specs.declared.record.Record.TheVariants as records;
 ghost use Rattle.rq_model.specs.declared.record.Record.{Record as AnyRecord};
 ghost use Rattle.rq_model.specs.Bases.{is_base};
 ghost use Rattle.rq_model.specs.Vocabulary.{In, first};
@@ -10,27 +11,34 @@ ghost use Rattle.rq_analysis.specs.declared.dues.PendingUndo.{PendingUndo as Due
 ghost use Rattle.rq_analysis.specs.LogTables.{PutsBack};
 ghost use Rattle.rq_analysis.specs.OpenWorkView.{lsn_undoable, undoable_by};
 ghost use Rattle.rq_analysis.specs.Pages.{IsNextUndo, IsUndoneNext, void_of};
-ghost use Rattle.rq_restart.specs.Again.{IsLikeUndo, NotGivenFor, NotReadFor, NotToldFor, WroteOver, due_told, told_again, undo_told};
+ghost use Rattle.rq_restart.specs.Aborting.{blamed_on};
+ghost use Rattle.rq_restart.specs.Again.{HasRecord, IsLikeUndo, NotGivenFor, NotReadFor, NotToldFor, NotUndoneFor, WroteOver, due_told, told_again, undo_told};
 ghost use Rattle.rq_restart.specs.Found.{IsAnalysisOf};
 
 use crate::analysis::Analysis;
-use crate::places::{Place, sub};
+use crate::places::{Place, place_with, sub};
 use rq_analysis::{NextUndo, PendingUndo};
 use rq_disk::LogDevice;
+use rq_level::{Level, SlotWrite};
 use rq_log::{Log, LogReader};
 use rq_model::limits::LOG_LIMIT;
 use rq_model::record::{Record, Slot};
 use rq_model::refusal::{Damage, Refusal};
 use rq_model::txn::{Lsn, Sub, Txn};
+use rq_planner::Planner;
+use rq_record::shows_fits;
+use std::alloc::Global;
 
-/// The record by which is undone what is next, as these are the findings of the log.
+/// The record by which is undone what is next, as these are the findings of the log: a write as its level undoes it.
 ///
 /// # Errors
-/// `DiskRead`; `LogFull` where the log is at its greatest length; `Damaged` with the LSN of the record that tells what is
-/// undone, where the device gives that no more.
-pub(crate) fn undo_record<L: LogDevice>(
+/// `NoMemory`; `DiskRead`; `LogFull` where the log is at its greatest length; `Damaged` with the LSN of the record that tells
+/// what is undone, where the device gives that no more.
+pub(crate) fn undo_record<L: LogDevice, B: Level>(
+    alloc: Global,
     log: &mut Log<L>,
     analysis: &Analysis,
+    planner: &mut Planner<B>,
     next: NextUndo,
 ) -> Result<Record, Refusal>
     requires found { IsAnalysisOf analysis.now log.old.records }
@@ -38,14 +46,15 @@ pub(crate) fn undo_record<L: LogDevice>(
     requires running { log.old.failed ≡ false }
     ensures like { IfOk result (λ r. IsLikeUndo analysis.now.open_work r) }
     ensures is { IfOk result (λ r. L.honest log.new.device → IsNextUndo analysis.now.open_work r) }
-    ensures err { IfErr result (λ e. NotToldFor L.LogDevice e (length log.old.records) log.old.device log.new.device) }
+    ensures err { IfErr result (λ e. NotUndoneFor L.LogDevice e (length log.old.records) log.old.device log.new.device) }
+    ensures planner { planner.new ≡ planner.old }
     ensures cause { OnOk result (L.faults log.new.device ≡ L.faults log.old.device) }
     ensures same { log.new ≡ record log.old { device = log.new.device } }
     ensures read { IsRead L.LogDevice log.old.device log.new.device }
 {
     match next {
         NextUndo::Void(sub) => Ok(void_record(sub)),
-        NextUndo::Write(lsn) => undo_write(log, analysis, lsn),
+        NextUndo::Write(lsn) => undo_write(alloc, log, analysis, planner, lsn),
     }
 }
 
@@ -59,9 +68,11 @@ fn void_record(sub: Sub) -> Record
 }
 
 // The record by which the newest write of all is undone, which has this LSN.
-fn undo_write<L: LogDevice>(
+fn undo_write<L: LogDevice, B: Level>(
+    alloc: Global,
     log: &mut Log<L>,
     analysis: &Analysis,
+    planner: &mut Planner<B>,
     lsn: Lsn,
 ) -> Result<Record, Refusal>
     requires found { IsAnalysisOf analysis.now log.old.records }
@@ -69,52 +80,56 @@ fn undo_write<L: LogDevice>(
     requires running { log.old.failed ≡ false }
     ensures like { IfOk result (λ r. IsLikeUndo analysis.now.open_work r) }
     ensures is { IfOk result (λ r. L.honest log.new.device → IsNextUndo analysis.now.open_work r) }
-    ensures err { IfErr result (λ e. NotToldFor L.LogDevice e (length log.old.records) log.old.device log.new.device) }
+    ensures err { IfErr result (λ e. NotUndoneFor L.LogDevice e (length log.old.records) log.old.device log.new.device) }
+    ensures planner { planner.new ≡ planner.old }
     ensures cause { OnOk result (L.faults log.new.device ≡ L.faults log.old.device) }
     ensures same { log.new ≡ record log.old { device = log.new.device } }
     ensures read { IsRead L.LogDevice log.old.device log.new.device }
 {
     log.shows_kept();
-    match analysis.places.write_with(lsn) {
-        Some(kept) => match record_again(log, kept.place, lsn) {
-            Ok(told) => undone_as(&kept, &told),
-            Err(refusal) => Err(refusal),
-        },
-        None => Err(Refusal::Damaged(Damage::Record(lsn))),
+    match kept_record(log, analysis.places.writes(), lsn) {
+        Ok(kept) => undone_as(alloc, planner, &kept.0, &kept.1),
+        Err(refusal) => Err(refusal),
     }
 }
 
-fn undone_as(kept: &Place, told: &Record) -> Result<Record, Refusal>
-    ensures { result ≡ undo_told kept.now told.now }
+// The record by which the write is undone that this record tells, which stands at the place, as its level undoes it.
+fn undone_as<B: Level>(
+    alloc: Global,
+    planner: &mut Planner<B>,
+    kept: &Place,
+    told: &Record,
+) -> Result<Record, Refusal>
+    ensures told { IfOk result (λ r. undo_told kept.now told.now ≡ Ok r) }
+    ensures err { IfErr result (λ e. (e ≡ Refusal.NoMemory) ⊎ (undo_told kept.now told.now ≡ Err e)) }
+    ensures planner { planner.new ≡ planner.old }
 {
-    match told {
-        Record::PageOp {
-            page,
-            slot,
-            before,
-            ..
-        } => {
-            if 0 < *slot && *slot < 16 {
-                Ok(Record::PageUndo {
-                    txn: kept.by.txn,
-                    operation: kept.by.number,
-                    undone: kept.lsn,
-                    page: *page,
-                    slot: *slot,
-                    after: *before,
-                })
-            } else {
-                Err(Refusal::Damaged(Damage::Record(kept.lsn)))
-            }
-        }
-        _ => Err(Refusal::Damaged(Damage::Record(kept.lsn))),
+    shows_fits(told);
+    match planner.undo_write(alloc, told) {
+        Ok(write) => Ok(page_undo(kept, &write)),
+        Err(refusal) => Err(blamed(kept.lsn, refusal)),
+    }
+}
+
+// The record of a write that undoes the one whose record stands at this place.
+fn page_undo(kept: &Place, write: &SlotWrite) -> Record
+    ensures { result ≡ records.PageUndo kept.now.by.txn kept.now.by.number kept.now.lsn (write.now.at / 16)
+        (write.now.at % 16) write.now.after }
+{
+    Record::PageUndo {
+        txn: kept.by.txn,
+        operation: kept.by.number,
+        undone: kept.lsn,
+        page: write.at.page() as u32,
+        slot: write.at.slot(),
+        after: write.after,
     }
 }
 
 /// What the OpEnd with this LSN did, which is the transaction's and is to be taken back.
 ///
 /// # Errors
-/// Those of `undo_record`.
+/// Those of `undo_record` but `NoMemory`.
 pub(crate) fn due_again<L: LogDevice>(
     log: &mut Log<L>,
     analysis: &Analysis,
@@ -132,13 +147,9 @@ pub(crate) fn due_again<L: LogDevice>(
     ensures same { log.new ≡ record log.old { device = log.new.device } }
     ensures read { IsRead L.LogDevice log.old.device log.new.device }
 {
-    log.shows_kept();
-    match analysis.places.end_with(lsn) {
-        Some(kept) => match record_again(log, kept.place, lsn) {
-            Ok(told) => due_as(txn, lsn, &told),
-            Err(refusal) => Err(refusal),
-        },
-        None => Err(Refusal::Damaged(Damage::Record(lsn))),
+    match kept_record(log, analysis.places.ends(), lsn) {
+        Ok(kept) => due_as(txn, lsn, &kept.1),
+        Err(refusal) => Err(refusal),
     }
 }
 
@@ -153,6 +164,42 @@ fn due_as(txn: Txn, lsn: Lsn, told: &Record) -> Result<PendingUndo, Refusal>
             deed: *deed,
         }),
         _ => Err(Refusal::Damaged(Damage::Record(lsn))),
+    }
+}
+
+/// Why what the record with this LSN tells is not undone: memory is wanting, or it cannot be.
+pub(crate) fn blamed(lsn: Lsn, refusal: Refusal) -> Refusal
+    ensures { result ≡ blamed_on lsn refusal }
+{
+    match refusal {
+        Refusal::NoMemory => Refusal::NoMemory,
+        _ => Refusal::Damaged(Damage::Record(lsn)),
+    }
+}
+
+// The one of these places that is of the record with this LSN, and the record.
+fn kept_record<L: LogDevice>(
+    log: &mut Log<L>,
+    places: &[Place],
+    lsn: Lsn,
+) -> Result<(Place, Record), Refusal>
+    requires has { HasRecord log.old.records places.now lsn }
+    requires running { log.old.failed ≡ false }
+    ensures place { IfOk result (λ kept. In kept.0 places.now × (kept.0.lsn ≡ lsn)) }
+    ensures is { IfOk result (λ kept. L.honest log.new.device → (s : AnyRecord) → IsAt log.old.records kept.0.place s
+        → kept.1 ≡ s) }
+    ensures err { IfErr result (λ e. NotToldFor L.LogDevice e (length log.old.records) log.old.device log.new.device) }
+    ensures cause { OnOk result (L.faults log.new.device ≡ L.faults log.old.device) }
+    ensures same { log.new ≡ record log.old { device = log.new.device } }
+    ensures read { IsRead L.LogDevice log.old.device log.new.device }
+{
+    log.shows_kept();
+    match place_with(places, lsn) {
+        Some(kept) => match record_again(log, kept.place, lsn) {
+            Ok(told) => Ok((kept, told)),
+            Err(refusal) => Err(refusal),
+        },
+        None => Err(Refusal::Damaged(Damage::Record(lsn))),
     }
 }
 
@@ -226,6 +273,7 @@ pub(crate) fn puts_back<L: LogDevice>(
 
 // Where the newest write of the operation is told, if it has this LSN.
 fn place_of_newest(analysis: &Analysis, by: Sub, undone: Lsn) -> Option<Place>
+    requires { (older : List AnyRecord) × IsAnalysisOf analysis.now older }
     ensures some { IfSome result (λ p. In p analysis.now.places.writes × (p.lsn ≡ undone)
         × (lsn_undoable (first (filter (undoable_by by) analysis.now.open_work.undoable)) ≡ Some undone)) }
     ensures none { IfNone result ((older : List AnyRecord) → IsAnalysisOf analysis.now older
@@ -234,7 +282,7 @@ fn place_of_newest(analysis: &Analysis, by: Sub, undone: Lsn) -> Option<Place>
     match analysis.open_work.newest_undoable(by) {
         Some(newest) => {
             if newest == undone {
-                analysis.places.write_with(undone)
+                place_with(analysis.places.writes(), undone)
             } else {
                 None
             }

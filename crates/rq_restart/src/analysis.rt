@@ -1,5 +1,5 @@
 //! What a restart keeps of a log as it goes through it.
-ghost use Rattle.std.specs.Prelude.{◌≡◌, ◌↔◌, List, IsTrue, IfOk, IfErr, OnOk, [], false};
+ghost use Rattle.std.specs.Prelude.{◌≡◌, ◌↔◌, List, IsTrue, IfOk, IfErr, OnOk, OnErr, [], false};
 ghost use Rattle.rq_model.specs.declared.record.Record.{Record as AnyRecord};
 ghost use Rattle.rq_model.specs.Bases.{is_base};
 ghost use Rattle.rq_model.specs.Incarnations.{IsNext};
@@ -52,7 +52,7 @@ impl Analysis {
     /// may not come there: it doesn't belong to the running incarnation, isn't the next, or breaks the rules of a log.
     ///
     /// # Errors
-    /// `NoMemory`.
+    /// `NoMemory`: nothing changed.
     pub(crate) fn note(
         &mut self,
         lsn: Lsn,
@@ -66,6 +66,7 @@ impl Analysis {
             → (IsTrue is_next ↔ MayComeNext log «record».now)) }
         ensures order { IfOk result (λ is_next. IsTrue is_next → IsNext self.old.open_work.incarnation «record».now) }
         ensures noted { OnOk result (self.new ≡ analysis_after lsn «record».now self.old) }
+        ensures same { OnErr result (self.new ≡ self.old) }
         ensures err { IfErr result (λ e. e ≡ Refusal.NoMemory) }
     {
         let follows = follows(
@@ -84,9 +85,10 @@ impl Analysis {
     /// Takes a Base, with which a log begins. It has this LSN.
     ///
     /// # Errors
-    /// `NoMemory`.
+    /// `NoMemory`: nothing changed.
     pub(crate) fn begin(&mut self, lsn: Lsn, base: &Record) -> Result<(), Refusal>
         ensures noted { OnOk result (self.new ≡ analysis_after lsn base.now self.old) }
+        ensures same { OnErr result (self.new ≡ self.old) }
         ensures err { IfErr result (λ e. e ≡ Refusal.NoMemory) }
     {
         self.keep(lsn, base)?;
@@ -97,13 +99,18 @@ impl Analysis {
     fn keep(&mut self, lsn: Lsn, record: &Record) -> Result<bool, Refusal>
         ensures next { IfOk result (λ is_next. IsTrue is_next ↔ IsNext self.old.open_work.incarnation «record».now) }
         ensures noted { OnOk result (self.new ≡ analysis_after lsn «record».now self.old) }
+        ensures same { OnErr result (self.new ≡ self.old) }
         ensures err { IfErr result (λ e. e ≡ Refusal.NoMemory) }
     {
-        self.places.note(lsn, record, self.size)?;
-        self.dues.note(lsn, record)?;
-        self.numbers.note(record)?;
-        self.ended.note(record)?;
-        let is_next = self.open_work.note(lsn, record)?;
+        let is_next = self.places.note_with(
+            lsn,
+            record,
+            self.size,
+            &mut self.dues,
+            &mut self.numbers,
+            &mut self.open_work,
+            &mut self.ended,
+        )?;
         self.size = self.size.saturating_add(spelled_len(record) as u64);
         Ok(is_next)
     }

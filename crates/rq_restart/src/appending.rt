@@ -2,26 +2,27 @@
 ghost use Rattle.std.specs.Prelude.{◌≡◌, ◌∷◌, ◌+◌, IfErr, IsTrue, OnOk, None, false, length};
 ghost use Rattle.rq_log.specs.Spelled.{AreSpelled};
 ghost use Rattle.rq_model.specs.Bases.{is_base};
-ghost use Rattle.rq_page.specs.Slots.{IsSlotOf};
 ghost use Rattle.rq_pool.specs.Pooled.{IsPool};
 ghost use Rattle.rq_record.specs.Spelling.{IsInRange};
 ghost use Rattle.rq_store.specs.Fitting.{told_by, image_in};
-ghost use Rattle.rq_store.specs.Opening.{IsRedone, MayRedo, Redoes};
+ghost use Rattle.rq_store.specs.Opening.{MayRedo, Redoes};
 ghost use Rattle.rq_analysis.specs.LogTables.{PutsBack};
 ghost use Rattle.rq_analysis.specs.Rules.{CanBeRead, FollowAll};
 ghost use Rattle.rq_restart.specs.Found.{IsAnalysisOf};
-ghost use Rattle.rq_restart.specs.Repeating.{ArePagesCounted, Belongs, IsMarked, IsRecordRedone, Marks, paged};
+ghost use Rattle.rq_restart.specs.Repeating.{ArePagesCounted, Belongs, IsRecordRedone, Marks, paged};
 ghost use Rattle.rq_restart.specs.Undoing.{FailsWith, HandsOverNothing, StepStops};
 
 use crate::analysis::Analysis;
 use crate::redo::may_redo;
 use rq_disk::{LogDevice, PageDevice};
+use rq_level::Level;
 use rq_log::Log;
 use rq_model::limits::LOG_LIMIT;
-use rq_model::record::{Record, Slot};
+use rq_model::record::Record;
 use rq_model::refusal::{Damage, Refusal};
 use rq_model::txn::Lsn;
 use rq_page::addr::Addr;
+use rq_planner::Planner;
 use rq_pool::Pages;
 use rq_record::{shows_fits, spelled_len};
 
@@ -31,10 +32,11 @@ use rq_record::{shows_fits, spelled_len};
 /// # Errors
 /// `NoMemory`; `LogFull` where the log is at its greatest length; `Damaged` with the number of the record where it doesn't
 /// belong there.
-pub(crate) fn append<P: PageDevice + Drop, L: LogDevice + Drop>(
+pub(crate) fn append<P: PageDevice + Drop, L: LogDevice + Drop, B: Level>(
     pages: &mut Pages<P>,
     log: &mut Log<L>,
     analysis: &mut Analysis,
+    planner: &mut Planner<B>,
     undo: &Record,
 ) -> Result<(), Refusal>
     requires found { IsAnalysisOf analysis.old log.old.records }
@@ -61,6 +63,7 @@ pub(crate) fn append<P: PageDevice + Drop, L: LogDevice + Drop>(
     ensures device { log.new.device ≡ log.old.device }
     ensures stays { HandsOverNothing L.LogDevice pages.old pages.new log.old log.new }
     ensures room { OnOk result (log.new.reserved ≡ log.old.reserved) }
+    ensures planner { planner.new ≡ planner.old }
 {
     log.shows_kept();
     if log.last() >= LOG_LIMIT {
@@ -70,7 +73,7 @@ pub(crate) fn append<P: PageDevice + Drop, L: LogDevice + Drop>(
     shows_fits(undo);
     log.reserve(spelled_len(undo))?;
     let is_next = analysis.note(lsn, true, true, undo)?;
-    if !is_next || !make(pages, lsn, undo) {
+    if !is_next || !make(pages, planner, lsn, undo) {
         return Err(Refusal::Damaged(Damage::Record(lsn)));
     }
     log.append(undo);
@@ -79,57 +82,50 @@ pub(crate) fn append<P: PageDevice + Drop, L: LogDevice + Drop>(
 }
 
 // Makes what a record writes, where its page is older. False where the record doesn't fit the store.
-fn make<P: PageDevice + Drop>(pages: &mut Pages<P>, lsn: Lsn, undo: &Record) -> bool
+fn make<P: PageDevice + Drop, B: Level>(
+    pages: &mut Pages<P>,
+    planner: &mut Planner<B>,
+    lsn: Lsn,
+    undo: &Record,
+) -> bool
     ensures redone { IsTrue result → Redoes (told_by undo.now) lsn (image_in pages.old.images)
         (image_in pages.new.images) }
     ensures marked { IsTrue result → Marks (told_by undo.now) lsn (paged pages.old) pages.new.changed }
     ensures same { told_by undo.now ≡ None → pages.new ≡ pages.old }
     ensures checked { IsTrue result → MayRedo pages.old.sizes (image_in pages.old.images) lsn undo.now }
     ensures refused { result ≡ false → MayRedo pages.old.sizes (image_in pages.old.images) lsn undo.now → ⊥ }
+    ensures planner { planner.new ≡ planner.old }
     ensures sizes { pages.new.sizes ≡ pages.old.sizes }
     ensures device { pages.new.device ≡ pages.old.device }
 {
     if !may_redo(pages, lsn, undo) {
         return false;
     }
-    match undo {
-        Record::PageOp {
-            page,
-            slot,
-            after,
-            ..
-        } => make_write(pages, lsn, *page, *slot, after),
-        Record::PageUndo {
-            page,
-            slot,
-            after,
-            ..
-        } => make_write(pages, lsn, *page, *slot, after),
-        _ => {}
-    }
+    make_write(pages, planner, lsn, undo);
     true
 }
 
-// Writes the slot, if the page is older. It is one that the store has.
-fn make_write<P: PageDevice + Drop>(
+// Has the level of single slots make what a record writes, where its page is older.
+fn make_write<P: PageDevice + Drop, B: Level>(
     pages: &mut Pages<P>,
+    planner: &mut Planner<B>,
     lsn: Lsn,
-    page: u32,
-    slot: u8,
-    after: &Slot,
+    undo: &Record,
 )
-    requires { IsSlotOf pages.old.sizes page slot after.now }
-    ensures redone { IsRedone (record { page = page; slot = slot; after = after.now }) lsn (image_in pages.old.images)
-        (image_in pages.new.images) }
-    ensures marked { IsMarked (record { page = page; slot = slot; after = after.now }) lsn
-        (paged pages.old) pages.new.changed }
+    requires { MayRedo pages.old.sizes (image_in pages.old.images) lsn undo.now }
+    ensures redone { Redoes (told_by undo.now) lsn (image_in pages.old.images) (image_in pages.new.images) }
+    ensures marked { Marks (told_by undo.now) lsn (paged pages.old) pages.new.changed }
+    ensures same { told_by undo.now ≡ None → pages.new ≡ pages.old }
+    ensures planner { planner.new ≡ planner.old }
     ensures sizes { pages.new.sizes ≡ pages.old.sizes }
     ensures device { pages.new.device ≡ pages.old.device }
 {
-    let old = pages.page(page).unwrap();
-    if old.lsn() < lsn {
-        pages.set_slot(Addr::new(page, slot), after, lsn);
-    }
+    let at = match undo {
+        Record::PageOp { page, slot, .. } => Addr::new(*page, *slot),
+        Record::PageUndo { page, slot, .. } => Addr::new(*page, *slot),
+        _ => return,
+    };
+    planner.redo(pages, at, lsn, undo);
 }
 
 /// That the pages are those of a store.

@@ -24,7 +24,7 @@ pub fn one_size()
 {}
 
 /// Of every log: the places that are kept are those of the PageOps of operations that have no end in it, and of the OpEnds of
-/// transactions that have none, and no others.
+/// transactions that have none, and no others, by rising LSN.
 pub fn places_are_open()
     ensures { PlacesAreOpen }
 {}

@@ -1,13 +1,18 @@
 //! Where the records stand that tell what a restart may have to undo.
-ghost use Rattle.std.specs.Prelude.{◌≡◌, ◌≢◌, ◌<◌, OnOk, OnErr, IfSome, IfNone, true, false, length, slice_index_or};
-ghost use Rattle.std.specs.List.{list_any};
+ghost use Rattle.std.specs.Prelude.{◌≡◌, ◌≢◌, ◌↔◌, ◌<◌, ◌≤◌, ℕ, OnOk, OnErr, IfErr, IfOk, IfSome, IfNone, IsTrue, length, slice_index_or, vec_capacity, vec_len};
+ghost use Rattle.rq_model.specs.Incarnations.{IsNext};
 ghost use Rattle.rq_model.specs.Vocabulary.{In};
+ghost use Rattle.rq_analysis.specs.Dues.{dues_after};
+ghost use Rattle.rq_analysis.specs.LogTables.{ended_after};
+ghost use Rattle.rq_analysis.specs.Numbers.{numbers_after};
+ghost use Rattle.rq_analysis.specs.OpenWorkView.{open_work_after};
 ghost use Rattle.rq_restart.specs.declared.places.Place.{Place};
 ghost use Rattle.rq_views.specs.Items.{operation};
-ghost use Rattle.rq_restart.specs.Places.{has_lsn, no_places, place_at, places_after, without_operation, without_txn, with_end, with_write};
+ghost use Rattle.rq_restart.specs.Places.{AreRising, ends_after, no_places, place_at, places_after, without_operation, without_txn, writes_after};
 
+use rq_analysis::{EndedTransactions, LastOperations, OpenWork, PendingUndos};
 use rq_model::record::Record;
-use rq_model::refusal::NoMemory;
+use rq_model::refusal::{NoMemory, Refusal};
 use rq_model::txn::{Lsn, Sub, Txn};
 use std::alloc::Global;
 use std::marker::Model;
@@ -63,28 +68,6 @@ impl Places {
         &self.ends
     }
 
-    /// Where the PageOp with this LSN stands, if that is kept.
-    pub fn write_with(&self, lsn: Lsn) -> Option<Place>
-        ensures some { IfSome result (λ p. In p self.now.writes × (p.lsn ≡ lsn)) }
-        ensures none { IfNone result ((p : Place) → In p self.now.writes → p.lsn ≢ lsn) }
-    {
-        match index_of(&self.writes, lsn) {
-            Some(index) => Some(self.writes[index]),
-            None => None,
-        }
-    }
-
-    /// Where the OpEnd with this LSN stands, if that is kept.
-    pub fn end_with(&self, lsn: Lsn) -> Option<Place>
-        ensures some { IfSome result (λ p. In p self.now.ends × (p.lsn ≡ lsn)) }
-        ensures none { IfNone result ((p : Place) → In p self.now.ends → p.lsn ≢ lsn) }
-    {
-        match index_of(&self.ends, lsn) {
-            Some(index) => Some(self.ends[index]),
-            None => None,
-        }
-    }
-
     /// Takes the next record, which has this LSN and stands there: the place of a PageOp or OpEnd is added, and those of the
     /// operation or transaction that the record ends are taken out. A Base ends all.
     ///
@@ -94,96 +77,152 @@ impl Places {
         ensures noted { OnOk result (self.new ≡ places_after lsn place «record».now self.old) }
         ensures err { OnErr result (self.new ≡ self.old) }
     {
-        match record {
-            Record::PageOp { txn, operation, .. } => {
-                self.add_write(stands(lsn, txn, *operation, place))
-            }
-            Record::OpEnd { txn, operation, .. } => {
-                self.finish(stands(lsn, txn, *operation, place))
-            }
-            Record::OpVoid { txn, operation } => {
-                self.end_operation(sub(txn, *operation));
-                Ok(())
-            }
-            Record::CompEnd { txn, operation, .. } => {
-                self.end_operation(sub(txn, *operation));
-                Ok(())
-            }
-            Record::Commit { txn } => {
-                self.end_transaction(*txn);
-                Ok(())
-            }
-            Record::AbortEnd { txn } => {
-                self.end_transaction(*txn);
-                Ok(())
-            }
-            Record::Base { .. } => {
-                self.end_all();
-                Ok(())
-            }
-            Record::PageUndo { .. } => Ok(()),
-            Record::Restart { .. } => Ok(()),
+        match make_room(&mut self.writes) {
+            Ok(()) => {}
+            Err(NoMemory) => return Err(NoMemory),
         }
-    }
-
-    fn add_write(&mut self, write: Place) -> Result<(), NoMemory>
-        ensures ok { OnOk result (self.new ≡ with_write write self.old) }
-        ensures err { OnErr result (self.new ≡ self.old) }
-    {
-        match self.writes.push(write) {
-            Ok(()) => Ok(()),
-            Err(_) => Err(NoMemory),
+        match make_room(&mut self.ends) {
+            Ok(()) => {}
+            Err(NoMemory) => return Err(NoMemory),
         }
+        take_write(&mut self.writes, lsn, record, place);
+        take_end(&mut self.ends, lsn, record, place);
+        Ok(())
     }
 
-    // The operation has its OpEnd.
-    fn finish(&mut self, end: Place) -> Result<(), NoMemory>
-        ensures ok { OnOk result (self.new ≡ with_end end (without_operation end.by self.old)) }
-        ensures err { OnErr result (self.new ≡ self.old) }
+    /// The same, and has the tables of the analysis take the record: all of them, or none. False where it doesn't belong to the
+    /// running incarnation, or isn't the next.
+    ///
+    /// # Errors
+    /// `NoMemory`: nothing changed.
+    pub fn note_with(
+        &mut self,
+        lsn: Lsn,
+        record: &Record,
+        place: u64,
+        dues: &mut PendingUndos,
+        numbers: &mut LastOperations,
+        open_work: &mut OpenWork,
+        ended: &mut EndedTransactions,
+    ) -> Result<bool, Refusal>
+        ensures next { IfOk result (λ is_next. IsTrue is_next ↔ IsNext open_work.old.incarnation «record».now) }
+        ensures noted { OnOk result (self.new ≡ places_after lsn place «record».now self.old) }
+        ensures dues { OnOk result (dues.new ≡ dues_after lsn «record».now dues.old) }
+        ensures numbers { OnOk result (numbers.new ≡ numbers_after «record».now numbers.old) }
+        ensures open_work { OnOk result (open_work.new ≡ open_work_after lsn «record».now open_work.old) }
+        ensures ended { OnOk result (ended.new ≡ ended_after «record».now ended.old) }
+        ensures same { OnErr result (self.new ≡ self.old) }
+        ensures dues_same { OnErr result (dues.new ≡ dues.old) }
+        ensures numbers_same { OnErr result (numbers.new ≡ numbers.old) }
+        ensures open_work_same { OnErr result (open_work.new ≡ open_work.old) }
+        ensures ended_same { OnErr result (ended.new ≡ ended.old) }
+        ensures err { IfErr result (λ e. e ≡ Refusal.NoMemory) }
     {
-        match self.ends.push(end) {
-            Ok(()) => {
-                self.end_operation(end.by);
-                Ok(())
+        match make_room(&mut self.writes) {
+            Ok(()) => {}
+            Err(NoMemory) => return Err(Refusal::NoMemory),
+        }
+        match make_room(&mut self.ends) {
+            Ok(()) => {}
+            Err(NoMemory) => return Err(Refusal::NoMemory),
+        }
+        match dues.note(numbers, open_work, ended, lsn, record) {
+            Ok(is_next) => {
+                take_write(&mut self.writes, lsn, record, place);
+                take_end(&mut self.ends, lsn, record, place);
+                Ok(is_next)
             }
-            Err(_) => Err(NoMemory),
+            Err(refusal) => Err(refusal),
         }
-    }
-
-    fn end_operation(&mut self, ended: Sub)
-        ensures { self.new ≡ without_operation ended self.old }
-    {
-        self.writes.retain(|write| write.by != ended);
-    }
-
-    fn end_transaction(&mut self, ended: Txn)
-        ensures { self.new ≡ without_txn ended self.old }
-    {
-        self.ends.retain(|end| end.by.txn != ended);
-    }
-
-    fn end_all(&mut self)
-        ensures { self.new ≡ no_places }
-    {
-        self.writes.clear();
-        self.ends.clear();
     }
 }
 
-// The index of the newest of these that is of a record with this LSN.
-fn index_of(places: &[Place], lsn: Lsn) -> Option<usize>
-    ensures within { IfSome result (λ i. i < length places.now) }
-    ensures own { IfSome result (λ i. (p : Place) → has_lsn lsn (slice_index_or places.now i p) ≡ true) }
-    ensures none { IfNone result (list_any (has_lsn lsn) places.now ≡ false) }
+// Takes the memory for one more.
+fn make_room(places: &mut Vec<Place>) -> Result<(), NoMemory>
+    ensures items { places.new.items ≡ places.old.items }
+    ensures room { OnOk result (vec_len places.new < vec_capacity places.new) }
 {
-    let mut index = places.len();
-    while index > 0 {
-        index -= 1;
-        if places[index].lsn == lsn {
-            return Some(index);
-        }
+    match places.try_reserve(1) {
+        Ok(()) => Ok(()),
+        Err(_) => Err(NoMemory),
     }
-    None
+}
+
+// Takes the next record into the places of PageOps, which have room for one more.
+fn take_write(writes: &mut Vec<Place>, lsn: Lsn, record: &Record, place: u64)
+    requires { vec_len writes.old < vec_capacity writes.old }
+    ensures { writes.new.items ≡ writes_after lsn place «record».now writes.old.items }
+{
+    match record {
+        Record::PageOp { txn, operation, .. } => {
+            writes.push_reserved(stands(lsn, txn, *operation, place));
+        }
+        Record::OpEnd { txn, operation, .. } => end_operation(writes, sub(txn, *operation)),
+        Record::OpVoid { txn, operation } => end_operation(writes, sub(txn, *operation)),
+        Record::CompEnd { txn, operation, .. } => end_operation(writes, sub(txn, *operation)),
+        Record::Base { .. } => writes.clear(),
+        Record::PageUndo { .. } => {}
+        Record::Commit { .. } => {}
+        Record::AbortEnd { .. } => {}
+        Record::Restart { .. } => {}
+    }
+}
+
+// Takes the next record into the places of OpEnds, which have room for one more.
+fn take_end(ends: &mut Vec<Place>, lsn: Lsn, record: &Record, place: u64)
+    requires { vec_len ends.old < vec_capacity ends.old }
+    ensures { ends.new.items ≡ ends_after lsn place «record».now ends.old.items }
+{
+    match record {
+        Record::OpEnd { txn, operation, .. } => {
+            ends.push_reserved(stands(lsn, txn, *operation, place));
+        }
+        Record::Commit { txn } => end_transaction(ends, *txn),
+        Record::AbortEnd { txn } => end_transaction(ends, *txn),
+        Record::Base { .. } => ends.clear(),
+        Record::PageOp { .. } => {}
+        Record::PageUndo { .. } => {}
+        Record::OpVoid { .. } => {}
+        Record::CompEnd { .. } => {}
+        Record::Restart { .. } => {}
+    }
+}
+
+fn end_operation(writes: &mut Vec<Place>, ended: Sub)
+    ensures { writes.new.items ≡ without_operation ended writes.old.items }
+{
+    writes.retain(|write| write.by != ended);
+}
+
+fn end_transaction(ends: &mut Vec<Place>, ended: Txn)
+    ensures { ends.new.items ≡ without_txn ended ends.old.items }
+{
+    ends.retain(|end| end.by.txn != ended);
+}
+
+/// The one of these places, whose LSNs rise, that is of the record with this LSN.
+pub fn place_with(places: &[Place], lsn: Lsn) -> Option<Place>
+    requires { AreRising places.now }
+    ensures some { IfSome result (λ p. In p places.now × (p.lsn ≡ lsn)) }
+    ensures none { IfNone result ((p : Place) → In p places.now → p.lsn ≢ lsn) }
+{
+    let index = first_from(places, lsn);
+    if index >= places.len() {
+        return None;
+    }
+    let place = places[index];
+    if place.lsn == lsn { Some(place) } else { None }
+}
+
+// The index of the first of these that is of a record with at least this LSN, or the end.
+fn first_from(places: &[Place], lsn: Lsn) -> usize
+    requires { AreRising places.now }
+    ensures bound { result ≤ length places.now }
+    ensures below { (k : ℕ) (d : Place) → k < result → (slice_index_or places.now k d).lsn < lsn }
+    ensures above { (k : ℕ) (d : Place) → result ≤ k → k < length places.now
+        → lsn ≤ (slice_index_or places.now k d).lsn }
+{
+    places.partition_point(|place| place.lsn < lsn)
 }
 
 // Where a record of this operation stands.

@@ -24,7 +24,7 @@ use crate::analysis::Analysis;
 use crate::appending::shows_pool;
 use crate::page_numbers::PageNumbers;
 use crate::redo::{check_page_numbers, repeat_history};
-use crate::tables::{EngineTables, planner_of, read_directory};
+use crate::tables::{EngineTables, read_directory, tell_cells};
 use crate::undoing::undo_unfinished;
 use rq_chain_check::first_broken;
 use rq_disk::{LogDevice, PageDevice};
@@ -304,8 +304,9 @@ fn undo_all<P: PageDevice + Drop, L: LogDevice + Drop, B: Level>(
     ensures room { OnOk result (log.new.reserved ≡ log.old.reserved) }
 {
     let lost = analysis.open_work.active().len() as u64;
-    undo_unfinished(pages, log, analysis)?;
-    let mut planner = planner_of(alloc, pages, levels);
+    let mut planner = Planner::new(alloc, levels);
+    undo_unfinished(alloc, pages, log, analysis, &mut planner)?;
+    tell_cells(pages, &mut planner);
     abort_lost(alloc, pages, log, analysis, &mut planner)?;
     match check_links(alloc, pages) {
         Ok(()) => Ok((lost, planner)),

@@ -4,12 +4,13 @@ ghost use Rattle.std.specs.Prelude.{◌≡◌, [], IfOk};
 ghost use Rattle.rq_pool.specs.Pooled.{IsPool};
 ghost use Rattle.rq_store.specs.Opening.{sent_in_slots, waiting_in};
 ghost use Rattle.rq_planner.specs.Answered.{KnowsCells};
+ghost use Rattle.rq_planner.specs.Handed.{AreForStores};
 
 use rq_disk::PageDevice;
 use rq_groups::{Ends, LastTag, Sent, Waiting};
 use rq_level::Level;
 use rq_model::refusal::NoMemory;
-use rq_planner::{Planner, StoreLevels};
+use rq_planner::Planner;
 use rq_pool::Pages;
 use std::alloc::Global;
 
@@ -57,16 +58,11 @@ pub(crate) fn read_directory<P: PageDevice + Drop, B: Level>(
     })
 }
 
-/// What plans operations, told of each cell.
-pub(crate) fn planner_of<P: PageDevice + Drop, B: Level>(
-    alloc: Global,
-    pages: &Pages<P>,
-    levels: StoreLevels<B>,
-) -> Planner<B>
-    ensures { KnowsCells pages.now.sizes pages.now.images result }
+/// Tells the levels of a planner, as they were handed in, each cell.
+pub(crate) fn tell_cells<P: PageDevice + Drop, B: Level>(pages: &Pages<P>, planner: &mut Planner<B>)
+    requires { AreForStores planner.old }
+    ensures { KnowsCells pages.now.sizes pages.now.images planner.new }
 {
     pages.shows_kept();
-    let mut planner = Planner::new(alloc, levels);
     planner.tell(pages);
-    planner
 }

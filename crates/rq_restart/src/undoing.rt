@@ -11,20 +11,25 @@ use crate::again::undo_record;
 use crate::analysis::Analysis;
 use crate::appending::{append, shows_pool};
 use rq_disk::{LogDevice, PageDevice};
+use rq_level::Level;
 use rq_log::Log;
 use rq_model::refusal::Refusal;
+use rq_planner::Planner;
 use rq_pool::Pages;
+use std::alloc::Global;
 
-/// Undoes what operations without an end wrote, the newest write of all first, and voids each once its writes are
-/// undone. The records of it are made behind the log, of which these are the findings, and nothing is handed over.
+/// Undoes what operations without an end wrote, the newest write of all first, as its level says, and voids each once its
+/// writes are undone. The records of it are made behind the log, of which these are the findings, and nothing is handed over.
 ///
 /// # Errors
 /// `NoMemory`; `DiskRead`; `LogFull` where the log is at its greatest length; `Damaged` with the number of a record that
 /// would not belong where it has to stand, or that the device gives no more.
-pub(crate) fn undo_unfinished<P: PageDevice + Drop, L: LogDevice + Drop>(
+pub(crate) fn undo_unfinished<P: PageDevice + Drop, L: LogDevice + Drop, B: Level>(
+    alloc: Global,
     pages: &mut Pages<P>,
     log: &mut Log<L>,
     analysis: &mut Analysis,
+    planner: &mut Planner<B>,
 ) -> Result<(), Refusal>
     requires found { IsAnalysisOf analysis.old log.old.records }
     requires follow { L.honest log.old.device → FollowAll log.old.records }
@@ -45,10 +50,11 @@ pub(crate) fn undo_unfinished<P: PageDevice + Drop, L: LogDevice + Drop>(
     ensures cause { OnOk result (L.faults log.new.device ≡ L.faults log.old.device) }
     ensures stays { HandsOverNothing L.LogDevice pages.old pages.new log.old log.new }
     ensures room { OnOk result (log.new.reserved ≡ log.old.reserved) }
+    ensures planner { planner.new ≡ planner.old }
 {
     while let Some(next) = analysis.open_work.next_undo() {
-        let undo = undo_record(log, analysis, next)?;
-        append(pages, log, analysis, &undo)?;
+        let undo = undo_record(alloc, log, analysis, planner, next)?;
+        append(pages, log, analysis, planner, &undo)?;
     }
     shows_pool(pages);
     Ok(())

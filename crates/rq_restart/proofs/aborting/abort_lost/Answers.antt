@@ -33,7 +33,7 @@ returns-clause-gone_on g c = λ k.
     aborted_join z log mid old now (made.gone_on (c.in_ok-undo_all_due.ensures.stays.read.honest k)) last new here
 
 pub undo_all_due-requires-clause-cells : goal.undo_all_due-requires-clause-cells
-undo_all_due-requires-clause-cells g c = cells_same c.args.pages.now c.end_idle.new.pages c.args.planner.now c.in_ok-end_idle.ensures.same c.requires.cells
+undo_all_due-requires-clause-cells g c = cells_same c.args.pages.now c.end_idle.new.pages c.args.planner.now c.end_idle.new.planner c.in_ok-end_idle.ensures.same c.end_idle.ensures.planner c.requires.cells
 
 pub returns-then-all_ended-clause-gone_on : goal.returns-then-all_ended-clause-gone_on
 returns-then-all_ended-clause-gone_on g c = λ k. nothing_gone c.args.pages.now.sizes c.args.log.now.records c.args.pages.now (IsShown c.args.log.now.records c.args.pages.now)

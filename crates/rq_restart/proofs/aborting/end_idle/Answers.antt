@@ -29,6 +29,7 @@ loop-txn-init g c = record {
   stays = none_handed g.L.LogDevice g.met.L.LogDevice.only_now c.args.pages.now c.args.log.now c.requires.running;
   room = refl;
   same = refl;
+  planner = refl;
 }
 
 pub loop-txn-smaller : goal.loop-txn-smaller
@@ -63,6 +64,7 @@ loop-txn-preserved g c =
       stays = and_then kept.stays made.stays;
       room = made.room ∙ kept.room;
       same = made.same refl ∙ kept.same;
+      planner = made.planner ∙ kept.planner;
     }
 
 pub returns-in_err-append-clause-stops : goal.returns-in_err-append-clause-stops

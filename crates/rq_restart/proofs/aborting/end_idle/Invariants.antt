@@ -16,6 +16,7 @@ invariant-loop-txn g l = record {
   stays : HandsOverNothing g.L.LogDevice l.fn.pages l.pages l.fn.log l.log;
   room : l.log.reserved ≡ l.fn.log.reserved;
   same : l.pages ≡ l.fn.pages;
+  planner : l.planner ≡ l.fn.planner;
 }
 
 abbrev pub decreases-loop-txn : goal.decreases-loop-txn

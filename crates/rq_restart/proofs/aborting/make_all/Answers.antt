@@ -82,8 +82,8 @@ loop-index-preserved g c =
       room = made.room ∙ kept.room;
       cells =
           let stands : IsStoreSlot new.sizes w.at = subst (λ y. IsStoreSlot y w.at) (sym (made.stays.sizes ∙ kept.stays.sizes)) slot.place in
-          knows_written new.sizes old.images new.images c.loop-index.planner c.renew.new.self w.at (slot_at new.images w.at) stands refl (write_elsewhere new.sizes old.images new.images d.txn n (length log + 1) w written) c.renew.ensures
-          (subst (λ y. KnowsCells y old.images c.loop-index.planner) (sym made.stays.sizes) kept.cells);
+          knows_written new.sizes old.images new.images c.append.new.planner c.renew.new.self w.at (slot_at new.images w.at) stands refl (write_elsewhere new.sizes old.images new.images d.txn n (length log + 1) w written) c.renew.ensures
+          (subst (KnowsCells new.sizes old.images) (sym made.planner) (subst (λ y. KnowsCells y old.images c.loop-index.planner) (sym made.stays.sizes) kept.cells));
     }
 
 pub renew-requires : goal.renew-requires

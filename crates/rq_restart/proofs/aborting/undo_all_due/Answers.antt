@@ -168,7 +168,7 @@ loop-txn-preserved-in-Continue-branch-3 g c =
       cause = ap l.faults last.device ∙ made.cause ∙ told.cause ∙ kept.cause;
       stays = and_then kept.stays (and_then (one_read l old c.loop-txn.log c.due_again.new.log kept.stays.running told.same told.read) (and_then made.stays last.stays));
       room = last.room ∙ made.room ∙ ap (λ (x : Logged _). x.reserved) told.same ∙ kept.room;
-      cells = cells_same now new c.undo_due.new.planner (last.same refl) made.cells;
+      cells = cells_same now new c.undo_due.new.planner c.append.new.planner (last.same refl) last.planner made.cells;
     }
 
 pub returns-in_err-append-clause-stops : goal.returns-in_err-append-clause-stops

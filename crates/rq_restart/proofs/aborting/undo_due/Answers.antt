@@ -192,4 +192,4 @@ returns-clause-active g c =
     (close_rest mid c.append.new.log.records c.make_all.new.analysis c.append.new.analysis due.0 due.1 n d.lsn made.found c.in_ok-append.ensures.found grown (made.rest.0 ∙ due.2)).1 ∙ made.rest.1
 
 pub returns-clause-cells : goal.returns-clause-cells
-returns-clause-cells g c = cells_same c.make_all.new.pages c.append.new.pages c.make_all.new.planner (c.in_ok-append.ensures.same refl) c.in_ok-make_all.ensures.cells
+returns-clause-cells g c = cells_same c.make_all.new.pages c.append.new.pages c.make_all.new.planner c.append.new.planner (c.in_ok-append.ensures.same refl) c.append.ensures.planner c.in_ok-make_all.ensures.cells

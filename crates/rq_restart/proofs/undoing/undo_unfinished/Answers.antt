@@ -15,6 +15,7 @@ loop-next-init g c = record {
   cause = refl;
   stays = none_handed g.L.LogDevice g.met.L.LogDevice.only_now c.args.pages.now c.args.log.now c.requires.running;
   room = refl;
+  planner = refl;
 }
 
 pub loop-next-smaller : goal.loop-next-smaller
@@ -50,6 +51,7 @@ loop-next-preserved g c =
       cause = ap l.faults made.device ∙ told.cause ∙ kept.cause;
       stays = and_then kept.stays (and_then (one_read l old c.loop-next.log c.undo_record.new.log kept.stays.running told.same told.read) made.stays);
       room = made.room ∙ ap (λ (x : Logged _). x.reserved) told.same ∙ kept.room;
+      planner = made.planner ∙ told.planner ∙ kept.planner;
     }
 
 pub append-requires-clause-range : goal.append-requires-clause-range

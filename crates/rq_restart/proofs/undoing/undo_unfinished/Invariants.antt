@@ -16,6 +16,7 @@ invariant-loop-next g l = record {
   cause : g.L.LogDevice.faults l.log.device ≡ g.L.LogDevice.faults l.fn.log.device;
   stays : HandsOverNothing g.L.LogDevice l.fn.pages l.pages l.fn.log l.log;
   room : l.log.reserved ≡ l.fn.log.reserved;
+  planner : l.planner ≡ l.fn.planner;
 }
 
 abbrev pub decreases-loop-next : goal.decreases-loop-next

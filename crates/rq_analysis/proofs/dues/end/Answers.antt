@@ -1,11 +1,11 @@
 use Rattle.std.proofs.Common.{rules, ap, ◌∙◌, reverse, not}
 use Rattle.std.proofs.lemmas.Fn.{filter_same}
 use Rattle.rq_analysis.specs.declared.dues.PendingUndo.{PendingUndo}
-use Rattle.rq_analysis.specs.Dues.{but_own, due_of}
-use Rattle.rq_analysis.proofs.dues.PendingUndos.end.Goals as goal
+use Rattle.rq_analysis.specs.Dues.{due_of}
+use Rattle.rq_analysis.proofs.dues.end.Goals as goal
 use Rattle.rq_analysis.proofs.Stacks.{filter_reverse}
 
 pub returns : goal.returns
 returns c =
     let kept = filter_same _ (λ (d : PendingUndo). not (due_of c.args.txn d)) _ (λ x b f' k. search rules) _ _ c.retain.ensures.filtered in
-    ap reverse kept ∙ filter_reverse (λ (d : PendingUndo). not (due_of c.args.txn d)) c.self.inside.dues.items ∙ ap (but_own c.args.txn) c.self.view_is
+    ap reverse kept ∙ filter_reverse (λ (d : PendingUndo). not (due_of c.args.txn d)) c.args.dues.now.items

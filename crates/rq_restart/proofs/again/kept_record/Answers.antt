@@ -1,0 +1,12 @@
+use Rattle.std.proofs.Common.{refl}
+use Rattle.rq_restart.proofs.ReadAgain.{not_told}
+use Rattle.rq_restart.proofs.again.kept_record.Goals as goal
+
+pub returns-in-Err-clause-err : goal.returns-in-Err-clause-err
+returns-in-Err-clause-err g c =
+    let some = c.in-Some.ensures.some in
+    let at = c.requires.has.stands c.in-Some.kept some.0 some.1 in
+    not_told g.L.LogDevice c.args.log.now.device c.record_again.new.log.device c.args.lsn c.in-Some.kept.place c.args.log.now.records at.0 at.1 c.in-Err.refusal c.in-Err.ensures.err
+
+pub returns-in-None-clause-err : goal.returns-in-None-clause-err
+returns-in-None-clause-err g c = (refl, λ h. c.requires.has.kept c.in-None.ensures.none)
