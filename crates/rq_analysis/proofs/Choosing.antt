@@ -1,4 +1,5 @@
 -- Which transaction is next is told by the stack and the transactions that are lost.
+use Rattle.rq_analysis.specs.Pages.{txn_less}
 use Rattle.std.proofs.Common.{◌≡◌, ◌≢◌, ℕ, ◌≤◌, true, false, not, nat_lt, List, [], ◌∷◌, map, Option, Some, None, inl, inr, refl, sym, ◌∙◌, ap, subst, arith}
 use Rattle.std.specs.List.{filter}
 use Rattle.std.proofs.lemmas.Bool.{cases_Bool, true≢false, false≢true, false_from_ne_true, ltb-false}
@@ -95,7 +96,7 @@ module _ (s : State) (k : IsSound s) (r : Row) (j : In r s.rows) where
 record IsLeast (ds : List PendingUndo) (ts : List Txn) (t : Txn) : Type 0 where
   there : In t ts
   free : any_due t ds ≡ false
-  least : (u : Txn) → In u ts → any_due u ds ≡ false → t.count ≤ u.count
+  least : (u : Txn) → In u ts → any_due u ds ≡ false → txn_less u t ≡ false
 
 abbrev IsLooked : List PendingUndo → List Txn → Option Txn → Type 0
 IsLooked ds ts None = (u : Txn) → In u ts → any_due u ds ≡ true
@@ -109,24 +110,34 @@ looked_past ds t ts (Some o) y h = record {
   least = λ u i n. elim i [ inl e ↦ absurd (true≢false (sym y ∙ ap (λ (v : Txn). any_due v ds) (sym e) ∙ n)) | inr j ↦ h.least u j n ];
 }
 
-lt_is : (a b : ℕ) → nat_lt a b ≡ true → a ≤ b
-lt_is a b y = grind (arith, nat_tests, y)
+-- numbers are in order
+not_self : (t : Txn) → txn_less t t ≡ false
+not_self t = grind (arith, nat_tests)
+
+not_turned : (a b : Txn) → txn_less a b ≡ true → txn_less b a ≡ false
+not_turned a b y = grind (arith, nat_tests, y)
+
+not_through : (a b c : Txn) → txn_less a b ≡ false → txn_less b c ≡ false → txn_less a c ≡ false
+not_through a b c n m = grind (arith, nat_tests, n, m)
+
+by_count : (a b : Txn) → a.incarnation ≡ b.incarnation → txn_less a b ≡ false → b.count ≤ a.count
+by_count a b i n = grind (arith, nat_tests, i, n)
 
 looked_at : (ds : List PendingUndo) (t : Txn) (ts : List Txn) (o : Option Txn) → any_due t ds ≡ false → IsLooked ds ts o → IsLooked ds (t ∷ ts) (Some (lesser_in t o))
 looked_at ds t ts None n h = record {
   there = inl refl;
   free = n;
   least = λ u i m. elim i [
-    | inl e ↦ (let a : u.count ≡ t.count = ap (λ (v : Txn). v.count) e in omega (arith, a))
+    | inl e ↦ ap (λ (v : Txn). txn_less v t) e ∙ not_self t
     | inr j ↦ absurd (true≢false (sym (h u j) ∙ m))
   ];
 }
-looked_at ds t ts (Some o) n h = elim (cases_Bool (nat_lt o.count t.count)) [
+looked_at ds t ts (Some o) n h = elim (cases_Bool (txn_less o t)) [
   | inl y ↦ rw y (record {
     there = inr h.there;
     free = h.free;
     least = λ u i m. elim i [
-      | inl e ↦ (let a : u.count ≡ t.count = ap (λ (v : Txn). v.count) e in let b = lt_is o.count t.count y in omega (arith, a, b))
+      | inl e ↦ ap (λ (v : Txn). txn_less v o) e ∙ not_turned o t y
       | inr j ↦ h.least u j m
     ];
   })
@@ -134,8 +145,8 @@ looked_at ds t ts (Some o) n h = elim (cases_Bool (nat_lt o.count t.count)) [
     there = inl refl;
     free = n;
     least = λ u i m. elim i [
-      | inl e ↦ (let a : u.count ≡ t.count = ap (λ (v : Txn). v.count) e in omega (arith, a))
-      | inr j ↦ (let a = h.least u j m in let b = ltb-false o.count t.count z in omega (arith, a, b))
+      | inl e ↦ ap (λ (v : Txn). txn_less v t) e ∙ not_self t
+      | inr j ↦ not_through u o t (h.least u j m) z
     ];
   })
 ]
@@ -173,9 +184,8 @@ module _ (s : State) (k : IsSound s) (are : AreLost s) where
           empty = none_left s k m.0 m.1 free;
           least = λ q j none.
               let off : any_due q.txn (dues s.records) ≡ false = false_from_ne_true (any_due q.txn (dues s.records)) (λ y. some_left s k q j y none) in
-              let a = h.least q.txn (row_lost q j) off in
-              let b : t.count ≡ m.0.txn.count = ap (λ (u : Txn). u.count) m.2 in
-              omega (arith, a, b);
+              let a : txn_less q.txn m.0.txn ≡ false = ap (txn_less q.txn) (sym m.2) ∙ h.least q.txn (row_lost q j) off in
+              by_count q.txn m.0.txn ((k.standing.each q j).of_incarnation ∙ sym (k.standing.each m.0 m.1).of_incarnation) a;
         },
       )
 

@@ -1,5 +1,5 @@
 -- Which transaction is next, as it is looked for by the stack of what is to be taken back.
-use Rattle.std.specs.Prelude.{◌≡◌, nat_lt, cond, ℕ, List, [], ◌∷◌, map, Option, Some, None}
+use Rattle.std.specs.Prelude.{◌≡◌, cond, ℕ, List, [], ◌∷◌, map, Option, Some, None}
 use Rattle.rq_model.specs.declared.txn.Txn.{Txn}
 use Rattle.rq_model.specs.declared.record.Record.{Record}
 use Rattle.rq_model.specs.Unended.{lost}
@@ -12,14 +12,15 @@ use Rattle.rq_analysis.specs.declared.dues.PendingUndo.{PendingUndo}
 use Rattle.rq_analysis.specs.Dues.{any_due, dues, finished_due}
 use Rattle.rq_analysis.specs.Lost.{lost_store}
 use Rattle.rq_analysis.specs.Moves.{IsAbortMove}
+use Rattle.rq_analysis.specs.Pages.{txn_less}
 use Rattle.rq_analysis.specs.Turns.{EndsNext, TakesBackNext}
 
--- the one of the lesser count
+-- the one of the lesser number: by incarnation, then by count
 abbrev pub lesser_in : Txn → Option Txn → Txn
 lesser_in t None = t
-lesser_in t (Some u) = cond (nat_lt u.count t.count) u t
+lesser_in t (Some u) = cond (txn_less u t) u t
 
--- of these transactions the one of the least count of which nothing is due
+-- of these transactions the one of the least number of which nothing is due
 abbrev pub least_free : List PendingUndo → List Txn → Option Txn
 least_free ds [] = None
 least_free ds (t ∷ ts) = cond (any_due t ds) (least_free ds ts) (Some (lesser_in t (least_free ds ts)))

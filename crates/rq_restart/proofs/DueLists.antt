@@ -1,4 +1,5 @@
 -- What a log says of what is due in it, and of the transactions that have no end.
+use Rattle.rq_analysis.specs.Pages.{txn_less}
 use Rattle.std.proofs.Common.{◌≡◌, ℕ, ◌+◌, ◌<◌, true, false, not, nat_lt, List, [], ◌∷◌, ◌++◌, length, Option, Some, None, inl, inr, ◌⊎◌, refl, sym, ◌∙◌, ap, subst, arith}
 use Rattle.std.proofs.lemmas.Bool.{cases_Bool, false≢true, or_parts, true≢false}
 use Rattle.rq_model.specs.declared.record.Record.{Record}
@@ -129,7 +130,7 @@ module _ (d : PendingUndo) (ds : List PendingUndo) where
   IsOneOf ts = ((least_free ds ts ≡ None) × (In d.txn ts → ⊥)) ⊎ (least_free ds ts ≡ Some d.txn)
 
   lesser_self : (t : Txn) → lesser_in t (Some t) ≡ t
-  lesser_self t = elim (cases_Bool (nat_lt t.count t.count)) [ inl y ↦ rw y refl | inr n ↦ rw n refl ]
+  lesser_self t = elim (cases_Bool (txn_less t t)) [ inl y ↦ rw y refl | inr n ↦ rw n refl ]
 
   is_one : (ts : List Txn) → any_due d.txn ds ≡ false → AllOwe (d ∷ ds) ts → IsOneOf ts
   is_one [] n h = inl (refl, λ i. i)
