@@ -83,7 +83,7 @@ class Drawing:
     def __init__(self, seed, met, door=Script):
         self.random = random.Random(seed)
         self.shape, self.sizes = shape_of(seed), sizes_of(seed)
-        self.door = door(*self.sizes, met)
+        self.door = door(*self.sizes, met=met)
         self.store = self.door.store
         self.lines = []
         self.may_fail = self.is_first_of(3)

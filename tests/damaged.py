@@ -276,6 +276,14 @@ def a_commit_amid_an_operation():
     yield [BEGUN, FILL, COMMIT], at_record(4)
 
 
+def lost_ones_of_two_incarnations():
+    """Each took back what it did, and has no end. The first by number ends first, and its incarnation is over: that does not belong."""
+    first = [write(1, 1, 1, group(), closed(), txn=2), end(1, closing(0), txn=2), write(2, 1, 1, closed(), group(), txn=2), back(2, 3, txn=2)]
+    second = [record(1, [2, 1, 1, 1, 1], group() + closed()), record(3, [2, 1, 1, 1], closing(0)),
+              record(1, [2, 1, 2, 1, 1], closed() + group()), record(5, [2, 1, 2, 8])]  # fmt: skip
+    yield [BEGUN, *first, restart(2), *second], at_record(11)
+
+
 # ---- logs of which a restart cannot take back what a transaction without an end did
 
 
@@ -350,8 +358,8 @@ LOGS = [
     records_behind_the_end_of_their_transaction, records_behind_the_end_of_their_operation, records_behind_the_end_of_an_inverse,
     writes_that_are_no_slots_of_the_store, writes_that_are_undone_wrongly, inverses_of_what_is_not_there,
     deeds_that_cannot_be_read, numbers_of_operations_with_gaps, ends_of_what_did_not_begin, what_is_undone_before_what_is_newer,
-    a_commit_amid_an_operation, what_can_be_taken_back, deeds_of_senders_that_the_store_has_not, sends_that_do_not_stand_last,
-    receives_that_cannot_be_put_back, closes_that_are_open, the_newest_is_named, what_an_abort_left,
+    a_commit_amid_an_operation, lost_ones_of_two_incarnations, what_can_be_taken_back, deeds_of_senders_that_the_store_has_not,
+    sends_that_do_not_stand_last, receives_that_cannot_be_put_back, closes_that_are_open, the_newest_is_named, what_an_abort_left,
 ]  # fmt: skip
 
 

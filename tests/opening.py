@@ -319,6 +319,8 @@ class Opening:
         while self.due:
             txn = max(self.due, key=lambda each: self.due[each][-1][0])
             lsn, deed = self.due[txn][-1]
+            if self.records == LONGEST:
+                raise Fault(FULL)
             writes, operation = self.inverse(deed), self.numbers[txn] + 1
             if writes is None or operation >= 2**64:
                 raise at_record(lsn)

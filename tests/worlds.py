@@ -60,7 +60,7 @@ class Drawing:
     def __init__(self, seed, met):
         self.random = random.Random(seed)
         self.sizes = sizes_of(seed)
-        self.door = World(*self.sizes, met)
+        self.door = World(*self.sizes, met=met)
         self.store = self.door.store
         self.lines = []
         self.fills = seed % 4 == 0  # it sends and does not receive, and little else happens

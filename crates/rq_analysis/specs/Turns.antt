@@ -11,7 +11,7 @@ use Rattle.rq_analysis.specs.Moves.IsAbortMove.{Starts, Writes, Undoes, Ends}
 abbrev pub AreAborting : List Row → Type 0
 AreAborting rows = (r : Row) → In r rows → r.aborting ≡ true
 
--- of those with nothing left to undo the one of the least number ends first
+-- of those with nothing left to undo the one of the least count ends first (a sound store's rows are of one incarnation)
 pub record EndsNext (rows : List Row) (r : Row) : Type 0 where
   pub row : In r rows
   pub empty : r.finished ≡ []

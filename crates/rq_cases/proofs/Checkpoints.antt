@@ -7,7 +7,6 @@ use Rattle.rq_model.specs.Incarnations.{Ties}
 use Rattle.rq_model.specs.Ledger.{group_in, ledger}
 use Rattle.rq_model.specs.Legal.{IsLegal}
 use Rattle.rq_model.specs.Promises.{CheckpointCrashGoesOn}
-use Rattle.rq_model.specs.Worked.{small}
 use Rattle.rq_model.proofs.Told.{content_is}
 use Rattle.rq_disk.specs.declared.mem_log.MemLog.{MemLog}
 use Rattle.rq_disk.specs.declared.mem_pages.MemPages.{MemPages}
@@ -33,7 +32,7 @@ use Rattle.rq_core.specs.Worked.{first_entries}
 use Rattle.rq_cases.specs.Checkpoints.{CheckpointsAreJudged, based_log}
 use Rattle.rq_cases.specs.Crashes.{MayFail}
 use Rattle.rq_cases.specs.Run.{fresh, log_1}
-use Rattle.rq_cases.specs.Store.{formatted_pages, sizes}
+use Rattle.rq_cases.specs.Store.{formatted_pages, sizes, small}
 use Rattle.rq_cases.specs.Worlds.{Hold, course_to}
 use Rattle.rq_cases.proofs.Behind as behind
 use Rattle.rq_cases.proofs.Bytes.{first_plain, first_spelled}

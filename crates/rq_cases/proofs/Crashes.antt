@@ -5,7 +5,6 @@ use Rattle.rq_model.specs.History.{Entry}
 use Rattle.rq_model.specs.History.Call.{Force}
 use Rattle.rq_model.specs.Ledger.{ledger}
 use Rattle.rq_model.specs.Promises.{CheckpointCrashGoesOn, CrashGoesOn}
-use Rattle.rq_model.specs.Worked.{small}
 use Rattle.rq_disk.specs.Device.{Images}
 use Rattle.rq_disk.specs.Memory.{log_seen as log_device_seen}
 use Rattle.rq_disk.specs.Shown.{log_of}
@@ -23,7 +22,7 @@ use Rattle.rq_core.specs.Happenings.Happening.{Crashes, Stops_in}
 use Rattle.rq_core.specs.Worked.{first_entries}
 use Rattle.rq_cases.specs.Crashes.{CrashesAreJudged, MayFail, RunsAreJudged}
 use Rattle.rq_cases.specs.Run.{committed, forced, log_1, log_5, no_record}
-use Rattle.rq_cases.specs.Store.{formatted_pages, sent_pages}
+use Rattle.rq_cases.specs.Store.{formatted_pages, sent_pages, small}
 use Rattle.rq_cases.specs.Worlds.{Hold, course_to}
 use Rattle.rq_cases.proofs.Bytes.{short_log}
 use Rattle.rq_cases.proofs.Checkpoints.{in_one}

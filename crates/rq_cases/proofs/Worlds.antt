@@ -16,7 +16,7 @@ use Rattle.rq_model.specs.Vocabulary.Op.{Send}
 use Rattle.rq_model.proofs.Told.{content_is}
 use Rattle.rq_model.specs.History.Call.{Force}
 use Rattle.rq_model.specs.Replay.Reply.{Gave_forced}
-use Rattle.rq_model.specs.Worked.{txn, small}
+use Rattle.rq_model.specs.Worked.{txn}
 use Rattle.rq_core.specs.Happenings.Answer.{Answered}
 use Rattle.rq_core.specs.Happenings.Happening.{Asks}
 use Rattle.rq_disk.specs.Device.{Images, Leaves}
@@ -51,7 +51,7 @@ use Rattle.rq_core.specs.World.World.{Is_open, Is_shut}
 use Rattle.rq_core.proofs.Arms.{open_ends, shut_ends}
 use Rattle.rq_cases.specs.Opened.{AreNewPages, IsNewLog, over}
 use Rattle.rq_cases.specs.Run.{log_1, log_2, log_5, no_record, committed, forced}
-use Rattle.rq_cases.specs.Store.{fill_cell, formatted_pages, groups_1, page_image, sent_pages, sizes}
+use Rattle.rq_cases.specs.Store.{fill_cell, formatted_pages, groups_1, page_image, sent_pages, sizes, small}
 use Rattle.rq_cases.specs.Worlds.{CutsAreJudged, HeadlinesAreJudged, Hold, Opens, Shuts, WorldsAreJudged, course_to, crashed, crashed_course}
 use Rattle.rq_cases.proofs.Bytes.{fill_is, first_spelled, records_spelled, short_log, the_log}
 use Rattle.rq_cases.proofs.Held.{leaves_beginning, log_left, only_records, pages_fit, pages_now}

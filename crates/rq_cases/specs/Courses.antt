@@ -16,10 +16,11 @@ use Rattle.rq_model.specs.Vocabulary.Op.{Take}
 use Rattle.rq_core.specs.Always.{GivesTo}
 use Rattle.rq_core.specs.Happenings.{Course, Tells}
 use Rattle.rq_model.specs.Causes.{HasCause}
-use Rattle.rq_model.specs.Worked.{txn, small}
+use Rattle.rq_model.specs.Worked.{txn}
 use Rattle.rq_core.specs.Happenings.Answer.{Answered, Crashed, Nothing, Restarted}
 use Rattle.rq_core.specs.Happenings.Happening.{Asks, Restarts, Stops_in, Stops_restart}
 use Rattle.rq_core.specs.Worked.{TellsNothing, first_entries, hello, report, taking}
+use Rattle.rq_cases.specs.Store.{small}
 
 -- a store that was opened once
 abbrev pub opened : Course

@@ -3,7 +3,8 @@ use Rattle.std.specs.Prelude.{[], ◌∷◌, List}
 use Rattle.rq_model.specs.declared.record.Record.TheVariants.{Restart as Restart_record}
 use Rattle.rq_model.specs.History.{Entry}
 use Rattle.rq_model.specs.Promises.{EndsInCrash, EndsInRestart, crash_to}
-use Rattle.rq_model.specs.Worked.{first_log, opened, small}
+use Rattle.rq_model.specs.Worked.{first_log, opened}
+use Rattle.rq_cases.specs.Store.{small}
 
 -- a store that was opened once, and crashed
 abbrev pub crashed : List Entry

@@ -1,6 +1,7 @@
 -- The pages of a small store, byte by byte, and the slots that a send, a receive and a close write.
 use Rattle.std.specs.Prelude.{ℕ, true, zero, suc, ◌+◌, ◌==◌, ◌<◌, ◌/◌, ◌%◌, ◌^◌, if◌then◌else◌, List, [], ◌∷◌, ◌++◌}
 use Rattle.std.proofs.Common.{arith}
+use Rattle.rq_model.specs.Tests.{Size}
 use Rattle.rq_page.specs.declared.directory.Directory.{Directory}
 use Rattle.rq_page.specs.Cells.{cell_bytes, free_bytes}
 use Rattle.rq_page.specs.Directories.{directory_bytes, new_directory}
@@ -11,10 +12,15 @@ use Rattle.rq_views.specs.Chain.{directory_appended}
 use Rattle.rq_views.specs.Plans.{directory_head_unlinked}
 use Rattle.rq_views.specs.WorkedItems.{cell}
 use Rattle.rq_level.specs.declared.writes.SlotWrite.{SlotWrite}
+use Rattle.rq_store.specs.State.{size_of}
 
 -- one directory page and one cell page: 15 senders and 15 cells
 abbrev pub sizes : Sizes
 sizes = record { directory = 1; cells = 1; tags = 0 }
+
+-- what a history of it may hold: no client, as it has no tag page
+abbrev pub small : Size
+small = size_of sizes
 
 -- a page's header, and behind it its slots
 abbrev pub part : ℕ → ℕ → ℕ → (ℕ → List ℕ) → ℕ → List ℕ

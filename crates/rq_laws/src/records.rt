@@ -3,11 +3,11 @@ ghost use Rattle.std.specs.Prelude.{◌≡◌, ◌^◌, ◌<◌, [], IfOk, IfSom
 ghost use Rattle.rq_log.specs.Places.{IsPlace};
 ghost use Rattle.rq_log.specs.Spelled.{spelled};
 
-use rq_analysis::{NextUndo, OpenWork, PendingUndos};
+use rq_analysis::{EndedTransactions, LastOperations, NextUndo, OpenWork, PendingUndos};
 use rq_disk::LogDevice;
 use rq_log::{Log, LogReader};
 use rq_model::record::Record;
-use rq_model::refusal::{NoMemory, Refusal};
+use rq_model::refusal::Refusal;
 use rq_model::txn::Lsn;
 use rq_record::{Step, decode};
 
@@ -75,13 +75,19 @@ pub fn reads_again<L: LogDevice>(
 pub fn dues(
     first: &mut PendingUndos,
     second: &mut PendingUndos,
+    numbers: &mut LastOperations,
+    open_work: &mut OpenWork,
+    ended: &mut EndedTransactions,
     lsn: Lsn,
     record: &Record,
-) -> (Result<(), NoMemory>, Result<(), NoMemory>)
+) -> (Result<bool, Refusal>, Result<bool, Refusal>)
     requires same { first.old ≡ second.old }
     ensures { IfOk result.0 (λ _. IfOk result.1 (λ _. first.new ≡ second.new)) }
 {
-    (first.note(lsn, record), second.note(lsn, record))
+    (
+        first.note(numbers, open_work, ended, lsn, record),
+        second.note(numbers, open_work, ended, lsn, record),
+    )
 }
 
 /// After a record, the same operations have no end, with the same writes. Excludes operations that are finished and

@@ -19,6 +19,12 @@ worked_marks = record {
   marks_in_order = refl;
   marks_of_ledger = refl;
   client_busy = search rules;
+  busy_once_started = search rules;
+  busy_once_undone = search rules;
+  marks_while_undone = λ a. (let e = a.0.0.1.1.1.1.1.0 in cc e);
+  sends_for_its_number = search rules;
+  none_is_known = search rules;
+  none_is_told = search rules;
   marked_while_busy = λ a. (let e = a.0.0.1.1.1.1.1.0 in cc e);
   busy_for_nothing = λ a. (let e = a.0 in cc e);
   busy_for_itself = λ a. (let e = a.0 in cc e);

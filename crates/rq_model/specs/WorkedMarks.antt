@@ -5,10 +5,11 @@ use Rattle.rq_model.specs.declared.refusal.Refusal.TheVariants.{UnknownClient, C
 use Rattle.rq_model.specs.Vocabulary.Op.{Mark}
 use Rattle.rq_model.specs.History.{Entry, Call, marks}
 use Rattle.rq_model.specs.History.Call.{Start_mark, Client_tag}
-use Rattle.rq_model.specs.History.Job.{Marking, Undoing}
+use Rattle.rq_model.specs.History.Job.{Marking, Sending, Undoing}
 use Rattle.rq_model.specs.History.Entry.{Begun, Started, Stepped, Did, Undid, Committed, Aborting, Aborted, Refused, Crash, Restarted, Told_client}
 use Rattle.rq_model.specs.Ledger.{ledger, marks_in}
 use Rattle.rq_model.specs.Legal.{IsLegal}
+use Rattle.rq_model.specs.Tests.{Size}
 use Rattle.rq_model.specs.Worked.{txn, small, opened, letter, sent}
 
 -- the entries of a mark, whose slot write has this LSN
@@ -34,6 +35,17 @@ mark_undone = Aborted (txn 1 2) ∷ Undid (txn 1 2) 2 ∷ Stepped (txn 1 2) 2 10
 
 abbrev pub marked_twice : List Entry
 marked_twice = Committed (txn 1 3) 17 ∷ (marked (txn 1 3) 2 3 73 15 ++ (marked (txn 1 3) 1 3 72 13 ++ mark_undone))
+
+-- undone, and not yet ended
+abbrev pub undone_and_open : List Entry
+undone_and_open = Undid (txn 1 2) 2 ∷ Stepped (txn 1 2) 2 10 ∷ Started (txn 1 2) 2 Undoing ∷ Aborting (txn 1 2) ∷ two_marked
+
+-- a mark that is started, and not finished
+abbrev pub mark_started : List Entry
+mark_started = Started (txn 1 2) 2 (Marking 5 74) ∷ two_marked
+
+abbrev pub untagged : Size
+untagged = record { senders = 15; cells = 15; clients = 0 }
 
 -- a transaction in a log with so many records
 abbrev pub begun_behind : ℕ → List Entry
@@ -61,10 +73,16 @@ pub record MarksAreWorked : Type 0 where
   pub busy_for_nothing : IsLegal small (Refused (Start_mark (txn 1 3) 4 72) ClientBusy ∷ two_marked) → ⊥
   pub busy_for_itself : IsLegal small (Refused (Start_mark (txn 1 2) 3 72) ClientBusy ∷ two_marked) → ⊥
   pub marks_another : IsLegal small (Started (txn 1 3) 1 (Marking 4 72) ∷ two_marked)
-  -- a client is known or not, and this is asked before whether it is busy
+  pub busy_once_started : IsLegal small (Refused (Start_mark (txn 1 3) 5 72) ClientBusy ∷ mark_started)
+  pub busy_once_undone : IsLegal small (Refused (Start_mark (txn 1 3) 3 72) ClientBusy ∷ undone_and_open)
+  pub marks_while_undone : IsLegal small (Started (txn 1 3) 1 (Marking 3 72) ∷ undone_and_open) → ⊥
+  pub sends_for_its_number : IsLegal small (Started (txn 1 3) 1 (Sending (letter 3 97)) ∷ two_marked)
+  -- a client is known or not: in a store without tag pages none is
   pub unknown_client : IsLegal small (Refused (Start_mark (txn 1 3) 15 1) UnknownClient ∷ two_marked)
   pub unknown_for_nothing : IsLegal small (Refused (Start_mark (txn 1 3) 14 1) UnknownClient ∷ two_marked) → ⊥
   pub marks_unknown : IsLegal small (Started (txn 1 3) 1 (Marking 15 1) ∷ two_marked) → ⊥
+  pub none_is_known : IsLegal untagged (Refused (Start_mark (txn 1 1) 0 5) UnknownClient ∷ Begun (txn 1 1) ∷ opened)
+  pub none_is_told : IsLegal untagged (Refused (Client_tag 0) UnknownClient ∷ opened)
   -- a mark is as it was started, writes one slot, and counts as two records
   pub marks_as_started : IsLegal small (Did (txn 1 1) 1 (Mark 3 71) ∷ Stepped (txn 1 1) 1 2
       ∷ Started (txn 1 1) 1 (Marking 3 70) ∷ Begun (txn 1 1) ∷ opened) → ⊥

@@ -62,8 +62,8 @@ pub record Laws : Type 0 where
   pub noted_cells_are_known : NotedCellsAreKnown
   -- The calls that change no list are steps of the model.
   pub unchanged_are_steps : UnchangedAreSteps
-  -- A call that passes the model's tests and has something to start can be planned over the slots as they are exactly
-  -- where not all that it may start needs a latched page, or a cell of which none is free outside those.
+  -- A call other than a mark's that passes the model's tests and has something to start can be planned over the slots as they
+  -- are exactly where not all that it may start needs a latched page, or a cell of which none is free outside those.
   pub latched_is_exact : LatchedIsExact
   -- What the level of chains was given of the slots that it wants holds what its operation needs, where nobody has
   -- latched the page of its group's directory slot.

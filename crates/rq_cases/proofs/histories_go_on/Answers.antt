@@ -1,8 +1,9 @@
 use Rattle.std.proofs.Common.{rules, ◌≤◌, ◌<◌, [], ◌∷◌, refl, arith}
 use Rattle.rq_model.specs.declared.record.Record.TheVariants.{Restart as Restart_record}
-use Rattle.rq_model.specs.Worked.{first_log, small}
+use Rattle.rq_model.specs.Worked.{first_log}
 use Rattle.rq_cases.specs.Histories.{crashed}
 use Rattle.rq_cases.proofs.histories_go_on.Goals as goal
+use Rattle.rq_cases.specs.Store.{small}
 
 pub returns : goal.returns
 returns c = record {
