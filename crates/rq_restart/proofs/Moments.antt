@@ -7,7 +7,7 @@ use Rattle.rq_disk.specs.declared.device.LogDevice.{Ghosts}
 use Rattle.rq_log.specs.Crash.{LeavesOnly}
 use Rattle.rq_log.specs.Logged.{Logged, WasLeftOrGoesOn}
 use Rattle.rq_log.specs.Spelled.{AreSpelled, EndsWith, GoesOn}
-use Rattle.rq_log.proofs.Moments.{started, weaker, joined}
+use Rattle.rq_log.proofs.Moments.{weaker, joined}
 use Rattle.rq_store.specs.Opening.{next_restart}
 use Rattle.rq_log.specs.Reading.{IsRead}
 use Rattle.rq_model.specs.declared.refusal.Refusal.{Refusal}

@@ -1,8 +1,8 @@
 -- What a record tells that is read again.
-use Rattle.std.proofs.Common.{◌≡◌, ◌≢◌, ◌↔◌, ◌⊎◌, inl, inr, ℕ, ◌+◌, ◌*◌, ◌/◌, ◌%◌, ◌^◌, ◌<◌, ◌≤◌, ◌&&◌, Bool, true, false, nat_lt, List, [], ◌∷◌, ◌++◌, length, Result, Ok, Err, Option, Some, None, refl, sym, ◌∙◌, ap, subst, arith, append_assoc}
-use Rattle.std.specs.Prelude.{IfOk, IfErr, IfNone, IfSome, IsTrue}
+use Rattle.std.proofs.Common.{◌≡◌, ◌≢◌, ◌↔◌, ◌⊎◌, inl, inr, ℕ, ◌+◌, ◌*◌, ◌/◌, ◌%◌, ◌^◌, ◌<◌, ◌≤◌, ◌&&◌, true, false, nat_lt, List, [], ◌∷◌, ◌++◌, length, Result, Ok, Err, Option, Some, None, refl, sym, ◌∙◌, ap, subst, arith, append_assoc}
+use Rattle.std.specs.Prelude.{IfOk, IfErr, IfNone, IfSome}
 use Rattle.std.specs.List.{filter}
-use Rattle.std.proofs.lemmas.Bool.{and_from, and_parts, cases_Bool, lt-ltb, ltb-true, true≢false, false≢true}
+use Rattle.std.proofs.lemmas.Bool.{and_from, and_parts, cases_Bool, lt-ltb, ltb-true}
 use Rattle.rq_model.specs.declared.record.Record.{Record}
 use Rattle.rq_model.specs.declared.record.Record.TheVariants as records
 use Rattle.rq_model.specs.declared.refusal.Refusal.{Refusal}
@@ -19,14 +19,11 @@ use Rattle.rq_log.specs.Places.{IsAt, IsPlace, NotReadAgainFor, StandsAt}
 use Rattle.rq_log.specs.Places as log_places
 use Rattle.rq_log.specs.Spelled.{AreSpelled, spelled, spelled_all}
 use Rattle.rq_log.proofs.Keeping.{few_bytes}
-use Rattle.rq_record.specs.Spelling.{HasWidths, IsSlotNumber}
-use Rattle.rq_views.specs.Items.{operation}
+use Rattle.rq_record.specs.Spelling.{HasWidths}
 use Rattle.rq_views.proofs.Overlay.{same_is}
 use Rattle.rq_analysis.specs.declared.dues.PendingUndo.{PendingUndo}
 use Rattle.rq_analysis.specs.declared.open_work.UndoableWrite.{UndoableWrite}
-use Rattle.rq_analysis.specs.declared.open_work.NextUndo.TheVariants.{Void, Write}
-use Rattle.rq_analysis.specs.Dues.{dues}
-use Rattle.rq_analysis.specs.LogTables.{PutsBack}
+use Rattle.rq_analysis.specs.declared.open_work.NextUndo.TheVariants.{Write}
 use Rattle.rq_analysis.proofs.Lists.{first_in}
 use Rattle.rq_analysis.specs.OpenWorkView.{OpenWorkView, lsn_undoable, open_work_of, undoable_at, undoable_by}
 use Rattle.rq_analysis.specs.Pages.{IsNextUndo, IsUndoneNext, undo_of}

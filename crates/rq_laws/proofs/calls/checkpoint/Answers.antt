@@ -1,5 +1,4 @@
-use Rattle.std.proofs.Common.{ℕ, Result, subst, sym}
-use Rattle.rq_model.specs.declared.refusal.Refusal.{Refusal}
+use Rattle.std.proofs.Common.{subst, sym}
 use Rattle.rq_engine.specs.Opened.{OpenStore}
 use Rattle.rq_laws.proofs.Checkpoints as law
 use Rattle.rq_laws.proofs.calls.checkpoint.Goals as goal

@@ -1,4 +1,4 @@
-use Rattle.std.proofs.Common.{◌≡◌, ◌∷◌, List, None, rules, length, true, false, inl, refl, ◌∙◌, sym, ap, subst, arith}
+use Rattle.std.proofs.Common.{◌≡◌, ◌∷◌, None, rules, length, true, false, inl, refl, ◌∙◌, sym, ap, subst, arith}
 use Rattle.rq_model.specs.declared.record.Record.{Record}
 use Rattle.rq_model.specs.declared.record.Record.TheVariants as records
 use Rattle.rq_model.specs.declared.txn.Txn.{Txn}
@@ -6,7 +6,6 @@ use Rattle.rq_model.specs.Vocabulary.{In}
 use Rattle.rq_page.specs.Sizes.{Sizes}
 use Rattle.rq_log.specs.Logged.{Logged}
 use Rattle.rq_record.specs.Spelling.{IsTxnInRange}
-use Rattle.rq_analysis.specs.declared.dues.PendingUndo.{PendingUndo}
 use Rattle.rq_analysis.specs.OpenWorkView.{without_txn}
 use Rattle.rq_analysis.specs.Choices.{least_free}
 use Rattle.rq_analysis.specs.Dues.{any_due, dues}

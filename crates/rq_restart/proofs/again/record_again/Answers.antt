@@ -1,4 +1,4 @@
-use Rattle.std.proofs.Common.{◌≡◌, ◌+◌, ◌^◌, ◌≤◌, length, arith, refl, rules, sym, subst}
+use Rattle.std.proofs.Common.{arith, refl, sym, subst}
 use Rattle.rq_log.specs.Places.{StandsAt}
 use Rattle.rq_restart.specs.Again.{NotGivenFor}
 use Rattle.rq_restart.proofs.ReadAgain.{few_spelled, given, none_given, why_not_given}

@@ -1,4 +1,4 @@
-use Rattle.std.proofs.Common.{◌≡◌, subst, sym}
+use Rattle.std.proofs.Common.{subst, sym}
 use Rattle.rq_analysis.specs.Pages.{IsNextUndo, IsUndoneNext, void_of}
 use Rattle.rq_restart.proofs.again.undo_record.Goals as goal
 

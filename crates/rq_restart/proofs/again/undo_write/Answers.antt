@@ -1,4 +1,4 @@
-use Rattle.std.proofs.Common.{◌≡◌, length, ap, subst, ◌∙◌}
+use Rattle.std.proofs.Common.{length, ap, subst, ◌∙◌}
 use Rattle.rq_model.specs.Vocabulary.{In}
 use Rattle.rq_analysis.specs.Pages.{IsNextUndo, undo_of}
 use Rattle.rq_restart.specs.Again.{IsLikeUndo, undo_told}

@@ -1,4 +1,4 @@
-use Rattle.std.proofs.Common.{◌≡◌, ◌∷◌, ◌+◌, ◌^◌, ◌≤◌, ◌<◌, length, rules, ap, refl, subst, sym, arith}
+use Rattle.std.proofs.Common.{◌≡◌, ◌∷◌, ◌+◌, length, rules, ap, refl, subst, sym, arith}
 use Rattle.std.proofs.lemmas.Bool.{false≢true}
 use Rattle.rq_analysis.specs.Rules.{FollowAll}
 use Rattle.rq_log.specs.Spelled.{AreAllSpelled, AreSpelled}

@@ -1,4 +1,4 @@
-use Rattle.std.proofs.Common.{◌≡◌, refl}
+use Rattle.std.proofs.Common.{refl}
 use Rattle.rq_restart.proofs.Following.{next_of_found}
 use Rattle.rq_restart.proofs.Going.{found_next}
 use Rattle.rq_restart.proofs.Undos.{one_repeated}

@@ -1,4 +1,4 @@
-use Rattle.std.proofs.Common.{ℕ, rules, ◌≡◌, ◌+◌, ◌^◌, ◌<◌, ◌≤◌, ◌↔◌, IsTrue, inl, ⊎_elim, true, false, [], ◌∷◌, List, length, ap, refl, subst, sym, ◌∙◌, arith}
+use Rattle.std.proofs.Common.{ℕ, rules, ◌≡◌, ◌+◌, ◌^◌, ◌<◌, ◌≤◌, inl, ⊎_elim, true, false, [], ◌∷◌, List, length, ap, subst, sym, ◌∙◌, arith}
 use Rattle.rq_model.specs.Bases.{is_base, marks, standing, with_next}
 use Rattle.rq_model.proofs.Bases.{next_plain, standing_plain}
 use Rattle.rq_model.specs.declared.record.Record.{Record}

@@ -1,6 +1,5 @@
 use Rattle.std.proofs.Common.{◌≡◌, ℕ, ◌-◌, ◌^◌, ◌≤◌, length}
 use Rattle.rq_log.specs.Reading.{IsReading}
-use Rattle.rq_analysis.specs.Rules.{FollowAll}
 use Rattle.rq_restart.specs.Found.{IsAnalysisOf}
 use Rattle.rq_restart.specs.Repeating.{ArePagesCounted, paged, Repeats}
 use Rattle.rq_restart.proofs.redo.repeat_history.Given as goal

@@ -1,14 +1,13 @@
 use Rattle.rq_restart.specs.Undoing.{FailsWith}
 use Rattle.rq_views.specs.Stored.{slots_in}
 use Rattle.std.proofs.Common.{◌≡◌, rules, subst, ap, sym, ◌∙◌, length}
-use Rattle.rq_analysis.specs.OpenWorkView.{OpenWorkView}
 use Rattle.rq_pool.specs.Pooled.{IsPool}
 use Rattle.rq_chain_check.specs.Links.{AreLinked}
 use Rattle.rq_restart.specs.Aborting.{AbortingStops}
 use Rattle.rq_restart.specs.RolledBack.{IsRolledBackSince, LinkStops, RollbackStops}
 use Rattle.rq_restart.specs.Repeating.{ArePagesCounted, Paged, Repeats, paged, slots_on}
 use Rattle.rq_restart.proofs.Linking.{link_fails, unlinked_stops}
-use Rattle.rq_restart.proofs.RollingBack.{abort_rolls_nothing_back, rolled_back_since, undo_rolls_nothing_back, undone_active}
+use Rattle.rq_restart.proofs.RollingBack.{abort_rolls_nothing_back, rolled_back_since, undo_rolls_nothing_back}
 use Rattle.rq_restart.proofs.restart.undo_all.Goals as goal
 
 pub returns-in-Ok-clause-rolls_back : goal.returns-in-Ok-clause-rolls_back

@@ -1,4 +1,4 @@
-use Rattle.std.proofs.Common.{rules, ◌≡◌, ◌∷◌, [], length, refl, ap, subst, sym, ◌∙◌}
+use Rattle.std.proofs.Common.{rules, ◌∷◌, [], length, refl, ap, subst, sym, ◌∙◌}
 use Rattle.rq_log.specs.Logged.{Logged}
 use Rattle.rq_log.specs.Spelled.{AreSpelled}
 use Rattle.rq_restart.specs.Repeating.{ArePagesCounted, Belongs, IsRecordRedone, Paged, Repeats, paged}
