@@ -68,30 +68,9 @@ impl Places {
         &self.ends
     }
 
-    /// Takes the next record, which has this LSN and stands there: the place of a PageOp or OpEnd is added, and those of the
-    /// operation or transaction that the record ends are taken out. A Base ends all.
-    ///
-    /// # Errors
-    /// `NoMemory`: nothing changed.
-    pub fn note(&mut self, lsn: Lsn, record: &Record, place: u64) -> Result<(), NoMemory>
-        ensures noted { OnOk result (self.new ≡ places_after lsn place «record».now self.old) }
-        ensures err { OnErr result (self.new ≡ self.old) }
-    {
-        match make_room(&mut self.writes) {
-            Ok(()) => {}
-            Err(NoMemory) => return Err(NoMemory),
-        }
-        match make_room(&mut self.ends) {
-            Ok(()) => {}
-            Err(NoMemory) => return Err(NoMemory),
-        }
-        take_write(&mut self.writes, lsn, record, place);
-        take_end(&mut self.ends, lsn, record, place);
-        Ok(())
-    }
-
-    /// The same, and has the tables of the analysis take the record: all of them, or none. False where it doesn't belong to the
-    /// running incarnation, or isn't the next.
+    /// Takes the next record, which has this LSN and stands there, and has the tables of the analysis take it: all of them, or none.
+    /// The place of a PageOp or OpEnd is added, and those of the operation or transaction that the record ends are taken out. A
+    /// Base ends all. False where the record doesn't belong to the running incarnation, or isn't the next.
     ///
     /// # Errors
     /// `NoMemory`: nothing changed.
