@@ -112,6 +112,10 @@ def closing(sender):
     return numbers_of((3, 1), (sender, 4))
 
 
+def marked(client, tag, previous=0):
+    return numbers_of((1, 1), (client, 4), (tag, 8), (previous, 8))
+
+
 BEGUN = restart(1)
 # a message is written into the first cell, its group counts it, and that ends
 FILL, COUNT = write(1, 2, 1, FREE, MESSAGE), write(1, 1, 1, group(), ONE_SENT)
@@ -244,8 +248,12 @@ def deeds_that_cannot_be_read():
         (2, sent(0, 1), at_record(4)), (1, b"\4", at_record(4)), (1, cut_sent, at_record(4)), (1, sent(0, 0), at_record(4)),
         (1, cut_received, at_record(4)), (1, closing(0) + b"\0", at_record(4)),
         (1, sent(15, 1), OPENED),  # of a sender that the store has not it can be read
+        (1, marked(3, 70), at_record(4)), (3, marked(3, 70), at_record(4)), (2, marked(3, 70)[:20], at_record(4)),
+        (2, marked(3, 70), OPENED),  # a mark can be read, also of a client that the store has not
     ):  # fmt: skip
         yield [BEGUN, FILL, COUNT, end(1, deed, level), COMMIT], said
+    # no level takes a mark back yet
+    yield [BEGUN, FILL, COUNT, end(1, marked(3, 70), 2)], at_record(4)
 
 
 def numbers_of_operations_with_gaps():
@@ -545,6 +553,18 @@ def before_images():
     yield newer, [BEGUN, odd, undo(1, 2, 2, 1, MESSAGE)], at_page(2)
 
 
+def images_put_back():
+    """A write is on its page already, so nothing is compared with its before-image. Its undoing writes that image, which has to be a slot of
+    the page, with no more sent than there are records."""
+    for page, there, before, said in (
+        (2, MESSAGE, FREE, OPENED), (2, MESSAGE, b"\2" + FREE[1:], at_record(3)), (2, MESSAGE, ONE_TAKEN, at_record(3)),
+        (1, ONE_TAKEN, group(3, 3), OPENED), (1, ONE_TAKEN, group(4, 4), at_record(3)), (1, ONE_TAKEN, group(1, 2), at_record(3)),
+    ):  # fmt: skip
+        pages = formatted()
+        put(pages, page, 1, there, 2)
+        yield pages, [BEGUN, write(1, page, 1, before, there), undo(1, 2, page, 1, before)], said
+
+
 def no_cell_is_free():
     full = formatted()
     for slot in range(1, 16):
@@ -719,8 +739,8 @@ def other_lengths():
 
 
 PAGES = [
-    pages_that_were_written, superblocks, headers, slots, more_sent_than_there_are_records, before_images, no_cell_is_free, chains,
-    chains_beside_a_whole_one, chains_on_two_pages, bases, several_faults, tag_pages, writes_of_tag_pages, other_lengths,
+    pages_that_were_written, superblocks, headers, slots, more_sent_than_there_are_records, before_images, images_put_back, no_cell_is_free,
+    chains, chains_beside_a_whole_one, chains_on_two_pages, bases, several_faults, tag_pages, writes_of_tag_pages, other_lengths,
 ]  # fmt: skip
 
 

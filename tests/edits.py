@@ -7,7 +7,8 @@ An edit is a text file: a line 'function: PATH', a line 'file: src/..' and pairs
 one line. An old text stands in the file once. In a copy of the crate the prover checks the function and what it calls, over
 the built libraries below it (out/rlib, as the gate or `rt lib` leaves them). It has to say that the function is not proved, and
 which clause or condition of it fails. Edits of several functions of a crate are tried in one copy. One of the functions is checked
-as it stands, too: it has to be proved, so that nothing else than the edits can have made the others fail.
+as it stands, too: it has to be proved, so that nothing else than the edits can have made the others fail. What a check of a crate
+proved is kept for the next.
 """
 
 import concurrent.futures
@@ -146,14 +147,18 @@ def judge(edit, text, said):
     # (an answer that is written by hand, and does not show any more what its clause asks)
     answer = re.compile(rf"(?:\./)?proofs/.*\b{edit.function.rsplit('::', 1)[-1]}/Answers\.antt:\d+:\d+: error: (`[^`]*`: .*)")
     names = re.compile(r"has no field|is not in scope|has no `|was not admitted")
-    reasons += [f"the answer of {it[1]}" for it in map(answer.match, said.split("\n")) if it and not names.search(it[1])]
+    # (a message goes on in lines that begin with blanks)
+    for line in re.sub(r"\n  +", " ", said).split("\n"):
+        it = answer.match(line)
+        if it and not names.search(it[1]):
+            reasons.append(f"the answer of {it[1]}")
     if not reasons:
         return False, f"NOT REFUSED by a clause: {told[1][:100]}"
     return True, f"refused: {reasons[0][:150]}"
 
 
-def checked(uses, crate, edits, functions):
-    """What the prover answers and says of these functions, with the edits, and the texts of the edits' files."""
+def checked(uses, crate, edits, functions, kept):
+    """What the prover answers and says of these functions, with the edits, over what is kept of a check, and the texts of the edits' files."""
     with tempfile.TemporaryDirectory(prefix="rt-edit-") as room:
         for part in PARTS:
             if os.path.isdir(f"{ROOT}/crates/{crate}/{part}"):
@@ -161,7 +166,7 @@ def checked(uses, crate, edits, functions):
         for edit in edits:
             edit.apply(room)
         ran = subprocess.run(
-            words(uses, crate, functions),
+            [*words(uses, crate, functions), "--incremental", kept],
             cwd=room,
             stdin=subprocess.DEVNULL,
             stdout=subprocess.PIPE,
@@ -172,18 +177,22 @@ def checked(uses, crate, edits, functions):
         return ran.returncode, ran.stdout, [text_of(f"{room}/{edit.file}") for edit in edits]
 
 
-def try_round(uses, crate, edits):
-    """Of each edit: whether it is refused, and why or why not."""
-    status, said, texts = checked(uses, crate, edits, [edit.function for edit in edits])
+def try_round(uses, crate, edits, kept):
+    """Of each edit: whether it is refused, and why or why not. One that is not, beside others, is tried alone: it may call
+    a function that another edit changes, and then the prover does not judge it."""
+    status, said, texts = checked(uses, crate, edits, [edit.function for edit in edits], kept)
     if status != 1:
         return [(edit, False, f"BAD EDIT: the prover ended with {status}: {said.strip()[-200:]}") for edit in edits]
-    return [(edit, *judge(edit, text, said)) for edit, text in zip(edits, texts)]
+    answers = [(edit, *judge(edit, text, said)) for edit, text in zip(edits, texts)]
+    return [it if it[1] or len(edits) == 1 else try_round(uses, crate, [it[0]], kept)[0] for it in answers]
 
 
-def try_nothing(uses, crate, edits):
-    """What is wrong where the first edited function is not proved as it stands."""
-    status, said, _ = checked(uses, crate, [], [edits[0].function])
-    return [(edits[0], False, f"NOT PROVED as it stands: {said.strip()[-200:]}")] if status else []
+def try_crate(uses, crate, edits):
+    """Of each edit of a crate: whether it is refused, and why or why not; and what is wrong where the first function is not proved as it stands."""
+    with tempfile.TemporaryDirectory(prefix="rt-edit-") as kept:
+        status, said, _ = checked(uses, crate, [], [edits[0].function], kept)
+        wrong = [(edits[0], False, f"NOT PROVED as it stands: {said.strip()[-200:]}")] if status else []
+        return wrong + [it for group in rounds(edits) for it in try_round(uses, crate, group, kept)]
 
 
 def main(names):
@@ -198,10 +207,12 @@ def main(names):
             print(f"{crate}/{edit.name}: BAD EDIT: {edit.why_bad()}", flush=True)
             bad += 1
         good = [edit for edit in edits if not edit.why_bad()]
-        work += [(try_round, crate, group) for group in rounds(good)] + [(try_nothing, crate, good)] * bool(good)
+        work += [(crate, good)] * bool(good)
     refused, start = 0, time.monotonic()
     with concurrent.futures.ThreadPoolExecutor(min(4, os.cpu_count() or 1)) as pool:
-        for task in concurrent.futures.as_completed([pool.submit(call, uses, *it) for call, *it in work]):
+        # (those with most edits first)
+        work.sort(key=lambda it: -len(it[1]))
+        for task in concurrent.futures.as_completed([pool.submit(try_crate, uses, *it) for it in work]):
             for edit, is_refused, why in task.result():
                 refused, bad = refused + is_refused, bad + (not is_refused)
                 print(f"{edit.crate}/{edit.name}: {edit.function}: {why}", flush=True)

@@ -6,6 +6,9 @@ PAGE, SLOT, SLOTS = 4096, 256, 15
 LONGEST = 2**50
 SHORT, FULL = "fault 3 DiskRead", "fault 19 LogFull"
 
+# By level and first byte, the least and the greatest length of a deed: append, unlink-head and close, then mark.
+DEEDS = {(1, 1): (29, 245), (1, 2): (21, 237), (1, 3): (5, 5), (2, 1): (21, 21)}
+
 
 class Fault(Exception):
     """It is refused, and this is said."""
@@ -66,11 +69,11 @@ class Deed:
 
     @classmethod
     def of(cls, level, held):
-        sizes = {1: (29, 245), 2: (21, 237), 3: (5, 5)}.get(held[0])
-        if level != 1 or sizes is None or not sizes[0] <= len(held) <= sizes[1] or (held[0] < 3 and number(held, 5) == 0):
+        least, most = DEEDS.get((level, held[0]), (1, 0))
+        if not least <= len(held) <= most or (level == 1 and held[0] < 3 and number(held, 5) == 0):
             return None
         deed = cls()
-        deed.kind, deed.sender, deed.sequence, deed.tag = held[0], number(held, 1, 4), number(held, 5), number(held, 13)
+        deed.level, deed.kind, deed.sender, deed.sequence, deed.tag = level, held[0], number(held, 1, 4), number(held, 5), number(held, 13)
         deed.previous, deed.body = number(held, 21), held[21:]
         return deed
 
@@ -332,8 +335,8 @@ class Opening:
 
     def inverse(self, deed):
         """The slot writes that take a deed back: where, what is written, and what stands there; None where it cannot be."""
-        if deed.sender >= self.pages.senders:
-            return None
+        if deed.level == 2 or deed.sender >= self.pages.senders:
+            return None  # No mark is taken back yet.
         group, home = self.pages.group(deed.sender), self.pages.home(deed.sender)
         stood, cells = group.slot(), {1: self.unlink_tail, 2: self.put_back, 3: self.reopen}[deed.kind](deed, group)
         if cells is None:

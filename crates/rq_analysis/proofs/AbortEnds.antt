@@ -6,7 +6,7 @@ use Rattle.rq_model.specs.declared.txn.Txn.{Txn}
 use Rattle.rq_model.specs.declared.record.Record.{Record}
 use Rattle.rq_model.specs.Vocabulary.{In, is_some, same_txn, has_txn}
 use Rattle.rq_model.specs.Content.{Ending, Said, ending, kept, deeds, has_end, ends_txn}
-use Rattle.rq_model.specs.Content.Said.{Added, Removed, Ended}
+use Rattle.rq_model.specs.Content.Said.{Added, Removed, Ended, Marked}
 use Rattle.rq_model.specs.Rules.{EndingMay, KeepsRules, any_use, holds, uses_receive, uses_send}
 use Rattle.rq_model.specs.Unended.{lost}
 use Rattle.rq_model.proofs.Lists.{same_is}
@@ -124,11 +124,13 @@ sending_is : (s : ℕ) (d : Said) → is_end_of s (sending_end d) ≡ uses_send 
 sending_is s (Added m) = refl
 sending_is s (Removed m) = refl
 sending_is s (Ended e) = refl
+sending_is s (Marked c tag) = refl
 
 receiving_is : (s : ℕ) (d : Said) → is_end_of s (receiving_end d) ≡ uses_receive s d
 receiving_is s (Added m) = refl
 receiving_is s (Removed m) = refl
 receiving_is s (Ended e) = refl
+receiving_is s (Marked c tag) = refl
 
 sends_are : (log : List Record) (s : ℕ) (u : Txn) → has_held u s (lost_ends log).sending ≡ (has_txn u (lost log) && any_use (uses_send s) (deeds (λ v. same_txn v u) log))
 sends_are log s u = has_used_by sending_end (uses_send s) s (sending_is s) log u (lost log)

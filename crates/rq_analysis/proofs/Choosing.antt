@@ -1,8 +1,8 @@
 -- Which transaction is next is told by the stack and the transactions that are lost.
 use Rattle.rq_analysis.specs.Pages.{txn_less}
-use Rattle.std.proofs.Common.{◌≡◌, ◌≢◌, ℕ, ◌≤◌, true, false, not, nat_lt, List, [], ◌∷◌, map, Option, Some, None, inl, inr, refl, sym, ◌∙◌, ap, subst, arith}
+use Rattle.std.proofs.Common.{◌≡◌, ◌≢◌, true, false, not, List, [], ◌∷◌, map, Option, Some, None, inl, inr, refl, sym, ◌∙◌, ap, subst, arith}
 use Rattle.std.specs.List.{filter}
-use Rattle.std.proofs.lemmas.Bool.{cases_Bool, true≢false, false≢true, false_from_ne_true, ltb-false}
+use Rattle.std.proofs.lemmas.Bool.{cases_Bool, true≢false, false≢true, false_from_ne_true}
 use Rattle.std.proofs.lemmas.Bool.Decides.{nat_tests}
 use Rattle.rq_model.specs.declared.txn.Txn.{Txn}
 use Rattle.rq_model.specs.declared.record.Record.{Record}
@@ -120,9 +120,6 @@ not_turned a b y = grind (arith, nat_tests, y)
 not_through : (a b c : Txn) → txn_less a b ≡ false → txn_less b c ≡ false → txn_less a c ≡ false
 not_through a b c n m = grind (arith, nat_tests, n, m)
 
-by_count : (a b : Txn) → a.incarnation ≡ b.incarnation → txn_less a b ≡ false → b.count ≤ a.count
-by_count a b i n = grind (arith, nat_tests, i, n)
-
 looked_at : (ds : List PendingUndo) (t : Txn) (ts : List Txn) (o : Option Txn) → any_due t ds ≡ false → IsLooked ds ts o → IsLooked ds (t ∷ ts) (Some (lesser_in t o))
 looked_at ds t ts None n h = record {
   there = inl refl;
@@ -184,8 +181,7 @@ module _ (s : State) (k : IsSound s) (are : AreLost s) where
           empty = none_left s k m.0 m.1 free;
           least = λ q j none.
               let off : any_due q.txn (dues s.records) ≡ false = false_from_ne_true (any_due q.txn (dues s.records)) (λ y. some_left s k q j y none) in
-              let a : txn_less q.txn m.0.txn ≡ false = ap (txn_less q.txn) (sym m.2) ∙ h.least q.txn (row_lost q j) off in
-              by_count q.txn m.0.txn ((k.standing.each q j).of_incarnation ∙ sym (k.standing.each m.0 m.1).of_incarnation) a;
+              ap (txn_less q.txn) (sym m.2) ∙ h.least q.txn (row_lost q j) off;
         },
       )
 

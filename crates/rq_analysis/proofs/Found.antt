@@ -2,8 +2,8 @@
 use Rattle.std.proofs.Common.{◌≡◌, ℕ, ◌/◌, ◌||◌, List, [], ◌∷◌, sym, ◌∙◌, ap, true, false, inl, inr}
 use Rattle.std.proofs.lemmas.Bool.{false≢true, true≢false}
 use Rattle.rq_model.specs.declared.record.Deed.{Deed}
-use Rattle.rq_model.specs.declared.record.Deed.TheVariants.{Append, UnlinkHead, Close}
-use Rattle.rq_page.specs.Sizes.{directory_at}
+use Rattle.rq_model.specs.declared.record.Deed.TheVariants.{Append, UnlinkHead, Close, Mark}
+use Rattle.rq_page.specs.Sizes.{client_slot_at, directory_at}
 use Rattle.rq_txn.specs.Rows.{Row, any_under}
 use Rattle.rq_store.specs.State.{State}
 use Rattle.rq_sound.specs.Groups.{slots_now}
@@ -24,3 +24,4 @@ free_of_latches s (UnlinkHead g n tag body) k may e h = elim h [
   | inr all ↦ let f = some_free s.sizes (slots_now s) (all_stand s k) may.1 in true≢false (sym (all f.0 f.1 f.2) ∙ none_latched s.rows (f.0 / 16) e)
 ]
 free_of_latches s (Close g) k may e h = true≢false (sym h ∙ none_latched s.rows (directory_at g / 16) e)
+free_of_latches s (Mark c tag previous) k may e h = none_any s.rows (client_slot_at s.sizes c ∷ []) e h

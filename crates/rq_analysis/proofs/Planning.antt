@@ -1,21 +1,20 @@
 -- What is due first can be taken back.
-use Rattle.std.proofs.Common.{◌≡◌, ◌<◌, ◌/◌, ◌++◌, ℕ, not, List, [], ◌∷◌, Option, Some, None, inl, inr, refl, false, sym, ◌∙◌, ap, subst, arith}
+use Rattle.std.proofs.Common.{◌≡◌, ◌/◌, ◌++◌, ℕ, not, List, [], ◌∷◌, Option, Some, None, inl, inr, refl, false, sym, ◌∙◌, ap, subst, arith}
 use Rattle.std.proofs.lemmas.Bool.{eq-eqb}
 use Rattle.rq_model.specs.declared.record.Deed.{Deed}
-use Rattle.rq_model.specs.declared.record.Deed.TheVariants.{Append, UnlinkHead, Close}
+use Rattle.rq_model.specs.declared.record.Deed.TheVariants.{Append, UnlinkHead, Close, Mark}
 use Rattle.rq_model.specs.declared.record.Record.{Record}
 use Rattle.rq_model.specs.declared.record.Record.TheVariants as records
 use Rattle.rq_model.specs.Deeds.{deed_by}
 use Rattle.rq_model.specs.Unended.{lost}
 use Rattle.rq_model.specs.Vocabulary.{In}
 use Rattle.rq_model.proofs.Lists.{In-filter}
-use Rattle.rq_page.specs.Sizes.{Sizes, directory_at, sender_count}
-use Rattle.rq_views.specs.InStore.{InStore}
+use Rattle.rq_page.specs.Sizes.{Sizes, directory_at}
+use Rattle.rq_views.specs.InStore.{InStore, IsDeedOf}
 use Rattle.rq_views.specs.Chain.{View}
 use Rattle.rq_views.specs.Items.{ReadsItsDeeds, items, told_deed}
 use Rattle.rq_views.specs.Log.{Slots}
 use Rattle.rq_views.specs.Stored.{slots_in}
-use Rattle.rq_views.specs.Plans.{deed_sender}
 use Rattle.rq_views.proofs.CanUndo.{can_undo_sent, can_undo_taken}
 use Rattle.rq_txn.specs.declared.Finished.{Finished}
 use Rattle.rq_txn.specs.Rows.{Row, any_under}
@@ -44,7 +43,7 @@ use Rattle.rq_analysis.proofs.Logging.{come_sizes, come_sound}
 
 -- what a due has of its OpEnd
 abbrev Reads : Sizes → PendingUndo → Type 0
-Reads z d = (deed_by d.level d.deed ≡ Some (deed_due d)) × (deed_sender (deed_due d) < sender_count z)
+Reads z d = (deed_by d.level d.deed ≡ Some (deed_due d)) × IsDeedOf z (deed_due d)
 
 reads_in : (z : Sizes) (log : List Record) (d : PendingUndo) → ReadsItsDeeds log → InStore z log → In d (dues log) → Reads z d
 reads_in z [] d r s i = absurd i
@@ -58,7 +57,7 @@ reads_in z (records.AbortEnd t ∷ log) d r s i = reads_in z log d r.1 s.1 (In-f
 reads_in z (records.Base many k ∷ log) d r s i = absurd i
 reads_in z (_ ∷ log) d r s i = reads_in z log d r.1 s.1 i
 
-pub due_reads : (z : Sizes) (log : List Record) (d : PendingUndo) → IsWhole z log → In d (dues log) → (deed_by d.level d.deed ≡ Some (deed_due d)) × (deed_sender (deed_due d) < sender_count z)
+pub due_reads : (z : Sizes) (log : List Record) (d : PendingUndo) → IsWhole z log → In d (dues log) → (deed_by d.level d.deed ≡ Some (deed_due d)) × IsDeedOf z (deed_due d)
 due_reads z log d w i = reads_in z log d w.reads w.in_store i
 
 -- a store with nothing under way stands on its pages with no rows
@@ -66,12 +65,12 @@ pub stands_idle : (s : State) (z : Sizes) (pages : List (List ℕ)) → s.sizes 
 stands_idle s z pages sizes images idle = record { sizes = sizes; images = images; latches = λ p. none_latched s.rows p idle }
 
 -- where nothing is under way, the slots show that a transaction's newest deed was done last at its end
-last_stands : (s : State) (r : Row) (rest : List Finished) (f : Finished) → IsSound s → IsIdle s r → any_under s.rows ≡ false → r.finished ≡ rest ++ f ∷ [] → deed_sender f.deed < sender_count s.sizes → StandsLast (slots_now s) f.deed
+last_stands : (s : State) (r : Row) (rest : List Finished) (f : Finished) → IsSound s → IsIdle s r → any_under s.rows ≡ false → r.finished ≡ rest ++ f ∷ [] → IsDeedOf s.sizes f.deed → StandsLast (slots_now s) f.deed
 last_stands s r rest f k m idle newest below = at f.deed refl below where
   q : Slots
   q = slots_now s
 
-  at : (d : Deed) → f.deed ≡ d → deed_sender d < sender_count s.sizes → StandsLast q d
+  at : (d : Deed) → f.deed ≡ d → IsDeedOf s.sizes d → StandsLast q d
   at (Append g n tag previous body) e low =
       let shows = slots_tell.shows s g k low (slots_tell.none_latched s (directory_at g / 16) idle) in
       let d = shows.directory in
@@ -92,6 +91,7 @@ last_stands s r rest f k m idle newest below = at f.deed refl below where
       let tells : TellsGroup s g shows.directory = slots_tell.tells s g shows.directory k low (slots_tell.none_latched s (directory_at g / 16) idle) shows.at in
       let x = can_undo_sent g (items s.sizes s.records) r.txn (record { lsn = f.lsn; deed = Close g }) (placed rest) (groups_of s.sizes s.records k.log) (open_deed s r rest f k m newest (Close g) e) (eq-eqb g g refl) in
       record { directory = shows.directory; at = shows.at; last = sym tells.closed ∙ ap (λ (v : View). v.closed) x.1 }
+  at (Mark c tag previous) e low = absurd low.2
 
 pub due_may : (base : State) (images : List (List ℕ)) (log : List Record) (d : PendingUndo) (ds : List PendingUndo) → IsSound base → IsBetween base images log → least_free (dues log) (lost log) ≡ None → dues log ≡ d ∷ ds
     → ShowsUndone base.sizes images log (deed_due d)
@@ -101,7 +101,7 @@ due_may base images log d ds k b none first =
     let h = chosen_back s sound b.come.lost d ds (subst (λ l. least_free (dues l) (lost l) ≡ None) (sym b.come.records_are) none) (ap dues b.come.records_are ∙ first) in
     let m : IsIdle s h.0 = record { at_row = in_found s.rows h.0 sound.standing.distinct h.3.row; idle = none_of h.0.under (none_under s.rows h.0 b.idle h.3.row) } in
     let sizes : s.sizes ≡ base.sizes = come_sizes base b.stores images log k b.come in
-    let below : deed_sender (deed_due d) < sender_count s.sizes = (due_reads s.sizes s.records d sound.log (subst (In d) (sym (ap dues b.come.records_are ∙ first)) (inl refl))).1 in
+    let below : IsDeedOf s.sizes (deed_due d) = (due_reads s.sizes s.records d sound.log (subst (In d) (sym (ap dues b.come.records_are ∙ first)) (inl refl))).1 in
     record {
       store = s;
       sound = sound;

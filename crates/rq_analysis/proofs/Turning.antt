@@ -1,6 +1,7 @@
 -- Somebody is next, and the move is there.
 use Rattle.std.proofs.Common.{Bool, ◌≡◌, ◌≢◌, ◌⊎◌, ℕ, ◌+◌, ◌<◌, ◌≤◌, false, cond, List, [], ◌∷◌, ◌++◌, length, map, reverse, inl, inr, refl, sym, ◌∙◌, ap, subst, arith, true}
 use Rattle.std.proofs.lemmas.Bool.{cases_Bool, cases_lt}
+use Rattle.std.proofs.lemmas.Bool.Decides.{nat_tests}
 use Rattle.rq_model.specs.declared.txn.Txn.{Txn}
 use Rattle.rq_model.specs.Vocabulary.{In, same_txn}
 use Rattle.rq_model.proofs.Lists.{In-map, same_is, In-last, In-reverse, In-to}
@@ -34,6 +35,7 @@ use Rattle.rq_sound.specs.Groups.{slots_now}
 use Rattle.rq_analysis.specs.Lost.{lost_row, lost_rows}
 use Rattle.rq_analysis.specs.Moves.{IsAbortMove}
 use Rattle.rq_analysis.specs.Moves.IsAbortMove.{Starts, Writes, Undoes, Ends}
+use Rattle.rq_analysis.specs.Pages.{txn_less}
 use Rattle.rq_analysis.specs.Turns.{AreAborting, EndsNext, NextTurn, TakesBackNext}
 use Rattle.rq_analysis.specs.Turns.NextTurn.{End, TakeBack}
 
@@ -225,14 +227,17 @@ owner t u (_ ∷ log) p q i j e = owner t u log p q i j e
 same_numbers : (a b : Txn) → a.incarnation ≡ b.incarnation → a.count ≡ b.count → a ≡ b
 same_numbers a b i c = ap (λ (n : ℕ). record { incarnation = n; count = a.count }) i ∙ ap (λ (n : ℕ). record { incarnation = b.incarnation; count = n }) c
 
+neither_less : (a b : Txn) → txn_less a b ≡ false → txn_less b a ≡ false → a ≡ b
+neither_less a b n m = same_numbers a b (grind (arith, nat_tests, n, m)) (grind (arith, nat_tests, n, m))
+
+-- in one incarnation none is less than that of the least count
+none_less : (a b : Txn) → a.incarnation ≡ b.incarnation → a.count ≤ b.count → txn_less b a ≡ false
+none_less a b i n = grind (arith, nat_tests, i, n)
+
 module _ (s : State) (k : IsSound s) where
   -- no more than one is next
   pub one_ends : (r q : Row) → EndsNext s.rows r → EndsNext s.rows q → r ≡ q
-  one_ends r q n m =
-      let a = n.least q m.row m.empty in
-      let b = m.least r n.row n.empty in
-      let i = (k.standing.each r n.row).of_incarnation ∙ sym (k.standing.each q m.row).of_incarnation in
-      unique s.rows r q k.standing.distinct n.row m.row (same_numbers r.txn q.txn i (omega (arith, a, b)))
+  one_ends r q n m = unique s.rows r q k.standing.distinct n.row m.row (neither_less r.txn q.txn (m.least r n.row n.empty) (n.least q m.row m.empty))
 
   last_in : (r : Row) (rest : List Finished) (f : Finished) → r.finished ≡ rest ++ f ∷ [] → In f r.finished
   last_in r rest f e = subst (In f) (sym e) (In-last f rest)
@@ -278,7 +283,11 @@ module _ (s : State) (k : IsSound s) where
   pub next_turn : s.rows ≢ [] → NextTurn s.rows
   next_turn ne = elim (least_empty (λ (p : Row). p.txn.count) s.rows) [
     | inl some ↦ at s.rows refl some
-    | inr g ↦ End g.0 (record { row = g.1; empty = g.2; least = g.3 })
+    | inr g ↦ End g.0 (record {
+      row = g.1;
+      empty = g.2;
+      least = λ q j none. none_less g.0.txn q.txn ((k.standing.each g.0 g.1).of_incarnation ∙ sym (k.standing.each q j).of_incarnation) (g.3 q j none);
+    })
   ] where
     at : (rows : List Row) → s.rows ≡ rows → ((p : Row) → In p s.rows → p.finished ≢ []) → NextTurn s.rows
     at [] e some = absurd (ne e)

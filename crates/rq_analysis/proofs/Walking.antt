@@ -3,7 +3,7 @@ use Rattle.std.proofs.Common.{◌≡◌, ◌≢◌, ◌<◌, ◌≤◌, ℕ, zer
 use Rattle.std.specs.List.{filter, slice_get}
 use Rattle.std.proofs.lemmas.Bool.{cases_Bool, true≢false, or_parts, or_from, cases_eq, eq-eqb, ne_eqb}
 use Rattle.rq_model.specs.declared.record.Deed.{Deed}
-use Rattle.rq_model.specs.declared.record.Deed.TheVariants.{Append, UnlinkHead, Close}
+use Rattle.rq_model.specs.declared.record.Deed.TheVariants.{Append, UnlinkHead, Close, Mark}
 use Rattle.rq_model.specs.declared.record.Record.{Record}
 use Rattle.rq_model.specs.declared.record.Record.TheVariants.{AbortEnd}
 use Rattle.rq_model.specs.declared.txn.Txn.{Txn}
@@ -112,6 +112,7 @@ others_wait (suc s) (w ∷ ws) (suc g) ne = others_wait s ws g (λ e. ne (ap suc
 some_wait : (d : Deed) (ws : List ℕ) → (now : List ℕ) × ((g : ℕ) → waits now g ≡ waits ws g + took g d)
 some_wait (Append s n tag previous body) ws = (ws, λ g. omega arith)
 some_wait (Close s) ws = (ws, λ g. omega arith)
+some_wait (Mark c tag previous) ws = (ws, λ g. omega arith)
 some_wait (UnlinkHead s n tag body) ws = (
   one_more s ws,
   λ g. elim (cases_eq s g) [
@@ -137,6 +138,7 @@ lowest_of z q rows (Append g n tag previous body) ws off h = tt
 lowest_of z q rows (UnlinkHead g n tag body) [] off h = absurd h
 lowest_of z q rows (UnlinkHead g n tag body) (w ∷ ws) off h = (λ b c lt free. absurd (true≢false (sym (h.0 b c lt free))), off (w.at / 16))
 lowest_of z q rows (Close g) ws off h = tt
+lowest_of z q rows (Mark c tag previous) ws off h = tt
 
 module _ (base : State) (k : IsSound base) (stores : List State) (images : List (List ℕ)) (log : List Record) (c : IsCome base stores images log) where
   abbrev s : State

@@ -3,7 +3,7 @@ use Rattle.std.proofs.Common.{◌≡◌, ℕ, ◌+◌, ◌-◌, ◌*◌, ◌<◌
 use Rattle.std.proofs.lemmas.List.{length-append, length-map, length-reverse}
 use Rattle.std.proofs.lemmas.Option.{slice_get_within}
 use Rattle.rq_model.specs.declared.record.Deed.{Deed}
-use Rattle.rq_model.specs.declared.record.Deed.TheVariants.{Append, UnlinkHead, Close}
+use Rattle.rq_model.specs.declared.record.Deed.TheVariants.{Append, UnlinkHead, Close, Mark}
 use Rattle.rq_model.specs.Vocabulary.{front}
 use Rattle.rq_page.specs.declared.cell.Cell.{Cell}
 use Rattle.rq_page.specs.Slots.Slot.{Free, Used}
@@ -36,6 +36,7 @@ inverse_is_short l (UnlinkHead s n tag body) ws p =
     let a = link_one p.directory.head p.old (with_prev p.new) (taken ∷ []) in
     subst (λ v. length v ≤ 3) (sym p.writes) (omega (arith, a))
 inverse_is_short l (Close s) ws p = subst (λ v. length v ≤ 3) (sym p.writes) (omega arith)
+inverse_is_short l (Mark c tag previous) ws p = subst (λ v. length v ≤ 3) (sym p.writes) (omega arith)
 
 front_length : (fs : List Finished) → length (front fs) ≡ length fs - 1
 front_length [] = refl

@@ -19,4 +19,5 @@ pub mod Laws
 pub mod Rules
 pub mod Runs
 pub mod LogTables
+pub mod Growth
 pub mod RuleTheorems

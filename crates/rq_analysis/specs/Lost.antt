@@ -3,10 +3,10 @@ use Rattle.std.specs.Prelude.{◌≡◌, ℕ, ◌+◌, ◌-◌, ◌≤◌, max, 
 use Rattle.std.specs.List.{sum_by}
 use Rattle.rq_model.specs.declared.txn.Txn.{Txn}
 use Rattle.rq_model.specs.declared.record.Record.{Record}
-use Rattle.rq_model.specs.Vocabulary.{same_txn}
+use Rattle.rq_model.specs.Vocabulary.{same_txn, client_group}
 use Rattle.rq_model.specs.Commits.{committed_of}
 use Rattle.rq_model.specs.Content.{Said, deeds}
-use Rattle.rq_model.specs.Content.Said.{Added, Removed, Ended}
+use Rattle.rq_model.specs.Content.Said.{Added, Removed, Ended, Marked}
 use Rattle.rq_model.specs.Incarnations.{incarnation_of, txn_of}
 use Rattle.rq_model.specs.Ledger.{rest_in, sent_in, tag_of}
 use Rattle.rq_model.specs.Tests.{below}
@@ -51,11 +51,13 @@ abbrev pub sending_end : Said → Option ℕ
 sending_end (Added m) = Some m.sender
 sending_end (Removed m) = None
 sending_end (Ended s) = Some s
+sending_end (Marked c tag) = Some (client_group c)
 
 abbrev pub receiving_end : Said → Option ℕ
 receiving_end (Added m) = None
 receiving_end (Removed m) = Some m.sender
 receiving_end (Ended s) = None
+receiving_end (Marked c tag) = None
 
 abbrev pub with_used : Txn → Option ℕ → List Held → List Held
 with_used t None hs = hs

@@ -4,6 +4,7 @@ use Rattle.rq_model.specs.Vocabulary.{In}
 use Rattle.rq_txn.specs.declared.Finished.{Finished}
 use Rattle.rq_txn.specs.Rows.{Row, any_under}
 use Rattle.rq_store.specs.State.{State}
+use Rattle.rq_analysis.specs.Pages.{txn_less}
 use Rattle.rq_analysis.specs.Moves.{IsAbortMove, newest_store}
 use Rattle.rq_analysis.specs.Moves.IsAbortMove.{Starts, Writes, Undoes, Ends}
 
@@ -11,11 +12,11 @@ use Rattle.rq_analysis.specs.Moves.IsAbortMove.{Starts, Writes, Undoes, Ends}
 abbrev pub AreAborting : List Row → Type 0
 AreAborting rows = (r : Row) → In r rows → r.aborting ≡ true
 
--- of those with nothing left to undo the one of the least count ends first (a sound store's rows are of one incarnation)
+-- of those with nothing left to undo the least ends first: by incarnation, then by count
 pub record EndsNext (rows : List Row) (r : Row) : Type 0 where
   pub row : In r rows
   pub empty : r.finished ≡ []
-  pub least : (q : Row) → In q rows → q.finished ≡ [] → r.txn.count ≤ q.txn.count
+  pub least : (q : Row) → In q rows → q.finished ≡ [] → txn_less q.txn r.txn ≡ false
 
 -- where each has something left, the newest deed of all is taken back
 pub record TakesBackNext (rows : List Row) (r : Row) (rest : List Finished) (f : Finished) : Type 0 where

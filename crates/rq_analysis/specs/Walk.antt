@@ -2,7 +2,7 @@
 use Rattle.std.specs.Prelude.{◌≡◌, ℕ, ◌<◌, ◌+◌, ◌/◌, ◌%◌, true, false, List, [], ◌∷◌, length, Some, None}
 use Rattle.std.specs.List.{slice_get}
 use Rattle.rq_model.specs.declared.record.Deed.{Deed}
-use Rattle.rq_model.specs.declared.record.Deed.TheVariants.{Append, UnlinkHead, Close}
+use Rattle.rq_model.specs.declared.record.Deed.TheVariants.{Append, UnlinkHead, Close, Mark}
 use Rattle.rq_model.specs.declared.record.Record.{Record}
 use Rattle.rq_model.specs.declared.record.Record.TheVariants.{AbortEnd}
 use Rattle.rq_model.specs.declared.txn.Txn.{Txn}
@@ -11,10 +11,11 @@ use Rattle.rq_model.specs.Unended.{lost}
 use Rattle.rq_model.specs.Vocabulary.{In}
 use Rattle.rq_page.specs.declared.cell.Cell.{Cell}
 use Rattle.rq_page.specs.declared.directory.Directory.{Directory}
-use Rattle.rq_page.specs.Sizes.{Sizes, directory_at, sender_count}
+use Rattle.rq_page.specs.Sizes.{Sizes, directory_at}
 use Rattle.rq_page.specs.Slots.{IsSlotOf}
 use Rattle.rq_page.specs.Slots.Slot.{Sender, Used}
 use Rattle.rq_views.specs.Log.{Slots}
+use Rattle.rq_views.specs.InStore.{IsDeedOf}
 use Rattle.rq_views.specs.Plans.{deed_sender}
 use Rattle.rq_views.specs.Plans.Turn.{Undid}
 use Rattle.rq_views.specs.Stored.{slots_in}
@@ -120,11 +121,12 @@ pub record HasNumber (q : Slots) (a n : ℕ) : Type 0 where
   pub number : cell.sequence ≡ n
 
 -- what was sent is the last that its group counts, and stands last; what was received is the last that it counts; what
--- was closed is closed
+-- was closed is closed. No slots show a mark yet
 abbrev pub IsLastOf : Slots → Directory → Deed → Type 0
 IsLastOf q d (Append g n tag previous body) = (d.sent ≡ n) × HasNumber q d.tail n
 IsLastOf q d (UnlinkHead g n tag body) = d.received ≡ n
 IsLastOf q d (Close g) = d.closed ≡ true
+IsLastOf q d (Mark c tag previous) = ⊥
 
 -- as the slots have it, the deed was done last at its end of its group
 pub record StandsLast (q : Slots) (deed : Deed) : Type 0 where
@@ -147,7 +149,7 @@ pub record ShowsUndone (z : Sizes) (images : List (List ℕ)) (log : List Record
 -- that of any such store).
 pub record DuesCanBeUndone : Type 0 where
   pub reads : (z : Sizes) (log : List Record) (d : PendingUndo) → IsWhole z log → In d (dues log)
-      → (deed_by d.level d.deed ≡ Some (deed_due d)) × (deed_sender (deed_due d) < sender_count z)
+      → (deed_by d.level d.deed ≡ Some (deed_due d)) × IsDeedOf z (deed_due d)
   pub may : (base : State) (images : List (List ℕ)) (log : List Record) (d : PendingUndo) (ds : List PendingUndo) → IsSound base
       → IsBetween base images log → least_free (dues log) (lost log) ≡ None → dues log ≡ d ∷ ds
       → ShowsUndone base.sizes images log (deed_due d)

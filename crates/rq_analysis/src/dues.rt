@@ -2,13 +2,13 @@
 ghost use Rattle.std.specs.Prelude.{◌≡◌, ◌↔◌, ◌∷◌, ◌+◌, ◌<◌, [], IfErr, IfOk, IfSome, IfNone, IsTrue, MatchOption, OnOk, OnErr, Some, List, true, false, drop, length, reverse, slice_index_or, vec_capacity, vec_len};
 ghost use Rattle.std.specs.List.{filter};
 ghost use Rattle.rq_model.specs.Vocabulary.{first};
-ghost use Rattle.rq_model.specs.Incarnations.{IsNext};
+ghost use Rattle.rq_analysis.specs.Growth.{grows, is_op_end};
 ghost use Rattle.rq_analysis.specs.LogTables.{ended_after};
 ghost use Rattle.rq_analysis.specs.Numbers.{numbers_after};
 ghost use Rattle.rq_analysis.specs.OpenWorkView.{open_work_after};
 ghost use Rattle.rq_analysis.specs.Dues.{any_due, but_newest, but_own, due_of, dues, dues_after, lsn_due};
 
-use crate::{EndedTransactions, LastOperations, OpenWork};
+use crate::{EndedTransactions, LastOperations, OpenWork, make_room, tells_deed};
 use rq_model::record::{DeedBytes, Record};
 use rq_model::refusal::Refusal;
 use rq_model::txn::{Lsn, Txn};
@@ -101,11 +101,10 @@ impl PendingUndos {
         }
     }
 
-    /// Takes the next record, which has this LSN, and has the other three take it: all of them, or none. False where it doesn't
-    /// belong to the running incarnation, or isn't the next.
+    /// Takes the next record, which has this LSN, and has the other three take it: all of them, or none.
     ///
     /// # Errors
-    /// `NoMemory`: nothing changed.
+    /// `NoMemory`, where a table may grow: nothing changed.
     pub fn note(
         &mut self,
         numbers: &mut LastOperations,
@@ -113,8 +112,7 @@ impl PendingUndos {
         ended: &mut EndedTransactions,
         lsn: Lsn,
         record: &Record,
-    ) -> Result<bool, Refusal>
-        ensures next { IfOk result (λ is_next. IsTrue is_next ↔ IsNext open_work.old.incarnation «record».now) }
+    ) -> Result<(), Refusal>
         ensures noted { OnOk result (self.new ≡ dues_after lsn «record».now self.old) }
         ensures numbers { OnOk result (numbers.new ≡ numbers_after «record».now numbers.old) }
         ensures open_work { OnOk result (open_work.new ≡ open_work_after lsn «record».now open_work.old) }
@@ -123,15 +121,14 @@ impl PendingUndos {
         ensures numbers_same { OnErr result (numbers.new ≡ numbers.old) }
         ensures open_work_same { OnErr result (open_work.new ≡ open_work.old) }
         ensures ended_same { OnErr result (ended.new ≡ ended.old) }
+        ensures grows { OnErr result (IsTrue (grows «record».now numbers.old)) }
         ensures err { IfErr result (λ e. e ≡ Refusal.NoMemory) }
     {
-        if self.dues.try_reserve(1).is_err() {
-            return Err(Refusal::NoMemory);
-        }
+        make_room(&mut self.dues, tells_deed(record))?;
         match numbers.note(open_work, ended, lsn, record) {
-            Ok(is_next) => {
+            Ok(()) => {
                 take(&mut self.dues, lsn, record);
-                Ok(is_next)
+                Ok(())
             }
             Err(refusal) => Err(refusal),
         }
@@ -162,9 +159,9 @@ impl PendingUndos {
     }
 }
 
-// Takes the next record, which has this LSN, into a table that has room for one more.
+// Takes the next record, which has this LSN, into a table, which has room for one more if it tells a deed.
 fn take(dues: &mut Vec<KeptUndo>, lsn: Lsn, record: &Record)
-    requires { vec_len dues.old < vec_capacity dues.old }
+    requires { IsTrue (is_op_end «record».now) → vec_len dues.old < vec_capacity dues.old }
     ensures { reverse dues.new.items ≡ dues_after lsn «record».now (reverse dues.old.items) }
 {
     match record {

@@ -1,8 +1,9 @@
 //! Which transactions of the running incarnation have ended, as the records of a log tell it one after the other.
-ghost use Rattle.std.specs.Prelude.{◌≡◌, ◌≤◌, ℕ, OnOk, OnErr, IfSome, IfNone, None, []};
+ghost use Rattle.std.specs.Prelude.{◌≡◌, ◌≤◌, ℕ, OnOk, OnErr, IfSome, IfNone, IsTrue, None, []};
 ghost use Rattle.std.specs.BTreeMap.{IsOrdered, get};
 ghost use Rattle.std.specs.FinSet as set;
 ghost use Rattle.std.specs.Ordering.{nat_cmp};
+ghost use Rattle.rq_analysis.specs.Growth.{ends};
 ghost use Rattle.rq_analysis.specs.LogTables.{ended, ended_after};
 ghost use Rattle.rq_analysis.specs.Runs.{AreApart, BeginsFor, EndsFor, IsFree, IsIn, IsLastUpTo};
 
@@ -48,10 +49,11 @@ impl EndedTransactions {
     /// Takes the next record.
     ///
     /// # Errors
-    /// `NoMemory`: nothing changed.
+    /// `NoMemory`, where it ends a transaction: nothing changed.
     pub fn note(&mut self, record: &Record) -> Result<(), NoMemory>
         ensures noted { OnOk result (self.new ≡ ended_after «record».now self.old) }
         ensures err { OnErr result (self.new ≡ self.old) }
+        ensures grows { OnErr result (IsTrue (ends «record».now)) }
     {
         match record {
             Record::Commit { txn } | Record::AbortEnd { txn } => self.add(txn.count),

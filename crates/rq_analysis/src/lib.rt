@@ -8,6 +8,7 @@ mod checking;
 mod choices;
 mod dues;
 mod ended;
+mod growing;
 mod numbers;
 mod open_work;
 
@@ -17,6 +18,7 @@ pub use checking::follows;
 pub use choices::next_end;
 pub use dues::{KeptUndo, PendingUndo, PendingUndos};
 pub use ended::EndedTransactions;
+pub use growing::{make_room, tells_deed, tells_write};
 pub use numbers::LastOperations;
 pub use open_work::{NextUndo, OpenWork, UndoableWrite};
 

@@ -1,11 +1,12 @@
 //! The numbers of running transactions' operations, as the records of a log tell them one after the other.
-ghost use Rattle.std.specs.Prelude.{◌≡◌, ◌↔◌, ◌<◌, IfErr, IfOk, IsTrue, OnOk, OnErr, List, [], vec_capacity, vec_len};
-ghost use Rattle.rq_model.specs.Incarnations.{IsNext};
+ghost use Rattle.std.specs.Prelude.{◌≡◌, ◌↔◌, ◌<◌, ◌||◌, IfErr, IfOk, IsTrue, OnOk, OnErr, List, [], vec_capacity, vec_len};
+ghost use Rattle.rq_analysis.specs.Growth.{ends, grows, is_greater, opens};
 ghost use Rattle.rq_analysis.specs.LogTables.{ended_after};
 ghost use Rattle.rq_analysis.specs.OpenWorkView.{open_work_after};
 ghost use Rattle.rq_analysis.specs.Numbers.{number_of, numbers, numbers_after, numbers_but, numbers_left, with_number};
+ghost use Rattle.rq_analysis.specs.Rules.{op_of};
 
-use crate::{EndedTransactions, OpenWork};
+use crate::{EndedTransactions, OpenWork, make_room};
 use rq_model::record::Record;
 use rq_model::refusal::Refusal;
 use rq_model::txn::{Lsn, Sub, Txn};
@@ -37,34 +38,32 @@ impl LastOperations {
         }
     }
 
-    /// Takes the next record, which has this LSN, and has the other two take it: all of them, or none. False where it doesn't
-    /// belong to the running incarnation, or isn't the next.
+    /// Takes the next record, which has this LSN, and has the other two take it: all of them, or none.
     ///
     /// # Errors
-    /// `NoMemory`: nothing changed.
+    /// `NoMemory`, where a table may grow: nothing changed.
     pub fn note(
         &mut self,
         open_work: &mut OpenWork,
         ended: &mut EndedTransactions,
         lsn: Lsn,
         record: &Record,
-    ) -> Result<bool, Refusal>
-        ensures next { IfOk result (λ is_next. IsTrue is_next ↔ IsNext open_work.old.incarnation «record».now) }
+    ) -> Result<(), Refusal>
         ensures noted { OnOk result (self.new ≡ numbers_after «record».now self.old) }
         ensures open_work { OnOk result (open_work.new ≡ open_work_after lsn «record».now open_work.old) }
         ensures ended { OnOk result (ended.new ≡ ended_after «record».now ended.old) }
         ensures same { OnErr result (self.new ≡ self.old) }
         ensures open_work_same { OnErr result (open_work.new ≡ open_work.old) }
         ensures ended_same { OnErr result (ended.new ≡ ended.old) }
+        ensures grows { OnErr result (IsTrue (grows «record».now self.old)) }
         ensures err { IfErr result (λ e. e ≡ Refusal.NoMemory) }
     {
-        if self.numbers.try_reserve(1).is_err() {
-            return Err(Refusal::NoMemory);
-        }
+        let raises = raises(&self.numbers, record);
+        make_room(&mut self.numbers, raises)?;
         match note_both(open_work, ended, lsn, record) {
-            Ok(is_next) => {
-                take(&mut self.numbers, record);
-                Ok(is_next)
+            Ok(()) => {
+                take(&mut self.numbers, record, raises);
+                Ok(())
             }
             Err(refusal) => Err(refusal),
         }
@@ -84,12 +83,12 @@ fn note_both(
     ended: &mut EndedTransactions,
     lsn: Lsn,
     record: &Record,
-) -> Result<bool, Refusal>
-    ensures next { IfOk result (λ is_next. IsTrue is_next ↔ IsNext open_work.old.incarnation «record».now) }
+) -> Result<(), Refusal>
     ensures open_work { OnOk result (open_work.new ≡ open_work_after lsn «record».now open_work.old) }
     ensures ended { OnOk result (ended.new ≡ ended_after «record».now ended.old) }
     ensures open_work_same { OnErr result (open_work.new ≡ open_work.old) }
     ensures ended_same { OnErr result (ended.new ≡ ended.old) }
+    ensures grows { OnErr result (IsTrue (opens «record».now || ends «record».now)) }
     ensures err { IfErr result (λ e. e ≡ Refusal.NoMemory) }
 {
     match ended.note(record) {
@@ -98,9 +97,27 @@ fn note_both(
     }
 }
 
-// Takes the next record into a table that has room for one more.
-fn take(numbers: &mut Vec<Sub>, record: &Record)
-    requires { vec_len numbers.old < vec_capacity numbers.old }
+// Whether the record has a greater number than its transaction's operations so far.
+fn raises(numbers: &[Sub], record: &Record) -> bool
+    ensures { result ≡ is_greater (op_of «record».now) numbers.now }
+{
+    match record {
+        Record::PageOp { txn, operation, .. }
+        | Record::PageUndo { txn, operation, .. }
+        | Record::OpEnd { txn, operation, .. }
+        | Record::OpVoid { txn, operation }
+        | Record::CompEnd { txn, operation, .. } => greatest_of(numbers, *txn) < *operation,
+        Record::Commit { .. }
+        | Record::AbortEnd { .. }
+        | Record::Base { .. }
+        | Record::Restart { .. } => false,
+    }
+}
+
+// Takes the next record into a table, which has room for one more if it raises a number.
+fn take(numbers: &mut Vec<Sub>, record: &Record, raises: bool)
+    requires raises { raises ≡ is_greater (op_of «record».now) numbers.old.items }
+    requires room { IsTrue raises → vec_len numbers.old < vec_capacity numbers.old }
     ensures { numbers.new.items ≡ numbers_after «record».now numbers.old.items }
 {
     match record {
@@ -108,7 +125,11 @@ fn take(numbers: &mut Vec<Sub>, record: &Record)
         | Record::PageUndo { txn, operation, .. }
         | Record::OpEnd { txn, operation, .. }
         | Record::OpVoid { txn, operation }
-        | Record::CompEnd { txn, operation, .. } => raise(numbers, *txn, *operation),
+        | Record::CompEnd { txn, operation, .. } => {
+            if raises {
+                raise(numbers, *txn, *operation);
+            }
+        }
         Record::Commit { txn } | Record::AbortEnd { txn } => end(numbers, *txn),
         Record::Base { .. } => numbers.clear(),
         Record::Restart { .. } => {}
@@ -116,12 +137,10 @@ fn take(numbers: &mut Vec<Sub>, record: &Record)
 }
 
 fn raise(numbers: &mut Vec<Sub>, txn: Txn, number: u64)
-    requires { vec_len numbers.old < vec_capacity numbers.old }
+    requires greater { number_of txn numbers.old.items < number }
+    requires room { vec_len numbers.old < vec_capacity numbers.old }
     ensures { numbers.new.items ≡ with_number (record { txn = txn; number = number }) numbers.old.items }
 {
-    if greatest_of(numbers, txn) >= number {
-        return;
-    }
     numbers.push_reserved(Sub { txn, number });
     leave(numbers, txn, number);
 }

@@ -6,8 +6,7 @@ ghost use Rattle.rq_model.specs.Vocabulary.{first};
 ghost use Rattle.rq_analysis.specs.OpenWorkView.{open_work_of, open_work_after, has_sub, lsn_undoable, undoable_by, with_sub, without_newest, without_undoable, without_sub, with_txn, without_txn};
 ghost use Rattle.rq_analysis.specs.Pages.{IsUndoneNext, any_undoable, op_less};
 ghost use Rattle.rq_analysis.specs.Least.{least_in, lesser_in};
-ghost use Rattle.rq_analysis.specs.LogTables.{ended_after};
-ghost use Rattle.rq_analysis.specs.Runs.{Counts};
+ghost use Rattle.rq_analysis.specs.Growth.{opens};
 
 use rq_model::record::{Record, Slot};
 use rq_model::refusal::Refusal;
@@ -164,29 +163,40 @@ impl OpenWork {
         }
     }
 
-    /// Takes the next record, which has this LSN. False where it doesn't belong to the running incarnation, or isn't the
-    /// next.
-    ///
-    /// # Errors
-    /// `NoMemory`, where it ends no transaction and begins no log: nothing changed.
-    pub fn note(&mut self, lsn: Lsn, record: &Record) -> Result<bool, Refusal>
-        ensures next { IfOk result (λ is_next. IsTrue is_next ↔ IsNext self.old.incarnation «record».now) }
-        ensures noted { OnOk result (self.new ≡ open_work_after lsn «record».now self.old) }
-        ensures same { OnErr result (self.new ≡ self.old) }
-        ensures none_ends { OnErr result ((counts : Counts) → ended_after «record».now counts ≡ counts) }
-        ensures err { IfErr result (λ e. e ≡ Refusal.NoMemory) }
+    /// Whether a record may come next by its incarnation: it belongs to the running one, or begins the one behind it.
+    pub fn is_next(&self, record: &Record) -> bool
+        ensures { IsTrue result ↔ IsNext self.now.incarnation «record».now }
     {
         match record {
             Record::Restart { incarnation } => {
-                let is_next = self.incarnation < u64::MAX && *incarnation == self.incarnation + 1;
-                self.incarnation = *incarnation;
-                Ok(is_next)
+                *incarnation > 0 && *incarnation - 1 == self.incarnation
             }
             Record::Base { incarnation, .. } => {
-                let is_next = 1 <= self.incarnation && *incarnation == self.incarnation;
-                self.begin(*incarnation);
-                Ok(is_next)
+                1 <= self.incarnation && *incarnation == self.incarnation
             }
+            Record::PageOp { txn, .. }
+            | Record::PageUndo { txn, .. }
+            | Record::OpEnd { txn, .. }
+            | Record::OpVoid { txn, .. }
+            | Record::CompEnd { txn, .. }
+            | Record::Commit { txn }
+            | Record::AbortEnd { txn } => self.is_ours(txn),
+        }
+    }
+
+    /// Takes the next record, which has this LSN.
+    ///
+    /// # Errors
+    /// `NoMemory`, where it may open an operation or a transaction: nothing changed.
+    pub fn note(&mut self, lsn: Lsn, record: &Record) -> Result<(), Refusal>
+        ensures noted { OnOk result (self.new ≡ open_work_after lsn «record».now self.old) }
+        ensures same { OnErr result (self.new ≡ self.old) }
+        ensures grows { OnErr result (IsTrue (opens «record».now)) }
+        ensures err { IfErr result (λ e. e ≡ Refusal.NoMemory) }
+    {
+        match record {
+            Record::Restart { incarnation } => self.incarnation = *incarnation,
+            Record::Base { incarnation, .. } => self.begin(*incarnation),
             Record::PageOp {
                 txn,
                 operation,
@@ -202,26 +212,18 @@ impl OpenWork {
                     slot: *slot,
                     before: *before,
                 })?;
-                Ok(self.is_ours(txn))
             }
-            Record::PageUndo { txn, operation, .. } => {
-                self.drop_newest(sub(txn, *operation));
-                Ok(self.is_ours(txn))
-            }
+            Record::PageUndo { txn, operation, .. } => self.drop_newest(sub(txn, *operation)),
             Record::OpEnd { txn, operation, .. } => {
                 self.begin_transaction(*txn)?;
                 self.end_operation(sub(txn, *operation));
-                Ok(self.is_ours(txn))
             }
             Record::OpVoid { txn, operation } | Record::CompEnd { txn, operation, .. } => {
                 self.end_operation(sub(txn, *operation));
-                Ok(self.is_ours(txn))
             }
-            Record::Commit { txn } | Record::AbortEnd { txn } => {
-                self.end_transaction(*txn);
-                Ok(self.is_ours(txn))
-            }
+            Record::Commit { txn } | Record::AbortEnd { txn } => self.end_transaction(*txn),
         }
+        Ok(())
     }
 
     /// What is undone next of operations without an end; nothing where all have their end.

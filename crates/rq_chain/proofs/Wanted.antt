@@ -30,6 +30,7 @@ by_deed None given = refl
 by_deed (Some (deeds.Append s n tag previous body)) given = by_slot (record { sender = s; reach = TailAndPrevious }) given (λ o. asking (directory_at s) (λ bytes. along_from (to_prev ∷ []) (to_tail bytes)) o given) refl (λ _. refl) (given_at (directory_at s) given)
 by_deed (Some (deeds.UnlinkHead s n tag body)) given = by_slot (record { sender = s; reach = Head }) given (λ o. asking (directory_at s) (λ bytes. along_from [] (to_head bytes)) o given) refl (λ _. refl) (given_at (directory_at s) given)
 by_deed (Some (deeds.Close s)) given = by_slot (record { sender = s; reach = Nothing }) given (λ o. unless_given (directory_at s) o) refl (λ _. refl) (given_at (directory_at s) given)
+by_deed (Some (deeds.Mark c tag previous)) given = refl
 
 either : (undo : Bool) (e : Option Deed) (d : Option Doing) (given : List Given)
     → span_wanted (cond undo (span_of_deed e) (span_of_doing d)) given ≡ cond undo (undo_wanted e given) (wanted d given)

@@ -27,6 +27,7 @@ span_of_deed None = None
 span_of_deed (Some (deeds.Append s n tag previous body)) = Some (record { sender = s; reach = TailAndPrevious })
 span_of_deed (Some (deeds.UnlinkHead s n tag body)) = Some (record { sender = s; reach = Head })
 span_of_deed (Some (deeds.Close s)) = Some (record { sender = s; reach = Nothing })
+span_of_deed (Some (deeds.Mark c tag previous)) = None
 
 abbrev pub span_of_job : Job → Option Span
 span_of_job job = cond job.undo (span_of_deed (deed_by job.level job.bytes)) (span_of_doing (doing_by job.level job.bytes))

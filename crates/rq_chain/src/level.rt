@@ -249,6 +249,7 @@ impl ChainLevel {
                 body,
             } => self.plan_return(room, layout, given, latched, *sender, *sequence, *tag, body),
             Deed::Close { sender } => reopened(room, layout, given, *sender),
+            Deed::Mark { .. } => Err(Refusal::Damaged(Damage::Page(0))),
         }
     }
 

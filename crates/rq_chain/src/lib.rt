@@ -10,6 +10,7 @@ mod given;
 mod level;
 mod plans;
 mod spans;
+mod tags;
 mod wants;
 mod writes;
 
@@ -18,6 +19,7 @@ pub use plans::{append, put_back, set_closed, unlink_head, unlink_tail};
 use rq_model::record::Slot;
 use rq_page::addr::Addr;
 use rq_page::directory::Directory;
+pub use tags::TagLevel;
 
 /// A used cell that was given: where it stands, and the bytes of its slot.
 #[derive(Clone, Copy)]

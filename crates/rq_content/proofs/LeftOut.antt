@@ -5,8 +5,8 @@ use Rattle.std.proofs.lemmas.Bool.{cases_Bool, eqb-true, false≢true}
 use Rattle.std.proofs.lemmas.List.{append-nil, append_assoc}
 use Rattle.rq_model.specs.declared.message.Message.{Message}
 use Rattle.rq_model.specs.declared.record.Deed.{Deed}
-use Rattle.rq_model.specs.declared.record.Deed.TheVariants.{Append, UnlinkHead, Close}
-use Rattle.rq_model.specs.Vocabulary.{sent_for, taken_from}
+use Rattle.rq_model.specs.declared.record.Deed.TheVariants.{Append, UnlinkHead, Close, Mark}
+use Rattle.rq_model.specs.Vocabulary.{client_group, mark_of, sent_for, taken_from}
 use Rattle.rq_model.specs.Content.{said, tag_after, closed, closed_one}
 use Rattle.rq_model.specs.Commits.{op_of}
 use Rattle.rq_model.proofs.Ends.{no_last}
@@ -98,6 +98,10 @@ cases_deed g (UnlinkHead r n tag body) = elim (cases_Bool (nat_eq r g)) [
 cases_deed g (Close r) = elim (cases_Bool (nat_eq r g)) [
   | inl y ↦ inr (inr (inr (record { unsent = refl; untaken = refl; less = λ b. rw y refl; on = y; free = refl; ends = y; shuts = λ v. refl; not_closed = λ v h. h })))
   | inr k ↦ inl (record { unsent = refl; untaken = refl; same = λ b. rw k refl; off = k; free = refl; still = k })
+]
+cases_deed g (Mark c tag previous) = elim (cases_Bool (nat_eq (client_group c) g)) [
+  | inl y ↦ inr (inl (record { message = mark_of c tag; tag = previous; some = rw y refl; untaken = refl; less = λ b. rw y refl; on = y; free = refl; told = λ v h. h.0; not_closed = λ v h. h.1; still = refl }))
+  | inr k ↦ inl (record { unsent = rw k refl; untaken = refl; same = λ b. rw k refl; off = k; free = refl; still = refl })
 ]
 
 -- what was sent for g, and what was taken from it

@@ -2,10 +2,11 @@
 use Rattle.std.specs.Prelude.{◌≡◌, ℕ, zero, suc, ◌-◌, ◌/◌, ◌<◌, nat_eq, Bool, false, cond, List, [], ◌∷◌, ◌++◌, length, Option, Some, None}
 use Rattle.rq_model.specs.declared.message.Message.{Message}
 use Rattle.rq_model.specs.declared.record.Deed.{Deed}
-use Rattle.rq_model.specs.declared.record.Deed.TheVariants.{Append, UnlinkHead, Close}
+use Rattle.rq_model.specs.declared.record.Deed.TheVariants.{Append, UnlinkHead, Close, Mark}
 use Rattle.rq_model.specs.declared.refusal.Refusal.{Refusal}
 use Rattle.rq_model.specs.declared.refusal.Refusal.TheVariants.{NoMemory, Damaged}
 use Rattle.rq_model.specs.declared.refusal.Damage.TheVariants.{Page}
+use Rattle.rq_model.specs.Vocabulary.{client_group}
 use Rattle.rq_model.specs.History.{Group}
 use Rattle.rq_page.specs.declared.cell.Cell.{Cell}
 use Rattle.rq_page.specs.declared.directory.Directory.{Directory}
@@ -66,6 +67,7 @@ without_deed s (Append r n tag previous body) b = cond (nat_eq r s) (without_sen
 without_deed s (UnlinkHead r n tag body) b = cond (nat_eq r s)
     (without_take (record { sender = s; tag = tag; body = body }) b) b
 without_deed s (Close r) b = cond (nat_eq r s) (record b { closed = false }) b
+without_deed s (Mark c tag previous) b = cond (nat_eq (client_group c) s) (without_send previous b) b
 
 -- so are these, in order
 abbrev pub without_all : ℕ → List Finished → Before → Before

@@ -64,7 +64,7 @@ impl Earlier {
     fn leave_out(&mut self, sender: u32, deed: &ToldDeed) -> Result<(), NoMemory>
         ensures { OnOk result (before_of self.new ≡ without_deed sender deed.now (before_of self.old)) }
     {
-        if deed.sender() != sender {
+        if !deed.is_of(sender) {
             return Ok(());
         }
         self.leave_out_whole(sender, &deed.deed())
@@ -109,6 +109,8 @@ impl Earlier {
                 }
                 Ok(())
             }
+            // It is of no sender.
+            Deed::Mark { .. } => Ok(()),
         }
     }
 

@@ -13,7 +13,7 @@ use Rattle.rq_model.specs.declared.record.Record.TheVariants as records
 use Rattle.rq_model.specs.declared.refusal.Refusal.{Refusal}
 use Rattle.rq_model.specs.declared.refusal.Refusal.TheVariants as why
 use Rattle.rq_model.specs.Vocabulary.{is_some, same_txn}
-use Rattle.rq_views.specs.Plans.{deed_sender}
+use Rattle.rq_views.specs.InStore.{IsDeedOf}
 use Rattle.rq_model.specs.History.{Call, Group}
 use Rattle.rq_model.specs.History.Call.{Commit, Step, Finish, Show, Last_tag}
 use Rattle.rq_model.specs.History.Entry.{Ready, Shown}
@@ -48,7 +48,7 @@ use Rattle.rq_store.proofs.Opens.{busy_is}
 use Rattle.rq_model.specs.Commits.{committed_of}
 use Rattle.rq_engine.proofs.Standing.{going_at, step_steps, finish_steps, commit_steps}
 use Rattle.rq_engine.specs.Invariant.{EndFits, IsConsistent, end_bytes, room_one, room_of}
-use Rattle.rq_engine.proofs.Waits.{waits-with_sends, waits-without_taken}
+use Rattle.rq_engine.proofs.Waits.{AreDeedsOf, waits-with_sends, waits-without_taken}
 use Rattle.rq_engine.specs.Answers.{Refuses, OnUnder, IsUnderWay, IsNotUnderWay, NotFound, IsOther, Idle, CannotFinish, IsMade, HasNothingUnderWay}
 use Rattle.rq_engine.proofs.Keeping.{kept_at, under_at, kept_stepped, kept_finished, kept_undone, kept_committed}
 use Rattle.rq_engine.proofs.Refusals.{refuse, refuse_failed, found_of, found_some, found_none, not_full}
@@ -113,7 +113,7 @@ module _ (s : State) (f : Bool) (o res : ℕ) (k : IsConsistent s f o res) (sub 
       let c = k.room in
       omega (arith, a, b, c)
 
-  pub going_sender : deed_sender (deed_of g.under.aim) < sender_count s.sizes
+  pub going_sender : IsDeedOf s.sizes (deed_of g.under.aim)
   going_sender = (under_at s f o res sub.txn g.row g.under k g.found g.is).sender
 
   pub going_end : EndFits g.under.aim
@@ -166,8 +166,8 @@ module _ (s : State) (f : Bool) (o res : ℕ) (k : IsConsistent s f o res) (sub 
   pub end_fits : EndFits aim
   end_fits = subst EndFits gd.so.1 (going_end s f o res k sub (AllMade aim) h)
 
-  pub end_sender : deed_sender (deed_of aim) < sender_count s.sizes
-  end_sender = subst (λ (x : Aim). deed_sender (deed_of x) < sender_count s.sizes) gd.so.1 (going_sender s f o res k sub (AllMade aim) h)
+  pub end_sender : IsDeedOf s.sizes (deed_of aim)
+  end_sender = subst (λ (x : Aim). IsDeedOf s.sizes (deed_of x)) gd.so.1 (going_sender s f o res k sub (AllMade aim) h)
 
   all_made : gd.under.made ≡ length gd.under.writes
   all_made = let a = (under_at s f o res sub.txn gd.row gd.under k gd.found gd.is).made in let b = gd.so.0 in omega (arith, a, b)
@@ -177,7 +177,7 @@ module _ (s : State) (f : Bool) (o res : ℕ) (k : IsConsistent s f o res) (sub 
 
   pub end_kept : (d : Deed) (x : Record) (end : Finished) (left : ℕ) → left + end_bytes aim ≡ res → 1 ≤ end.lsn → end.deed ≡ deed_of aim → TellsItself end.deed → IsConsistent (record s { rows = change_row sub.txn (row_finished end) s.rows; records = x ∷ s.records; waiting = without_taken d s.waiting }) f (o - 1) left
   end_kept d x end left e low is reads = kept_finished s f o res k sub.txn gd.row gd.found gd.under x end left d gd.is all_made (same_end left e)
-      (record { lsn = low; sender = subst (λ (y : Deed). deed_sender y < sender_count s.sizes) (sym is) end_sender; reads = reads })
+      (record { lsn = low; sender = subst (IsDeedOf s.sizes) (sym is) end_sender; reads = reads })
 
   pub undo_kept : (d : Deed) (x : Record) (cells left : ℕ) → left + end_bytes aim ≡ res → IsConsistent (record s { rows = change_row sub.txn row_taken_back s.rows; records = x ∷ s.records; cells_in_use = cells; waiting = with_taken d s.waiting }) f (o - 1) left
   undo_kept d x cells left e = kept_undone s f o res k sub.txn gd.row gd.found gd.under x cells left d gd.is all_made (same_end left e)
@@ -303,12 +303,13 @@ commit_done s f o res n lsn cells t c running tested h room at freed k =
     let used = k.counted.used in
     let forward : r.0.aborting ≡ false = sym (ap is_aborting (found_some s t r.0 r.1)) ∙ tested.1.1.0 in
     let enough : sum_by takes_one r.0.finished ≤ s.cells_in_use = omega (arith, part, used) in
+    let stored : AreDeedsOf s.sizes r.0.finished = (λ x i. ((kept_at s f o res t r.0 c r.1).done x i).sender) in
     let waited : (g : ℕ) → g < sender_count s.sizes → waits (with_sends fs s.waiting) g ≡ waits s.waiting g + sends_in g r.0 =
-    (λ g m. ap (λ l. waits (with_sends l s.waiting) g) own ∙ waits-with_sends r.0.finished s.waiting g (let l = c.senders in omega (arith, l, m))) in
+    (λ g m. ap (λ l. waits (with_sends l s.waiting) g) own ∙ waits-with_sends s.sizes r.0.finished s.waiting g stored (let l = c.senders in omega (arith, l, m))) in
     let counted : (g : ℕ) → g < sender_count s.sizes → sent_count (with_tags fs s.sent) g ≡ sent_count s.sent g + sends_in g r.0 =
-    (λ g m. ap (λ l. sent_count (with_tags l s.sent) g) own ∙ count-with_tags r.0.finished s.sent g (let l = c.sent.counts in omega (arith, l, m))) in
+    (λ g m. ap (λ l. sent_count (with_tags l s.sent) g) own ∙ count-with_tags s.sizes r.0.finished s.sent g stored (let l = c.sent.counts in omega (arith, l, m))) in
     let tagged : (g : ℕ) → g < sender_count s.sizes → sent_tag (with_tags fs s.sent) g ≡ tag_after (sent_tag s.sent g) (sends_for g r.0) =
-    (λ g m. ap (λ l. sent_tag (with_tags l s.sent) g) own ∙ tag-with_tags r.0.finished s.sent g (let l = c.sent.tags in omega (arith, l, m))) in
+    (λ g m. ap (λ l. sent_tag (with_tags l s.sent) g) own ∙ tag-with_tags s.sizes r.0.finished s.sent g stored (let l = c.sent.tags in omega (arith, l, m))) in
     subst (λ (m : ℕ). IsModelStep s (Commit t) (Gave_commit (record { txn = t; lsn = m })) (record s { rows = without_row t s.rows; ends = record { sending = released t s.ends.sending; receiving = released t s.ends.receiving }; records = records.Commit t ∷ s.records; cells_in_use = cells; waiting = with_sends fs s.waiting; sent = with_tags fs s.sent })) (sym at)
     (commit_steps s k t r.0 cells (with_sends fs s.waiting) (with_tags fs s.sent) r.1 r.2.0 forward (omega (arith, freed, taken, enough)) waited counted tagged running room)
 

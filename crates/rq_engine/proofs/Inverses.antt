@@ -2,7 +2,7 @@
 use Rattle.std.proofs.Common.{◌≡◌, ℕ, ◌+◌, ◌≤◌, List, [], ◌∷◌, length, reverse, ap, Option, Some, None, arith}
 use Rattle.std.proofs.lemmas.List.{length-map, length-reverse}
 use Rattle.rq_model.specs.declared.record.Deed.{Deed}
-use Rattle.rq_model.specs.declared.record.Deed.TheVariants.{Append, UnlinkHead, Close}
+use Rattle.rq_model.specs.declared.record.Deed.TheVariants.{Append, UnlinkHead, Close, Mark}
 use Rattle.rq_model.specs.Commits.{op_of}
 use Rattle.rq_model.specs.Content.{said}
 use Rattle.rq_model.specs.Tests.{undo_cost}
@@ -40,8 +40,10 @@ few_writes z q us (UnlinkHead g n tag body) p =
     let b = relinked_count p.directory.head p.old (with_prev p.new) (record { at = p.new; before = Free; after = Used (record { sender = g; sequence = p.directory.received; tag = tag; body = body; next = p.directory.head; prev = 0 }) } ∷ []) in
     omega (arith, a, b)
 few_writes z q us (Close g) p = let a = of_writes z us _ p.writes in omega (arith, a)
+few_writes z q us (Mark c tag previous) p = let a = of_writes z us _ p.writes in omega (arith, a)
 
 pub cost_is : (d : Deed) → undo_cost (Some (op_of (said d))) ≤ 4
 cost_is (Append g n tag previous body) = omega arith
 cost_is (UnlinkHead g n tag body) = omega arith
 cost_is (Close g) = omega arith
+cost_is (Mark c tag previous) = omega arith

@@ -3,15 +3,15 @@ use Rattle.std.proofs.Common.{◌≡◌, ℕ, ◌/◌, ◌<◌, ◌||◌, List, 
 use Rattle.std.proofs.lemmas.Bool.{cases_Bool, false≢true, or_left, true≢false}
 use Rattle.rq_model.specs.declared.message.Message.{Message}
 use Rattle.rq_model.specs.declared.record.Deed.{Deed}
-use Rattle.rq_model.specs.declared.record.Deed.TheVariants.{Append, UnlinkHead, Close}
+use Rattle.rq_model.specs.declared.record.Deed.TheVariants.{Append, UnlinkHead, Close, Mark}
 use Rattle.rq_model.specs.declared.refusal.Refusal.{Refusal}
 use Rattle.rq_model.specs.declared.refusal.Refusal.TheVariants as why
 use Rattle.rq_model.specs.declared.txn.Txn.{Txn}
 use Rattle.rq_model.specs.Legal.{OnFound}
 use Rattle.rq_model.specs.Vocabulary.{last}
 use Rattle.rq_model.specs.History.Call.{Start_close, Start_send, Start_receive, Start_receive_from, Undo_next}
-use Rattle.rq_model.specs.History.Job.{Sending, Taking, Ending}
-use Rattle.rq_page.specs.Sizes.{cell_count, directory_at, Sizes}
+use Rattle.rq_model.specs.History.Job.{Sending, Taking, Ending, Marking}
+use Rattle.rq_page.specs.Sizes.{cell_count, client_slot_at, directory_at, Sizes}
 use Rattle.rq_views.specs.Plans.{Turn}
 use Rattle.rq_views.specs.Plans.Turn.{Did, Undid}
 use Rattle.rq_level.specs.declared.writes.SlotWrite.{SlotWrite}
@@ -68,6 +68,7 @@ module _ (s : State) (k : IsSound s) where
       ]
   send_needs m t (Did (UnlinkHead g n tag body)) b h = absurd (let e : Taking g ≡ Sending m = b in cc e)
   send_needs m t (Did (Close g)) b h = absurd (let e : Ending g ≡ Sending m = b in cc e)
+  send_needs m t (Did (Mark c tag previous)) b h = absurd (let e : Marking c tag ≡ Sending m = b in cc e)
   send_needs m t (Undid d) b h = absurd b
 
   -- the call is latched where its send is, and only there
@@ -98,6 +99,7 @@ module _ (s : State) (k : IsSound s) where
       let same : e ≡ g = (let x : Taking e ≡ Taking g = b in cc x) in
       inl (sym (latched_exact.as_read s (Did (UnlinkHead e n tag body)) k) ∙ ap (λ x. take_latched s x) same ∙ h)
   take_needs g (Close e) b h = absurd (let x : Ending e ≡ Taking g = b in cc x)
+  take_needs g (Mark c tag previous) b h = absurd (let x : Marking c tag ≡ Taking g = b in cc x)
 
   take_needs_none : (g : ℕ) → NeedsLatched s (Did (UnlinkHead g 0 0 [])) → take_latched s g ≡ false → ⊥
   take_needs_none g h free = elim h [
@@ -131,6 +133,7 @@ module _ (s : State) (k : IsSound s) where
   close_needs g (Close e) b h =
       let same : e ≡ g = (let x : Ending e ≡ Ending g = b in cc x) in
       inl (or_left (close_latched s e) false (ap (close_latched s) same ∙ h))
+  close_needs g (Mark c tag previous) b h = absurd (let x : Marking c tag ≡ Ending g = b in cc x)
 
   -- a close
   pub close_refused : (t : Txn) (g : ℕ) → close_latched s g ≡ true → IsLatched s (Start_close t g)
@@ -153,6 +156,7 @@ module _ (s : State) (k : IsSound s) where
     | inr all ↦ inr (refl, all)
   ]
   undo_needs (Close g) h = inl (sym (latched_exact.as_read s (Undid (Close g)) k) ∙ or_left (latched_in s.rows (directory_at g / 16)) false h)
+  undo_needs (Mark c tag previous) h = inl h
 
   undo_needs_none : (d : Deed) → NeedsLatched s (Undid d) → (UndoIsLatched s d → ⊥) → ⊥
   undo_needs_none (Append g n tag previous body) h free = elim h [
@@ -167,6 +171,7 @@ module _ (s : State) (k : IsSound s) where
     | inl y ↦ free (sym (or-false (latched_in s.rows (directory_at g / 16))) ∙ latched_exact.as_read s (Undid (Close g)) k ∙ y)
     | inr x ↦ false≢true x.0
   ]
+  undo_needs_none (Mark c tag previous) h free = elim h [ inl y ↦ free y | inr x ↦ false≢true x.0 ]
 
   module _ (t : Txn) (f : Finished) (newest : OnFound (found_row t s.rows) (λ r. last r.finished ≡ Some f)) where
     begins_it : Begins s (Undo_next t) (Undid f.deed)
@@ -204,6 +209,7 @@ module _ (s : State) (k : IsSound s) where
     | inr all ↦ let f = some_free s.sizes (slots_now s) (all_stand s k) may.1 in latched_busy s.rows (f.0 / 16) (all f.0 f.1 f.2)
   ]
   undo_busy (Close g) may h = latched_busy s.rows (directory_at g / 16) h
+  undo_busy (Mark c tag previous) may h = any_busy s.rows (client_slot_at s.sizes c ∷ []) h
 
 -- a plan whose writes are one write has one
 pub one_write : (z : Sizes) (us : List SlotWrite) (w : Write) → reverse (writes_of z us) ≡ w ∷ [] → length us ≡ 1

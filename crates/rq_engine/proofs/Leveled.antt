@@ -6,7 +6,7 @@ use Rattle.rq_model.specs.declared.record.Deed.{Deed}
 use Rattle.rq_model.specs.declared.refusal.Refusal.{Refusal}
 use Rattle.rq_model.specs.declared.refusal.Refusal.TheVariants as why
 use Rattle.rq_model.specs.declared.txn.Txn.{Txn}
-use Rattle.rq_model.specs.declared.record.Deed.TheVariants.{Append, UnlinkHead, Close as Close_deed}
+use Rattle.rq_model.specs.declared.record.Deed.TheVariants.{Append, UnlinkHead, Close as Close_deed, Mark}
 use Rattle.rq_model.specs.declared.record.Record.{Record}
 use Rattle.rq_model.specs.Deeds.{deed_by, spelled_deed, TellsItself}
 use Rattle.rq_model.proofs.Deeds.{told_by_its_level}
@@ -24,9 +24,10 @@ use Rattle.rq_page.specs.Slots.{held_for, held_in, of_cell_slot}
 use Rattle.rq_page.specs.Slots.Slot.{Free, Sender, Used, Client}
 use Rattle.rq_views.specs.Stored.{slot_at, slots_in}
 use Rattle.rq_views.proofs.Stands.{page_of_cells}
+use Rattle.rq_views.specs.InStore.{IsDeedOf}
 use Rattle.rq_views.specs.Items.{told_deed}
 use Rattle.rq_views.specs.Log.{Slots}
-use Rattle.rq_views.specs.Plans.{deed_sender, with_next, with_prev}
+use Rattle.rq_views.specs.Plans.{with_next, with_prev}
 use Rattle.rq_views.specs.Plans.Turn.{Did}
 use Rattle.rq_groups.specs.declared.End.TheVariants.{Receiving}
 use Rattle.rq_level.specs.ChainPlans.{TellsDamage}
@@ -53,23 +54,27 @@ use Rattle.rq_engine.proofs.Latches.{one_write}
 use Rattle.rq_engine.proofs.Inverses.{of_writes, relinked_count}
 use Rattle.rq_engine.proofs.SendCalls.{has_room}
 
--- a deed is of the sender that it was asked for
-sender_is : (d : Doing) (e : Deed) → IsDeedFor d e → deed_sender e ≡ doing_sender d
-sender_is (Send g tag body) (Append h n t previous b) is = is.0
-sender_is (Send g tag body) (UnlinkHead h n t b) is = absurd is
-sender_is (Send g tag body) (Close_deed h) is = absurd is
-sender_is (Receive g) (Append h n t previous b) is = absurd is
-sender_is (Receive g) (UnlinkHead h n t b) is = is
-sender_is (Receive g) (Close_deed h) is = absurd is
-sender_is (Close g) (Append h n t previous b) is = absurd is
-sender_is (Close g) (UnlinkHead h n t b) is = absurd is
-sender_is (Close g) (Close_deed h) is = is
+-- a deed is of the store where the sender is that it was asked for
+asked_stored : (z : Sizes) (d : Doing) (e : Deed) → IsDeedFor d e → doing_sender d < sender_count z → IsDeedOf z e
+asked_stored z (Send g tag body) (Append h n t previous b) is inside = let same : h ≡ g = is.0 in omega (arith, same, inside)
+asked_stored z (Send g tag body) (UnlinkHead h n t b) is inside = absurd is
+asked_stored z (Send g tag body) (Close_deed h) is inside = absurd is
+asked_stored z (Send g tag body) (Mark c t previous) is inside = absurd is
+asked_stored z (Receive g) (Append h n t previous b) is inside = absurd is
+asked_stored z (Receive g) (UnlinkHead h n t b) is inside = let same : h ≡ g = is in omega (arith, same, inside)
+asked_stored z (Receive g) (Close_deed h) is inside = absurd is
+asked_stored z (Receive g) (Mark c t previous) is inside = absurd is
+asked_stored z (Close g) (Append h n t previous b) is inside = absurd is
+asked_stored z (Close g) (UnlinkHead h n t b) is inside = absurd is
+asked_stored z (Close g) (Close_deed h) is inside = let same : h ≡ g = is in omega (arith, same, inside)
+asked_stored z (Close g) (Mark c t previous) is inside = absurd is
 
 -- its bytes are some: its kind comes first
 spelled_some : (d : Deed) → 1 ≤ length (spelled_deed d)
 spelled_some (Append g n tag previous body) = omega arith
 spelled_some (UnlinkHead g n tag body) = omega arith
 spelled_some (Close_deed g) = omega arith
+spelled_some (Mark c tag previous) = omega arith
 
 -- three writes at most
 pub few_of : (z : Sizes) (q : Slots) (us : List SlotWrite) (e : Deed) → IsPlannedFrom z q us (Did e) → length us ≤ 3
@@ -82,6 +87,7 @@ few_of z q us (UnlinkHead g n tag body) p =
     let b = relinked_count p.cell.next p.next (with_prev 0) (record { at = p.directory.head; before = Used p.cell; after = Free } ∷ []) in
     omega (arith, a, b)
 few_of z q us (Close_deed g) p = let a = of_writes z us _ p.writes in omega (arith, a)
+few_of z q us (Mark c tag previous) p = let a = of_writes z us _ p.writes in omega (arith, a)
 
 pub some_doing : (a b : Doing) → Some a ≡ Some b → a ≡ b
 some_doing a b e = cc
@@ -105,14 +111,13 @@ module _ (s : State) (d : Doing) (p : Plan) (h : IsPlanOf (known_part s) d p) (l
       let deed : h.deed ≡ told_deed (deed_by level p.deed) = sym (ap told_deed plan_reads) in
       let asked : IsDeedFor d (told_deed (deed_by level p.deed)) = subst (IsDeedFor d) deed h.asked in
       let from : IsPlannedFrom s.sizes (slots_now s) p.writes.items (Did (told_deed (deed_by level p.deed))) = subst (λ (e : Deed). IsPlannedFrom s.sizes (slots_now s) p.writes.items (Did e)) deed h.follows.0 in
-      let sender = sender_is d (told_deed (deed_by level p.deed)) asked in
       record {
         asked = asked;
         planned = from;
         free = h.follows.1;
         lowest = h.lowest;
         fits = record {
-          sender = omega (arith, sender, inside);
+          sender = asked_stored s.sizes d (told_deed (deed_by level p.deed)) asked inside;
           slots = h.slots;
           count = few_of s.sizes (slots_now s) p.writes.items (told_deed (deed_by level p.deed)) from;
           some = spelled_some (told_deed (deed_by level p.deed));
@@ -228,6 +233,7 @@ module _ (s : State) (g n : ℕ) (plan : Planned) (below : g < sender_count s.si
     }
     at (Append x m t previous b) is same p = absurd same
     at (UnlinkHead x m t b) is same p = absurd same
+    at (Mark c t previous) is same p = absurd same
 
   pub send_plan : (tag : ℕ) (body : List ℕ) → IsDeedPlan s (Send g tag body) plan → IsSendPlan s.sizes (slots_now s) (under_plan n plan) g tag body
   send_plan tag body h = at plan.deed refl h.asked h.planned where
@@ -251,6 +257,7 @@ module _ (s : State) (g n : ℕ) (plan : Planned) (below : g < sender_count s.si
         }
     at (UnlinkHead x m t b) is same p = absurd same
     at (Close_deed x) is same p = absurd same
+    at (Mark c t before) is same p = absurd same
 
 -- what holds a message is a cell
 used_cell : (z : Sizes) (images : List (List ℕ)) (a : ℕ) (c : Cell) → slots_in z images a ≡ Used c → IsCellAddress z a
@@ -291,6 +298,7 @@ take_plan s g n plan below h = at plan.deed refl h.asked h.planned where
       }
   at (Append x m t previous b) is same p = absurd same
   at (Close_deed x) is same p = absurd same
+  at (Mark c t previous) is same p = absurd same
 
 -- a close needs the page of its directory slot
 pub close_held : (s : State) (g : ℕ) → IsHeldUp (known_part s) (Do (Close g)) → close_latched s g ≡ true

@@ -129,7 +129,7 @@ module _ (s : State) (k : IsSound s) (r : Row) (u : Under) (at_row : found_row r
         free = plan.free;
         beside = plan.beside;
         writes = plan.writes;
-      }) (reads_of d plan.aim plan.reads) tt passes in
+      }) (reads_of d plan.aim plan.reads) tt tt passes in
       subst (λ (n : ℕ). IsModelStep s (Start_send r.txn (record { sender = e; tag = tag; body = body })) (Gave_sub r.txn (r.number + 1))
       (record s { rows = change_row r.txn (row_started u) s.rows; ends = record { sending = with_held r.txn e s.ends.sending; receiving = s.ends.receiving }; cells_in_use = s.cells_in_use + n })) (ap appends_aim plan.aim)
       (deed_steps.starts s r u d k may passes)
@@ -140,7 +140,7 @@ module _ (s : State) (k : IsSound s) (r : Row) (u : Under) (at_row : found_row r
       (record s { rows = change_row r.txn (row_started u) s.rows; ends = record { sending = with_held r.txn e s.ends.sending; receiving = s.ends.receiving } })
   own_close e plan passes =
       let d : Deed = Close e in
-      let may : MayDo s r u d = plans_start.deeds s r u d k (new d plan.aim plan.made) plan.marking (reads_of d plan.aim plan.reads) tt passes in
+      let may : MayDo s r u d = plans_start.deeds s r u d k (new d plan.aim plan.made) plan.marking (reads_of d plan.aim plan.reads) tt tt passes in
       subst (λ (n : ℕ). IsModelStep s (Start_close r.txn e) (Gave_sub r.txn (r.number + 1))
       (record s { rows = change_row r.txn (row_started u) s.rows; ends = record { sending = with_held r.txn e s.ends.sending; receiving = s.ends.receiving }; cells_in_use = n }))
       (let a : appends_aim u.aim ≡ 0 = ap appends_aim plan.aim in let same : s.cells_in_use + appends_aim u.aim ≡ s.cells_in_use = omega (arith, a) in same)
@@ -163,7 +163,7 @@ module _ (s : State) (k : IsSound s) (r : Row) (u : Under) (at_row : found_row r
       head_is = plan.head_is;
       beside = plan.beside;
       writes = plan.writes;
-    }) (reads_of deed plan.aim plan.reads) wait passes
+    }) (reads_of deed plan.aim plan.reads) wait tt passes
 
     no_more : s.cells_in_use + appends_aim u.aim ≡ s.cells_in_use
     no_more = (let a : appends_aim u.aim ≡ 0 = ap appends_aim plan.aim in omega (arith, a))

@@ -59,6 +59,7 @@ module _ {P L : Type 0} (old new : OpenStore P L) where
   both_stay (event.Finish sub) (reply.Finished outcome.Sent) other h f = ap under h.lists
   both_stay (event.Finish sub) (reply.Finished (outcome.Message m)) other h f = ap under h.lists
   both_stay (event.Finish sub) (reply.Finished outcome.Closed) other h f = ap under h.lists
+  both_stay (event.Finish sub) (reply.Finished outcome.Marked) other h f = ap under h.lists
   both_stay (event.Finish sub) (reply.Refused r) other h f = refused (event.Finish sub) r f
   both_stay (event.Commit t) (reply.Committed n) other h f = ap under h.lists
   both_stay (event.Commit t) (reply.Refused r) other h f = refused (event.Commit t) r f

@@ -1,18 +1,21 @@
 -- What waits once sends are committed, and once a message is taken.
-use Rattle.std.proofs.Common.{◌≡◌, ℕ, ◌+◌, ◌-◌, ◌<◌, ◌≤◌, List, [], ◌∷◌, length, map, refl, sym, ◌∙◌, ap, nat_eq, arith, inl, inr}
+use Rattle.std.proofs.Common.{◌≡◌, ℕ, ◌+◌, ◌-◌, ◌<◌, ◌≤◌, List, [], ◌∷◌, length, map, refl, sym, ◌∙◌, ap, arith, inl, inr}
 use Rattle.std.specs.List.{filter_map}
-use Rattle.std.proofs.lemmas.Bool.{cases_Bool, cases_lt, cases_eq, eq-eqb, ne_eqb}
-use Rattle.std.proofs.lemmas.List.{get_or_past}
+use Rattle.std.proofs.lemmas.Bool.{cases_lt, cases_eq, eq-eqb, ne_eqb}
+use Rattle.std.proofs.lemmas.List.{get_or_past, length-append}
+use Rattle.std.proofs.lemmas.List.Elements.{filter_map-append}
 use Rattle.rq_model.specs.declared.record.Deed.{Deed}
-use Rattle.rq_model.specs.declared.record.Deed.TheVariants.{Append, UnlinkHead, Close}
-use Rattle.rq_model.specs.Vocabulary.{sent_for}
+use Rattle.rq_model.specs.declared.record.Deed.TheVariants.{Append, UnlinkHead, Close, Mark}
+use Rattle.rq_model.specs.Vocabulary.{In, sent_for}
 use Rattle.rq_model.specs.Content.{said}
 use Rattle.rq_model.specs.Commits.{op_of}
+use Rattle.rq_page.specs.Sizes.{Sizes}
 use Rattle.rq_txn.specs.declared.Finished.{Finished}
 use Rattle.rq_groups.specs.Waiting.{waits, more_waiting, fewer_waiting}
 use Rattle.rq_groups.proofs.Waits.{length-more_waiting, length-fewer_waiting, waits-more_waiting_same, waits-more_waiting_other, waits-fewer_waiting_same, waits-fewer_waiting_other}
 use Rattle.rq_store.specs.State.{op_done}
 use Rattle.rq_store.specs.Steps.{took}
+use Rattle.rq_views.specs.InStore.{IsDeedOf}
 use Rattle.rq_views.specs.Plans.{deed_sender}
 use Rattle.rq_engine.specs.Moves.{with_sent, with_sends, with_taken, without_taken}
 
@@ -20,10 +23,15 @@ use Rattle.rq_engine.specs.Moves.{with_sent, with_sends, with_taken, without_tak
 abbrev pub sent_one : ℕ → Deed → ℕ
 sent_one g d = length (filter_map (sent_for g) (op_of (said d) ∷ []))
 
+-- the deeds are of senders of the store
+abbrev pub AreDeedsOf : Sizes → List Finished → Type 0
+AreDeedsOf z fs = (f : Finished) → In f fs → IsDeedOf z f.deed
+
 length-with_sent : (d : Deed) (ws : List ℕ) → length (with_sent d ws) ≡ length ws
 length-with_sent (Append s n tag previous body) ws = length-more_waiting s 1 ws
 length-with_sent (UnlinkHead s n tag body) ws = refl
 length-with_sent (Close s) ws = refl
+length-with_sent (Mark c tag previous) ws = refl
 
 pub length-with_sends : (fs : List Finished) (ws : List ℕ) → length (with_sends fs ws) ≡ length ws
 length-with_sends [] ws = refl
@@ -33,28 +41,26 @@ pub length-without_taken : (d : Deed) (ws : List ℕ) → length (without_taken 
 length-without_taken (Append s n tag previous body) ws = refl
 length-without_taken (UnlinkHead s n tag body) ws = length-fewer_waiting s ws
 length-without_taken (Close s) ws = refl
+length-without_taken (Mark c tag previous) ws = refl
 
-waits-with_sent : (d : Deed) (ws : List ℕ) (g : ℕ) → g < length ws → waits (with_sent d ws) g ≡ waits ws g + sent_one g d
-waits-with_sent (Append s n tag previous body) ws g m = elim (cases_eq g s) [
+waits-with_sent : (z : Sizes) (d : Deed) (ws : List ℕ) (g : ℕ) → IsDeedOf z d → g < length ws → waits (with_sent d ws) g ≡ waits ws g + sent_one g d
+waits-with_sent z (Append s n tag previous body) ws g own m = elim (cases_eq g s) [
   | inl e ↦ ap (waits (more_waiting s 1 ws)) e ∙ waits-more_waiting_same s 1 ws (omega (arith, m, e)) ∙ (rw (eq-eqb s g (sym e)) (let w : waits ws s ≡ waits ws g = ap (waits ws) (sym e) in omega (arith, w)))
   | inr ne ↦ waits-more_waiting_other s 1 ws g ne ∙ (rw (ne_eqb s g (λ e. ne (sym e))) (omega arith))
 ]
-waits-with_sent (UnlinkHead s n tag body) ws g m = omega arith
-waits-with_sent (Close s) ws g m = omega arith
+waits-with_sent z (UnlinkHead s n tag body) ws g own m = omega arith
+waits-with_sent z (Close s) ws g own m = omega arith
+waits-with_sent z (Mark c tag previous) ws g own m = absurd own.2
 
 pub sent_more : (g : ℕ) (f : Finished) (fs : List Finished) → length (filter_map (sent_for g) (map op_done (f ∷ fs))) ≡ sent_one g f.deed + length (filter_map (sent_for g) (map op_done fs))
-sent_more g f fs = one g f.deed where
-  one : (g : ℕ) (d : Deed) → length (filter_map (sent_for g) (op_of (said d) ∷ map op_done fs)) ≡ sent_one g d + length (filter_map (sent_for g) (map op_done fs))
-  one g (Append s n tag previous body) = elim (cases_Bool (nat_eq s g)) [ inl y ↦ rw y (omega arith) | inr n ↦ rw n (omega arith) ]
-  one g (UnlinkHead s n tag body) = omega arith
-  one g (Close s) = omega arith
+sent_more g f fs = ap length (filter_map-append (sent_for g) (op_done f ∷ []) (map op_done fs)) ∙ length-append (filter_map (sent_for g) (op_done f ∷ [])) (filter_map (sent_for g) (map op_done fs))
 
 -- what was sent for a sender of the store waits
-pub waits-with_sends : (fs : List Finished) (ws : List ℕ) (g : ℕ) → g < length ws → waits (with_sends fs ws) g ≡ waits ws g + length (filter_map (sent_for g) (map op_done fs))
-waits-with_sends [] ws g m = omega arith
-waits-with_sends (f ∷ fs) ws g m =
-    let a = waits-with_sent f.deed ws g m in
-    let b = waits-with_sends fs (with_sent f.deed ws) g (let l = length-with_sent f.deed ws in omega (arith, l, m)) in
+pub waits-with_sends : (z : Sizes) (fs : List Finished) (ws : List ℕ) (g : ℕ) → AreDeedsOf z fs → g < length ws → waits (with_sends fs ws) g ≡ waits ws g + length (filter_map (sent_for g) (map op_done fs))
+waits-with_sends z [] ws g own m = omega arith
+waits-with_sends z (f ∷ fs) ws g own m =
+    let a = waits-with_sent z f.deed ws g (own f (inl refl)) m in
+    let b = waits-with_sends z fs (with_sent f.deed ws) g (λ x i. own x (inr i)) (let l = length-with_sent f.deed ws in omega (arith, l, m)) in
     let c = sent_more g f fs in
     omega (arith, a, b, c)
 
@@ -68,6 +74,7 @@ sent_at_most (Append s n tag previous body) ws g = elim (cases_eq g s) [
 ]
 sent_at_most (UnlinkHead s n tag body) ws g = omega arith
 sent_at_most (Close s) ws g = omega arith
+sent_at_most (Mark c tag previous) ws g = omega arith
 
 -- no more than were finished
 pub few_sends : (fs : List Finished) (ws : List ℕ) (g : ℕ) → waits (with_sends fs ws) g ≤ waits ws g + length fs
@@ -92,6 +99,7 @@ waits-without_taken (UnlinkHead s n tag body) ws g = elim (cases_eq g s) [
   | inr ne ↦ waits-fewer_waiting_other s ws g ne ∙ (rw (ne_eqb s g (λ e. ne (sym e))) (omega arith))
 ]
 waits-without_taken (Close s) ws g = omega arith
+waits-without_taken (Mark c tag previous) ws g = omega arith
 
 pub few_taken : (d : Deed) (ws : List ℕ) (g : ℕ) → waits (without_taken d ws) g ≤ waits ws g
 few_taken d ws g = let a = waits-without_taken d ws g in omega (arith, a)
@@ -101,6 +109,7 @@ pub length-with_taken : (d : Deed) (ws : List ℕ) → length (with_taken d ws) 
 length-with_taken (Append s n tag previous body) ws = refl
 length-with_taken (UnlinkHead s n tag body) ws = length-more_waiting s 1 ws
 length-with_taken (Close s) ws = refl
+length-with_taken (Mark c tag previous) ws = refl
 
 pub waits-with_taken : (d : Deed) (ws : List ℕ) (g : ℕ) → deed_sender d < length ws → waits (with_taken d ws) g ≡ waits ws g + took g d
 waits-with_taken (Append s n tag previous body) ws g m = omega arith
@@ -109,8 +118,10 @@ waits-with_taken (UnlinkHead s n tag body) ws g m = elim (cases_eq g s) [
   | inr ne ↦ waits-more_waiting_other s 1 ws g ne ∙ (rw (ne_eqb s g (λ e. ne (sym e))) (omega arith))
 ]
 waits-with_taken (Close s) ws g m = omega arith
+waits-with_taken (Mark c tag previous) ws g m = omega arith
 
 pub more_taken : (d : Deed) (ws : List ℕ) (g : ℕ) → waits (with_taken d ws) g ≤ waits ws g + 1
 more_taken (Append s n tag previous body) ws g = omega arith
 more_taken (UnlinkHead s n tag body) ws g = sent_at_most (Append s 0 0 0 []) ws g
 more_taken (Close s) ws g = omega arith
+more_taken (Mark c tag previous) ws g = omega arith

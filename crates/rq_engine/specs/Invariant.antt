@@ -1,12 +1,12 @@
 -- What is so of the fields of every engine, whatever log it was opened over.
-use Rattle.std.specs.Prelude.{◌≡◌, ℕ, ◌+◌, ◌-◌, ◌*◌, ◌^◌, ◌<◌, ◌≤◌, Bool, false, List, length, Option, Some, None}
+use Rattle.std.specs.Prelude.{◌≡◌, ℕ, ◌+◌, ◌-◌, ◌*◌, ◌^◌, ◌≤◌, Bool, false, List, length, Option, Some, None}
 use Rattle.std.specs.List.{sum_by}
 use Rattle.rq_model.specs.Vocabulary.{In}
 use Rattle.rq_model.specs.Deeds.{spelled_deed, TellsItself}
 use Rattle.rq_disk.specs.declared.device.LogDevice as log_device
 use Rattle.rq_log.specs.Logged.{Logged, IsSettled}
 use Rattle.rq_page.specs.Sizes.{Sizes, sender_count}
-use Rattle.rq_views.specs.Plans.{deed_sender}
+use Rattle.rq_views.specs.InStore.{IsDeedOf}
 use Rattle.rq_level.specs.LevelState.{LevelState}
 use Rattle.rq_level.specs.Writes.{AreSlotWrites}
 use Rattle.rq_txn.specs.declared.Aim.{Aim}
@@ -41,7 +41,7 @@ pub record IsUnderConsistent (z : Sizes) (u : Under) : Type 0 where
   pub number : 1 ≤ u.number
   pub made : u.made ≤ length u.writes
   pub slots : AreSlotWrites z u.writes
-  pub sender : deed_sender (deed_of u.aim) < sender_count z
+  pub sender : IsDeedOf z (deed_of u.aim)
   pub fits : EndFits u.aim
 
 abbrev pub UnderConsistent : Sizes → Option Under → Type 0
@@ -51,7 +51,7 @@ UnderConsistent z (Some u) = IsUnderConsistent z u
 -- what is so of a finished operation
 pub record IsDoneConsistent (z : Sizes) (f : Finished) : Type 0 where
   pub lsn : 1 ≤ f.lsn
-  pub sender : deed_sender f.deed < sender_count z
+  pub sender : IsDeedOf z f.deed
   pub reads : TellsItself f.deed
 
 -- what is so of a transaction that has not ended, where no more than so many records are logged or owed

@@ -1,4 +1,4 @@
--- What sends and takes make of what waits, and of what each sender has sent.
+-- What sends and takes make of what waits, and of what each sender has sent. A mark is of no sender, and changes neither.
 use Rattle.std.specs.Prelude.{ℕ, List, [], ◌∷◌}
 use Rattle.rq_model.specs.declared.record.Deed.{Deed}
 use Rattle.rq_model.specs.declared.record.Deed.TheVariants.{Append, UnlinkHead}

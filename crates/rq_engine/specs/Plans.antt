@@ -8,8 +8,8 @@ use Rattle.rq_model.specs.declared.txn.Txn.{Txn}
 use Rattle.rq_model.specs.Deeds.{deed_by, spelled_deed, TellsItself}
 use Rattle.rq_model.specs.Tests.{log_full}
 use Rattle.rq_page.specs.Sizes.{Sizes, sender_count}
+use Rattle.rq_views.specs.InStore.{IsDeedOf}
 use Rattle.rq_views.specs.Items.{told_deed}
-use Rattle.rq_views.specs.Plans.{deed_sender}
 use Rattle.rq_views.specs.Plans.Turn.{Did, Undid}
 use Rattle.rq_level.specs.ChainPlans.{TellsDamage}
 use Rattle.rq_level.specs.Ops.{Doing}
@@ -52,9 +52,9 @@ planned_of level p = record { writes = p.writes.items; deed = told_deed (deed_by
 abbrev pub under_plan : ℕ → Planned → Under
 under_plan number plan = record { number = number; writes = plan.writes; made = 0; aim = aims.Doing plan.deed }
 
--- the plan writes slots of the store, three at most, and its deed is read from its bytes
+-- the plan writes slots of the store, three at most; its deed is one of the store's, and its bytes tell it
 pub record FitsPlan (z : Sizes) (plan : Planned) : Type 0 where
-  pub sender : deed_sender plan.deed < sender_count z
+  pub sender : IsDeedOf z plan.deed
   pub slots : AreSlotWrites z plan.writes
   pub count : length plan.writes ≤ 3
   pub some : 1 ≤ length (spelled_deed plan.deed)

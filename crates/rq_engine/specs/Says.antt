@@ -6,7 +6,7 @@ use Rattle.rq_model.specs.declared.refusal.Refusal.{Refusal}
 use Rattle.rq_model.specs.History.{Call}
 use Rattle.rq_model.specs.History.Call.{Begin as Call_begin, Start_send as Call_start_send, Start_receive as Call_start_receive, Start_receive_from as Call_start_receive_from, Start_close as Call_start_close, Write_page as Call_write_page, Step as Call_step, Finish as Call_finish, Commit as Call_commit, Acknowledge as Call_acknowledge, Start_abort as Call_start_abort, Undo_next as Call_undo_next, End_abort as Call_end_abort, Hand_over as Call_hand_over, Force as Call_force, Checkpoint as Call_checkpoint, Last_tag as Call_last_tag, Show as Call_show}
 use Rattle.rq_model.specs.Replay.{Number, Reply as Gave}
-use Rattle.rq_model.specs.Replay.Reply.{Gave_nothing_left, Gave_txn, Gave_sub, Gave_lsn, Gave_forced, Gave_checkpoint, Gave_ready, Gave_sent, Gave_message, Gave_closed, Gave_undone, Gave_handed_over, Gave_aborting, Gave_aborted, Gave_commit, Gave_receipt, Gave_none, Gave_written, Gave_tag, Gave_content, Gave_refusal}
+use Rattle.rq_model.specs.Replay.Reply.{Gave_nothing_left, Gave_txn, Gave_sub, Gave_lsn, Gave_forced, Gave_checkpoint, Gave_ready, Gave_sent, Gave_message, Gave_closed, Gave_marked, Gave_undone, Gave_handed_over, Gave_aborting, Gave_aborted, Gave_commit, Gave_receipt, Gave_none, Gave_written, Gave_tag, Gave_content, Gave_refusal}
 use Rattle.rq_content.specs.Read.{group_of}
 use Rattle.rq_model.specs.declared.txn.Sub.{Sub}
 use Rattle.rq_disk.specs.Device.{Only}
@@ -59,6 +59,7 @@ abbrev pub outcome_of : Outcome → Gave
 outcome_of outcome.Sent = Gave_sent
 outcome_of (outcome.Message m) = Gave_message m
 outcome_of outcome.Closed = Gave_closed
+outcome_of outcome.Marked = Gave_marked
 outcome_of outcome.Undone = Gave_undone
 
 -- a commit's number as the model's word

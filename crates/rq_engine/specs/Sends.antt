@@ -1,7 +1,7 @@
 -- An operation as one that is under way, the room that it takes, and which pages are latched.
-use Rattle.std.specs.Prelude.{◌≡◌, ◌⊎◌, ℕ, ◌+◌, ◌*◌, ◌<◌, ◌≤◌, ◌^◌, Bool, List, true, length}
-use Rattle.rq_page.specs.Sizes.{Sizes, sender_count}
-use Rattle.rq_views.specs.Plans.{deed_sender}
+use Rattle.std.specs.Prelude.{◌≡◌, ◌⊎◌, ℕ, ◌+◌, ◌*◌, ◌≤◌, ◌^◌, Bool, List, true, length}
+use Rattle.rq_page.specs.Sizes.{Sizes}
+use Rattle.rq_views.specs.InStore.{IsDeedOf}
 use Rattle.rq_level.specs.declared.writes.SlotWrite.{SlotWrite}
 use Rattle.rq_level.specs.Writes.{AreSlotWrites}
 use Rattle.rq_txn.specs.Rows.{Under, deed_of}
@@ -31,6 +31,6 @@ take_latched s g = any_latched s.rows (behind_head (slots_now s) g)
 pub record FitsUnder (z : Sizes) (u : Under) (room : ℕ) : Type 0 where
   pub made : u.made ≡ 0
   pub slots : AreSlotWrites z u.writes
-  pub sender : deed_sender (deed_of u.aim) < sender_count z
+  pub sender : IsDeedOf z (deed_of u.aim)
   pub fits : EndFits u.aim
   pub room_is : room ≡ 546 * length u.writes + end_bytes u.aim

@@ -17,7 +17,7 @@ ghost use Rattle.rq_engine.specs.Applied.{OnLatched, StartsUnlatched};
 ghost use Rattle.rq_engine.specs.Lists.{IsCloseStarted};
 
 use crate::engine::Engine;
-use crate::starts::CLOSE_RECORDS;
+use crate::starts::ONE_SLOT_RECORDS;
 use rq_disk::{LogDevice, PageDevice};
 use rq_groups::End;
 use rq_level::{Level, Op};
@@ -81,7 +81,7 @@ impl<P: PageDevice, L: LogDevice, B: Level> Engine<P, L, B> {
         if self.pages.group(sender).closed {
             return Err(Refusal::Closed);
         }
-        if self.is_log_full(CLOSE_RECORDS) {
+        if self.is_log_full(ONE_SLOT_RECORDS) {
             return Err(Refusal::LogFull);
         }
         Ok(())

@@ -56,6 +56,7 @@ pub(crate) fn put_in_taken(waiting: &mut Waiting, deed: &ToldDeed)
         Gist::Append { .. } => {}
         Gist::UnlinkHead { sender } => waiting.add(sender, 1),
         Gist::Close { .. } => {}
+        Gist::Mark { .. } => {}
     }
 }
 
@@ -67,6 +68,7 @@ pub(crate) fn cells_given_back(deed: &ToldDeed) -> u64
         Gist::Append { .. } => 1,
         Gist::UnlinkHead { .. } => 0,
         Gist::Close { .. } => 0,
+        Gist::Mark { .. } => 0,
     }
 }
 

@@ -20,10 +20,8 @@ use crate::event::{Outcome, Progress};
 use crate::moves::{cells_given_back, leave_out_taken, put_in_taken};
 use rq_disk::{LogDevice, PageDevice};
 use rq_level::Level;
-use rq_model::record::Record;
 use rq_model::refusal::Refusal;
 use rq_model::txn::{Lsn, Sub};
-use rq_record::shows_size;
 use rq_txn::{Aim, Finished, Gist, Operation, ToldDeed, Transactions};
 
 impl<P: PageDevice, L: LogDevice, B: Level> Engine<P, L, B> {
@@ -163,13 +161,7 @@ impl<P: PageDevice, L: LogDevice, B: Level> Engine<P, L, B> {
         ensures sender { deed_sender deed.now < length self.old.state.waiting }
         ensures devices { LeavesDevices self.old self.new }
     {
-        let record = Record::CompEnd {
-            txn: sub.txn,
-            operation: sub.number,
-            undone: lsn,
-        };
-        shows_size(&record);
-        self.log.append(&record);
+        self.log.append_comp_end(sub.txn, sub.number, lsn);
         self.transactions.undo(sub.txn);
         put_in_taken(&mut self.waiting, deed);
         self.cells_in_use = self.cells_in_use.saturating_sub(cells_given_back(deed));
@@ -200,5 +192,6 @@ fn done(deed: &ToldDeed) -> Outcome
         Gist::Append { .. } => Outcome::Sent,
         Gist::UnlinkHead { .. } => Outcome::Message(deed.message().unwrap()),
         Gist::Close { .. } => Outcome::Closed,
+        Gist::Mark { .. } => Outcome::Marked,
     }
 }

@@ -25,8 +25,8 @@ use rq_txn::{Aim, Operation, ToldDeed};
 /// What a send, a receive or the inverse of one is counted as where it starts: three slots and an end.
 pub(crate) const CHAIN_RECORDS: u64 = 4;
 
-/// What a close, or the inverse of one, is counted as where it starts: one slot and an end.
-pub(crate) const CLOSE_RECORDS: u64 = 2;
+/// What a close, a mark, or the inverse of one, is counted as where it starts: one slot and an end.
+pub(crate) const ONE_SLOT_RECORDS: u64 = 2;
 
 impl<P: PageDevice, L: LogDevice, B: Level> Engine<P, L, B> {
     // Has what is asked planned from the slots as they are. Takes its lock and all that its steps and its end need, and

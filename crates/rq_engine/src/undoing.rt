@@ -1,5 +1,5 @@
 //! What an abort undoes: the inverses of finished operations.
-ghost use Rattle.std.specs.Prelude.{◌≡◌, ◌≢◌, ◌↔◌, ◌<◌, ◌≤◌, Err, IfOk, IfErr, OnOk, OnErr, Some, false, true, length, List};
+ghost use Rattle.std.specs.Prelude.{◌≡◌, ◌≢◌, ◌↔◌, ◌≤◌, Err, IfOk, IfErr, OnOk, OnErr, Some, false, true, length, List};
 ghost use Rattle.rq_model.specs.History.Call.{Undo_next};
 ghost use Rattle.rq_model.specs.Tests.{log_full, undo_cost};
 ghost use Rattle.rq_model.specs.Commits.{op_of};
@@ -22,18 +22,17 @@ ghost use Rattle.rq_planner.specs.Answered.{IsPlanned};
 ghost use Rattle.rq_planner.specs.Asked.{Undo};
 ghost use Rattle.rq_model.specs.declared.record.Deed.{Deed};
 ghost use Rattle.rq_model.specs.Deeds.{deed_by};
-ghost use Rattle.rq_page.specs.Sizes.{sender_count};
-ghost use Rattle.rq_views.specs.Plans.{deed_sender};
+ghost use Rattle.rq_views.specs.InStore.{IsDeedOf};
 ghost use Rattle.rq_engine.specs.Plans.{HasTurnedBack, IsStartOf, known_part};
 
 use crate::engine::Engine;
-use crate::starts::{CHAIN_RECORDS, CLOSE_RECORDS};
+use crate::starts::{CHAIN_RECORDS, ONE_SLOT_RECORDS};
 use rq_disk::{LogDevice, PageDevice};
 use rq_level::{Level, Plan, SlotWrite};
-use rq_model::record::{DeedBytes, Record};
+use rq_model::record::DeedBytes;
 use rq_model::refusal::Refusal;
 use rq_model::txn::{Sub, Txn};
-use rq_record::{PAGE_OP_BYTES, shows_size, spelled_len};
+use rq_record::{COMP_END_BYTES, PAGE_OP_BYTES};
 use rq_txn::{Aim, Finished, Gist, Operation, ToldDeed};
 
 /// What the inverse of an operation is counted as where it starts.
@@ -43,7 +42,8 @@ fn undo_records(deed: &ToldDeed) -> u64
     match deed.gist() {
         Gist::Append { .. } => CHAIN_RECORDS,
         Gist::UnlinkHead { .. } => CHAIN_RECORDS,
-        Gist::Close { .. } => CLOSE_RECORDS,
+        Gist::Close { .. } => ONE_SLOT_RECORDS,
+        Gist::Mark { .. } => ONE_SLOT_RECORDS,
     }
 }
 
@@ -99,7 +99,7 @@ impl<P: PageDevice, L: LogDevice, B: Level> Engine<P, L, B> {
     fn plan_inverse(&mut self, level: u8, deed: &DeedBytes) -> Result<Plan, Refusal>
         requires { is_some (deed_by level deed.now) ≡ true }
         ensures same { self.new ≡ self.old }
-        ensures planned { (d : Deed) → deed_by level deed.now ≡ Some d → deed_sender d < sender_count self.old.state.sizes
+        ensures planned { (d : Deed) → deed_by level deed.now ≡ Some d → IsDeedOf self.old.state.sizes d
             → IsPlanned (known_part self.old.state) (Undo d) result }
     {
         let room = self.transactions.spare();
@@ -138,13 +138,7 @@ impl<P: PageDevice, L: LogDevice, B: Level> Engine<P, L, B> {
         ensures refusal { IfErr result (λ r. r ≡ Refusal.NoMemory) }
         ensures refused { OnErr result (self.new ≡ self.old) }
     {
-        let end = Record::CompEnd {
-            txn,
-            operation: number,
-            undone: done.lsn,
-        };
-        shows_size(&end);
-        let room = writes.len() * PAGE_OP_BYTES + spelled_len(&end);
+        let room = writes.len() * PAGE_OP_BYTES + COMP_END_BYTES;
         let operation = Operation {
             number,
             writes,

@@ -348,7 +348,7 @@ held_none s (h ∷ hs) n =
       later true b e = absurd (true≢false e)
       later false b e = e
 
-held_some : (t : Txn) (s : ℕ) (held : List Held) → has_held t s held ≡ true → is_held s held ≡ true
+pub held_some : (t : Txn) (s : ℕ) (held : List Held) → has_held t s held ≡ true → is_held s held ≡ true
 held_some t s [] e = absurd (true≢false (sym e))
 held_some t s (h ∷ hs) e =
     elim (cases_Bool (same_txn h.txn t && nat_eq h.sender s)) [

@@ -50,10 +50,10 @@ held_with_other t u s hs h =
       | inr e ↦ ap (held_by u) (with_new t s hs e) ∙ held_later u (record { txn = t; sender = s }) hs h
     ]
 
-released_first : (t : Txn) (h : Held) (hs : List Held) → same_txn h.txn t ≡ true → released t (h ∷ hs) ≡ released t hs
+pub released_first : (t : Txn) (h : Held) (hs : List Held) → same_txn h.txn t ≡ true → released t (h ∷ hs) ≡ released t hs
 released_first t h hs e = rw e refl
 
-released_later : (t : Txn) (h : Held) (hs : List Held) → same_txn h.txn t ≡ false → released t (h ∷ hs) ≡ h ∷ released t hs
+pub released_later : (t : Txn) (h : Held) (hs : List Held) → same_txn h.txn t ≡ false → released t (h ∷ hs) ≡ h ∷ released t hs
 released_later t h hs e = rw e refl
 
 pub held_released_same : (t : Txn) (hs : List Held) → held_by t (released t hs) ≡ []

@@ -1,4 +1,5 @@
 pub mod Chained
+pub mod Clients
 pub mod Holders
 pub mod Orders
 pub mod Sents

@@ -1,14 +1,22 @@
 -- Who holds which ends of groups.
-use Rattle.std.specs.Prelude.{◌≡◌, ◌++◌, Option, Some, None, ℕ, Bool, true, false, cond, not, nat_eq, ◌&&◌, ◌||◌, List, [], ◌∷◌}
+use Rattle.std.specs.Prelude.{◌≡◌, ◌++◌, Option, Some, None, ℕ, Bool, true, false, cond, not, nat_eq, nat_lt, ◌-◌, ◌&&◌, ◌||◌, List, [], ◌∷◌}
 use Rattle.std.specs.List.{filter}
 use Rattle.rq_model.specs.declared.txn.Txn.{Txn}
-use Rattle.rq_model.specs.Vocabulary.{has_number, same_txn}
+use Rattle.rq_model.specs.Vocabulary.{client_group, has_number, same_txn}
 use Rattle.rq_groups.specs.declared.Held.{Held}
 
--- the ends held, the newest first
+-- the ends held, the newest first; a client's is the sending end of its group
 pub record HeldEnds : Type 0 where
   pub sending : List Held
   pub receiving : List Held
+
+-- the group of the end at a place: those of n senders come first, and behind them those of clients
+abbrev pub group_at : ℕ → ℕ → ℕ
+group_at n place = cond (nat_lt place n) place (client_group (place - n))
+
+-- what is held at a place, by its group
+abbrev pub as_group : ℕ → Held → Held
+as_group n h = record { txn = h.txn; sender = group_at n h.sender }
 
 -- t holds the end of s
 abbrev pub has_held : Txn → ℕ → List Held → Bool

@@ -1,5 +1,5 @@
-//! The ends of one side: all senders' sending ends, or all their receiving ends.
-ghost use Rattle.std.specs.Prelude.{◌≡◌, ◌∷◌, [], ℕ, List, true, false, cond, IfOk, OnErr, drop, take, not};
+//! The ends of one side: all sending ends, or all receiving ends.
+ghost use Rattle.std.specs.Prelude.{◌≡◌, ◌≤◌, ◌∷◌, [], ℕ, List, true, false, cond, IfOk, OnErr, drop, take, not};
 ghost use Rattle.rq_groups.specs.Changes.{held_after};
 ghost use Rattle.rq_groups.specs.Chains.{AreEmptied, IsChain};
 ghost use Rattle.rq_groups.specs.Ends.{AreApart, IsTail, first_of, has_held, held_by, is_free_for, is_held, released, with_held};
@@ -28,7 +28,8 @@ pub(crate) enum Change {
 }
 
 /// The ends of one side. Contracts see those that are held, the newest first. No call goes over all of them. The holder
-/// of an end stands at the place of its sender, and each transaction's ends are a chain.
+/// of an end stands at the place of its sender, and each transaction's ends are a chain. Places behind those of senders may
+/// be of other groups.
 #[derive(Drop)]
 pub(crate) struct EndTable {
     holders: Holders,
@@ -98,7 +99,7 @@ impl EndTable {
         if self.holders.of(sender).is_some() {
             return Ok(false);
         }
-        if sender as usize >= self.holders.len() {
+        if sender >= self.holders.len() {
             return Err(NoMemory);
         }
         let next = heads::put(&mut self.heads, txn, sender)?;
@@ -124,6 +125,13 @@ impl EndTable {
         let newest = heads::remove(&mut self.heads, txn);
         empty_chain(&mut self.holders, newest);
         GhostList::push(&mut self.changes, &Change::Released(txn));
+    }
+
+    /// How many ends have a place. Nobody holds another.
+    pub(crate) fn places(&self) -> u32
+        ensures { (s : ℕ) → result ≤ s → is_held s self.now ≡ false }
+    {
+        self.holders.len()
     }
 
     /// The senders whose end somebody holds.

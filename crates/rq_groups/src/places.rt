@@ -26,7 +26,7 @@ pub(crate) struct Holders {
 }
 
 impl Model for Holders {
-    ghost use Rattle.std.specs.Prelude.{List, Option, length, ◌*◌, ◌≤◌};
+    ghost use Rattle.std.specs.Prelude.{List, Option, length, ◌*◌, ◌^◌, ◌<◌, ◌≤◌};
     ghost use Rattle.rq_groups.specs.declared.places.Holding.{Holding};
     ghost use Rattle.rq_groups.specs.Chains.{AreHolders};
 
@@ -34,7 +34,7 @@ impl Model for Holders {
 
     ghost view = { λ h. h.places.items };
 
-    ghost invariant = { λ h. (length h.places.items ≤ 64 * length h.held)
+    ghost invariant = { λ h. (length h.places.items ≤ 64 * length h.held) × (length h.places.items < 2 ^ 32)
         × AreHolders h.held h.places.items };
 }
 
@@ -53,11 +53,11 @@ impl Holders {
         }
     }
 
-    /// Of how many senders.
-    pub(crate) fn len(&self) -> usize
+    /// How many ends have a place.
+    pub(crate) fn len(&self) -> u32
         ensures { result ≡ length self.now }
     {
-        self.places.len()
+        self.places.len() as u32
     }
 
     /// Who holds the sender's end.

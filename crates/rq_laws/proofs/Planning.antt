@@ -4,7 +4,7 @@ use Rattle.std.specs.Result.{IfOk}
 use Rattle.std.proofs.lemmas.Bool.{cases_Bool, cases_lt, eqb-true, and_parts}
 use Rattle.std.proofs.lemmas.List.Elements.{All-head, All-tail}
 use Rattle.rq_model.specs.declared.record.Deed.{Deed}
-use Rattle.rq_model.specs.declared.record.Deed.TheVariants.{Append, UnlinkHead, Close as Close_deed}
+use Rattle.rq_model.specs.declared.record.Deed.TheVariants.{Append, UnlinkHead, Close as Close_deed, Mark}
 use Rattle.rq_model.specs.declared.record.Record.{Record}
 use Rattle.rq_model.specs.declared.record.Record.TheVariants as records
 use Rattle.rq_model.specs.declared.refusal.Refusal.{Refusal}
@@ -191,6 +191,7 @@ undoes_alike (Some z) (Some (UnlinkHead s n tag body)) k given latched (Err r) (
 undoes_alike (Some z) (Some (Close_deed s)) k given latched (Ok a) (Ok b) x y all f h = reopened_alike z k given all s a b x y f h
 undoes_alike (Some z) (Some (Close_deed s)) k given latched (Ok a) (Err r) x y all f h = (other_wants s (CanMark z given s false) r f.marked.can h.0, tt)
 undoes_alike (Some z) (Some (Close_deed s)) k given latched (Err r) (Ok b) x y all f h = (other_wants s (CanMark z given s false) r h.marked.can f.0, tt)
+undoes_alike (Some z) (Some (Mark c tag previous)) k given latched p q x y all f h = unread_alike (Some z) k p q x y f h
 undoes_alike (Some z) None k given latched p q x y all f h = unread_alike (Some z) k p q x y f h
 undoes_alike None (Some d) k given latched p q x y all f h = unread_alike None k p q x y f h
 undoes_alike None None k given latched p q x y all f h = unread_alike None k p q x y f h

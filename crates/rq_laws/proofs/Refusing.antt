@@ -202,6 +202,7 @@ pub finish_passed : (t : Txn) (n : ℕ) (old new : State) (a : Outcome) → IsMo
 finish_passed t n old new outcome.Sent s = (subst (λ (e : Entry). Legal (size_of old.sizes) (ledger_of old) e) s.says.1 s.legal).0
 finish_passed t n old new (outcome.Message m) s = (subst (λ (e : Entry). Legal (size_of old.sizes) (ledger_of old) e) s.says s.legal).0
 finish_passed t n old new outcome.Closed s = (subst (λ (e : Entry). Legal (size_of old.sizes) (ledger_of old) e) s.says.1 s.legal).0
+finish_passed t n old new outcome.Marked s = (subst (λ (e : Entry). Legal (size_of old.sizes) (ledger_of old) e) s.says.2 s.legal).0
 finish_passed t n old new outcome.Undone s = (subst (λ (e : Entry). Legal (size_of old.sizes) (ledger_of old) e) s.says s.legal).0
 
 -- ---- receives, and what is undone

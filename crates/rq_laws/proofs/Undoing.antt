@@ -1,21 +1,22 @@
 -- Starts of inverses, by two stores in the same state.
-use Rattle.std.proofs.Common.{◌≡◌, ℕ, ◌+◌, List, [], ◌∷◌, map, reverse, refl, sym, ◌∙◌, ap, ap₂, subst, true, false, Option, Some, None, Result, Ok, Err}
+use Rattle.std.proofs.Common.{◌≡◌, ℕ, ◌+◌, ◌-◌, List, [], ◌∷◌, map, reverse, refl, sym, ◌∙◌, ap, ap₂, subst, true, false, Option, Some, None, Result, Ok, Err}
 use Rattle.std.specs.Result.{IfOk}
 use Rattle.std.proofs.lemmas.Option.{same_Some}
 use Rattle.rq_model.specs.declared.refusal.Refusal.{Refusal}
 use Rattle.rq_model.specs.declared.record.Deed.{Deed}
-use Rattle.rq_model.specs.declared.record.Deed.TheVariants.{Append, UnlinkHead, Close}
+use Rattle.rq_model.specs.declared.record.Deed.TheVariants.{Append, UnlinkHead, Close, Mark}
 use Rattle.rq_model.specs.declared.txn.Sub.{Sub}
 use Rattle.rq_model.specs.declared.txn.Txn.{Txn}
 use Rattle.rq_model.specs.Legal.{OnFound}
 use Rattle.rq_model.specs.Vocabulary.{last}
 use Rattle.rq_page.specs.declared.cell.Cell.{Cell}
+use Rattle.rq_page.specs.declared.client.ClientSlot.{ClientSlot}
 use Rattle.rq_page.specs.declared.directory.Directory.{Directory}
 use Rattle.rq_page.specs.Sizes.{Sizes}
-use Rattle.rq_page.specs.Slots.Slot.{Free}
+use Rattle.rq_page.specs.Slots.Slot.{Free, Client}
 use Rattle.rq_views.specs.Items.{layout_of, operation}
 use Rattle.rq_views.specs.Log.{Slots}
-use Rattle.rq_views.specs.Plans.{unlink_tail_writes, put_back_writes, directory_write}
+use Rattle.rq_views.specs.Plans.{unlink_tail_writes, put_back_writes, client_write, directory_write}
 use Rattle.rq_views.specs.Plans.Turn.{Undid}
 use Rattle.rq_views.specs.Stored.{slots_in}
 use Rattle.rq_level.specs.declared.writes.SlotWrite.{SlotWrite}
@@ -33,6 +34,9 @@ use Rattle.rq_laws.proofs.Slots.{sender_same}
 use Rattle.rq_laws.proofs.Starts.{beside_same, lowest_same, rowless, rows_alike, same_alike, told_same}
 use Rattle.rq_laws.proofs.Ending.{some_none}
 
+client_same : (j k : ClientSlot) → Client j ≡ Client k → j ≡ k
+client_same j k e = cc
+
 -- the writes of an inverse
 planned_same : (z : Sizes) (q : Slots) (rows : List Row) (us vs : List SlotWrite) (d : Deed) → q 0 ≡ Free → IsPlannedFrom z q us (Undid d) → IsPlannedFrom z q vs (Undid d)
     → InverseTakesLowest z q rows d us → InverseTakesLowest z q rows d vs → reverse (writes_of z us) ≡ reverse (writes_of z vs)
@@ -49,6 +53,9 @@ planned_same z q rows us vs (UnlinkHead g n tag body) zero f h l m =
 planned_same z q rows us vs (Close g) zero f h l m =
     let d = sender_same g g f.directory h.directory (sym f.directory_is ∙ h.directory_is) in
     f.writes ∙ ap (λ (d : Directory). directory_write (layout_of z) g d (record d { closed = false }) ∷ []) d ∙ sym h.writes
+planned_same z q rows us vs (Mark c tag previous) zero f h l m =
+    let e = client_same f.held h.held (sym f.held_is ∙ h.held_is) in
+    f.writes ∙ ap (λ (k : ClientSlot). client_write (layout_of z) k (record k { count = k.count - 1; tag = previous }) ∷ []) e ∙ sym h.writes
 
 undo_told : (z : Sizes) (q : Slots) (rows : List Row) (u v : Under) (f : Finished) → q 0 ≡ Free → IsUndoPlan z q u f → IsUndoPlan z q v f
     → InverseTakesLowest z q rows f.deed u.writes → InverseTakesLowest z q rows f.deed v.writes → u.number ≡ v.number → under_told z u ≡ under_told z v

@@ -80,7 +80,7 @@ pub fn dues(
     ended: &mut EndedTransactions,
     lsn: Lsn,
     record: &Record,
-) -> (Result<bool, Refusal>, Result<bool, Refusal>)
+) -> (Result<(), Refusal>, Result<(), Refusal>)
     requires same { first.old ≡ second.old }
     ensures { IfOk result.0 (λ _. IfOk result.1 (λ _. first.new ≡ second.new)) }
 {
@@ -97,7 +97,7 @@ pub fn notes(
     second: &mut OpenWork,
     lsn: Lsn,
     record: &Record,
-) -> (Result<bool, Refusal>, Result<bool, Refusal>)
+) -> (Result<(), Refusal>, Result<(), Refusal>)
     requires same { first.old ≡ second.old }
     ensures { IfOk result.0 (λ _. IfOk result.1 (λ _. first.new ≡ second.new)) }
 {

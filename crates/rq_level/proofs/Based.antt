@@ -5,7 +5,7 @@ use Rattle.std.proofs.lemmas.Bool.{and_from, and_parts, cases_Bool, eqb-true, fa
 use Rattle.std.proofs.lemmas.List.{reverse-reverse}
 use Rattle.std.proofs.lemmas.List.Elements.{All-cons, All-nil, All-weaker, recursion_from_All}
 use Rattle.rq_model.specs.declared.record.Deed.{Deed}
-use Rattle.rq_model.specs.declared.record.Deed.TheVariants.{Append, UnlinkHead, Close as Close_deed}
+use Rattle.rq_model.specs.declared.record.Deed.TheVariants.{Append, UnlinkHead, Close as Close_deed, Mark}
 use Rattle.rq_model.specs.Vocabulary.{In}
 use Rattle.rq_model.proofs.Lists.{In-map, In-reverse, In-to}
 use Rattle.rq_page.specs.declared.cell.Cell.{Cell}
@@ -59,7 +59,7 @@ pub holds_at : (z : Sizes) (given : List Given) (a : ℕ) (x : Slot) (bytes : Li
 holds_at z given a x bytes e h = subst (HoldsBytes z a x) e h
 
 -- bytes of a slot are the spelling of what it holds
-same_bytes : (z : Sizes) (page slot : ℕ) (x y : List ℕ) → IsSlotOf z page slot x → IsSlotOf z page slot y → held_in z page x ≡ held_in z page y → x ≡ y
+pub same_bytes : (z : Sizes) (page slot : ℕ) (x y : List ℕ) → IsSlotOf z page slot x → IsSlotOf z page slot y → held_in z page x ≡ held_in z page y → x ≡ y
 same_bytes z page slot x y is it e = sym (slot_is_spelling z page slot x is).1 ∙ ap slot_bytes e ∙ (slot_is_spelling z page slot y it).1
 
 pub free_is : (z : Sizes) (page slot : ℕ) (x : List ℕ) → IsSlotOf z page slot x → held_in z page x ≡ Free → x ≡ free_bytes
@@ -160,6 +160,7 @@ undone z (Some (UnlinkHead s n tag body)) k given latched p after m = record {
   based = (inl (m.can.directory_is, tt), relinked_based z k given latched after _ m.can.old _ _ m.can.beside (inr (m.lowest, refl, m.kept), tt));
 }
 undone z (Some (Close_deed s)) k given latched p after m = marked z k given latched s false p after m.marked
+undone z (Some (Mark c tag previous)) k given latched p after m = absurd m
 undone z None k given latched p after m = absurd m
 
 module _ (z : Sizes) (k : LevelState) (given : List Given) (latched : List ℕ) (p : Plan) (after : LevelState) (m : IsChainPlan z k given latched p after) where

@@ -3,10 +3,11 @@ use Rattle.std.proofs.Common.{◌≡◌, ◌≢◌, ◌⊎◌, ℕ, ◌/◌, ◌
 use Rattle.std.proofs.lemmas.Bool.{cases_Bool, eqb-true, false≢true}
 use Rattle.std.proofs.lemmas.List.{reverse-reverse, set-set}
 use Rattle.rq_model.specs.declared.record.Deed.{Deed}
-use Rattle.rq_model.specs.declared.record.Deed.TheVariants.{Append, UnlinkHead, Close as Close_deed}
+use Rattle.rq_model.specs.declared.record.Deed.TheVariants.{Append, UnlinkHead, Close as Close_deed, Mark}
 use Rattle.rq_model.specs.declared.record.Record.{Record}
 use Rattle.rq_model.specs.declared.record.Record.TheVariants as records
-use Rattle.rq_model.specs.Deeds.{deed_by, deed_in}
+use Rattle.rq_model.proofs.Deeds.{told_by_its_level}
+use Rattle.rq_model.specs.Deeds.{deed_by, deed_in, deed_level}
 use Rattle.rq_model.specs.Vocabulary.{In, is_some}
 use Rattle.rq_page.specs.declared.cell.Cell.{Cell}
 use Rattle.rq_page.specs.Cells.{free_bytes}
@@ -58,13 +59,17 @@ module _ (k : LevelState) (given : List Given) (latched : List ℕ) (p : Plan) (
   backed (records.OpEnd t n level deed) h = undoing k.sizes (deed_by level deed) refl h
   backed _ h = absurd h
 
-deed_back : (k : LevelState) (given : List Given) (latched : List ℕ) (p : Plan) (after : LevelState) (z : Option Sizes) (d : Option Deed) → Undoes z d k given latched (Ok p) after → is_some d ≡ true
-deed_back k given latched p after (Some z) (Some d) h = refl
+-- what is taken back is a deed of chains
+deed_back : (k : LevelState) (given : List Given) (latched : List ℕ) (p : Plan) (after : LevelState) (z : Option Sizes) (d : Option Deed) → Undoes z d k given latched (Ok p) after → (e : Deed) × (d ≡ Some e) × (deed_level e ≡ 1)
+deed_back k given latched p after (Some z) (Some (Append s n tag previous body)) h = (Append s n tag previous body, refl, refl)
+deed_back k given latched p after (Some z) (Some (UnlinkHead s n tag body)) h = (UnlinkHead s n tag body, refl, refl)
+deed_back k given latched p after (Some z) (Some (Close_deed s)) h = (Close_deed s, refl, refl)
+deed_back k given latched p after (Some z) (Some (Mark c tag previous)) h = absurd h
 deed_back k given latched p after (Some z) None h = absurd h
 deed_back k given latched p after None (Some d) h = absurd h
 deed_back k given latched p after None None h = absurd h
 
--- only the level of chains has deeds, and is asked for something
+-- only the level of chains is asked for something
 pub of_chains : {X : Type 0} (n : ℕ) (o : Option X) → is_some (cond (nat_eq n 1) o None) ≡ true → n ≡ 1
 of_chains n o some = elim (cases_Bool (nat_eq n 1)) [
   | inl one ↦ eqb-true n 1 one
@@ -73,9 +78,9 @@ of_chains n o some = elim (cases_Bool (nat_eq n 1)) [
 
 pub back_read : (k : LevelState) (told : Record) (given : List Given) (latched : List ℕ) (p : Plan) (after : LevelState) → chain_undoes k told given latched (Ok p) after → TellsDeedOf 1 told
 back_read k (records.OpEnd t n level deed) given latched p after h =
-    let some = deed_back k given latched p after k.sizes (deed_by level deed) h in
-    let one : level ≡ 1 = of_chains level (deed_in deed) some in
-    (one, sym (ap (λ l. is_some (deed_by l deed)) one) ∙ some)
+    let back = deed_back k given latched p after k.sizes (deed_by level deed) h in
+    let one : level ≡ 1 = sym (told_by_its_level level deed back.0 back.1) ∙ back.2 in
+    (one, sym (ap (λ l. is_some (deed_by l deed)) one) ∙ ap is_some back.1)
 back_read k _ given latched p after h = absurd h
 
 doing_done : (k : LevelState) (given : List Given) (latched : List ℕ) (p : Plan) (after : LevelState) (undo : Bool) (z : Option Sizes) (d : Option Doing) → PlansFor undo z d k given latched (Ok p) after → is_some d ≡ true
@@ -136,16 +141,16 @@ plan_holds q k job given latched p after h = holds k given latched p after (job_
 pub back_holds : (q : ℕ → List ℕ) (k : LevelState) (told : Record) (given : List Given) (latched : List ℕ) (p : Plan) (after : LevelState) → chain_undoes k told given latched (Ok p) after → Knows chain_meaning k q → AreOf k.sizes given → AreAsGiven q given → AreOverSlots q p.writes.items
 back_holds q k told given latched p after h = holds k given latched p after (job_wanted (job_back told)) (backed k given latched p after told h) q
 
-pub plan_writes : (k : LevelState) (job : Job) (given : List Given) (latched : List ℕ) (p : Plan) (after : LevelState) → chain_plans k job given latched (Ok p) after → IsGathered chain_meaning job given → AreWritten given p
+pub plan_writes : (k : LevelState) (job : Job) (given : List Given) (latched : List ℕ) (p : Plan) (after : LevelState) → chain_plans k job given latched (Ok p) after → IsGathered chain_meaning k.sizes job given → AreWritten given p
 plan_writes k job given latched p after h = writes k given latched p after (job_wanted job) (planned k given latched p after job h)
 
-pub back_writes : (k : LevelState) (told : Record) (given : List Given) (latched : List ℕ) (p : Plan) (after : LevelState) → chain_undoes k told given latched (Ok p) after → IsGathered chain_meaning (job_back told) given → AreWritten given p
+pub back_writes : (k : LevelState) (told : Record) (given : List Given) (latched : List ℕ) (p : Plan) (after : LevelState) → chain_undoes k told given latched (Ok p) after → IsGathered chain_meaning k.sizes (job_back told) given → AreWritten given p
 back_writes k told given latched p after h = writes k given latched p after (job_wanted (job_back told)) (backed k given latched p after told h)
 
-pub plan_spares : (k : LevelState) (job : Job) (given : List Given) (latched : List ℕ) (p : Plan) (after : LevelState) → chain_plans k job given latched (Ok p) after → IsGathered chain_meaning job given → AreNoted chain_meaning k given → after ≢ k → AsksForNone k latched given
+pub plan_spares : (k : LevelState) (job : Job) (given : List Given) (latched : List ℕ) (p : Plan) (after : LevelState) → chain_plans k job given latched (Ok p) after → IsGathered chain_meaning k.sizes job given → AreNoted chain_meaning k given → after ≢ k → AsksForNone k latched given
 plan_spares k job given latched p after h w noted_so ne = spares k given latched p after (job_wanted job) (planned k given latched p after job h) w noted_so
 
-pub back_spares : (k : LevelState) (told : Record) (given : List Given) (latched : List ℕ) (p : Plan) (after : LevelState) → chain_undoes k told given latched (Ok p) after → IsGathered chain_meaning (job_back told) given → AreNoted chain_meaning k given → after ≢ k → AsksForNone k latched given
+pub back_spares : (k : LevelState) (told : Record) (given : List Given) (latched : List ℕ) (p : Plan) (after : LevelState) → chain_undoes k told given latched (Ok p) after → IsGathered chain_meaning k.sizes (job_back told) given → AreNoted chain_meaning k given → after ≢ k → AsksForNone k latched given
 back_spares k told given latched p after h w noted_so ne = spares k given latched p after (job_wanted (job_back told)) (backed k given latched p after told h) w noted_so
 
 pub plan_takes : (k : LevelState) (job : Job) (given : List Given) (latched : List ℕ) (p : Plan) (after : LevelState) → chain_plans k job given latched (Ok p) after → Chooses k given after p
@@ -219,6 +224,7 @@ module _ (k : LevelState) (given : List Given) (latched : List ℕ) (p : Plan) (
   undone_chooses (Some z) (Some (Append s n tag previous body)) told h = same_kept chain_meaning p.writes.items after k h.kept
   undone_chooses (Some z) (Some (UnlinkHead s n tag body)) told h = new_first z p.writes.items _ _ h.can.old _ _ after k h.writes refl h.slots told (lowest_cell z k latched h.new h.lowest) (taken z h.new told h.lowest h.kept)
   undone_chooses (Some z) (Some (Close_deed s)) told h = same_kept chain_meaning p.writes.items after k h.kept
+  undone_chooses (Some z) (Some (Mark c tag previous)) told h = absurd h
   undone_chooses (Some z) None told h = absurd h
   undone_chooses None (Some d) told h = absurd h
   undone_chooses None None told h = absurd h

@@ -5,7 +5,7 @@ use Rattle.std.specs.Prelude.{reverse}
 use Rattle.rq_page.specs.Sizes.{Sizes}
 use Rattle.rq_page.specs.declared.cell.Cell.{Cell}
 use Rattle.rq_model.specs.declared.record.Deed.{Deed}
-use Rattle.rq_model.specs.declared.record.Deed.TheVariants.{Append, UnlinkHead, Close as Close_deed}
+use Rattle.rq_model.specs.declared.record.Deed.TheVariants.{Append, UnlinkHead, Close as Close_deed, Mark}
 use Rattle.rq_model.specs.declared.record.Record.{Record}
 use Rattle.rq_model.specs.declared.record.Record.TheVariants as records
 use Rattle.rq_model.specs.Deeds.{deed_by}
@@ -57,6 +57,7 @@ undone : (z : Option Sizes) (d : Option Deed) (k : LevelState) (given : List Giv
 undone (Some z) (Some (Append s n tag previous body)) k given latched p after h = three z p.writes.items _ _ _ _ _ h.writes
 undone (Some z) (Some (UnlinkHead s n tag body)) k given latched p after h = three z p.writes.items _ _ _ _ _ h.writes
 undone (Some z) (Some (Close_deed s)) k given latched p after h = one z p.writes.items _ h.marked.writes
+undone (Some z) (Some (Mark c tag previous)) k given latched p after h = absurd h
 undone (Some z) None k given latched p after h = absurd h
 undone None (Some d) k given latched p after h = absurd h
 undone None None k given latched p after h = absurd h
@@ -94,6 +95,7 @@ silent : (z : Option Sizes) (d : Option Deed) (k : LevelState) (given : List Giv
 silent (Some z) (Some (Append s n tag previous body)) k given latched p after h = (h.inverse.deed, h.inverse.reply)
 silent (Some z) (Some (UnlinkHead s n tag body)) k given latched p after h = (h.inverse.deed, h.inverse.reply)
 silent (Some z) (Some (Close_deed s)) k given latched p after h = (h.inverse.deed, h.inverse.reply)
+silent (Some z) (Some (Mark c tag previous)) k given latched p after h = absurd h
 silent (Some z) None k given latched p after h = absurd h
 silent None (Some d) k given latched p after h = absurd h
 silent None None k given latched p after h = absurd h

@@ -1,5 +1,5 @@
 -- Each level keeps its laws.
-use Rattle.std.proofs.Common.{◌≡◌, ◌≢◌, ℕ, zero, suc, ◌+◌, ◌*◌, ◌<◌, nat_lt, Err, arith, List, [], ◌∷◌, Bool, true, false, cond, nat_eq, Option, None, Some, length, set, refl, sym, ap, ◌∙◌, inl, inr}
+use Rattle.std.proofs.Common.{◌≡◌, ◌≢◌, ℕ, zero, suc, ◌+◌, ◌*◌, nat_lt, Err, arith, List, [], ◌∷◌, Bool, true, false, cond, nat_eq, Option, None, Some, length, set, refl, sym, ap, ◌∙◌, inl, inr}
 use Rattle.std.proofs.lemmas.Bool.{cases_Bool, false≢true, le-ltb}
 use Rattle.rq_page.specs.Pages.{lsn_of}
 use Rattle.std.proofs.lemmas.List.{length-set, set-set}
@@ -13,33 +13,21 @@ use Rattle.rq_model.specs.declared.refusal.Refusal.{Refusal}
 use Rattle.rq_model.specs.declared.refusal.Refusal.TheVariants as why
 use Rattle.rq_level.specs.Ops.Doing.{Send, Receive, Close}
 use Rattle.rq_level.specs.Given.{given_at}
-use Rattle.rq_level.specs.ChainPlans.{unless_given, Link, along, asking, to_head, to_next, to_prev, to_tail, wanted, undo_wanted, Plans, PlansFor, Undoes, RefusesUnread, RefusesTaking, RefusesOther, CanSend, CanReceive, CanMark, CanUnlinkTail, CanPutBack, chain_undoes}
-use Rattle.rq_model.specs.Deeds.{deed_by, deed_in}
-use Rattle.rq_model.specs.Vocabulary.{is_some}
+use Rattle.rq_level.specs.ChainPlans.{to_head, to_next, to_prev, to_tail, wanted, undo_wanted, Plans, PlansFor, Undoes, RefusesTaking, RefusesOther, CanSend, CanReceive, CanMark, CanUnlinkTail, CanPutBack, chain_undoes}
+use Rattle.rq_model.specs.Deeds.{deed_by}
 use Rattle.rq_model.specs.declared.record.Deed.{Deed}
-use Rattle.rq_model.specs.declared.record.Deed.TheVariants.{Append, UnlinkHead, Close as Close_deed}
+use Rattle.rq_model.specs.declared.record.Deed.TheVariants.{Append, UnlinkHead, Close as Close_deed, Mark}
 use Rattle.rq_level.specs.Meaning.{Redo, IsAppliedOnce, meaning_of, page_meaning, chain_meaning, no_meaning}
 use Rattle.rq_level.specs.Lawful.{IsNotGiven, IsLawful, AllLawful, AppliedTwiceIsOnce, MayHaveNoPlan}
 use Rattle.rq_level.specs.declared.slots.Given.{Given}
 use Rattle.rq_level.proofs.Counted.{few_planned, few_undone, few_written, few_taken_back, silent_undone, silent_taken_back}
 use Rattle.rq_level.proofs.Noting.{alone, any_order}
 use Rattle.rq_level.proofs.ChainLaws as chains
+use Rattle.rq_level.proofs.Gathered.{asks_along, unless}
 use Rattle.rq_level.proofs.Gathered as gathered
 use Rattle.rq_level.proofs.PageLaws as pages
 use Rattle.rq_level.proofs.TakenBack as back
-
-unless : (given : List Given) (a : ℕ) (o : Option (List ℕ)) → given_at a given ≡ o → IsNotGiven given (unless_given a o)
-unless given a None e = e
-unless given a (Some bytes) e = tt
-
-asks_next : (given : List Given) (a : ℕ) (link : Link) (next : ℕ → List Given → Option ℕ) → ((b : ℕ) → IsNotGiven given (next b given)) → (o : Option (List ℕ)) → given_at a given ≡ o
-    → IsNotGiven given (asking a (λ bytes l. cond (nat_eq (link bytes) 0) None (next (link bytes) l)) o given)
-asks_next given a link next h None e = e
-asks_next given a link next h (Some bytes) e = elim (cases_Bool (nat_eq (link bytes) 0)) [ inl y ↦ rw y tt | inr n ↦ rw n (h (link bytes)) ]
-
-asks_along : (given : List Given) (links : List Link) (a : ℕ) → IsNotGiven given (along links a given)
-asks_along given [] a = unless given a (given_at a given) refl
-asks_along given (link ∷ links) a = asks_next given a link (along links) (asks_along given links) (given_at a given) refl
+use Rattle.rq_level.proofs.Unread.{asked_there, may_damage, there_is}
 
 asks_chain : (given : List Given) (d : Option Doing) → IsNotGiven given (wanted d given)
 asks_chain given None = tt
@@ -52,6 +40,7 @@ asks_undo given None = tt
 asks_undo given (Some (Append s n tag previous body)) = asks_along given (to_tail ∷ to_prev ∷ []) (directory_at s)
 asks_undo given (Some (UnlinkHead s n tag body)) = asks_along given (to_head ∷ []) (directory_at s)
 asks_undo given (Some (Close_deed s)) = asks_along given [] (directory_at s)
+asks_undo given (Some (Mark c tag previous)) = tt
 
 asks_job : (given : List Given) (undo : Bool) (e : Option Deed) (d : Option Doing) → IsNotGiven given (cond undo (undo_wanted e given) (wanted d given))
 asks_job given true e d = asks_undo given e
@@ -95,19 +84,10 @@ stays_ready k z a x ne h = record {
   reserved = (let n = h.reserved in let same = (keeps_room k a x).1 in omega (arith, n, same));
 }
 
-there_is : {X : Type 0} (n : ℕ) (o : Option X) → is_some (cond (nat_eq n 1) o None) ≡ true → n < 2
-there_is n o some = let one = chains.of_chains n o some in omega (arith, one)
-
 no_sizes : (k : LevelState) (z y : Sizes) → k.sizes ≡ None → k.sizes ≡ Some y → y ≡ z
 no_sizes k z y none some = absurd (let no : None ≡ Some y = sym none ∙ some in cc)
 
 -- refusals
-may_damage : (k : LevelState) (r : Refusal) (after : LevelState) → RefusesUnread k (Err r) after → MayHaveNoPlan r × (after ≡ k)
-may_damage k (why.Damaged d) after h = (tt, h.1)
-may_damage k why.NoMemory after h = absurd h.0
-may_damage k why.Latched after h = absurd h.0
-may_damage k _ after h = absurd h.0
-
 may_take_none : (z : Sizes) (k : LevelState) (latched : List ℕ) (s : ℕ) (Can : Type 0) (r : Refusal) → RefusesTaking z k latched s Can r → MayHaveNoPlan r
 may_take_none z k latched s Can why.NoMemory h = tt
 may_take_none z k latched s Can why.Latched h = tt
@@ -134,6 +114,7 @@ refuses_back : (z : Option Sizes) (d : Option Deed) (k : LevelState) (given : Li
 refuses_back (Some z) (Some (Append s n tag previous body)) k given latched r after h = (may_other s (CanUnlinkTail z given s n) r h.0, h.1)
 refuses_back (Some z) (Some (UnlinkHead s n tag body)) k given latched r after h = (may_take_none z k latched s (CanPutBack z given s n) r h.0, h.1)
 refuses_back (Some z) (Some (Close_deed s)) k given latched r after h = (may_other s (CanMark z given s false) r h.0, h.1)
+refuses_back (Some z) (Some (Mark c tag previous)) k given latched r after h = may_damage k r after h
 refuses_back (Some z) None k given latched r after h = may_damage k r after h
 refuses_back None (Some d) k given latched r after h = may_damage k r after h
 refuses_back None None k given latched r after h = may_damage k r after h
@@ -190,8 +171,8 @@ pages_lawful = record {
   takes_undo = λ k told given latched p after h. pages.back_takes k given latched p after told h;
   slots = λ k job given latched p after h read. absurd (false≢true read);
   slots_undo = λ k told given latched p after h. pages.back_slots k given latched p after told h;
-  asks = λ job given. asks_page given job.undo (overwrite_by job.level job.bytes);
-  few = λ job given h. gathered.few_written_over job.undo (overwrite_by job.level job.bytes) given h;
+  asks = λ z job given. asks_page given job.undo (overwrite_by job.level job.bytes);
+  few = λ z job given h. gathered.few_written_over job.undo (overwrite_by job.level job.bytes) given h;
   told = λ k job given latched p after h. inr (pages.tells_none k given latched p after job h);
   silent = λ k told given latched p after h. (silent_taken_back k told given latched p after h).0;
   replies = λ k job given latched p after h d told. cc told;
@@ -205,8 +186,8 @@ pages_lawful = record {
   room = λ k a x. (refl, refl);
   no_others = no_sizes;
   stays = λ k z a x ne h. h;
-  reads = λ bytes some. there_is 0 (deed_in bytes) some;
-  asked = λ bytes some. there_is 0 (doing_in bytes) some;
+  reads = there_is 0;
+  asked = λ bytes some. asked_there 0 (doing_in bytes) some;
   own = λ k job given latched p after h. pages.plan_own k given latched p after job h;
   own_back = λ k told given latched p after h. pages.back_read k given latched p after told h;
 }
@@ -229,8 +210,8 @@ chains_lawful = record {
   takes_undo = chains.back_takes;
   slots = λ k job given latched p after h read. chains.plan_slots k job given latched p after h;
   slots_undo = chains.back_slots;
-  asks = λ job given. asks_job given job.undo (deed_by job.level job.bytes) (doing_by job.level job.bytes);
-  few = λ job given h. gathered.few_asked job.undo (deed_by job.level job.bytes) (doing_by job.level job.bytes) given h;
+  asks = λ z job given. asks_job given job.undo (deed_by job.level job.bytes) (doing_by job.level job.bytes);
+  few = λ z job given h. gathered.few_asked job.undo (deed_by job.level job.bytes) (doing_by job.level job.bytes) given h;
   told = λ k job given latched p after h. chains.plan_told job.undo k.sizes (doing_by job.level job.bytes) k given latched p after h;
   silent = λ k told given latched p after h. (silent_undone k told given latched p after h).0;
   replies = λ k job given latched p after h. chains.plan_replies job.undo k.sizes (doing_by job.level job.bytes) k given latched p after h;
@@ -244,8 +225,8 @@ chains_lawful = record {
   room = keeps_room;
   no_others = λ k z y h told. (let is : Some y ≡ Some z = sym told ∙ h.sizes in cc);
   stays = stays_ready;
-  reads = λ bytes some. there_is 1 (deed_in bytes) some;
-  asked = λ bytes some. there_is 1 (doing_in bytes) some;
+  reads = there_is 1;
+  asked = λ bytes some. asked_there 1 (doing_in bytes) some;
   own = chains.plan_own;
   own_back = chains.back_read;
 }
@@ -268,8 +249,8 @@ none_lawful n = record {
   takes_undo = λ k told given latched p after h. absurd h;
   slots = λ k job given latched p after h. absurd h;
   slots_undo = λ k told given latched p after h. absurd h;
-  asks = λ job given. tt;
-  few = λ job given h. gathered.few_asks_none given h;
+  asks = λ z job given. tt;
+  few = λ z job given h. gathered.few_asks_none given h;
   told = λ k job given latched p after h. absurd h;
   silent = λ k told given latched p after h. absurd h;
   replies = λ k job given latched p after h. absurd h;
@@ -283,8 +264,8 @@ none_lawful n = record {
   room = λ k a x. (refl, refl);
   no_others = no_sizes;
   stays = λ k z a x ne h. h;
-  reads = λ bytes some. there_is n (deed_in bytes) some;
-  asked = λ bytes some. there_is n (doing_in bytes) some;
+  reads = there_is n;
+  asked = λ bytes some. asked_there n (doing_in bytes) some;
   own = λ k job given latched p after h. absurd h;
   own_back = λ k told given latched p after h. absurd h;
 }

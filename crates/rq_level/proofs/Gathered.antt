@@ -1,9 +1,9 @@
 -- Which slots a level asks for, one after the other: three at most, and those that its plan writes.
 use Rattle.std.proofs.Common.{◌≡◌, ℕ, suc, ◌/◌, ◌<◌, ◌≤◌, ◌++◌, nat_eq, cond, List, [], ◌∷◌, Bool, true, false, Option, None, Some, Ok, map, length, refl, sym, ap, ◌∙◌, subst, inl, inr, arith}
-use Rattle.std.proofs.lemmas.Bool.{eq-eqb}
+use Rattle.std.proofs.lemmas.Bool.{cases_Bool, eq-eqb}
 use Rattle.std.proofs.lemmas.List.{append_assoc}
 use Rattle.rq_model.specs.declared.record.Deed.{Deed}
-use Rattle.rq_model.specs.declared.record.Deed.TheVariants.{Append, UnlinkHead, Close as Close_deed}
+use Rattle.rq_model.specs.declared.record.Deed.TheVariants.{Append, UnlinkHead, Close as Close_deed, Mark}
 use Rattle.rq_model.specs.Vocabulary.{In}
 use Rattle.rq_page.specs.declared.cell.Cell.{Cell}
 use Rattle.rq_page.specs.declared.cell.CellSlot.{CellSlot}
@@ -15,7 +15,7 @@ use Rattle.rq_page.specs.Cells.{cell_slot_in}
 use Rattle.rq_page.specs.Directories.{directory_in}
 use Rattle.rq_page.specs.Clients.{client_in}
 use Rattle.rq_page.specs.Kinds.{kind_of}
-use Rattle.rq_page.specs.Sizes.{Sizes, directory_at, sender_count}
+use Rattle.rq_page.specs.Sizes.{Sizes, client_slot_at, directory_at, sender_count}
 use Rattle.rq_page.specs.Slots.{Slot, Free, Used, Sender, Client, held_for, held_in, of_cell_slot, of_directory_slot}
 use Rattle.rq_page.proofs.Addresses.{kind_directory, senders_have_slots}
 use Rattle.rq_level.specs.Asked.{AreWanted}
@@ -23,7 +23,9 @@ use Rattle.rq_level.specs.ChainPlans.{Beside, Plans, Undoes, IsSent, IsReceived,
 use Rattle.rq_level.specs.Given.{GivenHolds, given_at}
 use Rattle.rq_level.specs.Ops.{Doing, Overwrite}
 use Rattle.rq_level.specs.Ops.Doing.{Send, Receive, Close}
+use Rattle.rq_level.specs.Lawful.{IsNotGiven}
 use Rattle.rq_level.specs.PagePlans.{write_wants}
+use Rattle.rq_level.specs.TagPlans.{client_wanted}
 use Rattle.rq_level.specs.declared.slots.Given.{Given}
 use Rattle.rq_level.specs.LevelState.{LevelState}
 use Rattle.rq_level.specs.declared.writes.Plan.{Plan}
@@ -78,6 +80,26 @@ module _ (a : ℕ) (next : List ℕ → Want) (Q : List Given → List Given →
         new front g gs here there (settled a next g.bytes (front ++ g ∷ []) gs there h.1)
     at (Some bytes) e = known front (g ∷ gs) bytes e (settled a next bytes front (g ∷ gs) e h)
 
+-- ---- none is asked for twice
+
+pub unless : (given : List Given) (a : ℕ) (o : Option (List ℕ)) → given_at a given ≡ o → IsNotGiven given (unless_given a o)
+unless given a None e = e
+unless given a (Some bytes) e = tt
+
+asks_next : (given : List Given) (a : ℕ) (link : Link) (next : ℕ → List Given → Option ℕ) → ((b : ℕ) → IsNotGiven given (next b given)) → (o : Option (List ℕ)) → given_at a given ≡ o
+    → IsNotGiven given (asking a (λ bytes l. cond (nat_eq (link bytes) 0) None (next (link bytes) l)) o given)
+asks_next given a link next h None e = e
+asks_next given a link next h (Some bytes) e = elim (cases_Bool (nat_eq (link bytes) 0)) [ inl y ↦ rw y tt | inr n ↦ rw n (h (link bytes)) ]
+
+pub asks_along : (given : List Given) (links : List Link) (a : ℕ) → IsNotGiven given (along links a given)
+asks_along given [] a = unless given a (given_at a given) refl
+asks_along given (link ∷ links) a = asks_next given a link (along links) (asks_along given links) (given_at a given) refl
+
+pub asks_client : (given : List Given) (z : Option Sizes) (c : Option ℕ) → IsNotGiven given (client_wanted z c given)
+asks_client given None c = tt
+asks_client given (Some z) None = tt
+asks_client given (Some z) (Some c) = asks_along given [] (client_slot_at z c)
+
 -- ---- how many
 
 abbrev HasFew : ℕ → Want → Type 0
@@ -127,6 +149,7 @@ few_undo None = fewer 0 3 (λ l. None) (omega arith) none_few
 few_undo (Some (Append s n tag previous body)) = few_along (to_tail ∷ to_prev ∷ []) (directory_at s)
 few_undo (Some (UnlinkHead s n tag body)) = fewer 2 3 _ (omega arith) (few_along (to_head ∷ []) (directory_at s))
 few_undo (Some (Close_deed s)) = fewer 1 3 _ (omega arith) (few_unless (directory_at s))
+few_undo (Some (Mark c tag previous)) = fewer 0 3 (λ l. None) (omega arith) none_few
 
 pub few_asked : (undo : Bool) (e : Option Deed) (d : Option Doing) (given : List Given) → AreWanted (λ l. cond undo (undo_wanted e l) (wanted d l)) [] given → length given ≤ 3
 few_asked true e d given h = few_undo e [] given h
@@ -136,6 +159,11 @@ pub few_written_over : (undo : Bool) (w : Option Overwrite) (given : List Given)
 few_written_over true w given h = fewer 0 3 (λ l. None) (omega arith) none_few [] given h
 few_written_over false None given h = fewer 0 3 (λ l. None) (omega arith) none_few [] given h
 few_written_over false (Some w) given h = fewer 1 3 _ (omega arith) (few_unless w.at) [] given h
+
+pub few_of_client : (z : Option Sizes) (c : Option ℕ) (given : List Given) → AreWanted (client_wanted z c) [] given → length given ≤ 3
+few_of_client None c given h = fewer 0 3 (λ l. None) (omega arith) none_few [] given h
+few_of_client (Some z) None given h = fewer 0 3 (λ l. None) (omega arith) none_few [] given h
+few_of_client (Some z) (Some c) given h = fewer 1 3 _ (omega arith) (few_unless (client_slot_at z c)) [] given h
 
 pub few_asks_none : (given : List Given) → AreWanted (λ l. None) [] given → length given ≤ 3
 few_asks_none given h = fewer 0 3 (λ l. None) (omega arith) none_few [] given h
@@ -281,4 +309,5 @@ module _ (z : Sizes) (k : LevelState) (given : List Given) (latched : List ℕ) 
   undone_touched (Some (Append s n tag previous body)) after h = unsent_touched s n tag previous body after h
   undone_touched (Some (UnlinkHead s n tag body)) after h = returned_touched s n tag body after h
   undone_touched (Some (Close_deed s)) after h = unless_within IsTouched given (directory_at s) (touched after (undone z (Some (Close_deed s)) k given latched p after h) _ h.marked.can.directory_is tt (inl refl))
+  undone_touched (Some (Mark c tag previous)) after h = absurd h
   undone_touched None after h = absurd h

@@ -5,10 +5,12 @@ pub mod Noting
 pub mod Based
 pub mod Gathered
 pub mod ChainLaws
+pub mod Unread
 pub mod PageLaws
 pub mod Anew
 pub mod Links
 pub mod Fits
 pub mod TakenBack
+pub mod TagLaws
 pub mod Counted
 pub mod Superblock

@@ -1,6 +1,6 @@
 -- One level of several changes.
 use Rattle.std.proofs.Common.{◌≡◌, ℕ, zero, suc, ◌+◌, ◌<◌, ◌≤◌, List, [], ◌∷◌, length, map, get_or, set, refl, sym, ap, ◌∙◌, subst, inl, inr, arith}
-use Rattle.std.proofs.lemmas.Bool.{cases_eq}
+use Rattle.std.proofs.lemmas.Bool.{cases_eq, cases_lt}
 use Rattle.std.proofs.lemmas.List.{map-set, get_or-map, length-map, length-set, get_or-set_same, get_or-set_other}
 use Rattle.std.proofs.Math.Seq.{map-set_same}
 use Rattle.rq_level.specs.LevelState.{LevelState}
@@ -75,5 +75,11 @@ one_told m a bytes old mid now h inside e =
       rest = λ i le. ap (λ (l : List LevelState). kept_at l i) e ∙ get_or-set_other mid m i k _ (λ same. omega (arith, le, same)) ∙ h.rest i (omega (arith, le));
     }
 
-pub all_told : (a n : ℕ) (bytes : List ℕ) (old now : List LevelState) → AreToldBelow n a bytes old now → length old ≤ n → AreTold a bytes old now
-all_told a n bytes old now h le = record { count = h.count; each = λ i lt. h.told i (omega (arith, lt, le)) }
+pub all_told : (a n : ℕ) (bytes : List ℕ) (old now : List LevelState) → AreToldBelow n a bytes old now → ((i : ℕ) → n ≤ i → i < length old → NotesNothing (meaning_of i)) → AreTold a bytes old now
+all_told a n bytes old now h idle = record {
+  count = h.count;
+  each = λ i lt. elim (cases_lt i n) [
+    | inl less ↦ h.told i less
+    | inr le ↦ h.rest i le ∙ sym ((idle i le lt).same (kept_at old i) a bytes)
+  ];
+}

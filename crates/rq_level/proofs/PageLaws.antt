@@ -69,7 +69,7 @@ module _ (k : LevelState) (given : List Given) (latched : List ℕ) (p : Plan) (
   asked false None h g = absurd h
   asked false (Some w) h g = all_in (unless_within (λ n. In n (map (λ (w : SlotWrite). w.at) p.writes.items)) given w.at (one_written w.at h.0.before w.after p.writes.items h.0.plan.write) [] given refl g)
 
-  pub plan_writes : (job : Job) → page_plans k job given latched (Ok p) after → IsGathered page_meaning job given → AreWritten given p
+  pub plan_writes : (job : Job) → page_plans k job given latched (Ok p) after → IsGathered page_meaning k.sizes job given → AreWritten given p
   plan_writes job h g = asked job.undo (overwrite_by job.level job.bytes) h g
 
   pub kept : (job : Job) → page_plans k job given latched (Ok p) after → after ≡ k
@@ -94,7 +94,7 @@ module _ (k : LevelState) (given : List Given) (latched : List ℕ) (p : Plan) (
   pub tells_none : (job : Job) → page_plans k job given latched (Ok p) after → (p.deed ≡ []) × (reply_of 0 p ≡ None)
   tells_none job h = let m = written job.undo k (overwrite_by job.level job.bytes) given p after h in (m.3.plan.deed, ap (λ r. replied r None) m.3.plan.reply)
 
-  pub back_writes : (told : Record) → page_undoes k told given latched (Ok p) after → IsGathered page_meaning (job_back told) given → AreWritten given p
+  pub back_writes : (told : Record) → page_undoes k told given latched (Ok p) after → IsGathered page_meaning k.sizes (job_back told) given → AreWritten given p
   back_writes (records.PageOp t n page slot x y) h g = all_in (none_within (λ n. In n (map (λ (w : SlotWrite). w.at) p.writes.items)) given [] given refl g)
   back_writes _ h g = absurd h
 

@@ -26,8 +26,8 @@ AreWanted want front [] = Unit {0}
 AreWanted want front (g ∷ gs) = (want front ≡ Some g.at) × AreWanted want (front ++ g ∷ []) gs
 
 -- these slots were given as the level asked for them, from the first on
-abbrev pub IsGathered : Meaning → Job → List Given → Type 0
-IsGathered m job given = AreWanted (m.want job) [] given
+abbrev pub IsGathered : Meaning → Option Sizes → Job → List Given → Type 0
+IsGathered m z job given = AreWanted (m.want z job) [] given
 
 -- the operation that slots are asked for before a record is taken back
 abbrev pub job_back : Record → Job

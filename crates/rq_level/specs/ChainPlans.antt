@@ -1,7 +1,7 @@
 -- What the level of chains answers to an operation that is to be planned, from the slots that it was given.
 use Rattle.std.specs.Prelude.{◌≡◌, ℕ, ◌+◌, ◌/◌, ◌<◌, ◌≤◌, ◌^◌, Bool, true, false, not, cond, nat_eq, List, [], ◌∷◌, reverse, Option, None, Some, Result, Ok, Err}
 use Rattle.rq_model.specs.declared.record.Deed.{Deed}
-use Rattle.rq_model.specs.declared.record.Deed.TheVariants.{Append, UnlinkHead, Close as Close_deed}
+use Rattle.rq_model.specs.declared.record.Deed.TheVariants.{Append, UnlinkHead, Close as Close_deed, Mark}
 use Rattle.rq_model.specs.declared.record.Record.{Record}
 use Rattle.rq_model.specs.declared.record.Record.TheVariants.{OpEnd}
 use Rattle.rq_model.specs.declared.refusal.Damage.{Damage}
@@ -279,6 +279,7 @@ undo_wanted None given = None
 undo_wanted (Some (Append s n tag previous body)) given = along (to_tail ∷ to_prev ∷ []) (directory_at s) given
 undo_wanted (Some (UnlinkHead s n tag body)) given = along (to_head ∷ []) (directory_at s) given
 undo_wanted (Some (Close_deed s)) given = along [] (directory_at s) given
+undo_wanted (Some (Mark c tag previous)) given = None
 
 abbrev pub job_wanted : Job → List Given → Option ℕ
 job_wanted job given =

@@ -10,14 +10,14 @@ use Rattle.rq_page.specs.Sizes.{Sizes, IsCellAddress, place_of}
 use Rattle.rq_views.specs.Chain.{View}
 use Rattle.rq_views.specs.Items.{layout_of}
 use Rattle.rq_views.specs.Log.{Slots}
-use Rattle.rq_views.specs.Plans.{ShowsAt, deed_sender}
+use Rattle.rq_views.specs.Plans.{deed_sender}
 use Rattle.rq_level.specs.LevelState.{LevelState, flag_at}
 use Rattle.rq_level.specs.Ops.{Job, doing_by}
 use Rattle.rq_level.specs.Given.{given_at}
 use Rattle.rq_level.specs.Writes.{answer_of, reply_of}
 use Rattle.rq_level.specs.Asked.{IsGathered, job_back, answer_back, TellsDeedOf, AreNoted, AreOver, AreBackOver, AreWritten, AsksForNone, Knows, AreAsGiven, StandsYet, AreOverSlots, Chooses, ChoosesBack, MayChoose, AreOfSlots, AreBackOfSlots}
 use Rattle.rq_level.specs.OwnState.{OwnStateIsAnew}
-use Rattle.rq_level.specs.TakenBack.{AreOverHeld, LeavesOthers, newest_first}
+use Rattle.rq_level.specs.TakenBack.{AreOverHeld, LeavesOthers, ShowsOf, newest_first}
 use Rattle.rq_level.specs.Meaning.{Meaning, OfPlans, OfBacks, AreOf, Redo, AppliesOnce, level_count, meaning_of}
 use Rattle.rq_level.specs.declared.slots.Given.{Given}
 
@@ -58,12 +58,12 @@ pub record IsLawful (n : ℕ) (m : Meaning) : Type 0 where
   pub holds_undo : (q : ℕ → List ℕ) → OfBacks m (λ k told given latched p after. Knows m k q → AreOf k.sizes given
       → AreAsGiven q given → StandsYet q told → AreOverSlots q p.writes.items)
   -- each slot that it asked for is written
-  pub asked_is_written : OfPlans m (λ k job given latched p after. IsGathered m job given → AreWritten given p)
-  pub asked_is_written_undo : OfBacks m (λ k told given latched p after. IsGathered m (job_back told) given → AreWritten given p)
+  pub asked_is_written : OfPlans m (λ k job given latched p after. IsGathered m k.sizes job given → AreWritten given p)
+  pub asked_is_written_undo : OfBacks m (λ k told given latched p after. IsGathered m k.sizes (job_back told) given → AreWritten given p)
   -- where it takes a cell, it did not ask for it
-  pub spares : OfPlans m (λ k job given latched p after. IsGathered m job given → AreNoted m k given → after ≢ k
+  pub spares : OfPlans m (λ k job given latched p after. IsGathered m k.sizes job given → AreNoted m k given → after ≢ k
       → AsksForNone k latched given)
-  pub spares_undo : OfBacks m (λ k told given latched p after. IsGathered m (job_back told) given → AreNoted m k given
+  pub spares_undo : OfBacks m (λ k told given latched p after. IsGathered m k.sizes (job_back told) given → AreNoted m k given
       → after ≢ k → AsksForNone k latched given)
   -- a slot that it writes and did not ask for is the cell that it chooses
   pub takes : OfPlans m (λ k job given latched p after. Chooses k given after p)
@@ -72,8 +72,8 @@ pub record IsLawful (n : ℕ) (m : Meaning) : Type 0 where
   pub slots : OfPlans m (λ k job given latched p after. is_some (deed_by n p.deed) ≡ true → AreOfSlots k p)
   pub slots_undo : OfBacks m (λ k told given latched p after. AreBackOfSlots told k p)
   -- it asks for no slot twice, and for three at most
-  pub asks : (job : Job) (given : List Given) → IsNotGiven given (m.want job given)
-  pub few : (job : Job) (given : List Given) → IsGathered m job given → length given ≤ 3
+  pub asks : (z : Option Sizes) (job : Job) (given : List Given) → IsNotGiven given (m.want z job given)
+  pub few : (z : Option Sizes) (job : Job) (given : List Given) → IsGathered m z job given → length given ≤ 3
   -- a plan tells a deed that the level reads, or none, and then has no reply; what takes something back tells none
   pub told : OfPlans m (λ k job given latched p after. (is_some (deed_by n p.deed) ≡ true)
       ⊎ ((p.deed ≡ []) × (reply_of n p ≡ None)))
@@ -82,10 +82,10 @@ pub record IsLawful (n : ℕ) (m : Meaning) : Type 0 where
   pub replies : OfPlans m (λ k job given latched p after. (d : Deed) → deed_by n p.deed ≡ Some d
       → reply_of n p ≡ Some (answer_of d))
   pub replies_undo : OfBacks m (λ k told given latched p after. reply_of n p ≡ answer_back told)
-  -- a plan does to its sender's chain what its deed tells. What takes that back leaves what was done meanwhile on the
-  -- other end. Neither changes another chain
+  -- a plan does to its group what its deed tells. What takes that back leaves what was done meanwhile on the other end.
+  -- Neither changes another group
   pub inverse : (z : Sizes) (d : Deed) (v : View) (q : Slots) → OfPlans m (λ k job given latched p after. k.sizes ≡ Some z
-      → deed_by n p.deed ≡ Some d → AreOverHeld q (newest_first z p) → ShowsAt (layout_of z) q (deed_sender d) v
+      → deed_by n p.deed ≡ Some d → AreOverHeld q (newest_first z p) → ShowsOf (layout_of z) q (deed_sender d) v
       → LeavesOthers n m z d v q p)
   -- a plan leaves what the level keeps, or chooses the cell that it writes first
   pub chooses : OfPlans m (λ k job given latched p after. MayChoose m k p.writes.items after)

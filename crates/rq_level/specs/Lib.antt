@@ -4,6 +4,7 @@ pub mod Given
 pub mod LevelState
 pub mod ChainPlans
 pub mod PagePlans
+pub mod TagPlans
 pub mod Meaning
 pub mod Ready
 pub mod Asked

@@ -10,6 +10,7 @@ use Rattle.rq_level.specs.Ops.{Job}
 use Rattle.rq_level.specs.Given.{AreGiven}
 use Rattle.rq_level.specs.ChainPlans.{RefusesUnread, chain_plans, chain_undoes, job_wanted}
 use Rattle.rq_level.specs.PagePlans.{page_plans, page_undoes, page_wants}
+use Rattle.rq_level.specs.TagPlans.{tag_note, tag_plans, tag_undoes, tag_wants}
 use Rattle.rq_level.specs.declared.level.Want.{Want}
 use Rattle.rq_level.specs.declared.level.Want.TheVariants as wants
 use Rattle.rq_level.specs.declared.slots.Given.{Given}
@@ -17,8 +18,8 @@ use Rattle.rq_level.specs.declared.writes.Plan.{Plan}
 use Rattle.rq_page.specs.Sizes.{Sizes}
 
 pub record Meaning : Type 1 where
-  -- the slot that it asks for next, if it asks for one
-  pub want : Job → List Given → Option ℕ
+  -- the slot that it asks for next, of a store whose sizes it was told, if it asks for one
+  pub want : Option Sizes → Job → List Given → Option ℕ
   -- what it may answer to an operation that is to be planned, and what it keeps then
   pub plans : LevelState → Job → List Given → List ℕ → Result Plan Refusal → LevelState → Type 0
   -- and to a record that is to be undone
@@ -44,7 +45,7 @@ OfBacks m P = (k : LevelState) (told : Record) (given : List Given) (latched : L
 
 abbrev pub chain_meaning : Meaning
 chain_meaning = record {
-  want = job_wanted;
+  want = λ z. job_wanted;
   plans = chain_plans;
   undoes = chain_undoes;
   note = noted;
@@ -53,17 +54,27 @@ chain_meaning = record {
 
 abbrev pub page_meaning : Meaning
 page_meaning = record {
-  want = page_wants;
+  want = λ z. page_wants;
   plans = page_plans;
   undoes = page_undoes;
   note = λ k a bytes. k;
   ready = λ z k. k.sizes ≡ None;
 }
 
--- a level that is none refuses everything
+-- what the level of tags is to do; no number has this meaning yet
+abbrev pub tag_meaning : Meaning
+tag_meaning = record {
+  want = tag_wants;
+  plans = tag_plans;
+  undoes = tag_undoes;
+  note = tag_note;
+  ready = λ z k. k.sizes ≡ Some z;
+}
+
+-- a level without a meaning refuses everything
 abbrev pub no_meaning : Meaning
 no_meaning = record {
-  want = λ job given. None;
+  want = λ z job given. None;
   plans = λ k job given latched answer after. RefusesUnread k answer after;
   undoes = λ k r given latched answer after. RefusesUnread k answer after;
   note = λ k a bytes. k;
@@ -76,9 +87,9 @@ meaning_of zero = page_meaning
 meaning_of (suc zero) = chain_meaning
 meaning_of (suc (suc n)) = no_meaning
 
--- how many levels there are: the others have no meaning
+-- how many levels there are; that of tags has no meaning yet
 abbrev pub level_count : ℕ
-level_count = 2
+level_count = 3
 
 -- what is wanted, as a level says it
 abbrev pub wish : Option ℕ → Want

@@ -74,3 +74,27 @@ overwrite_by level bytes = cond (nat_eq level 0) (overwrite_in bytes) None
 -- to do this on the level of single slots
 abbrev pub page_job : ℕ → List ℕ → Job
 page_job a after = record { level = 0; undo = false; bytes = big_bytes 8 a ++ after }
+
+-- what the level of tags can be asked to do: to mark a tag for a client
+pub record Tagging : Type 0 where
+  pub client : ℕ
+  pub tag : ℕ
+
+-- the fields of a mark, where these bytes are they
+abbrev pub tagging_fields : List ℕ → Option Tagging
+tagging_fields fields =
+    cond (nat_eq (length fields) 12) (Some (record { client = big_number 4 fields; tag = big_number 8 (drop 4 fields) }))
+    None
+
+-- what these bytes ask that level for
+abbrev pub tagging_in : List ℕ → Option Tagging
+tagging_in [] = None
+tagging_in (kind ∷ fields) = cond (nat_eq kind 1) (tagging_fields fields) None
+
+-- what they ask the level of this number for: that of tags is asked so
+abbrev pub tagging_by : (level : ℕ) → List ℕ → Option Tagging
+tagging_by level bytes = cond (nat_eq level 2) (tagging_in bytes) None
+
+-- to mark a tag for a client on the level of tags
+abbrev pub tag_job : ℕ → ℕ → Job
+tag_job client tag = record { level = 2; undo = false; bytes = 1 ∷ (big_bytes 4 client ++ big_bytes 8 tag) }

@@ -1,7 +1,7 @@
 -- Slot writes of a plan, as writes over what the slots hold, and what a deed's end answers.
 use Rattle.std.specs.Prelude.{◌≡◌, ℕ, ◌/◌, ◌%◌, List, [], ◌∷◌, Option, None, Some, map, option_map, All}
 use Rattle.rq_model.specs.declared.record.Deed.{Deed}
-use Rattle.rq_model.specs.declared.record.Deed.TheVariants.{Append, UnlinkHead, Close}
+use Rattle.rq_model.specs.declared.record.Deed.TheVariants.{Append, UnlinkHead, Close, Mark}
 use Rattle.rq_model.specs.Deeds.{deed_by}
 use Rattle.rq_page.specs.Sizes.{Sizes}
 use Rattle.rq_page.specs.Slots.{held_in, IsSlotOf}
@@ -21,7 +21,7 @@ write_of z w = record { at = w.at; before = held_in z (w.at / 16) w.before; afte
 abbrev pub writes_of : Sizes → List SlotWrite → List Write
 writes_of z ws = map (write_of z) ws
 
--- the write is of a slot of a directory or cell page, and has before and after it what may stand there
+-- the write is of a slot of a directory, cell or tag page, and has before and after it what may stand there
 pub record IsSlotWrite (z : Sizes) (w : SlotWrite) : Type 0 where
   pub place : IsStoreSlot z w.at
   pub before : IsSlotOf z (w.at / 16) (w.at % 16) w.before
@@ -40,6 +40,7 @@ abbrev pub answer_of : Deed → Outcome
 answer_of (Append s n tag previous body) = gives.Sent
 answer_of (UnlinkHead s n tag body) = gives.Message (record { sender = s; tag = tag; body = body })
 answer_of (Close s) = gives.Closed
+answer_of (Mark c tag previous) = gives.Marked
 
 abbrev pub replied : Replies → Option Deed → Option Outcome
 replied replies.Nothing told = None

@@ -3,8 +3,9 @@ ghost use Rattle.std.specs.Prelude.{◌≡◌, ◌≤◌, ℕ, false};
 ghost use Rattle.rq_model.specs.Deeds.{deed_by};
 ghost use Rattle.rq_model.specs.Vocabulary.{is_some};
 ghost use Rattle.rq_level.specs.LevelState.{LevelState};
-ghost use Rattle.rq_level.specs.Lawful.{AllKeepAnew, AllLawful, AppliedTwiceIsOnce};
-ghost use Rattle.rq_level.specs.Meaning.{meaning_of, wish, AreOf, redo_of, AppliesOnce, IsRedo, IsAppliedOnce, NotesNothing};
+ghost use Rattle.rq_level.specs.Lawful.{AllKeepAnew, AllLawful, AppliedTwiceIsOnce, IsLawful};
+ghost use Rattle.rq_level.specs.OwnState.{OwnStateIsAnew};
+ghost use Rattle.rq_level.specs.Meaning.{meaning_of, tag_meaning, wish, AreOf, redo_of, AppliesOnce, IsRedo, IsAppliedOnce, NotesNothing};
 
 use crate::op::Op;
 use crate::slots::{PageSet, Slots};
@@ -47,7 +48,7 @@ pub trait Level: Drop {
     /// What it needs to see next of the slots that the operation writes.
     fn want(&self, op: &Op, given: &Slots) -> Want
         requires { AreOf (kept self.now).sizes given.now }
-        ensures { result ≡ wish ((meaning_of (level self.now)).want op.now given.now) };
+        ensures { result ≡ wish ((meaning_of (level self.now)).want (kept self.now).sizes op.now given.now) };
 
     /// Plans an operation that is to be done, from the slots that it wanted. It takes no free cell on a latched page.
     /// The writes are put into `room`, in place of what stands there.
@@ -171,6 +172,12 @@ pub fn applied_twice_is_once()
 /// Each level keeps its laws, whatever its number.
 pub fn levels_are_lawful()
     ensures { AllLawful }
+{}
+
+/// The level of tags keeps the laws of levels.
+pub fn tags_are_lawful()
+    ensures lawful { IsLawful 2 tag_meaning }
+    ensures anew { OwnStateIsAnew tag_meaning }
 {}
 
 /// Once the slots that were planned or written are noted, each level keeps what the slots, read anew, would give.

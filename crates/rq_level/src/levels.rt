@@ -1,5 +1,5 @@
 //! All levels of a store.
-ghost use Rattle.std.specs.Prelude.{◌≡◌, ℕ, ◌<◌, length, map, slice_set};
+ghost use Rattle.std.specs.Prelude.{◌≡◌, ℕ, ◌<◌, ◌≤◌, length, map, slice_set};
 ghost use Rattle.rq_model.specs.Deeds.{deed_by};
 ghost use Rattle.rq_model.specs.Vocabulary.{is_some};
 ghost use Rattle.rq_level.specs.LevelState.{LevelState};
@@ -22,10 +22,12 @@ pub struct Levels<B: Level> {
     all: Vec<B>,
     // How many of the first keep nothing.
     idle: usize,
+    // From this number on they keep nothing again.
+    end: usize,
 }
 
 impl<B: Level> Model for Levels<B> {
-    ghost use Rattle.std.specs.Prelude.{◌≡◌, ◌<◌, ℕ, List, length, map, slice_index_or};
+    ghost use Rattle.std.specs.Prelude.{◌≡◌, ◌<◌, ◌≤◌, ℕ, List, length, map, slice_index_or};
     ghost use Rattle.rq_level.specs.LevelState.{LevelState};
     ghost use Rattle.rq_level.specs.Meaning.{NotesNothing, meaning_of};
 
@@ -34,7 +36,9 @@ impl<B: Level> Model for Levels<B> {
     ghost view = { λ a. map (λ b. B.kept b) a.all.items };
 
     ghost invariant = { λ a. ((i : ℕ) (d : _) → i < length a.all.items → B.level (slice_index_or a.all.items i d) ≡ i)
-        × ((i : ℕ) → i < a.idle → NotesNothing (meaning_of i)) };
+        × ((i : ℕ) → i < a.idle → NotesNothing (meaning_of i))
+        × (a.end ≤ length a.all.items)
+        × ((i : ℕ) → a.end ≤ i → i < length a.all.items → NotesNothing (meaning_of i)) };
 }
 
 impl<B: Level> Levels<B> {
@@ -44,7 +48,8 @@ impl<B: Level> Levels<B> {
         ensures { result ≡ map (λ b. B.kept b) all.items }
     {
         let idle = idle_of(&all);
-        Levels { all, idle }
+        let end = end_of(&all);
+        Levels { all, idle, end }
     }
 
     /// How many there are.
@@ -66,7 +71,7 @@ impl<B: Level> Levels<B> {
     pub fn want(&self, level: usize, op: &Op, given: &Slots) -> Want
         requires level { level < length self.now }
         requires given { AreOf (kept_at self.now level).sizes given.now }
-        ensures { result ≡ wish ((meaning_of level).want op.now given.now) }
+        ensures { result ≡ wish ((meaning_of level).want (kept_at self.now level).sizes op.now given.now) }
     {
         self.all[level].want(op, given)
     }
@@ -122,7 +127,7 @@ impl<B: Level> Levels<B> {
     pub fn noted(&mut self, at: Addr, bytes: &Slot)
         ensures { AreTold at bytes.now self.old self.new }
     {
-        for level in self.idle..self.all.len() {
+        for level in self.idle..self.end {
             self.tell(level, at, bytes);
         }
     }
@@ -148,4 +153,19 @@ fn idle_of<B: Level>(all: &[B]) -> usize
         }
     }
     all.len()
+}
+
+// The number from which on no level keeps anything.
+fn end_of<B: Level>(all: &[B]) -> usize
+    requires { CountOn 0 (map (λ b. B.level b) all.now) }
+    ensures within { result ≤ length all.now }
+    ensures idle { (i : ℕ) → result ≤ i → i < length all.now → NotesNothing (meaning_of i) }
+{
+    let mut end = 0;
+    for number in 0..all.len() {
+        if all[number].keeps() {
+            end = number + 1;
+        }
+    }
+    end
 }

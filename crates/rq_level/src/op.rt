@@ -1,6 +1,6 @@
 //! Operations to be planned.
 ghost use Rattle.std.specs.Prelude.{◌≡◌, ◌++◌, IfOk, Some, length, ◌≤◌, ◌<◌, ◌/◌, ◌%◌, ◌^◌, true, false};
-ghost use Rattle.rq_level.specs.Ops.{Job, doing_by, chain_job, Send, Receive, Close, page_job, overwrite_by};
+ghost use Rattle.rq_level.specs.Ops.{Job, doing_by, chain_job, Send, Receive, Close, page_job, overwrite_by, tag_job, tagging_by};
 
 use byteorder::{BigEndian, ByteOrder};
 use rq_bytes::end::put;
@@ -83,6 +83,21 @@ impl Op {
         front[0] = 3;
         BigEndian::write_u32(&mut front[1..], sender);
         Op::of(alloc, 1, false, &front, &[])
+    }
+
+    /// To mark a tag for a client.
+    ///
+    /// # Errors
+    /// `NoMemory`.
+    pub fn mark(alloc: Global, client: u32, tag: u64) -> Result<Op, NoMemory>
+        ensures op { IfOk result (λ op. op ≡ tag_job client tag) }
+        ensures told { IfOk result (λ op. tagging_by op.level op.bytes ≡ Some (record { client = client; tag = tag })) }
+    {
+        let mut front = [0; 13];
+        front[0] = 1;
+        BigEndian::write_u32(&mut front[1..], client);
+        BigEndian::write_u64(&mut front[5..], tag);
+        Op::of(alloc, 2, false, &front, &[])
     }
 
     /// To take back what a deed of a level tells.

@@ -25,6 +25,8 @@ pub enum Outcome {
     Message(Message),
     /// A group was closed.
     Closed,
+    /// A client's tag was marked.
+    Marked,
     /// An earlier operation was undone.
     Undone,
 }
@@ -34,7 +36,7 @@ pub enum Outcome {
 pub enum Replies {
     /// Nothing: the operation has no end.
     Nothing,
-    /// What its deed tells: that a message was sent, which one was received, or that a group was closed.
+    /// What its deed tells: that a message was sent, which one was received, that a group was closed or a tag marked.
     Deed,
     /// That an earlier operation was undone.
     Undone,

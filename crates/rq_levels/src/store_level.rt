@@ -1,7 +1,8 @@
-//! One of the two levels of a store.
+//! One of the three levels of a store.
 ghost use Rattle.std.specs.Prelude.{◌≡◌, IfOk, length};
+ghost use Rattle.rq_level.specs.Meaning.{level_count};
 
-use rq_chain::ChainLevel;
+use rq_chain::{ChainLevel, TagLevel};
 use rq_level::{Level, Op, PageSet, Plan, SlotWrite, Slots, Want};
 use rq_model::record::{Record, Slot};
 use rq_model::refusal::Refusal;
@@ -12,13 +13,15 @@ use rq_pageops::PageLevel;
 use rq_planner::StoreLevels;
 use std::alloc::{AllocError, Global};
 
-/// One of the two levels of a store.
+/// One of the three levels of a store.
 #[derive(Drop)]
 pub enum StoreLevel {
     /// That of single slots.
     Slots(PageLevel),
     /// That of chains.
     Chains(ChainLevel),
+    /// That of tags.
+    Tags(TagLevel),
 }
 
 impl Level for StoreLevel {
@@ -32,6 +35,7 @@ impl Level for StoreLevel {
         match self {
             StoreLevel::Slots(level) => level.number(),
             StoreLevel::Chains(level) => level.number(),
+            StoreLevel::Tags(level) => level.number(),
         }
     }
 
@@ -39,6 +43,7 @@ impl Level for StoreLevel {
         match self {
             StoreLevel::Slots(level) => level.reads(deed),
             StoreLevel::Chains(level) => level.reads(deed),
+            StoreLevel::Tags(level) => level.reads(deed),
         }
     }
 
@@ -46,6 +51,7 @@ impl Level for StoreLevel {
         match self {
             StoreLevel::Slots(level) => level.keeps(),
             StoreLevel::Chains(level) => level.keeps(),
+            StoreLevel::Tags(level) => level.keeps(),
         }
     }
 
@@ -53,6 +59,7 @@ impl Level for StoreLevel {
         match self {
             StoreLevel::Slots(level) => level.want(op, given),
             StoreLevel::Chains(level) => level.want(op, given),
+            StoreLevel::Tags(level) => level.want(op, given),
         }
     }
 
@@ -66,6 +73,7 @@ impl Level for StoreLevel {
         match self {
             StoreLevel::Slots(level) => level.plan(room, op, given, latched),
             StoreLevel::Chains(level) => level.plan(room, op, given, latched),
+            StoreLevel::Tags(level) => level.plan(room, op, given, latched),
         }
     }
 
@@ -79,6 +87,7 @@ impl Level for StoreLevel {
         match self {
             StoreLevel::Slots(level) => level.undo(room, record, given, latched),
             StoreLevel::Chains(level) => level.undo(room, record, given, latched),
+            StoreLevel::Tags(level) => level.undo(room, record, given, latched),
         }
     }
 
@@ -86,6 +95,7 @@ impl Level for StoreLevel {
         match self {
             StoreLevel::Slots(level) => level.redo(page, lsn, record),
             StoreLevel::Chains(level) => level.redo(page, lsn, record),
+            StoreLevel::Tags(level) => level.redo(page, lsn, record),
         }
     }
 
@@ -93,6 +103,7 @@ impl Level for StoreLevel {
         match self {
             StoreLevel::Slots(level) => level.noted(at, bytes),
             StoreLevel::Chains(level) => level.noted(at, bytes),
+            StoreLevel::Tags(level) => level.noted(at, bytes),
         }
     }
 }
@@ -101,13 +112,16 @@ impl Level for StoreLevel {
 ///
 /// # Errors
 /// Where memory is wanting.
-pub fn levels_of_store(alloc: Global) -> Result<StoreLevels<StoreLevel>, AllocError> {
+pub fn levels_of_store(alloc: Global) -> Result<StoreLevels<StoreLevel>, AllocError>
+    ensures { IfOk result (λ handed. length handed.levels ≡ level_count) }
+{
     let Ok(chains) = ChainLevel::new(alloc) else {
         return Err(AllocError);
     };
-    let mut levels = Vec::with_capacity(alloc, 2)?;
+    let mut levels = Vec::with_capacity(alloc, 3)?;
     levels.push(StoreLevel::Slots(PageLevel))?;
     levels.push(StoreLevel::Chains(chains))?;
+    levels.push(StoreLevel::Tags(TagLevel))?;
     Ok(StoreLevels::new(levels))
 }
 

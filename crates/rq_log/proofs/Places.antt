@@ -220,5 +220,5 @@ module _ {L : Type 0} (g : Ghosts L) where
 
     pub not_read_again : (e : Refusal) (place : ℕ) (new : L) → (g.honest new → g.honest s.device) → NoneReadFor g e (drop place (g.seen s.device)) s.device new → NotReadAgainFor g e records place s.device new
     not_read_again why.DiskRead place new falls n = n
-    not_read_again (why.Damaged (damage.Record lsn)) place new falls n = (n.0, n.1, λ h r at. let there = read_there (falls h) place r at in n.2 h (r, there.0, is_record place r at, there.1))
+    not_read_again (why.Damaged (damage.Record lsn)) place new falls n = (n.0, n.1, λ h r at. let there = read_there (falls h) place r at in n.2 h (r, there.0, is_record place r at, there.1), n.2)
     not_read_again _ place new falls n = absurd n

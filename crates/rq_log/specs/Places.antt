@@ -1,5 +1,5 @@
 -- Places of a log: a place is how many bytes stand before it.
-use Rattle.std.specs.Prelude.{◌≡◌, ◌↔◌, ℕ, ◌+◌, ◌%◌, ◌^◌, ◌<◌, List, ◌∷◌, ◌++◌, length, Option, Some, None}
+use Rattle.std.specs.Prelude.{◌≡◌, ◌↔◌, ℕ, ◌+◌, ◌%◌, ◌^◌, ◌<◌, List, ◌∷◌, ◌++◌, drop, length, Option, Some, None}
 use Rattle.rq_model.specs.declared.record.Record.{Record}
 use Rattle.rq_model.specs.declared.refusal.Refusal.{Refusal}
 use Rattle.rq_model.specs.declared.refusal.Refusal.TheVariants as why
@@ -56,9 +56,9 @@ module _ {L : Type 0} (g : Ghosts L) where
       × (g.honest new → length (spelled records) < 2 ^ 64 → IsPlace records place → ⊥)
   NotToldFor _ records place old new = ⊥
 
-  -- why none of the records that were read was read again at a place: the device failed, or none of them stands there
+  -- why no record was read again at a place: the device failed, or no record stands there
   abbrev pub NotReadAgainFor : Refusal → List Record → ℕ → L → L → Type 0
   NotReadAgainFor why.DiskRead records place old new = g.faults new ≡ (g.faults old + 1) % 2 ^ 64
   NotReadAgainFor (why.Damaged (damage.Record lsn)) records place old new = (lsn ≡ 0) × (g.faults new ≡ g.faults old)
-      × (g.honest new → (r : Record) → IsAt records place r → ⊥)
+      × (g.honest new → (r : Record) → IsAt records place r → ⊥) × (g.honest new → HoldsRecord (drop place (g.seen old)) → ⊥)
   NotReadAgainFor _ records place old new = ⊥

@@ -2,7 +2,7 @@
 #![tactic(auto)]
 
 ghost use Rattle.std.specs.Prelude.{◌≡◌, ◌+◌, ◌-◌, ◌^◌, ◌⊎◌, ◌<◌, ◌≤◌, ◌∷◌, None, Some, OnOk, OnErr, IfOk, IfErr, IsErrOf, true, false, length};
-ghost use Rattle.rq_model.specs.declared.record.Record.TheVariants.{Base, OpEnd, PageOp};
+ghost use Rattle.rq_model.specs.declared.record.Record.TheVariants.{Base, CompEnd, OpEnd, PageOp};
 ghost use Rattle.rq_model.specs.Bases.{based, gone, is_base, standing};
 ghost use Rattle.rq_disk.specs.Device.{Only, FailureIsCounted};
 ghost use Rattle.rq_record.specs.Spelling.{IsInRange, spelling};
@@ -24,8 +24,8 @@ use rq_model::record::{DeedBytes, Record, Slot};
 use rq_model::refusal::{NoMemory, Refusal};
 use rq_model::txn::{Lsn, Txn};
 use rq_record::{
-    OP_END_BYTES, PAGE_OP_BYTES, base_bytes, encode, put_op_end, put_page_op, shows_fits,
-    shows_size, spelled_len,
+    COMP_END_BYTES, OP_END_BYTES, PAGE_OP_BYTES, base_bytes, encode, put_comp_end, put_op_end,
+    put_page_op, shows_fits, shows_size, spelled_len,
 };
 use std::alloc::Global;
 use std::marker::Model;
@@ -278,6 +278,30 @@ impl<L: LogDevice> Log<L> {
             operation,
             level,
             deed: *deed,
+        };
+        shows_fits(&added);
+        shows_size(&added);
+        self.past.add_plain(&added);
+        self.last += 1;
+        self.last
+    }
+
+    /// Adds the end of a compensation, as `append` does, from its fields.
+    pub fn append_comp_end(&mut self, txn: Txn, operation: u64, undone: Lsn) -> Lsn
+        requires record { IsInRange (CompEnd txn operation undone) }
+        requires room { 37 ≤ self.old.reserved }
+        requires count { length self.old.records < 2 ^ 64 - 1 }
+        requires running { self.old.failed ≡ false }
+        ensures { IsAppended self.old (CompEnd txn operation undone) 37 result self.new }
+    {
+        self.reserved -= COMP_END_BYTES;
+        self.size = self.size.saturating_add(COMP_END_BYTES as u64);
+        put_comp_end(&mut self.buffer, &txn, operation, undone);
+        // For contracts alone: nothing reads it when the program runs.
+        let added = Record::CompEnd {
+            txn,
+            operation,
+            undone,
         };
         shows_fits(&added);
         shows_size(&added);

@@ -147,7 +147,7 @@ impl<L: LogDevice> LogReader<L> {
     /// Reads again the record of a place that `place` told before it was read.
     ///
     /// # Errors
-    /// `DiskRead`; `Damaged`, with no number, where none of those that were read stands there.
+    /// `DiskRead`; `Damaged`, with no number, where no record stands there.
     pub fn at(&mut self, place: u64) -> Result<Record, Refusal>
         ensures found { IfOk result (λ r. L.honest self.new.device → (s : Record)
             → IsAt self.old.records place s → r ≡ s) }

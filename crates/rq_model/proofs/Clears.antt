@@ -5,7 +5,7 @@ use Rattle.rq_model.specs.declared.txn.Txn.{Txn}
 use Rattle.rq_model.specs.declared.refusal.Refusal.{Refusal}
 use Rattle.rq_model.specs.declared.refusal.Refusal.TheVariants.{DiskWrite}
 use Rattle.rq_model.specs.declared.message.Message.{Message}
-use Rattle.rq_model.specs.Vocabulary.{Op, In, has_number, ends, has_txn}
+use Rattle.rq_model.specs.Vocabulary.{Op, In, client_group, has_number, ends, has_txn}
 use Rattle.rq_model.specs.Vocabulary.Op.{Send, Take, End, Mark}
 use Rattle.rq_model.specs.History.{Job, Entry, Call, finished, did_by, ops_by, commits, is_send_by, sends_to, NoneAfterEnd}
 use Rattle.rq_model.specs.History.Job.{Sending, Taking, Ending, Marking, Undoing}
@@ -152,7 +152,10 @@ Clear-started z h l t n left (Ending r) o g good tied x p =
 Clear-started z h l t n left (Taking r) o g good tied x p =
     Clear-change h (Started t n (Taking r)) l t (started n left (Taking r)) o g good x refl (Change-plain h l.committed l.open_ones o (started n left (Taking r) o) g (found_in t l.open_ones o x).0 refl refl (λ m e. absurd (cc)) (λ s e. absurd (cc)))
 Clear-started z h l t n left (Marking client tag) o g good tied x p =
-    Clear-change h (Started t n (Marking client tag)) l t (started n left (Marking client tag)) o g good x refl (Change-plain h l.committed l.open_ones o (started n left (Marking client tag) o) g (found_in t l.open_ones o x).0 refl refl (λ m e. absurd (cc)) (λ s e. absurd (cc)))
+    let r = client_group client in
+    let at = found_in t l.open_ones o x in
+    Clear-change h (Started t n (Marking client tag)) l t (started n left (Marking client tag)) o g good x refl
+    (Change-held z h l t n r o (started n left (Marking client tag) o) g at.0 at.1 (not-false (free_to_send t r l.open_ones) p.1.1.1.1.1.0) refl refl (λ s e. absurd (cc)) (λ m e. absurd (cc)))
 Clear-started z h l t n left Undoing o g good tied x p =
     Clear-change h (Started t n Undoing) l t (started n left Undoing) o g good x refl (Change-plain h l.committed l.open_ones o (started n left Undoing o) g (found_in t l.open_ones o x).0 refl refl (λ m e. absurd (cc)) (λ s e. absurd (cc)))
 

@@ -7,12 +7,12 @@ use Rattle.rq_model.specs.declared.txn.Txn.{Txn}
 use Rattle.rq_model.specs.declared.record.Record.{Record}
 use Rattle.rq_model.specs.declared.record.Record.TheVariants.{Commit}
 use Rattle.rq_model.specs.declared.message.Message.{Message}
-use Rattle.rq_model.specs.Vocabulary.{same_txn, last_or}
+use Rattle.rq_model.specs.Vocabulary.{same_txn, last_or, mark_of}
 use Rattle.rq_model.specs.History.{Group}
 use Rattle.rq_model.specs.Ledger.{tag_of}
 use Rattle.rq_model.specs.Content.{Said, Ending, ending, ends_txn, commits_txn, has_commit, has_end, kept, deeds, no_group, with_deed, with_deeds, content, added_one, added, removed_one, removed, closed_one, closed, shape, tag_after, with_own}
 use Rattle.rq_model.specs.Rules.{uses_send, uses_receive, any_use, holds, EndingMay, KeepsRules}
-use Rattle.rq_model.specs.Content.Said.{Added, Removed, Ended}
+use Rattle.rq_model.specs.Content.Said.{Added, Removed, Ended, Marked}
 use Rattle.rq_model.proofs.Lists.{same_is, same_self}
 use Rattle.rq_model.proofs.Same.{other_same}
 
@@ -37,12 +37,16 @@ pub group_is : (a b c d : ℕ) (x y : ℕ) (u v : Bool) (r q : List Message) →
 group_is a b c d x y u v r q e f g h i = cc
 
 -- one deed over a shape
-shape_one : (s : ℕ) (d : Said) (ds : List Said) → removed s ds ≤ length (added s ds) → with_deed s d (shape s ds) ≡ shape s (d ∷ ds)
-shape_one s (Added m) ds c = elim (cases_Bool (nat_eq m.sender s)) [
+shape_added : (s : ℕ) (m : Message) (ds : List Said) → removed s ds ≤ length (added s ds) → with_deed s (Added m) (shape s ds) ≡ shape s (Added m ∷ ds)
+shape_added s m ds c = elim (cases_Bool (nat_eq m.sender s)) [
   | inl y ↦ rw y (group_is _ _ _ _ _ _ _ _ _ _ (sym (length_push (added s ds) m)) (sym (tag_last (added s ds) m)) (omega arith) refl (sym (drop-append-le (removed s ds) (added s ds) (m ∷ []) c)
       ∙ ap (λ n. drop n (added s ds ++ m ∷ [])) (let e : removed s ds ≡ removed s ds + 0 = omega arith in e)))
   | inr n ↦ rw n (group_is _ _ _ _ _ _ _ _ _ _ refl refl (omega arith) refl (ap (λ n. drop n (added s ds)) (let e : removed s ds ≡ removed s ds + 0 = omega arith in e)))
 ]
+
+shape_one : (s : ℕ) (d : Said) (ds : List Said) → removed s ds ≤ length (added s ds) → with_deed s d (shape s ds) ≡ shape s (d ∷ ds)
+shape_one s (Added m) ds c = shape_added s m ds c
+shape_one s (Marked k tag) ds c = shape_added s (mark_of k tag) ds c
 shape_one s (Removed r) ds c = elim (cases_Bool (nat_eq r.sender s)) [
   | inl y ↦ rw y (group_is _ _ _ _ _ _ _ _ _ _ refl refl refl refl (drop-drop 1 (removed s ds) (added s ds)))
   | inr n ↦ rw n (group_is _ _ _ _ _ _ _ _ _ _ refl refl (omega arith) refl (ap (λ n. drop n (added s ds)) (let e : removed s ds ≡ removed s ds + 0 = omega arith in e)))
@@ -67,23 +71,32 @@ no_use_one : (s : ℕ) (d : Said) (ms : List Message) → uses_send s d ≡ fals
 no_use_one s (Added m) ms e k = rw e k
 no_use_one s (Removed m) ms e k = k
 no_use_one s (Ended m) ms e k = k
+no_use_one s (Marked c tag) ms e k = rw e k
 
 no_use : (s : ℕ) (ds : List Said) → any_use (uses_send s) ds ≡ false → added s ds ≡ []
 no_use s [] e = refl
 no_use s (d ∷ ds) e = let p = or_parts (uses_send s d) (any_use (uses_send s) ds) e in no_use_one s d (added s ds) p.0 (no_use s ds p.1)
 
+behind_one : (s : ℕ) (m : Message) (xs ys : List Message) → added_one s (Added m) (xs ++ ys) ≡ xs ++ added_one s (Added m) ys
+behind_one s m xs ys = elim (cases_Bool (nat_eq m.sender s)) [ inl y ↦ rw y (append_assoc xs ys (m ∷ [])) | inr n ↦ rw n refl ]
+
 added_behind : (s : ℕ) (d : Said) (xs ys : List Message) → added_one s d (xs ++ ys) ≡ xs ++ added_one s d ys
-added_behind s (Added m) xs ys = elim (cases_Bool (nat_eq m.sender s)) [ inl y ↦ rw y (append_assoc xs ys (m ∷ [])) | inr n ↦ rw n refl ]
+added_behind s (Added m) xs ys = behind_one s m xs ys
 added_behind s (Removed r) xs ys = refl
 added_behind s (Ended r) xs ys = refl
+added_behind s (Marked c tag) xs ys = behind_one s (mark_of c tag) xs ys
 
-added_over : (s : ℕ) (d : Said) (xs ys : List Message) → (uses_send s d ≡ true → ys ≡ []) → added_one s d (xs ++ ys) ≡ added_one s d xs ++ ys
-added_over s (Added m) xs ys f = elim (cases_Bool (nat_eq m.sender s)) [
+over_one : (s : ℕ) (m : Message) (xs ys : List Message) → (uses_send s (Added m) ≡ true → ys ≡ []) → added_one s (Added m) (xs ++ ys) ≡ added_one s (Added m) xs ++ ys
+over_one s m xs ys f = elim (cases_Bool (nat_eq m.sender s)) [
   | inl y ↦ rw (f y) (rw (append-nil xs, append-nil (added_one s (Added m) xs)) refl)
   | inr n ↦ rw n refl
 ]
+
+added_over : (s : ℕ) (d : Said) (xs ys : List Message) → (uses_send s d ≡ true → ys ≡ []) → added_one s d (xs ++ ys) ≡ added_one s d xs ++ ys
+added_over s (Added m) xs ys f = over_one s m xs ys f
 added_over s (Removed r) xs ys f = refl
 added_over s (Ended r) xs ys f = refl
+added_over s (Marked c tag) xs ys f = over_one s (mark_of c tag) xs ys f
 
 -- t has used no sending end that another may use now
 pub unused : (f : Said → Bool) (log : List Record) (t u : Txn) → has_end log t ≡ false → same_txn u t ≡ false → ((v : Txn) → holds f log v ≡ true → v ≡ u) → any_use f (deeds (only t) log) ≡ false
@@ -148,20 +161,29 @@ kept_agree : (p q : Txn → Bool) (w : Option Ending) (xs ys : List Said) → ((
 kept_agree p q None xs ys f e = e
 kept_agree p q (Some d) xs ys f e = ap (λ b. cond b (d.said ∷ xs) xs) (f d.txn) ∙ ap (λ l. cond (q d.txn) (d.said ∷ l) l) e
 
+grows_one : (s : ℕ) (m : Message) (xs ys : List Message) → length xs ≤ length ys → length (added_one s (Added m) xs) ≤ length (added_one s (Added m) ys)
+grows_one s m xs ys h = elim (cases_Bool (nat_eq m.sender s)) [ inl y ↦ rw y (omega (arith, h, length_push xs m, length_push ys m)) | inr n ↦ rw n h ]
+
 added_grows : (s : ℕ) (d : Said) (xs ys : List Message) → length xs ≤ length ys → length (added_one s d xs) ≤ length (added_one s d ys)
-added_grows s (Added m) xs ys h = elim (cases_Bool (nat_eq m.sender s)) [ inl y ↦ rw y (omega (arith, h, length_push xs m, length_push ys m)) | inr n ↦ rw n h ]
+added_grows s (Added m) xs ys h = grows_one s m xs ys h
 added_grows s (Removed r) xs ys h = h
 added_grows s (Ended r) xs ys h = h
+added_grows s (Marked c tag) xs ys h = grows_one s (mark_of c tag) xs ys h
+
+more_one : (s : ℕ) (m : Message) (xs : List Message) → length xs ≤ length (added_one s (Added m) xs)
+more_one s m xs = elim (cases_Bool (nat_eq m.sender s)) [ inl y ↦ rw y (omega (arith, length_push xs m)) | inr n ↦ rw n (omega arith) ]
 
 added_more : (s : ℕ) (d : Said) (xs : List Message) → length xs ≤ length (added_one s d xs)
-added_more s (Added m) xs = elim (cases_Bool (nat_eq m.sender s)) [ inl y ↦ rw y (omega (arith, length_push xs m)) | inr n ↦ rw n (omega arith) ]
+added_more s (Added m) xs = more_one s m xs
 added_more s (Removed r) xs = omega arith
 added_more s (Ended r) xs = omega arith
+added_more s (Marked c tag) xs = more_one s (mark_of c tag) xs
 
 pub one_take : (s : ℕ) (d : Said) → uses_receive s d ≡ true → removed_one s d ≡ 1
 one_take s (Added m) e = absurd (false≢true e)
 one_take s (Removed r) e = rw e refl
 one_take s (Ended r) e = absurd (false≢true e)
+one_take s (Marked c tag) e = absurd (false≢true e)
 
 last_more : (x : Message) (xs : List Message) (m : Message) (ms : List Message) → last_or x (xs ++ m ∷ ms) ≡ last_or m ms
 last_more x [] m ms = refl
@@ -202,6 +224,7 @@ pub no_take : (s : ℕ) (d : Said) → uses_receive s d ≡ false → removed_on
 no_take s (Added m) e = refl
 no_take s (Removed r) e = rw e refl
 no_take s (Ended r) e = refl
+no_take s (Marked c tag) e = refl
 
 removed_less : (s : ℕ) (p q : Txn → Bool) (w : Option Ending) (log : List Record)
     → ((u : Txn) → p u ≡ true → (q u ≡ true) ⊎ (any_use (uses_receive s) (kept (only u) w (deeds (only u) log)) ≡ false))

@@ -6,7 +6,7 @@ use Rattle.std.proofs.lemmas.List.Sums.{sum_by_push}
 use Rattle.std.proofs.lemmas.Bool.{cases_eq, eq-eqb, ne_eqb}
 use Rattle.rq_model.specs.declared.txn.Txn.{Txn}
 use Rattle.rq_model.specs.declared.record.Record.{Record}
-use Rattle.rq_model.specs.Vocabulary.{Op, sent_for, taken_from}
+use Rattle.rq_model.specs.Vocabulary.{Op, sent_for, taken_from, client_group}
 use Rattle.rq_model.specs.Vocabulary.Op.{Send, Take, End, Mark}
 use Rattle.rq_model.specs.History.{Group}
 use Rattle.rq_model.specs.Ledger.{Done, sent_in, taken_in, rest_in, group_in}
@@ -81,7 +81,11 @@ sum_sent n (Send m ∷ ops) h =
     omega arith
 sum_sent n (Take m ∷ ops) h = sum_sent n ops h.1
 sum_sent n (End s ∷ ops) h = sum_sent n ops h.1
-sum_sent n (Mark client tag ∷ ops) h = sum_sent n ops h.1
+sum_sent n (Mark client tag ∷ ops) h =
+    let f : ℕ → ℕ = λ s. length (filter_map (sent_for s) (Mark client tag ∷ ops)) in
+    let g : ℕ → ℕ = λ s. length (filter_map (sent_for s) ops) in
+    let other : (i : ℕ) → i < n → f i ≡ g i = (λ i j. rw (ne_eqb (client_group client) i (λ e. let k : i ≡ client_group client = sym e in omega (arith, j, k, h.0))) refl) in
+    sum_same f g n other ∙ sum_sent n ops h.1
 
 -- and so each message taken
 pub sum_taken : (n : ℕ) (ops : List Op) → AllBelow n ops → sum_by (λ s. length (filter_map (taken_from s) ops)) (below n) ≡ length (filter is_taken ops)

@@ -23,6 +23,8 @@ worked_marks = record {
   busy_once_undone = search rules;
   marks_while_undone = λ a. (let e = a.0.0.1.1.1.1.1.0 in cc e);
   sends_for_its_number = search rules;
+  sends_beside_mark = search rules;
+  marks_beside_send = search rules;
   none_is_known = search rules;
   none_is_told = search rules;
   marked_while_busy = λ a. (let e = a.0.0.1.1.1.1.1.0 in cc e);
@@ -38,4 +40,18 @@ worked_marks = record {
   two_records_fit = search rules;
   one_record_fits = search rules;
   full_for_nothing = λ a. (let e = a.0 in cc e);
+  inverse_fits = search rules;
+  inverse_full_for_nothing = λ a. (let e = a.0 in cc e);
+  inverse_full = search rules;
+  inverse_does_not_fit = λ a. (let e = a.0.0.1.1.1.1.0 in cc e);
+  no_transaction = search rules;
+  no_transaction_busy = λ a. (let e = a.0 in cc e);
+  not_open = search rules;
+  not_open_busy = λ a. (let e = a.0 in cc e);
+  unfinished = search rules;
+  unfinished_unknown = λ a. (let e = a.0 in cc e);
+  unknown_where_full = search rules;
+  busy_where_full = search rules;
+  full_where_busy = λ a. (let e = a.0 in cc e);
+  full = search rules;
 }

@@ -9,13 +9,13 @@ use Rattle.rq_model.specs.declared.txn.Txn.{Txn}
 use Rattle.rq_model.specs.declared.record.Record.{Record}
 use Rattle.rq_model.specs.declared.record.Record.TheVariants.{PageOp, PageUndo, OpEnd, OpVoid, CompEnd, Commit, Restart, AbortEnd, Base}
 use Rattle.rq_model.specs.declared.message.Message.{Message}
-use Rattle.rq_model.specs.Vocabulary.{sent_for, taken_from, ends}
+use Rattle.rq_model.specs.Vocabulary.{sent_for, taken_from, ends, client_group, mark_of}
 use Rattle.rq_model.specs.History.{Group}
 use Rattle.rq_model.specs.Ledger.{Done, any_ends, group_in, sent_in, taken_in}
 use Rattle.rq_model.specs.Content.{Said, Ending, ending, commits_txn, has_commit, has_end, kept, deeds, no_group, with_deeds, content, added_one, added, removed_one, removed, closed_one, closed, shape, tag_after, with_own}
 use Rattle.rq_model.specs.Commits.{op_of, ops_told, told, committed_of}
 use Rattle.rq_model.specs.Rules.{KeepsRules, EndingMay}
-use Rattle.rq_model.specs.Content.Said.{Added, Removed, Ended}
+use Rattle.rq_model.specs.Content.Said.{Added, Removed, Ended, Marked}
 use Rattle.rq_model.specs.Groups.{with_ops}
 use Rattle.rq_model.proofs.Commits.{commit_adds, shape_is, covered_log, covered_here, around_itself, group_is, commit_is_end, only, deeds_agree}
 use Rattle.rq_model.proofs.Ends.{any_ends_more}
@@ -23,6 +23,7 @@ use Rattle.rq_model.proofs.Shown.{group_more}
 
 pub sent_one : (s : ℕ) (d : Said) (ms : List Message) → ms ++ filter_map (sent_for s) (op_of d ∷ []) ≡ added_one s d ms
 sent_one s (Added m) ms = elim (cases_Bool (nat_eq m.sender s)) [ inl y ↦ rw y refl | inr n ↦ rw n (append-nil ms) ]
+sent_one s (Marked c tag) ms = elim (cases_Bool (nat_eq (client_group c) s)) [ inl y ↦ rw y refl | inr n ↦ rw n (append-nil ms) ]
 sent_one s (Removed m) ms = append-nil ms
 sent_one s (Ended r) ms = append-nil ms
 
@@ -34,6 +35,7 @@ taken_one : (s : ℕ) (d : Said) → length (filter_map (taken_from s) (op_of d 
 taken_one s (Added m) = refl
 taken_one s (Removed m) = elim (cases_Bool (nat_eq m.sender s)) [ inl y ↦ rw y refl | inr n ↦ rw n refl ]
 taken_one s (Ended r) = refl
+taken_one s (Marked c tag) = refl
 
 pub told_taken : (s : ℕ) (ds : List Said) → length (filter_map (taken_from s) (ops_told ds)) ≡ removed s ds
 told_taken s [] = refl
@@ -45,6 +47,7 @@ ends_one : (s : ℕ) (d : Said) → ends s (op_of d) ≡ closed_one s d
 ends_one s (Added m) = refl
 ends_one s (Removed m) = refl
 ends_one s (Ended r) = refl
+ends_one s (Marked c tag) = refl
 
 pub told_ends : (s : ℕ) (ds : List Said) → any_ends s (ops_told ds) ≡ closed s ds
 told_ends s [] = refl

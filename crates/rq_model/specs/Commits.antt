@@ -4,16 +4,17 @@ use Rattle.rq_model.specs.declared.txn.Txn.{Txn}
 use Rattle.rq_model.specs.declared.record.Record.{Record}
 use Rattle.rq_model.specs.declared.record.Record.TheVariants.{Commit}
 use Rattle.rq_model.specs.Vocabulary.{Op, same_txn}
-use Rattle.rq_model.specs.Vocabulary.Op.{Send, Take, End}
+use Rattle.rq_model.specs.Vocabulary.Op.{Send, Take, End, Mark}
 use Rattle.rq_model.specs.Ledger.{Done}
 use Rattle.rq_model.specs.Content.{Said, deeds}
-use Rattle.rq_model.specs.Content.Said.{Added, Removed, Ended}
+use Rattle.rq_model.specs.Content.Said.{Added, Removed, Ended, Marked}
 
 -- the operations that deeds tell, oldest first
 abbrev pub op_of : Said → Op
 op_of (Added m) = Send m
 op_of (Removed m) = Take m
 op_of (Ended s) = End s
+op_of (Marked c tag) = Mark c tag
 
 abbrev pub ops_told : List Said → List Op
 ops_told [] = []

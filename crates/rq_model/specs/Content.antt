@@ -2,11 +2,11 @@
 use Rattle.std.specs.Prelude.{ℕ, ◌+◌, Bool, true, false, cond, List, [], ◌∷◌, ◌++◌, Option, Some, None, nat_eq, ◌||◌, drop, length}
 use Rattle.rq_model.specs.declared.txn.Txn.{Txn}
 use Rattle.rq_model.specs.declared.record.Deed.{Deed}
-use Rattle.rq_model.specs.declared.record.Deed.TheVariants.{Append, UnlinkHead, Close}
+use Rattle.rq_model.specs.declared.record.Deed.TheVariants.{Append, UnlinkHead, Close, Mark}
 use Rattle.rq_model.specs.declared.record.Record.{Record}
 use Rattle.rq_model.specs.declared.record.Record.TheVariants.{OpEnd, Commit, AbortEnd}
 use Rattle.rq_model.specs.declared.message.Message.{Message}
-use Rattle.rq_model.specs.Vocabulary.{same_txn, last_or}
+use Rattle.rq_model.specs.Vocabulary.{same_txn, last_or, client_group, mark_of}
 use Rattle.rq_model.specs.History.{Group}
 use Rattle.rq_model.specs.Ledger.{tag_of}
 use Rattle.rq_model.specs.Deeds.{deed_by}
@@ -16,11 +16,13 @@ pub data Said : Type 0 where
   Added : (message : Message) → Said
   Removed : (message : Message) → Said
   Ended : (sender : ℕ) → Said
+  Marked : (client tag : ℕ) → Said
 
 abbrev pub said : Deed → Said
 said (Append sender sequence tag previous body) = Added (record { sender = sender; tag = tag; body = body })
 said (UnlinkHead sender sequence tag body) = Removed (record { sender = sender; tag = tag; body = body })
 said (Close sender) = Ended sender
+said (Mark client tag previous) = Marked client tag
 
 -- whose operation ended, and what it said
 pub record Ending : Type 0 where
@@ -79,6 +81,12 @@ with_deed s (Added m) g = cond (nat_eq m.sender s) (record g {
 }) g
 with_deed s (Removed r) g = cond (nat_eq r.sender s) (record g { received = g.received + 1; rest = drop 1 g.rest }) g
 with_deed s (Ended r) g = cond (nat_eq r s) (record g { closed = true }) g
+with_deed s (Marked c tag) g = cond (nat_eq (client_group c) s) (record g {
+  sent = g.sent + 1;
+  last_tag = tag;
+  rest = g.rest ++ mark_of c tag
+      ∷ [];
+}) g
 
 abbrev pub with_deeds : ℕ → List Said → Group → Group
 with_deeds s [] g = g
@@ -93,6 +101,7 @@ abbrev pub added_one : ℕ → Said → List Message → List Message
 added_one s (Added m) ms = cond (nat_eq m.sender s) (ms ++ m ∷ []) ms
 added_one s (Removed r) ms = ms
 added_one s (Ended r) ms = ms
+added_one s (Marked c tag) ms = cond (nat_eq (client_group c) s) (ms ++ mark_of c tag ∷ []) ms
 
 abbrev pub added : ℕ → List Said → List Message
 added s [] = []
@@ -102,6 +111,7 @@ abbrev pub removed_one : ℕ → Said → ℕ
 removed_one s (Added m) = 0
 removed_one s (Removed r) = cond (nat_eq r.sender s) 1 0
 removed_one s (Ended r) = 0
+removed_one s (Marked c tag) = 0
 
 abbrev pub removed : ℕ → List Said → ℕ
 removed s [] = 0
@@ -111,6 +121,7 @@ abbrev pub closed_one : ℕ → Said → Bool
 closed_one s (Added m) = false
 closed_one s (Removed r) = false
 closed_one s (Ended r) = nat_eq r s
+closed_one s (Marked c tag) = false
 
 abbrev pub closed : ℕ → List Said → Bool
 closed s [] = false

@@ -2,7 +2,7 @@
 use Rattle.std.specs.Prelude.{◌≡◌, ℕ, ◌+◌, cond, ◌&&◌, not, List, [], ◌∷◌, ◌++◌, Option, Some, None, nat_eq, nat_lt, length, drop}
 use Rattle.byteorder.specs.Endian.{big_bytes, big_number}
 use Rattle.rq_model.specs.declared.record.Deed.{Deed}
-use Rattle.rq_model.specs.declared.record.Deed.TheVariants.{Append, UnlinkHead, Close}
+use Rattle.rq_model.specs.declared.record.Deed.TheVariants.{Append, UnlinkHead, Close, Mark}
 
 -- the bytes of a deed: its kind, and its fields
 abbrev pub spelled_deed : Deed → List ℕ
@@ -11,6 +11,7 @@ spelled_deed (Append sender sequence tag previous body) =
 spelled_deed (UnlinkHead sender sequence tag body) = 2
     ∷ (big_bytes 4 sender ++ (big_bytes 8 sequence ++ (big_bytes 8 tag ++ body)))
 spelled_deed (Close sender) = 3 ∷ big_bytes 4 sender
+spelled_deed (Mark client tag previous) = 1 ∷ (big_bytes 4 client ++ (big_bytes 8 tag ++ big_bytes 8 previous))
 
 -- the fields of each kind, where these bytes are they
 abbrev pub append_in : List ℕ → Option Deed
@@ -31,6 +32,16 @@ unlink_head_in fields =
 abbrev pub close_in : List ℕ → Option Deed
 close_in fields = cond (nat_eq (length fields) 4) (Some (Close (big_number 4 fields))) None
 
+abbrev pub mark_fields : List ℕ → Option Deed
+mark_fields fields =
+    cond (nat_eq (length fields) 20) (Some (Mark (big_number 4 fields) (big_number 8 (drop 4 fields))
+    (big_number 8 (drop 12 fields)))) None
+
+-- the deed of tags that these bytes are, if they are one
+abbrev pub mark_in : List ℕ → Option Deed
+mark_in [] = None
+mark_in (kind ∷ fields) = cond (nat_eq kind 1) (mark_fields fields) None
+
 -- the deed of chains that these bytes are, if they are one
 abbrev pub deed_in : List ℕ → Option Deed
 deed_in [] = None
@@ -43,10 +54,11 @@ abbrev pub deed_level : Deed → ℕ
 deed_level (Append sender sequence tag previous body) = 1
 deed_level (UnlinkHead sender sequence tag body) = 1
 deed_level (Close sender) = 1
+deed_level (Mark client tag previous) = 2
 
 -- the deed of this level that these bytes are, if they are one
 abbrev pub deed_by : (level : ℕ) → List ℕ → Option Deed
-deed_by level bytes = cond (nat_eq level 1) (deed_in bytes) None
+deed_by level bytes = cond (nat_eq level 1) (deed_in bytes) (cond (nat_eq level 2) (mark_in bytes) None)
 
 -- its level reads it in its bytes
 abbrev pub TellsItself : Deed → Type 0

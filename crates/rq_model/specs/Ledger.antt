@@ -4,22 +4,21 @@ use Rattle.std.specs.List.{filter, filter_map, flat_map, sum_by}
 use Rattle.rq_model.specs.declared.txn.Txn.{Txn}
 use Rattle.rq_model.specs.declared.refusal.Refusal.TheVariants.{DiskWrite}
 use Rattle.rq_model.specs.declared.message.Message.{Message}
-use Rattle.rq_model.specs.Vocabulary.{Op, last, same_txn, sent_for, taken_from, marked_for, ends, has_number, last_or, front}
+use Rattle.rq_model.specs.Vocabulary.{Op, client_group, last, same_txn, sent_for, taken_from, marked_for, ends, has_number, last_or, front}
 use Rattle.rq_model.specs.Vocabulary.Op.{Send, Take, End, Mark}
 use Rattle.rq_model.specs.History.{Job, Group, Entry}
 use Rattle.rq_model.specs.History.Job.{Sending, Taking, Ending, Marking, Undoing}
 use Rattle.rq_model.specs.History.Entry.{Begun, Started, Did, Undid, Committed, Aborting, Aborted, Stepped, Forced, Checkpointed, Refused, Crash, Restarted}
 
 -- A transaction that has not ended. Its operations are those finished and not undone, in order. It holds the sending and
--- receiving ends of these senders, and the ends of the clients that it is `marking`. Of the operation under way, `left`
--- is how many of its slot writes are not made.
+-- receiving ends of these groups: those of senders, and those of clients, which are numbered from 2 ^ 32 on. Of the
+-- operation under way, `left` is how many of its slot writes are not made.
 pub record Open : Type 0 where
   pub txn : Txn
   pub aborting : Bool
   pub ops : List Op
   pub sending : List ℕ
   pub receiving : List ℕ
-  pub marking : List ℕ
   pub number : ℕ
   pub under : Option Job
   pub left : ℕ
@@ -115,7 +114,6 @@ fresh_one t = record {
   ops = [];
   sending = [];
   receiving = [];
-  marking = [];
   number = 0;
   under = None;
   left = 0;
@@ -147,7 +145,7 @@ started n left (Marking client tag) o = record o {
   number = n;
   under = Some (Marking client tag);
   left = left;
-  marking = add_number client o.marking;
+  sending = add_number (client_group client) o.sending;
 }
 started n left Undoing o = record o { number = n; under = Some Undoing; left = left }
 

@@ -2,20 +2,22 @@
 use Rattle.std.specs.Prelude.{◌≡◌, ℕ, ◌<◌, Bool, true, false, List, [], ◌∷◌, Option, Some, None, nat_eq, ◌||◌, length, not, ◌&&◌}
 use Rattle.rq_model.specs.declared.txn.Txn.{Txn}
 use Rattle.rq_model.specs.declared.record.Record.{Record}
-use Rattle.rq_model.specs.Vocabulary.{same_txn}
+use Rattle.rq_model.specs.Vocabulary.{same_txn, client_group}
 use Rattle.rq_model.specs.Content.{Said, Ending, ending, ends_txn, has_commit, has_end, deeds, added, removed}
-use Rattle.rq_model.specs.Content.Said.{Added, Removed, Ended}
+use Rattle.rq_model.specs.Content.Said.{Added, Removed, Ended, Marked}
 
 -- uses the sending end of s
 abbrev pub uses_send : ℕ → Said → Bool
 uses_send s (Added m) = nat_eq m.sender s
 uses_send s (Removed r) = false
 uses_send s (Ended r) = nat_eq r s
+uses_send s (Marked c tag) = nat_eq (client_group c) s
 
 abbrev pub uses_receive : ℕ → Said → Bool
 uses_receive s (Added m) = false
 uses_receive s (Removed r) = nat_eq r.sender s
 uses_receive s (Ended r) = false
+uses_receive s (Marked c tag) = false
 
 abbrev pub any_use : (Said → Bool) → List Said → Bool
 any_use f [] = false

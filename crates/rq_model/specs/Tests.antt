@@ -4,7 +4,7 @@ use Rattle.std.specs.List.{filter, sum_by}
 use Rattle.rq_model.specs.declared.txn.Txn.{Txn}
 use Rattle.rq_model.specs.declared.refusal.Refusal.{Refusal}
 use Rattle.rq_model.specs.declared.refusal.Refusal.TheVariants.{Failed, UnknownTransaction, NotOpen, Unfinished, UnknownSender, TooLong, SenderBusy, Closed, ReceiverBusy, TooManyTransactions, LogFull, UnknownOperation, NotQuiet, UnknownClient, ClientBusy, Full, DiskRead, Latched, PoolFull, DiskWrite, Damaged, NotForced}
-use Rattle.rq_model.specs.Vocabulary.{Op, same_txn, has_number, first, last, is_some}
+use Rattle.rq_model.specs.Vocabulary.{Op, client_group, same_txn, has_number, first, last, is_some}
 use Rattle.rq_model.specs.Vocabulary.Op.{Send, Take, End, Mark}
 use Rattle.rq_model.specs.History.{Job, Call}
 use Rattle.rq_model.specs.History.Call.{Begin, Start_send, Start_receive, Start_receive_from, Start_close, Start_mark, Step, Finish, Commit, Acknowledge, Start_abort, Undo_next, End_abort, Hand_over, Force, Checkpoint, Write_page, Last_tag, Client_tag, Show}
@@ -53,9 +53,6 @@ free_to_send t s os = free_of (λ o. o.sending) t s os
 
 abbrev pub free_to_receive : Txn → ℕ → List Open → Bool
 free_to_receive t s os = free_of (λ o. o.receiving) t s os
-
-abbrev pub free_to_mark : Txn → ℕ → List Open → Bool
-free_to_mark t c os = free_of (λ o. o.marking) t c os
 
 abbrev pub holds_for : Ledger → Open → ℕ → Bool
 holds_for l o s = nat_lt (length (own_takes s o)) (length (rest_in l.committed s))
@@ -165,7 +162,7 @@ tests z l (Start_close t s) =
     ∷ (ended_in l.committed s || has_closed s o, Closed) ∷ (log_full l 2, LogFull) ∷ [])
 tests z l (Start_mark t c tag) =
     ready_tests l t false
-    ++ ((not (nat_lt c z.clients), UnknownClient) ∷ (not (free_to_mark t c l.open_ones), ClientBusy)
+    ++ ((not (nat_lt c z.clients), UnknownClient) ∷ (not (free_to_send t (client_group c) l.open_ones), ClientBusy)
     ∷ (log_full l 2, LogFull) ∷ [])
 tests z l (Step t n) = (not (runs l.phase), Failed) ∷ (not (has_under n (found t l.open_ones)), UnknownOperation) ∷ []
 tests z l (Finish t n) =

@@ -1,5 +1,5 @@
 -- The words that the other files share: operations, tests on transaction numbers, lists.
-use Rattle.std.specs.Prelude.{◌≡◌, ℕ, Bool, true, false, cond, List, [], ◌∷◌, ◌++◌, Option, Some, None, nat_eq, ◌&&◌, ◌||◌, ◌⊎◌}
+use Rattle.std.specs.Prelude.{◌≡◌, ℕ, ◌+◌, ◌^◌, Bool, true, false, cond, List, [], ◌∷◌, ◌++◌, Option, Some, None, nat_eq, ◌&&◌, ◌||◌, ◌⊎◌}
 use Rattle.rq_model.specs.declared.txn.Txn.{Txn}
 use Rattle.rq_model.specs.declared.message.Message.{Message}
 
@@ -13,12 +13,25 @@ pub data Op : Type 0 where
   End : (sender : ℕ) → Op
   Mark : (client tag : ℕ) → Op
 
--- the message that was sent for s
+-- The sender of a client's group: what it marks are messages of an empty body, which nobody takes. No sender of a store
+-- has this number.
+abbrev pub client_group : ℕ → ℕ
+client_group client = 2 ^ 32 + client
+
+-- a message with this body
+abbrev pub message_of : ℕ → ℕ → List ℕ → Message
+message_of sender tag body = record { sender = sender; tag = tag; body = body }
+
+-- what a mark puts into its client's group
+abbrev pub mark_of : ℕ → ℕ → Message
+mark_of client tag = message_of (client_group client) tag []
+
+-- the message that was sent for s; for a client's group, its mark
 abbrev pub sent_for : ℕ → Op → Option Message
 sent_for s (Send m) = cond (nat_eq m.sender s) (Some m) None
 sent_for s (Take m) = None
 sent_for s (End r) = None
-sent_for s (Mark client tag) = None
+sent_for s (Mark client tag) = cond (nat_eq (client_group client) s) (Some (mark_of client tag)) None
 
 -- the message that was received from s
 abbrev pub taken_from : ℕ → Op → Option Message
@@ -79,7 +92,3 @@ IsPrefix {X} xs ys = (rest : List X) × (xs ++ rest ≡ ys)
 abbrev pub In : {X : Type 0} → X → List X → Type 0
 In x [] = ⊥
 In x (y ∷ ys) = (x ≡ y) ⊎ In x ys
-
--- a message with this body
-abbrev pub message_of : ℕ → ℕ → List ℕ → Message
-message_of sender tag body = record { sender = sender; tag = tag; body = body }

@@ -1,16 +1,16 @@
 -- Worked histories with marks of clients: which are legal, what is told of a client, and which are not legal.
-use Rattle.std.specs.Prelude.{◌≡◌, ◌-◌, ◌^◌, ℕ, List, [], ◌∷◌, ◌++◌}
+use Rattle.std.specs.Prelude.{◌≡◌, ◌+◌, ◌-◌, ◌^◌, ℕ, List, [], ◌∷◌, ◌++◌}
 use Rattle.rq_model.specs.declared.txn.Txn.{Txn}
-use Rattle.rq_model.specs.declared.refusal.Refusal.TheVariants.{UnknownClient, ClientBusy, LogFull}
+use Rattle.rq_model.specs.declared.refusal.Refusal.TheVariants.{UnknownTransaction, NotOpen, Unfinished, UnknownClient, ClientBusy, LogFull}
 use Rattle.rq_model.specs.Vocabulary.Op.{Mark}
-use Rattle.rq_model.specs.History.{Entry, Call, marks}
-use Rattle.rq_model.specs.History.Call.{Start_mark, Client_tag}
+use Rattle.rq_model.specs.History.{Entry, marks}
+use Rattle.rq_model.specs.History.Call.{Start_mark, Undo_next, Client_tag}
 use Rattle.rq_model.specs.History.Job.{Marking, Sending, Undoing}
 use Rattle.rq_model.specs.History.Entry.{Begun, Started, Stepped, Did, Undid, Committed, Aborting, Aborted, Refused, Crash, Restarted, Told_client}
 use Rattle.rq_model.specs.Ledger.{ledger, marks_in}
 use Rattle.rq_model.specs.Legal.{IsLegal}
 use Rattle.rq_model.specs.Tests.{Size}
-use Rattle.rq_model.specs.Worked.{txn, small, opened, letter, sent}
+use Rattle.rq_model.specs.Worked.{txn, small, opened, letter, message, sent}
 
 -- the entries of a mark, whose slot write has this LSN
 abbrev pub marked : Txn → ℕ → ℕ → ℕ → ℕ → List Entry
@@ -40,6 +40,15 @@ marked_twice = Committed (txn 1 3) 17 ∷ (marked (txn 1 3) 2 3 73 15 ++ (marked
 abbrev pub undone_and_open : List Entry
 undone_and_open = Undid (txn 1 2) 2 ∷ Stepped (txn 1 2) 2 10 ∷ Started (txn 1 2) 2 Undoing ∷ Aborting (txn 1 2) ∷ two_marked
 
+-- a client's mark and a send for the sender of its number, of transactions that have not ended
+abbrev pub mark_beside_send : List Entry
+mark_beside_send = Started (txn 1 2) 1 (Sending (letter 1 97)) ∷ (marked (txn 1 1) 1 0 70 2 ++
+    (Begun (txn 1 2) ∷ Begun (txn 1 1) ∷ opened))
+
+abbrev pub send_beside_mark : List Entry
+send_beside_mark = Started (txn 1 2) 1 (Marking 0 70) ∷ (sent (txn 1 1) 1 (letter 1 97) 2 ++
+    (Begun (txn 1 2) ∷ Begun (txn 1 1) ∷ opened))
+
 -- a mark that is started, and not finished
 abbrev pub mark_started : List Entry
 mark_started = Started (txn 1 2) 2 (Marking 5 74) ∷ two_marked
@@ -50,6 +59,14 @@ untagged = record { senders = 15; cells = 15; clients = 0 }
 -- a transaction in a log with so many records
 abbrev pub begun_behind : ℕ → List Entry
 begun_behind records = Begun (txn 1 1) ∷ Restarted 1 records ∷ []
+
+-- a mark is under way, and no record more fits
+abbrev pub mark_fills : List Entry
+mark_fills = Begun (txn 1 2) ∷ Started (txn 1 1) 1 (Marking 3 70) ∷ begun_behind (2 ^ 50 - 2)
+
+-- a transaction that marked aborts, in a log that had so many records before
+abbrev pub aborting_behind : ℕ → List Entry
+aborting_behind records = Aborting (txn 1 1) ∷ (marked (txn 1 1) 1 3 70 (records + 1) ++ begun_behind records)
 
 pub record MarksAreWorked : Type 0 where
   -- what is told is what committed transactions marked
@@ -76,7 +93,9 @@ pub record MarksAreWorked : Type 0 where
   pub busy_once_started : IsLegal small (Refused (Start_mark (txn 1 3) 5 72) ClientBusy ∷ mark_started)
   pub busy_once_undone : IsLegal small (Refused (Start_mark (txn 1 3) 3 72) ClientBusy ∷ undone_and_open)
   pub marks_while_undone : IsLegal small (Started (txn 1 3) 1 (Marking 3 72) ∷ undone_and_open) → ⊥
-  pub sends_for_its_number : IsLegal small (Started (txn 1 3) 1 (Sending (letter 3 97)) ∷ two_marked)
+  pub sends_for_its_number : IsLegal small (Started (txn 1 3) 1 (Sending (message 3 1 (97 ∷ []))) ∷ two_marked)
+  pub sends_beside_mark : IsLegal small mark_beside_send
+  pub marks_beside_send : IsLegal small send_beside_mark
   -- a client is known or not: in a store without tag pages none is
   pub unknown_client : IsLegal small (Refused (Start_mark (txn 1 3) 15 1) UnknownClient ∷ two_marked)
   pub unknown_for_nothing : IsLegal small (Refused (Start_mark (txn 1 3) 14 1) UnknownClient ∷ two_marked) → ⊥
@@ -93,3 +112,19 @@ pub record MarksAreWorked : Type 0 where
   pub two_records_fit : IsLegal small (Started (txn 1 1) 1 (Marking 3 70) ∷ begun_behind (2 ^ 50 - 2))
   pub one_record_fits : IsLegal small (Refused (Start_mark (txn 1 1) 3 70) LogFull ∷ begun_behind (2 ^ 50 - 1))
   pub full_for_nothing : IsLegal small (Refused (Start_mark (txn 1 1) 3 70) LogFull ∷ begun_behind (2 ^ 50 - 2)) → ⊥
+  -- so does its inverse
+  pub inverse_fits : IsLegal small (Started (txn 1 1) 2 Undoing ∷ aborting_behind (2 ^ 50 - 4))
+  pub inverse_full_for_nothing : IsLegal small (Refused (Undo_next (txn 1 1)) LogFull ∷ aborting_behind (2 ^ 50 - 4)) → ⊥
+  pub inverse_full : IsLegal small (Refused (Undo_next (txn 1 1)) LogFull ∷ aborting_behind (2 ^ 50 - 3))
+  pub inverse_does_not_fit : IsLegal small (Started (txn 1 1) 2 Undoing ∷ aborting_behind (2 ^ 50 - 3)) → ⊥
+  -- the transaction's state is told before the client's, and the log's last
+  pub no_transaction : IsLegal small (Refused (Start_mark (txn 1 4) 15 1) UnknownTransaction ∷ two_marked)
+  pub no_transaction_busy : IsLegal small (Refused (Start_mark (txn 1 4) 3 1) ClientBusy ∷ two_marked) → ⊥
+  pub not_open : IsLegal small (Refused (Start_mark (txn 1 3) 15 1) NotOpen ∷ Aborting (txn 1 3) ∷ two_marked)
+  pub not_open_busy : IsLegal small (Refused (Start_mark (txn 1 3) 3 1) ClientBusy ∷ Aborting (txn 1 3) ∷ two_marked) → ⊥
+  pub unfinished : IsLegal small (Refused (Start_mark (txn 1 2) 15 1) Unfinished ∷ mark_started)
+  pub unfinished_unknown : IsLegal small (Refused (Start_mark (txn 1 2) 15 1) UnknownClient ∷ mark_started) → ⊥
+  pub unknown_where_full : IsLegal small (Refused (Start_mark (txn 1 2) 15 1) UnknownClient ∷ mark_fills)
+  pub busy_where_full : IsLegal small (Refused (Start_mark (txn 1 2) 3 1) ClientBusy ∷ mark_fills)
+  pub full_where_busy : IsLegal small (Refused (Start_mark (txn 1 2) 3 1) LogFull ∷ mark_fills) → ⊥
+  pub full : IsLegal small (Refused (Start_mark (txn 1 2) 4 1) LogFull ∷ mark_fills)

@@ -75,7 +75,7 @@ pub enum Record {
     },
 }
 
-/// What an operation of the chain level did.
+/// What an operation did: a mark at the level of tags, any other at that of chains.
 #[derive(Clone, Copy, PartialEq, Eq)]
 pub enum Deed {
     /// A message was put at the end of its sender's group. `previous` is the last tag before it.
@@ -96,5 +96,11 @@ pub enum Deed {
     /// A group was closed.
     Close {
         sender: u32,
+    },
+    /// A client's tag was marked. `previous` is the one before it.
+    Mark {
+        client: u32,
+        tag: u64,
+        previous: u64,
     },
 }

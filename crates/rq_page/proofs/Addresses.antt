@@ -1,9 +1,9 @@
--- Addresses of cells and directory slots, and the kinds of their pages.
+-- Addresses of cells, directory slots and clients' slots, and the kinds of their pages.
 use Rattle.std.proofs.Common.{◌≡◌, ℕ, ◌<◌, ◌≤◌, Some, arith}
 use Rattle.std.proofs.lemmas.Bool.Decides.{nat_tests}
 use Rattle.rq_page.specs.Sizes.{Sizes, page_count, tags_from}
 use Rattle.rq_page.specs.Kinds.{kind_of}
-use Rattle.rq_page.specs.Places.{CellsHavePlaces, PlacesAreCells, CellsRise, SendersHaveSlots}
+use Rattle.rq_page.specs.Places.{CellsHavePlaces, PlacesAreCells, CellsRise, SendersHaveSlots, ClientsHaveSlots}
 use Rattle.rq_page.specs.declared.layout.PageKind.TheVariants as kind
 
 pub cells_have_places : CellsHavePlaces
@@ -18,6 +18,9 @@ cells_rise l i j lt = omega arith
 
 pub senders_have_slots : SendersHaveSlots
 senders_have_slots l sender lt = (omega arith, omega arith, omega arith, omega arith)
+
+pub clients_have_slots : ClientsHaveSlots
+clients_have_slots l client lt = (omega arith, omega arith, omega arith, omega arith, omega arith)
 
 -- the kinds of pages
 pub kind_directory : (l : Sizes) (page : ℕ) → 1 ≤ page → page ≤ l.directory → kind_of l page ≡ Some kind.Directory

@@ -43,6 +43,10 @@ directory_at sender = address (1 + sender / 15) (1 + sender % 15)
 abbrev pub sender_at : ℕ → ℕ → ℕ
 sender_at page slot = 15 * (page - 1) + (slot - 1)
 
+-- where a client's slot of a tag page stands
+abbrev pub client_slot_at : Sizes → ℕ → ℕ
+client_slot_at l client = address (tags_from l + client / 15) (1 + client % 15)
+
 -- the client whose slot of a tag page this is
 abbrev pub client_at : Sizes → ℕ → ℕ → ℕ
 client_at l page slot = 15 * (page - tags_from l) + (slot - 1)

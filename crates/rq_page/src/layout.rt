@@ -1,6 +1,6 @@
 //! Where the pages, senders, cells and clients of a store stand.
 ghost use Rattle.std.specs.Prelude.{◌≡◌, ◌↔◌, ◌≤◌, ◌<◌, IsTrue, IsSome, IfSome};
-ghost use Rattle.rq_page.specs.Sizes.{Sizes, IsInRange, IsCellAddress, page_count, tags_from, sender_count, cell_count, directory_at, sender_at, client_at, cell_at, place_of};
+ghost use Rattle.rq_page.specs.Sizes.{Sizes, IsInRange, IsCellAddress, page_count, tags_from, sender_count, cell_count, client_count, directory_at, sender_at, client_slot_at, client_at, cell_at, place_of};
 
 use crate::addr::Addr;
 use std::marker::Model;
@@ -140,6 +140,14 @@ impl Layout {
         SLOTS * self.directory
     }
 
+    /// How many clients there are. They are numbered from 0.
+    pub fn clients(&self) -> u32
+        ensures number { result ≡ client_count self.now }
+        ensures in_range { IsInRange self.now }
+    {
+        SLOTS * self.tags
+    }
+
     /// How many cells there are.
     pub fn cell_slots(&self) -> u32
         ensures number { result ≡ cell_count self.now }
@@ -185,6 +193,17 @@ impl Layout {
     {
         prove!(page <= self.directory);
         SLOTS * (page - 1) + (slot as u32 - 1)
+    }
+
+    /// Where a client's slot of a tag page stands.
+    pub fn client_slot_of(&self, client: u32) -> Addr
+        requires { client < client_count self.now }
+        ensures { result ≡ client_slot_at self.now client }
+    {
+        Addr::new(
+            self.tags_from() + client / SLOTS,
+            (1 + client % SLOTS) as u8,
+        )
     }
 
     /// The client whose slot of a tag page this is.

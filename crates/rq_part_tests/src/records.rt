@@ -1,7 +1,10 @@
 //! Records and deeds, as bytes are read and written.
 use rq_model::message::Body;
+use rq_model::record::DeedBytes;
 use rq_model::txn::Txn;
-use rq_record::{Deed, Record, Step, decode, decode_deed, encode, encode_append};
+use rq_record::{
+    Deed, Record, Step, decode, decode_deed, decode_mark, encode, encode_append, encode_mark,
+};
 use std::test::Fail;
 
 const FIRST: Txn = Txn {
@@ -120,6 +123,14 @@ fn read_deed(bytes: &[u8]) -> Option<Deed> {
     decode_deed(bytes)
 }
 
+fn read_mark(bytes: &[u8]) -> Option<Deed> {
+    decode_mark(bytes)
+}
+
+fn spell_mark(client: u32, tag: u64, previous: u64) -> DeedBytes {
+    encode_mark(client, tag, previous)
+}
+
 // The end of the first send of sender 0, with tag 7 and this body.
 fn end_of(body: &Body) -> Step {
     let record = Record::OpEnd {
@@ -183,4 +194,18 @@ fn deeds_are_read(rt: HostRuntime) -> Result<(), Fail> {
         b"\0\0\0\x3c\x03\0\0\0\0\0\0\0\x01\0\0\0\0\0\0\0\x01\0\0\0\0\0\0\0\x01\x01\x01\0\0\0\0\0\0\0\0\0\0\0\x01\0\0\0\0\0\0\0\x07\0\0\0\0\0\0\0\0hello";
     assert!(rt; read(end) == end_of(&body));
     Ok(())
+}
+
+#[test]
+fn marks_are_read_and_spelled(rt: HostRuntime) {
+    let mark = Deed::Mark {
+        client: 3,
+        tag: 70,
+        previous: 7,
+    };
+    let spelled: &[u8] = b"\x01\0\0\0\x03\0\0\0\0\0\0\0\x46\0\0\0\0\0\0\0\x07";
+    assert!(rt; spell_mark(3, 70, 7).as_slice() == spelled);
+    assert!(rt; read_mark(spelled) == Some(mark));
+    assert!(rt; read_mark(&spelled[..20]) == None);
+    assert!(rt; read_deed(spelled) == None);
 }

@@ -1,30 +1,29 @@
 -- The level plans what takes back a deed exactly where the slots hold what that needs.
-use Rattle.std.proofs.Common.{◌≡◌, ℕ, ◌<◌, ◌≤◌, not, List, [], ◌∷◌, true, false, Option, Some, None, Result, Ok, Err, refl, sym, ◌∙◌, ap, subst, inl, inr, arith}
+use Rattle.std.proofs.Common.{◌≡◌, ℕ, ◌<◌, not, List, [], ◌∷◌, true, false, Option, Some, None, Result, Ok, Err, refl, sym, ◌∙◌, ap, subst, inl, inr, arith, ◌⊎◌}
 use Rattle.std.proofs.lemmas.Bool.{cases_eq, cases_lt, false≢true, true≢false}
 use Rattle.rq_model.specs.declared.record.Deed.{Deed}
-use Rattle.rq_model.specs.declared.record.Deed.TheVariants.{Append, UnlinkHead, Close}
+use Rattle.rq_model.specs.declared.record.Deed.TheVariants.{Append, UnlinkHead, Close, Mark}
 use Rattle.rq_model.specs.declared.refusal.Refusal.{Refusal}
 use Rattle.rq_model.specs.declared.refusal.Refusal.TheVariants as why
-use Rattle.rq_model.specs.Deeds.{deed_by, deed_in}
+use Rattle.rq_model.specs.Deeds.{deed_by}
+use Rattle.rq_model.proofs.Deeds.{told_by_its_level}
 use Rattle.rq_model.specs.declared.record.Record.TheVariants.{OpEnd}
-use Rattle.rq_model.specs.Vocabulary.{is_some}
 use Rattle.rq_model.proofs.Each.{some_is}
 use Rattle.rq_page.specs.declared.cell.Cell.{Cell}
 use Rattle.rq_page.specs.Sizes.{Sizes, IsCellAddress, directory_at, place_of, sender_count}
 use Rattle.rq_page.specs.Slots.Slot.{Free, Used, Sender}
 use Rattle.rq_page.proofs.Addresses.{places_are_cells}
 use Rattle.rq_views.specs.Log.{Slots}
-use Rattle.rq_views.specs.Plans.{deed_sender}
+use Rattle.rq_views.specs.InStore.{IsDeedOf}
 use Rattle.rq_views.specs.Plans.Turn.{Undid}
 use Rattle.rq_views.specs.Stored.{is_used, slots_in}
-use Rattle.rq_level.specs.ChainPlans.{Beside, CanMark, CanPutBack, CanUnlinkTail, TellsDamage, Undoes}
+use Rattle.rq_level.specs.ChainPlans.{Beside, CanMark, CanPutBack, CanUnlinkTail, TellsDamage, Undoes, job_wanted}
 use Rattle.rq_level.specs.declared.slots.Given.{Given}
 use Rattle.rq_level.specs.declared.writes.Plan.{Plan}
 use Rattle.rq_level.specs.Given.{GivenHolds}
 use Rattle.rq_level.specs.LevelState.{LevelState, NoneFree, flag_at}
-use Rattle.rq_level.specs.Meaning.{Meaning, chain_meaning, kept_at, meaning_of}
+use Rattle.rq_level.specs.Meaning.{chain_meaning, kept_at, meaning_of, no_meaning}
 use Rattle.rq_level.specs.Ops.{Job}
-use Rattle.rq_level.proofs.ChainLaws.{of_chains}
 use Rattle.rq_level.proofs.EachLevel.{all_lawful}
 use Rattle.rq_txn.specs.Rows.{Row}
 use Rattle.rq_store.specs.Plans.{Stands_at}
@@ -38,7 +37,7 @@ use Rattle.rq_sound.specs.Inverses.{InverseIsLatched, InverseTakesLowest}
 use Rattle.rq_sound.proofs.Wants.{given_parts, given_named}
 use Rattle.rq_planner.specs.Asked.{known}
 use Rattle.rq_planner.specs.Asked.Asked.{Undo}
-use Rattle.rq_planner.specs.Answered.{ComesFrom, IsAnswered, IsHeldUp, IsPlanBack, KnowsCells, MayUndo, to_take_back}
+use Rattle.rq_planner.specs.Answered.{ComesFrom, IsAnswered, IsHeldUp, IsPlanBack, KnowsCells, MayUndo, to_take_back, Wants, wants_of}
 use Rattle.rq_planner.proofs.Knowing.{cells_known}
 use Rattle.rq_planner.proofs.Replies.{HasGatheredFor, from_wanted, of_undo, wants_undo}
 use Rattle.rq_planner.specs.Backs.{CanBeTakenBack, IsJudgedBack, IsShut, IsTakingBack, SentLast, TakenLast}
@@ -97,15 +96,17 @@ module _ (s : State) (given : List Given) where
   }
 
 -- what is taken back is of a group of the store
-pub can_below : (z : Sizes) (q : Slots) (d : Deed) → CanBeTakenBack z q d → deed_sender d < sender_count z
+pub can_below : (z : Sizes) (q : Slots) (d : Deed) → CanBeTakenBack z q d → IsDeedOf z d
 can_below z q (Append g n tag previous body) c = c.below
 can_below z q (UnlinkHead g n tag body) c = c.below
 can_below z q (Close g) c = c.below
+can_below z q (Mark e tag previous) c = absurd c
 
-plan_below : (s : State) (k : LevelState) (given : List Given) (latched : List ℕ) (after : LevelState) (d : Deed) (p : Plan) → Undoes (Some s.sizes) (Some d) k given latched (Ok p) after → deed_sender d < sender_count s.sizes
+plan_below : (s : State) (k : LevelState) (given : List Given) (latched : List ℕ) (after : LevelState) (d : Deed) (p : Plan) → Undoes (Some s.sizes) (Some d) k given latched (Ok p) after → IsDeedOf s.sizes d
 plan_below s k given latched after (Append g n tag previous body) p m = m.can.below
 plan_below s k given latched after (UnlinkHead g n tag body) p m = m.can.below
 plan_below s k given latched after (Close g) p m = m.marked.can.below
+plan_below s k given latched after (Mark c tag previous) p m = absurd m
 
 -- the level knows a cell that is free
 not_full : (s : State) (k : LevelState) (a : ℕ) → KeepsCells s k → IsCellAddress s.sizes a → slots_now s a ≡ Free → NoneFree s.sizes k → ⊥
@@ -117,16 +118,16 @@ not_full s k a keeps cell free none =
 -- ---- what is answered by a level of any number
 
 -- a plan is the level's, from slots that it was given
-pub back_plan : (s : State) (m : Meaning) (job : Job) (May : List Given → Result Plan Refusal → Type 0) (p : Plan) → IsAnswered s m job May (Ok p) → (given : List Given) × May given (Ok p)
-back_plan s m job May p h = (h.given, by (m.want job h.given) h.comes) where
+pub back_plan : (s : State) (want : Wants) (job : Job) (May : List Given → Result Plan Refusal → Type 0) (p : Plan) → IsAnswered s want job May (Ok p) → (given : List Given) × May given (Ok p)
+back_plan s want job May p h = (h.given, by (want job h.given) h.comes) where
   by : (o : Option ℕ) → ComesFrom s o (May h.given) (Ok p) → May h.given (Ok p)
   by None c = elim c [ inl may ↦ may | inr e ↦ absurd (let no : ◌≡◌ {A = Result Plan Refusal} (Ok p) (Err why.NoMemory) = e in cc) ]
   by (Some a) c = absurd c
 
 -- it is of a deed that the level reads
-pub plan_read : (s : State) (k : LevelState) (n : ℕ) (deed : List ℕ) (p : Plan) → IsAnswered s (meaning_of n) (to_take_back n deed) (MayUndo s (meaning_of n) k n deed) (Ok p) → (d : Deed) × (deed_by n deed ≡ Some d)
-plan_read s k n deed p h =
-    let m = (back_plan s (meaning_of n) (to_take_back n deed) (MayUndo s (meaning_of n) k n deed) p h).1 in
+pub plan_read : (s : State) (levels : List LevelState) (k : LevelState) (n : ℕ) (deed : List ℕ) (p : Plan) → IsAnswered s (wants_of levels n) (to_take_back n deed) (MayUndo s (meaning_of n) k n deed) (Ok p) → (d : Deed) × (deed_by n deed ≡ Some d)
+plan_read s levels k n deed p h =
+    let m = (back_plan s (wants_of levels n) (to_take_back n deed) (MayUndo s (meaning_of n) k n deed) p h).1 in
     some_is (deed_by n deed) ((all_lawful n).own_back k (OpEnd m.txn m.number n deed) _ m.latched p m.after m.undoes).1
 
 -- ---- what the level of chains answers
@@ -170,17 +171,22 @@ module _ (s : State) (k : LevelState) (given : List Given) (latched : List ℕ) 
     directory_is = h.as_is (directory_at g) (Sender g m.marked.can.directory) m.marked.can.directory_is;
     closed = m.marked.can.other;
   }
+  can_be (Mark c tag previous) p h m = absurd m
 
   -- and what can be is not refused as damage
-  judged : (d : Deed) (r : Refusal) → AreGivenOf s given (needed (slots_now s) (Undid d)) → Undoes (Some s.sizes) (Some d) k given latched (Err r) after → TellsDamage r → CanBeTakenBack s.sizes (slots_now s) d → ⊥
+  judged : (d : Deed) (r : Refusal) → AreGivenOf s given (needed s.sizes (slots_now s) (Undid d)) → Undoes (Some s.sizes) (Some d) k given latched (Err r) after → TellsDamage r → CanBeTakenBack s.sizes (slots_now s) d → ⊥
   judged (Append g n tag previous body) (why.Damaged x) h m damage can = m.0.1 (can_unlink s given g n can h)
   judged (UnlinkHead g n tag body) (why.Damaged x) h m damage can = not_full s k can.cell keeps can.is_cell can.free (m.0.1 (can_return s given g n can h))
   judged (Close g) (why.Damaged x) h m damage can = m.0.1 (can_open s given g can h)
+  judged (Mark c tag previous) (why.Damaged x) h m damage can = absurd can
   judged d r h m damage can = absurd damage
 
   pub judged_back : (d : Deed) (answer : Result Plan Refusal) → HasGatheredFor s given (Undo d) → Undoes (Some s.sizes) (Some d) k given latched answer after → IsJudgedBack s.sizes (slots_now s) d answer
   judged_back d (Ok p) h m = record { can = can_be d p h.gathered m; damaged = tt }
   judged_back d (Err r) h m = record { can = tt; damaged = λ damage can. judged d r h.all m damage can }
+
+below_or_not : (n m : ℕ) → (n < m) ⊎ (n < m → ⊥)
+below_or_not n m = elim (cases_lt n m) [ inl below ↦ inl below | inr above ↦ inr (λ below. omega (arith, above, below)) ]
 
 module _ (z : Sizes) (images : List (List ℕ)) (rows : List Row) (levels : List LevelState) (knows : KnowsCells z images levels) (answer : Result Plan Refusal) where
   abbrev s : State
@@ -189,7 +195,7 @@ module _ (z : Sizes) (images : List (List ℕ)) (rows : List Row) (levels : List
   abbrev keeps : KeepsCells s (kept_at levels 1)
   keeps = cells_known z images levels rows knows
 
-  of_one : (level : ℕ) (deed : List ℕ) → IsAnswered s (meaning_of 1) (to_take_back level deed) (MayUndo s (meaning_of 1) (kept_at levels 1) level deed) answer → (d : Deed) → deed_by level deed ≡ Some d → deed_sender d < sender_count z → IsJudgedBack z (slots_now s) d answer
+  of_one : (level : ℕ) (deed : List ℕ) → IsAnswered s (wants_of levels 1) (to_take_back level deed) (MayUndo s (meaning_of 1) (kept_at levels 1) level deed) answer → (d : Deed) → deed_by level deed ≡ Some d → IsDeedOf z d → IsJudgedBack z (slots_now s) d answer
   unfolding meaning_of
   of_one level deed h d told inside =
       from_wanted s (to_take_back level deed) (Undo d) (wants_undo s (kept_at levels 1) keeps level d deed told inside) (MayUndo s chain_meaning (kept_at levels 1) level deed) (IsJudgedBack z (slots_now s) d)
@@ -197,28 +203,39 @@ module _ (z : Sizes) (images : List (List ℕ)) (rows : List Row) (levels : List
       (λ given a has m. judged_back s (kept_at levels 1) given m.latched keeps m.on m.after d a has (of_undo s (kept_at levels 1) keeps d deed level given a told m)) answer h
 
   -- a deed of another store's group has no plan
-  outside : (level : ℕ) (deed : List ℕ) → IsAnswered s (meaning_of 1) (to_take_back level deed) (MayUndo s (meaning_of 1) (kept_at levels 1) level deed) answer → (d : Deed) → deed_by level deed ≡ Some d → sender_count z ≤ deed_sender d → IsJudgedBack z (slots_now s) d answer
+  outside : (level : ℕ) (deed : List ℕ) → IsAnswered s (wants_of levels 1) (to_take_back level deed) (MayUndo s (meaning_of 1) (kept_at levels 1) level deed) answer → (d : Deed) → deed_by level deed ≡ Some d → (IsDeedOf z d → ⊥) → IsJudgedBack z (slots_now s) d answer
   unfolding meaning_of
   outside level deed h d told out = by answer (λ p is. no_plan p is) where
     no_plan : (p : Plan) → answer ≡ Ok p → ⊥
     no_plan p is =
-        let m = back_plan s chain_meaning (to_take_back level deed) (MayUndo s chain_meaning (kept_at levels 1) level deed) p (subst (IsAnswered s chain_meaning (to_take_back level deed) (MayUndo s chain_meaning (kept_at levels 1) level deed)) is h) in
+        let m = back_plan s job_wanted (to_take_back level deed) (MayUndo s chain_meaning (kept_at levels 1) level deed) p (subst (IsAnswered s job_wanted (to_take_back level deed) (MayUndo s chain_meaning (kept_at levels 1) level deed)) is h) in
         let below = plan_below s (kept_at levels 1) m.0 m.1.latched m.1.after d p (of_undo s (kept_at levels 1) keeps d deed level m.0 (Ok p) told m.1) in
-        omega (arith, below, out)
+        out below
 
     by : (a : Result Plan Refusal) → ((p : Plan) → a ≡ Ok p → ⊥) → IsJudgedBack z (slots_now s) d a
     by (Ok p) none = absurd (none p refl)
-    by (Err r) none = record { can = tt; damaged = λ damage can. (let below = can_below z (slots_now s) d can in omega (arith, below, out)) }
+    by (Err r) none = record { can = tt; damaged = λ damage can. out (can_below z (slots_now s) d can) }
 
-  pub back_judged : (level : ℕ) (deed : List ℕ) (d : Deed) → deed_by level deed ≡ Some d → IsAnswered s (meaning_of level) (to_take_back level deed) (MayUndo s (meaning_of level) (kept_at levels level) level deed) answer
+  -- nothing takes back a mark
+  of_marks : (level : ℕ) (deed : List ℕ) → level ≡ 2 → IsAnswered s (wants_of levels level) (to_take_back level deed) (MayUndo s (meaning_of level) (kept_at levels level) level deed) answer → (c tag previous : ℕ) → IsJudgedBack z (slots_now s) (Mark c tag previous) answer
+  unfolding meaning_of
+  of_marks level deed two h c tag previous = by answer (subst (λ n. IsAnswered s (wants_of levels n) (to_take_back level deed) (MayUndo s (meaning_of n) (kept_at levels level) level deed) answer) two h) where
+    by : (a : Result Plan Refusal) → IsAnswered s (λ job given. None) (to_take_back level deed) (MayUndo s no_meaning (kept_at levels level) level deed) a → IsJudgedBack z (slots_now s) (Mark c tag previous) a
+    by (Ok p) g = absurd ((back_plan s (λ job given. None) (to_take_back level deed) (MayUndo s no_meaning (kept_at levels level) level deed) p g).1.undoes)
+    by (Err r) g = record { can = tt; damaged = λ damage can. can }
+
+  of_chain : (level : ℕ) (deed : List ℕ) (d : Deed) → level ≡ 1 → deed_by level deed ≡ Some d → (IsDeedOf z d ⊎ (IsDeedOf z d → ⊥)) → IsAnswered s (wants_of levels level) (to_take_back level deed) (MayUndo s (meaning_of level) (kept_at levels level) level deed) answer
       → IsJudgedBack z (slots_now s) d answer
-  back_judged level deed d told h =
-      let one : level ≡ 1 = of_chains level (deed_in deed) (ap is_some told) in
-      let by_chains = subst (λ n. IsAnswered s (meaning_of n) (to_take_back level deed) (MayUndo s (meaning_of n) (kept_at levels n) level deed) answer) one h in
-      elim (cases_lt (deed_sender d) (sender_count z)) [
-        | inl inside ↦ of_one level deed by_chains d told inside
-        | inr out ↦ outside level deed by_chains d told out
-      ]
+  of_chain level deed d one told where_is h =
+      let by_chains = subst (λ n. IsAnswered s (wants_of levels n) (to_take_back level deed) (MayUndo s (meaning_of n) (kept_at levels n) level deed) answer) one h in
+      elim where_is [ inl inside ↦ of_one level deed by_chains d told inside | inr out ↦ outside level deed by_chains d told out ]
+
+  pub back_judged : (level : ℕ) (deed : List ℕ) (d : Deed) → deed_by level deed ≡ Some d → IsAnswered s (wants_of levels level) (to_take_back level deed) (MayUndo s (meaning_of level) (kept_at levels level) level deed) answer
+      → IsJudgedBack z (slots_now s) d answer
+  back_judged level deed (Append g n tag previous body) told h = of_chain level deed (Append g n tag previous body) (sym (told_by_its_level level deed _ told)) told (below_or_not g (sender_count z)) h
+  back_judged level deed (UnlinkHead g n tag body) told h = of_chain level deed (UnlinkHead g n tag body) (sym (told_by_its_level level deed _ told)) told (below_or_not g (sender_count z)) h
+  back_judged level deed (Close g) told h = of_chain level deed (Close g) (sym (told_by_its_level level deed _ told)) told (below_or_not g (sender_count z)) h
+  back_judged level deed (Mark c tag previous) told h = of_marks level deed (sym (told_by_its_level level deed _ told)) h c tag previous
 
 -- ---- where nothing is under way
 
@@ -233,6 +250,7 @@ never_latched z q (UnlinkHead g n tag body) c h = elim h [
   | inr all ↦ false≢true (all c.cell c.is_cell c.free)
 ]
 never_latched z q (Close g) c h = false≢true h
+never_latched z q (Mark e tag previous) c h = false≢true h
 
 module _ (z : Sizes) (images : List (List ℕ)) (rows : List Row) (none : rows ≡ []) (level : ℕ) (bytes : List ℕ) where
   pub taken_back : (d : Deed) (p : Plan) → deed_by level bytes ≡ Some d → IsPlanBack (known z images rows) d p → CanBeTakenBack z (slots_in z images) d → IsTakingBack z (slots_in z images) (deed_by level bytes) p.writes.items

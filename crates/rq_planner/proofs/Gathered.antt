@@ -10,7 +10,8 @@ use Rattle.rq_level.specs.declared.level.Want.TheVariants as wants
 use Rattle.rq_level.specs.declared.slots.Given.{Given}
 use Rattle.rq_level.specs.declared.writes.Plan.{Plan}
 use Rattle.rq_level.specs.Asked.{AreWanted}
-use Rattle.rq_level.specs.Meaning.{Meaning, meaning_of, wish}
+use Rattle.rq_level.specs.LevelState.{LevelState}
+use Rattle.rq_level.specs.Meaning.{kept_at, wish}
 use Rattle.rq_level.specs.Ops.{Job}
 use Rattle.rq_level.proofs.EachLevel.{all_lawful}
 use Rattle.rq_store.specs.State.{State}
@@ -18,7 +19,7 @@ use Rattle.rq_txn.specs.Rows.{latched_in}
 use Rattle.rq_sound.specs.Gathering.{with_slot}
 use Rattle.rq_sound.specs.Groups.{slots_now}
 use Rattle.rq_sound.proofs.Gathering.{slots_gathered}
-use Rattle.rq_planner.specs.Answered.{ComesFrom, HasGathered, IsAnswered, IsWithheld}
+use Rattle.rq_planner.specs.Answered.{ComesFrom, HasGathered, IsAnswered, IsWithheld, Wants, wants_of}
 
 -- ---- what is wanted
 
@@ -36,45 +37,45 @@ more_wanted : (want : List Given → Option ℕ) (front given : List Given) (g :
 more_wanted want front [] g w e = (ap want (sym (append-nil front)) ∙ e, tt)
 more_wanted want front (f ∷ given) g w e = (w.0, more_wanted want (front ++ f ∷ []) given g w.1 (ap want (append_assoc front (f ∷ []) given) ∙ e))
 
-pub none_gathered : (s : State) (m : Meaning) (job : Job) → HasGathered s m job []
-none_gathered s m job = record { wanted = tt; from = slots_gathered.none_given s; gathered = slots_gathered.none_gathered s }
+pub none_gathered : (s : State) (want : Wants) (job : Job) → HasGathered s want job []
+none_gathered s want job = record { wanted = tt; from = slots_gathered.none_given s; gathered = slots_gathered.none_gathered s }
 
-pub one_more : (s : State) (m : Meaning) (job : Job) (given now : List Given) (a : ℕ) (bytes : List ℕ) → now ≡ with_slot given a bytes → m.want job given ≡ Some a → HasGathered s m job given → IsStoreSlot s.sizes a → IsSlotOf s.sizes (a / 16) (a % 16) bytes
-    → slots_now s a ≡ held_in s.sizes (a / 16) bytes → latched_in s.rows (a / 16) ≡ false → HasGathered s m job now
-one_more s m job given now a bytes e want h stands slot is off = subst (HasGathered s m job) (sym e) (record {
-  wanted = more_wanted (m.want job) [] given (record { at = a; bytes = bytes }) h.wanted want;
+pub one_more : (s : State) (want : Wants) (job : Job) (given now : List Given) (a : ℕ) (bytes : List ℕ) → now ≡ with_slot given a bytes → want job given ≡ Some a → HasGathered s want job given → IsStoreSlot s.sizes a → IsSlotOf s.sizes (a / 16) (a % 16) bytes
+    → slots_now s a ≡ held_in s.sizes (a / 16) bytes → latched_in s.rows (a / 16) ≡ false → HasGathered s want job now
+one_more s want job given now a bytes e next h stands slot is off = subst (HasGathered s want job) (sym e) (record {
+  wanted = more_wanted (want job) [] given (record { at = a; bytes = bytes }) h.wanted next;
   from = slots_gathered.one_given s given a bytes h.from stands slot is;
   gathered = slots_gathered.one_gathered s given a bytes h.gathered is off;
 })
 
 -- no level asks for more than three
-pub fewer_left : (s : State) (n : ℕ) (job : Job) (given now : List Given) (a : ℕ) (bytes : List ℕ) → now ≡ with_slot given a bytes → HasGathered s (meaning_of n) job now → 4 - length now < 4 - length given
-fewer_left s n job given now a bytes e h =
-    let few = (all_lawful n).few job now h.wanted in
+pub fewer_left : (s : State) (levels : List LevelState) (n : ℕ) (job : Job) (given now : List Given) (a : ℕ) (bytes : List ℕ) → now ≡ with_slot given a bytes → HasGathered s (wants_of levels n) job now → 4 - length now < 4 - length given
+fewer_left s levels n job given now a bytes e h =
+    let few = (all_lawful n).few (kept_at levels n).sizes job now h.wanted in
     let more = ap length e ∙ length-append given (record { at = a; bytes = bytes } ∷ []) in
     omega (arith, few, more)
 
 -- ---- answers
 
-module _ (s : State) (m : Meaning) (job : Job) (May : List Given → Result Plan Refusal → Type 0) where
+module _ (s : State) (want : Wants) (job : Job) (May : List Given → Result Plan Refusal → Type 0) where
   -- a slot that it wants is not given to it
-  pub withheld : (given : List Given) (a : ℕ) (r : Refusal) → HasGathered s m job given → m.want job given ≡ Some a → IsWithheld s a r → IsAnswered s m job May (Err r)
-  withheld given a r h want stops = record { given = given; has = h; comes = subst (λ o. ComesFrom s o (May given) (Err r)) (sym want) stops }
+  pub withheld : (given : List Given) (a : ℕ) (r : Refusal) → HasGathered s want job given → want job given ≡ Some a → IsWithheld s a r → IsAnswered s want job May (Err r)
+  withheld given a r h next stops = record { given = given; has = h; comes = subst (λ o. ComesFrom s o (May given) (Err r)) (sym next) stops }
 
   lacks : (o : Option ℕ) (P : Result Plan Refusal → Type 0) → ComesFrom s o P (Err why.NoMemory)
   lacks None P = inr refl
   lacks (Some a) P = tt
 
-  pub no_memory : (given : List Given) → HasGathered s m job given → IsAnswered s m job May (Err why.NoMemory)
-  no_memory given h = record { given = given; has = h; comes = lacks (m.want job given) (May given) }
+  pub no_memory : (given : List Given) → HasGathered s want job given → IsAnswered s want job May (Err why.NoMemory)
+  no_memory given h = record { given = given; has = h; comes = lacks (want job given) (May given) }
 
   -- all that it wants is given to it
-  pub answered : (given : List Given) (answer : Result Plan Refusal) → HasGathered s m job given → m.want job given ≡ None → May given answer → IsAnswered s m job May answer
-  answered given answer h want may = record { given = given; has = h; comes = subst (λ o. ComesFrom s o (May given) answer) (sym want) (inl may) }
+  pub answered : (given : List Given) (answer : Result Plan Refusal) → HasGathered s want job given → want job given ≡ None → May given answer → IsAnswered s want job May answer
+  answered given answer h next may = record { given = given; has = h; comes = subst (λ o. ComesFrom s o (May given) answer) (sym next) (inl may) }
 
 -- what was not answered from any slots
-pub not_from : (s : State) (m : Meaning) (job : Job) (May : List Given → Result Plan Refusal → Type 0) (r : Refusal) → IsAnswered s m job (λ given answer. ⊥) (Err r) → IsAnswered s m job May (Err r)
-not_from s m job May r h = record { given = h.given; has = h.has; comes = weaker (m.want job h.given) h.comes } where
+pub not_from : (s : State) (want : Wants) (job : Job) (May : List Given → Result Plan Refusal → Type 0) (r : Refusal) → IsAnswered s want job (λ given answer. ⊥) (Err r) → IsAnswered s want job May (Err r)
+not_from s want job May r h = record { given = h.given; has = h.has; comes = weaker (want job h.given) h.comes } where
   weaker : (o : Option ℕ) → ComesFrom s o (λ answer. ⊥) (Err r) → ComesFrom s o (May h.given) (Err r)
   weaker None c = elim c [ inl never ↦ absurd never | inr e ↦ inr e ]
   weaker (Some a) c = c

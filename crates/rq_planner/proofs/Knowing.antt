@@ -1,9 +1,9 @@
 -- Levels that know the slots of a store, whatever is under way there.
-use Rattle.std.proofs.Common.{set, ◌≡◌, ◌≢◌, ◌⊎◌, ℕ, zero, suc, ◌+◌, ◌*◌, ◌/◌, ◌%◌, ◌<◌, ◌≤◌, List, [], ◌∷◌, length, refl, sym, ◌∙◌, ap, subst, Bool, true, false, not, Option, None, Some, Result, Ok, Err, IfOk, IfErr, inl, inr, arith}
+use Rattle.std.proofs.Common.{set, ◌≡◌, ◌≢◌, ◌⊎◌, ℕ, zero, suc, ◌+◌, ◌*◌, ◌/◌, ◌%◌, ◌<◌, ◌≤◌, List, [], ◌∷◌, length, refl, sym, ◌∙◌, ap, subst, Bool, false, not, Option, None, Some, Result, Ok, Err, IfOk, IfErr, inl, inr, arith}
 use Rattle.std.specs.List.{slice_get}
 use Rattle.std.proofs.lemmas.Bool.{cases_eq, false≢true}
 use Rattle.std.proofs.lemmas.List.{get_or-set_other, length-set}
-use Rattle.rq_page.specs.Sizes.{Sizes, IsCellAddress, address, cell_at, cell_count, directory_at, sender_count}
+use Rattle.rq_page.specs.Sizes.{Sizes, IsCellAddress, address, cell_at, cell_count, client_slot_at, directory_at, sender_count}
 use Rattle.rq_page.specs.Pages.{IsWritten, slot_of}
 use Rattle.rq_page.proofs.Addresses.{cells_have_places}
 use Rattle.rq_pool.specs.Pooled.{image_at}
@@ -24,7 +24,7 @@ use Rattle.rq_txn.specs.Rows.{Row}
 use Rattle.rq_sound.specs.Levels.{KeepsCells}
 use Rattle.rq_sound.proofs.Gathering.{cell_of_store}
 use Rattle.rq_sound.proofs.KeptCells.{flag_same, free_by_byte}
-use Rattle.rq_planner.specs.Answered.{KnowsCells, KnowsThose, MayBeTold, client_slot}
+use Rattle.rq_planner.specs.Answered.{KnowsCells, KnowsThose, MayBeTold}
 use Rattle.rq_planner.specs.Asked.{known}
 use Rattle.rq_planner.proofs.Told.{slot_is}
 
@@ -211,7 +211,7 @@ module _ (z : Sizes) (images : List (List ℕ)) where
       ]) h
 
   -- all are below the end
-  pub all_below : (levels : List LevelState) → KnowsThose (AreBelow z (client_slot z (15 * z.tags))) z images levels → KnowsCells z images levels
+  pub all_below : (levels : List LevelState) → KnowsThose (AreBelow z (client_slot_at z (15 * z.tags))) z images levels → KnowsCells z images levels
   all_below levels h = record {
     again = λ i a lt store. h.again i a lt (store, (let high = store.page_high in omega (arith, high)));
     all = h.all;
@@ -219,7 +219,7 @@ module _ (z : Sizes) (images : List (List ℕ)) where
   }
 
   -- the first client is behind the last cell
-  pub clients_behind : (levels : List LevelState) → KnowsThose (AreBelow z (cell_at z (cell_count z))) z images levels → KnowsThose (AreBelow z (client_slot z 0)) z images levels
+  pub clients_behind : (levels : List LevelState) → KnowsThose (AreBelow z (cell_at z (cell_count z))) z images levels → KnowsThose (AreBelow z (client_slot_at z 0)) z images levels
   clients_behind levels h = record {
     again = λ i a lt b. h.again i a lt (b.0, (let high = b.1 in omega (arith, high)));
     all = h.all;

@@ -4,16 +4,18 @@ use Rattle.std.proofs.lemmas.Bool.{and_from, cases_Bool, cases_eq, cases_lt, or_
 use Rattle.std.proofs.Math.Bool.{or-false}
 use Rattle.std.proofs.lemmas.List.{reverse-append, reverse-reverse}
 use Rattle.rq_model.specs.declared.record.Deed.{Deed}
-use Rattle.rq_model.specs.declared.record.Deed.TheVariants.{Append, UnlinkHead, Close as Close_deed}
+use Rattle.rq_model.specs.declared.record.Deed.TheVariants.{Append, UnlinkHead, Close as Close_deed, Mark}
 use Rattle.rq_model.specs.declared.refusal.Damage.{Damage}
 use Rattle.rq_model.specs.declared.refusal.Refusal.{Refusal}
 use Rattle.rq_model.specs.declared.refusal.Refusal.TheVariants as why
 use Rattle.rq_model.specs.Vocabulary.{is_some}
-use Rattle.rq_model.specs.Deeds.{deed_by, deed_in}
+use Rattle.rq_model.specs.Deeds.{deed_by, deed_level}
+use Rattle.rq_model.proofs.Deeds.{told_by_its_level}
 use Rattle.rq_page.specs.declared.cell.Cell.{Cell}
 use Rattle.rq_page.specs.Sizes.{Sizes, cell_at, directory_at, place_of, sender_count}
 use Rattle.rq_page.specs.Slots.Slot.{Used}
 use Rattle.rq_page.proofs.Addresses.{cells_rise, places_are_cells}
+use Rattle.rq_views.specs.InStore.{IsDeedOf}
 use Rattle.rq_views.specs.Log.{Slots, Write}
 use Rattle.rq_views.specs.Plans.{deed_sender, relinked}
 use Rattle.rq_views.specs.Plans.Turn.{Undid}
@@ -45,7 +47,7 @@ use Rattle.rq_sound.specs.Lowest.{AreAllLatched, AreLatchedBelow, FirstIsLowest}
 use Rattle.rq_planner.specs.Asked.{Asked, IsOfStore, asked_by, doing_sender, known, slots_for}
 use Rattle.rq_planner.specs.Asked.Asked.{Do, Undo}
 use Rattle.rq_planner.proofs.Knowing.{cells_known}
-use Rattle.rq_planner.specs.Answered.{ComesFrom, IsAnswered, IsHeldUp, IsNewestDeed, IsPlanBack, IsPlanFor, IsPlanned, IsPlannedBy, IsPlanOf, KnowsCells, MayBeAsked, MayPlan, MayUndo, to_take_back}
+use Rattle.rq_planner.specs.Answered.{ComesFrom, IsAnswered, IsHeldUp, IsNewestDeed, IsPlanBack, IsPlanFor, IsPlanned, IsPlannedBy, IsPlanOf, KnowsCells, MayBeAsked, MayPlan, MayUndo, to_take_back, wants_of}
 
 -- the first write of a plan is of the cell that it takes
 takes_lowest : (z : Sizes) (q : Slots) (rows : List Row) (a : ℕ) (ws : List SlotWrite) → IsFirstAt a ws → AreLatchedBelow z q rows a → latched_in rows (a / 16) ≡ false → FirstIsLowest z q rows ws
@@ -57,7 +59,7 @@ takes_lowest z q rows a (w ∷ ws) at lowest off = (subst (AreLatchedBelow z q r
 -- all that is needed was given, of pages that nobody has latched
 pub record HasGatheredFor (s : State) (given : List Given) (asked : Asked) : Type 0 where
   pub gathered : IsGathered s given
-  pub all : AreGivenOf s given (slots_for (slots_now s) asked)
+  pub all : AreGivenOf s given (slots_for s.sizes (slots_now s) asked)
 
 module _ (s : State) (a : Asked) where
   planned_answer : (p : Plan) → IsPlanFor s a p → (IsHeldUp s a → ⊥) → IsPlanned s a (Ok p)
@@ -73,13 +75,14 @@ module _ (s : State) (a : Asked) where
   damaged_answer x none = record { plan = tt; free = tt; causes = tt; sound = λ whole e sound may y. none whole e sound may }
 
 -- a latch on a page of what is needed holds up what is asked
-held_up : (s : State) (a : Asked) → any_latched s.rows (slots_for (slots_now s) a) ≡ true → IsHeldUp s a
+held_up : (s : State) (a : Asked) → any_latched s.rows (slots_for s.sizes (slots_now s) a) ≡ true → IsHeldUp s a
 held_up s (Do (Send g tag body)) h = inl h
 held_up s (Do (Receive g)) h = h
 held_up s (Do (Close g)) h = h
 held_up s (Undo (Append g n tag previous body)) h = h
 held_up s (Undo (UnlinkHead g n tag body)) h = inl h
 held_up s (Undo (Close_deed g)) h = sym (or-false (latched_in s.rows (directory_at g / 16))) ∙ h
+held_up s (Undo (Mark c tag previous)) h = h
 
 -- ---- latches
 
@@ -179,9 +182,9 @@ module _ (s : State) (k : LevelState) (given : List Given) (latched : List ℕ) 
   }
 
   do_free : (d : Doing) (p : Plan) (after : LevelState) → HasGatheredFor s given (Do d) → Plans (Some s.sizes) (Some d) k given latched (Ok p) after → IsHeldUp s (Do d) → ⊥
-  do_free (Send g tag body) p after h m held = ⊎_elim (not_latched s given h.gathered (slots_for (slots_now s) (Do (Send g tag body))) h.all) (not_all s k latched keeps on m.new m.lowest) held
-  do_free (Receive g) p after h m held = not_latched s given h.gathered (slots_for (slots_now s) (Do (Receive g))) h.all held
-  do_free (Close g) p after h m held = not_latched s given h.gathered (slots_for (slots_now s) (Do (Close g))) h.all held
+  do_free (Send g tag body) p after h m held = ⊎_elim (not_latched s given h.gathered (slots_for s.sizes (slots_now s) (Do (Send g tag body))) h.all) (not_all s k latched keeps on m.new m.lowest) held
+  do_free (Receive g) p after h m held = not_latched s given h.gathered (slots_for s.sizes (slots_now s) (Do (Receive g))) h.all held
+  do_free (Close g) p after h m held = not_latched s given h.gathered (slots_for s.sizes (slots_now s) (Do (Close g))) h.all held
 
   undo_plan : (d : Deed) (p : Plan) (after : LevelState) → HasGatheredFor s given (Undo d) → Undoes (Some s.sizes) (Some d) k given latched (Ok p) after → IsPlanBack s d p
   undo_plan (Append g n tag previous body) p after h m = record {
@@ -203,11 +206,13 @@ module _ (s : State) (k : LevelState) (given : List Given) (latched : List ℕ) 
     slots = m.marked.slots;
     lowest = tt;
   }
+  undo_plan (Mark c tag previous) p after h m = absurd m
 
   undo_free : (d : Deed) (p : Plan) (after : LevelState) → HasGatheredFor s given (Undo d) → Undoes (Some s.sizes) (Some d) k given latched (Ok p) after → IsHeldUp s (Undo d) → ⊥
-  undo_free (Append g n tag previous body) p after h m held = not_latched s given h.gathered (slots_for (slots_now s) (Undo (Append g n tag previous body))) h.all held
-  undo_free (UnlinkHead g n tag body) p after h m held = ⊎_elim (not_latched s given h.gathered (slots_for (slots_now s) (Undo (UnlinkHead g n tag body))) h.all) (not_all s k latched keeps on m.new m.lowest) held
+  undo_free (Append g n tag previous body) p after h m held = not_latched s given h.gathered (slots_for s.sizes (slots_now s) (Undo (Append g n tag previous body))) h.all held
+  undo_free (UnlinkHead g n tag body) p after h m held = ⊎_elim (not_latched s given h.gathered (slots_for s.sizes (slots_now s) (Undo (UnlinkHead g n tag body))) h.all) (not_all s k latched keeps on m.new m.lowest) held
   undo_free (Close_deed g) p after h m held = true≢false (sym held ∙ h.gathered.unlatched (directory_at g) (slots_now s (directory_at g)) h.all.0)
+  undo_free (Mark c tag previous) p after h m held = m
 
 -- ---- a sound store with these pages and rows
 
@@ -226,23 +231,24 @@ module _ (whole : State) (sound : IsSound whole) where
     no_doing : (d : Doing) → HasGatheredFor bare given (Do d) → doing_sender d < sender_count whole.sizes → Plans (Some whole.sizes) (Some d) k given latched (Err (why.Damaged x)) after → MayBeAsked whole (Do d) → ⊥
     no_doing (Send g tag body) h inside m may =
         levels_refuse.sends whole k given latched g (why.Damaged x) sound (same_keeps k keeps) on may.0
-        (levels_find.sends whole given g sound inside (h.gathered.unlatched (directory_at g) (slots_now whole (directory_at g)) h.all.0) may.1 (same_given given (slots_for (slots_now bare) (Do (Send g tag body))) h.all)) m.0
+        (levels_find.sends whole given g sound inside (h.gathered.unlatched (directory_at g) (slots_now whole (directory_at g)) h.all.0) may.1 (same_given given (slots_for whole.sizes (slots_now bare) (Do (Send g tag body))) h.all)) m.0
     no_doing (Receive g) h inside m may =
-        m.0.1 (levels_find.receives whole given g sound inside (h.gathered.unlatched (directory_at g) (slots_now whole (directory_at g)) h.all.0) may (same_given given (slots_for (slots_now bare) (Do (Receive g))) h.all))
+        m.0.1 (levels_find.receives whole given g sound inside (h.gathered.unlatched (directory_at g) (slots_now whole (directory_at g)) h.all.0) may (same_given given (slots_for whole.sizes (slots_now bare) (Do (Receive g))) h.all))
     no_doing (Close g) h inside m may =
-        m.0.1 (levels_find.closes whole given g sound inside (h.gathered.unlatched (directory_at g) (slots_now whole (directory_at g)) h.all.0) may (same_given given (slots_for (slots_now bare) (Do (Close g))) h.all))
+        m.0.1 (levels_find.closes whole given g sound inside (h.gathered.unlatched (directory_at g) (slots_now whole (directory_at g)) h.all.0) may (same_given given (slots_for whole.sizes (slots_now bare) (Do (Close g))) h.all))
 
-    finds : (d : Deed) → IsNewestDeed whole d → latched_in whole.rows (directory_at (deed_sender d) / 16) ≡ false → AreGivenOf bare given (needed (slots_now whole) (Undid d)) → CanUndo whole.sizes given d
-    finds d may off all = levels_find.undoes whole given may.row may.older (record { lsn = may.lsn; deed = d }) sound may.idle may.last off (same_given given (needed (slots_now whole) (Undid d)) all)
+    finds : (d : Deed) → IsNewestDeed whole d → latched_in whole.rows (directory_at (deed_sender d) / 16) ≡ false → AreGivenOf bare given (needed whole.sizes (slots_now whole) (Undid d)) → CanUndo whole.sizes given d
+    finds d may off all = levels_find.undoes whole given may.row may.older (record { lsn = may.lsn; deed = d }) sound may.idle may.last off (same_given given (needed whole.sizes (slots_now whole) (Undid d)) all)
 
-    no_undoing : (d : Deed) → HasGatheredFor bare given (Undo d) → Undoes (Some whole.sizes) (Some d) k given latched (Err (why.Damaged x)) after → MayBeAsked whole (Undo d) → ⊥
-    no_undoing (Append g n tag previous body) h m may =
+    no_undoing : (d : Deed) → HasGatheredFor bare given (Undo d) → IsDeedOf whole.sizes d → Undoes (Some whole.sizes) (Some d) k given latched (Err (why.Damaged x)) after → MayBeAsked whole (Undo d) → ⊥
+    no_undoing (Append g n tag previous body) h inside m may =
         m.0.1 (finds (Append g n tag previous body) may (h.gathered.unlatched (directory_at g) (slots_now whole (directory_at g)) h.all.0) h.all)
-    no_undoing (UnlinkHead g n tag body) h m may =
+    no_undoing (UnlinkHead g n tag body) h inside m may =
         levels_refuse.returns whole k given latched may.row may.older may.lsn g n tag body (why.Damaged x) sound (same_keeps k keeps) on may.idle may.last
         (finds (UnlinkHead g n tag body) may (h.gathered.unlatched (directory_at g) (slots_now whole (directory_at g)) h.all.0) h.all) m.0
-    no_undoing (Close_deed g) h m may =
+    no_undoing (Close_deed g) h inside m may =
         m.0.1 (finds (Close_deed g) may (h.gathered.unlatched (directory_at g) (slots_now whole (directory_at g)) h.all.0) h.all)
+    no_undoing (Mark c tag previous) h inside m may = inside.2
 
 -- ---- what is answered
 
@@ -252,10 +258,10 @@ module _ (s : State) (k : LevelState) (given : List Given) (latched : List ℕ) 
       → Plans (Some t.sizes) (Some d) k given latched (Err (why.Damaged x)) after → ⊥) e
       (λ a b c f w. no_doing whole sound k given latched a b x after d c f w may) keeps on h inside m))
 
-  damaged_undo : (d : Deed) (x : Damage) → HasGatheredFor s given (Undo d) → Undoes (Some s.sizes) (Some d) k given latched (Err (why.Damaged x)) after → IsPlanned s (Undo d) (Err (why.Damaged x))
-  damaged_undo d x h m = damaged_answer s (Undo d) x (λ whole e sound may. (subst (λ (t : State). KeepsCells t k → AreLatched t latched → HasGatheredFor t given (Undo d)
+  damaged_undo : (d : Deed) (x : Damage) → HasGatheredFor s given (Undo d) → IsDeedOf s.sizes d → Undoes (Some s.sizes) (Some d) k given latched (Err (why.Damaged x)) after → IsPlanned s (Undo d) (Err (why.Damaged x))
+  damaged_undo d x h inside m = damaged_answer s (Undo d) x (λ whole e sound may. (subst (λ (t : State). KeepsCells t k → AreLatched t latched → HasGatheredFor t given (Undo d) → IsDeedOf t.sizes d
       → Undoes (Some t.sizes) (Some d) k given latched (Err (why.Damaged x)) after → ⊥) e
-      (λ a b c w. no_undoing whole sound k given latched a b x after d c w may) keeps on h m))
+      (λ a b c f w. no_undoing whole sound k given latched a b x after d c f w may) keeps on h inside m))
 
   all_latched : NoneToTake s.sizes k latched → AreAllLatched s.sizes (slots_now s) s.rows
   all_latched none = levels_plan.none_to_take s k latched keeps on none
@@ -268,27 +274,28 @@ module _ (s : State) (k : LevelState) (given : List Given) (latched : List ℕ) 
   do_refused (Receive g) r h inside m = absurd m.0
   do_refused (Close g) r h inside m = absurd m.0
 
-  undo_refused : (d : Deed) (r : Refusal) → HasGatheredFor s given (Undo d) → Undoes (Some s.sizes) (Some d) k given latched (Err r) after → IsPlanned s (Undo d) (Err r)
-  undo_refused d why.NoMemory h m = memory_answer s (Undo d)
-  undo_refused (UnlinkHead g n tag body) why.Latched h m = latched_answer s (Undo (UnlinkHead g n tag body)) (inr (all_latched m.0.0))
-  undo_refused d (why.Damaged x) h m = damaged_undo d x h m
-  undo_refused (Append g n tag previous body) r h m = absurd m.0
-  undo_refused (UnlinkHead g n tag body) r h m = absurd m.0
-  undo_refused (Close_deed g) r h m = absurd m.0
+  undo_refused : (d : Deed) (r : Refusal) → HasGatheredFor s given (Undo d) → IsDeedOf s.sizes d → Undoes (Some s.sizes) (Some d) k given latched (Err r) after → IsPlanned s (Undo d) (Err r)
+  undo_refused d why.NoMemory h inside m = memory_answer s (Undo d)
+  undo_refused (UnlinkHead g n tag body) why.Latched h inside m = latched_answer s (Undo (UnlinkHead g n tag body)) (inr (all_latched m.0.0))
+  undo_refused d (why.Damaged x) h inside m = damaged_undo d x h inside m
+  undo_refused (Append g n tag previous body) r h inside m = absurd m.0
+  undo_refused (UnlinkHead g n tag body) r h inside m = absurd m.0
+  undo_refused (Close_deed g) r h inside m = absurd m.0
+  undo_refused (Mark c tag previous) r h inside m = absurd inside.2
 
   did : (d : Doing) (answer : Result Plan Refusal) → HasGatheredFor s given (Do d) → doing_sender d < sender_count s.sizes → Plans (Some s.sizes) (Some d) k given latched answer after → IsPlanned s (Do d) answer
   did d (Ok p) h inside m = planned_answer s (Do d) p (do_plan s k given latched keeps on d p after h m) (do_free s k given latched keeps on d p after h m)
   did d (Err r) h inside m = do_refused d r h inside m
 
-  undid : (d : Deed) (answer : Result Plan Refusal) → HasGatheredFor s given (Undo d) → Undoes (Some s.sizes) (Some d) k given latched answer after → IsPlanned s (Undo d) answer
-  undid d (Ok p) h m = planned_answer s (Undo d) p (undo_plan s k given latched keeps on d p after h m) (undo_free s k given latched keeps on d p after h m)
-  undid d (Err r) h m = undo_refused d r h m
+  undid : (d : Deed) (answer : Result Plan Refusal) → HasGatheredFor s given (Undo d) → IsDeedOf s.sizes d → Undoes (Some s.sizes) (Some d) k given latched answer after → IsPlanned s (Undo d) answer
+  undid d (Ok p) h inside m = planned_answer s (Undo d) p (undo_plan s k given latched keeps on d p after h m) (undo_free s k given latched keeps on d p after h m)
+  undid d (Err r) h inside m = undo_refused d r h inside m
 
 -- ---- what it wants for it
 
 -- what the slots tell that are wanted for what is asked
 abbrev WantsFor : State → Job → Asked → Type 0
-WantsFor s job a = (given : List Given) → AreGivenFrom s given → IsWantedOf s given (job_wanted job given) (slots_for (slots_now s) a)
+WantsFor s job a = (given : List Given) → AreGivenFrom s given → IsWantedOf s given (job_wanted job given) (slots_for s.sizes (slots_now s) a)
 
 wants_do : (s : State) (job : Job) (d : Doing) → IsToDo job d → doing_sender d < sender_count s.sizes → WantsFor s job (Do d)
 wants_do s job (Send g tag body) to inside given h = wants_needed.sends s given job g tag body h to inside
@@ -298,9 +305,9 @@ wants_do s job (Close g) to inside given h = wants_needed.closes s given job g h
 -- an answer comes from all that is needed, or from a slot that is withheld
 module _ (s : State) (job : Job) (a : Asked) (wants : WantsFor s job a) (May : List Given → Result Plan Refusal → Type 0) (P : Result Plan Refusal → Type 0) (lacks : P (Err why.NoMemory)) (held : IsHeldUp s a → P (Err why.Latched))
     (all : (given : List Given) (answer : Result Plan Refusal) → HasGatheredFor s given a → May given answer → P answer) where
-  pub from_wanted : (answer : Result Plan Refusal) → IsAnswered s chain_meaning job May answer → P answer
+  pub from_wanted : (answer : Result Plan Refusal) → IsAnswered s job_wanted job May answer → P answer
   from_wanted answer h = by (job_wanted job h.given) refl answer h.comes where
-    w : IsWantedOf s h.given (job_wanted job h.given) (slots_for (slots_now s) a)
+    w : IsWantedOf s h.given (job_wanted job h.given) (slots_for s.sizes (slots_now s) a)
     w = wants h.given h.has.from
 
     by : (o : Option ℕ) → job_wanted job h.given ≡ o → (answer : Result Plan Refusal) → ComesFrom s o (May h.given) answer → P answer
@@ -312,7 +319,7 @@ module _ (s : State) (job : Job) (a : Asked) (wants : WantsFor s job a) (May : L
     by (Some b) e (Err _) c = absurd c
 
 module _ (s : State) (k : LevelState) (keeps : KeepsCells s k) where
-  to_do_planned : (job : Job) (d : Doing) (answer : Result Plan Refusal) → IsToDo job d → doing_sender d < sender_count s.sizes → IsAnswered s chain_meaning job (MayPlan s chain_meaning k job) answer → IsPlanned s (Do d) answer
+  to_do_planned : (job : Job) (d : Doing) (answer : Result Plan Refusal) → IsToDo job d → doing_sender d < sender_count s.sizes → IsAnswered s job_wanted job (MayPlan s chain_meaning k job) answer → IsPlanned s (Do d) answer
   to_do_planned job d answer to inside h =
       from_wanted s job (Do d) (wants_do s job d to inside) (MayPlan s chain_meaning k job) (IsPlanned s (Do d)) (memory_answer s (Do d)) (latched_answer s (Do d))
       (λ given answer has m. did s k given m.latched keeps m.on m.after d answer has inside (of_plan given answer m)) answer h
@@ -329,13 +336,13 @@ module _ (s : State) (k : LevelState) (keeps : KeepsCells s k) where
       subst (λ (o : Option Deed). Undoes (Some s.sizes) o k given m.latched answer m.after) told
       (subst (λ (z : Option Sizes). Undoes z (deed_by level deed) k given m.latched answer m.after) keeps.sizes m.undoes)
 
-  pub wants_undo : (level : ℕ) (d : Deed) (deed : List ℕ) → deed_by level deed ≡ Some d → deed_sender d < sender_count s.sizes → WantsFor s (to_take_back level deed) (Undo d)
+  pub wants_undo : (level : ℕ) (d : Deed) (deed : List ℕ) → deed_by level deed ≡ Some d → IsDeedOf s.sizes d → WantsFor s (to_take_back level deed) (Undo d)
   wants_undo level d deed told inside given h = wants_needed.undoes s given (to_take_back level deed) d h (record { back = refl; told = told }) inside
 
-  to_undo_planned : (level : ℕ) (d : Deed) (deed : List ℕ) (answer : Result Plan Refusal) → deed_by level deed ≡ Some d → deed_sender d < sender_count s.sizes → IsAnswered s chain_meaning (to_take_back level deed) (MayUndo s chain_meaning k level deed) answer → IsPlanned s (Undo d) answer
+  to_undo_planned : (level : ℕ) (d : Deed) (deed : List ℕ) (answer : Result Plan Refusal) → deed_by level deed ≡ Some d → IsDeedOf s.sizes d → IsAnswered s job_wanted (to_take_back level deed) (MayUndo s chain_meaning k level deed) answer → IsPlanned s (Undo d) answer
   to_undo_planned level d deed answer told inside h =
       from_wanted s (to_take_back level deed) (Undo d) (wants_undo level d deed told inside) (MayUndo s chain_meaning k level deed) (IsPlanned s (Undo d)) (memory_answer s (Undo d)) (latched_answer s (Undo d))
-      (λ given answer has m. undid s k given m.latched keeps m.on m.after d answer has (of_undo d deed level given answer told m)) answer h
+      (λ given answer has m. undid s k given m.latched keeps m.on m.after d answer has inside (of_undo d deed level given answer told m)) answer h
 
 -- ---- by the level that is asked
 
@@ -346,32 +353,38 @@ module _ (z : Sizes) (images : List (List ℕ)) (rows : List Row) (levels : List
   abbrev s : State
   s = known z images rows
 
-  of_one : (job : Job) → IsAnswered s (meaning_of 1) job (MayPlan s (meaning_of 1) (kept_at levels 1) job) answer → (d : Doing) → job.undo ≡ false → doing_by job.level job.bytes ≡ Some d → doing_sender d < sender_count z → IsPlanned s (Do d) answer
+  of_one : (job : Job) → IsAnswered s (wants_of levels 1) job (MayPlan s (meaning_of 1) (kept_at levels 1) job) answer → (d : Doing) → job.undo ≡ false → doing_by job.level job.bytes ≡ Some d → doing_sender d < sender_count z → IsPlanned s (Do d) answer
   unfolding meaning_of
   of_one job h d forward told inside = to_do_planned s (kept_at levels 1) (cells_known z images levels rows knows) job d answer (record { forward = forward; told = told }) inside h
 
-  plan_answered : (job : Job) (d : Doing) → job.undo ≡ false → doing_by job.level job.bytes ≡ Some d → doing_sender d < sender_count z → IsAnswered s (meaning_of job.level) job (MayPlan s (meaning_of job.level) (kept_at levels job.level) job) answer → IsPlanned s (Do d) answer
+  plan_answered : (job : Job) (d : Doing) → job.undo ≡ false → doing_by job.level job.bytes ≡ Some d → doing_sender d < sender_count z → IsAnswered s (wants_of levels job.level) job (MayPlan s (meaning_of job.level) (kept_at levels job.level) job) answer → IsPlanned s (Do d) answer
   plan_answered job d forward told inside h =
       let one : job.level ≡ 1 = of_chains job.level (doing_in job.bytes) (ap is_some told) in
-      of_one job (subst (λ n. IsAnswered s (meaning_of n) job (MayPlan s (meaning_of n) (kept_at levels n) job) answer) one h) d forward told inside
+      of_one job (subst (λ n. IsAnswered s (wants_of levels n) job (MayPlan s (meaning_of n) (kept_at levels n) job) answer) one h) d forward told inside
 
-  back_of_one : (level : ℕ) (deed : List ℕ) → IsAnswered s (meaning_of 1) (to_take_back level deed) (MayUndo s (meaning_of 1) (kept_at levels 1) level deed) answer → (d : Deed) → deed_by level deed ≡ Some d → deed_sender d < sender_count z → IsPlanned s (Undo d) answer
+  of_chain : (d : Deed) → IsDeedOf z d → deed_level d ≡ 1
+  of_chain (Append g n tag previous body) inside = refl
+  of_chain (UnlinkHead g n tag body) inside = refl
+  of_chain (Close_deed g) inside = refl
+  of_chain (Mark c tag previous) inside = absurd inside.2
+
+  back_of_one : (level : ℕ) (deed : List ℕ) → IsAnswered s (wants_of levels 1) (to_take_back level deed) (MayUndo s (meaning_of 1) (kept_at levels 1) level deed) answer → (d : Deed) → deed_by level deed ≡ Some d → IsDeedOf z d → IsPlanned s (Undo d) answer
   unfolding meaning_of
   back_of_one level deed h d told inside = to_undo_planned s (kept_at levels 1) (cells_known z images levels rows knows) level d deed answer told inside h
 
-  back_answered : (level : ℕ) (deed : List ℕ) (d : Deed) → deed_by level deed ≡ Some d → deed_sender d < sender_count z → IsAnswered s (meaning_of level) (to_take_back level deed) (MayUndo s (meaning_of level) (kept_at levels level) level deed) answer → IsPlanned s (Undo d) answer
+  back_answered : (level : ℕ) (deed : List ℕ) (d : Deed) → deed_by level deed ≡ Some d → IsDeedOf z d → IsAnswered s (wants_of levels level) (to_take_back level deed) (MayUndo s (meaning_of level) (kept_at levels level) level deed) answer → IsPlanned s (Undo d) answer
   back_answered level deed d told inside h =
-      let one : level ≡ 1 = of_chains level (deed_in deed) (ap is_some told) in
-      back_of_one level deed (subst (λ n. IsAnswered s (meaning_of n) (to_take_back level deed) (MayUndo s (meaning_of n) (kept_at levels n) level deed) answer) one h) d told inside
+      let one : level ≡ 1 = sym (told_by_its_level level deed d told) ∙ of_chain d inside in
+      back_of_one level deed (subst (λ n. IsAnswered s (wants_of levels n) (to_take_back level deed) (MayUndo s (meaning_of n) (kept_at levels n) level deed) answer) one h) d told inside
 
   -- whatever is asked
-  pub plan_says : (job : Job) → job.undo ≡ false → IsAnswered s (meaning_of job.level) job (MayPlan s (meaning_of job.level) (kept_at levels job.level) job) answer → IsPlannedBy s job answer
+  pub plan_says : (job : Job) → job.undo ≡ false → IsAnswered s (wants_of levels job.level) job (MayPlan s (meaning_of job.level) (kept_at levels job.level) job) answer → IsPlannedBy s job answer
   plan_says job forward h asked told inside = by (doing_by job.level job.bytes) refl (sym (ap (λ (b : Bool). cond b (option_map Undo (deed_by job.level job.bytes)) (option_map Do (doing_by job.level job.bytes))) forward) ∙ told) where
     by : (o : Option Doing) → doing_by job.level job.bytes ≡ o → option_map Do o ≡ Some asked → IsPlanned s asked answer
     by None e t = absurd (let no : None ≡ Some asked = t in cc)
     by (Some d) e t = let is : Do d ≡ asked = some_asked t in subst (λ a. IsPlanned s a answer) is (plan_answered job d forward e (subst (IsOfStore z) (sym is) inside) h)
 
-  pub back_says : (level : ℕ) (deed : List ℕ) → IsAnswered s (meaning_of level) (to_take_back level deed) (MayUndo s (meaning_of level) (kept_at levels level) level deed) answer → IsPlannedBy s (to_take_back level deed) answer
+  pub back_says : (level : ℕ) (deed : List ℕ) → IsAnswered s (wants_of levels level) (to_take_back level deed) (MayUndo s (meaning_of level) (kept_at levels level) level deed) answer → IsPlannedBy s (to_take_back level deed) answer
   back_says level deed h asked told inside = by (deed_by level deed) refl told where
     by : (o : Option Deed) → deed_by level deed ≡ o → option_map Undo o ≡ Some asked → IsPlanned s asked answer
     by None e t = absurd (let no : None ≡ Some asked = t in cc)

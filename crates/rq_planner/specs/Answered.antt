@@ -1,5 +1,5 @@
 -- What a store is answered that asks a level for a plan, and what levels keep of it.
-use Rattle.std.specs.Prelude.{◌≡◌, ◌⊎◌, ℕ, ◌/◌, ◌%◌, ◌+◌, ◌≤◌, ◌<◌, ◌^◌, true, false, List, [], ◌∷◌, ◌++◌, length, Option, None, Some, Result, Ok, Err, IfErr, IfOk}
+use Rattle.std.specs.Prelude.{◌≡◌, ◌⊎◌, ℕ, ◌/◌, ◌≤◌, ◌<◌, ◌^◌, true, false, List, [], ◌∷◌, ◌++◌, length, Option, None, Some, Result, Ok, Err, IfErr, IfOk}
 use Rattle.rq_model.specs.declared.record.Deed.{Deed}
 use Rattle.rq_model.specs.declared.record.Deed.TheVariants.{Append, UnlinkHead, Close as Close_deed}
 use Rattle.rq_model.specs.declared.refusal.Refusal.{Refusal}
@@ -7,13 +7,13 @@ use Rattle.rq_model.specs.declared.refusal.Refusal.TheVariants as why
 use Rattle.rq_model.specs.Deeds.{deed_by, spelled_deed}
 use Rattle.rq_model.specs.declared.record.Record.TheVariants.{OpEnd}
 use Rattle.rq_model.specs.declared.txn.Txn.{Txn}
-use Rattle.rq_page.specs.Sizes.{Sizes, address, cell_count, tags_from}
+use Rattle.rq_page.specs.Sizes.{Sizes, cell_count}
 use Rattle.rq_views.specs.Items.{items}
 use Rattle.rq_views.specs.Legal.{view}
 use Rattle.rq_views.specs.Log.{Slots}
 use Rattle.rq_views.specs.Plans.Turn.{Did, Undid}
 use Rattle.rq_views.specs.Stored.{IsStoreSlot, slot_at}
-use Rattle.rq_level.specs.Asked.{IsGathered as AreWantedBy}
+use Rattle.rq_level.specs.Asked.{AreWanted}
 use Rattle.rq_level.specs.ChainPlans.{IsInverse, TellsDamage}
 use Rattle.rq_level.specs.declared.slots.Given.{Given}
 use Rattle.rq_level.specs.declared.writes.Plan.{Plan}
@@ -40,9 +40,17 @@ use Rattle.rq_planner.specs.Asked.Asked.{Do, Undo}
 
 -- ---- by a level of any number
 
--- slots of the store were given, as the level wanted them, each as it is, of pages that nobody has latched
-pub record HasGathered (s : State) (m : Meaning) (job : Job) (given : List Given) : Type 0 where
-  pub wanted : AreWantedBy m job given
+-- what a level asks for, by what it is to do and what it was given
+abbrev pub Wants : Type 0
+Wants = Job → List Given → Option ℕ
+
+-- the level of this number, as it keeps
+abbrev pub wants_of : List LevelState → ℕ → Wants
+wants_of levels n = (meaning_of n).want (kept_at levels n).sizes
+
+-- slots of the store were given, as a level wanted them, each as it is, of pages that nobody has latched
+pub record HasGathered (s : State) (want : Wants) (job : Job) (given : List Given) : Type 0 where
+  pub wanted : AreWanted (want job) [] given
   pub from : AreGivenFrom s given
   pub gathered : IsGathered s given
 
@@ -60,11 +68,11 @@ ComesFrom s (Some a) May (Ok p) = ⊥
 ComesFrom s (Some a) May (Err r) = IsWithheld s a r
 
 -- The answer to a job comes from slots that the level wanted for it. It may give these from all of them.
-pub record IsAnswered (s : State) (m : Meaning) (job : Job) (May : List Given → Result Plan Refusal → Type 0)
+pub record IsAnswered (s : State) (want : Wants) (job : Job) (May : List Given → Result Plan Refusal → Type 0)
     (answer : Result Plan Refusal) : Type 0 where
   pub given : List Given
-  pub has : HasGathered s m job given
-  pub comes : ComesFrom s (m.want job given) (May given) answer
+  pub has : HasGathered s want job given
+  pub comes : ComesFrom s (want job given) (May given) answer
 
 -- where it keeps this, to something to do
 pub record MayPlan (s : State) (m : Meaning) (k : LevelState) (job : Job) (given : List Given) (answer : Result Plan Refusal)
@@ -130,9 +138,9 @@ IsPlanFor s (Undo d) p = IsPlanBack s d p
 
 -- what is asked needs a latched page, or a cell of which none is free on another
 abbrev pub IsHeldUp : State → Asked → Type 0
-IsHeldUp s (Do (Send g tag body)) = (any_latched s.rows (slots_for (slots_now s) (Do (Send g tag body))) ≡ true)
+IsHeldUp s (Do (Send g tag body)) = (any_latched s.rows (slots_for s.sizes (slots_now s) (Do (Send g tag body))) ≡ true)
     ⊎ AreAllLatched s.sizes (slots_now s) s.rows
-IsHeldUp s (Do d) = any_latched s.rows (slots_for (slots_now s) (Do d)) ≡ true
+IsHeldUp s (Do d) = any_latched s.rows (slots_for s.sizes (slots_now s) (Do d)) ≡ true
 IsHeldUp s (Undo d) = InverseIsLatched s.sizes (slots_now s) s.rows d
 
 -- the deed that a transaction with nothing under way did last and has not undone
@@ -187,10 +195,6 @@ pub record KnowsThose (Those : ℕ → Type 0) (z : Sizes) (images : List (List 
 -- they know the cells, and all its other slots
 abbrev pub KnowsCells : Sizes → List (List ℕ) → List LevelState → Type 0
 KnowsCells z images levels = KnowsThose (IsStoreSlot z) z images levels
-
--- where a client's slot stands
-abbrev pub client_slot : Sizes → ℕ → ℕ
-client_slot z client = address (tags_from z + client / 15) (1 + client % 15)
 
 -- the slot of this write is told as it is, where a free cell stands in it; otherwise nothing is
 abbrev pub MayBeTold : Sizes → List (List ℕ) → Option SlotWrite → (old new : List LevelState) → Type 0

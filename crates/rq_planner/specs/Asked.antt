@@ -4,7 +4,7 @@ use Rattle.rq_model.specs.declared.record.Deed.{Deed}
 use Rattle.rq_model.specs.Deeds.{deed_by}
 use Rattle.rq_page.specs.Sizes.{Sizes, directory_at, sender_count}
 use Rattle.rq_views.specs.Log.{Slots}
-use Rattle.rq_views.specs.Plans.{deed_sender}
+use Rattle.rq_views.specs.InStore.{IsDeedOf}
 use Rattle.rq_views.specs.Plans.Turn.{Undid}
 use Rattle.rq_level.specs.Ops.{Doing, Job, doing_by}
 use Rattle.rq_level.specs.Ops.Doing.{Send, Receive, Close}
@@ -52,14 +52,14 @@ doing_sender (Close g) = g
 abbrev pub asked_by : Job → Option Asked
 asked_by job = cond job.undo (option_map Undo (deed_by job.level job.bytes)) (option_map Do (doing_by job.level job.bytes))
 
--- it is of the store: its group is one of the store's
+-- it is of the store: its group is one of the store's senders
 abbrev pub IsOfStore : Sizes → Asked → Type 0
 IsOfStore z (Do d) = doing_sender d < sender_count z
-IsOfStore z (Undo d) = deed_sender d < sender_count z
+IsOfStore z (Undo d) = IsDeedOf z d
 
 -- the slots that it needs, but for a free one
-abbrev pub slots_for : Slots → Asked → List ℕ
-slots_for q (Do (Send g tag body)) = at_tail q g
-slots_for q (Do (Receive g)) = behind_head q g
-slots_for q (Do (Close g)) = directory_at g ∷ []
-slots_for q (Undo d) = needed q (Undid d)
+abbrev pub slots_for : Sizes → Slots → Asked → List ℕ
+slots_for z q (Do (Send g tag body)) = at_tail q g
+slots_for z q (Do (Receive g)) = behind_head q g
+slots_for z q (Do (Close g)) = directory_at g ∷ []
+slots_for z q (Undo d) = needed z q (Undid d)

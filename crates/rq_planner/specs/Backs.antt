@@ -1,9 +1,10 @@
 -- What takes back a deed where nothing is under way, by what the slots hold.
 use Rattle.std.specs.Prelude.{◌≡◌, ℕ, ◌<◌, true, List, [], Option, Some, Result, IfOk, IfErr}
 use Rattle.rq_model.specs.declared.record.Deed.{Deed}
-use Rattle.rq_model.specs.declared.record.Deed.TheVariants.{Append, UnlinkHead, Close}
+use Rattle.rq_model.specs.declared.record.Deed.TheVariants.{Append, UnlinkHead, Close, Mark}
 use Rattle.rq_model.specs.declared.refusal.Refusal.{Refusal}
 use Rattle.rq_model.specs.declared.refusal.Refusal.TheVariants as why
+use Rattle.rq_model.specs.Vocabulary.{is_some}
 use Rattle.rq_page.specs.declared.cell.Cell.{Cell}
 use Rattle.rq_page.specs.declared.directory.Directory.{Directory}
 use Rattle.rq_page.specs.Sizes.{Sizes, IsCellAddress, directory_at, sender_count}
@@ -52,19 +53,20 @@ pub record IsShut (z : Sizes) (q : Slots) (g : ℕ) : Type 0 where
   pub closed : directory.closed ≡ true
 
 -- The slots hold what the inverse of a deed needs: a message was sent or taken last at its end of its group; a closed group
--- is closed.
+-- is closed. No slots hold what a mark's needs yet.
 abbrev pub CanBeTakenBack : Sizes → Slots → Deed → Type 0
 CanBeTakenBack z q (Append g n tag previous body) = SentLast z q g n
 CanBeTakenBack z q (UnlinkHead g n tag body) = TakenLast z q g n
 CanBeTakenBack z q (Close g) = IsShut z q g
+CanBeTakenBack z q (Mark c tag previous) = ⊥
 
 -- the slots do not hold that of the deed that is told
 abbrev pub CannotBeTakenBack : Sizes → Slots → Option Deed → Type 0
 CannotBeTakenBack z q told = (d : Deed) → told ≡ Some d → CanBeTakenBack z q d → ⊥
 
--- where nothing is under way, it is refused for memory, or as damage where that cannot be
+-- where nothing is under way: a deed that is told may want memory; damage means that it cannot be taken back
 abbrev pub IsRefusedBack : Sizes → Slots → Option Deed → Refusal → Type 0
-IsRefusedBack z q told why.NoMemory = Unit {0}
+IsRefusedBack z q told why.NoMemory = is_some told ≡ true
 IsRefusedBack z q told (why.Damaged x) = CannotBeTakenBack z q told
 IsRefusedBack z q told _ = ⊥
 

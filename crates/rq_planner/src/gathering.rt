@@ -1,7 +1,7 @@
 //! Gathers the slots that a level wants.
 ghost use Rattle.std.specs.Prelude.{◌≡◌, ◌<◌, IfErr, Err, None, OnOk, length};
 ghost use Rattle.rq_level.specs.Meaning.{meaning_of};
-ghost use Rattle.rq_planner.specs.Answered.{HasGathered, IsAnswered, KnowsCells};
+ghost use Rattle.rq_planner.specs.Answered.{HasGathered, IsAnswered, KnowsCells, wants_of};
 ghost use Rattle.rq_planner.specs.Asked.{known_from};
 
 use rq_disk::PageDevice;
@@ -24,9 +24,9 @@ pub(crate) fn gather<P: PageDevice, B: Level>(
 ) -> Result<(), Refusal>
     requires known { KnowsCells pages.now.sizes pages.now.images levels.now }
     requires level { op.now.level < length levels.now }
-    ensures all { OnOk result (HasGathered (known_from pages.now transactions.now) (meaning_of op.now.level) op.now slots.new) }
-    ensures none { OnOk result ((meaning_of op.now.level).want op.now slots.new ≡ None) }
-    ensures refusal { IfErr result (λ r. IsAnswered (known_from pages.now transactions.now) (meaning_of op.now.level) op.now
+    ensures all { OnOk result (HasGathered (known_from pages.now transactions.now) (wants_of levels.now op.now.level) op.now slots.new) }
+    ensures none { OnOk result (wants_of levels.now op.now.level op.now slots.new ≡ None) }
+    ensures refusal { IfErr result (λ r. IsAnswered (known_from pages.now transactions.now) (wants_of levels.now op.now.level) op.now
         (λ given answer. ⊥) (Err r)) }
 {
     slots.clear();

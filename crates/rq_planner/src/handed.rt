@@ -20,6 +20,7 @@ impl<B: Level> StoreLevels<B> {
     pub fn new(levels: Vec<B>) -> StoreLevels<B>
         requires numbers { CountOn 0 (map (λ b. B.level b) levels.items) }
         requires fit { AreForStores (map (λ b. B.kept b) levels.items) }
+        ensures { result.levels ≡ map (λ b. B.kept b) levels.items }
     {
         StoreLevels {
             levels: Levels::new(levels),

@@ -10,7 +10,7 @@ use std::alloc::Global;
 /// Has the level of single slots undo what a PageOp wrote: the write that does.
 ///
 /// # Errors
-/// `NoMemory`; `Damaged` where the record is no PageOp, or of a slot that no page has.
+/// `Damaged` where the record is no PageOp, or of a slot that no page has. Else `NoMemory`.
 pub(crate) fn undo_write<B: Level>(
     alloc: Global,
     levels: &mut Levels<B>,

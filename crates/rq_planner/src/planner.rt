@@ -6,7 +6,7 @@ ghost use Rattle.rq_views.specs.Stored.{IsStoreSlot, slot_at, slots_in};
 ghost use Rattle.rq_level.specs.Meaning.{AppliesOnce, AreTold, kept_at, meaning_of, redo_of};
 ghost use Rattle.rq_pool.specs.Pooled.{image_at};
 ghost use Rattle.rq_pool.specs.Writing.{IsRedoAt};
-ghost use Rattle.rq_planner.specs.Answered.{IsAnswered, IsPlannedBy, KnowsCells, MayPlan, MayUndo, to_take_back};
+ghost use Rattle.rq_planner.specs.Answered.{IsAnswered, IsPlannedBy, KnowsCells, MayPlan, MayUndo, to_take_back, wants_of};
 ghost use Rattle.rq_planner.specs.Asked.{known_from};
 ghost use Rattle.rq_planner.specs.Backs.{IsJudgedBack, IsRefusedBack, IsTakingBack};
 ghost use Rattle.rq_planner.specs.Handed.{AreForStores};
@@ -102,7 +102,7 @@ impl<B: Level> Planner<B> {
         requires level { op.now.level < length self.old }
         requires forward { op.now.undo ≡ false }
         ensures same { self.new ≡ self.old }
-        ensures answered { IsAnswered (known_from pages.now transactions.now) (meaning_of op.now.level) op.now
+        ensures answered { IsAnswered (known_from pages.now transactions.now) (wants_of self.old op.now.level) op.now
             (MayPlan (known_from pages.now transactions.now) (meaning_of op.now.level) (kept_at self.old op.now.level) op.now)
             result }
         ensures planned { IsPlannedBy (known_from pages.now transactions.now) op.now result }
@@ -133,7 +133,7 @@ impl<B: Level> Planner<B> {
         requires known { KnowsCells pages.now.sizes pages.now.images self.old }
         requires level { level < length self.old }
         ensures same { self.new ≡ self.old }
-        ensures answered { IsAnswered (known_from pages.now transactions.now) (meaning_of level) (to_take_back level deed.now)
+        ensures answered { IsAnswered (known_from pages.now transactions.now) (wants_of self.old level) (to_take_back level deed.now)
             (MayUndo (known_from pages.now transactions.now) (meaning_of level) (kept_at self.old level) level deed.now) result }
         ensures planned { IsPlannedBy (known_from pages.now transactions.now) (to_take_back level deed.now) result }
         ensures judged { (d : Deed) → deed_by level deed.now ≡ Some d
@@ -154,8 +154,8 @@ impl<B: Level> Planner<B> {
     /// The writes that take back the deed that the level of this number tells by the bytes, where nothing is under way.
     ///
     /// # Errors
-    /// `NoMemory`; `Damaged` where it tells none, or one that the slots as they are do not show to be done last
-    /// (of a close: where its group is not closed).
+    /// `Damaged` where it tells none, or one that the slots do not show to be done last. A close is shown by its closed
+    /// group. `NoMemory`, of a deed that is told.
     pub fn plan_inverse_alone<P: PageDevice>(
         &mut self,
         alloc: Global,
@@ -173,6 +173,9 @@ impl<B: Level> Planner<B> {
         if level as usize >= self.levels.len() {
             return Err(Refusal::Damaged(Damage::Page(0)));
         }
+        if !self.levels.reads(level as usize, deed.as_slice()) {
+            return Err(Refusal::Damaged(Damage::Page(0)));
+        }
         let nobody = Transactions::new(alloc);
         match self.plan_inverse(alloc, Vec::new(alloc), pages, &nobody, level, deed) {
             Ok(plan) => Ok(plan.writes),
@@ -187,7 +190,7 @@ impl<B: Level> Planner<B> {
     /// The write that undoes what a PageOp wrote.
     ///
     /// # Errors
-    /// `NoMemory`; `Damaged` where the record is no PageOp, or of a slot that no page has.
+    /// `Damaged` where the record is no PageOp, or of a slot that no page has. Else `NoMemory`.
     pub fn undo_write(&mut self, alloc: Global, record: &Record) -> Result<SlotWrite, Refusal>
         ensures same { self.new ≡ self.old }
         ensures back { IfOk result (λ write. PutsBackWrite «record».now write) }

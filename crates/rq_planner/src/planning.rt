@@ -1,7 +1,7 @@
 //! Plans of operations, and of what takes them back.
 ghost use Rattle.std.specs.Prelude.{◌≡◌, ◌<◌, length};
 ghost use Rattle.rq_level.specs.Meaning.{kept_at, meaning_of};
-ghost use Rattle.rq_planner.specs.Answered.{IsAnswered, KnowsCells, MayPlan, MayUndo, to_take_back};
+ghost use Rattle.rq_planner.specs.Answered.{IsAnswered, KnowsCells, MayPlan, MayUndo, to_take_back, wants_of};
 ghost use Rattle.rq_planner.specs.Asked.{known_from};
 
 use crate::gathering::gather;
@@ -32,7 +32,7 @@ pub(crate) fn plan<P: PageDevice, B: Level>(
     requires known { KnowsCells pages.now.sizes pages.now.images levels.old }
     requires level { op.now.level < length levels.old }
     ensures same { levels.new ≡ levels.old }
-    ensures answered { IsAnswered (known_from pages.now transactions.now) (meaning_of op.now.level) op.now
+    ensures answered { IsAnswered (known_from pages.now transactions.now) (wants_of levels.old op.now.level) op.now
         (MayPlan (known_from pages.now transactions.now) (meaning_of op.now.level) (kept_at levels.old op.now.level) op.now)
         result }
 {
@@ -63,7 +63,7 @@ pub(crate) fn plan_inverse<P: PageDevice, B: Level>(
     requires known { KnowsCells pages.now.sizes pages.now.images levels.old }
     requires level { level < length levels.old }
     ensures same { levels.new ≡ levels.old }
-    ensures answered { IsAnswered (known_from pages.now transactions.now) (meaning_of level) (to_take_back level deed.now)
+    ensures answered { IsAnswered (known_from pages.now transactions.now) (wants_of levels.old level) (to_take_back level deed.now)
         (MayUndo (known_from pages.now transactions.now) (meaning_of level) (kept_at levels.old level) level deed.now) result }
 {
     let Ok(op) = Op::undo(alloc, level, deed.as_slice()) else {

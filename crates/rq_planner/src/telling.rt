@@ -1,11 +1,12 @@
 //! Tells levels of slots as they are.
 ghost use Rattle.std.specs.Prelude.{◌≡◌, ◌↔◌, ◌*◌, ◌<◌, ℕ, IfErr, IfOk, IfSome, IsTrue, Some, length, slice_get};
 ghost use Rattle.rq_page.specs.Cells.{free_bytes};
-ghost use Rattle.rq_page.specs.Sizes.{IsCellAddress};
+ghost use Rattle.rq_page.specs.Sizes.{IsCellAddress, client_slot_at};
 ghost use Rattle.rq_page.specs.Slots.{Free};
+ghost use Rattle.rq_views.specs.InStore.{IsClientAddress};
 ghost use Rattle.rq_views.specs.Stored.{IsStoreSlot, slot_at, slots_in};
 ghost use Rattle.rq_level.specs.Meaning.{AreTold, kept_at, meaning_of};
-ghost use Rattle.rq_planner.specs.Answered.{KnowsCells, MayBeTold, client_slot};
+ghost use Rattle.rq_planner.specs.Answered.{KnowsCells, MayBeTold};
 ghost use Rattle.rq_planner.specs.Handed.{AreForStores};
 
 use rq_disk::PageDevice;
@@ -14,7 +15,7 @@ use rq_model::record::Slot;
 use rq_model::refusal::Refusal;
 use rq_page::addr::Addr;
 use rq_page::cell::CellSlot;
-use rq_page::layout::{Layout, SLOTS};
+use rq_page::layout::Layout;
 use rq_pool::Pages;
 
 /// Gives back the cell of what was planned, where there is a plan and it chose one.
@@ -71,20 +72,18 @@ pub(crate) fn tell_store<P: PageDevice, B: Level>(pages: &Pages<P>, levels: &mut
         let next = free_behind(pages, &free, at, place + 1);
         free = next;
     }
-    for client in 0..layout.tags() * SLOTS {
+    for client in 0..layout.clients() {
         tell(pages, levels, client_addr(&layout, client));
     }
 }
 
-// Where a client's slot stands.
+// Where a client's slot stands: on a tag page, and each client's by itself.
 fn client_addr(layout: &Layout, client: u32) -> Addr
     requires { client < 15 * layout.now.tags }
-    ensures { result ≡ client_slot layout.now client }
+    ensures value { result ≡ client_slot_at layout.now client }
+    ensures own { IsClientAddress layout.now client result }
 {
-    Addr::new(
-        layout.tags_from() + client / SLOTS,
-        (1 + client % SLOTS) as u8,
-    )
+    layout.client_slot_of(client)
 }
 
 // The first free cell whose place is this one or a later one.

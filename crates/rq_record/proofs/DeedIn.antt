@@ -5,12 +5,12 @@ use Rattle.std.proofs.lemmas.Bool.Decides.{nat_tests}
 use Rattle.std.proofs.lemmas.List.{length-drop, drop-drop}
 use Rattle.byteorder.specs.Endian.{big_number}
 use Rattle.rq_model.specs.declared.record.Deed.{Deed}
-use Rattle.rq_model.specs.declared.record.Deed.TheVariants.{Append, UnlinkHead, Close}
-use Rattle.rq_model.specs.Deeds.{deed_in, append_in, unlink_head_in, close_in}
+use Rattle.rq_model.specs.declared.record.Deed.TheVariants.{Append, UnlinkHead, Close, Mark}
+use Rattle.rq_model.specs.Deeds.{deed_in, append_in, unlink_head_in, close_in, mark_fields, mark_in}
 use Rattle.rq_record.specs.declared.reading.Stop.{Stop}
 use Rattle.rq_record.specs.declared.reading.Stop.TheVariants.{Short, Bad}
 use Rattle.rq_record.specs.Reading.{◌>>=◌, number_at, positive_at}
-use Rattle.rq_record.specs.DeedReading.{append_at, unlink_head_at, close_at, deed_at, deed_of}
+use Rattle.rq_record.specs.DeedReading.{append_at, unlink_head_at, close_at, mark_at, deed_at, tag_deed_at, deed_of}
 use Rattle.rq_record.proofs.Readers.{done, done_is, then_done, chosen, not_nought, is_positive}
 
 -- ---- numbers, where there are bytes enough
@@ -135,6 +135,14 @@ Partly-close : Partly close_at (after 4 (λ rest. length rest ≡ 0)) (λ bytes.
 unfolding close_at
 Partly-close = Partly-and _ (λ rest. length rest ≡ 0) (λ x. Close x.0) (Partly-number 4) (λ sender. Partly-end (Close sender))
 
+Partly-mark : Partly mark_at (after 4 (after 8 (after 8 (λ rest. length rest ≡ 0)))) (λ bytes. Mark (big_number 4 bytes) (big_number 8 (drop 4 bytes)) (big_number 8 (drop 8 (drop 4 bytes))))
+unfolding mark_at
+Partly-mark =
+    Partly-and _ (after 8 (after 8 (λ rest. length rest ≡ 0))) (λ x. Mark x.0 (big_number 8 x.1) (big_number 8 (drop 8 x.1))) (Partly-number 4)
+    (λ client. Partly-and _ (after 8 (λ rest. length rest ≡ 0)) (λ x. Mark client x.0 (big_number 8 x.1)) (Partly-number 8)
+    (λ tag. Partly-and _ (λ rest. length rest ≡ 0) (λ x. Mark client tag x.0) (Partly-number 8)
+    (λ previous. Partly-end (Mark client tag previous))))
+
 -- ---- the deed that the bytes are
 
 -- what is read where a test is passed, and only there
@@ -196,6 +204,18 @@ close_is bytes =
     (λ t. let n : length bytes ≡ 4 = eqb-true _ _ t in Partly-close.able bytes (omega arith, omega arith))
     (λ e h. let can = Partly-close.only bytes e h in (let n : length bytes ≡ 4 = omega arith in rw n refl))
 
+mark_is : (bytes : List ℕ) → deed_of (mark_at bytes) ≡ mark_fields bytes
+mark_is bytes =
+    let l4 = length-drop 4 bytes in
+    let l12 = length-drop 8 (drop 4 bytes) in
+    let l20 = length-drop 8 (drop 8 (drop 4 bytes)) in
+    let test = eqb (length bytes) 20 in
+    let make : List ℕ → Deed = λ previous. Mark (big_number 4 bytes) (big_number 8 (drop 4 bytes)) (big_number 8 previous) in
+    let read = read_where test (mark_at bytes) (make (drop 8 (drop 4 bytes)))
+    (λ t. let n : length bytes ≡ 20 = eqb-true _ _ t in Partly-mark.able bytes (omega arith, (omega arith, (omega arith, omega arith))))
+    (λ e h. let can = Partly-mark.only bytes e h in (let n : length bytes ≡ 20 = omega arith in rw n refl)) in
+    read ∙ ap (λ (d : List ℕ). cond test (Some (make d)) None) (drop-drop 8 4 bytes)
+
 either : (test : Bool) (x y : Result Deed Stop) (a b : Option Deed) → deed_of x ≡ a → deed_of y ≡ b → deed_of (cond test x y) ≡ cond test a b
 either true x y a b e f = e
 either false x y a b e f = f
@@ -208,3 +228,8 @@ read_is (kind ∷ fields) =
     either (eqb kind 1) (append_at fields) _ (append_in fields) _ (append_is fields)
     (either (eqb kind 2) (unlink_head_at fields) _ (unlink_head_in fields) _ (unlink_head_is fields)
     (either (eqb kind 3) (close_at fields) (Err Bad) (close_in fields) None (close_is fields) refl))
+
+pub mark_read_is : (bytes : List ℕ) → deed_of (tag_deed_at bytes) ≡ mark_in bytes
+unfolding tag_deed_at
+mark_read_is [] = refl
+mark_read_is (kind ∷ fields) = either (eqb kind 1) (mark_at fields) (Err Bad) (mark_fields fields) None (mark_is fields) refl

@@ -1,12 +1,12 @@
 //! Deeds as bytes.
 ghost use Rattle.std.specs.Prelude.{◌≡◌, ◌+◌, ◌≤◌, ◌++◌, ◌∷◌, length, IfSome, Some};
 ghost use Rattle.rq_model.specs.declared.record.Deed.{Deed};
-ghost use Rattle.rq_model.specs.declared.record.Deed.TheVariants.{Append, Close, UnlinkHead};
+ghost use Rattle.rq_model.specs.declared.record.Deed.TheVariants.{Append, Close, Mark, UnlinkHead};
 ghost use Rattle.rq_bytes.specs.Number.{number};
-ghost use Rattle.rq_model.specs.Deeds.{spelled_deed, deed_in, deed_by};
+ghost use Rattle.rq_model.specs.Deeds.{spelled_deed, deed_in, deed_level, mark_in, deed_by};
 ghost use Rattle.rq_record.specs.Deeds.{IsDeed, IsBody};
 ghost use Rattle.rq_record.specs.Reading.{Gives};
-ghost use Rattle.rq_record.specs.DeedReading.{append_at, unlink_head_at, close_at, deed_at, deed_of};
+ghost use Rattle.rq_record.specs.DeedReading.{append_at, unlink_head_at, close_at, mark_at, deed_at, tag_deed_at, deed_of};
 
 use crate::reading::{Stop, take_positive, take_u32, take_u64};
 use crate::writing::shows_bytes_fit;
@@ -66,7 +66,37 @@ fn close(bytes: &[u8]) -> Result<Deed, Stop>
     }
 }
 
-// A deed, all of the bytes.
+#[tactic(auto, unfolding(crate::specs::DeedReading::mark_at))]
+fn mark(bytes: &[u8]) -> Result<Deed, Stop>
+    ensures { Gives (λ x. x) result (mark_at bytes.now) }
+{
+    let (client, rest) = take_u32(bytes)?;
+    let (tag, rest) = take_u64(rest)?;
+    let (previous, rest) = take_u64(rest)?;
+    if rest.is_empty() {
+        Ok(Deed::Mark {
+            client,
+            tag,
+            previous,
+        })
+    } else {
+        Err(Stop::Bad)
+    }
+}
+
+// A deed of tags, all of the bytes.
+#[tactic(auto, unfolding(crate::specs::DeedReading::tag_deed_at))]
+fn tag_deed_in(bytes: &[u8]) -> Result<Deed, Stop>
+    ensures { Gives (λ x. x) result (tag_deed_at bytes.now) }
+{
+    match bytes {
+        [] => Err(Stop::Short),
+        [1, rest @ ..] => mark(rest),
+        [_, ..] => Err(Stop::Bad),
+    }
+}
+
+// A deed of chains, all of the bytes.
 #[tactic(auto, unfolding(crate::specs::DeedReading::deed_at))]
 fn deed_in(bytes: &[u8]) -> Result<Deed, Stop>
     ensures { Gives (λ x. x) result (deed_at bytes.now) }
@@ -90,13 +120,32 @@ fn deed_if_any(bytes: &[u8]) -> Option<Deed>
     }
 }
 
+// The mark that the bytes are.
+fn mark_if_any(bytes: &[u8]) -> Option<Deed>
+    ensures { result ≡ deed_of (tag_deed_at bytes.now) }
+{
+    match tag_deed_in(bytes) {
+        Ok(deed) => Some(deed),
+        Err(_) => None,
+    }
+}
+
 /// The deed of chains whose spelling the bytes are, all of them; none where they are no deed's.
 pub fn decode_deed(bytes: &[u8]) -> Option<Deed>
     ensures some { IfSome result (λ deed. IsDeed deed × (bytes.now ≡ spelled_deed deed)) }
-    ensures only { (deed : Deed) → IsDeed deed → bytes.now ≡ spelled_deed deed → result ≡ Some deed }
+    ensures only { (deed : Deed) → IsDeed deed → deed_level deed ≡ 1 → bytes.now ≡ spelled_deed deed → result ≡ Some deed }
     ensures told { result ≡ deed_in bytes.now }
 {
     deed_if_any(bytes)
+}
+
+/// The mark whose spelling the bytes are, all of them; none where they are no mark's.
+pub fn decode_mark(bytes: &[u8]) -> Option<Deed>
+    ensures some { IfSome result (λ deed. IsDeed deed × (bytes.now ≡ spelled_deed deed)) }
+    ensures only { (deed : Deed) → IsDeed deed → deed_level deed ≡ 2 → bytes.now ≡ spelled_deed deed → result ≡ Some deed }
+    ensures told { result ≡ mark_in bytes.now }
+{
+    mark_if_any(bytes)
 }
 
 /// The deed that the level of this number tells by these bytes; none where they are none of its deeds.
@@ -105,6 +154,7 @@ pub fn decode_told(level: u8, bytes: &[u8]) -> Option<Deed>
 {
     match level {
         1 => decode_deed(bytes),
+        2 => decode_mark(bytes),
         _ => None,
     }
 }
@@ -177,6 +227,28 @@ pub fn encode_unlink_head(sender: u32, sequence: u64, tag: u64, body: &Body) -> 
 {
     shows_body_fits(body);
     DeedBytes::joined(&unlink_head_front(sender, sequence, tag), body.as_slice())
+}
+
+#[tactic(auto, unfolding(rq_bytes::specs::Number::number))]
+fn mark_bytes(client: u32, tag: u64, previous: u64) -> [u8; 21]
+    ensures { result ≡ 1 ∷ (number 4 client ++ (number 8 tag ++ number 8 previous)) }
+{
+    let mut bytes = [0; 21];
+    bytes[0] = 1;
+    BigEndian::write_u32(&mut bytes[1..], client);
+    BigEndian::write_u64(&mut bytes[5..], tag);
+    BigEndian::write_u64(&mut bytes[13..], previous);
+    bytes
+}
+
+/// The spelling of the deed of a mark. It tells the deed.
+#[tactic(auto, unfolding(rq_bytes::specs::Number::number))]
+pub fn encode_mark(client: u32, tag: u64, previous: u64) -> DeedBytes
+    ensures spelled { result ≡ spelled_deed (Mark client tag previous) }
+    ensures told { mark_in result ≡ Some (Mark client tag previous) }
+    ensures size { length result ≡ 21 }
+{
+    DeedBytes::joined(&mark_bytes(client, tag, previous), &[])
 }
 
 /// The spelling of the deed of a close. It tells the deed.

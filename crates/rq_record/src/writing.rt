@@ -5,7 +5,7 @@ ghost use Rattle.rq_record.specs.Sizes.{length_of};
 ghost use Rattle.rq_record.specs.Spelling.{IsInRange, HasWidths, FitsTxn, IsImage, txn_bytes, spelling};
 ghost use Rattle.rq_bytes.specs.Number.{AreBytes, number};
 
-use crate::{COMMIT_BYTES, OP_END_BYTES, PAGE_OP_BYTES};
+use crate::{COMMIT_BYTES, COMP_END_BYTES, OP_END_BYTES, PAGE_OP_BYTES};
 use byteorder::{BigEndian, ByteOrder};
 use rq_bytes::end::{put, put_byte, put_u32, put_u64};
 use rq_model::record::{DeedBytes, Record, Slot};
@@ -233,8 +233,9 @@ fn put_op_void(out: &mut Vec<u8>, txn: &Txn, operation: u64)
     put_u64(out, operation);
 }
 
+/// Puts a CompEnd at the end, in room that is reserved.
 #[tactic(auto, using(crate::proofs::Spelled::spellings))]
-fn put_comp_end(out: &mut Vec<u8>, txn: &Txn, operation: u64, undone: u64)
+pub fn put_comp_end(out: &mut Vec<u8>, txn: &Txn, operation: u64, undone: u64)
     requires { vec_len out.old + 37 ≤ vec_capacity out.old }
     ensures items { out.new.items
         ≡ out.old.items ++ spelling (Record.CompEnd txn.now operation undone) }
@@ -313,7 +314,7 @@ pub fn spelled_len(record: &Record) -> usize
         Record::PageUndo { .. } => 298,
         Record::OpEnd { deed, .. } => OP_END_BYTES + deed.as_slice().len(),
         Record::OpVoid { .. } => 29,
-        Record::CompEnd { .. } => 37,
+        Record::CompEnd { .. } => COMP_END_BYTES,
         Record::Commit { .. } => COMMIT_BYTES,
         Record::AbortEnd { .. } | Record::Base { .. } => 21,
         Record::Restart { .. } => 13,

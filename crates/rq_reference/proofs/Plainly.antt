@@ -1,17 +1,20 @@
 -- What the ledger of the plain reference keeps.
 use Rattle.std.proofs.Common.{append_assoc, append-nil, ◌≡◌, ◌≢◌, ℕ, zero, suc, ◌+◌, ◌-◌, ◌<◌, ◌≤◌, Option, List, [], ◌∷◌, ◌++◌, length, take, map, refl, sym, ◌∙◌, ap, true, false, None, Some, inl, inr, arith, get_or, set, nat_lt}
 use Rattle.std.proofs.lemmas.Bool.{cases_Bool}
+use Rattle.std.proofs.lemmas.Grind.{common_steps}
 use Rattle.std.proofs.lemmas.List.{length-map, get_or-map}
 use Rattle.std.specs.List.{remove, filter_map, cons_option}
 use Rattle.rq_model.specs.declared.txn.Txn.{Txn}
 use Rattle.rq_reference.specs.declared.rows.OpenTxn.{OpenTxn}
 use Rattle.rq_reference.specs.declared.rows.Act.{Act}
+use Rattle.rq_reference.specs.declared.rows.CommittedTxn.{CommittedTxn}
+use Rattle.rq_reference.specs.declared.scans.Tagged.{Tagged}
 use Rattle.rq_model.specs.Vocabulary.{Op, same_txn, last_or}
 use Rattle.rq_model.specs.declared.message.Message.{Message}
 use Rattle.rq_model.specs.Tests.{below, count_rest}
 use Rattle.rq_model.specs.Ledger.{Open, Done, Ledger, change, without, found, tag_of, rest_in, kept_in}
 use Rattle.rq_model.proofs.Lists.{same_is, same_self}
-use Rattle.rq_reference.specs.Plain.{StandsAt, op_of, open_of, Numbered}
+use Rattle.rq_reference.specs.Plain.{StandsAt, done_of, op_of, open_of, tag_for, tags_in, Numbered}
 
 pub kept_more : (n : ℕ) (c : List Done) (d : Done) → kept_in n c ≤ kept_in n (c ++ d ∷ [])
 kept_more n [] d = omega arith
@@ -121,6 +124,10 @@ filter_more f (a ∷ acts) (suc i) d l =
     let e : suc i + 1 ≡ suc (i + 1) = omega arith in
     rw (e, h) (cons_append (f (op_of a)) (filter_map f (map op_of (take i acts))) (cons_option (f (op_of (get_or acts i d))) []))
 
+-- one transaction more
+pub tags_more : (tagged : Tagged) (number : ℕ) (rows : List CommittedTxn) (i : ℕ) (row : CommittedTxn) → i < length rows → row ≡ get_or rows i row → tags_in tagged (map done_of (take (i + 1) rows)) number ≡ tags_in tagged (map done_of (take i rows)) number ++ filter_map (tag_for tagged number) (map op_of row.acts.items)
+tags_more tagged number rows i row l e = grind (arith, common_steps)
+
 -- what was added, and one more
 pub pushed : {X : Type 0} (was before so_far more now : List X) (x : X) → now ≡ before ++ x ∷ [] → before ≡ was ++ so_far → more ≡ so_far ++ x ∷ [] → now ≡ was ++ more
 pushed was before so_far more now x e g h = e ∙ ap (λ l. l ++ x ∷ []) g ∙ append_assoc was so_far (x ∷ []) ∙ ap (λ l. was ++ l) (sym h)
@@ -134,6 +141,10 @@ last_at x (y ∷ xs) zero d l = refl
 last_at x (y ∷ xs) (suc i) d l =
     let e : suc i + 1 ≡ suc (i + 1) = omega arith in
     rw e (last_at y xs i d (omega arith))
+
+pub last_or_append : (d : ℕ) (xs ys : List ℕ) → last_or d (xs ++ ys) ≡ last_or (last_or d xs) ys
+last_or_append d [] ys = refl
+last_or_append d (x ∷ xs) ys = last_or_append x xs ys
 
 pub tag_at : (xs : List Message) (i : ℕ) (d : Message) → i < length xs → tag_of (take (i + 1) xs) ≡ (get_or xs i d).tag
 tag_at [] i d l = absurd (omega arith)

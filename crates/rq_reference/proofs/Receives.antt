@@ -1,22 +1,24 @@
 -- What a transaction may receive, undo and start, as the plain reference finds it.
 use Rattle.std.proofs.Common.{◌≡◌, ℕ, zero, suc, ◌+◌, ◌-◌, ◌<◌, Bool, Option, List, [], ◌∷◌, ◌++◌, length, take, drop, map, refl, sym, ◌∙◌, ap, subst, true, false, None, Some, inl, inr, arith, get_or, nat_lt, nat_eq, not, ◌&&◌, IsTrue}
-use Rattle.std.specs.List.{filter, filter_map, slice_get}
+use Rattle.std.specs.List.{cons_option, filter, filter_map, slice_get}
+use Rattle.std.proofs.lemmas.List.{length-map, map-append}
 use Rattle.std.proofs.lemmas.Bool.{cases_Bool, or_cases, or_parts, and_parts, true≢false, eqb-true, and_right}
 use Rattle.std.proofs.lemmas.Bool.Decides.{nat_tests}
 use Rattle.rq_model.specs.declared.txn.Txn.{Txn}
 use Rattle.rq_model.specs.declared.message.Message.{Message}
 use Rattle.rq_reference.specs.declared.rows.OpenTxn.{OpenTxn}
 use Rattle.rq_reference.specs.declared.rows.Act.{Act}
-use Rattle.rq_model.specs.Vocabulary.{Op, first, last, last_or, front, is_some, has_number, sent_for}
+use Rattle.rq_reference.specs.declared.scans.Tagged.TheVariants.{Sends}
+use Rattle.rq_model.specs.Vocabulary.{Op, first, last, last_or, front, is_some, has_number, sent_for, client_group}
 use Rattle.rq_model.specs.Vocabulary.Op.{Send, Take, End, Mark}
 use Rattle.rq_model.specs.History.{Job}
 use Rattle.rq_model.specs.History.Job.{Sending, Taking, Undoing}
 use Rattle.rq_model.specs.History.Call.{Start_receive, Finish}
 use Rattle.rq_model.specs.History.Entry.{Started}
-use Rattle.rq_model.specs.Ledger.{Open, Done, Ledger, found, started, rest_in, sent_in, taken_in, after, change}
+use Rattle.rq_model.specs.Ledger.{Open, Done, Ledger, found, started, rest_in, sent_in, tag_of, taken_in, after, change}
 use Rattle.rq_model.specs.Legal.{OnFound, At, IsDoneBy, Legal}
 use Rattle.rq_model.specs.Tests.{Size, below, gives, any_gives, free_to_receive, holds_for, Passes, log_full}
-use Rattle.rq_reference.specs.Plain.{StandsAt, open_of, op_of, sending_with, receiving_with, marking_with, pick, receivable, ops_with, ComesTo, finish_entry}
+use Rattle.rq_reference.specs.Plain.{StandsAt, open_of, op_of, sending_with, receiving_with, pick, receivable, ops_with, tag_for, tag_in, tags_in, ComesTo, finish_entry}
 
 -- the last of a list stands at its last place
 last_or_got : {X : Type 0} (y : X) (ys : List X) (d : X) → last_or y ys ≡ get_or (y ∷ ys) (length ys) d
@@ -92,7 +94,10 @@ from_ops s (Send m ∷ ops) = elim (cases_Bool (nat_eq m.sender s)) [
 ]
 from_ops s (Take m ∷ ops) = from_ops s ops
 from_ops s (End r ∷ ops) = from_ops s ops
-from_ops s (Mark client tag ∷ ops) = from_ops s ops
+from_ops s (Mark client tag ∷ ops) = elim (cases_Bool (nat_eq (client_group client) s)) [
+  | inl y ↦ rw y (eqb-true (client_group client) s y, from_ops s ops)
+  | inr n ↦ rw n (from_ops s ops)
+]
 
 from_sent : (s : ℕ) (c : List Done) → From s (sent_in c s)
 from_sent s [] = tt
@@ -221,18 +226,17 @@ may_take z l t s n p g h =
     )
 
 -- a row with an operation under way
-abbrev pub with_work : OpenTxn → ℕ → ℕ → List ℕ → List ℕ → List ℕ → Job → Open
-with_work m n left s r k j = record (open_of m) { number = n; under = Some j; left = left; sending = s; receiving = r; marking = k }
+abbrev pub with_work : OpenTxn → ℕ → ℕ → List ℕ → List ℕ → Job → Open
+with_work m n left s r j = record (open_of m) { number = n; under = Some j; left = left; sending = s; receiving = r }
 
-started_cases : (m : OpenTxn) (n w : ℕ) (j : Job) → with_work m n w (sending_with j m.sending.items) (receiving_with j m.receiving.items) (marking_with j m.marking.items) j ≡ started n w j (open_of m)
+started_cases : (m : OpenTxn) (n w : ℕ) (j : Job) → with_work m n w (sending_with j m.sending.items) (receiving_with j m.receiving.items) j ≡ started n w j (open_of m)
 started_cases m n w (Sending x) = refl
 started_cases m n w _ = refl
 
-pub started_is : (m : OpenTxn) (n left w : ℕ) (s r k : List ℕ) (j : Job) → left ≡ w → s ≡ sending_with j m.sending.items → r ≡ receiving_with j m.receiving.items → k ≡ marking_with j m.marking.items
-    → with_work m n left s r k j ≡ started n w j (open_of m)
-started_is m n left w s r k j e g h f =
-    ap (λ x. with_work m n x s r k j) e ∙ ap (λ x. with_work m n w x r k j) g ∙ ap (λ x. with_work m n w (sending_with j m.sending.items) x k j) h
-    ∙ ap (λ x. with_work m n w (sending_with j m.sending.items) (receiving_with j m.receiving.items) x j) f ∙ started_cases m n w j
+pub started_is : (m : OpenTxn) (n left w : ℕ) (s r : List ℕ) (j : Job) → left ≡ w → s ≡ sending_with j m.sending.items → r ≡ receiving_with j m.receiving.items
+    → with_work m n left s r j ≡ started n w j (open_of m)
+started_is m n left w s r j e g h =
+    ap (λ x. with_work m n x s r j) e ∙ ap (λ x. with_work m n w x r j) g ∙ ap (λ x. with_work m n w (sending_with j m.sending.items) x j) h ∙ started_cases m n w j
 
 pub kept_txn : (n w : ℕ) (j : Job) (o : Open) → (started n w j o).txn ≡ o.txn
 kept_txn n w (Sending x) o = refl
@@ -250,3 +254,26 @@ pub may_finish : (z : Size) (l : Ledger) (t : Txn) (n : ℕ) (f : Option Act) (j
     → At l t (λ p. ComesTo l p j f) → Legal z l (finish_entry t n f)
 may_finish z l t n (Some a) j o p e u h = let k : IsDoneBy l o (Some j) (op_of a) = rw e at h in (p, rw e (rw u k))
 may_finish z l t n None j o p e u h = let k : j ≡ Undoing = rw e at h in (p, rw e (u ∙ ap (λ x. Some x) k))
+
+-- what is told of a sender is that of its messages
+with_tag : (o : Option Message) (tags : List ℕ) (ms : List Message) → tags ≡ map (λ (m : Message). m.tag) ms → cons_option (tag_in o) tags ≡ map (λ (m : Message). m.tag) (cons_option o ms)
+with_tag None tags ms e = e
+with_tag (Some m) tags ms e = ap (λ l. m.tag ∷ l) e
+
+tags_of : (s : ℕ) (ops : List Op) → filter_map (tag_for Sends s) ops ≡ map (λ (m : Message). m.tag) (filter_map (sent_for s) ops)
+tags_of s [] = refl
+tags_of s (op ∷ ops) = with_tag (sent_for s op) (filter_map (tag_for Sends s) ops) (filter_map (sent_for s) ops) (tags_of s ops)
+
+tags_sent : (s : ℕ) (ds : List Done) → tags_in Sends ds s ≡ map (λ (m : Message). m.tag) (sent_in ds s)
+tags_sent s [] = refl
+tags_sent s (d ∷ ds) = ap (λ l. l ++ tags_in Sends ds s) (tags_of s d.ops) ∙ ap (λ l. map (λ (m : Message). m.tag) (filter_map (sent_for s) d.ops) ++ l) (tags_sent s ds) ∙ sym (map-append (λ (m : Message). m.tag) (filter_map (sent_for s) d.ops) (sent_in ds s))
+
+pub sends_counted : (s : ℕ) (ds : List Done) → length (tags_in Sends ds s) ≡ length (sent_in ds s)
+sends_counted s ds = ap length (tags_sent s ds) ∙ length-map (sent_in ds s) (λ (m : Message). m.tag)
+
+pub sends_last : (s : ℕ) (ds : List Done) → last_or 0 (tags_in Sends ds s) ≡ tag_of (sent_in ds s)
+sends_last s ds = ap (last_or 0) (tags_sent s ds) ∙ go (sent_in ds s)
+  where
+    go : (ms : List Message) → last_or 0 (map (λ (m : Message). m.tag) ms) ≡ tag_of ms
+    go [] = refl
+    go (m ∷ ms) = last_or_map (λ (m : Message). m.tag) m ms

@@ -1,16 +1,21 @@
 -- The queue as plain lists: what its rows stand for in the ledger, and what its calls answer.
 use Rattle.std.specs.Prelude.{◌≡◌, ℕ, ◌-◌, ◌<◌, ◌≤◌, Bool, true, false, cond, List, [], ◌∷◌, Option, Some, None, map, length, IsTrue, not, slice_index_or, ◌++◌}
-use Rattle.std.specs.List.{filter}
+use Rattle.std.specs.List.{filter, filter_map, flat_map}
 use Rattle.rq_model.specs.declared.txn.Txn.{Txn}
+use Rattle.rq_model.specs.declared.message.Message.{Message}
 use Rattle.rq_model.specs.declared.refusal.Refusal.{Refusal}
 use Rattle.rq_model.specs.declared.refusal.Refusal.TheVariants.{Failed, UnknownOperation}
 use Rattle.rq_reference.specs.declared.rows.Act.{Act}
 use Rattle.rq_reference.specs.declared.rows.Act.TheVariants.{Sent, Taken, Closed, Marked}
 use Rattle.rq_reference.specs.declared.rows.Work.{Work}
 use Rattle.rq_reference.specs.declared.rows.Work.TheVariants.{Sending as Sending_work, Taking as Taking_work, Closing as Closing_work, Marking as Marking_work, Undoing as Undoing_work}
+use Rattle.rq_reference.specs.declared.scans.Tagged.{Tagged}
+use Rattle.rq_reference.specs.declared.scans.Tagged.TheVariants.{Sends, Marks}
+use Rattle.rq_reference.specs.declared.scans.Way.{Way}
+use Rattle.rq_reference.specs.declared.scans.Way.TheVariants.{Sent as Way_sent, Taken as Way_taken}
 use Rattle.rq_reference.specs.declared.rows.OpenTxn.{OpenTxn}
 use Rattle.rq_reference.specs.declared.rows.CommittedTxn.{CommittedTxn}
-use Rattle.rq_model.specs.Vocabulary.{Op, first, front, has_number}
+use Rattle.rq_model.specs.Vocabulary.{Op, client_group, first, front, has_number, marked_for, sent_for, taken_from}
 use Rattle.rq_model.specs.Vocabulary.Op.{Send, Take, End, Mark}
 use Rattle.rq_model.specs.History.{Job, Call, Entry}
 use Rattle.rq_model.specs.History.Job.{Sending, Taking, Ending, Marking, Undoing}
@@ -47,6 +52,26 @@ op_of (Taken m) = Take m
 op_of (Closed s) = End s
 op_of (Marked client tag) = Mark client tag
 
+-- the messages that went this way through a sender's group
+abbrev pub moved_for : Way → ℕ → Op → Option Message
+moved_for Way_sent s = sent_for s
+moved_for Way_taken s = taken_from s
+
+abbrev pub moved_in : Way → List Done → ℕ → List Message
+moved_in way c s = flat_map (λ d. filter_map (moved_for way s) d.ops) c
+
+-- the tags of a sender's messages, or of a client's marks
+abbrev pub tag_in : Option Message → Option ℕ
+tag_in None = None
+tag_in (Some m) = Some m.tag
+
+abbrev pub tag_for : Tagged → ℕ → Op → Option ℕ
+tag_for Sends s op = tag_in (sent_for s op)
+tag_for Marks c op = marked_for c op
+
+abbrev pub tags_in : Tagged → List Done → ℕ → List ℕ
+tags_in tagged ds n = flat_map (λ d. filter_map (tag_for tagged n) d.ops) ds
+
 abbrev pub job_of : Work → Job
 job_of (Sending_work m) = Sending m
 job_of (Taking_work s) = Taking s
@@ -65,7 +90,6 @@ open_of o = record {
   ops = map op_of o.acts.items;
   sending = o.sending.items;
   receiving = o.receiving.items;
-  marking = o.marking.items;
   number = o.number;
   under = under_of o.work;
   left = o.left;
@@ -158,15 +182,12 @@ ops_with None ops = front ops
 abbrev pub sending_with : Job → List ℕ → List ℕ
 sending_with (Sending m) ns = add_number m.sender ns
 sending_with (Ending s) ns = add_number s ns
+sending_with (Marking client tag) ns = add_number (client_group client) ns
 sending_with _ ns = ns
 
 abbrev pub receiving_with : Job → List ℕ → List ℕ
 receiving_with (Taking s) ns = add_number s ns
 receiving_with _ ns = ns
-
-abbrev pub marking_with : Job → List ℕ → List ℕ
-marking_with (Marking client tag) ns = add_number client ns
-marking_with _ ns = ns
 
 abbrev pub op_in : Option Act → Option Op
 op_in None = None

@@ -2,18 +2,19 @@
 //! definitions: each call is answered as the ledger says.
 #![tactic(auto)]
 
-ghost use Rattle.std.specs.Prelude.{◌≡◌, ◌≢◌, ◌↔◌, ◌⊎◌, not, ◌<◌, ◌≤◌, ◌-◌, ◌^◌, IfOk, IfErr, OnErr, OnOk, map, true};
+ghost use Rattle.std.specs.Prelude.{◌≡◌, ◌≢◌, ◌↔◌, ◌⊎◌, not, ◌<◌, ◌≤◌, ◌-◌, ◌^◌, IfOk, IfErr, OnErr, OnOk, length, map, true};
 ghost use Rattle.rq_model.specs.History.Call.{Begin, Commit, Finish, Show, Step, Acknowledge, Start_abort, End_abort, Hand_over, Force, Checkpoint, Last_tag, Client_tag};
 ghost use Rattle.rq_model.specs.History.Entry.{Begun, Shown, Committed, Acknowledged, Aborting, Aborted, Handed_over, Forced, Checkpointed, Told, Told_client, Crash, Restarted};
-ghost use Rattle.rq_model.specs.Vocabulary.{first, is_some};
-ghost use Rattle.rq_model.specs.Ledger.{empty, kept_in};
+ghost use Rattle.rq_model.specs.Vocabulary.{first, is_some, last_or};
+ghost use Rattle.rq_model.specs.Ledger.{empty, kept_in, marks_in, sent_in};
 ghost use Rattle.rq_model.specs.Ledger.Phase.{Shut};
 ghost use Rattle.rq_model.specs.Legal.{At, IsCheckpointed, IsUpTo};
-ghost use Rattle.rq_reference.specs.Plain.{May, MayBeRefused, next, ComesTo, FindsReady, IsBusy, IsIdle, StandsAt, finish_entry, job_of, open_of, step_entry};
+ghost use Rattle.rq_reference.specs.Plain.{May, MayBeRefused, next, ComesTo, FindsReady, IsBusy, IsIdle, StandsAt, finish_entry, job_of, open_of, step_entry, tags_in};
 ghost use Rattle.rq_model.specs.Tests.{IsUnready};
 ghost use Rattle.rq_model.specs.declared.refusal.Refusal.TheVariants.{NoMemory};
 
 use crate::rows::{Act, CommittedTxn, GroupContent, OpenTxn, Work};
+use crate::scans::Tagged;
 use rq_model::limits::TRANSACTION_LIMIT;
 use rq_model::refusal::Refusal;
 use rq_model::txn::{Lsn, Txn};
@@ -220,7 +221,6 @@ impl Reference {
             acts: Vec::new(self.alloc),
             sending: Vec::new(self.alloc),
             receiving: Vec::new(self.alloc),
-            marking: Vec::new(self.alloc),
             number: 0,
             work: None,
             left: 0,
@@ -525,13 +525,27 @@ impl Reference {
         Ok(())
     }
 
-    /// How many messages of the sender are committed, and the tag of the last; 0 where there is none.
+    /// How many of these tags are committed, and the last; 0 where there is none. `NoMemory` from 2^64 - 1 on.
+    fn told(&self, number: u32, tagged: Tagged) -> Result<(u64, u64), Refusal>
+        ensures count { IfOk result (λ told. told.0 ≡ length (tags_in tagged self.now.ledger.committed number)) }
+        ensures last { IfOk result (λ told. told.1 ≡ last_or 0 (tags_in tagged self.now.ledger.committed number)) }
+        ensures memory { IfErr result (λ r. (r ≡ NoMemory) × (2 ^ 64 - 1 ≤ length (tags_in tagged self.now.ledger.committed number))) }
+    {
+        let told = scans::told(&self.committed, number, tagged);
+        if told.0 == u64::MAX {
+            return Err(Refusal::NoMemory);
+        }
+        Ok(told)
+    }
+
+    /// How many messages of the sender are committed, and the tag of the last; 0 where there is none. It takes no memory.
     ///
     /// # Errors
-    /// `Failed`, `UnknownSender`, `NoMemory`.
+    /// `Failed`, `UnknownSender`; `NoMemory` from 2^64 - 1 messages on.
     pub fn last_tag(&self, sender: u32) -> Result<(u64, u64), Refusal>
         ensures ok { IfOk result (λ told. May self.now (Told sender told.0 told.1)) }
         ensures refused { IfErr result (λ r. MayBeRefused self.now (Last_tag sender) r) }
+        ensures memory { IfErr result (λ r. r ≡ NoMemory → 2 ^ 64 - 1 ≤ length (sent_in self.now.ledger.committed sender)) }
     {
         if !self.running {
             return Err(Refusal::Failed);
@@ -539,19 +553,17 @@ impl Reference {
         if sender >= self.senders {
             return Err(Refusal::UnknownSender);
         }
-        match scans::sent(self.alloc, &self.committed, sender) {
-            Ok(sent) => Ok((sent.len() as u64, scans::last_tag(&sent))),
-            Err(_) => Err(Refusal::NoMemory),
-        }
+        self.told(sender, Tagged::Sends)
     }
 
-    /// How many marks of the client are committed, and the tag of the last; 0 where there is none.
+    /// How many marks of the client are committed, and the tag of the last; 0 where there is none. It takes no memory.
     ///
     /// # Errors
-    /// `Failed`, `UnknownClient`, `NoMemory`.
+    /// `Failed`, `UnknownClient`; `NoMemory` from 2^64 - 1 marks on.
     pub fn client_tag(&self, client: u32) -> Result<(u64, u64), Refusal>
         ensures ok { IfOk result (λ told. May self.now (Told_client client told.0 told.1)) }
         ensures refused { IfErr result (λ r. MayBeRefused self.now (Client_tag client) r) }
+        ensures memory { IfErr result (λ r. r ≡ NoMemory → 2 ^ 64 - 1 ≤ length (marks_in self.now.ledger.committed client)) }
     {
         if !self.running {
             return Err(Refusal::Failed);
@@ -559,9 +571,6 @@ impl Reference {
         if client >= self.clients {
             return Err(Refusal::UnknownClient);
         }
-        match scans::marks(self.alloc, &self.committed, client) {
-            Ok(marks) => Ok((marks.len() as u64, scans::last_of(&marks))),
-            Err(_) => Err(Refusal::NoMemory),
-        }
+        self.told(client, Tagged::Marks)
     }
 }

@@ -1,4 +1,7 @@
 //! What the reference keeps: its transactions as rows of plain lists.
+ghost use Rattle.std.specs.Prelude.{◌≡◌};
+ghost use Rattle.rq_model.specs.Vocabulary.{client_group};
+
 use rq_model::message::Message;
 use rq_model::txn::{Lsn, Txn};
 use std::marker::Model;
@@ -31,6 +34,16 @@ pub enum Work {
     Undoing,
 }
 
+// The number of the first client's group. No sender has it.
+const CLIENT_GROUPS: u64 = 1 << 32;
+
+/// The number of the client's group.
+pub fn client_group(client: u32) -> u64
+    ensures { result ≡ client_group client }
+{
+    CLIENT_GROUPS + u64::from(client)
+}
+
 /// A transaction that has not ended.
 #[derive(Drop)]
 pub struct OpenTxn {
@@ -40,12 +53,10 @@ pub struct OpenTxn {
     pub aborting: bool,
     /// What its finished operations did and no compensation undid, in order.
     pub acts: Vec<Act>,
-    /// The senders whose sending end it holds.
-    pub sending: Vec<u32>,
-    /// The senders whose receiving end it holds.
-    pub receiving: Vec<u32>,
-    /// The clients whose end it holds.
-    pub marking: Vec<u32>,
+    /// The groups whose sending end it holds: those of senders, and those of clients.
+    pub sending: Vec<u64>,
+    /// The groups whose receiving end it holds.
+    pub receiving: Vec<u64>,
     /// The number of its newest operation; 0 before the first.
     pub number: u64,
     /// The operation under way.

@@ -1,12 +1,12 @@
 //! Looks over the rows of the reference.
-ghost use Rattle.rq_model.specs.Ledger.{add_number, any_ends, ended_in, group_in, marks_in, own_sends, own_takes, rest_in, sent_in, tag_of, taken_in, kept_in};
-ghost use Rattle.rq_model.specs.Tests.{any_busy, below, count_rest, free_to_mark, free_to_receive, free_to_send, is_sending, owed, pending};
-ghost use Rattle.rq_reference.specs.Plain.{PlaceOf, done_of, job_of, marking_with, op_in, op_of, open_of, ops_with, pick, receiving_with, sending_with};
-ghost use Rattle.rq_model.specs.Vocabulary.{first, front, has_number, is_some, last, last_or, marked_for, sent_for, taken_from};
+ghost use Rattle.rq_model.specs.Ledger.{add_number, any_ends, ended_in, group_in, own_sends, own_takes, rest_in, tag_of, kept_in};
+ghost use Rattle.rq_model.specs.Tests.{any_busy, below, count_rest, free_to_receive, free_to_send, is_sending, owed, pending};
+ghost use Rattle.rq_reference.specs.Plain.{PlaceOf, done_of, job_of, moved_for, moved_in, op_in, op_of, open_of, ops_with, pick, receiving_with, sending_with, tag_for, tags_in};
+ghost use Rattle.rq_model.specs.Vocabulary.{first, front, has_number, is_some, last, last_or};
 ghost use Rattle.std.specs.List.{filter_map, slice_get, sum_by};
 ghost use Rattle.std.specs.Prelude.{[], ◌∷◌, ◌≡◌, ◌+◌, ◌-◌, ◌++◌, ◌^◌, ◌≤◌, IfOk, OnOk, drop, length, map, min, nat_eq, nat_lt};
 
-use crate::rows::{Act, CommittedTxn, GroupContent, OpenTxn, Work};
+use crate::rows::{Act, CommittedTxn, GroupContent, OpenTxn, Work, client_group};
 use rq_model::limits::LOG_LIMIT;
 use rq_model::message::Message;
 use rq_model::txn::{Lsn, Txn};
@@ -61,120 +61,98 @@ pub fn log_full(rows: &[OpenTxn], records: u64, more: u64) -> bool
     total > LOG_LIMIT
 }
 
-/// The message, if it was sent for the sender.
-fn sent_by(act: &Act, sender: u32) -> Option<Message>
-    ensures { result ≡ sent_for sender (op_of act.now) }
+/// Which messages: those that were sent, or those that were received.
+#[derive(Clone, Copy)]
+pub enum Way {
+    Sent,
+    Taken,
+}
+
+/// The message, if it went this way through the sender's group.
+fn moved_by(act: &Act, sender: u32, way: Way) -> Option<Message>
+    ensures { result ≡ moved_for way sender (op_of act.now) }
 {
-    match act {
-        Act::Sent(message) if message.sender == sender => Some(*message),
+    match (way, act) {
+        (Way::Sent, Act::Sent(message)) if message.sender == sender => Some(*message),
+        (Way::Taken, Act::Taken(message)) if message.sender == sender => Some(*message),
         _ => None,
     }
 }
 
-/// The message, if it was received from the sender.
-fn taken_by(act: &Act, sender: u32) -> Option<Message>
-    ensures { result ≡ taken_from sender (op_of act.now) }
+/// What has tags: the messages that were sent for a sender, or the marks of a client.
+#[derive(Clone, Copy)]
+pub enum Tagged {
+    Sends,
+    Marks,
+}
+
+/// The tag, if it is one of these and of this number.
+fn tag_by(act: &Act, number: u32, tagged: Tagged) -> Option<u64>
+    ensures { result ≡ tag_for tagged number (op_of act.now) }
 {
-    match act {
-        Act::Taken(message) if message.sender == sender => Some(*message),
+    match (tagged, act) {
+        (Tagged::Sends, Act::Sent(message)) if message.sender == number => Some(message.tag),
+        (Tagged::Marks, Act::Marked { client, tag }) if *client == number => Some(*tag),
         _ => None,
     }
 }
 
-/// The tag, if it was marked for the client.
-fn marked_by(act: &Act, wanted: u32) -> Option<u64>
-    ensures { result ≡ marked_for wanted (op_of act.now) }
-{
-    match act {
-        Act::Marked { client, tag } if *client == wanted => Some(*tag),
-        _ => None,
-    }
-}
-
-/// Adds what was sent for the sender.
-pub fn push_sent(all: &mut Vec<Message>, acts: &[Act], sender: u32) -> Result<(), AllocError>
-    ensures { OnOk result (all.new.items ≡ all.old.items ++ filter_map (sent_for sender) (map op_of acts.now)) }
+/// Adds what went this way through the sender's group.
+pub fn push_moved(
+    all: &mut Vec<Message>,
+    acts: &[Act],
+    sender: u32,
+    way: Way,
+) -> Result<(), AllocError>
+    ensures { OnOk result (all.new.items ≡ all.old.items ++ filter_map (moved_for way sender) (map op_of acts.now)) }
 {
     for act in acts {
-        if let Some(message) = sent_by(act, sender) {
+        if let Some(message) = moved_by(act, sender, way) {
             all.push(message)?;
         }
     }
     Ok(())
 }
 
-/// Adds what was received from the sender.
-pub fn push_taken(all: &mut Vec<Message>, acts: &[Act], sender: u32) -> Result<(), AllocError>
-    ensures { OnOk result (all.new.items ≡ all.old.items ++ filter_map (taken_from sender) (map op_of acts.now)) }
+/// How many of these tags there are, with those told before and no further than `u64::MAX`, and the last of all.
+fn told_with(told: (u64, u64), acts: &[Act], number: u32, tagged: Tagged) -> (u64, u64)
+    ensures count { result.0 ≡ min (2 ^ 64 - 1) (told.0 + length (filter_map (tag_for tagged number) (map op_of acts.now))) }
+    ensures last { result.1 ≡ last_or told.1 (filter_map (tag_for tagged number) (map op_of acts.now)) }
 {
+    let (mut count, mut last) = told;
     for act in acts {
-        if let Some(message) = taken_by(act, sender) {
-            all.push(message)?;
+        if let Some(tag) = tag_by(act, number, tagged) {
+            count = count.saturating_add(1);
+            last = tag;
         }
     }
-    Ok(())
+    (count, last)
 }
 
-/// Adds the tags that were marked for the client.
-pub fn push_marks(all: &mut Vec<u64>, acts: &[Act], client: u32) -> Result<(), AllocError>
-    ensures { OnOk result (all.new.items ≡ all.old.items ++ filter_map (marked_for client) (map op_of acts.now)) }
+/// How many of these tags committed transactions have, no further than `u64::MAX`, and the last; 0 where there is none.
+pub fn told(committed: &[CommittedTxn], number: u32, tagged: Tagged) -> (u64, u64)
+    ensures count { result.0 ≡ min (2 ^ 64 - 1) (length (tags_in tagged (map done_of committed.now) number)) }
+    ensures last { result.1 ≡ last_or 0 (tags_in tagged (map done_of committed.now) number) }
 {
-    for act in acts {
-        if let Some(tag) = marked_by(act, client) {
-            all.push(tag)?;
-        }
-    }
-    Ok(())
-}
-
-/// The tags that committed transactions marked for the client, in order.
-pub fn marks(alloc: Global, committed: &[CommittedTxn], client: u32) -> Result<Vec<u64>, AllocError>
-    ensures { IfOk result (λ all. all.items ≡ marks_in (map done_of committed.now) client) }
-{
-    let mut all = Vec::new(alloc);
+    let mut told = (0, 0);
     for row in committed {
-        push_marks(&mut all, &row.acts, client)?;
+        told = told_with(told, &row.acts, number, tagged);
     }
-    Ok(all)
+    told
 }
 
-/// The last of these; 0 where there is none.
-pub fn last_of(numbers: &[u64]) -> u64
-    ensures { result ≡ last_or 0 numbers.now }
-{
-    let mut last = 0;
-    for number in numbers {
-        last = *number;
-    }
-    last
-}
-
-/// What committed transactions sent for the sender, in order.
-pub fn sent(
+/// What committed transactions moved this way through the sender's group, in order.
+pub fn moved(
     alloc: Global,
     committed: &[CommittedTxn],
     sender: u32,
+    way: Way,
 ) -> Result<Vec<Message>, AllocError>
-    ensures { IfOk result (λ all. all.items ≡ sent_in (map done_of committed.now) sender) }
+    ensures { IfOk result (λ all. all.items ≡ moved_in way (map done_of committed.now) sender) }
 {
     let mut all = Vec::new(alloc);
     for row in committed {
-        push_sent(&mut all, &row.acts, sender)?;
-    }
-    Ok(all)
-}
-
-/// What committed transactions received from the sender, in order.
-pub fn taken(
-    alloc: Global,
-    committed: &[CommittedTxn],
-    sender: u32,
-) -> Result<Vec<Message>, AllocError>
-    ensures { IfOk result (λ all. all.items ≡ taken_in (map done_of committed.now) sender) }
-{
-    let mut all = Vec::new(alloc);
-    for row in committed {
-        push_taken(&mut all, &row.acts, sender)?;
+        push_moved(&mut all, &row.acts, sender, way)?;
     }
     Ok(all)
 }
@@ -197,8 +175,8 @@ pub fn waiting(
 ) -> Result<Vec<Message>, AllocError>
     ensures { IfOk result (λ all. all.items ≡ rest_in (map done_of committed.now) sender) }
 {
-    let all = sent(alloc, committed, sender)?;
-    let gone = taken(alloc, committed, sender)?.len();
+    let all = moved(alloc, committed, sender, Way::Sent)?;
+    let gone = moved(alloc, committed, sender, Way::Taken)?.len();
     after_first(alloc, &all, gone)
 }
 
@@ -217,8 +195,8 @@ pub fn last_tag(messages: &[Message]) -> u64
 fn group(alloc: Global, committed: &[CommittedTxn], sender: u32) -> Result<GroupContent, AllocError>
     ensures { IfOk result (λ content. content ≡ group_in (map done_of committed.now) sender) }
 {
-    let all = sent(alloc, committed, sender)?;
-    let received = taken(alloc, committed, sender)?.len();
+    let all = moved(alloc, committed, sender, Way::Sent)?;
+    let received = moved(alloc, committed, sender, Way::Taken)?.len();
     let rest = after_first(alloc, &all, received)?;
     Ok(GroupContent {
         sent: all.len() as u64,
@@ -271,8 +249,8 @@ pub fn chain_length(
     let mut there = waiting(alloc, committed, sender)?;
     let mut gone = Vec::new(alloc);
     for row in rows {
-        push_sent(&mut there, &row.acts, sender)?;
-        push_taken(&mut gone, &row.acts, sender)?;
+        push_moved(&mut there, &row.acts, sender, Way::Sent)?;
+        push_moved(&mut gone, &row.acts, sender, Way::Taken)?;
     }
     Ok(there.len().saturating_sub(gone.len()))
 }
@@ -308,7 +286,7 @@ pub fn fills(
 }
 
 /// The numbers, with one more where it is not among them.
-pub fn with_number(alloc: Global, numbers: &[u32], number: u32) -> Result<Vec<u32>, AllocError>
+fn with_number(alloc: Global, numbers: &[u64], number: u64) -> Result<Vec<u64>, AllocError>
     ensures { IfOk result (λ all. all.items ≡ add_number number numbers.now) }
 {
     let mut all = Vec::from_slice(alloc, numbers)?;
@@ -391,29 +369,29 @@ pub fn own_takes(alloc: Global, row: &OpenTxn, sender: u32) -> Result<Vec<Messag
     ensures { IfOk result (λ all. all.items ≡ own_takes sender (open_of row.now)) }
 {
     let mut all = Vec::new(alloc);
-    push_taken(&mut all, &row.acts, sender)?;
+    push_moved(&mut all, &row.acts, sender, Way::Taken)?;
     Ok(all)
 }
 
-/// The senders whose sending end the transaction holds once it does this too.
-pub fn sending_with(alloc: Global, row: &OpenTxn, work: &Work) -> Result<Vec<u32>, AllocError>
+/// The groups whose sending end the transaction holds once it does this too.
+pub fn sending_with(alloc: Global, row: &OpenTxn, work: &Work) -> Result<Vec<u64>, AllocError>
     ensures { IfOk result (λ all. all.items ≡ sending_with (job_of work.now) row.now.sending.items) }
 {
     match work {
-        Work::Sending(message) => with_number(alloc, &row.sending, message.sender),
-        Work::Closing(sender) => with_number(alloc, &row.sending, *sender),
+        Work::Sending(message) => with_number(alloc, &row.sending, u64::from(message.sender)),
+        Work::Closing(sender) => with_number(alloc, &row.sending, u64::from(*sender)),
+        Work::Marking { client, .. } => with_number(alloc, &row.sending, client_group(*client)),
         Work::Taking(_) => Vec::from_slice(alloc, &row.sending),
-        Work::Marking { .. } => Vec::from_slice(alloc, &row.sending),
         Work::Undoing => Vec::from_slice(alloc, &row.sending),
     }
 }
 
-/// The senders whose receiving end the transaction holds once it does this too.
-pub fn receiving_with(alloc: Global, row: &OpenTxn, work: &Work) -> Result<Vec<u32>, AllocError>
+/// The groups whose receiving end the transaction holds once it does this too.
+pub fn receiving_with(alloc: Global, row: &OpenTxn, work: &Work) -> Result<Vec<u64>, AllocError>
     ensures { IfOk result (λ all. all.items ≡ receiving_with (job_of work.now) row.now.receiving.items) }
 {
     match work {
-        Work::Taking(sender) => with_number(alloc, &row.receiving, *sender),
+        Work::Taking(sender) => with_number(alloc, &row.receiving, u64::from(*sender)),
         Work::Sending(_) => Vec::from_slice(alloc, &row.receiving),
         Work::Closing(_) => Vec::from_slice(alloc, &row.receiving),
         Work::Marking { .. } => Vec::from_slice(alloc, &row.receiving),
@@ -421,24 +399,11 @@ pub fn receiving_with(alloc: Global, row: &OpenTxn, work: &Work) -> Result<Vec<u
     }
 }
 
-/// The clients whose end the transaction holds once it does this too.
-pub fn marking_with(alloc: Global, row: &OpenTxn, work: &Work) -> Result<Vec<u32>, AllocError>
-    ensures { IfOk result (λ all. all.items ≡ marking_with (job_of work.now) row.now.marking.items) }
-{
-    match work {
-        Work::Marking { client, .. } => with_number(alloc, &row.marking, *client),
-        Work::Sending(_) => Vec::from_slice(alloc, &row.marking),
-        Work::Taking(_) => Vec::from_slice(alloc, &row.marking),
-        Work::Closing(_) => Vec::from_slice(alloc, &row.marking),
-        Work::Undoing => Vec::from_slice(alloc, &row.marking),
-    }
-}
-
 /// The group that is asked for, if it is among these; else the first.
 pub fn pick(groups: &[u32], asked: u32) -> Option<u32>
     ensures { result ≡ pick asked groups.now }
 {
-    if has_number(groups, asked) {
+    if groups.contains(&asked) {
         return Some(asked);
     }
     if groups.is_empty() {
@@ -474,47 +439,30 @@ pub fn is_closed(committed: &[CommittedTxn], sender: u32) -> bool
 }
 
 /// Whether the number is among these.
-pub fn has_number(numbers: &[u32], number: u32) -> bool
+fn has_number(numbers: &[u64], number: u64) -> bool
     ensures { result ≡ has_number number numbers.now }
 {
-    for one in numbers {
-        if *one == number {
-            return true;
-        }
-    }
-    false
+    numbers.contains(&number)
 }
 
-/// Whether no other transaction holds the sender's receiving end.
-pub fn is_free_to_receive(rows: &[OpenTxn], txn: Txn, sender: u32) -> bool
-    ensures { result ≡ free_to_receive txn sender (map open_of rows.now) }
+/// Whether no other transaction holds the group's receiving end.
+pub fn is_free_to_receive(rows: &[OpenTxn], txn: Txn, group: u64) -> bool
+    ensures { result ≡ free_to_receive txn group (map open_of rows.now) }
 {
     for row in rows {
-        if row.txn != txn && has_number(&row.receiving, sender) {
+        if row.txn != txn && has_number(&row.receiving, group) {
             return false;
         }
     }
     true
 }
 
-/// Whether no other transaction holds the sender's sending end.
-pub fn is_free_to_send(rows: &[OpenTxn], txn: Txn, sender: u32) -> bool
-    ensures { result ≡ free_to_send txn sender (map open_of rows.now) }
+/// Whether no other transaction holds the group's sending end.
+pub fn is_free_to_send(rows: &[OpenTxn], txn: Txn, group: u64) -> bool
+    ensures { result ≡ free_to_send txn group (map open_of rows.now) }
 {
     for row in rows {
-        if row.txn != txn && has_number(&row.sending, sender) {
-            return false;
-        }
-    }
-    true
-}
-
-/// Whether no other transaction holds the client's end.
-pub fn is_free_to_mark(rows: &[OpenTxn], txn: Txn, client: u32) -> bool
-    ensures { result ≡ free_to_mark txn client (map open_of rows.now) }
-{
-    for row in rows {
-        if row.txn != txn && has_number(&row.marking, client) {
+        if row.txn != txn && has_number(&row.sending, group) {
             return false;
         }
     }

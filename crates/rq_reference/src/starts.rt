@@ -8,10 +8,10 @@ ghost use Rattle.rq_model.specs.Ledger.{ended_in, found, in_chain, own_takes, re
 ghost use Rattle.rq_model.specs.Legal.{At};
 ghost use Rattle.rq_reference.specs.Plain.{May, MayBeRefused, StandsAt, group_of, job_of, next, op_in, op_of, pick, receivable, receive_entry, receive_from_entry, undo_entry};
 ghost use Rattle.rq_model.specs.Vocabulary.{message_of, first, is_some};
-ghost use Rattle.rq_model.specs.Tests.{Passes, cells_in_use, free_to_mark, free_to_receive, free_to_send, gives, has_closed, log_full, newest, undo_cost};
+ghost use Rattle.rq_model.specs.Tests.{Passes, cells_in_use, free_to_receive, free_to_send, gives, has_closed, log_full, newest, undo_cost};
 ghost use Rattle.rq_model.specs.declared.refusal.Refusal.TheVariants.{NoMemory};
 
-use crate::rows::{Act, Work};
+use crate::rows::{Act, Work, client_group};
 use crate::{Reference, scans};
 use rq_model::message::{Body, Message};
 use rq_model::refusal::Refusal;
@@ -53,11 +53,11 @@ impl Reference {
         scans::log_full(&self.open_txns, self.records, more)
     }
 
-    /// Whether no other transaction holds the sender's sending end.
-    fn is_free_to_send(&self, txn: Txn, sender: u32) -> bool
-        ensures { result ≡ free_to_send txn sender self.now.ledger.open_ones }
+    /// Whether no other transaction holds the group's sending end.
+    fn is_free_to_send(&self, txn: Txn, group: u64) -> bool
+        ensures { result ≡ free_to_send txn group self.now.ledger.open_ones }
     {
-        scans::is_free_to_send(&self.open_txns, txn, sender)
+        scans::is_free_to_send(&self.open_txns, txn, group)
     }
 
     /// Whether the store has this sender.
@@ -71,7 +71,7 @@ impl Reference {
     fn is_free_to_receive(&self, txn: Txn, sender: u32) -> bool
         ensures { result ≡ free_to_receive txn sender self.now.ledger.open_ones }
     {
-        scans::is_free_to_receive(&self.open_txns, txn, sender)
+        scans::is_free_to_receive(&self.open_txns, txn, u64::from(sender))
     }
 
     /// Whether the store has this client.
@@ -79,13 +79,6 @@ impl Reference {
         ensures { result ≡ nat_lt client self.now.size.clients }
     {
         client < self.clients
-    }
-
-    /// Whether no other transaction holds the client's end.
-    fn is_free_to_mark(&self, txn: Txn, client: u32) -> bool
-        ensures { result ≡ free_to_mark txn client self.now.ledger.open_ones }
-    {
-        scans::is_free_to_mark(&self.open_txns, txn, client)
     }
 
     /// The message behind those that the transaction at this place took: what a receive of its from the sender gives.
@@ -207,16 +200,12 @@ impl Reference {
         let Ok(receiving) = scans::receiving_with(self.alloc, row, &work) else {
             return Err(Refusal::NoMemory);
         };
-        let Ok(marking) = scans::marking_with(self.alloc, row, &work) else {
-            return Err(Refusal::NoMemory);
-        };
         let row = &mut self.open_txns[place];
         row.number = number + 1;
         row.work = Some(work);
         row.left = left;
         row.sending = sending;
         row.receiving = receiving;
-        row.marking = marking;
         Ok(number + 1)
     }
 
@@ -240,7 +229,7 @@ impl Reference {
         let Some(body) = Body::new(body) else {
             return Err(Refusal::TooLong);
         };
-        if !self.is_free_to_send(txn, sender) {
+        if !self.is_free_to_send(txn, u64::from(sender)) {
             return Err(Refusal::SenderBusy);
         }
         if self.is_closed_for(txn, place, sender) {
@@ -304,7 +293,7 @@ impl Reference {
         if !self.has_sender(sender) {
             return Err(Refusal::UnknownSender);
         }
-        if !self.is_free_to_send(txn, sender) {
+        if !self.is_free_to_send(txn, u64::from(sender)) {
             return Err(Refusal::SenderBusy);
         }
         if self.is_closed_for(txn, place, sender) {
@@ -342,7 +331,7 @@ impl Reference {
         if !self.has_client(client) {
             return Err(Refusal::UnknownClient);
         }
-        if !self.is_free_to_mark(txn, client) {
+        if !self.is_free_to_send(txn, client_group(client)) {
             return Err(Refusal::ClientBusy);
         }
         if self.is_log_full(2) {

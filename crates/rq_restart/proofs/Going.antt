@@ -111,18 +111,6 @@ module _ {L : Type 0} (g : Ghosts L) (z : Sizes) (first : Paged) (old new : L) w
     read = read;
   }
 
-  -- memory was wanting for the next
-  pub stopped_wanting : (front : List Record) (mid : Paged) (e : Refusal) → e ≡ why.NoMemory → AreSpelled front → (g.honest new → BeginsWith front (g.seen old)) → Repeats z front first mid → IsRead g old new → g.faults new ≡ g.faults old → IsStoppedBehind g z first e old new
-  stopped_wanting front mid e none are begins repeated read counted = record {
-    front = front;
-    are_spelled = are;
-    begins = begins;
-    mid = mid;
-    repeated = repeated;
-    why = inr (inl (none, counted));
-    read = read;
-  }
-
   -- the record that was read was not repeated
   pub stopped_next : (front : List Record) (r : Record) (mid : Paged) (e : Refusal) → is_base r ≡ false → IsRecord r → AreSpelled front → (g.honest new → BeginsWith (r ∷ front) (g.seen old)) → (g.honest new → BeginsWith front (g.seen old)) → Repeats z front first mid → IsRead g old new → g.faults new ≡ g.faults old
       → NotRepeated z front r mid e → IsStoppedBehind g z first e old new
@@ -135,8 +123,8 @@ module _ {L : Type 0} (g : Ghosts L) (z : Sizes) (first : Paged) (old new : L) w
     why = by e not;
     read = read;
   } where
-    by : (x : Refusal) → NotRepeated z front r mid x → StopsFor g x front old new ⊎ (IsWanting g x old new ⊎ IsBadNext g z front mid x old new)
-    by why.NoMemory h = inr (inl (refl, counted))
+    by : (x : Refusal) → NotRepeated z front r mid x → StopsFor g x front old new ⊎ (IsWanting g z front mid x old new ⊎ IsBadNext g z front mid x old new)
+    by why.NoMemory h = inr (inl (refl, counted, inr (record { newest = r; is_record = is; begins = begins; grown = h })))
     by (why.Damaged (damage.Record lsn)) h = inr (inr (record {
       newest = r;
       is_record = is;

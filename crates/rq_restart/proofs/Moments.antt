@@ -33,7 +33,7 @@ stopped_at_once g only_now z first e old new is same = record {
   begins = λ h. (g.seen old, refl);
   mid = first;
   repeated = refl;
-  why = inr (inl (is, ap g.faults same));
+  why = inr (inl (is, ap g.faults same, inl (refl, same)));
   read = subst (λ d. IsRead g old d) (sym same) (still g only_now old);
 }
 

@@ -1,10 +1,11 @@
 -- What is kept of places behind a record.
-use Rattle.std.proofs.Common.{◌≡◌, ◌≢◌, ◌↔◌, ◌⊎◌, inl, inr, ℕ, zero, suc, ◌+◌, ◌-◌, ◌<◌, ◌≤◌, get_or, arith, Bool, true, false, not, ◌||◌, List, [], ◌∷◌, ◌++◌, length, refl, sym, ◌∙◌, ap, subst}
+use Rattle.std.proofs.Common.{◌≡◌, ◌≢◌, ◌↔◌, ◌⊎◌, inl, inr, ℕ, zero, suc, ◌+◌, ◌<◌, ◌≤◌, get_or, arith, Bool, true, false, not, ◌||◌, List, [], ◌∷◌, ◌++◌, length, refl, sym, ◌∙◌, ap, subst}
 use Rattle.std.proofs.lemmas.Bool.{cases_lt, not-true, not_from_false, or_parts}
 use Rattle.std.specs.List.{filter}
 use Rattle.std.proofs.lemmas.List.{append-nil}
-use Rattle.std.proofs.lemmas.List.Kept.{IsNonDecreasingBy-filter}
-use Rattle.std.proofs.lemmas.List.Sorted.{IsNonDecreasingBy-push, IsNonDecreasingBy-short}
+use Rattle.std.specs.List.Sorted.{IsNonDecreasingBy}
+use Rattle.std.proofs.lemmas.List.Kept.{AllPairs-filter}
+use Rattle.std.proofs.lemmas.List.Quantifiers.{all_pairs_push}
 use Rattle.rq_model.specs.declared.txn.Txn.{Txn}
 use Rattle.rq_model.specs.declared.txn.Sub.{Sub}
 use Rattle.rq_model.specs.declared.record.Record.{Record}
@@ -220,11 +221,17 @@ due_kept (records.Base many n ∷ log) d i = absurd i
 
 -- ---- by rising LSN, and of a record with this LSN one place at most
 
-risen : (xs ys : List Place) → AreRising xs → ((p : Place) → In p ys → ys ≡ p ∷ []) → ((p q : Place) → In p xs → In q ys → p.lsn ≤ q.lsn) → AreRising (xs ++ ys)
+risen : (xs ys : List Place) → AreRising xs → ((p : Place) → In p ys → ys ≡ p ∷ []) → ((p q : Place) → In p xs → In q ys → p.lsn < q.lsn) → AreRising (xs ++ ys)
 risen xs [] rise one above = subst AreRising (sym (append-nil xs)) rise
 risen xs (y ∷ ys) rise one above =
     subst (λ l. AreRising (xs ++ l)) (sym (one y (inl refl)))
-    (IsNonDecreasingBy-push (λ (p : Place). p.lsn) xs y rise (λ d lt. above (get_or xs (length xs - 1) d) y (in_there xs (length xs - 1) d (omega (arith, lt))) (inl refl)))
+    (all_pairs_push (λ (p q : Place). p.lsn < q.lsn) xs y rise (λ k d lt. above (get_or xs k d) y (in_there xs k d lt) (inl refl)))
+
+pub never_falls : (ps : List Place) → AreRising ps → IsNonDecreasingBy (λ (p : Place). p.lsn) ps
+never_falls ps rise i j d le within = elim (cases_lt i j) [
+  | inl less ↦ (let k = rise i j d less within in omega (arith, k))
+  | inr not_less ↦ (let same : i ≡ j = omega (arith, le, not_less) in let k = ap (λ n. (get_or ps n d).lsn) same in omega (arith, k))
+]
 
 module _ (at : ℕ → ℕ → Record → List Place) (ends : Record → Place → Bool) (table : List Record → List Place) (none : table [] ≡ [])
     (more : (r : Record) (log : List Record) → table (r ∷ log) ≡ filter (λ p. not (ends r p)) (table log) ++ at (length log + 1) (length (spelled log)) r)
@@ -243,11 +250,11 @@ module _ (at : ℕ → ℕ → Record → List Place) (ends : Record → Place �
   ]
 
   rise : (log : List Record) → AreRising (table log)
-  rise [] = subst AreRising (sym none) (IsNonDecreasingBy-short (λ (p : Place). p.lsn) [] (omega arith))
+  rise [] = subst AreRising (sym none) (λ i j d less within. absurd (omega (arith, within)))
   rise (r ∷ log) =
       let old = filter (λ p. not (ends r p)) (table log) in
       let new = at (length log + 1) (length (spelled log)) r in
-      subst AreRising (sym (more r log)) (risen old new (IsNonDecreasingBy-filter (λ (p : Place). p.lsn) (λ p. not (ends r p)) (table log) (rise log)) (one (length log + 1) (length (spelled log)) r)
+      subst AreRising (sym (more r log)) (risen old new (AllPairs-filter (λ (p q : Place). p.lsn < q.lsn) (λ p. not (ends r p)) (table log) (rise log)) (one (length log + 1) (length (spelled log)) r)
       (λ p q i j. let a = lsn_within log p (In-filter (λ x. not (ends r x)) (table log) p i).0 in let b = own (length log + 1) (length (spelled log)) r q j in omega (arith, a, b)))
 
   one_kept : (log : List Record) (p q : Place) → In p (table log) → In q (table log) → p.lsn ≡ q.lsn → p ≡ q
@@ -328,7 +335,7 @@ none_with ps i lsn rise below above other p there same =
       | inr behind ↦
           let within : i < length ps = let k = at.1 in omega (arith, k, behind) in
           let first = above i p (omega arith) within in
-          let least = rise i at.0 p behind at.1 in
+          let least = never_falls ps rise i at.0 p behind at.1 in
           other within p (omega (arith, first, least, here, same))
     ]
 

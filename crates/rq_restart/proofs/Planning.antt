@@ -1,7 +1,7 @@
 -- What is due can be planned to be taken back.
 use Rattle.std.proofs.Common.{◌≡◌, ℕ, ◌/◌, ◌<◌, List, [], Some, refl, sym, ◌∙◌, ap, subst, false, arith}
 use Rattle.rq_model.specs.declared.record.Deed.{Deed}
-use Rattle.rq_model.specs.declared.record.Deed.TheVariants.{Append, UnlinkHead, Close}
+use Rattle.rq_model.specs.declared.record.Deed.TheVariants.{Append, UnlinkHead, Close, Mark}
 use Rattle.rq_model.specs.declared.record.Record.{Record}
 use Rattle.rq_model.specs.declared.refusal.Refusal.{Refusal}
 use Rattle.rq_model.specs.declared.refusal.Refusal.TheVariants as why
@@ -11,7 +11,7 @@ use Rattle.rq_page.specs.Sizes.{Sizes, directory_at, sender_count}
 use Rattle.rq_page.specs.Slots.Slot.{Sender}
 use Rattle.rq_views.specs.Items.{told_deed}
 use Rattle.rq_views.specs.Log.{Slots}
-use Rattle.rq_views.specs.Plans.{deed_sender}
+use Rattle.rq_views.specs.InStore.{IsDeedOf}
 use Rattle.rq_views.specs.Plans.Turn.{Undid}
 use Rattle.rq_views.specs.Stored.{slots_in}
 use Rattle.rq_level.specs.declared.writes.SlotWrite.{SlotWrite}
@@ -34,7 +34,7 @@ use Rattle.rq_restart.specs.Aborting.{PlanStops, blamed_on}
 -- ---- what a sound store shows to be done last, with nothing under way, can be taken back
 
 module _ (s : State) (k : IsSound s) (none : (p : ℕ) → latched_in s.rows p ≡ false) where
-  can : (d : Deed) → deed_sender d < sender_count s.sizes → MayBeUndone s d → StandsLast (slots_now s) d → CanBeTakenBack s.sizes (slots_now s) d
+  can : (d : Deed) → IsDeedOf s.sizes d → MayBeUndone s d → StandsLast (slots_now s) d → CanBeTakenBack s.sizes (slots_now s) d
   can (Append g n tag previous body) low may last =
       let off = none (directory_at g / 16) in
       let d : Directory = latching.d s k g low off in
@@ -78,14 +78,15 @@ module _ (s : State) (k : IsSound s) (none : (p : ℕ) → latched_in s.rows p �
         free = f.2;
       }
   can (Close g) low may last = record { below = low; directory = last.directory; directory_is = last.at; closed = last.last }
+  can (Mark c tag previous) low may last = absurd low.2
 
-pub shows_can : (z : Sizes) (images : List (List ℕ)) (log : List Record) (d : Deed) → deed_sender d < sender_count z → ShowsUndone z images log d → CanBeTakenBack z (slots_in z images) d
+pub shows_can : (z : Sizes) (images : List (List ℕ)) (log : List Record) (d : Deed) → IsDeedOf z d → ShowsUndone z images log d → CanBeTakenBack z (slots_in z images) d
 shows_can z images log d low shows =
     let s = shows.store in
     let sizes : s.sizes ≡ z = shows.stands.sizes in
     let are : s.images ≡ images = shows.stands.images in
     let last : StandsLast (slots_in s.sizes s.images) d = subst (λ x. StandsLast (slots_in s.sizes x) d) (sym are) (subst (λ y. StandsLast (slots_in y images) d) (sym sizes) shows.last) in
-    let below : deed_sender d < sender_count s.sizes = subst (λ y. deed_sender d < sender_count y) (sym sizes) low in
+    let below : IsDeedOf s.sizes d = subst (λ y. IsDeedOf y d) (sym sizes) low in
     subst (λ y. CanBeTakenBack y (slots_in y images) d) sizes (subst (λ x. CanBeTakenBack s.sizes (slots_in s.sizes x) d) are (can s shows.sound (λ p. shows.stands.latches p) d below shows.may last))
 
 -- ---- what the level plans
@@ -103,6 +104,6 @@ module _ (z : Sizes) (q : Slots) (due : PendingUndo) (ws : List SlotWrite) (b : 
 
 -- and why it plans nothing
 pub why_not_planned : (z : Sizes) (images : List (List ℕ)) (due : PendingUndo) (r : Refusal) → IsRefusedBack z (slots_in z images) (deed_by due.level due.deed) r → PlanStops z images due (blamed_on due.lsn r)
-why_not_planned z images due why.NoMemory f = tt
+why_not_planned z images due why.NoMemory f = f
 why_not_planned z images due (why.Damaged x) f = (refl, f)
 why_not_planned z images due _ f = absurd f

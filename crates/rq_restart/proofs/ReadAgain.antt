@@ -1,5 +1,5 @@
 -- What a record tells that is read again.
-use Rattle.std.proofs.Common.{◌≡◌, ◌≢◌, ◌↔◌, ◌⊎◌, inl, inr, ℕ, ◌+◌, ◌*◌, ◌/◌, ◌%◌, ◌^◌, ◌<◌, ◌≤◌, ◌&&◌, true, false, nat_lt, List, [], ◌∷◌, ◌++◌, length, Result, Ok, Err, Option, Some, None, refl, sym, ◌∙◌, ap, subst, arith, append_assoc}
+use Rattle.std.proofs.Common.{◌≡◌, ◌≢◌, ◌↔◌, inl, inr, ℕ, ◌/◌, ◌%◌, ◌^◌, ◌<◌, ◌≤◌, ◌&&◌, true, false, nat_lt, List, [], ◌∷◌, ◌++◌, length, Result, Ok, Err, Option, Some, None, refl, sym, ◌∙◌, ap, subst, arith, append_assoc}
 use Rattle.std.specs.Prelude.{IfOk, IfErr, IfNone, IfSome}
 use Rattle.std.specs.List.{filter}
 use Rattle.std.proofs.lemmas.Bool.{and_from, and_parts, cases_Bool, lt-ltb, ltb-true}
@@ -19,7 +19,6 @@ use Rattle.rq_log.specs.Places.{IsAt, IsPlace, NotReadAgainFor, StandsAt}
 use Rattle.rq_log.specs.Places as log_places
 use Rattle.rq_log.specs.Spelled.{AreSpelled, spelled, spelled_all}
 use Rattle.rq_log.proofs.Keeping.{few_bytes}
-use Rattle.rq_record.specs.Spelling.{HasWidths}
 use Rattle.rq_views.proofs.Overlay.{same_is}
 use Rattle.rq_analysis.specs.declared.dues.PendingUndo.{PendingUndo}
 use Rattle.rq_analysis.specs.declared.open_work.UndoableWrite.{UndoableWrite}
@@ -30,7 +29,7 @@ use Rattle.rq_analysis.specs.Pages.{IsNextUndo, IsUndoneNext, undo_of}
 use Rattle.rq_analysis.specs.Pages.IsNextUndo.{Undoes}
 use Rattle.rq_restart.specs.declared.analysis.Analysis.{Analysis}
 use Rattle.rq_restart.specs.declared.places.Place.{Place}
-use Rattle.rq_restart.specs.Again.{HasRecord, IsLikeUndo, NotGivenFor, NotReadFor, NotToldFor, NotUndoneFor, WroteOver, due_told, told_again, undo_told}
+use Rattle.rq_restart.specs.Again.{HasRecord, IsLikeUndo, NotGivenFor, NotMadeFor, NotReadFor, NotToldFor, NotUndoneFor, WroteOver, due_told, told_again, undo_told}
 use Rattle.rq_level.specs.declared.writes.SlotWrite.{SlotWrite}
 use Rattle.rq_planner.specs.PageUndos.{NotPutBackFor, PutsBackWrite}
 use Rattle.rq_restart.specs.Aborting.{blamed_on}
@@ -180,12 +179,10 @@ module _ {L : Type 0} (g : Ghosts L) (old new : L) (count : ℕ) where
   not_undone (why.Damaged (damage.Record n)) h = h
   not_undone _ h = absurd h
 
-  pub err_of : {A : Type 0} (x y : Result A Refusal) → IfErr x (λ e. (e ≡ why.NoMemory) ⊎ (y ≡ Err e)) → g.faults new ≡ g.faults old → IfErr y (λ e. NotToldFor g e count old new) → IfErr x (λ e. NotUndoneFor g e count old new)
-  err_of (Ok r) y wanting same h = tt
-  err_of (Err e) y wanting same h = elim wanting [
-    | inl none ↦ subst (λ z. NotUndoneFor g z count old new) (sym none) same
-    | inr is ↦ not_undone e (subst (λ z. IfErr z (λ w. NotToldFor g w count old new)) is h)
-  ]
+  pub err_of : (x y : Result Record Refusal) → IfErr x (NotMadeFor y) → count < 2 ^ 50 → g.faults new ≡ g.faults old → IfErr y (λ e. NotToldFor g e count old new) → IfErr x (λ e. NotUndoneFor g e count old new)
+  err_of (Ok r) y is few same h = tt
+  err_of (Err e) (Ok r) is few same h = subst (λ z. NotUndoneFor g z count old new) (sym is) (few, same)
+  err_of (Err e) (Err wrong) is few same h = not_undone e (subst (λ z. NotToldFor g z count old new) (sym is) h)
 
 -- the write that puts back what the record found makes the record that is told
 pub put_back_told : (kept : Place) (r : Record) (w : SlotWrite) → PutsBackWrite r w → undo_told kept r ≡ Ok (records.PageUndo kept.by.txn kept.by.number kept.lsn (w.at / 16) (w.at % 16) w.after)
@@ -199,21 +196,22 @@ put_back_told kept (records.PageOp t n page slot before after) w h =
     rw in_page (ap (λ p. Ok (records.PageUndo kept.by.txn kept.by.number kept.lsn p slot before)) of_page ∙ ap (λ s. Ok (records.PageUndo kept.by.txn kept.by.number kept.lsn (w.at / 16) s before)) of_slot ∙ ap (λ b. Ok (records.PageUndo kept.by.txn kept.by.number kept.lsn (w.at / 16) (w.at % 16) b)) (sym h.4))
 put_back_told kept _ w h = absurd h
 
-pub not_put_back : (kept : Place) (r : Record) (e : Refusal) → HasWidths r → NotPutBackFor r e → (blamed_on kept.lsn e ≡ why.NoMemory) ⊎ (undo_told kept r ≡ Err (blamed_on kept.lsn e))
-not_put_back kept r why.NoMemory fits h = inl refl
-not_put_back kept (records.PageOp t n page slot before after) (why.Damaged d) fits h = elim (cases_Bool (nat_lt 0 slot && nat_lt slot 16)) [
+pub not_put_back : (kept : Place) (r : Record) (e : Refusal) → NotPutBackFor r e → NotMadeFor (undo_told kept r) (blamed_on kept.lsn e)
+not_put_back kept (records.PageOp t n page slot before after) why.NoMemory h =
+    let low = h.0 in
+    let high = h.1 in
+    rw (and_from (nat_lt 0 slot) (nat_lt slot 16) (lt-ltb 0 slot (omega (arith, low))) (lt-ltb slot 16 (omega (arith, high)))) refl
+not_put_back kept _ why.NoMemory h = absurd h
+not_put_back kept (records.PageOp t n page slot before after) (why.Damaged d) h = elim (cases_Bool (nat_lt 0 slot && nat_lt slot 16)) [
   | inl y ↦
       let k = and_parts (nat_lt 0 slot) (nat_lt slot 16) y in
       let low = ltb-true 0 slot k.0 in
       let high = ltb-true slot 16 k.1 in
-      let wide = fits.2 in
-      let place : (page * 16 + slot) / 16 < 2 ^ 32 = omega (arith, wide, high) in
-      let there : 0 < (page * 16 + slot) % 16 = omega (arith, low, high) in
-      absurd (h (record { at = page * 16 + slot; before = after; after = before; page = place; slot = there }) (omega (arith, low), omega (arith, high), refl, refl, refl))
-  | inr n ↦ inr (rw n refl)
+      absurd (h (omega (arith, low), omega (arith, high)))
+  | inr n ↦ rw n refl
 ]
-not_put_back kept _ (why.Damaged d) fits h = inr refl
-not_put_back kept r _ fits h = absurd h
+not_put_back kept _ (why.Damaged d) h = refl
+not_put_back kept r _ h = absurd h
 
 -- ---- what is to be taken back
 

@@ -23,7 +23,9 @@ use Rattle.rq_store.specs.Opening.{MayRedo, Redoes}
 use Rattle.rq_store.specs.Fitting.{told_by}
 use Rattle.rq_analysis.specs.declared.open_work.UndoableWrite.{UndoableWrite}
 use Rattle.rq_analysis.specs.OpenWorkView.{OpenWorkView, open_work_of, undoable_by}
-use Rattle.rq_analysis.specs.Pages.{IsNextUndo, IsUndoing, work}
+use Rattle.rq_analysis.specs.declared.open_work.NextUndo.{NextUndo}
+use Rattle.rq_analysis.specs.declared.open_work.NextUndo.TheVariants.{Void, Write}
+use Rattle.rq_analysis.specs.Pages.{IsNextUndo, IsUndoing, IsUndoneNext, undo_of, void_of, work}
 use Rattle.rq_analysis.specs.Pages.IsNextUndo.{Voids, Undoes}
 use Rattle.rq_analysis.proofs.Lists.{in_undoable, in_with, in_without, sub_in}
 use Rattle.rq_analysis.proofs.Stacks.{in_newest}
@@ -31,7 +33,7 @@ use Rattle.rq_analysis.proofs.Undos.{undo_leaves_less, undoing_more}
 use Rattle.rq_analysis.specs.LogTables.{PutsBack}
 use Rattle.rq_analysis.specs.Rules.{CanBeRead}
 use Rattle.rq_views.proofs.Overlay.{same_self as op_self}
-use Rattle.rq_restart.specs.Again.{IsLike, IsLikeUndo}
+use Rattle.rq_restart.specs.Again.{IsLike, IsLikeUndo, NotUndoneFor}
 use Rattle.rq_restart.specs.Found.{MayComeNext}
 use Rattle.rq_restart.specs.Repeating.{ArePagesCounted, Belongs, IsRecordRedone, Marks, Paged, Repeats}
 use Rattle.rq_restart.specs.Undoing.{HandsOverNothing, StepStops, UndoStops}
@@ -179,6 +181,11 @@ pub record IsGoingOn (z : Sizes) (log last : List Record) (first now : Paged) : 
   pub repeated : (start : Paged) → Repeats z log start first → Repeats z last start now
   pub counted : ArePagesCounted z (length log) first → ArePagesCounted z (length last) now
 
+-- a record undoes what is next
+one_next : (h : OpenWorkView) (next : NextUndo) → IsUndoneNext h next → (r : Record) × IsNextUndo h r
+one_next h (Void o) there = (void_of o, there)
+one_next h (Write lsn) there = (undo_of there.0, Undoes there.0 there.2.older there.2.none there.2.first refl)
+
 module _ (z y : Sizes) (log last : List Record) (first now : Paged) (sizes : y ≡ z) (k : IsGoingOn z log last first now) where
   pub going_more : (r : Record) (h : OpenWorkView) (grown : List Record) (after : Paged) → h ≡ open_work_of last → IsNextUndo h r → grown ≡ r ∷ last → IsRecordRedone y last r now after → IsGoingOn z log grown first after
   going_more r h grown after is next more one = subst (λ l. IsGoingOn z log l first after) (sym more) (record {
@@ -188,7 +195,7 @@ module _ (z y : Sizes) (log last : List Record) (first now : Paged) (sizes : y �
   })
 
   pub going_stops : (r : Record) (h : OpenWorkView) (e : Refusal) → h ≡ open_work_of last → IsNextUndo h r → StepStops (length last) (Belongs y last r now) e → (start : Paged) → Repeats z log start first → UndoStops z log start e
-  going_stops r h why.NoMemory is next s start before = tt
+  going_stops r h why.NoMemory is next s start before = record { undone = last; undoing = k.undoing; newest = r; next = subst (λ j. IsNextUndo j r) is next }
   going_stops r h why.DiskRead is next s start before = tt
   going_stops r h why.LogFull is next s start before = record { undone = last; undoing = k.undoing; full = s }
   going_stops r h (why.Damaged (damage.Record lsn)) is next s start before = record {
@@ -202,3 +209,13 @@ module _ (z y : Sizes) (log last : List Record) (first now : Paged) (sizes : y �
     bad = λ b. s.1 (subst (λ x. Belongs x last r now) (sym sizes) b);
   }
   going_stops r h _ is next s start before = absurd s
+
+  -- or what is next was not told
+  pub going_waits : {L : Type 0} (g : Ghosts L) (a b : L) (h : OpenWorkView) (next : NextUndo) (e : Refusal) → h ≡ open_work_of last → IsUndoneNext h next → NotUndoneFor g e (length last) a b → g.honest b → (start : Paged) → UndoStops z log start e
+  going_waits g a b h next why.NoMemory is there s honest start =
+      let n = one_next h next there in
+      record { undone = last; undoing = k.undoing; newest = n.0; next = subst (λ j. IsNextUndo j n.0) is n.1 }
+  going_waits g a b h next why.DiskRead is there s honest start = tt
+  going_waits g a b h next why.LogFull is there s honest start = record { undone = last; undoing = k.undoing; full = s.0 }
+  going_waits g a b h next (why.Damaged (damage.Record n)) is there s honest start = absurd (s.1 honest)
+  going_waits g a b h next _ is there s honest start = absurd s

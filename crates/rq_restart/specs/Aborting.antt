@@ -1,5 +1,5 @@
 -- Undoing lost transactions, and where that stops.
-use Rattle.std.specs.Prelude.{◌≡◌, ◌⊎◌, ℕ, ◌+◌, ◌^◌, ◌≤◌, List, [], ◌∷◌, length, take, Some, None}
+use Rattle.std.specs.Prelude.{◌≡◌, ◌⊎◌, ℕ, ◌+◌, ◌^◌, ◌≤◌, List, [], ◌∷◌, length, take, true, Some, None}
 use Rattle.rq_model.specs.declared.record.Deed.{Deed}
 use Rattle.rq_model.specs.declared.record.Record.{Record}
 use Rattle.rq_model.specs.declared.record.Record.TheVariants.{AbortEnd}
@@ -8,6 +8,7 @@ use Rattle.rq_model.specs.declared.refusal.Refusal.TheVariants as why
 use Rattle.rq_model.specs.declared.refusal.Damage.TheVariants as damage
 use Rattle.rq_model.specs.declared.txn.Txn.{Txn}
 use Rattle.rq_model.specs.Deeds.{deed_by}
+use Rattle.rq_model.specs.Vocabulary.{is_some}
 use Rattle.rq_page.specs.Sizes.{Sizes}
 use Rattle.rq_views.specs.Stored.{slots_in}
 use Rattle.rq_level.specs.declared.writes.SlotWrite.{SlotWrite}
@@ -197,7 +198,7 @@ AbortingStops z log old e = AbortStops z (IsAbortingFrom z log old) log old (IsS
 
 -- why what is due was not planned to be taken back
 abbrev pub PlanStops : Sizes → List (List ℕ) → PendingUndo → Refusal → Type 0
-PlanStops z images due why.NoMemory = Unit {0}
+PlanStops z images due why.NoMemory = is_some (deed_by due.level due.deed) ≡ true
 PlanStops z images due (why.Damaged (damage.Record lsn)) = (lsn ≡ due.lsn) × IsNotUndone z images due
 PlanStops z images due _ = ⊥
 

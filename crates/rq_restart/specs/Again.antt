@@ -1,5 +1,5 @@
 -- Records that are read again, where they are to be undone.
-use Rattle.std.specs.Prelude.{◌≡◌, ◌≢◌, ℕ, ◌+◌, ◌%◌, ◌^◌, ◌≤◌, ◌&&◌, nat_lt, cond, List, length, Result, Ok, Err}
+use Rattle.std.specs.Prelude.{◌≡◌, ◌≢◌, ℕ, ◌+◌, ◌%◌, ◌^◌, ◌<◌, ◌≤◌, ◌&&◌, nat_lt, cond, List, length, Result, Ok, Err}
 use Rattle.rq_model.specs.declared.record.Record.{Record}
 use Rattle.rq_model.specs.declared.record.Record.TheVariants.{PageOp, PageUndo, OpEnd}
 use Rattle.rq_model.specs.declared.refusal.Refusal.{Refusal}
@@ -31,6 +31,11 @@ abbrev pub undo_told : Place → Record → Result Record Refusal
 undo_told p (PageOp t n page slot before after) =
     cond (nat_lt 0 slot && nat_lt slot 16) (Ok (PageUndo p.by.txn p.by.number p.lsn page slot before)) (Err (why.Damaged (damage.Record p.lsn)))
 undo_told p _ = Err (why.Damaged (damage.Record p.lsn))
+
+-- why it is not made: memory is wanting for one that is told, or none is
+abbrev pub NotMadeFor : Result Record Refusal → Refusal → Type 0
+NotMadeFor (Ok r) e = e ≡ why.NoMemory
+NotMadeFor (Err told) e = e ≡ told
 
 -- what the transaction's OpEnd with this LSN did, as this record tells it
 abbrev pub due_told : Txn → ℕ → Record → Result PendingUndo Refusal
@@ -69,9 +74,9 @@ module _ {L : Type 0} (g : Ghosts L) where
   NotToldFor (why.Damaged (damage.Record n)) count old new = (g.faults new ≡ g.faults old) × (g.honest new → ⊥)
   NotToldFor _ count old new = ⊥
 
-  -- why what such a record tells was not undone
+  -- why what such a record tells was not undone: memory is wanting only where the log has room for one more
   abbrev pub NotUndoneFor : Refusal → ℕ → L → L → Type 0
-  NotUndoneFor why.NoMemory count old new = g.faults new ≡ g.faults old
+  NotUndoneFor why.NoMemory count old new = (count < 2 ^ 50) × (g.faults new ≡ g.faults old)
   NotUndoneFor e count old new = NotToldFor e count old new
 
   -- the same while the log is read

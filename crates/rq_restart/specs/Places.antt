@@ -1,7 +1,6 @@
 -- Where the records stand that tell what may have to be undone, as the records of a log come one after the other.
-use Rattle.std.specs.Prelude.{◌≡◌, ◌↔◌, ℕ, ◌+◌, Bool, true, false, not, List, [], ◌∷◌, ◌++◌, length}
-use Rattle.std.specs.List.{filter}
-use Rattle.std.specs.List.Sorted.{IsNonDecreasingBy}
+use Rattle.std.specs.Prelude.{◌≡◌, ◌↔◌, ℕ, ◌+◌, ◌<◌, Bool, true, false, not, List, [], ◌∷◌, ◌++◌, length}
+use Rattle.std.specs.List.{AllPairs, filter}
 use Rattle.rq_model.specs.declared.txn.Txn.{Txn}
 use Rattle.rq_model.specs.declared.txn.Sub.{Sub}
 use Rattle.rq_model.specs.declared.record.Record.{Record}
@@ -70,9 +69,9 @@ without_operation o places = filter (λ p. not (same_op p.by o)) places
 abbrev pub without_txn : Txn → List Place → List Place
 without_txn t places = filter (λ p. not (same_txn p.by.txn t)) places
 
--- each has no smaller LSN than those before
+-- each has a greater LSN than those before
 abbrev pub AreRising : List Place → Type 0
-AreRising places = IsNonDecreasingBy (λ (p : Place). p.lsn) places
+AreRising places = AllPairs (λ (p q : Place). p.lsn < q.lsn) places
 
 -- those of a log, once its records were taken one after the other
 abbrev pub places_of : List Record → OpenPlaces

@@ -1,5 +1,5 @@
 -- Why a restart did not open a store, and where it stopped.
-use Rattle.std.specs.Prelude.{◌≡◌, false, ◌⊎◌, ℕ, ◌+◌, ◌%◌, ◌^◌, ◌≤◌, List, ◌∷◌, length}
+use Rattle.std.specs.Prelude.{◌≡◌, false, ◌⊎◌, ℕ, ◌+◌, ◌%◌, ◌^◌, ◌≤◌, IsTrue, List, [], ◌∷◌, length}
 use Rattle.rq_model.specs.declared.record.Record.{Record}
 use Rattle.rq_model.specs.declared.refusal.Refusal.{Refusal}
 use Rattle.rq_model.specs.declared.refusal.Refusal.TheVariants as why
@@ -10,14 +10,22 @@ use Rattle.rq_disk.specs.declared.device.LogDevice.{Ghosts}
 use Rattle.rq_record.specs.Spelling.{IsRecord}
 use Rattle.rq_log.specs.Reading.{BeginsWith, IsRead, StopsFor}
 use Rattle.rq_log.specs.Spelled.{AreSpelled}
+use Rattle.rq_analysis.specs.Growth.{grows}
+use Rattle.rq_analysis.specs.Numbers.{numbers}
 use Rattle.rq_restart.specs.Repeating.{Belongs, Paged, Repeats}
 use Rattle.rq_restart.specs.Checked.{WasReadAndRedone, IsBeyond}
 use Rattle.rq_restart.specs.RolledBack.{HasNoRoom, IsAtBound, IsBadRollback, IsUnlinked}
 use Rattle.rq_restart.specs.Undoing.{IsBadUndo}
 
--- why a record that was read behind these was not repeated, in its place: memory is wanting, or it doesn't belong there
+-- a record behind these belongs there, and a table that is kept of the log may grow by it
+pub record MayGrow (z : Sizes) (front : List Record) (r : Record) (mid : Paged) : Type 0 where
+  pub belongs : Belongs z front r mid
+  pub grows : IsTrue (grows r (numbers front))
+
+-- Why a record that was read behind these was not repeated, in its place: it doesn't belong there, or it does and memory is
+-- wanting.
 abbrev pub NotRepeated : Sizes → List Record → Record → Paged → Refusal → Type 0
-NotRepeated z front r mid why.NoMemory = Unit {0}
+NotRepeated z front r mid why.NoMemory = MayGrow z front r mid
 NotRepeated z front r mid (why.Damaged (damage.Record lsn)) = (lsn ≡ length front + 1) × (Belongs z front r mid → ⊥)
 NotRepeated z front r mid _ = ⊥
 
@@ -32,9 +40,17 @@ module _ {L : Type 0} (g : Ghosts L) where
     pub bad : Belongs z front newest mid → ⊥
     pub counted : g.faults new ≡ g.faults old
 
-  -- memory is wanting
-  abbrev pub IsWanting : Refusal → L → L → Type 0
-  IsWanting e old new = (e ≡ why.NoMemory) × (g.faults new ≡ g.faults old)
+  -- the record that was read behind these belongs there, and memory is wanting for it
+  pub record LacksMemory (z : Sizes) (front : List Record) (mid : Paged) (old new : L) : Type 0 where
+    pub newest : Record
+    pub is_record : IsRecord newest
+    pub begins : g.honest new → BeginsWith (newest ∷ front) (g.seen old)
+    pub grown : MayGrow z front newest mid
+
+  -- memory is wanting: for the next record, or before the device was read at all
+  abbrev pub IsWanting : Sizes → List Record → Paged → Refusal → L → L → Type 0
+  IsWanting z front mid e old new = (e ≡ why.NoMemory) × (g.faults new ≡ g.faults old)
+      × (((front ≡ []) × (new ≡ old)) ⊎ LacksMemory z front mid old new)
 
   -- A log was gone through as it was read, as far as these records: each belonged where it stood and was repeated. Behind
   -- them no more could be read or kept, or no record stands there, or one that doesn't belong.
@@ -44,7 +60,7 @@ module _ {L : Type 0} (g : Ghosts L) where
     pub begins : g.honest new → BeginsWith front (g.seen old)
     pub mid : Paged
     pub repeated : Repeats z front first mid
-    pub why : StopsFor g e front old new ⊎ (IsWanting e old new ⊎ IsBadNext z front mid e old new)
+    pub why : StopsFor g e front old new ⊎ (IsWanting z front mid e old new ⊎ IsBadNext z front mid e old new)
     pub read : IsRead g old new
 
 -- why no incarnation was begun over a log, with the failures of its device before and after it, and that it was left

@@ -40,9 +40,16 @@ pub record IsBadUndo (z : Sizes) (log : List Record) (first : Paged) (lsn : ℕ)
   pub repeated : Repeats z undone first mid
   pub bad : Belongs z undone newest mid → ⊥
 
+-- of the log, with the records behind that undo operations of it, something is to be undone yet
+pub record HasUndoLeft (log : List Record) : Type 0 where
+  pub undone : List Record
+  pub undoing : IsUndoing log undone
+  pub newest : Record
+  pub next : IsNextUndo (open_work_of undone) newest
+
 -- why the operations of a log that have no end were not undone, once history was repeated
 abbrev pub UndoStops : Sizes → List Record → Paged → Refusal → Type 0
-UndoStops z log first why.NoMemory = Unit {0}
+UndoStops z log first why.NoMemory = HasUndoLeft log
 UndoStops z log first why.DiskRead = Unit {0}
 UndoStops z log first why.LogFull = IsFullUndo log
 UndoStops z log first (why.Damaged (damage.Record lsn)) = IsBadUndo z log first lsn

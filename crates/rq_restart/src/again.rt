@@ -1,5 +1,5 @@
 //! Records of a log that are read again, where they are to be undone.
-ghost use Rattle.std.specs.Prelude.{◌≡◌, ◌↔◌, ◌⊎◌, ◌∷◌, ◌/◌, ◌%◌, Ok, Err, List, Some, IsTrue, IfOk, IfErr, IfSome, IfNone, OnOk, false, length};
+ghost use Rattle.std.specs.Prelude.{◌≡◌, ◌↔◌, ◌∷◌, ◌/◌, ◌%◌, ◌^◌, ◌<◌, Ok, List, Some, IsTrue, IfOk, IfErr, IfSome, IfNone, OnOk, false, length};
 ghost use Rattle.std.specs.List.{filter};
 ghost use Rattle.rq_model.specs.declared.record.Record.TheVariants as records;
 ghost use Rattle.rq_model.specs.declared.record.Record.{Record as AnyRecord};
@@ -12,7 +12,7 @@ ghost use Rattle.rq_analysis.specs.LogTables.{PutsBack};
 ghost use Rattle.rq_analysis.specs.OpenWorkView.{lsn_undoable, undoable_by};
 ghost use Rattle.rq_analysis.specs.Pages.{IsNextUndo, IsUndoneNext, void_of};
 ghost use Rattle.rq_restart.specs.Aborting.{blamed_on};
-ghost use Rattle.rq_restart.specs.Again.{HasRecord, IsLikeUndo, NotGivenFor, NotReadFor, NotToldFor, NotUndoneFor, WroteOver, due_told, told_again, undo_told};
+ghost use Rattle.rq_restart.specs.Again.{HasRecord, IsLikeUndo, NotGivenFor, NotMadeFor, NotReadFor, NotToldFor, NotUndoneFor, WroteOver, due_told, told_again, undo_told};
 ghost use Rattle.rq_restart.specs.Found.{IsAnalysisOf};
 
 use crate::analysis::Analysis;
@@ -26,7 +26,6 @@ use rq_model::record::{Record, Slot};
 use rq_model::refusal::{Damage, Refusal};
 use rq_model::txn::{Lsn, Sub, Txn};
 use rq_planner::Planner;
-use rq_record::shows_fits;
 use std::alloc::Global;
 
 /// The record by which is undone what is next, as these are the findings of the log: a write as its level undoes it.
@@ -101,10 +100,9 @@ fn undone_as<B: Level>(
     told: &Record,
 ) -> Result<Record, Refusal>
     ensures told { IfOk result (λ r. undo_told kept.now told.now ≡ Ok r) }
-    ensures err { IfErr result (λ e. (e ≡ Refusal.NoMemory) ⊎ (undo_told kept.now told.now ≡ Err e)) }
+    ensures err { IfErr result (λ e. NotMadeFor (undo_told kept.now told.now) e) }
     ensures planner { planner.new ≡ planner.old }
 {
-    shows_fits(told);
     match planner.undo_write(alloc, told) {
         Ok(write) => Ok(page_undo(kept, &write)),
         Err(refusal) => Err(blamed(kept.lsn, refusal)),
@@ -188,6 +186,7 @@ fn kept_record<L: LogDevice>(
     ensures place { IfOk result (λ kept. In kept.0 places.now × (kept.0.lsn ≡ lsn)) }
     ensures is { IfOk result (λ kept. L.honest log.new.device → (s : AnyRecord) → IsAt log.old.records kept.0.place s
         → kept.1 ≡ s) }
+    ensures room { OnOk result (length log.old.records < 2 ^ 50) }
     ensures err { IfErr result (λ e. NotToldFor L.LogDevice e (length log.old.records) log.old.device log.new.device) }
     ensures cause { OnOk result (L.faults log.new.device ≡ L.faults log.old.device) }
     ensures same { log.new ≡ record log.old { device = log.new.device } }
@@ -207,6 +206,7 @@ fn kept_record<L: LogDevice>(
 fn record_again<L: LogDevice>(log: &mut Log<L>, place: u64, lsn: Lsn) -> Result<Record, Refusal>
     requires running { log.old.failed ≡ false }
     ensures is { IfOk result (λ r. L.honest log.new.device → (s : AnyRecord) → IsAt log.old.records place s → r ≡ s) }
+    ensures room { OnOk result (length log.old.records < 2 ^ 50) }
     ensures err { IfErr result (λ e. NotGivenFor L.LogDevice e lsn log.old.records place log.old.device log.new.device) }
     ensures cause { OnOk result (L.faults log.new.device ≡ L.faults log.old.device) }
     ensures same { log.new ≡ record log.old { device = log.new.device } }

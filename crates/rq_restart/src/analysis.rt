@@ -3,6 +3,7 @@ ghost use Rattle.std.specs.Prelude.{◌≡◌, ◌↔◌, List, IsTrue, IfOk, If
 ghost use Rattle.rq_model.specs.declared.record.Record.{Record as AnyRecord};
 ghost use Rattle.rq_model.specs.Bases.{is_base};
 ghost use Rattle.rq_model.specs.Incarnations.{IsNext};
+ghost use Rattle.rq_analysis.specs.Growth.{grows};
 ghost use Rattle.rq_analysis.specs.LogTables.{PutsBack};
 ghost use Rattle.rq_analysis.specs.Rules.{CanBeRead, FollowAll};
 ghost use Rattle.rq_restart.specs.Found.{IsAnalysisOf, MayComeNext, analysis_after};
@@ -47,62 +48,39 @@ impl Analysis {
         }
     }
 
-    /// Takes the next record, which has this LSN; the deed in it, if there is one, is read by its level or
-    /// not, and it puts back what stood before the newest write of its operation, if it is a PageUndo, or not. False where it
-    /// may not come there: it doesn't belong to the running incarnation, isn't the next, or breaks the rules of a log.
-    ///
-    /// # Errors
-    /// `NoMemory`: nothing changed.
-    pub(crate) fn note(
-        &mut self,
-        lsn: Lsn,
-        reads: bool,
-        puts_back: bool,
-        record: &Record,
-    ) -> Result<bool, Refusal>
-        ensures next { IfOk result (λ is_next. (log : List AnyRecord) → IsAnalysisOf self.old log → FollowAll log
+    /// Whether a record may come next: it belongs to the running incarnation, or begins the one behind it, and follows the
+    /// rules of a log. The deed in it, if there is one, is read by its level or not. It puts back what stood before the newest
+    /// write of its operation, if it is a PageUndo, or not.
+    pub(crate) fn may_take(&self, reads: bool, puts_back: bool, record: &Record) -> bool
+        ensures next { (log : List AnyRecord) → IsAnalysisOf self.now log → FollowAll log
             → is_base «record».now ≡ false → (IsTrue reads ↔ CanBeRead «record».now)
-            → (IsTrue puts_back ↔ PutsBack self.old.open_work «record».now)
-            → (IsTrue is_next ↔ MayComeNext log «record».now)) }
-        ensures order { IfOk result (λ is_next. IsTrue is_next → IsNext self.old.open_work.incarnation «record».now) }
-        ensures noted { OnOk result (self.new ≡ analysis_after lsn «record».now self.old) }
-        ensures same { OnErr result (self.new ≡ self.old) }
-        ensures err { IfErr result (λ e. e ≡ Refusal.NoMemory) }
+            → (IsTrue puts_back ↔ PutsBack self.now.open_work «record».now)
+            → (IsTrue result ↔ MayComeNext log «record».now) }
+        ensures order { IsTrue result → IsNext self.now.open_work.incarnation «record».now }
     {
-        let follows = follows(
-            &self.open_work,
-            &self.dues,
-            &self.numbers,
-            &self.ended,
-            reads,
-            puts_back,
-            record,
-        );
-        let is_next = self.keep(lsn, record)?;
-        Ok(is_next && follows)
+        self.open_work.is_next(record)
+            && follows(
+                &self.open_work,
+                &self.dues,
+                &self.numbers,
+                &self.ended,
+                reads,
+                puts_back,
+                record,
+            )
     }
 
-    /// Takes a Base, with which a log begins. It has this LSN.
+    /// Takes the next record, which has this LSN.
     ///
     /// # Errors
-    /// `NoMemory`: nothing changed.
-    pub(crate) fn begin(&mut self, lsn: Lsn, base: &Record) -> Result<(), Refusal>
-        ensures noted { OnOk result (self.new ≡ analysis_after lsn base.now self.old) }
-        ensures same { OnErr result (self.new ≡ self.old) }
-        ensures err { IfErr result (λ e. e ≡ Refusal.NoMemory) }
-    {
-        self.keep(lsn, base)?;
-        Ok(())
-    }
-
-    // Whether the record is the next of its incarnation, with what is kept of it.
-    fn keep(&mut self, lsn: Lsn, record: &Record) -> Result<bool, Refusal>
-        ensures next { IfOk result (λ is_next. IsTrue is_next ↔ IsNext self.old.open_work.incarnation «record».now) }
+    /// `NoMemory`, where a table may grow: nothing changed.
+    pub(crate) fn note(&mut self, lsn: Lsn, record: &Record) -> Result<(), Refusal>
         ensures noted { OnOk result (self.new ≡ analysis_after lsn «record».now self.old) }
         ensures same { OnErr result (self.new ≡ self.old) }
+        ensures grows { OnErr result (IsTrue (grows «record».now self.old.numbers)) }
         ensures err { IfErr result (λ e. e ≡ Refusal.NoMemory) }
     {
-        let is_next = self.places.note_with(
+        self.places.note_with(
             lsn,
             record,
             self.size,
@@ -112,6 +90,6 @@ impl Analysis {
             &mut self.ended,
         )?;
         self.size = self.size.saturating_add(spelled_len(record) as u64);
-        Ok(is_next)
+        Ok(())
     }
 }

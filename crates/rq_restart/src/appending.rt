@@ -72,8 +72,11 @@ pub(crate) fn append<P: PageDevice + Drop, L: LogDevice + Drop, B: Level>(
     let lsn = log.last() + 1;
     shows_fits(undo);
     log.reserve(spelled_len(undo))?;
-    let is_next = analysis.note(lsn, true, true, undo)?;
-    if !is_next || !make(pages, planner, lsn, undo) {
+    if !analysis.may_take(true, true, undo) {
+        return Err(Refusal::Damaged(Damage::Record(lsn)));
+    }
+    analysis.note(lsn, undo)?;
+    if !make(pages, planner, lsn, undo) {
         return Err(Refusal::Damaged(Damage::Record(lsn)));
     }
     log.append(undo);

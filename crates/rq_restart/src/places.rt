@@ -1,8 +1,8 @@
 //! Where the records stand that tell what a restart may have to undo.
 ghost use Rattle.std.specs.Prelude.{◌≡◌, ◌≢◌, ◌↔◌, ◌<◌, ◌≤◌, ℕ, OnOk, OnErr, IfErr, IfOk, IfSome, IfNone, IsTrue, length, slice_index_or, vec_capacity, vec_len};
-ghost use Rattle.rq_model.specs.Incarnations.{IsNext};
 ghost use Rattle.rq_model.specs.Vocabulary.{In};
 ghost use Rattle.rq_analysis.specs.Dues.{dues_after};
+ghost use Rattle.rq_analysis.specs.Growth.{grows, is_op_end, is_page_op};
 ghost use Rattle.rq_analysis.specs.LogTables.{ended_after};
 ghost use Rattle.rq_analysis.specs.Numbers.{numbers_after};
 ghost use Rattle.rq_analysis.specs.OpenWorkView.{open_work_after};
@@ -10,9 +10,11 @@ ghost use Rattle.rq_restart.specs.declared.places.Place.{Place};
 ghost use Rattle.rq_views.specs.Items.{operation};
 ghost use Rattle.rq_restart.specs.Places.{AreRising, ends_after, no_places, place_at, places_after, without_operation, without_txn, writes_after};
 
-use rq_analysis::{EndedTransactions, LastOperations, OpenWork, PendingUndos};
+use rq_analysis::{
+    EndedTransactions, LastOperations, OpenWork, PendingUndos, make_room, tells_deed, tells_write,
+};
 use rq_model::record::Record;
-use rq_model::refusal::{NoMemory, Refusal};
+use rq_model::refusal::Refusal;
 use rq_model::txn::{Lsn, Sub, Txn};
 use std::alloc::Global;
 use std::marker::Model;
@@ -70,10 +72,10 @@ impl Places {
 
     /// Takes the next record, which has this LSN and stands there, and has the tables of the analysis take it: all of them, or none.
     /// The place of a PageOp or OpEnd is added, and those of the operation or transaction that the record ends are taken out. A
-    /// Base ends all. False where the record doesn't belong to the running incarnation, or isn't the next.
+    /// Base ends all.
     ///
     /// # Errors
-    /// `NoMemory`: nothing changed.
+    /// `NoMemory`, where a table may grow: nothing changed.
     pub fn note_with(
         &mut self,
         lsn: Lsn,
@@ -83,8 +85,7 @@ impl Places {
         numbers: &mut LastOperations,
         open_work: &mut OpenWork,
         ended: &mut EndedTransactions,
-    ) -> Result<bool, Refusal>
-        ensures next { IfOk result (λ is_next. IsTrue is_next ↔ IsNext open_work.old.incarnation «record».now) }
+    ) -> Result<(), Refusal>
         ensures noted { OnOk result (self.new ≡ places_after lsn place «record».now self.old) }
         ensures dues { OnOk result (dues.new ≡ dues_after lsn «record».now dues.old) }
         ensures numbers { OnOk result (numbers.new ≡ numbers_after «record».now numbers.old) }
@@ -95,41 +96,25 @@ impl Places {
         ensures numbers_same { OnErr result (numbers.new ≡ numbers.old) }
         ensures open_work_same { OnErr result (open_work.new ≡ open_work.old) }
         ensures ended_same { OnErr result (ended.new ≡ ended.old) }
+        ensures grows { OnErr result (IsTrue (grows «record».now numbers.old)) }
         ensures err { IfErr result (λ e. e ≡ Refusal.NoMemory) }
     {
-        match make_room(&mut self.writes) {
-            Ok(()) => {}
-            Err(NoMemory) => return Err(Refusal::NoMemory),
-        }
-        match make_room(&mut self.ends) {
-            Ok(()) => {}
-            Err(NoMemory) => return Err(Refusal::NoMemory),
-        }
+        make_room(&mut self.writes, tells_write(record))?;
+        make_room(&mut self.ends, tells_deed(record))?;
         match dues.note(numbers, open_work, ended, lsn, record) {
-            Ok(is_next) => {
+            Ok(()) => {
                 take_write(&mut self.writes, lsn, record, place);
                 take_end(&mut self.ends, lsn, record, place);
-                Ok(is_next)
+                Ok(())
             }
             Err(refusal) => Err(refusal),
         }
     }
 }
 
-// Takes the memory for one more.
-fn make_room(places: &mut Vec<Place>) -> Result<(), NoMemory>
-    ensures items { places.new.items ≡ places.old.items }
-    ensures room { OnOk result (vec_len places.new < vec_capacity places.new) }
-{
-    match places.try_reserve(1) {
-        Ok(()) => Ok(()),
-        Err(_) => Err(NoMemory),
-    }
-}
-
-// Takes the next record into the places of PageOps, which have room for one more.
+// Takes the next record into the places of PageOps, which have room for it if it is one.
 fn take_write(writes: &mut Vec<Place>, lsn: Lsn, record: &Record, place: u64)
-    requires { vec_len writes.old < vec_capacity writes.old }
+    requires { IsTrue (is_page_op «record».now) → vec_len writes.old < vec_capacity writes.old }
     ensures { writes.new.items ≡ writes_after lsn place «record».now writes.old.items }
 {
     match record {
@@ -147,9 +132,9 @@ fn take_write(writes: &mut Vec<Place>, lsn: Lsn, record: &Record, place: u64)
     }
 }
 
-// Takes the next record into the places of OpEnds, which have room for one more.
+// Takes the next record into the places of OpEnds, which have room for it if it is one.
 fn take_end(ends: &mut Vec<Place>, lsn: Lsn, record: &Record, place: u64)
-    requires { vec_len ends.old < vec_capacity ends.old }
+    requires { IsTrue (is_op_end «record».now) → vec_len ends.old < vec_capacity ends.old }
     ensures { ends.new.items ≡ ends_after lsn place «record».now ends.old.items }
 {
     match record {

@@ -81,7 +81,7 @@ pub(crate) fn repeat_history<P: PageDevice + Drop, L: LogDevice, B: Level>(
     let mut record = Record::Restart { incarnation: 0 };
     while reader.next_into(&mut record)? {
         if stands_for_others(&record) {
-            match analysis.begin(reader.last(), &record) {
+            match analysis.note(reader.last(), &record) {
                 Ok(()) => {}
                 Err(refusal) => return Err(refusal),
             }
@@ -100,7 +100,7 @@ pub(crate) fn repeat_history<P: PageDevice + Drop, L: LogDevice, B: Level>(
                 &record,
             ) {
                 Ok(()) => {}
-                Err(refusal) => return Err(refusal),
+                Err(stops) => return Err(stops),
             }
         }
     }
@@ -139,10 +139,11 @@ fn check_and_redo<P: PageDevice + Drop, B: Level>(
     ensures sizes { pages.new.sizes ≡ pages.old.sizes }
     ensures device { pages.new.device ≡ pages.old.device }
 {
-    let is_next = analysis.note(lsn, can_be_read(levels, record), puts_back, record)?;
-    if !is_next || !may_redo(pages, lsn, record) {
+    let reads = can_be_read(levels, record);
+    if !analysis.may_take(reads, puts_back, record) || !may_redo(pages, lsn, record) {
         return Err(Refusal::Damaged(Damage::Record(lsn)));
     }
+    analysis.note(lsn, record)?;
     apply(pages, levels, lsn, record);
     Ok(())
 }

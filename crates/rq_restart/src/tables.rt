@@ -49,7 +49,8 @@ pub(crate) fn read_directory<P: PageDevice + Drop, B: Level>(
         };
         sent.set(sender, last);
     }
-    let ends = Ends::new(alloc, senders)?;
+    let clients = pages.layout().clients();
+    let ends = Ends::new(alloc, senders, clients)?;
     Ok(EngineTables {
         waiting,
         sent,

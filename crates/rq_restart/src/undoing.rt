@@ -22,8 +22,8 @@ use std::alloc::Global;
 /// writes are undone. The records of it are made behind the log, of which these are the findings, and nothing is handed over.
 ///
 /// # Errors
-/// `NoMemory`; `DiskRead`; `LogFull` where the log is at its greatest length; `Damaged` with the number of a record that
-/// would not belong where it has to stand, or that the device gives no more.
+/// `NoMemory`, where something is to be undone; `DiskRead`; `LogFull` where the log is at its greatest length; `Damaged` with
+/// the number of a record that would not belong where it has to stand, or that the device gives no more.
 pub(crate) fn undo_unfinished<P: PageDevice + Drop, L: LogDevice + Drop, B: Level>(
     alloc: Global,
     pages: &mut Pages<P>,

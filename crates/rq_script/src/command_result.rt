@@ -121,6 +121,7 @@ fn print_outcome(output: &mut Vec<u8>, outcome: &Outcome) -> io::Result<()> {
         Outcome::Sent => print_word(output, "sent"),
         Outcome::Message(message) => print_message(output, message),
         Outcome::Closed => print_word(output, "closed"),
+        Outcome::Marked => print_word(output, "marked"),
         Outcome::Undone => print_word(output, "undone"),
     }
 }

@@ -1,6 +1,7 @@
 //! What a worker calls the store by.
-ghost use Rattle.std.specs.Prelude.{◌≡◌, ◌≤◌, ◌⊎◌};
+ghost use Rattle.std.specs.Prelude.{◌≡◌, ◌≤◌};
 ghost use Rattle.rq_serving.specs.Carried.{IsForce};
+ghost use Rattle.rq_server.specs.Reached.{IsReached};
 
 use crate::notices::Notices;
 use crate::turns::Turns;
@@ -60,7 +61,8 @@ impl<'a, S: Steps> Calls<'a, S> {
 
     /// Forces, which frees the memory of what is buffered.
     pub(crate) fn force<R: Wait>(&mut self, rt: &R)
-        ensures { IsForce S.made S.forced S.told self.old.steps self.new.steps }
+        ensures forced { IsForce S.made S.forced S.told self.old.steps self.new.steps }
+        ensures same { self.new.reader ≡ self.old.reader }
     {
         let turns = self.turns;
         let _forcing = turns.forcing.lock(rt);
@@ -69,7 +71,7 @@ impl<'a, S: Steps> Calls<'a, S> {
 
     /// Forces, where the log is not forced as far as this once no other worker forces.
     pub(crate) fn force_up_to<R: Wait>(&mut self, rt: &R, lsn: Lsn)
-        ensures reached { (lsn ≤ self.new.reader.seat.saw) ⊎ IsForce S.made S.forced S.told self.old.steps self.new.steps }
+        ensures reached { IsReached S.made S.forced S.told lsn self.new.reader.seat.saw self.old.steps self.new.steps }
         ensures grown { self.old.reader.seat.saw ≤ self.new.reader.seat.saw }
     {
         let turns = self.turns;
@@ -98,7 +100,10 @@ impl<'a, S: Steps> Calls<'a, S> {
 
     /// Waits for the force of another worker, where the log is not forced as far as this, but not for long. Forces where that one
     /// did not reach as far, or none came.
-    pub(crate) fn await_force<R: Wait>(&mut self, rt: &R, lsn: Lsn) {
+    pub(crate) fn await_force<R: Wait>(&mut self, rt: &R, lsn: Lsn)
+        ensures reached { IsReached S.made S.forced S.told lsn self.new.reader.seat.saw self.old.steps self.new.steps }
+        ensures grown { self.old.reader.seat.saw ≤ self.new.reader.seat.saw }
+    {
         let seen = self.notices.forces();
         if self.forced() >= lsn {
             return;

@@ -1,4 +1,7 @@
 //! One connection with its session.
+ghost use Rattle.std.specs.Prelude.{◌≡◌};
+ghost use Rattle.rq_server.specs.Heard.{IsHeard};
+
 use crate::gates::Open;
 use bytes::BytesMut;
 use mio::net::TcpStream;
@@ -79,7 +82,9 @@ impl Connection {
     }
 
     /// The commit that waits for its receipt.
-    pub(crate) fn awaited(&self) -> Option<Lsn> {
+    pub(crate) fn awaited(&self) -> Option<Lsn>
+        ensures { result ≡ self.now.awaited }
+    {
         self.awaited
     }
 
@@ -122,7 +127,9 @@ impl Connection {
 
     /// Reads what was said, a few pieces of this length at most. A client that has asked more than was carried out is
     /// not heard. A client that does not read its answers is not heard either, unless it may have ended.
-    pub(crate) fn hear(&mut self, piece: &mut [u8]) {
+    pub(crate) fn hear(&mut self, piece: &mut [u8])
+        ensures { IsHeard self.old self.new }
+    {
         if self.parted.is_some() {
             self.read_away(piece);
             return;
@@ -142,7 +149,9 @@ impl Connection {
         }
     }
 
-    fn read_piece(&mut self, piece: &mut [u8]) -> Line {
+    fn read_piece(&mut self, piece: &mut [u8]) -> Line
+        ensures { IsHeard self.old self.new }
+    {
         match self.stream.read(piece) {
             Ok(0) => Line::Ended,
             Ok(count) => {
@@ -156,7 +165,9 @@ impl Connection {
 
     // Takes down what these bytes ask. After a fault, or where memory is wanting, that is all. Where fewer bytes came than there is
     // room for, no more are here.
-    fn take(&mut self, piece: &[u8], is_short: bool) -> Line {
+    fn take(&mut self, piece: &[u8], is_short: bool) -> Line
+        ensures { IsHeard self.old self.new }
+    {
         let Ok(Fed { requests, fault }) = self.frames.feed(piece) else {
             return Line::Deaf;
         };
@@ -270,7 +281,9 @@ impl Connection {
     }
 
     // Reads away what was said.
-    fn read_away(&mut self, piece: &mut [u8]) {
+    fn read_away(&mut self, piece: &mut [u8])
+        ensures { IsHeard self.old self.new }
+    {
         for _ in 0..PIECES_AWAY {
             if self.pieces_left == 0 {
                 break;

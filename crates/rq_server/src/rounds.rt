@@ -1,6 +1,10 @@
 //! Rounds: a worker waits until some of its connections have said something, carries that out, has the commits among it
 //! forced, and answers.
-ghost use Rattle.std.specs.Prelude.{◌≡◌, ◌⊎◌, ◌≤◌, ℕ, IfSome, Some};
+ghost use Rattle.std.specs.Prelude.{◌≡◌, ◌↔◌, ◌⊎◌, ◌<◌, ◌≤◌, ℕ, [], IfSome, Some, false, length, slice_get, true};
+ghost use Rattle.slab.specs.Slab.{get};
+ghost use Rattle.rq_server.specs.Heard.{AreHeard};
+ghost use Rattle.rq_server.specs.Reached.{EndsForced};
+ghost use Rattle.rq_server.specs.Waiting.{AreUpTo, IsLast, awaited, awaited_at, tokens};
 
 use crate::calls::Calls;
 use crate::connection::Connection;
@@ -216,7 +220,10 @@ impl Connections {
         }
     }
 
-    fn round<S: Steps, R: Wait + Clock>(&mut self, rt: &R, poll: &Poll, calls: &mut Calls<'_, S>) {
+    // Nothing is done where nobody was reported and no call is held.
+    fn round<S: Steps, R: Wait + Clock>(&mut self, rt: &R, poll: &Poll, calls: &mut Calls<'_, S>)
+        ensures idle { self.old.active.items ≡ [] → self.old.is_held ≡ false → (self.new ≡ self.old) × (calls.new ≡ calls.old) }
+    {
         if self.active.is_empty() && !self.is_held {
             return;
         }
@@ -231,7 +238,9 @@ impl Connections {
     }
 
     // How many connections a round goes over.
-    fn count(&self) -> usize {
+    fn count(&self) -> usize
+        ensures { result ≡ length (tokens self.now) }
+    {
         if self.is_held {
             self.connections.capacity()
         } else {
@@ -240,16 +249,22 @@ impl Connections {
     }
 
     // The token of one of them.
-    fn token_at(&self, at: usize) -> usize {
+    fn token_at(&self, at: usize) -> usize
+        ensures { at < length (tokens self.now) → slice_get (tokens self.now) at ≡ Some result }
+    {
         if self.is_held {
-            at
-        } else {
-            self.active.get(at).copied().unwrap_or(DOOR)
+            return at;
+        }
+        match self.active.get(at) {
+            Some(token) => *token,
+            None => DOOR,
         }
     }
 
-    // Reads those that were reported.
-    fn hear(&mut self) {
+    // Reads those that were reported. No session goes on by that, and no commit comes to wait.
+    fn hear(&mut self)
+        ensures { (token : ℕ) → AreHeard (get self.old.connections token) (get self.new.connections token) }
+    {
         for at in 0..self.active.len() {
             let token = self.active.get(at).copied().unwrap_or(DOOR);
             if let Some(connection) = self.connections.get_mut(token) {
@@ -272,50 +287,55 @@ impl Connections {
 
     // Carries out what was asked, up to commits that wait, and has these forced. Whether none waits any more: one does where there was no
     // memory for the force.
-    fn take_turn<S: Steps, R: Wait>(&mut self, rt: &R, calls: &mut Calls<'_, S>) -> bool {
+    fn take_turn<S: Steps, R: Wait>(&mut self, rt: &R, calls: &mut Calls<'_, S>) -> bool
+        ensures { (result ≡ true) ↔ (awaited self.new ≡ []) }
+    {
         let is_left = self.carry_out_in_turn(rt, calls);
         if let Some(lsn) = self.last_awaited() {
             if is_left {
                 calls.await_force(rt, lsn);
             }
-            self.ask_receipts(rt, calls);
+            self.ask_receipts(rt, &mut calls.steps);
         }
         self.last_awaited().is_none()
     }
 
     // Carries out what was asked, and forces once for the commits of all that left it to this turn. True where it leaves that too, or
     // nothing is to be forced. A call that is held is made again behind a force, which frees memory.
-    fn carry_out_in_turn<S: Steps, R: Wait>(&mut self, rt: &R, calls: &mut Calls<'_, S>) -> bool {
+    fn carry_out_in_turn<S: Steps, R: Wait>(&mut self, rt: &R, calls: &mut Calls<'_, S>) -> bool
+        ensures forced { result ≡ false → AreUpTo calls.new.reader.seat.saw (awaited self.new) ⊎ EndsForced S.made S.forced S.told calls.new.steps }
+        ensures left { result ≡ true → AreUpTo calls.new.reader.seat.saw (awaited self.new) ⊎ (0 < calls.old.turns.now.most_left) }
+        ensures grown { calls.old.reader.seat.saw ≤ calls.new.reader.seat.saw }
+    {
         let turns = calls.turns;
-        turns.come();
-        let mut owed = turns.turn.lock(rt);
-        turns.begin();
-        self.carry_out(rt, calls);
+        let mut owed = turns.take(rt);
+        self.carry_out(rt, &mut calls.steps);
         if self.is_any_held() {
             calls.force(rt);
-            self.go_on(rt, calls);
+            self.go_on(rt, &mut calls.steps);
         }
-        let is_due = turns.is_due(&mut owed, calls.forced(), self.last_awaited());
+        let forced = calls.forced();
+        let is_due = turns.is_due(&mut owed, forced, self.last_awaited(), turns.is_awaited());
         if is_due {
             calls.force_up_to(rt, owed.lsn());
         }
         !is_due
     }
 
-    fn carry_out<S: Steps, R: Wait>(&mut self, rt: &R, calls: &mut Calls<'_, S>) {
+    fn carry_out<S: Steps, R: Wait>(&mut self, rt: &R, steps: &mut S) {
         for at in 0..self.count() {
             let token = self.token_at(at);
             if let Some(connection) = self.connections.get_mut(token) {
-                connection.carry_out(rt, &mut calls.steps);
+                connection.carry_out(rt, steps);
             }
         }
     }
 
-    fn go_on<S: Steps, R: Wait>(&mut self, rt: &R, calls: &mut Calls<'_, S>) {
+    fn go_on<S: Steps, R: Wait>(&mut self, rt: &R, steps: &mut S) {
         for at in 0..self.count() {
             let token = self.token_at(at);
             if let Some(connection) = self.connections.get_mut(token) {
-                connection.go_on(rt, &mut calls.steps);
+                connection.go_on(rt, steps);
             }
         }
     }
@@ -332,21 +352,31 @@ impl Connections {
     }
 
     // The last of the commits that wait.
-    fn last_awaited(&self) -> Option<Lsn> {
+    fn last_awaited(&self) -> Option<Lsn>
+        ensures { IsLast (awaited self.now) result }
+    {
         let mut last = None;
         for at in 0..self.count() {
-            if let Some(connection) = self.connections.get(self.token_at(at)) {
-                last = later(last, connection.awaited());
-            }
+            last = later(last, self.awaited_at(self.token_at(at)));
         }
         last
     }
 
-    fn ask_receipts<S: Steps, R: Wait>(&mut self, rt: &R, calls: &mut Calls<'_, S>) {
+    // The commit that waits there.
+    fn awaited_at(&self, token: usize) -> Option<Lsn>
+        ensures { result ≡ awaited_at self.now.connections token }
+    {
+        match self.connections.get(token) {
+            Some(connection) => connection.awaited(),
+            None => None,
+        }
+    }
+
+    fn ask_receipts<S: Steps, R: Wait>(&mut self, rt: &R, steps: &mut S) {
         for at in 0..self.count() {
             let token = self.token_at(at);
             if let Some(connection) = self.connections.get_mut(token) {
-                connection.ask_receipt(rt, &mut calls.steps);
+                connection.ask_receipt(rt, steps);
             }
         }
     }

@@ -1,10 +1,9 @@
 //! The turns that workers take at the store, and the force that several of them share.
-ghost use Rattle.std.specs.Prelude.{◌≡◌, ◌<◌, ◌≤◌, ◌+◌, ◌-◌, IsTrue, MatchOption, max, true};
-ghost use Rattle.std.specs.Bool.{OnFalse};
+ghost use Rattle.std.specs.Prelude.{◌≡◌, ◌↔◌, ◌<◌, ◌≤◌, ◌+◌, ◌-◌, ◌&&◌, MatchOption, cond, max, nat_lt, not, true};
 
 use rq_model::txn::Lsn;
 use std::sync::atomic::{AtomicU64, Ordering};
-use std::sync::{Mutex, Wait};
+use std::sync::{Mutex, MutexGuard, Wait};
 
 /// Workers take turns: one that has its turn meets no operation of another under way, but one that is held or was refused midway.
 /// Where others wait for theirs, it leaves the force of its commits to them.
@@ -41,31 +40,43 @@ impl Turns {
         }
     }
 
-    /// A worker waits for its turn.
-    pub(crate) fn come(&self) {
+    /// Waits for the turn. Others see meanwhile that somebody waits, and leave what they owe to that one.
+    pub(crate) fn take<'t, R: Wait>(&'t self, rt: &R) -> MutexGuard<'t, Owed> {
         self.waiting.fetch_add(1, Ordering::SeqCst);
-    }
-
-    /// It has its turn.
-    pub(crate) fn begin(&self) {
+        let owed = self.turn.lock(rt);
         self.waiting.fetch_sub(1, Ordering::SeqCst);
+        owed
     }
 
-    // Whether others wait for their turn.
-    fn is_awaited(&self) -> bool {
+    /// Whether others wait for their turn.
+    pub(crate) fn is_awaited(&self) -> bool {
         self.waiting.load(Ordering::SeqCst) != 0
     }
 
-    /// Whether a turn is to force at its end: where commits wait for that, and it is not left to others. The log is forced up to
-    /// `forced`, and the turn's own commits wait up to `awaited`.
-    pub(crate) fn is_due(&self, owed: &mut Owed, forced: Lsn, awaited: Option<Lsn>) -> bool
+    /// Whether a turn is to force at its end. It is where what is owed is not forced yet, and not left to others. It is left to others
+    /// where they wait for their turn, less than so many times in a row. The log is forced up to `forced`, and the turn's own commits
+    /// wait up to `awaited`.
+    pub(crate) fn is_due(
+        &self,
+        owed: &mut Owed,
+        forced: Lsn,
+        awaited: Option<Lsn>,
+        others_wait: bool,
+    ) -> bool
         ensures owed { MatchOption awaited (owed.new.lsn ≡ owed.old.lsn) (λ lsn. owed.new.lsn ≡ max owed.old.lsn lsn) }
-        ensures due { IsTrue result → (forced < owed.new.lsn) × (owed.new.left ≡ 0) }
-        ensures left { OnFalse result (forced < owed.new.lsn → (owed.old.left < self.now.most_left)
-            × (owed.new.left ≡ owed.old.left + 1)) }
-        ensures idle { owed.new.lsn ≤ forced → owed.new.left ≡ 0 }
+        ensures due { (result ≡ true) ↔ (forced < owed.new.lsn) × (others_wait ≡ true → self.now.most_left ≤ owed.old.left) }
+        ensures left { owed.new.left ≡ cond (nat_lt forced owed.new.lsn && not result) (owed.old.left + 1) 0 }
     {
-        owed.is_due(forced, awaited, self.is_awaited(), self.most_left)
+        if let Some(lsn) = awaited {
+            owed.lsn = owed.lsn.max(lsn);
+        }
+        let is_owed = owed.lsn > forced;
+        if is_owed && others_wait && owed.left < self.most_left {
+            owed.left += 1;
+            return false;
+        }
+        owed.left = 0;
+        is_owed
     }
 }
 
@@ -75,33 +86,5 @@ impl Owed {
         ensures { result ≡ self.now.lsn }
     {
         self.lsn
-    }
-
-    // Whether a turn is to force at its end. It is where what is owed is not forced yet, and not left to others. It is
-    // left to others where they wait for their turn, less than so many times in a row.
-    fn is_due(
-        &mut self,
-        forced: Lsn,
-        awaited: Option<Lsn>,
-        others_wait: bool,
-        most_left: u32,
-    ) -> bool
-        ensures owed { MatchOption awaited (self.new.lsn ≡ self.old.lsn) (λ lsn. self.new.lsn ≡ max self.old.lsn lsn) }
-        ensures due { IsTrue result → (forced < self.new.lsn) × (self.new.left ≡ 0)
-            × (others_wait ≡ true → most_left ≤ self.old.left) }
-        ensures idle { self.new.lsn ≤ forced → self.new.left ≡ 0 }
-        ensures left { OnFalse result (forced < self.new.lsn → (others_wait ≡ true) × (self.old.left < most_left)
-            × (self.new.left ≡ self.old.left + 1)) }
-    {
-        if let Some(lsn) = awaited {
-            self.lsn = self.lsn.max(lsn);
-        }
-        let is_owed = self.lsn > forced;
-        if is_owed && others_wait && self.left < most_left {
-            self.left += 1;
-            return false;
-        }
-        self.left = 0;
-        is_owed
     }
 }

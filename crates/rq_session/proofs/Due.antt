@@ -81,6 +81,7 @@ answer_due s what answers.Sent is = rw (is.0.1, is.1) refl
 answer_due s what (answers.Message message) is = rw (is.0.1, is.1) refl
 answer_due s what answers.NoMessage is = rw (is.0.1, is.1) refl
 answer_due s what answers.Closed is = rw (is.0.1, is.1) refl
+answer_due s what answers.Marked is = rw (is.0.1, is.1) refl
 answer_due s what (answers.Committed lsn) is = receipt_due s what lsn is
 answer_due s what answers.Aborted is = rw (is.0.1, is.1) refl
 answer_due s what (answers.LastTag sent tag) is = rw (is.0.1, is.1) refl
@@ -105,6 +106,7 @@ cleared_due : (lost : Bool) (sub : Sub) (what : Reply) → IsDone what
 cleared_due lost sub (replies.Finished outcomes.Sent) is = refl
 cleared_due lost sub (replies.Finished (outcomes.Message message)) is = refl
 cleared_due lost sub (replies.Finished outcomes.Closed) is = refl
+cleared_due lost sub (replies.Finished outcomes.Marked) is = refl
 cleared_due lost sub _ is = absurd is
 
 ask_due : (lost : Bool) (s : Stage) (what : Reply) (ask : Event) → AsksFor s what ask
@@ -167,11 +169,13 @@ unfit_finish : (lost : Bool) (sub : Sub) (purpose : Purpose) (what : Reply)
 unfit_finish lost sub purposes.Request (replies.Finished outcomes.Sent) e = absurd (true≢false e)
 unfit_finish lost sub purposes.Request (replies.Finished (outcomes.Message message)) e = absurd (true≢false e)
 unfit_finish lost sub purposes.Request (replies.Finished outcomes.Closed) e = absurd (true≢false e)
+unfit_finish lost sub purposes.Request (replies.Finished outcomes.Marked) e = absurd (true≢false e)
 unfit_finish lost sub purposes.Request (replies.Refused refusal) e = absurd (true≢false e)
 unfit_finish lost sub purposes.Request _ e = refl
 unfit_finish lost sub purposes.Clearing (replies.Finished outcomes.Sent) e = absurd (true≢false e)
 unfit_finish lost sub purposes.Clearing (replies.Finished (outcomes.Message message)) e = absurd (true≢false e)
 unfit_finish lost sub purposes.Clearing (replies.Finished outcomes.Closed) e = absurd (true≢false e)
+unfit_finish lost sub purposes.Clearing (replies.Finished outcomes.Marked) e = absurd (true≢false e)
 unfit_finish lost sub purposes.Clearing (replies.Refused refusal) e = absurd (true≢false e)
 unfit_finish lost sub purposes.Clearing _ e = refl
 unfit_finish lost sub purposes.Undoing (replies.Finished outcomes.Undone) e = absurd (true≢false e)

@@ -184,6 +184,7 @@ finishes : (lost : Bool) (sub : Sub) (purpose : Purpose) (what : Reply)
 finishes lost sub purpose (replies.Finished outcomes.Sent) = dones sub purpose (replies.Finished outcomes.Sent) answers.Sent tt
 finishes lost sub purpose (replies.Finished (outcomes.Message message)) = dones sub purpose (replies.Finished (outcomes.Message message)) (answers.Message message) tt
 finishes lost sub purpose (replies.Finished outcomes.Closed) = dones sub purpose (replies.Finished outcomes.Closed) answers.Closed tt
+finishes lost sub purpose (replies.Finished outcomes.Marked) = dones sub purpose (replies.Finished outcomes.Marked) answers.Marked tt
 finishes lost sub purpose (replies.Finished outcomes.Undone) = undones sub purpose
 finishes lost sub purpose (replies.Refused refusal) =
     work_stops lost (stages.Finish sub purpose) sub purpose refusal (next (Again (events.Finish sub)) (stages.Finish

@@ -214,12 +214,17 @@ finishes lost sub purposes.Request (replies.Finished (outcomes.Message message))
 finishes lost sub purposes.Request (replies.Finished outcomes.Closed) = gives lost
     (stages.Finish sub purposes.Request) (replies.Finished outcomes.Closed) answers.Closed
     (Open sub.txn) refl ((sub, refl), refl)
+finishes lost sub purposes.Request (replies.Finished outcomes.Marked) = gives lost
+    (stages.Finish sub purposes.Request) (replies.Finished outcomes.Marked) answers.Marked
+    (Open sub.txn) refl ((sub, refl), refl)
 finishes lost sub purposes.Clearing (replies.Finished outcomes.Sent) = calls lost (clearing sub) (replies.Finished outcomes.Sent) (events.StartAbort sub.txn)
     (stages.StartAbort sub.txn) refl refl refl (record { sub = sub; stage = refl; reply = tt; same = refl })
 finishes lost sub purposes.Clearing (replies.Finished (outcomes.Message message)) = calls lost (clearing sub) (replies.Finished (outcomes.Message message))
     (events.StartAbort sub.txn) (stages.StartAbort sub.txn) refl refl refl
     (record { sub = sub; stage = refl; reply = tt; same = refl })
 finishes lost sub purposes.Clearing (replies.Finished outcomes.Closed) = calls lost (clearing sub) (replies.Finished outcomes.Closed) (events.StartAbort sub.txn)
+    (stages.StartAbort sub.txn) refl refl refl (record { sub = sub; stage = refl; reply = tt; same = refl })
+finishes lost sub purposes.Clearing (replies.Finished outcomes.Marked) = calls lost (clearing sub) (replies.Finished outcomes.Marked) (events.StartAbort sub.txn)
     (stages.StartAbort sub.txn) refl refl refl (record { sub = sub; stage = refl; reply = tt; same = refl })
 finishes lost sub purposes.Undoing (replies.Finished outcomes.Undone) = calls lost (stages.Finish sub purposes.Undoing) (replies.Finished outcomes.Undone)
     (events.UndoNext sub.txn) (stages.UndoNext sub.txn) refl refl refl

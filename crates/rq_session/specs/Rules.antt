@@ -109,6 +109,7 @@ abbrev pub after_finish : Bool → Sub → Purpose → Reply → Next
 after_finish lost sub purpose (replies.Finished outcomes.Sent) = done sub purpose answers.Sent
 after_finish lost sub purpose (replies.Finished (outcomes.Message message)) = done sub purpose (answers.Message message)
 after_finish lost sub purpose (replies.Finished outcomes.Closed) = done sub purpose answers.Closed
+after_finish lost sub purpose (replies.Finished outcomes.Marked) = done sub purpose answers.Marked
 after_finish lost sub purpose (replies.Finished outcomes.Undone) = undone sub purpose
 after_finish lost sub purpose (replies.Refused refusal) = work_refused lost sub purpose refusal (next (Again
     (events.Finish sub)) (stages.Finish sub purpose))

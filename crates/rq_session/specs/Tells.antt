@@ -45,6 +45,7 @@ Tells s what answers.Sent = IsFinish s × (what ≡ replies.Finished outcomes.Se
 Tells s what (answers.Message message) = IsFinish s × (what ≡ replies.Finished (outcomes.Message message))
 Tells s what answers.NoMessage = ((h : OwnTxn) × (s ≡ stages.Start h)) × (what ≡ replies.NoMessage)
 Tells s what answers.Closed = IsFinish s × (what ≡ replies.Finished outcomes.Closed)
+Tells s what answers.Marked = IsFinish s × (what ≡ replies.Finished outcomes.Marked)
 Tells s what (answers.Committed lsn) = IsReceipt s what lsn
 Tells s what answers.Aborted = ((txn : Txn) × (s ≡ stages.EndAbort txn)) × (what ≡ replies.Aborted)
 Tells s what (answers.LastTag sent tag) = ((h : OwnTxn) × (s ≡ stages.LastTag h)) × (what ≡ replies.LastTag (record { sent = sent; tag = tag }))
@@ -93,6 +94,7 @@ abbrev pub IsDone : Reply → Type 0
 IsDone (replies.Finished outcomes.Sent) = Unit {0}
 IsDone (replies.Finished (outcomes.Message message)) = Unit {0}
 IsDone (replies.Finished outcomes.Closed) = Unit {0}
+IsDone (replies.Finished outcomes.Marked) = Unit {0}
 IsDone _ = ⊥
 
 -- an operation that was left under way is finished, or the abort of a lost connection's request
@@ -201,6 +203,7 @@ held_after s (replies.Started sub) = started_in s sub
 held_after s (replies.Finished outcomes.Sent) = opened (own s)
 held_after s (replies.Finished (outcomes.Message message)) = opened (own s)
 held_after s (replies.Finished outcomes.Closed) = opened (own s)
+held_after s (replies.Finished outcomes.Marked) = opened (own s)
 held_after s (replies.Finished outcomes.Undone) = aborting (own s)
 held_after s replies.Aborting = aborting (own s)
 held_after s (replies.Committed commit) = held.Free

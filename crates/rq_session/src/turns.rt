@@ -143,6 +143,7 @@ fn finished(lost: bool, sub: Sub, purpose: Purpose, reply: &Reply) -> Next
             Answer::Message(*message),
         ),
         Reply::Finished(Outcome::Closed) => request_done(sub, purpose, Answer::Closed),
+        Reply::Finished(Outcome::Marked) => request_done(sub, purpose, Answer::Marked),
         Reply::Finished(Outcome::Undone) => undo_done(sub, purpose),
         Reply::Refused(refusal) => {
             let once_more = again(Event::Finish(sub), Stage::Finish(sub, purpose));

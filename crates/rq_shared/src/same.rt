@@ -144,6 +144,7 @@ fn same_outcome(outcome: &Outcome, other: &Outcome) -> bool
         (Outcome::Sent, Outcome::Sent) => true,
         (Outcome::Message(message), Outcome::Message(other)) => same_message(message, other),
         (Outcome::Closed, Outcome::Closed) => true,
+        (Outcome::Marked, Outcome::Marked) => true,
         (Outcome::Undone, Outcome::Undone) => true,
         _ => false,
     }

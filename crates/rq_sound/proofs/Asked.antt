@@ -8,7 +8,7 @@ use Rattle.std.proofs.Math.Bool.{or_comm}
 use Rattle.rq_model.specs.Tests as legal
 use Rattle.rq_model.specs.declared.txn.Txn.{Txn}
 use Rattle.rq_model.specs.declared.record.Deed.{Deed}
-use Rattle.rq_model.specs.declared.record.Deed.TheVariants.{Append, UnlinkHead, Close}
+use Rattle.rq_model.specs.declared.record.Deed.TheVariants.{Append, UnlinkHead, Close, Mark}
 use Rattle.rq_model.specs.declared.record.Record.{Record}
 use Rattle.rq_model.specs.Vocabulary.{In, same_txn}
 use Rattle.rq_model.specs.Ledger.{rest_in, ended_in, any_ends}
@@ -46,6 +46,7 @@ one_none : (g : ℕ) (d : Deed) → on_receiving_end g d ≡ false → removed_o
 one_none g (Append q n tag previous body) e = refl
 one_none g (UnlinkHead q n tag body) e = rw e refl
 one_none g (Close q) e = refl
+one_none g (Mark c tag previous) e = refl
 
 pub none_removed : (g : ℕ) (ps : List Placed) → side (on_receiving_end g) ps ≡ [] → removed g (say ps) ≡ 0
 none_removed g [] e = refl
@@ -91,6 +92,7 @@ aim_sends : (a : Aim) → cond (is_sending (Some (job_of_aim a))) 1 0 ≡ append
 aim_sends (Doing (Append q n tag previous body)) = refl
 aim_sends (Doing (UnlinkHead q n tag body)) = refl
 aim_sends (Doing (Close q)) = refl
+aim_sends (Doing (Mark c tag previous)) = refl
 aim_sends (Undoing lsn d) = refl
 
 under_sends : (o : Option Under) → cond (is_sending (job_under o)) 1 0 ≡ appending o

@@ -4,7 +4,7 @@ use Rattle.std.proofs.lemmas.Bool.{cases_Bool, cases_eq, eq-eqb, eqb-true, false
 use Rattle.std.proofs.lemmas.List.{length-set, reverse-reverse}
 use Rattle.rq_model.specs.declared.refusal.Refusal.{Refusal}
 use Rattle.rq_model.specs.declared.record.Deed.{Deed}
-use Rattle.rq_model.specs.declared.record.Deed.TheVariants.{Append, UnlinkHead, Close as Close_deed}
+use Rattle.rq_model.specs.declared.record.Deed.TheVariants.{Append, UnlinkHead, Close as Close_deed, Mark}
 use Rattle.rq_model.specs.declared.record.Record.{Record}
 use Rattle.rq_model.specs.declared.record.Record.TheVariants.{OpEnd}
 use Rattle.rq_model.specs.Deeds.{deed_by}
@@ -127,12 +127,14 @@ module _ (s : State) (k : LevelState) (h : KeepsCells s k) (given : List Given) 
       subst (λ (x : LevelState). KeepsBeside s x (first_place p.writes.items)) (sym m.kept)
       (chosen_beside s k m.new (first_place p.writes.items) h (returned_first s.sizes p.writes.items g m.can.directory m.new tag body m.can.old m.writes) (lowest_cell s.sizes m.lowest.place m.new m.lowest.below m.lowest.at))
   takes_back (Some (Close_deed g)) p after m = same_kept s k after _ h m.kept
+  takes_back (Some (Mark c tag previous)) p after m = absurd m
 
   leaves : (d : Option Deed) (r : Refusal) (after : LevelState) → Undoes (Some s.sizes) d k given latched (Err r) after → after ≡ k
   leaves None r after m = m.1
   leaves (Some (Append g n tag previous body)) r after m = m.1
   leaves (Some (UnlinkHead g n tag body)) r after m = m.1
   leaves (Some (Close_deed g)) r after m = m.1
+  leaves (Some (Mark c tag previous)) r after m = m.1
 
 plans_for : (s : State) (k : LevelState) (h : KeepsCells s k) (undo : Bool) (d : Option Doing) (given : List Given) (latched : List ℕ) (p : Plan) (after : LevelState)
     → PlansFor undo k.sizes d k given latched (Ok p) after → KeepsBeside s after (first_place p.writes.items)

@@ -3,7 +3,7 @@ use Rattle.std.proofs.Common.{◌≡◌, ◌||◌, ℕ, List, [], ◌∷◌, map
 use Rattle.std.proofs.lemmas.Bool.{cases_Bool, true≢false, or_from, or_left, or_right, false≢true}
 use Rattle.rq_model.specs.declared.txn.Txn.{Txn}
 use Rattle.rq_model.specs.declared.record.Deed.{Deed}
-use Rattle.rq_model.specs.declared.record.Deed.TheVariants.{Append, UnlinkHead, Close}
+use Rattle.rq_model.specs.declared.record.Deed.TheVariants.{Append, UnlinkHead, Close, Mark}
 use Rattle.rq_model.specs.Commits.{committed_of, ops_told}
 use Rattle.rq_model.specs.Content.{closed, closed_one, said}
 use Rattle.rq_model.specs.Ledger.{any_ends, ended_in}
@@ -30,6 +30,7 @@ one_open : (g : ℕ) (d : Deed) → on_sending_end g d ≡ false → closed_one 
 one_open g (Append r n tag previous body) e = refl
 one_open g (UnlinkHead r n tag body) e = refl
 one_open g (Close r) e = e
+one_open g (Mark c tag previous) e = refl
 
 -- who did nothing at a sending end closed nothing
 none_closed : (g : ℕ) (ps : List Placed) → side (on_sending_end g) ps ≡ [] → closed g (say ps) ≡ false
@@ -56,14 +57,19 @@ closed_stays [] v e = e
 closed_stays (Append r n tag previous body ∷ ds) v e = closed_stays ds v e
 closed_stays (UnlinkHead r n tag body ∷ ds) v e = closed_stays ds v e
 closed_stays (Close r ∷ ds) v e = absurd (true≢false e)
+closed_stays (Mark c tag previous ∷ ds) v e = closed_stays ds v e
+
+sent_step : (g : ℕ) (d : Deed) (ds : List Deed) (c : View) → Sound (cond (on_sending_end g d) (d ∷ ds) ds) c → Sound ds c
+sent_step g d ds c h = elim (cases_Bool (on_sending_end g d)) [ inl y ↦ (rw y at h).1 | inr m ↦ rw m at h ]
 
 step : (g : ℕ) (d : Deed) (ds : List Deed) (b : Bool) (c : View) → Sound (cond (on_sending_end g d) (d ∷ ds) ds) c → (Sound ds c → b ≡ true → c.closed ≡ false) → (closed_one g (said d) || b) ≡ true → c.closed ≡ false
-step g (Append r n tag previous body) ds b c h rest e = elim (cases_Bool (on_sending_end g (Append r n tag previous body))) [ inl y ↦ rest (rw y at h).1 e | inr m ↦ rest (rw m at h) e ]
+step g (Append r n tag previous body) ds b c h rest e = rest (sent_step g (Append r n tag previous body) ds c h) e
 step g (UnlinkHead r n tag body) ds b c h rest e = rest h e
 step g (Close r) ds b c h rest e = elim (cases_Bool (on_sending_end g (Close r))) [
   | inl y ↦ closed_stays ds c (rw y at h).0
   | inr m ↦ rest (rw m at h) (rw m at e)
 ]
+step g (Mark k tag previous) ds b c h rest e = rest (sent_step g (Mark k tag previous) ds c h) e
 
 -- who closed a group and has not ended found it open
 was_open : (g : ℕ) (ps : List Placed) (c : View) → Sound (side (on_sending_end g) ps) c → closed g (say ps) ≡ true → c.closed ≡ false

@@ -5,7 +5,7 @@ use Rattle.std.proofs.lemmas.Bool.{cases_Bool, cond-true, true≢false, false≢
 use Rattle.std.proofs.lemmas.List.Sums.{sum_by-cons}
 use Rattle.rq_model.specs.declared.txn.Txn.{Txn}
 use Rattle.rq_model.specs.declared.record.Deed.{Deed}
-use Rattle.rq_model.specs.declared.record.Deed.TheVariants.{Append, UnlinkHead, Close}
+use Rattle.rq_model.specs.declared.record.Deed.TheVariants.{Append, UnlinkHead, Close, Mark}
 use Rattle.rq_model.specs.declared.record.Record.{Record}
 use Rattle.rq_model.specs.declared.record.Record.TheVariants.{Commit as Commit_record}
 use Rattle.rq_model.specs.Vocabulary.{In, Op, same_txn, sent_for, taken_from}
@@ -20,10 +20,10 @@ use Rattle.rq_model.proofs.Counts.{commit_counts, taken_within, rest_more}
 use Rattle.rq_model.proofs.Shown.{group_more}
 use Rattle.rq_model.specs.History.{Group}
 use Rattle.rq_page.specs.Sizes.{Sizes, sender_count}
+use Rattle.rq_views.specs.InStore.{IsDeedOf}
 use Rattle.rq_views.specs.Log.Item.{Commit}
 use Rattle.rq_views.specs.Items.{items, layout_of, operation}
 use Rattle.rq_views.specs.Legal.{MayFollow, open_deeds, under_way}
-use Rattle.rq_views.specs.Plans.{deed_sender}
 use Rattle.rq_views.proofs.Committed.{say}
 use Rattle.rq_views.proofs.Content.{own_deeds}
 use Rattle.rq_views.proofs.Counting.{deeds_in_store}
@@ -67,6 +67,7 @@ sends_many : (d : Deed) → cond (is_sent (op_of (said d))) 1 0 ≡ appends_of d
 sends_many (Append q n tag previous body) = refl
 sends_many (UnlinkHead q n tag body) = refl
 sends_many (Close q) = refl
+sends_many (Mark c tag previous) = refl
 
 -- how many messages finished operations sent
 pub count_sends : (fs : List Finished) → length (filter is_sent (map op_done fs)) ≡ sum_by appends_one fs
@@ -82,13 +83,14 @@ count_sends (f ∷ fs) =
 
 more_waits : (z : Sizes) (log : List Record) (ends : HeldEnds) (q : Row) (ws vs : List ℕ) (o : Option Under) → ((g : ℕ) → g < sender_count z → waits ws g ≤ waits vs g) → IsAsPlanned z log ends q o → IsCovered ws o → IsCovered vs o
 more_waits z log ends q ws vs None more g h = tt
-more_waits z log ends q ws vs (Some v) more g h = at v.aim g.0.sender h where
-  waiting : (e : Deed) → deed_sender e < sender_count z → HasWaiting ws e → HasWaiting vs e
+more_waits z log ends q ws vs (Some v) more g h = at v.aim g.0.of_store h where
+  waiting : (e : Deed) → IsDeedOf z e → HasWaiting ws e → HasWaiting vs e
   waiting (Append g n tag previous body) m h = tt
   waiting (UnlinkHead g n tag body) m h = let a = more g m in omega (arith, a, h)
   waiting (Close g) m h = tt
+  waiting (Mark c tag previous) m h = tt
 
-  at : (a : Aim) → deed_sender (deed_of a) < sender_count z → CoversAim ws a → CoversAim vs a
+  at : (a : Aim) → IsDeedOf z (deed_of a) → CoversAim ws a → CoversAim vs a
   at (Doing e) m h = waiting e m h
   at (Undoing lsn e) m h = tt
 

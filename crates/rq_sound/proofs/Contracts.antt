@@ -2,13 +2,14 @@
 use Rattle.std.proofs.Common.{◌≡◌, ℕ, ◌+◌, ◌-◌, ◌/◌, ◌<◌, ◌≤◌, ◌++◌, List, [], ◌∷◌, reverse, refl, sym, ◌∙◌, ap, subst, true, false, Option, Some, arith}
 use Rattle.std.proofs.lemmas.Option.{slice_get_within}
 use Rattle.rq_model.specs.declared.record.Deed.{Deed}
-use Rattle.rq_model.specs.declared.record.Deed.TheVariants.{Append, UnlinkHead, Close}
+use Rattle.rq_model.specs.declared.record.Deed.TheVariants.{Append, UnlinkHead, Close, Mark}
 use Rattle.rq_model.specs.Ledger.{after}
 use Rattle.rq_model.specs.History.{Entry, Job}
-use Rattle.rq_model.specs.Vocabulary.{In, front, is_some}
+use Rattle.rq_model.specs.Vocabulary.{In, client_group, front, is_some}
 use Rattle.rq_page.specs.Sizes.{IsCellAddress, cell_count, directory_at, sender_count}
 use Rattle.rq_page.specs.Slots.Slot.{Free}
 use Rattle.rq_views.specs.Claims.{takes_of, appends_of}
+use Rattle.rq_views.specs.InStore.{IsDeedOf}
 use Rattle.rq_views.specs.Items.{items, layout_of}
 use Rattle.rq_views.specs.Legal.{view}
 use Rattle.rq_views.specs.Log.{HasBefores, Write}
@@ -29,17 +30,18 @@ use Rattle.rq_store.specs.State.{State, ledger_of}
 use Rattle.rq_store.proofs.RowLists.{found_in}
 use Rattle.rq_txn.specs.declared.Aim.TheVariants as aims
 use Rattle.rq_txn.proofs.Standing.{front_push}
-use Rattle.rq_sound.specs.Rows.{turn_of, comp_end}
+use Rattle.rq_sound.specs.Rows.{turn_of, comp_end, own_slot}
 use Rattle.rq_sound.specs.Standing.{IsAimOf, IsAsPlanned, TellsFor, ReadsFor}
 use Rattle.rq_sound.specs.Counted.{CoversAim, appends_aim}
 use Rattle.rq_sound.specs.Sound.{IsSound}
 use Rattle.rq_sound.specs.Starts.{MayDo, MayUndo, IsEndFree, with_end}
 use Rattle.rq_sound.specs.Calls.{IsReady, IsIdle, undone, started, forced}
 use Rattle.rq_sound.specs.Theorems.{CallsKeepSoundness, InversesCanBePlanned, TestsAreAnswered, OpenedIsSound}
-use Rattle.rq_sound.proofs.Starts.{MayStart, HasEnds, plan_latches, told_by_plan, takes_send, takes_receive, may_undo}
+use Rattle.rq_sound.proofs.Starts.{MayStart, HasEnds, told_by_plan, takes_send, takes_receive, may_undo}
 use Rattle.rq_sound.proofs.EachCall.{begin_sound, start_sound, step_sound, finish_sound, undo_sound, commit_sound, start_abort_sound, end_abort_sound}
+use Rattle.rq_sound.proofs.Own.{ShowsOwn, latches_own}
 use Rattle.rq_sound.proofs.Undoing.{aborts}
-use Rattle.rq_sound.proofs.FreeCells.{of_store, shown_here, room_to_send, undo_planned, put_back_finds, open_is}
+use Rattle.rq_sound.proofs.FreeCells.{stored, shown_here, shown_own, room_to_send, undo_planned, put_back_finds, open_is}
 use Rattle.rq_sound.proofs.UndoPlans.{NeedsCell, closed_before}
 use Rattle.rq_sound.proofs.UsedCells.{some_free}
 use Rattle.rq_sound.proofs.Ledgers.{undid_after}
@@ -58,16 +60,21 @@ module _ (s : State) (k : IsSound s) where
   has_ends r (Append g n tag previous body) e free = takes_send s.ends s.rows r.txn g k.standing.sending k.standing.receiving (here r e) free (Append g n tag previous body) (held_now r.txn g s.ends.sending)
   has_ends r (UnlinkHead g n tag body) e free = takes_receive s.ends s.rows r.txn g k.standing.sending k.standing.receiving (here r e) free (UnlinkHead g n tag body) (held_now r.txn g s.ends.receiving)
   has_ends r (Close g) e free = takes_send s.ends s.rows r.txn g k.standing.sending k.standing.receiving (here r e) free (Close g) (held_now r.txn g s.ends.sending)
+  has_ends r (Mark c tag previous) e free = takes_send s.ends s.rows r.txn (client_group c) k.standing.sending k.standing.receiving (here r e) free (Mark c tag previous) (held_now r.txn (client_group c) s.ends.sending)
 
   -- where nobody has latched the page of a sender's directory slot, the slots show its chain
   pub shows : (g : ℕ) → g < sender_count s.sizes → latched_in s.rows (directory_at g / 16) ≡ false → ShowsAt (layout_of s.sizes) (left_by s.sizes s.records).slots g (view (items s.sizes s.records) g)
   shows = shown_here s.sizes s.records s.ends s.rows s.incarnation s.begins s.cells_in_use s.waiting k.standing k.counted k.log
 
+  -- and, where nobody has latched the page of a deed's own slot, its group
+  pub shows_own : (d : Deed) → IsDeedOf s.sizes d → latched_in s.rows (own_slot s.sizes d / 16) ≡ false → ShowsOwn (layout_of s.sizes) (left_by s.sizes s.records).slots d (view (items s.sizes s.records) (deed_sender d))
+  shows_own = shown_own s.sizes s.records s.ends s.rows s.incarnation s.begins s.cells_in_use s.waiting k.standing k.counted k.range k.log
+
   may_start : (r : Row) (u : Under) (d : Deed) → MayDo s r u d → MayStart s.sizes s.records s.rows s.waiting s.cells_in_use r u
   may_start r u d m =
       let p = m.planned in
-      let off = p.free (directory_at (deed_sender d) / 16) (plan_latches s.sizes (Did d) u p.plan) in
-      let told = told_by_plan (layout_of s.sizes) (left_by s.sizes s.records).slots d (reverse (writes_of s.sizes u.writes)) (view (items s.sizes s.records) (deed_sender d)) p.plan p.fits (shows (deed_sender d) m.sender off) m.not_closed in
+      let off = p.free (own_slot s.sizes d / 16) (latches_own s.sizes (Did d) u.writes p.plan) in
+      let told = told_by_plan (layout_of s.sizes) (left_by s.sizes s.records).slots d (reverse (writes_of s.sizes u.writes)) (view (items s.sizes s.records) (deed_sender d)) p.plan p.fits (shows_own d m.of_store off) m.not_closed in
       record {
         at_row = p.at_row;
         idle = p.idle;
@@ -78,7 +85,7 @@ module _ (s : State) (k : IsSound s) where
         plan = subst (λ a. IsPlan (layout_of s.sizes) (turn_of a) (reverse (writes_of s.sizes u.writes))) (sym m.aim) p.plan;
         fits = p.fits;
         told = subst (λ a. TellsFor a (view (items s.sizes s.records) (deed_sender (deed_of a)))) (sym m.aim) told;
-        sender = subst (λ a. deed_sender (deed_of a) < sender_count s.sizes) (sym m.aim) m.sender;
+        of_store = subst (λ a. IsDeedOf s.sizes (deed_of a)) (sym m.aim) m.of_store;
         reads = subst ReadsFor (sym m.aim) m.reads;
         covers = subst (CoversAim s.waiting) (sym m.aim) m.waits;
         room = subst (λ a. s.cells_in_use + appends_aim a ≤ cell_count s.sizes) (sym m.aim) m.room;
@@ -156,19 +163,20 @@ module _ (s : State) (k : IsSound s) where
     abbrev Planned : Type 0
     Planned = (ws : List Write) × IsPlan (layout_of s.sizes) (Undid f.deed) ws × HasBefores ws (left_by s.sizes s.records).slots
 
-    with_cell : (new : ℕ) → NeedsCell f.deed (left_by s.sizes s.records).slots new → latched_in s.rows (directory_at (deed_sender f.deed) / 16) ≡ false → Planned
-    with_cell = undo_planned s.sizes s.records s.ends s.rows s.incarnation s.begins s.cells_in_use s.waiting k.standing k.counted k.log r at m.idle fs f last
+    with_cell : (new : ℕ) → NeedsCell f.deed (left_by s.sizes s.records).slots new → latched_in s.rows (own_slot s.sizes f.deed / 16) ≡ false → Planned
+    with_cell = undo_planned s.sizes s.records s.ends s.rows s.incarnation s.begins s.cells_in_use s.waiting k.standing k.counted k.log r at m.idle fs f last k.range
 
     above : (a : ℕ) → IsCellAddress s.sizes a → 0 < a
     above a c = let h = c.above in omega (arith, h)
 
     -- with a cell where it needs one
-    plans : (d : Deed) → f.deed ≡ d → latched_in s.rows (directory_at (deed_sender f.deed) / 16) ≡ false → Planned
+    plans : (d : Deed) → f.deed ≡ d → latched_in s.rows (own_slot s.sizes f.deed / 16) ≡ false → Planned
     plans (Append g n tag previous body) e off = with_cell 0 (subst (λ d. NeedsCell d (left_by s.sizes s.records).slots 0) (sym e) tt) off
     plans (UnlinkHead g n tag body) e off =
         let c = finds (ap takes_of e) in
         with_cell c.0 (subst (λ d. NeedsCell d (left_by s.sizes s.records).slots c.0) (sym e) (above c.0 c.1, c.2)) off
     plans (Close g) e off = with_cell 0 (subst (λ d. NeedsCell d (left_by s.sizes s.records).slots 0) (sym e) tt) off
+    plans (Mark c tag previous) e off = with_cell 0 (subst (λ d. NeedsCell d (left_by s.sizes s.records).slots 0) (sym e) tt) off
 
     closed : (g : ℕ) → f.deed ≡ Close g → (view (items s.sizes s.records) g).closed ≡ true
     closed g e =
@@ -180,9 +188,9 @@ module _ (s : State) (k : IsSound s) where
   undo_start_entry r u fs f m =
       let p = m.planned in
       let at = (found_in r.txn s.rows r p.at_row).0 in
-      let store = of_store s.sizes s.records s.ends s.rows s.incarnation s.begins s.cells_in_use s.waiting k.standing k.counted k.log r at p.idle fs f m.newest in
-      let off = p.free (directory_at (deed_sender f.deed) / 16) (plan_latches s.sizes (Undid f.deed) u p.plan) in
-      undo_started_after s k r u fs f p.at_row m.newest m.aim p.number p.made p.plan p.fits (shows (deed_sender f.deed) store off)
+      let store = stored s.sizes s.records s.ends s.rows s.incarnation s.begins s.cells_in_use s.waiting k.standing k.counted k.log r at p.idle fs f m.newest in
+      let off = p.free (own_slot s.sizes f.deed / 16) (latches_own s.sizes (Undid f.deed) u.writes p.plan) in
+      undo_started_after s k r u fs f p.at_row m.newest m.aim p.number p.made p.plan p.fits (shows_own f.deed store off)
 
 -- each call
 pub calls_keep : CallsKeepSoundness

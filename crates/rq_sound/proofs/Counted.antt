@@ -8,7 +8,7 @@ use Rattle.std.proofs.lemmas.List.Sums.{sum_by_push}
 use Rattle.rq_model.specs.declared.txn.Txn.{Txn}
 use Rattle.rq_model.specs.declared.txn.Sub.{Sub}
 use Rattle.rq_model.specs.declared.record.Deed.{Deed}
-use Rattle.rq_model.specs.declared.record.Deed.TheVariants.{Append, UnlinkHead, Close}
+use Rattle.rq_model.specs.declared.record.Deed.TheVariants.{Append, UnlinkHead, Close, Mark}
 use Rattle.rq_model.specs.declared.record.Record.{Record}
 use Rattle.rq_model.specs.declared.record.Record.TheVariants.{AbortEnd}
 use Rattle.rq_model.specs.Vocabulary.{In, Op, taken_from}
@@ -62,6 +62,7 @@ took_more g fs f =
     one g (Append q n tag previous body) = refl
     one g (UnlinkHead q n tag body) = elim (cases_Bool (nat_eq q g)) [ inl y ↦ rw y refl | inr n ↦ rw n refl ]
     one g (Close q) = refl
+    one g (Mark c tag previous) = refl
 
 -- what a deed is to take waits
 enough : (g : ℕ) (ws : List ℕ) (d : Deed) → HasWaiting ws d → took g d ≤ waits ws g
@@ -71,11 +72,13 @@ enough g ws (UnlinkHead q n tag body) h = elim (cases_Bool (nat_eq q g)) [
   | inr n ↦ rw n (omega arith)
 ]
 enough g ws (Close q) h = omega arith
+enough g ws (Mark c tag previous) h = omega arith
 
 took_none : (g : ℕ) (d : Deed) → deed_sender d ≢ g → took g d ≡ 0
 took_none g (Append q n tag previous body) ne = refl
 took_none g (UnlinkHead q n tag body) ne = elim (cases_Bool (nat_eq q g)) [ inl y ↦ absurd (ne (eqb-true q g y)) | inr n ↦ rw n refl ]
 took_none g (Close q) ne = refl
+took_none g (Mark c tag previous) ne = refl
 
 -- of an operation whose writes are all made, the quiet slots take them in
 module _ (z : Sizes) (log : List Record) (ends : HeldEnds) (t : Txn) (u : Under) (whole : IsWhole z log) (made : u.made ≡ length u.writes) (g : FollowsPlan z log ends t u) where
@@ -207,6 +210,7 @@ still_covered ws vs d (Some v) fewer ne h = at v.aim refl h where
   waiting (Append g n tag previous body) n2 h = tt
   waiting (UnlinkHead g n tag body) n2 h = let a = fewer g in let b = took_none g d n2 in omega (arith, a, b, h)
   waiting (Close g) n2 h = tt
+  waiting (Mark c tag previous) n2 h = tt
 
   at : (a : Aim) → v.aim ≡ a → CoversAim ws a → CoversAim vs a
   at (Doing e) is h = waiting e (λ same. ne v refl (same ∙ sym (ap (λ a. deed_sender (deed_of a)) is))) h
@@ -275,6 +279,7 @@ more_covered ws vs (Some v) more h = at v.aim h where
   waiting (Append g n tag previous body) h = tt
   waiting (UnlinkHead g n tag body) h = let a = more g in omega (arith, a, h)
   waiting (Close g) h = tt
+  waiting (Mark c tag previous) h = tt
 
   at : (a : Aim) → CoversAim ws a → CoversAim vs a
   at (Doing e) h = waiting e h

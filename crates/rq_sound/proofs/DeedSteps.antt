@@ -7,7 +7,7 @@ use Rattle.std.proofs.lemmas.List.{length-drop, length-map, length-reverse, map-
 use Rattle.std.proofs.lemmas.Option.{slice_get-map}
 use Rattle.rq_model.specs.declared.txn.Txn.{Txn}
 use Rattle.rq_model.specs.declared.record.Deed.{Deed}
-use Rattle.rq_model.specs.declared.record.Deed.TheVariants.{Append, UnlinkHead, Close}
+use Rattle.rq_model.specs.declared.record.Deed.TheVariants.{Append, UnlinkHead, Close, Mark}
 use Rattle.rq_model.specs.declared.record.Record.TheVariants.{Commit as Commit_record}
 use Rattle.rq_model.specs.Commits.{committed_of, op_of, ops_told, told}
 use Rattle.rq_model.specs.Content.{said, removed, added}
@@ -16,11 +16,12 @@ use Rattle.rq_model.specs.Ledger.{Done, Open, Ledger, after, change, done_more, 
 use Rattle.rq_model.specs.Legal.{CanStart, IsDoneBy, OnFound, start_of}
 use Rattle.rq_model.specs.Replay.{Reply, Says}
 use Rattle.rq_model.specs.Tests.{Passes, holds_for, log_full, steps_left, free_to_receive}
-use Rattle.rq_model.specs.Vocabulary.{Op, In}
+use Rattle.rq_model.specs.Vocabulary.{Op, In, client_group}
 use Rattle.rq_model.proofs.Same.{other_same}
-use Rattle.rq_page.specs.Sizes.{directory_at, sender_count}
+use Rattle.rq_page.specs.Sizes.{Sizes, sender_count}
 use Rattle.rq_views.specs.Committed.{message_of}
 use Rattle.rq_views.specs.Groups.{TellsView, committed as committed_view}
+use Rattle.rq_views.specs.InStore.{IsDeedOf}
 use Rattle.rq_views.specs.Items.{items, layout_of}
 use Rattle.rq_views.specs.Legal.{open_deeds, view}
 use Rattle.rq_views.specs.Plans.{deed_sender}
@@ -45,6 +46,7 @@ use Rattle.rq_store.proofs.Owing.{one_longer}
 use Rattle.rq_txn.specs.Rows.{Under, Row, deed_of, row_finished, row_started}
 use Rattle.rq_store.proofs.RowLists.{found_in, unique}
 use Rattle.rq_txn.specs.declared.Aim.TheVariants as aims
+use Rattle.rq_sound.specs.Rows.{own_slot}
 use Rattle.rq_sound.specs.Standing.{FollowsPlan, IsAsPlanned, TellsFor}
 use Rattle.rq_sound.specs.Counted.{CoversAim, IsCovered, takes_in}
 use Rattle.rq_sound.specs.Sound.{IsSound}
@@ -56,10 +58,10 @@ use Rattle.rq_store.proofs.Opens.{found_open, open_found}
 use Rattle.rq_sound.proofs.Ledgers.{opens_change, opens_without, open_other}
 use Rattle.rq_sound.proofs.AbortSteps.{at_open, is_ready, none_to_make, runs_now, under_here}
 use Rattle.rq_sound.proofs.Alone.{alone_taking, removed_is, takes_below}
-use Rattle.rq_sound.proofs.Contracts.{answered, calls_keep, shows}
+use Rattle.rq_sound.proofs.Contracts.{answered, calls_keep, shows_own}
 use Rattle.rq_sound.proofs.FreeEnds.{free_to_take}
 use Rattle.rq_sound.proofs.Lengths.{deed_length, deed_writes}
-use Rattle.rq_sound.proofs.Starts.{plan_latches}
+use Rattle.rq_sound.proofs.Own.{latches_own}
 use Rattle.rq_sound.proofs.UndoStarts.{chain_is}
 
 -- the others hold what they held
@@ -67,41 +69,45 @@ other_open : (t : Txn) (d : Deed) (ends : HeldEnds) (q : Row) → q.txn ≢ t �
 other_open t (Append g n tag previous body) ends q ne = ap (λ (l : List ℕ). record (open_of ends q) { sending = l }) (held_with_other t q.txn g ends.sending (other_same t q.txn (λ e. ne (sym e))))
 other_open t (UnlinkHead g n tag body) ends q ne = ap (λ (l : List ℕ). record (open_of ends q) { receiving = l }) (held_with_other t q.txn g ends.receiving (other_same t q.txn (λ e. ne (sym e))))
 other_open t (Close g) ends q ne = ap (λ (l : List ℕ). record (open_of ends q) { sending = l }) (held_with_other t q.txn g ends.sending (other_same t q.txn (λ e. ne (sym e))))
+other_open t (Mark c tag previous) ends q ne = ap (λ (l : List ℕ). record (open_of ends q) { sending = l }) (held_with_other t q.txn (client_group c) ends.sending (other_same t q.txn (λ e. ne (sym e))))
 
 -- and who starts holds the end besides
-own_open : (ends : HeldEnds) (r : Row) (u : Under) (d : Deed) (left : ℕ) → u.number ≡ r.number + 1 → u.aim ≡ aims.Doing d → length u.writes - u.made ≡ left
+own_open : (ends : HeldEnds) (r : Row) (u : Under) (d : Deed) (left : ℕ) (z : Sizes) → IsDeedOf z d → u.number ≡ r.number + 1 → u.aim ≡ aims.Doing d → length u.writes - u.made ≡ left
     → open_of (with_end r.txn d ends) (row_started u r) ≡ open_started (r.number + 1) left (job_of d) (open_of ends r)
-own_open ends r u (Append g n tag previous body) left number aim left_is =
+own_open ends r u (Append g n tag previous body) left z of_store number aim left_is =
     let d = Append g n tag previous body in
     let o = open_of (with_end r.txn d ends) (row_started u r) in
     ap (λ (k : ℕ). record o { number = k }) number
     ∙ ap (λ a. record o { number = r.number + 1; under = Some (job_of_aim a) }) aim
     ∙ ap (λ (k : ℕ). record o { number = r.number + 1; under = Some (job_of d); left = k }) left_is
     ∙ ap (λ (l : List ℕ). record (open_of ends r) { number = r.number + 1; under = Some (job_of d); left = left; sending = l }) (held_with_same r.txn g ends.sending)
-own_open ends r u (UnlinkHead g n tag body) left number aim left_is =
+own_open ends r u (UnlinkHead g n tag body) left z of_store number aim left_is =
     let d = UnlinkHead g n tag body in
     let o = open_of (with_end r.txn d ends) (row_started u r) in
     ap (λ (k : ℕ). record o { number = k }) number
     ∙ ap (λ a. record o { number = r.number + 1; under = Some (job_of_aim a) }) aim
     ∙ ap (λ (k : ℕ). record o { number = r.number + 1; under = Some (job_of d); left = k }) left_is
     ∙ ap (λ (l : List ℕ). record (open_of ends r) { number = r.number + 1; under = Some (job_of d); left = left; receiving = l }) (held_with_same r.txn g ends.receiving)
-own_open ends r u (Close g) left number aim left_is =
+own_open ends r u (Close g) left z of_store number aim left_is =
     let d = Close g in
     let o = open_of (with_end r.txn d ends) (row_started u r) in
     ap (λ (k : ℕ). record o { number = k }) number
     ∙ ap (λ a. record o { number = r.number + 1; under = Some (job_of_aim a) }) aim
     ∙ ap (λ (k : ℕ). record o { number = r.number + 1; under = Some (job_of d); left = k }) left_is
     ∙ ap (λ (l : List ℕ). record (open_of ends r) { number = r.number + 1; under = Some (job_of d); left = left; sending = l }) (held_with_same r.txn g ends.sending)
+own_open ends r u (Mark c tag previous) left z of_store number aim left_is = absurd of_store.2
 
 writes_are : (l : Ledger) (t : Txn) (d : Deed) → writes l t (job_of d) ≡ deed_writes d (in_chain l (deed_sender d))
 writes_are l t (Append g n tag previous body) = refl
 writes_are l t (UnlinkHead g n tag body) = refl
 writes_are l t (Close g) = refl
+writes_are l t (Mark c tag previous) = refl
 
 says_start : (t : Txn) (n : ℕ) (d : Deed) → Says (start_of t (job_of d)) (Reply.Gave_sub t n) (Entry.Started t n (job_of d))
 says_start t n (Append g k tag previous body) = (refl, refl)
 says_start t n (UnlinkHead g k tag body) = (refl, refl)
 says_start t n (Close g) = (refl, refl)
+says_start t n (Mark c tag previous) = (refl, refl)
 
 module _ (s : State) (k : IsSound s) where
   abbrev l : Ledger
@@ -114,10 +120,10 @@ module _ (s : State) (k : IsSound s) where
     left_is : length u.writes - u.made ≡ writes l r.txn (job_of d)
     left_is =
         let p = m.planned in
-        let off = p.free (directory_at (deed_sender d) / 16) (plan_latches s.sizes (Did d) u p.plan) in
+        let off = p.free (own_slot s.sizes d / 16) (latches_own s.sizes (Did d) u.writes p.plan) in
         let a = writes_are l r.txn d in
         let b : deed_writes d (in_chain l (deed_sender d)) ≡ deed_writes d (length (view (items s.sizes s.records) (deed_sender d)).messages) = ap (deed_writes d) (chain_is s k (deed_sender d)) in
-        let c = deed_length (layout_of s.sizes) (left_by s.sizes s.records).slots (reverse (writes_of s.sizes u.writes)) d (view (items s.sizes s.records) (deed_sender d)) p.plan p.fits (shows s k (deed_sender d) m.sender off) in
+        let c = deed_length (layout_of s.sizes) (left_by s.sizes s.records).slots (reverse (writes_of s.sizes u.writes)) d (view (items s.sizes s.records) (deed_sender d)) p.plan p.fits (shows_own s k d m.of_store off) in
         let e = length-reverse (writes_of s.sizes u.writes) in
         let f = length-map u.writes (write_of s.sizes) in
         let g = p.made in
@@ -127,16 +133,17 @@ module _ (s : State) (k : IsSound s) where
     can (Append g n tag previous body) e = tt
     can (UnlinkHead g n tag body) e =
         let x = subst (λ y. MayDo s r u y) e m in
-        let a = answered.waiting s g r k x.sender here x.end in
+        let a = answered.waiting s g r k x.of_store here x.end in
         let b : 1 ≤ waits s.waiting g = x.waits in
         lt-ltb (length (own_takes g (open_of s.ends r))) (length (rest_in (committed_of s.records) g)) (omega (arith, a, b))
     can (Close g) e = tt
+    can (Mark c tag previous) e = tt
 
     start_after : ledger_of (started s r u (with_end r.txn d s.ends)) ≡ after (Entry.Started r.txn (r.number + 1) (job_of d)) l
     start_after =
         ap (λ (os : List Open). record l { open_ones = os })
         (opens_change r.txn s.ends (with_end r.txn d s.ends) (row_started u) (open_started (r.number + 1) (writes l r.txn (job_of d)) (job_of d)) s.rows
-        (λ q i e. let same : q ≡ r = unique s.rows q r k.standing.distinct i here e in ap (λ (y : Row). open_of (with_end r.txn d s.ends) (row_started u y)) same ∙ own_open s.ends r u d (writes l r.txn (job_of d)) m.planned.number m.aim left_is ∙ ap (λ (y : Row). open_started (r.number + 1) (writes l r.txn (job_of d)) (job_of d) (open_of s.ends y)) (sym same))
+        (λ q i e. let same : q ≡ r = unique s.rows q r k.standing.distinct i here e in ap (λ (y : Row). open_of (with_end r.txn d s.ends) (row_started u y)) same ∙ own_open s.ends r u d (writes l r.txn (job_of d)) s.sizes m.of_store m.planned.number m.aim left_is ∙ ap (λ (y : Row). open_started (r.number + 1) (writes l r.txn (job_of d)) (job_of d) (open_of s.ends y)) (sym same))
         (λ q i n. other_open r.txn d s.ends q n))
 
     start_legal : OnFound (found r.txn l.open_ones) (λ (q : Open). (r.number + 1 ≡ q.number + 1) × CanStart l q (job_of d))
@@ -166,6 +173,7 @@ says_done : (t : Txn) (n : ℕ) (d : Deed) → Says (Call.Finish t n) (gave_done
 says_done t n (Append g m tag previous body) = (record { sender = g; tag = tag; body = body }, refl)
 says_done t n (UnlinkHead g m tag body) = refl
 says_done t n (Close g) = (g, refl)
+says_done t n (Mark c tag previous) = (c, tag, refl)
 
 module _ (s : State) (k : IsSound s) where
   -- the first message of the chain is the one behind the holder's own takes
@@ -185,12 +193,13 @@ module _ (s : State) (k : IsSound s) where
       let y : rest_in (committed_of s.records) g ≡ map (message_of g) c.messages = (committed_is_group s.sizes g s.records k.log.rules k.log.reads).rest in
       ap (λ l. slice_get l (takes_in g r)) y ∙ slice_get-map (message_of g) c.messages (takes_in g r) ∙ ap (option_map (message_of g)) x
 
-  is_done : (r : Row) → In r s.rows → (d : Deed) → HoldsFor s.ends r.txn d → deed_sender d < sender_count s.sizes → HasWaiting s.waiting d → TellsView d (view (items s.sizes s.records) (deed_sender d))
+  is_done : (r : Row) → In r s.rows → (d : Deed) → HoldsFor s.ends r.txn d → IsDeedOf s.sizes d → HasWaiting s.waiting d → TellsView d (view (items s.sizes s.records) (deed_sender d))
       → IsDoneBy (ledger_of s) (open_of s.ends r) (Some (job_of d)) (op_of (said d))
   is_done r i (Append g m tag previous body) h n w told = refl
   is_done r i (UnlinkHead g m tag body) h n w told =
       (refl, first_is_next g tag body r told.0 i h (let b = takes_below s.sizes s.records s.ends s.rows s.incarnation s.begins k.log k.standing s.cells_in_use s.waiting k.counted g r n i in let c : 1 ≤ waits s.waiting g = w in omega (arith, b, c)) told.1)
   is_done r i (Close g) h n w told = refl
+  is_done r i (Mark c tag previous) h n w told = (refl, refl)
 
   module _ (running : s.failed ≡ false) (r : Row) (u : Under) (d : Deed) (ws : List ℕ) (m : IsReady s r u (aims.Doing d)) (fewer : (g : ℕ) → waits ws g ≡ waits s.waiting g - took g d) where
     at : In r s.rows
@@ -202,7 +211,7 @@ module _ (s : State) (k : IsSound s) where
     done_by : IsDoneBy (ledger_of s) (open_of s.ends r) (Some (job_of d)) (op_of (said d))
     done_by = is_done r at d
         (subst (λ a. HoldsFor s.ends r.txn (deed_of a)) m.aim_is g.held)
-        (subst (λ a. deed_sender (deed_of a) < sender_count s.sizes) m.aim_is g.sender)
+        (subst (λ a. IsDeedOf s.sizes (deed_of a)) m.aim_is g.of_store)
         (subst (CoversAim s.waiting) m.aim_is (subst (IsCovered s.waiting) m.under (k.counted.covered r at)))
         (subst (λ a. TellsFor a (view (items s.sizes s.records) (deed_sender (deed_of a)))) m.aim_is g.told)
 

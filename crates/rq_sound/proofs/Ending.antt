@@ -1,17 +1,18 @@
 -- The end of an operation whose writes are all made: a send, a receive or a close.
-use Rattle.std.proofs.Common.{◌≡◌, ◌≢◌, ℕ, ◌+◌, ◌-◌, ◌<◌, ◌≤◌, ◌++◌, ◌||◌, List, [], ◌∷◌, length, reverse, refl, sym, ◌∙◌, ap, subst, true, false, cond, Option, Some, None, inl, inr, arith}
+use Rattle.std.proofs.Common.{◌≡◌, ◌≢◌, ℕ, ◌+◌, ◌-◌, ◌<◌, ◌≤◌, ◌++◌, ◌||◌, List, [], ◌∷◌, length, reverse, refl, sym, ◌∙◌, ap, subst, true, false, Option, Some, None, inl, inr, arith}
 use Rattle.std.proofs.lemmas.Bool.{cond-true, false≢true, or_from, or_cases, eqb-true}
 use Rattle.std.proofs.lemmas.List.{length-map}
 use Rattle.rq_model.specs.declared.txn.Txn.{Txn}
 use Rattle.rq_model.specs.declared.record.Deed.{Deed}
-use Rattle.rq_model.specs.declared.record.Deed.TheVariants.{Append, UnlinkHead, Close}
+use Rattle.rq_model.specs.declared.record.Deed.TheVariants.{Append, UnlinkHead, Close, Mark}
 use Rattle.rq_model.specs.declared.record.Record.{Record}
-use Rattle.rq_model.specs.Vocabulary.{In, same_txn}
+use Rattle.rq_model.specs.Vocabulary.{In, client_group, same_txn}
 use Rattle.rq_model.specs.Deeds.{deed_by, deed_level, spelled_deed, TellsItself}
 use Rattle.rq_model.specs.Content.{said, deeds, kept, ending_by, removed, added, has_commit}
 use Rattle.rq_model.specs.Rules.{any_use, uses_send, uses_receive, MayEnd, EndingMay}
 use Rattle.rq_model.proofs.Lists.{same_self}
-use Rattle.rq_page.specs.Sizes.{Sizes, cell_count, sender_count}
+use Rattle.rq_page.specs.Sizes.{Sizes, cell_count}
+use Rattle.rq_views.specs.InStore.{IsDeedOf}
 use Rattle.rq_views.specs.Log.Item.{OpEnd}
 use Rattle.rq_views.specs.Items.{items, item_of, layout_of, operation, told_deed, has_undone}
 use Rattle.rq_views.specs.Legal.{open_deeds, MayFollow, view}
@@ -48,14 +49,31 @@ use Rattle.rq_sound.proofs.Standings.{stands_changed}
 aim_is : (r : Row) (a : Aim) (d : Deed) → a ≡ Doing d → IsAimOf r a → r.aborting ≡ false
 aim_is r a d e h = subst (IsAimOf r) e h
 
+-- who holds an end for a deed holds it once it is done
+pub holds_sends : (ends : HeldEnds) (t : Txn) (d : Deed) (s : ℕ) → HoldsFor ends t d → uses_send s (said d) ≡ true → has_held t s ends.sending ≡ true
+holds_sends ends t (Append q n tag previous body) s h y = subst (λ p. has_held t p ends.sending ≡ true) (eqb-true q s y) h
+holds_sends ends t (UnlinkHead q n tag body) s h y = absurd (false≢true y)
+holds_sends ends t (Close q) s h y = subst (λ p. has_held t p ends.sending ≡ true) (eqb-true q s y) h
+holds_sends ends t (Mark c tag previous) s h y = subst (λ p. has_held t p ends.sending ≡ true) (eqb-true (client_group c) s y) h
+
+pub holds_takes : (ends : HeldEnds) (t : Txn) (d : Deed) (s : ℕ) → HoldsFor ends t d → uses_receive s (said d) ≡ true → has_held t s ends.receiving ≡ true
+holds_takes ends t (Append q n tag previous body) s h y = absurd (false≢true y)
+holds_takes ends t (UnlinkHead q n tag body) s h y = subst (λ p. has_held t p ends.receiving ≡ true) (eqb-true q s y) h
+holds_takes ends t (Close q) s h y = absurd (false≢true y)
+holds_takes ends t (Mark c tag previous) s h y = absurd (false≢true y)
+
 module _ (z : Sizes) (log : List Record) (ends : HeldEnds) (rows : List Row) (i b cells : ℕ) (waiting : List ℕ) (whole : IsWhole z log) (k : AreStanding z log ends rows i b) (c : AreCounted z log rows cells waiting) (r : Row) (j : In r rows) where
-  ends_of_deed : (d : Deed) → has_undone log r.txn ≡ false → HoldsFor ends r.txn d → deed_sender d < sender_count z → HasWaiting waiting d → (e : ℕ) → MayEnd log e r.txn (said d)
-  ends_of_deed (Append q n tag previous body) forward h m w e = record {
+  -- a deed of the sending end
+  sent_may_end : (d : Deed) → HoldsFor ends r.txn d → ((e : ℕ) → uses_receive e (said d) ≡ false) → (e : ℕ) → MayEnd log e r.txn (said d)
+  sent_may_end d h none e = record {
     not_ended = (k.each r j).running;
-    alone_send = λ y v used. used_by_holder z log ends rows i b whole k e r.txn v (subst (λ p. has_held r.txn p ends.sending ≡ true) (eqb-true q e y) h) used;
-    alone_receive = λ y. absurd (false≢true y);
-    has_more = λ y. absurd (false≢true y);
+    alone_send = λ y v used. used_by_holder z log ends rows i b whole k e r.txn v (holds_sends ends r.txn d e h y) used;
+    alone_receive = λ y. absurd (false≢true (sym (none e) ∙ y));
+    has_more = λ y. absurd (false≢true (sym (none e) ∙ y));
   }
+
+  ends_of_deed : (d : Deed) → has_undone log r.txn ≡ false → HoldsFor ends r.txn d → IsDeedOf z d → HasWaiting waiting d → (e : ℕ) → MayEnd log e r.txn (said d)
+  ends_of_deed (Append q n tag previous body) forward h m w e = sent_may_end (Append q n tag previous body) h (λ s. refl) e
   ends_of_deed (UnlinkHead q n tag body) forward h m w e = record {
     not_ended = (k.each r j).running;
     alone_send = λ y. absurd (false≢true y);
@@ -63,23 +81,8 @@ module _ (z : Sizes) (log : List Record) (ends : HeldEnds) (rows : List Row) (i 
     has_more = λ y. subst (λ p. removed p (deeds (λ u. has_commit log u || same_txn u r.txn) log) < length (added p (deeds (has_commit log) log))) (eqb-true q e y)
         (more_left z log ends rows i b whole k q r j forward (let v = takes_below z log ends rows i b whole k cells waiting c q r m j in let x : 1 ≤ waits waiting q = w in omega (arith, v, x)));
   }
-  ends_of_deed (Close q) forward h m w e = record {
-    not_ended = (k.each r j).running;
-    alone_send = λ y v used. used_by_holder z log ends rows i b whole k e r.txn v (subst (λ p. has_held r.txn p ends.sending ≡ true) (eqb-true q e y) h) used;
-    alone_receive = λ y. absurd (false≢true y);
-    has_more = λ y. absurd (false≢true y);
-  }
-
--- who holds an end for a deed holds it once it is done
-pub holds_sends : (ends : HeldEnds) (t : Txn) (d : Deed) (s : ℕ) → HoldsFor ends t d → uses_send s (said d) ≡ true → has_held t s ends.sending ≡ true
-holds_sends ends t (Append q n tag previous body) s h y = subst (λ p. has_held t p ends.sending ≡ true) (eqb-true q s y) h
-holds_sends ends t (UnlinkHead q n tag body) s h y = absurd (false≢true y)
-holds_sends ends t (Close q) s h y = subst (λ p. has_held t p ends.sending ≡ true) (eqb-true q s y) h
-
-pub holds_takes : (ends : HeldEnds) (t : Txn) (d : Deed) (s : ℕ) → HoldsFor ends t d → uses_receive s (said d) ≡ true → has_held t s ends.receiving ≡ true
-holds_takes ends t (Append q n tag previous body) s h y = absurd (false≢true y)
-holds_takes ends t (UnlinkHead q n tag body) s h y = subst (λ p. has_held t p ends.receiving ≡ true) (eqb-true q s y) h
-holds_takes ends t (Close q) s h y = absurd (false≢true y)
+  ends_of_deed (Close q) forward h m w e = sent_may_end (Close q) h (λ s. refl) e
+  ends_of_deed (Mark c tag previous) forward h m w e = sent_may_end (Mark c tag previous) h (λ s. refl) e
 
 holds_more : (ends : HeldEnds) (t : Txn) (log new : List Record) (d : Deed) → deeds (λ u. same_txn u t) new ≡ said d ∷ deeds (λ u. same_txn u t) log → HoldsFor ends t d → HoldsAll ends t log → HoldsAll ends t new
 holds_more ends t log new d e h all = record {
@@ -123,8 +126,8 @@ module _ (z : Sizes) (log : List Record) (ends : HeldEnds) (rows : List Row) (i 
   held_here : HoldsFor ends t d
   held_here = subst (λ a. HoldsFor ends t (deed_of a)) aim g.0.held
 
-  below : deed_sender d < sender_count z
-  below = subst (λ a. deed_sender (deed_of a) < sender_count z) aim g.0.sender
+  stored : IsDeedOf z d
+  stored = subst (λ a. IsDeedOf z (deed_of a)) aim g.0.of_store
 
   told : TellsView d (view (items z log) (deed_sender d))
   told = subst (λ a. TellsFor a (view (items z log) (deed_sender (deed_of a)))) aim g.0.told
@@ -132,9 +135,12 @@ module _ (z : Sizes) (log : List Record) (ends : HeldEnds) (rows : List Row) (i 
   covers : HasWaiting waiting d
   covers = subst (CoversAim waiting) aim (subst (IsCovered waiting) under (c.covered r here))
 
+  plan : IsPlan (layout_of z) (Did d) (reverse (writes_of z u.writes))
+  plan = subst (λ a. IsPlan (layout_of z) (turn_of a) (reverse (writes_of z u.writes))) aim g.0.plan
+
   may : MayFollow (layout_of z) (items z log) (OpEnd (operation t u.number) said_deed)
   may = record {
-    plan = subst (IsPlan (layout_of z) (Did said_deed)) (sym (writes_are z log ends t u whole made g.0)) (subst (λ e. IsPlan (layout_of z) (Did e) (reverse (writes_of z u.writes))) (sym deed_is) (subst (λ a. IsPlan (layout_of z) (turn_of a) (reverse (writes_of z u.writes))) aim g.0.plan));
+    plan = subst (IsPlan (layout_of z) (Did said_deed)) (sym (writes_are z log ends t u whole made g.0)) (subst (λ e. IsPlan (layout_of z) (Did e) (reverse (writes_of z u.writes))) (sym deed_is) plan);
     going = g.0.going;
     forward = g.0.forward;
     running = running z log ends rows i b k incarnation some r at_row;
@@ -144,7 +150,7 @@ module _ (z : Sizes) (log : List Record) (ends : HeldEnds) (rows : List Row) (i 
   told_here = subst (λ y. TellsView y (view (items z log) (deed_sender y))) (sym deed_is) told
 
   rule : EndingMay log (Some (record { txn = t; said = said d }))
-  rule e = ends_of_deed z log ends rows i b cells waiting whole k c r here d (own.forward forward) held_here below covers e
+  rule e = ends_of_deed z log ends rows i b cells waiting whole k c r here d (own.forward forward) held_here stored covers e
 
   -- the store is not over its cells
   room : claimed (items z log) + appends_of d ≤ cell_count z
@@ -162,7 +168,7 @@ module _ (z : Sizes) (log : List Record) (ends : HeldEnds) (rows : List Row) (i 
     told = (told_here, whole.told);
     rules = (subst (EndingMay log) (sym (ap (ending_by t) reads)) rule, (λ v e. absurd (false≢true e)), whole.rules);
     reads = (((d, reads), own.forward forward), whole.reads);
-    in_store = (subst (λ e. deed_sender e < sender_count z) (sym deed_is) below, whole.in_store);
+    in_store = (subst (IsDeedOf z) (sym deed_is) stored, whole.in_store);
     befores = (tt, whole.befores);
     based = (tt, whole.based);
     behind = (own.behind, whole.behind);

@@ -5,7 +5,7 @@ use Rattle.std.proofs.lemmas.List.{reverse-append, take-append-drop}
 use Rattle.rq_model.specs.declared.txn.Sub.{Sub}
 use Rattle.rq_model.specs.declared.txn.Txn.{Txn}
 use Rattle.rq_model.specs.declared.record.Deed.{Deed}
-use Rattle.rq_model.specs.declared.record.Deed.TheVariants.{Append, UnlinkHead, Close}
+use Rattle.rq_model.specs.declared.record.Deed.TheVariants.{Append, UnlinkHead, Close, Mark}
 use Rattle.rq_model.specs.Vocabulary.{In}
 use Rattle.rq_page.specs.declared.cell.Cell.{Cell}
 use Rattle.rq_page.specs.declared.directory.Directory.{Directory}
@@ -54,6 +54,7 @@ abbrev SparesFlag : ℕ → Deed → Type 0
 SparesFlag g (Append s n tag previous body) = Unit {0}
 SparesFlag g (UnlinkHead s n tag body) = Unit {0}
 SparesFlag g (Close s) = s ≢ g
+SparesFlag g (Mark c tag previous) = Unit {0}
 
 relinked_leave : (a at : ℕ) (o : Option Cell) (f : Cell → Cell) (ws : List Write) → LeaveFlag a ws → LeaveFlag a (relinked at o f ws)
 relinked_leave a at None f ws h = h
@@ -67,11 +68,13 @@ do_leaves : (l : Places) (g : ℕ) (at : (s : ℕ) → l.directory_at s ≡ dire
 do_leaves l g at (Append s n tag previous body) ws h p = subst (LeaveFlag (directory_at g)) (sym p.writes) (λ e. refl, relinked_leave (directory_at g) p.directory.tail p.old _ _ (λ e. refl, tt))
 do_leaves l g at (UnlinkHead s n tag body) ws h p = subst (LeaveFlag (directory_at g)) (sym p.writes) (λ e. refl, relinked_leave (directory_at g) p.cell.next p.next _ _ (λ e. refl, tt))
 do_leaves l g at (Close s) ws h p = subst (LeaveFlag (directory_at g)) (sym p.writes) (λ e. absurd (other_slot s g h (sym (at s) ∙ e)), tt)
+do_leaves l g at (Mark c tag previous) ws h p = subst (LeaveFlag (directory_at g)) (sym p.writes) (λ e. refl, tt)
 
 undo_leaves : (l : Places) (g : ℕ) (at : (s : ℕ) → l.directory_at s ≡ directory_at s) (d : Deed) (ws : List Write) → SparesFlag g d → IsPlan l (Undid d) ws → LeaveFlag (directory_at g) ws
 undo_leaves l g at (Append s n tag previous body) ws h p = subst (LeaveFlag (directory_at g)) (sym p.writes) (λ e. refl, relinked_leave (directory_at g) p.cell.prev p.front _ _ (λ e. refl, tt))
 undo_leaves l g at (UnlinkHead s n tag body) ws h p = subst (LeaveFlag (directory_at g)) (sym p.writes) (λ e. refl, relinked_leave (directory_at g) p.directory.head p.old _ _ (λ e. refl, tt))
 undo_leaves l g at (Close s) ws h p = subst (LeaveFlag (directory_at g)) (sym p.writes) (λ e. absurd (other_slot s g h (sym (at s) ∙ e)), tt)
+undo_leaves l g at (Mark c tag previous) ws h p = subst (LeaveFlag (directory_at g)) (sym p.writes) (λ e. refl, tt)
 
 plan_leaves : (l : Places) (g : ℕ) (at : (s : ℕ) → l.directory_at s ≡ directory_at s) (a : Aim) (ws : List Write) → SparesFlag g (deed_of a) → IsPlan l (turn_of a) ws → LeaveFlag (directory_at g) ws
 plan_leaves l g at (aims.Doing d) ws h p = do_leaves l g at d ws h p
@@ -98,6 +101,7 @@ module _ (s : State) (k : IsSound s) (r : Row) (m : IsIdle s r) (g : ℕ) (free 
       let is : q ≡ r = unique s.rows q r k.standing.distinct i (found_in r.txn s.rows r m.at_row).0 own in
       let bad : Some u ≡ None = sym e ∙ ap (λ (y : Row). y.under) is ∙ m.idle in
       cc
+  spares q u i e (Mark c tag previous) h = tt
 
   abbrev Leaves : Sub → Type 0
   Leaves o = LeaveFlag (directory_at g) ((left_by s.sizes s.records).writes o)

@@ -7,20 +7,22 @@ use Rattle.std.proofs.lemmas.List.Sums.{sum_by-cons, sum_by_push}
 use Rattle.rq_model.specs.declared.txn.Txn.{Txn}
 use Rattle.rq_model.specs.declared.txn.Sub.{Sub}
 use Rattle.rq_model.specs.declared.record.Deed.{Deed}
-use Rattle.rq_model.specs.declared.record.Deed.TheVariants.{Append, UnlinkHead, Close}
+use Rattle.rq_model.specs.declared.record.Deed.TheVariants.{Append, UnlinkHead, Close, Mark}
 use Rattle.rq_model.specs.declared.record.Record.{Record}
-use Rattle.rq_model.specs.Vocabulary.{In}
-use Rattle.rq_page.specs.Sizes.{Sizes, IsCellAddress, cell_count, sender_count, directory_at}
+use Rattle.rq_model.specs.Vocabulary.{In, client_group}
+use Rattle.rq_page.specs.Sizes.{Sizes, IsInRange, IsCellAddress, cell_count, client_count, client_slot_at, sender_count, directory_at}
 use Rattle.rq_page.specs.Slots.Slot.{Free}
+use Rattle.rq_views.specs.InStore.{IsDeedOf}
 use Rattle.rq_views.specs.Log.{Write, HasBefores}
 use Rattle.rq_views.specs.Items.{items, layout_of, operation}
 use Rattle.rq_views.specs.Legal.{open_deeds, view, under_way}
-use Rattle.rq_views.specs.Plans.{ShowsAt, IsPlan, deed_sender}
+use Rattle.rq_views.specs.Plans.{ShowsAt, ShowsTag, IsPlan, deed_sender}
 use Rattle.rq_views.specs.Plans.Turn.{Did, Undid}
 use Rattle.rq_views.specs.Stored.{count_used}
 use Rattle.rq_level.specs.Writes.{writes_of}
 use Rattle.rq_views.proofs.Counting.{gained, AllInStore, deeds_in_store}
 use Rattle.rq_views.proofs.Stands.{slots_stand}
+use Rattle.rq_views.proofs.Tags.{quiet_tags}
 use Rattle.rq_txn.specs.declared.Finished.{Finished}
 use Rattle.rq_groups.specs.Ends.{HeldEnds}
 use Rattle.rq_views.specs.Claims.{takes_of, appends_of}
@@ -33,13 +35,14 @@ use Rattle.rq_txn.specs.declared.Aim.{Aim}
 use Rattle.rq_txn.specs.Rows.{Under, Row, found_row, latched_by, latched_under, latched_in}
 use Rattle.rq_txn.specs.declared.Aim.TheVariants.{Doing, Undoing}
 use Rattle.rq_store.proofs.RowLists.{found_in}
-use Rattle.rq_sound.specs.Rows.{turn_of}
+use Rattle.rq_sound.specs.Rows.{own_slot, turn_of}
 use Rattle.rq_sound.specs.Standing.{IsAsPlanned, IsAimOf, AreStanding}
 use Rattle.rq_sound.specs.Counted.{AreCounted, appends_aim, appending, appending_in, takes_all, uses_before, uses_after, made_of, before_in, after_in}
 use Rattle.rq_sound.proofs.UsedCells.{made_within, some_free}
 use Rattle.rq_store.proofs.Placed.{placed_more}
-use Rattle.rq_sound.proofs.Going.{IsOne, shown_beside}
+use Rattle.rq_sound.proofs.Going.{IsOne, shown_beside, unlatched_is_quiet}
 use Rattle.rq_sound.proofs.Going.IsOne.{Idle, Going}
+use Rattle.rq_sound.proofs.Own.{ShowsOwn}
 use Rattle.rq_sound.proofs.UndoPlans.{NeedsCell, can_undo}
 
 sum_three : (f g h : Row → ℕ) (rows : List Row) → sum_by (λ q. f q + g q + h q) rows ≡ sum_by f rows + sum_by g rows + sum_by h rows
@@ -82,11 +85,13 @@ did_gains : (d : Deed) → gained (Did d) ≡ appends_of d
 did_gains (Append q n tag previous body) = refl
 did_gains (UnlinkHead q n tag body) = refl
 did_gains (Close q) = refl
+did_gains (Mark c tag previous) = refl
 
 undid_gains : (d : Deed) → gained (Undid d) ≡ takes_of d
 undid_gains (Append q n tag previous body) = refl
 undid_gains (UnlinkHead q n tag body) = refl
 undid_gains (Close q) = refl
+undid_gains (Mark c tag previous) = refl
 
 aim_gains : (q : Row) (a : Aim) → IsAimOf q a → gained (turn_of a) ≤ appends_aim a + takes_all q
 aim_gains q (Doing d) h = let a = did_gains d in omega (arith, a)
@@ -157,21 +162,34 @@ module _ (z : Sizes) (log : List Record) (ends : HeldEnds) (rows : List Row) (in
   pub shown_here : (whole : IsWhole z log) (s : ℕ) → s < sender_count z → latched_in rows (directory_at s / 16) ≡ false → ShowsAt (layout_of z) (left_by z log).slots s (view (items z log) s)
   shown_here whole s below off = shown_beside z log ends (latched_in rows) s whole.legal all_one below off
 
-  -- A transaction with nothing under way can undo its newest deed, once nobody has latched its sender's directory page.
+  -- and, where none has latched that of a client's slot, the client's marks
+  pub shown_tag : IsInRange z → IsWhole z log → (c : ℕ) → c < client_count z → latched_in rows (client_slot_at z c / 16) ≡ false → ShowsTag (layout_of z) (left_by z log).slots c (view (items z log) (client_group c))
+  shown_tag range whole c below off =
+      let h = quiet_tags z log c range whole.legal whole.in_store below in
+      let same = unlatched_is_quiet z log ends (latched_in rows) (client_slot_at z c) whole.legal all_one off in
+      record { held = h.held; at = same ∙ h.at; own = h.own; count = h.count; tag = h.tag; open_one = h.open_one; none_taken = h.none_taken }
+
+  -- so where none has latched that of a deed's own slot they show its group
+  pub shown_own : IsInRange z → IsWhole z log → (d : Deed) → IsDeedOf z d → latched_in rows (own_slot z d / 16) ≡ false → ShowsOwn (layout_of z) (left_by z log).slots d (view (items z log) (deed_sender d))
+  shown_own range whole (Append s n tag previous body) is off = shown_here whole s is off
+  shown_own range whole (UnlinkHead s n tag body) is off = shown_here whole s is off
+  shown_own range whole (Close s) is off = shown_here whole s is off
+  shown_own range whole (Mark c tag previous) is off = shown_tag range whole c is.0 off
+
+  -- A transaction with nothing under way can undo its newest deed, once nobody has latched the page of its own slot.
   -- A put-back finds a free cell, and can take any; a close's inverse finds the group closed.
   module _ (whole : IsWhole z log) (r : Row) (i : In r rows) (idle : r.under ≡ None) (fs : List Finished) (f : Finished) (newest : r.finished ≡ fs ++ f ∷ []) where
     pub open_is : open_deeds r.txn (items z log) ≡ placed_one f ∷ placed fs
     open_is = (k.each r i).done ∙ ap placed newest ∙ placed_more fs f
 
-    pub of_store : deed_sender f.deed < sender_count z
-    of_store = (subst (AllInStore z) open_is (deeds_in_store z r.txn log whole.in_store)).0
+    pub stored : IsDeedOf z f.deed
+    stored = (subst (AllInStore z) open_is (deeds_in_store z r.txn log whole.in_store)).0
 
-    abbrev shows_now : latched_in rows (directory_at (deed_sender f.deed) / 16) ≡ false → ShowsAt (layout_of z) (left_by z log).slots (deed_sender f.deed) (view (items z log) (deed_sender f.deed))
-    shows_now off = shown_here whole (deed_sender f.deed) of_store off
-
-    pub undo_planned : (new : ℕ) → NeedsCell f.deed (left_by z log).slots new → latched_in rows (directory_at (deed_sender f.deed) / 16) ≡ false
+    pub undo_planned : IsInRange z → (new : ℕ) → NeedsCell f.deed (left_by z log).slots new → latched_in rows (own_slot z f.deed / 16) ≡ false
         → (ws : List Write) × IsPlan (layout_of z) (Undid f.deed) ws × HasBefores ws (left_by z log).slots
-    undo_planned new cell off = can_undo (layout_of z) (left_by z log).slots (items z log) r.txn f.lsn new f.deed (placed fs) (groups_of z log whole) open_is cell (shows_now off)
+    undo_planned range new cell off =
+        let few = range.directory_high in
+        can_undo (layout_of z) (left_by z log).slots (items z log) r.txn f.lsn new f.deed (placed fs) (omega (arith, few)) (groups_of z log whole) open_is cell (shown_own range whole f.deed stored off)
 
     pub put_back_finds : takes_of f.deed ≡ 1 → (new : ℕ) × IsCellAddress z new × ((left_by z log).slots new ≡ Free)
     put_back_finds takes =

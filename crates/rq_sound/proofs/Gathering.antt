@@ -3,7 +3,7 @@ use Rattle.std.proofs.Common.{◌≡◌, ◌⊎◌, ⊎_elim, ℕ, ◌/◌, ◌%
 use Rattle.std.proofs.lemmas.Bool.{cases_Bool, eq-eqb, eqb-true, or_left, or_right, true≢false}
 use Rattle.std.proofs.lemmas.List.Elements.{All-append, All-cons, All-head, All-tail}
 use Rattle.rq_model.specs.declared.record.Deed.{Deed}
-use Rattle.rq_model.specs.declared.record.Deed.TheVariants.{Append, UnlinkHead, Close}
+use Rattle.rq_model.specs.declared.record.Deed.TheVariants.{Append, UnlinkHead, Close, Mark}
 use Rattle.rq_model.specs.Deeds.{deed_by}
 use Rattle.rq_page.specs.declared.cell.CellSlot.{CellSlot}
 use Rattle.rq_page.specs.declared.cell.CellSlot.TheVariants as cells
@@ -16,7 +16,7 @@ use Rattle.rq_page.specs.Sizes.{Sizes, IsCellAddress, IsLink, directory_at, send
 use Rattle.rq_page.specs.Slots.{HoldsCell, HoldsDirectory, IsSlotFor, IsSlotOf, MayStand, Slot, held_for, held_in, of_cell_slot}
 use Rattle.rq_page.specs.Slots.Slot.{Free, Sender}
 use Rattle.rq_page.proofs.Addresses.{kind_cells, kind_directory, senders_have_slots}
-use Rattle.rq_views.specs.Plans.{deed_sender}
+use Rattle.rq_views.specs.InStore.{IsDeedOf}
 use Rattle.rq_views.specs.Plans.Turn.{Undid}
 use Rattle.rq_views.specs.Stored.{IsStoreSlot}
 use Rattle.rq_level.specs.declared.slots.Given.{Given}
@@ -175,10 +175,11 @@ module _ (s : State) (given : List Given) (h : AreGivenFrom s given) where
     returns : IsWantedOf s given (along (to_head ∷ []) (directory_at g) given) (at_head (slots_now s) g)
     returns = from_group (λ o. asking (directory_at g) (λ bytes. along_from [] (to_head bytes)) o given) (λ x. named (head_in x)) refl (λ bytes head tail. link_wants (directory_in bytes).directory.head head) told refl
 
-  undoes : (d : Deed) → deed_sender d < sender_count s.sizes → IsWantedOf s given (chain.undo_wanted (Some d) given) (needed (slots_now s) (Undid d))
+  undoes : (d : Deed) → IsDeedOf s.sizes d → IsWantedOf s given (chain.undo_wanted (Some d) given) (needed s.sizes (slots_now s) (Undid d))
   undoes (Append g n tag previous body) inside = unsends g inside
   undoes (UnlinkHead g n tag body) inside = returns g inside
   undoes (Close g) inside = marks g inside
+  undoes (Mark c tag previous) inside = absurd inside.2
 
 -- what a job asks for is what it tells
 to_do : (given : List Given) (job : Job) (d : Doing) → IsToDo job d → job_wanted job given ≡ chain.wanted (Some d) given
@@ -196,7 +197,7 @@ wants_needed = record {
   sends = λ s given job g tag body h t inside. subst (λ o. IsWantedOf s given o (at_tail (slots_now s) g)) (sym (to_do given job _ t)) (sends s given h g inside);
   receives = λ s given job g h t inside. subst (λ o. IsWantedOf s given o (behind_head (slots_now s) g)) (sym (to_do given job _ t)) (receives s given h g inside);
   closes = λ s given job g h t inside. subst (λ o. IsWantedOf s given o (directory_at g ∷ [])) (sym (to_do given job _ t)) (marks s given h g inside);
-  undoes = λ s given job d h t inside. subst (λ o. IsWantedOf s given o (needed (slots_now s) (Undid d))) (sym (to_undo given job d t)) (undoes s given h d inside);
+  undoes = λ s given job d h t inside. subst (λ o. IsWantedOf s given o (needed s.sizes (slots_now s) (Undid d))) (sym (to_undo given job d t)) (undoes s given h d inside);
 }
 
 -- what is held behind one slot more was held before, or is that slot's

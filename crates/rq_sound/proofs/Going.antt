@@ -19,6 +19,7 @@ use Rattle.rq_views.specs.Legal.{Placed, open_deeds, undoing, IsLegalLog, began,
 use Rattle.rq_level.specs.Given.{has_page}
 use Rattle.rq_views.specs.Plans.{ShowsAt, IsPlan, deed_sender, with_turn}
 use Rattle.rq_views.specs.Plans.Turn.{Did, Undid}
+use Rattle.rq_views.specs.InStore.{IsDeedOf}
 use Rattle.rq_views.specs.Items.{items, layout_of, operation, told_deed}
 use Rattle.rq_views.specs.Owed.{Owes}
 use Rattle.rq_level.specs.Writes.{write_of, writes_of}
@@ -82,7 +83,7 @@ module _ (z : Sizes) (log : List Record) (ends : HeldEnds) (t : Txn) (u : Under)
         plan = g.plan;
         told = g.told;
         held = g.held;
-        sender = g.sender;
+        of_store = g.of_store;
         reads = g.reads;
       }
 
@@ -105,7 +106,7 @@ module _ (z : Sizes) (log : List Record) (ends : HeldEnds) (t : Txn) (u : Under)
         plan = g.plan;
         told = subst (TellsFor u.aim) (sym (ap (λ b. if b then with_turn (Did (told_deed (deed_by (deed_level d) (spelled_deed d)))) (view (items z log) (deed_sender (deed_of u.aim))) else view (items z log) (deed_sender (deed_of u.aim))) other)) g.told;
         held = g.held;
-        sender = g.sender;
+        of_store = g.of_store;
         reads = g.reads;
       }
 
@@ -130,20 +131,20 @@ module _ (z : Sizes) (log : List Record) (ends : HeldEnds) (t : Txn) (u : Under)
         plan = g.plan;
         told = subst (TellsFor u.aim) (sym same) g.told;
         held = g.held;
-        sender = g.sender;
+        of_store = g.of_store;
         reads = g.reads;
       }
 
 -- another transaction ends, and the ends may be others
 pub other_gone : (z : Sizes) (log : List Record) (ends after : HeldEnds) (t : Txn) (u : Under) (v : Txn) → HoldsFor after t (deed_of u.aim) → FollowsPlan z log ends t u → FollowsPlan z (Commit v ∷ log) after t u × FollowsPlan z (AbortEnd v ∷ log) after t u
 other_gone z log ends after t u v held g = (
-  record { made = g.made; going = g.going; forward = g.forward; uncrossed = λ p on. or_from _ _ (and-false (began (operation t u.number) (items z log))) (g.uncrossed p on); stands = g.stands; written = g.written; owes = g.owes; plan = g.plan; told = g.told; held = held; sender = g.sender; reads = g.reads },
-  record { made = g.made; going = g.going; forward = g.forward; uncrossed = λ p on. or_from _ _ (and-false (began (operation t u.number) (items z log))) (g.uncrossed p on); stands = g.stands; written = g.written; owes = g.owes; plan = g.plan; told = g.told; held = held; sender = g.sender; reads = g.reads },
+  record { made = g.made; going = g.going; forward = g.forward; uncrossed = λ p on. or_from _ _ (and-false (began (operation t u.number) (items z log))) (g.uncrossed p on); stands = g.stands; written = g.written; owes = g.owes; plan = g.plan; told = g.told; held = held; of_store = g.of_store; reads = g.reads },
+  record { made = g.made; going = g.going; forward = g.forward; uncrossed = λ p on. or_from _ _ (and-false (began (operation t u.number) (items z log))) (g.uncrossed p on); stands = g.stands; written = g.written; owes = g.owes; plan = g.plan; told = g.told; held = held; of_store = g.of_store; reads = g.reads },
 )
 
 -- other ends
 pub with_ends : (z : Sizes) (log : List Record) (ends after : HeldEnds) (t : Txn) (u : Under) → HoldsFor after t (deed_of u.aim) → FollowsPlan z log ends t u → FollowsPlan z log after t u
-with_ends z log ends after t u held g = record { made = g.made; going = g.going; forward = g.forward; uncrossed = g.uncrossed; stands = g.stands; written = g.written; owes = g.owes; plan = g.plan; told = g.told; held = held; sender = g.sender; reads = g.reads }
+with_ends z log ends after t u held g = record { made = g.made; going = g.going; forward = g.forward; uncrossed = g.uncrossed; stands = g.stands; written = g.written; owes = g.owes; plan = g.plan; told = g.told; held = held; of_store = g.of_store; reads = g.reads }
 
 -- the page of a planned write is latched
 pub page_latched : (us : List SlotWrite) (k : ℕ) (w : SlotWrite) → slice_get us k ≡ Some w → has_page (w.at / 16) (map (λ x. x.at / 16) us) ≡ true
@@ -214,7 +215,7 @@ module _ (z : Sizes) (log : List Record) (ends : HeldEnds) (t : Txn) (u : Under)
     plan = g.plan;
     told = g.told;
     held = g.held;
-    sender = g.sender;
+    of_store = g.of_store;
     reads = g.reads;
   }
 
@@ -222,8 +223,8 @@ module _ (z : Sizes) (log : List Record) (ends : HeldEnds) (t : Txn) (u : Under)
 pub starts : (z : Sizes) (log : List Record) (ends : HeldEnds) (t : Txn) (u : Under) → IsLegalLog (layout_of z) (items z log) → began (operation t u.number) (items z log) ≡ false → u.made ≡ 0
     → ((p : ℕ) → latched_by u p ≡ true → (v : Sub) → same_op (operation t u.number) v ≡ false → (left_by z log).stands v p ≡ false)
     → HasBefores (reverse (writes_of z u.writes)) (left_by z log).slots → IsPlan (layout_of z) (turn_of u.aim) (reverse (writes_of z u.writes)) → TellsFor u.aim (view (items z log) (deed_sender (deed_of u.aim)))
-    → HoldsFor ends t (deed_of u.aim) → deed_sender (deed_of u.aim) < sender_count z → ReadsFor u.aim → FollowsPlan z log ends t u
-starts z log ends t u legal fresh made alone fits plan told held sender reads =
+    → HoldsFor ends t (deed_of u.aim) → IsDeedOf z (deed_of u.aim) → ReadsFor u.aim → FollowsPlan z log ends t u
+starts z log ends t u legal fresh made alone fits plan told held of_store reads =
     let o = operation t u.number in
     let whole = writes_of z u.writes in
     let none = unbegun_writes (layout_of z) (items z log) o fresh in
@@ -241,7 +242,7 @@ starts z log ends t u legal fresh made alone fits plan told held sender reads =
       plan = plan;
       told = told;
       held = held;
-      sender = sender;
+      of_store = of_store;
       reads = reads;
     }
 

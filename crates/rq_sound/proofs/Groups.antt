@@ -5,16 +5,16 @@ use Rattle.std.proofs.lemmas.Bool.{or_parts, or_from}
 use Rattle.std.proofs.lemmas.List.{length-map}
 use Rattle.std.proofs.lemmas.List.Sums.{sum_by-cons}
 use Rattle.rq_model.specs.Ledger.{Open, own_takes}
-use Rattle.rq_model.specs.Vocabulary.{is_some}
+use Rattle.rq_model.specs.Vocabulary.{client_group, is_some}
 use Rattle.rq_page.specs.declared.directory.Directory.{Directory}
-use Rattle.rq_page.specs.Sizes.{cell_count, directory_at, sender_count}
+use Rattle.rq_page.specs.Sizes.{cell_count, client_count, client_slot_at, directory_at, sender_count}
 use Rattle.rq_page.specs.Slots.Slot.{Sender}
 use Rattle.rq_views.specs.Chain.{Shows, View, message}
 use Rattle.rq_views.specs.InStore.{AllStand}
 use Rattle.rq_views.specs.Items.{items, layout_of}
 use Rattle.rq_views.specs.Legal.{view}
 use Rattle.rq_views.specs.Log.{Slots, cells_of}
-use Rattle.rq_views.specs.Plans.{ShowsAt}
+use Rattle.rq_views.specs.Plans.{ShowsAt, ShowsTag}
 use Rattle.rq_views.specs.Stored.{count_used}
 use Rattle.rq_views.proofs.ChainLaws.{shows_here}
 use Rattle.rq_views.proofs.Stands.{slots_stand}
@@ -31,7 +31,7 @@ use Rattle.rq_sound.proofs.ChainEnds.{empty_links, head_stands, next_stands, tai
 use Rattle.rq_sound.proofs.Closing.{closed_by, closed_by_commit}
 use Rattle.rq_sound.proofs.Contracts.{shows}
 use Rattle.rq_sound.proofs.Flags.{flag_is}
-use Rattle.rq_sound.proofs.FreeCells.{room_to_send}
+use Rattle.rq_sound.proofs.FreeCells.{room_to_send, shown_tag}
 use Rattle.rq_sound.proofs.UndoStarts.{chain_is}
 
 -- the pages are as the log leaves them
@@ -44,6 +44,11 @@ all_stand s k = subst (AllStand s.sizes) (sym (slots_are s k)) (slots_stand s.si
 pub shows_now : (s : State) (g : ℕ) → IsSound s → g < sender_count s.sizes → latched_in s.rows (directory_at g / 16) ≡ false
     → ShowsAt (layout_of s.sizes) (slots_now s) g (view (items s.sizes s.records) g)
 shows_now s g k below off = subst (λ (q : Slots). ShowsAt (layout_of s.sizes) q g (view (items s.sizes s.records) g)) (sym (slots_are s k)) (shows s k g below off)
+
+-- the slot of a client on a page that nobody has latched shows the client's marks
+pub shows_tag : (s : State) (c : ℕ) → IsSound s → c < client_count s.sizes → latched_in s.rows (client_slot_at s.sizes c / 16) ≡ false
+    → ShowsTag (layout_of s.sizes) (slots_now s) c (view (items s.sizes s.records) (client_group c))
+shows_tag s c k below off = subst (λ (q : Slots). ShowsTag (layout_of s.sizes) q c (view (items s.sizes s.records) (client_group c))) (sym (slots_are s k)) (shown_tag s.sizes s.records s.ends s.rows s.incarnation s.begins s.cells_in_use s.waiting k.standing k.counted k.range k.log c below off)
 
 takes_of_opens : (ends : HeldEnds) (g : ℕ) (rows : List Row) → sum_by (λ (o : Open). length (own_takes g o)) (open_ones_of ends rows) ≡ sum_by (takes_in g) rows
 takes_of_opens ends g [] = refl

@@ -1,6 +1,6 @@
 -- The messages in a group's chain are the committed ones, less what its receiving holder took, and then what its sending
 -- holder sent.
-use Rattle.std.proofs.Common.{◌≡◌, ℕ, zero, suc, ◌+◌, ◌-◌, ◌/◌, ◌<◌, ◌++◌, List, [], ◌∷◌, drop, take, length, map, reverse, refl, sym, ◌∙◌, ap, subst, Bool, true, false, nat_eq, ◌&&◌, ◌||◌, Option, Some, None, inl, inr, arith}
+use Rattle.std.proofs.Common.{◌≡◌, ℕ, zero, suc, ◌+◌, ◌-◌, ◌/◌, ◌<◌, ◌++◌, List, [], ◌∷◌, drop, take, length, map, reverse, refl, sym, ◌∙◌, ap, subst, Bool, true, false, cond, nat_eq, ◌&&◌, ◌||◌, Option, Some, None, inl, inr, arith}
 use Rattle.std.specs.List.{filter_map}
 use Rattle.std.proofs.lemmas.Bool.{cases_Bool, eqb-true, false≢true, false_from_ne_true, true≢false, and_from, or_from, or_left, or_parts, or_right}
 use Rattle.std.proofs.lemmas.List.{append-nil, reverse-append, take-append-drop, length-append, length-drop, length-map, map-append, drop-map, take-map}
@@ -9,7 +9,7 @@ use Rattle.std.proofs.lemmas.Option.{same_Some}
 use Rattle.std.proofs.Math.Bool.{and-false}
 use Rattle.rq_model.specs.declared.message.Message.{Message}
 use Rattle.rq_model.specs.declared.record.Deed.{Deed}
-use Rattle.rq_model.specs.declared.record.Deed.TheVariants.{Append, UnlinkHead, Close}
+use Rattle.rq_model.specs.declared.record.Deed.TheVariants.{Append, UnlinkHead, Close, Mark}
 use Rattle.rq_model.specs.declared.txn.Sub.{Sub}
 use Rattle.rq_model.specs.declared.txn.Txn.{Txn}
 use Rattle.rq_model.specs.Commits.{committed_of, op_of, ops_told}
@@ -17,7 +17,7 @@ use Rattle.rq_model.specs.Content.{Said, added, added_one, closed, deeds, remove
 use Rattle.rq_model.specs.History.{Group}
 use Rattle.rq_model.specs.Ledger.{any_ends, rest_in}
 use Rattle.rq_model.specs.Rules.{any_use, uses_send, uses_receive}
-use Rattle.rq_model.specs.Vocabulary.{In, Op, same_txn, sent_for, taken_from}
+use Rattle.rq_model.specs.Vocabulary.{In, Op, mark_of, same_txn, sent_for, taken_from}
 use Rattle.rq_model.specs.Vocabulary.Op.{Take}
 use Rattle.rq_model.proofs.Lists.{same_self}
 use Rattle.rq_model.proofs.Told.{told_ends, told_taken, told_sent}
@@ -90,8 +90,8 @@ own_one g m e = let is : g ≡ m.sender = sym (eqb-true m.sender g e) in ap (λ 
 abbrev Back : ℕ → List Message → Type 0
 Back g ms = map (message_of g) (map tag_and_body ms) ≡ ms
 
-back_one : (g : ℕ) (d : Said) (ms : List Message) → Back g ms → Back g (added_one g d ms)
-back_one g (Said.Added m) ms h = elim (cases_Bool (nat_eq m.sender g)) [
+back_more : (g : ℕ) (m : Message) (ms : List Message) → Back g ms → Back g (cond (nat_eq m.sender g) (ms ++ m ∷ []) ms)
+back_more g m ms h = elim (cases_Bool (nat_eq m.sender g)) [
   | inl y ↦ rw y (
       ap (map (message_of g)) (map-append tag_and_body ms (m ∷ []))
       ∙ map-append (message_of g) (map tag_and_body ms) (tag_and_body m ∷ [])
@@ -99,8 +99,12 @@ back_one g (Said.Added m) ms h = elim (cases_Bool (nat_eq m.sender g)) [
       ∙ ap (λ x. ms ++ x ∷ []) (own_one g m y))
   | inr n ↦ rw n h
 ]
+
+back_one : (g : ℕ) (d : Said) (ms : List Message) → Back g ms → Back g (added_one g d ms)
+back_one g (Said.Added m) ms h = back_more g m ms h
 back_one g (Said.Removed m) ms h = h
 back_one g (Said.Ended r) ms h = h
+back_one g (Said.Marked c tag) ms h = back_more g (mark_of c tag) ms h
 
 back : (g : ℕ) (ds : List Said) → Back g (added g ds)
 back g [] = refl
@@ -111,6 +115,7 @@ none_added_one : (g : ℕ) (d : Deed) (ms : List Message) → on_sending_end g d
 none_added_one g (Append r n tag previous body) ms e = rw e refl
 none_added_one g (UnlinkHead r n tag body) ms e = refl
 none_added_one g (Close r) ms e = refl
+none_added_one g (Mark c tag previous) ms e = rw e refl
 
 none_added : (g : ℕ) (ps : List Placed) → side (on_sending_end g) ps ≡ [] → added g (say ps) ≡ []
 none_added g [] e = refl
@@ -124,21 +129,26 @@ abbrev TellsFront : Deed → List (ℕ × List ℕ) → Type 0
 TellsFront (Append r q tag previous body) ms = Unit {0}
 TellsFront (UnlinkHead r q tag body) ms = (rest : List (ℕ × List ℕ)) × (ms ≡ (tag, body) ∷ rest)
 TellsFront (Close r) ms = Unit {0}
+TellsFront (Mark c tag previous) ms = Unit {0}
 
 front_of : (d : Deed) (v : View) → TellsView d v → TellsFront d v.messages
 front_of (Append r q tag previous body) v h = tt
 front_of (UnlinkHead r q tag body) v h = (h.0, h.1)
 front_of (Close r) v h = tt
+front_of (Mark c tag previous) v h = tt
+
+take_none_more : (g : ℕ) (op : Op) (more : List Op) (n : ℕ) (ms : List (ℕ × List ℕ)) → taken_from g op ≡ None → filter_map (taken_from g) more ≡ map (message_of g) (take n ms)
+    → filter_map (taken_from g) (more ++ op ∷ []) ≡ map (message_of g) (take (n + 0) ms)
+take_none_more g op more n ms none h =
+    let same : n ≡ n + 0 = omega arith in
+    filter_map-append (taken_from g) more (op ∷ []) ∙ rw none (append-nil (filter_map (taken_from g) more)) ∙ h ∙ ap (λ i. map (message_of g) (take i ms)) same
 
 take_one : (g : ℕ) (d : Deed) (more : List Op) (n : ℕ) (ms front : List (ℕ × List ℕ)) → front ≡ drop n ms
     → filter_map (taken_from g) more ≡ map (message_of g) (take n ms) → (on_receiving_end g d ≡ true → TellsFront d front)
     → filter_map (taken_from g) (more ++ op_of (said d) ∷ []) ≡ map (message_of g) (take (n + removed_one g (said d)) ms)
-take_one g (Append r q tag previous body) more n ms front e h t =
-    let same : n ≡ n + 0 = omega arith in
-    filter_map-append (taken_from g) more (op_of (said (Append r q tag previous body)) ∷ []) ∙ append-nil (filter_map (taken_from g) more) ∙ h ∙ ap (λ i. map (message_of g) (take i ms)) same
-take_one g (Close r) more n ms front e h t =
-    let same : n ≡ n + 0 = omega arith in
-    filter_map-append (taken_from g) more (op_of (said (Close r)) ∷ []) ∙ append-nil (filter_map (taken_from g) more) ∙ h ∙ ap (λ i. map (message_of g) (take i ms)) same
+take_one g (Append r q tag previous body) more n ms front e h t = take_none_more g _ more n ms refl h
+take_one g (Close r) more n ms front e h t = take_none_more g _ more n ms refl h
+take_one g (Mark c tag previous) more n ms front e h t = take_none_more g _ more n ms refl h
 take_one g (UnlinkHead r q tag body) more n ms front e h t =
     let m : Message = record { sender = r; tag = tag; body = body } in
     let parts = filter_map-append (taken_from g) more (Take m ∷ []) in
@@ -408,10 +418,10 @@ module _ (s : State) (k : IsSound s) where
           let shown = views (layout_of s.sizes) (items s.sizes s.records) g (store_is_layout s.sizes) k.log.legal below all_leave in
           record { view = now; shown = subst (λ (q : Slots). ShowsAt (layout_of s.sizes) q g now) (sym (slots_are s k)) shown; is = group_is }
 
-    pub none_is_on : latched_in s.rows (directory_at g / 16) ≡ false → NoneIsOn g s.rows
-    none_is_on off r u i e same =
+    pub none_is_on : g < sender_count s.sizes → latched_in s.rows (directory_at g / 16) ≡ false → NoneIsOn g s.rows
+    none_is_on below off r u i e same =
         let h : FollowsPlan s.sizes s.records s.ends r.txn u = (subst (IsAsPlanned s.sizes s.records s.ends r) e (k.standing.each r i).going).0 in
-        let on = directory_latched s.sizes s.records s.ends r.txn u h in
+        let on = directory_latched s.sizes s.records s.ends r.txn u h (subst (λ n. n < sender_count s.sizes) (sym same) below) in
         let not : latched_by u (directory_at g / 16) ≡ false = sym (ap (λ o. latched_under o (directory_at g / 16)) e) ∙ not_under s.rows (directory_at g / 16) r i off in
         true≢false (sym on ∙ ap (λ n. latched_by u (directory_at n / 16)) same ∙ not)
 
@@ -421,7 +431,7 @@ views_held = record {
   shown_now = λ s g k below off. shown_now s k g off below;
   whole = λ s g k below. group_chain s.sizes (left_by s.sizes s.records).quiet g (group_of_holders s g) (shown_whole s k g below);
   now = λ s g k below off. group_chain s.sizes (slots_now s) g (group_of_holders s g) (shown_now s k g off below);
-  unlatched = λ s g k off. none_is_on s k g off;
+  unlatched = λ s g k below off. none_is_on s k g below off;
   taken = λ s g k. taken_first s k g;
   no_other_takes = λ s g r k i n. others_took_none s k g r i n;
   no_other_sends = λ s g r k i n. others_sent_none s k g r i n;

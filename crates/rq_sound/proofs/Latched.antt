@@ -1,7 +1,7 @@
 -- What stands on pages that no operation under way has latched.
-use Rattle.std.proofs.Common.{◌≡◌, ◌≢◌, ℕ, ◌<◌, List, [], ◌∷◌, false, sym, ap, ◌∙◌, subst, ◌⊎◌, inl, inr}
+use Rattle.std.proofs.Common.{◌≡◌, ◌≢◌, ℕ, ◌<◌, List, [], ◌∷◌, false, sym, ap, ◌∙◌, subst, ◌⊎◌, inl, inr, arith}
 use Rattle.std.proofs.lemmas.Bool.{true≢false}
-use Rattle.rq_model.specs.declared.record.Deed.TheVariants.{Append, UnlinkHead, Close}
+use Rattle.rq_model.specs.declared.record.Deed.TheVariants.{Append, UnlinkHead, Close, Mark}
 use Rattle.rq_model.specs.declared.txn.Sub.{Sub}
 use Rattle.rq_page.specs.declared.directory.Directory.{Directory}
 use Rattle.rq_views.specs.Log.{Item, Places, LogState, Write, Untouched, state_of}
@@ -21,14 +21,16 @@ slots_are_quiet page z a g none = elim (g.each a) [
 first_off : (l : Places) (r s : ℕ) (d e : Directory) (ws us : List Write) → ws ≡ directory_write l r d e ∷ us → Untouched (l.directory_at s) ws → r ≢ s
 first_off l r s d e ws us is off = λ same. (subst (Untouched (l.directory_at s)) is off).0 (ap l.directory_at (sym same))
 
--- an operation that does not write the directory slot of s is not of s
-pub not_of : (l : Places) (s : ℕ) (t : Turn) (ws : List Write) → IsPlan l t ws → Untouched (l.directory_at s) ws → turn_sender t ≢ s
-not_of l s (Did (Append r n tag previous body)) ws p off = first_off l r s _ _ ws _ p.writes off
-not_of l s (Did (UnlinkHead r n tag body)) ws p off = first_off l r s _ _ ws _ p.writes off
-not_of l s (Did (Close r)) ws p off = first_off l r s _ _ ws _ p.writes off
-not_of l s (Undid (Append r n tag previous body)) ws p off = first_off l r s _ _ ws _ p.writes off
-not_of l s (Undid (UnlinkHead r n tag body)) ws p off = first_off l r s _ _ ws _ p.writes off
-not_of l s (Undid (Close r)) ws p off = first_off l r s _ _ ws _ p.writes off
+-- an operation that does not write the directory slot of a sender s is not of s; no sender has a client's group
+pub not_of : (l : Places) (s : ℕ) (t : Turn) (ws : List Write) → s < l.senders → IsPlan l t ws → Untouched (l.directory_at s) ws → turn_sender t ≢ s
+not_of l s (Did (Append r n tag previous body)) ws below p off = first_off l r s _ _ ws _ p.writes off
+not_of l s (Did (UnlinkHead r n tag body)) ws below p off = first_off l r s _ _ ws _ p.writes off
+not_of l s (Did (Close r)) ws below p off = first_off l r s _ _ ws _ p.writes off
+not_of l s (Did (Mark c tag previous)) ws below p off = λ same. omega (arith, p.apart, below, same)
+not_of l s (Undid (Append r n tag previous body)) ws below p off = first_off l r s _ _ ws _ p.writes off
+not_of l s (Undid (UnlinkHead r n tag body)) ws below p off = first_off l r s _ _ ws _ p.writes off
+not_of l s (Undid (Close r)) ws below p off = first_off l r s _ _ ws _ p.writes off
+not_of l s (Undid (Mark c tag previous)) ws below p off = λ same. omega (arith, p.apart, below, same)
 
 part_spares : (s : ℕ) (owed ws : List Write) → Spares s (onto owed ws) → Spares s ws
 part_spares s [] ws h = h
@@ -46,5 +48,5 @@ pub shown_unlatched : (l : Places) (log : List Item) (s : ℕ) → IsLayout l �
     → ((o : Sub) → ((state_of l log).writes o ≡ []) ⊎ IsFor l s ((state_of l log).writes o)) → ShowsAt l (state_of l log).slots s (view log s)
 shown_unlatched l log s is legal below h = views l log s is legal below (λ o. elim (h o) [
   | inl e ↦ subst (Spares s) (sym e) tt
-  | inr p ↦ part_spares s p.owed ((state_of l log).writes o) (plan_spares l s p.turn (onto p.owed ((state_of l log).writes o)) (not_of l s p.turn (onto p.owed ((state_of l log).writes o)) p.plan p.off) p.plan)
+  | inr p ↦ part_spares s p.owed ((state_of l log).writes o) (plan_spares l s p.turn (onto p.owed ((state_of l log).writes o)) (not_of l s p.turn (onto p.owed ((state_of l log).writes o)) below p.plan p.off) p.plan)
 ])

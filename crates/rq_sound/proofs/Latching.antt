@@ -1,19 +1,20 @@
 -- A call can be planned exactly where it is not latched.
-use Rattle.std.proofs.Common.{◌≡◌, ◌||◌, ℕ, ◌+◌, ◌-◌, ◌/◌, ◌<◌, ◌≤◌, ◌++◌, ◌&&◌, ◌⊎◌, List, [], ◌∷◌, map, refl, sym, ◌∙◌, ap, subst, Bool, true, false, not, nat_lt, Option, Some, None, inl, inr, arith}
+use Rattle.std.proofs.Common.{◌≡◌, ◌||◌, ℕ, ◌+◌, ◌-◌, ◌/◌, ◌<◌, ◌≤◌, ◌++◌, ◌&&◌, ◌⊎◌, List, [], ◌∷◌, length, map, refl, sym, ◌∙◌, ap, subst, Bool, true, false, not, nat_lt, Option, Some, None, inl, inr, arith}
 use Rattle.std.proofs.lemmas.Bool.{and_from, and_parts, cases_Bool, cases_eq, cases_lt, eq-eqb, false≢true, lt-ltb, ltb-true, not-true, or_from, or_parts, true≢false, not-false}
 use Rattle.rq_model.specs.declared.message.Message.{Message}
 use Rattle.rq_model.specs.declared.record.Deed.{Deed}
-use Rattle.rq_model.specs.declared.record.Deed.TheVariants.{Append, UnlinkHead, Close}
+use Rattle.rq_model.specs.declared.record.Deed.TheVariants.{Append, UnlinkHead, Close, Mark}
 use Rattle.rq_model.specs.declared.txn.Txn.{Txn}
 use Rattle.rq_model.specs.History.{Call}
-use Rattle.rq_model.specs.History.Job.{Sending, Taking, Ending}
+use Rattle.rq_model.specs.History.Job.{Sending, Taking, Ending, Marking}
 use Rattle.rq_model.specs.Ledger.{Open, found}
 use Rattle.rq_model.specs.Legal.{OnFound}
 use Rattle.rq_model.specs.Tests.{Passes, any_gives, below, gives, is_busy, newest, starts}
-use Rattle.rq_model.specs.Vocabulary.{is_some, last, last_or}
+use Rattle.rq_model.specs.Vocabulary.{client_group, is_some, last, last_or}
 use Rattle.rq_page.specs.declared.cell.Cell.{Cell}
+use Rattle.rq_page.specs.declared.client.ClientSlot.{ClientSlot}
 use Rattle.rq_page.specs.declared.directory.Directory.{Directory}
-use Rattle.rq_page.specs.Sizes.{Sizes, IsCellAddress, cell_at, cell_count, directory_at, place_of, sender_count}
+use Rattle.rq_page.specs.Sizes.{Sizes, IsCellAddress, cell_at, cell_count, client_count, client_slot_at, directory_at, place_of, sender_count}
 use Rattle.rq_page.specs.Slots.{Slot}
 use Rattle.rq_page.specs.Slots.Slot.{Free, Used, Sender, Client}
 use Rattle.rq_page.proofs.Addresses.{cells_have_places, places_are_cells}
@@ -22,7 +23,7 @@ use Rattle.rq_views.specs.InStore.{AllStand, IsInPlace, WritesStand}
 use Rattle.rq_views.specs.Items.{items, layout_of}
 use Rattle.rq_views.specs.Legal.{view}
 use Rattle.rq_views.specs.Log.{HasBefores, Places, Slots, Write, cells_of}
-use Rattle.rq_views.specs.Plans.{IsPutBack, IsUnlinkTail, ShowsAt, Turn, append_writes, directory_head_unlinked, directory_put_back, directory_tail_unlinked, directory_write, put_back_writes, unlink_head_writes, unlink_tail_writes, with_next, with_prev}
+use Rattle.rq_views.specs.Plans.{IsPutBack, IsUnlinkTail, ShowsAt, Turn, append_writes, directory_head_unlinked, directory_put_back, directory_tail_unlinked, client_write, directory_write, put_back_writes, unlink_head_writes, unlink_tail_writes, with_next, with_prev}
 use Rattle.rq_views.specs.Plans.Turn.{Did, Undid}
 use Rattle.rq_views.specs.Stored.{is_used}
 use Rattle.rq_views.proofs.CanUndo.{can_undo_taken}
@@ -41,12 +42,13 @@ use Rattle.rq_store.proofs.RowLists.{found_in}
 use Rattle.rq_sound.specs.Sound.{IsSound}
 use Rattle.rq_sound.specs.Calls.{IsIdle}
 use Rattle.rq_sound.specs.Groups.{StandsAt, slots_now}
+use Rattle.rq_sound.specs.Inverses.{MayBeUndone}
 use Rattle.rq_sound.specs.Plans.{AreOff}
 use Rattle.rq_sound.specs.Latching.{AllFreeLatched, Begins, IsLatched, LatchedIsExact, MayBePlanned, NeedsLatched, any_latched, at_head, at_tail, before_tail, behind_head, completed, head_in, is_mark, named, needed, next_in, prev_in, tail_in}
 use Rattle.rq_sound.proofs.ChainEnds.{empty_links, front_stands, head_stands, next_stands, tail_stands}
 use Rattle.rq_sound.proofs.FreeCells.{all_one}
 use Rattle.rq_sound.proofs.Going.{unlatched_is_quiet}
-use Rattle.rq_sound.proofs.Groups.{all_stand, shows_now, tells_group}
+use Rattle.rq_sound.proofs.Groups.{all_stand, shows_now, shows_tag, tells_group}
 use Rattle.rq_sound.proofs.LatchLists.{any_append, any_join, any_parts, end_before, end_stands, link_off, named_off, off_named, relinked_parts, relinked_stand, some_below}
 use Rattle.rq_store.proofs.Opens.{found_open, open_found}
 use Rattle.rq_sound.proofs.Lengths.{back_there, tail_there}
@@ -55,7 +57,7 @@ use Rattle.rq_sound.proofs.PlanFits.{above, is_put_back, is_unlink_tail, put_bac
 use Rattle.rq_sound.proofs.Planned.{sent_last}
 use Rattle.rq_sound.proofs.UsedCells.{free_from}
 use Rattle.rq_sound.proofs.Waits.{gives_is, none_gives}
-use Rattle.rq_sound.proofs.Inverses.{open_deed, deed_below}
+use Rattle.rq_sound.proofs.Inverses.{open_deed, deed_stored, may_be_undone}
 
 -- the last of what is finished
 last_push : (xs : List Finished) (x : Finished) → last (xs ++ x ∷ []) ≡ Some x
@@ -196,13 +198,15 @@ module _ (s : State) (k : IsSound s) where
             ∙ sym (any_append s.rows ys (named (link (completed s (end (completed s (directory_at g)))))))
       ]
 
-  pub as_read : (turn : Turn) → latched (needed q turn) ≡ latched (needed (completed s) turn)
+  pub as_read : (turn : Turn) → latched (needed z q turn) ≡ latched (needed z (completed s) turn)
   as_read (Did (Append g n tag previous body)) = read_tail g
   as_read (Did (UnlinkHead g n tag body)) = read_both g head_in next_in (read_head g)
   as_read (Did (Close g)) = refl
+  as_read (Did (Mark c tag previous)) = refl
   as_read (Undid (Append g n tag previous body)) = read_both g tail_in prev_in (read_tail g)
   as_read (Undid (UnlinkHead g n tag body)) = read_head g
   as_read (Undid (Close g)) = refl
+  as_read (Undid (Mark c tag previous)) = refl
 
   -- what is planned needs no latched page
   planned_send : (g n tag previous : ℕ) (body : List ℕ) → MayBePlanned s (Did (Append g n tag previous body)) → NeedsLatched s (Did (Append g n tag previous body)) → ⊥
@@ -270,13 +274,18 @@ module _ (s : State) (k : IsSound s) where
   marked_off : (g : ℕ) (d e : Directory) (ws : List Write) → ws ≡ directory_write l g d e ∷ [] → AreOff s ws → any_latched s.rows (directory_at g ∷ []) ≡ false
   marked_off g d e ws is h = or_from (latched_in s.rows (directory_at g / 16)) false (subst (AreOff s) is h).0 refl
 
+  tagged_off : (c : ℕ) (held after : ClientSlot) (ws : List Write) → held.client ≡ c → ws ≡ client_write l held after ∷ [] → AreOff s ws → any_latched s.rows (client_slot_at z c ∷ []) ≡ false
+  tagged_off c held after ws own is h = or_from (latched_in s.rows (client_slot_at z c / 16)) false (ap (λ i. latched_in s.rows (client_slot_at z i / 16)) (sym own) ∙ (subst (AreOff s) is h).0) refl
+
   pub never_both : (turn : Turn) → MayBePlanned s turn → NeedsLatched s turn → ⊥
   never_both (Did (Append g n tag previous body)) p h = planned_send g n tag previous body p h
   never_both (Did (UnlinkHead g n tag body)) p h = planned_receive g n tag body p h
   never_both (Did (Close g)) p h = no_cell_needed (directory_at g ∷ []) h (marked_off g _ _ p.writes p.plan.writes p.off)
+  never_both (Did (Mark c tag previous)) p h = no_cell_needed (client_slot_at z c ∷ []) h (tagged_off c p.plan.held _ p.writes p.plan.own p.plan.writes p.off)
   never_both (Undid (Append g n tag previous body)) p h = planned_unsend g n tag previous body p h
   never_both (Undid (UnlinkHead g n tag body)) p h = planned_return g n tag body p h
   never_both (Undid (Close g)) p h = no_cell_needed (directory_at g ∷ []) h (marked_off g _ _ p.writes p.plan.writes p.off)
+  never_both (Undid (Mark c tag previous)) p h = no_cell_needed (client_slot_at z c ∷ []) h (tagged_off c p.plan.held _ p.writes p.plan.own p.plan.writes p.off)
 
   -- a cell may be taken, or each free one is on a latched page
   find_cell : ((a : ℕ) × IsCellAddress z a × (q a ≡ Free) × off a) ⊎ AllFreeLatched s
@@ -426,6 +435,24 @@ module _ (s : State) (k : IsSound s) where
       off = (directory, tt);
     }
 
+  -- the newest mark of a client whose slot's page is off
+  may_unmark : (c tag previous : ℕ) → c < client_count z → off (client_slot_at z c) → 0 < length (viewed (client_group c)).messages → MayBePlanned s (Undid (Mark c tag previous))
+  may_unmark c tag previous below c_off some =
+      let h = shows_tag s c k below c_off in
+      let j = h.held in
+      let after : ClientSlot = record j { count = j.count - 1; tag = previous } in
+      let n = h.count in
+      let few = k.range.directory_high in
+      let place : client_slot_at z j.client ≡ client_slot_at z c = ap (client_slot_at z) h.own in
+      let stands : IsInPlace z (client_slot_at z c) (Client j) = subst (IsInPlace z (client_slot_at z c)) h.at (all_stand s k (client_slot_at z c)) in
+      record {
+        writes = client_write l j after ∷ [];
+        plan = record { held = j; own = h.own; some = omega (arith, some, n); apart = omega (arith, few); writes = refl };
+        fits = (sym (ap q place ∙ h.at), tt);
+        stand = (subst (λ a. IsInPlace z a (Client after)) (sym place) (let i = stands in record { own = i.own; low = i.low; high = i.high; slot = i.slot }), tt);
+        off = (ap (λ a. latched_in s.rows (a / 16)) place ∙ c_off, tt);
+      }
+
   -- what a turn needs is latched, or it can be planned, whatever its group
   first_off : (g : ℕ) (rest : List ℕ) → any_latched s.rows (directory_at g ∷ rest) ≡ false → off (directory_at g)
   first_off g rest h = (or_parts (latched_in s.rows (directory_at g / 16)) (any_latched s.rows rest) h).0
@@ -466,7 +493,7 @@ module _ (s : State) (k : IsSound s) where
     inverse_or (Append g n tag previous body) e = elim (cases_Bool (any_latched s.rows (before_tail (completed s) g))) [
       | inl y ↦ inl (inl y)
       | inr none ↦
-          let inside = deed_below s r fs f k m newest_is (Append g n tag previous body) e in
+          let inside = deed_stored s r fs f k m newest_is (Append g n tag previous body) e in
           let front = (any_parts s.rows (at_tail (completed s) g) (named (prev_in (completed s (tail_in (completed s (directory_at g)))))) none).0 in
           let dir = first_off g (named (tail_in (completed s (directory_at g)))) front in
           let last_one = sent_last (items s.sizes s.records) r.txn f.lsn g n tag previous body (placed fs) (groups_of s.sizes s.records k.log) (open_deed s r fs f k m newest_is (Append g n tag previous body) e) in
@@ -481,7 +508,7 @@ module _ (s : State) (k : IsSound s) where
       | inl y ↦ inl (inl y)
       | inr none ↦ elim find_cell [
         | inl c ↦
-            let inside = deed_below s r fs f k m newest_is (UnlinkHead g n tag body) e in
+            let inside = deed_stored s r fs f k m newest_is (UnlinkHead g n tag body) e in
             let dir = first_off g (named (head_in (completed s (directory_at g)))) none in
             let x = can_undo_taken g (items s.sizes s.records) r.txn f.lsn g n tag body (placed fs) (groups_of s.sizes s.records k.log) (open_deed s r fs f k m newest_is (UnlinkHead g n tag body) e) (eq-eqb g g refl) in
             let some : 0 < (viewed g).received = x.1 in
@@ -493,7 +520,11 @@ module _ (s : State) (k : IsSound s) where
     ]
     inverse_or (Close g) e = elim (cases_Bool (any_latched s.rows (directory_at g ∷ []))) [
       | inl y ↦ inl (inl y)
-      | inr n ↦ inr (may_reopen g (deed_below s r fs f k m newest_is (Close g) e) (first_off g [] n))
+      | inr n ↦ inr (may_reopen g (deed_stored s r fs f k m newest_is (Close g) e) (first_off g [] n))
+    ]
+    inverse_or (Mark c tag previous) e = elim (cases_Bool (any_latched s.rows (client_slot_at z c ∷ []))) [
+      | inl y ↦ inl (inl y)
+      | inr n ↦ inr (may_unmark c tag previous (deed_stored s r fs f k m newest_is (Mark c tag previous) e).0 (or_parts (latched_in s.rows (client_slot_at z c / 16)) false n).0 (subst (MayBeUndone s) e (may_be_undone s r fs f k m newest_is)))
     ]
 
   -- a transaction that passes the tests has a row
@@ -520,6 +551,7 @@ module _ (s : State) (k : IsSound s) where
         subst (λ x. (any_latched s.rows (at_tail (completed s) x) ≡ true) ⊎ ((true ≡ true) × AllFreeLatched s)) (sym (ap (λ (x : Message). x.sender) same)) h
     each h (Did (UnlinkHead g n tag body)) b = let bad : Taking g ≡ Sending m = b in cc
     each h (Did (Close g)) b = let bad : Ending g ≡ Sending m = b in cc
+    each h (Did (Mark c tag previous)) b = let bad : Marking c tag ≡ Sending m = b in cc
     each h (Undid d) b = absurd b
 
   some_from : (t : Txn) (g : ℕ) → g < sender_count z → 1 ≤ waits s.waiting g → (IsLatched s (Call.Start_receive_from t g) → ⊥) → Some_turn (Call.Start_receive_from t g)
@@ -531,6 +563,7 @@ module _ (s : State) (k : IsSound s) where
     each h (Did (Append x n tag previous body)) b = cc
     each h (Did (UnlinkHead x n tag body)) b = let e : g ≡ x = cc in inl (subst (λ y. any_latched s.rows (behind_head (completed s) y) ≡ true) e h)
     each h (Did (Close x)) b = cc
+    each h (Did (Mark c tag previous)) b = cc
     each h (Undid d) b = absurd b
 
   some_close : (t : Txn) (g : ℕ) → g < sender_count z → (IsLatched s (Call.Start_close t g) → ⊥) → Some_turn (Call.Start_close t g)
@@ -542,6 +575,7 @@ module _ (s : State) (k : IsSound s) where
     each h (Did (Append x n tag previous body)) b = cc
     each h (Did (UnlinkHead x n tag body)) b = cc
     each h (Did (Close x)) b = let e : g ≡ x = cc in subst (λ y. NeedsLatched s (Did (Close y))) e h
+    each h (Did (Mark c tag previous)) b = cc
     each h (Undid d) b = absurd b
 
   -- from whichever group of which a message waits
@@ -602,6 +636,7 @@ module _ (s : State) (k : IsSound s) where
             | inr m ↦ absurd (true≢false (sym (and_from _ _ (is_waiting x (subst (WaitsFor s t) e b.1)) (ap not m)) ∙ none x (subst (λ y. y < sender_count z) e b.1.0)))
           ]
       each none (Did (Close x)) b = let bad = b.2 in cc
+      each none (Did (Mark c tag previous)) b = let bad = b.2 in cc
       each none (Undid d) b = absurd b
 
   -- the inverse of the newest deed

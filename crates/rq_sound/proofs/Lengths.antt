@@ -3,23 +3,25 @@ use Rattle.std.proofs.Common.{◌≡◌, ℕ, ◌+◌, ◌<◌, ◌++◌, List, 
 use Rattle.std.proofs.lemmas.Bool.{lt-ltb, eqb-true, false_from_ne_true}
 use Rattle.std.proofs.lemmas.List.{length-append, length-map}
 use Rattle.rq_model.specs.declared.record.Deed.{Deed}
-use Rattle.rq_model.specs.declared.record.Deed.TheVariants.{Append, UnlinkHead, Close}
+use Rattle.rq_model.specs.declared.record.Deed.TheVariants.{Append, UnlinkHead, Close, Mark}
 use Rattle.rq_page.specs.declared.cell.Cell.{Cell}
 use Rattle.rq_page.specs.declared.directory.Directory.{Directory}
 use Rattle.rq_page.specs.Slots.Slot.{Free, Used, Sender}
 use Rattle.rq_views.specs.Chain.{directory_appended, Node, Linked, View, first, last, message}
 use Rattle.rq_views.specs.Log.{Slots, put, cell_in, cells_of, Write, HasBefores, Places}
-use Rattle.rq_views.specs.Plans.{ShowsAt, IsPlan, LinksTo, deed_sender, relinked, with_next, with_prev, directory_write, directory_tail_unlinked, directory_put_back, unlink_tail_writes, put_back_writes, append_writes, unlink_head_writes, directory_head_unlinked}
+use Rattle.rq_views.specs.Plans.{IsPlan, LinksTo, relinked, with_next, with_prev, directory_write, directory_tail_unlinked, directory_put_back, unlink_tail_writes, put_back_writes, append_writes, unlink_head_writes, directory_head_unlinked}
 use Rattle.rq_views.specs.Plans.Turn.{Did, Undid}
 use Rattle.rq_views.proofs.Chains.{end_linked, front_linked, last_append, last_pos}
 use Rattle.rq_views.proofs.ChainLaws.{through, used_sender, free_sender, shows_here}
 use Rattle.rq_views.proofs.Takes.{snoc, some_is}
+use Rattle.rq_sound.proofs.Own.{ShowsOwn}
 
 -- what the model says that the inverse of a deed writes, where its sender's chain has n messages
 abbrev pub inverse_writes : Deed → ℕ → ℕ
 inverse_writes (Append s n tag previous body) m = cond (nat_lt 1 m) 3 2
 inverse_writes (UnlinkHead s n tag body) m = cond (nat_eq m 0) 2 3
 inverse_writes (Close s) m = 1
+inverse_writes (Mark c tag previous) m = 1
 
 pub tail_there : (l : Places) (q : Slots) (s : ℕ) (d e : Directory) (at : ℕ) (o : Option Cell) (f : Cell → Cell) (b : ℕ) (c : Cell) → HasBefores (directory_write l s d e ∷ relinked at o f (record { at = b; before = Used c; after = Free } ∷ [])) q → (Sender s d ≡ q (l.directory_at s)) × (Used c ≡ q b)
 tail_there l q s d e at None f b c h = ((through q b Free (Sender s d) (l.directory_at s) (free_sender s d) h.0).1, h.1.0)
@@ -82,7 +84,7 @@ back_length l q s new tag body d old ns link k h =
     at (n ∷ ns) k h two three = three (let e : d.head ≡ n.at = h in let p : 0 < n.at = k.0 in omega (arith, e, p)) ∙ ap (λ b. cond b 2 3) (sym (more n ns))
 
 -- the length of the inverse's plan is what the model says
-pub inverse_length : (l : Places) (q : Slots) (ws : List Write) (d : Deed) (v : View) → IsPlan l (Undid d) ws → HasBefores ws q → ShowsAt l q (deed_sender d) v → length ws ≡ inverse_writes d (length v.messages)
+pub inverse_length : (l : Places) (q : Slots) (ws : List Write) (d : Deed) (v : View) → IsPlan l (Undid d) ws → HasBefores ws q → ShowsOwn l q d v → length ws ≡ inverse_writes d (length v.messages)
 inverse_length l q ws (Append s n tag previous body) v p f h =
     let t = tail_there l q s p.directory (directory_tail_unlinked p.directory p.cell previous) p.cell.prev p.front (with_next 0) p.directory.tail p.cell (subst (λ x. HasBefores x q) p.writes f) in
     let k = shows_here l q s v p.directory t.0 h in
@@ -94,12 +96,14 @@ inverse_length l q ws (UnlinkHead s n tag body) v p f h =
     let len : length v.messages ≡ length k.nodes = ap (λ (xs : List (ℕ × List ℕ)). length xs) k.messages ∙ length-map k.nodes message in
     ap length p.writes ∙ back_length l q s p.new tag body p.directory p.old k.nodes p.old_is k.linked k.head ∙ ap (λ m. cond (nat_eq m 0) 2 3) (sym len)
 inverse_length l q ws (Close s) v p f h = ap length p.writes
+inverse_length l q ws (Mark c tag previous) v p f h = ap length p.writes
 
 -- and what it says that the deed writes
 abbrev pub deed_writes : Deed → ℕ → ℕ
 deed_writes (Append s n tag previous body) m = cond (nat_eq m 0) 2 3
 deed_writes (UnlinkHead s n tag body) m = cond (nat_lt 1 m) 3 2
 deed_writes (Close s) m = 1
+deed_writes (Mark c tag previous) m = 1
 
 append_length : (l : Places) (q : Slots) (s new tag : ℕ) (body : List ℕ) (d : Directory) (old : Option Cell) (ns : List Node) → LinksTo s d.tail old → Linked (cells_of q) s 0 (d.received + 1) ns 0 → d.tail ≡ last 0 ns
     → length (append_writes l s d new tag body old) ≡ cond (nat_eq (length ns) 0) 2 3
@@ -129,7 +133,7 @@ head_length l q s d c next (n ∷ ns) pos link at k h =
     from (m ∷ ms) k e two three = three (let p : 0 < m.at = k.0 in omega (arith, e, p)) ∙ ap (λ b. cond b 3 2) (sym (lt-ltb 1 (length (n ∷ m ∷ ms)) (omega arith)))
 
 -- the length of the deed's plan is what the model says
-pub deed_length : (l : Places) (q : Slots) (ws : List Write) (d : Deed) (v : View) → IsPlan l (Did d) ws → HasBefores ws q → ShowsAt l q (deed_sender d) v → length ws ≡ deed_writes d (length v.messages)
+pub deed_length : (l : Places) (q : Slots) (ws : List Write) (d : Deed) (v : View) → IsPlan l (Did d) ws → HasBefores ws q → ShowsOwn l q d v → length ws ≡ deed_writes d (length v.messages)
 deed_length l q ws (Append s n tag previous body) v p f h =
     let t = back_there l q s p.directory (directory_appended p.directory p.new tag) p.directory.tail p.old (with_next p.new) p.new (record { sender = s; sequence = p.directory.sent + 1; tag = tag; body = body; next = 0; prev = p.directory.tail }) (subst (λ x. HasBefores x q) p.writes f) in
     let k = shows_here l q s v p.directory t h in
@@ -141,3 +145,4 @@ deed_length l q ws (UnlinkHead s n tag body) v p f h =
     let len : length v.messages ≡ length k.nodes = ap (λ (xs : List (ℕ × List ℕ)). length xs) k.messages ∙ length-map k.nodes message in
     ap length p.writes ∙ head_length l q s p.directory p.cell p.next k.nodes p.used p.next_is t.1 k.linked k.head ∙ ap (λ m. cond (nat_lt 1 m) 3 2) (sym len)
 deed_length l q ws (Close s) v p f h = ap length p.writes
+deed_length l q ws (Mark c tag previous) v p f h = ap length p.writes

@@ -3,6 +3,7 @@ pub mod Latched
 pub mod UsedCells
 pub mod UndoPlans
 pub mod Going
+pub mod Own
 pub mod Beside
 pub mod Counted
 pub mod FreeCells

@@ -1,25 +1,26 @@
 -- What is planned from the slots as they are may start.
-use Rattle.std.proofs.Common.{◌≡◌, ◌≢◌, ℕ, ◌+◌, ◌/◌, ◌<◌, ◌++◌, ◌||◌, List, [], ◌∷◌, length, reverse, refl, sym, ◌∙◌, ap, subst, true, false, not, nat_eq, nat_lt, Option, Some, arith}
+use Rattle.std.proofs.Common.{◌≡◌, ◌≢◌, ℕ, ◌+◌, ◌/◌, ◌<◌, ◌≤◌, ◌^◌, ◌++◌, ◌||◌, List, [], ◌∷◌, length, reverse, refl, sym, ◌∙◌, ap, subst, true, false, not, nat_eq, nat_lt, Option, Some, arith}
 use Rattle.std.proofs.lemmas.Bool.{true≢false, false≢true, eq-eqb, ltb-true, not-false}
 use Rattle.std.proofs.lemmas.List.{length-append, length-map}
 use Rattle.rq_model.specs.declared.txn.Txn.{Txn}
 use Rattle.rq_model.specs.declared.record.Deed.{Deed}
-use Rattle.rq_model.specs.declared.record.Deed.TheVariants.{Append, UnlinkHead, Close}
+use Rattle.rq_model.specs.declared.record.Deed.TheVariants.{Append, UnlinkHead, Close, Mark}
 use Rattle.rq_model.specs.Commits.{committed_of}
 use Rattle.rq_model.specs.Deeds.{TellsItself}
 use Rattle.rq_model.specs.Ledger.{Open, ended_in, found}
 use Rattle.rq_model.specs.Legal.{start_of}
 use Rattle.rq_model.specs.Tests.{Passes, cells_in_use, has_closed, is_aborting}
 use Rattle.rq_model.specs.Vocabulary.{In}
+use Rattle.rq_page.specs.declared.client.ClientSlot.{ClientSlot}
 use Rattle.rq_page.specs.declared.directory.Directory.{Directory}
-use Rattle.rq_page.specs.Sizes.{Sizes, cell_count, directory_at, sender_count}
-use Rattle.rq_page.specs.Slots.Slot.{Free, Sender}
+use Rattle.rq_page.specs.Sizes.{Sizes, cell_count, client_slot_at, directory_at, sender_count}
+use Rattle.rq_page.specs.Slots.Slot.{Free, Sender, Client}
 use Rattle.rq_views.specs.Chain.{Shows, View, message}
 use Rattle.rq_views.specs.Groups.{KeepsGroups}
 use Rattle.rq_views.specs.Items.{items, layout_of}
 use Rattle.rq_views.specs.Legal.{Placed, open_deeds, view}
 use Rattle.rq_views.specs.Log.{HasBefores, Item, Places, Slots, Write, cells_of}
-use Rattle.rq_views.specs.Plans.{ShowsAt, IsAppend, IsPlan, IsPutBack, IsUnlinkHead, IsUnlinkTail, Turn, deed_sender, directory_write, with_turn}
+use Rattle.rq_views.specs.Plans.{ShowsAt, IsAppend, IsPlan, IsPutBack, IsUnlinkHead, IsUnlinkTail, Turn, client_write, directory_write, with_turn}
 use Rattle.rq_views.specs.Plans.Turn.{Did, Undid}
 use Rattle.rq_views.proofs.CanUndo.{can_undo_sent, can_undo_taken}
 use Rattle.rq_views.proofs.ChainLaws.{shows_here}
@@ -43,13 +44,13 @@ use Rattle.rq_sound.specs.Sound.{IsSound}
 use Rattle.rq_sound.specs.Starts.{IsPlanned, MayDo, MayUndo}
 use Rattle.rq_sound.specs.Calls.{IsIdle}
 use Rattle.rq_sound.specs.Groups.{slots_now}
-use Rattle.rq_sound.specs.Plans.{AreUnlatched, IsNew, IsPlannedFrom, PlansMayStart}
+use Rattle.rq_sound.specs.Plans.{AreUnlatched, IsMarkOf, IsNew, IsPlannedFrom, PlansMayStart}
 use Rattle.rq_sound.proofs.Contracts.{answered}
 use Rattle.rq_sound.proofs.FreeEnds.{free_is, free_to_take}
 use Rattle.rq_sound.proofs.Groups.{all_stand, shows_now, slots_are}
 use Rattle.rq_store.proofs.Opens.{found_open, open_found}
 use Rattle.rq_sound.proofs.PlanFits.{above, is_put_back, is_unlink_tail, put_back_fits, unlink_tail_fits, writes_directory}
-use Rattle.rq_sound.proofs.Inverses.{open_deed, deed_below}
+use Rattle.rq_sound.proofs.Inverses.{open_deed, deed_stored}
 
 -- the newest send of a transaction is its group's last message, by its number
 pub sent_last : (log : List Item) (t : Txn) (lsn g n tag previous : ℕ) (body : List ℕ) (ps : List Placed) → KeepsGroups log → open_deeds t log ≡ record { lsn = lsn; deed = Append g n tag previous body } ∷ ps
@@ -90,8 +91,23 @@ module _ (s : State) (k : IsSound s) where
   abbrev Fits : List SlotWrite → Turn → Type 0
   Fits us turn = IsPlan l turn (whole us) × HasBefores (whole us) q
 
+  -- no sender has the number of a client's group
+  few_senders : sender_count s.sizes ≤ 2 ^ 32
+  few_senders = (let few = k.range.directory_high in omega (arith, few))
+
+  -- what the client's slot holds is what the write is over
+  holds_client : (ws : List Write) (c : ℕ) (held after : ClientSlot) → ws ≡ client_write l held after ∷ [] → held.client ≡ c → q (client_slot_at s.sizes c) ≡ Client held → HasBefores ws q
+  holds_client ws c held after is own at = subst (λ ws. HasBefores ws q) (sym is) (sym (ap (λ i. q (client_slot_at s.sizes i)) own ∙ at), tt)
+
+  -- the deed's sender, if it has one, is of the store
+  abbrev HasSender : Deed → Type 0
+  HasSender (Append g n tag previous body) = g < sender_count s.sizes
+  HasSender (UnlinkHead g n tag body) = g < sender_count s.sizes
+  HasSender (Close g) = g < sender_count s.sizes
+  HasSender (Mark c tag previous) = Unit {0}
+
   -- a deed
-  fits_deed : (us : List SlotWrite) (d : Deed) → AreUnlatched s us → deed_sender d < sender_count s.sizes → IsPlannedFrom s.sizes q us (Did d) → Fits us (Did d)
+  fits_deed : (us : List SlotWrite) (d : Deed) → AreUnlatched s us → HasSender d → IsPlannedFrom s.sizes q us (Did d) → Fits us (Did d)
   fits_deed us (Append g n tag previous body) free below p =
       let shows = shown us g p.directory _ _ free below p.writes in
       let plan : IsAppend l g (p.directory.sent + 1) tag p.directory.last_tag body (whole us) =
@@ -111,6 +127,10 @@ module _ (s : State) (k : IsSound s) where
     record { directory = p.directory; writes = p.writes },
     subst (λ ws. HasBefores ws q) (sym p.writes) (sym p.directory_is, tt),
   )
+  fits_deed us (Mark c tag previous) free below p = (
+    record { held = p.held; own = p.own; previous_is = p.previous_is; apart = few_senders; writes = p.writes },
+    holds_client (whole us) c p.held _ p.writes p.own p.held_is,
+  )
 
   -- the inverse of a transaction's newest deed
   fits_inverse : (us : List SlotWrite) (r : Row) (fs : List Finished) (f : Finished) (d : Deed) → f.deed ≡ d → AreUnlatched s us → IsIdle s r → r.finished ≡ fs ++ f ∷ [] → IsPlannedFrom s.sizes q us (Undid d) → Fits us (Undid d)
@@ -120,7 +140,7 @@ module _ (s : State) (k : IsSound s) where
 
     at : (d : Deed) → f.deed ≡ d → IsPlannedFrom s.sizes q us (Undid d) → Fits us (Undid d)
     at (Append g n tag previous body) e p =
-        let c = chain us g p.directory _ _ free (deed_below s r fs f k m newest (Append g n tag previous body) e) p.writes p.directory_is in
+        let c = chain us g p.directory _ _ free (deed_stored s r fs f k m newest (Append g n tag previous body) e) p.writes p.directory_is in
         let plan : IsUnlinkTail l g p.directory.sent previous (whole us) = is_unlink_tail s.sizes q (all_stand s k) zero g p.directory (viewed g) p.directory_is c p.cell p.tail_is previous p.front (whole us) p.beside p.writes in
         let number = (sent_last (items s.sizes s.records) r.txn f.lsn g n tag previous body (placed fs) groups (open_deed s r fs f k m newest (Append g n tag previous body) e)).0 in
         let size : length (viewed g).messages ≡ length c.nodes = ap length c.messages ∙ length-map c.nodes message in
@@ -131,7 +151,7 @@ module _ (s : State) (k : IsSound s) where
           subst (λ ws. HasBefores ws q) (sym p.writes) (unlink_tail_fits s.sizes q (all_stand s k) zero g p.directory (viewed g) p.directory_is c p.cell p.tail_is previous p.front p.beside),
         )
     at (UnlinkHead g n tag body) e p =
-        let c = chain us g p.directory _ _ free (deed_below s r fs f k m newest (UnlinkHead g n tag body) e) p.writes p.directory_is in
+        let c = chain us g p.directory _ _ free (deed_stored s r fs f k m newest (UnlinkHead g n tag body) e) p.writes p.directory_is in
         let x = can_undo_taken g (items s.sizes s.records) r.txn f.lsn g n tag body (placed fs) groups (open_deed s r fs f k m newest (UnlinkHead g n tag body) e) (eq-eqb g g refl) in
         let some : 0 < (viewed g).received = x.1 in
         let received = c.received in
@@ -142,6 +162,10 @@ module _ (s : State) (k : IsSound s) where
     at (Close g) e p = (
       record { directory = p.directory; writes = p.writes },
       subst (λ ws. HasBefores ws q) (sym p.writes) (sym p.directory_is, tt),
+    )
+    at (Mark c tag previous) e p = (
+      record { held = p.held; own = p.own; some = p.some; apart = few_senders; writes = p.writes },
+      holds_client (whole us) c p.held _ p.writes p.own p.held_is,
     )
 
   planned : (r : Row) (u : Under) (aim : Aim) (turn : Turn) → IsNew s r u aim → Fits u.writes turn → IsPlanned s r u turn
@@ -171,6 +195,12 @@ module _ (s : State) (k : IsSound s) where
     known : (g : ℕ) → not (nat_lt g (sender_count s.sizes)) ≡ false → g < sender_count s.sizes
     known g h = ltb-true g (sender_count s.sizes) (not-false (nat_lt g (sender_count s.sizes)) h)
 
+    has_sender : (d : Deed) → Passes (size_of s.sizes) (ledger_of s) (start_of r.txn (job_of d)) → HasSender d
+    has_sender (Append g n tag previous body) h = known g h.1.1.1.1.0
+    has_sender (UnlinkHead g n tag body) h = known g h.1.1.1.1.0
+    has_sender (Close g) h = known g h.1.1.1.1.0
+    has_sender (Mark c tag previous) h = tt
+
     not_closed : (g : ℕ) → is_free_for r.txn g s.ends.sending ≡ true → (ended_in (committed_of s.records) g || has_closed g (found r.txn (ledger_of s).open_ones)) ≡ false → (viewed g).closed ≡ false
     not_closed g free h = answered.closed s g r k row free ∙ sym (ap (λ (o : Option Open). ended_in (committed_of s.records) g || has_closed g o) at_open) ∙ h
 
@@ -181,53 +211,58 @@ module _ (s : State) (k : IsSound s) where
         let b = k.counted.bound in
         omega (arith, ne, b)
 
+  -- what is planned from the slots fits them
+  pub fits_slots : (r : Row) (u : Under) (d : Deed) → IsNew s r u (aims.Doing d) → IsPlannedFrom s.sizes q u.writes (Did d) → Passes (size_of s.sizes) (ledger_of s) (start_of r.txn (job_of d)) → IsPlanned s r u (Did d)
+  fits_slots r u d new p h = planned r u (aims.Doing d) (Did d) new (fits_deed u.writes d new.free (has_sender r new.idle d h) p)
+
   -- what passes the tests may be done
-  pub may_do : (r : Row) (u : Under) (d : Deed) → IsNew s r u (aims.Doing d) → IsPlannedFrom s.sizes q u.writes (Did d) → TellsItself d → HasWaiting s.waiting d
+  pub may_do : (r : Row) (u : Under) (d : Deed) → IsNew s r u (aims.Doing d) → IsPlannedFrom s.sizes q u.writes (Did d) → TellsItself d → HasWaiting s.waiting d → IsMarkOf s.sizes d
       → Passes (size_of s.sizes) (ledger_of s) (start_of r.txn (job_of d)) → MayDo s r u d
-  may_do r u (Append g n tag previous body) new p reads wait h =
+  may_do r u (Append g n tag previous body) new p reads wait mark h =
       let below = known r new.idle g h.1.1.1.1.0 in
       let free : is_free_for r.txn g s.ends.sending ≡ true = sym (free_is s k r.txn g) ∙ not-false _ h.1.1.1.1.1.1.0 in
       let room = not_full r new.idle h.1.1.1.1.1.1.1.1.0 in
       record {
-        planned = planned r u (aims.Doing (Append g n tag previous body)) (Did (Append g n tag previous body)) new (fits_deed u.writes (Append g n tag previous body) new.free below p);
+        planned = fits_slots r u (Append g n tag previous body) new p h;
         aim = new.aim_is;
         forward = forward r new.idle h.1.1.0;
-        sender = below;
+        of_store = below;
         reads = reads;
         end = free;
         not_closed = λ e. not_closed r new.idle g free h.1.1.1.1.1.1.1.0;
         waits = wait;
         room = omega (arith, room);
       }
-  may_do r u (UnlinkHead g n tag body) new p reads wait h =
+  may_do r u (UnlinkHead g n tag body) new p reads wait mark h =
       let below = known r new.idle g h.1.1.1.1.0 in
       let bound = k.counted.bound in
       record {
-        planned = planned r u (aims.Doing (UnlinkHead g n tag body)) (Did (UnlinkHead g n tag body)) new (fits_deed u.writes (UnlinkHead g n tag body) new.free below p);
+        planned = fits_slots r u (UnlinkHead g n tag body) new p h;
         aim = new.aim_is;
         forward = forward r new.idle h.1.1.0;
-        sender = below;
+        of_store = below;
         reads = reads;
         end = sym (free_to_take s k r.txn g) ∙ not-false _ h.1.1.1.1.1.0;
         not_closed = λ e. absurd (false≢true e);
         waits = wait;
         room = omega (arith, bound);
       }
-  may_do r u (Close g) new p reads wait h =
+  may_do r u (Close g) new p reads wait mark h =
       let below = known r new.idle g h.1.1.1.1.0 in
       let free : is_free_for r.txn g s.ends.sending ≡ true = sym (free_is s k r.txn g) ∙ not-false _ h.1.1.1.1.1.0 in
       let bound = k.counted.bound in
       record {
-        planned = planned r u (aims.Doing (Close g)) (Did (Close g)) new (fits_deed u.writes (Close g) new.free below p);
+        planned = fits_slots r u (Close g) new p h;
         aim = new.aim_is;
         forward = forward r new.idle h.1.1.0;
-        sender = below;
+        of_store = below;
         reads = reads;
         end = free;
         not_closed = λ e. not_closed r new.idle g free h.1.1.1.1.1.1.0;
         waits = wait;
         room = omega (arith, bound);
       }
+  may_do r u (Mark c tag previous) new p reads wait mark h = absurd mark.2
 
   pub may_undo : (r : Row) (u : Under) (fs : List Finished) (f : Finished) → IsNew s r u (aims.Undoing f.lsn f.deed) → IsPlannedFrom s.sizes q u.writes (Undid f.deed) → r.aborting ≡ true → r.finished ≡ fs ++ f ∷ [] → MayUndo s r u fs f
   may_undo r u fs f new p aborts newest = record {
@@ -268,7 +303,8 @@ from_take z q u g p = record {
 
 pub plans_start : PlansMayStart
 plans_start = record {
-  deeds = λ s r u d k new p reads wait h. may_do s k r u d new p reads wait h;
+  planned = λ s r u d k new p h. fits_slots s k r u d new p h;
+  deeds = λ s r u d k new p reads wait mark h. may_do s k r u d new p reads wait mark h;
   inverses = λ s r u fs f k new p aborts newest. may_undo s k r u fs f new p aborts newest;
   sends = from_send;
   receives = from_take;

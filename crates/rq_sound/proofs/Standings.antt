@@ -1,5 +1,5 @@
 -- What each call leaves of the transactions that have not ended.
-use Rattle.std.proofs.Common.{◌≡◌, ◌≢◌, ℕ, ◌/◌, ◌≤◌, List, drop, reverse, refl, sym, ◌∙◌, ap, subst, true, false, Option, Some, None, inl, inr, ◌⊎◌, ◌&&◌, nat_eq, arith}
+use Rattle.std.proofs.Common.{◌≡◌, ◌≢◌, ℕ, ◌/◌, ◌<◌, ◌≤◌, List, refl, sym, ◌∙◌, ap, subst, true, false, Option, Some, None, inl, inr, ◌⊎◌, ◌&&◌, nat_eq, arith}
 use Rattle.std.proofs.lemmas.Bool.{cases_Bool, true≢false, or_cases, and_parts, eqb-true}
 use Rattle.std.proofs.lemmas.Option.{same_Some}
 use Rattle.rq_model.specs.declared.txn.Txn.{Txn}
@@ -7,48 +7,46 @@ use Rattle.rq_model.specs.declared.record.Deed.{Deed}
 use Rattle.rq_model.specs.declared.record.Record.{Record}
 use Rattle.rq_model.specs.Vocabulary.{In, same_txn, is_some}
 use Rattle.rq_model.proofs.Lists.{same_is, not_same}
-use Rattle.rq_page.specs.Sizes.{Sizes, directory_at}
-use Rattle.rq_views.specs.Log.{Untouched}
-use Rattle.rq_views.specs.Items.{layout_of, operation}
-use Rattle.rq_views.specs.Legal.{onto}
+use Rattle.rq_page.specs.Sizes.{Sizes, directory_at, sender_count}
 use Rattle.rq_views.specs.Plans.{turn_sender, deed_sender}
 use Rattle.rq_views.specs.InStore.{IsStranger}
-use Rattle.rq_level.specs.Writes.{writes_of}
+use Rattle.rq_views.proofs.Tags.{deed_of as turn_deed}
 use Rattle.rq_txn.specs.declared.Aim.{Aim}
 use Rattle.rq_txn.specs.Rows.{Under, Row, deed_of, found_row, change_row, without_row, latched_by}
 use Rattle.rq_txn.specs.declared.Aim.TheVariants.{Doing, Undoing}
 use Rattle.rq_store.proofs.RowLists.{found_in, changed, found_other, found_still, distinct_change, distinct_gone, gone, found_gone}
-use Rattle.rq_sound.proofs.Latched.{not_of}
 use Rattle.rq_groups.specs.declared.Held.{Held}
 use Rattle.rq_groups.specs.Ends.{HeldEnds, has_held, with_held, is_free_for, released}
 use Rattle.rq_store.specs.Rows.{HoldsFor}
 use Rattle.rq_store.specs.Settled.{IsSettled, AreEnds}
-use Rattle.rq_store.specs.Fitting.{left_by}
-use Rattle.rq_sound.specs.Rows.{turn_of}
+use Rattle.rq_sound.specs.Rows.{own_slot, turn_of}
 use Rattle.rq_sound.specs.Standing.{FollowsPlan, IsAsPlanned, HoldsAll, IsRow, AreApart, AreStanding}
 use Rattle.rq_store.proofs.Ends.{without_ends, held_other, held_still, for_other, free_alone}
-use Rattle.rq_store.proofs.Owing.{onto_whole}
 use Rattle.rq_sound.proofs.Beside.{SaysSame, row_beside, settled_beside}
+use Rattle.rq_sound.proofs.Own.{latches_own, same_slot, sender_slot}
 
 pub aim_sender : (a : Aim) → turn_sender (turn_of a) ≡ deed_sender (deed_of a)
 aim_sender (Doing d) = refl
 aim_sender (Undoing lsn d) = refl
 
--- an operation has latched the page of its sender's directory slot
-pub directory_latched : (z : Sizes) (log : List Record) (ends : HeldEnds) (t : Txn) (u : Under) → FollowsPlan z log ends t u → latched_by u (directory_at (deed_sender (deed_of u.aim)) / 16) ≡ true
-directory_latched z log ends t u g =
-    let s = deed_sender (deed_of u.aim) in
-    let whole = writes_of z u.writes in
-    let all : onto (drop u.made whole) ((left_by z log).writes (operation t u.number)) ≡ reverse whole = ap (onto (drop u.made whole)) g.written ∙ onto_whole whole u.made in
-    elim (cases_Bool (latched_by u (directory_at s / 16))) [
-      | inl y ↦ y
-      | inr off ↦ absurd (not_of (layout_of z) s (turn_of u.aim) (reverse whole) g.plan (subst (Untouched (directory_at s)) all (g.owes.within (directory_at s) off)) (aim_sender u.aim))
-    ]
+aim_deed : (a : Aim) → turn_deed (turn_of a) ≡ deed_of a
+aim_deed (Doing d) = refl
+aim_deed (Undoing lsn d) = refl
 
--- so operations with pages of their own are of senders of their own
+-- an operation has latched the page of its deed's own slot
+pub own_latched : (z : Sizes) (log : List Record) (ends : HeldEnds) (t : Txn) (u : Under) → FollowsPlan z log ends t u → latched_by u (own_slot z (deed_of u.aim) / 16) ≡ true
+own_latched z log ends t u g = subst (λ d. latched_by u (own_slot z d / 16) ≡ true) (aim_deed u.aim) (latches_own z (turn_of u.aim) u.writes g.plan)
+
+-- so one of a sender has latched that of the sender's directory slot
+pub directory_latched : (z : Sizes) (log : List Record) (ends : HeldEnds) (t : Txn) (u : Under) → FollowsPlan z log ends t u → deed_sender (deed_of u.aim) < sender_count z
+    → latched_by u (directory_at (deed_sender (deed_of u.aim)) / 16) ≡ true
+directory_latched z log ends t u g below = subst (λ a. latched_by u (a / 16) ≡ true) (sender_slot z (deed_of u.aim) g.of_store below) (own_latched z log ends t u g)
+
+-- and operations with pages of their own are of groups of their own
 pub senders_differ : (z : Sizes) (log : List Record) (ends : HeldEnds) (t q : Txn) (u v : Under) → FollowsPlan z log ends t u → FollowsPlan z log ends q v → ((p : ℕ) → latched_by u p ≡ true → latched_by v p ≡ false) → deed_sender (deed_of u.aim) ≢ deed_sender (deed_of v.aim)
 senders_differ z log ends t q u v g h apart same =
-    true≢false (sym (directory_latched z log ends q v h) ∙ ap (λ s. latched_by v (directory_at s / 16)) (sym same) ∙ apart (directory_at (deed_sender (deed_of u.aim)) / 16) (directory_latched z log ends t u g))
+    let slot : own_slot z (deed_of u.aim) ≡ own_slot z (deed_of v.aim) = same_slot z (deed_of u.aim) (deed_of v.aim) g.of_store h.of_store same in
+    true≢false (sym (own_latched z log ends q v h) ∙ ap (λ a. latched_by v (a / 16)) (sym slot) ∙ apart (own_slot z (deed_of u.aim) / 16) (own_latched z log ends t u g))
 
 pub not_found : (t : Txn) (rows : List Row) (r : Row) → found_row t rows ≡ Some r → (q : Txn) → found_row q rows ≡ None → q ≢ t
 not_found t rows r e q f n = let bad : Some r ≡ None = sym e ∙ ap (λ y. found_row y rows) (sym n) ∙ f in cc

@@ -1,21 +1,22 @@
 -- An operation starts, beside others: a send, a receive, a close, or the inverse of what its transaction did last.
-use Rattle.std.proofs.Common.{◌≡◌, ℕ, ◌+◌, ◌/◌, ◌<◌, ◌≤◌, ◌++◌, List, [], ◌∷◌, reverse, refl, sym, ◌∙◌, ap, subst, Bool, true, false, cond, nat_eq, Some, None, inl, inr, arith}
+use Rattle.std.proofs.Common.{◌≡◌, ℕ, ◌+◌, ◌≤◌, ◌++◌, List, [], ◌∷◌, reverse, refl, sym, ◌∙◌, ap, subst, Bool, true, false, cond, nat_eq, Some, None, inl, inr, arith}
 use Rattle.std.proofs.lemmas.Bool.{cases_Bool, eq-eqb}
 use Rattle.rq_model.specs.declared.txn.Txn.{Txn}
 use Rattle.rq_model.specs.declared.txn.Sub.{Sub}
 use Rattle.rq_model.specs.declared.record.Deed.{Deed}
-use Rattle.rq_model.specs.declared.record.Deed.TheVariants.{Append, UnlinkHead, Close}
+use Rattle.rq_model.specs.declared.record.Deed.TheVariants.{Append, UnlinkHead, Close, Mark}
 use Rattle.rq_model.specs.declared.record.Record.{Record}
-use Rattle.rq_model.specs.Vocabulary.{same_txn, is_some}
+use Rattle.rq_model.specs.Vocabulary.{same_txn, client_group, is_some}
 use Rattle.rq_model.specs.Content.{deeds}
 use Rattle.rq_model.specs.Rules.{any_use, uses_send, uses_receive}
-use Rattle.rq_page.specs.Sizes.{Sizes, cell_count, sender_count, directory_at}
+use Rattle.rq_page.specs.Sizes.{Sizes, cell_count}
 use Rattle.rq_views.specs.Chain.{View}
-use Rattle.rq_views.specs.Log.{Slots, Write, HasBefores, Untouched, same_op, Places}
+use Rattle.rq_views.specs.Log.{Slots, Write, HasBefores, same_op, Places}
+use Rattle.rq_views.specs.InStore.{IsDeedOf}
 use Rattle.rq_views.specs.Items.{items, layout_of, operation}
 use Rattle.rq_views.specs.Legal.{Placed, open_deeds, began, view}
 use Rattle.rq_views.specs.Groups.{on_sending_end, on_receiving_end, side}
-use Rattle.rq_views.specs.Plans.{ShowsAt, Turn, IsPlan, deed_sender, turn_sender}
+use Rattle.rq_views.specs.Plans.{IsPlan, deed_sender}
 use Rattle.rq_views.specs.Plans.Turn.{Did, Undid}
 use Rattle.rq_level.specs.Writes.{writes_of}
 use Rattle.rq_txn.specs.declared.Aim.{Aim}
@@ -23,8 +24,8 @@ use Rattle.rq_txn.specs.Rows.{Under, Row, deed_of, found_row, change_row, row_st
 use Rattle.rq_store.specs.Settled.{AreEnds}
 use Rattle.rq_txn.specs.declared.Aim.TheVariants.{Doing, Undoing}
 use Rattle.rq_store.proofs.RowLists.{found_in}
-use Rattle.rq_sound.proofs.Latched.{not_of}
 use Rattle.rq_views.proofs.Tells.{append_tells, head_tells}
+use Rattle.rq_views.proofs.Tags.{mark_tells}
 use Rattle.rq_txn.specs.declared.Finished.{Finished}
 use Rattle.rq_groups.specs.Ends.{HeldEnds, has_held, with_held, is_free_for}
 use Rattle.rq_model.specs.Incarnations.{incarnation_of}
@@ -34,26 +35,19 @@ use Rattle.rq_store.specs.Whole.{IsWhole}
 use Rattle.rq_sound.specs.Rows.{turn_of}
 use Rattle.rq_sound.specs.Standing.{FollowsPlan, IsAimOf, IsRow, HoldsAll, TellsFor, ReadsFor, AreStanding}
 use Rattle.rq_sound.specs.Counted.{AreCounted, CoversAim, appends_aim}
-use Rattle.rq_sound.proofs.Going.{starts, nobody_stands, off_latched, with_ends}
+use Rattle.rq_sound.proofs.Going.{starts, nobody_stands, with_ends}
 use Rattle.rq_views.proofs.Numbers.{beyond_unbegun}
 use Rattle.rq_views.proofs.Rules.{unused, sends_same, takes_same}
 use Rattle.rq_sound.proofs.Counted.{counted_start}
-use Rattle.rq_sound.proofs.FreeCells.{all_one, in_latched, open_is, of_store}
+use Rattle.rq_sound.proofs.FreeCells.{all_one, in_latched, open_is, stored}
+use Rattle.rq_sound.proofs.Own.{ShowsOwn}
 use Rattle.rq_sound.proofs.OwnRecord.{row}
 use Rattle.rq_sound.proofs.Standings.{stands_started, ends_taken}
 use Rattle.rq_store.proofs.Ends.{held_more}
-use Rattle.rq_store.proofs.Owing.{onto_nil}
 
 aim_started : (u : Under) (r : Row) (a : Aim) → IsAimOf r a → IsAimOf (row_started u r) a
 aim_started u r (Doing d) h = h
 aim_started u r (Undoing lsn d) h = h
-
--- a plan latches its sender's directory page
-pub plan_latches : (z : Sizes) (t : Turn) (u : Under) → IsPlan (layout_of z) t (reverse (writes_of z u.writes)) → latched_by u (directory_at (turn_sender t) / 16) ≡ true
-plan_latches z t u plan = elim (cases_Bool (latched_by u (directory_at (turn_sender t) / 16))) [
-  | inl y ↦ y
-  | inr off ↦ absurd (not_of (layout_of z) (turn_sender t) t (reverse (writes_of z u.writes)) plan (subst (Untouched (directory_at (turn_sender t))) (onto_nil (writes_of z u.writes)) (off_latched z (directory_at (turn_sender t)) u.writes [] off tt)) refl)
-]
 
 -- Its transaction has nothing under way, its plan is of the slots as they are, nobody has latched its pages, and there
 -- is a cell for what it sends.
@@ -68,7 +62,7 @@ pub record MayStart (z : Sizes) (log : List Record) (rows : List Row) (waiting :
   pub plan : IsPlan (layout_of z) (turn_of u.aim) (reverse (writes_of z u.writes))
   pub fits : HasBefores (reverse (writes_of z u.writes)) (left_by z log).slots
   pub told : TellsFor u.aim (view (items z log) (deed_sender (deed_of u.aim)))
-  pub sender : deed_sender (deed_of u.aim) < sender_count z
+  pub of_store : IsDeedOf z (deed_of u.aim)
   pub reads : ReadsFor u.aim
   pub covers : CoversAim waiting u.aim
   pub room : cells + appends_aim u.aim ≤ cell_count z
@@ -93,6 +87,7 @@ module _ (z : Sizes) (log : List Record) (ends after : HeldEnds) (rows : List Ro
   kept q (Append s n tag previous body) e = h.sends q s e
   kept q (UnlinkHead s n tag body) e = h.takes q s e
   kept q (Close s) e = h.sends q s e
+  kept q (Mark c tag previous) e = h.sends q (client_group c) e
 
   all_kept : (q : Txn) → HoldsAll ends q log → HoldsAll after q log
   all_kept q e = record { sends = λ s y. h.sends q s (e.sends s y); takes = λ s y. h.takes q s (e.takes s y) }
@@ -104,7 +99,7 @@ module _ (z : Sizes) (log : List Record) (ends after : HeldEnds) (rows : List Ro
   nobody p on v e = nobody_stands z log ends (latched_in rows) p whole.legal (all_one z log ends rows i b cells waiting k c) (m.free p on) v
 
   goes : FollowsPlan z log after t u
-  goes = starts z log after t u whole.legal fresh m.made nobody m.fits m.plan m.told h.held m.sender m.reads
+  goes = starts z log after t u whole.legal fresh m.made nobody m.fits m.plan m.told h.held m.of_store m.reads
 
   abbrev zero_one : ℕ → ℕ
   zero_one n = cond (nat_eq n 0) 1 0
@@ -133,11 +128,12 @@ module _ (z : Sizes) (log : List Record) (ends after : HeldEnds) (rows : List Ro
   pub counts_start : AreCounted z log (change_row t (row_started u) rows) (cells + appends_aim u.aim) waiting
   counts_start = counted_start z log rows cells waiting t r u c k.distinct m.at_row m.idle m.made m.room m.covers
 
--- what the plan of a deed tells, over slots that show its sender
-pub told_by_plan : (l : Places) (q : Slots) (d : Deed) (ws : List Write) (v : View) → IsPlan l (Did d) ws → HasBefores ws q → ShowsAt l q (deed_sender d) v → ((on_sending_end (deed_sender d) d ≡ true) → v.closed ≡ false) → TellsFor (Doing d) v
+-- what the plan of a deed tells, over slots that show its group
+pub told_by_plan : (l : Places) (q : Slots) (d : Deed) (ws : List Write) (v : View) → IsPlan l (Did d) ws → HasBefores ws q → ShowsOwn l q d v → ((on_sending_end (deed_sender d) d ≡ true) → v.closed ≡ false) → TellsFor (Doing d) v
 told_by_plan l q (Append s n tag previous body) ws v p f h not_closed = let a = append_tells l q ws s n tag previous body v p f h in (a.0, a.1, not_closed (eq-eqb s s refl))
 told_by_plan l q (UnlinkHead s n tag body) ws v p f h not_closed = let a = head_tells l q ws s n tag body v p f h in (a.0.0, a.0.1, a.1)
 told_by_plan l q (Close s) ws v p f h not_closed = not_closed (eq-eqb s s refl)
+told_by_plan l q (Mark c tag previous) ws v p f h not_closed = mark_tells l q ws c tag previous v p f h
 
 -- an end that is free is taken
 pub takes_send : (ends : HeldEnds) (rows : List Row) (t : Txn) (s : ℕ) → AreEnds rows ends.sending → AreEnds rows ends.receiving → is_some (found_row t rows) ≡ true → is_free_for t s ends.sending ≡ true
@@ -169,6 +165,7 @@ module _ (z : Sizes) (log : List Record) (ends : HeldEnds) (whole : IsWhole z lo
   newest_held (Append s n tag previous body) e = sends_held s (ap (on_sending_end s) e ∙ eq-eqb s s refl)
   newest_held (UnlinkHead s n tag body) e = takes_held s (ap (on_receiving_end s) e ∙ eq-eqb s s refl)
   newest_held (Close s) e = sends_held s (ap (on_sending_end s) e ∙ eq-eqb s s refl)
+  newest_held (Mark c tag previous) e = let s = client_group c in sends_held s (ap (on_sending_end s) e ∙ eq-eqb s s refl)
 
 -- the inverse of a transaction's newest deed may start, where its plan fits the slots and its pages are nobody's
 pub may_undo : (z : Sizes) (log : List Record) (ends : HeldEnds) (rows : List Row) (i b cells : ℕ) (waiting : List ℕ) (whole : IsWhole z log) (k : AreStanding z log ends rows i b) (c : AreCounted z log rows cells waiting) (r : Row) (u : Under) (fs : List Finished) (f : Finished)
@@ -188,7 +185,7 @@ may_undo z log ends rows i b cells waiting whole k c r u fs f at_row idle aborti
         plan = subst (λ a. IsPlan (layout_of z) (turn_of a) (reverse (writes_of z u.writes))) (sym aim) plan;
         fits = fits;
         told = subst (λ a. TellsFor a (view (items z log) (deed_sender (deed_of a)))) (sym aim) tt;
-        sender = subst (λ a. deed_sender (deed_of a) < sender_count z) (sym aim) (of_store z log ends rows i b cells waiting k c whole r here idle fs f newest);
+        of_store = subst (λ a. IsDeedOf z (deed_of a)) (sym aim) (stored z log ends rows i b cells waiting k c whole r here idle fs f newest);
         reads = subst ReadsFor (sym aim) tt;
         covers = subst (CoversAim waiting) (sym aim) tt;
         room = (let a : appends_aim u.aim ≡ 0 = ap appends_aim aim in let v = c.bound in omega (arith, a, v));

@@ -1,10 +1,11 @@
 -- The inverse of a transaction's newest deed can be planned over the slots as they are.
-use Rattle.std.proofs.Common.{◌≡◌, ℕ, ◌+◌, ◌<◌, ◌++◌, List, [], ◌∷◌, length, refl, sym, ◌∙◌, ap, subst, Bool, true, false, Some, None, arith}
+use Rattle.std.proofs.Common.{◌≡◌, ℕ, ◌+◌, ◌-◌, ◌<◌, ◌≤◌, ◌^◌, ◌++◌, List, [], ◌∷◌, length, refl, sym, ◌∙◌, ap, subst, Bool, true, false, Some, None, arith}
 use Rattle.std.proofs.lemmas.List.{length-append}
 use Rattle.std.proofs.lemmas.Bool.{eq-eqb}
 use Rattle.rq_model.specs.declared.txn.Txn.{Txn}
 use Rattle.rq_model.specs.declared.record.Deed.{Deed}
-use Rattle.rq_model.specs.declared.record.Deed.TheVariants.{Append, UnlinkHead, Close}
+use Rattle.rq_model.specs.declared.record.Deed.TheVariants.{Append, UnlinkHead, Close, Mark}
+use Rattle.rq_model.specs.Vocabulary.{client_group}
 use Rattle.rq_page.specs.declared.cell.Cell.{Cell}
 use Rattle.rq_page.specs.declared.directory.Directory.{Directory}
 use Rattle.rq_page.specs.Slots.{Slot}
@@ -13,11 +14,12 @@ use Rattle.rq_views.specs.Chain.{Node, Linked, View, first}
 use Rattle.rq_views.specs.Log.{Slots, put, cells_of, Write, HasBefores, Places, Item}
 use Rattle.rq_views.specs.Legal.{Placed, open_deeds, view}
 use Rattle.rq_views.specs.Groups.{KeepsGroups}
-use Rattle.rq_views.specs.Plans.{ShowsAt, IsPlan, deed_sender, with_turn, with_prev, put_back_writes, directory_write, IsPutBack, IsMark}
+use Rattle.rq_views.specs.Plans.{ShowsAt, ShowsTag, IsPlan, deed_sender, with_turn, with_prev, put_back_writes, client_write, directory_write, IsPutBack, IsMark, IsUntagged}
 use Rattle.rq_views.specs.Plans.Turn.{Did, Undid}
 use Rattle.rq_views.proofs.CanPlan.{can_unlink_tail, used_from, apart_from}
 use Rattle.rq_views.proofs.CanUndo.{can_undo_sent, can_undo_taken}
 use Rattle.rq_views.proofs.Overlay.{put_off}
+use Rattle.rq_sound.proofs.Own.{ShowsOwn}
 use Rattle.rq_sound.proofs.PlanFits.{at_free, not_sender, not_used}
 
 back_of : (l : Places) (q : Slots) (s tag new : ℕ) (body : List ℕ) (d : Directory) (ns : List Node) → 0 < new → q new ≡ Free → 0 < d.received → q (l.directory_at s) ≡ Sender s d → Linked (cells_of q) s 0 (d.received + 1) ns 0 → d.head ≡ first ns 0
@@ -52,17 +54,27 @@ can_put_back l q s tag new body v pos free some h =
 pub can_mark : (l : Places) (q : Slots) (s : ℕ) (closed : Bool) (v : View) → ShowsAt l q s v → (ws : List Write) × IsMark l s closed ws × HasBefores ws q
 can_mark l q s closed v h = (directory_write l s h.directory (record h.directory { closed = closed }) ∷ [], record { directory = h.directory; writes = refl }, (sym h.at, tt))
 
+-- and so can a client's newest mark be taken back
+can_untag : (l : Places) (q : Slots) (c previous : ℕ) (v : View) → l.senders ≤ 2 ^ 32 → 0 < length v.messages → ShowsTag l q c v → (ws : List Write) × IsUntagged l c previous ws × HasBefores ws q
+can_untag l q c previous v apart some h =
+    let n = h.count in (
+      client_write l h.held (record h.held { count = h.held.count - 1; tag = previous }) ∷ [],
+      record { held = h.held; own = h.own; some = omega (arith, some, n); apart = apart; writes = refl },
+      (sym (ap (λ i. q (l.client_slot_at i)) h.own ∙ h.at), tt),
+    )
+
 -- whether the inverse takes a free cell
 abbrev pub NeedsCell : Deed → Slots → ℕ → Type 0
 NeedsCell (Append s n tag previous body) q new = Unit {0}
 NeedsCell (UnlinkHead s n tag body) q new = (0 < new) × (q new ≡ Free)
 NeedsCell (Close s) q new = Unit {0}
+NeedsCell (Mark c tag previous) q new = Unit {0}
 
 -- The inverse of the newest open deed can be planned, whatever others did meanwhile, and what it finds is as the deed
 -- says. A put-back takes any free cell.
-pub can_undo : (l : Places) (q : Slots) (log : List Item) (t : Txn) (lsn new : ℕ) (d : Deed) (ps : List Placed) → KeepsGroups log → open_deeds t log ≡ record { lsn = lsn; deed = d } ∷ ps → NeedsCell d q new
-    → ShowsAt l q (deed_sender d) (view log (deed_sender d)) → (ws : List Write) × IsPlan l (Undid d) ws × HasBefores ws q
-can_undo l q log t lsn new (Append s n tag previous body) ps k e cell h =
+pub can_undo : (l : Places) (q : Slots) (log : List Item) (t : Txn) (lsn new : ℕ) (d : Deed) (ps : List Placed) → l.senders ≤ 2 ^ 32 → KeepsGroups log → open_deeds t log ≡ record { lsn = lsn; deed = d } ∷ ps → NeedsCell d q new
+    → ShowsOwn l q d (view log (deed_sender d)) → (ws : List Write) × IsPlan l (Undid d) ws × HasBefores ws q
+can_undo l q log t lsn new (Append s n tag previous body) ps apart k e cell h =
     let x = can_undo_sent s log t (record { lsn = lsn; deed = Append s n tag previous body }) ps k e (eq-eqb s s refl) in
     let v = view log s in
     let xs = x.0.messages in
@@ -73,11 +85,17 @@ can_undo l q log t lsn new (Append s n tag previous body) ps k e cell h =
     let number : n ≡ x.0.received + length xs + 1 = x.2.1 in
     let a = can_unlink_tail l q s previous v (omega (arith, m, j)) h in
     (a.0, subst (λ y. IsPlan l (Undid (Append s y tag previous body)) a.0) (let z : v.received + length v.messages ≡ n = omega (arith, m, r, j, number) in z) a.1, a.2)
-can_undo l q log t lsn new (UnlinkHead s n tag body) ps k e cell h =
+can_undo l q log t lsn new (UnlinkHead s n tag body) ps apart k e cell h =
     let x = can_undo_taken s log t lsn s n tag body ps k e (eq-eqb s s refl) in
     let a = can_put_back l q s tag new body (view log s) cell.0 cell.1 x.1 h in
     (a.0, subst (λ y. IsPlan l (Undid (UnlinkHead s y tag body)) a.0) x.0 a.1, a.2)
-can_undo l q log t lsn new (Close s) ps k e cell h = can_mark l q s false (view log s) h
+can_undo l q log t lsn new (Close s) ps apart k e cell h = can_mark l q s false (view log s) h
+can_undo l q log t lsn new (Mark c tag previous) ps apart k e cell h =
+    let g = client_group c in
+    let x = can_undo_sent g log t (record { lsn = lsn; deed = Mark c tag previous }) ps k e (eq-eqb g g refl) in
+    let m : length (view log g).messages ≡ length (x.0.messages ++ (tag, []) ∷ []) = ap (λ (y : View). length y.messages) x.1 in
+    let j = length-append x.0.messages ((tag, []) ∷ []) in
+    can_untag l q c previous (view log g) apart (omega (arith, m, j)) h
 
 -- where the newest open deed closed its group, the group is closed
 pub closed_before : (log : List Item) (t : Txn) (lsn s : ℕ) (ps : List Placed) → KeepsGroups log → open_deeds t log ≡ record { lsn = lsn; deed = Close s } ∷ ps → (view log s).closed ≡ true

@@ -6,7 +6,7 @@ use Rattle.std.proofs.lemmas.List.{length-map, length-reverse, map-append}
 use Rattle.std.proofs.lemmas.List.Sums.{sum_by-cons}
 use Rattle.rq_model.specs.declared.txn.Txn.{Txn}
 use Rattle.rq_model.specs.declared.record.Deed.{Deed}
-use Rattle.rq_model.specs.declared.record.Deed.TheVariants.{Append, UnlinkHead, Close}
+use Rattle.rq_model.specs.declared.record.Deed.TheVariants.{Append, UnlinkHead, Close, Mark}
 use Rattle.rq_model.specs.Vocabulary.{In, Op, same_txn, has_txn, sent_for, taken_from, last, last_or}
 use Rattle.rq_model.specs.Ledger.{Open, Ledger, in_chain, own_sends, own_takes, undo_writes, started, writes, after, found, ops_of}
 use Rattle.rq_model.specs.Content.{said, added, removed}
@@ -17,7 +17,7 @@ use Rattle.rq_model.proofs.Told.{told_taken, told_sent}
 use Rattle.rq_views.specs.Items.{items, layout_of}
 use Rattle.rq_views.specs.Legal.{open_deeds, view}
 use Rattle.rq_views.specs.Log.{HasBefores}
-use Rattle.rq_views.specs.Plans.{ShowsAt, IsPlan, deed_sender}
+use Rattle.rq_views.specs.Plans.{IsPlan, deed_sender}
 use Rattle.rq_views.specs.Plans.Turn.{Undid}
 use Rattle.rq_level.specs.Writes.{write_of, writes_of}
 use Rattle.rq_views.proofs.Committed.{say}
@@ -35,6 +35,7 @@ use Rattle.rq_store.proofs.Placed.{told_placed}
 use Rattle.rq_store.proofs.Opens.{found_open, open_found}
 use Rattle.rq_sound.proofs.Ledgers.{opens_change}
 use Rattle.rq_sound.proofs.Lengths.{inverse_writes, inverse_length}
+use Rattle.rq_sound.proofs.Own.{ShowsOwn}
 
 abbrev pub txns : List Row → List Txn
 txns rows = map (λ r. r.txn) rows
@@ -96,10 +97,11 @@ writes_is : (l : Ledger) (d : Deed) → undo_writes l (Some (op_of (said d))) �
 writes_is l (Append s n tag previous body) = refl
 writes_is l (UnlinkHead s n tag body) = refl
 writes_is l (Close s) = refl
+writes_is l (Mark c tag previous) = refl
 
 module _ (s : State) (k : IsSound s) (r : Row) (u : Under) (fs : List Finished) (f : Finished) (at_row : found_row r.txn s.rows ≡ Some r) (newest : r.finished ≡ fs ++ f ∷ []) (aim : u.aim ≡ Undoing f.lsn f.deed) (number : u.number ≡ r.number + 1) (made : u.made ≡ 0)
     (plan : IsPlan (layout_of s.sizes) (Undid f.deed) (reverse (writes_of s.sizes u.writes))) (fits : HasBefores (reverse (writes_of s.sizes u.writes)) (left_by s.sizes s.records).slots)
-    (shows : ShowsAt (layout_of s.sizes) (left_by s.sizes s.records).slots (deed_sender f.deed) (view (items s.sizes s.records) (deed_sender f.deed))) where
+    (shows : ShowsOwn (layout_of s.sizes) (left_by s.sizes s.records).slots f.deed (view (items s.sizes s.records) (deed_sender f.deed))) where
   abbrev left : ℕ
   left = writes (ledger_of s) r.txn Job.Undoing
 

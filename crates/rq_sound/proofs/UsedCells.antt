@@ -5,7 +5,7 @@ use Rattle.std.specs.List.{sum_by}
 use Rattle.std.proofs.lemmas.Bool.{cases_Bool, true≢false}
 use Rattle.std.proofs.lemmas.List.{reverse-append}
 use Rattle.std.proofs.lemmas.List.Sums.{sum_by-cons, sum_by-append, sum_by-take-le, length-filter}
-use Rattle.rq_model.specs.declared.record.Deed.TheVariants.{Append, UnlinkHead, Close}
+use Rattle.rq_model.specs.declared.record.Deed.TheVariants.{Append, UnlinkHead, Close, Mark}
 use Rattle.rq_model.specs.Tests.{below}
 use Rattle.rq_model.proofs.Counts.{sum_more}
 use Rattle.rq_page.specs.declared.cell.Cell.{Cell}
@@ -15,7 +15,7 @@ use Rattle.rq_page.specs.Slots.Slot.{Free, Used, Sender, Client}
 use Rattle.rq_page.proofs.Addresses.{cells_have_places}
 use Rattle.rq_views.specs.Log.{Slots, Write, Places, applied, HasBefores}
 use Rattle.rq_views.specs.Chain.{directory_appended}
-use Rattle.rq_views.specs.Plans.{Turn, IsPlan, relinked, with_next, with_prev, directory_write, directory_head_unlinked, directory_tail_unlinked, directory_put_back}
+use Rattle.rq_views.specs.Plans.{Turn, IsPlan, relinked, with_next, with_prev, client_write, directory_write, directory_head_unlinked, directory_tail_unlinked, directory_put_back}
 use Rattle.rq_views.specs.Plans.Turn.{Did, Undid}
 use Rattle.rq_views.specs.Stored.{is_used, count_used}
 use Rattle.rq_views.specs.InStore.{AllStand, IsInPlace, WritesStand}
@@ -74,6 +74,7 @@ plan_rises l (Did (UnlinkHead s n tag body)) ws p =
     let w : Write = record { at = d.head; before = Used p.cell; after = Free } in
     subst (RisesBy 0) (sym p.writes) (three_rise (directory_write l s d (directory_head_unlinked d p.cell)) p.cell.next p.next (with_prev 0) w 0 refl refl)
 plan_rises l (Did (Close s)) ws p = subst (RisesBy 0) (sym p.writes) (one_rise (directory_write l s p.directory (record p.directory { closed = true })))
+plan_rises l (Did (Mark c tag previous)) ws p = subst (RisesBy 0) (sym p.writes) (one_rise (client_write l p.held (record p.held { count = p.held.count + 1; tag = tag })))
 plan_rises l (Undid (Append s n tag previous body)) ws p =
     let d = p.directory in
     let w : Write = record { at = d.tail; before = Used p.cell; after = Free } in
@@ -83,6 +84,7 @@ plan_rises l (Undid (UnlinkHead s n tag body)) ws p =
     let w : Write = record { at = p.new; before = Free; after = Used (record { sender = s; sequence = d.received; tag = tag; body = body; next = d.head; prev = 0 }) } in
     subst (RisesBy 1) (sym p.writes) (three_rise (directory_write l s d (directory_put_back d p.new)) d.head p.old (with_prev p.new) w 1 refl refl)
 plan_rises l (Undid (Close s)) ws p = subst (RisesBy 0) (sym p.writes) (one_rise (directory_write l s p.directory (record p.directory { closed = false })))
+plan_rises l (Undid (Mark c tag previous)) ws p = subst (RisesBy 0) (sym p.writes) (one_rise (client_write l p.held (record p.held { count = p.held.count - 1; tag = previous })))
 
 -- a plan's writes, counted
 abbrev Balanced : ℕ → ℕ → List Write → Type 0
@@ -120,6 +122,7 @@ plan_balance l (Did (UnlinkHead s n tag body)) ws p =
     let w : Write = record { at = d.head; before = Used p.cell; after = Free } in
     subst (Balanced 1 0) (sym p.writes) (three_count (directory_write l s d (directory_head_unlinked d p.cell)) p.cell.next p.next (with_prev 0) w refl)
 plan_balance l (Did (Close s)) ws p = subst (Balanced 0 0) (sym p.writes) (one_counts (directory_write l s p.directory (record p.directory { closed = true })))
+plan_balance l (Did (Mark c tag previous)) ws p = subst (Balanced 0 0) (sym p.writes) (one_counts (client_write l p.held (record p.held { count = p.held.count + 1; tag = tag })))
 plan_balance l (Undid (Append s n tag previous body)) ws p =
     let d = p.directory in
     let w : Write = record { at = d.tail; before = Used p.cell; after = Free } in
@@ -129,6 +132,7 @@ plan_balance l (Undid (UnlinkHead s n tag body)) ws p =
     let w : Write = record { at = p.new; before = Free; after = Used (record { sender = s; sequence = d.received; tag = tag; body = body; next = d.head; prev = 0 }) } in
     subst (Balanced 0 1) (sym p.writes) (three_count (directory_write l s d (directory_put_back d p.new)) d.head p.old (with_prev p.new) w refl)
 plan_balance l (Undid (Close s)) ws p = subst (Balanced 0 0) (sym p.writes) (one_counts (directory_write l s p.directory (record p.directory { closed = false })))
+plan_balance l (Undid (Mark c tag previous)) ws p = subst (Balanced 0 0) (sym p.writes) (one_counts (client_write l p.held (record p.held { count = p.held.count - 1; tag = previous })))
 
 -- the whole plan
 pub plan_counts : (l : Places) (t : Turn) (ws : List Write) → IsPlan l t (reverse ws) → sum_by uses_after ws + lost t ≡ sum_by uses_before ws + gained t

@@ -2,7 +2,7 @@
 use Rattle.std.proofs.Common.{◌≡◌, ℕ, ◌/◌, ◌<◌, ◌≤◌, ◌^◌, ◌++◌, List, [], ◌∷◌, length, refl, sym, ◌∙◌, subst, true, false, Option, Some, None, nat_eq, arith}
 use Rattle.std.proofs.lemmas.Bool.{eq-eqb, false_from_ne_true, eqb-true}
 use Rattle.rq_model.specs.declared.record.Deed.{Deed}
-use Rattle.rq_model.specs.declared.record.Deed.TheVariants.{Append, UnlinkHead, Close}
+use Rattle.rq_model.specs.declared.record.Deed.TheVariants.{Append, UnlinkHead, Close, Mark}
 use Rattle.rq_page.specs.declared.cell.Cell.{Cell}
 use Rattle.rq_page.specs.declared.directory.Directory.{Directory}
 use Rattle.rq_page.specs.Sizes.{IsCellAddress, directory_at, sender_count}
@@ -22,19 +22,18 @@ use Rattle.rq_store.specs.Rows.{placed}
 use Rattle.rq_store.proofs.Grouping.{groups_of}
 use Rattle.rq_txn.specs.Rows.{Row, latched_in}
 use Rattle.rq_store.specs.State.{State}
-use Rattle.rq_store.proofs.RowLists.{found_in}
 use Rattle.rq_sound.specs.Sound.{IsSound}
 use Rattle.rq_sound.specs.Calls.{IsIdle}
 use Rattle.rq_sound.specs.Groups.{TellsGroup, slots_now}
 use Rattle.rq_sound.specs.Latching.{at_head, at_tail, before_tail, behind_head, head_in, named, needed, next_in, prev_in, tail_in}
 use Rattle.rq_sound.specs.Wants.{AreGivenOf, CanUndo, LevelsFindAll}
-use Rattle.rq_sound.proofs.FreeCells.{of_store}
 use Rattle.rq_sound.proofs.Groups.{tells_group}
 use Rattle.rq_sound.proofs.Latching as latching
+use Rattle.rq_sound.proofs.Own.{has_sender}
 use Rattle.rq_sound.proofs.PlanFits.{above}
 use Rattle.rq_sound.proofs.Planned.{sent_last}
 use Rattle.rq_sound.proofs.UndoPlans.{closed_before}
-use Rattle.rq_sound.proofs.Inverses.{open_deed}
+use Rattle.rq_sound.proofs.Inverses.{open_deed, deed_stored}
 
 pub given_parts : (s : State) (given : List Given) (xs ys : List ℕ) → AreGivenOf s given (xs ++ ys) → AreGivenOf s given xs × AreGivenOf s given ys
 given_parts s given [] ys h = (tt, h)
@@ -111,7 +110,7 @@ module _ (s : State) (given : List Given) (k : IsSound s) (g : ℕ) (inside : g 
 
   -- the inverse of the newest deed
   module _ (r : Row) (fs : List Finished) (f : Finished) (m : IsIdle s r) (newest : r.finished ≡ fs ++ f ∷ []) where
-    pub can_undo_one : (x : Deed) → f.deed ≡ x → deed_sender x ≡ g → AreGivenOf s given (needed (slots_now s) (Undid x)) → CanUndo s.sizes given x
+    pub can_undo_one : (x : Deed) → f.deed ≡ x → deed_sender x ≡ g → AreGivenOf s given (needed s.sizes (slots_now s) (Undid x)) → CanUndo s.sizes given x
     can_undo_one (Append e n tag previous body) is own h = subst (λ y. CanUndo s.sizes given (Append y n tag previous body)) (sym own) (
         let h : AreGivenOf s given (before_tail (slots_now s) g) = subst (λ y. AreGivenOf s given (before_tail (slots_now s) y)) own h in
         let last_one = sent_last (items s.sizes s.records) r.txn f.lsn g n tag previous body (placed fs) (groups_of s.sizes s.records k.log) (subst (λ y. open_deeds r.txn (items s.sizes s.records) ≡ record { lsn = f.lsn; deed = Append y n tag previous body } ∷ placed fs) own (open_deed s r fs f k m newest (Append e n tag previous body) is)) in
@@ -158,6 +157,7 @@ module _ (s : State) (given : List Given) (k : IsSound s) (g : ℕ) (inside : g 
     can_undo_one (Close e) is own h = subst (λ y. CanUndo s.sizes given (Close y)) (sym own) (
         can_reopen (closed_before (items s.sizes s.records) r.txn f.lsn g (placed fs) (groups_of s.sizes s.records k.log) (subst (λ y. open_deeds r.txn (items s.sizes s.records) ≡ record { lsn = f.lsn; deed = Close y } ∷ placed fs) own (open_deed s r fs f k m newest (Close e) is))) (subst (λ y. AreGivenOf s given (directory_at y ∷ [])) own h)
         )
+    can_undo_one (Mark c tag previous) is own h = absurd (deed_stored s r fs f k m newest (Mark c tag previous) is).2
 
 pub levels_find : LevelsFindAll
 levels_find = record {
@@ -165,6 +165,6 @@ levels_find = record {
   receives = λ s given g k inside off wait h. can_receive s given k g inside off wait h;
   closes = λ s given g k inside off open_still h. can_close s given k g inside off open_still h;
   undoes = λ s given r fs f k m newest off h.
-      let inside = of_store s.sizes s.records s.ends s.rows s.incarnation s.begins s.cells_in_use s.waiting k.standing k.counted k.log r (found_in r.txn s.rows r m.at_row).0 m.idle fs f newest in
+      let inside = has_sender s.sizes f.deed (deed_stored s r fs f k m newest f.deed refl) in
       can_undo_one s given k (deed_sender f.deed) inside off r fs f m newest f.deed refl refl h;
 }

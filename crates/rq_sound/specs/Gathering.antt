@@ -6,7 +6,7 @@ use Rattle.rq_model.specs.Deeds.{deed_by}
 use Rattle.rq_model.specs.Vocabulary.{In}
 use Rattle.rq_page.specs.Sizes.{directory_at, sender_count}
 use Rattle.rq_page.specs.Slots.{IsSlotOf, Slot, held_in}
-use Rattle.rq_views.specs.Plans.{deed_sender}
+use Rattle.rq_views.specs.InStore.{IsDeedOf}
 use Rattle.rq_views.specs.Plans.Turn.{Undid}
 use Rattle.rq_views.specs.Stored.{IsStoreSlot}
 use Rattle.rq_level.specs.declared.slots.Given.{Given}
@@ -56,8 +56,8 @@ pub record WantsAreNeeded : Type 0 where
       → IsToDo job (Close g) → g < sender_count s.sizes
       → IsWantedOf s given (job_wanted job given) (directory_at g ∷ [])
   pub undoes : (s : State) (given : List Given) (job : Job) (d : Deed) → AreGivenFrom s given
-      → IsToUndo job d → deed_sender d < sender_count s.sizes
-      → IsWantedOf s given (job_wanted job given) (needed (slots_now s) (Undid d))
+      → IsToUndo job d → IsDeedOf s.sizes d
+      → IsWantedOf s given (job_wanted job given) (needed s.sizes (slots_now s) (Undid d))
 
 -- what was given, with this slot behind it
 abbrev pub with_slot : List Given → ℕ → List ℕ → List Given

@@ -114,8 +114,8 @@ pub record ViewsAreOfHolders : Type 0 where
       → chain_in (left_by s.sizes s.records).quiet g ≡ of_holders s g
   pub now : (s : State) (g : ℕ) → IsSound s → g < sender_count s.sizes → NoneIsOn g s.rows
       → chain_in (slots_now s) g ≡ of_holders s g
-  pub unlatched : (s : State) (g : ℕ) → IsSound s → latched_in s.rows (directory_at g / 16) ≡ false
-      → NoneIsOn g s.rows
+  pub unlatched : (s : State) (g : ℕ) → IsSound s → g < sender_count s.sizes
+      → latched_in s.rows (directory_at g / 16) ≡ false → NoneIsOn g s.rows
   pub taken : (s : State) (g : ℕ) → IsSound s
       → holder_takes s g ≡ take (length (holder_takes s g)) (rest_in (committed_of s.records) g)
   pub no_other_takes : (s : State) (g : ℕ) (r : Row) → IsSound s → In r s.rows

@@ -1,8 +1,9 @@
 -- When the inverse of a deed needs a page that is latched, when there is one, and which cell it takes.
-use Rattle.std.specs.Prelude.{◌≡◌, ◌⊎◌, ℕ, ◌/◌, ◌<◌, true, List, length}
+use Rattle.std.specs.Prelude.{◌≡◌, ◌⊎◌, ℕ, ◌/◌, ◌<◌, true, List, [], ◌∷◌, length}
 use Rattle.rq_model.specs.declared.record.Deed.{Deed}
-use Rattle.rq_model.specs.declared.record.Deed.TheVariants.{Append, UnlinkHead, Close}
-use Rattle.rq_page.specs.Sizes.{Sizes, cell_count, directory_at}
+use Rattle.rq_model.specs.declared.record.Deed.TheVariants.{Append, UnlinkHead, Close, Mark}
+use Rattle.rq_model.specs.Vocabulary.{client_group}
+use Rattle.rq_page.specs.Sizes.{Sizes, cell_count, client_slot_at, directory_at}
 use Rattle.rq_views.specs.Items.{items}
 use Rattle.rq_views.specs.Legal.{view}
 use Rattle.rq_views.specs.Log.{Slots}
@@ -32,6 +33,7 @@ abbrev pub MayBeUndone : State → Deed → Type 0
 MayBeUndone s (Append g n tag previous body) = 0 < length (view (items s.sizes s.records) g).messages
 MayBeUndone s (UnlinkHead g n tag body) = (0 < (view (items s.sizes s.records) g).received) × HasFree s
 MayBeUndone s (Close g) = Unit {0}
+MayBeUndone s (Mark c tag previous) = 0 < length (view (items s.sizes s.records) (client_group c)).messages
 
 -- ---- latches
 
@@ -44,9 +46,11 @@ abbrev pub InverseIsLatched : Sizes → Slots → List Row → Deed → Type 0
 InverseIsLatched z q rows (Append g n tag previous body) = any_latched rows (before_tail q g) ≡ true
 InverseIsLatched z q rows (UnlinkHead g n tag body) = PutBackIsLatched z q rows g
 InverseIsLatched z q rows (Close g) = latched_in rows (directory_at g / 16) ≡ true
+InverseIsLatched z q rows (Mark c tag previous) = any_latched rows (client_slot_at z c ∷ []) ≡ true
 
 -- a message is put back into the lowest free cell on a page that nobody has latched
 abbrev pub InverseTakesLowest : Sizes → Slots → List Row → Deed → List SlotWrite → Type 0
 InverseTakesLowest z q rows (Append g n tag previous body) ws = Unit {0}
 InverseTakesLowest z q rows (UnlinkHead g n tag body) ws = FirstIsLowest z q rows ws
 InverseTakesLowest z q rows (Close g) ws = Unit {0}
+InverseTakesLowest z q rows (Mark c tag previous) ws = Unit {0}

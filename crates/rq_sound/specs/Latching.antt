@@ -1,12 +1,12 @@
 -- Which calls cannot start an operation for what others have latched, exactly.
 use Rattle.std.specs.Prelude.{◌≡◌, ℕ, ◌/◌, ◌||◌, ◌++◌, ◌⊎◌, Bool, true, false, cond, nat_eq, nat_lt, List, [], ◌∷◌}
-use Rattle.rq_model.specs.declared.record.Deed.TheVariants.{Append, UnlinkHead, Close}
+use Rattle.rq_model.specs.declared.record.Deed.TheVariants.{Append, UnlinkHead, Close, Mark}
 use Rattle.rq_model.specs.History.{Call}
 use Rattle.rq_model.specs.History.Job.{Sending, Taking, Ending}
 use Rattle.rq_model.specs.Legal.{OnFound}
 use Rattle.rq_model.specs.Tests.{Passes, starts}
 use Rattle.rq_model.specs.Vocabulary.{last}
-use Rattle.rq_page.specs.Sizes.{IsCellAddress, directory_at}
+use Rattle.rq_page.specs.Sizes.{Sizes, IsCellAddress, client_slot_at, directory_at}
 use Rattle.rq_page.specs.Slots.{Slot}
 use Rattle.rq_page.specs.Slots.Slot.{Free, Used, Sender, Client}
 use Rattle.rq_views.specs.Claims.{appends_of, takes_of}
@@ -70,13 +70,15 @@ abbrev pub before_tail : Slots → ℕ → List ℕ
 before_tail q g = at_tail q g ++ named (prev_in (q (tail_in (q (directory_at g)))))
 
 -- the slots that an operation needs, but for a free one
-abbrev pub needed : Slots → Turn → List ℕ
-needed q (Did (Append g n tag previous body)) = at_tail q g
-needed q (Did (UnlinkHead g n tag body)) = behind_head q g
-needed q (Did (Close g)) = directory_at g ∷ []
-needed q (Undid (Append g n tag previous body)) = before_tail q g
-needed q (Undid (UnlinkHead g n tag body)) = at_head q g
-needed q (Undid (Close g)) = directory_at g ∷ []
+abbrev pub needed : Sizes → Slots → Turn → List ℕ
+needed z q (Did (Append g n tag previous body)) = at_tail q g
+needed z q (Did (UnlinkHead g n tag body)) = behind_head q g
+needed z q (Did (Close g)) = directory_at g ∷ []
+needed z q (Did (Mark c tag previous)) = client_slot_at z c ∷ []
+needed z q (Undid (Append g n tag previous body)) = before_tail q g
+needed z q (Undid (UnlinkHead g n tag body)) = at_head q g
+needed z q (Undid (Close g)) = directory_at g ∷ []
+needed z q (Undid (Mark c tag previous)) = client_slot_at z c ∷ []
 
 -- whether it needs a free one besides
 abbrev pub takes_cell : Turn → Bool
@@ -95,7 +97,7 @@ AllFreeLatched s = (a : ℕ) → IsCellAddress s.sizes a → slots_now s a ≡ F
 -- an operation needs a latched page, read from what whole operations have left; or it takes a cell, and each free one
 -- is on a latched page
 abbrev pub NeedsLatched : State → Turn → Type 0
-NeedsLatched s turn = (any_latched s.rows (needed (completed s) turn) ≡ true)
+NeedsLatched s turn = (any_latched s.rows (needed s.sizes (completed s) turn) ≡ true)
     ⊎ ((takes_cell turn ≡ true) × AllFreeLatched s)
 
 -- the call starts this: of a receive from whichever, from a group of which a message waits
@@ -131,7 +133,8 @@ pub record MayBePlanned (s : State) (turn : Turn) : Type 0 where
 pub record LatchedIsExact : Type 0 where
   pub whole : (s : State) (a : ℕ) → IsSound s → latched_in s.rows (a / 16) ≡ false → slots_now s a ≡ completed s a
   pub as_read : (s : State) (turn : Turn) → IsSound s
-      → any_latched s.rows (needed (slots_now s) turn) ≡ any_latched s.rows (needed (completed s) turn)
+      → any_latched s.rows (needed s.sizes (slots_now s) turn)
+      ≡ any_latched s.rows (needed s.sizes (completed s) turn)
   pub none : (s : State) (c : Call) (turn : Turn) → IsSound s → IsLatched s c → Begins s c turn
       → MayBePlanned s turn → ⊥
   pub some : (s : State) (c : Call) → IsSound s → is_mark c ≡ false → Passes (size_of s.sizes) (ledger_of s) c

@@ -17,8 +17,8 @@ pub record Laws : Type 0 where
   -- Each call keeps a store sound: a begin; the start of a send, a receive, a close or an inverse, each of its writes
   -- and its end; a commit; the start and the end of an abort; a force; and the failure of a device.
   pub calls_keep_soundness : CallsKeepSoundness
-  -- The inverse of what a transaction did last can be planned, whatever others do meanwhile, once nobody has latched
-  -- the page of its sender's directory slot, and finds a cell where it needs one.
+  -- The inverse of what a transaction did last, a mark included, can be planned, whatever others do meanwhile, once
+  -- nobody has latched the page of its own slot, and finds a cell where it needs one.
   pub inverses_can_be_planned : InversesCanBePlanned
   -- What the model's tests ask of a store's ledger is what the store keeps.
   pub tests_are_answered : TestsAreAnswered
@@ -48,7 +48,8 @@ pub record Laws : Type 0 where
   -- Where nobody has latched the page of a group's directory slot, the slots as they are show the group, and the
   -- cells at both ends of its chain stand where the links name them.
   pub slots_tell_groups : SlotsTellGroups
-  -- What is planned from the slots as they are, on pages that nobody has latched, may start.
+  -- What is planned from the slots as they are, on pages that nobody has latched, may start; a mark where it is of the
+  -- store.
   pub plans_may_start : PlansMayStart
   -- What the level of chains plans from slots of pages that nobody has latched is planned from the slots as they are.
   pub levels_plan_from_slots : LevelsPlanFromSlots

@@ -1,17 +1,19 @@
--- What a planned operation is over the slots that it is planned from: a send, a receive, a close, or an inverse.
-use Rattle.std.specs.Prelude.{◌≡◌, ℕ, ◌+◌, ◌/◌, true, false, Bool, List, [], ◌∷◌, ◌++◌, map, reverse, Option}
+-- What a planned operation is over the slots that it is planned from: a send, a receive, a close, a mark, or an inverse.
+use Rattle.std.specs.Prelude.{◌≡◌, ℕ, ◌+◌, ◌-◌, ◌/◌, ◌<◌, true, false, Bool, List, [], ◌∷◌, ◌++◌, map, reverse, Option}
 use Rattle.rq_model.specs.declared.record.Deed.{Deed}
-use Rattle.rq_model.specs.declared.record.Deed.TheVariants.{Append, UnlinkHead, Close}
+use Rattle.rq_model.specs.declared.record.Deed.TheVariants.{Append, UnlinkHead, Close, Mark}
 use Rattle.rq_model.specs.Deeds.{TellsItself}
 use Rattle.rq_model.specs.Legal.{start_of}
 use Rattle.rq_model.specs.Tests.{Passes}
 use Rattle.rq_page.specs.declared.cell.Cell.{Cell}
+use Rattle.rq_page.specs.declared.client.ClientSlot.{ClientSlot}
 use Rattle.rq_page.specs.declared.directory.Directory.{Directory}
-use Rattle.rq_page.specs.Sizes.{Sizes, IsCellAddress, directory_at}
-use Rattle.rq_page.specs.Slots.Slot.{Free, Used, Sender}
+use Rattle.rq_page.specs.Sizes.{Sizes, IsCellAddress, client_slot_at, directory_at}
+use Rattle.rq_page.specs.Slots.Slot.{Free, Used, Sender, Client}
+use Rattle.rq_views.specs.InStore.{IsDeedOf}
 use Rattle.rq_views.specs.Items.{layout_of}
 use Rattle.rq_views.specs.Log.{Slots, Write}
-use Rattle.rq_views.specs.Plans.{Turn, append_writes, unlink_head_writes, unlink_tail_writes, put_back_writes, directory_write}
+use Rattle.rq_views.specs.Plans.{Turn, append_writes, unlink_head_writes, unlink_tail_writes, put_back_writes, directory_write, client_write}
 use Rattle.rq_views.specs.Plans.Turn.{Did, Undid}
 use Rattle.rq_level.specs.declared.writes.SlotWrite.{SlotWrite}
 use Rattle.rq_level.specs.Given.{has_page}
@@ -25,7 +27,7 @@ use Rattle.rq_txn.specs.declared.Aim.{Aim}
 use Rattle.rq_txn.specs.Rows.{Under, Row, latched_in}
 use Rattle.rq_txn.specs.declared.Aim.TheVariants as aims
 use Rattle.rq_sound.specs.Sound.{IsSound}
-use Rattle.rq_sound.specs.Starts.{MayDo, MayUndo}
+use Rattle.rq_sound.specs.Starts.{IsPlanned, MayDo, MayUndo}
 use Rattle.rq_sound.specs.Calls.{IsIdle}
 use Rattle.rq_sound.specs.Groups.{slots_now}
 
@@ -83,14 +85,34 @@ pub record IsReceiveBack (z : Sizes) (q : Slots) (ws : List SlotWrite) (g tag : 
   pub beside : Stands_at q directory.head old
   pub writes : reverse (writes_of z ws) ≡ put_back_writes (layout_of z) g directory new tag body old
 
+-- that of a mark
+pub record IsTagging (z : Sizes) (q : Slots) (ws : List SlotWrite) (c tag previous : ℕ) : Type 0 where
+  pub held : ClientSlot
+  pub held_is : q (client_slot_at z c) ≡ Client held
+  pub own : held.client ≡ c
+  pub previous_is : previous ≡ held.tag
+  pub writes : reverse (writes_of z ws) ≡ client_write (layout_of z) held
+      (record held { count = held.count + 1; tag = tag }) ∷ []
+
+-- that of a mark's inverse, which holds the tag before it
+pub record IsUntagging (z : Sizes) (q : Slots) (ws : List SlotWrite) (c previous : ℕ) : Type 0 where
+  pub held : ClientSlot
+  pub held_is : q (client_slot_at z c) ≡ Client held
+  pub own : held.client ≡ c
+  pub some : 0 < held.count
+  pub writes : reverse (writes_of z ws) ≡ client_write (layout_of z) held
+      (record held { count = held.count - 1; tag = previous }) ∷ []
+
 -- the writes are those of the operation, over what the slots hold
 abbrev pub IsPlannedFrom : Sizes → Slots → List SlotWrite → Turn → Type 0
 IsPlannedFrom z q ws (Did (Append g n tag previous body)) = IsSend z q ws g n tag previous body
 IsPlannedFrom z q ws (Did (UnlinkHead g n tag body)) = IsReceive z q ws g n tag body
 IsPlannedFrom z q ws (Did (Close g)) = IsMarking z q ws g true
+IsPlannedFrom z q ws (Did (Mark c tag previous)) = IsTagging z q ws c tag previous
 IsPlannedFrom z q ws (Undid (Append g n tag previous body)) = IsSendBack z q ws g previous
 IsPlannedFrom z q ws (Undid (UnlinkHead g n tag body)) = IsReceiveBack z q ws g tag body
 IsPlannedFrom z q ws (Undid (Close g)) = IsMarking z q ws g false
+IsPlannedFrom z q ws (Undid (Mark c tag previous)) = IsUntagging z q ws c previous
 
 -- none of these writes is on a page that is latched
 abbrev pub AreOff : State → List Write → Type 0
@@ -109,13 +131,23 @@ pub record IsNew (s : State) (r : Row) (u : Under) (aim : Aim) : Type 0 where
   pub aim_is : u.aim ≡ aim
   pub free : AreUnlatched s u.writes
 
+-- a mark is of the store
+abbrev pub IsMarkOf : Sizes → Deed → Type 0
+IsMarkOf z (Mark c tag previous) = IsDeedOf z (Mark c tag previous)
+IsMarkOf z _ = Unit {0}
+
 -- What is planned from the slots as they are may start where its pages are nobody's: a deed that passes the model's
--- tests, where it takes a message one waits; and the inverse of the newest deed of a transaction that aborts. A send or
--- a receive that is planned apart from levels is planned so.
+-- tests, where it takes a message one waits, and a mark of the store; and the inverse of the newest deed of a
+-- transaction that aborts. The plan of any mark fits the slots. A send or a receive that is planned apart from levels is
+-- planned so.
 pub record PlansMayStart : Type 0 where
+  pub planned : (s : State) (r : Row) (u : Under) (d : Deed) → IsSound s → IsNew s r u (aims.Doing d)
+      → IsPlannedFrom s.sizes (slots_now s) u.writes (Did d)
+      → Passes (size_of s.sizes) (ledger_of s) (start_of r.txn (job_of d)) → IsPlanned s r u (Did d)
   pub deeds : (s : State) (r : Row) (u : Under) (d : Deed) → IsSound s → IsNew s r u (aims.Doing d)
       → IsPlannedFrom s.sizes (slots_now s) u.writes (Did d) → TellsItself d
-      → HasWaiting s.waiting d → Passes (size_of s.sizes) (ledger_of s) (start_of r.txn (job_of d)) → MayDo s r u d
+      → HasWaiting s.waiting d → IsMarkOf s.sizes d
+      → Passes (size_of s.sizes) (ledger_of s) (start_of r.txn (job_of d)) → MayDo s r u d
   pub inverses : (s : State) (r : Row) (u : Under) (rest : List Finished) (f : Finished) → IsSound s
       → IsNew s r u (aims.Undoing f.lsn f.deed) → IsPlannedFrom s.sizes (slots_now s) u.writes (Undid f.deed)
       → r.aborting ≡ true → r.finished ≡ rest ++ f ∷ [] → MayUndo s r u rest f

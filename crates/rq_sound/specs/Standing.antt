@@ -7,14 +7,14 @@ use Rattle.rq_model.specs.Vocabulary.{In, same_txn}
 use Rattle.rq_model.specs.Deeds.{TellsItself}
 use Rattle.rq_model.specs.Content.{has_end, deeds}
 use Rattle.rq_model.specs.Rules.{any_use, uses_send, uses_receive}
-use Rattle.rq_page.specs.Sizes.{Sizes, sender_count}
+use Rattle.rq_page.specs.Sizes.{Sizes}
 use Rattle.rq_views.specs.Items.{items, layout_of, operation, has_undone}
 use Rattle.rq_views.specs.Legal.{open_deeds, over, under_way, turned_back, crossed, view}
 use Rattle.rq_views.specs.Numbers.{greatest}
 use Rattle.rq_views.specs.Groups.{TellsView}
 use Rattle.rq_views.specs.Chain.{View}
 use Rattle.rq_views.specs.Plans.{IsPlan, deed_sender}
-use Rattle.rq_views.specs.InStore.{IsStranger}
+use Rattle.rq_views.specs.InStore.{IsDeedOf, IsStranger}
 use Rattle.rq_views.specs.Owed.{Owes}
 use Rattle.rq_level.specs.Writes.{writes_of}
 use Rattle.rq_txn.specs.declared.Finished.{Finished}
@@ -52,7 +52,7 @@ pub record FollowsPlan (z : Sizes) (log : List Record) (ends : HeldEnds) (t : Tx
   pub plan : IsPlan (layout_of z) (turn_of u.aim) (reverse (writes_of z u.writes))
   pub told : TellsFor u.aim (view (items z log) (deed_sender (deed_of u.aim)))
   pub held : HoldsFor ends t (deed_of u.aim)
-  pub sender : deed_sender (deed_of u.aim) < sender_count z
+  pub of_store : IsDeedOf z (deed_of u.aim)
   pub reads : ReadsFor u.aim
 
 -- who does a deed is not aborting; who is aborting undoes its newest deed

@@ -1,12 +1,14 @@
 -- What an operation needs to start beside others: a send, a receive, a close, or an inverse.
-use Rattle.std.specs.Prelude.{◌≡◌, ℕ, ◌+◌, ◌<◌, ◌≤◌, true, false, List, [], ◌∷◌, ◌++◌, reverse, Some, None}
+use Rattle.std.specs.Prelude.{◌≡◌, ℕ, ◌+◌, ◌≤◌, true, false, List, [], ◌∷◌, ◌++◌, reverse, Some, None}
 use Rattle.rq_model.specs.declared.txn.Txn.{Txn}
 use Rattle.rq_model.specs.declared.record.Deed.{Deed}
-use Rattle.rq_model.specs.declared.record.Deed.TheVariants.{Append, UnlinkHead, Close}
+use Rattle.rq_model.specs.declared.record.Deed.TheVariants.{Append, UnlinkHead, Close, Mark}
+use Rattle.rq_model.specs.Vocabulary.{client_group}
 use Rattle.rq_model.specs.Deeds.{TellsItself}
-use Rattle.rq_page.specs.Sizes.{cell_count, sender_count}
+use Rattle.rq_page.specs.Sizes.{cell_count}
 use Rattle.rq_views.specs.Claims.{appends_of}
 use Rattle.rq_views.specs.Groups.{on_sending_end}
+use Rattle.rq_views.specs.InStore.{IsDeedOf}
 use Rattle.rq_views.specs.Log.{HasBefores}
 use Rattle.rq_views.specs.Items.{items, layout_of}
 use Rattle.rq_views.specs.Legal.{view}
@@ -26,12 +28,14 @@ abbrev pub with_end : Txn → Deed → HeldEnds → HeldEnds
 with_end t (Append sender sequence tag previous body) ends = record ends { sending = with_held t sender ends.sending }
 with_end t (UnlinkHead sender sequence tag body) ends = record ends { receiving = with_held t sender ends.receiving }
 with_end t (Close sender) ends = record ends { sending = with_held t sender ends.sending }
+with_end t (Mark client tag previous) ends = record ends { sending = with_held t (client_group client) ends.sending }
 
 -- no other holds it
 abbrev pub IsEndFree : Txn → Deed → HeldEnds → Type 0
 IsEndFree t (Append sender sequence tag previous body) ends = is_free_for t sender ends.sending ≡ true
 IsEndFree t (UnlinkHead sender sequence tag body) ends = is_free_for t sender ends.receiving ≡ true
 IsEndFree t (Close sender) ends = is_free_for t sender ends.sending ≡ true
+IsEndFree t (Mark client tag previous) ends = is_free_for t (client_group client) ends.sending ≡ true
 
 -- The operation is planned over the slots as they are, by a transaction with nothing under way, and nothing of it is
 -- made. Nobody has latched a page of it.
@@ -50,7 +54,7 @@ pub record MayDo (s : State) (r : Row) (u : Under) (d : Deed) : Type 0 where
   pub planned : IsPlanned s r u (Did d)
   pub aim : u.aim ≡ aims.Doing d
   pub forward : r.aborting ≡ false
-  pub sender : deed_sender d < sender_count s.sizes
+  pub of_store : IsDeedOf s.sizes d
   pub reads : TellsItself d
   pub end : IsEndFree r.txn d s.ends
   pub not_closed : on_sending_end (deed_sender d) d ≡ true

@@ -15,13 +15,13 @@ use Rattle.rq_model.specs.Legal.{start_of}
 use Rattle.rq_model.specs.Replay.{Reply}
 use Rattle.rq_model.specs.Unended.{unfinished, lost}
 use Rattle.rq_model.specs.Vocabulary.{In}
-use Rattle.rq_page.specs.Sizes.{Sizes, IsInRange, IsCellAddress, cell_count, directory_at, sender_count}
+use Rattle.rq_page.specs.Sizes.{Sizes, IsInRange, IsCellAddress, cell_count, sender_count}
 use Rattle.rq_page.specs.Slots.Slot.{Free}
 use Rattle.rq_views.specs.Claims.{takes_of, takes_placed}
 use Rattle.rq_views.specs.Items.{items, layout_of}
 use Rattle.rq_views.specs.Legal.{open_deeds, under_way, view}
 use Rattle.rq_views.specs.Log.{HasBefores, Write}
-use Rattle.rq_views.specs.Plans.{IsPlan, deed_sender}
+use Rattle.rq_views.specs.Plans.{IsPlan}
 use Rattle.rq_views.specs.Plans.Turn.{Undid}
 use Rattle.rq_views.specs.Stored.{slots_in}
 use Rattle.rq_level.specs.declared.writes.SlotWrite.{SlotWrite}
@@ -38,6 +38,7 @@ use Rattle.rq_txn.specs.declared.Aim.{Aim}
 use Rattle.rq_txn.specs.Rows.{Under, Row, latched_in}
 use Rattle.rq_txn.specs.declared.Aim.TheVariants as aims
 use Rattle.rq_sound.specs.Counted.{takes_in}
+use Rattle.rq_sound.specs.Rows.{own_slot}
 use Rattle.rq_sound.specs.Sound.{IsSound}
 use Rattle.rq_sound.specs.Starts.{MayDo, MayUndo, with_end}
 use Rattle.rq_sound.specs.ModelSteps.{IsModelStep}
@@ -66,12 +67,12 @@ pub record CallsKeepSoundness : Type 0 where
   pub fails : (s : State) → IsSound s → IsSound (failed s)
 
 -- The newest deed of a transaction with nothing under way can be undone over the slots as they are, whatever others do
--- meanwhile, once nobody has latched the page of its sender's directory slot: a message that was taken finds a free
--- cell (`put_back_finds`), and a close finds its group closed still (`reopen_finds`). A message that is sent finds a
--- cell where the store is not full, and so does one that a lost transaction took.
+-- meanwhile, once nobody has latched the page of its own slot: a message that was taken finds a free cell
+-- (`put_back_finds`), and a close finds its group closed still (`reopen_finds`). A message that is sent finds a cell
+-- where the store is not full, and so does one that a lost transaction took.
 pub record InversesCanBePlanned : Type 0 where
   pub planned : (s : State) (r : Row) (rest : List Finished) (f : Finished) → IsSound s → IsIdle s r
-      → r.finished ≡ rest ++ f ∷ [] → latched_in s.rows (directory_at (deed_sender f.deed) / 16) ≡ false
+      → r.finished ≡ rest ++ f ∷ [] → latched_in s.rows (own_slot s.sizes f.deed / 16) ≡ false
       → (ws : List Write) × IsPlan (layout_of s.sizes) (Undid f.deed) ws
       × HasBefores ws (left_by s.sizes s.records).slots
   pub put_back_finds : (s : State) (r : Row) (rest : List Finished) (f : Finished) → IsSound s → IsIdle s r

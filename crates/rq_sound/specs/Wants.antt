@@ -1,7 +1,7 @@
 -- What the level of chains finds in a sound store, where it was given the slots that it wants.
 use Rattle.std.specs.Prelude.{◌≡◌, ℕ, ◌/◌, ◌<◌, ◌≤◌, ◌^◌, ◌++◌, true, false, List, [], ◌∷◌, length}
 use Rattle.rq_model.specs.declared.record.Deed.{Deed}
-use Rattle.rq_model.specs.declared.record.Deed.TheVariants.{Append, UnlinkHead, Close}
+use Rattle.rq_model.specs.declared.record.Deed.TheVariants.{Append, UnlinkHead, Close, Mark}
 use Rattle.rq_page.specs.Sizes.{Sizes, directory_at, sender_count}
 use Rattle.rq_views.specs.Items.{items}
 use Rattle.rq_views.specs.Legal.{view}
@@ -24,11 +24,12 @@ abbrev pub AreGivenOf : State → List Given → List ℕ → Type 0
 AreGivenOf s given [] = Unit {0}
 AreGivenOf s given (a ∷ rest) = GivenHolds s.sizes given a (slots_now s a) × AreGivenOf s given rest
 
--- they hold what the inverse of a deed needs
+-- they hold what the inverse of a deed needs; none hold what that of a mark does yet
 abbrev pub CanUndo : Sizes → List Given → Deed → Type 0
 CanUndo z given (Append g n tag previous body) = CanUnlinkTail z given g n
 CanUndo z given (UnlinkHead g n tag body) = CanPutBack z given g n
 CanUndo z given (Close g) = CanMark z given g false
+CanUndo z given (Mark c tag previous) = ⊥
 
 -- Where nobody has latched the page of a group's directory slot, what a level is given of the slots that it wants holds
 -- what its operation needs: it finds no damage.
@@ -44,4 +45,4 @@ pub record LevelsFindAll : Type 0 where
       → AreGivenOf s given (directory_at g ∷ []) → CanMark s.sizes given g true
   pub undoes : (s : State) (given : List Given) (r : Row) (rest : List Finished) (f : Finished) → IsSound s
       → IsIdle s r → r.finished ≡ rest ++ f ∷ [] → latched_in s.rows (directory_at (deed_sender f.deed) / 16) ≡ false
-      → AreGivenOf s given (needed (slots_now s) (Undid f.deed)) → CanUndo s.sizes given f.deed
+      → AreGivenOf s given (needed s.sizes (slots_now s) (Undid f.deed)) → CanUndo s.sizes given f.deed

@@ -3,7 +3,7 @@ use Rattle.std.proofs.Common.{◌≡◌, ℕ, suc, ◌+◌, ◌-◌, ◌/◌, �
 use Rattle.std.proofs.lemmas.Bool.{cases_Bool, cases_eq}
 use Rattle.std.proofs.lemmas.List.{length-map, length-drop}
 use Rattle.rq_model.specs.declared.txn.Sub.{Sub}
-use Rattle.rq_model.specs.declared.record.Deed.TheVariants.{Append, UnlinkHead, Close}
+use Rattle.rq_model.specs.declared.record.Deed.TheVariants.{Append, UnlinkHead, Close, Mark}
 use Rattle.rq_model.specs.declared.record.Record.{Record}
 use Rattle.rq_model.specs.declared.record.Record.TheVariants as records
 use Rattle.rq_page.specs.declared.cell.Cell.{Cell}
@@ -64,6 +64,8 @@ plan_adds l (Did (Close s)) ws p = subst AllAddOne (sym p.writes) ((λ n k. omeg
 plan_adds l (Undid (Append s n tag previous body)) ws p = subst AllAddOne (sym p.writes) ((λ n k. omega (arith, k)), relinked_adds p.cell.prev p.front _ _ ((λ n k. tt), tt))
 plan_adds l (Undid (UnlinkHead s n tag body)) ws p = subst AllAddOne (sym p.writes) ((λ n k. omega (arith, k)), relinked_adds p.directory.head p.old _ _ ((λ n k. tt), tt))
 plan_adds l (Undid (Close s)) ws p = subst AllAddOne (sym p.writes) ((λ n k. omega (arith, k)), tt)
+plan_adds l (Did (Mark c tag previous)) ws p = subst AllAddOne (sym p.writes) ((λ n k. omega (arith, k)), tt)
+plan_adds l (Undid (Mark c tag previous)) ws p = subst AllAddOne (sym p.writes) ((λ n k. omega (arith, k)), tt)
 
 part_adds : (owed ws : List Write) → AllAddOne (onto owed ws) → AllAddOne ws
 part_adds [] ws h = h

@@ -3,8 +3,8 @@ use Rattle.std.proofs.Common.{◌≡◌, ◌≢◌, ℕ, ◌&&◌, ◌||◌, Lis
 use Rattle.std.proofs.lemmas.Bool.{cases_Bool, false≢true, true≢false, or_left, or_right, or_cases, and_parts, eq-eqb, and_from, or_parts, not-false}
 use Rattle.rq_model.specs.declared.txn.Txn.{Txn}
 use Rattle.rq_model.specs.declared.record.Deed.{Deed}
-use Rattle.rq_model.specs.declared.record.Deed.TheVariants.{Append, UnlinkHead, Close}
-use Rattle.rq_model.specs.Vocabulary.{same_txn}
+use Rattle.rq_model.specs.declared.record.Deed.TheVariants.{Append, UnlinkHead, Close, Mark}
+use Rattle.rq_model.specs.Vocabulary.{same_txn, client_group}
 use Rattle.rq_model.proofs.Lists.{same_is, same_self, not_same}
 use Rattle.rq_model.proofs.Same.{other_same}
 use Rattle.rq_groups.specs.declared.Held.{Held}
@@ -77,3 +77,4 @@ pub for_other : (t q : Txn) (ends : HeldEnds) (d : Deed) → q ≢ t → HoldsFo
 for_other t q ends (Append s n tag previous body) m h = held_other t q s ends.sending m ∙ h
 for_other t q ends (UnlinkHead s n tag body) m h = held_other t q s ends.receiving m ∙ h
 for_other t q ends (Close s) m h = held_other t q s ends.sending m ∙ h
+for_other t q ends (Mark c tag previous) m h = held_other t q (client_group c) ends.sending m ∙ h

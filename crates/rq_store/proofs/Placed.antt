@@ -3,7 +3,7 @@ use Rattle.std.proofs.Common.{◌≡◌, List, [], ◌∷◌, ◌++◌, map, rev
 use Rattle.std.proofs.lemmas.Bool.{cases_Bool}
 use Rattle.std.proofs.lemmas.List.{reverse-append, map-append}
 use Rattle.rq_model.specs.declared.record.Deed.{Deed}
-use Rattle.rq_model.specs.declared.record.Deed.TheVariants.{Append, UnlinkHead, Close}
+use Rattle.rq_model.specs.declared.record.Deed.TheVariants.{Append, UnlinkHead, Close, Mark}
 use Rattle.rq_model.specs.Content.{said, Said}
 use Rattle.rq_views.specs.Legal.{Placed}
 use Rattle.rq_views.proofs.Committed.{say}
@@ -49,6 +49,7 @@ takes_many : (d : Deed) → cond (is_taken (op_of (said d))) 1 0 ≡ takes_of d
 takes_many (Append q n tag previous body) = refl
 takes_many (UnlinkHead q n tag body) = refl
 takes_many (Close q) = refl
+takes_many (Mark c tag previous) = refl
 
 -- how many messages finished operations took
 pub count_takes : (fs : List Finished) → length (filter is_taken (map op_done fs)) ≡ sum_by takes_one fs

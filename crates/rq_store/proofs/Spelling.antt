@@ -5,7 +5,7 @@ use Rattle.rq_page.specs.Kinds.{kind_of}
 use Rattle.rq_page.specs.Sizes.{Sizes, sender_count}
 use Rattle.rq_page.specs.Slots.{Slot, MayHold, IsSlotOf, held_in, slot_bytes}
 use Rattle.rq_page.proofs.Spellings.{spelling_tells}
-use Rattle.rq_views.specs.InStore.{InStore, InStoreOne}
+use Rattle.rq_views.specs.InStore.{InStore, InStoreOne, IsDeedOf}
 use Rattle.rq_views.specs.Items.{items, item_of, told_deed}
 use Rattle.rq_views.specs.Log.{Item}
 use Rattle.rq_views.specs.Log.Item.{PageOp, PageUndo, OpEnd}
@@ -22,7 +22,7 @@ pub record MayStandAt (z : Sizes) (a : ℕ) (x : Slot) : Type 0 where
 abbrev pub IsSpelt : Sizes → Item → Type 0
 IsSpelt z (PageOp o w) = MayStandAt z w.at w.before × MayStandAt z w.at w.after
 IsSpelt z (PageUndo o u at after) = MayStandAt z at after
-IsSpelt z (OpEnd o d) = TellsItself d × (deed_sender d < sender_count z)
+IsSpelt z (OpEnd o d) = TellsItself d × IsDeedOf z d
 IsSpelt z _ = Unit {0}
 
 abbrev pub AreSpelt : Sizes → List Item → Type 0
@@ -53,7 +53,7 @@ items_back z (i ∷ log) h =
 one_in_store : (z : Sizes) (i : Item) → IsSpelt z i → InStoreOne z (record_of i)
 one_in_store z (PageOp o w) h = (told z w.at w.after h.1).1
 one_in_store z (PageUndo o u at after) h = (told z at after h).1
-one_in_store z (OpEnd o d) h = subst (λ e. deed_sender (told_deed e) < sender_count z) (sym h.0) h.1
+one_in_store z (OpEnd o d) h = subst (λ e. IsDeedOf z (told_deed e)) (sym h.0) h.1
 one_in_store z _ h = tt
 
 pub in_store : (z : Sizes) (log : List Item) → AreSpelt z log → InStore z (spelled_log log)

@@ -2,11 +2,11 @@
 use Rattle.std.specs.Prelude.{ℕ, ◌+◌, ◌-◌, Bool, true, false, List, [], Option, Some, None, map, length}
 use Rattle.std.specs.List.{sum_by}
 use Rattle.rq_model.specs.declared.record.Deed.{Deed}
-use Rattle.rq_model.specs.declared.record.Deed.TheVariants.{Append, UnlinkHead, Close}
+use Rattle.rq_model.specs.declared.record.Deed.TheVariants.{Append, UnlinkHead, Close, Mark}
 use Rattle.rq_model.specs.declared.record.Record.{Record}
 use Rattle.rq_model.specs.Vocabulary.{Op}
 use Rattle.rq_model.specs.History.{Job}
-use Rattle.rq_model.specs.History.Job.{Sending, Taking, Ending}
+use Rattle.rq_model.specs.History.Job.{Sending, Taking, Ending, Marking}
 use Rattle.rq_model.specs.Ledger.{Open, Ledger, Phase, kept_in}
 use Rattle.rq_model.specs.Ledger.Phase.{Running, Stopped}
 use Rattle.rq_model.specs.Tests.{Size}
@@ -49,6 +49,7 @@ abbrev pub job_of : Deed → Job
 job_of (Append sender sequence tag previous body) = Sending (record { sender = sender; tag = tag; body = body })
 job_of (UnlinkHead sender sequence tag body) = Taking sender
 job_of (Close sender) = Ending sender
+job_of (Mark client tag previous) = Marking client tag
 
 abbrev pub job_of_aim : Aim → Job
 job_of_aim (Doing d) = job_of d
@@ -70,7 +71,6 @@ open_of ends r = record {
   ops = map op_done r.finished;
   sending = held_by r.txn ends.sending;
   receiving = held_by r.txn ends.receiving;
-  marking = [];
   number = r.number;
   under = job_under r.under;
   left = left_under r.under;

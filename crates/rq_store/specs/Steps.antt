@@ -5,9 +5,9 @@ use Rattle.rq_model.specs.declared.record.Record.{Record}
 use Rattle.rq_model.specs.declared.record.Record.TheVariants.{PageOp, OpEnd}
 use Rattle.rq_model.specs.Deeds.{deed_level, spelled_deed}
 use Rattle.rq_model.specs.declared.record.Deed.{Deed}
-use Rattle.rq_model.specs.declared.record.Deed.TheVariants.{Append, UnlinkHead, Close}
+use Rattle.rq_model.specs.declared.record.Deed.TheVariants.{Append, UnlinkHead, Close, Mark}
 use Rattle.rq_model.specs.Replay.{Reply}
-use Rattle.rq_model.specs.Replay.Reply.{Gave_sent, Gave_message, Gave_closed}
+use Rattle.rq_model.specs.Replay.Reply.{Gave_sent, Gave_message, Gave_closed, Gave_marked}
 use Rattle.rq_page.specs.Sizes.{page_count}
 use Rattle.rq_page.specs.Pages.{IsWritten}
 use Rattle.rq_page.specs.Formatted.{IsFormatted, IsHeaderOf}
@@ -40,9 +40,11 @@ abbrev pub gave_done : Deed → Reply
 gave_done (Append sender sequence tag previous body) = Gave_sent
 gave_done (UnlinkHead sender sequence tag body) = Gave_message (record { sender = sender; tag = tag; body = body })
 gave_done (Close sender) = Gave_closed
+gave_done (Mark client tag previous) = Gave_marked
 
 -- how many messages the deed takes from g
 abbrev pub took : ℕ → Deed → ℕ
 took g (Append sender sequence tag previous body) = 0
 took g (UnlinkHead sender sequence tag body) = cond (nat_eq sender g) 1 0
 took g (Close sender) = 0
+took g (Mark client tag previous) = 0

@@ -3,7 +3,7 @@ ghost use Rattle.std.specs.Prelude.{◌≡◌, IfOk, None};
 ghost use Rattle.rq_level.specs.LevelState.{HasRoom};
 ghost use Rattle.rq_levels.specs.Words.{kept_of, number_of};
 
-use rq_chain::ChainLevel;
+use rq_chain::{ChainLevel, TagLevel};
 use rq_level::{Level, Op, PageSet, Plan, SlotWrite, Slots, Want};
 use rq_levels::StoreLevel;
 use rq_model::record::{Record, Slot};
@@ -31,6 +31,20 @@ impl Counted {
         match Arc::try_clone(drops) {
             Ok(drops) => Ok(Counted {
                 level: StoreLevel::Slots(PageLevel),
+                drops,
+            }),
+            Err(_) => Err(AllocError),
+        }
+    }
+
+    /// The level of tags, which counts its drops here.
+    pub fn tags(drops: &Arc<AtomicU64, Global>) -> Result<Counted, AllocError>
+        ensures number { IfOk result (λ c. number_of c.level ≡ 2) }
+        ensures sizes { IfOk result (λ c. (kept_of c.level).sizes ≡ None) }
+    {
+        match Arc::try_clone(drops) {
+            Ok(drops) => Ok(Counted {
+                level: StoreLevel::Tags(TagLevel),
                 drops,
             }),
             Err(_) => Err(AllocError),

@@ -16,7 +16,7 @@ use std::sync::Arc;
 use std::sync::atomic::{AtomicU64, Ordering};
 use std::test::Fail;
 
-// How often the two levels were dropped while the store was open, and once it was given back; or, where it was not opened,
+// How often the three levels were dropped while the store was open, and once it was given back; or, where it was not opened,
 // once that was refused.
 #[derive(Drop)]
 enum Dropped {
@@ -29,7 +29,8 @@ fn count_drops(alloc: Global, is_formatted: bool) -> Result<Dropped, AllocError>
     let drops = Arc::new(alloc, AtomicU64::new(0))?;
     let slots: Box<dyn Level + Send> = Box::new(alloc, Counted::slots(&drops)?)?;
     let chains: Box<dyn Level + Send> = Box::new(alloc, Counted::chains(alloc, &drops)?)?;
-    open_and_close(alloc, is_formatted, slots, chains, &drops)
+    let tags: Box<dyn Level + Send> = Box::new(alloc, Counted::tags(&drops)?)?;
+    open_and_close(alloc, is_formatted, slots, chains, tags, &drops)
 }
 
 // Opens a store with these levels, and gives it back.
@@ -38,17 +39,21 @@ fn open_and_close<B: Level>(
     is_formatted: bool,
     slots: B,
     chains: B,
+    tags: B,
     drops: &AtomicU64,
 ) -> Result<Dropped, AllocError>
     requires slots { B.level slots ≡ 0 }
     requires operations { B.level chains ≡ 1 }
+    requires clients { B.level tags ≡ 2 }
     requires sizes { (B.kept slots).sizes ≡ None }
     requires room { HasRoom (B.kept chains) }
+    requires untold { (B.kept tags).sizes ≡ None }
 {
     let (pages, log) = store(alloc, is_formatted)?;
-    let mut levels = Vec::with_capacity(alloc, 2)?;
+    let mut levels = Vec::with_capacity(alloc, 3)?;
     levels.push(slots)?;
     levels.push(chains)?;
+    levels.push(tags)?;
     match opened(alloc, pages, log, StoreLevels::new(levels)) {
         Some(engine) => Ok(given_back(engine, drops)),
         None => Ok(Dropped::Refused {
@@ -95,8 +100,8 @@ fn store(alloc: Global, is_formatted: bool) -> Result<(MemPages, MemLog), AllocE
 #[test]
 fn each_level_is_dropped_once(rt: HostRuntime) -> Result<(), Fail> {
     let given_back = count_drops(rt.alloc(), true).map_err(|_| "memory")?;
-    assert!(rt; matches!(&given_back, Dropped::GivenBack { open: 0, closed: 2 }));
+    assert!(rt; matches!(&given_back, Dropped::GivenBack { open: 0, closed: 3 }));
     let refused = count_drops(rt.alloc(), false).map_err(|_| "memory")?;
-    assert!(rt; matches!(&refused, Dropped::Refused { closed: 2 }));
+    assert!(rt; matches!(&refused, Dropped::Refused { closed: 3 }));
     Ok(())
 }

@@ -111,9 +111,9 @@ struct Tie {
     is_tied_when_changed_about: bool,
 }
 
-/// What is seen of two threads once both have ended, and what is left at the end.
+/// What is seen of two threads once both have ended.
 #[derive(Drop)]
-struct Seen<C> {
+struct Seen {
     // whether each came to a stage in time for the other, and did all that it was to do
     is_in_time: bool,
     are_done: bool,
@@ -124,7 +124,6 @@ struct Seen<C> {
     has_aborted: bool,
     tie: Option<Tie>,
     receipts: usize,
-    closed: C,
 }
 
 // What these calls did for each page that they were to write.
@@ -316,7 +315,7 @@ fn taken_turns<
 }
 
 // Two threads under a pass each, and a third pass that forces and asks for receipts. The audit is taken before that, or
-// left to the end.
+// left to the end. Gives what is left then, too.
 fn share<
     P: PageDevice + Drop + Send,
     L: LogDevice + Drop + Send,
@@ -330,7 +329,7 @@ fn share<
     blank: Blank,
     taking: Blank,
     plan: Plan,
-) -> Option<Seen<Closed<P, L, B>>>
+) -> Option<(Seen, Closed<P, L, B>)>
     requires name { (blank.name ≡ G.name) × (taking.name ≡ G.taking) }
     requires parts { (blank.parts ≡ G.parts) × (blank.parts ≡ 1024) × (taking.parts ≡ 1024) }
     requires sound { WasSound P.PageDevice L.LogDevice G.premise engine }
@@ -351,7 +350,7 @@ fn share<
     let given = receipts(rt, alloc, shared.engine_lock(), &mut three, &numbers).ok()?;
     let receipts = given.len();
     let closed = ended(alloc, shared, one, two, three, &given).ok()?;
-    Some(Seen {
+    let seen = Seen {
         is_in_time,
         are_done: done.is_done && other_done.is_done,
         calls,
@@ -360,15 +359,15 @@ fn share<
         has_aborted,
         tie,
         receipts,
-        closed,
-    })
+    };
+    Some((seen, closed))
 }
 
 fn look<R: Threads + Wait + Sync>(
     rt: &R,
     alloc: Global,
     plan: Plan,
-) -> Option<Seen<Closed<MemPages, MemLog, StoreLevel>>> {
+) -> Option<(Seen, Closed<MemPages, MemLog, StoreLevel>)> {
     let engine = engine_for(alloc, plan.case).ok()?;
     let taking = Blank::new(1024);
     share::<MemPages, MemLog, StoreLevel, Brand, R>(
@@ -398,7 +397,8 @@ fn an_audit_holds_the_calls_of_both_threads(rt: HostRuntime) -> Result<(), Fail>
         takes: true,
         ..Plan::new(Case::Send)
     };
-    let seen = look(&rt, rt.alloc(), plan).ok_or("memory")?;
+    let (seen, closed) = look(&rt, rt.alloc(), plan).ok_or("memory")?;
+    let left = entries_left(closed);
     assert!(rt;
         seen.is_in_time && seen.are_done,
         "both threads send and commit"
@@ -412,10 +412,7 @@ fn an_audit_holds_the_calls_of_both_threads(rt: HostRuntime) -> Result<(), Fail>
         !tie.is_tied_to_the_other && !tie.is_tied_when_changed_about,
         "neither thread's are the other's, nor its own in another order"
     );
-    assert!(rt;
-        entries_of(&seen.closed) == 3,
-        "a force and two acknowledgements came after it"
-    );
+    assert!(rt; left == 3, "a force and two acknowledgements came after it");
     Ok(())
 }
 
@@ -424,6 +421,11 @@ fn entries_of<P: PageDevice + Drop, L: LogDevice + Drop, B: Level>(
     closed: &Closed<P, L, B>,
 ) -> usize {
     closed.kept.entries().len()
+}
+
+// The same, and the store is closed for good.
+fn entries_left(closed: Closed<MemPages, MemLog, StoreLevel>) -> usize {
+    entries_of(&closed)
 }
 
 // Whether both messages outlive a crash, each as it was sent.
@@ -444,31 +446,38 @@ fn have_sent<P: PageDevice + Drop, L: LogDevice + Drop>(
 
 #[test]
 fn what_receipts_name_outlives_a_crash(rt: HostRuntime) -> Result<(), Fail> {
-    let seen = look(&rt, rt.alloc(), Plan::new(Case::Send)).ok_or("memory")?;
+    let (seen, closed) = look(&rt, rt.alloc(), Plan::new(Case::Send)).ok_or("memory")?;
+    let left = entries_of(&closed);
+    let outlive = outlives(rt.alloc(), closed)?;
     assert!(rt;
         seen.is_in_time && seen.are_done,
         "both threads send and commit"
     );
     assert!(rt; seen.receipts == 2, "both commits are forced");
-    assert!(rt; entries_of(&seen.closed) == 17, "no entry was taken");
-    assert!(rt;
-        outlives(rt.alloc(), seen.closed)?,
-        "both messages are there"
-    );
+    assert!(rt; left == 17, "no entry was taken");
+    assert!(rt; outlive, "both messages are there");
     Ok(())
 }
 
-// Whether the second thread's message is all that is left at the end.
+// Whether the second thread's message is all that an engine has.
 fn has_only_the_seconds<P: PageDevice + Drop, L: LogDevice + Drop>(
-    closed: Closed<P, L, StoreLevel>,
+    engine: &Engine<P, L, StoreLevel>,
+    case: Case,
+) -> Result<bool, &'static str> {
+    Ok(has_sent(engine, case.sender() as usize, b'y')? && senders_of(engine)? == 1)
+}
+
+// Whether it is all that is left at the end.
+fn leaves_only_the_seconds(
+    closed: Closed<MemPages, MemLog, StoreLevel>,
     case: Case,
 ) -> Result<bool, &'static str> {
     let engine = closed.kept.give_back();
-    Ok(has_sent(&engine, case.sender() as usize, b'y')? && senders_of(&engine)? == 1)
+    has_only_the_seconds(&engine, case)
 }
 
 // What the first thread's calls were, of which so many were refused for a latch; both did all that they were to do, in time.
-fn is_seen<C>(seen: &Seen<C>, latched: usize) -> bool {
+fn is_seen(seen: &Seen, latched: usize) -> bool {
     seen.is_in_time && seen.are_done && seen.latched == latched && seen.receipts == 1
 }
 
@@ -476,7 +485,8 @@ fn is_seen<C>(seen: &Seen<C>, latched: usize) -> bool {
 fn loops_that_are_held_hold_up_nobody(rt: HostRuntime) -> Result<(), Fail> {
     let pages = [Written::Nothing, Written::Nothing, Written::Done];
     for (case, written) in [(Case::WritePages, pages.as_slice()), (Case::WriteLog, &[])] {
-        let seen = look(&rt, rt.alloc(), Plan::new(case)).ok_or("memory")?;
+        let (seen, closed) = look(&rt, rt.alloc(), Plan::new(case)).ok_or("memory")?;
+        let is_left = leaves_only_the_seconds(closed, case)?;
         assert!(rt;
             is_seen(&seen, 0) && seen.calls == written.len().max(1),
             "a loop is held once, and then goes on"
@@ -485,7 +495,7 @@ fn loops_that_are_held_hold_up_nobody(rt: HostRuntime) -> Result<(), Fail> {
             seen.written.as_slice() == written,
             "the page of the second's sender is written"
         );
-        assert!(rt; has_only_the_seconds(seen.closed, case)?);
+        assert!(rt; is_left, "what the second sent is left, and nothing else");
     }
     Ok(())
 }
@@ -493,13 +503,14 @@ fn loops_that_are_held_hold_up_nobody(rt: HostRuntime) -> Result<(), Fail> {
 #[test]
 fn an_abort_that_meets_latches_goes_on_or_is_given_up(rt: HostRuntime) -> Result<(), Fail> {
     for case in [Case::Abort, Case::GiveUp] {
-        let seen = look(&rt, rt.alloc(), Plan::new(case)).ok_or("memory")?;
+        let (seen, closed) = look(&rt, rt.alloc(), Plan::new(case)).ok_or("memory")?;
+        let is_left = leaves_only_the_seconds(closed, case)?;
         assert!(rt; is_seen(&seen, 1), "once it meets them");
         assert!(rt;
             seen.has_aborted == matches!(case, Case::Abort),
             "what is given up is not ended"
         );
-        assert!(rt; has_only_the_seconds(seen.closed, case)?);
+        assert!(rt; is_left, "what the second sent is left, and nothing else");
     }
     Ok(())
 }
@@ -511,7 +522,8 @@ fn one_thread_alone_meets_the_limit(rt: HostRuntime) -> Result<(), Fail> {
             is_alone: true,
             ..Plan::new(case)
         };
-        let seen = look(&rt, rt.alloc(), plan).ok_or("memory")?;
+        let (seen, closed) = look(&rt, rt.alloc(), plan).ok_or("memory")?;
+        drop(closed);
         assert!(rt; !seen.is_in_time && seen.latched == 0);
     }
     Ok(())

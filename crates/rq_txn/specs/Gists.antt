@@ -4,12 +4,13 @@ use Rattle.rq_model.specs.declared.message.Message.{Message}
 use Rattle.rq_model.specs.declared.record.Deed.{Deed}
 use Rattle.rq_model.specs.declared.record.Deed.TheVariants as deeds
 use Rattle.rq_txn.specs.declared.told.Gist.{Gist}
-use Rattle.rq_txn.specs.declared.told.Gist.TheVariants.{Append, UnlinkHead, Close}
+use Rattle.rq_txn.specs.declared.told.Gist.TheVariants.{Append, UnlinkHead, Close, Mark}
 
 abbrev pub gist_of : Deed → Gist
 gist_of (deeds.Append sender sequence tag previous body) = Append sender tag
 gist_of (deeds.UnlinkHead sender sequence tag body) = UnlinkHead sender
 gist_of (deeds.Close sender) = Close sender
+gist_of (deeds.Mark client tag previous) = Mark client tag
 
 abbrev pub gist_in : Option Deed → Option Gist
 gist_in None = None

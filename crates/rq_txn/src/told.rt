@@ -1,7 +1,7 @@
 //! Deeds, as levels tell them.
-ghost use Rattle.std.specs.Prelude.{◌≡◌, ◌+◌, ◌≤◌, Some, drop, length};
+ghost use Rattle.std.specs.Prelude.{◌≡◌, ◌+◌, ◌≤◌, ◌↔◌, IsTrue, Some, drop, length};
 ghost use Rattle.byteorder.specs.Endian.{big_number};
-ghost use Rattle.rq_model.specs.Deeds.{deed_by, deed_in, deed_level, spelled_deed, unlink_head_in};
+ghost use Rattle.rq_model.specs.Deeds.{deed_by, deed_in, deed_level, mark_in, spelled_deed, unlink_head_in};
 ghost use Rattle.rq_views.specs.Plans.{deed_sender};
 ghost use Rattle.rq_txn.specs.Told.{IsTold};
 ghost use Rattle.rq_txn.specs.Gists.{gist_in, gist_of, message_in, message_of};
@@ -39,7 +39,7 @@ impl Model for ToldDeed {
         ∙ ap (λ level. record { level = level; bytes = t.bytes }) (told_by_its_level t.level t.bytes _ h.reads) };
 }
 
-/// What is counted of a deed: of which kind it is, whose group it is of, and the tag of a message that was sent.
+/// What is counted of a deed: its kind, its group or client, and its tag.
 #[derive(Clone, Copy)]
 pub enum Gist {
     /// A message was sent.
@@ -48,6 +48,8 @@ pub enum Gist {
     UnlinkHead { sender: u32 },
     /// A group was closed.
     Close { sender: u32 },
+    /// A client's tag was marked.
+    Mark { client: u32, tag: u64 },
 }
 
 impl ToldDeed {
@@ -95,14 +97,15 @@ impl ToldDeed {
         message_in(self.level, self.bytes.as_slice())
     }
 
-    /// Whose group it is of.
-    pub fn sender(&self) -> u32
-        ensures { result ≡ deed_sender self.now }
+    /// Whether it is of this sender's group. A mark is of none.
+    pub fn is_of(&self, sender: u32) -> bool
+        ensures { IsTrue result ↔ deed_sender self.now ≡ sender }
     {
         match self.gist() {
-            Gist::Append { sender, .. } => sender,
-            Gist::UnlinkHead { sender } => sender,
-            Gist::Close { sender } => sender,
+            Gist::Append { sender: of, .. } => of == sender,
+            Gist::UnlinkHead { sender: of } => of == sender,
+            Gist::Close { sender: of } => of == sender,
+            Gist::Mark { .. } => false,
         }
     }
 }
@@ -113,6 +116,7 @@ fn gist_in(level: u8, bytes: &[u8]) -> Option<Gist>
 {
     match level {
         1 => chain_gist(bytes),
+        2 => tag_gist(bytes),
         _ => None,
     }
 }
@@ -145,6 +149,25 @@ fn chain_gist(bytes: &[u8]) -> Option<Gist>
             if fields.len() == 4 {
                 Some(Gist::Close {
                     sender: BigEndian::read_u32(fields),
+                })
+            } else {
+                None
+            }
+        }
+        _ => None,
+    }
+}
+
+// What is counted of a deed of tags.
+fn tag_gist(bytes: &[u8]) -> Option<Gist>
+    ensures { result ≡ gist_in (mark_in bytes.now) }
+{
+    match bytes {
+        [1, fields @ ..] => {
+            if fields.len() == 20 {
+                Some(Gist::Mark {
+                    client: BigEndian::read_u32(fields),
+                    tag: number_at(fields, 4),
                 })
             } else {
                 None

@@ -5,12 +5,13 @@ use Rattle.std.proofs.lemmas.Bool.{cases_Bool, eqb-true}
 use Rattle.std.proofs.Math.Bool.{or_comm}
 use Rattle.rq_model.specs.declared.message.Message.{Message}
 use Rattle.rq_model.specs.declared.record.Deed.{Deed}
-use Rattle.rq_model.specs.declared.record.Deed.TheVariants.{Append, UnlinkHead, Close}
+use Rattle.rq_model.specs.declared.record.Deed.TheVariants.{Append, UnlinkHead, Close, Mark}
+use Rattle.rq_model.specs.Vocabulary.{client_group, mark_of}
 use Rattle.rq_model.specs.History.{Group}
 use Rattle.rq_model.specs.Content.{Said, said, added, removed, closed, tag_after, with_own}
-use Rattle.rq_model.specs.Content.Said.{Added, Removed, Ended}
+use Rattle.rq_model.specs.Content.Said.{Added, Removed, Ended, Marked}
 use Rattle.rq_model.proofs.Commits.{last_is}
-use Rattle.rq_views.specs.Chain.{View}
+use Rattle.rq_views.specs.Chain.{View, view_appended}
 use Rattle.rq_views.specs.Legal.{Placed}
 use Rattle.rq_views.specs.Groups.{on_sending_end, on_receiving_end, side, with_all}
 use Rattle.rq_views.specs.Committed.{IsViewOf, message_of}
@@ -34,16 +35,25 @@ view_is a b c d e f x y p q r t = cc
 abbrev sent_view : ℕ → List Said → View → View
 sent_view s ds v = record { closed = closed s ds || v.closed; received = v.received; last_tag = tag_after v.last_tag (added s ds); messages = v.messages ++ map pair (added s ds) }
 
+-- one more message at the end
+one_sent : (s : ℕ) (m : Message) (ds : List Said) (x v : View) → x ≡ sent_view s ds v → let ms = added s ds ++ m ∷ [] in let y : View = record { closed = closed s ds || v.closed; received = v.received; last_tag = tag_after v.last_tag ms; messages = v.messages ++ map pair ms } in view_appended x m.tag m.body ≡ y
+one_sent s m ds x v h =
+    ap (λ (w : View). view_appended w m.tag m.body) h
+    ∙ view_is _ _ _ _ _ _ _ _ refl refl (sym (tag_more v.last_tag (added s ds) m))
+    (append_assoc v.messages (map pair (added s ds)) ((m.tag, m.body) ∷ []) ∙ ap (λ l. v.messages ++ l) (sym (map_push pair (added s ds) m)))
+
 sends_one : (s : ℕ) (d : Deed) (x : Said) (ds : List Said) (more : List Deed) (v : View) → x ≡ said d → with_all more v ≡ sent_view s ds v → with_all (cond (on_sending_end s d) (d ∷ more) more) v ≡ sent_view s (x ∷ ds) v
 sends_one s (Append r n tag previous body) x ds more v e h = rw e (elim (cases_Bool (nat_eq r s)) [
-  | inl y ↦ rw y (ap (λ (w : View). record { closed = w.closed; received = w.received; last_tag = tag; messages = w.messages ++ (tag, body) ∷ [] }) h
-      ∙ view_is _ _ _ _ _ _ _ _ refl refl (sym (tag_more v.last_tag (added s ds) (record { sender = r; tag = tag; body = body })))
-      (append_assoc v.messages (map pair (added s ds)) ((tag, body) ∷ []) ∙ ap (λ l. v.messages ++ l) (sym (map_push pair (added s ds) (record { sender = r; tag = tag; body = body })))))
+  | inl y ↦ rw y (one_sent s (record { sender = r; tag = tag; body = body }) ds (with_all more v) v h)
   | inr y ↦ rw y h
 ])
 sends_one s (UnlinkHead r n tag body) x ds more v e h = rw e h
 sends_one s (Close r) x ds more v e h = rw e (elim (cases_Bool (nat_eq r s)) [
   | inl y ↦ rw y (ap (λ (w : View). record { closed = true; received = w.received; last_tag = w.last_tag; messages = w.messages }) h)
+  | inr y ↦ rw y h
+])
+sends_one s (Mark c tag previous) x ds more v e h = rw e (elim (cases_Bool (nat_eq (client_group c) s)) [
+  | inl y ↦ rw y (one_sent s (mark_of c tag) ds (with_all more v) v h)
   | inr y ↦ rw y h
 ])
 
@@ -55,14 +65,18 @@ sends_form s (p ∷ ps) v = sends_one s p.deed (said p.deed) (say ps) (side (on_
 abbrev taken_view : ℕ → List Said → View → View
 taken_view s ds v = record { closed = v.closed; received = v.received + removed s ds; last_tag = v.last_tag; messages = drop (removed s ds) v.messages }
 
+none_taken : (s : ℕ) (ds : List Said) (x v : View) → x ≡ taken_view s ds v → let n = removed s ds + 0 in let y : View = record { closed = v.closed; received = v.received + n; last_tag = v.last_tag; messages = drop n v.messages } in x ≡ y
+none_taken s ds x v h = h ∙ view_is _ _ _ _ _ _ _ _ refl (omega arith) refl (ap (λ k. drop k v.messages) (let w : removed s ds ≡ removed s ds + 0 = omega arith in w))
+
 takes_one : (s : ℕ) (d : Deed) (x : Said) (ds : List Said) (more : List Deed) (v : View) → x ≡ said d → with_all more v ≡ taken_view s ds v → with_all (cond (on_receiving_end s d) (d ∷ more) more) v ≡ taken_view s (x ∷ ds) v
-takes_one s (Append r n tag previous body) x ds more v e h = rw e (h ∙ view_is _ _ _ _ _ _ _ _ refl (omega arith) refl (ap (λ k. drop k v.messages) (let w : removed s ds ≡ removed s ds + 0 = omega arith in w)))
+takes_one s (Append r n tag previous body) x ds more v e h = rw e (none_taken s ds (with_all more v) v h)
 takes_one s (UnlinkHead r n tag body) x ds more v e h = rw e (elim (cases_Bool (nat_eq r s)) [
   | inl y ↦ rw y (ap (λ (w : View). record { closed = w.closed; received = w.received + 1; last_tag = w.last_tag; messages = drop 1 w.messages }) h
       ∙ view_is _ _ _ _ _ _ _ _ refl (omega arith) refl (drop-drop 1 (removed s ds) v.messages))
-  | inr y ↦ rw y (h ∙ view_is _ _ _ _ _ _ _ _ refl (omega arith) refl (ap (λ k. drop k v.messages) (let w : removed s ds ≡ removed s ds + 0 = omega arith in w)))
+  | inr y ↦ rw y (none_taken s ds (with_all more v) v h)
 ])
-takes_one s (Close r) x ds more v e h = rw e (h ∙ view_is _ _ _ _ _ _ _ _ refl (omega arith) refl (ap (λ k. drop k v.messages) (let w : removed s ds ≡ removed s ds + 0 = omega arith in w)))
+takes_one s (Close r) x ds more v e h = rw e (none_taken s ds (with_all more v) v h)
+takes_one s (Mark c tag previous) x ds more v e h = rw e (none_taken s ds (with_all more v) v h)
 
 pub takes_form : (s : ℕ) (ps : List Placed) (v : View) → with_all (side (on_receiving_end s) ps) v ≡ taken_view s (say ps) v
 takes_form s [] v = view_is _ _ _ _ _ _ _ _ refl (omega arith) refl refl
@@ -77,10 +91,14 @@ ours_more : (s : ℕ) (ms : List Message) (m : Message) → Ours s ms → m.send
 ours_more s [] m o e = (e, tt)
 ours_more s (x ∷ ms) m o e = (o.0, ours_more s ms m o.1 e)
 
+ours_one : (s : ℕ) (m : Message) (ms : List Message) → Ours s ms → Ours s (cond (nat_eq m.sender s) (ms ++ m ∷ []) ms)
+ours_one s m ms o = elim (cases_Bool (nat_eq m.sender s)) [ inl y ↦ rw y (ours_more s ms m o (eqb-true m.sender s y)) | inr n ↦ rw n o ]
+
 added_ours_one : (s : ℕ) (d : Said) (ds : List Said) → Ours s (added s ds) → Ours s (added s (d ∷ ds))
-added_ours_one s (Added m) ds o = elim (cases_Bool (nat_eq m.sender s)) [ inl y ↦ rw y (ours_more s (added s ds) m o (eqb-true m.sender s y)) | inr n ↦ rw n o ]
+added_ours_one s (Added m) ds o = ours_one s m (added s ds) o
 added_ours_one s (Removed m) ds o = o
 added_ours_one s (Ended r) ds o = o
+added_ours_one s (Marked c tag) ds o = ours_one s (mark_of c tag) (added s ds) o
 
 added_ours : (s : ℕ) (ds : List Said) → Ours s (added s ds)
 added_ours s [] = tt

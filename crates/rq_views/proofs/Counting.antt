@@ -1,7 +1,8 @@
 -- Of a legal log of a store, the cells that whole operations use are the messages of all chains.
 use Rattle.rq_page.specs.declared.cell.Cell.{Cell}
 use Rattle.rq_page.specs.declared.directory.Directory.{Directory}
-use Rattle.rq_model.specs.declared.record.Deed.TheVariants.{Append, UnlinkHead, Close}
+use Rattle.rq_model.specs.declared.record.Deed.{Deed}
+use Rattle.rq_model.specs.declared.record.Deed.TheVariants.{Append, UnlinkHead, Close, Mark}
 use Rattle.rq_model.specs.declared.record.Record.{Record}
 use Rattle.rq_model.specs.declared.record.Record.TheVariants as records
 use Rattle.rq_model.specs.declared.txn.Sub.{Sub}
@@ -12,7 +13,7 @@ use Rattle.std.proofs.lemmas.List.{length-append, length-drop}
 use Rattle.std.proofs.lemmas.List.Sums.{length-filter}
 use Rattle.std.proofs.lemmas.Bool.{cases_Bool, cases_eq, cases_order, cond-true, cond-false, eq-eqb}
 use Rattle.rq_model.specs.Vocabulary.{same_txn}
-use Rattle.rq_model.specs.Deeds.{deed_by}
+use Rattle.rq_model.specs.Deeds.{deed_by, deed_level}
 use Rattle.rq_model.specs.Tests.{below}
 use Rattle.rq_model.proofs.Counts.{sum_same, sum_change, sum_none}
 use Rattle.rq_page.specs.Sizes.{Sizes, IsCellAddress, page_count, tags_from, cell_count, cell_at, place_of, sender_count}
@@ -26,7 +27,7 @@ use Rattle.rq_views.specs.Plans.Turn.{Did, Undid}
 use Rattle.rq_views.specs.Legal.{Placed, rest_placed, open_deeds, undoing, view_after, view, Undoes, IsLegalLog}
 use Rattle.rq_views.specs.Items.{items, operation, told_deed, formatted_at, layout_of}
 use Rattle.rq_views.specs.Stored.{is_used, count_used}
-use Rattle.rq_views.specs.InStore.{InStore, IsInPlace, AllStand, WritesStand}
+use Rattle.rq_views.specs.InStore.{InStore, IsDeedOf, IsInPlace, AllStand, WritesStand}
 use Rattle.rq_views.proofs.Chains.{no_eq}
 use Rattle.rq_views.proofs.Overlay.{put_at, put_off}
 use Rattle.rq_views.proofs.ChainLaws.{used_sender, free_sender, through, shows_here}
@@ -133,6 +134,7 @@ plan_counts l (Did (UnlinkHead s n tag body)) ws p =
     let e = relinked_counts p.cell.next p.next (with_prev 0) (w ∷ []) in
     subst (Balanced (Did (UnlinkHead s n tag body))) (sym p.writes) (omega arith)
 plan_counts l (Did (Close s)) ws p = subst (Balanced (Did (Close s))) (sym p.writes) refl
+plan_counts l (Did (Mark c tag previous)) ws p = subst (Balanced (Did (Mark c tag previous))) (sym p.writes) refl
 plan_counts l (Undid (Append s n tag previous body)) ws p =
     let d = p.directory in
     let w : Write = record { at = d.tail; before = Used p.cell; after = Free } in
@@ -144,6 +146,7 @@ plan_counts l (Undid (UnlinkHead s n tag body)) ws p =
     let e = relinked_counts d.head p.old (with_prev p.new) (w ∷ []) in
     subst (Balanced (Undid (UnlinkHead s n tag body))) (sym p.writes) (omega arith)
 plan_counts l (Undid (Close s)) ws p = subst (Balanced (Undid (Close s))) (sym p.writes) refl
+plan_counts l (Undid (Mark c tag previous)) ws p = subst (Balanced (Undid (Mark c tag previous))) (sym p.writes) refl
 
 -- the directory slot that an unlink's last write is over stood before the operation
 directory_there : (l : Places) (q : Slots) (s : ℕ) (d e : Directory) (at : ℕ) (o : Option Cell) (f : Cell → Cell) (b : ℕ) (c : Cell) → HasBefores (directory_write l s d e ∷ relinked at o f (record { at = b; before = Used c; after = Free } ∷ [])) q → Sender s d ≡ q (l.directory_at s)
@@ -169,6 +172,7 @@ plan_there l q ws (Did (UnlinkHead s n tag body)) v p f h =
     let used : 0 < first k.nodes 0 = subst (λ x. 0 < x) k.head p.used in
     subst (λ (x : List (ℕ × List ℕ)). 0 < length x) (sym k.messages) (first_there k.nodes used)
 plan_there l q ws (Did (Close s)) v p f h = omega arith
+plan_there l q ws (Did (Mark c tag previous)) v p f h = omega arith
 plan_there l q ws (Undid (Append s n tag previous body)) v p f h =
     let d = p.directory in
     let k = shows_here l q s v d (directory_there l q s d (directory_tail_unlinked d p.cell previous) p.cell.prev p.front (with_next 0) d.tail p.cell (subst (λ x. HasBefores x q) p.writes f)) h in
@@ -176,38 +180,93 @@ plan_there l q ws (Undid (Append s n tag previous body)) v p f h =
     subst (λ (x : List (ℕ × List ℕ)). 0 < length x) (sym k.messages) (last_there k.nodes used)
 plan_there l q ws (Undid (UnlinkHead s n tag body)) v p f h = omega arith
 plan_there l q ws (Undid (Close s)) v p f h = omega arith
+plan_there l q ws (Undid (Mark c tag previous)) v p f h = omega arith
 
-length_but_last : (xs : List (ℕ × List ℕ)) → length (all_but_last xs) ≡ length xs - 1
+pub length_but_last : (xs : List (ℕ × List ℕ)) → length (all_but_last xs) ≡ length xs - 1
 length_but_last [] = refl
 length_but_last (x ∷ []) = refl
 length_but_last (x ∷ y ∷ xs) = let h : length (all_but_last (y ∷ xs)) ≡ length (y ∷ xs) - 1 = length_but_last (y ∷ xs) in omega arith
 
--- what a whole operation makes of the number of messages in its chain
-pub view_counts : (t : Turn) (v : View) → lost t ≤ length v.messages → length (with_turn t v).messages + lost t ≡ length v.messages + gained t
-view_counts (Did (Append s n tag previous body)) v h = let e : length (v.messages ++ (tag, body) ∷ []) ≡ length v.messages + 1 = length-append v.messages ((tag, body) ∷ []) in omega arith
-view_counts (Did (UnlinkHead s n tag body)) v h = let e = length-drop 1 v.messages in omega arith
-view_counts (Did (Close s)) v h = refl
-view_counts (Undid (Append s n tag previous body)) v h = let e = length_but_last v.messages in omega arith
-view_counts (Undid (UnlinkHead s n tag body)) v h = omega arith
-view_counts (Undid (Close s)) v h = refl
+-- what a whole operation makes of the number of messages in its sender's chain
+pub view_counts : (l : Places) (ws : List Write) (t : Turn) (v : View) → IsPlan l t ws → turn_sender t < l.senders → lost t ≤ length v.messages → length (with_turn t v).messages + lost t ≡ length v.messages + gained t
+view_counts l ws (Did (Append s n tag previous body)) v p lt h = let e : length (v.messages ++ (tag, body) ∷ []) ≡ length v.messages + 1 = length-append v.messages ((tag, body) ∷ []) in omega arith
+view_counts l ws (Did (UnlinkHead s n tag body)) v p lt h = let e = length-drop 1 v.messages in omega arith
+view_counts l ws (Did (Close s)) v p lt h = refl
+view_counts l ws (Did (Mark c tag previous)) v p lt h = absurd (omega (arith, p.apart, lt))
+view_counts l ws (Undid (Append s n tag previous body)) v p lt h = let e = length_but_last v.messages in omega arith
+view_counts l ws (Undid (UnlinkHead s n tag body)) v p lt h = omega arith
+view_counts l ws (Undid (Close s)) v p lt h = refl
+view_counts l ws (Undid (Mark c tag previous)) v p lt h = absurd (omega (arith, p.apart, lt))
 
--- and of the sum over all chains
-pub turn_sums : (n : ℕ) (t : Turn) (vs : ℕ → View) → turn_sender t < n → lost t ≤ length (vs (turn_sender t)).messages
-    → sum_by (λ s. length (view_after s (Some t) (vs s)).messages) (below n) + lost t ≡ sum_by (λ s. length (vs s).messages) (below n) + gained t
-turn_sums n t vs lt h =
+-- the operation is on one of the first n groups, or on none of these, and then adds and takes no message
+abbrev pub IsTurnOf : ℕ → Turn → Type 0
+IsTurnOf n t = (turn_sender t < n) ⊎ ((n ≤ turn_sender t) × (lost t ≡ 0) × (gained t ≡ 0))
+
+-- it takes no more than its chain has
+pub turn_there : (n : ℕ) (t : Turn) (k : ℕ) → IsTurnOf n t → (turn_sender t < n → lost t ≤ k) → lost t ≤ k
+turn_there n t k (inl lt) h = h lt
+turn_there n t k (inr none) h = omega (arith, none.1)
+
+-- and what it makes of the sum over all chains
+pub turn_sums : (l : Places) (ws : List Write) (t : Turn) (vs : ℕ → View) → IsPlan l t ws → IsTurnOf l.senders t → lost t ≤ length (vs (turn_sender t)).messages
+    → sum_by (λ s. length (view_after s (Some t) (vs s)).messages) (below l.senders) + lost t ≡ sum_by (λ s. length (vs s).messages) (below l.senders) + gained t
+turn_sums l ws t vs p (inl lt) h =
     let r = turn_sender t in
     let f : ℕ → ℕ = λ s. length (view_after s (Some t) (vs s)).messages in
     let g : ℕ → ℕ = λ s. length (vs s).messages in
     let other : (i : ℕ) → i ≢ r → f i ≡ g i = (λ i ne. ap (λ (v : View). length v.messages) (cond-false (r == i) (with_turn t (vs i)) (vs i) (no_eq r i (λ e. ne (sym e))))) in
     let own : f r ≡ length (with_turn t (vs r)).messages = ap (λ (v : View). length v.messages) (cond-true (r == r) (with_turn t (vs r)) (vs r) (eq-eqb r r refl)) in
-    let k = view_counts t (vs r) h in
-    let c = sum_change f g n r lt other in
+    let k = view_counts l ws t (vs r) p lt h in
+    let c = sum_change f g l.senders r lt other in
     omega arith
+turn_sums l ws t vs p (inr none) h =
+    let r = turn_sender t in
+    let f : ℕ → ℕ = λ s. length (view_after s (Some t) (vs s)).messages in
+    let g : ℕ → ℕ = λ s. length (vs s).messages in
+    let far : l.senders ≤ r = none.0 in
+    let other : (i : ℕ) → i < l.senders → f i ≡ g i = (λ i lt. ap (λ (v : View). length v.messages) (cond-false (r == i) (with_turn t (vs i)) (vs i) (no_eq r i (λ e. omega (arith, e, lt, far))))) in
+    let c = sum_same f g l.senders other in
+    omega (arith, c, none.1, none.2)
 
--- every deed is of a sender of the store
+-- a deed of chains is of one of the store's senders
+pub of_sender : (z : Sizes) (d : Deed) → IsDeedOf z d → deed_level d ≡ 1 → deed_sender d < sender_count z
+of_sender z (Append s n tag previous body) h e = h
+of_sender z (UnlinkHead s n tag body) h e = h
+of_sender z (Close s) h e = h
+of_sender z (Mark c tag previous) h e = absurd (omega (arith, e))
+
+-- the group of a mark's client is no sender's
+pub of_client : (z : Sizes) (d : Deed) → IsDeedOf z d → deed_level d ≡ 2 → sender_count z ≤ deed_sender d
+of_client z (Append s n tag previous body) h e = absurd (omega (arith, e))
+of_client z (UnlinkHead s n tag body) h e = absurd (omega (arith, e))
+of_client z (Close s) h e = absurd (omega (arith, e))
+of_client z (Mark c tag previous) h e = omega (arith, h.1)
+
+-- a deed of the store is one of chains or a mark
+pub of_store : (z : Sizes) (d : Deed) → IsDeedOf z d → ((deed_level d ≡ 1) × (deed_sender d < sender_count z)) ⊎ ((deed_level d ≡ 2) × (sender_count z ≤ deed_sender d))
+of_store z (Append s n tag previous body) h = inl (refl, h)
+of_store z (UnlinkHead s n tag body) h = inl (refl, h)
+of_store z (Close s) h = inl (refl, h)
+of_store z (Mark c tag previous) h = inr (refl, omega (arith, h.1))
+
+-- an operation that does a deed of the store is on one of its chains, or on none
+pub did_of : (z : Sizes) (d : Deed) → IsDeedOf z d → IsTurnOf (sender_count z) (Did d)
+did_of z (Append s n tag previous body) h = inl h
+did_of z (UnlinkHead s n tag body) h = inl h
+did_of z (Close s) h = inl h
+did_of z (Mark c tag previous) h = inr (omega (arith, h.1), refl, refl)
+
+-- and so is one that takes it back
+pub undid_of : (z : Sizes) (d : Deed) → IsDeedOf z d → IsTurnOf (sender_count z) (Undid d)
+undid_of z (Append s n tag previous body) h = inl h
+undid_of z (UnlinkHead s n tag body) h = inl h
+undid_of z (Close s) h = inl h
+undid_of z (Mark c tag previous) h = inr (omega (arith, h.1), refl, refl)
+
+-- every deed is of the store
 abbrev pub AllInStore : Sizes → List Placed → Type 0
 AllInStore z [] = Unit {0}
-AllInStore z (p ∷ ps) = (deed_sender p.deed < sender_count z) × AllInStore z ps
+AllInStore z (p ∷ ps) = IsDeedOf z p.deed × AllInStore z ps
 
 choose_store : (z : Sizes) (b : Bool) (ps rs : List Placed) → AllInStore z ps → AllInStore z rs → AllInStore z (cond b ps rs)
 choose_store z true ps rs h k = h
@@ -238,26 +297,26 @@ abbrev quiet_of : Sizes → List Record → Slots
 quiet_of z log = (state_of (layout_of z) (items z log)).quiet
 
 -- a whole operation's writes
-turn_counts : (z : Sizes) (log : List Record) (o : Sub) (t : Turn) → IsLegalLog (layout_of z) (items z log) → InStore z log → turn_sender t < sender_count z → IsPlan (layout_of z) t ((state_of (layout_of z) (items z log)).writes o)
+turn_counts : (z : Sizes) (log : List Record) (o : Sub) (t : Turn) → IsLegalLog (layout_of z) (items z log) → InStore z log → IsTurnOf (sender_count z) t → IsPlan (layout_of z) t ((state_of (layout_of z) (items z log)).writes o)
     → count_used z (quiet_of z log) ≡ count_messages z log
     → count_used z (applied ((state_of (layout_of z) (items z log)).writes o) (quiet_of z log)) ≡ sum_by (λ s. length (view_after s (Some t) (view (items z log) s)).messages) (below (sender_count z))
-turn_counts z log o t legal store lt plan ih =
+turn_counts z log o t legal store of plan ih =
     let l = layout_of z in
     let q = quiet_of z log in
     let ws = (state_of l (items z log)).writes o in
     let f : HasBefores ws q = (good l (items z log) legal).fits o in
-    let shown = quiet_views l (items z log) (turn_sender t) (store_is_layout z) legal lt in
+    let v = view (items z log) (turn_sender t) in
     let a : count_used z (applied ws q) + used_before ws ≡ count_used z q + used_after ws = count_writes z ws q (quiet_stand z log store) (writes_stand z log o store) f in
     let b : used_after ws + lost t ≡ used_before ws + gained t = plan_counts l t ws plan in
-    let there : lost t ≤ length (view (items z log) (turn_sender t)).messages = plan_there l q ws t (view (items z log) (turn_sender t)) plan f shown in
-    let c = turn_sums (sender_count z) t (view (items z log)) lt there in
+    let there : lost t ≤ length v.messages = turn_there (sender_count z) t (length v.messages) of (λ lt. plan_there l q ws t v plan f (quiet_views l (items z log) (turn_sender t) (store_is_layout z) legal lt)) in
+    let c = turn_sums l ws t (view (items z log)) plan of there in
     omega arith
 
 undone_counts : (z : Sizes) (log : List Record) (o : Sub) (u : ℕ) (ps : List Placed) → IsLegalLog (layout_of z) (items z log) → InStore z log → AllInStore z ps → Undoes (layout_of z) ps u ((state_of (layout_of z) (items z log)).writes o)
     → count_used z (quiet_of z log) ≡ count_messages z log
     → count_used z (applied ((state_of (layout_of z) (items z log)).writes o) (quiet_of z log)) ≡ sum_by (λ s. length (view_after s (undoing ps) (view (items z log) s)).messages) (below (sender_count z))
 undone_counts z log o u [] legal store fine plan ih = absurd plan
-undone_counts z log o u (p ∷ ps) legal store fine plan ih = turn_counts z log o (Undid p.deed) legal store fine.0 plan.1 ih
+undone_counts z log o u (p ∷ ps) legal store fine plan ih = turn_counts z log o (Undid p.deed) legal store (undid_of z p.deed fine.0) plan.1 ih
 
 formatted_counts : (z : Sizes) → count_used z (formatted_at z) ≡ 0
 formatted_counts z =
@@ -271,6 +330,6 @@ formatted_counts z =
 pub quiet_counts : (z : Sizes) (log : List Record) → IsLegalLog (layout_of z) (items z log) → InStore z log
     → count_used z (state_of (layout_of z) (items z log)).quiet ≡ sum_by (λ s. length (view (items z log) s).messages) (below (sender_count z))
 quiet_counts z [] h k = formatted_counts z ∙ sym (sum_none (sender_count z))
-quiet_counts z (records.OpEnd t n level deed ∷ log) h k = turn_counts z log (operation t n) (Did (told_deed (deed_by level deed))) h.1 k.1 k.0 h.0.plan (quiet_counts z log h.1 k.1)
+quiet_counts z (records.OpEnd t n level deed ∷ log) h k = turn_counts z log (operation t n) (Did (told_deed (deed_by level deed))) h.1 k.1 (did_of z (told_deed (deed_by level deed)) k.0) h.0.plan (quiet_counts z log h.1 k.1)
 quiet_counts z (records.CompEnd t n undone ∷ log) h k = undone_counts z log (operation t n) undone (open_deeds t (items z log)) h.1 k.1 (deeds_in_store z t log k.1) h.0.plan (quiet_counts z log h.1 k.1)
 quiet_counts z (_ ∷ log) h k = quiet_counts z log h.1 k.1

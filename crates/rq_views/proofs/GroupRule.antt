@@ -6,9 +6,9 @@ use Rattle.std.proofs.Common.{◌≡◌, ◌≢◌, ℕ, ◌+◌, ◌==◌, inl,
 use Rattle.std.proofs.lemmas.Bool.{cases_Bool, cond-true, cond-false, false≢true}
 use Rattle.rq_views.specs.Chain.{View}
 use Rattle.rq_views.specs.Log.{Item}
-use Rattle.rq_model.specs.declared.record.Deed.TheVariants.{Append, UnlinkHead, Close}
+use Rattle.rq_model.specs.declared.record.Deed.TheVariants.{Append, UnlinkHead, Close, Mark}
 use Rattle.rq_views.specs.Log.Item.{OpEnd, CompEnd, Commit}
-use Rattle.rq_views.specs.Plans.{with_turn}
+use Rattle.rq_views.specs.Plans.{deed_sender, with_turn}
 use Rattle.rq_views.specs.Plans.Turn.{Did, Undid}
 use Rattle.rq_views.specs.Legal.{Placed, open_deeds, view, view_after, no_view, undoing}
 use Rattle.rq_views.specs.Groups.{on_sending_end, on_receiving_end, side, with_all, committed, MayTurn, KeepsGroups}
@@ -24,15 +24,19 @@ view_own P b x y e h = subst P (sym (cond-true b x y e)) h
 view_off : (P : View → Type 0) (b : Bool) (x y : View) → b ≡ false → P y → P (if b then x else y)
 view_off P b x y e h = subst P (sym (cond-false b x y e)) h
 
-end_held : (s : ℕ) (log : List Item) (o : Sub) (d : Deed) → MayTurn log o.txn d s → Held s (λ u. open_deeds u log) (view log s) (committed log s) → Held s (λ u. open_deeds u (OpEnd o d ∷ log)) (view (OpEnd o d ∷ log) s) (committed (OpEnd o d ∷ log) s)
-end_held s log o (Append r n tag b body) may h =
+-- an operation of the sending end
+end_sent : (s : ℕ) (log : List Item) (o : Sub) (d : Deed) → on_sending_end s d ≡ (deed_sender d == s) → on_receiving_end s d ≡ false → MayTurn log o.txn d s → Held s (λ u. open_deeds u log) (view log s) (committed log s) → Held s (λ u. open_deeds u (OpEnd o d ∷ log)) (view (OpEnd o d ∷ log) s) (committed (OpEnd o d ∷ log) s)
+end_sent s log o d own nt may h =
     let os : Txn → List Placed = λ u. open_deeds u log in
-    let p : Placed = record { lsn = length log + 1; deed = Append r n tag b body } in
+    let p : Placed = record { lsn = length log + 1; deed = d } in
     let P : View → Type 0 = λ v. Held s (pushed o.txn p os) v (committed log s) in
-    elim (cases_Bool (r == s)) [
-      | inl y ↦ view_own P (r == s) (with_turn (Did p.deed) (view log s)) (view log s) y (held_sent s os (view log s) (committed log s) o.txn p y refl (may.sends y).0 (may.sends y).1 h)
-      | inr k ↦ view_off P (r == s) (with_turn (Did p.deed) (view log s)) (view log s) k (held_other s os (view log s) (committed log s) o.txn p k refl h)
+    elim (cases_Bool (deed_sender d == s)) [
+      | inl y ↦ view_own P (deed_sender d == s) (with_turn (Did d) (view log s)) (view log s) y (held_sent s os (view log s) (committed log s) o.txn p (own ∙ y) nt (may.sends (own ∙ y)).0 (may.sends (own ∙ y)).1 h)
+      | inr k ↦ view_off P (deed_sender d == s) (with_turn (Did d) (view log s)) (view log s) k (held_other s os (view log s) (committed log s) o.txn p (own ∙ k) nt h)
     ]
+
+end_held : (s : ℕ) (log : List Item) (o : Sub) (d : Deed) → MayTurn log o.txn d s → Held s (λ u. open_deeds u log) (view log s) (committed log s) → Held s (λ u. open_deeds u (OpEnd o d ∷ log)) (view (OpEnd o d ∷ log) s) (committed (OpEnd o d ∷ log) s)
+end_held s log o (Append r n tag b body) may h = end_sent s log o (Append r n tag b body) refl refl may h
 end_held s log o (UnlinkHead r n tag body) may h =
     let os : Txn → List Placed = λ u. open_deeds u log in
     let p : Placed = record { lsn = length log + 1; deed = UnlinkHead r n tag body } in
@@ -41,23 +45,20 @@ end_held s log o (UnlinkHead r n tag body) may h =
       | inl y ↦ view_own P (r == s) (with_turn (Did p.deed) (view log s)) (view log s) y (held_taken s os (view log s) (committed log s) o.txn (length log + 1) r n tag body y (may.takes y).0 (may.takes y).1 (may.takes y).2 h)
       | inr k ↦ view_off P (r == s) (with_turn (Did p.deed) (view log s)) (view log s) k (held_other s os (view log s) (committed log s) o.txn p refl k h)
     ]
-end_held s log o (Close r) may h =
-    let os : Txn → List Placed = λ u. open_deeds u log in
-    let p : Placed = record { lsn = length log + 1; deed = Close r } in
-    let P : View → Type 0 = λ v. Held s (pushed o.txn p os) v (committed log s) in
-    elim (cases_Bool (r == s)) [
-      | inl y ↦ view_own P (r == s) (with_turn (Did p.deed) (view log s)) (view log s) y (held_sent s os (view log s) (committed log s) o.txn p y refl (may.sends y).0 (may.sends y).1 h)
-      | inr k ↦ view_off P (r == s) (with_turn (Did p.deed) (view log s)) (view log s) k (held_other s os (view log s) (committed log s) o.txn p k refl h)
+end_held s log o (Close r) may h = end_sent s log o (Close r) refl refl may h
+end_held s log o (Mark c tag previous) may h = end_sent s log o (Mark c tag previous) refl refl may h
+
+undone_sent : (s : ℕ) (os : Txn → List Placed) (v c : View) (t : Txn) (lsn : ℕ) (d : Deed) (ps : List Placed) → on_sending_end s d ≡ (deed_sender d == s) → on_receiving_end s d ≡ false → os t ≡ record { lsn = lsn; deed = d } ∷ ps → Held s os v c → Held s (popped t os) (view_after s (Some (Undid d)) v) c
+undone_sent s os v c t lsn d ps own nt e h =
+    let p : Placed = record { lsn = lsn; deed = d } in
+    let P : View → Type 0 = λ v. Held s (popped t os) v c in
+    elim (cases_Bool (deed_sender d == s)) [
+      | inl y ↦ view_own P (deed_sender d == s) (with_turn (Undid d) v) v y (pop_sent s os v c t p ps e (own ∙ y) nt h)
+      | inr k ↦ view_off P (deed_sender d == s) (with_turn (Undid d) v) v k (pop_other s os v c t p ps e (own ∙ k) nt h)
     ]
 
 undone_held : (s : ℕ) (os : Txn → List Placed) (v c : View) (t : Txn) (lsn : ℕ) (d : Deed) (ps : List Placed) → os t ≡ record { lsn = lsn; deed = d } ∷ ps → Held s os v c → Held s (popped t os) (view_after s (Some (Undid d)) v) c
-undone_held s os v c t lsn (Append r n tag b body) ps e h =
-    let p : Placed = record { lsn = lsn; deed = Append r n tag b body } in
-    let P : View → Type 0 = λ v. Held s (popped t os) v c in
-    elim (cases_Bool (r == s)) [
-      | inl y ↦ view_own P (r == s) (with_turn (Undid p.deed) v) v y (pop_sent s os v c t p ps e y refl h)
-      | inr k ↦ view_off P (r == s) (with_turn (Undid p.deed) v) v k (pop_other s os v c t p ps e k refl h)
-    ]
+undone_held s os v c t lsn (Append r n tag b body) ps e h = undone_sent s os v c t lsn (Append r n tag b body) ps refl refl e h
 undone_held s os v c t lsn (UnlinkHead r n tag body) ps e h =
     let p : Placed = record { lsn = lsn; deed = UnlinkHead r n tag body } in
     let P : View → Type 0 = λ v. Held s (popped t os) v c in
@@ -65,13 +66,8 @@ undone_held s os v c t lsn (UnlinkHead r n tag body) ps e h =
       | inl y ↦ view_own P (r == s) (with_turn (Undid p.deed) v) v y (pop_taken s os v c t lsn r n tag body ps e y h)
       | inr k ↦ view_off P (r == s) (with_turn (Undid p.deed) v) v k (pop_other s os v c t p ps e refl k h)
     ]
-undone_held s os v c t lsn (Close r) ps e h =
-    let p : Placed = record { lsn = lsn; deed = Close r } in
-    let P : View → Type 0 = λ v. Held s (popped t os) v c in
-    elim (cases_Bool (r == s)) [
-      | inl y ↦ view_own P (r == s) (with_turn (Undid p.deed) v) v y (pop_sent s os v c t p ps e y refl h)
-      | inr k ↦ view_off P (r == s) (with_turn (Undid p.deed) v) v k (pop_other s os v c t p ps e k refl h)
-    ]
+undone_held s os v c t lsn (Close r) ps e h = undone_sent s os v c t lsn (Close r) ps refl refl e h
+undone_held s os v c t lsn (Mark k tag previous) ps e h = undone_sent s os v c t lsn (Mark k tag previous) ps refl refl e h
 
 comp_held : (s : ℕ) (os : Txn → List Placed) (v c : View) (t : Txn) (ps : List Placed) → os t ≡ ps → ps ≢ [] → Held s os v c → Held s (popped t os) (view_after s (undoing ps) v) c
 comp_held s os v c t [] e n h = absurd (n refl)

@@ -5,7 +5,7 @@ use Rattle.rq_model.specs.Vocabulary.{same_txn}
 use Rattle.std.proofs.Common.{◌≡◌, ◌≢◌, ℕ, ◌+◌, ◌<◌, ◌⊎◌, inl, inr, List, [], ◌∷◌, length, Bool, true, false, cond, refl, sym, ap, subst, ◌∙◌}
 use Rattle.std.proofs.lemmas.Bool.{cases_Bool, false≢true, true≢false}
 use Rattle.rq_views.specs.Chain.{View, view_put_back}
-use Rattle.rq_model.specs.declared.record.Deed.TheVariants.{Append, UnlinkHead, Close}
+use Rattle.rq_model.specs.declared.record.Deed.TheVariants.{Append, UnlinkHead, Close, Mark}
 use Rattle.rq_model.proofs.Lists.{same_self, same_is}
 use Rattle.rq_views.specs.Plans.{with_turn, view_head_unlinked}
 use Rattle.rq_views.specs.Plans.Turn.{Did, Undid}
@@ -58,6 +58,7 @@ pub told_marks : (s : ℕ) (d : Deed) (v w : View) → on_sending_end s d ≡ tr
 told_marks s (Append r n tag p b) v w y e f g h = (h.0 ∙ e, h.1 ∙ ap (λ x. x + 1) g, sym f ∙ h.2)
 told_marks s (UnlinkHead r n tag b) v w y e f g h = absurd (false≢true y)
 told_marks s (Close r) v w y e f g h = sym f ∙ h
+told_marks s (Mark c tag p) v w y e f g h = (h.0 ∙ e, sym f ∙ h.1)
 
 -- a deed of neither end of s
 pub held_other : (s : ℕ) (os : Txn → List Placed) (v c : View) (t : Txn) (p : Placed) → on_sending_end s p.deed ≡ false → on_receiving_end s p.deed ≡ false → Held s os v c → Held s (pushed t p os) v c

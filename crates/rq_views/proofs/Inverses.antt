@@ -1,7 +1,7 @@
 -- Each operation's inverse leaves what the other end of the chain did meanwhile.
 use Rattle.std.proofs.Common.{◌≡◌, ℕ, ◌<◌, List, [], ◌∷◌, ◌++◌, drop, Bool, true, false, refl, sym, ◌∙◌, ap, subst, arith}
 use Rattle.std.proofs.lemmas.Bool.{false≢true, true≢false}
-use Rattle.rq_model.specs.declared.record.Deed.TheVariants.{Append, UnlinkHead, Close}
+use Rattle.rq_model.specs.declared.record.Deed.TheVariants.{Append, UnlinkHead, Close, Mark}
 use Rattle.rq_views.specs.Chain.{View, Taking, Sending, AreTaken, AreSent, view_appended, view_tail_unlinked, view_put_back, all_but_last}
 use Rattle.rq_views.specs.Chain.Taking.{Took, PutBack}
 use Rattle.rq_views.specs.Chain.Sending.{TailUnlinked}
@@ -81,10 +81,14 @@ sending (Did (Append s n tag previous body)) ops v w u e can alone done =
     ap (view_tail_unlinked u) can.0 ∙ send_law ops v w u tag body alone done
 sending (Did (UnlinkHead s n tag body)) ops v w u e can alone done = absurd (true≢false e)
 sending (Did (Close s)) ops v w u e can alone done = mark_back ops v w u true false can alone done
+sending (Did (Mark c tag previous)) ops v w u e can alone done =
+    ap (view_tail_unlinked u) can.0 ∙ send_law ops v w u tag [] alone done
 sending (Undid (Append s n tag previous body)) ops v w u e can alone done =
     sent_again ops v w u tag previous body can.1.0 can.0 can.1.1 alone done
 sending (Undid (UnlinkHead s n tag body)) ops v w u e can alone done = absurd (true≢false e)
 sending (Undid (Close s)) ops v w u e can alone done = mark_back ops v w u false true can alone done
+sending (Undid (Mark c tag previous)) ops v w u e can alone done =
+    sent_again ops v w u tag previous [] can.1.0 can.0 can.1.1 alone done
 
 receiving : (t : Turn) (ops : List Sending) (v w u : View) → is_of_receiver t ≡ true → CanBeDone t v → AreSent ops v w
     → AreSent ops (with_turn t v) u → with_turn (inverse t) u ≡ w
@@ -92,9 +96,11 @@ receiving (Did (Append s n tag previous body)) ops v w u e can alone done = absu
 receiving (Did (UnlinkHead s n tag body)) ops v w u e can alone done =
     taken_law ops v w u tag body can.0 can.1 alone done
 receiving (Did (Close s)) ops v w u e can alone done = absurd (false≢true e)
+receiving (Did (Mark c tag previous)) ops v w u e can alone done = absurd (false≢true e)
 receiving (Undid (Append s n tag previous body)) ops v w u e can alone done = absurd (false≢true e)
 receiving (Undid (UnlinkHead s n tag body)) ops v w u e can alone done = taken_again ops v w u tag body can alone done
 receiving (Undid (Close s)) ops v w u e can alone done = absurd (false≢true e)
+receiving (Undid (Mark c tag previous)) ops v w u e can alone done = absurd (false≢true e)
 
 pub inverses_leave : InversesLeaveTheOthers
 inverses_leave = record { sending = sending; receiving = receiving }

@@ -22,9 +22,11 @@ pub mod Counting
 pub mod Holding
 pub mod Settled
 pub mod OpenCounts
+pub mod Tags
 pub mod AllOpen
 pub mod Claims
 pub mod Numbers
 pub mod Inverses
+pub mod WorkedTags
 pub mod Worked
 pub mod Rules

@@ -6,7 +6,7 @@ use Rattle.rq_model.specs.declared.txn.Txn.{Txn}
 use Rattle.rq_model.specs.declared.txn.Sub.{Sub}
 use Rattle.rq_model.specs.Vocabulary.{same_txn}
 use Rattle.rq_model.proofs.Lists.{same_is}
-use Rattle.rq_model.specs.declared.record.Deed.TheVariants.{Append, UnlinkHead, Close}
+use Rattle.rq_model.specs.declared.record.Deed.TheVariants.{Append, UnlinkHead, Close, Mark}
 use Rattle.rq_views.specs.Log.{Item, Places, IsNewest, same_op, state_of}
 use Rattle.rq_views.specs.Log.Item.{PageOp, PageUndo, OpEnd, OpVoid, CompEnd}
 use Rattle.rq_views.specs.Legal.{Placed, IsLegalLog, Undoes, of_op, is_of, began, open_deeds}
@@ -44,9 +44,11 @@ pub plan_some : (l : Places) (t : Turn) → IsPlan l t [] → ⊥
 plan_some l (Did (Append s n tag previous body)) p = let e = p.writes in cc
 plan_some l (Did (UnlinkHead s n tag body)) p = let e = p.writes in cc
 plan_some l (Did (Close s)) p = let e = p.writes in cc
+plan_some l (Did (Mark c tag previous)) p = let e = p.writes in cc
 plan_some l (Undid (Append s n tag previous body)) p = let e = p.writes in cc
 plan_some l (Undid (UnlinkHead s n tag body)) p = let e = p.writes in cc
 plan_some l (Undid (Close s)) p = let e = p.writes in cc
+plan_some l (Undid (Mark c tag previous)) p = let e = p.writes in cc
 
 pub undoes_some : (l : Places) (ps : List Placed) (u : ℕ) → Undoes l ps u [] → ⊥
 undoes_some l [] u h = h

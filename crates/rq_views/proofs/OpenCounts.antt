@@ -1,15 +1,15 @@
 -- With transactions open: the used cells are what is committed and not taken, without what they took, with what they sent.
-use Rattle.std.proofs.Common.{◌≡◌, ◌≢◌, ℕ, zero, suc, ◌+◌, ◌-◌, ◌<◌, ◌≤◌, List, [], ◌∷◌, ◌++◌, length, map, drop, true, false, cond, nat_eq, inl, inr, refl, sym, ◌∙◌, ap, subst, arith}
+use Rattle.std.proofs.Common.{◌≡◌, ◌≢◌, ℕ, zero, suc, ◌+◌, ◌-◌, ◌≤◌, List, [], ◌∷◌, ◌++◌, length, map, drop, true, false, cond, nat_eq, inl, inr, refl, sym, ◌∙◌, ap, subst, arith}
 use Rattle.std.specs.List.{sum_by, filter, filter_map}
 use Rattle.std.proofs.lemmas.List.{length-append, length-drop, length-map}
 use Rattle.std.proofs.lemmas.List.Sums.{sum_by-cons}
 use Rattle.std.proofs.lemmas.Bool.{cases_Bool, or_parts}
 use Rattle.rq_model.specs.declared.message.Message.{Message}
 use Rattle.rq_model.specs.declared.record.Deed.{Deed}
-use Rattle.rq_model.specs.declared.record.Deed.TheVariants.{Append, UnlinkHead, Close}
+use Rattle.rq_model.specs.declared.record.Deed.TheVariants.{Append, UnlinkHead, Close, Mark}
 use Rattle.rq_model.specs.declared.record.Record.{Record}
 use Rattle.rq_model.specs.declared.txn.Txn.{Txn}
-use Rattle.rq_model.specs.Vocabulary.{Op, same_txn, has_txn, sent_for, taken_from}
+use Rattle.rq_model.specs.Vocabulary.{Op, same_txn, has_txn, sent_for, taken_from, client_group, mark_of}
 use Rattle.rq_model.specs.Ledger.{rest_in}
 use Rattle.rq_model.specs.Tests.{below, count_rest, is_sent}
 use Rattle.rq_model.specs.Content.{said, added, added_one, removed, removed_one}
@@ -21,12 +21,11 @@ use Rattle.rq_model.proofs.Told.{told_taken, told_sent}
 use Rattle.rq_model.proofs.Lists.{same_self, same_is}
 use Rattle.rq_page.specs.Sizes.{Sizes, sender_count}
 use Rattle.rq_views.specs.Log.{Item, state_of}
-use Rattle.rq_views.specs.Plans.{deed_sender}
 use Rattle.rq_views.specs.Legal.{Placed, open_deeds, view, IsLegalLog}
 use Rattle.rq_views.specs.Groups.{on_sending_end, on_receiving_end, side, committed, KeepsGroups}
 use Rattle.rq_views.specs.Items.{items, layout_of, ReadsItsDeeds}
 use Rattle.rq_views.specs.Stored.{count_used}
-use Rattle.rq_views.specs.InStore.{InStore}
+use Rattle.rq_views.specs.InStore.{InStore, IsDeedOf}
 use Rattle.rq_views.proofs.Committed.{say}
 use Rattle.rq_views.proofs.Counting.{AllInStore, deeds_in_store, quiet_counts}
 use Rattle.rq_views.proofs.Holding.{taken_there, tag_and_body, Holders, holders}
@@ -49,16 +48,20 @@ holders_count s log h k =
 abbrev none : List Deed
 none = []
 
-one_added : (s : ℕ) (d : Deed) (xs : List Deed) (ms : List Message) → cond (on_sending_end s d) (d ∷ xs) xs ≡ none → (xs ≡ none → length ms ≡ 0) → length (added_one s (said d) ms) ≡ 0
-one_added s (Append r n tag previous body) xs ms e k = elim (cases_Bool (nat_eq r s)) [
-  | inl y ↦ let bad : Append r n tag previous body ∷ xs ≡ none = rw y at e in absurd (cc)
-  | inr m ↦ rw m (k (rw m at e))
+one_sent : (s r : ℕ) (d : Deed) (m : Message) (xs : List Deed) (ms : List Message) → cond (nat_eq r s) (d ∷ xs) xs ≡ none → (xs ≡ none → length ms ≡ 0) → length (cond (nat_eq r s) (ms ++ m ∷ []) ms) ≡ 0
+one_sent s r d m xs ms e k = elim (cases_Bool (nat_eq r s)) [
+  | inl y ↦ let bad : d ∷ xs ≡ none = rw y at e in absurd (cc)
+  | inr n ↦ rw n (k (rw n at e))
 ]
+
+one_added : (s : ℕ) (d : Deed) (xs : List Deed) (ms : List Message) → cond (on_sending_end s d) (d ∷ xs) xs ≡ none → (xs ≡ none → length ms ≡ 0) → length (added_one s (said d) ms) ≡ 0
+one_added s (Append r n tag previous body) xs ms e k = one_sent s r (Append r n tag previous body) (record { sender = r; tag = tag; body = body }) xs ms e k
 one_added s (UnlinkHead r n tag body) xs ms e k = k e
 one_added s (Close r) xs ms e k = elim (cases_Bool (nat_eq r s)) [
   | inl y ↦ let bad : Close r ∷ xs ≡ none = rw y at e in absurd (cc)
   | inr m ↦ k (rw m at e)
 ]
+one_added s (Mark c tag previous) xs ms e k = one_sent s (client_group c) (Mark c tag previous) (mark_of c tag) xs ms e k
 
 none_added : (s : ℕ) (ps : List Placed) → side (on_sending_end s) ps ≡ none → length (added s (say ps)) ≡ 0
 none_added s [] e = refl
@@ -71,6 +74,7 @@ one_removed s (UnlinkHead r n tag body) xs k e h = elim (cases_Bool (nat_eq r s)
   | inr m ↦ rw m (let i = h (rw m at e) in omega arith)
 ]
 one_removed s (Close r) xs k e h = let i = h e in omega arith
+one_removed s (Mark c tag previous) xs k e h = let i = h e in omega arith
 
 none_removed : (s : ℕ) (ps : List Placed) → side (on_receiving_end s) ps ≡ none → removed s (say ps) ≡ 0
 none_removed s [] e = refl
@@ -151,15 +155,16 @@ below_one_more : (n : ℕ) (ops : List Op) (op : Op) → AllBelow n ops → IsBe
 below_one_more n [] op h k = (k, tt)
 below_one_more n (x ∷ ops) op h k = (h.0, below_one_more n ops op h.1 k)
 
-said_below : (n : ℕ) (d : Deed) → deed_sender d < n → IsBelow n (op_of (said d))
-said_below n (Append s k tag previous body) h = h
-said_below n (UnlinkHead s k tag body) h = h
-said_below n (Close s) h = h
+said_below : (z : Sizes) (d : Deed) → IsDeedOf z d → IsBelow (sender_count z) (op_of (said d))
+said_below z (Append s k tag previous body) h = h
+said_below z (UnlinkHead s k tag body) h = h
+said_below z (Close s) h = h
+said_below z (Mark c tag previous) h = omega (arith, h.1)
 
--- the operations that deeds of the store tell are of its senders
+-- the operations that deeds of the store tell are of its senders, or are marks
 pub ops_in_store : (z : Sizes) (ps : List Placed) → AllInStore z ps → AllBelow (sender_count z) (ops_told (say ps))
 ops_in_store z [] h = tt
-ops_in_store z (p ∷ ps) h = below_one_more (sender_count z) (ops_told (say ps)) (op_of (said p.deed)) (ops_in_store z ps h.1) (said_below (sender_count z) p.deed h.0)
+ops_in_store z (p ∷ ps) h = below_one_more (sender_count z) (ops_told (say ps)) (op_of (said p.deed)) (ops_in_store z ps h.1) (said_below z p.deed h.0)
 
 -- what a transaction did and has not undone, where it has no Commit
 abbrev pub open_ops : Sizes → List Record → Txn → List Op

@@ -9,7 +9,7 @@ use Rattle.rq_page.specs.Slots.{Slot}
 use Rattle.rq_page.specs.Slots.Slot.{Used}
 use Rattle.rq_model.specs.declared.record.Deed.{Deed}
 use Rattle.rq_model.specs.declared.record.Deed.TheVariants.{Close}
-use Rattle.rq_views.specs.Log.{Item, Write, same_op, state_of}
+use Rattle.rq_views.specs.Log.{Item, Places, Write, same_op, state_of}
 use Rattle.rq_views.specs.Log.Item.{PageOp, PageUndo, OpEnd, OpVoid, CompEnd, Restart}
 use Rattle.rq_views.specs.Plans.{Turn, IsPlan, IsAppend, IsUnlinkHead, IsUnlinkTail, IsPutBack, IsMark, Spares}
 use Rattle.rq_views.specs.Plans.Turn.{Did, Undid}
@@ -44,27 +44,27 @@ compensated : (log : List Item) (o : Sub) (k : ℕ) → Only o log → Idle (Com
 compensated log o k h u = elim (cases_Bool (same_op o u)) [ inl y ↦ rw y refl | inr n ↦ rw n (h u n) ]
 
 -- a legal log with nothing under way
-pub record Rests (log : List Item) : Type 0 where
-  pub legal : IsLegalLog small log
+pub record Rests (l : Places) (log : List Item) : Type 0 where
+  pub legal : IsLegalLog l log
   pub idle : Idle log
 
 -- and with this operation alone
-pub record Runs (o : Sub) (log : List Item) : Type 0 where
-  pub legal : IsLegalLog small log
+pub record Runs (l : Places) (o : Sub) (log : List Item) : Type 0 where
+  pub legal : IsLegalLog l log
   pub only : Only o log
 
 -- what else a write asks where no other operation is under way
-record MayNow (log : List Item) (o : Sub) (w : Write) : Type 0 where
-  before : w.before ≡ (state_of small log).slots w.at
-  uncrossed : crossed small.page o (small.page w.at) log ≡ false
-  going : over o log ≡ false
-  forward : turned_back o log ≡ false
-  running : has_end o.txn log ≡ false
+pub record MayNow (l : Places) (log : List Item) (o : Sub) (w : Write) : Type 0 where
+  pub before : w.before ≡ (state_of l log).slots w.at
+  pub uncrossed : crossed l.page o (l.page w.at) log ≡ false
+  pub going : over o log ≡ false
+  pub forward : turned_back o log ≡ false
+  pub running : has_end o.txn log ≡ false
 
-may_write : (log : List Item) (o : Sub) (w : Write) → IsLegalLog small log → Only o log → MayNow log o w
-    → Begins small (w ∷ (state_of small log).writes o) → MayPageOp small log o w
-may_write log o w legal only m b = record {
-  write = record { before = m.before; alone = λ u n. idle_stands small log u (small.page w.at) legal (only u n) };
+may_write : (l : Places) (log : List Item) (o : Sub) (w : Write) → IsLegalLog l log → Only o log → MayNow l log o w
+    → Begins l (w ∷ (state_of l log).writes o) → MayPageOp l log o w
+may_write l log o w legal only m b = record {
+  write = record { before = m.before; alone = λ u n. idle_stands l log u (l.page w.at) legal (only u n) };
   uncrossed = m.uncrossed;
   going = m.going;
   forward = m.forward;
@@ -72,28 +72,28 @@ may_write log o w legal only m b = record {
   running = m.running;
 }
 
-first : {log : List Item} → Rests log → (o : Sub) (w : Write) → MayNow log o w
-    → Begins small (w ∷ (state_of small log).writes o) → Runs o (PageOp o w ∷ log)
-first {log} h o w m b =
-    record { legal = (may_write log o w h.legal (λ u n. h.idle u) m b, h.legal); only = first_write log o w h.idle }
+pub first : {l : Places} {log : List Item} → Rests l log → (o : Sub) (w : Write) → MayNow l log o w
+    → Begins l (w ∷ (state_of l log).writes o) → Runs l o (PageOp o w ∷ log)
+first {l} {log} h o w m b =
+    record { legal = (may_write l log o w h.legal (λ u n. h.idle u) m b, h.legal); only = first_write log o w h.idle }
 
-next : {log : List Item} {o : Sub} → Runs o log → (w : Write) → MayNow log o w
-    → Begins small (w ∷ (state_of small log).writes o) → Runs o (PageOp o w ∷ log)
-next {log} {o} h w m b =
-    record { legal = (may_write log o w h.legal h.only m b, h.legal); only = next_write log o w h.only }
+pub next : {l : Places} {log : List Item} {o : Sub} → Runs l o log → (w : Write) → MayNow l log o w
+    → Begins l (w ∷ (state_of l log).writes o) → Runs l o (PageOp o w ∷ log)
+next {l} {log} {o} h w m b =
+    record { legal = (may_write l log o w h.legal h.only m b, h.legal); only = next_write log o w h.only }
 
-ends : {log : List Item} {o : Sub} → Runs o log → (d : Deed) → MayOpEnd small log o d → Rests (OpEnd o d ∷ log)
-ends {log} {o} h d m = record { legal = (m, h.legal); idle = done log o d h.only }
+pub ends : {l : Places} {log : List Item} {o : Sub} → Runs l o log → (d : Deed) → MayOpEnd l log o d → Rests l (OpEnd o d ∷ log)
+ends {l} {log} {o} h d m = record { legal = (m, h.legal); idle = done log o d h.only }
 
-takes_back : {log : List Item} {o : Sub} → Runs o log → (k : ℕ) → MayCompEnd small log o k → Rests (CompEnd o k ∷ log)
-takes_back {log} {o} h k m = record { legal = (m, h.legal); idle = compensated log o k h.only }
+pub takes_back : {l : Places} {log : List Item} {o : Sub} → Runs l o log → (k : ℕ) → MayCompEnd l log o k → Rests l (CompEnd o k ∷ log)
+takes_back {l} {log} {o} h k m = record { legal = (m, h.legal); idle = compensated log o k h.only }
 
-turns_back : {log : List Item} {o : Sub} → Runs o log → (k at : ℕ) (x : Slot) → MayPageUndo small log o k at x
-    → Runs o (PageUndo o k at x ∷ log)
-turns_back {log} {o} h k at x m = record { legal = (m, h.legal); only = undo_write log o k at x h.only }
+pub turns_back : {l : Places} {log : List Item} {o : Sub} → Runs l o log → (k at : ℕ) (x : Slot) → MayPageUndo l log o k at x
+    → Runs l o (PageUndo o k at x ∷ log)
+turns_back {l} {log} {o} h k at x m = record { legal = (m, h.legal); only = undo_write log o k at x h.only }
 
-voids : {log : List Item} {o : Sub} → Runs o log → MayOpVoid small log o → Rests (OpVoid o ∷ log)
-voids {log} {o} h m = record { legal = (m, h.legal); idle = voided log o h.only }
+pub voids : {l : Places} {log : List Item} {o : Sub} → Runs l o log → MayOpVoid l log o → Rests l (OpVoid o ∷ log)
+voids {l} {log} {o} h m = record { legal = (m, h.legal); idle = voided log o h.only }
 
 -- the plans
 send_a : IsAppend small 0 1 7 0 (104 ∷ []) (end_a ∷ new_a ∷ [])
@@ -159,60 +159,60 @@ unlink_b = record {
 }
 
 -- the writes so far and those to come are an operation's
-begins : (t : Turn) (owed ws : List Write) → IsPlan small t (onto owed ws) → Begins small ws
+pub begins : {l : Places} (t : Turn) (owed ws : List Write) → IsPlan l t (onto owed ws) → Begins l ws
 begins t owed ws p = record { turn = t; owed = owed; plan = p }
 
-now : (log : List Item) (o : Sub) (w : Write) → w.before ≡ (state_of small log).slots w.at
-    → crossed small.page o (small.page w.at) log ≡ false → over o log ≡ false → turned_back o log ≡ false
-    → has_end o.txn log ≡ false → MayNow log o w
+pub now : {l : Places} (log : List Item) (o : Sub) (w : Write) → w.before ≡ (state_of l log).slots w.at
+    → crossed l.page o (l.page w.at) log ≡ false → over o log ≡ false → turned_back o log ≡ false
+    → has_end o.txn log ≡ false → MayNow l log o w
 now log o w a b c d e = record { before = a; uncrossed = b; going = c; forward = d; running = e }
 
-started : Rests (Restart 1 ∷ [])
+pub started : {l : Places} → Rests l (Restart 1 ∷ [])
 started = record { legal = (record { idle = λ o. refl; ended = λ t e. absurd (false≢true e) }, tt); idle = λ u. refl }
 
-sent_one : Rests (OpEnd a1 (sends 0) ∷ PageOp a1 end_a ∷ PageOp a1 new_a ∷ Restart 1 ∷ [])
+sent_one : Rests small (OpEnd a1 (sends 0) ∷ PageOp a1 end_a ∷ PageOp a1 new_a ∷ Restart 1 ∷ [])
 sent_one = ends
     (next
     (first started a1 new_a (now _ _ _ refl refl refl refl refl) (begins (Did (sends 0)) (end_a ∷ []) _ send_a))
     end_a (now _ _ _ refl refl refl refl refl) (begins (Did (sends 0)) [] _ send_a))
     (sends 0) (record { plan = send_a; going = refl; forward = refl; running = refl })
 
-one_rests : Rests committed_one
+one_rests : Rests small committed_one
 one_rests =
     record { legal = (record { idle = λ o e. sent_one.idle o; running = refl }, sent_one.legal); idle = sent_one.idle }
 
-sent_two : Rests (OpEnd b1 (sends 15) ∷ PageOp b1 end_b ∷ PageOp b1 new_b ∷ committed_one)
+sent_two : Rests small (OpEnd b1 (sends 15) ∷ PageOp b1 end_b ∷ PageOp b1 new_b ∷ committed_one)
 sent_two = ends
     (next
     (first one_rests b1 new_b (now _ _ _ refl refl refl refl refl) (begins (Did (sends 15)) (end_b ∷ []) _ send_b))
     end_b (now _ _ _ refl refl refl refl refl) (begins (Did (sends 15)) [] _ send_b))
     (sends 15) (record { plan = send_b; going = refl; forward = refl; running = refl })
 
-two_rests : Rests done_two
+two_rests : Rests small done_two
 two_rests = ends
     (next
     (first sent_two (of t2 2) free_a (now _ _ _ refl refl refl refl refl) (begins (Did (takes 0)) (took_a ∷ []) _ take_a))
     took_a (now _ _ _ refl refl refl refl refl) (begins (Did (takes 0)) [] _ take_a))
     (takes 0) (record { plan = take_a; going = refl; forward = refl; running = refl })
 
-put_back : Rests (CompEnd (of t2 3) 11 ∷ PageOp (of t2 3) back_a ∷ PageOp (of t2 3) new_a ∷ done_two)
+put_back : Rests small (CompEnd (of t2 3) 11 ∷ PageOp (of t2 3) back_a ∷ PageOp (of t2 3) new_a ∷ done_two)
 put_back = takes_back
     (next
     (first two_rests (of t2 3) new_a (now _ _ _ refl refl refl refl refl) (begins (Undid (takes 0)) (back_a ∷ []) _ put_a))
     back_a (now _ _ _ refl refl refl refl refl) (begins (Undid (takes 0)) [] _ put_a))
     11 (record { plan = (refl, put_a); going = refl; forward = refl; running = refl })
 
-stopped_runs : Runs (of t2 4) stopped
+stopped_runs : Runs small (of t2 4) stopped
 stopped_runs =
     first put_back (of t2 4) free_b (now _ _ _ refl refl refl refl refl)
     (begins (Undid (sends 15)) (undid_b ∷ []) _ unlink_b)
 
-turned_back_whole : Rests (OpVoid (of t2 4) ∷ PageUndo (of t2 4) 15 65 (Used (cell 15)) ∷ stopped)
+turned_back_whole : Rests small (OpVoid (of t2 4) ∷ PageUndo (of t2 4) 15 65 (Used (cell 15)) ∷ stopped)
 turned_back_whole = voids
     (turns_back stopped_runs 15 65 (Used (cell 15)) (record { newest = (refl, refl); lsn = refl; going = refl }))
     (record { all_undone = refl; begun = refl; going = refl })
 
-back_rests : Rests taken_back
+back_rests : Rests small taken_back
 back_rests = takes_back
     (next
     (first turned_back_whole (of t2 5) free_b (now _ _ _ refl refl refl refl refl) (begins (Undid (sends 15)) (undid_b ∷ []) _ unlink_b))

@@ -1,10 +1,10 @@
 -- Where only the holder of an end uses it, nobody else has anything open there, and what it takes is there.
-use Rattle.std.proofs.Common.{◌≡◌, ◌≢◌, ℕ, ◌+◌, ◌-◌, ◌<◌, ◌||◌, List, [], ◌∷◌, length, refl, sym, ◌∙◌, ap, subst, Bool, true, false, not, cond, Option, Some, inl, inr, arith}
+use Rattle.std.proofs.Common.{◌≡◌, ◌≢◌, ℕ, ◌+◌, ◌-◌, ◌<◌, ◌||◌, List, [], ◌∷◌, length, refl, sym, ◌∙◌, ap, subst, Bool, true, false, not, cond, nat_eq, Option, Some, inl, inr, arith}
 use Rattle.std.proofs.lemmas.Bool.{cases_Bool, true≢false, false≢true, eqb-true, and_from, or_parts}
 use Rattle.std.proofs.lemmas.List.{length-map, length-drop}
 use Rattle.rq_model.specs.declared.txn.Txn.{Txn}
 use Rattle.rq_model.specs.declared.record.Deed.{Deed}
-use Rattle.rq_model.specs.declared.record.Deed.TheVariants.{Append, UnlinkHead, Close}
+use Rattle.rq_model.specs.declared.record.Deed.TheVariants.{Append, UnlinkHead, Close, Mark}
 use Rattle.rq_model.specs.declared.record.Record.{Record}
 use Rattle.rq_model.specs.declared.record.Record.TheVariants as records
 use Rattle.rq_model.specs.Vocabulary.{same_txn}
@@ -81,11 +81,13 @@ pub sends_same : (s : ℕ) (d : Deed) → uses_send s (said d) ≡ on_sending_en
 sends_same s (Append r n tag previous body) = refl
 sends_same s (UnlinkHead r n tag body) = refl
 sends_same s (Close r) = refl
+sends_same s (Mark c tag previous) = refl
 
 pub takes_same : (s : ℕ) (d : Deed) → uses_receive s (said d) ≡ on_receiving_end s d
 takes_same s (Append r n tag previous body) = refl
 takes_same s (UnlinkHead r n tag body) = refl
 takes_same s (Close r) = refl
+takes_same s (Mark c tag previous) = refl
 
 -- where only t holds an end, nobody else has anything open there
 alone : (f : Said → Bool) (p : Deed → Bool) → ((d : Deed) → f (said d) ≡ p d)
@@ -123,14 +125,23 @@ left z log s t rules reads live forward more =
     ap (λ (x : View). length x.messages) (takes_form s ps c) ∙ length-drop (removed s (say ps)) c.messages in
     omega (arith, rest, held, both, own, after, more)
 
+-- a deed of the sending end
+sent_turn : (z : Sizes) (log : List Record) (t : Txn) (d : Deed) → IsLegalLog (layout_of z) (items z log) → ReadsItsDeeds log
+    → ((s : ℕ) → MayEnd log s t (said d)) → TellsView d (view (items z log) (deed_sender d)) → (s : ℕ)
+    → on_sending_end s d ≡ nat_eq (deed_sender d) s → on_receiving_end s d ≡ false → MayTurn (items z log) t d s
+sent_turn z log t d legal reads may told s own nt = record {
+  sends = λ y. (
+    alone (uses_send s) (on_sending_end s) (sends_same s) z log t legal reads ((may s).alone_send (sends_same s d ∙ y)),
+    subst (λ p. TellsView d (view (items z log) p)) (eqb-true (deed_sender d) s (sym own ∙ y)) told,
+  );
+  takes = λ y. absurd (false≢true (sym nt ∙ y));
+}
+
 turn : (z : Sizes) (log : List Record) (t : Txn) (d : Deed) → IsLegalLog (layout_of z) (items z log) → KeepsRules log
     → ReadsItsDeeds log → has_undone log t ≡ false → ((s : ℕ) → MayEnd log s t (said d))
     → TellsView d (view (items z log) (deed_sender d)) → (s : ℕ) → MayTurn (items z log) t d s
-turn z log t (Append q n tag previous body) legal rules reads forward may told s = record {
-  sends =
-      λ y. (alone (uses_send s) (on_sending_end s) (sends_same s) z log t legal reads ((may s).alone_send y), subst (λ p. TellsView (Append q n tag previous body) (view (items z log) p)) (eqb-true q s y) told);
-  takes = λ y. absurd (false≢true y);
-}
+turn z log t (Append q n tag previous body) legal rules reads forward may told s =
+    sent_turn z log t (Append q n tag previous body) legal reads may told s refl refl
 turn z log t (UnlinkHead q n tag body) legal rules reads forward may told s = record {
   sends = λ y. absurd (false≢true y);
   takes = λ y. (
@@ -139,11 +150,9 @@ turn z log t (UnlinkHead q n tag body) legal rules reads forward may told s = re
     left z log s t rules reads (may s).not_ended forward ((may s).has_more y),
   );
 }
-turn z log t (Close q) legal rules reads forward may told s = record {
-  sends =
-      λ y. (alone (uses_send s) (on_sending_end s) (sends_same s) z log t legal reads ((may s).alone_send y), subst (λ p. TellsView (Close q) (view (items z log) p)) (eqb-true q s y) told);
-  takes = λ y. absurd (false≢true y);
-}
+turn z log t (Close q) legal rules reads forward may told s = sent_turn z log t (Close q) legal reads may told s refl refl
+turn z log t (Mark c tag previous) legal rules reads forward may told s =
+    sent_turn z log t (Mark c tag previous) legal reads may told s refl refl
 
 -- an inverse takes something back
 some_open : (z : Sizes) (ps : List Placed) (u : ℕ) (ws : List Write) → Undoes (layout_of z) ps u ws → ps ≢ []

@@ -17,6 +17,7 @@ use Rattle.rq_views.specs.WorkedItems.{t1, t2, sends, takes, row, committed_one,
 use Rattle.rq_views.specs.Worked.{KeepsAll, WorkedLogs, RefusedRecords, nothing, one_waits}
 use Rattle.rq_views.proofs.GroupRule.{row_groups}
 use Rattle.rq_views.proofs.Interleaved.{row_legal, first_of_a}
+use Rattle.rq_views.proofs.WorkedTags.{tags_a, other_tag, other_client, not_counted, none_back}
 use Rattle.rq_views.proofs.Rows.{restarted_legal, taken_legal, closed_legal, stopped_spares, stopped_writes}
 
 may_send : (log : List Item) (t : Txn) (q : ℕ) → Alone (on_sending_end q) t log → TellsView (sends q) (view log q) → (s : ℕ)
@@ -155,6 +156,11 @@ refused = record {
   put_back_not_met = no_tail;
   page_op_met = first_of_a;
   page_op_of_another_slot = λ h. (let e = h.write.before in cc e);
+  mark_met = tags_a;
+  mark_of_another_tag = other_tag;
+  mark_of_another_client = other_client;
+  mark_not_counted = not_counted;
+  none_to_take_back = none_back;
   page_op_after_end = λ w h. true≢false h.going;
   page_op_after_commit = λ n w h. true≢false h.running;
 }

@@ -1,10 +1,11 @@
 -- What committed transactions leave of each sender, and what those that hold its ends add.
 use Rattle.rq_model.specs.declared.record.Deed.{Deed}
 use Rattle.rq_model.specs.declared.txn.Txn.{Txn}
+use Rattle.rq_model.specs.Vocabulary.{client_group}
 use Rattle.std.specs.Prelude.{◌≡◌, ◌≢◌, ℕ, ◌+◌, ◌<◌, ◌==◌, List, [], ◌∷◌, length, Bool, true, false, cond}
 use Rattle.rq_views.specs.Chain.{View}
 use Rattle.rq_views.specs.Log.{Item}
-use Rattle.rq_model.specs.declared.record.Deed.TheVariants.{Append, UnlinkHead, Close}
+use Rattle.rq_model.specs.declared.record.Deed.TheVariants.{Append, UnlinkHead, Close, Mark}
 use Rattle.rq_views.specs.Log.Item.{OpEnd, CompEnd, Commit}
 use Rattle.rq_views.specs.Plans.{with_turn, deed_sender}
 use Rattle.rq_views.specs.Plans.Turn.{Did}
@@ -14,11 +15,13 @@ abbrev pub on_sending_end : ℕ → Deed → Bool
 on_sending_end s (Append r n tag previous body) = r == s
 on_sending_end s (UnlinkHead r n tag body) = false
 on_sending_end s (Close r) = r == s
+on_sending_end s (Mark c tag previous) = client_group c == s
 
 abbrev pub on_receiving_end : ℕ → Deed → Bool
 on_receiving_end s (Append r n tag previous body) = false
 on_receiving_end s (UnlinkHead r n tag body) = r == s
 on_receiving_end s (Close r) = false
+on_receiving_end s (Mark c tag previous) = false
 
 abbrev pub side : (Deed → Bool) → List Placed → List Deed
 side f [] = []
@@ -48,6 +51,7 @@ TellsView (Append s n tag previous body) v =
     (previous ≡ v.last_tag) × (n ≡ v.received + length v.messages + 1) × (v.closed ≡ false)
 TellsView (UnlinkHead s n tag body) v = (rest : List (ℕ × List ℕ)) × (v.messages ≡ (tag, body) ∷ rest) × (n ≡ v.received + 1)
 TellsView (Close s) v = v.closed ≡ false
+TellsView (Mark c tag previous) v = (previous ≡ v.last_tag) × (v.closed ≡ false)
 
 -- the rule of groups and receives for a record: what it comes to over views
 pub record MayTurn (log : List Item) (t : Txn) (d : Deed) (s : ℕ) : Type 0 where

@@ -1,23 +1,32 @@
 -- Whether the records of a log are of a store, and whose they are.
-use Rattle.std.specs.Prelude.{◌≡◌, ℕ, ◌/◌, ◌%◌, ◌<◌, ◌≤◌, Bool, false, List, [], ◌∷◌}
+use Rattle.std.specs.Prelude.{◌≡◌, ℕ, ◌/◌, ◌%◌, ◌^◌, ◌<◌, ◌≤◌, Bool, false, List, [], ◌∷◌}
 use Rattle.rq_model.specs.declared.txn.Txn.{Txn}
+use Rattle.rq_model.specs.declared.record.Deed.{Deed}
+use Rattle.rq_model.specs.declared.record.Deed.TheVariants.{Append, UnlinkHead, Close, Mark}
 use Rattle.rq_model.specs.declared.record.Record.{Record}
 use Rattle.rq_model.specs.declared.record.Record.TheVariants as records
 use Rattle.rq_model.specs.Vocabulary.{same_txn}
 use Rattle.rq_model.specs.Deeds.{deed_by}
 use Rattle.rq_model.specs.Unended.{any_record}
-use Rattle.rq_page.specs.Sizes.{Sizes, IsCellAddress, page_count, tags_from, sender_count, sender_at, client_at}
+use Rattle.rq_page.specs.Sizes.{Sizes, IsCellAddress, page_count, tags_from, sender_count, sender_at, client_count, client_at}
 use Rattle.rq_page.specs.Slots.{Slot, IsSlotOf}
 use Rattle.rq_page.specs.Slots.Slot.{Free, Used, Sender, Client}
 use Rattle.rq_views.specs.Log.{Slots, Write}
-use Rattle.rq_views.specs.Plans.{deed_sender}
 use Rattle.rq_views.specs.Items.{told_deed}
 
--- a slot that the record writes is one of the store, and a deed that it tells is of one of its senders
+-- The deed is of one of the store's senders or clients; no sender has the number of a client's group. No store has marks
+-- yet.
+abbrev pub IsDeedOf : Sizes → Deed → Type 0
+IsDeedOf z (Append s n tag previous body) = s < sender_count z
+IsDeedOf z (UnlinkHead s n tag body) = s < sender_count z
+IsDeedOf z (Close s) = s < sender_count z
+IsDeedOf z (Mark c tag previous) = (c < client_count z) × (sender_count z ≤ 2 ^ 32) × ⊥
+
+-- a slot that the record writes is the store's, and so is the sender or client of its deed
 abbrev pub InStoreOne : Sizes → Record → Type 0
 InStoreOne z (records.PageOp t n page slot before after) = IsSlotOf z page slot after
 InStoreOne z (records.PageUndo t n undone page slot after) = IsSlotOf z page slot after
-InStoreOne z (records.OpEnd t n level deed) = deed_sender (told_deed (deed_by level deed)) < sender_count z
+InStoreOne z (records.OpEnd t n level deed) = IsDeedOf z (told_deed (deed_by level deed))
 InStoreOne z _ = Unit {0}
 
 -- every record of the log is of the store

@@ -8,7 +8,7 @@ use Rattle.rq_model.specs.declared.record.Record.{Record}
 use Rattle.rq_model.specs.declared.record.Record.TheVariants as records
 use Rattle.rq_model.specs.Vocabulary.{same_txn}
 use Rattle.rq_model.specs.Deeds.{deed_by}
-use Rattle.rq_page.specs.Sizes.{Sizes, address, directory_at, sender_at, sender_count, page_count, tags_from, client_at}
+use Rattle.rq_page.specs.Sizes.{Sizes, address, directory_at, sender_at, sender_count, page_count, tags_from, client_slot_at, client_at, client_count}
 use Rattle.rq_page.specs.Slots.{Slot, held_in}
 use Rattle.rq_page.specs.Slots.Slot.{Free, Sender, Client}
 use Rattle.rq_page.specs.Directories.{new_directory}
@@ -54,6 +54,8 @@ layout_of z = record {
   page = λ a. a / 16;
   directory_at = directory_at;
   senders = sender_count z;
+  client_slot_at = client_slot_at z;
+  clients = client_count z;
   formatted = formatted_at z;
 }
 

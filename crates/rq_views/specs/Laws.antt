@@ -1,12 +1,12 @@
 -- What holds of every legal log, by name; and worked logs.
 use Rattle.rq_views.specs.Inverses.{InversesLeaveTheOthers}
-use Rattle.rq_views.specs.StoreTheorems.{ChainsAreBounded, IdleSlotsAreWhole, NumbersHaveNoGaps, SettledCellsAreCommitted, SlotsStandWhereTheyMay, TakenMessagesHaveCells, UsedCellsAreMessages}
+use Rattle.rq_views.specs.StoreTheorems.{ChainsAreBounded, IdleSlotsAreWhole, IdleSlotsShowTheTags, NumbersHaveNoGaps, QuietSlotsShowTheTags, SettledCellsAreCommitted, SlotsStandWhereTheyMay, TakenMessagesHaveCells, UsedCellsAreMessages}
 use Rattle.rq_views.specs.Theorems.{CommittedIsContent, IdleSlotsShowTheFold, PlansChangeOneChain, QuietSlotsShowTheFold, RulesKeepGroups, SettledFoldIsCommitted, ViewsAreHolders}
-use Rattle.rq_views.specs.Worked.{RefusedRecords, WorkedLogs}
+use Rattle.rq_views.specs.Worked.{RefusedRecords, WorkedLogs, WorkedMarks}
 
 pub record Laws : Type 0 where
   -- The writes of one operation do to the chain of its sender what the operation does, and leave each other chain as
-  -- it was.
+  -- it was. Those of a mark leave every chain.
   pub plans_change_one_chain : PlansChangeOneChain
   -- Over every legal log, with any operations interleaved at single slot writes: the slots that whole operations
   -- alone have written show each sender's chain as its operations say.
@@ -14,6 +14,11 @@ pub record Laws : Type 0 where
   -- The slots as they are show it too, of each sender over whose slots no operation under way has written, as none
   -- has of a sender that no operation is on.
   pub idle_slots_show_the_fold : IdleSlotsShowTheFold
+  -- Over every legal log of a store, the slots that whole operations alone have written show each client's marks: how
+  -- many there are, and the tag of the last.
+  pub quiet_slots_show_the_tags : QuietSlotsShowTheTags
+  -- The slots as they are show them too, of each client whose slot no operation under way has written.
+  pub idle_slots_show_the_tags : IdleSlotsShowTheTags
   -- Where every transaction has ended, each chain is what committed transactions leave.
   pub settled_fold_is_committed : SettledFoldIsCommitted
   -- What the chains of committed transactions hold is the content of the log.
@@ -39,6 +44,8 @@ pub record Laws : Type 0 where
   -- Worked logs, with what they come to: two operations interleaved, and an abort that a crash stops and a restart
   -- ends.
   pub worked_logs : WorkedLogs
+  -- What the slots of clients show after a mark, after another client's, and after the first is taken back.
+  pub worked_marks : WorkedMarks
   -- What may not come next, after logs that keep all rules: a record for each rule that a log keeps besides being
   -- legal.
   pub refused_records : RefusedRecords

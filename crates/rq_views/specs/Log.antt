@@ -75,11 +75,13 @@ act (OpVoid o) = Voided o
 act (CompEnd o u) = Done o
 act _ = Nothing
 
--- where pages and directory slots stand, and what a formatted store holds
+-- where pages, directory slots and clients' slots stand, and what a formatted store holds
 pub record Places : Type 0 where
   pub page : ℕ → ℕ
   pub directory_at : ℕ → ℕ
   pub senders : ℕ
+  pub client_slot_at : ℕ → ℕ
+  pub clients : ℕ
   pub formatted : Slots
 
 -- What a log comes to: the slots; the slots with whole operations alone, each made at its end (quiet);

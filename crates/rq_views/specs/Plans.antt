@@ -1,19 +1,31 @@
--- The writes of each chain operation, newest first, and what it makes of its sender's view.
+-- The writes of each operation, newest first, and what it makes of the view of its sender or its client's group.
 use Rattle.rq_page.specs.declared.cell.Cell.{Cell}
 use Rattle.rq_model.specs.declared.record.Deed.{Deed}
 use Rattle.rq_page.specs.declared.directory.Directory.{Directory}
-use Rattle.std.specs.Prelude.{◌≡◌, ◌≢◌, ℕ, ◌+◌, ◌-◌, ◌<◌, ◌==◌, List, [], ◌∷◌, drop, Bool, true, false, if◌then◌else◌, Option, None, Some}
+use Rattle.rq_page.specs.declared.client.ClientSlot.{ClientSlot}
+use Rattle.std.specs.Prelude.{◌≡◌, ◌≢◌, ℕ, ◌+◌, ◌-◌, ◌^◌, ◌<◌, ◌≤◌, ◌==◌, List, [], ◌∷◌, length, drop, Bool, true, false, if◌then◌else◌, Option, None, Some}
 use Rattle.rq_views.specs.Chain.{View, Shows, directory_appended, view_appended, view_tail_unlinked, view_put_back}
 use Rattle.rq_page.specs.Slots.{Slot}
 use Rattle.rq_views.specs.Log.{Slots, Write, cells_of, Places}
 use Rattle.rq_page.specs.Slots.Slot.{Free, Used, Sender, Client}
-use Rattle.rq_model.specs.declared.record.Deed.TheVariants.{Append, UnlinkHead, Close}
+use Rattle.rq_model.specs.declared.record.Deed.TheVariants.{Append, UnlinkHead, Close, Mark}
+use Rattle.rq_model.specs.Vocabulary.{client_group}
 
 -- the slots show this view of the sender
 pub record ShowsAt (l : Places) (q : Slots) (s : ℕ) (v : View) : Type 0 where
   pub directory : Directory
   pub at : q (l.directory_at s) ≡ Sender s directory
   pub shows : Shows (cells_of q) s directory v
+
+-- the client's slot shows this view of its group
+pub record ShowsTag (l : Places) (q : Slots) (c : ℕ) (v : View) : Type 0 where
+  pub held : ClientSlot
+  pub at : q (l.client_slot_at c) ≡ Client held
+  pub own : held.client ≡ c
+  pub count : held.count ≡ length v.messages
+  pub tag : held.tag ≡ v.last_tag
+  pub open_one : v.closed ≡ false
+  pub none_taken : v.received ≡ 0
 
 -- neither a cell nor the directory slot of s
 abbrev pub IsForeignSlot : ℕ → Slot → Type 0
@@ -160,6 +172,25 @@ pub record IsMark (l : Places) (s : ℕ) (closed : Bool) (ws : List Write) : Typ
   pub directory : Directory
   pub writes : ws ≡ directory_write l s directory (record directory { closed = closed }) ∷ []
 
+abbrev pub client_write : Places → ClientSlot → ClientSlot → Write
+client_write l before after = record { at = l.client_slot_at before.client; before = Client before; after = Client after }
+
+-- A mark counts its tag in the client's slot. No sender has the number of a client's group.
+pub record IsTagged (l : Places) (c tag previous : ℕ) (ws : List Write) : Type 0 where
+  pub held : ClientSlot
+  pub own : held.client ≡ c
+  pub previous_is : previous ≡ held.tag
+  pub apart : l.senders ≤ 2 ^ 32
+  pub writes : ws ≡ client_write l held (record held { count = held.count + 1; tag = tag }) ∷ []
+
+-- a mark taken back: the slot holds the tag before it again
+pub record IsUntagged (l : Places) (c previous : ℕ) (ws : List Write) : Type 0 where
+  pub held : ClientSlot
+  pub own : held.client ≡ c
+  pub some : 0 < held.count
+  pub apart : l.senders ≤ 2 ^ 32
+  pub writes : ws ≡ client_write l held (record held { count = held.count - 1; tag = previous }) ∷ []
+
 -- what an operation is for: a deed, or to take one back
 pub data Turn : Type 0 where
   Did : (deed : Deed) → Turn
@@ -170,9 +201,11 @@ abbrev pub IsPlan : Places → Turn → List Write → Type 0
 IsPlan l (Did (Append s n tag previous body)) ws = IsAppend l s n tag previous body ws
 IsPlan l (Did (UnlinkHead s n tag body)) ws = IsUnlinkHead l s n tag body ws
 IsPlan l (Did (Close s)) ws = IsMark l s true ws
+IsPlan l (Did (Mark c tag previous)) ws = IsTagged l c tag previous ws
 IsPlan l (Undid (Append s n tag previous body)) ws = IsUnlinkTail l s n previous ws
 IsPlan l (Undid (UnlinkHead s n tag body)) ws = IsPutBack l s n tag body ws
 IsPlan l (Undid (Close s)) ws = IsMark l s false ws
+IsPlan l (Undid (Mark c tag previous)) ws = IsUntagged l c previous ws
 
 abbrev pub view_head_unlinked : View → View
 view_head_unlinked v = record v { received = v.received + 1; messages = drop 1 v.messages }
@@ -181,6 +214,7 @@ abbrev pub deed_sender : Deed → ℕ
 deed_sender (Append s n tag previous body) = s
 deed_sender (UnlinkHead s n tag body) = s
 deed_sender (Close s) = s
+deed_sender (Mark c tag previous) = client_group c
 
 abbrev pub turn_sender : Turn → ℕ
 turn_sender (Did d) = deed_sender d
@@ -191,6 +225,8 @@ abbrev pub with_turn : Turn → View → View
 with_turn (Did (Append s n tag previous body)) v = view_appended v tag body
 with_turn (Did (UnlinkHead s n tag body)) v = view_head_unlinked v
 with_turn (Did (Close s)) v = record v { closed = true }
+with_turn (Did (Mark c tag previous)) v = view_appended v tag []
 with_turn (Undid (Append s n tag previous body)) v = view_tail_unlinked v previous
 with_turn (Undid (UnlinkHead s n tag body)) v = view_put_back v tag body
 with_turn (Undid (Close s)) v = record v { closed = false }
+with_turn (Undid (Mark c tag previous)) v = view_tail_unlinked v previous

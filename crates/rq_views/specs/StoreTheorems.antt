@@ -1,5 +1,5 @@
 -- What holds of every legal log of a store.
-use Rattle.std.specs.Prelude.{◌≡◌, ℕ, ◌+◌, ◌≤◌, true, false, List, [], length}
+use Rattle.std.specs.Prelude.{◌≡◌, ℕ, ◌+◌, ◌<◌, ◌≤◌, true, false, List, [], length}
 use Rattle.std.specs.List.{sum_by}
 use Rattle.rq_model.specs.declared.txn.Sub.{Sub}
 use Rattle.rq_model.specs.declared.txn.Txn.{Txn}
@@ -7,14 +7,16 @@ use Rattle.rq_model.specs.declared.record.Record.{Record}
 use Rattle.rq_model.specs.Tests.{below, count_rest}
 use Rattle.rq_model.specs.Commits.{committed_of}
 use Rattle.rq_model.specs.Rules.{KeepsRules}
-use Rattle.rq_page.specs.Sizes.{Sizes, cell_count, sender_count}
+use Rattle.rq_model.specs.Vocabulary.{client_group}
+use Rattle.rq_page.specs.Sizes.{Sizes, IsInRange, cell_count, client_count, sender_count}
 use Rattle.rq_views.specs.Claims.{takes_placed, HasRoom}
 use Rattle.rq_views.specs.Groups.{KeepsGroups}
 use Rattle.rq_views.specs.InStore.{InStore, AllStand}
 use Rattle.rq_views.specs.Items.{items, layout_of, operation, ReadsItsDeeds}
 use Rattle.rq_views.specs.Legal.{IsLegalLog, began, open_deeds, under_way, view}
 use Rattle.rq_views.specs.Numbers.{greatest, AreNumbered}
-use Rattle.rq_views.specs.Log.{Item, Places, state_of}
+use Rattle.rq_views.specs.Log.{Item, Places, Untouched, state_of}
+use Rattle.rq_views.specs.Plans.{ShowsTag}
 use Rattle.rq_views.specs.Stored.{count_used}
 
 -- only cells hold messages, and only the directory slot of a sender tells of it
@@ -55,6 +57,21 @@ TakenMessagesHaveCells =
     → HasRoom (cell_count z) (items z log)
     → count_used z (state_of (layout_of z) (items z log)).quiet + sum_by takes_placed (open_deeds t (items z log))
     ≤ cell_count z
+
+-- the slots that whole operations alone have written show, of each client, the fold of its marks, whatever is under way
+abbrev pub QuietSlotsShowTheTags : Type 0
+QuietSlotsShowTheTags =
+    (z : Sizes) (log : List Record) (c : ℕ) → IsInRange z → IsLegalLog (layout_of z) (items z log) → InStore z log
+    → c < client_count z
+    → ShowsTag (layout_of z) (state_of (layout_of z) (items z log)).quiet c (view (items z log) (client_group c))
+
+-- and so do the slots as they are, of a client whose slot no operation under way has written
+abbrev pub IdleSlotsShowTheTags : Type 0
+IdleSlotsShowTheTags =
+    (z : Sizes) (log : List Record) (c : ℕ) → IsInRange z → IsLegalLog (layout_of z) (items z log) → InStore z log
+    → c < client_count z
+    → ((o : Sub) → Untouched ((layout_of z).client_slot_at c) ((state_of (layout_of z) (items z log)).writes o))
+    → ShowsTag (layout_of z) (state_of (layout_of z) (items z log)).slots c (view (items z log) (client_group c))
 
 -- the numbers of a transaction's operations go from 1 to the greatest
 abbrev pub NumbersHaveNoGaps : Type 0

@@ -15,11 +15,11 @@ use Rattle.rq_views.specs.Plans.{IsPlan, ShowsAt, Spares, Turn}
 use Rattle.rq_views.specs.Legal.{IsLegalLog, IsLayout, open_deeds, view, view_after}
 use Rattle.rq_views.specs.Groups.{KeepsGroups, DeedsTellViews, committed, on_sending_end, on_receiving_end, side, with_all}
 
--- The writes of one operation over slots that hold what they are to be written over: where these show a chain, they show it
--- as the operation leaves it; and that of another sender as it was.
+-- The writes of one operation over slots that hold what they are to be written over: where these show a sender's chain, they
+-- show it as the operation leaves it; and that of another sender as it was.
 abbrev pub PlansChangeOneChain : Type 0
 PlansChangeOneChain = (l : Places) (q : Slots) (ws : List Write) (turn : Turn) (s : ℕ) (v : View) → IsPlan l turn ws
-    → HasBefores ws q → ShowsAt l q s v → ShowsAt l (applied ws q) s (view_after s (Some turn) v)
+    → HasBefores ws q → s < l.senders → ShowsAt l q s v → ShowsAt l (applied ws q) s (view_after s (Some turn) v)
 
 -- the slots that whole operations alone have written show, of each sender, the fold of what its operations did and
 -- undid, whatever is under way

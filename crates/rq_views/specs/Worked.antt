@@ -1,11 +1,12 @@
 -- What holds of the worked logs, and which records may not come next.
-use Rattle.std.specs.Prelude.{◌≡◌, ℕ, List, [], ◌∷◌, false}
+use Rattle.std.specs.Prelude.{◌≡◌, ℕ, ◌<◌, List, [], ◌∷◌, false}
 use Rattle.rq_model.specs.declared.in_place.InPlace.{InPlace}
-use Rattle.rq_model.specs.declared.record.Deed.TheVariants.{Append, Close}
+use Rattle.rq_model.specs.declared.record.Deed.TheVariants.{Append, Close, Mark}
 use Rattle.rq_model.specs.declared.record.Record.{Record}
 use Rattle.rq_model.specs.declared.record.Record.TheVariants as records
 use Rattle.rq_model.specs.declared.txn.Sub.{Sub}
 use Rattle.rq_model.specs.declared.txn.Txn.{Txn}
+use Rattle.rq_model.specs.Vocabulary.{client_group}
 use Rattle.rq_page.specs.Directories.{new_directory}
 use Rattle.rq_page.specs.Sizes.{cell_count}
 use Rattle.rq_page.specs.Slots.Slot.{Free, Used, Sender}
@@ -20,9 +21,9 @@ use Rattle.rq_views.specs.Legal.{IsLegalLog, MayPageOp, MayRestart, open_deeds, 
 use Rattle.rq_views.specs.Log.{Item, Write, state_of}
 use Rattle.rq_views.specs.Log.Item.{PageOp, OpEnd, Commit, Restart}
 use Rattle.rq_views.specs.Numbers.{greatest, IsNumbered, AreNumbered}
-use Rattle.rq_views.specs.Plans.{Spares, Turn, with_turn}
-use Rattle.rq_views.specs.Plans.Turn.{Did}
-use Rattle.rq_views.specs.WorkedItems.{sizes, small, t1, t2, of, a1, b1, cell, new_a, new_b, sends, takes, row, committed_one, done_two, stopped, taken_back, restarted, taken_one, closed_one}
+use Rattle.rq_views.specs.Plans.{IsPlan, ShowsTag, Spares, Turn, with_turn}
+use Rattle.rq_views.specs.Plans.Turn.{Did, Undid}
+use Rattle.rq_views.specs.WorkedItems.{sizes, small, t1, t2, of, a1, b1, cell, new_a, new_b, sends, takes, row, committed_one, done_two, stopped, taken_back, restarted, taken_one, closed_one, tagged, counts, tag_a, untag_a, marked_one, marked_two, unmarked_one}
 
 -- the log keeps every rule
 pub record KeepsAll (log : List Item) : Type 0 where
@@ -61,6 +62,36 @@ pub record WorkedLogs : Type 0 where
   -- slot of sender 15
   pub spares : (o : Sub) → Spares 0 ((state_of small stopped).writes o)
   pub not_spared : ((o : Sub) → Spares 15 ((state_of small stopped).writes o)) → ⊥
+
+-- a group to which one tag was marked
+abbrev pub one_mark : ℕ → View
+one_mark tag = record { closed = false; received = 0; last_tag = tag; messages = (tag, []) ∷ [] }
+
+-- in this log the view of the client's group is v, and the client's slot shows it
+pub record Tells (log : List Item) (c : ℕ) (v : View) : Type 0 where
+  pub told : view log (client_group c) ≡ v
+  pub shown : ShowsTag tagged (state_of tagged log).slots c v
+  pub quiet : ShowsTag tagged (state_of tagged log).quiet c v
+
+-- a mark, another client's, and the first taken back; a client that marked nothing
+pub record WorkedMarks : Type 0 where
+  pub legal : IsLegalLog tagged unmarked_one
+  pub groups : KeepsGroups unmarked_one
+  pub numbers : AreNumbered unmarked_one
+  pub begun : Tells (Restart 1 ∷ []) 0 nothing
+  pub one_first : Tells marked_one 0 (one_mark 7)
+  pub one_second : Tells marked_one 1 nothing
+  pub two_first : Tells marked_two 0 (one_mark 7)
+  pub two_second : Tells marked_two 1 (one_mark 9)
+  pub back_first : Tells unmarked_one 0 nothing
+  pub back_second : Tells unmarked_one 1 (one_mark 9)
+  pub back_other : Tells unmarked_one 14 nothing
+  -- while the mark is taken back, the slot no longer shows it, and the slots of whole operations do
+  pub taking_back : ShowsTag tagged (state_of tagged (PageOp (of t1 2) untag_a ∷ marked_two)).quiet 0 (one_mark 7)
+  pub not_shown : ShowsTag tagged (state_of tagged (PageOp (of t1 2) untag_a ∷ marked_two)).slots 0 (one_mark 7) → ⊥
+  -- no sender shows any of it
+  pub sender_shows : view unmarked_one 0 ≡ nothing
+  pub claims : claimed marked_two ≡ 0
 
 -- a second message that is sent behind the first
 abbrev pub sends_second : Turn
@@ -113,3 +144,10 @@ pub record RefusedRecords : Type 0 where
   pub page_op_of_another_slot : MayPageOp small (Restart 1 ∷ []) a1 over_used → ⊥
   pub page_op_after_end : (w : Write) → MayPageOp small committed_one a1 w → ⊥
   pub page_op_after_commit : (n : ℕ) (w : Write) → MayPageOp small (Commit t1 ∷ Restart 1 ∷ []) (of t1 n) w → ⊥
+  -- A mark tells the tag that its client's slot holds. It is of that client, and one more is counted.
+  pub mark_met : IsPlan tagged (Did (Mark 0 7 0)) (tag_a ∷ [])
+  pub mark_of_another_tag : (previous : ℕ) → 0 < previous → IsPlan tagged (Did (Mark 0 7 previous)) (tag_a ∷ []) → ⊥
+  pub mark_of_another_client : IsPlan tagged (Did (Mark 1 7 0)) (tag_a ∷ []) → ⊥
+  pub mark_not_counted : IsPlan tagged (Did (Mark 0 7 0)) (record tag_a { after = counts 0 0 7 } ∷ []) → ⊥
+  -- none is taken back where none is counted
+  pub none_to_take_back : IsPlan tagged (Undid (Mark 0 7 0)) (record tag_a { after = counts 0 0 0 } ∷ []) → ⊥

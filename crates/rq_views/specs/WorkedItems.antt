@@ -1,5 +1,5 @@
--- Worked logs, over a store of two directory pages and two cell pages: 30 senders and 30 cells. The newest record comes
--- first.
+-- Worked logs, over a store of two directory pages and two cell pages: 30 senders and 30 cells. One has a tag page, too: 15
+-- clients. The newest record comes first.
 use Rattle.rq_page.specs.declared.cell.Cell.{Cell}
 use Rattle.rq_page.specs.declared.directory.Directory.{Directory}
 use Rattle.rq_page.specs.Directories.{new_directory}
@@ -11,9 +11,10 @@ use Rattle.rq_views.specs.Chain.{directory_appended}
 use Rattle.rq_views.specs.Log.{Write, Places, Item}
 use Rattle.rq_views.specs.Items.{layout_of}
 use Rattle.rq_views.specs.Plans.{directory_head_unlinked, directory_put_back, directory_tail_unlinked}
-use Rattle.rq_page.specs.Slots.Slot.{Free, Used, Sender}
+use Rattle.rq_page.specs.Slots.{Slot}
+use Rattle.rq_page.specs.Slots.Slot.{Free, Used, Sender, Client}
 use Rattle.rq_model.specs.declared.record.Deed.{Deed}
-use Rattle.rq_model.specs.declared.record.Deed.TheVariants.{Append, UnlinkHead, Close}
+use Rattle.rq_model.specs.declared.record.Deed.TheVariants.{Append, UnlinkHead, Close, Mark}
 use Rattle.rq_views.specs.Log.Item.{PageOp, PageUndo, OpEnd, OpVoid, CompEnd, Commit, AbortEnd, Restart}
 
 abbrev pub sizes : Sizes
@@ -125,3 +126,36 @@ mark_a = record { at = 17; before = Sender 0 new_directory; after = Sender 0 (re
 
 abbrev pub closed_one : List Item
 closed_one = Commit t1 ∷ OpEnd a1 (Close 0) ∷ PageOp a1 mark_a ∷ Restart 1 ∷ []
+
+-- the store with a tag page
+abbrev pub with_tags : Sizes
+with_tags = record { directory = 2; cells = 2; tags = 1 }
+
+abbrev pub tagged : Places
+tagged = layout_of with_tags
+
+-- what the slot of a client holds
+abbrev pub counts : ℕ → ℕ → ℕ → Slot
+counts c n tag = Client (record { client = c; count = n; tag = tag })
+
+-- the slots of clients 0 and 1 stand at 81 and 82
+abbrev pub tag_a : Write
+tag_a = record { at = 81; before = counts 0 0 0; after = counts 0 1 7 }
+
+abbrev pub tag_b : Write
+tag_b = record { at = 82; before = counts 1 0 0; after = counts 1 1 9 }
+
+abbrev pub untag_a : Write
+untag_a = record { at = 81; before = counts 0 1 7; after = counts 0 0 0 }
+
+-- t1 marks 7 for client 0
+abbrev pub marked_one : List Item
+marked_one = OpEnd a1 (Mark 0 7 0) ∷ PageOp a1 tag_a ∷ Restart 1 ∷ []
+
+-- then t2 marks 9 for client 1
+abbrev pub marked_two : List Item
+marked_two = OpEnd b1 (Mark 1 9 0) ∷ PageOp b1 tag_b ∷ marked_one
+
+-- and t1 aborts: its mark is taken back
+abbrev pub unmarked_one : List Item
+unmarked_one = CompEnd (of t1 2) 3 ∷ PageOp (of t1 2) untag_a ∷ marked_two

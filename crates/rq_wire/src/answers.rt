@@ -16,6 +16,8 @@ pub enum Answer {
     NoMessage,
     /// The group was closed.
     Closed,
+    /// The client's tag was marked.
+    Marked,
     /// The transaction is committed, and its Commit record, with this LSN, is forced.
     Committed(Lsn),
     /// The transaction is undone.

@@ -23,6 +23,7 @@ pub fn answer(answer: &Answer, out: &mut BytesMut) -> Result<(), NoMemory>
         Answer::Message(message) => put_message(out, message),
         Answer::NoMessage => put_frame(out, 132, &[], &[]),
         Answer::Closed => put_frame(out, 133, &[], &[]),
+        Answer::Marked => put_frame(out, 137, &[], &[]),
         Answer::Committed(lsn) => put_frame(out, 134, &one_number(*lsn), &[]),
         Answer::Aborted => put_frame(out, 135, &[], &[]),
         Answer::LastTag { sent, tag } => put_frame(out, 136, &two_numbers(*sent, *tag), &[]),

@@ -9,7 +9,9 @@ use Rattle.rq_views.proofs.Settled.{settled_counts}
 use Rattle.rq_views.proofs.Claims.{taken_have_cells}
 use Rattle.rq_views.proofs.Numbers.{all_begun}
 use Rattle.rq_views.proofs.Inverses.{inverses_leave}
+use Rattle.rq_views.proofs.Tags.{quiet_tags, idle_tags}
 use Rattle.rq_views.proofs.Worked.{worked, refused}
+use Rattle.rq_views.proofs.WorkedTags.{worked_marks}
 use Rattle.rq_views.proofs.Rules.{rules_groups}
 use Rattle.rq_views.specs.Items.{items}
 use Rattle.rq_views.proofs.laws.Goals as goal
@@ -19,6 +21,8 @@ returns c = record {
   plans_change_one_chain = turn_law;
   quiet_slots_show_the_fold = quiet_views;
   idle_slots_show_the_fold = views;
+  quiet_slots_show_the_tags = quiet_tags;
+  idle_slots_show_the_tags = idle_tags;
   settled_fold_is_committed = settled_view;
   committed_is_content = committed_is_content;
   slots_stand_where_they_may = slots_stand;
@@ -30,6 +34,7 @@ returns c = record {
   numbers_have_no_gaps = all_begun;
   inverses_leave_the_others = inverses_leave;
   worked_logs = worked;
+  worked_marks = worked_marks;
   refused_records = refused;
   rules_keep_groups = rules_groups;
   views_are_holders = λ z s log legal rules reads tells.

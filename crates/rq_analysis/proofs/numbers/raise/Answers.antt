@@ -1,7 +1,7 @@
-use Rattle.std.proofs.Common.{◌≡◌, ◌<◌, ap, sym, ◌∙◌, arith}
+use Rattle.std.proofs.Common.{ap, ◌∙◌}
 use Rattle.std.proofs.lemmas.Bool.{lt-ltb}
 use Rattle.rq_model.specs.declared.txn.Sub.{Sub}
-use Rattle.rq_analysis.specs.Numbers.{number_of, numbers_left}
+use Rattle.rq_analysis.specs.Numbers.{numbers_left}
 use Rattle.rq_analysis.proofs.Numbering.{left_behind}
 use Rattle.rq_analysis.proofs.numbers.raise.Goals as goal
 
@@ -9,6 +9,4 @@ pub returns : goal.returns
 returns c =
     let o : Sub = record { txn = c.args.txn; number = c.args.number } in
     let items = c.args.numbers.now.items in
-    let e = ap (number_of c.args.txn) c.deref.ensures.value in
-    let less : number_of c.args.txn items < c.args.number = (let a = c.if-greatest_of-number.false in let b = c.greatest_of.ensures in omega (arith, a, b, e)) in
-    c.leave.ensures ∙ ap (numbers_left c.args.txn c.args.number) c.push_reserved.ensures.items ∙ left_behind o items (lt-ltb _ _ less)
+    c.leave.ensures ∙ ap (numbers_left c.args.txn c.args.number) c.push_reserved.ensures.items ∙ left_behind o items (lt-ltb _ _ c.requires.greater)

@@ -8,5 +8,5 @@ new-requires-2-clause-fit c =
     let room = c.in-Ok.ensures.room in
     let free = room.0 in
     let reserved = room.1 in
-    handed_in kept_of _ _ _ _ _ c.in_ok-levels.ensures.items c.in_ok-push.ensures.items c.in_ok-push-2.ensures.items refl
-    (record { free = omega (arith, free); reserved = omega (arith, reserved) })
+    handed_in kept_of _ _ _ _ _ _ _ c.in_ok-levels.ensures.items c.in_ok-push.ensures.items c.in_ok-push-2.ensures.items c.in_ok-push-3.ensures.items refl
+    (record { free = omega (arith, free); reserved = omega (arith, reserved) }) refl

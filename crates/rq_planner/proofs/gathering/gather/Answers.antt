@@ -1,8 +1,8 @@
 use Rattle.std.proofs.Common.{◌≡◌, ℕ, Some, ◌/◌, refl, sym, ◌∙◌, ap, arith}
 use Rattle.rq_page.specs.Slots.{held_in}
-use Rattle.rq_level.specs.Meaning.{meaning_of}
 use Rattle.rq_txn.specs.Rows.{latched_in}
 use Rattle.rq_store.specs.State.{State}
+use Rattle.rq_planner.specs.Answered.{wants_of}
 use Rattle.rq_planner.specs.Asked.{known_from}
 use Rattle.rq_planner.proofs.Gathered.{fewer_left, one_more, wish_slot}
 use Rattle.rq_planner.proofs.Knowing.{of_store}
@@ -19,13 +19,14 @@ pub loop-at-preserved : goal.loop-at-preserved
 loop-at-preserved g c =
     let s : State = known_from c.args.pages.now c.args.transactions.now in
     let at : ℕ = c.in-Slot.at in
-    let m = meaning_of c.args.op.now.level in
+    let levels = c.args.levels.now in
+    let n = c.args.op.now.level in
     let stands = c.in-Some.ensures.known.0 refl in
-    let want : m.want c.args.op.now c.loop-at.slots ≡ Some at = ap (λ n. (meaning_of n).want c.args.op.now c.loop-at.slots) (sym c.level.ensures) ∙ wish_slot _ c.want.result at c.want.ensures c.in-Slot.is in
-    one_more s m c.args.op.now c.loop-at.slots c.add.new.self at c.in-Some.bytes.now c.in_ok-add.ensures.ok want c.loop-at.invariant stands c.in-Some.ensures.slot
+    let want : wants_of levels n c.args.op.now c.loop-at.slots ≡ Some at = ap (λ i. wants_of levels i c.args.op.now c.loop-at.slots) (sym c.level.ensures) ∙ wish_slot _ c.want.result at c.want.ensures c.in-Slot.is in
+    one_more s (wants_of levels n) c.args.op.now c.loop-at.slots c.add.new.self at c.in-Some.bytes.now c.in_ok-add.ensures.ok want c.loop-at.invariant stands c.in-Some.ensures.slot
     (slot_is c.args.pages.now.sizes c.args.pages.now.images at stands ∙ ap (held_in c.args.pages.now.sizes (at / 16)) (sym c.in-Some.ensures.bytes))
     (ap (latched_in c.args.transactions.now) (sym c.page.ensures) ∙ sym c.has_latched.ensures ∙ c.if-has_latched.false)
 
 pub loop-at-smaller : goal.loop-at-smaller
 loop-at-smaller g c =
-    fewer_left (known_from c.args.pages.now c.args.transactions.now) c.args.op.now.level c.args.op.now c.loop-at.slots c.add.new.self c.in-Slot.at c.in-Some.bytes.now c.in_ok-add.ensures.ok (loop-at-preserved g c)
+    fewer_left (known_from c.args.pages.now c.args.transactions.now) c.args.levels.now c.args.op.now.level c.args.op.now c.loop-at.slots c.add.new.self c.in-Slot.at c.in-Some.bytes.now c.in_ok-add.ensures.ok (loop-at-preserved g c)

@@ -1,6 +1,6 @@
 use Rattle.std.proofs.Common.{◌≡◌, ℕ, slice_set, subst, arith}
 use Rattle.rq_level.specs.Meaning.{kept_at, meaning_of}
-use Rattle.rq_planner.specs.Answered.{MayPlan}
+use Rattle.rq_planner.specs.Answered.{MayPlan, wants_of}
 use Rattle.rq_planner.specs.Asked.{known_from}
 use Rattle.rq_planner.proofs.Gathered.{answered, not_from}
 use Rattle.rq_planner.proofs.Knowing.{of_store, plan_same}
@@ -27,7 +27,7 @@ returns-in-Ok-clause-answered g c =
     let n = c.args.op.now.level in
     let old = c.args.levels.now in
     let mid = c.plan-answer.new.self in
-    answered s (meaning_of n) c.args.op.now (MayPlan s (meaning_of n) (kept_at old n) c.args.op.now) c.gather.new.slots c.plan-answer.result c.in-Ok.ensures.all c.in-Ok.ensures.none (record {
+    answered s (wants_of old n) c.args.op.now (MayPlan s (meaning_of n) (kept_at old n) c.args.op.now) c.gather.new.slots c.plan-answer.result c.in-Ok.ensures.all c.in-Ok.ensures.none (record {
       latched = c.latched.result.now.pages;
       on = c.latched.ensures;
       after = kept_at mid n;

@@ -2,7 +2,7 @@ use Rattle.std.proofs.Common.{◌≡◌, ◌∙◌, None, [], Err, ap, subst}
 use Rattle.rq_model.specs.declared.record.Record.TheVariants.{OpEnd}
 use Rattle.rq_level.specs.Meaning.{kept_at, meaning_of}
 use Rattle.rq_level.specs.Ops.{Job}
-use Rattle.rq_planner.specs.Answered.{HasGathered, IsAnswered, MayUndo, to_take_back}
+use Rattle.rq_planner.specs.Answered.{HasGathered, IsAnswered, MayUndo, to_take_back, wants_of}
 use Rattle.rq_planner.specs.Asked.{known_from}
 use Rattle.rq_planner.proofs.Gathered.{answered, no_memory, none_gathered, not_from}
 use Rattle.rq_planner.proofs.Knowing.{of_store, undo_same}
@@ -15,7 +15,7 @@ undo-answer-requires-clause-given g c =
 pub returns-in_default-clause-answered : goal.returns-in_default-clause-answered
 returns-in_default-clause-answered g c =
     let s = known_from c.args.pages.now c.args.transactions.now in
-    no_memory s (meaning_of c.args.level) (to_take_back c.args.level c.args.deed.now) _ [] (none_gathered s (meaning_of c.args.level) (to_take_back c.args.level c.args.deed.now))
+    no_memory s (wants_of c.args.levels.now c.args.level) (to_take_back c.args.level c.args.deed.now) _ [] (none_gathered s (wants_of c.args.levels.now c.args.level) (to_take_back c.args.level c.args.deed.now))
 
 pub returns-in-Ok-gather-clause-same : goal.returns-in-Ok-gather-clause-same
 returns-in-Ok-gather-clause-same g c =
@@ -28,9 +28,9 @@ returns-in-Ok-gather-clause-answered g c =
     let s = known_from c.args.pages.now c.args.transactions.now in
     let n = c.args.level in
     let job : c.in-Ok.op ≡ to_take_back n c.args.deed.now = c.in-Ok.ensures ∙ ap (to_take_back n) c.as_slice.ensures.bytes in
-    answered s (meaning_of n) (to_take_back n c.args.deed.now) (MayUndo s (meaning_of n) (kept_at c.args.levels.now n) n c.args.deed.now) c.gather.new.slots c.undo-answer.result
-    (subst (λ (j : Job). HasGathered s (meaning_of j.level) j c.gather.new.slots) job c.in-Ok-gather.ensures.all)
-    (subst (λ (j : Job). (meaning_of j.level).want j c.gather.new.slots ≡ None) job c.in-Ok-gather.ensures.none)
+    answered s (wants_of c.args.levels.now n) (to_take_back n c.args.deed.now) (MayUndo s (meaning_of n) (kept_at c.args.levels.now n) n c.args.deed.now) c.gather.new.slots c.undo-answer.result
+    (subst (λ (j : Job). HasGathered s (wants_of c.args.levels.now j.level) j c.gather.new.slots) job c.in-Ok-gather.ensures.all)
+    (subst (λ (j : Job). wants_of c.args.levels.now j.level j c.gather.new.slots ≡ None) job c.in-Ok-gather.ensures.none)
     (record {
       latched = c.latched.result.now.pages;
       on = c.latched.ensures;
@@ -45,5 +45,5 @@ returns-in-Err-clause-answered g c =
     let s = known_from c.args.pages.now c.args.transactions.now in
     let n = c.args.level in
     let job : c.in-Ok.op ≡ to_take_back n c.args.deed.now = c.in-Ok.ensures ∙ ap (to_take_back n) c.as_slice.ensures.bytes in
-    not_from s (meaning_of n) (to_take_back n c.args.deed.now) (MayUndo s (meaning_of n) (kept_at c.args.levels.now n) n c.args.deed.now) c.in-Err.refusal
-    (subst (λ (j : Job). IsAnswered s (meaning_of j.level) j (λ given answer. ⊥) (Err c.in-Err.refusal)) job c.in-Err.ensures.refusal)
+    not_from s (wants_of c.args.levels.now n) (to_take_back n c.args.deed.now) (MayUndo s (meaning_of n) (kept_at c.args.levels.now n) n c.args.deed.now) c.in-Err.refusal
+    (subst (λ (j : Job). IsAnswered s (wants_of c.args.levels.now j.level) j (λ given answer. ⊥) (Err c.in-Err.refusal)) job c.in-Err.ensures.refusal)

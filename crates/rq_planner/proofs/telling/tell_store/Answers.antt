@@ -1,8 +1,8 @@
 use Rattle.std.proofs.Common.{◌≡◌, ◌+◌, ◌*◌, ◌∙◌, ap, subst, arith}
 use Rattle.rq_level.specs.Meaning.{AreTold}
-use Rattle.rq_page.specs.Sizes.{Sizes, cell_at, cell_count, directory_at, sender_count, tags_from}
+use Rattle.rq_page.specs.Sizes.{Sizes, cell_at, cell_count, client_count, client_slot_at, directory_at, sender_count, tags_from}
 use Rattle.rq_views.specs.Stored.{slot_at}
-use Rattle.rq_planner.specs.Answered.{KnowsThose, client_slot}
+use Rattle.rq_planner.specs.Answered.{KnowsThose}
 use Rattle.rq_planner.proofs.Knowing.{AreBelow, all_below, cells_behind, clients_behind, next_below, none_below}
 use Rattle.rq_planner.proofs.telling.tell_store.Goals as goal
 
@@ -45,7 +45,7 @@ loop-client-init g c =
 pub loop-client-preserved : goal.loop-client-preserved
 loop-client-preserved g c =
     let z = c.args.pages.now.sizes in
-    let at : c.client_addr.result ≡ client_slot z c.loop-client.client = c.client_addr.ensures ∙ ap (λ (y : Sizes). client_slot y c.loop-client.client) c.layout-layout.ensures.sizes in
+    let at : c.client_addr.result ≡ client_slot_at z c.loop-client.client = c.client_addr.ensures.value ∙ ap (λ (y : Sizes). client_slot_at y c.loop-client.client) c.layout-layout.ensures.sizes in
     next_below z c.args.pages.now.images (tags_from z) c.loop-client.client c.loop-client.levels c.tell-in-loop-client.new.levels (omega arith)
     (subst (λ a. AreTold a (slot_at c.args.pages.now.images a) c.loop-client.levels c.tell-in-loop-client.new.levels) at c.tell-in-loop-client.ensures) c.loop-client.invariant
 
@@ -53,5 +53,5 @@ pub returns : goal.returns
 returns g c =
     let z = c.args.pages.now.sizes in
     let end : c.loop-client.client ≡ 15 * z.tags =
-    (let low = c.loop-client.auto.client-end in let high = c.loop-client-test.false in let n = c.tags-client-end.ensures.number in let s = ap (λ (y : Sizes). y.tags) c.layout-layout.ensures.sizes in omega (arith, low, high, n, s)) in
-    all_below z c.args.pages.now.images c.loop-client.levels (subst (λ n. KnowsThose (AreBelow z (client_slot z n)) z c.args.pages.now.images c.loop-client.levels) end c.loop-client.invariant)
+    (let low = c.loop-client.auto.client-end in let high = c.loop-client-test.false in let n = c.clients-client-end.ensures.number in let s = ap (λ (y : Sizes). client_count y) c.layout-layout.ensures.sizes in omega (arith, low, high, n, s)) in
+    all_below z c.args.pages.now.images c.loop-client.levels (subst (λ n. KnowsThose (AreBelow z (client_slot_at z n)) z c.args.pages.now.images c.loop-client.levels) end c.loop-client.invariant)

@@ -1,9 +1,9 @@
 use Rattle.std.specs.Prelude.{IfSome}
 use Rattle.std.proofs.Common.{◌≡◌}
-use Rattle.rq_page.specs.Sizes.{cell_at, directory_at}
+use Rattle.rq_page.specs.Sizes.{cell_at, client_slot_at, directory_at}
 use Rattle.rq_page.specs.Slots.Slot.{Free}
 use Rattle.rq_views.specs.Stored.{slots_in}
-use Rattle.rq_planner.specs.Answered.{KnowsThose, client_slot}
+use Rattle.rq_planner.specs.Answered.{KnowsThose}
 use Rattle.rq_planner.proofs.Knowing.{AreBelow}
 use Rattle.rq_planner.proofs.telling.tell_store.Given as goal
 
@@ -18,4 +18,4 @@ invariant-loop-place g l =
     × IfSome l.free (λ a. slots_in l.pages.sizes l.pages.images a ≡ Free)
 
 abbrev pub invariant-loop-client : goal.invariant-loop-client
-invariant-loop-client g l = KnowsThose (AreBelow l.pages.sizes (client_slot l.pages.sizes l.client)) l.pages.sizes l.pages.images l.levels
+invariant-loop-client g l = KnowsThose (AreBelow l.pages.sizes (client_slot_at l.pages.sizes l.client)) l.pages.sizes l.pages.images l.levels

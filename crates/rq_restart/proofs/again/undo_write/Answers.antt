@@ -41,7 +41,7 @@ returns-in-Ok-clause-err g c =
     let kept = c.in-Ok.kept.0 in
     let among = subst (In kept) c.writes.ensures c.in-Ok.ensures.place.0 in
     let same = c.in-Ok.ensures.place.1 in
-    err_of g.L.LogDevice c.args.log.now.device c.kept_record.new.log.device (length log) c.undone_as.result (undo_told kept c.in-Ok.kept.1) c.undone_as.ensures.err c.in-Ok.ensures.cause
+    err_of g.L.LogDevice c.args.log.now.device c.kept_record.new.log.device (length log) c.undone_as.result (undo_told kept c.in-Ok.kept.1) c.undone_as.ensures.err c.in-Ok.ensures.room c.in-Ok.ensures.cause
     (err_told g.L.LogDevice c.args.log.now.device c.kept_record.new.log.device (length log) kept.lsn (undo_told kept c.in-Ok.kept.1) (undo_of next.0) (write_named f log are c.args.lsn next kept among same c.in-Ok.kept.1)
     (λ h. ap (undo_told kept) (c.in-Ok.ensures.is h (told f log are c.args.lsn next kept among same) (write_at f log are c.args.lsn next kept among same)) ∙ write_told f log are c.args.lsn next kept among same c.shows_kept.ensures.log.spelled)
     c.in-Ok.ensures.cause)

@@ -1,7 +1,5 @@
-use Rattle.std.proofs.Common.{◌≡◌, ◌⊎◌, Err, Ok, ap, subst, sym, ◌∙◌}
-use Rattle.rq_model.specs.declared.refusal.Refusal.{Refusal}
-use Rattle.rq_model.specs.declared.refusal.Refusal.TheVariants as why
-use Rattle.rq_restart.specs.Again.{undo_told}
+use Rattle.std.proofs.Common.{Ok, ap, subst, sym, ◌∙◌}
+use Rattle.rq_restart.specs.Again.{NotMadeFor, undo_told}
 use Rattle.rq_restart.proofs.ReadAgain.{not_put_back, put_back_told}
 use Rattle.rq_restart.proofs.again.undone_as.Goals as goal
 
@@ -10,5 +8,5 @@ returns-in-Ok-clause-told g c = put_back_told c.args.kept.now c.args.told.now c.
 
 pub returns-in-Err-clause-err : goal.returns-in-Err-clause-err
 returns-in-Err-clause-err g c =
-    subst (λ (e : Refusal). (e ≡ why.NoMemory) ⊎ (undo_told c.args.kept.now c.args.told.now ≡ Err e)) (sym c.blamed.ensures)
-    (not_put_back c.args.kept.now c.args.told.now c.in-Err.refusal c.shows_fits.ensures c.in-Err.ensures.err)
+    subst (NotMadeFor (undo_told c.args.kept.now c.args.told.now)) (sym c.blamed.ensures)
+    (not_put_back c.args.kept.now c.args.told.now c.in-Err.refusal c.in-Err.ensures.err)

@@ -15,7 +15,6 @@ use Rattle.rq_restart.proofs.ReadAgain.{few_spelled}
 use Rattle.rq_restart.proofs.Repeated.{written_more}
 use Rattle.rq_restart.proofs.Undos.{belongs_then, one_repeated, still}
 use Rattle.rq_restart.proofs.appending.append.Goals as goal
-use Rattle.rq_restart.proofs.appending.append.Goals.{then-not-is_next-via-then-not-is_next, then-not-is_next-via-else-not-is_next+then-not-make}
 
 pub append-requires-clause-record : goal.append-requires-clause-record
 append-requires-clause-record g c = c.requires.range c.shows_kept.ensures.log.spelled
@@ -23,34 +22,20 @@ append-requires-clause-record g c = c.requires.range c.shows_kept.ensures.log.sp
 pub append-requires-clause-plain : goal.append-requires-clause-plain
 append-requires-clause-plain g c = c.requires.plain
 
-pub returns-then-not-is_next-clause-stops : goal.returns-then-not-is_next-clause-stops
-returns-then-not-is_next-clause-stops g c = λ k.
-    let h : g.L.LogDevice.honest c.args.log.now.device = subst g.L.LogDevice.honest (ap (λ (l : Logged _). l.device) c.in_ok-reserve.ensures.ok) k in
-    let z = c.args.pages.now.sizes in
-    let log = c.args.log.now.records in (
-      ap (λ n. n + 1) c.last-lsn.ensures,
-      λ b.
-          let k = belongs_then z z log c.args.undo.now refl (c.last-lsn.result + 1) (ap (λ n. n + 1) c.last-lsn.ensures) (paged c.args.pages.now) b in
-          elim c.then-not-is_next.branch [
-            | then-not-is_next-via-then-not-is_next w ↦ absurd (false≢true (rw w.if-not-is_next.true at ((c.in_ok-is_next.ensures.next log c.requires.found (c.requires.follow h) c.requires.plain (λ y. c.requires.readable, λ q. refl) (λ y. c.requires.puts_back h, λ q. refl)).1 k.0)))
-            | then-not-is_next-via-else-not-is_next+then-not-make w ↦ w.make.ensures.refused w.if-not-make.true k.1
-          ],
-    )
-
 pub returns-clause-repeated : goal.returns-clause-repeated
 returns-clause-repeated g c = λ h.
     let z = c.args.pages.now.sizes in
     let log = c.args.log.now.records in
     let honest : g.L.LogDevice.honest c.args.log.now.device = search (rules, h) in
     one_repeated z z log c.args.undo.now refl (c.last-lsn.result + 1) (ap (λ n. n + 1) c.last-lsn.ensures) (paged c.args.pages.now) (paged c.make.new.pages)
-    ((c.in_ok-is_next.ensures.next log c.requires.found (c.requires.follow honest) c.requires.plain (λ y. c.requires.readable, λ q. refl) (λ y. c.requires.puts_back honest, λ q. refl)).0 c.if-not-is_next.false) (c.if-not-make.ensures.checked refl) (c.if-not-make.ensures.redone refl) (c.if-not-make.ensures.marked refl)
+    ((c.may_take.ensures.next log c.requires.found (c.requires.follow honest) c.requires.plain (λ y. c.requires.readable, λ q. refl) (λ y. c.requires.puts_back honest, λ q. refl)).0 c.if-not-may_take.false) (c.if-not-make.ensures.checked refl) (c.if-not-make.ensures.redone refl) (c.if-not-make.ensures.marked refl)
 
 pub returns-clause-follow : goal.returns-clause-follow
 returns-clause-follow g c = λ h.
     let log = c.args.log.now.records in
     let honest : g.L.LogDevice.honest c.args.log.now.device = search (rules, h) in
     let grown : c.append.new.self.records ≡ c.args.undo.now ∷ log = search rules in
-    let next : MayComeNext log c.args.undo.now = (c.in_ok-is_next.ensures.next log c.requires.found (c.requires.follow honest) c.requires.plain (λ y. c.requires.readable, λ q. refl) (λ y. c.requires.puts_back honest, λ q. refl)).0 c.if-not-is_next.false in
+    let next : MayComeNext log c.args.undo.now = (c.may_take.ensures.next log c.requires.found (c.requires.follow honest) c.requires.plain (λ y. c.requires.readable, λ q. refl) (λ y. c.requires.puts_back honest, λ q. refl)).0 c.if-not-may_take.false in
     subst FollowAll (sym grown) (next.follows, c.requires.follow honest)
 
 pub returns-clause-written : goal.returns-clause-written
@@ -94,5 +79,5 @@ returns-clause-found g c =
     let told : AreSpelled (r ∷ log) = subst AreAllSpelled (sym (standing_plain r log c.requires.plain)) ((c.requires.range spelled_before, c.shows_fits.ensures), spelled_before) in
     let few = few_spelled (r ∷ log) told (let k = c.last.ensures in let low = c.if-last-ge-LOG_LIMIT.false in omega (arith, k, low)) in
     let grown : c.append.new.self.records ≡ r ∷ log = search rules in
-    let next = next_of_found f log r are c.requires.plain (c.in_ok-is_next.ensures.order c.if-not-is_next.false) in
-    subst (IsAnalysisOf c.note.new.self) (sym grown) (found_next f c.note.new.self log r (c.last-lsn.result + 1) (ap (λ n. n + 1) c.last-lsn.ensures) c.requires.plain few are next c.in_ok-is_next.ensures.noted)
+    let next = next_of_found f log r are c.requires.plain (c.may_take.ensures.order c.if-not-may_take.false) in
+    subst (IsAnalysisOf c.note.new.self) (sym grown) (found_next f c.note.new.self log r (c.last-lsn.result + 1) (ap (λ n. n + 1) c.last-lsn.ensures) c.requires.plain few are next c.in_ok-note.ensures.noted)

@@ -77,7 +77,7 @@ returns-in-Err-check_and_redo-clause-stopped g c = λ h.
     let now = c.shows_read-else-stands_for_others.ensures.reading in
     let first = c.puts_back.new.reader.first in
     let last = c.puts_back.new.reader.device in
-    let e = c.in-Err-check_and_redo.refusal in
+    let e = c.in-Err-check_and_redo.stops in
     let before = so_far.repeated (c.next_into.ensures.read.honest (looked.read.honest h)) in
     let follow = (repeated_read z front (paged c.args.pages.now) (paged old) before).1 in
     let begins : l.honest last → BeginsWith (r ∷ front) (l.seen first) = λ k. subst (λ (rs : List Record). BeginsWith rs (l.seen first)) grown (now.begins k) in
@@ -105,7 +105,7 @@ loop-analysis-preserved-in-Ok g c =
     let empty : c.loop-analysis.analysis.size ≡ 0 = so_far.found.size ∙ ap (λ (rs : List Record). length (spelled rs)) none in
     let noted = c.in-Ok.ensures.noted ∙ ap (λ q. analysis_after c.last.result q c.loop-analysis.analysis) is.2 in
     record {
-      found = subst (IsAnalysisOf c.begin.new.self) (sym grown) (found_base c.loop-analysis.analysis c.begin.new.self is.0 is.1 c.last.result some within empty few noted);
+      found = subst (IsAnalysisOf c.note.new.self) (sym grown) (found_base c.loop-analysis.analysis c.note.new.self is.0 is.1 c.last.result some within empty few noted);
       repeated = λ h.
           let before : paged c.loop-analysis.pages ≡ paged c.args.pages.now = subst (λ rs. Repeats z rs (paged c.args.pages.now) (paged c.loop-analysis.pages)) none (so_far.repeated (c.next_into.ensures.read.honest h)) in
           subst (λ (rs : List Record). Repeats z rs (paged c.args.pages.now) (paged c.loop-analysis.pages)) (sym grown) (base_repeated z is.0 is.1 some within (paged c.args.pages.now) (paged c.loop-analysis.pages) before);

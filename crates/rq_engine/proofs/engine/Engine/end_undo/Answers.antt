@@ -2,26 +2,26 @@ use Rattle.std.proofs.Common.{◌≡◌, ◌+◌, ◌<◌, sym, ap, ◌∙◌, s
 use Rattle.rq_txn.specs.declared.Aim.{Aim}
 use Rattle.rq_txn.specs.declared.Aim.TheVariants.{Undoing}
 use Rattle.rq_views.specs.Plans.{deed_sender}
+use Rattle.rq_sound.proofs.Own.{has_sender}
 use Rattle.rq_store.specs.State.{State}
 use Rattle.rq_engine.specs.Answers.{IsUnderWay}
 use Rattle.rq_engine.proofs.Calls.{AllMade, going_range, going_owed, end_fits, end_room, end_sender, undo_kept}
 use Rattle.rq_engine.proofs.Opened.{state_is}
 use Rattle.rq_engine.proofs.engine.Engine.end_undo.Goals as goal
 
-pub append-self-inside-requires-clause-record : goal.append-self-inside-requires-clause-record
-append-self-inside-requires-clause-record g c =
+pub append_comp_end-self-inside-requires-clause-record : goal.append_comp_end-self-inside-requires-clause-record
+append_comp_end-self-inside-requires-clause-record g c =
     let aim : Aim = Undoing c.args.lsn c.args.deed.now in
     let h = subst (λ (s : State). IsUnderWay s c.args.sub (AllMade aim)) (sym (state_is c.self.view_is)) c.requires.ready in
     let r = going_range _ _ _ _ c.self.invariant.kept c.args.sub (AllMade aim) h in
     (r.0, r.1, end_fits _ _ _ _ c.self.invariant.kept c.args.sub aim h)
 
-pub append-self-inside-requires-clause-room : goal.append-self-inside-requires-clause-room
-append-self-inside-requires-clause-room g c =
+pub append_comp_end-self-inside-requires-clause-room : goal.append_comp_end-self-inside-requires-clause-room
+append_comp_end-self-inside-requires-clause-room g c =
     let aim : Aim = Undoing c.args.lsn c.args.deed.now in
     let h = subst (λ (s : State). IsUnderWay s c.args.sub (AllMade aim)) (sym (state_is c.self.view_is)) c.requires.ready in
     let r = end_room _ _ _ _ c.self.invariant.kept c.args.sub aim h in
-    let e = c.shows_size.ensures in
-    omega (arith, r, e)
+    omega (arith, r)
 
 pub overflow_sub-self : goal.overflow_sub-self
 overflow_sub-self g c =
@@ -33,12 +33,12 @@ pub invariant_of-self : goal.invariant_of-self
 invariant_of-self g c =
     let aim : Aim = Undoing c.args.lsn c.args.deed.now in
     let h = subst (λ (s : State). IsUnderWay s c.args.sub (AllMade aim)) (sym (state_is c.self.view_is)) c.requires.ready in
-    let room : c.append-self-inside.new.self.reserved + 37 ≡ c.self.inside.log.reserved = (let a = c.append-self-inside.ensures.reserved in let b = c.shows_size.ensures in omega (arith, a, b)) in
-    let failed : c.self.inside.log.failed ≡ c.append-self-inside.new.self.failed = c.self.invariant.kept.fails (ap (λ (s : State). s.failed) (state_is c.self.view_is) ∙ c.requires.running) ∙ sym c.append-self-inside.ensures.failed in
+    let room : c.append_comp_end-self-inside.new.self.reserved + 37 ≡ c.self.inside.log.reserved = (let a = c.append_comp_end-self-inside.ensures.reserved in omega (arith, a)) in
+    let failed : c.self.inside.log.failed ≡ c.append_comp_end-self-inside.new.self.failed = c.self.invariant.kept.fails (ap (λ (s : State). s.failed) (state_is c.self.view_is) ∙ c.requires.running) ∙ sym c.append_comp_end-self-inside.ensures.failed in
     record {
-      kept = rw (c.undo.ensures, c.put_in_taken.ensures, c.append-self-inside.ensures.records, c.append-self-inside.ensures.forced, sym failed)
-          (undo_kept _ _ _ _ c.self.invariant.kept c.args.sub aim h c.args.deed.now _ _ c.append-self-inside.new.self.reserved room);
-      durable = rw (c.append-self-inside.ensures.settled) c.self.invariant.durable;
+      kept = rw (c.undo.ensures, c.put_in_taken.ensures, c.append_comp_end-self-inside.ensures.records, c.append_comp_end-self-inside.ensures.forced, sym failed)
+          (undo_kept _ _ _ _ c.self.invariant.kept c.args.sub aim h c.args.deed.now _ _ c.append_comp_end-self-inside.new.self.reserved room);
+      durable = rw (c.append_comp_end-self-inside.ensures.settled) c.self.invariant.durable;
       cells = c.self.invariant.cells;
     }
 
@@ -46,6 +46,6 @@ pub returns-clause-sender : goal.returns-clause-sender
 returns-clause-sender g c =
     let aim : Aim = Undoing c.args.lsn c.args.deed.now in
     let h = subst (λ (s : State). IsUnderWay s c.args.sub (AllMade aim)) (sym (state_is c.self.view_is)) c.requires.ready in
-    let below = end_sender _ _ _ _ c.self.invariant.kept c.args.sub aim h in
+    let below = has_sender c.self.inside.pages.sizes c.args.deed.now (end_sender _ _ _ _ c.self.invariant.kept c.args.sub aim h) in
     let count = c.self.invariant.kept.senders in
     subst (λ (s : State). deed_sender c.args.deed.now < length s.waiting) (state_is c.self.view_is) (omega (arith, below, count))

@@ -1,7 +1,6 @@
-use Rattle.std.proofs.Common.{List, ◌<◌, ap, option_map, subst}
+use Rattle.std.proofs.Common.{List, ap, option_map, subst}
 use Rattle.rq_level.proofs.EachLevel.{all_lawful}
-use Rattle.rq_page.specs.Sizes.{sender_count}
-use Rattle.rq_views.specs.Plans.{deed_sender}
+use Rattle.rq_views.specs.InStore.{IsDeedOf}
 use Rattle.rq_txn.specs.Rows.{Row}
 use Rattle.rq_store.specs.State.{State}
 use Rattle.rq_planner.specs.Answered.{IsPlanned}
@@ -23,5 +22,5 @@ invariant_of-self g c = record { kept = rw (c.spare-room.ensures) c.self.invaria
 
 pub returns-clause-planned : goal.returns-clause-planned
 returns-clause-planned g c d told =
-    subst (λ (s : State). deed_sender d < sender_count s.sizes → IsPlanned (known_part s) (Undo d) c.plan_inverse.result) (state_is c.self.view_is)
-    (subst (λ (rows : List Row). deed_sender d < sender_count c.self.inside.pages.sizes → IsPlanned (known_from c.self.inside.pages rows) (Undo d) c.plan_inverse.result) c.spare-room.ensures (c.plan_inverse.ensures.planned (Undo d) (ap (option_map Undo) told)))
+    subst (λ (s : State). IsDeedOf s.sizes d → IsPlanned (known_part s) (Undo d) c.plan_inverse.result) (state_is c.self.view_is)
+    (subst (λ (rows : List Row). IsDeedOf c.self.inside.pages.sizes d → IsPlanned (known_from c.self.inside.pages rows) (Undo d) c.plan_inverse.result) c.spare-room.ensures (c.plan_inverse.ensures.planned (Undo d) (ap (option_map Undo) told)))

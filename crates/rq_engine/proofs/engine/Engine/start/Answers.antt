@@ -1,10 +1,9 @@
-use Rattle.std.proofs.Common.{rules, ◌≡◌, ◌<◌, ◌≤◌, length, refl, sym, ◌∙◌, ap, subst, arith}
+use Rattle.std.proofs.Common.{rules, ◌≡◌, ◌≤◌, length, refl, sym, ◌∙◌, ap, subst, arith}
 use Rattle.std.specs.Global.{Vec}
 use Rattle.std.specs.Vec.{vec_len}
 use Rattle.rq_model.specs.Deeds.{deed_by, spelled_deed, TellsItself}
-use Rattle.rq_page.specs.Sizes.{sender_count}
+use Rattle.rq_views.specs.InStore.{IsDeedOf}
 use Rattle.rq_views.specs.Items.{told_deed}
-use Rattle.rq_views.specs.Plans.{deed_sender}
 use Rattle.rq_level.specs.Writes.{AreSlotWrites}
 use Rattle.rq_txn.specs.declared.Aim.TheVariants.{Doing}
 use Rattle.rq_store.specs.State.{State}
@@ -24,14 +23,14 @@ launch-requires-clause-fits g c =
     let size : length (spelled_deed c.new.result) ≡ length c.args.plan.deed = ap length spelled in
     let count : c.len.result ≡ length c.args.plan.writes.items = c.len.ensures ∙ items_count c.args.plan.writes in
     let within = c.as_slice.ensures.within in
-    let sender : deed_sender c.new.result < sender_count s.sizes = subst (λ e. deed_sender e < sender_count s.sizes) d c.requires.fits.sender in
+    let sender : IsDeedOf s.sizes c.new.result = subst (IsDeedOf s.sizes) d c.requires.fits.sender in
     let some : 1 ≤ length (spelled_deed c.new.result) = subst (λ e. 1 ≤ length (spelled_deed e)) d c.requires.fits.some in
     let reads : TellsItself c.new.result = subst TellsItself d c.requires.fits.reads in
     let fits : EndFits (Doing c.new.result) = (some, omega (arith, size, bytes, within), reads) in
     record {
       made = refl;
       slots = subst (λ (x : State). AreSlotWrites x.sizes c.args.plan.writes.items) (sym (state_is c.self.view_is)) c.requires.fits.slots;
-      sender = subst (λ (x : State). deed_sender c.new.result < sender_count x.sizes) (sym (state_is c.self.view_is)) sender;
+      sender = subst (λ (x : State). IsDeedOf x.sizes c.new.result) (sym (state_is c.self.view_is)) sender;
       fits = fits;
       room_is = omega (arith, count, bytes, size);
     }

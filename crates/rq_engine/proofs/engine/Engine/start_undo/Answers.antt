@@ -10,19 +10,15 @@ pub overflow_add-room : goal.overflow_add-room
 overflow_add-room g c =
     let n : c.len.result ≡ length c.args.writes.items = c.len.ensures ∙ items_count c.args.writes in
     let few = c.requires.count in
-    let e = c.spelled_len.ensures in
-    let size = c.shows_size.ensures in
-    omega (arith, n, few, e, size)
+    omega (arith, n, few)
 
 pub launch-requires-clause-fits : goal.launch-requires-clause-fits
 launch-requires-clause-fits g c =
     let n : c.len.result ≡ length c.args.writes.items = c.len.ensures ∙ items_count c.args.writes in
-    let e = c.spelled_len.ensures in
-    let size = c.shows_size.ensures in
     record {
       made = refl;
       slots = c.requires.slots;
       sender = c.requires.kept.sender;
       fits = c.requires.kept.lsn;
-      room_is = omega (arith, n, e, size);
+      room_is = omega (arith, n);
     }

@@ -10,7 +10,7 @@ pub returns-in-Ok-clause-plan : goal.returns-in-Ok-clause-plan
 returns-in-Ok-clause-plan g c =
     let z = c.args.pages.now.sizes in
     let q = slots_in z c.args.pages.now.images in
-    let d = plan_read _ _ c.args.level c.args.deed.now c.in-Ok.plan c.in-Ok.ensures.answered in
+    let d = plan_read _ _ _ c.args.level c.args.deed.now c.in-Ok.plan c.in-Ok.ensures.answered in
     let can = (c.in-Ok.ensures.judged d.0 d.1).can in
     taken_back z c.args.pages.now.images c.new-nobody.result c.new-nobody.ensures c.args.level c.args.deed.now d.0 c.in-Ok.plan d.1
     (c.in-Ok.ensures.planned (Undo d.0) (ap (option_map Undo) d.1) (can_below z q d.0 can)).plan can

@@ -3,8 +3,8 @@ use Rattle.rq_restart.specs.Places.{ends_after, writes_after}
 use Rattle.rq_restart.proofs.Placing.{both_after}
 use Rattle.rq_restart.proofs.places.Places.note_with.Goals as goal
 
-pub returns-in-Ok-note-clause-noted : goal.returns-in-Ok-note-clause-noted
-returns-in-Ok-note-clause-noted c =
+pub returns-in-Ok-clause-noted : goal.returns-in-Ok-clause-noted
+returns-in-Ok-clause-noted c =
     let lsn = c.args.lsn in
     let place = c.args.place in
     let r = c.args.record.now in

@@ -1,0 +1,39 @@
+//! Room for what tables take of a record.
+ghost use Rattle.std.specs.Prelude.{◌≡◌, ◌<◌, IfErr, IsTrue, OnErr, OnOk, vec_capacity, vec_len};
+ghost use Rattle.rq_analysis.specs.Growth.{is_op_end, is_page_op};
+
+use rq_model::record::Record;
+use rq_model::refusal::Refusal;
+
+/// Takes the memory for one more, if one is added.
+///
+/// # Errors
+/// `NoMemory`, where one is added.
+pub fn make_room<T>(items: &mut Vec<T>, adds: bool) -> Result<(), Refusal>
+    ensures items { items.new.items ≡ items.old.items }
+    ensures room { OnOk result (IsTrue adds → vec_len items.new < vec_capacity items.new) }
+    ensures only { OnErr result (IsTrue adds) }
+    ensures err { IfErr result (λ e. e ≡ Refusal.NoMemory) }
+{
+    if !adds {
+        return Ok(());
+    }
+    match items.try_reserve(1) {
+        Ok(()) => Ok(()),
+        Err(_) => Err(Refusal::NoMemory),
+    }
+}
+
+/// Whether the record tells a slot write.
+pub fn tells_write(record: &Record) -> bool
+    ensures { result ≡ is_page_op «record».now }
+{
+    matches!(record, Record::PageOp { .. })
+}
+
+/// Whether the record tells what an operation did.
+pub fn tells_deed(record: &Record) -> bool
+    ensures { result ≡ is_op_end «record».now }
+{
+    matches!(record, Record::OpEnd { .. })
+}

@@ -1,9 +1,0 @@
-use Rattle.std.proofs.Common.{◌≡◌, ◌++◌, map, take}
-use Rattle.std.specs.List.{filter_map}
-use Rattle.rq_model.specs.Vocabulary.{taken_from}
-use Rattle.rq_reference.specs.Plain.{op_of}
-use Rattle.rq_reference.proofs.scans.push_taken.Given as goal
-
--- what was added so far
-abbrev pub invariant-loop-act : goal.invariant-loop-act
-invariant-loop-act l = l.all.items ≡ l.initial.all.items ++ filter_map (taken_from l.sender) (map op_of (take l.act-index l.acts))
