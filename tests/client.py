@@ -8,9 +8,11 @@ A name is one of the tests below, as `refusals`; without one all are run. `tests
 import signal
 import socket
 import sys
+import textwrap
 import threading
 import time
 from contextlib import contextmanager
+from types import SimpleNamespace
 
 from server import LONGEST, raises  # and the client's folder among those that are searched
 
@@ -19,13 +21,16 @@ import rqm
 BEGIN, COMMIT, ABORT = (bytes.fromhex(f"0001 {kind}") for kind in ("01", "06", "07"))
 BEGUN = bytes.fromhex("0011 81 0000000000000001 0000000000000001")
 SENT, ABORTED, COMMITTED = (bytes.fromhex(text) for text in ("0001 82", "0001 87", "0009 86 0000000000000009"))
+MARKED = bytes.fromhex("0001 89")
+NO_ANSWER = bytes.fromhex("0001 00")  # of a kind that ends the connection, as a lost one does
 
 # What `docs/PROTOCOL.md` says of each refusal: its name, and whether the same request may be made again later.
 REFUSALS = {
     1: ("NoMemory", True), 2: ("Failed", False), 3: ("DiskRead", False), 4: ("UnknownTransaction", False), 5: ("NotOpen", False),
     6: ("Unfinished", False), 7: ("UnknownSender", False), 8: ("TooLong", False), 9: ("SenderBusy", True), 10: ("Closed", False),
     11: ("ReceiverBusy", True), 12: ("Full", True), 13: ("Latched", True), 14: ("PoolFull", True), 15: ("DiskWrite", False),
-    16: ("Damaged", False), 17: ("TooManyTransactions", False), 19: ("LogFull", False),
+    16: ("Damaged", False), 17: ("TooManyTransactions", False), 19: ("LogFull", False), 22: ("UnknownClient", False),
+    23: ("ClientBusy", True),
 }  # fmt: skip
 
 
@@ -44,6 +49,18 @@ def last_tag(sender):
 
 def told_last(sent, tag):
     return bytes([0, 17, 136]) + sent.to_bytes(8, "big") + tag.to_bytes(8, "big")
+
+
+def mark(client, tag):
+    return bytes([0, 13, 9]) + client.to_bytes(4, "big") + tag.to_bytes(8, "big")
+
+
+def client_tag(client):
+    return bytes([0, 5, 10]) + client.to_bytes(4, "big")
+
+
+def told_client(count, tag):
+    return bytes([0, 17, 138]) + count.to_bytes(8, "big") + tag.to_bytes(8, "big")
 
 
 @contextmanager
@@ -78,7 +95,7 @@ def playing(*turns, **words):
                 yield connection
         finally:
             thread.join(LONGEST)
-    assert not wrong, wrong
+            assert not wrong, wrong  # also where an exception leaves it
 
 
 def refusals():
@@ -161,6 +178,67 @@ def lost_commits():
         connection.transaction()
 
 
+def marks():
+    """A client is marked in a transaction, and asked for with one or without. What settles it is asked behind the end of a transaction that
+    was lost, and then a commit of nothing is waited for."""
+    most = 2**64 - 1
+    with playing((BEGIN, BEGUN), (mark(3, most), MARKED), (client_tag(3), told_client(2, 5)), (COMMIT, COMMITTED),
+                 (client_tag(3), told_client(3, most))) as connection:  # fmt: skip
+        with connection.transaction() as transaction:
+            transaction.mark(3, most)
+            assert connection.client_tag(3) == (2, 5)
+        assert transaction.lsn == 9 and connection.client_tag(3) == rqm.ClientTag(count=3, tag=most)
+    for number, kind in ((22, rqm.UnknownClient), (23, rqm.ClientBusy)):
+        with playing((BEGIN, BEGUN), (mark(3, 7), refused(number)), (ABORT, ABORTED), patience=LONGEST) as connection:
+            with connection.transaction() as transaction:
+                raises(kind, lambda: transaction.mark(3, 7))
+                transaction.abort()
+    with playing((client_tag(15), refused(22))) as connection:
+        raises(rqm.UnknownClient, lambda: connection.client_tag(15))
+    busy, free = (mark(3, 0), refused(23)), (mark(3, 0), MARKED)
+    ask, abort = (client_tag(3), told_client(6, 5)), (ABORT, ABORTED)
+    with playing((BEGIN, BEGUN), busy, busy, free, ask, abort, (BEGIN, BEGUN), (COMMIT, COMMITTED)) as connection:
+        assert connection.settled_tag(3) == (6, 5)
+    with playing((BEGIN, BEGUN), (mark(3, 0), refused(19)), abort, (BEGIN, BEGUN)) as connection:
+        raises(rqm.LogFull, lambda: connection.settled_tag(3))
+        connection.transaction()
+    for answer in (SENT, told_last(1, 1)):  # another kind of answer
+        with playing((client_tag(3), answer)) as connection:
+            raises(rqm.Lost, lambda: connection.client_tag(3))
+
+
+def batches():
+    """The loop of the client's page sends each batch once. It goes on where a connection ends behind a mark or a commit, where that mark
+    is carried out late, and where the store is full or has failed."""
+    sends = send(4, 1, b"a"), send(4, 2, b"b")
+    ends = (ABORT, ABORTED), (BEGIN, BEGUN), (COMMIT, COMMITTED)
+
+    def settled(done, *busy):
+        return [(BEGIN, BEGUN), *busy, (mark(3, 0), MARKED), (client_tag(3), told_client(done, done)), *ends]
+
+    def begun(number, *behind):
+        return [(BEGIN, BEGUN), (mark(3, number), MARKED), (sends[number - 1], SENT), *behind]
+
+    connections = [
+        [*settled(0), (BEGIN, BEGUN), (mark(3, 1), NO_ANSWER)],
+        [*settled(0), (BEGIN, BEGUN), (mark(3, 1), refused(23)), (ABORT, ABORTED)],
+        [*settled(0, (mark(3, 0), refused(23))), (BEGIN, BEGUN), (mark(3, 1), MARKED), (sends[0], refused(12)), (ABORT, ABORTED)],
+        [*settled(0), *begun(1, (COMMIT, NO_ANSWER))],
+        [*settled(1), *begun(2, (COMMIT, refused(2)))],
+        [(BEGIN, refused(2))],
+        [*settled(1), *begun(2, (COMMIT, COMMITTED))],
+    ]
+    rest, slept = (playing(*turns) for turns in connections), []
+    _, loop = rqm.__doc__.split("    done = None\n")
+    loop, _ = loop.split("\n\n", 1)
+    names = {
+        "batches": [[(4, 1, b"a")], [(4, 2, b"b")]], "client": 3, "done": None, "Connection": lambda _: next(rest),
+        "Failed": rqm.Failed, "Passing": rqm.Passing, "time": SimpleNamespace(sleep=slept.append),
+    }  # fmt: skip
+    exec(textwrap.dedent(loop), names)
+    assert names["done"] == 2 and len(slept) == len(connections) - 1 and not [*rest], (names["done"], slept)
+
+
 def transactions():
     """A transaction commits at its end, and aborts where an exception leaves it or its commit is refused; not where its store has
     failed, since it may be committed then."""
@@ -185,7 +263,7 @@ def transactions():
         connection.transaction()
 
 
-TESTS = [refusals, answers_of_others, patience, late_answers, lost_commits, transactions]
+TESTS = [refusals, answers_of_others, patience, late_answers, lost_commits, marks, batches, transactions]
 
 
 def main():

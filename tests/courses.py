@@ -33,14 +33,16 @@ WANTED = {
     "NotOpened": 110, "OldImages": 1500, "Running": 490, "Torn": 820, "TornCut": 810, "Checkpointed": 710,
     "CheckpointedTwice": 100, "NotQuiet": 220, "CheckpointFailedInForce": 53, "CheckpointFailedInWrite": 16, "BaseAlone": 140,
     "BaseShorter": 900, "BaseTorn": 160, "BaseOld": 75, "BaseNewest": 39, "BaseLost": 300, "BaseUnfinished": 280,
-    "StoppedOverBase": 450, "GivenOverBase": 490,
+    "StoppedOverBase": 450, "GivenOverBase": 490, "MarkStarted": 1300, "Marked": 1300, "MarkedAgain": 100, "MarkUndone": 180,
+    "MarkLost": 350, "MarkCut": 32, "UnmarkCut": 46, "MarkPage": 10, "UnmarkPage": 6, "ClientTag": 190, "NoClientTag": 500,
+    "ClientBusy": 240, "UnknownClient": 66,
 }  # fmt: skip
 
 
 class Shape:
     """What a course is full of: how many lines it has, how many of these come first in which nothing is received, aborted or
     closed, the weights of what a transaction does, how many senders of each directory page there are, and one line of how many
-    is a crash (0: none)."""
+    is a crash (0: none). Where the store has tag pages, one start of eight is a mark."""
 
     def __init__(self, length, filling, sends, takes, commits, aborts, closes, senders, crashes):
         self.length, self.filling, self.senders, self.crashes = length, filling, senders, crashes
@@ -54,13 +56,13 @@ NEARLY_EMPTY = Shape(160, 0, 4, 6, 2, 1, 0, 3, 40)
 FEW_GROUPS = Shape(180, 0, 9, 6, 2, 0, 0, 1, 50)
 ABORTING = Shape(200, 0, 24, 24, 8, 8, 3, 5, 50)
 
-# Directory pages and cell pages.
-USUAL, SMALL, LARGE = (2, 3), (1, 2), (3, 4)
+# Directory pages, cell pages and tag pages.
+USUAL, TAGGED, SMALL, LARGE = (2, 3, 0), (2, 3, 1), (1, 2, 0), (3, 4, 2)
 
 # Lines that are no command. One may end a course.
 FAULTS = [b"", b"begin ", b"send 1.1 0", b"send 1.1 0 +1 x", b"recv 1", b"step 1.1  1", b"crash", b"crash 1 new", b"restart -1",
           b"dump\r", b"write 4294967296", b"last 0x1", b"fail sync", b"commit 1.18446744073709551616", b"undo",
-          b"BEGIN"]  # fmt: skip
+          b"mark 1.1 0", b"mark 1.1 4294967296 1", b"tag", b"tag 0 1", b"migrate 1", b"BEGIN"]  # fmt: skip
 
 
 def shape_of(seed):
@@ -72,7 +74,7 @@ def shape_of(seed):
 def sizes_of(seed):
     if seed % 33 < 2:
         return USUAL
-    return {3: SMALL, 5: LARGE}.get(seed % 7, USUAL)
+    return {1: TAGGED, 3: SMALL, 5: LARGE}.get(seed % 7, USUAL)
 
 
 class Drawing:
@@ -224,6 +226,8 @@ class Drawing:
     def stray(self):
         """Of a number that is most times none that is there."""
         txn, number = self.stray_txn(), self.random.randrange(4)
+        if self.store.clients and self.is_first_of(12):
+            return self.mark(txn)
         name = self.random.choice(["recv", "step", "step", "finish", "finish", "commit", "start-abort", "abort", "end-abort", "undo",
                                    "open-send", "send", "close", "recv-from", "ack"])  # fmt: skip
         if name in ("step", "finish"):
@@ -234,6 +238,8 @@ class Drawing:
 
     def output(self):
         """A page write shows which pages have changed."""
+        if self.store.clients and self.is_first_of(3):
+            return self.add("tag", self.client())
         kind = self.random.randrange(12)
         if kind < 3:
             return self.add("force")
@@ -247,6 +253,8 @@ class Drawing:
         self.add("write", self.random.randrange(sum(self.sizes) + 2))
 
     def start(self, row):
+        if self.store.clients and self.is_first_of(8):
+            return self.mark(shown(row.txn))
         weights = dict(self.shape.weights)
         if len(self.lines) < self.shape.filling:
             weights.update(take=0, abort=0, close=0)
@@ -265,6 +273,15 @@ class Drawing:
     def send(self, name, txn):
         tag = self.random.choice([0, 1, ALL, self.random.getrandbits(31), self.random.getrandbits(31), self.random.getrandbits(64)])
         self.add(name, txn, self.sender(), tag, *self.body())
+
+    def mark(self, txn):
+        self.add("mark", txn, self.client(), self.random.choice([0, 1, ALL, self.random.getrandbits(64), *[len(self.lines)] * 4]))
+
+    def client(self):
+        """Most times one of the first few of a tag page."""
+        if self.is_first_of(30):
+            return self.random.choice([self.store.clients, self.random.randrange(self.store.clients), 2**32 - 1])
+        return self.random.randrange(3) + 15 * self.random.randrange(self.sizes[2])
 
     def body(self):
         """No body, or one; of its bytes any but the end of a line may be."""
@@ -314,7 +331,7 @@ class Courses(drawn.Door):
     name, crate, subcommand, courses, wanted = "script", "rqm", ["run"], 1000, WANTED
 
     def words(self, sizes):
-        return ["--directory", str(sizes[0]), "--cells", str(sizes[1])]
+        return ["--directory", str(sizes[0]), "--cells", str(sizes[1]), *(["--tags", str(sizes[2])] if sizes[2] else [])]
 
     def draw(self, seed, met):
         drawing = Drawing(seed, met)
@@ -322,7 +339,7 @@ class Courses(drawn.Door):
         return drawing.sizes, drawing.lines, b"\n".join(drawing.door.printed).split(b"\n"), drawing.door.status or 0
 
     def replay(self, lines, sizes, told):
-        return printed_by(lines, *sizes, told)
+        return printed_by(lines, sizes, told)
 
 
 if __name__ == "__main__":

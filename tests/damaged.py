@@ -56,7 +56,7 @@ def cell(sequence, before=0, behind=0, sender=0):
 
 
 def client(number, count=0, tag=0):
-    """What a client marked."""
+    """How often a client was marked, and the last tag."""
     return numbers_of((1, 1), (0, 3), (number, 4), (count, 8), (tag, 8)).ljust(SLOT, b"\0")
 
 
@@ -125,6 +125,10 @@ ONE_COMMITTED = [*SENDS, COMMIT]
 # the same is taken back, slot by slot, and that ends
 COUNT_BACK, FILL_BACK, TAKEN_BACK = write(2, 1, 1, ONE_SENT, group()), write(2, 2, 1, MESSAGE, FREE), back(2, 4)
 FILL_UNDONE = undo(1, 2, 2, 1, FREE)
+# in a small store with a tag page the client 3 is marked with 70, and that ends
+ONE_MARK = client(3, 1, 70)
+MARK = write(1, 3, 4, client(3), ONE_MARK)
+MARKS = [BEGUN, MARK, end(1, marked(3, 70), 2)]
 
 
 # ---- logs over pages as they are formatted: what each test holds, with what is said of it
@@ -249,11 +253,13 @@ def deeds_that_cannot_be_read():
         (1, cut_received, at_record(4)), (1, closing(0) + b"\0", at_record(4)),
         (1, sent(15, 1), OPENED),  # of a sender that the store has not it can be read
         (1, marked(3, 70), at_record(4)), (3, marked(3, 70), at_record(4)), (2, marked(3, 70)[:20], at_record(4)),
+        (2, marked(3, 70) + b"\0", at_record(4)),
         (2, marked(3, 70), OPENED),  # a mark can be read, also of a client that the store has not
     ):  # fmt: skip
         yield [BEGUN, FILL, COUNT, end(1, deed, level), COMMIT], said
-    # no level takes a mark back yet
-    yield [BEGUN, FILL, COUNT, end(1, marked(3, 70), 2)], at_record(4)
+    # a store without tag pages has no client whose mark could be taken back
+    for number, tag in ((3, 70), (0, 0)):
+        yield [BEGUN, FILL, COUNT, end(1, marked(number, tag), 2)], at_record(4)
 
 
 def numbers_of_operations_with_gaps():
@@ -381,6 +387,7 @@ ENDS = b"", FILL[:545], COMMIT[:20], restart(2)[:12], base(5)[:20], b"\0"
 def ends_that_a_crash_left():
     """Pages, and a log as it is, or with a part of a record behind it."""
     stores = [(formatted(), *each) for each in restarts()] + list(restarts_behind_a_base())
+    stores += [(formatted(tags=1), *each) for each in restarts_of_marks()]
     for pages, before, added in stores:
         for end in ENDS:
             yield pages, before, end, added
@@ -457,6 +464,32 @@ def restarts_behind_a_base():
     put(pages, 1, 1, ONE_TAKEN, 7)
     put(pages, 2, 1, FREE, 8)
     yield pages, [gone, *TAKEN], [*put_back(2), ended, next_one]
+
+
+def restarts_of_marks():
+    """Logs over pages as they are formatted, with a tag page, and what is added. The transaction marks the client 3 with 70."""
+    yield [BEGUN, MARK], [undo(1, 2, 3, 4, client(3)), void(1), restart(2)]
+    yield [*MARKS, COMMIT], [restart(2)]
+    yield MARKS, [*unmarked(2), ABORT_END, restart(2)]
+    # the inverse was made, or was cut off
+    yield [*MARKS, *unmarked(2)], [ABORT_END, restart(2)]
+    yield [*MARKS, unmarked(2)[0]], [undo(2, 4, 3, 4, ONE_MARK), void(2), *unmarked(3), ABORT_END, restart(2)]
+    # its client was marked before, and is marked once more: the newest mark is taken back first
+    again_marked = [write(2, 3, 4, ONE_MARK, client(3, 2, 71)), end(2, marked(3, 71, 70), 2)]
+    again_back = [write(3, 3, 4, client(3, 2, 71), ONE_MARK), back(3, 5)]
+    yield [*MARKS, *again_marked], [*again_back, *unmarked(4), ABORT_END, restart(2)]
+    yield [*MARKS, *again_marked, *again_back], [*unmarked(4), ABORT_END, restart(2)]
+    yield [*MARKS, COMMIT, write(1, 3, 4, ONE_MARK, client(3, 2, 71), txn=2), end(1, marked(3, 71, 70), 2, txn=2)], [
+        write(2, 3, 4, client(3, 2, 71), ONE_MARK, txn=2), back(2, 6, txn=2), record(8, [1, 2]), restart(2),
+    ]  # fmt: skip
+    # beside a send of the transaction, behind it
+    beside = [write(2, 3, 4, client(3), ONE_MARK), end(2, marked(3, 70), 2)]
+    yield [*SENDS, *beside], [write(3, 3, 4, ONE_MARK, client(3)), back(3, 6), *again(4), ABORT_END, restart(2)]
+
+
+def unmarked(number):
+    """The inverse of the mark, by an operation of this number."""
+    return [write(number, 3, 4, ONE_MARK, client(3)), back(number, 3)]
 
 
 def put_back(number):
@@ -682,7 +715,7 @@ def several_faults():
 
 
 def with_tags(*changes):
-    """The same with a tag page, whose client 3 marked 70."""
+    """The same with a tag page, whose client 3 was marked with 70."""
     pages = formatted(tags=1)
     put(pages, 1, 1, ONE_SENT, 3)
     put(pages, 2, 1, MESSAGE, 2)
@@ -730,6 +763,40 @@ def writes_of_tag_pages():
     yield formatted(), [BEGUN, marked], at_record(2)
 
 
+def marks_that_are_taken_back():
+    """The slot of a client, the deed of what wrote it, and what is said."""
+    for slot, deed, said in (
+        (ONE_MARK, marked(3, 70), OPENED), (ONE_MARK, marked(3, 70, 2**64 - 1), OPENED), (client(3, 2, 0), marked(3, 0, 7), OPENED),
+        # another tag than the slot's, no mark, another client, and one that the store has not
+        (ONE_MARK, marked(3, 71), at_record(3)), (ONE_MARK, marked(3, 0, 70), at_record(3)),
+        (client(3, 0, 70), marked(3, 70), at_record(3)), (ONE_MARK, marked(4, 70), at_record(3)), (ONE_MARK, marked(4, 0), at_record(3)),
+        (ONE_MARK, marked(15, 70), at_record(3)), (ONE_MARK, marked(15, 0), at_record(3)), (ONE_MARK, marked(2**32 - 1, 70), at_record(3)),
+        # a deed of chains beside a slot of tags
+        (ONE_MARK, marked(3, 70)[:5], at_record(3)),
+    ):  # fmt: skip
+        log = [BEGUN, write(1, 3, 4, client(3), slot), end(1, deed, 2)]
+        yield formatted(tags=1), log, said
+        yield formatted(tags=1), [*log, COMMIT], OPENED if len(deed) == 21 else said
+        yield formatted(tags=1), [*log, ABORT_END], OPENED if len(deed) == 21 else said
+    # the last client, on the second tag page
+    last = [BEGUN, write(1, 4, 15, client(29), client(29, 1, 9)), end(1, marked(29, 9), 2)]
+    yield formatted(tags=2), last, OPENED
+    yield formatted(tags=2), [*last[:2], end(1, marked(30, 9), 2)], at_record(3)
+    # two marks of one client are taken back, the newest first; where the second tells another tag before it, the first is named
+    for tag, said in ((70, OPENED), (69, at_record(3)), (71, at_record(3))):
+        second = [write(2, 3, 4, ONE_MARK, client(3, 2, 71)), end(2, marked(3, 71, tag), 2)]
+        yield formatted(tags=1), [*MARKS, *second], said
+    # of two lost transactions the newest mark is the first to be named
+    other = [write(1, 3, 5, client(4), client(4, 1, 8), txn=2), end(1, marked(4, 9), 2, txn=2)]
+    yield formatted(tags=1), [BEGUN, MARK, end(1, marked(3, 71), 2), *other], at_record(5)
+    yield formatted(tags=1), [BEGUN, MARK, end(1, marked(3, 71), 2), other[0], end(1, marked(4, 8), 2, txn=2)], at_record(3)
+    # a page that has the mark already, and one that is marked once more behind a Base
+    behind = formatted(tags=1)
+    put(behind, 3, 4, ONE_MARK, 2)
+    yield bytes(behind), MARKS, OPENED
+    yield bytes(behind), [base(2), write(1, 3, 4, ONE_MARK, client(3, 2, 71), txn=2), end(1, marked(3, 71, 70), 2, txn=2)], OPENED
+
+
 def other_lengths():
     """Pages behind those of the store, and one that is missing."""
     yield formatted() + bytes([7] * PAGE), [], OPENED
@@ -740,7 +807,8 @@ def other_lengths():
 
 PAGES = [
     pages_that_were_written, superblocks, headers, slots, more_sent_than_there_are_records, before_images, images_put_back, no_cell_is_free,
-    chains, chains_beside_a_whole_one, chains_on_two_pages, bases, several_faults, tag_pages, writes_of_tag_pages, other_lengths,
+    chains, chains_beside_a_whole_one, chains_on_two_pages, bases, several_faults, tag_pages, writes_of_tag_pages,
+    marks_that_are_taken_back, other_lengths,
 ]  # fmt: skip
 
 

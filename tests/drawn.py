@@ -27,11 +27,11 @@ class Door:
     name, crate, subcommand, courses, wanted = "script", "rqm", [], 1000, {}
 
     def words(self, sizes):
-        """The words behind those, for a store of so many directory pages and cell pages."""
+        """The words behind those, for a store of so many directory pages, cell pages and tag pages."""
         raise NotImplementedError
 
     def draw(self, seed, met):
-        """The sizes (directory pages, cell pages) of the store of a seed, its lines, and what they print by the reference."""
+        """The sizes (directory pages, cell pages, tag pages) of the store of a seed, its lines, and what they print by the reference."""
         raise NotImplementedError
 
     def without(self, lines, at, end):
@@ -138,8 +138,7 @@ def agrees(door):
         lines, expected = door.cases.lines_of(name)
         if door.unknown in lines:
             continue
-        # no script marks a tag yet
-        sizes = [int(word) for word in door.cases.words_of(name) if word.isdigit()][:2]
+        sizes = [int(word) for word in door.cases.words_of(name) if word.isdigit()]
         if door.replay(lines, sizes, ())[0] != expected:
             print(f"the reference does not print what stands beside {name}")
             is_right = False

@@ -8,7 +8,7 @@ one line. An old text stands in the file once. In a copy of the crate the prover
 the built libraries below it (out/rlib, as the gate or `rt lib` leaves them). It has to say that the function is not proved, and
 which clause or condition of it fails. Edits of several functions of a crate are tried in one copy. One of the functions is checked
 as it stands, too: it has to be proved, so that nothing else than the edits can have made the others fail. What a check of a crate
-proved is kept for the next.
+proved is kept for the next (out/incremental, as the gate leaves it, and then by each check here).
 """
 
 import concurrent.futures
@@ -190,6 +190,8 @@ def try_round(uses, crate, edits, kept):
 def try_crate(uses, crate, edits):
     """Of each edit of a crate: whether it is refused, and why or why not; and what is wrong where the first function is not proved as it stands."""
     with tempfile.TemporaryDirectory(prefix="rt-edit-") as kept:
+        if os.path.isdir(proved := f"{ROOT}/crates/{crate}/out/incremental"):
+            shutil.copytree(proved, kept, dirs_exist_ok=True)
         status, said, _ = checked(uses, crate, [], [edits[0].function], kept)
         wrong = [(edits[0], False, f"NOT PROVED as it stands: {said.strip()[-200:]}")] if status else []
         return wrong + [it for group in rounds(edits) for it in try_round(uses, crate, group, kept)]

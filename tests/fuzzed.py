@@ -34,10 +34,10 @@ import opening
 from cases import TOP, built, built_twice
 from damaged import formatted, rows
 from hostile import drawn_frame, drawn_stream, requests_in
-from mutated import Mutation, left_by_runs, put_files
+from mutated import Mutation, held_in, left_by_runs, put_files
 from reference import REFUSALS, Refused
 from script_reference import Script
-from server import CLOSING, FAULTS, LONGEST, SESSION, frame_of, read_bytes, read_to_end
+from server import CLOSING, FAULTS, LONGEST, MARKING, SESSION, frame_of, read_bytes, read_to_end
 from shim import failing
 
 CORPUS = TOP / "tests" / "fuzzed"
@@ -126,7 +126,7 @@ class Stores:
             yield f"serve comes to {came}, and not to {told_of(made).pattern}"
         elif files[1] != left:
             yield f"its log is left as {files[1].hex()}, and not as {left.hex()}"
-        elif files[0] != pages and opening.Opening(*files).pages.content() != made.pages.content():
+        elif files[0] != pages and held_in(opening.Opening(*files)) != held_in(made):
             yield "its pages are left otherwise"
 
     # ---- what is drawn
@@ -220,8 +220,9 @@ class Session:
             return frame_of(255, bytes([REFUSALS[refused.name]]))
 
     def done(self, kind, fields, told):
-        if kind == 8:
-            return 136, struct.pack(">QQ", *self.call("last_tag", int.from_bytes(fields, "big")))
+        if kind in (8, 10):
+            call, answer = {8: ("last_tag", 136), 10: ("client_tag", 138)}[kind]
+            return answer, struct.pack(">QQ", *self.call(call, int.from_bytes(fields, "big")))
         if (kind == 1) == (self.txn is not None):
             raise Refused("TooManyTransactions" if self.txn else "UnknownTransaction")
         if kind == 1:
@@ -238,6 +239,9 @@ class Session:
         if kind == 5:
             self.script.close(self.txn, int.from_bytes(fields, "big"))
             return 133, b""
+        if kind == 9:
+            self.script.mark(self.txn, *struct.unpack(">IQ", fields))
+            return 137, b""
         txn, self.txn = self.txn, None
         if kind == 6:
             return 134, struct.pack(">Q", self.call("commit", txn))
@@ -268,7 +272,7 @@ class Sessions:
 
     def come(self, held, is_whole=False):
         """What comes of these bytes, and what they reach."""
-        put_files(self.folder, formatted(), b"")
+        put_files(self.folder, formatted(tags=1), b"")
         talked = []
         *came, reached = self.serve.run(LONGEST, lambda run: talked.append(self.talk(run, held)), is_whole)
         return (talked[0], came), set(reached)
@@ -313,7 +317,7 @@ class Sessions:
     def faults(self, held, came):
         """What is wrong with what came of them."""
         (answers, behind, error), (status, printed, told) = came
-        script = Script(1, 1)
+        script = Script(1, 1, 1)
         sessions = [Session(script) for _ in range(self.connections)]
         for (who, kind, fields), answer in zip(self.requests(held), answers):
             wanted = sessions[who].answer(kind, fields, answer)
@@ -328,13 +332,14 @@ class Sessions:
         for session in sessions:
             session.end()
         left, content = opening.Opening(*((self.folder / name).read_bytes() for name in ("pages", "log"))), script.call("content")
-        if left.pages.content() != dict(enumerate(content)) or left.unfinished or left.lost:
-            yield f"the store holds {left.pages.content()}, and not {content}"
+        marks = {client: script.call("client_tag", client) for client in range(left.pages.clients)}
+        if (left.pages.content(), left.pages.marks()) != (dict(enumerate(content)), marks) or left.unfinished or left.lost:
+            yield f"the store holds {left.pages.content()} and {left.pages.marks()}, and not {content} and {marks}"
 
     # ---- what is drawn
 
     def seeds(self, _):
-        for frames in (SESSION, CLOSING):
+        for frames in (SESSION, CLOSING, MARKING):
             yield b"".join(bytes.fromhex(request) for request, _ in frames)
         yield from map(bytes.fromhex, FAULTS)
         yield from (self.fresh(random.Random(seed)) for seed in range(50))

@@ -32,8 +32,8 @@ from damaged import formatted
 from files import NO_FILES, checkpoint, files_of, folder_of, format_store, held_by
 from kill import Kills
 from server import (
-    BEGIN, LENGTHS, LONGEST, STORE_FAILED, Client, Connection, NotStarted, Server, broken_off, compare, everything, first_line, frame_of,
-    in_threads, raises, read_bytes, read_to_end, reset, serving, store, wait_until,
+    BEGIN, LAST_KIND, LENGTHS, LONGEST, STORE_FAILED, Client, Connection, NotStarted, Server, broken_off, compare, everything, first_line,
+    frame_of, in_threads, raises, read_bytes, read_to_end, reset, serving, store, told_of, wait_until,
 )  # fmt: skip
 from shim import failing
 
@@ -67,7 +67,7 @@ def ended_by(server, number):
 
 def signals(program, chosen):
     """Ended by each signal in turn, at a start and under load, again and again: nothing that was acknowledged is lost."""
-    with store(program, 1, 400) as folder:
+    with store(program, 1, 400, 1) as folder:
         ends = Ends(program, folder, chosen.seed)
         for number in itertools.islice(itertools.cycle(ENDING), max(chosen.rounds, 12)):
             ends.round(number)
@@ -106,7 +106,7 @@ def pauses(program, chosen):
     """Stopped and continued under load, also while it waits for clients: no connection is lost by it."""
     draw = random.Random(chosen.seed)
     for workers in (1, 3):
-        with store(program, 1, 400) as folder, serving(program, folder, "--workers", workers) as server, server.connect() as idle:
+        with store(program, 1, 400, 1) as folder, serving(program, folder, "--workers", workers) as server, server.connect() as idle:
             ends = Ends(program, folder, chosen.seed)
 
             def pause():
@@ -463,7 +463,7 @@ def is_free(connection):
 
 def file_limit(program, chosen):
     """Where the system ends whom makes a file longer than it may be: what was acknowledged is there at the next start."""
-    with store(program, 1, 40) as folder:
+    with store(program, 1, 40, 1) as folder:
         ends = Ends(program, folder, chosen.seed)
         for longest in (200_000, 300_000):
             with ends.running() as server:
@@ -918,7 +918,7 @@ def short_calls(program, chosen):
     with failing(SHIM) as (beside, words):
         for what in ("ASKED", "STOPPED", "PARTED", "SPLIT"):
             words[what] = str(beside / what)
-        with store(program, 1, 400) as folder:
+        with store(program, 1, 400, 1) as folder:
             load = Kills(program, folder, chosen.seed).load
             for _ in range(6):
                 with serving(program, folder, environment=words) as server:
@@ -941,7 +941,7 @@ def any_frames(program, chosen):
     """Clients say frames with other bytes, or anything, in pieces, and break off. Each is answered by the protocol, and one that behaves
     is served all the time, in time."""
     answered = faults = 0
-    with store(program, 2, 20) as folder, serving(program, folder, "--workers", 2) as server:
+    with store(program, 2, 20, 2) as folder, serving(program, folder, "--workers", 2) as server:
         stop, good = threading.Event(), ThreadPoolExecutor(1)
         served = good.submit(behave, server, stop)
         try:
@@ -956,7 +956,7 @@ def any_frames(program, chosen):
         assert longest < LONGEST, longest
         assert len(server.tells()) == 1, server.tells()
         with server.connect() as connection:
-            assert connection.last_tag(29) == (sent, sent)
+            assert connection.last_tag(29) == connection.client_tag(29) == (sent, sent)
     assert sent > chosen.rounds and answered > 100 * chosen.rounds and faults > 10 * chosen.rounds, (sent, answered, faults)
     return f"{answered} answers, {faults} faults, {sent} commits beside them, the slowest {1000 * longest:.0f} ms"
 
@@ -969,6 +969,7 @@ def behave(server, stop):
             before = time.monotonic()
             try:
                 with connection.transaction() as transaction:
+                    transaction.mark(29, sent + 1)
                     transaction.send(29, sent + 1, b"good")
                 sent += 1
             except Full:
@@ -978,11 +979,13 @@ def behave(server, stop):
 
 
 def drawn_frame(draw):
-    kind = draw.choice([1, 1, 2, 2, 2, 3, 3, 4, 5, 6, 6, 7, 8])
+    kind = draw.choice([1, 1, 2, 2, 2, 3, 3, 4, 5, 6, 6, 7, 8, 9, 9, 10])
     sender = draw.choice([0, 1, 2, 15, 28, 30, 2**32 - 1]).to_bytes(4, "big")
     fields = sender if LENGTHS.get(kind) == 5 else b""
     if kind == 2:
         fields = sender + draw.randbytes(8) + draw.randbytes(draw.choice([0, 5, 216, 217, 499]))
+    if kind == 9:
+        fields = sender + draw.randbytes(8)
     if kind == 5 and draw.randrange(8):
         kind, fields = 3, b""  # a close is for good
     return struct.pack(">HB", 1 + len(fields), kind) + fields
@@ -1011,7 +1014,7 @@ def requests_in(said):
     at, requests = 0, []
     while len(said) - at >= 2:
         length = int.from_bytes(said[at : at + 2], "big")
-        if not 1 <= length <= 512 or (len(said) - at > 2 and not 1 <= said[at + 2] <= 8):
+        if not 1 <= length <= 512 or (len(said) - at > 2 and not 1 <= said[at + 2] <= LAST_KIND):
             return requests, at, True
         if at + 2 + length > len(said):
             break
@@ -1024,19 +1027,19 @@ def requests_in(said):
 
 
 # What a request of each kind may be answered with, beside a refusal.
-DONE = {1: (129,), 2: (130,), 3: (131, 132), 4: (131, 132), 5: (133,), 6: (134,), 7: (135,), 8: (136,)}
-SIZES = {129: 17, 130: 1, 132: 1, 133: 1, 134: 9, 135: 1, 136: 17, 255: 2}
+DONE = {1: (129,), 2: (130,), 3: (131, 132), 4: (131, 132), 5: (133,), 6: (134,), 7: (135,), 8: (136,), 9: (137,), 10: (138,)}
+SIZES = {129: 17, 130: 1, 132: 1, 133: 1, 134: 9, 135: 1, 136: 17, 137: 1, 138: 17, 255: 2}
 
 # The refusals that a store which works may give.
-GIVEN = {4, 5, 6, 7, 8, 9, 10, 11, 12, 13, 14, 17}
+GIVEN = {4, 5, 6, 7, 8, 9, 10, 11, 12, 13, 14, 17, 22, 23}
 
 
 def misbehave(server, draw):
     """Says a stream, in pieces. How many answers came, and whether it had a fault."""
     said = drawn_stream(draw)
     requests, _, is_fault = requests_in(said)
-    if any(kind in (2, 5) and fields.startswith(b"\0\0\0\x1d") for kind, fields in requests):
-        return 0, False  # nobody disturbs the sender of the one who behaves
+    if any(kind in (2, 5, 9) and fields.startswith(b"\0\0\0\x1d") for kind, fields in requests):
+        return 0, False  # nobody disturbs the sender and the client of the one who behaves
     breaks_off = draw.randrange(6) == 0
     with server.raw() as stream:
         rest = said
@@ -1092,7 +1095,7 @@ def long_sessions(program, chosen):
 
 def long_session(program, chosen, workers):
     """What a server with so many workers came to."""
-    with store(program, 5, 20) as folder, serving(program, folder, "--workers", workers) as server:
+    with store(program, 5, 20, 5) as folder, serving(program, folder, "--workers", workers) as server:
         clients = [Drainer(server, number, chosen.seed) for number in range(64)]
         until = time.monotonic() + 60 * chosen.minutes
 
@@ -1104,7 +1107,7 @@ def long_session(program, chosen, workers):
         in_threads([lambda client=client: run(client) for client in clients])
         server.kill()
         with serving(program, folder) as again, again.connect() as connection:
-            tags = [connection.last_tag(client.number) for client in clients]
+            tags = [told_of(connection, client.number) for client in clients]
             held = everything(connection)
         compare(clients, tags, held)
         sent, size = sum(len(client.sent) for client in clients), (folder / "log").stat().st_size >> 20

@@ -1,7 +1,8 @@
 #!/usr/bin/env python3
 """Kills `rqm serve` by SIGKILL in the midst of load, again and again, on one store in a temporary folder. In every third round it makes
 checkpoints all the while. Between the rounds `rqm checkpoint` is run, and every other time killed. Each time it looks what the store holds
-once it is open again. Nothing that was acknowledged is lost, nothing comes twice, and each group is in order.
+once it is open again. Nothing that was acknowledged is lost, nothing comes twice, and each group is in order. What each client was
+marked with tells exactly its commits.
 
     python3 tests/kill.py [--program PROGRAM] [--seed N] [--rounds N]
 
@@ -28,7 +29,7 @@ GROUPS = 4
 
 class Load:
     """Each group has one sender, whose messages come in order, tagged 1 and on. It has one mover, which receives them and sends them again
-    for another group, in one transaction."""
+    for another group, in one transaction. Both mark a client of their own with the tag, in the same transaction."""
 
     def __init__(self):
         # the last tag of each sender that is known to be committed, the last of each group that is known to be moved, and the next that has
@@ -43,6 +44,7 @@ class Load:
                 tag = self.sent[group] + 1
                 try:
                     with connection.transaction() as transaction:
+                        transaction.mark(group, tag)
                         transaction.send(group, tag, body_of(group, tag))
                     self.sent[group] = tag
                     time.sleep(self.rest)
@@ -57,6 +59,7 @@ class Load:
                         message = transaction.receive_from(group)
                         if message:
                             transaction.send(GROUPS + group, message.tag, message.body)
+                            transaction.mark(GROUPS + group, message.tag)
                     if message:
                         self.moved[group] = message.tag
                 except Full:
@@ -82,15 +85,19 @@ class Load:
                 done.result()
 
     def look(self, server, is_last=False):
-        """Looks what the store holds: nothing acknowledged is missing, and the one commit of each sender that was not answered is there
-        or not. What was moved comes out in order and once, and all of it that was acknowledged; at last, all does."""
+        """Looks what the store holds: nothing acknowledged is missing, and the one commit of each sender and each mover that was not
+        answered is there or not. Their clients tell the same. What was moved comes out in order and once; at last, all does."""
         with server.connect() as connection:
             for group in range(GROUPS):
                 last = connection.last_tag(group)
                 assert last.tag == last.sent and last.tag in (self.sent[group], self.sent[group] + 1), (last, self.sent)
                 self.sent[group] = last.tag
+                assert connection.client_tag(group) == (last.tag, last.tag), (connection.client_tag(group), last)
+                moved = connection.client_tag(GROUPS + group)
+                assert moved.tag == moved.count and moved.tag in (self.moved[group], self.moved[group] + 1), (moved, self.moved)
+                self.moved[group] = moved.tag
                 self.drain(connection, GROUPS + group, group)
-                assert self.next_out[group] > self.moved[group], (self.next_out, self.moved)
+                assert self.next_out[group] == moved.tag + 1, (self.next_out, moved)
                 if is_last:
                     self.drain(connection, group, group)
                     assert self.next_out[group] == last.tag + 1, (self.next_out[group], last)
@@ -191,7 +198,7 @@ def main():
     chosen = words.parse_args()
     program = built(chosen.program, "rqm")
     before = time.monotonic()
-    with store(program, 1, 400) as folder:
+    with store(program, 1, 400, 1) as folder:
         kills = Kills(program, folder, chosen.seed)
         for number in range(chosen.rounds):
             kills.round(number)

@@ -29,12 +29,13 @@ from server import LONGEST, Connection, store
 sys.dont_write_bytecode = True
 from rqm import Closed, Refused  # noqa: E402, where `server` finds it
 
-SIZES = [(1, 1), (1, 2), (2, 2)]
+# Directory pages, cell pages and tag pages.
+SIZES = [(1, 1, 0), (1, 2, 1), (2, 2, 0)]
 
 # What has to be met among the usual stores, those of the seeds from 0, and how often at least.
 USUAL = 1500
-WANTED = {"opened": 300, "opened with undoing": 100, "opened behind a base": 60, "undoing behind a base": 30, "damaged behind a base": 150,
-          "damaged record": 300, "damaged page": 100, "torn": 50, "fault 3 DiskRead": 5}  # fmt: skip
+WANTED = {"opened": 300, "opened with undoing": 100, "opened with marks undone": 10, "opened behind a base": 60,
+          "undoing behind a base": 30, "damaged behind a base": 150, "damaged record": 300, "damaged page": 100, "torn": 50, "fault 3 DiskRead": 5}  # fmt: skip
 
 
 # ---- what runs leave
@@ -77,6 +78,9 @@ def transact(connection, sizes, draw):
         for _ in range(draw.randrange(1, 4)):
             sender = draw.randrange(3) + 15 * draw.randrange(sizes[0])
             try:
+                if sizes[2] and draw.randrange(4) == 0:
+                    transaction.mark(draw.randrange(3), tag)
+                    continue
                 kind = draw.randrange(9)
                 if kind < 5:
                     transaction.send(sender, tag, draw.randbytes(draw.choice([0, 3, 40])))
@@ -340,6 +344,7 @@ class Looks:
         with self.counting:
             met[" ".join(said.split(" ")[:2]) if said.startswith("damaged") else "opened" if made else said] += 1
             met["opened with undoing"] += bool(made and made.unfinished + made.lost)
+            met["opened with marks undone"] += bool(made and made.marks_undone)
             if front(log, 0) and log[4] == 9:
                 met["opened behind a base" if made else "damaged behind a base"] += 1
                 met["undoing behind a base"] += bool(made and made.unfinished + made.lost)
@@ -374,13 +379,17 @@ class Looks:
             yield f"checkpoint leaves the log {left_log[:100]}, and not {left[:100]}"
         elif "fault " in printed and left_pages != pages:
             yield "no checkpoint is made, and the pages have changed"
-        elif "fault " not in printed and opening.Opening(left_pages, left_log).pages.content() != made.pages.content():
+        elif "fault " not in printed and held_in(opening.Opening(left_pages, left_log)) != held_in(made):
             yield "it holds something else behind a checkpoint"
 
     def serves(self, folder, said, made, left):
-        held = {}
-        work = (lambda connection: held.update(read_all(connection, made))) if made else None
-        printed, told, status = served(self.rqm, folder, work)
+        held, marks = {}, {}
+
+        def work(connection):
+            marks.update((client, tuple(connection.client_tag(client))) for client in range(made.pages.clients))
+            held.update(read_all(connection, made))
+
+        printed, told, status = served(self.rqm, folder, work if made else None)
         if not made:
             fault = b"fault 16 Damaged\n" if said.startswith("damaged") else f"{said}\n".encode()
             if (printed, told, status) != (fault, b"", 1):
@@ -389,8 +398,8 @@ class Looks:
         found = f"incarnation {made.incarnation}, unfinished {made.unfinished}, lost {made.lost}, records {made.records}\n"
         if not re.fullmatch(rb"opened in [0-9]+ ms: " + found.encode(), told) or status != 0:
             yield f"serve says {printed}, {told}, {status}, and not {found}"
-        elif held != made.pages.content():
-            yield f"it holds {held}, and not {made.pages.content()}"
+        elif (held, marks) != held_in(made):
+            yield f"it holds {held}, {marks}, and not {held_in(made)}"
         elif not (folder / "log").read_bytes().startswith(left):
             yield "its log goes on otherwise"
 
@@ -398,6 +407,11 @@ class Looks:
 def put_files(folder, pages, log):
     (folder / "pages").write_bytes(pages)
     (folder / "log").write_bytes(log)
+
+
+def held_in(made):
+    """What an opened store holds, by senders and by clients."""
+    return made.pages.content(), made.pages.marks()
 
 
 def files_in(folder):

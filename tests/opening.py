@@ -75,6 +75,8 @@ class Deed:
         deed = cls()
         deed.level, deed.kind, deed.sender, deed.sequence, deed.tag = level, held[0], number(held, 1, 4), number(held, 5), number(held, 13)
         deed.previous, deed.body = number(held, 21), held[21:]
+        if level == 2:
+            deed.client, deed.tag, deed.previous = deed.sender, number(held, 5), number(held, 13)
         return deed
 
 
@@ -90,7 +92,7 @@ class Pages:
         in_range = in_range and ((version, self.tags) == (1, 0) or (version == 2 and 1 <= self.tags <= 1024))
         if not in_range or held[:PAGE] != bytes(SLOT) + block.ljust(PAGE - SLOT, b"\0"):
             raise at_page(0)
-        self.tags_from, self.senders = 1 + self.directory + self.cells, SLOTS * self.directory
+        self.tags_from, self.senders, self.clients = 1 + self.directory + self.cells, SLOTS * self.directory, SLOTS * self.tags
         self.count = self.tags_from + self.tags
         self.lsn, self.slots = [0], {}
         for page in range(1, self.count):
@@ -129,7 +131,7 @@ class Pages:
         return whole and self.is_address(cell.next) and self.is_address(cell.before) and slot == cell.slot()
 
     def counted(self, page, slot):
-        """What a sender sent, or how often a client marked."""
+        """What a sender sent, or how often a client was marked."""
         return Group(slot).sent if page <= self.directory else 0 if page < self.tags_from else Client(slot).count
 
     def check_numbers(self, records):
@@ -145,6 +147,12 @@ class Pages:
 
     def home(self, sender):
         return 1 + sender // SLOTS, 1 + sender % SLOTS
+
+    def client_home(self, client):
+        return self.tags_from + client // SLOTS, 1 + client % SLOTS
+
+    def client(self, client):
+        return Client(self.slots[self.client_home(client)])
 
     def group(self, sender):
         return Group(self.slots[self.home(sender)])
@@ -190,6 +198,10 @@ class Pages:
             held[sender] = group.sent, group.tag, group.received, group.state == 2, left
         return held
 
+    def marks(self):
+        """Of each client: how many marks, and the last one's tag."""
+        return {client: (self.client(client).count, self.client(client).tag) for client in range(self.clients)}
+
 
 class Opening:
     """An opening of a store with these files. It is made, or a fault is raised."""
@@ -207,6 +219,7 @@ class Opening:
         self.unfinished = len(self.writes)
         self.undo_writes()
         self.lost = len(self.due)
+        self.marks_undone = sum(deed.level == 2 for due in self.due.values() for _, deed in due)
         self.undo_deeds()
         self.pages.check_chains()
         self.add("restart", 7, [self.incarnation + 1])
@@ -335,14 +348,26 @@ class Opening:
 
     def inverse(self, deed):
         """The slot writes that take a deed back: where, what is written, and what stands there; None where it cannot be."""
-        if deed.level == 2 or deed.sender >= self.pages.senders:
-            return None  # No mark is taken back yet.
+        if deed.level == 2:
+            return self.unmark(deed)
+        if deed.sender >= self.pages.senders:
+            return None
         group, home = self.pages.group(deed.sender), self.pages.home(deed.sender)
         stood, cells = group.slot(), {1: self.unlink_tail, 2: self.put_back, 3: self.reopen}[deed.kind](deed, group)
         if cells is None:
             return None
         writes = [(divmod(address, 16), slot, self.pages.slots[divmod(address, 16)]) for address, slot in cells]
         return [*writes, (home, group.slot(), stood)]
+
+    def unmark(self, deed):
+        if deed.client >= self.pages.clients:
+            return None
+        home, client = self.pages.client_home(deed.client), self.pages.client(deed.client)
+        stood = client.slot()
+        if client.count == 0 or client.tag != deed.tag:
+            return None
+        client.count, client.tag = client.count - 1, deed.previous
+        return [(home, client.slot(), stood)]
 
     def unlink_tail(self, deed, group):
         tail = self.pages.cell(group.tail)

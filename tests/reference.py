@@ -11,7 +11,7 @@ has all changes of its page up to its LSN.
 """
 from collections import Counter
 
-SLOTS = 15  # of a page: senders of a directory page, cells of a cell page
+SLOTS = 15  # of a page: senders of a directory page, cells of a cell page, clients of a tag page
 LONGEST_BODY = 216
 MOST_OPEN = 4096
 ALL = 2**64 - 1
@@ -20,10 +20,10 @@ REFUSALS = {
     "NoMemory": 1, "Failed": 2, "DiskRead": 3, "UnknownTransaction": 4, "NotOpen": 5, "Unfinished": 6, "UnknownSender": 7,
     "TooLong": 8, "SenderBusy": 9, "Closed": 10, "ReceiverBusy": 11, "Full": 12, "Latched": 13, "PoolFull": 14, "DiskWrite": 15,
     "Damaged": 16, "TooManyTransactions": 17, "NotForced": 18, "LogFull": 19, "UnknownOperation": 20,
-    "NotQuiet": 21,
+    "NotQuiet": 21, "UnknownClient": 22, "ClientBusy": 23,
 }  # fmt: skip
 
-INVERSES = {"append": "unsend", "take": "put-back", "close": "reopen"}
+INVERSES = {"append": "unsend", "take": "put-back", "close": "reopen", "mark": "unmark"}
 
 
 class Refused(Exception):
@@ -42,12 +42,13 @@ class Stopped(Exception):
 
 
 class Deed:
-    """What an operation does at a group's chain: append, take or close."""
+    """What an operation does: append, take or close at a group's chain, or a mark, whose `sender` is the client. `previous` is the tag
+    that this had before."""
 
-    __slots__ = ("kind", "sender", "tag", "body", "cell")
+    __slots__ = ("kind", "sender", "tag", "body", "cell", "previous")
 
-    def __init__(self, kind, sender, tag=0, body=b"", cell=None):
-        self.kind, self.sender, self.tag, self.body, self.cell = kind, sender, tag, body, cell
+    def __init__(self, kind, sender, tag=0, body=b"", cell=None, previous=0):
+        self.kind, self.sender, self.tag, self.body, self.cell, self.previous = kind, sender, tag, body, cell, previous
 
 
 class Work:
@@ -67,7 +68,7 @@ class Row:
     def __init__(self, txn):
         self.txn, self.aborting, self.number, self.work = txn, False, 0, None
         self.done = []  # what it did and has not undone: (LSN of the end, deed)
-        self.sending, self.receiving = set(), []
+        self.sending, self.receiving, self.marking = set(), [], set()
 
 
 class Page:
@@ -101,7 +102,7 @@ def bytes_of(record):
     kind = record[0]
     if kind == "end":
         deed = record[2]
-        return 30 + {"append": 29, "take": 21, "close": 5}[deed.kind] + len(deed.body)
+        return 30 + {"append": 29, "take": 21, "close": 5, "mark": 21}[deed.kind] + len(deed.body)
     return {"restart": 13, "write": 546, "undone": 37, "back": 298, "void": 29, "commit": 21, "abort": 21, "base": 21}[kind]
 
 
@@ -250,12 +251,13 @@ class Devices:
 
 
 class Chains:
-    """The cells that the chains of finished operations use, by number from 0."""
+    """The cells that the chains of finished operations use, by number from 0, and what stands in each client's slot: how often these
+    marked it, and the last tag."""
 
     def __init__(self, directory, cells):
         self.directory, self.count = directory, cells * SLOTS
         self.of = [[] for _ in range(directory * SLOTS)]
-        self.used = set()
+        self.used, self.marks = set(), {}
 
     def page(self, cell):
         return cell // SLOTS + self.directory + 1
@@ -263,6 +265,13 @@ class Chains:
     def home(self, sender):
         """The directory page of a sender."""
         return sender // SLOTS + 1
+
+    def client_page(self, client):
+        return self.page(self.count) + client // SLOTS
+
+    def marked(self, client):
+        """How often a client was marked, and the last tag."""
+        return self.marks.get(client, (0, 0))
 
     def lowest_free(self, latched=frozenset()):
         """The lowest free cell on a page outside the set; None where there is none."""
@@ -273,6 +282,8 @@ class Chains:
 
     def reach(self, kind, sender, cell):
         """The pages of the slot writes of an operation, in order."""
+        if kind in ("mark", "unmark"):
+            return [self.client_page(sender)]
         chain, home = self.of[sender], self.home(sender)
         if kind in ("close", "reopen"):
             return [home]
@@ -280,9 +291,12 @@ class Chains:
         own = {"append": cell, "put-back": cell, "take": chain[0] if chain else None, "unsend": chain[-1] if chain else None}[kind]
         return [self.page(own), *map(self.page, beside), home]
 
-    def do(self, kind, sender, cell):
-        """The operation is finished."""
-        chain = self.of[sender]
+    def do(self, kind, deed, cell):
+        """The operation is finished, which did this deed or took it back."""
+        if kind in ("mark", "unmark"):
+            self.mark(kind, deed)
+            return
+        chain = self.of[deed.sender]
         if kind == "append":
             chain.append(cell)
         elif kind == "put-back":
@@ -294,14 +308,24 @@ class Chains:
         if kind in ("append", "put-back"):
             self.used.add(cell)
 
+    def mark(self, kind, deed):
+        """A mark is one more, with its tag. Its inverse finds it to be the last, and leaves one less, with the tag before."""
+        count, tag = self.marked(deed.sender)
+        if kind == "mark":
+            assert tag == deed.previous, "a mark tells another tag than the one before it"
+            self.marks[deed.sender] = count + 1, deed.tag
+        else:
+            assert count > 0 and tag == deed.tag, "a mark is taken back that is not the last"
+            self.marks[deed.sender] = count - 1, deed.previous
+
     def play(self, records):
         """All that the operations did that have their end."""
         for record in records:
             if record[0] == "end":
-                self.do(record[2].kind, record[2].sender, record[2].cell)
+                self.do(record[2].kind, record[2], record[2].cell)
             elif record[0] == "undone":
                 deed = records[record[2] - 1][2]
-                self.do(INVERSES[deed.kind], deed.sender, record[3])
+                self.do(INVERSES[deed.kind], deed, record[3])
 
 
 class Mending:
@@ -394,23 +418,24 @@ class Mending:
         for at, page in enumerate(pages, 1):
             self.devices.add(("write", sub, page, kind, len(pages) - at))
         self.devices.add(("undone", sub, lsn, cell))
-        self.chains.do(kind, deed.sender, cell)
+        self.chains.do(kind, deed, cell)
         self.note(LOSSES[deed.kind])
 
 
 CUTS = {
     "append": "SendCut", "take": "TakeCut", "close": "CloseCut", "unsend": "UnsendCut", "put-back": "BackCut", "reopen": "ReopenCut",
+    "mark": "MarkCut", "unmark": "UnmarkCut",
 }  # fmt: skip
-LOSSES = {"append": "SendLost", "take": "TakeLost", "close": "CloseLost"}
-UNDOINGS = {"append": "SendUndone", "take": "TakeUndone", "close": "CloseUndone"}
+LOSSES = {"append": "SendLost", "take": "TakeLost", "close": "CloseLost", "mark": "MarkLost"}
+UNDOINGS = {"append": "SendUndone", "take": "TakeUndone", "close": "CloseUndone", "mark": "MarkUndone"}
 
 
 class Store:
     """A store of so many directory, cell and tag pages, formatted and not open yet. What is worth counting is added to `met`."""
 
-    def __init__(self, directory, cells, met=None, tags=0):
-        self.directory, self.cells = directory, cells
-        self.senders, self.room = directory * SLOTS, cells * SLOTS
+    def __init__(self, directory, cells, tags=0, met=None):
+        self.directory, self.cells, self.tags = directory, cells, tags
+        self.senders, self.room, self.clients = directory * SLOTS, cells * SLOTS, tags * SLOTS
         self.devices = Devices(1 + directory + cells + tags)
         self.chains = Chains(directory, cells)
         self.met = Counter() if met is None else met
@@ -427,6 +452,7 @@ class Store:
         self.sends = [[] for _ in range(self.senders)]
         self.takes = [0] * self.senders
         self.ended = set()
+        self.marks = [[] for _ in range(self.clients)]
         for _, _, deeds in self.commits:
             self.count(deeds)
 
@@ -436,6 +462,8 @@ class Store:
                 self.sends[deed.sender].append((deed.tag, deed.body))
             elif deed.kind == "take":
                 self.takes[deed.sender] += 1
+            elif deed.kind == "mark":
+                self.marks[deed.sender].append(deed.tag)
             else:
                 self.ended.add(deed.sender)
 
@@ -509,6 +537,7 @@ class Store:
         self.met["Opened"] += 1
         self.met.update(kind for _, kind in mending.met)
         assert all(len(self.chains.of[s]) == self.left(s) for s in range(self.senders)), "a chain is not the committed rest"
+        assert all(self.chains.marked(c) == self.client_tag(c) for c in range(self.clients)), "a client's slot has not its committed marks"
         return incarnation, mending.unfinished, mending.lost_count
 
     def has_idle_beside(self):
@@ -525,7 +554,7 @@ class Store:
 
     def records_wanted(self):
         """How many records a restart makes of a store that is not open."""
-        twin = Store(self.directory, self.cells)
+        twin = Store(self.directory, self.cells, self.tags)
         twin.commits = self.commits
         twin.recount()
         twin.devices.records = list(self.devices.records)
@@ -670,6 +699,19 @@ class Store:
         row.sending.add(sender)
         return self.begin_work(row, Deed("close", sender), None, None, self.chains.reach("close", sender, None))
 
+    def start_mark(self, txn, client, tag):
+        row = self.ready(txn)
+        if client >= self.clients:
+            raise Refused("UnknownClient")
+        if any(client in other.marking for other in self.others(row)):
+            raise Refused("ClientBusy")
+        if self.chains.client_page(client) in self.latched():
+            self.refuse_latched("MarkPage")
+        self.met["MarkedAgain"] += client in row.marking
+        row.marking.add(client)
+        deed = Deed("mark", client, tag, previous=self.chains.marked(client)[1])
+        return self.begin_work(row, deed, None, None, self.chains.reach("mark", client, None))
+
     def take_latched(self, sender):
         """The kind of the latched page that a receive from this sender needs; None where none is."""
         latched, chain = self.latched(), self.chains.of[sender]
@@ -738,11 +780,11 @@ class Store:
         row.work, deed = None, work.deed
         if work.undoes is None:
             row.done.append((self.devices.add(("end", sub, deed)), deed))
-            self.chains.do(deed.kind, deed.sender, work.cell)
+            self.chains.do(deed.kind, deed, work.cell)
             return deed
         row.done.pop()
         self.devices.add(("undone", sub, work.undoes, work.cell))
-        self.chains.do(INVERSES[deed.kind], deed.sender, work.cell)
+        self.chains.do(INVERSES[deed.kind], deed, work.cell)
         return None
 
     def commit(self, txn):
@@ -768,11 +810,21 @@ class Store:
         if not row.done:
             return None
         lsn, deed = row.done[-1]
-        kind, latched, chain = INVERSES[deed.kind], self.latched(), self.chains.of[deed.sender]
+        kind, cell = INVERSES[deed.kind], None
+        if kind == "unmark":
+            if self.chains.client_page(deed.sender) in self.latched():
+                self.refuse_latched("UnmarkPage")
+        else:
+            cell = self.cell_of_inverse(kind, deed)
+        self.met[UNDOINGS[deed.kind]] += 1
+        return self.begin_work(row, deed, lsn, cell, self.chains.reach(kind, deed.sender, cell))
+
+    def cell_of_inverse(self, kind, deed):
+        """The cell that the inverse of what was done at a chain needs; it is refused where a page of it is latched."""
+        latched, chain, cell = self.latched(), self.chains.of[deed.sender], None
         name = {"unsend": "Unsend", "put-back": "Back", "reopen": "Reopen"}[kind]
         if self.chains.home(deed.sender) in latched:
             self.refuse_latched(f"{name}Directory")
-        cell = None
         if kind == "unsend":
             self.unsend_latched(chain, latched)
         if kind == "put-back":
@@ -782,8 +834,7 @@ class Store:
             if cell is None:
                 self.refuse_latched("BackCells")
             self.met["HigherBack"] += cell != self.chains.lowest_free()
-        self.met[UNDOINGS[deed.kind]] += 1
-        return self.begin_work(row, deed, lsn, cell, self.chains.reach(kind, deed.sender, cell))
+        return cell
 
     def unsend_latched(self, chain, latched):
         if self.chains.page(chain[-1]) in latched:
@@ -840,6 +891,13 @@ class Store:
             raise Refused("UnknownSender")
         sends = self.sends[sender]
         return len(sends), sends[-1][0] if sends else 0
+
+    def client_tag(self, client):
+        """How many committed marks the client has, and the last one's tag."""
+        if client >= self.clients:
+            raise Refused("UnknownClient")
+        marks = self.marks[client]
+        return len(marks), marks[-1] if marks else 0
 
     def content(self):
         """Of each sender: sends, last tag, receives, whether it is closed, the rest."""

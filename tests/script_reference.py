@@ -49,7 +49,7 @@ FORMS = {
     b"close": [(txn, short)], b"commit": [(txn,)], b"ack": [(txn,)], b"abort": [(txn,)], b"start-abort": [(txn,)],
     b"undo": [(txn,)], b"end-abort": [(txn,)], b"step": [(txn, number)], b"finish": [(txn, number)], b"write": [(short,)],
     b"last": [(short,)], b"fail": [(one_of(b"read", b"write", b"force"),)], b"crash": [(kept,), (kept, one_of(b"old"))],
-    b"checkpoint": [()],
+    b"checkpoint": [()], b"mark": [(txn, short, number)], b"tag": [(short,)],
 }  # fmt: skip
 
 
@@ -72,11 +72,11 @@ def shown(txn):
 
 
 class Script:
-    """A script over a store of so many pages, from its opening on. `printed` is a line for each of its lines so far, behind
-    that of the opening; `status` is its exit status once it has ended. `met` is counted as by a store."""
+    """A script over a store of so many directory, cell and tag pages, from its opening on. `printed` is a line for each of its lines so
+    far, behind that of the opening; `status` is its exit status once it has ended. `met` is counted as by a store."""
 
-    def __init__(self, directory, cells, met=None):
-        self.store = Store(directory, cells, met)
+    def __init__(self, directory, cells, tags=0, met=None):
+        self.store = Store(directory, cells, tags, met)
         self.met = self.store.met
         self.store.restart()
         self.numbers = {}  # the LSN of each commit of this incarnation, by transaction
@@ -146,8 +146,9 @@ class Script:
 
     def finish(self, *sub):
         deed = self.call("finish", sub)
-        self.met["Undone" if deed is None else "Sent"] += 1
-        return "undone" if deed is None else "sent"
+        kind, said = ("Undone", "undone") if deed is None else ("Marked", "marked") if deed.kind == "mark" else ("Sent", "sent")
+        self.met[kind] += 1
+        return said
 
     def recv(self, txn, picked):
         return self.received(self.call("start_receive", txn, picked), "AnyTakeStarted", "NoneOfAny")
@@ -169,6 +170,13 @@ class Script:
         self.whole(sub)
         self.met["GroupClosed"] += 1
         return "closed"
+
+    def mark(self, *words):
+        sub = self.call("start_mark", *words)
+        self.met["MarkStarted"] += 1
+        self.whole(sub)
+        self.met["Marked"] += 1
+        return "marked"
 
     def commit(self, txn):
         self.numbers[txn] = self.call("commit", txn)
@@ -231,6 +239,11 @@ class Script:
         self.met["LastTag"] += 1
         return f"last {sent} {tag}"
 
+    def tag(self, client):
+        count, tag = self.call("client_tag", client)
+        self.met["ClientTag" if count else "NoClientTag"] += 1
+        return f"tag {count} {tag}"
+
     def dump(self):
         try:
             groups = self.call("content")
@@ -286,10 +299,10 @@ class Script:
         return f"restarted {incarnation} unfinished {unfinished} lost {lost}".encode()
 
 
-def printed_by(lines, directory, cells, told=(), met=None):
-    """All that a script prints, and its exit status. The lines told, behind that of the opening, tell which group a receive takes
-    from."""
-    script, place = Script(directory, cells, met), 1
+def printed_by(lines, sizes, told=()):
+    """All that a script prints over a store of these sizes, and its exit status. The lines told, behind that of the opening, tell which
+    group a receive takes from."""
+    script, place = Script(*sizes), 1
     for line in lines:
         printed = script.run(line, told[place] if place < len(told) else b"")
         place += printed.count(b"\n") + 1  # a dump prints a line for each group

@@ -30,8 +30,8 @@ from shim import failing
 sys.dont_write_bytecode = True
 sys.path.insert(0, str(TOP / "clients" / "python"))
 from rqm import (  # noqa: E402
-    Closed, Connection, DiskWrite, Failed, Full, Lost, Passing, ReceiverBusy, SenderBusy, TooManyTransactions,
-    UnknownSender, UnknownTransaction,
+    ClientBusy, Closed, Connection, DiskWrite, Failed, Full, Lost, Passing, ReceiverBusy, SenderBusy, TooManyTransactions,
+    UnknownClient, UnknownSender, UnknownTransaction,
 )  # fmt: skip
 
 # How many bytes the length at the head of a record has, and a Base with it.
@@ -67,6 +67,22 @@ CLOSING = [
     ("0001 07", "0001 87"),
 ]
 
+# The session there that marks a client, over a store with a tag page, and what comes behind it.
+MARKING = [
+    ("0001 01", "0011 81 0000000000000001 0000000000000001"),
+    ("000d 09 00000003 0000000000000046", "0001 89"),
+    ("0005 0a 00000003", "0011 8a 0000000000000000 0000000000000000"),
+    ("000d 09 0000000f 0000000000000047", "0002 ff 16"),
+    ("0001 06", "0009 86 0000000000000004"),
+    ("0005 0a 00000003", "0011 8a 0000000000000001 0000000000000046"),
+    ("000d 09 00000003 0000000000000047", "0002 ff 04"),
+    ("0001 01", "0011 81 0000000000000001 0000000000000002"),
+    ("000d 09 00000003 0000000000000047", "0001 89"),
+    ("0001 07", "0001 87"),
+    ("0005 0a 00000003", "0011 8a 0000000000000001 0000000000000046"),
+    ("0005 0a 0000000f", "0002 ff 16"),
+]
+
 # A begin and a send, and what each answers; a count stands behind the incarnation.
 BEGIN = bytes.fromhex("0001 01")
 BEGIN_AND_SEND = BEGIN + bytes.fromhex("0012 02 00000000 0000000000000007 68656c6c6f")
@@ -77,7 +93,8 @@ SENT = bytes.fromhex("0001 82")
 FAULTS = [
     "0201", "0000", "ffff", "0001 00", "0001 09", "0001 0c", "0001 81", "0009 ff", "0002 01 00", "0002 03 00", "0002 06 00",
     "0002 07 00", "0001 04", "0004 04 000000", "0006 04 00000000 00", "0001 05", "0001 08", "000c 02 00000000 00000000000000",
-    "0005 0c", "0200 0c",
+    "0005 0c", "0200 0c", "0001 0a", "0001 0b", "0005 09 00000003", "000c 09 00000003 00000000000000",
+    "000e 09 00000003 0000000000000046 00", "0004 0a 000000", "0006 0a 00000003 00", "0005 0b 00000003",
 ]  # fmt: skip
 
 COMMIT, ABORT = bytes.fromhex("0001 06"), bytes.fromhex("0001 07")
@@ -91,6 +108,7 @@ STORE_FAILED = b"the store has failed: it refuses all calls until it is opened a
 # What a client asks that does not read, and the answer.
 LAST_TAG = bytes.fromhex("0005 08 00000000")
 NO_TAG = bytes.fromhex("0011 88 0000000000000000 0000000000000000")
+NO_MARK = bytes.fromhex("0011 8a 0000000000000000 0000000000000000")
 
 # Has a call fail as long as there is a file of its name; a send to the first connection alone. That for a thread fails once so many
 # were made. A sync takes so many milliseconds more, and makes the file SYNCS longer by a byte.
@@ -241,11 +259,12 @@ def serving(program, folder, *words, **limits):
 
 
 @contextmanager
-def store(program, directory=1, cells=1):
+def store(program, directory=1, cells=1, tags=0):
     """A folder with a store of this size."""
     folder = pathlib.Path(tempfile.mkdtemp(prefix="rqm-server-"))
     try:
         words = ["format", str(folder), "--directory", str(directory), "--cells", str(cells)]
+        words += ["--tags", str(tags)] if tags else []
         subprocess.run([program, *words], check=True, stdout=subprocess.DEVNULL)
         yield folder
     finally:
@@ -323,10 +342,10 @@ def everything(connection):
                 held.setdefault(message.sender, []).append((message.tag, message.body))
 
 
-def session_at(program, rows, cut):
+def session_at(program, rows, cut, tags=0):
     asked = b"".join(bytes.fromhex(request) for request, _ in rows)
     wanted = b"".join(bytes.fromhex(answer) for _, answer in rows)
-    with store(program) as folder, serving(program, folder, "--sessions", 1) as server:
+    with store(program, tags=tags) as folder, serving(program, folder, "--sessions", 1) as server:
         with server.raw() as stream:
             if cut is None:
                 for at in range(len(asked)):
@@ -353,6 +372,16 @@ def closing(program, _):
     """A session that closes a group, byte for byte: whole, and a byte at a time."""
     for cut in (0, None):
         session_at(program, CLOSING, cut)
+
+
+def marking(program, _):
+    """The worked session that marks a client, byte for byte: whole, cut at every byte, and a byte at a time. Where there are no tag pages
+    each client is unknown."""
+    length = sum(len(bytes.fromhex(request)) for request, _ in MARKING)
+    with ThreadPoolExecutor(4) as pool:
+        list(pool.map(lambda cut: session_at(program, MARKING, cut, tags=1), [*range(length), None]))
+    unknown = [(request, "0002 ff 16") for request in ("0005 0a 00000000", "000d 09 00000000 0000000000000001")]
+    session_at(program, [unknown[0], SESSION[0], *unknown, ("0001 07", "0001 87")], 0)
 
 
 def faults(program, _):
@@ -406,10 +435,11 @@ def pieces(program, chosen):
 def damaged_streams(program, chosen):
     """Questions in random pieces, of which one byte is another: those before the fault are answered, and nothing is behind it."""
     faults_met = 0
-    with store(program) as folder, serving(program, folder) as server:
+    with store(program, tags=1) as folder, serving(program, folder) as server:
         for seed in range(chosen.seed, chosen.seed + 300):
             draw = random.Random(seed)
-            asked = bytearray(b"".join(struct.pack(">HBI", 5, 8, draw.randrange(20)) for _ in range(draw.randrange(1, 12))))
+            questions = (struct.pack(">HBI", 5, draw.choice([8, 10]), draw.randrange(20)) for _ in range(draw.randrange(1, 12)))
+            asked = bytearray(b"".join(questions))
             asked[draw.randrange(len(asked))] = draw.getrandbits(8)
             wanted, end, is_fault = answers_to(bytes(asked))
             faults_met += is_fault
@@ -426,26 +456,30 @@ def damaged_streams(program, chosen):
 
 
 # How long each request of a fixed length is.
-LENGTHS = {1: 1, 3: 1, 4: 5, 5: 5, 6: 1, 7: 1, 8: 5}
+LENGTHS = {1: 1, 3: 1, 4: 5, 5: 5, 6: 1, 7: 1, 8: 5, 9: 13, 10: 5}
+
+# The last kind of a request.
+LAST_KIND = 10
 
 
 def answers_to(asked):
-    """What docs/PROTOCOL.md says of bytes, on a fresh small store without a transaction. It is the answers, how many bytes there are up
-    to the first fault, and whether there is one."""
+    """What docs/PROTOCOL.md says of bytes, on a fresh small store with a tag page, without a transaction. It is the answers, how many bytes
+    there are up to the first fault, and whether there is one."""
     at, answers = 0, b""
     while len(asked) - at > 2:
         length, kind = int.from_bytes(asked[at : at + 2], "big"), asked[at + 2]
         if not 1 <= length <= 512:
             return answers, at + 2, True
-        if not 1 <= kind <= 8:
+        if not 1 <= kind <= LAST_KIND:
             return answers, at + 3, True
         end = at + 2 + length
         if end > len(asked):
             return answers, len(asked), False
         if length < 13 if kind == 2 else length != LENGTHS[kind]:
             return answers, end, True
-        sender = int.from_bytes(asked[at + 3 : end], "big")
-        answers += bytes.fromhex("0002 ff 04") if kind != 8 else NO_TAG if sender < 15 else bytes.fromhex("0002 ff 07")
+        is_known = int.from_bytes(asked[at + 3 : end], "big") < 15
+        told = {8: NO_TAG if is_known else bytes.fromhex("0002 ff 07"), 10: NO_MARK if is_known else bytes.fromhex("0002 ff 16")}
+        answers += told.get(kind, bytes.fromhex("0002 ff 04"))
         at = end
     return answers, len(asked), False
 
@@ -1076,6 +1110,51 @@ def lost_answers(program, chosen):
     assert told.count(True) > 10 and told.count(False) > 10, told
 
 
+def batches(program, chosen):
+    """A client is marked with the number of each batch of messages. Connections end behind marks that are not answered, in front of
+    commits, or between these and their answers. It goes on as the client's page says: each batch is there once, in order."""
+    draw = random.Random(chosen.seed)
+    wanted = [[(0, number, b"%d" % at) for at in range(draw.randrange(1, 4))] for number in range(1, 101)]
+    done, told, cut, busy, until = None, [], 0, 0, time.monotonic() + 10 * LONGEST
+    with store(program, 1, 30, 1) as folder, serving(program, folder) as server:
+        while done is None or done < len(wanted):
+            assert time.monotonic() < until, f"it does not come beyond {done}"
+            try:
+                with server.connect() as connection:
+                    before, done = done, connection.settled_tag(3).tag
+                    told += [] if before is None else [done > before]
+                    while done < len(wanted):
+                        with connection.transaction() as transaction:
+                            if draw.randrange(4) == 0:
+                                cut += 1
+                                cut_behind_mark(connection, draw, done + 1)
+                            transaction.mark(3, done + 1)
+                            for message in wanted[done]:
+                                transaction.send(*message)
+                            cut_off(connection, draw)
+                        done += 1
+            except ConnectionError:
+                pass
+            except ClientBusy:  # by a mark that was carried out late
+                busy += 1
+                time.sleep(0.001)
+        assert cut > 10 and busy <= cut, (cut, busy)
+        with server.connect() as connection:
+            assert connection.client_tag(3) == (100, 100) and connection.client_tag(4) == (0, 0)
+            assert everything(connection) == {0: [message[1:] for batch in wanted for message in batch]}
+    assert told.count(True) > 10 and told.count(False) > 10, told
+    return f"{cut} marks cut off, {busy} times busy"
+
+
+def cut_behind_mark(connection, draw, tag):
+    """Ends the connection behind a mark of the client 3, whose answer nobody reads."""
+    connection.socket.sendall(frame_of(9, struct.pack(">IQ", 3, tag)))
+    time.sleep(draw.choice([0, 0, 0.0002]))
+    if draw.random() < 0.5:
+        reset(connection.socket)
+    connection.close()
+
+
 def cut_off(connection, draw):
     """Ends the connection, mostly: behind a commit, whose answer nobody reads, or in front of it."""
     kind = draw.randrange(4)
@@ -1090,9 +1169,9 @@ def cut_off(connection, draw):
 
 
 class Client:
-    """One of the clients of `sessions`. It sends for a sender of its own, in every transaction that may be committed, and receives of
-    any. `sent` has its sends that are committed, in order. `taken` has what its commits received, each with the place of the commit,
-    or None where that was not told. `broken` counts where its connections broke off."""
+    """One of the clients of `sessions`. It sends for a sender of its own and marks a client of its own, in every transaction that may be
+    committed, and receives of any sender. `sent` has its sends that are committed, in order. `taken` has what its commits received, each
+    with the place of the commit, or None where that was not told. `broken` counts where its connections broke off."""
 
     def __init__(self, server, number, seed):
         self.server, self.number, self.random = server, number, random.Random(f"{seed}.{number}")
@@ -1133,17 +1212,19 @@ class Client:
         """The send comes first: while the transaction is not ended nobody else can send for its sender. A close would be for good, and is
         never committed."""
         between = self.random.choices(["receive", "receive from", "last tag"], k=self.random.randrange(4))
-        return ["send", *between, *self.random.choice([["commit"]] * 3 + [["abort"]] + [["close", "abort"]] * 2)]
+        return ["send", "mark", *between, *self.random.choice([["commit"]] * 3 + [["abort"]] + [["close", "abort"]] * 2)]
 
     def step(self, transaction, step, body, taken):
         """Whether the transaction can go on."""
         try:
             if step == "send":
                 self.send(transaction, body)
+            elif step == "mark":
+                transaction.mark(self.number, self.tag)
             elif step == "close":
                 transaction.close_sender(self.number)
             elif step == "last tag":
-                assert self.connection.last_tag(self.number) == self.last(), self.number
+                assert self.told() == self.last(), self.number
             else:
                 message = transaction.receive() if step == "receive" else transaction.receive_from(self.random.randrange(64))
                 if message:
@@ -1180,14 +1261,19 @@ class Client:
         if (step, part) == ("commit", WHOLE) and self.connection.was_committed(self.number, self.tag):
             self.broken["committed"] += 1
             self.keep(body, taken, None)
-        assert self.connection.last_tag(self.number) == self.last(), (self.number, step, said)
+        assert self.told() == self.last(), (self.number, step, said)
 
     def frame(self, step, body):
         own, other = (number.to_bytes(4, "big") for number in (self.number, self.random.randrange(64)))
         return {
             "send": frame_of(2, own + self.tag.to_bytes(8, "big") + body), "receive": frame_of(3), "receive from": frame_of(4, other),
             "close": frame_of(5, own), "commit": COMMIT, "abort": ABORT, "last tag": frame_of(8, own),
+            "mark": frame_of(9, own + self.tag.to_bytes(8, "big")),
         }[step]  # fmt: skip
+
+    def told(self):
+        """What the server tells of its sender, and the same of its client."""
+        return told_of(self.connection, self.number)
 
     def last(self):
         """How many sends are committed, and the tag of the last."""
@@ -1215,6 +1301,13 @@ class Client:
         self.taken.append((lsn, taken))
 
 
+def told_of(connection, number):
+    """What is told of the sender and of the client of this number, whose every commit sent and marked once: the same."""
+    of_sender, of_client = connection.last_tag(number), connection.client_tag(number)
+    assert tuple(of_sender) == tuple(of_client), (number, of_sender, of_client)
+    return of_sender
+
+
 def in_threads(works):
     """Runs these at the same time, and raises what one of them raised."""
     with ThreadPoolExecutor(len(works)) as pool:
@@ -1227,11 +1320,11 @@ def sessions(program, chosen):
     committed, is what was sent and committed, each sender's in order and once."""
     told = []
     for workers in (1, 4):
-        with store(program, 5, 20) as folder, serving(program, folder, "--workers", workers) as server:
+        with store(program, 5, 20, 5) as folder, serving(program, folder, "--workers", workers) as server:
             clients = [Client(server, number, chosen.seed) for number in range(64)]
-            in_threads([lambda client=client: client.run(20) for client in clients])
+            in_threads([lambda client=client: client.run(24) for client in clients])
             with server.connect() as connection:
-                tags = [connection.last_tag(client.number) for client in clients]
+                tags = [told_of(connection, client.number) for client in clients]
                 held = everything(connection)
             compare(clients, tags, held)
             told.append(broken_off(clients, 5))
@@ -1246,7 +1339,7 @@ def broken_off(clients, least):
     """How often connections broke off, at each place so many times at least."""
     broken = sum((client.broken for client in clients), Counter())
     committed = broken.pop("committed", 0)
-    steps = "send", "receive", "receive from", "close", "commit", "abort", "last tag"
+    steps = "send", "mark", "receive", "receive from", "close", "commit", "abort", "last tag"
     places = [(step, part) for step in steps for part in (NOTHING, PART, WHOLE)]
     assert min(broken[place] for place in places) >= least and committed >= least, (broken, committed)
     whole = broken["commit", WHOLE]
@@ -1305,6 +1398,7 @@ def client(program, _):
         with connection.transaction():
             raises(TooManyTransactions, connection.transaction)
         raises(UnknownSender, lambda: connection.last_tag(15))
+        raises(UnknownClient, lambda: connection.client_tag(0))
         raises(UnknownTransaction, transaction.receive)
         assert connection.was_committed(0, 8) and not connection.was_committed(0, 9)
         with connection.transaction() as transaction:
@@ -1312,6 +1406,23 @@ def client(program, _):
         with connection.transaction() as transaction:
             raises(Closed, lambda: transaction.send(0, 9, b"more"))
         assert connection.was_committed(0, 8) and not connection.was_committed(0, 9), "of a closed group"
+    with store(program, tags=1) as folder, serving(program, folder) as server, server.connect() as connection, server.connect() as other:
+        port = ["--port", server.port]
+        assert said("tag", *port, 3) == (0, b"0 0\n")
+        assert said("mark", *port, 3, 70) == (0, b"4\n")
+        assert said("mark", *port, 3, 2**64 - 1) == (0, b"7\n")
+        assert said("mark", *port, 15, 1) == (1, b"")
+        assert said("tag", *port, 3) == (0, b"2 18446744073709551615\n")
+        assert said("tag", *port, 15) == (1, b"")
+        with connection.transaction() as transaction:
+            transaction.mark(3, 71)
+            with other.transaction() as beside:
+                raises(ClientBusy, lambda: beside.mark(3, 72))
+                beside.mark(4, 9)
+            assert other.client_tag(3) == (2, 2**64 - 1) and other.client_tag(4) == connection.client_tag(4) == (1, 9)
+            transaction.abort()
+        assert connection.settled_tag(3) == (2, 2**64 - 1) and connection.settled_tag(14) == (0, 0)
+        raises(UnknownClient, lambda: connection.settled_tag(15))
 
 
 def wait_until(comes, seconds=LONGEST):
@@ -1330,10 +1441,10 @@ def raises(kind, call):
 
 
 TESTS = [
-    starts, session, closing, faults, bodies, pieces, damaged_streams, lost_connections, ends_inside_a_frame,
+    starts, session, closing, marking, faults, bodies, pieces, damaged_streams, lost_connections, ends_inside_a_frame,
     answers_before_a_fault, parted_clients, unread_answers, shared_forces, failing_force, input_ends, served, silent_reader, slow_clients,
     few_descriptors, leaves_nothing, short_logs, quiet_checkpoints, failing_checkpoint, missing_threads, worker_without_reports,
-    refused_connections, many_connections, full_disk, client, lost_answers, sessions,
+    refused_connections, many_connections, full_disk, client, lost_answers, batches, sessions,
 ]  # fmt: skip
 
 

@@ -52,6 +52,10 @@ class Run:
         self.take_out(sender)
         self.add(f"recv-from {txn} {sender}", f"msg {sender} {tag} {body}")
 
+    def mark(self, txn, client, tag):
+        self.operation(1)
+        self.add(f"mark {txn} {client} {tag}", "marked")
+
     def put_in(self, sender):
         self.operation(3 if self.chain[sender] else 2)
         self.chain[sender] += 1
@@ -200,14 +204,26 @@ def most_senders():
 
 
 def most_tags():
-    """A store of as many tag pages as there may be, with as many frames, works as any other."""
+    """Each client of as many tag pages as there may be, with as many frames, is marked. So it is behind a restart, which takes back the
+    marks of another transaction."""
     run = Run("the most tag pages and frames", 1, 1, "--tags", str(MOST_TAGS), "--frames", str(MOST_FRAMES))
+    clients, some = SLOTS * MOST_TAGS, range(7, SLOTS * MOST_TAGS, 997)
     txn = run.begin()
     run.send(txn, 0, 7, "kept")
+    for client in range(clients):
+        run.mark(txn, client, client + 1)
     run.commit(txn)
+    txn = run.begin()
+    for client in some:
+        run.mark(txn, client, 1)
     run.force()
-    run.restart(0, 0)
+    run.restart(0, 1)
+    run.records += 2 * len(some) + 2  # the inverses, the end of the abort, and the restart's own record
     run.dump({0: (1, 0, ["kept"])})
+    for client in (0, *some, clients - 1):
+        run.add(f"tag {client}", f"tag 1 {client + 1}")
+    run.add(f"tag {clients}", "refused 22 UnknownClient")
+    run.force()
     return run
 
 

@@ -29,7 +29,7 @@ from worlds import Worlds
 BASES = [
     "restarts-that-are-stopped-go-on", "a-lost-receive-from-a-full-store-is-undone",
     "five-senders-on-five-directory-pages-and-a-forced-send", "commits-are-acknowledged-and-pages-written-amid-what-is-lost",
-    "checkpoints-amid-commits-and-what-is-lost",
+    "checkpoints-amid-commits-and-what-is-lost", "a-mark-is-under-way-beside-others",
 ]  # fmt: skip
 
 # Lists with more in them: receipts of their commits, and these with writes of their pages.
@@ -41,12 +41,10 @@ DEPTH, KEEPS, IMAGES = 3, ("0", str(ALL), "0+20"), (",".join("0" * 16), "-")
 # A restart writes no page: of each, one image is left before and behind it.
 RESTART_IMAGES = ("-",)
 
-LAST = [b"restart", b"content"]
-
 
 class Base:
     """A list, as far as it goes by itself. It may be given receipts, and its pages may be written. `places` has each of its device calls, by
-    the line and the number of the call there."""
+    the line and the number of the call there. `last` comes behind a way: it asks for the clients that were marked."""
 
     def __init__(self, program, name, more=""):
         self.name, self.sizes = name, [int(word) for word in Worlds.cases.words_of(name)]
@@ -59,6 +57,8 @@ class Base:
             before = world.store.devices.calls
             world.happen(line, picked_at(self.lines, self.printed, at))
             self.places += [(at, call) for call in range(1, world.store.devices.calls - before + 1)]
+        clients = sorted({int(line.split(b" ")[2]) for line in self.lines if line.startswith(b"start-mark ")})
+        self.last = [b"restart", *(b"tag %d" % client for client in clients), b"content"]
         assert world.printed == self.printed, self.name
         assert more != ACKNOWLEDGED or acknowledged(self.lines, self.printed), name
 
@@ -175,26 +175,29 @@ def calls_of_restart(world):
 
 def fault(program, base, lines):
     """What is wrong with what a list comes to with a whole restart behind it; None where nothing is."""
-    lines = lines + LAST
+    lines = lines + base.last
     (printed, status), world = printed_by(program, base.sizes, lines), base.told(lines)
     given = b"".join(line + b"\n" for line in lines).decode()
     replay = f"{base.name}: {program} {' '.join(map(str, base.sizes))} < the list\n{given}"
     if (printed, status) != (world.printed, 0):
         return f"{replay}  printed {printed[-3:]}, status {status}, wanted {world.printed[-3:]}"
-    if not printed[-2].startswith(b"restarted "):
-        return f"{replay}  is not open: {printed[-2]}"
-    lost = [sender for sender, count in acknowledged(lines, printed).items() if sent_in(printed[-1], sender) < count]
-    return f"{replay}  lacks what was acknowledged of the senders {lost}" if lost else None
+    opened = printed[-len(base.last)]
+    if not opened.startswith(b"restarted "):
+        return f"{replay}  is not open: {opened}"
+    told = dict(zip(base.last, printed[-len(base.last) :]))
+    lost = [whose for whose, count in acknowledged(lines, printed).items() if told_in(told, whose) < count]
+    return f"{replay}  lacks what was acknowledged of the senders, or told by {lost}" if lost else None
 
 
 def acknowledged(lines, printed):
-    """By sender, how many sends are committed of which a receipt was given, by what was printed alone."""
+    """By sender, and by the line that asks for a client's marks, how many sends and marks are committed of which a receipt was given, by
+    what was printed alone."""
     sends, commits, given = {}, {}, Counter()
     for line, said in zip(lines, printed):
         words = line.split(b" ")
-        if words[0] == b"start-send" and said.startswith(b"started "):
-            sends[said.removeprefix(b"started ")] = int(words[2])
-        if words[0] == b"finish" and said == b"sent":
+        if words[0] in (b"start-send", b"start-mark") and said.startswith(b"started "):
+            sends[said.removeprefix(b"started ")] = int(words[2]) if words[0] == b"start-send" else b"tag " + words[2]
+        if words[0] == b"finish" and said in (b"sent", b"marked"):
             commits.setdefault(words[1], []).append(sends[b" ".join(words[1:])])
         receipt = re.fullmatch(rb"receipt ([0-9.]+) [0-9]+", said)
         if receipt:
@@ -202,10 +205,13 @@ def acknowledged(lines, printed):
     return given
 
 
-def sent_in(content, sender):
-    """How many committed sends of a sender a line of content tells."""
-    group = re.search(rb" / %d ([0-9]+) " % sender, content)
-    return int(group[1]) if group else 0
+def told_in(told, whose):
+    """How many committed sends of a sender the line of content tells, or marks of a client the answer to this line."""
+    if whose in told:
+        found = re.fullmatch(rb"tag ([0-9]+) [0-9]+", told[whose])
+    else:
+        found = re.search(rb" / %d ([0-9]+) " % whose, told[b"content"])
+    return int(found[1]) if found else 0
 
 
 def run(program, base, seeds):

@@ -22,6 +22,7 @@ READERS = {
     b"begin": [], b"start-receive": [txn_of], b"start-receive-from": [txn_of, int], b"start-close": [txn_of, int],
     b"step": [txn_of, int], b"finish": [txn_of, int], b"commit": [txn_of], b"start-abort": [txn_of], b"undo-next": [txn_of],
     b"end-abort": [txn_of], b"hand-over": [], b"force": [], b"checkpoint": [], b"write": [int], b"last": [int], b"content": [],
+    b"start-mark": [txn_of, int, int], b"tag": [int],
 }  # fmt: skip
 
 
@@ -38,7 +39,7 @@ class World:
     """A store to which anything may happen. `printed` has a line for each happening so far; `met` is counted as by a store."""
 
     def __init__(self, directory, cells, tags=0, met=None):
-        self.store = Store(directory, cells, met, tags)
+        self.store = Store(directory, cells, tags, met)
         self.met = self.store.met
         self.printed = []
         self.numbers = {}  # transaction and LSN of the commit that a happening answered, by its number from 1
@@ -139,7 +140,7 @@ class World:
             words = [tuple(words)]
         if name == b"start-receive":
             words.append(picked)
-        call = {b"write": "write_page", b"last": "last_tag"}.get(name, name.decode().replace("-", "_"))
+        call = {b"write": "write_page", b"last": "last_tag", b"tag": "client_tag"}.get(name, name.decode().replace("-", "_"))
         try:
             came = self.store.call(call, *words)
         except Refused as refused:
@@ -167,6 +168,9 @@ class World:
     def said_of_start_close(self, sub, _):
         return self.started(sub, "CloseStarted", "", "")
 
+    def said_of_start_mark(self, sub, _):
+        return self.started(sub, "MarkStarted", "", "")
+
     def said_of_undo_next(self, sub, _):
         return self.started(sub, "UndoStarted", "nothing-left", "NothingLeft")
 
@@ -178,7 +182,7 @@ class World:
             return "undone", "Undone"
         if deed.kind == "take":
             return f"message {deed.sender} {deed.tag} ".encode() + deed.body, "Received"
-        return ("sent", "Sent") if deed.kind == "append" else ("closed", "GroupClosed")
+        return {"append": ("sent", "Sent"), "close": ("closed", "GroupClosed"), "mark": ("marked", "Marked")}[deed.kind]
 
     def said_of_commit(self, lsn, words):
         self.numbers[len(self.printed) + 1] = words[0], lsn
@@ -204,6 +208,9 @@ class World:
 
     def said_of_last_tag(self, last, _):
         return f"last {last[0]} {last[1]}", "LastTag"
+
+    def said_of_client_tag(self, last, _):
+        return f"tag {last[0]} {last[1]}", "ClientTag" if last[0] else "NoClientTag"
 
     def said_of_content(self, groups, _):
         said = [f"content {len(groups)}".encode()]

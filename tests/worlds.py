@@ -44,6 +44,8 @@ WANTED = {
     "CheckpointFailedInReplace": 62, "CheckpointStoppedInForce": 95, "CheckpointStoppedInWrite": 82,
     "CheckpointStoppedInSync": 75, "CheckpointStoppedInReplace": 67, "BaseAlone": 480, "BaseShorter": 930, "BaseTorn": 230,
     "BaseOld": 93, "BaseNewest": 180, "BaseLost": 350, "BaseUnfinished": 330, "StoppedOverBase": 310, "GivenOverBase": 420,
+    "MarkStarted": 1200, "Marked": 1000, "MarkedAgain": 68, "MarkUndone": 140, "MarkLost": 280, "MarkCut": 72, "UnmarkCut": 22,
+    "MarkPage": 100, "UnmarkPage": 20, "ClientTag": 140, "NoClientTag": 800, "ClientBusy": 200, "UnknownClient": 50,
 }  # fmt: skip
 
 LENGTH = 160
@@ -51,7 +53,7 @@ LENGTH = 160
 
 def sizes_of(seed):
     """Directory pages, cell pages and tag pages of the store of a seed."""
-    return {0: (2, 2, 0), 5: (1, 2, 1), 7: (3, 2, 0)}.get(seed % 9 if seed % 3 else 0, (1, 1, 0))
+    return {0: (2, 2, 0), 5: (1, 2, 1), 7: (3, 2, 0), 8: (1, 1, 2)}.get(seed % 9 if seed % 3 else 0, (1, 1, 0))
 
 
 class Drawing:
@@ -168,6 +170,8 @@ class Drawing:
         return self.other_call()
 
     def other_call(self):
+        if self.store.clients and not self.fills and self.is_first_of(5):
+            return self.of_client()
         kind = self.random.randrange(27)
         if kind < 3:
             return ("begin",) if len(self.store.rows) < 3 else ("commit", self.txn())
@@ -188,6 +192,13 @@ class Drawing:
         if kind == 25:
             return self.random.choice(["undo-next", "end-abort"]), self.txn()
         return {21: ("content",), 24: ("start-abort", self.txn()), 26: ("last", self.sender())}.get(kind) or ("commit", self.txn())
+
+    def of_client(self):
+        """A mark, or what a client's marks are told to be."""
+        client = self.random.randrange(17 if self.is_first_of(10) else 3) + 15 * self.random.randrange(self.sizes[2])
+        if self.is_first_of(3):
+            return "tag", client
+        return "start-mark", self.txn(), client, self.random.choice([0, ALL, self.random.getrandbits(31), len(self.lines)])
 
     def send(self):
         length = {0: 216, 1: 217}.get(self.random.randrange(24), self.random.randrange(9))
@@ -215,7 +226,7 @@ class Calls(courses.Drawing):
     """A course of tests/courses.py, call by call: receives and closes are under way beside others, too."""
 
     NAMES = {"open-send": "start-send", "send": "start-send", "recv": "start-receive", "recv-from": "start-receive-from",
-             "close": "start-close", "abort": "start-abort", "undo": "undo-next", "dump": "content"}  # fmt: skip
+             "close": "start-close", "mark": "start-mark", "abort": "start-abort", "undo": "undo-next", "dump": "content"}  # fmt: skip
 
     def __init__(self, seed, met):
         super().__init__(seed, met, World)

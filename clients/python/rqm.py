@@ -29,11 +29,34 @@ send, which the methods here wait for anyway. Then a new connection tells:
         connection = Connection(7000)
         done = connection.was_committed(sender, tag)       # True: it is durable. False: it never will be; do it again
 
+Over a store with tag pages this is easier. Each transaction marks a client with the number of what it does. Nobody else marks that
+client, and there is one connection at a time. A mark belongs to its transaction, so the last one that is committed tells how far
+these got. Each of these batches is sent once, over connections that are lost and servers that are killed:
+
+    done = None
+    while done is None or done < len(batches):
+        try:
+            with Connection(7000) as connection:
+                done = connection.settled_tag(client).tag  # of batches that are durable; what is beyond never was committed
+                while done < len(batches):
+                    with connection.transaction() as transaction:
+                        transaction.mark(client, done + 1)
+                        for message in batches[done]:
+                            transaction.send(*message)
+                    done += 1
+        except (ConnectionError, Failed, Passing):
+            time.sleep(1)
+
+`ClientBusy` is among what is `Passing`. Where a connection ends between a mark and its answer, the server may carry that mark out
+later, also behind what `settled_tag` told. It is never committed, but until it is undone the loop's own mark is refused.
+
 By hand:
 
     python3 rqm.py send --port 7000 0 7 hello
     python3 rqm.py receive --port 7000 [--sender 0]
     python3 rqm.py last --port 7000 0
+    python3 rqm.py mark --port 7000 3 70
+    python3 rqm.py tag --port 7000 3
 """
 import argparse
 import socket
@@ -49,6 +72,9 @@ Message = namedtuple("Message", "sender tag body")
 
 # How many committed messages a sender has sent, and the tag of the last of them: 0 where there is none.
 LastTag = namedtuple("LastTag", "sent tag")
+
+# How often committed transactions marked a client, and the last tag: 0 where there is none.
+ClientTag = namedtuple("ClientTag", "count tag")
 
 
 class Lost(ConnectionError):
@@ -76,7 +102,7 @@ class NoMemory(Passing):
 
 class Failed(Refused):
     """The store has failed and does nothing until it is opened again. Of a commit: it may be committed all the same, which
-    `was_committed` tells over a new connection."""
+    `was_committed` and `settled_tag` tell over a new connection."""
 
     number = 2
 
@@ -177,11 +203,23 @@ class LogFull(Refused):
     number = 19
 
 
+class UnknownClient(Refused):
+    """The store has no such client."""
+
+    number = 22
+
+
+class ClientBusy(Passing):
+    """Another transaction marked this client."""
+
+    number = 23
+
+
 REFUSALS = {
     refusal.number: refusal
     for refusal in (
         NoMemory, Failed, DiskRead, UnknownTransaction, NotOpen, Unfinished, UnknownSender, TooLong, SenderBusy, Closed,
-        ReceiverBusy, Full, Latched, PoolFull, DiskWrite, Damaged, TooManyTransactions, LogFull,
+        ReceiverBusy, Full, Latched, PoolFull, DiskWrite, Damaged, TooManyTransactions, LogFull, UnknownClient, ClientBusy,
     )
 }  # fmt: skip
 
@@ -189,8 +227,8 @@ REFUSALS = {
 MOMENTARY = (NoMemory, Latched, PoolFull)
 
 # Requests, and the answers where they are done.
-BEGIN, SEND, RECEIVE, RECEIVE_FROM, CLOSE, COMMIT, ABORT, LAST_TAG = range(1, 9)
-BEGUN, SENT, MESSAGE, NONE, CLOSED, COMMITTED, ABORTED, TOLD_LAST_TAG = range(129, 137)
+BEGIN, SEND, RECEIVE, RECEIVE_FROM, CLOSE, COMMIT, ABORT, LAST_TAG, MARK, CLIENT_TAG = range(1, 11)
+BEGUN, SENT, MESSAGE, NONE, CLOSED, COMMITTED, ABORTED, TOLD_LAST_TAG, MARKED, TOLD_CLIENT_TAG = range(129, 139)
 REFUSED = 255
 
 
@@ -223,6 +261,29 @@ class Connection:
     def last_tag(self, sender):
         """What this sender has sent in committed transactions, as a `LastTag`. Their commits may not be durable yet."""
         return LastTag(*struct.unpack(">QQ", self.done(LAST_TAG, struct.pack(">I", sender), TOLD_LAST_TAG)[1]))
+
+    def client_tag(self, client):
+        """How committed transactions marked this client, as a `ClientTag`. Their commits may not be durable yet, and one that was
+        lost may still come."""
+        return ClientTag(*struct.unpack(">QQ", self.done(CLIENT_TAG, struct.pack(">I", client), TOLD_CLIENT_TAG)[1]))
+
+    def settled_tag(self, client):
+        """The same of a client that nobody else marks, once no transaction that was lost can commit any more; all that is told is
+        durable. It is for a new connection, where each commit was sent behind the answer to its mark, for which `mark` waits. A
+        lost transaction whose mark was answered has ended then. One whose mark was not answered never commits. It may still come
+        and hold the client for a moment: then the next mark is refused as `ClientBusy`. Where the server could not undo a lost
+        transaction, this waits until the server ends, and raises `Lost`."""
+        with self.transaction() as with_end:
+            while True:
+                try:
+                    with_end.mark(client, 0)  # any tag will do, since this is aborted
+                    break
+                except ClientBusy:  # by a lost transaction, which has not ended
+                    time.sleep(0.01)
+            told = self.client_tag(client)
+            with_end.abort()
+        self.transaction().commit()  # its record stands behind that of the lost one, and now both are durable
+        return told
 
     def was_committed(self, sender, tag):
         """Whether the transaction was committed that sent `tag` as its last message for `sender`, and whose commit was not
@@ -332,6 +393,10 @@ class Transaction:
         """Closes the group of this sender: behind the commit nothing more is sent there."""
         self.connection.done(CLOSE, struct.pack(">I", sender), CLOSED)
 
+    def mark(self, client, tag):
+        """Marks a client of the store with a tag: any number. It counts once the transaction has committed."""
+        self.connection.done(MARK, struct.pack(">IQ", client, tag), MARKED)
+
     def commit(self):
         """Commits, and waits until that is durable. Answers the place of the commit in the log."""
         _, told = self.connection.done(COMMIT, b"", COMMITTED)
@@ -346,16 +411,21 @@ class Transaction:
 
 
 def words():
-    parser = argparse.ArgumentParser(description="Sends or receives one message, or tells what a sender has sent.")
+    parser = argparse.ArgumentParser(description="Sends or receives one message, marks a client, or tells of a sender or a client.")
     commands = parser.add_subparsers(dest="command", required=True, metavar="COMMAND")
     send = commands.add_parser("send", help="sends one message, and prints its place in the log once it is durable")
     receive = commands.add_parser("receive", help="receives one message, and prints its sender, tag and body, or 'none'")
     last = commands.add_parser("last", help="prints how many messages a sender has sent, and the tag of the last")
-    for command in (send, receive, last):
+    mark = commands.add_parser("mark", help="marks a client with a tag, and prints the mark's place in the log once it is durable")
+    tag = commands.add_parser("tag", help="prints how often a client was marked, and the last tag")
+    for command in (send, receive, last, mark, tag):
         command.add_argument("--port", type=int, required=True, help="the port that the server listens at")
     for command in (send, last):
         command.add_argument("sender", type=int)
-    send.add_argument("tag", type=int)
+    for command in (mark, tag):
+        command.add_argument("client", type=int)
+    for command in (send, mark):
+        command.add_argument("tag", type=int)
     send.add_argument("body", nargs="?", help="from standard input where it is absent")
     receive.add_argument("--sender", type=int, help="from this sender alone")
     return parser.parse_args()
@@ -386,9 +456,21 @@ def tell_last(connection, asked):
     return 0
 
 
+def mark_one(connection, asked):
+    with connection.transaction() as transaction:
+        transaction.mark(asked.client, asked.tag)
+    print(transaction.lsn)
+    return 0
+
+
+def tell_tag(connection, asked):
+    print(*connection.client_tag(asked.client))
+    return 0
+
+
 def main():
     asked = words()
-    command = {"send": send_one, "receive": receive_one, "last": tell_last}[asked.command]
+    command = {"send": send_one, "receive": receive_one, "last": tell_last, "mark": mark_one, "tag": tell_tag}[asked.command]
     try:
         with Connection(asked.port) as connection:
             return command(connection, asked)

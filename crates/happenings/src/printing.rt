@@ -50,6 +50,7 @@ fn print_reply(output: &mut Vec<u8>, reply: &Reply) -> io::Result<()> {
         Reply::Written(Written::Done) => print_word(output, "written"),
         Reply::Written(Written::Nothing) => print_word(output, "not-written"),
         Reply::LastTag(last) => print_numbers(output, "last", &[last.sent, last.tag]),
+        Reply::ClientTag(last) => print_numbers(output, "tag", &[last.count, last.tag]),
         Reply::Content(groups) => print_content(output, groups),
         Reply::Refused(refusal) => print_refusal(output, "refused", *refusal),
     }

@@ -5,9 +5,11 @@
 //!
 //! Calls of a transaction: `begin`, `start-send TXN SENDER TAG BODY` (the body is the rest of the line), `commit TXN`.
 //! Its receives and closes: `start-receive TXN`, `start-receive-from TXN SENDER`, `start-close TXN SENDER`.
+//! Its marks: `start-mark TXN CLIENT TAG`.
 //! Calls of an operation: `step OPERATION`, `finish OPERATION`.
 //! Calls of an abort: `start-abort TXN`, `undo-next TXN`, `end-abort TXN`.
-//! Calls of the store: `hand-over`, `force`, `checkpoint`, `write PAGE`, `last SENDER`, `content`.
+//! Calls of the store: `hand-over`, `force`, `checkpoint`, `write PAGE`, `last SENDER`, `tag CLIENT`,
+//! `content`.
 //! The others: `ack N`, `fail N`, `crash KEPT`, `stop-in N KEPT CALL`, `restart`, `restart-stop N KEPT`.
 use crate::line::Line;
 use rq_core::happening::{Choice, Happening};
@@ -32,6 +34,7 @@ enum Name {
     StartReceive,
     StartReceiveFrom,
     StartClose,
+    StartMark,
     Step,
     Finish,
     Commit,
@@ -43,6 +46,7 @@ enum Name {
     Checkpoint,
     Write,
     Last,
+    Tag,
     Content,
     Ack,
     Fail,
@@ -53,12 +57,13 @@ enum Name {
     Unknown,
 }
 
-const NAMES: [(&[u8], Name); 23] = [
+const NAMES: [(&[u8], Name); 25] = [
     (b"begin", Name::Begin),
     (b"start-send", Name::StartSend),
     (b"start-receive", Name::StartReceive),
     (b"start-receive-from", Name::StartReceiveFrom),
     (b"start-close", Name::StartClose),
+    (b"start-mark", Name::StartMark),
     (b"step", Name::Step),
     (b"finish", Name::Finish),
     (b"commit", Name::Commit),
@@ -70,6 +75,7 @@ const NAMES: [(&[u8], Name); 23] = [
     (b"checkpoint", Name::Checkpoint),
     (b"write", Name::Write),
     (b"last", Name::Last),
+    (b"tag", Name::Tag),
     (b"content", Name::Content),
     (b"ack", Name::Ack),
     (b"fail", Name::Fail),
@@ -169,6 +175,7 @@ fn call_of(alloc: Global, name: Name, line: &mut Line) -> Result<Event, AllocErr
         Name::StartReceive => Event::StartReceive(line.txn()),
         Name::StartReceiveFrom => receive_of(line),
         Name::StartClose => close_of(line),
+        Name::StartMark => mark_of(line),
         Name::Step => Event::Step(line.sub()),
         Name::Finish => Event::Finish(line.sub()),
         Name::Commit => Event::Commit(line.txn()),
@@ -180,6 +187,7 @@ fn call_of(alloc: Global, name: Name, line: &mut Line) -> Result<Event, AllocErr
         Name::Checkpoint => Event::Checkpoint,
         Name::Write => Event::WritePage(line.short()),
         Name::Last => Event::LastTag(line.short()),
+        Name::Tag => Event::ClientTag(line.short()),
         Name::Content => Event::Content,
         _ => no_call(line),
     })
@@ -217,5 +225,15 @@ fn close_of(line: &mut Line) -> Event {
     Event::StartClose {
         txn,
         sender: line.short(),
+    }
+}
+
+fn mark_of(line: &mut Line) -> Event {
+    let txn = line.txn();
+    let client = line.short();
+    Event::StartMark {
+        txn,
+        client,
+        tag: line.number(),
     }
 }

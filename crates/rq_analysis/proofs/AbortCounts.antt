@@ -30,7 +30,7 @@ use Rattle.rq_groups.specs.Ends.{HeldEnds}
 use Rattle.rq_groups.specs.Waiting.{waits}
 use Rattle.rq_store.specs.State.{op_done}
 use Rattle.rq_store.specs.Rows.{placed}
-use Rattle.rq_store.specs.Sends.{KeepsSends}
+use Rattle.rq_store.specs.Sends.{KeepsSends, group_of, place_count}
 use Rattle.rq_store.specs.Fitting.{left_by}
 use Rattle.rq_store.specs.Whole.{IsWhole}
 use Rattle.rq_store.proofs.Grouping.{groups_of}
@@ -60,8 +60,8 @@ lost_placed z log t = sym (back_placed (open_deeds t (items z log)))
 
 pub keeps_sends : (z : Sizes) (log : List Record) → KeepsSends z log (sent_by_log z log)
 keeps_sends z log = record {
-  counts = told_below (λ g. length (sent_in (committed_of log) g)) (sender_count z);
-  tags = told_below (λ g. tag_of (sent_in (committed_of log) g)) (sender_count z);
+  counts = told_below (λ i. length (sent_in (committed_of log) (group_of z i))) (place_count z);
+  tags = told_below (λ i. tag_of (sent_in (committed_of log) (group_of z i))) (place_count z);
 }
 
 module _ (z : Sizes) (log : List Record) (ends : HeldEnds) (i b : ℕ) (whole : IsWhole z log) (idle : (o : Sub) → under_way o (items z log) ≡ false) (k : AreStanding z log ends (lost_rows z log) i b) where

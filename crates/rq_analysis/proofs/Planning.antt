@@ -1,18 +1,20 @@
 -- What is due first can be taken back.
-use Rattle.std.proofs.Common.{◌≡◌, ◌/◌, ◌++◌, ℕ, not, List, [], ◌∷◌, Option, Some, None, inl, inr, refl, false, sym, ◌∙◌, ap, subst, arith}
+use Rattle.std.proofs.Common.{◌≡◌, ◌/◌, ◌++◌, ℕ, not, List, [], ◌∷◌, length, Option, Some, None, inl, inr, refl, false, sym, ◌∙◌, ap, subst, arith}
 use Rattle.std.proofs.lemmas.Bool.{eq-eqb}
+use Rattle.std.proofs.lemmas.List.{length-append}
 use Rattle.rq_model.specs.declared.record.Deed.{Deed}
 use Rattle.rq_model.specs.declared.record.Deed.TheVariants.{Append, UnlinkHead, Close, Mark}
 use Rattle.rq_model.specs.declared.record.Record.{Record}
 use Rattle.rq_model.specs.declared.record.Record.TheVariants as records
 use Rattle.rq_model.specs.Deeds.{deed_by}
 use Rattle.rq_model.specs.Unended.{lost}
-use Rattle.rq_model.specs.Vocabulary.{In}
+use Rattle.rq_model.specs.Vocabulary.{In, client_group}
 use Rattle.rq_model.proofs.Lists.{In-filter}
-use Rattle.rq_page.specs.Sizes.{Sizes, directory_at}
+use Rattle.rq_page.specs.Sizes.{Sizes, client_slot_at, directory_at}
 use Rattle.rq_views.specs.InStore.{InStore, IsDeedOf}
 use Rattle.rq_views.specs.Chain.{View}
 use Rattle.rq_views.specs.Items.{ReadsItsDeeds, items, told_deed}
+use Rattle.rq_views.specs.Legal.{view}
 use Rattle.rq_views.specs.Log.{Slots}
 use Rattle.rq_views.specs.Stored.{slots_in}
 use Rattle.rq_views.proofs.CanUndo.{can_undo_sent, can_undo_taken}
@@ -28,7 +30,7 @@ use Rattle.rq_store.proofs.RowLists.{none_under}
 use Rattle.rq_sound.specs.Sound.{IsSound}
 use Rattle.rq_sound.specs.Calls.{IsIdle}
 use Rattle.rq_sound.specs.Groups.{TellsGroup, slots_now}
-use Rattle.rq_sound.proofs.Groups.{none_latched, slots_tell}
+use Rattle.rq_sound.proofs.Groups.{none_latched, shows_tag, slots_tell}
 use Rattle.rq_sound.proofs.Planned.{sent_last}
 use Rattle.rq_sound.specs.Inverses.{StandsOn}
 use Rattle.rq_sound.proofs.Inverses.{may_be_undone, open_deed}
@@ -36,7 +38,7 @@ use Rattle.rq_analysis.specs.declared.dues.PendingUndo.{PendingUndo}
 use Rattle.rq_analysis.specs.Choices.{least_free}
 use Rattle.rq_analysis.specs.Dues.{deed_due, due_of, dues, finished_due}
 use Rattle.rq_analysis.specs.Moves.{newest_store}
-use Rattle.rq_analysis.specs.Walk.{DuesCanBeUndone, IsBetween, ShowsUndone, StandsLast}
+use Rattle.rq_analysis.specs.Walk.{DuesCanBeUndone, IsBetween, IsLastOf, ShowsUndone, StandsLast}
 use Rattle.rq_analysis.proofs.Choosing.{chosen_back}
 use Rattle.rq_analysis.proofs.Stacks.{in_newest}
 use Rattle.rq_analysis.proofs.Logging.{come_sizes, come_sound}
@@ -65,12 +67,12 @@ pub stands_idle : (s : State) (z : Sizes) (pages : List (List ℕ)) → s.sizes 
 stands_idle s z pages sizes images idle = record { sizes = sizes; images = images; latches = λ p. none_latched s.rows p idle }
 
 -- where nothing is under way, the slots show that a transaction's newest deed was done last at its end
-last_stands : (s : State) (r : Row) (rest : List Finished) (f : Finished) → IsSound s → IsIdle s r → any_under s.rows ≡ false → r.finished ≡ rest ++ f ∷ [] → IsDeedOf s.sizes f.deed → StandsLast (slots_now s) f.deed
+last_stands : (s : State) (r : Row) (rest : List Finished) (f : Finished) → IsSound s → IsIdle s r → any_under s.rows ≡ false → r.finished ≡ rest ++ f ∷ [] → IsDeedOf s.sizes f.deed → StandsLast s.sizes (slots_now s) f.deed
 last_stands s r rest f k m idle newest below = at f.deed refl below where
   q : Slots
   q = slots_now s
 
-  at : (d : Deed) → f.deed ≡ d → IsDeedOf s.sizes d → StandsLast q d
+  at : (d : Deed) → f.deed ≡ d → IsDeedOf s.sizes d → StandsLast s.sizes q d
   at (Append g n tag previous body) e low =
       let shows = slots_tell.shows s g k low (slots_tell.none_latched s (directory_at g / 16) idle) in
       let d = shows.directory in
@@ -80,18 +82,24 @@ last_stands s r rest f k m idle newest below = at f.deed refl below where
       let sent = tells.sent in
       let is : d.sent ≡ n = (let a = number.0 in omega (arith, a, received, sent)) in
       let tail = tells.tail (let b = number.1 in omega (arith, b, sent)) in
-      record { directory = d; at = shows.at; last = (is, record { cell = tail.cell; stands = tail.at; number = tail.sequence ∙ is }) }
+      subst (λ x. IsLastOf q x (Append g n tag previous body)) (sym shows.at) (refl, is, record { cell = tail.cell; stands = tail.at; number = tail.sequence ∙ is })
   at (UnlinkHead g n tag body) e low =
       let shows = slots_tell.shows s g k low (slots_tell.none_latched s (directory_at g / 16) idle) in
       let tells : TellsGroup s g shows.directory = slots_tell.tells s g shows.directory k low (slots_tell.none_latched s (directory_at g / 16) idle) shows.at in
       let x = can_undo_taken g (items s.sizes s.records) r.txn f.lsn g n tag body (placed rest) (groups_of s.sizes s.records k.log) (open_deed s r rest f k m newest (UnlinkHead g n tag body) e) (eq-eqb g g refl) in
-      record { directory = shows.directory; at = shows.at; last = sym tells.received ∙ x.0 }
+      subst (λ y. IsLastOf q y (UnlinkHead g n tag body)) (sym shows.at) (refl, sym tells.received ∙ x.0)
   at (Close g) e low =
       let shows = slots_tell.shows s g k low (slots_tell.none_latched s (directory_at g / 16) idle) in
       let tells : TellsGroup s g shows.directory = slots_tell.tells s g shows.directory k low (slots_tell.none_latched s (directory_at g / 16) idle) shows.at in
       let x = can_undo_sent g (items s.sizes s.records) r.txn (record { lsn = f.lsn; deed = Close g }) (placed rest) (groups_of s.sizes s.records k.log) (open_deed s r rest f k m newest (Close g) e) (eq-eqb g g refl) in
-      record { directory = shows.directory; at = shows.at; last = sym tells.closed ∙ ap (λ (v : View). v.closed) x.1 }
-  at (Mark c tag previous) e low = absurd low.2
+      subst (λ y. IsLastOf q y (Close g)) (sym shows.at) (refl, sym tells.closed ∙ ap (λ (v : View). v.closed) x.1)
+  at (Mark c tag previous) e low =
+      let shows = shows_tag s c k low.0 (slots_tell.none_latched s (client_slot_at s.sizes c / 16) idle) in
+      let x = can_undo_sent (client_group c) (items s.sizes s.records) r.txn (record { lsn = f.lsn; deed = Mark c tag previous }) (placed rest) (groups_of s.sizes s.records k.log) (open_deed s r rest f k m newest (Mark c tag previous) e) (eq-eqb (client_group c) (client_group c) refl) in
+      let one : length (view (items s.sizes s.records) (client_group c)).messages ≡ length (x.0.messages ++ (tag, []) ∷ []) = ap (λ (v : View). length v.messages) x.1 in
+      let more = length-append x.0.messages ((tag, []) ∷ []) in
+      let count = shows.count in
+      subst (λ y. IsLastOf q y (Mark c tag previous)) (sym shows.at) (shows.own, omega (arith, one, more, count), shows.tag ∙ ap (λ (v : View). v.last_tag) x.1)
 
 pub due_may : (base : State) (images : List (List ℕ)) (log : List Record) (d : PendingUndo) (ds : List PendingUndo) → IsSound base → IsBetween base images log → least_free (dues log) (lost log) ≡ None → dues log ≡ d ∷ ds
     → ShowsUndone base.sizes images log (deed_due d)
@@ -109,7 +117,7 @@ due_may base images log d ds k b none first =
       records_are = b.come.records_are;
       idle = b.idle;
       may = may_be_undone s h.0 h.1 (finished_due d) sound m h.3.last;
-      last = subst (λ z. StandsLast (slots_in z images) (deed_due d)) sizes (subst (λ x. StandsLast (slots_in s.sizes x) (deed_due d)) b.come.images_are (last_stands s h.0 h.1 (finished_due d) sound m b.idle h.3.last below));
+      last = subst (λ z. StandsLast z (slots_in z images) (deed_due d)) sizes (subst (λ x. StandsLast s.sizes (slots_in s.sizes x) (deed_due d)) b.come.images_are (last_stands s h.0 h.1 (finished_due d) sound m b.idle h.3.last below));
     }
 
 pub dues_undone : DuesCanBeUndone

@@ -46,8 +46,8 @@ pub record Laws : Type 0 where
   pub aborts_go_on : AbortsGoOn
   -- It sets out where history is repeated, and comes to an end, at which the log is recovered.
   pub aborts_come_to_an_end : AbortsComeToAnEnd
-  -- What is due first tells a deed of a sender that the store has, and may be undone in a sound store with these
-  -- pages.
+  -- What is due first tells a deed of a sender or client that the store has, and may be undone in a sound store with
+  -- these pages.
   pub dues_can_be_undone : DuesCanBeUndone
   -- At each moment its log is whole, and stays so by the record that is next.
   pub logs_on_the_way_are_whole : LogsOnTheWayAreWhole

@@ -22,6 +22,7 @@ use Rattle.rq_groups.specs.declared.Held.{Held}
 use Rattle.rq_groups.specs.Ends.{HeldEnds, with_held}
 use Rattle.rq_groups.specs.Sent.{SentBy}
 use Rattle.rq_store.specs.Fitting.{AllHoldBase, FitsLog, image_in, left_by, oldest}
+use Rattle.rq_store.specs.Sends.{group_of, place_count}
 use Rattle.rq_store.specs.State.{State}
 use Rattle.rq_store.specs.Whole.{IsWhole}
 use Rattle.rq_sound.specs.Counted.{takes_all, takes_in}
@@ -91,11 +92,11 @@ begins_in (r ∷ log) = max (count_of (txn_of r)) (begins_in log)
 abbrev pub waiting_beside : Sizes → List Record → List Row → List ℕ
 waiting_beside z log rows = map (λ g. length (rest_in (committed_of log) g) - sum_by (takes_in g) rows) (below (sender_count z))
 
--- what each sender's committed sends come to
+-- what each sender's committed sends, and each client's marks, come to
 abbrev pub sent_by_log : Sizes → List Record → SentBy
 sent_by_log z log = record {
-  counts = map (λ g. length (sent_in (committed_of log) g)) (below (sender_count z));
-  tags = map (λ g. tag_of (sent_in (committed_of log) g)) (below (sender_count z));
+  counts = map (λ i. length (sent_in (committed_of log) (group_of z i))) (below (place_count z));
+  tags = map (λ i. tag_of (sent_in (committed_of log) (group_of z i))) (below (place_count z));
 }
 
 -- the store with these transactions, of whose log this many records are forced

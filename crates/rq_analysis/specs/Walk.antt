@@ -10,13 +10,11 @@ use Rattle.rq_model.specs.Deeds.{deed_by}
 use Rattle.rq_model.specs.Unended.{lost}
 use Rattle.rq_model.specs.Vocabulary.{In}
 use Rattle.rq_page.specs.declared.cell.Cell.{Cell}
-use Rattle.rq_page.specs.declared.directory.Directory.{Directory}
-use Rattle.rq_page.specs.Sizes.{Sizes, directory_at}
-use Rattle.rq_page.specs.Slots.{IsSlotOf}
-use Rattle.rq_page.specs.Slots.Slot.{Sender, Used}
+use Rattle.rq_page.specs.Sizes.{Sizes}
+use Rattle.rq_page.specs.Slots.{IsSlotOf, Slot}
+use Rattle.rq_page.specs.Slots.Slot.{Client, Sender, Used}
 use Rattle.rq_views.specs.Log.{Slots}
 use Rattle.rq_views.specs.InStore.{IsDeedOf}
-use Rattle.rq_views.specs.Plans.{deed_sender}
 use Rattle.rq_views.specs.Plans.Turn.{Undid}
 use Rattle.rq_views.specs.Stored.{slots_in}
 use Rattle.rq_level.specs.declared.writes.SlotWrite.{SlotWrite}
@@ -27,7 +25,7 @@ use Rattle.rq_store.specs.Steps.{page_op}
 use Rattle.rq_store.specs.Whole.{IsWhole}
 use Rattle.rq_sound.specs.Calls.{IsPutIn}
 use Rattle.rq_sound.specs.Plans.{IsPlannedFrom}
-use Rattle.rq_sound.specs.Rows.{comp_end}
+use Rattle.rq_sound.specs.Rows.{comp_end, own_slot}
 use Rattle.rq_sound.specs.Sound.{IsSound}
 use Rattle.rq_sound.specs.Inverses.{InverseTakesLowest, MayBeUndone, StandsOn}
 use Rattle.rq_analysis.specs.Pages.{IsUndone}
@@ -120,19 +118,18 @@ pub record HasNumber (q : Slots) (a n : ℕ) : Type 0 where
   pub stands : q a ≡ Used cell
   pub number : cell.sequence ≡ n
 
--- what was sent is the last that its group counts, and stands last; what was received is the last that it counts; what
--- was closed is closed. No slots show a mark yet
-abbrev pub IsLastOf : Slots → Directory → Deed → Type 0
-IsLastOf q d (Append g n tag previous body) = (d.sent ≡ n) × HasNumber q d.tail n
-IsLastOf q d (UnlinkHead g n tag body) = d.received ≡ n
-IsLastOf q d (Close g) = d.closed ≡ true
-IsLastOf q d (Mark c tag previous) = ⊥
+-- What was sent is the last that its group counts, and stands last; what was received is the last that it counts; what was
+-- closed is closed; what was marked is the tag that its client's slot holds, which counts a mark.
+abbrev pub IsLastOf : Slots → Slot → Deed → Type 0
+IsLastOf q (Sender s d) (Append g n tag previous body) = (s ≡ g) × (d.sent ≡ n) × HasNumber q d.tail n
+IsLastOf q (Sender s d) (UnlinkHead g n tag body) = (s ≡ g) × (d.received ≡ n)
+IsLastOf q (Sender s d) (Close g) = (s ≡ g) × (d.closed ≡ true)
+IsLastOf q (Client k) (Mark c tag previous) = (k.client ≡ c) × (0 < k.count) × (k.tag ≡ tag)
+IsLastOf q _ _ = ⊥
 
--- as the slots have it, the deed was done last at its end of its group
-pub record StandsLast (q : Slots) (deed : Deed) : Type 0 where
-  pub directory : Directory
-  pub at : q (directory_at (deed_sender deed)) ≡ Sender (deed_sender deed) directory
-  pub last : IsLastOf q directory deed
+-- as the slots have it, the deed was done last at its end of its group, or by its client
+abbrev pub StandsLast : Sizes → Slots → Deed → Type 0
+StandsLast z q deed = IsLastOf q (q (own_slot z deed)) deed
 
 -- a sound store with these pages and this log, in which nothing is under way, and the deed was done last and may be undone
 pub record ShowsUndone (z : Sizes) (images : List (List ℕ)) (log : List Record) (deed : Deed) : Type 0 where
@@ -142,9 +139,9 @@ pub record ShowsUndone (z : Sizes) (images : List (List ℕ)) (log : List Record
   pub records_are : store.records ≡ log
   pub idle : any_under store.rows ≡ false
   pub may : MayBeUndone store deed
-  pub last : StandsLast (slots_in z images) deed
+  pub last : StandsLast z (slots_in z images) deed
 
--- What is due first can be taken back: its OpEnd tells a deed of a sender that the store has, the slots show that it was
+-- What is due first can be taken back: its OpEnd tells a deed of a sender or client that the store has, the slots show that it was
 -- done last, and the plan of its inverse, by the pages alone, is refused for memory only (`Planner::plan_inverse_alone` says
 -- that of any such store).
 pub record DuesCanBeUndone : Type 0 where

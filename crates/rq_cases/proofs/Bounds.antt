@@ -27,7 +27,7 @@ use Rattle.rq_disk.specs.Device.{Images}
 use Rattle.rq_disk.specs.declared.mem_log.MemLog.{MemLog}
 use Rattle.rq_disk.specs.declared.mem_pages.MemPages.{MemPages}
 use Rattle.rq_log.specs.Spelled.{AreSpelled}
-use Rattle.rq_page.specs.Sizes.{Sizes}
+use Rattle.rq_page.specs.Sizes.{Sizes, sender_count}
 use Rattle.rq_txn.specs.declared.Finished.{Finished}
 use Rattle.rq_groups.specs.Waiting.{waits}
 use Rattle.rq_engine.specs.Lists.{done_by}
@@ -278,10 +278,10 @@ module _ (n : ℕ) where
         let taken : sum_by takes_one (done_by s t) ≡ 0 = ap (sum_by takes_one) none_done in
         let ws : (g : ℕ) → waits (with_sends (done_by s t) s.waiting) g ≡ waits s.waiting g =
         (λ g. ap (λ (fs : List Finished). waits (with_sends fs s.waiting) g) none_done) in
-        let counted : (g : ℕ) → sent_count (with_tags (done_by s t) s.sent) g ≡ sent_count s.sent g =
-        (λ g. ap (λ (fs : List Finished). sent_count (with_tags fs s.sent) g) none_done) in
-        let tagged : (g : ℕ) → sent_tag (with_tags (done_by s t) s.sent) g ≡ sent_tag s.sent g =
-        (λ g. ap (λ (fs : List Finished). sent_tag (with_tags fs s.sent) g) none_done) in
+        let counted : (g : ℕ) → sent_count (with_tags (sender_count s.sizes) (done_by s t) s.sent) g ≡ sent_count s.sent g =
+        (λ g. ap (λ (fs : List Finished). sent_count (with_tags (sender_count s.sizes) fs s.sent) g) none_done) in
+        let tagged : (g : ℕ) → sent_tag (with_tags (sender_count s.sizes) (done_by s t) s.sent) g ≡ sent_tag s.sent g =
+        (λ g. ap (λ (fs : List Finished). sent_tag (with_tags (sender_count s.sizes) fs s.sent) g) none_done) in
         let made : Commits n (record { txn = t; lsn = length s.records + 1 }) (one_committed n) =
         deed_steps.commits s (fresh_row t) (one_committed n).cells_in_use (one_committed n).waiting (one_committed n).sent (begun_sound n) refl
         (record { idle = record { at_row = at_row; idle = refl }; forward = refl; freed = omega (arith, taken); waits = λ g low. (let e = ws g in omega (arith, e)); counts = λ g low. (let e = counted g in omega (arith, e)); tags = λ g low. tagged g })

@@ -1,5 +1,5 @@
 -- Each state of the worked run is sound: each call makes the next of the one before.
-use Rattle.std.proofs.Common.{◌≡◌, ℕ, ◌+◌, ◌-◌, ◌<◌, List, [], ◌∷◌, map, None, false, refl, ap, ◌∙◌, subst, arith, zero, suc, nat_eq}
+use Rattle.std.proofs.Common.{◌≡◌, ℕ, ◌+◌, ◌-◌, ◌<◌, List, [], ◌∷◌, map, None, false, refl, sym, ap, ◌∙◌, subst, arith, zero, suc, nat_eq}
 use Rattle.std.proofs.lemmas.Bool.Decides.{nat_tests}
 use Rattle.rq_groups.specs.Waiting.{waits}
 use Rattle.rq_store.specs.Steps.{took, IsPutIn}
@@ -16,12 +16,14 @@ use Rattle.rq_views.specs.Stored.{slots_in, count_used}
 use Rattle.rq_txn.specs.Rows.{fresh_row}
 use Rattle.rq_store.specs.Opening.{messages_told, opened, sent_told as count_told, tag_told}
 use Rattle.rq_groups.specs.Sent.{SentBy, sent_count, sent_tag}
+use Rattle.rq_store.specs.Sends.{group_of, place_count}
 use Rattle.rq_store.specs.Plans.{IsSendPlan, IsTakePlan}
 use Rattle.rq_store.specs.State.{State}
 use Rattle.rq_sound.specs.Calls.{sends_for}
 use Rattle.rq_sound.specs.Counted.{sends_in}
 use Rattle.rq_sound.specs.Sound.{IsSound}
 use Rattle.rq_sound.specs.ModelSteps.{IsModelStep}
+use Rattle.rq_groups.proofs.Clients.{at_sender}
 use Rattle.rq_sound.proofs.AbortSteps.{abort_steps}
 use Rattle.rq_sound.proofs.Opened.{formatted_sound}
 use Rattle.rq_engine.proofs.Standing.{commit_steps, finish_steps, start_steps, step_steps, take_steps}
@@ -143,10 +145,23 @@ sent_tagged : (g : ℕ) → g < 15
 sent_tagged zero low = refl
 sent_tagged (suc g) low = (let e : nat_eq 0 (suc g) ≡ false = grind (arith, nat_tests) in rw e refl)
 
+-- and so at each place: the store has senders alone
+placed_counted : (i : ℕ) → i < place_count sizes
+    → sent_count committed.sent i ≡ sent_count sent.sent i + sends_in (group_of sizes i) (done_row t1 did_send)
+placed_counted i low =
+    subst (λ g. sent_count committed.sent i ≡ sent_count sent.sent i + sends_in g (done_row t1 did_send))
+    (sym (at_sender 15 i low)) (sent_counted i low)
+
+placed_tagged : (i : ℕ) → i < place_count sizes
+    → sent_tag committed.sent i ≡ tag_after (sent_tag sent.sent i) (sends_for (group_of sizes i) (done_row t1 did_send))
+placed_tagged i low =
+    subst (λ g. sent_tag committed.sent i ≡ tag_after (sent_tag sent.sent i) (sends_for g (done_row t1 did_send)))
+    (sym (at_sender 15 i low)) (sent_tagged i low)
+
 pub commit_send : IsModelStep sent (Commit t1) (Gave_commit (record { txn = t1; lsn = 5 })) committed
 commit_send =
     commit_steps sent finish_send.sound t1 (done_row t1 did_send) 1 (waits_of_0 1) committed.sent refl refl refl refl
-    sent_waits sent_counted sent_tagged refl refl
+    sent_waits placed_counted placed_tagged refl refl
 
 pub force : IsModelStep committed Force (Gave_forced 5) forced
 force = abort_steps.forces committed commit_send.sound refl

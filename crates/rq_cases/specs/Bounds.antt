@@ -14,6 +14,7 @@ use Rattle.rq_model.specs.Replay.Reply.{Gave_commit, Gave_refusal, Gave_sub}
 use Rattle.rq_model.specs.Tests.{first_of, log_full, tests}
 use Rattle.rq_disk.specs.declared.mem_log.MemLog.{MemLog}
 use Rattle.rq_disk.specs.declared.mem_pages.MemPages.{MemPages}
+use Rattle.rq_page.specs.Sizes.{sender_count}
 use Rattle.rq_txn.specs.Rows.{fresh_row, without_row}
 use Rattle.rq_groups.specs.Ends.{released}
 use Rattle.rq_store.specs.Opening.{next_restart, opened}
@@ -64,7 +65,7 @@ one_committed n = record (one_begun n) {
   records = Commit_record (only_one n) ∷ (one_begun n).records;
   cells_in_use = (one_begun n).cells_in_use - sum_by takes_one (done_by (one_begun n) (only_one n));
   waiting = with_sends (done_by (one_begun n) (only_one n)) (one_begun n).waiting;
-  sent = with_tags (done_by (one_begun n) (only_one n)) (one_begun n).sent;
+  sent = with_tags (sender_count (one_begun n).sizes) (done_by (one_begun n) (only_one n)) (one_begun n).sent;
 }
 
 -- its commit is answered

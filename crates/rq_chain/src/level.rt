@@ -476,8 +476,8 @@ fn unlinked_tail(
     }
 }
 
-// The plan of an inverse, with these writes.
-fn inverse(writes: Vec<SlotWrite>) -> Plan
+/// The plan of an inverse, with these writes.
+pub(crate) fn inverse(writes: Vec<SlotWrite>) -> Plan
     ensures writes { result.writes ≡ writes }
     ensures inverse { IsInverse result }
 {
@@ -488,8 +488,8 @@ fn inverse(writes: Vec<SlotWrite>) -> Plan
     }
 }
 
-// The layout that a superblock's slot tells, where a store may have it.
-fn told_layout(bytes: &Slot) -> Option<Layout>
+/// The layout that a superblock's slot tells, where a store may have it.
+pub(crate) fn told_layout(bytes: &Slot) -> Option<Layout>
     ensures { result ≡ told_sizes bytes.now }
 {
     Layout::new(

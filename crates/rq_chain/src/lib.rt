@@ -1,4 +1,4 @@
-//! Operations on the chain of a sender's cells, as lists of slot writes.
+//! Operations on the chain of a sender's cells and marks of clients' tags, as lists of slot writes.
 //!
 //! A sender's messages stand in cells that are linked both ways; its directory slot names the first and the
 //! last. An operation is planned whole from the slots as they are, and its writes are made one at a time.
@@ -8,6 +8,7 @@ mod cells;
 mod doing;
 mod given;
 mod level;
+mod marks;
 mod plans;
 mod spans;
 mod tags;

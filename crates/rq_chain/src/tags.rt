@@ -1,23 +1,76 @@
 //! The tags of clients as a level of recovery.
+ghost use Rattle.std.specs.Prelude.{◌≡◌, cond, None, Some};
+ghost use Rattle.rq_model.specs.Deeds.{deed_by};
+ghost use Rattle.rq_level.specs.Given.{AreGiven};
+ghost use Rattle.rq_level.specs.LevelState.{LevelState, nothing_kept};
+ghost use Rattle.rq_level.specs.Ops.{tagging_by};
+ghost use Rattle.rq_level.specs.TagPlans.{UndoesTag, client_marked, client_to_mark, tag_note, tag_wants};
+ghost use Rattle.rq_chain.specs.Doings.{told_tagging};
 
+use crate::doing::{Tagging, read_tagging};
+use crate::level::told_layout;
+use crate::marks::{marked, unmarked};
+use crate::wants::slot_wanted;
 use rq_level::{Level, Op, PageSet, Plan, SlotWrite, Slots, Want, redo_page};
-use rq_model::record::{Record, Slot};
+use rq_model::record::{Deed, Record, Slot};
 use rq_model::refusal::{Damage, Refusal};
 use rq_model::txn::Lsn;
 use rq_page::addr::Addr;
+use rq_page::layout::Layout;
 use rq_page::page::Page;
-use rq_record::decode_mark;
+use rq_record::{decode_mark, decode_told};
+use std::marker::Model;
 
-/// The tags of clients: reads the deeds of marks. It plans nothing yet.
+/// The tags of clients: plans their marks, and keeps of a store its sizes alone. Contracts see what it keeps.
 #[derive(Drop)]
-pub struct TagLevel;
+pub struct TagLevel {
+    layout: Option<Layout>,
+}
+
+impl Model for TagLevel {
+    ghost use Rattle.std.specs.Prelude.{[]};
+    ghost use Rattle.rq_level.specs.LevelState.{LevelState};
+
+    ghost Value = { LevelState };
+
+    ghost view = { λ t. record { sizes = t.layout; free = []; reserved = [] } };
+}
+
+impl TagLevel {
+    /// A level that was told of no slot.
+    pub fn new() -> Self
+        ensures { result ≡ nothing_kept }
+    {
+        TagLevel { layout: None }
+    }
+
+    // The slot that an operation wants to see: that of its client, where it was not given.
+    fn wanted(&self, op: &Op, given: &Slots) -> Option<Addr>
+        ensures { result ≡ tag_wants self.now.sizes op.now given.now }
+    {
+        let Some(layout) = self.layout else {
+            return None;
+        };
+        match client_of(op) {
+            None => None,
+            Some(client) => slot_wanted(layout.client_slot_of(client), given),
+        }
+    }
+
+    // A slot was read or written.
+    fn note(&mut self, at: Addr, bytes: &Slot)
+        ensures { self.new ≡ tag_note self.old at bytes.now }
+    {
+        if at.number() == 1 {
+            self.layout = told_layout(bytes);
+        }
+    }
+}
 
 impl Level for TagLevel {
-    ghost use Rattle.rq_level.specs.LevelState.{nothing_kept};
-
     ghost level = { λ _. 2 };
 
-    ghost kept = { λ _. nothing_kept };
+    ghost kept = { λ t. t };
 
     fn number(&self) -> u8 {
         2
@@ -31,33 +84,124 @@ impl Level for TagLevel {
         false
     }
 
-    fn want(&self, _op: &Op, _given: &Slots) -> Want {
-        Want::Ready
+    fn want(&self, op: &Op, given: &Slots) -> Want {
+        match self.wanted(op, given) {
+            None => Want::Ready,
+            Some(at) => Want::Slot(at),
+        }
     }
 
     fn plan(
         &mut self,
-        _room: Vec<SlotWrite>,
-        _op: &Op,
-        _given: &Slots,
+        room: Vec<SlotWrite>,
+        op: &Op,
+        given: &Slots,
         _latched: &PageSet,
     ) -> Result<Plan, Refusal> {
-        Err(Refusal::Damaged(Damage::Page(0)))
+        if op.is_undo() {
+            return Err(Refusal::Damaged(Damage::Page(0)));
+        }
+        let Some(layout) = self.layout else {
+            return Err(Refusal::Damaged(Damage::Page(0)));
+        };
+        match tagging_of(op) {
+            Some(Tagging { client, tag }) => marked(room, &layout, given, client, tag),
+            None => Err(Refusal::Damaged(Damage::Page(0))),
+        }
     }
 
     fn undo(
         &mut self,
-        _room: Vec<SlotWrite>,
-        _record: &Record,
-        _given: &Slots,
+        room: Vec<SlotWrite>,
+        record: &Record,
+        given: &Slots,
         _latched: &PageSet,
     ) -> Result<Plan, Refusal> {
-        Err(Refusal::Damaged(Damage::Page(0)))
+        let Record::OpEnd { level, deed, .. } = record else {
+            return Err(Refusal::Damaged(Damage::Page(0)));
+        };
+        let Some(layout) = self.layout else {
+            return Err(Refusal::Damaged(Damage::Page(0)));
+        };
+        let Some(deed) = decode_told(*level, deed.as_slice()) else {
+            return Err(Refusal::Damaged(Damage::Page(0)));
+        };
+        taken_back(room, &layout, &deed, given)
     }
 
     fn redo(&mut self, page: &mut Page, lsn: Lsn, record: &Record) -> bool {
         redo_page(page, lsn, record)
     }
 
-    fn noted(&mut self, _at: Addr, _bytes: &Slot) {}
+    fn noted(&mut self, at: Addr, bytes: &Slot) {
+        self.note(at, bytes);
+    }
+}
+
+// What an operation asks the level of tags for; none where it asks it for nothing.
+fn tagging_of(op: &Op) -> Option<Tagging>
+    ensures { told_tagging result ≡ tagging_by op.now.level op.now.bytes }
+{
+    if op.level() == 2 {
+        read_tagging(op.bytes())
+    } else {
+        None
+    }
+}
+
+// The client whose tag an operation marks, or takes back; none where its bytes tell none.
+fn client_of(op: &Op) -> Option<u32>
+    ensures { result ≡ cond op.now.undo (client_marked (deed_by op.now.level op.now.bytes))
+        (client_to_mark (tagging_by op.now.level op.now.bytes)) }
+{
+    if op.is_undo() {
+        client_of_deed(&decode_told(op.level(), op.bytes()))
+    } else {
+        client_of_tagging(&tagging_of(op))
+    }
+}
+
+// The client whose mark a deed tells.
+fn client_of_deed(deed: &Option<Deed>) -> Option<u32>
+    ensures { result ≡ client_marked deed.now }
+{
+    match deed {
+        None => None,
+        Some(Deed::Append { .. }) => None,
+        Some(Deed::UnlinkHead { .. }) => None,
+        Some(Deed::Close { .. }) => None,
+        Some(Deed::Mark { client, .. }) => Some(*client),
+    }
+}
+
+// The client that something is to be marked for.
+fn client_of_tagging(tagging: &Option<Tagging>) -> Option<u32>
+    ensures { result ≡ client_to_mark (told_tagging tagging.now) }
+{
+    match tagging {
+        None => None,
+        Some(tagging) => Some(tagging.client),
+    }
+}
+
+// The plan of what takes back a deed's operation.
+fn taken_back(
+    room: Vec<SlotWrite>,
+    layout: &Layout,
+    deed: &Deed,
+    given: &Slots,
+) -> Result<Plan, Refusal>
+    requires { AreGiven layout.now given.now }
+    ensures { (k : LevelState) → UndoesTag (Some layout.now) (Some deed.now) k given.now result k }
+{
+    match deed {
+        Deed::Mark {
+            client,
+            tag,
+            previous,
+        } => unmarked(room, layout, given, *client, *tag, *previous),
+        Deed::Append { .. } => Err(Refusal::Damaged(Damage::Page(0))),
+        Deed::UnlinkHead { .. } => Err(Refusal::Damaged(Damage::Page(0))),
+        Deed::Close { .. } => Err(Refusal::Damaged(Damage::Page(0))),
+    }
 }

@@ -50,8 +50,8 @@ fn directory_addr(sender: u32) -> Addr
     Addr::new(1 + sender / SLOTS, (1 + sender % SLOTS) as u8)
 }
 
-// The slot, where it was not given.
-fn slot_wanted(at: Addr, given: &Slots) -> Option<Addr>
+/// The slot, where it was not given.
+pub(crate) fn slot_wanted(at: Addr, given: &Slots) -> Option<Addr>
     ensures { result ≡ unless_given at (given_at at given.now) }
 {
     match given.get(at) {

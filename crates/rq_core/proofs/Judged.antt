@@ -74,6 +74,7 @@ module _ (s : State) where
   by_latches (event.StartReceive txn) legal say = say
   by_latches (event.StartReceiveFrom txn sender) legal say = say
   by_latches (event.StartClose txn sender) legal say = say
+  by_latches (event.StartMark txn client tag) legal say = say
   by_latches (event.Step sub) legal say = starts_none (call_of (event.Step sub)) refl legal
   by_latches (event.Finish sub) legal say = starts_none (call_of (event.Finish sub)) refl legal
   by_latches (event.Commit txn) legal say = starts_none (call_of (event.Commit txn)) refl legal
@@ -86,6 +87,7 @@ module _ (s : State) where
   by_latches event.Checkpoint legal say = starts_none (call_of event.Checkpoint) refl legal
   by_latches (event.WritePage page) legal say = starts_none (call_of (event.WritePage page)) refl legal
   by_latches (event.LastTag sender) legal say = starts_none (call_of (event.LastTag sender)) refl legal
+  by_latches (event.ClientTag client) legal say = starts_none (call_of (event.ClientTag client)) refl legal
   by_latches event.Content legal say = starts_none (call_of event.Content) refl legal
 
 -- why a restart was refused, of devices that are known to hold a store

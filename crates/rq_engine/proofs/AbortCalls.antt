@@ -15,7 +15,7 @@ use Rattle.rq_model.specs.Tests.{IsUnready, NoneHolds, Passes, has_done, is_abor
 use Rattle.rq_model.specs.Replay.Reply.{Gave_aborted, Gave_aborting, Gave_nothing_left, Gave_sub, Gave_undone}
 use Rattle.rq_model.specs.Vocabulary.{In, first, front, is_some, last, last_or, same_txn}
 use Rattle.rq_model.proofs.Lists.{same_is}
-use Rattle.rq_views.specs.Claims.{appends_of}
+use Rattle.rq_views.specs.Claims.{appends_of, takes_of}
 use Rattle.rq_views.specs.Plans.{deed_sender}
 use Rattle.rq_views.specs.Stored.{slots_in}
 use Rattle.rq_txn.specs.declared.Aim.TheVariants.{Undoing}
@@ -248,7 +248,7 @@ same_change t f g (x ∷ rows) r d e same = elim (cases_Bool (same_txn x.txn t))
   | inr n ↦ rw n (ap (λ l. x ∷ l) (same_change t f g rows r d.1 (rw n at e) same))
 ]
 
-pub undone_done : (s new : State) (sub : Sub) (lsn : ℕ) (d : Deed) → s.failed ≡ false → deed_sender d < length s.waiting → IsUnderWay s sub (AllMade (Undoing lsn d))
+pub undone_done : (s new : State) (sub : Sub) (lsn : ℕ) (d : Deed) → s.failed ≡ false → (takes_of d ≡ 1 → deed_sender d < length s.waiting) → IsUnderWay s sub (AllMade (Undoing lsn d))
     → new ≡ record s { rows = change_row sub.txn row_taken_back s.rows; records = comp_end sub.txn sub.number lsn ∷ s.records; cells_in_use = s.cells_in_use - appends_of d; waiting = with_taken d s.waiting }
     → IsSound s → IsModelStep s (Finish sub.txn sub.number) Gave_undone new
 undone_done s new sub lsn d running within h is k =

@@ -1,7 +1,7 @@
 -- What the calls answer, from what their bodies found and made.
-use Rattle.std.proofs.Common.{◌≡◌, ℕ, zero, suc, ◌+◌, ◌-◌, ◌*◌, ◌<◌, ◌≤◌, ◌&&◌, List, [], ◌∷◌, length, map, refl, sym, ◌∙◌, ap, subst, Bool, true, false, not, nat_eq, nat_lt, Option, Some, None, IfSome, arith, inl, inr, ◌⊎◌}
+use Rattle.std.proofs.Common.{◌≡◌, ℕ, zero, suc, ◌+◌, ◌-◌, ◌*◌, ◌^◌, ◌<◌, ◌≤◌, ◌&&◌, List, [], ◌∷◌, length, map, refl, sym, ◌∙◌, ap, subst, Bool, true, false, not, nat_eq, nat_lt, Option, Some, None, IfSome, arith, inl, inr, ◌⊎◌}
 use Rattle.std.specs.List.{sum_by, slice_get, slice_index_or}
-use Rattle.std.proofs.lemmas.Bool.{cases_Bool, false_from_ne_true, eqb-true, eq-eqb, and_from, lt-ltb}
+use Rattle.std.proofs.lemmas.Bool.{cases_Bool, false_from_ne_true, eqb-true, eq-eqb, and_from, le-ltb, lt-ltb}
 use Rattle.std.proofs.lemmas.List.Sums.{sum_by-cons}
 use Rattle.std.proofs.lemmas.Option.{slice_get_within, slice_get-get_or, same_Some}
 use Rattle.rq_model.specs.Deeds.{TellsItself}
@@ -12,16 +12,16 @@ use Rattle.rq_model.specs.declared.record.Record.{Record}
 use Rattle.rq_model.specs.declared.record.Record.TheVariants as records
 use Rattle.rq_model.specs.declared.refusal.Refusal.{Refusal}
 use Rattle.rq_model.specs.declared.refusal.Refusal.TheVariants as why
-use Rattle.rq_model.specs.Vocabulary.{is_some, same_txn}
+use Rattle.rq_model.specs.Vocabulary.{client_group, is_some, same_txn}
 use Rattle.rq_views.specs.InStore.{IsDeedOf}
 use Rattle.rq_model.specs.History.{Call, Group}
-use Rattle.rq_model.specs.History.Call.{Commit, Step, Finish, Show, Last_tag}
+use Rattle.rq_model.specs.History.Call.{Commit, Step, Finish, Show, Last_tag, Client_tag}
 use Rattle.rq_model.specs.History.Entry.{Ready, Shown}
-use Rattle.rq_model.specs.Ledger.{Open, found, runs, group_in}
+use Rattle.rq_model.specs.Ledger.{Open, found, runs, group_in, sent_in, tag_of}
 use Rattle.rq_model.specs.Legal.{OnFound}
 use Rattle.rq_model.specs.Tests.{has_under, is_aborting, steps_left, log_full, tests, first_of, NoneHolds, Passes, ready_tests, any_busy, below}
-use Rattle.rq_model.specs.Replay.Reply.{Gave_lsn, Gave_commit, Gave_ready, Gave_content, Gave_tag}
-use Rattle.rq_page.specs.Sizes.{Sizes, sender_count}
+use Rattle.rq_model.specs.Replay.Reply.{Gave_lsn, Gave_commit, Gave_ready, Gave_client_tag, Gave_content, Gave_tag}
+use Rattle.rq_page.specs.Sizes.{Sizes, client_count, sender_count}
 use Rattle.rq_level.specs.declared.writes.SlotWrite.{SlotWrite}
 use Rattle.rq_level.specs.Writes.{IsSlotWrite, AreSlotWrites}
 use Rattle.rq_txn.specs.declared.Finished.{Finished}
@@ -35,6 +35,7 @@ use Rattle.rq_sound.proofs.Unchanged.{unchanged}
 use Rattle.rq_engine.specs.Moves.{with_tags, with_sends, with_taken, without_taken}
 use Rattle.rq_engine.proofs.Tags.{count-with_tags, tag-with_tags}
 use Rattle.rq_groups.specs.Ends.{HeldEnds, released}
+use Rattle.rq_store.specs.Sends.{group_of, place_count}
 use Rattle.rq_store.specs.State.{State, ledger_of, size_of, owed_one, owed_under, job_under, left_under, phase_of}
 use Rattle.rq_groups.specs.Waiting.{waits}
 use Rattle.rq_store.specs.Settled.{takes_one}
@@ -286,14 +287,14 @@ commit_range s f o res n t k h =
     (omega (arith, a, c), omega (arith, b, d))
 
 pub commit_kept : (s : State) (f : Bool) (o res n : ℕ) (t : Txn) (x : Record) (ends : HeldEnds) (cells : ℕ) → IsConsistent s f o res → HasNothingUnderWay s t n → log_full (ledger_of s) 1 ≡ false
-    → IsConsistent (record s { rows = without_row t s.rows; ends = ends; records = x ∷ s.records; cells_in_use = cells; waiting = with_sends (finished_of (found_row t s.rows)) s.waiting; sent = with_tags (finished_of (found_row t s.rows)) s.sent }) f o res
+    → IsConsistent (record s { rows = without_row t s.rows; ends = ends; records = x ∷ s.records; cells_in_use = cells; waiting = with_sends (finished_of (found_row t s.rows)) s.waiting; sent = with_tags (sender_count s.sizes) (finished_of (found_row t s.rows)) s.sent }) f o res
 commit_kept s f o res n t x ends cells k h room =
     let r = found_of (λ r. (r.under ≡ None) × (n ≡ r.number + 1)) (found_row t s.rows) h in
-    subst (λ (q : Option Row). IsConsistent (record s { rows = without_row t s.rows; ends = ends; records = x ∷ s.records; cells_in_use = cells; waiting = with_sends (finished_of q) s.waiting; sent = with_tags (finished_of q) s.sent }) f o res) (sym r.1)
+    subst (λ (q : Option Row). IsConsistent (record s { rows = without_row t s.rows; ends = ends; records = x ∷ s.records; cells_in_use = cells; waiting = with_sends (finished_of q) s.waiting; sent = with_tags (sender_count s.sizes) (finished_of q) s.sent }) f o res) (sym r.1)
     (kept_committed s f o res k t r.0 r.1 x ends cells r.2.0 (not_full s 1 room))
 
 pub commit_done : (s : State) (f : Bool) (o res n lsn cells : ℕ) (t : Txn) → IsConsistent s f o res → s.failed ≡ false → NoneHolds (ready_tests (ledger_of s) t false) → HasNothingUnderWay s t n → log_full (ledger_of s) 1 ≡ false → lsn ≡ length s.records + 1 → cells ≡ s.cells_in_use - sum_by takes_one (finished_of (found_row t s.rows)) → IsSound s
-    → IsModelStep s (Commit t) (Gave_commit (record { txn = t; lsn = lsn })) (record s { rows = without_row t s.rows; ends = record { sending = released t s.ends.sending; receiving = released t s.ends.receiving }; records = records.Commit t ∷ s.records; cells_in_use = cells; waiting = with_sends (finished_of (found_row t s.rows)) s.waiting; sent = with_tags (finished_of (found_row t s.rows)) s.sent })
+    → IsModelStep s (Commit t) (Gave_commit (record { txn = t; lsn = lsn })) (record s { rows = without_row t s.rows; ends = record { sending = released t s.ends.sending; receiving = released t s.ends.receiving }; records = records.Commit t ∷ s.records; cells_in_use = cells; waiting = with_sends (finished_of (found_row t s.rows)) s.waiting; sent = with_tags (sender_count s.sizes) (finished_of (found_row t s.rows)) s.sent })
 commit_done s f o res n lsn cells t c running tested h room at freed k =
     let r = found_of (λ r. (r.under ≡ None) × (n ≡ r.number + 1)) (found_row t s.rows) h in
     let fs = finished_of (found_row t s.rows) in
@@ -305,17 +306,31 @@ commit_done s f o res n lsn cells t c running tested h room at freed k =
     let enough : sum_by takes_one r.0.finished ≤ s.cells_in_use = omega (arith, part, used) in
     let stored : AreDeedsOf s.sizes r.0.finished = (λ x i. ((kept_at s f o res t r.0 c r.1).done x i).sender) in
     let waited : (g : ℕ) → g < sender_count s.sizes → waits (with_sends fs s.waiting) g ≡ waits s.waiting g + sends_in g r.0 =
-    (λ g m. ap (λ l. waits (with_sends l s.waiting) g) own ∙ waits-with_sends s.sizes r.0.finished s.waiting g stored (let l = c.senders in omega (arith, l, m))) in
-    let counted : (g : ℕ) → g < sender_count s.sizes → sent_count (with_tags fs s.sent) g ≡ sent_count s.sent g + sends_in g r.0 =
-    (λ g m. ap (λ l. sent_count (with_tags l s.sent) g) own ∙ count-with_tags s.sizes r.0.finished s.sent g stored (let l = c.sent.counts in omega (arith, l, m))) in
-    let tagged : (g : ℕ) → g < sender_count s.sizes → sent_tag (with_tags fs s.sent) g ≡ tag_after (sent_tag s.sent g) (sends_for g r.0) =
-    (λ g m. ap (λ l. sent_tag (with_tags l s.sent) g) own ∙ tag-with_tags s.sizes r.0.finished s.sent g stored (let l = c.sent.tags in omega (arith, l, m))) in
-    subst (λ (m : ℕ). IsModelStep s (Commit t) (Gave_commit (record { txn = t; lsn = m })) (record s { rows = without_row t s.rows; ends = record { sending = released t s.ends.sending; receiving = released t s.ends.receiving }; records = records.Commit t ∷ s.records; cells_in_use = cells; waiting = with_sends fs s.waiting; sent = with_tags fs s.sent })) (sym at)
-    (commit_steps s k t r.0 cells (with_sends fs s.waiting) (with_tags fs s.sent) r.1 r.2.0 forward (omega (arith, freed, taken, enough)) waited counted tagged running room)
+    (λ g m. ap (λ l. waits (with_sends l s.waiting) g) own ∙ waits-with_sends s.sizes r.0.finished s.waiting g stored m (let l = c.senders in omega (arith, l, m))) in
+    let n = sender_count s.sizes in
+    let few : n ≤ 2 ^ 32 = (let d = k.range.directory_high in omega (arith, d)) in
+    let counted : (i : ℕ) → i < place_count s.sizes → sent_count (with_tags n fs s.sent) i ≡ sent_count s.sent i + sends_in (group_of s.sizes i) r.0 =
+    (λ i m. ap (λ l. sent_count (with_tags n l s.sent) i) own ∙ count-with_tags s.sizes few i r.0.finished s.sent stored (let l = c.sent.counts in omega (arith, l, m))) in
+    let tagged : (i : ℕ) → i < place_count s.sizes → sent_tag (with_tags n fs s.sent) i ≡ tag_after (sent_tag s.sent i) (sends_for (group_of s.sizes i) r.0) =
+    (λ i m. ap (λ l. sent_tag (with_tags n l s.sent) i) own ∙ tag-with_tags s.sizes few i r.0.finished s.sent stored (let l = c.sent.tags in omega (arith, l, m))) in
+    subst (λ (m : ℕ). IsModelStep s (Commit t) (Gave_commit (record { txn = t; lsn = m })) (record s { rows = without_row t s.rows; ends = record { sending = released t s.ends.sending; receiving = released t s.ends.receiving }; records = records.Commit t ∷ s.records; cells_in_use = cells; waiting = with_sends fs s.waiting; sent = with_tags (sender_count s.sizes) fs s.sent })) (sym at)
+    (commit_steps s k t r.0 cells (with_sends fs s.waiting) (with_tags (sender_count s.sizes) fs s.sent) r.1 r.2.0 forward (omega (arith, freed, taken, enough)) waited counted tagged running room)
 
 -- what a sender's committed sends come to
 pub tag_told : (s : State) (g sent tag : ℕ) → s.failed ≡ false → g < sender_count s.sizes → sent ≡ sent_count s.sent g → tag ≡ sent_tag s.sent g → IsSound s → IsModelStep s (Last_tag g) (Gave_tag sent tag) s
-tag_told s g sent tag running below counted tagged k = rw (counted ∙ k.sent.counts g below, tagged ∙ k.sent.tags g below) (unchanged.tells s g k running below)
+tag_told s g sent tag running below counted tagged k =
+    let here : group_of s.sizes g ≡ g = rw (lt-ltb g (sender_count s.sizes) below) refl in
+    let m : g < place_count s.sizes = omega (arith, below) in
+    rw (counted ∙ k.sent.counts g m ∙ ap (λ e. length (sent_in (committed_of s.records) e)) here, tagged ∙ k.sent.tags g m ∙ ap (λ e. tag_of (sent_in (committed_of s.records) e)) here) (unchanged.tells s g k running below)
+
+-- what a client's committed marks come to
+pub client_told : (s : State) (c count tag : ℕ) → s.failed ≡ false → c < client_count s.sizes → count ≡ sent_count s.sent (sender_count s.sizes + c) → tag ≡ sent_tag s.sent (sender_count s.sizes + c) → IsSound s → IsModelStep s (Client_tag c) (Gave_client_tag count tag) s
+client_told s c count tag running below counted tagged k =
+    let i : ℕ = sender_count s.sizes + c in
+    let behind : i - sender_count s.sizes ≡ c = omega arith in
+    let here : group_of s.sizes i ≡ client_group c = rw (le-ltb i (sender_count s.sizes) (omega arith)) (ap client_group behind) in
+    let m : i < place_count s.sizes = omega (arith, below) in
+    rw (counted ∙ k.sent.counts i m ∙ ap (λ e. length (sent_in (committed_of s.records) e)) here, tagged ∙ k.sent.tags i m ∙ ap (λ e. tag_of (sent_in (committed_of s.records) e)) here) (unchanged.tells_client s c k running below)
 
 -- the content
 pub content_passes : (s : State) → s.failed ≡ false → any_under s.rows ≡ false → Passes (size_of s.sizes) (ledger_of s) Show

@@ -7,7 +7,7 @@ use Rattle.rq_model.specs.declared.txn.Txn.{Txn}
 use Rattle.rq_model.specs.declared.record.Record.{Record}
 use Rattle.rq_model.specs.declared.record.Deed.{Deed}
 use Rattle.rq_model.specs.Vocabulary.{In, front}
-use Rattle.rq_page.specs.Sizes.{Sizes}
+use Rattle.rq_page.specs.Sizes.{Sizes, sender_count}
 use Rattle.rq_txn.specs.declared.Finished.{Finished}
 use Rattle.rq_txn.specs.Rows.{Row, Under, found_row, change_row, without_row, fresh_row, row_started, row_stepped, row_aborting, row_finished, row_taken_back, under_stepped}
 use Rattle.rq_engine.specs.Invariant.{AreSendsConsistent, IsDoneConsistent, IsConsistent, IsRowConsistent, IsUnderConsistent, UnderConsistent, end_bytes, room_one, room_of, total_of, done_one}
@@ -259,7 +259,7 @@ module _ (s : State) (f : Bool) (o res : ℕ) (k : IsConsistent s f o res) (t : 
       }
 
   pub kept_committed : (x : Record) (ends : HeldEnds) (cells : ℕ) → r.under ≡ None → total_of s + 1 ≤ 2 ^ 50
-      → IsConsistent (record s { rows = without_row t s.rows; ends = ends; records = x ∷ s.records; cells_in_use = cells; waiting = with_sends r.finished s.waiting; sent = with_tags r.finished s.sent }) f o res
+      → IsConsistent (record s { rows = without_row t s.rows; ends = ends; records = x ∷ s.records; cells_in_use = cells; waiting = with_sends r.finished s.waiting; sent = with_tags (sender_count s.sizes) r.finished s.sent }) f o res
   kept_committed x ends cells none fits =
       let a = rows_without owed_one t s.rows r k.distinct at_row in
       let b = rows_without room_one t s.rows r k.distinct at_row in
@@ -276,7 +276,7 @@ module _ (s : State) (f : Bool) (o res : ℕ) (k : IsConsistent s f o res) (t : 
         rows = λ q i. row_more s.sizes s.incarnation s.begins s.begins (total_of s) (length (x ∷ s.records) + owed_by (without_row t s.rows)) q (omega arith) (omega (arith, a, c)) (k.rows q (gone t s.rows q i).0);
         senders = length-with_sends r.finished s.waiting ∙ k.senders;
         few = λ g. (let p = rows_without done_one t s.rows r k.distinct at_row in let m = k.few g in let n = few_sends r.finished s.waiting g in omega (arith, p, m, n));
-        sent = sends_more r.finished s.sent k.sent (let p = rows_without done_one t s.rows r k.distinct at_row in omega (arith, p));
+        sent = sends_more (sender_count s.sizes) r.finished s.sent k.sent (let p = rows_without done_one t s.rows r k.distinct at_row in omega (arith, p));
       }
 
 -- what a device did, and whether it failed, is all that changed

@@ -9,7 +9,7 @@ use Rattle.rq_model.specs.declared.refusal.Refusal.TheVariants as why
 use Rattle.rq_model.specs.declared.txn.Txn.{Txn}
 use Rattle.rq_model.specs.Legal.{OnFound}
 use Rattle.rq_model.specs.Vocabulary.{last}
-use Rattle.rq_model.specs.History.Call.{Start_close, Start_send, Start_receive, Start_receive_from, Undo_next}
+use Rattle.rq_model.specs.History.Call.{Start_close, Start_mark, Start_send, Start_receive, Start_receive_from, Undo_next}
 use Rattle.rq_model.specs.History.Job.{Sending, Taking, Ending, Marking}
 use Rattle.rq_page.specs.Sizes.{cell_count, client_slot_at, directory_at, Sizes}
 use Rattle.rq_views.specs.Plans.{Turn}
@@ -34,6 +34,7 @@ use Rattle.rq_sound.specs.Inverses.{MayBeUndone}
 use Rattle.rq_engine.specs.Applied.{OnLatched}
 use Rattle.rq_engine.specs.Aborts.{UndoIsLatched}
 use Rattle.rq_engine.specs.Closes.{close_latched}
+use Rattle.rq_engine.specs.Marks.{mark_latched}
 use Rattle.rq_engine.specs.Sends.{SendIsLatched, take_latched}
 
 -- ---- a link's page
@@ -144,6 +145,27 @@ module _ (s : State) (k : IsSound s) where
 
   pub close_unlatched : (t : Txn) (g : ℕ) → close_latched s g ≡ false → IsLatched s (Start_close t g) → ⊥
   close_unlatched t g free h = elim (h.each (Did (Close g)) refl) [
+    | inl y ↦ true≢false (sym y ∙ ap (λ b. b || false) free)
+    | inr x ↦ false≢true x.0
+  ]
+
+  mark_needs : (c tag : ℕ) (d : Deed) → job_of d ≡ Marking c tag → mark_latched s c ≡ true → NeedsLatched s (Did d)
+  mark_needs c tag (Append e n u previous body) b h = absurd (let x : Sending _ ≡ Marking c tag = b in cc x)
+  mark_needs c tag (UnlinkHead e n u body) b h = absurd (let x : Taking e ≡ Marking c tag = b in cc x)
+  mark_needs c tag (Close e) b h = absurd (let x : Ending e ≡ Marking c tag = b in cc x)
+  mark_needs c tag (Mark e u previous) b h =
+      let same : e ≡ c = (let x : Marking e u ≡ Marking c tag = b in cc x) in
+      inl (or_left (mark_latched s e) false (ap (mark_latched s) same ∙ h))
+
+  -- a mark
+  pub mark_refused : (t : Txn) (c tag : ℕ) → mark_latched s c ≡ true → IsLatched s (Start_mark t c tag)
+  mark_refused t c tag h = record { some = (Did (Mark c tag 0), refl); each = λ turn b. at turn b } where
+    at : (turn : Turn) → Begins s (Start_mark t c tag) turn → NeedsLatched s turn
+    at (Did d) b = mark_needs c tag d b h
+    at (Undid d) b = absurd b
+
+  pub mark_unlatched : (t : Txn) (c tag : ℕ) → mark_latched s c ≡ false → IsLatched s (Start_mark t c tag) → ⊥
+  mark_unlatched t c tag free h = elim (h.each (Did (Mark c tag 0)) refl) [
     | inl y ↦ true≢false (sym y ∙ ap (λ b. b || false) free)
     | inr x ↦ false≢true x.0
   ]

@@ -19,7 +19,7 @@ use Rattle.rq_page.specs.Cells.{cell_slot_in}
 use Rattle.rq_page.specs.Directories.{directory_in}
 use Rattle.rq_page.specs.Clients.{client_in}
 use Rattle.rq_page.specs.Kinds.{kind_of}
-use Rattle.rq_page.specs.Sizes.{IsCellAddress, Sizes, directory_at, sender_count}
+use Rattle.rq_page.specs.Sizes.{IsCellAddress, Sizes, client_count, directory_at, sender_count}
 use Rattle.rq_page.specs.Slots.{held_for, held_in, of_cell_slot}
 use Rattle.rq_page.specs.Slots.Slot.{Free, Sender, Used, Client}
 use Rattle.rq_views.specs.Stored.{slot_at, slots_in}
@@ -33,7 +33,7 @@ use Rattle.rq_groups.specs.declared.End.TheVariants.{Receiving}
 use Rattle.rq_level.specs.ChainPlans.{TellsDamage}
 use Rattle.rq_level.specs.declared.writes.Plan.{Plan}
 use Rattle.rq_level.specs.declared.writes.SlotWrite.{SlotWrite}
-use Rattle.rq_level.specs.Ops.{Doing, doing_level}
+use Rattle.rq_level.specs.Ops.{Tagging}
 use Rattle.rq_level.specs.Ops.Doing.{Send, Receive, Close}
 use Rattle.rq_txn.specs.declared.Aim.TheVariants as aims
 use Rattle.rq_txn.specs.Rows.{latched_in}
@@ -44,30 +44,30 @@ use Rattle.rq_sound.specs.Groups.{slots_now}
 use Rattle.rq_sound.specs.Plans.{IsMarking, IsPlannedFrom, IsReceive, IsSend}
 use Rattle.rq_sound.specs.Sound.{IsSound}
 use Rattle.rq_planner.specs.Answered.{IsDeedFor, IsHeldUp, IsPlanOf, MayBeAsked, RefusesPlan}
-use Rattle.rq_planner.specs.Asked.{Asked, doing_sender}
+use Rattle.rq_planner.specs.Asked.{Asked, IsTaskOf, Task, task_level}
 use Rattle.rq_planner.specs.Asked.Asked.{Do}
+use Rattle.rq_planner.specs.Asked.Task.{Chain, Tag}
 use Rattle.rq_engine.specs.Closes.{IsClosePlan, close_latched}
+use Rattle.rq_engine.specs.Marks.{IsMarkPlan, mark_latched}
 use Rattle.rq_engine.specs.Earlier.{IsEarlier, on}
-use Rattle.rq_engine.specs.Plans.{AreHeldUp, HasStarted, IsDeedPlan, IsStartOf, IsTakeOf, Planned, is_latch, is_latched, known_part, planned_of, records_of, under_plan}
+use Rattle.rq_engine.specs.Plans.{AreHeldUp, HasStarted, IsDeedPlan, IsStartOf, IsTakeOf, IsWithin, Planned, is_latch, is_latched, known_part, planned_of, records_of, under_plan}
 use Rattle.rq_engine.specs.Sends.{HasRoom, take_latched}
 use Rattle.rq_engine.proofs.Latches.{one_write}
 use Rattle.rq_engine.proofs.Inverses.{of_writes, relinked_count}
 use Rattle.rq_engine.proofs.SendCalls.{has_room}
 
--- a deed is of the store where the sender is that it was asked for
-asked_stored : (z : Sizes) (d : Doing) (e : Deed) → IsDeedFor d e → doing_sender d < sender_count z → IsDeedOf z e
-asked_stored z (Send g tag body) (Append h n t previous b) is inside = let same : h ≡ g = is.0 in omega (arith, same, inside)
-asked_stored z (Send g tag body) (UnlinkHead h n t b) is inside = absurd is
-asked_stored z (Send g tag body) (Close_deed h) is inside = absurd is
-asked_stored z (Send g tag body) (Mark c t previous) is inside = absurd is
-asked_stored z (Receive g) (Append h n t previous b) is inside = absurd is
-asked_stored z (Receive g) (UnlinkHead h n t b) is inside = let same : h ≡ g = is in omega (arith, same, inside)
-asked_stored z (Receive g) (Close_deed h) is inside = absurd is
-asked_stored z (Receive g) (Mark c t previous) is inside = absurd is
-asked_stored z (Close g) (Append h n t previous b) is inside = absurd is
-asked_stored z (Close g) (UnlinkHead h n t b) is inside = absurd is
-asked_stored z (Close g) (Close_deed h) is inside = let same : h ≡ g = is in omega (arith, same, inside)
-asked_stored z (Close g) (Mark c t previous) is inside = absurd is
+-- it is of the store
+pub within : (z : Sizes) (task : Task) → IsWithin z task → IsTaskOf z task
+within z (Chain d) h = h
+within z (Tag t) h = h.0
+
+-- a deed is of the store where the sender or the client is that it was asked for
+asked_stored : (z : Sizes) (task : Task) (e : Deed) → IsDeedFor task e → IsWithin z task → IsDeedOf z e
+asked_stored z (Chain (Send g tag body)) (Append h n t previous b) is inside = let same : h ≡ g = is.0 in omega (arith, same, inside)
+asked_stored z (Chain (Receive g)) (UnlinkHead h n t b) is inside = let same : h ≡ g = is in omega (arith, same, inside)
+asked_stored z (Chain (Close g)) (Close_deed h) is inside = let same : h ≡ g = is in omega (arith, same, inside)
+asked_stored z (Tag x) (Mark c t previous) is inside = (let same : c ≡ x.client = is.0 in let below = inside.0 in omega (arith, same, below), inside.1)
+asked_stored z task e is inside = absurd is
 
 -- its bytes are some: its kind comes first
 spelled_some : (d : Deed) → 1 ≤ length (spelled_deed d)
@@ -89,8 +89,8 @@ few_of z q us (UnlinkHead g n tag body) p =
 few_of z q us (Close_deed g) p = let a = of_writes z us _ p.writes in omega (arith, a)
 few_of z q us (Mark c tag previous) p = let a = of_writes z us _ p.writes in omega (arith, a)
 
-pub some_doing : (a b : Doing) → Some a ≡ Some b → a ≡ b
-some_doing a b e = cc
+pub some_task : (a b : Task) → Some a ≡ Some b → a ≡ b
+some_task a b e = cc
 
 some_deed : (a b : Deed) → Some a ≡ Some b → a ≡ b
 some_deed a b e = cc
@@ -101,12 +101,12 @@ told_by level bytes d spelled reads =
     let is : told_deed (deed_by level bytes) ≡ d = ap told_deed reads in
     record { reads = reads ∙ ap (λ (e : Deed). Some e) (sym is); spelled = ap spelled_deed is ∙ sym spelled }
 
-module _ (s : State) (d : Doing) (p : Plan) (h : IsPlanOf (known_part s) d p) (level : ℕ) (of_level : level ≡ doing_level d) where
+module _ (s : State) (d : Task) (p : Plan) (h : IsPlanOf (known_part s) d p) (level : ℕ) (of_level : level ≡ task_level d) where
   pub plan_reads : deed_by level p.deed ≡ Some h.deed
   plan_reads = ap (λ n. deed_by n p.deed) of_level ∙ h.reads
 
   -- with its deed
-  pub deed_plan : doing_sender d < sender_count s.sizes → IsDeedPlan s d (planned_of level p)
+  pub deed_plan : IsWithin s.sizes d → IsDeedPlan s d (planned_of level p)
   deed_plan inside =
       let deed : h.deed ≡ told_deed (deed_by level p.deed) = sym (ap told_deed plan_reads) in
       let asked : IsDeedFor d (told_deed (deed_by level p.deed)) = subst (IsDeedFor d) deed h.asked in
@@ -153,7 +153,7 @@ module _ {X : Type 0} (s : State) (asked : Asked) (HasBegun : Type 0) where
 
 -- ---- what is answered to a receive
 
-pub take_free : (s : State) (g : ℕ) → (IsHeldUp (known_part s) (Do (Receive g)) → ⊥) → take_latched s g ≡ false
+pub take_free : (s : State) (g : ℕ) → (IsHeldUp (known_part s) (Do (Chain (Receive g))) → ⊥) → take_latched s g ≡ false
 take_free s g h = false_from_ne_true (take_latched s g) h
 
 other_held : (A B : Type 0) (r : Refusal) → is_latch r ≡ false → RefusesPlan A r → RefusesPlan B r
@@ -172,7 +172,7 @@ same_latched a b (Err r) l same = same
 
 module _ {X : Type 0} (s : State) (t : Txn) (n : ℕ) (answer : Result X Refusal) (new : State) where
   -- what holds up a start from one sender, or from some
-  pub start_held : (g : ℕ) (HasBegun : Type 0) → is_latched answer ≡ true → IsStartOf s (Do (Receive g)) HasBegun answer → take_latched s g ≡ true
+  pub start_held : (g : ℕ) (HasBegun : Type 0) → is_latched answer ≡ true → IsStartOf s (Do (Chain (Receive g))) HasBegun answer → take_latched s g ≡ true
   start_held g HasBegun l p = at answer l p.causes where
     at : (a : Result X Refusal) → is_latched a ≡ true → IfErr a (RefusesPlan (take_latched s g ≡ true)) → take_latched s g ≡ true
     at (Ok x) l c = absurd (false≢true l)
@@ -186,7 +186,7 @@ module _ {X : Type 0} (s : State) (t : Txn) (n : ℕ) (answer : Result X Refusal
 
 module _ {X : Type 0} (s : State) (t : Txn) (n : ℕ) (P : ℕ → Type 0) (new : State) where
   -- what is answered to a start from one sender, and not for latches, is answered to one from some
-  pub take_found : (answer : Result X Refusal) (g : ℕ) → WaitsFor s t g → is_latched answer ≡ false → IsStartOf s (Do (Receive g)) (HasStarted s t n (Receiving g) (Receive g) new) answer → IsTakeOf s t n P answer new
+  pub take_found : (answer : Result X Refusal) (g : ℕ) → WaitsFor s t g → is_latched answer ≡ false → IsStartOf s (Do (Chain (Receive g))) (HasStarted s t n (Receiving g) (Chain (Receive g)) new) answer → IsTakeOf s t n P answer new
   take_found (Ok x) g w l p = record { begun = record { sender = g; waits = w; free = take_free s g p.free; started = p.begun }; causes = tt; sound = λ k. tt }
   take_found (Err r) g w l p = record { begun = tt; causes = other_held (take_latched s g ≡ true) (AreHeldUp s t P) r l p.causes; sound = λ k. p.sound k.0 k.1 k.2 w.2 }
 
@@ -209,7 +209,7 @@ module _ {X : Type 0} (s : State) (t : Txn) (n : ℕ) (P : ℕ → Type 0) (new 
   take_none held = record { begun = tt; causes = held; sound = λ k damage. damage }
 
 -- one sender is all of those
-pub take_only : {X : Type 0} (s : State) (t : Txn) (n g : ℕ) (answer : Result X Refusal) (new : State) → WaitsFor s t g → IsStartOf s (Do (Receive g)) (HasStarted s t n (Receiving g) (Receive g) new) answer → IsTakeOf s t n (λ e. e ≡ g) answer new
+pub take_only : {X : Type 0} (s : State) (t : Txn) (n g : ℕ) (answer : Result X Refusal) (new : State) → WaitsFor s t g → IsStartOf s (Do (Chain (Receive g))) (HasStarted s t n (Receiving g) (Chain (Receive g)) new) answer → IsTakeOf s t n (λ e. e ≡ g) answer new
 take_only s t n g (Ok x) new w p = record { begun = record { sender = g; waits = w; free = take_free s g p.free; started = p.begun }; causes = tt; sound = λ k. tt }
 take_only s t n g (Err r) new w p = record { begun = tt; causes = at r p.causes; sound = λ k. p.sound k.0 k.1 k.2 w.2 } where
   at : (x : Refusal) → RefusesPlan (take_latched s g ≡ true) x → RefusesPlan (AreHeldUp s t (λ e. e ≡ g)) x
@@ -221,9 +221,9 @@ take_only s t n g (Err r) new w p = record { begun = tt; causes = at r p.causes;
 -- ---- closes, sends and receives
 
 module _ (s : State) (g n : ℕ) (plan : Planned) (below : g < sender_count s.sizes) where
-  pub close_plan : IsDeedPlan s (Close g) plan → IsClosePlan s.sizes (slots_now s) (under_plan n plan) g
+  pub close_plan : IsDeedPlan s (Chain (Close g)) plan → IsClosePlan s.sizes (slots_now s) (under_plan n plan) g
   close_plan h = at plan.deed refl h.asked h.planned where
-    at : (e : Deed) → plan.deed ≡ e → IsDeedFor (Close g) e → IsPlannedFrom s.sizes (slots_now s) plan.writes (Did e) → IsClosePlan s.sizes (slots_now s) (under_plan n plan) g
+    at : (e : Deed) → plan.deed ≡ e → IsDeedFor (Chain (Close g)) e → IsPlannedFrom s.sizes (slots_now s) plan.writes (Did e) → IsClosePlan s.sizes (slots_now s) (under_plan n plan) g
     at (Close_deed x) is same p = record {
       made = refl;
       below = below;
@@ -235,9 +235,9 @@ module _ (s : State) (g n : ℕ) (plan : Planned) (below : g < sender_count s.si
     at (UnlinkHead x m t b) is same p = absurd same
     at (Mark c t previous) is same p = absurd same
 
-  pub send_plan : (tag : ℕ) (body : List ℕ) → IsDeedPlan s (Send g tag body) plan → IsSendPlan s.sizes (slots_now s) (under_plan n plan) g tag body
+  pub send_plan : (tag : ℕ) (body : List ℕ) → IsDeedPlan s (Chain (Send g tag body)) plan → IsSendPlan s.sizes (slots_now s) (under_plan n plan) g tag body
   send_plan tag body h = at plan.deed refl h.asked h.planned where
-    at : (e : Deed) → plan.deed ≡ e → IsDeedFor (Send g tag body) e → IsPlannedFrom s.sizes (slots_now s) plan.writes (Did e) → IsSendPlan s.sizes (slots_now s) (under_plan n plan) g tag body
+    at : (e : Deed) → plan.deed ≡ e → IsDeedFor (Chain (Send g tag body)) e → IsPlannedFrom s.sizes (slots_now s) plan.writes (Did e) → IsSendPlan s.sizes (slots_now s) (under_plan n plan) g tag body
     at (Append x m t previous b) is same p =
         let e : Append x m t previous b ≡ Append g m tag previous body = ap (λ i. Append i m t previous b) same.0 ∙ ap (λ i. Append g m i previous b) same.1 ∙ ap (λ i. Append g m tag previous i) same.2 in
         let q : IsSend s.sizes (slots_now s) plan.writes g m tag previous body = subst (λ (i : Deed). IsPlannedFrom s.sizes (slots_now s) plan.writes (Did i)) e p in
@@ -276,9 +276,9 @@ used_cell z images a c e = elim (cases_Bool (nat_lt 0 (a % 16))) [
     at y (Some kinds.Cells) k e = of_cell (cell_slot_in (slot_at images a)) e y k
     at y (Some kinds.Tags) k e = absurd (let bad : Client (client_in (slot_at images a)) ≡ Used c = e in cc)
 
-pub take_plan : (s : State) (g n : ℕ) (plan : Planned) → g < sender_count s.sizes → IsDeedPlan s (Receive g) plan → IsTakePlan s.sizes (slots_now s) (under_plan n plan) g
+pub take_plan : (s : State) (g n : ℕ) (plan : Planned) → g < sender_count s.sizes → IsDeedPlan s (Chain (Receive g)) plan → IsTakePlan s.sizes (slots_now s) (under_plan n plan) g
 take_plan s g n plan below h = at plan.deed refl h.asked h.planned where
-  at : (e : Deed) → plan.deed ≡ e → IsDeedFor (Receive g) e → IsPlannedFrom s.sizes (slots_now s) plan.writes (Did e) → IsTakePlan s.sizes (slots_now s) (under_plan n plan) g
+  at : (e : Deed) → plan.deed ≡ e → IsDeedFor (Chain (Receive g)) e → IsPlannedFrom s.sizes (slots_now s) plan.writes (Did e) → IsTakePlan s.sizes (slots_now s) (under_plan n plan) g
   at (UnlinkHead x m t b) is same p =
       let e : UnlinkHead x m t b ≡ UnlinkHead g m t b = ap (λ i. UnlinkHead i m t b) same in
       let q : IsReceive s.sizes (slots_now s) plan.writes g m t b = subst (λ (i : Deed). IsPlannedFrom s.sizes (slots_now s) plan.writes (Did i)) e p in
@@ -301,18 +301,47 @@ take_plan s g n plan below h = at plan.deed refl h.asked h.planned where
   at (Mark c t previous) is same p = absurd same
 
 -- a close needs the page of its directory slot
-pub close_held : (s : State) (g : ℕ) → IsHeldUp (known_part s) (Do (Close g)) → close_latched s g ≡ true
+pub close_held : (s : State) (g : ℕ) → IsHeldUp (known_part s) (Do (Chain (Close g))) → close_latched s g ≡ true
 close_held s g h = elim (or_cases (latched_in s.rows (directory_at g / 16)) false h) [ inl y ↦ y | inr n ↦ absurd (true≢false (sym n)) ]
 
-pub close_free : (s : State) (g : ℕ) → (IsHeldUp (known_part s) (Do (Close g)) → ⊥) → close_latched s g ≡ false
+pub close_free : (s : State) (g : ℕ) → (IsHeldUp (known_part s) (Do (Chain (Close g))) → ⊥) → close_latched s g ≡ false
 close_free s g h = false_from_ne_true (close_latched s g) (λ y. h (or_left (latched_in s.rows (directory_at g / 16)) false y))
 
 -- it makes one write
-pub close_one : (s : State) (g : ℕ) (plan : Planned) → g < sender_count s.sizes → IsDeedPlan s (Close g) plan → length plan.writes ≡ 1
+pub close_one : (s : State) (g : ℕ) (plan : Planned) → g < sender_count s.sizes → IsDeedPlan s (Chain (Close g)) plan → length plan.writes ≡ 1
 close_one s g plan below h = one_write _ plan.writes _ (close_plan s g 0 plan below h).marking.writes
 
+-- a mark needs the page of its client's slot
+pub mark_held : (s : State) (t : Tagging) → IsHeldUp (known_part s) (Do (Tag t)) → mark_latched s t.client ≡ true
+mark_held s t h = elim (or_cases (mark_latched s t.client) false h) [ inl y ↦ y | inr n ↦ absurd (true≢false (sym n)) ]
+
+pub mark_free : (s : State) (t : Tagging) → (IsHeldUp (known_part s) (Do (Tag t)) → ⊥) → mark_latched s t.client ≡ false
+mark_free s t h = false_from_ne_true (mark_latched s t.client) (λ y. h (or_left (mark_latched s t.client) false y))
+
+pub mark_plan : (s : State) (t : Tagging) (n : ℕ) (plan : Planned) → t.client < client_count s.sizes → IsDeedPlan s (Tag t) plan → IsMarkPlan s.sizes (slots_now s) (under_plan n plan) t.client t.tag
+mark_plan s t n plan below h = at plan.deed refl h.asked h.planned where
+  at : (e : Deed) → plan.deed ≡ e → IsDeedFor (Tag t) e → IsPlannedFrom s.sizes (slots_now s) plan.writes (Did e) → IsMarkPlan s.sizes (slots_now s) (under_plan n plan) t.client t.tag
+  at (Mark c tag previous) is same p =
+      let e : Mark c tag previous ≡ Mark t.client t.tag previous = ap (λ i. Mark i tag previous) same.0 ∙ ap (λ i. Mark t.client i previous) same.1 in
+      record {
+        previous = previous;
+        made = refl;
+        below = below;
+        tagging = subst (λ (i : Deed). IsPlannedFrom s.sizes (slots_now s) plan.writes (Did i)) e p;
+        aim = ap (λ (i : Deed). aims.Doing i) (is ∙ e);
+        reads = h.fits.reads;
+      }
+  at (Append x m tag previous b) is same p = absurd same
+  at (UnlinkHead x m tag b) is same p = absurd same
+  at (Close_deed x) is same p = absurd same
+
+-- it makes one write
+pub mark_one : (s : State) (t : Tagging) (plan : Planned) → t.client < client_count s.sizes → IsDeedPlan s (Tag t) plan → length plan.writes ≡ 1
+mark_one s t plan below h = one_write _ plan.writes _ (mark_plan s t 0 plan below h).tagging.writes
+
 -- the log has room for what is planned where its tests said so
-pub plan_room : (s : State) (d : Doing) (plan : Planned) → doing_sender d < sender_count s.sizes → log_full (ledger_of s) (records_of d) ≡ false → IsDeedPlan s d plan → HasRoom s plan.writes
-plan_room s (Send g tag body) plan below log h = has_room s plan.writes 4 log (let few = h.fits.count in omega (arith, few))
-plan_room s (Receive g) plan below log h = has_room s plan.writes 4 log (let few = h.fits.count in omega (arith, few))
-plan_room s (Close g) plan below log h = has_room s plan.writes 2 log (let one = close_one s g plan below h in omega (arith, one))
+pub plan_room : (s : State) (d : Task) (plan : Planned) → IsWithin s.sizes d → log_full (ledger_of s) (records_of d) ≡ false → IsDeedPlan s d plan → HasRoom s plan.writes
+plan_room s (Chain (Send g tag body)) plan below log h = has_room s plan.writes 4 log (let few = h.fits.count in omega (arith, few))
+plan_room s (Chain (Receive g)) plan below log h = has_room s plan.writes 4 log (let few = h.fits.count in omega (arith, few))
+plan_room s (Chain (Close g)) plan below log h = has_room s plan.writes 2 log (let one = close_one s g plan below h in omega (arith, one))
+plan_room s (Tag t) plan below log h = has_room s plan.writes 2 log (let one = mark_one s t plan below.0 h in omega (arith, one))

@@ -16,6 +16,7 @@ pub mod Calls
 pub mod SendCalls
 pub mod TakeCalls
 pub mod CloseCalls
+pub mod MarkCalls
 pub mod AbortCalls
 pub mod Causes
 pub mod Crashing

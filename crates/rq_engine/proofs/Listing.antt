@@ -9,6 +9,7 @@ use Rattle.rq_model.specs.declared.txn.Sub.{Sub}
 use Rattle.rq_model.specs.declared.txn.Txn.{Txn}
 use Rattle.rq_engine.specs.Moves.{with_tags, with_sends}
 use Rattle.rq_groups.specs.Ends.{released}
+use Rattle.rq_page.specs.Sizes.{sender_count}
 use Rattle.rq_txn.specs.Rows.{fresh_row, without_row}
 use Rattle.rq_store.specs.State.{State}
 use Rattle.rq_store.specs.Settled.{takes_one}
@@ -35,12 +36,12 @@ begun_lists s = record { number = refl; lists = refl }
 
 -- one that was committed
 pub committed_lists : (s : State) (t : Txn) (n cells : ℕ) (number : CommitNo) → number.txn ≡ t → number.lsn ≡ length s.records + 1 → HasNothingUnderWay s t n → cells ≡ s.cells_in_use - sum_by takes_one (done_by s t)
-    → IsCommitted s t number (record s { rows = without_row t s.rows; ends = record { sending = released t s.ends.sending; receiving = released t s.ends.receiving }; records = Commit t ∷ s.records; cells_in_use = cells; waiting = with_sends (done_by s t) s.waiting; sent = with_tags (done_by s t) s.sent })
+    → IsCommitted s t number (record s { rows = without_row t s.rows; ends = record { sending = released t s.ends.sending; receiving = released t s.ends.receiving }; records = Commit t ∷ s.records; cells_in_use = cells; waiting = with_sends (done_by s t) s.waiting; sent = with_tags (sender_count s.sizes) (done_by s t) s.sent })
 committed_lists s t n cells number txn lsn ready freed = record {
   txn = txn;
   lsn = lsn;
   ready = (n, ready);
-  lists = ap (λ (k : ℕ). let x : State = record s { rows = without_row t s.rows; ends = record { sending = released t s.ends.sending; receiving = released t s.ends.receiving }; records = Commit t ∷ s.records; cells_in_use = k; waiting = with_sends (done_by s t) s.waiting; sent = with_tags (done_by s t) s.sent } in x) freed;
+  lists = ap (λ (k : ℕ). let x : State = record s { rows = without_row t s.rows; ends = record { sending = released t s.ends.sending; receiving = released t s.ends.receiving }; records = Commit t ∷ s.records; cells_in_use = k; waiting = with_sends (done_by s t) s.waiting; sent = with_tags (sender_count s.sizes) (done_by s t) s.sent } in x) freed;
 }
 
 pub committed_from : {a b : State} (t : Txn) (number : CommitNo) (new : State) → a ≡ b → IsCommitted a t number new → IsCommitted b t number new

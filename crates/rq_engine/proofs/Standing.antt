@@ -5,13 +5,13 @@ use Rattle.std.proofs.lemmas.Bool.{and_from, lt-ltb}
 use Rattle.std.proofs.Math.Bool.{and-false}
 use Rattle.rq_model.specs.declared.txn.Txn.{Txn}
 use Rattle.rq_model.specs.declared.record.Deed.{Deed}
-use Rattle.rq_model.specs.declared.record.Deed.TheVariants.{Append, Close, UnlinkHead}
+use Rattle.rq_model.specs.declared.record.Deed.TheVariants.{Append, Close, Mark, UnlinkHead}
 use Rattle.rq_model.specs.declared.record.Record.TheVariants as records
 use Rattle.rq_model.specs.declared.refusal.Refusal.{Refusal}
 use Rattle.rq_model.specs.declared.refusal.Refusal.TheVariants.{DiskWrite}
 use Rattle.rq_model.specs.Deeds.{TellsItself}
 use Rattle.rq_model.specs.History.{Call}
-use Rattle.rq_model.specs.History.Call.{Start_close, Commit, Start_send, Start_receive, Start_receive_from, Step, Finish, Force, Hand_over}
+use Rattle.rq_model.specs.History.Call.{Start_close, Start_mark, Commit, Start_send, Start_receive, Start_receive_from, Step, Finish, Force, Hand_over}
 use Rattle.rq_model.specs.History.Entry.{Refused}
 use Rattle.rq_model.specs.Ledger.{after, found}
 use Rattle.rq_model.specs.Legal.{LegalRefusal}
@@ -26,14 +26,17 @@ use Rattle.rq_txn.specs.declared.Aim.TheVariants.{Doing}
 use Rattle.rq_txn.specs.Rows.{Row, Under, change_row, deed_of, found_row, row_finished, row_started, row_stepped, without_row}
 use Rattle.rq_groups.specs.Sent.{SentBy, sent_count, sent_tag}
 use Rattle.rq_model.specs.Content.{tag_after}
+use Rattle.rq_model.specs.Vocabulary.{client_group}
 use Rattle.rq_sound.specs.Calls.{sends_for}
 use Rattle.rq_groups.specs.Ends.{is_free_for, released, with_held}
 use Rattle.rq_groups.specs.Waiting.{waits}
 use Rattle.rq_store.specs.Plans.{IsSendPlan, IsTakePlan, NoneWaits, WaitsFor}
+use Rattle.rq_store.specs.Sends.{group_of, place_count}
 use Rattle.rq_store.specs.State.{State, ledger_of, size_of}
 use Rattle.rq_store.specs.Steps.{IsPutIn, gave_done, op_end, page_op, took}
 use Rattle.rq_store.proofs.RowLists.{found_in}
 use Rattle.rq_engine.specs.Closes.{IsClosePlan}
+use Rattle.rq_engine.specs.Marks.{IsMarkPlan}
 use Rattle.rq_sound.specs.Counted.{appends_aim, sends_in, takes_all}
 use Rattle.rq_sound.specs.Plans.{AreUnlatched, IsNew}
 use Rattle.rq_sound.specs.Sound.{IsSound}
@@ -91,8 +94,8 @@ finish_steps s k t r u d ws at_row under aim made waited running =
     (λ e. deed_steps.finishes s r u d ws k running (record { at_row = e; under = under; aim_is = aim; made = made }) waited)
 
 pub commit_steps : (s : State) (k : IsSound s) (t : Txn) (r : Row) (cells : ℕ) (ws : List ℕ) (ss : SentBy) → found_row t s.rows ≡ Some r → r.under ≡ None → r.aborting ≡ false → cells + takes_all r ≡ s.cells_in_use
-    → ((g : ℕ) → g < sender_count s.sizes → waits ws g ≡ waits s.waiting g + sends_in g r) → ((g : ℕ) → g < sender_count s.sizes → sent_count ss g ≡ sent_count s.sent g + sends_in g r)
-    → ((g : ℕ) → g < sender_count s.sizes → sent_tag ss g ≡ tag_after (sent_tag s.sent g) (sends_for g r)) → s.failed ≡ false → log_full (ledger_of s) 1 ≡ false
+    → ((g : ℕ) → g < sender_count s.sizes → waits ws g ≡ waits s.waiting g + sends_in g r) → ((i : ℕ) → i < place_count s.sizes → sent_count ss i ≡ sent_count s.sent i + sends_in (group_of s.sizes i) r)
+    → ((i : ℕ) → i < place_count s.sizes → sent_tag ss i ≡ tag_after (sent_tag s.sent i) (sends_for (group_of s.sizes i) r)) → s.failed ≡ false → log_full (ledger_of s) 1 ≡ false
     → IsModelStep s (Commit t) (Gave_commit (record { txn = t; lsn = length s.records + 1 })) (record s { rows = without_row t s.rows; ends = record { sending = released t s.ends.sending; receiving = released t s.ends.receiving }; records = records.Commit t ∷ s.records; cells_in_use = cells; waiting = ws; sent = ss })
 commit_steps s k t r cells ws ss at_row idle forward freed waited counted tagged running room =
     at_own s t r (λ q. IsModelStep s (Commit q) (Gave_commit (record { txn = q; lsn = length s.records + 1 })) (record s { rows = without_row q s.rows; ends = record { sending = released q s.ends.sending; receiving = released q s.ends.receiving }; records = records.Commit q ∷ s.records; cells_in_use = cells; waiting = ws; sent = ss })) at_row
@@ -129,7 +132,7 @@ module _ (s : State) (k : IsSound s) (r : Row) (u : Under) (at_row : found_row r
         free = plan.free;
         beside = plan.beside;
         writes = plan.writes;
-      }) (reads_of d plan.aim plan.reads) tt tt passes in
+      }) (reads_of d plan.aim plan.reads) tt passes in
       subst (λ (n : ℕ). IsModelStep s (Start_send r.txn (record { sender = e; tag = tag; body = body })) (Gave_sub r.txn (r.number + 1))
       (record s { rows = change_row r.txn (row_started u) s.rows; ends = record { sending = with_held r.txn e s.ends.sending; receiving = s.ends.receiving }; cells_in_use = s.cells_in_use + n })) (ap appends_aim plan.aim)
       (deed_steps.starts s r u d k may passes)
@@ -140,9 +143,21 @@ module _ (s : State) (k : IsSound s) (r : Row) (u : Under) (at_row : found_row r
       (record s { rows = change_row r.txn (row_started u) s.rows; ends = record { sending = with_held r.txn e s.ends.sending; receiving = s.ends.receiving } })
   own_close e plan passes =
       let d : Deed = Close e in
-      let may : MayDo s r u d = plans_start.deeds s r u d k (new d plan.aim plan.made) plan.marking (reads_of d plan.aim plan.reads) tt tt passes in
+      let may : MayDo s r u d = plans_start.deeds s r u d k (new d plan.aim plan.made) plan.marking (reads_of d plan.aim plan.reads) tt passes in
       subst (λ (n : ℕ). IsModelStep s (Start_close r.txn e) (Gave_sub r.txn (r.number + 1))
       (record s { rows = change_row r.txn (row_started u) s.rows; ends = record { sending = with_held r.txn e s.ends.sending; receiving = s.ends.receiving }; cells_in_use = n }))
+      (let a : appends_aim u.aim ≡ 0 = ap appends_aim plan.aim in let same : s.cells_in_use + appends_aim u.aim ≡ s.cells_in_use = omega (arith, a) in same)
+      (deed_steps.starts s r u d k may passes)
+
+  -- a mark
+  own_mark : (c tag : ℕ) → IsMarkPlan s.sizes (slots_in s.sizes s.images) u c tag → Passes (size_of s.sizes) (ledger_of s) (Start_mark r.txn c tag)
+      → IsModelStep s (Start_mark r.txn c tag) (Gave_sub r.txn (r.number + 1))
+      (record s { rows = change_row r.txn (row_started u) s.rows; ends = record { sending = with_held r.txn (client_group c) s.ends.sending; receiving = s.ends.receiving } })
+  own_mark c tag plan passes =
+      let d : Deed = Mark c tag plan.previous in
+      let may : MayDo s r u d = plans_start.deeds s r u d k (new d plan.aim plan.made) plan.tagging (reads_of d plan.aim plan.reads) tt passes in
+      subst (λ (n : ℕ). IsModelStep s (Start_mark r.txn c tag) (Gave_sub r.txn (r.number + 1))
+      (record s { rows = change_row r.txn (row_started u) s.rows; ends = record { sending = with_held r.txn (client_group c) s.ends.sending; receiving = s.ends.receiving }; cells_in_use = n }))
       (let a : appends_aim u.aim ≡ 0 = ap appends_aim plan.aim in let same : s.cells_in_use + appends_aim u.aim ≡ s.cells_in_use = omega (arith, a) in same)
       (deed_steps.starts s r u d k may passes)
 
@@ -163,7 +178,7 @@ module _ (s : State) (k : IsSound s) (r : Row) (u : Under) (at_row : found_row r
       head_is = plan.head_is;
       beside = plan.beside;
       writes = plan.writes;
-    }) (reads_of deed plan.aim plan.reads) wait tt passes
+    }) (reads_of deed plan.aim plan.reads) wait passes
 
     no_more : s.cells_in_use + appends_aim u.aim ≡ s.cells_in_use
     no_more = (let a : appends_aim u.aim ≡ 0 = ap appends_aim plan.aim in omega (arith, a))
@@ -195,6 +210,14 @@ close_steps s k t r u e at_row idle free number plan passes =
     at_own s t r (λ q. Passes (size_of s.sizes) (ledger_of s) (Start_close q e)
     → IsModelStep s (Start_close q e) (Gave_sub q (r.number + 1)) (record s { rows = change_row q (row_started u) s.rows; ends = record { sending = with_held q e s.ends.sending; receiving = s.ends.receiving } })) at_row
     (λ f. own_close s k r u f idle free number e plan) passes
+
+pub mark_steps : (s : State) (k : IsSound s) (t : Txn) (r : Row) (u : Under) (c tag : ℕ) → found_row t s.rows ≡ Some r → r.under ≡ None → AreUnlatched s u.writes → u.number ≡ r.number + 1 → IsMarkPlan s.sizes (slots_in s.sizes s.images) u c tag
+    → Passes (size_of s.sizes) (ledger_of s) (Start_mark t c tag)
+    → IsModelStep s (Start_mark t c tag) (Gave_sub t (r.number + 1)) (record s { rows = change_row t (row_started u) s.rows; ends = record { sending = with_held t (client_group c) s.ends.sending; receiving = s.ends.receiving } })
+mark_steps s k t r u c tag at_row idle free number plan passes =
+    at_own s t r (λ q. Passes (size_of s.sizes) (ledger_of s) (Start_mark q c tag)
+    → IsModelStep s (Start_mark q c tag) (Gave_sub q (r.number + 1)) (record s { rows = change_row q (row_started u) s.rows; ends = record { sending = with_held q (client_group c) s.ends.sending; receiving = s.ends.receiving } })) at_row
+    (λ f. own_mark s k r u f idle free number c tag plan) passes
 
 pub take_steps : (s : State) (k : IsSound s) (t : Txn) (r : Row) (u : Under) (e : ℕ) → found_row t s.rows ≡ Some r → r.under ≡ None → AreUnlatched s u.writes → u.number ≡ r.number + 1 → IsTakePlan s.sizes (slots_in s.sizes s.images) u e → 1 ≤ waits s.waiting e
     → Passes (size_of s.sizes) (ledger_of s) (Start_receive_from t e)

@@ -25,6 +25,7 @@ use Rattle.rq_engine.proofs.Latches.{any_busy}
 use Rattle.rq_engine.proofs.Standing.{refused_steps, take_steps, take_from_steps, gives_one, gives_none, some_gives, none_gives, none_steps, none_from_steps}
 use Rattle.rq_groups.specs.declared.End.TheVariants.{Receiving}
 use Rattle.rq_level.specs.Ops.Doing.{Receive}
+use Rattle.rq_planner.specs.Asked.Task.{Chain}
 use Rattle.rq_engine.specs.Lists.{IsTakeStarted}
 use Rattle.rq_engine.specs.Plans.{HasStarted, Planned, under_plan}
 use Rattle.rq_engine.proofs.Leveled.{take_plan}
@@ -117,5 +118,5 @@ module _ (s : State) (t : Txn) (h : NoneHolds (ready_tests (ledger_of s) t false
             after = record s { rows = change_row t (row_started (under_plan n plan)) s.rows; ends = record { sending = s.ends.sending; receiving = with_held t e s.ends.receiving } }
 
 -- what it makes of the lists
-pub take_started : (s : State) (t : Txn) (n e : ℕ) (new : State) → HasNothingUnderWay s t n → WaitsFor s t e → HasStarted s t n (Receiving e) (Receive e) new → IsTakeStarted s t e (record { txn = t; number = n }) new
+pub take_started : (s : State) (t : Txn) (n e : ℕ) (new : State) → HasNothingUnderWay s t n → WaitsFor s t e → HasStarted s t n (Receiving e) (Chain (Receive e)) new → IsTakeStarted s t e (record { txn = t; number = n }) new
 take_started s t n e new ready w b = (refl, w, record { under = under_plan n b.plan; number = refl; ready = ready; plan = take_plan s e n b.plan w.0 b.planned; lists = b.state })

@@ -52,6 +52,8 @@ module _ {P L : Type 0} (old new : OpenStore P L) where
   both_stay (event.StartReceiveFrom t s) (reply.Refused r) other h f = refused (event.StartReceiveFrom t s) r f
   both_stay (event.StartClose t s) (reply.Started sub) other h f = ap under h.1.lists
   both_stay (event.StartClose t s) (reply.Refused r) other h f = refused (event.StartClose t s) r f
+  both_stay (event.StartMark t c tag) (reply.Started sub) other h f = ap under h.1.lists
+  both_stay (event.StartMark t c tag) (reply.Refused r) other h f = refused (event.StartMark t c tag) r f
   both_stay (event.Step sub) (reply.Stepped (progress.Done lsn)) other h f = ap under h.3.state
   both_stay (event.Step sub) (reply.Stepped progress.Ready) other h f = ap under h.1
   both_stay (event.Step sub) (reply.Refused r) other h f = refused (event.Step sub) r f
@@ -80,6 +82,8 @@ module _ {P L : Type 0} (old new : OpenStore P L) where
   both_stay (event.WritePage page) (reply.Refused r) other h f = refused (event.WritePage page) r f
   both_stay (event.LastTag s) (reply.LastTag last) other h f = ap under h.lists
   both_stay (event.LastTag s) (reply.Refused r) other h f = refused (event.LastTag s) r f
+  both_stay (event.ClientTag c) (reply.ClientTag last) other h f = ap under h.lists
+  both_stay (event.ClientTag c) (reply.Refused r) other h f = refused (event.ClientTag c) r f
   both_stay event.Content (reply.Content gs) other h f = ap under h
   both_stay event.Content (reply.Refused r) other h f = refused event.Content r f
   both_stay event.Checkpoint r other h f = absurd other

@@ -4,7 +4,7 @@ use Rattle.rq_model.specs.declared.refusal.Refusal.{Refusal}
 use Rattle.rq_model.specs.declared.refusal.Refusal.TheVariants as why
 use Rattle.rq_model.specs.declared.txn.Sub.{Sub}
 use Rattle.rq_model.specs.History.{Call}
-use Rattle.rq_model.specs.History.Call.{Start_close, Start_receive, Start_receive_from, Undo_next}
+use Rattle.rq_model.specs.History.Call.{Start_close, Start_mark, Start_receive, Start_receive_from, Undo_next}
 use Rattle.rq_disk.specs.declared.device.LogDevice as log_device
 use Rattle.rq_disk.specs.declared.device.PageDevice as page_device
 use Rattle.rq_log.specs.Crash.{LeavesOnly}
@@ -100,6 +100,7 @@ LatchedSay s (event.StartSend txn sender tag body) r = LatchedReply s (call_of (
 LatchedSay s (event.StartReceive txn) r = LatchedReply s (Start_receive txn) r
 LatchedSay s (event.StartReceiveFrom txn sender) r = LatchedReply s (Start_receive_from txn sender) r
 LatchedSay s (event.StartClose txn sender) r = LatchedReply s (Start_close txn sender) r
+LatchedSay s (event.StartMark txn client tag) r = LatchedReply s (Start_mark txn client tag) r
 LatchedSay s (event.UndoNext txn) r = LatchedReply s (Undo_next txn) r
 LatchedSay s _ r = Unit {0}
 

@@ -15,6 +15,7 @@ use Rattle.rq_txn.specs.declared.Finished.{Finished}
 use Rattle.rq_txn.specs.Rows.{Row, Under, AreDistinct, deed_of}
 use Rattle.rq_groups.specs.Sent.{SentBy, sent_count}
 use Rattle.rq_groups.specs.Waiting.{waits}
+use Rattle.rq_store.specs.Sends.{place_count}
 use Rattle.rq_store.specs.State.{State, owed_by}
 use Rattle.rq_planner.specs.Answered.{KnowsCells}
 
@@ -71,11 +72,11 @@ total_of s = length s.records + owed_by s.rows
 abbrev pub done_one : Row → ℕ
 done_one r = length r.finished
 
--- A number and a tag is kept of each sender. No sender has more committed messages than there are records, those that open
--- transactions may have sent included.
+-- A number and a tag is kept of each sender and client. None has more committed messages or marks than there are records, those
+-- that open transactions may have made included.
 pub record AreSendsConsistent (z : Sizes) (records done : ℕ) (sent : SentBy) : Type 0 where
-  pub counts : length sent.counts ≡ sender_count z
-  pub tags : length sent.tags ≡ sender_count z
+  pub counts : length sent.counts ≡ place_count z
+  pub tags : length sent.tags ≡ place_count z
   pub few : (g : ℕ) → sent_count sent g + done ≤ records
 
 -- The room in the log for what operations under way have yet to log is reserved, and no more. With it the log is not over its

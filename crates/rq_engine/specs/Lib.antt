@@ -8,6 +8,7 @@ pub mod Answers
 pub mod Sends
 pub mod Plans
 pub mod Closes
+pub mod Marks
 pub mod Aborts
 pub mod Crash
 pub mod Checkpoint

@@ -6,11 +6,11 @@ use Rattle.rq_model.specs.declared.record.Record.TheVariants.{Commit}
 use Rattle.rq_model.specs.declared.txn.Sub.{Sub}
 use Rattle.rq_model.specs.declared.txn.Txn.{Txn}
 use Rattle.rq_model.specs.Replay.{receipt}
-use Rattle.rq_page.specs.Sizes.{sender_count}
+use Rattle.rq_page.specs.Sizes.{client_count, sender_count}
 use Rattle.rq_views.specs.Stored.{slots_in}
 use Rattle.rq_level.specs.declared.writes.SlotWrite.{SlotWrite}
 use Rattle.rq_groups.specs.declared.End.{End}
-use Rattle.rq_groups.specs.declared.End.TheVariants.{Sending, Receiving}
+use Rattle.rq_groups.specs.declared.End.TheVariants.{Sending, Receiving, Marking}
 use Rattle.rq_groups.specs.Ends.{is_free_for, released}
 use Rattle.rq_groups.specs.Sides.{with_end}
 use Rattle.rq_groups.specs.declared.sent.LastTag.{LastTag}
@@ -26,9 +26,11 @@ use Rattle.rq_store.specs.Steps.{op_end, gave_done}
 use Rattle.rq_sound.specs.Calls.{checkpointed}
 use Rattle.rq_engine.specs.Aborts.{IsAborted, IsAborting, IsUndoFinished, UndoSays}
 use Rattle.rq_engine.specs.Closes.{IsClosePlan}
+use Rattle.rq_engine.specs.Marks.{IsMarkPlan}
 use Rattle.rq_engine.specs.Answers.{IsUnderWay, IsMade, HasNothingUnderWay}
 use Rattle.rq_engine.specs.Moves.{with_sends, with_tags, without_taken}
 use Rattle.rq_engine.specs.Says.{outcome_of, receipt_of}
+use Rattle.rq_engine.specs.declared.event.ClientTag.{ClientTag}
 use Rattle.rq_engine.specs.declared.event.CommitNo.{CommitNo}
 use Rattle.rq_engine.specs.declared.event.Event.{Event}
 use Rattle.rq_engine.specs.declared.event.Event.TheVariants as event
@@ -77,6 +79,12 @@ IsCloseStarted old t sender sub new =
     (sub.txn ≡ t) × IsStarted old sub (Sending sender) old.cells_in_use
     (λ u. IsClosePlan old.sizes (slots_in old.sizes old.images) u sender) new
 
+-- a mark of this tag for this client was started
+abbrev pub IsMarkStarted : State → Txn → ℕ → ℕ → Sub → State → Type 0
+IsMarkStarted old t client tag sub new =
+    (sub.txn ≡ t) × IsStarted old sub (Marking client) old.cells_in_use
+    (λ u. IsMarkPlan old.sizes (slots_in old.sizes old.images) u client tag) new
+
 -- a receive was started from some group, or the transaction is open with nothing under way and none waits
 abbrev pub TakeSays : State → Txn → Option Sub → State → Type 0
 TakeSays old t (Some sub) new = (sender : ℕ) × IsTakeStarted old t sender sub new
@@ -118,7 +126,7 @@ abbrev pub done_by : State → Txn → List Finished
 done_by s t = finished_of (found_row t s.rows)
 
 -- A transaction with nothing under way was committed. Its record is the newest, and its row and its ends are gone. What it sent
--- waits and is counted, the last with its tag. The cells of what it took are free.
+-- waits. What it sent or marked is counted, the last with its tag. The cells of what it took are free.
 pub record IsCommitted (old : State) (t : Txn) (number : CommitNo) (new : State) : Type 0 where
   pub txn : number.txn ≡ t
   pub lsn : number.lsn ≡ length old.records + 1
@@ -129,7 +137,7 @@ pub record IsCommitted (old : State) (t : Txn) (number : CommitNo) (new : State)
     records = Commit t ∷ old.records;
     cells_in_use = old.cells_in_use - sum_by takes_one (done_by old t);
     waiting = with_sends (done_by old t) old.waiting;
-    sent = with_tags (done_by old t) old.sent;
+    sent = with_tags (sender_count old.sizes) (done_by old t) old.sent;
   }
 
 -- a receipt is given where the commit is of this incarnation and its record is forced
@@ -143,6 +151,13 @@ pub record LastTagSays (old : State) (sender : ℕ) (last : LastTag) (new : Stat
   pub of_the_store : sender < sender_count old.sizes
   pub sent : last.sent ≡ sent_count old.sent sender
   pub tag : last.tag ≡ sent_tag old.sent sender
+  pub lists : new ≡ old
+
+-- the client is one of the store; how many of its marks are committed, and the tag of the last one
+pub record ClientTagSays (old : State) (client : ℕ) (last : ClientTag) (new : State) : Type 0 where
+  pub of_the_store : client < client_count old.sizes
+  pub count : last.count ≡ sent_count old.sent (sender_count old.sizes + client)
+  pub tag : last.tag ≡ sent_tag old.sent (sender_count old.sizes + client)
   pub lists : new ≡ old
 
 -- what each reply says that its event made of the lists; of a refusal another clause tells
@@ -172,6 +187,11 @@ abbrev pub AfterStartClose : State → Txn → ℕ → Reply → State → Type 
 AfterStartClose old t sender (reply.Started sub) new = IsCloseStarted old t sender sub new
 AfterStartClose old t sender (reply.Refused r) new = Unit {0}
 AfterStartClose old t sender _ new = ⊥
+
+abbrev pub AfterStartMark : State → Txn → ℕ → ℕ → Reply → State → Type 0
+AfterStartMark old t client tag (reply.Started sub) new = IsMarkStarted old t client tag sub new
+AfterStartMark old t client tag (reply.Refused r) new = Unit {0}
+AfterStartMark old t client tag _ new = ⊥
 
 abbrev pub AfterStep : State → Sub → Reply → State → Type 0
 AfterStep old sub (reply.Stepped p) new = StepSays old sub p new
@@ -234,6 +254,11 @@ AfterLastTag old sender (reply.LastTag last) new = LastTagSays old sender last n
 AfterLastTag old sender (reply.Refused r) new = Unit {0}
 AfterLastTag old sender _ new = ⊥
 
+abbrev pub AfterClientTag : State → ℕ → Reply → State → Type 0
+AfterClientTag old client (reply.ClientTag last) new = ClientTagSays old client last new
+AfterClientTag old client (reply.Refused r) new = Unit {0}
+AfterClientTag old client _ new = ⊥
+
 abbrev pub AfterContent : State → Reply → State → Type 0
 AfterContent old (reply.Content groups) new = new ≡ old
 AfterContent old (reply.Refused r) new = Unit {0}
@@ -246,6 +271,7 @@ ListsSay old (event.StartSend t sender tag body) r new = AfterStartSend old t se
 ListsSay old (event.StartReceive t) r new = AfterStartReceive old t r new
 ListsSay old (event.StartReceiveFrom t sender) r new = AfterStartReceiveFrom old t sender r new
 ListsSay old (event.StartClose t sender) r new = AfterStartClose old t sender r new
+ListsSay old (event.StartMark t client tag) r new = AfterStartMark old t client tag r new
 ListsSay old (event.Step sub) r new = AfterStep old sub r new
 ListsSay old (event.Finish sub) r new = AfterFinish old sub r new
 ListsSay old (event.Commit t) r new = AfterCommit old t r new
@@ -258,4 +284,5 @@ ListsSay old event.Force r new = AfterForce old r new
 ListsSay old event.Checkpoint r new = AfterCheckpoint old r new
 ListsSay old (event.WritePage page) r new = AfterWritePage old r new
 ListsSay old (event.LastTag sender) r new = AfterLastTag old sender r new
+ListsSay old (event.ClientTag client) r new = AfterClientTag old client r new
 ListsSay old event.Content r new = AfterContent old r new

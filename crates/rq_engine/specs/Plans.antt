@@ -1,5 +1,5 @@
 -- What the engine's level is asked, what it plans, and what begins.
-use Rattle.std.specs.Prelude.{◌≡◌, ℕ, ◌<◌, ◌≤◌, Bool, true, false, List, length, Option, Some, Result, Ok, Err, IfErr, IfOk}
+use Rattle.std.specs.Prelude.{◌≡◌, ℕ, ◌^◌, ◌<◌, ◌≤◌, Bool, true, false, List, length, Option, Some, Result, Ok, Err, IfErr, IfOk}
 use Rattle.rq_model.specs.declared.record.Deed.{Deed}
 use Rattle.rq_model.specs.declared.record.Record.{Record}
 use Rattle.rq_model.specs.declared.refusal.Refusal.{Refusal}
@@ -7,12 +7,11 @@ use Rattle.rq_model.specs.declared.refusal.Refusal.TheVariants as why
 use Rattle.rq_model.specs.declared.txn.Txn.{Txn}
 use Rattle.rq_model.specs.Deeds.{deed_by, spelled_deed, TellsItself}
 use Rattle.rq_model.specs.Tests.{log_full}
-use Rattle.rq_page.specs.Sizes.{Sizes, sender_count}
+use Rattle.rq_page.specs.Sizes.{Sizes, client_count, sender_count}
 use Rattle.rq_views.specs.InStore.{IsDeedOf}
 use Rattle.rq_views.specs.Items.{told_deed}
 use Rattle.rq_views.specs.Plans.Turn.{Did, Undid}
 use Rattle.rq_level.specs.ChainPlans.{TellsDamage}
-use Rattle.rq_level.specs.Ops.{Doing}
 use Rattle.rq_level.specs.Ops.Doing.{Send, Receive, Close}
 use Rattle.rq_level.specs.declared.writes.Plan.{Plan}
 use Rattle.rq_level.specs.declared.writes.SlotWrite.{SlotWrite}
@@ -29,7 +28,8 @@ use Rattle.rq_sound.specs.Groups.{slots_now}
 use Rattle.rq_sound.specs.Plans.{AreUnlatched, IsPlannedFrom}
 use Rattle.rq_sound.specs.Sound.{IsSound}
 use Rattle.rq_planner.specs.Answered.{IsDeedFor, IsHeldUp, MayBeAsked, RefusesPlan, SendTakesLowest}
-use Rattle.rq_planner.specs.Asked.{Asked, doing_sender, known}
+use Rattle.rq_planner.specs.Asked.{Asked, Task, doing_sender, known}
+use Rattle.rq_planner.specs.Asked.Task.{Chain, Tag}
 use Rattle.rq_engine.specs.Aborts.{UndoTakesLowest}
 use Rattle.rq_engine.specs.Answers.{HasNothingUnderWay}
 use Rattle.rq_engine.specs.Earlier.{IsEarlier, IsSoundOver, on}
@@ -61,11 +61,11 @@ pub record FitsPlan (z : Sizes) (plan : Planned) : Type 0 where
   pub reads : TellsItself plan.deed
 
 -- A plan of what is to be done, from the slots as they are, on pages that nobody has latched.
-pub record IsDeedPlan (s : State) (d : Doing) (plan : Planned) : Type 0 where
-  pub asked : IsDeedFor d plan.deed
+pub record IsDeedPlan (s : State) (task : Task) (plan : Planned) : Type 0 where
+  pub asked : IsDeedFor task plan.deed
   pub planned : IsPlannedFrom s.sizes (slots_now s) plan.writes (Did plan.deed)
   pub free : AreUnlatched s plan.writes
-  pub lowest : SendTakesLowest s.sizes (slots_now s) s.rows d plan.writes
+  pub lowest : SendTakesLowest s.sizes (slots_now s) s.rows task plan.writes
   pub fits : FitsPlan s.sizes plan
 
 -- The writes that take back a deed, from the slots as they are, on pages that nobody has latched.
@@ -78,29 +78,35 @@ pub record IsInversePlan (s : State) (d : Deed) (writes : List SlotWrite) : Type
 -- ---- starts
 
 -- what is counted of it where it starts: its writes, and an end
-abbrev pub records_of : Doing → ℕ
-records_of (Send g tag body) = 4
-records_of (Receive g) = 4
-records_of (Close g) = 2
+abbrev pub records_of : Task → ℕ
+records_of (Chain (Send g tag body)) = 4
+records_of (Chain (Receive g)) = 4
+records_of (Chain (Close g)) = 2
+records_of (Tag t) = 2
+
+-- it is of one of the store's senders or clients, and no sender has the number of a client's group
+abbrev pub IsWithin : Sizes → Task → Type 0
+IsWithin z (Chain d) = doing_sender d < sender_count z
+IsWithin z (Tag t) = (t.client < client_count z) × (sender_count z ≤ 2 ^ 32)
 
 -- It may start as far as its tests tell. Its transaction has nothing under way, its lock is free, and the log has room. It is
--- of a sender of the store.
-pub record MayStart (s : State) (t : Txn) (n : ℕ) (end : End) (d : Doing) : Type 0 where
+-- of a sender or a client of the store.
+pub record MayStart (s : State) (t : Txn) (n : ℕ) (end : End) (task : Task) : Type 0 where
   pub ready : HasNothingUnderWay s t n
   pub free : is_free_end t end s.ends ≡ true
-  pub log : log_full (ledger_of s) (records_of d) ≡ false
-  pub inside : doing_sender d < sender_count s.sizes
+  pub log : log_full (ledger_of s) (records_of task) ≡ false
+  pub inside : IsWithin s.sizes task
 
 -- something is asked that may
-pub record IsToStart (s : State) (t : Txn) (n : ℕ) (end : End) (asked : Option Doing) : Type 0 where
-  pub doing : Doing
-  pub is : asked ≡ Some doing
-  pub may : MayStart s t n end doing
+pub record IsToStart (s : State) (t : Txn) (n : ℕ) (end : End) (asked : Option Task) : Type 0 where
+  pub task : Task
+  pub is : asked ≡ Some task
+  pub may : MayStart s t n end task
 
 -- it was planned, and is under way with its lock
-pub record HasStarted (s : State) (t : Txn) (n : ℕ) (end : End) (d : Doing) (new : State) : Type 0 where
+pub record HasStarted (s : State) (t : Txn) (n : ℕ) (end : End) (task : Task) (new : State) : Type 0 where
   pub plan : Planned
-  pub planned : IsDeedPlan s d plan
+  pub planned : IsDeedPlan s task plan
   pub state : new ≡ record s { rows = change_row t (row_started (under_plan n plan)) s.rows; ends = with_end t end s.ends }
 
 -- the inverse of the finished operation was planned, and is under way
@@ -133,7 +139,7 @@ pub record HasTaken (s : State) (t : Txn) (n : ℕ) (new : State) : Type 0 where
   pub sender : ℕ
   pub waits : WaitsFor s t sender
   pub free : take_latched s sender ≡ false
-  pub started : HasStarted s t n (Receiving sender) (Receive sender) new
+  pub started : HasStarted s t n (Receiving sender) (Chain (Receive sender)) new
 
 -- latches hold up a receive from each sender with P of which a message waits
 abbrev pub AreHeldUp : State → Txn → (ℕ → Type 0) → Type 0

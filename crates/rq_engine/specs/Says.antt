@@ -4,9 +4,9 @@ use Rattle.rq_store.specs.State.{State}
 use Rattle.std.specs.Prelude.{◌≡◌, Bool, true, false, map, Option, Some, None, Result, Ok, Err}
 use Rattle.rq_model.specs.declared.refusal.Refusal.{Refusal}
 use Rattle.rq_model.specs.History.{Call}
-use Rattle.rq_model.specs.History.Call.{Begin as Call_begin, Start_send as Call_start_send, Start_receive as Call_start_receive, Start_receive_from as Call_start_receive_from, Start_close as Call_start_close, Write_page as Call_write_page, Step as Call_step, Finish as Call_finish, Commit as Call_commit, Acknowledge as Call_acknowledge, Start_abort as Call_start_abort, Undo_next as Call_undo_next, End_abort as Call_end_abort, Hand_over as Call_hand_over, Force as Call_force, Checkpoint as Call_checkpoint, Last_tag as Call_last_tag, Show as Call_show}
+use Rattle.rq_model.specs.History.Call.{Begin as Call_begin, Start_send as Call_start_send, Start_receive as Call_start_receive, Start_receive_from as Call_start_receive_from, Start_close as Call_start_close, Start_mark as Call_start_mark, Write_page as Call_write_page, Step as Call_step, Finish as Call_finish, Commit as Call_commit, Acknowledge as Call_acknowledge, Start_abort as Call_start_abort, Undo_next as Call_undo_next, End_abort as Call_end_abort, Hand_over as Call_hand_over, Force as Call_force, Checkpoint as Call_checkpoint, Last_tag as Call_last_tag, Client_tag as Call_client_tag, Show as Call_show}
 use Rattle.rq_model.specs.Replay.{Number, Reply as Gave}
-use Rattle.rq_model.specs.Replay.Reply.{Gave_nothing_left, Gave_txn, Gave_sub, Gave_lsn, Gave_forced, Gave_checkpoint, Gave_ready, Gave_sent, Gave_message, Gave_closed, Gave_marked, Gave_undone, Gave_handed_over, Gave_aborting, Gave_aborted, Gave_commit, Gave_receipt, Gave_none, Gave_written, Gave_tag, Gave_content, Gave_refusal}
+use Rattle.rq_model.specs.Replay.Reply.{Gave_nothing_left, Gave_txn, Gave_sub, Gave_lsn, Gave_forced, Gave_checkpoint, Gave_ready, Gave_sent, Gave_message, Gave_closed, Gave_marked, Gave_undone, Gave_handed_over, Gave_aborting, Gave_aborted, Gave_commit, Gave_receipt, Gave_none, Gave_written, Gave_tag, Gave_client_tag, Gave_content, Gave_refusal}
 use Rattle.rq_content.specs.Read.{group_of}
 use Rattle.rq_model.specs.declared.txn.Sub.{Sub}
 use Rattle.rq_disk.specs.Device.{Only}
@@ -37,6 +37,7 @@ call_of (event.StartSend txn sender tag body) = Call_start_send txn
 call_of (event.StartReceive txn) = Call_start_receive txn
 call_of (event.StartReceiveFrom txn sender) = Call_start_receive_from txn sender
 call_of (event.StartClose txn sender) = Call_start_close txn sender
+call_of (event.StartMark txn client tag) = Call_start_mark txn client tag
 call_of (event.Step sub) = Call_step sub.txn sub.number
 call_of (event.Finish sub) = Call_finish sub.txn sub.number
 call_of (event.Commit txn) = Call_commit txn
@@ -49,6 +50,7 @@ call_of event.Force = Call_force
 call_of event.Checkpoint = Call_checkpoint
 call_of (event.WritePage page) = Call_write_page page
 call_of (event.LastTag sender) = Call_last_tag sender
+call_of (event.ClientTag client) = Call_client_tag client
 call_of event.Content = Call_show
 
 abbrev pub progress_of : Progress → Gave
@@ -92,6 +94,7 @@ gave (reply.Forced lsn) = Gave_forced lsn
 gave (reply.Checkpointed lsn) = Gave_checkpoint lsn
 gave (reply.Written w) = Gave_written (is_done w)
 gave (reply.LastTag last) = Gave_tag last.sent last.tag
+gave (reply.ClientTag last) = Gave_client_tag last.count last.tag
 gave (reply.Content groups) = Gave_content (map group_of groups.items)
 gave (reply.Refused r) = Gave_refusal r
 

@@ -117,6 +117,9 @@ impl<P: PageDevice, L: LogDevice, B: Level> Engine<P, L, B> {
             Event::StartClose { txn, sender } => {
                 reply!(self.start_close(*txn, *sender), sub => Reply::Started(sub))
             }
+            Event::StartMark { txn, client, tag } => {
+                reply!(self.start_mark(*txn, *client, *tag), sub => Reply::Started(sub))
+            }
             Event::Step(sub) => reply!(self.step(*sub), progress => Reply::Stepped(progress)),
             Event::Finish(sub) => reply!(self.finish(*sub), outcome => Reply::Finished(outcome)),
             Event::Commit(txn) => reply!(self.commit(*txn), number => Reply::Committed(number)),
@@ -133,6 +136,9 @@ impl<P: PageDevice, L: LogDevice, B: Level> Engine<P, L, B> {
                 reply!(self.write_page(*page), written => Reply::Written(written))
             }
             Event::LastTag(sender) => reply!(self.last_tag(*sender), last => Reply::LastTag(last)),
+            Event::ClientTag(client) => {
+                reply!(self.client_tag(*client), last => Reply::ClientTag(last))
+            }
             Event::Content => reply!(self.content(), groups => Reply::Content(groups)),
         }
     }

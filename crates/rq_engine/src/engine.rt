@@ -12,6 +12,7 @@ ghost use Rattle.rq_log.specs.Spelled.{spelled, AreSpelled, IsBeginning};
 ghost use Rattle.rq_page.specs.Sizes.{sender_count};
 ghost use Rattle.rq_groups.specs.Sent.{sent_count};
 ghost use Rattle.rq_groups.specs.Waiting.{waits};
+ghost use Rattle.rq_store.specs.Sends.{place_count};
 ghost use Rattle.rq_sound.specs.Sound.{IsSound};
 ghost use Rattle.rq_engine.specs.Earlier.{on, over, IsEarlier};
 ghost use Rattle.rq_model.specs.declared.record.Record.{Record};
@@ -58,7 +59,8 @@ pub struct Engine<P: PageDevice, L: LogDevice, B: Level> {
     pub(crate) cells_in_use: u64,
     /// By sender, the committed messages that nobody has taken.
     pub(crate) waiting: Waiting,
-    /// By sender, how many messages are committed, and the tag of the last one.
+    /// By sender, how many messages are committed, and the tag of the last one; behind the senders the same of each client's
+    /// marks.
     pub(crate) sent: Sent,
     /// The records that operations under way have yet to log.
     pub(crate) owed: u64,
@@ -133,8 +135,8 @@ impl<P: PageDevice + Drop, L: LogDevice + Drop, B: Level> Engine<P, L, B> {
         requires durable { WasDurable L.LogDevice log }
         requires senders { length waiting ≡ sender_count pages.sizes }
         requires few { (g : ℕ) → waits waiting g ≤ length log.records }
-        requires counts { length sent.counts ≡ sender_count pages.sizes }
-        requires tags { length sent.tags ≡ sender_count pages.sizes }
+        requires counts { length sent.counts ≡ place_count pages.sizes }
+        requires tags { length sent.tags ≡ place_count pages.sizes }
         requires few_sent { (g : ℕ) → sent_count sent g ≤ length log.records }
         requires known { KnowsCells pages.sizes pages.images planner }
         ensures { result ≡ record {
@@ -285,7 +287,7 @@ impl<P: PageDevice, L: LogDevice, B: Level> Engine<P, L, B> {
         let lsn = self.log.append(&commit);
         let finished = self.transactions.finished(txn);
         add_sends(&mut self.waiting, finished);
-        count_sends(&mut self.sent, finished);
+        count_sends(&mut self.sent, self.pages.layout().senders(), finished);
         self.cells_in_use = self.cells_in_use.saturating_sub(count_takes(finished));
         self.ends.release(txn);
         self.transactions.end(txn);

@@ -68,6 +68,15 @@ pub enum Progress {
     Ready,
 }
 
+/// What a client's committed marks come to.
+#[derive(Clone, Copy, PartialEq, Eq)]
+pub struct ClientTag {
+    /// How many tags it marked.
+    pub count: u64,
+    /// The last of them, 0 where there is none.
+    pub tag: u64,
+}
+
 /// One call of the engine.
 #[derive(Clone, Drop)]
 pub enum Event {
@@ -87,6 +96,11 @@ pub enum Event {
         txn: Txn,
         sender: u32,
     },
+    StartMark {
+        txn: Txn,
+        client: u32,
+        tag: u64,
+    },
     Step(Sub),
     Finish(Sub),
     Commit(Txn),
@@ -99,6 +113,7 @@ pub enum Event {
     Checkpoint,
     WritePage(u32),
     LastTag(u32),
+    ClientTag(u32),
     Content,
 }
 
@@ -135,6 +150,8 @@ pub enum Reply {
     Written(Written),
     /// What the sender's committed sends come to.
     LastTag(LastTag),
+    /// What the client's committed marks come to.
+    ClientTag(ClientTag),
     /// The committed content, by sender.
     Content(Vec<GroupContent>),
     /// The call was refused.

@@ -9,6 +9,7 @@ pub mod engine;
 pub mod event;
 mod last;
 mod looking;
+mod marks;
 mod moves;
 mod operations;
 mod pages;

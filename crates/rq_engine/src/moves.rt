@@ -1,4 +1,4 @@
-//! What finished operations sent and took.
+//! What finished operations sent, marked and took.
 ghost use Rattle.std.specs.Prelude.{◌≡◌, ◌+◌, ◌<◌, ◌^◌, ℕ, length};
 ghost use Rattle.std.specs.List.{sum_by};
 ghost use Rattle.rq_groups.specs.Sent.{sent_count};
@@ -22,14 +22,17 @@ pub(crate) fn add_sends(waiting: &mut Waiting, finished: &[Finished])
     }
 }
 
-/// Counts the messages that these operations sent, and keeps the tag of each sender's last one.
-pub(crate) fn count_sends(sent: &mut Sent, finished: &[Finished])
+/// Counts what these operations sent and marked, and keeps the tag of each sender's and each client's last one. Clients have
+/// their places behind the senders.
+pub(crate) fn count_sends(sent: &mut Sent, senders: u32, finished: &[Finished])
     requires room { (s : ℕ) → sent_count sent.old s + length finished.now < 2 ^ 64 }
-    ensures { sent.new ≡ with_tags finished.now sent.old }
+    ensures { sent.new ≡ with_tags senders finished.now sent.old }
 {
     for done in finished {
-        if let Gist::Append { sender, tag } = done.deed.gist() {
-            sent.add(sender, tag);
+        match done.deed.gist() {
+            Gist::Append { sender, tag } => sent.add(sender as usize, tag),
+            Gist::Mark { client, tag } => sent.add(senders as usize + client as usize, tag),
+            _ => {}
         }
     }
 }

@@ -5,7 +5,7 @@ ghost use Rattle.rq_model.specs.Legal.{OnFound};
 ghost use Rattle.rq_txn.specs.Rows.{change_row, found_row, row_finished, row_taken_back, under_of};
 ghost use Rattle.rq_store.specs.Steps.{op_end, gave_done};
 ghost use Rattle.rq_sound.specs.Rows.{comp_end};
-ghost use Rattle.rq_views.specs.Claims.{appends_of};
+ghost use Rattle.rq_views.specs.Claims.{appends_of, takes_of};
 ghost use Rattle.rq_views.specs.Plans.{deed_sender};
 ghost use Rattle.rq_level.specs.Writes.{answer_of};
 ghost use Rattle.rq_engine.specs.Opened.{LeavesDevices};
@@ -158,7 +158,7 @@ impl<P: PageDevice, L: LogDevice, B: Level> Engine<P, L, B> {
           cells_in_use = self.old.state.cells_in_use - appends_of deed.now;
           waiting = with_taken deed.now self.old.state.waiting;
         } }
-        ensures sender { deed_sender deed.now < length self.old.state.waiting }
+        ensures sender { takes_of deed.now ≡ 1 → deed_sender deed.now < length self.old.state.waiting }
         ensures devices { LeavesDevices self.old self.new }
     {
         self.log.append_comp_end(sub.txn, sub.number, lsn);

@@ -13,7 +13,7 @@ ghost use Rattle.rq_engine.specs.Opened.{LeavesDevices};
 ghost use Rattle.rq_engine.specs.Answers.{AnswersLegally};
 ghost use Rattle.rq_engine.specs.Lists.{TakeSays, TakeFromSays};
 ghost use Rattle.rq_engine.specs.Receives.{started_of};
-ghost use Rattle.rq_planner.specs.Asked.{Do};
+ghost use Rattle.rq_planner.specs.Asked.{Chain, Do};
 ghost use Rattle.rq_engine.specs.Plans.{HasStarted, IsStartOf, IsTakeOf, MayTake};
 
 use crate::engine::Engine;
@@ -100,8 +100,8 @@ impl<P: PageDevice, L: LogDevice, B: Level> Engine<P, L, B> {
     fn start_take(&mut self, txn: Txn, number: u64, sender: u32) -> Result<(), Refusal>
         requires may { MayTake self.old.state txn number }
         requires waits { WaitsFor self.old.state txn sender }
-        ensures started { IsStartOf self.old.state (Do (Receive sender))
-            (HasStarted self.old.state txn number (End.Receiving sender) (Receive sender) self.new.state) result }
+        ensures started { IsStartOf self.old.state (Do (Chain (Receive sender)))
+            (HasStarted self.old.state txn number (End.Receiving sender) (Chain (Receive sender)) self.new.state) result }
         ensures devices { LeavesDevices self.old self.new }
         ensures plain { IfErr result (λ r. r ≢ Refusal.Failed) }
         ensures refused { OnErr result (self.new ≡ self.old) }

@@ -1,13 +1,11 @@
-//! Starts of what is to be done: a send, a receive or a close.
+//! Starts of what is to be done: a send, a receive, a close or a mark.
 ghost use Rattle.std.specs.Prelude.{◌≡◌, ◌≢◌, ◌<◌, IfErr, OnOk, OnErr, Some, false, true};
 ghost use Rattle.rq_model.specs.Vocabulary.{is_some};
-ghost use Rattle.rq_page.specs.Sizes.{sender_count};
-ghost use Rattle.rq_level.specs.Ops.{Doing, doing_by};
 ghost use Rattle.rq_txn.specs.Rows.{change_row, row_started, under_of};
 ghost use Rattle.rq_txn.specs.Told.{IsTold};
 ghost use Rattle.rq_groups.specs.Sides.{is_free_end, with_end};
 ghost use Rattle.rq_planner.specs.Answered.{IsPlanned};
-ghost use Rattle.rq_planner.specs.Asked.{Do, doing_sender};
+ghost use Rattle.rq_planner.specs.Asked.{Do, IsTaskOf, Task, task_by};
 ghost use Rattle.rq_engine.specs.Opened.{LeavesDevices};
 ghost use Rattle.rq_engine.specs.Answers.{HasNothingUnderWay};
 ghost use Rattle.rq_engine.specs.Plans.{FitsPlan, HasStarted, IsStartOf, IsToStart, is_latched, known_part, planned_of, under_plan};
@@ -39,8 +37,8 @@ impl<P: PageDevice, L: LogDevice, B: Level> Engine<P, L, B> {
         op: &Op,
     ) -> Result<(), Refusal>
         requires forward { op.now.undo ≡ false }
-        requires may { IsToStart self.old.state txn number end (doing_by op.now.level op.now.bytes) }
-        ensures started { (d : Doing) → doing_by op.now.level op.now.bytes ≡ Some d → IsStartOf self.old.state (Do d)
+        requires may { IsToStart self.old.state txn number end (task_by op.now.level op.now.bytes) }
+        ensures started { (d : Task) → task_by op.now.level op.now.bytes ≡ Some d → IsStartOf self.old.state (Do d)
             (HasStarted self.old.state txn number end d self.new.state) result }
         ensures devices { LeavesDevices self.old self.new }
         ensures plain { IfErr result (λ r. r ≢ Refusal.Failed) }
@@ -55,10 +53,10 @@ impl<P: PageDevice, L: LogDevice, B: Level> Engine<P, L, B> {
     // What its level plans for an operation that is to be done.
     fn plan(&mut self, op: &Op) -> Result<Plan, Refusal>
         requires forward { op.now.undo ≡ false }
-        requires asked { is_some (doing_by op.now.level op.now.bytes) ≡ true }
+        requires asked { is_some (task_by op.now.level op.now.bytes) ≡ true }
         ensures same { self.new ≡ self.old }
-        ensures planned { (d : Doing) → doing_by op.now.level op.now.bytes ≡ Some d
-            → doing_sender d < sender_count self.old.state.sizes → IsPlanned (known_part self.old.state) (Do d) result }
+        ensures planned { (d : Task) → task_by op.now.level op.now.bytes ≡ Some d
+            → IsTaskOf self.old.state.sizes d → IsPlanned (known_part self.old.state) (Do d) result }
     {
         let room = self.transactions.spare();
         self.planner.plan(room, &self.pages, &self.transactions, op)

@@ -1,4 +1,4 @@
-//! How many messages each sender has sent, and the tag of the last one.
+//! How many messages each sender has sent, or tags each client marked, and the last tag.
 ghost use Rattle.std.specs.Prelude.{◌≡◌, ◌+◌, ◌<◌, ◌^◌, ℕ, length, IfOk};
 ghost use Rattle.rq_groups.specs.Sent.{sent_count, sent_tag, with_last, with_one_more};
 
@@ -6,17 +6,17 @@ use rq_model::refusal::NoMemory;
 use std::alloc::Global;
 use std::marker::Model;
 
-/// What a sender's committed sends come to.
+/// What a sender's committed sends, or a client's marks, come to.
 #[derive(Clone, Copy, PartialEq, Eq)]
 pub struct LastTag {
-    /// How many messages it sent.
+    /// How many messages it sent, or tags it marked.
     pub sent: u64,
     /// The tag of the last one, 0 where there is none.
     pub tag: u64,
 }
 
-/// For each sender of a store, how many messages of it are committed, and the tag of the last one. Contracts see
-/// both lists, by sender.
+/// For each sender of a store, how many messages of it are committed, and the tag of the last one; behind the senders
+/// likewise for each client and its marks. Contracts see both lists, by place.
 #[derive(Drop)]
 pub struct Sent {
     counts: Vec<u64>,
@@ -35,51 +35,51 @@ impl Model for Sent {
 }
 
 impl Sent {
-    /// Nothing is sent, of as many senders.
+    /// Nothing is sent or marked, of as many senders and clients.
     ///
     /// # Errors
     /// `NoMemory`.
-    pub fn new(alloc: Global, senders: u32) -> Result<Sent, NoMemory>
-        ensures senders { IfOk result (λ sent. (length sent.counts ≡ senders) × (length sent.tags ≡ senders)) }
+    pub fn new(alloc: Global, places: u32) -> Result<Sent, NoMemory>
+        ensures places { IfOk result (λ sent. (length sent.counts ≡ places) × (length sent.tags ≡ places)) }
         ensures none { IfOk result (λ sent. (s : ℕ) → (sent_count sent s ≡ 0) × (sent_tag sent s ≡ 0)) }
     {
-        let Ok(counts) = vec![in alloc; 0; senders as usize] else {
+        let Ok(counts) = vec![in alloc; 0; places as usize] else {
             return Err(NoMemory);
         };
-        match vec![in alloc; 0; senders as usize] {
+        match vec![in alloc; 0; places as usize] {
             Ok(tags) => Ok(Sent { counts, tags }),
             Err(_) => Err(NoMemory),
         }
     }
 
-    /// How many messages the sender sent, and the tag of the last one: none where it is no sender of the store.
-    pub fn last_tag(&self, sender: u32) -> LastTag
-        ensures sent { result.sent ≡ sent_count self.now sender }
-        ensures tag { result.tag ≡ sent_tag self.now sender }
+    /// How many were sent or marked at this place, and the last tag: none where there is no such place.
+    pub fn last_tag(&self, place: usize) -> LastTag
+        ensures sent { result.sent ≡ sent_count self.now place }
+        ensures tag { result.tag ≡ sent_tag self.now place }
     {
         LastTag {
-            sent: self.counts.get(sender as usize).copied().unwrap_or(0),
-            tag: self.tags.get(sender as usize).copied().unwrap_or(0),
+            sent: self.counts.get(place).copied().unwrap_or(0),
+            tag: self.tags.get(place).copied().unwrap_or(0),
         }
     }
 
-    /// Has this be what the sender's sends come to. Nothing changes where it is no sender of the store.
-    pub fn set(&mut self, sender: u32, last: LastTag)
-        ensures { self.new ≡ with_last sender last.sent last.tag self.old }
+    /// Has this be what the sends or marks at this place come to. Nothing changes where there is no such place.
+    pub fn set(&mut self, place: usize, last: LastTag)
+        ensures { self.new ≡ with_last place last.sent last.tag self.old }
     {
-        if (sender as usize) < self.counts.len() {
-            self.counts[sender as usize] = last.sent;
-            self.tags[sender as usize] = last.tag;
+        if place < self.counts.len() {
+            self.counts[place] = last.sent;
+            self.tags[place] = last.tag;
         }
     }
 
-    /// Has the sender have sent one message more, with this tag, as when its send is committed. Nothing changes where
-    /// it is no sender of the store.
-    pub fn add(&mut self, sender: u32, tag: u64)
-        requires room { sent_count self.old sender + 1 < 2 ^ 64 }
-        ensures { self.new ≡ with_one_more sender tag self.old }
+    /// Counts one more at this place, with this tag, as when a send or a mark is committed. Nothing changes where there is no
+    /// such place.
+    pub fn add(&mut self, place: usize, tag: u64)
+        requires room { sent_count self.old place + 1 < 2 ^ 64 }
+        ensures { self.new ≡ with_one_more place tag self.old }
     {
-        let sent = self.last_tag(sender).sent + 1;
-        self.set(sender, LastTag { sent, tag });
+        let sent = self.last_tag(place).sent + 1;
+        self.set(place, LastTag { sent, tag });
     }
 }

@@ -12,7 +12,7 @@ use Rattle.rq_model.specs.Causes.{HasCause, writes_out}
 use Rattle.rq_model.specs.History.{Call, Entry}
 use Rattle.rq_model.specs.History.Entry.{Started, None_free, None_from, None_left}
 use Rattle.rq_model.specs.History.Job.{Taking}
-use Rattle.rq_model.specs.History.Call.{Begin, Start_send, Start_receive, Start_receive_from, Start_close, Step, Finish, Commit, Start_abort, Undo_next, End_abort}
+use Rattle.rq_model.specs.History.Call.{Begin, Start_send, Start_receive, Start_receive_from, Start_close, Start_mark, Step, Finish, Commit, Start_abort, Undo_next, End_abort}
 use Rattle.rq_model.specs.Legal.{Legal, LegalRefusal, OnFound}
 use Rattle.rq_model.specs.Ledger.{Ledger, Open, found}
 use Rattle.rq_model.specs.Vocabulary.{is_some, last}
@@ -181,6 +181,9 @@ send_passed t m old new a s = (subst (λ (e : Entry). Legal (size_of old.sizes) 
 
 pub close_passed : (t : Txn) (g : ℕ) (old new : State) (a : Sub) → IsModelStep old (Start_close t g) (Gave_sub a.txn a.number) new → Passes (size_of old.sizes) (ledger_of old) (Start_close t g)
 close_passed t g old new a s = (subst (λ (e : Entry). Legal (size_of old.sizes) (ledger_of old) e) s.says.1 s.legal).0
+
+pub mark_passed : (t : Txn) (c tag : ℕ) (old new : State) (a : Sub) → IsModelStep old (Start_mark t c tag) (Gave_sub a.txn a.number) new → Passes (size_of old.sizes) (ledger_of old) (Start_mark t c tag)
+mark_passed t c tag old new a s = (subst (λ (e : Entry). Legal (size_of old.sizes) (ledger_of old) e) s.says.1 s.legal).0
 
 pub abort_passed : {X : Type 0} (t : Txn) (old new : State) (a : X) → IsModelStep old (Start_abort t) Gave_aborting new → Passes (size_of old.sizes) (ledger_of old) (Start_abort t)
 abort_passed t old new a s = subst (λ (e : Entry). Legal (size_of old.sizes) (ledger_of old) e) s.says s.legal

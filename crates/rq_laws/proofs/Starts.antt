@@ -4,17 +4,18 @@ use Rattle.std.specs.Result.{IfOk}
 use Rattle.std.proofs.lemmas.Bool.{cases_Bool, cases_lt}
 use Rattle.rq_model.specs.Vocabulary.{same_txn}
 use Rattle.rq_model.specs.declared.refusal.Refusal.{Refusal}
-use Rattle.rq_model.specs.declared.record.Deed.TheVariants.{Append, UnlinkHead}
+use Rattle.rq_model.specs.declared.record.Deed.TheVariants.{Append, UnlinkHead, Mark}
 use Rattle.rq_model.specs.declared.txn.Sub.{Sub}
 use Rattle.rq_model.specs.declared.txn.Txn.{Txn}
 use Rattle.rq_model.specs.Legal.{OnFound}
 use Rattle.rq_page.specs.declared.cell.Cell.{Cell}
+use Rattle.rq_page.specs.declared.client.ClientSlot.{ClientSlot}
 use Rattle.rq_page.specs.declared.directory.Directory.{Directory}
 use Rattle.rq_page.specs.Sizes.{Sizes, IsCellAddress}
 use Rattle.rq_page.specs.Slots.Slot.{Free}
 use Rattle.rq_views.specs.Items.{layout_of, operation}
 use Rattle.rq_views.specs.Log.{Slots, Write}
-use Rattle.rq_views.specs.Plans.{append_writes, unlink_head_writes, directory_write}
+use Rattle.rq_views.specs.Plans.{append_writes, unlink_head_writes, client_write, directory_write}
 use Rattle.rq_views.specs.Stored.{slots_in}
 use Rattle.rq_level.specs.declared.writes.SlotWrite.{SlotWrite}
 use Rattle.rq_level.specs.Writes.{IsFirstAt, writes_of}
@@ -30,10 +31,11 @@ use Rattle.rq_sound.proofs.PlanFits.{same_cell}
 use Rattle.rq_planner.proofs.Replies.{first_new}
 use Rattle.rq_engine.specs.Answers.{HasNothingUnderWay, IsUnderWay, OnUnder}
 use Rattle.rq_engine.specs.Closes.{IsClosePlan}
-use Rattle.rq_engine.specs.Lists.{IsCloseStarted, IsSendStarted, IsStarted, IsTakeStarted, TakeFromSays, TakeSays}
+use Rattle.rq_engine.specs.Marks.{IsMarkPlan}
+use Rattle.rq_engine.specs.Lists.{IsCloseStarted, IsMarkStarted, IsSendStarted, IsStarted, IsTakeStarted, TakeFromSays, TakeSays}
 use Rattle.rq_engine.specs.Sends.{TakesLowest}
 use Rattle.rq_laws.specs.Alike.{AreAlike, StartedAlike, RowTold, UnderTold, row_told, under_told}
-use Rattle.rq_laws.proofs.Slots.{sender_same, used_free}
+use Rattle.rq_laws.proofs.Slots.{client_same, sender_same, used_free}
 
 -- ---- what is told of a row
 
@@ -107,6 +109,31 @@ pub close_alike : (old old2 : State) (t : Txn) (g : ℕ) (p q : Result Sub Refus
 close_alike old old2 t g (Err e) q x y is f h = tt
 close_alike old old2 t g (Ok a) (Err e) x y is f h = tt
 close_alike old old2 t g (Ok a) (Ok b) x y is f h = close_says old t g a b x y f (subst (λ s. IsCloseStarted s t g b y) (sym is) h)
+
+-- ---- marks
+
+mark_told : (z : Sizes) (q : Slots) (u v : Under) (c tag : ℕ) → IsMarkPlan z q u c tag → IsMarkPlan z q v c tag → u.number ≡ v.number → under_told z u ≡ under_told z v
+mark_told z q u v c tag f h n =
+    let e = client_same f.tagging.held h.tagging.held (sym f.tagging.held_is ∙ h.tagging.held_is) in
+    let previous : f.previous ≡ h.previous = f.tagging.previous_is ∙ ap (λ (k : ClientSlot). k.tag) e ∙ sym h.tagging.previous_is in
+    told_same z u v n
+    (f.tagging.writes ∙ ap (λ (k : ClientSlot). client_write (layout_of z) k (record k { count = k.count + 1; tag = tag }) ∷ []) e ∙ sym h.tagging.writes)
+    (f.made ∙ sym h.made)
+    (f.aim ∙ ap (λ p. Doing (Mark c tag p)) previous ∙ sym h.aim)
+
+mark_says : (old : State) (t : Txn) (c tag : ℕ) (a b : Sub) (x y : State) → IsMarkStarted old t c tag a x → IsMarkStarted old t c tag b y → (a ≡ b) × AreAlike x y
+mark_says old t c tag a b x y f h =
+    let e = sub_same old a b (f.0 ∙ sym h.0) f.1.ready h.1.ready in
+    let k : IsMarkStarted old t c tag a y = subst (λ s. IsMarkStarted old t c tag s y) (sym e) h in
+    (e, started_alike old _ _ _ _ a x y f.1 k.1 (mark_told old.sizes (slots_in old.sizes old.images) f.1.under k.1.under c tag f.1.plan k.1.plan))
+
+-- starts of the same mark answer the same and leave the same
+pub mark_alike : (old old2 : State) (t : Txn) (c tag : ℕ) (p q : Result Sub Refusal) (x y : State) → old ≡ old2
+    → IfOk p (λ a. IsMarkStarted old t c tag a x) → IfOk q (λ b. IsMarkStarted old2 t c tag b y)
+    → IfOk p (λ a. IfOk q (λ b. (a ≡ b) × AreAlike x y))
+mark_alike old old2 t c tag (Err e) q x y is f h = tt
+mark_alike old old2 t c tag (Ok a) (Err e) x y is f h = tt
+mark_alike old old2 t c tag (Ok a) (Ok b) x y is f h = mark_says old t c tag a b x y f (subst (λ s. IsMarkStarted s t c tag b y) (sym is) h)
 
 -- ---- receives
 

@@ -13,7 +13,7 @@ use Rattle.rq_page.specs.declared.cell.Cell.{Cell}
 use Rattle.rq_page.specs.declared.client.ClientSlot.{ClientSlot}
 use Rattle.rq_page.specs.declared.directory.Directory.{Directory}
 use Rattle.rq_page.specs.Sizes.{Sizes}
-use Rattle.rq_page.specs.Slots.Slot.{Free, Client}
+use Rattle.rq_page.specs.Slots.Slot.{Free}
 use Rattle.rq_views.specs.Items.{layout_of, operation}
 use Rattle.rq_views.specs.Log.{Slots}
 use Rattle.rq_views.specs.Plans.{unlink_tail_writes, put_back_writes, client_write, directory_write}
@@ -30,12 +30,9 @@ use Rattle.rq_sound.proofs.PlanFits.{same_cell}
 use Rattle.rq_planner.proofs.Replies.{first_new}
 use Rattle.rq_engine.specs.Aborts.{IsTurnedBack, IsUndoPlan, IsUndoStarted, UndoSays}
 use Rattle.rq_laws.specs.Alike.{AreAlike, row_told, under_told}
-use Rattle.rq_laws.proofs.Slots.{sender_same}
+use Rattle.rq_laws.proofs.Slots.{client_same, sender_same}
 use Rattle.rq_laws.proofs.Starts.{beside_same, lowest_same, rowless, rows_alike, same_alike, told_same}
 use Rattle.rq_laws.proofs.Ending.{some_none}
-
-client_same : (j k : ClientSlot) → Client j ≡ Client k → j ≡ k
-client_same j k e = cc
 
 -- the writes of an inverse
 planned_same : (z : Sizes) (q : Slots) (rows : List Row) (us vs : List SlotWrite) (d : Deed) → q 0 ≡ Free → IsPlannedFrom z q us (Undid d) → IsPlannedFrom z q vs (Undid d)

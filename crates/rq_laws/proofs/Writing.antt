@@ -6,10 +6,10 @@ use Rattle.rq_model.specs.declared.refusal.Refusal.{Refusal}
 use Rattle.rq_model.specs.declared.refusal.Refusal.TheVariants as why
 use Rattle.rq_model.specs.declared.txn.Txn.{Txn}
 use Rattle.rq_model.specs.History.{Entry, Group}
-use Rattle.rq_model.specs.History.Call.{Last_tag, Show}
+use Rattle.rq_model.specs.History.Call.{Client_tag, Last_tag, Show}
 use Rattle.rq_model.specs.Legal.{Legal}
 use Rattle.rq_model.specs.Ledger.{group_in}
-use Rattle.rq_model.specs.Replay.Reply.{Gave_content, Gave_tag}
+use Rattle.rq_model.specs.Replay.Reply.{Gave_client_tag, Gave_content, Gave_tag}
 use Rattle.rq_model.specs.Tests.{Passes, below}
 use Rattle.rq_disk.specs.Device.{Only}
 use Rattle.rq_disk.specs.declared.device.LogDevice as log_device
@@ -28,6 +28,7 @@ use Rattle.rq_engine.specs.Answers.{AnswersLegally}
 use Rattle.rq_engine.specs.Lists.{IsCommitted}
 use Rattle.rq_engine.proofs.Owned.{ok_own}
 use Rattle.rq_engine.specs.Opened.{AreHonest, NotWritten, OpenStore, WritesWhen, pooled, state_after}
+use Rattle.rq_engine.specs.declared.event.ClientTag.{ClientTag}
 use Rattle.rq_engine.specs.declared.event.CommitNo.{CommitNo}
 use Rattle.rq_groups.specs.declared.sent.LastTag.{LastTag}
 use Rattle.rq_laws.specs.Refusals.{IsWant, RefuseAlike, RefuseTheSame}
@@ -175,38 +176,22 @@ number_alike old old2 x y t (Err d) q is f h = tt
 
 -- ---- last tags, and what is shown
 
-want_none : (r : Refusal) → IsWant r → (r ≡ why.NoMemory → ⊥) → (r ≡ why.DiskWrite → ⊥) → ⊥
-want_none why.NoMemory w m n = m refl
-want_none why.DiskWrite w m n = n refl
-want_none _ w m n = w
+-- the store had failed, or it has no such sender or client
+abbrev pub IsFailedOr : Refusal → Refusal → Type 0
+IsFailedOr unknown r = (r ≡ why.Failed) ⊎ (r ≡ unknown)
 
-abbrev pub IsOfSender : Refusal → Type 0
-IsOfSender r = (r ≡ why.Failed) ⊎ (r ≡ why.UnknownSender)
-
-failed_memory : why.Failed ≡ why.NoMemory → ⊥
-failed_memory e = cc
-
-failed_write : why.Failed ≡ why.DiskWrite → ⊥
-failed_write e = cc
-
-sender_memory : why.UnknownSender ≡ why.NoMemory → ⊥
-sender_memory e = cc
-
-sender_write : why.UnknownSender ≡ why.DiskWrite → ⊥
-sender_write e = cc
-
-no_want : (r : Refusal) → IsOfSender r → IsWant r → ⊥
-no_want r (inl e) w = want_none r w (λ m. failed_memory (sym e ∙ m)) (λ m. failed_write (sym e ∙ m))
-no_want r (inr e) w = want_none r w (λ m. sender_memory (sym e ∙ m)) (λ m. sender_write (sym e ∙ m))
+no_want : (unknown r : Refusal) → (IsWant unknown → ⊥) → IsFailedOr unknown r → IsWant r → ⊥
+no_want unknown r n (inl e) w = subst IsWant e w
+no_want unknown r n (inr e) w = n (subst IsWant e w)
 
 -- where nothing can be wanting both are refused for the same
-pub the_same : {X Y : Type 0} (p : Result X Refusal) (q : Result Y Refusal) → IfErr p IsOfSender → IfErr q IsOfSender → RefuseAlike p q → RefuseTheSame p q
-the_same (Ok a) (Ok b) f h alike = tt
-the_same (Ok a) (Err e) f h alike = no_want e h alike
-the_same (Err d) (Ok b) f h alike = no_want d f alike
-the_same (Err d) (Err e) f h alike = elim alike [
+pub the_same : {X Y : Type 0} (unknown : Refusal) (p : Result X Refusal) (q : Result Y Refusal) → (IsWant unknown → ⊥) → IfErr p (IsFailedOr unknown) → IfErr q (IsFailedOr unknown) → RefuseAlike p q → RefuseTheSame p q
+the_same unknown (Ok a) (Ok b) n f h alike = tt
+the_same unknown (Ok a) (Err e) n f h alike = no_want unknown e n h alike
+the_same unknown (Err d) (Ok b) n f h alike = no_want unknown d n f alike
+the_same unknown (Err d) (Err e) n f h alike = elim alike [
   | inl same ↦ same
-  | inr w ↦ elim w [ inl v ↦ absurd (no_want d f v) | inr v ↦ absurd (no_want e h v) ]
+  | inr w ↦ elim w [ inl v ↦ absurd (no_want unknown d n f v) | inr v ↦ absurd (no_want unknown e n h v) ]
 ]
 
 abbrev entry_legal : State → Entry → Type 0
@@ -214,6 +199,9 @@ entry_legal old e = Legal (size_of old.sizes) (ledger_of old) e
 
 pub tag_passed : (sender : ℕ) (old new : State) (a : LastTag) → IsModelStep old (Last_tag sender) (Gave_tag a.sent a.tag) new → Passes (size_of old.sizes) (ledger_of old) (Last_tag sender)
 tag_passed sender old new a s = (subst (entry_legal old) s.says s.legal).0
+
+pub client_passed : (client : ℕ) (old new : State) (a : ClientTag) → IsModelStep old (Client_tag client) (Gave_client_tag a.count a.tag) new → Passes (size_of old.sizes) (ledger_of old) (Client_tag client)
+client_passed client old new a s = (subst (entry_legal old) s.says s.legal).0
 
 pub show_passed : (old new : State) (a : Vec GroupContent Global) → IsModelStep old Show (Gave_content (map group_of a.items)) new → Passes (size_of old.sizes) (ledger_of old) Show
 show_passed old new a s = (subst (entry_legal old) s.says s.legal).0

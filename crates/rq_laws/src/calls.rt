@@ -10,7 +10,7 @@ ghost use Rattle.rq_sound.specs.Sound.{IsSound};
 use rq_content::GroupContent;
 use rq_disk::{LogDevice, PageDevice};
 use rq_engine::engine::Engine;
-use rq_engine::event::{CommitNo, LastTag, Receipt};
+use rq_engine::event::{ClientTag, CommitNo, LastTag, Receipt};
 use rq_level::Level;
 use rq_model::refusal::Refusal;
 use rq_model::txn::{Lsn, Txn};
@@ -168,6 +168,21 @@ pub fn last_tag<P: PageDevice, L: LogDevice, B: Level>(
         → IsSound first.now.state → RefuseTheSame result.0 result.1 }
 {
     (first.last_tag(sender), second.last_tag(sender))
+}
+
+/// The last tag of a client is told alike, and so is how many it marked. A sound store refuses both for the same, or
+/// neither. Excludes a tag that is not committed, one of another client, and a refusal of a client of the store.
+pub fn client_tag<P: PageDevice, L: LogDevice, B: Level>(
+    first: &Engine<P, L, B>,
+    second: &Engine<P, L, B>,
+    client: u32,
+) -> (Result<ClientTag, Refusal>, Result<ClientTag, Refusal>)
+    requires same { first.now ≡ second.now }
+    ensures same { IfOk result.0 (λ a. IfOk result.1 (λ b. a ≡ b)) }
+    ensures decided { AreHonest P.PageDevice L.LogDevice first.now → AreHonest P.PageDevice L.LogDevice second.now
+        → IsSound first.now.state → RefuseTheSame result.0 result.1 }
+{
+    (first.client_tag(client), second.client_tag(client))
 }
 
 /// A page that goes out leaves the same state, the same pages to be written, and what both devices read of each page.

@@ -94,6 +94,28 @@ pub fn start_close<P: PageDevice, L: LogDevice, B: Level>(
     )
 }
 
+/// The start of a mark answers the same and leaves the same state. Excludes one that writes another tag, or that forgets the
+/// tag before it.
+pub fn start_mark<P: PageDevice, L: LogDevice, B: Level>(
+    first: &mut Engine<P, L, B>,
+    second: &mut Engine<P, L, B>,
+    txn: Txn,
+    client: u32,
+    tag: u64,
+) -> (Result<Sub, Refusal>, Result<Sub, Refusal>)
+    requires same { first.old ≡ second.old }
+    ensures same { IfOk result.0 (λ a. IfOk result.1
+        (λ b. (a ≡ b) × AreAlike first.new.state second.new.state)) }
+    ensures latched { IsSound first.old.state → LatchedApart result.0 result.1 }
+    ensures decided { AreHonest P.PageDevice L.LogDevice first.new → AreHonest P.PageDevice L.LogDevice second.new
+        → IsSound first.old.state → RefuseAlike result.0 result.1 }
+{
+    (
+        first.start_mark(txn, client, tag),
+        second.start_mark(txn, client, tag),
+    )
+}
+
 /// The start of an inverse answers the same and leaves the same state. Excludes one that takes back another operation
 /// than the last, or nothing, and one that is refused as Damaged for Latched.
 pub fn undo_next<P: PageDevice, L: LogDevice, B: Level>(

@@ -69,7 +69,7 @@ deed_back k given latched p after (Some z) None h = absurd h
 deed_back k given latched p after None (Some d) h = absurd h
 deed_back k given latched p after None None h = absurd h
 
--- only the level of chains is asked for something
+-- only the level of chains is asked for something at an end of a chain
 pub of_chains : {X : Type 0} (n : ℕ) (o : Option X) → is_some (cond (nat_eq n 1) o None) ≡ true → n ≡ 1
 of_chains n o some = elim (cases_Bool (nat_eq n 1)) [
   | inl one ↦ eqb-true n 1 one

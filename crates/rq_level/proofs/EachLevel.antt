@@ -26,6 +26,7 @@ use Rattle.rq_level.proofs.ChainLaws as chains
 use Rattle.rq_level.proofs.Gathered.{asks_along, unless}
 use Rattle.rq_level.proofs.Gathered as gathered
 use Rattle.rq_level.proofs.PageLaws as pages
+use Rattle.rq_level.proofs.TagLaws.{tags_lawful}
 use Rattle.rq_level.proofs.TakenBack as back
 use Rattle.rq_level.proofs.Unread.{asked_there, may_damage, there_is}
 
@@ -274,7 +275,8 @@ pub all_lawful : AllLawful
 unfolding meaning_of
 all_lawful zero = pages_lawful
 all_lawful (suc zero) = chains_lawful
-all_lawful (suc (suc n)) = none_lawful (suc (suc n))
+all_lawful (suc (suc zero)) = tags_lawful
+all_lawful (suc (suc (suc n))) = none_lawful (suc (suc (suc n)))
 
 -- applying a record again
 not_less : (n m : ℕ) → n ≡ m → nat_lt n m ≡ false

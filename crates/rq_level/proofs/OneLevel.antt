@@ -4,7 +4,7 @@ use Rattle.std.proofs.lemmas.Bool.{cases_eq, cases_lt}
 use Rattle.std.proofs.lemmas.List.{map-set, get_or-map, length-map, length-set, get_or-set_same, get_or-set_other}
 use Rattle.std.proofs.Math.Seq.{map-set_same}
 use Rattle.rq_level.specs.LevelState.{LevelState}
-use Rattle.rq_level.specs.Meaning.{AreTold, Meaning, NotesNothing, meaning_of, kept_at, CountOn}
+use Rattle.rq_level.specs.Meaning.{AreTold, KeepsNothingAt, Meaning, meaning_of, kept_at, CountOn}
 
 pub kept_here : {X : Type 0} (kept : X → LevelState) (xs : List X) (i : ℕ) (x : X) (old : List LevelState) → map kept xs ≡ old → x ≡ get_or xs i x → i < length old → kept_at old i ≡ kept x
 kept_here kept xs i x old e at h = ap (λ o. kept_at o i) (sym e) ∙ get_or-map kept xs i x _ (omega (arith, ap length e, length-map xs kept)) ∙ ap kept (sym at)
@@ -55,9 +55,9 @@ pub record AreToldBelow (m a : ℕ) (bytes : List ℕ) (old now : List LevelStat
   pub told : (i : ℕ) → i < m → kept_at now i ≡ (meaning_of i).note (kept_at old i) a bytes
   pub rest : (i : ℕ) → m ≤ i → kept_at now i ≡ kept_at old i
 
--- those that keep nothing count as told
-pub none_told : (n a : ℕ) (bytes : List ℕ) (old : List LevelState) → ((i : ℕ) → i < n → NotesNothing (meaning_of i)) → AreToldBelow n a bytes old old
-none_told n a bytes old idle = record { count = refl; told = λ i lt. sym ((idle i lt).same (kept_at old i) a bytes); rest = λ i le. refl }
+-- those that keep nothing of it count as told
+pub none_told : (n a : ℕ) (bytes : List ℕ) (old : List LevelState) → ((i : ℕ) → i < n → KeepsNothingAt (meaning_of i) a) → AreToldBelow n a bytes old old
+none_told n a bytes old idle = record { count = refl; told = λ i lt. sym (idle i lt (kept_at old i) bytes); rest = λ i le. refl }
 
 pub one_told : (m a : ℕ) (bytes : List ℕ) (old mid now : List LevelState) → AreToldBelow m a bytes old mid → m < length old
     → now ≡ set mid m ((meaning_of m).note (kept_at mid m) a bytes) → AreToldBelow (m + 1) a bytes old now
@@ -75,11 +75,11 @@ one_told m a bytes old mid now h inside e =
       rest = λ i le. ap (λ (l : List LevelState). kept_at l i) e ∙ get_or-set_other mid m i k _ (λ same. omega (arith, le, same)) ∙ h.rest i (omega (arith, le));
     }
 
-pub all_told : (a n : ℕ) (bytes : List ℕ) (old now : List LevelState) → AreToldBelow n a bytes old now → ((i : ℕ) → n ≤ i → i < length old → NotesNothing (meaning_of i)) → AreTold a bytes old now
+pub all_told : (a n : ℕ) (bytes : List ℕ) (old now : List LevelState) → AreToldBelow n a bytes old now → ((i : ℕ) → n ≤ i → i < length old → KeepsNothingAt (meaning_of i) a) → AreTold a bytes old now
 all_told a n bytes old now h idle = record {
   count = h.count;
   each = λ i lt. elim (cases_lt i n) [
     | inl less ↦ h.told i less
-    | inr le ↦ h.rest i le ∙ sym ((idle i le lt).same (kept_at old i) a bytes)
+    | inr le ↦ h.rest i le ∙ sym (idle i le lt (kept_at old i) bytes)
   ];
 }

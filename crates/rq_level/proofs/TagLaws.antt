@@ -34,14 +34,12 @@ use Rattle.rq_level.specs.Lawful.{IsLawful, IsUntouchedAt, MayHaveNoPlan}
 use Rattle.rq_level.specs.LevelState.{LevelState}
 use Rattle.rq_level.specs.Meaning.{AreOf, tag_meaning}
 use Rattle.rq_level.specs.Ops.{Job, Tagging, doing_in, tag_job, tagging_by, tagging_in}
-use Rattle.rq_level.specs.OwnState.{OwnStateIsAnew}
 use Rattle.rq_level.specs.TagPlans.{CanTag, CanUntag, IsTagPlan, IsUntagPlan, PlansTag, RefusesTag, TagsFor, UndoesTag, client_marked, client_to_mark, client_wanted, tag_note, tag_plans, tag_undoes, tag_wants}
 use Rattle.rq_level.specs.TakenBack.{AreOverHeld, LeadsBack, LeavesAt, LeavesOthers, ShowsOf, newest_first}
 use Rattle.rq_level.specs.Writes.{AreSlotWrites, IsSlotWrite, answer_of, replied, reply_of, write_of, writes_of}
 use Rattle.rq_level.specs.declared.slots.Given.{Given}
 use Rattle.rq_level.specs.declared.writes.Plan.{Plan}
 use Rattle.rq_level.specs.declared.writes.SlotWrite.{SlotWrite}
-use Rattle.rq_level.proofs.Anew.{keeps_anew}
 use Rattle.rq_level.proofs.Based.{all_each, holds_at, same_bytes, was_given}
 use Rattle.rq_level.proofs.ChainLaws.{same_kept}
 use Rattle.rq_level.proofs.Gathered.{asks_client, few_of_client, unless_within}
@@ -409,7 +407,3 @@ tags_lawful = record {
   own = λ k job given latched p after h. plan_own k given p after job latched h;
   own_back = λ k told given latched p after h. back_own k given p after told latched h;
 }
-
--- and keeps of a store what its slots, read anew, would give
-pub tags_anew : OwnStateIsAnew tag_meaning
-tags_anew opened all apart = keeps_anew 2 tag_meaning tags_lawful opened all apart

@@ -104,7 +104,7 @@ pub record IsLawful (n : ℕ) (m : Meaning) : Type 0 where
   -- one that is ready for a store was told no other sizes, and stays ready when a slot is noted
   pub no_others : (k : LevelState) (z y : Sizes) → m.ready z k → k.sizes ≡ Some y → y ≡ z
   pub stays : (k : LevelState) (z : Sizes) (a : ℕ) (x : List ℕ) → a ≢ 1 → m.ready z k → m.ready z (m.note k a x)
-  -- bytes that are a deed, or ask for something to be done, are of a level that there is
+  -- bytes that are a deed, or ask for something at an end of a chain, are of a level that there is
   pub reads : (bytes : List ℕ) → is_some (deed_by n bytes) ≡ true → n < level_count
   pub asked : (bytes : List ℕ) → is_some (doing_by n bytes) ≡ true → n < level_count
   -- what it plans is asked of it, and what it takes back tells one of its deeds

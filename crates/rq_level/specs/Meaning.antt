@@ -1,5 +1,5 @@
 -- What the level of each number does.
-use Rattle.std.specs.Prelude.{◌≡◌, ℕ, zero, suc, ◌+◌, ◌<◌, ◌≤◌, nat_lt, Bool, true, false, List, [], ◌∷◌, Option, None, Some, Result, Ok, length, slice_index_or}
+use Rattle.std.specs.Prelude.{◌≡◌, ◌≢◌, ℕ, zero, suc, ◌+◌, ◌<◌, ◌≤◌, nat_lt, Bool, true, false, List, [], ◌∷◌, Option, None, Some, Result, Ok, length, slice_index_or}
 use Rattle.rq_model.specs.declared.record.Record.{Record}
 use Rattle.rq_model.specs.declared.record.Record.TheVariants.{PageOp, PageUndo}
 use Rattle.rq_model.specs.declared.refusal.Refusal.{Refusal}
@@ -29,9 +29,13 @@ pub record Meaning : Type 1 where
   -- of a store with these sizes it was told all that it needs before its slots, and has room for what it keeps of them
   pub ready : Sizes → LevelState → Type 0
 
--- it keeps nothing of the slots that it is told of
+-- it keeps nothing of the slots that it is told of, but for what slot 1 of the first page tells
 pub record NotesNothing (m : Meaning) : Type 0 where
-  pub same : (k : LevelState) (a : ℕ) (bytes : List ℕ) → m.note k a bytes ≡ k
+  pub same : (k : LevelState) (a : ℕ) (bytes : List ℕ) → a ≢ 1 → m.note k a bytes ≡ k
+
+-- it keeps nothing of the slot at this address
+abbrev pub KeepsNothingAt : Meaning → ℕ → Type 0
+KeepsNothingAt m a = (k : LevelState) (bytes : List ℕ) → m.note k a bytes ≡ k
 
 -- of each plan of something to do
 abbrev pub OfPlans : Meaning → (LevelState → Job → List Given → List ℕ → Plan → LevelState → Type 0) → Type 0
@@ -61,7 +65,6 @@ page_meaning = record {
   ready = λ z k. k.sizes ≡ None;
 }
 
--- what the level of tags is to do; no number has this meaning yet
 abbrev pub tag_meaning : Meaning
 tag_meaning = record {
   want = tag_wants;
@@ -85,9 +88,10 @@ no_meaning = record {
 unfoldable pub meaning_of : ℕ → Meaning
 meaning_of zero = page_meaning
 meaning_of (suc zero) = chain_meaning
-meaning_of (suc (suc n)) = no_meaning
+meaning_of (suc (suc zero)) = tag_meaning
+meaning_of (suc (suc (suc n))) = no_meaning
 
--- how many levels there are; that of tags has no meaning yet
+-- how many levels there are
 abbrev pub level_count : ℕ
 level_count = 3
 

@@ -20,4 +20,5 @@ ready-prop (suc zero) z k = λ a b i. record {
   free = le_prop a.free b.free i;
   reserved = le_prop a.reserved b.reserved i;
 }
-ready-prop (suc (suc n)) z k = told-prop k.sizes None
+ready-prop (suc (suc zero)) z k = told-prop k.sizes (Some z)
+ready-prop (suc (suc (suc n))) z k = told-prop k.sizes None

@@ -3,9 +3,8 @@ ghost use Rattle.std.specs.Prelude.{◌≡◌, ◌≤◌, ℕ, false};
 ghost use Rattle.rq_model.specs.Deeds.{deed_by};
 ghost use Rattle.rq_model.specs.Vocabulary.{is_some};
 ghost use Rattle.rq_level.specs.LevelState.{LevelState};
-ghost use Rattle.rq_level.specs.Lawful.{AllKeepAnew, AllLawful, AppliedTwiceIsOnce, IsLawful};
-ghost use Rattle.rq_level.specs.OwnState.{OwnStateIsAnew};
-ghost use Rattle.rq_level.specs.Meaning.{meaning_of, tag_meaning, wish, AreOf, redo_of, AppliesOnce, IsRedo, IsAppliedOnce, NotesNothing};
+ghost use Rattle.rq_level.specs.Lawful.{AllKeepAnew, AllLawful, AppliedTwiceIsOnce};
+ghost use Rattle.rq_level.specs.Meaning.{meaning_of, wish, AreOf, redo_of, AppliesOnce, IsRedo, IsAppliedOnce, NotesNothing};
 
 use crate::op::Op;
 use crate::slots::{PageSet, Slots};
@@ -41,7 +40,7 @@ pub trait Level: Drop {
     fn reads(&self, deed: &[u8]) -> bool
         ensures { result ≡ is_some (deed_by (level self.now) deed.now) };
 
-    /// Whether it keeps anything of the slots that it is told of.
+    /// Whether it keeps anything of the slots that it is told of, but for what slot 1 of the first page tells.
     fn keeps(&self) -> bool
         ensures { result ≡ false → NotesNothing (meaning_of (level self.now)) };
 
@@ -172,12 +171,6 @@ pub fn applied_twice_is_once()
 /// Each level keeps its laws, whatever its number.
 pub fn levels_are_lawful()
     ensures { AllLawful }
-{}
-
-/// The level of tags keeps the laws of levels.
-pub fn tags_are_lawful()
-    ensures lawful { IsLawful 2 tag_meaning }
-    ensures anew { OwnStateIsAnew tag_meaning }
 {}
 
 /// Once the slots that were planned or written are noted, each level keeps what the slots, read anew, would give.

@@ -3,7 +3,7 @@ ghost use Rattle.std.specs.Prelude.{◌≡◌, ℕ, ◌<◌, ◌≤◌, length, 
 ghost use Rattle.rq_model.specs.Deeds.{deed_by};
 ghost use Rattle.rq_model.specs.Vocabulary.{is_some};
 ghost use Rattle.rq_level.specs.LevelState.{LevelState};
-ghost use Rattle.rq_level.specs.Meaning.{meaning_of, wish, AreOf, redo_of, AppliesOnce, AreTold, IsRedo, NotesNothing, kept_at, CountOn};
+ghost use Rattle.rq_level.specs.Meaning.{meaning_of, wish, AreOf, redo_of, AppliesOnce, AreTold, IsRedo, KeepsNothingAt, NotesNothing, kept_at, CountOn};
 
 use crate::level::{Level, Want};
 use crate::op::Op;
@@ -20,9 +20,9 @@ use std::marker::Model;
 #[derive(Drop)]
 pub struct Levels<B: Level> {
     all: Vec<B>,
-    // How many of the first keep nothing.
+    // How many of the first keep nothing but the sizes.
     idle: usize,
-    // From this number on they keep nothing again.
+    // From this number on they again keep nothing but the sizes.
     end: usize,
 }
 
@@ -123,12 +123,27 @@ impl<B: Level> Levels<B> {
         it.redo(page, lsn, record)
     }
 
-    /// Tells each level of a slot that keeps anything, in the order of their numbers.
+    /// Tells each level of a slot that keeps anything of it, in the order of their numbers.
     pub fn noted(&mut self, at: Addr, bytes: &Slot)
         ensures { AreTold at bytes.now self.old self.new }
     {
-        for level in self.idle..self.end {
+        let (first, end) = self.keepers(at);
+        for level in first..end {
             self.tell(level, at, bytes);
+        }
+    }
+
+    // The first level that may keep anything of the slot, and the number behind the last.
+    // Any level may keep what slot 1 of the first page tells.
+    fn keepers(&self, at: Addr) -> (usize, usize)
+        ensures within { result.1 ≤ length self.now }
+        ensures before { (i : ℕ) → i < result.0 → KeepsNothingAt (meaning_of i) at }
+        ensures after { (i : ℕ) → result.1 ≤ i → i < length self.now → KeepsNothingAt (meaning_of i) at }
+    {
+        if at.number() == 1 {
+            (0, self.all.len())
+        } else {
+            (self.idle, self.end)
         }
     }
 
@@ -142,7 +157,7 @@ impl<B: Level> Levels<B> {
     }
 }
 
-// How many of the first levels keep nothing.
+// How many of the first levels keep nothing but the sizes.
 fn idle_of<B: Level>(all: &[B]) -> usize
     requires { CountOn 0 (map (λ b. B.level b) all.now) }
     ensures { (i : ℕ) → i < result → NotesNothing (meaning_of i) }
@@ -155,7 +170,7 @@ fn idle_of<B: Level>(all: &[B]) -> usize
     all.len()
 }
 
-// The number from which on no level keeps anything.
+// The number from which on no level keeps anything but the sizes.
 fn end_of<B: Level>(all: &[B]) -> usize
     requires { CountOn 0 (map (λ b. B.level b) all.now) }
     ensures within { result ≤ length all.now }

@@ -11,8 +11,7 @@ mod slots;
 mod writes;
 
 pub use level::{
-    Level, Want, applied_twice_is_once, levels_are_lawful, redo_page, tags_are_lawful,
-    what_is_kept_is_read_anew,
+    Level, Want, applied_twice_is_once, levels_are_lawful, redo_page, what_is_kept_is_read_anew,
 };
 pub use levels::Levels;
 pub use op::Op;

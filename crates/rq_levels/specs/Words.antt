@@ -12,4 +12,4 @@ number_of (levels.Tags level) = 2
 abbrev pub kept_of : StoreLevel → LevelState
 kept_of (levels.Slots level) = nothing_kept
 kept_of (levels.Chains level) = level
-kept_of (levels.Tags level) = nothing_kept
+kept_of (levels.Tags level) = level

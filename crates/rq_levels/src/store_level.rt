@@ -121,7 +121,7 @@ pub fn levels_of_store(alloc: Global) -> Result<StoreLevels<StoreLevel>, AllocEr
     let mut levels = Vec::with_capacity(alloc, 3)?;
     levels.push(StoreLevel::Slots(PageLevel))?;
     levels.push(StoreLevel::Chains(chains))?;
-    levels.push(StoreLevel::Tags(TagLevel))?;
+    levels.push(StoreLevel::Tags(TagLevel::new()))?;
     Ok(StoreLevels::new(levels))
 }
 

@@ -70,9 +70,9 @@ impl ClientSlot {
         out
     }
 
-    // What stands in the fields of these bytes.
+    /// What stands in the fields of these bytes. Of a slot that was checked that is what it holds.
     #[tactic(auto, unfolding(crate::specs::Clients::client_in))]
-    fn read(bytes: &Slot) -> Self
+    pub fn read(bytes: &Slot) -> Self
         ensures { result ≡ client_in bytes.now }
     {
         ClientSlot {

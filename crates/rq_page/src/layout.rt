@@ -197,7 +197,6 @@ impl Layout {
 
     /// Where a client's slot of a tag page stands.
     pub fn client_slot_of(&self, client: u32) -> Addr
-        requires { client < client_count self.now }
         ensures { result ≡ client_slot_at self.now client }
     {
         Addr::new(

@@ -5,12 +5,12 @@ use Rattle.rq_model.specs.declared.record.Deed.{Deed}
 use Rattle.rq_model.specs.declared.record.Deed.TheVariants.{Append, UnlinkHead, Close, Mark}
 use Rattle.rq_model.specs.declared.refusal.Refusal.{Refusal}
 use Rattle.rq_model.specs.declared.refusal.Refusal.TheVariants as why
-use Rattle.rq_model.specs.Deeds.{deed_by}
+use Rattle.rq_model.specs.Deeds.{deed_by, deed_level}
 use Rattle.rq_model.proofs.Deeds.{told_by_its_level}
 use Rattle.rq_model.specs.declared.record.Record.TheVariants.{OpEnd}
 use Rattle.rq_model.proofs.Each.{some_is}
 use Rattle.rq_page.specs.declared.cell.Cell.{Cell}
-use Rattle.rq_page.specs.Sizes.{Sizes, IsCellAddress, directory_at, place_of, sender_count}
+use Rattle.rq_page.specs.Sizes.{Sizes, IsCellAddress, client_count, client_slot_at, directory_at, place_of, sender_count}
 use Rattle.rq_page.specs.Slots.Slot.{Free, Used, Sender}
 use Rattle.rq_page.proofs.Addresses.{places_are_cells}
 use Rattle.rq_views.specs.Log.{Slots}
@@ -22,8 +22,9 @@ use Rattle.rq_level.specs.declared.slots.Given.{Given}
 use Rattle.rq_level.specs.declared.writes.Plan.{Plan}
 use Rattle.rq_level.specs.Given.{GivenHolds}
 use Rattle.rq_level.specs.LevelState.{LevelState, NoneFree, flag_at}
-use Rattle.rq_level.specs.Meaning.{chain_meaning, kept_at, meaning_of, no_meaning}
+use Rattle.rq_level.specs.Meaning.{chain_meaning, kept_at, meaning_of, tag_meaning}
 use Rattle.rq_level.specs.Ops.{Job}
+use Rattle.rq_level.specs.TagPlans.{tag_wants}
 use Rattle.rq_level.proofs.EachLevel.{all_lawful}
 use Rattle.rq_txn.specs.Rows.{Row}
 use Rattle.rq_store.specs.Plans.{Stands_at}
@@ -35,11 +36,12 @@ use Rattle.rq_sound.specs.Wants.{AreGivenOf}
 use Rattle.rq_sound.proofs.Levels.{levels_plan}
 use Rattle.rq_sound.specs.Inverses.{InverseIsLatched, InverseTakesLowest}
 use Rattle.rq_sound.proofs.Wants.{given_parts, given_named}
-use Rattle.rq_planner.specs.Asked.{known}
+use Rattle.rq_planner.specs.Asked.{HasPlace, known}
 use Rattle.rq_planner.specs.Asked.Asked.{Undo}
 use Rattle.rq_planner.specs.Answered.{ComesFrom, IsAnswered, IsHeldUp, IsPlanBack, KnowsCells, MayUndo, to_take_back, Wants, wants_of}
 use Rattle.rq_planner.proofs.Knowing.{cells_known}
 use Rattle.rq_planner.proofs.Replies.{HasGatheredFor, from_wanted, of_undo, wants_undo}
+use Rattle.rq_planner.proofs.Tags.{planned_below, tags_know, unmark_judged}
 use Rattle.rq_planner.specs.Backs.{CanBeTakenBack, IsJudgedBack, IsShut, IsTakingBack, SentLast, TakenLast}
 
 -- ---- what was given of slots that hold it
@@ -95,14 +97,14 @@ module _ (s : State) (given : List Given) where
     other = x.closed;
   }
 
--- what is taken back is of a group of the store
-pub can_below : (z : Sizes) (q : Slots) (d : Deed) → CanBeTakenBack z q d → IsDeedOf z d
+-- what is taken back is of a group or a client of the store
+pub can_below : (z : Sizes) (q : Slots) (d : Deed) → CanBeTakenBack z q d → HasPlace z d
 can_below z q (Append g n tag previous body) c = c.below
 can_below z q (UnlinkHead g n tag body) c = c.below
 can_below z q (Close g) c = c.below
-can_below z q (Mark e tag previous) c = absurd c
+can_below z q (Mark e tag previous) c = c.below
 
-plan_below : (s : State) (k : LevelState) (given : List Given) (latched : List ℕ) (after : LevelState) (d : Deed) (p : Plan) → Undoes (Some s.sizes) (Some d) k given latched (Ok p) after → IsDeedOf s.sizes d
+plan_below : (s : State) (k : LevelState) (given : List Given) (latched : List ℕ) (after : LevelState) (d : Deed) (p : Plan) → Undoes (Some s.sizes) (Some d) k given latched (Ok p) after → HasPlace s.sizes d
 plan_below s k given latched after (Append g n tag previous body) p m = m.can.below
 plan_below s k given latched after (UnlinkHead g n tag body) p m = m.can.below
 plan_below s k given latched after (Close g) p m = m.marked.can.below
@@ -174,16 +176,16 @@ module _ (s : State) (k : LevelState) (given : List Given) (latched : List ℕ) 
   can_be (Mark c tag previous) p h m = absurd m
 
   -- and what can be is not refused as damage
-  judged : (d : Deed) (r : Refusal) → AreGivenOf s given (needed s.sizes (slots_now s) (Undid d)) → Undoes (Some s.sizes) (Some d) k given latched (Err r) after → TellsDamage r → CanBeTakenBack s.sizes (slots_now s) d → ⊥
-  judged (Append g n tag previous body) (why.Damaged x) h m damage can = m.0.1 (can_unlink s given g n can h)
-  judged (UnlinkHead g n tag body) (why.Damaged x) h m damage can = not_full s k can.cell keeps can.is_cell can.free (m.0.1 (can_return s given g n can h))
-  judged (Close g) (why.Damaged x) h m damage can = m.0.1 (can_open s given g can h)
-  judged (Mark c tag previous) (why.Damaged x) h m damage can = absurd can
-  judged d r h m damage can = absurd damage
+  judged : (d : Deed) (r : Refusal) → deed_level d ≡ 1 → AreGivenOf s given (needed s.sizes (slots_now s) (Undid d)) → Undoes (Some s.sizes) (Some d) k given latched (Err r) after → TellsDamage r → CanBeTakenBack s.sizes (slots_now s) d → ⊥
+  judged (Append g n tag previous body) (why.Damaged x) one h m damage can = m.0.1 (can_unlink s given g n can h)
+  judged (UnlinkHead g n tag body) (why.Damaged x) one h m damage can = not_full s k can.cell keeps can.is_cell can.free (m.0.1 (can_return s given g n can h))
+  judged (Close g) (why.Damaged x) one h m damage can = m.0.1 (can_open s given g can h)
+  judged (Mark c tag previous) (why.Damaged x) one h m damage can = omega (arith, one)
+  judged d r one h m damage can = absurd damage
 
-  pub judged_back : (d : Deed) (answer : Result Plan Refusal) → HasGatheredFor s given (Undo d) → Undoes (Some s.sizes) (Some d) k given latched answer after → IsJudgedBack s.sizes (slots_now s) d answer
-  judged_back d (Ok p) h m = record { can = can_be d p h.gathered m; damaged = tt }
-  judged_back d (Err r) h m = record { can = tt; damaged = λ damage can. judged d r h.all m damage can }
+  pub judged_back : (d : Deed) (answer : Result Plan Refusal) → deed_level d ≡ 1 → HasGatheredFor s given (Undo d) → Undoes (Some s.sizes) (Some d) k given latched answer after → IsJudgedBack s.sizes (slots_now s) d answer
+  judged_back d (Ok p) one h m = record { can = can_be d p h.gathered m; damaged = tt }
+  judged_back d (Err r) one h m = record { can = tt; damaged = λ damage can. judged d r one h.all m damage can }
 
 below_or_not : (n m : ℕ) → (n < m) ⊎ (n < m → ⊥)
 below_or_not n m = elim (cases_lt n m) [ inl below ↦ inl below | inr above ↦ inr (λ below. omega (arith, above, below)) ]
@@ -195,47 +197,51 @@ module _ (z : Sizes) (images : List (List ℕ)) (rows : List Row) (levels : List
   abbrev keeps : KeepsCells s (kept_at levels 1)
   keeps = cells_known z images levels rows knows
 
-  of_one : (level : ℕ) (deed : List ℕ) → IsAnswered s (wants_of levels 1) (to_take_back level deed) (MayUndo s (meaning_of 1) (kept_at levels 1) level deed) answer → (d : Deed) → deed_by level deed ≡ Some d → IsDeedOf z d → IsJudgedBack z (slots_now s) d answer
+  abbrev MayBack : (asked level : ℕ) → List ℕ → Type 0
+  MayBack n level deed = IsAnswered s (wants_of levels n) (to_take_back level deed) (MayUndo s (meaning_of n) (kept_at levels n) level deed) answer
+
+  -- without a plan there is none of what is not the store's
+  unplanned : (d : Deed) → ((p : Plan) → answer ≡ Ok p → ⊥) → (HasPlace z d → ⊥) → IsJudgedBack z (slots_now s) d answer
+  unplanned d none out = by answer none where
+    by : (a : Result Plan Refusal) → ((p : Plan) → a ≡ Ok p → ⊥) → IsJudgedBack z (slots_now s) d a
+    by (Ok p) n = absurd (n p refl)
+    by (Err r) n = record { can = tt; damaged = λ damage can. out (can_below z (slots_now s) d can) }
+
+  of_one : (level : ℕ) (deed : List ℕ) → MayBack 1 level deed → (d : Deed) → deed_by level deed ≡ Some d → deed_level d ≡ 1 → IsDeedOf z d → IsJudgedBack z (slots_now s) d answer
   unfolding meaning_of
-  of_one level deed h d told inside =
-      from_wanted s (to_take_back level deed) (Undo d) (wants_undo s (kept_at levels 1) keeps level d deed told inside) (MayUndo s chain_meaning (kept_at levels 1) level deed) (IsJudgedBack z (slots_now s) d)
+  of_one level deed h d told one inside =
+      from_wanted s job_wanted (to_take_back level deed) (Undo d) (wants_undo s (kept_at levels 1) keeps level d deed told one inside) (MayUndo s chain_meaning (kept_at levels 1) level deed) (IsJudgedBack z (slots_now s) d)
       (record { can = tt; damaged = λ x. absurd x }) (λ held. record { can = tt; damaged = λ x. absurd x })
-      (λ given a has m. judged_back s (kept_at levels 1) given m.latched keeps m.on m.after d a has (of_undo s (kept_at levels 1) keeps d deed level given a told m)) answer h
+      (λ given a has m. judged_back s (kept_at levels 1) given m.latched keeps m.on m.after d a one has (of_undo s (kept_at levels 1) keeps d deed level given a told m)) answer h
 
   -- a deed of another store's group has no plan
-  outside : (level : ℕ) (deed : List ℕ) → IsAnswered s (wants_of levels 1) (to_take_back level deed) (MayUndo s (meaning_of 1) (kept_at levels 1) level deed) answer → (d : Deed) → deed_by level deed ≡ Some d → (IsDeedOf z d → ⊥) → IsJudgedBack z (slots_now s) d answer
+  outside : (level : ℕ) (deed : List ℕ) → MayBack 1 level deed → (d : Deed) → deed_by level deed ≡ Some d → (HasPlace z d → ⊥) → IsJudgedBack z (slots_now s) d answer
   unfolding meaning_of
-  outside level deed h d told out = by answer (λ p is. no_plan p is) where
-    no_plan : (p : Plan) → answer ≡ Ok p → ⊥
-    no_plan p is =
-        let m = back_plan s job_wanted (to_take_back level deed) (MayUndo s chain_meaning (kept_at levels 1) level deed) p (subst (IsAnswered s job_wanted (to_take_back level deed) (MayUndo s chain_meaning (kept_at levels 1) level deed)) is h) in
-        let below = plan_below s (kept_at levels 1) m.0 m.1.latched m.1.after d p (of_undo s (kept_at levels 1) keeps d deed level m.0 (Ok p) told m.1) in
-        out below
+  outside level deed h d told out = unplanned d (λ p is.
+      let m = back_plan s job_wanted (to_take_back level deed) (MayUndo s chain_meaning (kept_at levels 1) level deed) p (subst (IsAnswered s job_wanted (to_take_back level deed) (MayUndo s chain_meaning (kept_at levels 1) level deed)) is h) in
+      out (plan_below s (kept_at levels 1) m.0 m.1.latched m.1.after d p (of_undo s (kept_at levels 1) keeps d deed level m.0 (Ok p) told m.1))) out
 
-    by : (a : Result Plan Refusal) → ((p : Plan) → a ≡ Ok p → ⊥) → IsJudgedBack z (slots_now s) d a
-    by (Ok p) none = absurd (none p refl)
-    by (Err r) none = record { can = tt; damaged = λ damage can. out (can_below z (slots_now s) d can) }
+  of_chain : (level : ℕ) (deed : List ℕ) (d : Deed) → deed_level d ≡ 1 → deed_by level deed ≡ Some d → (HasPlace z d → IsDeedOf z d) → (HasPlace z d ⊎ (HasPlace z d → ⊥)) → MayBack level level deed → IsJudgedBack z (slots_now s) d answer
+  of_chain level deed d one told low where_is h =
+      let by_chains : MayBack 1 level deed = subst (λ n. MayBack n level deed) (sym (told_by_its_level level deed d told) ∙ one) h in
+      elim where_is [ inl inside ↦ of_one level deed by_chains d told one (low inside) | inr out ↦ outside level deed by_chains d told out ]
 
-  -- nothing takes back a mark
-  of_marks : (level : ℕ) (deed : List ℕ) → level ≡ 2 → IsAnswered s (wants_of levels level) (to_take_back level deed) (MayUndo s (meaning_of level) (kept_at levels level) level deed) answer → (c tag previous : ℕ) → IsJudgedBack z (slots_now s) (Mark c tag previous) answer
+  -- a mark of one of the store's clients, or of another's
+  of_tags : (level : ℕ) (deed : List ℕ) → MayBack 2 level deed → (c tag previous : ℕ) → deed_by level deed ≡ Some (Mark c tag previous) → ((c < client_count z) ⊎ (c < client_count z → ⊥)) → IsJudgedBack z (slots_now s) (Mark c tag previous) answer
   unfolding meaning_of
-  of_marks level deed two h c tag previous = by answer (subst (λ n. IsAnswered s (wants_of levels n) (to_take_back level deed) (MayUndo s (meaning_of n) (kept_at levels level) level deed) answer) two h) where
-    by : (a : Result Plan Refusal) → IsAnswered s (λ job given. None) (to_take_back level deed) (MayUndo s no_meaning (kept_at levels level) level deed) a → IsJudgedBack z (slots_now s) (Mark c tag previous) a
-    by (Ok p) g = absurd ((back_plan s (λ job given. None) (to_take_back level deed) (MayUndo s no_meaning (kept_at levels level) level deed) p g).1.undoes)
-    by (Err r) g = record { can = tt; damaged = λ damage can. can }
+  of_tags level deed h c tag previous told where_is = elim where_is [
+    | inl inside ↦ unmark_judged s (kept_at levels 2) (tags_know z images levels knows) level deed c tag previous told answer inside h
+    | inr out ↦ unplanned (Mark c tag previous) (λ p is.
+        let k = kept_at levels 2 in
+        let m = back_plan s (tag_wants k.sizes) (to_take_back level deed) (MayUndo s tag_meaning k level deed) p (subst (IsAnswered s (tag_wants k.sizes) (to_take_back level deed) (MayUndo s tag_meaning k level deed)) is h) in
+        out (planned_below s k (tags_know z images levels knows) level deed c tag previous told m.0 p m.1)) out
+  ]
 
-  of_chain : (level : ℕ) (deed : List ℕ) (d : Deed) → level ≡ 1 → deed_by level deed ≡ Some d → (IsDeedOf z d ⊎ (IsDeedOf z d → ⊥)) → IsAnswered s (wants_of levels level) (to_take_back level deed) (MayUndo s (meaning_of level) (kept_at levels level) level deed) answer
-      → IsJudgedBack z (slots_now s) d answer
-  of_chain level deed d one told where_is h =
-      let by_chains = subst (λ n. IsAnswered s (wants_of levels n) (to_take_back level deed) (MayUndo s (meaning_of n) (kept_at levels n) level deed) answer) one h in
-      elim where_is [ inl inside ↦ of_one level deed by_chains d told inside | inr out ↦ outside level deed by_chains d told out ]
-
-  pub back_judged : (level : ℕ) (deed : List ℕ) (d : Deed) → deed_by level deed ≡ Some d → IsAnswered s (wants_of levels level) (to_take_back level deed) (MayUndo s (meaning_of level) (kept_at levels level) level deed) answer
-      → IsJudgedBack z (slots_now s) d answer
-  back_judged level deed (Append g n tag previous body) told h = of_chain level deed (Append g n tag previous body) (sym (told_by_its_level level deed _ told)) told (below_or_not g (sender_count z)) h
-  back_judged level deed (UnlinkHead g n tag body) told h = of_chain level deed (UnlinkHead g n tag body) (sym (told_by_its_level level deed _ told)) told (below_or_not g (sender_count z)) h
-  back_judged level deed (Close g) told h = of_chain level deed (Close g) (sym (told_by_its_level level deed _ told)) told (below_or_not g (sender_count z)) h
-  back_judged level deed (Mark c tag previous) told h = of_marks level deed (sym (told_by_its_level level deed _ told)) h c tag previous
+  pub back_judged : (level : ℕ) (deed : List ℕ) (d : Deed) → deed_by level deed ≡ Some d → MayBack level level deed → IsJudgedBack z (slots_now s) d answer
+  back_judged level deed (Append g n tag previous body) told h = of_chain level deed (Append g n tag previous body) refl told (λ low. low) (below_or_not g (sender_count z)) h
+  back_judged level deed (UnlinkHead g n tag body) told h = of_chain level deed (UnlinkHead g n tag body) refl told (λ low. low) (below_or_not g (sender_count z)) h
+  back_judged level deed (Close g) told h = of_chain level deed (Close g) refl told (λ low. low) (below_or_not g (sender_count z)) h
+  back_judged level deed (Mark c tag previous) told h = of_tags level deed (subst (λ n. MayBack n level deed) (sym (told_by_its_level level deed _ told)) h) c tag previous told (below_or_not c (client_count z))
 
 -- ---- where nothing is under way
 
@@ -250,7 +256,7 @@ never_latched z q (UnlinkHead g n tag body) c h = elim h [
   | inr all ↦ false≢true (all c.cell c.is_cell c.free)
 ]
 never_latched z q (Close g) c h = false≢true h
-never_latched z q (Mark e tag previous) c h = false≢true h
+never_latched z q (Mark e tag previous) c h = true≢false (sym h ∙ nobody (client_slot_at z e ∷ []))
 
 module _ (z : Sizes) (images : List (List ℕ)) (rows : List Row) (none : rows ≡ []) (level : ℕ) (bytes : List ℕ) where
   pub taken_back : (d : Deed) (p : Plan) → deed_by level bytes ≡ Some d → IsPlanBack (known z images rows) d p → CanBeTakenBack z (slots_in z images) d → IsTakingBack z (slots_in z images) (deed_by level bytes) p.writes.items

@@ -5,3 +5,5 @@ pub mod Replies
 mod Backs
 pub mod Knowing
 pub mod Options
+pub mod Asking
+mod Tags

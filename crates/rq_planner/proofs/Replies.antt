@@ -38,16 +38,18 @@ use Rattle.rq_sound.specs.Gathering.{AreGivenFrom, IsToDo, IsWantedOf}
 use Rattle.rq_sound.specs.Groups.{slots_now}
 use Rattle.rq_sound.specs.Latching.{any_latched, needed}
 use Rattle.rq_sound.specs.Levels.{AreLatched, IsGathered, KeepsCells}
+use Rattle.rq_sound.specs.Rows.{own_slot}
 use Rattle.rq_sound.specs.Sound.{IsSound}
 use Rattle.rq_sound.specs.Wants.{AreGivenOf, CanUndo}
 use Rattle.rq_sound.proofs.Gathering.{wants_needed}
 use Rattle.rq_sound.proofs.Levels.{levels_plan, levels_refuse, writes_latched}
 use Rattle.rq_sound.proofs.Wants.{levels_find}
 use Rattle.rq_sound.specs.Lowest.{AreAllLatched, AreLatchedBelow, FirstIsLowest}
-use Rattle.rq_planner.specs.Asked.{Asked, IsOfStore, asked_by, doing_sender, known, slots_for}
+use Rattle.rq_planner.specs.Asked.{Asked, doing_sender, known, slots_for}
 use Rattle.rq_planner.specs.Asked.Asked.{Do, Undo}
+use Rattle.rq_planner.specs.Asked.Task.{Chain, Tag}
 use Rattle.rq_planner.proofs.Knowing.{cells_known}
-use Rattle.rq_planner.specs.Answered.{ComesFrom, IsAnswered, IsHeldUp, IsNewestDeed, IsPlanBack, IsPlanFor, IsPlanned, IsPlannedBy, IsPlanOf, KnowsCells, MayBeAsked, MayPlan, MayUndo, to_take_back, wants_of}
+use Rattle.rq_planner.specs.Answered.{ComesFrom, IsAnswered, IsHeldUp, IsNewestDeed, IsPlanBack, IsPlanFor, IsPlanned, IsPlanOf, MayBeAsked, MayPlan, MayUndo, Wants, to_take_back}
 
 -- the first write of a plan is of the cell that it takes
 takes_lowest : (z : Sizes) (q : Slots) (rows : List Row) (a : ℕ) (ws : List SlotWrite) → IsFirstAt a ws → AreLatchedBelow z q rows a → latched_in rows (a / 16) ≡ false → FirstIsLowest z q rows ws
@@ -62,23 +64,24 @@ pub record HasGatheredFor (s : State) (given : List Given) (asked : Asked) : Typ
   pub all : AreGivenOf s given (slots_for s.sizes (slots_now s) asked)
 
 module _ (s : State) (a : Asked) where
-  planned_answer : (p : Plan) → IsPlanFor s a p → (IsHeldUp s a → ⊥) → IsPlanned s a (Ok p)
+  pub planned_answer : (p : Plan) → IsPlanFor s a p → (IsHeldUp s a → ⊥) → IsPlanned s a (Ok p)
   planned_answer p is off = record { plan = is; free = off; causes = tt; sound = λ whole e sound may. tt }
 
-  memory_answer : IsPlanned s a (Err why.NoMemory)
+  pub memory_answer : IsPlanned s a (Err why.NoMemory)
   memory_answer = record { plan = tt; free = tt; causes = tt; sound = λ whole e sound may x. x }
 
-  latched_answer : IsHeldUp s a → IsPlanned s a (Err why.Latched)
+  pub latched_answer : IsHeldUp s a → IsPlanned s a (Err why.Latched)
   latched_answer held = record { plan = tt; free = tt; causes = held; sound = λ whole e sound may x. x }
 
-  damaged_answer : (x : Damage) → ((whole : State) → known whole.sizes whole.images whole.rows ≡ s → IsSound whole → MayBeAsked whole a → ⊥) → IsPlanned s a (Err (why.Damaged x))
+  pub damaged_answer : (x : Damage) → ((whole : State) → known whole.sizes whole.images whole.rows ≡ s → IsSound whole → MayBeAsked whole a → ⊥) → IsPlanned s a (Err (why.Damaged x))
   damaged_answer x none = record { plan = tt; free = tt; causes = tt; sound = λ whole e sound may y. none whole e sound may }
 
 -- a latch on a page of what is needed holds up what is asked
 held_up : (s : State) (a : Asked) → any_latched s.rows (slots_for s.sizes (slots_now s) a) ≡ true → IsHeldUp s a
-held_up s (Do (Send g tag body)) h = inl h
-held_up s (Do (Receive g)) h = h
-held_up s (Do (Close g)) h = h
+held_up s (Do (Chain (Send g tag body))) h = inl h
+held_up s (Do (Chain (Receive g))) h = h
+held_up s (Do (Chain (Close g))) h = h
+held_up s (Do (Tag t)) h = h
 held_up s (Undo (Append g n tag previous body)) h = h
 held_up s (Undo (UnlinkHead g n tag body)) h = inl h
 held_up s (Undo (Close_deed g)) h = sym (or-false (latched_in s.rows (directory_at g / 16))) ∙ h
@@ -91,7 +94,7 @@ module _ (s : State) (given : List Given) (h : IsGathered s given) where
   off_given [] g = refl
   off_given (a ∷ xs) g = or_from (latched_in s.rows (a / 16)) (any_latched s.rows xs) (h.unlatched a (slots_now s a) g.0) (off_given xs g.1)
 
-  not_latched : (xs : List ℕ) → AreGivenOf s given xs → any_latched s.rows xs ≡ true → ⊥
+  pub not_latched : (xs : List ℕ) → AreGivenOf s given xs → any_latched s.rows xs ≡ true → ⊥
   not_latched xs g on = true≢false (sym on ∙ off_given xs g)
 
 -- the cell that is taken is none of a latched page, and those below it are
@@ -144,11 +147,11 @@ first_new z us beside (Some c) f first new e = first_at z us (first ∷ record {
 -- ---- plans
 
 -- what its end replies, where its deed tells that
-by_deed : (level : ℕ) (p : Plan) (d : Deed) → p.reply ≡ replies.Deed → deed_by level p.deed ≡ Some d → reply_of level p ≡ Some (answer_of d)
+pub by_deed : (level : ℕ) (p : Plan) (d : Deed) → p.reply ≡ replies.Deed → deed_by level p.deed ≡ Some d → reply_of level p ≡ Some (answer_of d)
 by_deed level p d is reads = ap (λ r. replied r (deed_by level p.deed)) is ∙ ap (option_map answer_of) reads
 
 module _ (s : State) (k : LevelState) (given : List Given) (latched : List ℕ) (keeps : KeepsCells s k) (on : AreLatched s latched) where
-  do_plan : (d : Doing) (p : Plan) (after : LevelState) → HasGatheredFor s given (Do d) → Plans (Some s.sizes) (Some d) k given latched (Ok p) after → IsPlanOf s d p
+  do_plan : (d : Doing) (p : Plan) (after : LevelState) → HasGatheredFor s given (Do (Chain d)) → Plans (Some s.sizes) (Some d) k given latched (Ok p) after → IsPlanOf s (Chain d) p
   do_plan (Send g tag body) p after h m = record {
     deed = Append g (m.can.directory.sent + 1) tag m.can.directory.last_tag body;
     asked = (refl, refl, refl);
@@ -181,10 +184,10 @@ module _ (s : State) (k : LevelState) (given : List Given) (latched : List ℕ) 
     lowest = tt;
   }
 
-  do_free : (d : Doing) (p : Plan) (after : LevelState) → HasGatheredFor s given (Do d) → Plans (Some s.sizes) (Some d) k given latched (Ok p) after → IsHeldUp s (Do d) → ⊥
-  do_free (Send g tag body) p after h m held = ⊎_elim (not_latched s given h.gathered (slots_for s.sizes (slots_now s) (Do (Send g tag body))) h.all) (not_all s k latched keeps on m.new m.lowest) held
-  do_free (Receive g) p after h m held = not_latched s given h.gathered (slots_for s.sizes (slots_now s) (Do (Receive g))) h.all held
-  do_free (Close g) p after h m held = not_latched s given h.gathered (slots_for s.sizes (slots_now s) (Do (Close g))) h.all held
+  do_free : (d : Doing) (p : Plan) (after : LevelState) → HasGatheredFor s given (Do (Chain d)) → Plans (Some s.sizes) (Some d) k given latched (Ok p) after → IsHeldUp s (Do (Chain d)) → ⊥
+  do_free (Send g tag body) p after h m held = ⊎_elim (not_latched s given h.gathered (slots_for s.sizes (slots_now s) (Do (Chain (Send g tag body)))) h.all) (not_all s k latched keeps on m.new m.lowest) held
+  do_free (Receive g) p after h m held = not_latched s given h.gathered (slots_for s.sizes (slots_now s) (Do (Chain (Receive g)))) h.all held
+  do_free (Close g) p after h m held = not_latched s given h.gathered (slots_for s.sizes (slots_now s) (Do (Chain (Close g)))) h.all held
 
   undo_plan : (d : Deed) (p : Plan) (after : LevelState) → HasGatheredFor s given (Undo d) → Undoes (Some s.sizes) (Some d) k given latched (Ok p) after → IsPlanBack s d p
   undo_plan (Append g n tag previous body) p after h m = record {
@@ -220,7 +223,7 @@ module _ (whole : State) (sound : IsSound whole) where
   abbrev bare : State
   bare = known whole.sizes whole.images whole.rows
 
-  same_given : (given : List Given) (xs : List ℕ) → AreGivenOf bare given xs → AreGivenOf whole given xs
+  pub same_given : (given : List Given) (xs : List ℕ) → AreGivenOf bare given xs → AreGivenOf whole given xs
   same_given given [] h = tt
   same_given given (x ∷ xs) h = (h.0, same_given given xs h.1)
 
@@ -228,19 +231,19 @@ module _ (whole : State) (sound : IsSound whole) where
   same_keeps k h = record { sizes = h.sizes; free_count = h.free_count; chosen_count = h.chosen_count; free = h.free; chosen = h.chosen }
 
   module _ (k : LevelState) (given : List Given) (latched : List ℕ) (keeps : KeepsCells bare k) (on : AreLatched bare latched) (x : Damage) (after : LevelState) where
-    no_doing : (d : Doing) → HasGatheredFor bare given (Do d) → doing_sender d < sender_count whole.sizes → Plans (Some whole.sizes) (Some d) k given latched (Err (why.Damaged x)) after → MayBeAsked whole (Do d) → ⊥
+    no_doing : (d : Doing) → HasGatheredFor bare given (Do (Chain d)) → doing_sender d < sender_count whole.sizes → Plans (Some whole.sizes) (Some d) k given latched (Err (why.Damaged x)) after → MayBeAsked whole (Do (Chain d)) → ⊥
     no_doing (Send g tag body) h inside m may =
         levels_refuse.sends whole k given latched g (why.Damaged x) sound (same_keeps k keeps) on may.0
-        (levels_find.sends whole given g sound inside (h.gathered.unlatched (directory_at g) (slots_now whole (directory_at g)) h.all.0) may.1 (same_given given (slots_for whole.sizes (slots_now bare) (Do (Send g tag body))) h.all)) m.0
+        (levels_find.sends whole given g sound inside (h.gathered.unlatched (directory_at g) (slots_now whole (directory_at g)) h.all.0) may.1 (same_given given (slots_for whole.sizes (slots_now bare) (Do (Chain (Send g tag body)))) h.all)) m.0
     no_doing (Receive g) h inside m may =
-        m.0.1 (levels_find.receives whole given g sound inside (h.gathered.unlatched (directory_at g) (slots_now whole (directory_at g)) h.all.0) may (same_given given (slots_for whole.sizes (slots_now bare) (Do (Receive g))) h.all))
+        m.0.1 (levels_find.receives whole given g sound inside (h.gathered.unlatched (directory_at g) (slots_now whole (directory_at g)) h.all.0) may (same_given given (slots_for whole.sizes (slots_now bare) (Do (Chain (Receive g)))) h.all))
     no_doing (Close g) h inside m may =
-        m.0.1 (levels_find.closes whole given g sound inside (h.gathered.unlatched (directory_at g) (slots_now whole (directory_at g)) h.all.0) may (same_given given (slots_for whole.sizes (slots_now bare) (Do (Close g))) h.all))
+        m.0.1 (levels_find.closes whole given g sound inside (h.gathered.unlatched (directory_at g) (slots_now whole (directory_at g)) h.all.0) may (same_given given (slots_for whole.sizes (slots_now bare) (Do (Chain (Close g)))) h.all))
 
-    finds : (d : Deed) → IsNewestDeed whole d → latched_in whole.rows (directory_at (deed_sender d) / 16) ≡ false → AreGivenOf bare given (needed whole.sizes (slots_now whole) (Undid d)) → CanUndo whole.sizes given d
+    finds : (d : Deed) → IsNewestDeed whole d → latched_in whole.rows (own_slot whole.sizes d / 16) ≡ false → AreGivenOf bare given (needed whole.sizes (slots_now whole) (Undid d)) → CanUndo whole.sizes given d
     finds d may off all = levels_find.undoes whole given may.row may.older (record { lsn = may.lsn; deed = d }) sound may.idle may.last off (same_given given (needed whole.sizes (slots_now whole) (Undid d)) all)
 
-    no_undoing : (d : Deed) → HasGatheredFor bare given (Undo d) → IsDeedOf whole.sizes d → Undoes (Some whole.sizes) (Some d) k given latched (Err (why.Damaged x)) after → MayBeAsked whole (Undo d) → ⊥
+    no_undoing : (d : Deed) → HasGatheredFor bare given (Undo d) → deed_level d ≡ 1 → Undoes (Some whole.sizes) (Some d) k given latched (Err (why.Damaged x)) after → MayBeAsked whole (Undo d) → ⊥
     no_undoing (Append g n tag previous body) h inside m may =
         m.0.1 (finds (Append g n tag previous body) may (h.gathered.unlatched (directory_at g) (slots_now whole (directory_at g)) h.all.0) h.all)
     no_undoing (UnlinkHead g n tag body) h inside m may =
@@ -248,69 +251,69 @@ module _ (whole : State) (sound : IsSound whole) where
         (finds (UnlinkHead g n tag body) may (h.gathered.unlatched (directory_at g) (slots_now whole (directory_at g)) h.all.0) h.all) m.0
     no_undoing (Close_deed g) h inside m may =
         m.0.1 (finds (Close_deed g) may (h.gathered.unlatched (directory_at g) (slots_now whole (directory_at g)) h.all.0) h.all)
-    no_undoing (Mark c tag previous) h inside m may = inside.2
+    no_undoing (Mark c tag previous) h one m may = omega (arith, one)
 
 -- ---- what is answered
 
 module _ (s : State) (k : LevelState) (given : List Given) (latched : List ℕ) (keeps : KeepsCells s k) (on : AreLatched s latched) (after : LevelState) where
-  damaged_do : (d : Doing) (x : Damage) → HasGatheredFor s given (Do d) → doing_sender d < sender_count s.sizes → Plans (Some s.sizes) (Some d) k given latched (Err (why.Damaged x)) after → IsPlanned s (Do d) (Err (why.Damaged x))
-  damaged_do d x h inside m = damaged_answer s (Do d) x (λ whole e sound may. (subst (λ (t : State). KeepsCells t k → AreLatched t latched → HasGatheredFor t given (Do d) → doing_sender d < sender_count t.sizes
+  damaged_do : (d : Doing) (x : Damage) → HasGatheredFor s given (Do (Chain d)) → doing_sender d < sender_count s.sizes → Plans (Some s.sizes) (Some d) k given latched (Err (why.Damaged x)) after → IsPlanned s (Do (Chain d)) (Err (why.Damaged x))
+  damaged_do d x h inside m = damaged_answer s (Do (Chain d)) x (λ whole e sound may. (subst (λ (t : State). KeepsCells t k → AreLatched t latched → HasGatheredFor t given (Do (Chain d)) → doing_sender d < sender_count t.sizes
       → Plans (Some t.sizes) (Some d) k given latched (Err (why.Damaged x)) after → ⊥) e
       (λ a b c f w. no_doing whole sound k given latched a b x after d c f w may) keeps on h inside m))
 
-  damaged_undo : (d : Deed) (x : Damage) → HasGatheredFor s given (Undo d) → IsDeedOf s.sizes d → Undoes (Some s.sizes) (Some d) k given latched (Err (why.Damaged x)) after → IsPlanned s (Undo d) (Err (why.Damaged x))
-  damaged_undo d x h inside m = damaged_answer s (Undo d) x (λ whole e sound may. (subst (λ (t : State). KeepsCells t k → AreLatched t latched → HasGatheredFor t given (Undo d) → IsDeedOf t.sizes d
+  damaged_undo : (d : Deed) (x : Damage) → HasGatheredFor s given (Undo d) → deed_level d ≡ 1 → Undoes (Some s.sizes) (Some d) k given latched (Err (why.Damaged x)) after → IsPlanned s (Undo d) (Err (why.Damaged x))
+  damaged_undo d x h inside m = damaged_answer s (Undo d) x (λ whole e sound may. (subst (λ (t : State). KeepsCells t k → AreLatched t latched → HasGatheredFor t given (Undo d) → deed_level d ≡ 1
       → Undoes (Some t.sizes) (Some d) k given latched (Err (why.Damaged x)) after → ⊥) e
       (λ a b c f w. no_undoing whole sound k given latched a b x after d c f w may) keeps on h inside m))
 
   all_latched : NoneToTake s.sizes k latched → AreAllLatched s.sizes (slots_now s) s.rows
   all_latched none = levels_plan.none_to_take s k latched keeps on none
 
-  do_refused : (d : Doing) (r : Refusal) → HasGatheredFor s given (Do d) → doing_sender d < sender_count s.sizes → Plans (Some s.sizes) (Some d) k given latched (Err r) after → IsPlanned s (Do d) (Err r)
-  do_refused d why.NoMemory h inside m = memory_answer s (Do d)
-  do_refused (Send g tag body) why.Latched h inside m = latched_answer s (Do (Send g tag body)) (inr (all_latched m.0.0))
+  do_refused : (d : Doing) (r : Refusal) → HasGatheredFor s given (Do (Chain d)) → doing_sender d < sender_count s.sizes → Plans (Some s.sizes) (Some d) k given latched (Err r) after → IsPlanned s (Do (Chain d)) (Err r)
+  do_refused d why.NoMemory h inside m = memory_answer s (Do (Chain d))
+  do_refused (Send g tag body) why.Latched h inside m = latched_answer s (Do (Chain (Send g tag body))) (inr (all_latched m.0.0))
   do_refused d (why.Damaged x) h inside m = damaged_do d x h inside m
   do_refused (Send g tag body) r h inside m = absurd m.0
   do_refused (Receive g) r h inside m = absurd m.0
   do_refused (Close g) r h inside m = absurd m.0
 
-  undo_refused : (d : Deed) (r : Refusal) → HasGatheredFor s given (Undo d) → IsDeedOf s.sizes d → Undoes (Some s.sizes) (Some d) k given latched (Err r) after → IsPlanned s (Undo d) (Err r)
+  undo_refused : (d : Deed) (r : Refusal) → HasGatheredFor s given (Undo d) → deed_level d ≡ 1 → Undoes (Some s.sizes) (Some d) k given latched (Err r) after → IsPlanned s (Undo d) (Err r)
   undo_refused d why.NoMemory h inside m = memory_answer s (Undo d)
   undo_refused (UnlinkHead g n tag body) why.Latched h inside m = latched_answer s (Undo (UnlinkHead g n tag body)) (inr (all_latched m.0.0))
   undo_refused d (why.Damaged x) h inside m = damaged_undo d x h inside m
   undo_refused (Append g n tag previous body) r h inside m = absurd m.0
   undo_refused (UnlinkHead g n tag body) r h inside m = absurd m.0
   undo_refused (Close_deed g) r h inside m = absurd m.0
-  undo_refused (Mark c tag previous) r h inside m = absurd inside.2
+  undo_refused (Mark c tag previous) r h one m = absurd (omega (arith, one))
 
-  did : (d : Doing) (answer : Result Plan Refusal) → HasGatheredFor s given (Do d) → doing_sender d < sender_count s.sizes → Plans (Some s.sizes) (Some d) k given latched answer after → IsPlanned s (Do d) answer
-  did d (Ok p) h inside m = planned_answer s (Do d) p (do_plan s k given latched keeps on d p after h m) (do_free s k given latched keeps on d p after h m)
+  did : (d : Doing) (answer : Result Plan Refusal) → HasGatheredFor s given (Do (Chain d)) → doing_sender d < sender_count s.sizes → Plans (Some s.sizes) (Some d) k given latched answer after → IsPlanned s (Do (Chain d)) answer
+  did d (Ok p) h inside m = planned_answer s (Do (Chain d)) p (do_plan s k given latched keeps on d p after h m) (do_free s k given latched keeps on d p after h m)
   did d (Err r) h inside m = do_refused d r h inside m
 
-  undid : (d : Deed) (answer : Result Plan Refusal) → HasGatheredFor s given (Undo d) → IsDeedOf s.sizes d → Undoes (Some s.sizes) (Some d) k given latched answer after → IsPlanned s (Undo d) answer
+  undid : (d : Deed) (answer : Result Plan Refusal) → HasGatheredFor s given (Undo d) → deed_level d ≡ 1 → Undoes (Some s.sizes) (Some d) k given latched answer after → IsPlanned s (Undo d) answer
   undid d (Ok p) h inside m = planned_answer s (Undo d) p (undo_plan s k given latched keeps on d p after h m) (undo_free s k given latched keeps on d p after h m)
   undid d (Err r) h inside m = undo_refused d r h inside m
 
 -- ---- what it wants for it
 
 -- what the slots tell that are wanted for what is asked
-abbrev WantsFor : State → Job → Asked → Type 0
-WantsFor s job a = (given : List Given) → AreGivenFrom s given → IsWantedOf s given (job_wanted job given) (slots_for s.sizes (slots_now s) a)
+abbrev pub WantsFor : State → Wants → Job → Asked → Type 0
+WantsFor s want job a = (given : List Given) → AreGivenFrom s given → IsWantedOf s given (want job given) (slots_for s.sizes (slots_now s) a)
 
-wants_do : (s : State) (job : Job) (d : Doing) → IsToDo job d → doing_sender d < sender_count s.sizes → WantsFor s job (Do d)
+wants_do : (s : State) (job : Job) (d : Doing) → IsToDo job d → doing_sender d < sender_count s.sizes → WantsFor s job_wanted job (Do (Chain d))
 wants_do s job (Send g tag body) to inside given h = wants_needed.sends s given job g tag body h to inside
 wants_do s job (Receive g) to inside given h = wants_needed.receives s given job g h to inside
 wants_do s job (Close g) to inside given h = wants_needed.closes s given job g h to inside
 
 -- an answer comes from all that is needed, or from a slot that is withheld
-module _ (s : State) (job : Job) (a : Asked) (wants : WantsFor s job a) (May : List Given → Result Plan Refusal → Type 0) (P : Result Plan Refusal → Type 0) (lacks : P (Err why.NoMemory)) (held : IsHeldUp s a → P (Err why.Latched))
+module _ (s : State) (want : Wants) (job : Job) (a : Asked) (wants : WantsFor s want job a) (May : List Given → Result Plan Refusal → Type 0) (P : Result Plan Refusal → Type 0) (lacks : P (Err why.NoMemory)) (held : IsHeldUp s a → P (Err why.Latched))
     (all : (given : List Given) (answer : Result Plan Refusal) → HasGatheredFor s given a → May given answer → P answer) where
-  pub from_wanted : (answer : Result Plan Refusal) → IsAnswered s job_wanted job May answer → P answer
-  from_wanted answer h = by (job_wanted job h.given) refl answer h.comes where
-    w : IsWantedOf s h.given (job_wanted job h.given) (slots_for s.sizes (slots_now s) a)
+  pub from_wanted : (answer : Result Plan Refusal) → IsAnswered s want job May answer → P answer
+  from_wanted answer h = by (want job h.given) refl answer h.comes where
+    w : IsWantedOf s h.given (want job h.given) (slots_for s.sizes (slots_now s) a)
     w = wants h.given h.has.from
 
-    by : (o : Option ℕ) → job_wanted job h.given ≡ o → (answer : Result Plan Refusal) → ComesFrom s o (May h.given) answer → P answer
+    by : (o : Option ℕ) → want job h.given ≡ o → (answer : Result Plan Refusal) → ComesFrom s o (May h.given) answer → P answer
     by None e answer c = elim c [ inl may ↦ all h.given answer (record { gathered = h.has.gathered; all = w.none e }) may | inr is ↦ subst P (sym is) lacks ]
     by (Some b) e (Ok p) c = absurd c
     by (Some b) e (Err why.NoMemory) c = lacks
@@ -319,9 +322,9 @@ module _ (s : State) (job : Job) (a : Asked) (wants : WantsFor s job a) (May : L
     by (Some b) e (Err _) c = absurd c
 
 module _ (s : State) (k : LevelState) (keeps : KeepsCells s k) where
-  to_do_planned : (job : Job) (d : Doing) (answer : Result Plan Refusal) → IsToDo job d → doing_sender d < sender_count s.sizes → IsAnswered s job_wanted job (MayPlan s chain_meaning k job) answer → IsPlanned s (Do d) answer
+  pub to_do_planned : (job : Job) (d : Doing) (answer : Result Plan Refusal) → IsToDo job d → doing_sender d < sender_count s.sizes → IsAnswered s job_wanted job (MayPlan s chain_meaning k job) answer → IsPlanned s (Do (Chain d)) answer
   to_do_planned job d answer to inside h =
-      from_wanted s job (Do d) (wants_do s job d to inside) (MayPlan s chain_meaning k job) (IsPlanned s (Do d)) (memory_answer s (Do d)) (latched_answer s (Do d))
+      from_wanted s job_wanted job (Do (Chain d)) (wants_do s job d to inside) (MayPlan s chain_meaning k job) (IsPlanned s (Do (Chain d))) (memory_answer s (Do (Chain d))) (latched_answer s (Do (Chain d)))
       (λ given answer has m. did s k given m.latched keeps m.on m.after d answer has inside (of_plan given answer m)) answer h
     where
       of_plan : (given : List Given) (answer : Result Plan Refusal) (m : MayPlan s chain_meaning k job given answer) → Plans (Some s.sizes) (Some d) k given m.latched answer m.after
@@ -336,68 +339,10 @@ module _ (s : State) (k : LevelState) (keeps : KeepsCells s k) where
       subst (λ (o : Option Deed). Undoes (Some s.sizes) o k given m.latched answer m.after) told
       (subst (λ (z : Option Sizes). Undoes z (deed_by level deed) k given m.latched answer m.after) keeps.sizes m.undoes)
 
-  pub wants_undo : (level : ℕ) (d : Deed) (deed : List ℕ) → deed_by level deed ≡ Some d → IsDeedOf s.sizes d → WantsFor s (to_take_back level deed) (Undo d)
-  wants_undo level d deed told inside given h = wants_needed.undoes s given (to_take_back level deed) d h (record { back = refl; told = told }) inside
+  pub wants_undo : (level : ℕ) (d : Deed) (deed : List ℕ) → deed_by level deed ≡ Some d → deed_level d ≡ 1 → IsDeedOf s.sizes d → WantsFor s job_wanted (to_take_back level deed) (Undo d)
+  wants_undo level d deed told one inside given h = wants_needed.undoes s given (to_take_back level deed) d h (record { back = refl; told = told }) one inside
 
-  to_undo_planned : (level : ℕ) (d : Deed) (deed : List ℕ) (answer : Result Plan Refusal) → deed_by level deed ≡ Some d → IsDeedOf s.sizes d → IsAnswered s job_wanted (to_take_back level deed) (MayUndo s chain_meaning k level deed) answer → IsPlanned s (Undo d) answer
-  to_undo_planned level d deed answer told inside h =
-      from_wanted s (to_take_back level deed) (Undo d) (wants_undo level d deed told inside) (MayUndo s chain_meaning k level deed) (IsPlanned s (Undo d)) (memory_answer s (Undo d)) (latched_answer s (Undo d))
-      (λ given answer has m. undid s k given m.latched keeps m.on m.after d answer has inside (of_undo d deed level given answer told m)) answer h
-
--- ---- by the level that is asked
-
-some_asked : {a b : Asked} → Some a ≡ Some b → a ≡ b
-some_asked e = cc
-
-module _ (z : Sizes) (images : List (List ℕ)) (rows : List Row) (levels : List LevelState) (knows : KnowsCells z images levels) (answer : Result Plan Refusal) where
-  abbrev s : State
-  s = known z images rows
-
-  of_one : (job : Job) → IsAnswered s (wants_of levels 1) job (MayPlan s (meaning_of 1) (kept_at levels 1) job) answer → (d : Doing) → job.undo ≡ false → doing_by job.level job.bytes ≡ Some d → doing_sender d < sender_count z → IsPlanned s (Do d) answer
-  unfolding meaning_of
-  of_one job h d forward told inside = to_do_planned s (kept_at levels 1) (cells_known z images levels rows knows) job d answer (record { forward = forward; told = told }) inside h
-
-  plan_answered : (job : Job) (d : Doing) → job.undo ≡ false → doing_by job.level job.bytes ≡ Some d → doing_sender d < sender_count z → IsAnswered s (wants_of levels job.level) job (MayPlan s (meaning_of job.level) (kept_at levels job.level) job) answer → IsPlanned s (Do d) answer
-  plan_answered job d forward told inside h =
-      let one : job.level ≡ 1 = of_chains job.level (doing_in job.bytes) (ap is_some told) in
-      of_one job (subst (λ n. IsAnswered s (wants_of levels n) job (MayPlan s (meaning_of n) (kept_at levels n) job) answer) one h) d forward told inside
-
-  of_chain : (d : Deed) → IsDeedOf z d → deed_level d ≡ 1
-  of_chain (Append g n tag previous body) inside = refl
-  of_chain (UnlinkHead g n tag body) inside = refl
-  of_chain (Close_deed g) inside = refl
-  of_chain (Mark c tag previous) inside = absurd inside.2
-
-  back_of_one : (level : ℕ) (deed : List ℕ) → IsAnswered s (wants_of levels 1) (to_take_back level deed) (MayUndo s (meaning_of 1) (kept_at levels 1) level deed) answer → (d : Deed) → deed_by level deed ≡ Some d → IsDeedOf z d → IsPlanned s (Undo d) answer
-  unfolding meaning_of
-  back_of_one level deed h d told inside = to_undo_planned s (kept_at levels 1) (cells_known z images levels rows knows) level d deed answer told inside h
-
-  back_answered : (level : ℕ) (deed : List ℕ) (d : Deed) → deed_by level deed ≡ Some d → IsDeedOf z d → IsAnswered s (wants_of levels level) (to_take_back level deed) (MayUndo s (meaning_of level) (kept_at levels level) level deed) answer → IsPlanned s (Undo d) answer
-  back_answered level deed d told inside h =
-      let one : level ≡ 1 = sym (told_by_its_level level deed d told) ∙ of_chain d inside in
-      back_of_one level deed (subst (λ n. IsAnswered s (wants_of levels n) (to_take_back level deed) (MayUndo s (meaning_of n) (kept_at levels n) level deed) answer) one h) d told inside
-
-  -- whatever is asked
-  pub plan_says : (job : Job) → job.undo ≡ false → IsAnswered s (wants_of levels job.level) job (MayPlan s (meaning_of job.level) (kept_at levels job.level) job) answer → IsPlannedBy s job answer
-  plan_says job forward h asked told inside = by (doing_by job.level job.bytes) refl (sym (ap (λ (b : Bool). cond b (option_map Undo (deed_by job.level job.bytes)) (option_map Do (doing_by job.level job.bytes))) forward) ∙ told) where
-    by : (o : Option Doing) → doing_by job.level job.bytes ≡ o → option_map Do o ≡ Some asked → IsPlanned s asked answer
-    by None e t = absurd (let no : None ≡ Some asked = t in cc)
-    by (Some d) e t = let is : Do d ≡ asked = some_asked t in subst (λ a. IsPlanned s a answer) is (plan_answered job d forward e (subst (IsOfStore z) (sym is) inside) h)
-
-  pub back_says : (level : ℕ) (deed : List ℕ) → IsAnswered s (wants_of levels level) (to_take_back level deed) (MayUndo s (meaning_of level) (kept_at levels level) level deed) answer → IsPlannedBy s (to_take_back level deed) answer
-  back_says level deed h asked told inside = by (deed_by level deed) refl told where
-    by : (o : Option Deed) → deed_by level deed ≡ o → option_map Undo o ≡ Some asked → IsPlanned s asked answer
-    by None e t = absurd (let no : None ≡ Some asked = t in cc)
-    by (Some d) e t = let is : Undo d ≡ asked = some_asked t in subst (λ a. IsPlanned s a answer) is (back_answered level deed d e (subst (IsOfStore z) (sym is) inside) h)
-
--- something that is to be done is asked for by its job
-pub asks_to_do : (job : Job) (d : Doing) → job.undo ≡ false → doing_by job.level job.bytes ≡ Some d → asked_by job ≡ Some (Do d)
-asks_to_do job d forward told = ap (λ (b : Bool). cond b (option_map Undo (deed_by job.level job.bytes)) (option_map Do (doing_by job.level job.bytes))) forward ∙ ap (option_map Do) told
-
--- what is to be done is asked of the level that does it
-pub asked_of : (level : ℕ) (bytes : List ℕ) (d : Doing) → doing_by level bytes ≡ Some d → level ≡ doing_level d
-asked_of level bytes d e = of_chains level (doing_in bytes) (ap is_some e) ∙ sym (chains_do d) where
-  chains_do : (d : Doing) → doing_level d ≡ 1
-  chains_do (Send g tag body) = refl
-  chains_do (Receive g) = refl
-  chains_do (Close g) = refl
+  pub to_undo_planned : (level : ℕ) (d : Deed) (deed : List ℕ) (answer : Result Plan Refusal) → deed_by level deed ≡ Some d → deed_level d ≡ 1 → IsDeedOf s.sizes d → IsAnswered s job_wanted (to_take_back level deed) (MayUndo s chain_meaning k level deed) answer → IsPlanned s (Undo d) answer
+  to_undo_planned level d deed answer told one inside h =
+      from_wanted s job_wanted (to_take_back level deed) (Undo d) (wants_undo level d deed told one inside) (MayUndo s chain_meaning k level deed) (IsPlanned s (Undo d)) (memory_answer s (Undo d)) (latched_answer s (Undo d))
+      (λ given answer has m. undid s k given m.latched keeps m.on m.after d answer has one (of_undo d deed level given answer told m)) answer h

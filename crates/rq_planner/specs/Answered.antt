@@ -1,7 +1,7 @@
 -- What a store is answered that asks a level for a plan, and what levels keep of it.
 use Rattle.std.specs.Prelude.{◌≡◌, ◌⊎◌, ℕ, ◌/◌, ◌≤◌, ◌<◌, ◌^◌, true, false, List, [], ◌∷◌, ◌++◌, length, Option, None, Some, Result, Ok, Err, IfErr, IfOk}
 use Rattle.rq_model.specs.declared.record.Deed.{Deed}
-use Rattle.rq_model.specs.declared.record.Deed.TheVariants.{Append, UnlinkHead, Close as Close_deed}
+use Rattle.rq_model.specs.declared.record.Deed.TheVariants.{Append, UnlinkHead, Close as Close_deed, Mark}
 use Rattle.rq_model.specs.declared.refusal.Refusal.{Refusal}
 use Rattle.rq_model.specs.declared.refusal.Refusal.TheVariants as why
 use Rattle.rq_model.specs.Deeds.{deed_by, spelled_deed}
@@ -20,7 +20,7 @@ use Rattle.rq_level.specs.declared.writes.Plan.{Plan}
 use Rattle.rq_level.specs.declared.writes.SlotWrite.{SlotWrite}
 use Rattle.rq_level.specs.LevelState.{LevelState, is_free_slot}
 use Rattle.rq_level.specs.Meaning.{AreTold, Meaning, kept_at, level_count, meaning_of}
-use Rattle.rq_level.specs.Ops.{Doing, Job, doing_level}
+use Rattle.rq_level.specs.Ops.{Job}
 use Rattle.rq_level.specs.Ops.Doing.{Send, Receive, Close}
 use Rattle.rq_level.specs.Writes.{AreSlotWrites, answer_of, reply_of}
 use Rattle.rq_txn.specs.declared.Finished.{Finished}
@@ -30,13 +30,14 @@ use Rattle.rq_store.specs.State.{State}
 use Rattle.rq_sound.specs.Calls.{IsIdle}
 use Rattle.rq_sound.specs.Gathering.{AreGivenFrom}
 use Rattle.rq_sound.specs.Groups.{slots_now}
-use Rattle.rq_sound.specs.Latching.{any_latched}
+use Rattle.rq_sound.specs.Latching.{any_latched, at_tail}
 use Rattle.rq_sound.specs.Levels.{AreLatched, IsGathered, IsUnlatchedPlan}
 use Rattle.rq_sound.specs.Sound.{IsSound}
 use Rattle.rq_sound.specs.Lowest.{AreAllLatched, FirstIsLowest}
 use Rattle.rq_sound.specs.Inverses.{InverseIsLatched, InverseTakesLowest}
-use Rattle.rq_planner.specs.Asked.{Asked, IsOfStore, asked_by, known, slots_for}
+use Rattle.rq_planner.specs.Asked.{Asked, IsOfStore, Task, asked_by, known, slots_to_do, task_level}
 use Rattle.rq_planner.specs.Asked.Asked.{Do, Undo}
+use Rattle.rq_planner.specs.Asked.Task.{Chain, Tag}
 
 -- ---- by a level of any number
 
@@ -99,29 +100,31 @@ to_take_back level deed = record { level = level; undo = true; bytes = deed }
 -- ---- plans
 
 -- the deed is what is asked for, its numbers aside, which the store tells
-abbrev pub IsDeedFor : Doing → Deed → Type 0
-IsDeedFor (Send g tag body) (Append h n t previous b) = (h ≡ g) × (t ≡ tag) × (b ≡ body)
-IsDeedFor (Receive g) (UnlinkHead h n tag body) = h ≡ g
-IsDeedFor (Close g) (Close_deed h) = h ≡ g
+abbrev pub IsDeedFor : Task → Deed → Type 0
+IsDeedFor (Chain (Send g tag body)) (Append h n t previous b) = (h ≡ g) × (t ≡ tag) × (b ≡ body)
+IsDeedFor (Chain (Receive g)) (UnlinkHead h n tag body) = h ≡ g
+IsDeedFor (Chain (Close g)) (Close_deed h) = h ≡ g
+IsDeedFor (Tag t) (Mark c tag previous) = (c ≡ t.client) × (tag ≡ t.tag)
 IsDeedFor _ _ = ⊥
 
 -- a message is sent into the lowest free cell on a page that nobody has latched
-abbrev pub SendTakesLowest : Sizes → Slots → List Row → Doing → List SlotWrite → Type 0
-SendTakesLowest z q rows (Send g tag body) ws = FirstIsLowest z q rows ws
-SendTakesLowest z q rows (Receive g) ws = Unit {0}
-SendTakesLowest z q rows (Close g) ws = Unit {0}
+abbrev pub SendTakesLowest : Sizes → Slots → List Row → Task → List SlotWrite → Type 0
+SendTakesLowest z q rows (Chain (Send g tag body)) ws = FirstIsLowest z q rows ws
+SendTakesLowest z q rows (Chain (Receive g)) ws = Unit {0}
+SendTakesLowest z q rows (Chain (Close g)) ws = Unit {0}
+SendTakesLowest z q rows (Tag t) ws = Unit {0}
 
 -- The plan of what is to be done, over the slots as they are, on pages that nobody has latched: with its deed, which its
 -- bytes tell, and what its end answers.
-pub record IsPlanOf (s : State) (d : Doing) (p : Plan) : Type 0 where
+pub record IsPlanOf (s : State) (task : Task) (p : Plan) : Type 0 where
   pub deed : Deed
-  pub asked : IsDeedFor d deed
+  pub asked : IsDeedFor task deed
   pub told : p.deed ≡ spelled_deed deed
-  pub reads : deed_by (doing_level d) p.deed ≡ Some deed
-  pub answer : reply_of (doing_level d) p ≡ Some (answer_of deed)
+  pub reads : deed_by (task_level task) p.deed ≡ Some deed
+  pub answer : reply_of (task_level task) p ≡ Some (answer_of deed)
   pub follows : IsUnlatchedPlan s p (Did deed)
   pub slots : AreSlotWrites s.sizes p.writes.items
-  pub lowest : SendTakesLowest s.sizes (slots_now s) s.rows d p.writes.items
+  pub lowest : SendTakesLowest s.sizes (slots_now s) s.rows task p.writes.items
 
 -- the plan of what takes back a deed
 pub record IsPlanBack (s : State) (d : Deed) (p : Plan) : Type 0 where
@@ -131,16 +134,16 @@ pub record IsPlanBack (s : State) (d : Deed) (p : Plan) : Type 0 where
   pub lowest : InverseTakesLowest s.sizes (slots_now s) s.rows d p.writes.items
 
 abbrev pub IsPlanFor : State → Asked → Plan → Type 0
-IsPlanFor s (Do d) p = IsPlanOf s d p
+IsPlanFor s (Do task) p = IsPlanOf s task p
 IsPlanFor s (Undo d) p = IsPlanBack s d p
 
 -- ---- when there is one
 
 -- what is asked needs a latched page, or a cell of which none is free on another
 abbrev pub IsHeldUp : State → Asked → Type 0
-IsHeldUp s (Do (Send g tag body)) = (any_latched s.rows (slots_for s.sizes (slots_now s) (Do (Send g tag body))) ≡ true)
+IsHeldUp s (Do (Chain (Send g tag body))) = (any_latched s.rows (at_tail (slots_now s) g) ≡ true)
     ⊎ AreAllLatched s.sizes (slots_now s) s.rows
-IsHeldUp s (Do d) = any_latched s.rows (slots_for s.sizes (slots_now s) (Do d)) ≡ true
+IsHeldUp s (Do task) = any_latched s.rows (slots_to_do s.sizes (slots_now s) task) ≡ true
 IsHeldUp s (Undo d) = InverseIsLatched s.sizes (slots_now s) s.rows d
 
 -- the deed that a transaction with nothing under way did last and has not undone
@@ -152,11 +155,12 @@ pub record IsNewestDeed (s : State) (d : Deed) : Type 0 where
   pub last : row.finished ≡ older ++ record { lsn = lsn; deed = d } ∷ []
 
 -- A sound store may do it, but for latches: a send where it is not full, a receive where a message waits, a close where
--- the group is open, and what takes back the newest deed of a transaction.
+-- the group is open, a mark, and what takes back the newest deed of a transaction.
 abbrev pub MayBeAsked : State → Asked → Type 0
-MayBeAsked s (Do (Send g tag body)) = (s.cells_in_use < cell_count s.sizes) × (length s.records ≤ 2 ^ 50)
-MayBeAsked s (Do (Receive g)) = 1 ≤ waits s.waiting g
-MayBeAsked s (Do (Close g)) = (view (items s.sizes s.records) g).closed ≡ false
+MayBeAsked s (Do (Chain (Send g tag body))) = (s.cells_in_use < cell_count s.sizes) × (length s.records ≤ 2 ^ 50)
+MayBeAsked s (Do (Chain (Receive g))) = 1 ≤ waits s.waiting g
+MayBeAsked s (Do (Chain (Close g))) = (view (items s.sizes s.records) g).closed ≡ false
+MayBeAsked s (Do (Tag t)) = length s.records ≤ 2 ^ 50
 MayBeAsked s (Undo d) = IsNewestDeed s d
 
 -- ---- the answer

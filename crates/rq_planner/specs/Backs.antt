@@ -6,9 +6,10 @@ use Rattle.rq_model.specs.declared.refusal.Refusal.{Refusal}
 use Rattle.rq_model.specs.declared.refusal.Refusal.TheVariants as why
 use Rattle.rq_model.specs.Vocabulary.{is_some}
 use Rattle.rq_page.specs.declared.cell.Cell.{Cell}
+use Rattle.rq_page.specs.declared.client.ClientSlot.{ClientSlot}
 use Rattle.rq_page.specs.declared.directory.Directory.{Directory}
-use Rattle.rq_page.specs.Sizes.{Sizes, IsCellAddress, directory_at, sender_count}
-use Rattle.rq_page.specs.Slots.Slot.{Free, Used, Sender}
+use Rattle.rq_page.specs.Sizes.{Sizes, IsCellAddress, client_count, client_slot_at, directory_at, sender_count}
+use Rattle.rq_page.specs.Slots.Slot.{Client, Free, Used, Sender}
 use Rattle.rq_views.specs.Log.{Slots}
 use Rattle.rq_views.specs.Plans.Turn.{Undid}
 use Rattle.rq_level.specs.ChainPlans.{TellsDamage}
@@ -52,13 +53,22 @@ pub record IsShut (z : Sizes) (q : Slots) (g : ℕ) : Type 0 where
   pub directory_is : q (directory_at g) ≡ Sender g directory
   pub closed : directory.closed ≡ true
 
+-- this tag is the client's last
+pub record MarkedLast (z : Sizes) (q : Slots) (c tag : ℕ) : Type 0 where
+  pub below : c < client_count z
+  pub held : ClientSlot
+  pub held_is : q (client_slot_at z c) ≡ Client held
+  pub own : held.client ≡ c
+  pub some : 0 < held.count
+  pub last : held.tag ≡ tag
+
 -- The slots hold what the inverse of a deed needs: a message was sent or taken last at its end of its group; a closed group
--- is closed. No slots hold what a mark's needs yet.
+-- is closed; a client's mark is its last.
 abbrev pub CanBeTakenBack : Sizes → Slots → Deed → Type 0
 CanBeTakenBack z q (Append g n tag previous body) = SentLast z q g n
 CanBeTakenBack z q (UnlinkHead g n tag body) = TakenLast z q g n
 CanBeTakenBack z q (Close g) = IsShut z q g
-CanBeTakenBack z q (Mark c tag previous) = ⊥
+CanBeTakenBack z q (Mark c tag previous) = MarkedLast z q c tag
 
 -- the slots do not hold that of the deed that is told
 abbrev pub CannotBeTakenBack : Sizes → Slots → Option Deed → Type 0

@@ -3,9 +3,9 @@
 
 ghost use Rattle.std.specs.Prelude.{◌≡◌, ◌≢◌, ◌↔◌, ◌<◌, ◌≤◌, ◌+◌, ◌/◌, ◌%◌, ℕ, true, false, IsSome, IsTrue, IfSome, IfNone, IfErr, IfOk, OnOk, length, replicate, slice_set};
 ghost use Rattle.std.specs.Bool.{OnFalse};
-ghost use Rattle.rq_page.specs.Sizes.{IsCellAddress, page_count, sender_count, directory_at, place_of};
+ghost use Rattle.rq_page.specs.Sizes.{IsCellAddress, page_count, sender_count, client_count, client_slot_at, directory_at, place_of};
 ghost use Rattle.rq_page.specs.Pages.{IsWritten, lsn_of};
-ghost use Rattle.rq_page.specs.Slots.{Free, Sender, held_in, IsSlotOf, IsCellOf, IsDirectoryOf};
+ghost use Rattle.rq_page.specs.Slots.{Client, Free, Sender, held_in, IsSlotOf, IsCellOf, IsDirectoryOf};
 ghost use Rattle.rq_views.specs.Log.{cell_in, put};
 ghost use Rattle.rq_views.specs.Stored.{IsStoreSlot, slot_at, slots_in, is_used, count_used};
 ghost use Rattle.rq_disk.specs.Device.{FailureIsCounted, Only};
@@ -27,6 +27,7 @@ use rq_model::refusal::Refusal;
 use rq_model::txn::Lsn;
 use rq_page::addr::Addr;
 use rq_page::cell::{Cell, CellSlot};
+use rq_page::client::ClientSlot;
 use rq_page::directory::{Directory, DirectorySlot};
 use rq_page::layout::Layout;
 use rq_page::page::Page;
@@ -308,6 +309,15 @@ impl<P: PageDevice> Pages<P> {
     {
         let at = self.layout().directory_of(sender);
         DirectorySlot::read(self.slot_bytes(at)).directory
+    }
+
+    /// What a client's slot holds.
+    pub fn client(&self, client: u32) -> ClientSlot
+        requires { client < client_count self.now.sizes }
+        ensures { slots_in self.now.sizes self.now.images (client_slot_at self.now.sizes client) ≡ Client result }
+    {
+        let at = self.layout().client_slot_of(client);
+        ClientSlot::read(self.slot_bytes(at))
     }
 
     /// The cell at an address; none where it is free.

@@ -7,8 +7,8 @@ use Rattle.rq_model.specs.declared.refusal.Refusal.{Refusal}
 use Rattle.rq_model.specs.declared.refusal.Refusal.TheVariants as why
 use Rattle.rq_model.specs.Deeds.{deed_by}
 use Rattle.rq_page.specs.declared.directory.Directory.{Directory}
-use Rattle.rq_page.specs.Sizes.{Sizes, directory_at, sender_count}
-use Rattle.rq_page.specs.Slots.Slot.{Sender}
+use Rattle.rq_page.specs.Sizes.{Sizes, client_slot_at, directory_at, sender_count}
+use Rattle.rq_page.specs.Slots.Slot.{Client, Sender}
 use Rattle.rq_views.specs.Items.{told_deed}
 use Rattle.rq_views.specs.Log.{Slots}
 use Rattle.rq_views.specs.InStore.{IsDeedOf}
@@ -20,28 +20,27 @@ use Rattle.rq_store.specs.State.{State}
 use Rattle.rq_sound.specs.Groups.{TellsGroup, slots_now}
 use Rattle.rq_sound.specs.Plans.{IsPlannedFrom}
 use Rattle.rq_sound.specs.Sound.{IsSound}
-use Rattle.rq_sound.proofs.Groups.{all_stand, tells_group}
+use Rattle.rq_sound.proofs.Groups.{all_stand, shows_tag, tells_group}
 use Rattle.rq_sound.proofs.Latching as latching
 use Rattle.rq_sound.proofs.UsedCells.{some_free}
 use Rattle.rq_sound.specs.Inverses.{InverseTakesLowest, MayBeUndone}
 use Rattle.rq_planner.specs.Backs.{CanBeTakenBack, IsRefusedBack, IsTakingBack}
-use Rattle.rq_chain_check.proofs.Chains.{sender_same}
 use Rattle.rq_analysis.specs.declared.dues.PendingUndo.{PendingUndo}
 use Rattle.rq_analysis.specs.Dues.{deed_due}
-use Rattle.rq_analysis.specs.Walk.{ShowsUndone, StandsLast}
+use Rattle.rq_analysis.specs.Walk.{IsLastOf, ShowsUndone, StandsLast}
 use Rattle.rq_restart.specs.Aborting.{PlanStops, blamed_on}
 
 -- ---- what a sound store shows to be done last, with nothing under way, can be taken back
 
 module _ (s : State) (k : IsSound s) (none : (p : ℕ) → latched_in s.rows p ≡ false) where
-  can : (d : Deed) → IsDeedOf s.sizes d → MayBeUndone s d → StandsLast (slots_now s) d → CanBeTakenBack s.sizes (slots_now s) d
+  can : (d : Deed) → IsDeedOf s.sizes d → MayBeUndone s d → StandsLast s.sizes (slots_now s) d → CanBeTakenBack s.sizes (slots_now s) d
   can (Append g n tag previous body) low may last =
       let off = none (directory_at g / 16) in
       let d : Directory = latching.d s k g low off in
       let at : slots_now s (directory_at g) ≡ Sender g d = latching.at s k g low off in
       let told : TellsGroup s g d = tells_group s g d k low off at in
       let more : d.received < d.sent = (let a = told.sent in omega (arith, a, may)) in
-      let is : d.sent ≡ n = ap (λ (x : Directory). x.sent) (sender_same (slots_now s) (directory_at g) g d last.directory at last.at) ∙ last.last.0 in
+      let is : d.sent ≡ n = (subst (λ x. IsLastOf (slots_now s) x (Append g n tag previous body)) at last).1 in
       let t = latching.tail s k g low off more in
       let c = latching.front_cell s k g low off more in
       record {
@@ -62,7 +61,7 @@ module _ (s : State) (k : IsSound s) (none : (p : ℕ) → latched_in s.rows p �
       let at : slots_now s (directory_at g) ≡ Sender g d = latching.at s k g low off in
       let told : TellsGroup s g d = tells_group s g d k low off at in
       let some : 0 < d.received = (let a = told.received in let m = may.0 in omega (arith, a, m)) in
-      let is : d.received ≡ n = ap (λ (x : Directory). x.received) (sender_same (slots_now s) (directory_at g) g d last.directory at last.at) ∙ last.last in
+      let is : d.received ≡ n = (subst (λ x. IsLastOf (slots_now s) x (UnlinkHead g n tag body)) at last).1 in
       let c = latching.head_cell s k g low off in
       let f = some_free s.sizes (slots_now s) (all_stand s k) may.1 in
       record {
@@ -77,15 +76,21 @@ module _ (s : State) (k : IsSound s) (none : (p : ℕ) → latched_in s.rows p �
         is_cell = f.1;
         free = f.2;
       }
-  can (Close g) low may last = record { below = low; directory = last.directory; directory_is = last.at; closed = last.last }
-  can (Mark c tag previous) low may last = absurd low.2
+  can (Close g) low may last =
+      let off = none (directory_at g / 16) in
+      let at : slots_now s (directory_at g) ≡ Sender g (latching.d s k g low off) = latching.at s k g low off in
+      record { below = low; directory = latching.d s k g low off; directory_is = at; closed = (subst (λ x. IsLastOf (slots_now s) x (Close g)) at last).1 }
+  can (Mark c tag previous) low may last =
+      let shows = shows_tag s c k low.0 (none (client_slot_at s.sizes c / 16)) in
+      let is : IsLastOf (slots_now s) (Client shows.held) (Mark c tag previous) = subst (λ x. IsLastOf (slots_now s) x (Mark c tag previous)) shows.at last in
+      record { below = low.0; held = shows.held; held_is = shows.at; own = is.0; some = is.1; last = is.2 }
 
 pub shows_can : (z : Sizes) (images : List (List ℕ)) (log : List Record) (d : Deed) → IsDeedOf z d → ShowsUndone z images log d → CanBeTakenBack z (slots_in z images) d
 shows_can z images log d low shows =
     let s = shows.store in
     let sizes : s.sizes ≡ z = shows.stands.sizes in
     let are : s.images ≡ images = shows.stands.images in
-    let last : StandsLast (slots_in s.sizes s.images) d = subst (λ x. StandsLast (slots_in s.sizes x) d) (sym are) (subst (λ y. StandsLast (slots_in y images) d) (sym sizes) shows.last) in
+    let last : StandsLast s.sizes (slots_in s.sizes s.images) d = subst (λ x. StandsLast s.sizes (slots_in s.sizes x) d) (sym are) (subst (λ y. StandsLast y (slots_in y images) d) (sym sizes) shows.last) in
     let below : IsDeedOf s.sizes d = subst (λ y. IsDeedOf y d) (sym sizes) low in
     subst (λ y. CanBeTakenBack y (slots_in y images) d) sizes (subst (λ x. CanBeTakenBack s.sizes (slots_in s.sizes x) d) are (can s shows.sound (λ p. shows.stands.latches p) d below shows.may last))
 

@@ -15,3 +15,4 @@ pub mod RolledBack
 pub mod Numbers
 pub mod Places
 pub mod Again
+pub mod Tables

@@ -20,6 +20,7 @@ use Rattle.rq_log.specs.Logged.{Logged, WasDurable}
 use Rattle.rq_log.specs.Crash.{LeavesOnly}
 use Rattle.rq_log.specs.Spelled.{spelled, AreSpelled, EndsWith, GoOnTo, GoesOn}
 use Rattle.rq_store.specs.Opening.{IsLeft, next_restart, opened, sent_in_slots, waiting_in}
+use Rattle.rq_store.specs.Sends.{place_count}
 use Rattle.rq_store.specs.State.{State}
 use Rattle.rq_store.specs.Whole.{IsWhole}
 use Rattle.rq_store.specs.Fitting.{image_in}
@@ -93,14 +94,15 @@ pub record IsReady {L : Type 0} (g : log_device.Ghosts L) (incarnation : ℕ) (l
   pub durable : g.honest log.device → Only (spelled log.records) (g.may_leave log.device)
   pub settled : WasDurable g log
 
--- by sender, how many messages wait and what its sends come to, as the directory tells: no more than there are records
+-- how many messages wait, by sender, and what sends and marks come to, by place, as the slots tell: no more than there are
+-- records
 pub record AreTold (z : Sizes) (images : List (List ℕ)) (count : ℕ) (waiting : List ℕ) (sent : SentBy) : Type 0 where
   pub told : waiting ≡ waiting_in z images
   pub senders : length waiting ≡ sender_count z
   pub few : (g : ℕ) → waits waiting g ≤ count
   pub told_sent : sent ≡ sent_in_slots z images
-  pub counts : length sent.counts ≡ sender_count z
-  pub tags : length sent.tags ≡ sender_count z
+  pub counts : length sent.counts ≡ place_count z
+  pub tags : length sent.tags ≡ place_count z
   pub few_sent : (g : ℕ) → sent_count sent g ≤ count
 
 -- Bytes of a log with the first of the records behind it by which what has no end is undone and the next incarnation is

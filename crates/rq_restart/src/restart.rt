@@ -24,7 +24,7 @@ use crate::analysis::Analysis;
 use crate::appending::shows_pool;
 use crate::page_numbers::PageNumbers;
 use crate::redo::{check_page_numbers, repeat_history};
-use crate::tables::{EngineTables, read_directory, tell_cells};
+use crate::tables::{EngineTables, read_slots, tell_cells};
 use crate::undoing::undo_unfinished;
 use rq_chain_check::first_broken;
 use rq_disk::{LogDevice, PageDevice};
@@ -255,7 +255,7 @@ fn finish_restart<P: PageDevice + Drop, L: LogDevice + Drop, B: Level>(
     check_page_numbers(numbers, log.last())?;
     let unfinished = analysis.open_work.unfinished();
     let (lost, planner) = undo_all(alloc, pages, log, analysis, levels)?;
-    let tables = read_directory(alloc, pages, planner)?;
+    let tables = read_slots(alloc, pages, planner)?;
     match begin_incarnation(log, analysis.open_work.incarnation(), unfinished, lost) {
         Ok(report) => Ok((tables, report)),
         Err(refusal) => Err(refusal),

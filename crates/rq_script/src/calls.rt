@@ -1,5 +1,5 @@
 //! The calls that a command stands for, made of any store.
-use crate::command::{Command, Images, Post, Survivors};
+use crate::command::{Command, Images, Post, Survivors, Tagging};
 use crate::command_result::CommandResult;
 use rq_disk::CallKind;
 use rq_engine::event::{CommitNo, Event, Outcome, Progress, Reply};
@@ -69,6 +69,7 @@ fn call<S: Store>(store: &mut S, alloc: Global, command: Command<'_>) -> Reply {
             whole_operation(store, Event::StartReceiveFrom { txn, sender })
         }
         Command::Close(txn, sender) => whole_operation(store, Event::StartClose { txn, sender }),
+        Command::Mark(tagging) => whole_operation(store, mark_of(tagging)),
         Command::Step(sub) => store.ask(Event::Step(sub)),
         Command::Finish(sub) => store.ask(Event::Finish(sub)),
         Command::Commit(txn) => store.ask(Event::Commit(txn)),
@@ -81,12 +82,21 @@ fn call<S: Store>(store: &mut S, alloc: Global, command: Command<'_>) -> Reply {
         Command::Checkpoint => store.ask(Event::Checkpoint),
         Command::Write(page) => store.ask(Event::WritePage(page)),
         Command::Last(sender) => store.ask(Event::LastTag(sender)),
+        Command::ClientTag(client) => store.ask(Event::ClientTag(client)),
         Command::Dump => store.ask(Event::Content),
         Command::Fail(_)
         | Command::Crash(..)
         | Command::Restart
         | Command::StopInRestart(_)
         | Command::Log => Reply::Refused(Refusal::Failed),
+    }
+}
+
+fn mark_of(tagging: Tagging) -> Event {
+    Event::StartMark {
+        txn: tagging.txn,
+        client: tagging.client,
+        tag: tagging.tag,
     }
 }
 

@@ -13,6 +13,7 @@ pub enum Command<'a> {
     Recv(Txn),
     RecvFrom(Txn, u32),
     Close(Txn, u32),
+    Mark(Tagging),
     Commit(Txn),
     Abort(Txn),
     StartAbort(Txn),
@@ -23,6 +24,7 @@ pub enum Command<'a> {
     Checkpoint,
     Write(u32),
     Last(u32),
+    ClientTag(u32),
     Fail(CallKind),
     /// So many bytes of the record behind those that outlive it do so, too.
     Crash(Survivors, u64, Images),
@@ -41,6 +43,14 @@ pub struct Post<'a> {
     pub sender: u32,
     pub tag: u64,
     pub body: &'a [u8],
+}
+
+/// A tag that a transaction is to mark for a client.
+#[derive(Clone, Copy)]
+pub struct Tagging {
+    pub txn: Txn,
+    pub client: u32,
+    pub tag: u64,
 }
 
 /// How many of the records that are not forced outlive a crash.
@@ -93,6 +103,7 @@ enum Word {
     Recv,
     RecvFrom,
     Close,
+    Mark,
     Commit,
     Abort,
     StartAbort,
@@ -101,12 +112,13 @@ enum Word {
     Ack,
     Write,
     Last,
+    Tag,
     Fail,
     Crash,
     Restart,
 }
 
-const WORDS: [(&[u8], Word); 18] = [
+const WORDS: [(&[u8], Word); 20] = [
     (b"send", Word::Send),
     (b"open-send", Word::OpenSend),
     (b"step", Word::Step),
@@ -114,6 +126,7 @@ const WORDS: [(&[u8], Word); 18] = [
     (b"recv", Word::Recv),
     (b"recv-from", Word::RecvFrom),
     (b"close", Word::Close),
+    (b"mark", Word::Mark),
     (b"commit", Word::Commit),
     (b"abort", Word::Abort),
     (b"start-abort", Word::StartAbort),
@@ -122,6 +135,7 @@ const WORDS: [(&[u8], Word); 18] = [
     (b"ack", Word::Ack),
     (b"write", Word::Write),
     (b"last", Word::Last),
+    (b"tag", Word::Tag),
     (b"fail", Word::Fail),
     (b"crash", Word::Crash),
     (b"restart", Word::Restart),
@@ -152,6 +166,7 @@ fn with_words<'a>(name: &[u8], rest: &'a [u8]) -> Option<Command<'a>> {
             let (txn, sender) = group_of(rest)?;
             Some(Command::Close(txn, sender))
         }
+        Word::Mark => Some(Command::Mark(tagging_of(rest)?)),
         Word::Commit => Some(Command::Commit(txn(rest)?)),
         Word::Abort => Some(Command::Abort(txn(rest)?)),
         Word::StartAbort => Some(Command::StartAbort(txn(rest)?)),
@@ -160,10 +175,23 @@ fn with_words<'a>(name: &[u8], rest: &'a [u8]) -> Option<Command<'a>> {
         Word::Ack => Some(Command::Ack(txn(rest)?)),
         Word::Write => Some(Command::Write(short_number(rest)?)),
         Word::Last => Some(Command::Last(short_number(rest)?)),
+        Word::Tag => Some(Command::ClientTag(short_number(rest)?)),
         Word::Fail => Some(Command::Fail(device_call(rest)?)),
         Word::Crash => crash(rest),
         Word::Restart => Some(Command::StopInRestart(number(rest)?)),
     }
+}
+
+// `2.1 3 70`
+fn tagging_of(rest: &[u8]) -> Option<Tagging> {
+    let (word, rest) = first_word(rest);
+    let txn = txn(word)?;
+    let (word, rest) = first_word(rest?);
+    Some(Tagging {
+        txn,
+        client: short_number(word)?,
+        tag: number(rest?)?,
+    })
 }
 
 // `2.1 0 7 hello`

@@ -1,5 +1,5 @@
 //! What a command came to, and the line that says so.
-use rq_engine::event::{GroupContent, LastTag, Outcome, Progress, Reply, Written};
+use rq_engine::event::{ClientTag, GroupContent, LastTag, Outcome, Progress, Reply, Written};
 use rq_model::message::Message;
 use rq_model::refusal::Refusal;
 use rq_model::txn::{Lsn, Sub};
@@ -92,6 +92,7 @@ fn print_reply(output: &mut Vec<u8>, reply: &Reply) -> io::Result<()> {
         Reply::Written(Written::Done) => print_word(output, "written"),
         Reply::Written(Written::Nothing) => print_word(output, "nothing"),
         Reply::LastTag(last) => print_last(output, *last),
+        Reply::ClientTag(last) => print_client_tag(output, *last),
         Reply::Content(groups) => print_content(output, groups),
         Reply::Refused(refusal) => print_refusal(output, *refusal),
     }
@@ -141,6 +142,13 @@ fn print_last(output: &mut Vec<u8>, last: LastTag) -> io::Result<()> {
     let sent = last.sent;
     let tag = last.tag;
     writeln!(output, "last {sent} {tag}")
+}
+
+// `tag 1 70`
+fn print_client_tag(output: &mut Vec<u8>, last: ClientTag) -> io::Result<()> {
+    let count = last.count;
+    let tag = last.tag;
+    writeln!(output, "tag {count} {tag}")
 }
 
 // A line for each sender with a committed send or close.

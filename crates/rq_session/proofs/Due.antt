@@ -47,6 +47,7 @@ refusal_due (stages.Rest h) refusal is = none_under_way is.0
 refusal_due stages.Ended refusal is = none_under_way is.0
 refusal_due stages.Begin refusal is = refl
 refusal_due (stages.LastTag h) refusal is = refl
+refusal_due (stages.ClientTag h) refusal is = refl
 refusal_due (stages.Start h) refusal is = refl
 refusal_due (stages.Commit h) refusal is = refl
 refusal_due (stages.Await commit) refusal is = rw is refl
@@ -85,6 +86,7 @@ answer_due s what answers.Marked is = rw (is.0.1, is.1) refl
 answer_due s what (answers.Committed lsn) is = receipt_due s what lsn is
 answer_due s what answers.Aborted is = rw (is.0.1, is.1) refl
 answer_due s what (answers.LastTag sent tag) is = rw (is.0.1, is.1) refl
+answer_due s what (answers.ClientTag count tag) is = rw (is.0.1, is.1) refl
 answer_due s what (answers.Refused refusal) is = rw (is.0) (refusal_due s refusal is.1)
 
 pub each_answer : EachAnswer
@@ -191,6 +193,9 @@ unfit_ends lost stages.Begin _ e = refl
 unfit_ends lost (stages.LastTag h) (replies.LastTag last) e = absurd (true≢false e)
 unfit_ends lost (stages.LastTag h) (replies.Refused refusal) e = absurd (true≢false e)
 unfit_ends lost (stages.LastTag h) _ e = refl
+unfit_ends lost (stages.ClientTag h) (replies.ClientTag last) e = absurd (true≢false e)
+unfit_ends lost (stages.ClientTag h) (replies.Refused refusal) e = absurd (true≢false e)
+unfit_ends lost (stages.ClientTag h) _ e = refl
 unfit_ends lost (stages.Start h) what e = unfit_start lost h what e
 unfit_ends lost (stages.Step sub purpose) (replies.Stepped did) e = absurd (true≢false e)
 unfit_ends lost (stages.Step sub purpose) (replies.Refused refusal) e = absurd (true≢false e)

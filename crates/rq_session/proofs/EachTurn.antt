@@ -125,6 +125,12 @@ last_tags h (replies.LastTag last) = gives (stages.LastTag h) (replies.LastTag l
 last_tags h (replies.Refused refusal) = refuses (stages.LastTag h) (replies.Refused refusal) refusal h refl refl
 last_tags h what = ends (stages.LastTag h) what
 
+client_tags : (h : OwnTxn) (what : Reply) → Turn (stages.ClientTag h) what (rules.after_client_tag h what)
+client_tags h (replies.ClientTag last) = gives (stages.ClientTag h) (replies.ClientTag last) (answers.ClientTag last.count last.tag) h
+    refl refl tt
+client_tags h (replies.Refused refusal) = refuses (stages.ClientTag h) (replies.Refused refusal) refusal h refl refl
+client_tags h what = ends (stages.ClientTag h) what
+
 first_steps : (s : Stage) (what : Reply) (o : Option Txn) (number : ℕ) (purpose : Purpose) → o ≡ own s → owed s ≡ 1
     → Turn s what (rules.started o number purpose)
 first_steps s what None number purpose same one = ends s what
@@ -284,6 +290,7 @@ pub each_reply : (lost : Bool) (s : Stage) (what : Reply) → Turn s what (rules
 each_reply lost (stages.Rest h) what = ends (stages.Rest h) what
 each_reply lost stages.Begin what = begins what
 each_reply lost (stages.LastTag h) what = last_tags h what
+each_reply lost (stages.ClientTag h) what = client_tags h what
 each_reply lost (stages.Start h) what = starts h what
 each_reply lost (stages.Step sub purpose) what = steps lost sub purpose what
 each_reply lost (stages.Finish sub purpose) what = finishes lost sub purpose what
@@ -343,6 +350,8 @@ pub each_request : (h : OwnTxn) (request : Request) → Takes h request (rules.a
 each_request Free requests.Begin = asks_first Free requests.Begin _ stages.Begin (refl, refl) refl refl refl refl refl refl refl
 each_request h (requests.LastTag sender) =
     asks_first h (requests.LastTag sender) _ (stages.LastTag h) (refl, refl) (h, refl) refl refl tt refl refl refl
+each_request h (requests.ClientTag client) =
+    asks_first h (requests.ClientTag client) _ (stages.ClientTag h) (refl, refl) (h, refl) refl refl tt refl refl refl
 each_request Free request = refuses_first Free request UnknownTransaction (refl, refl)
 each_request h requests.Begin = refuses_first h requests.Begin TooManyTransactions (refl, refl)
 each_request (Open txn) requests.Abort =
@@ -406,6 +415,7 @@ lost_aborts s (Undoing sub) call same txn =
 pub each_loss : (s : Stage) → Lost s (rules.after_loss s)
 each_loss (stages.Rest h) = lost_aborts (stages.Rest h) h refl refl refl
 each_loss (stages.LastTag h) = lost_aborts (stages.LastTag h) h refl refl refl
+each_loss (stages.ClientTag h) = lost_aborts (stages.ClientTag h) h refl refl refl
 each_loss (stages.Start h) = lost_aborts (stages.Start h) h refl refl refl
 each_loss (stages.Commit h) = lost_aborts (stages.Commit h) h refl refl refl
 each_loss stages.Begin = loses_none stages.Begin refl refl refl

@@ -3,7 +3,7 @@ use Rattle.std.proofs.Common.{◌≡◌, Bool, true, false, refl, sym, ap, ◌�
 use Rattle.std.proofs.lemmas.Bool.{false≢true, true≢false}
 use Rattle.std.specs.Prelude.{Option, Some, None}
 use Rattle.rq_model.specs.History.{Call}
-use Rattle.rq_model.specs.History.Call.{Begin, Start_send, Start_receive, Start_receive_from, Start_close, Step, Finish, Commit, Start_abort, Undo_next, End_abort, Last_tag}
+use Rattle.rq_model.specs.History.Call.{Begin, Start_send, Start_receive, Start_receive_from, Start_close, Start_mark, Step, Finish, Commit, Start_abort, Undo_next, End_abort, Last_tag, Client_tag}
 use Rattle.rq_engine.specs.Says.{call_of}
 use Rattle.rq_wire.specs.declared.request.Request.{Request}
 use Rattle.rq_wire.specs.declared.request.Request.TheVariants as requests
@@ -85,6 +85,7 @@ one_call (Start_send txn message) x y e g a = of_held stages.Start x y e.0 g.0 s
 one_call (Start_receive txn) x y e g a = of_held stages.Start x y e.0 g.0 starts_held e.1 g.1 a
 one_call (Start_receive_from txn sender) x y e g a = of_held stages.Start x y e.0 g.0 starts_held e.1 g.1 a
 one_call (Start_close txn sender) x y e g a = of_held stages.Start x y e.0 g.0 starts_held e.1 g.1 a
+one_call (Start_mark txn client tag) x y e g a = of_held stages.Start x y e.0 g.0 starts_held e.1 g.1 a
 one_call (Step txn number) x y e g a = one_step x y (record { txn = txn; number = number }) e.0 g.0 e.1 g.1 a
 one_call (Finish txn number) x y e g a = one_end x y (record { txn = txn; number = number }) e.0 g.0 e.1 g.1 a
 one_call (Commit txn) x y e g a = of_held stages.Commit x y e.0 g.0 (λ h. refl) e.1 g.1 a
@@ -92,6 +93,7 @@ one_call (Start_abort txn) x y e g a = e ∙ sym g
 one_call (Undo_next txn) x y e g a = e ∙ sym g
 one_call (End_abort txn) x y e g a = e ∙ sym g
 one_call (Last_tag sender) x y e g a = of_held stages.LastTag x y e.0 g.0 (λ h. refl) e.1 g.1 a
+one_call (Client_tag client) x y e g a = of_held stages.ClientTag x y e.0 g.0 (λ h. refl) e.1 g.1 a
 one_call _ x y e g a = absurd e
 
 one_stage : (action : Action) (x y : Stage) → IsStageAt action x → IsStageAt action y → Alike x y → x ≡ y
@@ -143,6 +145,8 @@ agree h (requests.Close sender) n m e g = one_for (txn_held h) _ n m e g
 agree h requests.Commit n m e g = one_for (txn_held h) _ n m e g
 agree h requests.Abort n m e g = one_abort (abort_call h) n m e g
 agree h (requests.LastTag sender) n m e g = one_asked _ n m e g
+agree h (requests.Mark client tag) n m e g = one_for (txn_held h) _ n m e g
+agree h (requests.ClientTag client) n m e g = one_asked _ n m e g
 
 pub one_first : OneFirst
 one_first h request n t =
@@ -259,6 +263,7 @@ no_call (Start_send txn message) e = no_start txn e
 no_call (Start_receive txn) e = no_start txn e
 no_call (Start_receive_from txn sender) e = no_start txn e
 no_call (Start_close txn sender) e = no_start txn e
+no_call (Start_mark txn client tag) e = no_start txn e
 no_call (Step txn number) e = let z = ap is_ended e.1 in true≢false z
 no_call (Finish txn number) e = let z = ap is_ended e.1 in true≢false z
 no_call (Commit txn) e = let z = ap is_ended e.1 in true≢false z
@@ -266,6 +271,7 @@ no_call (Start_abort txn) e = let z = ap is_ended e in true≢false z
 no_call (Undo_next txn) e = let z = ap is_ended e in true≢false z
 no_call (End_abort txn) e = let z = ap is_ended e in true≢false z
 no_call (Last_tag sender) e = let z = ap is_ended e.1 in true≢false z
+no_call (Client_tag client) e = let z = ap is_ended e.1 in true≢false z
 no_call _ e = e
 
 abbrev is_call : Option Event → Bool

@@ -132,6 +132,13 @@ last_tags lost h (replies.LastTag last) =
 last_tags lost h (replies.Refused refusal) = refuses lost (stages.LastTag h) refusal h refl (refl, λ m. m)
 last_tags lost h what = ends lost (stages.LastTag h) what (inl refl)
 
+client_tags : (lost : Bool) (h : OwnTxn) (what : Reply)
+    → Says lost (stages.ClientTag h) what (rules.after_client_tag h what)
+client_tags lost h (replies.ClientTag last) =
+    gives lost (stages.ClientTag h) (replies.ClientTag last) (answers.ClientTag last.count last.tag) h refl ((h, refl), refl)
+client_tags lost h (replies.Refused refusal) = refuses lost (stages.ClientTag h) refusal h refl (refl, λ m. m)
+client_tags lost h what = ends lost (stages.ClientTag h) what (inl refl)
+
 start_works : (lost : Bool) (h : OwnTxn) (sub : Sub) (txn : Txn) → txn_held h ≡ Some txn
     → Says lost (stages.Start h) (replies.Started sub) (next (Do (events.Step (numbered txn sub)))
     (stages.Step (numbered txn sub) purposes.Request))
@@ -305,6 +312,7 @@ pub says : (lost : Bool) (s : Stage) (what : Reply) → Says lost s what (rules.
 says lost (stages.Rest h) what = ends lost (stages.Rest h) what (inl refl)
 says lost stages.Begin what = begins lost what
 says lost (stages.LastTag h) what = last_tags lost h what
+says lost (stages.ClientTag h) what = client_tags lost h what
 says lost (stages.Start h) what = starts lost h what
 says lost (stages.Step sub purpose) what = steps lost sub purpose what
 says lost (stages.Finish sub purpose) what = finishes lost sub purpose what

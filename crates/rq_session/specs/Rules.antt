@@ -3,7 +3,7 @@
 use Rattle.std.specs.Prelude.{ℕ, Bool, false, ◌==◌, ◌&&◌, if◌then◌else◌, Option, Some, None, option_map}
 use Rattle.rq_engine.specs.Says.{call_of}
 use Rattle.rq_model.specs.History.{Call}
-use Rattle.rq_model.specs.History.Call.{Start_send, Start_receive, Start_receive_from, Start_close}
+use Rattle.rq_model.specs.History.Call.{Start_send, Start_receive, Start_receive_from, Start_close, Start_mark}
 use Rattle.rq_model.specs.Vocabulary.{same_txn}
 use Rattle.rq_model.specs.declared.txn.Txn.{Txn}
 use Rattle.rq_model.specs.declared.txn.Sub.{Sub}
@@ -67,6 +67,11 @@ abbrev pub after_last_tag : OwnTxn → Reply → Next
 after_last_tag h (replies.LastTag last) = answered (answers.LastTag last.sent last.tag) h
 after_last_tag h (replies.Refused refusal) = answered (answers.Refused refusal) h
 after_last_tag h _ = ended
+
+abbrev pub after_client_tag : OwnTxn → Reply → Next
+after_client_tag h (replies.ClientTag last) = answered (answers.ClientTag last.count last.tag) h
+after_client_tag h (replies.Refused refusal) = answered (answers.Refused refusal) h
+after_client_tag h _ = ended
 
 -- an operation of the session's own transaction is stepped
 abbrev pub started : Option Txn → ℕ → Purpose → Next
@@ -169,6 +174,7 @@ abbrev pub after_reply : Bool → Stage → Reply → Next
 after_reply lost (stages.Rest h) what = ended
 after_reply lost stages.Begin what = after_begin what
 after_reply lost (stages.LastTag h) what = after_last_tag h what
+after_reply lost (stages.ClientTag h) what = after_client_tag h what
 after_reply lost (stages.Start h) what = after_start h what
 after_reply lost (stages.Step sub purpose) what = after_step lost sub purpose what
 after_reply lost (stages.Finish sub purpose) what = after_finish lost sub purpose what
@@ -191,6 +197,7 @@ abbrev pub after_loss : Stage → Next
 after_loss (stages.Rest h) = abort h
 after_loss stages.Begin = ended
 after_loss (stages.LastTag h) = abort h
+after_loss (stages.ClientTag h) = abort h
 after_loss (stages.Start h) = abort h
 after_loss (stages.Step sub purpose) = next (Do (events.Step sub)) (stages.Step sub (cleared purpose))
 after_loss (stages.Finish sub purpose) = next (Do (events.Finish sub)) (stages.Finish sub (cleared purpose))
@@ -248,6 +255,8 @@ after_request h (requests.Close sender) = start h (txn_held h) (λ txn. Start_cl
 after_request h requests.Commit = first_of (commit h (txn_held h))
 after_request h requests.Abort = first_of (abort_request h (txn_held h))
 after_request h (requests.LastTag sender) = first_of (next (Do (events.LastTag sender)) (stages.LastTag h))
+after_request h (requests.Mark client tag) = start h (txn_held h) (λ txn. Start_mark txn client tag)
+after_request h (requests.ClientTag client) = first_of (next (Do (events.ClientTag client)) (stages.ClientTag h))
 
 -- a request is taken at rest alone
 abbrev pub taken : Stage → Request → First

@@ -4,7 +4,7 @@ use Rattle.rq_model.specs.declared.txn.Txn.{Txn}
 use Rattle.rq_session.specs.declared.stage.OwnTxn.{OwnTxn}
 use Rattle.rq_session.specs.declared.stage.OwnTxn.TheVariants as held
 use Rattle.rq_model.specs.History.{Call}
-use Rattle.rq_model.specs.History.Call.{Begin, Start_send, Start_receive, Start_receive_from, Start_close, Step, Finish, Commit, Start_abort, Undo_next, End_abort, Last_tag}
+use Rattle.rq_model.specs.History.Call.{Begin, Start_send, Start_receive, Start_receive_from, Start_close, Start_mark, Step, Finish, Commit, Start_abort, Undo_next, End_abort, Last_tag, Client_tag}
 use Rattle.rq_engine.specs.Says.{call_of}
 use Rattle.rq_session.specs.declared.actions.Action.{Action}
 use Rattle.rq_session.specs.declared.actions.Action.TheVariants.{Do, Again, Await, Answer as Answers, End}
@@ -25,6 +25,7 @@ abbrev pub own : Stage → Option Txn
 own (stages.Rest h) = txn_held h
 own stages.Begin = None
 own (stages.LastTag h) = txn_held h
+own (stages.ClientTag h) = txn_held h
 own (stages.Start h) = txn_held h
 own (stages.Step sub purpose) = Some sub.txn
 own (stages.Finish sub purpose) = Some sub.txn
@@ -40,6 +41,7 @@ abbrev pub held_in : Stage → OwnTxn
 held_in (stages.Rest h) = h
 held_in stages.Begin = held.Free
 held_in (stages.LastTag h) = h
+held_in (stages.ClientTag h) = h
 held_in (stages.Start h) = h
 held_in (stages.Step sub purposes.Request) = held.Left sub
 held_in (stages.Step sub purposes.Clearing) = held.Left sub
@@ -76,6 +78,7 @@ IsStageOf (Start_send txn message) s = IsStart txn s
 IsStageOf (Start_receive txn) s = IsStart txn s
 IsStageOf (Start_receive_from txn sender) s = IsStart txn s
 IsStageOf (Start_close txn sender) s = IsStart txn s
+IsStageOf (Start_mark txn client tag) s = IsStart txn s
 IsStageOf (Step txn number) s = (purpose : Purpose) × (s ≡ stages.Step (record { txn = txn; number = number }) purpose)
 IsStageOf (Finish txn number) s = (purpose : Purpose) × (s ≡ stages.Finish (record { txn = txn; number = number }) purpose)
 IsStageOf (Commit txn) s = (h : OwnTxn) × (s ≡ stages.Commit h) × (txn_held h ≡ Some txn)
@@ -83,6 +86,7 @@ IsStageOf (Start_abort txn) s = s ≡ stages.StartAbort txn
 IsStageOf (Undo_next txn) s = s ≡ stages.UndoNext txn
 IsStageOf (End_abort txn) s = s ≡ stages.EndAbort txn
 IsStageOf (Last_tag sender) s = (h : OwnTxn) × (s ≡ stages.LastTag h)
+IsStageOf (Client_tag client) s = (h : OwnTxn) × (s ≡ stages.ClientTag h)
 IsStageOf _ s = ⊥
 
 -- the stage is the one of what is to be done

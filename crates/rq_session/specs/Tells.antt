@@ -49,6 +49,7 @@ Tells s what answers.Marked = IsFinish s × (what ≡ replies.Finished outcomes.
 Tells s what (answers.Committed lsn) = IsReceipt s what lsn
 Tells s what answers.Aborted = ((txn : Txn) × (s ≡ stages.EndAbort txn)) × (what ≡ replies.Aborted)
 Tells s what (answers.LastTag sent tag) = ((h : OwnTxn) × (s ≡ stages.LastTag h)) × (what ≡ replies.LastTag (record { sent = sent; tag = tag }))
+Tells s what (answers.ClientTag count tag) = ((h : OwnTxn) × (s ≡ stages.ClientTag h)) × (what ≡ replies.ClientTag (record { count = count; tag = tag }))
 Tells s what (answers.Refused refusal) = (what ≡ replies.Refused refusal) × IsRefusal s refusal
 
 -- it is answered exactly where it was told

@@ -87,6 +87,7 @@ pub(crate) fn first(held: OwnTxn, request: Request) -> Next
         (Request::Begin, None) => call(Event::Begin, Stage::Begin),
         (Request::Begin, Some(_)) => refuse(Refusal::TooManyTransactions, held),
         (Request::LastTag(sender), _) => call(Event::LastTag(sender), Stage::LastTag(held)),
+        (Request::ClientTag(client), _) => call(Event::ClientTag(client), Stage::ClientTag(held)),
         (_, None) => refuse(Refusal::UnknownTransaction, held),
         (Request::Send { sender, tag, body }, Some(txn)) => call(
             Event::StartSend {
@@ -103,6 +104,9 @@ pub(crate) fn first(held: OwnTxn, request: Request) -> Next
         }
         (Request::Close(sender), Some(txn)) => {
             call(Event::StartClose { txn, sender }, Stage::Start(held))
+        }
+        (Request::Mark { client, tag }, Some(txn)) => {
+            call(Event::StartMark { txn, client, tag }, Stage::Start(held))
         }
         (Request::Commit, Some(txn)) => call(Event::Commit(txn), Stage::Commit(held)),
         (Request::Abort, Some(_)) => abort_on(held),

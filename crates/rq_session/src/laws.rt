@@ -18,8 +18,8 @@ pub fn each_may_again()
 {}
 
 /// At each request that is taken: its one call, for the session's own transaction, or its refusal. A begin is refused
-/// (17) exactly where there is a transaction, each other request but LastTag (4) exactly where there is none. The
-/// transaction stays as it was.
+/// (17) exactly where there is a transaction, each other request but LastTag and ClientTag (4) exactly where there is
+/// none. The transaction stays as it was.
 pub fn each_request()
     ensures { EachRequest }
 {}

@@ -36,7 +36,8 @@ pub(crate) enum Stage {
     Rest(OwnTxn),
     Begin,
     LastTag(OwnTxn),
-    // the start of a send, a receive or a close
+    ClientTag(OwnTxn),
+    // the start of a send, a receive, a close or a mark
     Start(OwnTxn),
     Step(Sub, Purpose),
     Finish(Sub, Purpose),

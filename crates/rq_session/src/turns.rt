@@ -1,7 +1,7 @@
 //! What is to be done at a reply.
 ghost use Rattle.std.specs.Prelude.{◌≡◌};
 ghost use Rattle.rq_model.specs.Vocabulary.{same_txn};
-ghost use Rattle.rq_session.specs.Rules.{after_begin, after_last_tag, after_start, work_refused, after_step, after_finish, after_commit, after_await, after_start_abort, after_undo_next, after_end_abort, after_reply, after_loss, done, undone, is_commit, is_commit_of, started as first_step, cleared as cleared_purpose};
+ghost use Rattle.rq_session.specs.Rules.{after_begin, after_last_tag, after_client_tag, after_start, work_refused, after_step, after_finish, after_commit, after_await, after_start_abort, after_undo_next, after_end_abort, after_reply, after_loss, done, undone, is_commit, is_commit_of, started as first_step, cleared as cleared_purpose};
 
 use crate::actions::Action;
 use crate::first_calls::{abort_on, answer_with, call, end, refuse, stop_abort, txn_of};
@@ -19,6 +19,7 @@ pub(crate) fn turn(lost: bool, stage: Stage, reply: &Reply) -> Next
         Stage::Rest(_) | Stage::Ended => end(),
         Stage::Begin => begun(reply),
         Stage::LastTag(held) => last_tag_told(held, reply),
+        Stage::ClientTag(held) => client_tag_told(held, reply),
         Stage::Start(held) => started(held, reply),
         Stage::Step(sub, purpose) => stepped(lost, sub, purpose, reply),
         Stage::Finish(sub, purpose) => finished(lost, sub, purpose, reply),
@@ -47,6 +48,22 @@ fn last_tag_told(held: OwnTxn, reply: &Reply) -> Next
         Reply::LastTag(last) => answer_with(
             Answer::LastTag {
                 sent: last.sent,
+                tag: last.tag,
+            },
+            held,
+        ),
+        Reply::Refused(refusal) => refuse(*refusal, held),
+        _ => end(),
+    }
+}
+
+fn client_tag_told(held: OwnTxn, reply: &Reply) -> Next
+    ensures { result ≡ after_client_tag held reply.now }
+{
+    match reply {
+        Reply::ClientTag(last) => answer_with(
+            Answer::ClientTag {
+                count: last.count,
                 tag: last.tag,
             },
             held,
@@ -260,9 +277,8 @@ pub(crate) fn turn_at_loss(stage: Stage) -> Next
     ensures { result ≡ after_loss stage }
 {
     match stage {
-        Stage::Rest(held) | Stage::LastTag(held) | Stage::Start(held) | Stage::Commit(held) => {
-            abort_on(held)
-        }
+        Stage::Rest(held) | Stage::LastTag(held) | Stage::ClientTag(held) => abort_on(held),
+        Stage::Start(held) | Stage::Commit(held) => abort_on(held),
         Stage::Step(sub, purpose) => call(Event::Step(sub), Stage::Step(sub, cleared(purpose))),
         Stage::Finish(sub, purpose) => call(
             Event::Finish(sub),

@@ -353,6 +353,7 @@ fn copy_of(alloc: Global, reply: &Reply) -> Result<Reply, AllocError>
         Reply::Checkpointed(lsn) => Reply::Checkpointed(*lsn),
         Reply::Written(written) => Reply::Written(*written),
         Reply::LastTag(last) => Reply::LastTag(*last),
+        Reply::ClientTag(last) => Reply::ClientTag(*last),
         Reply::Content(groups) => Reply::Content(copy_of_groups(alloc, groups)?),
         Reply::Refused(refusal) => Reply::Refused(*refusal),
     })

@@ -47,6 +47,14 @@ pub(crate) fn same_event(event: &Event, other: &Event) -> bool
                 sender: other_sender,
             },
         ) => *txn == *other_txn && *sender == *other_sender,
+        (
+            Event::StartMark { txn, client, tag },
+            Event::StartMark {
+                txn: other_txn,
+                client: other_client,
+                tag: other_tag,
+            },
+        ) => *txn == *other_txn && *client == *other_client && *tag == *other_tag,
         (Event::Step(sub), Event::Step(other)) => *sub == *other,
         (Event::Finish(sub), Event::Finish(other)) => *sub == *other,
         (Event::Commit(txn), Event::Commit(other)) => *txn == *other,
@@ -59,6 +67,7 @@ pub(crate) fn same_event(event: &Event, other: &Event) -> bool
         (Event::Checkpoint, Event::Checkpoint) => true,
         (Event::WritePage(page), Event::WritePage(other)) => *page == *other,
         (Event::LastTag(sender), Event::LastTag(other)) => *sender == *other,
+        (Event::ClientTag(client), Event::ClientTag(other)) => *client == *other,
         (Event::Content, Event::Content) => true,
         _ => false,
     }
@@ -84,6 +93,7 @@ pub(crate) fn same_reply(reply: &Reply, other: &Reply) -> bool
         (Reply::Checkpointed(lsn), Reply::Checkpointed(other)) => *lsn == *other,
         (Reply::Written(written), Reply::Written(other)) => *written == *other,
         (Reply::LastTag(last), Reply::LastTag(other)) => *last == *other,
+        (Reply::ClientTag(last), Reply::ClientTag(other)) => *last == *other,
         (Reply::Content(groups), Reply::Content(other)) => same_groups(groups, other),
         (Reply::Refused(refusal), Reply::Refused(other)) => *refusal == *other,
         _ => false,

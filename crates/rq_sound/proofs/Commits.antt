@@ -32,7 +32,7 @@ use Rattle.rq_txn.specs.declared.Finished.{Finished}
 use Rattle.rq_groups.specs.Ends.{HeldEnds}
 use Rattle.rq_groups.specs.Waiting.{waits}
 use Rattle.rq_groups.specs.Sent.{SentBy, sent_count, sent_tag}
-use Rattle.rq_store.specs.Sends.{KeepsSends}
+use Rattle.rq_store.specs.Sends.{KeepsSends, group_of, place_count}
 use Rattle.rq_sound.specs.Calls.{sends_for}
 use Rattle.rq_store.specs.State.{op_done}
 use Rattle.rq_model.specs.Incarnations.{incarnation_of}
@@ -205,16 +205,18 @@ module _ (z : Sizes) (log : List Record) (ends : HeldEnds) (rows : List Row) (i 
         covered = λ q j. more_waits z log ends q waiting ws q.under (λ g m. (let v = waited g m in omega (arith, v))) (k.each q (gone t rows q j).0).going (c.covered q (gone t rows q j).0);
       }
 
-  -- what is kept of each sender's sends is what the commits tell then
-  module _ (sent new : SentBy) (kept : KeepsSends z log sent) (counts : (g : ℕ) → g < sender_count z → sent_count new g ≡ sent_count sent g + sends_in g r)
-      (tags : (g : ℕ) → g < sender_count z → sent_tag new g ≡ tag_after (sent_tag sent g) (sends_for g r)) where
+  -- what is kept of each sender's sends, and of each client's marks, is what the commits tell then
+  module _ (sent new : SentBy) (kept : KeepsSends z log sent) (counts : (i : ℕ) → i < place_count z → sent_count new i ≡ sent_count sent i + sends_in (group_of z i) r)
+      (tags : (i : ℕ) → i < place_count z → sent_tag new i ≡ tag_after (sent_tag sent i) (sends_for (group_of z i) r)) where
     own_sends : (g : ℕ) → filter_map (sent_for g) done.ops ≡ sends_for g r
     own_sends g = ap (λ (l : List Op). filter_map (sent_for g) l) ops_are
 
     pub sends_commit : KeepsSends z (x ∷ log) new
     sends_commit = record {
-      counts = λ g m. counts g m ∙ ap (λ n. n + sends_in g r) (kept.counts g m) ∙ ap (λ l. (group_in (committed_of log) g).sent + length l) (sym (own_sends g))
-          ∙ sym (ap (λ (y : Group). y.sent) (group_more (committed_of log) done g (taken_within log whole.rules g)));
-      tags = λ g m. tags g m ∙ ap (λ n. tag_after n (sends_for g r)) (kept.tags g m) ∙ ap (tag_after (group_in (committed_of log) g).last_tag) (sym (own_sends g))
-          ∙ sym (ap (λ (y : Group). y.last_tag) (group_more (committed_of log) done g (taken_within log whole.rules g)));
+      counts = λ i m. (let g = group_of z i in
+          counts i m ∙ ap (λ n. n + sends_in g r) (kept.counts i m) ∙ ap (λ l. (group_in (committed_of log) g).sent + length l) (sym (own_sends g))
+          ∙ sym (ap (λ (y : Group). y.sent) (group_more (committed_of log) done g (taken_within log whole.rules g))));
+      tags = λ i m. (let g = group_of z i in
+          tags i m ∙ ap (λ n. tag_after n (sends_for g r)) (kept.tags i m) ∙ ap (tag_after (group_in (committed_of log) g).last_tag) (sym (own_sends g))
+          ∙ sym (ap (λ (y : Group). y.last_tag) (group_more (committed_of log) done g (taken_within log whole.rules g))));
     }

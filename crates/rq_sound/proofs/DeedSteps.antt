@@ -95,7 +95,13 @@ own_open ends r u (Close g) left z of_store number aim left_is =
     ∙ ap (λ a. record o { number = r.number + 1; under = Some (job_of_aim a) }) aim
     ∙ ap (λ (k : ℕ). record o { number = r.number + 1; under = Some (job_of d); left = k }) left_is
     ∙ ap (λ (l : List ℕ). record (open_of ends r) { number = r.number + 1; under = Some (job_of d); left = left; sending = l }) (held_with_same r.txn g ends.sending)
-own_open ends r u (Mark c tag previous) left z of_store number aim left_is = absurd of_store.2
+own_open ends r u (Mark c tag previous) left z of_store number aim left_is =
+    let d = Mark c tag previous in
+    let o = open_of (with_end r.txn d ends) (row_started u r) in
+    ap (λ (k : ℕ). record o { number = k }) number
+    ∙ ap (λ a. record o { number = r.number + 1; under = Some (job_of_aim a) }) aim
+    ∙ ap (λ (k : ℕ). record o { number = r.number + 1; under = Some (job_of d); left = k }) left_is
+    ∙ ap (λ (l : List ℕ). record (open_of ends r) { number = r.number + 1; under = Some (job_of d); left = left; sending = l }) (held_with_same r.txn (client_group c) ends.sending)
 
 writes_are : (l : Ledger) (t : Txn) (d : Deed) → writes l t (job_of d) ≡ deed_writes d (in_chain l (deed_sender d))
 writes_are l t (Append g n tag previous body) = refl

@@ -22,6 +22,7 @@ use Rattle.rq_views.specs.Claims.{appends_of}
 use Rattle.rq_store.specs.Fitting.{left_by, image_in}
 use Rattle.rq_store.specs.Steps.{page_op, op_end, took}
 use Rattle.rq_txn.specs.Rows.{Under, Row, deed_of, found_row, change_row, without_row, fresh_row, row_started, row_stepped, row_finished, row_undone, row_aborting}
+use Rattle.rq_store.specs.Sends.{group_of, place_count}
 use Rattle.rq_store.specs.State.{State}
 use Rattle.rq_txn.specs.declared.Aim.TheVariants.{Doing, Undoing}
 use Rattle.rq_sound.specs.Rows.{comp_end}
@@ -64,7 +65,7 @@ module _ (s : State) (k : IsSound s) where
     forced = k.forced;
   }
 
-  -- an operation starts: a send, a receive, a close, or an inverse
+  -- an operation starts: a send, a receive, a close, a mark, or an inverse
   pub start_sound : (r : Row) (u : Under) (after : HeldEnds) → MayStart z log s.rows s.waiting s.cells_in_use r u → HasEnds s.ends after s.rows r.txn (deed_of u.aim)
       → IsSound (record s { rows = change_row r.txn (row_started u) s.rows; ends = after; cells_in_use = s.cells_in_use + appends_aim u.aim })
   start_sound r u after m h = record {
@@ -154,8 +155,8 @@ module _ (s : State) (k : IsSound s) where
   -- a transaction commits
   pub commit_sound : (r : Row) (now : ℕ) (ws : List ℕ) (ss : SentBy) → found_row r.txn s.rows ≡ Some r → r.under ≡ None → r.aborting ≡ false → now + takes_all r ≡ s.cells_in_use
       → ((g : ℕ) → g < sender_count s.sizes → waits ws g ≡ waits s.waiting g + sends_in g r)
-      → ((g : ℕ) → g < sender_count s.sizes → sent_count ss g ≡ sent_count s.sent g + sends_in g r)
-      → ((g : ℕ) → g < sender_count s.sizes → sent_tag ss g ≡ tag_after (sent_tag s.sent g) (sends_for g r))
+      → ((i : ℕ) → i < place_count s.sizes → sent_count ss i ≡ sent_count s.sent i + sends_in (group_of s.sizes i) r)
+      → ((i : ℕ) → i < place_count s.sizes → sent_tag ss i ≡ tag_after (sent_tag s.sent i) (sends_for (group_of s.sizes i) r))
       → IsSound (record s { rows = without_row r.txn s.rows; ends = without_ends r.txn s.ends; records = Commit r.txn ∷ log; cells_in_use = now; waiting = ws; sent = ss })
   commit_sound r now ws ss at_row idle open_one freed waited counts tags = record {
     range = k.range;

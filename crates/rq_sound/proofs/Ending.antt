@@ -1,4 +1,4 @@
--- The end of an operation whose writes are all made: a send, a receive or a close.
+-- The end of an operation whose writes are all made: a send, a receive, a close or a mark.
 use Rattle.std.proofs.Common.{◌≡◌, ◌≢◌, ℕ, ◌+◌, ◌-◌, ◌<◌, ◌≤◌, ◌++◌, ◌||◌, List, [], ◌∷◌, length, reverse, refl, sym, ◌∙◌, ap, subst, true, false, Option, Some, None, inl, inr, arith}
 use Rattle.std.proofs.lemmas.Bool.{cond-true, false≢true, or_from, or_cases, eqb-true}
 use Rattle.std.proofs.lemmas.List.{length-map}

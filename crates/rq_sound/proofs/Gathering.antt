@@ -1,10 +1,10 @@
--- The level of chains asks for the slots that its operation needs, and is given them one after the other.
+-- A level asks for the slots that its operation needs, and is given them one after the other.
 use Rattle.std.proofs.Common.{◌≡◌, ◌⊎◌, ⊎_elim, ℕ, ◌/◌, ◌%◌, ◌<◌, ◌++◌, List, [], ◌∷◌, refl, sym, ◌∙◌, ap, subst, Bool, true, false, cond, nat_eq, Option, None, Some, inl, inr, arith}
 use Rattle.std.proofs.lemmas.Bool.{cases_Bool, eq-eqb, eqb-true, or_left, or_right, true≢false}
 use Rattle.std.proofs.lemmas.List.Elements.{All-append, All-cons, All-head, All-tail}
 use Rattle.rq_model.specs.declared.record.Deed.{Deed}
 use Rattle.rq_model.specs.declared.record.Deed.TheVariants.{Append, UnlinkHead, Close, Mark}
-use Rattle.rq_model.specs.Deeds.{deed_by}
+use Rattle.rq_model.specs.Deeds.{deed_by, deed_level}
 use Rattle.rq_page.specs.declared.cell.CellSlot.{CellSlot}
 use Rattle.rq_page.specs.declared.cell.CellSlot.TheVariants as cells
 use Rattle.rq_page.specs.declared.layout.PageKind.{PageKind}
@@ -12,10 +12,10 @@ use Rattle.rq_page.specs.declared.layout.PageKind.TheVariants as kind
 use Rattle.rq_page.specs.Cells.{cell_slot_in}
 use Rattle.rq_page.specs.Directories.{directory_in}
 use Rattle.rq_page.specs.Kinds.{kind_of}
-use Rattle.rq_page.specs.Sizes.{Sizes, IsCellAddress, IsLink, directory_at, sender_at, sender_count}
+use Rattle.rq_page.specs.Sizes.{Sizes, IsCellAddress, IsLink, client_count, client_slot_at, directory_at, sender_at, sender_count}
 use Rattle.rq_page.specs.Slots.{HoldsCell, HoldsDirectory, IsSlotFor, IsSlotOf, MayStand, Slot, held_for, held_in, of_cell_slot}
 use Rattle.rq_page.specs.Slots.Slot.{Free, Sender}
-use Rattle.rq_page.proofs.Addresses.{kind_cells, kind_directory, senders_have_slots}
+use Rattle.rq_page.proofs.Addresses.{clients_have_slots, kind_cells, kind_directory, senders_have_slots}
 use Rattle.rq_views.specs.InStore.{IsDeedOf}
 use Rattle.rq_views.specs.Plans.Turn.{Undid}
 use Rattle.rq_views.specs.Stored.{IsStoreSlot}
@@ -23,6 +23,7 @@ use Rattle.rq_level.specs.declared.slots.Given.{Given}
 use Rattle.rq_level.specs.ChainPlans as chain
 use Rattle.rq_level.specs.ChainPlans.{along, along_from, asking, job_wanted, link_of, to_head, to_next, to_prev, to_tail, unless_given}
 use Rattle.rq_level.specs.Given.{AreGiven, GivenHolds, HoldsBytes, IsGiven, given_at}
+use Rattle.rq_level.specs.TagPlans.{client_wanted}
 use Rattle.rq_level.specs.Ops.{Doing, Job, doing_by}
 use Rattle.rq_store.specs.State.{State}
 use Rattle.rq_txn.specs.Rows.{latched_in}
@@ -175,11 +176,18 @@ module _ (s : State) (given : List Given) (h : AreGivenFrom s given) where
     returns : IsWantedOf s given (along (to_head ∷ []) (directory_at g) given) (at_head (slots_now s) g)
     returns = from_group (λ o. asking (directory_at g) (λ bytes. along_from [] (to_head bytes)) o given) (λ x. named (head_in x)) refl (λ bytes head tail. link_wants (directory_in bytes).directory.head head) told refl
 
-  undoes : (d : Deed) → IsDeedOf s.sizes d → IsWantedOf s given (chain.undo_wanted (Some d) given) (needed s.sizes (slots_now s) (Undid d))
-  undoes (Append g n tag previous body) inside = unsends g inside
-  undoes (UnlinkHead g n tag body) inside = returns g inside
-  undoes (Close g) inside = marks g inside
-  undoes (Mark c tag previous) inside = absurd inside.2
+  undoes : (d : Deed) → deed_level d ≡ 1 → IsDeedOf s.sizes d → IsWantedOf s given (chain.undo_wanted (Some d) given) (needed s.sizes (slots_now s) (Undid d))
+  undoes (Append g n tag previous body) one inside = unsends g inside
+  undoes (UnlinkHead g n tag body) one inside = returns g inside
+  undoes (Close g) one inside = marks g inside
+  undoes (Mark c tag previous) one inside = absurd (omega (arith, one))
+
+  -- the slot of a client
+  client_of_store : (c : ℕ) → c < client_count s.sizes → IsStoreSlot s.sizes (client_slot_at s.sizes c)
+  client_of_store c below = let a = clients_have_slots s.sizes c below in record { page_low = (let low = a.0 in omega (arith, low)); page_high = a.1; slot = a.2 }
+
+  tags : (c : ℕ) → c < client_count s.sizes → IsWantedOf s given (client_wanted (Some s.sizes) (Some c) given) (client_slot_at s.sizes c ∷ [])
+  tags c below = one_wanted (client_slot_at s.sizes c) (client_of_store c below) (given_at (client_slot_at s.sizes c) given) refl
 
 -- what a job asks for is what it tells
 to_do : (given : List Given) (job : Job) (d : Doing) → IsToDo job d → job_wanted job given ≡ chain.wanted (Some d) given
@@ -197,7 +205,8 @@ wants_needed = record {
   sends = λ s given job g tag body h t inside. subst (λ o. IsWantedOf s given o (at_tail (slots_now s) g)) (sym (to_do given job _ t)) (sends s given h g inside);
   receives = λ s given job g h t inside. subst (λ o. IsWantedOf s given o (behind_head (slots_now s) g)) (sym (to_do given job _ t)) (receives s given h g inside);
   closes = λ s given job g h t inside. subst (λ o. IsWantedOf s given o (directory_at g ∷ [])) (sym (to_do given job _ t)) (marks s given h g inside);
-  undoes = λ s given job d h t inside. subst (λ o. IsWantedOf s given o (needed s.sizes (slots_now s) (Undid d))) (sym (to_undo given job d t)) (undoes s given h d inside);
+  undoes = λ s given job d h t one inside. subst (λ o. IsWantedOf s given o (needed s.sizes (slots_now s) (Undid d))) (sym (to_undo given job d t)) (undoes s given h d one inside);
+  tags = λ s given c h below. tags s given h c below;
 }
 
 -- what is held behind one slot more was held before, or is that slot's

@@ -23,7 +23,7 @@ use Rattle.rq_views.specs.InStore.{AllStand, IsInPlace, WritesStand}
 use Rattle.rq_views.specs.Items.{items, layout_of}
 use Rattle.rq_views.specs.Legal.{view}
 use Rattle.rq_views.specs.Log.{HasBefores, Places, Slots, Write, cells_of}
-use Rattle.rq_views.specs.Plans.{IsPutBack, IsUnlinkTail, ShowsAt, Turn, append_writes, directory_head_unlinked, directory_put_back, directory_tail_unlinked, client_write, directory_write, put_back_writes, unlink_head_writes, unlink_tail_writes, with_next, with_prev}
+use Rattle.rq_views.specs.Plans.{IsPutBack, IsUnlinkTail, ShowsAt, ShowsTag, Turn, append_writes, directory_head_unlinked, directory_put_back, directory_tail_unlinked, client_write, directory_write, put_back_writes, unlink_head_writes, unlink_tail_writes, with_next, with_prev}
 use Rattle.rq_views.specs.Plans.Turn.{Did, Undid}
 use Rattle.rq_views.specs.Stored.{is_used}
 use Rattle.rq_views.proofs.CanUndo.{can_undo_taken}
@@ -44,7 +44,7 @@ use Rattle.rq_sound.specs.Calls.{IsIdle}
 use Rattle.rq_sound.specs.Groups.{StandsAt, slots_now}
 use Rattle.rq_sound.specs.Inverses.{MayBeUndone}
 use Rattle.rq_sound.specs.Plans.{AreOff}
-use Rattle.rq_sound.specs.Latching.{AllFreeLatched, Begins, IsLatched, LatchedIsExact, MayBePlanned, NeedsLatched, any_latched, at_head, at_tail, before_tail, behind_head, completed, head_in, is_mark, named, needed, next_in, prev_in, tail_in}
+use Rattle.rq_sound.specs.Latching.{AllFreeLatched, Begins, IsLatched, LatchedIsExact, MayBePlanned, NeedsLatched, any_latched, at_head, at_tail, before_tail, behind_head, completed, head_in, named, needed, next_in, prev_in, tail_in}
 use Rattle.rq_sound.proofs.ChainEnds.{empty_links, front_stands, head_stands, next_stands, tail_stands}
 use Rattle.rq_sound.proofs.FreeCells.{all_one}
 use Rattle.rq_sound.proofs.Going.{unlatched_is_quiet}
@@ -435,22 +435,48 @@ module _ (s : State) (k : IsSound s) where
       off = (directory, tt);
     }
 
+  -- what is written of a client, where the page of its slot is off, stands in the slot
+  module _ (c : ℕ) (below : c < client_count z) (c_off : off (client_slot_at z c)) where
+    client : ShowsTag l q c (viewed (client_group c))
+    client = shows_tag s c k below c_off
+
+    client_place : client_slot_at z client.held.client ≡ client_slot_at z c
+    client_place = ap (client_slot_at z) client.own
+
+    client_stands : (after : ClientSlot) → after.client ≡ client.held.client → IsInPlace z (client_slot_at z client.held.client) (Client after)
+    client_stands after same =
+        let i : IsInPlace z (client_slot_at z c) (Client client.held) = subst (IsInPlace z (client_slot_at z c)) client.at (all_stand s k (client_slot_at z c)) in
+        subst (λ a. IsInPlace z a (Client after)) (sym client_place) (record { own = same ∙ i.own; low = i.low; high = i.high; slot = i.slot })
+
+    client_off : latched_in s.rows (client_slot_at z client.held.client / 16) ≡ false
+    client_off = ap (λ a. latched_in s.rows (a / 16)) client_place ∙ c_off
+
+    -- a mark of the client
+    may_mark : (tag : ℕ) → MayBePlanned s (Did (Mark c tag client.held.tag))
+    may_mark tag =
+        let after : ClientSlot = record client.held { count = client.held.count + 1; tag = tag } in
+        let few = k.range.directory_high in
+        record {
+          writes = client_write l client.held after ∷ [];
+          plan = record { held = client.held; own = client.own; previous_is = refl; apart = omega (arith, few); writes = refl };
+          fits = (sym (ap q client_place ∙ client.at), tt);
+          stand = (client_stands after refl, tt);
+          off = (client_off, tt);
+        }
+
   -- the newest mark of a client whose slot's page is off
   may_unmark : (c tag previous : ℕ) → c < client_count z → off (client_slot_at z c) → 0 < length (viewed (client_group c)).messages → MayBePlanned s (Undid (Mark c tag previous))
   may_unmark c tag previous below c_off some =
-      let h = shows_tag s c k below c_off in
-      let j = h.held in
-      let after : ClientSlot = record j { count = j.count - 1; tag = previous } in
+      let h = client c below c_off in
+      let after : ClientSlot = record h.held { count = h.held.count - 1; tag = previous } in
       let n = h.count in
       let few = k.range.directory_high in
-      let place : client_slot_at z j.client ≡ client_slot_at z c = ap (client_slot_at z) h.own in
-      let stands : IsInPlace z (client_slot_at z c) (Client j) = subst (IsInPlace z (client_slot_at z c)) h.at (all_stand s k (client_slot_at z c)) in
       record {
-        writes = client_write l j after ∷ [];
-        plan = record { held = j; own = h.own; some = omega (arith, some, n); apart = omega (arith, few); writes = refl };
-        fits = (sym (ap q place ∙ h.at), tt);
-        stand = (subst (λ a. IsInPlace z a (Client after)) (sym place) (let i = stands in record { own = i.own; low = i.low; high = i.high; slot = i.slot }), tt);
-        off = (ap (λ a. latched_in s.rows (a / 16)) place ∙ c_off, tt);
+        writes = client_write l h.held after ∷ [];
+        plan = record { held = h.held; own = h.own; some = omega (arith, some, n); apart = omega (arith, few); writes = refl };
+        fits = (sym (ap q (client_place c below c_off) ∙ h.at), tt);
+        stand = (client_stands c below c_off after refl, tt);
+        off = (client_off c below c_off, tt);
       }
 
   -- what a turn needs is latched, or it can be planned, whatever its group
@@ -578,6 +604,18 @@ module _ (s : State) (k : IsSound s) where
     each h (Did (Mark c tag previous)) b = cc
     each h (Undid d) b = absurd b
 
+  some_mark : (t : Txn) (c tag : ℕ) → c < client_count z → (IsLatched s (Call.Start_mark t c tag) → ⊥) → Some_turn (Call.Start_mark t c tag)
+  some_mark t c tag inside free = elim (cases_Bool (any_latched s.rows (client_slot_at z c ∷ []))) [
+    | inl y ↦ absurd (free (record { some = (Did (Mark c tag 0), refl); each = each (inl y) }))
+    | inr n ↦ let c_off = (or_parts (latched_in s.rows (client_slot_at z c / 16)) false n).0 in (Did (Mark c tag (client c inside c_off).held.tag), refl, may_mark c inside c_off tag)
+  ] where
+    each : NeedsLatched s (Did (Mark c tag 0)) → (turn : Turn) → Begins s (Call.Start_mark t c tag) turn → NeedsLatched s turn
+    each h (Did (Append x n y previous body)) b = cc
+    each h (Did (UnlinkHead x n y body)) b = cc
+    each h (Did (Close x)) b = cc
+    each h (Did (Mark x y previous)) b = let e : c ≡ x = cc in subst (λ i. NeedsLatched s (Did (Mark i y previous))) e h
+    each h (Undid d) b = absurd b
+
   -- from whichever group of which a message waits
   module _ (t : Txn) (r : Row) (at_row : found_row t s.rows ≡ Some r) where
     abbrev waiting : ℕ → Bool
@@ -684,25 +722,25 @@ module _ (s : State) (k : IsSound s) where
       ]
 
   -- what passes the tests and has something to start can be planned where it is not latched
-  pub can_plan : (c : Call) → is_mark c ≡ false → Passes (size_of z) (ledger_of s) c → starts (size_of z) (ledger_of s) c ≡ true → (IsLatched s c → ⊥) → Some_turn c
-  can_plan (Call.Start_send t m) plain h given free = some_send t m (known m.sender h.1.1.1.1.0) free
-  can_plan (Call.Start_receive t) plain h given free = let r = row_of t h.1.0 in some_any t r.0 r.1 given free
-  can_plan (Call.Start_receive_from t g) plain h given free =
+  pub can_plan : (c : Call) → Passes (size_of z) (ledger_of s) c → starts (size_of z) (ledger_of s) c ≡ true → (IsLatched s c → ⊥) → Some_turn c
+  can_plan (Call.Start_send t m) h given free = some_send t m (known m.sender h.1.1.1.1.0) free
+  can_plan (Call.Start_receive t) h given free = let r = row_of t h.1.0 in some_any t r.0 r.1 given free
+  can_plan (Call.Start_receive_from t g) h given free =
       let r = row_of t h.1.0 in
       let own = (found_in t s.rows r.0 r.1).1 in
       let inside = known g h.1.1.1.1.0 in
       let e = subst (λ x. gives (ledger_of s) x (found x (ledger_of s).open_ones) g ≡ (is_free_for x g s.ends.receiving && nat_lt 0 (waits s.waiting g))) own (gives_is s k r.0 (subst (λ x. found_row x s.rows ≡ Some r.0) (sym own) r.1) g inside) in
       let w = waits_for t r.0 r.1 g inside (sym e ∙ given) in
       some_from t g inside w.2 free
-  can_plan (Call.Start_close t g) plain h given free = some_close t g (known g h.1.1.1.1.0) free
-  can_plan (Call.Start_mark t client tag) plain h given free = absurd (true≢false plain)
-  can_plan (Call.Undo_next t) plain h given free = some_newest t h given free
-  can_plan c plain h given free = absurd (false≢true given)
+  can_plan (Call.Start_close t g) h given free = some_close t g (known g h.1.1.1.1.0) free
+  can_plan (Call.Start_mark t c tag) h given free = some_mark t c tag (ltb-true c (client_count z) (not-false (nat_lt c (client_count z)) h.1.1.1.1.0)) free
+  can_plan (Call.Undo_next t) h given free = some_newest t h given free
+  can_plan c h given free = absurd (false≢true given)
 
 pub latched_exact : LatchedIsExact
 latched_exact = record {
   whole = λ s a k off. is_whole s k a off;
   as_read = λ s turn k. as_read s k turn;
   none = λ s c turn k h b p. never_both s k turn p (h.each turn b);
-  some = λ s c k plain h given free. can_plan s k c plain h given free;
+  some = λ s c k h given free. can_plan s k c h given free;
 }

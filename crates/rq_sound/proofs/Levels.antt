@@ -1,4 +1,4 @@
--- What the level of chains plans, over the slots as they are.
+-- What the levels of chains and of tags plan, over the slots as they are.
 use Rattle.std.proofs.Common.{zero, suc, drop, ◌≡◌, ℕ, ◌/◌, ◌%◌, ◌<◌, ◌++◌, ◌&&◌, cond, List, [], ◌∷◌, map, reverse, refl, sym, ◌∙◌, ap, subst, Bool, true, false, not, nat_eq, Option, Some, None, inl, inr}
 use Rattle.std.proofs.lemmas.Bool.{and_from, and_parts, lt-ltb, cases_Bool, eqb-true, false≢true, not-true, or_cases, true≢false, eq-eqb, or_left, or_right}
 use Rattle.std.proofs.lemmas.List.{reverse-append}
@@ -7,21 +7,24 @@ use Rattle.rq_model.specs.declared.refusal.Refusal.TheVariants as why
 use Rattle.rq_model.specs.declared.record.Deed.TheVariants.{UnlinkHead}
 use Rattle.rq_model.specs.Vocabulary.{has_number}
 use Rattle.rq_page.specs.declared.cell.Cell.{Cell}
-use Rattle.rq_page.specs.Sizes.{IsCellAddress, cell_at, cell_count, directory_at, place_of}
+use Rattle.rq_page.specs.declared.client.ClientSlot.{ClientSlot}
+use Rattle.rq_page.specs.Sizes.{IsCellAddress, Sizes, cell_at, cell_count, client_slot_at, directory_at, place_of}
 use Rattle.rq_page.specs.declared.cell.CellSlot.{CellSlot}
 use Rattle.rq_page.specs.declared.cell.CellSlot.TheVariants as cells
 use Rattle.rq_page.specs.declared.layout.PageKind.{PageKind}
 use Rattle.rq_page.specs.Cells.{cell_slot_in}
 use Rattle.rq_page.specs.Slots.{held_for, held_in, of_cell_slot}
-use Rattle.rq_page.specs.Slots.Slot.{Free, Used, Sender}
+use Rattle.rq_page.specs.Slots.Slot.{Client, Free, Used, Sender}
 use Rattle.rq_page.proofs.Addresses.{cells_have_places, kind_cells, places_are_cells}
 use Rattle.rq_views.specs.Log.{Write}
-use Rattle.rq_views.specs.Plans.{relinked}
+use Rattle.rq_views.specs.Items.{layout_of}
+use Rattle.rq_views.specs.Plans.{client_write, relinked}
 use Rattle.rq_views.specs.Stored.{is_used, slot_at}
 use Rattle.rq_level.specs.declared.slots.Given.{Given}
 use Rattle.rq_level.specs.declared.writes.Plan.{Plan}
 use Rattle.rq_level.specs.declared.writes.SlotWrite.{SlotWrite}
 use Rattle.rq_level.specs.ChainPlans.{Beside, IsMarked, RefusesOther, RefusesTaking}
+use Rattle.rq_level.specs.TagPlans.{RefusesTag}
 use Rattle.rq_level.specs.Given.{has_page}
 use Rattle.rq_level.specs.LevelState.{LevelState, IsLowest, NoneToTake, SomeFree, flag_at}
 use Rattle.rq_level.specs.Writes.{writes_of}
@@ -137,6 +140,11 @@ refuses_taking s k latched g Can why.Latched c on some can h = none_takes s k la
 refuses_taking s k latched g Can (why.Damaged d) c on some can h = true≢false (sym some.2 ∙ h.1 can some.0 some.1)
 refuses_taking s k latched g Can r c on some can h = absurd h
 
+refuses_tag : (z : Sizes) (c : ℕ) (Can : Type 0) (r : Refusal) → Can → RefusesTag z c Can r → r ≡ why.NoMemory
+refuses_tag z c Can why.NoMemory can h = refl
+refuses_tag z c Can (why.Damaged d) can h = absurd (h.1 can)
+refuses_tag z c Can r can h = absurd h
+
 refuses_other : (g : ℕ) (Can : Type 0) (r : Refusal) → Can → RefusesOther g Can r → r ≡ why.NoMemory
 refuses_other g Can why.NoMemory can h = refl
 refuses_other g Can (why.Damaged d) can h = absurd (h.1 can)
@@ -151,6 +159,8 @@ levels_refuse = record {
   receives = λ z given g r can h. refuses_other g _ r can h;
   marks = λ z given g closed r can h. refuses_other g _ r can h;
   unsends = λ z given g n r can h. refuses_other g _ r can h;
+  tags = λ z given c r can h. refuses_tag z c _ r can h;
+  untags = λ z given c tag r can h. refuses_tag z c _ r can h;
 }
 
 module _ (s : State) (given : List Given) (h : IsGathered s given) where
@@ -168,6 +178,11 @@ module _ (s : State) (given : List Given) (h : IsGathered s given) where
         record { directory = d; directory_is = h.as_is (directory_at g) (Sender g d) m.can.directory_is; writes = m.writes },
         are_off s p.writes.items _ m.writes (h.unlatched (directory_at g) (Sender g d) m.can.directory_is, tt),
       )
+
+-- the slot of a client is on a page that nobody has latched
+client_off : (s : State) (c : ℕ) (held new : ClientSlot) (p : Plan) → held.client ≡ c → latched_in s.rows (client_slot_at s.sizes c / 16) ≡ false → reverse (writes_of s.sizes p.writes.items) ≡ client_write (layout_of s.sizes) held new ∷ []
+    → AreUnlatched s p.writes.items
+client_off s c held new p own off writes = are_off s p.writes.items _ writes (ap (λ n. latched_in s.rows (client_slot_at s.sizes n / 16)) own ∙ off, tt)
 
 pub levels_plan : LevelsPlanFromSlots
 levels_plan = record {
@@ -243,4 +258,16 @@ levels_plan = record {
             (h.unlatched (directory_at g) (Sender g d) m.can.directory_is, relinked_off s d.head m.can.old _ _ (beside_off s given h d.head m.can.old m.can.beside) (x.2, tt)),
       );
   reopened = λ s k given g p after h m. marked s given h g false p m.marked;
+  tagged = λ s k given c tag p after h m.
+      let at = h.as_is (client_slot_at s.sizes c) (Client m.can.held) m.can.held_is in
+      let off = h.unlatched (client_slot_at s.sizes c) (Client m.can.held) m.can.held_is in (
+        record { held = m.can.held; held_is = at; own = m.can.own; previous_is = refl; writes = m.writes },
+        client_off s c m.can.held _ p m.can.own off m.writes,
+      );
+  untagged = λ s k given c tag previous p after h m.
+      let at = h.as_is (client_slot_at s.sizes c) (Client m.can.held) m.can.held_is in
+      let off = h.unlatched (client_slot_at s.sizes c) (Client m.can.held) m.can.held_is in (
+        record { held = m.can.held; held_is = at; own = m.can.own; some = m.can.some; writes = m.writes },
+        client_off s c m.can.held _ p m.can.own off m.writes,
+      );
 }

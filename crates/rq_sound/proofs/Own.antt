@@ -81,10 +81,3 @@ same_slot z d e h k same = elim (of_store z d h) [
   | inl x ↦ chain_slot z d x.0 ∙ ap directory_at same ∙ sym (sender_slot z e k (subst (λ s. s < sender_count z) same x.1))
   | inr x ↦ mark_slot z d x.0 ∙ ap (λ s. client_slot_at z (s - 2 ^ 32)) same ∙ sym (client_slot z e k (subst (λ s. sender_count z ≤ s) same x.1))
 ]
-
--- no store has marks yet, so each of its deeds is of one of its senders
-pub has_sender : (z : Sizes) (d : Deed) → IsDeedOf z d → deed_sender d < sender_count z
-has_sender z (Append s n tag previous body) h = h
-has_sender z (UnlinkHead s n tag body) h = h
-has_sender z (Close s) h = h
-has_sender z (Mark c tag previous) h = absurd h.2

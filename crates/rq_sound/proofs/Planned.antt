@@ -10,10 +10,10 @@ use Rattle.rq_model.specs.Deeds.{TellsItself}
 use Rattle.rq_model.specs.Ledger.{Open, ended_in, found}
 use Rattle.rq_model.specs.Legal.{start_of}
 use Rattle.rq_model.specs.Tests.{Passes, cells_in_use, has_closed, is_aborting}
-use Rattle.rq_model.specs.Vocabulary.{In}
+use Rattle.rq_model.specs.Vocabulary.{In, client_group}
 use Rattle.rq_page.specs.declared.client.ClientSlot.{ClientSlot}
 use Rattle.rq_page.specs.declared.directory.Directory.{Directory}
-use Rattle.rq_page.specs.Sizes.{Sizes, cell_count, client_slot_at, directory_at, sender_count}
+use Rattle.rq_page.specs.Sizes.{Sizes, cell_count, client_count, client_slot_at, directory_at, sender_count}
 use Rattle.rq_page.specs.Slots.Slot.{Free, Sender, Client}
 use Rattle.rq_views.specs.Chain.{Shows, View, message}
 use Rattle.rq_views.specs.Groups.{KeepsGroups}
@@ -44,11 +44,12 @@ use Rattle.rq_sound.specs.Sound.{IsSound}
 use Rattle.rq_sound.specs.Starts.{IsPlanned, MayDo, MayUndo}
 use Rattle.rq_sound.specs.Calls.{IsIdle}
 use Rattle.rq_sound.specs.Groups.{slots_now}
-use Rattle.rq_sound.specs.Plans.{AreUnlatched, IsMarkOf, IsNew, IsPlannedFrom, PlansMayStart}
+use Rattle.rq_sound.specs.Plans.{AreUnlatched, IsNew, IsPlannedFrom, PlansMayStart}
 use Rattle.rq_sound.proofs.Contracts.{answered}
 use Rattle.rq_sound.proofs.FreeEnds.{free_is, free_to_take}
-use Rattle.rq_sound.proofs.Groups.{all_stand, shows_now, slots_are}
+use Rattle.rq_sound.proofs.Groups.{all_stand, shows_now, shows_tag, slots_are}
 use Rattle.rq_store.proofs.Opens.{found_open, open_found}
+use Rattle.rq_sound.proofs.Own.{latches_own}
 use Rattle.rq_sound.proofs.PlanFits.{above, is_put_back, is_unlink_tail, put_back_fits, unlink_tail_fits, writes_directory}
 use Rattle.rq_sound.proofs.Inverses.{open_deed, deed_stored}
 
@@ -216,9 +217,9 @@ module _ (s : State) (k : IsSound s) where
   fits_slots r u d new p h = planned r u (aims.Doing d) (Did d) new (fits_deed u.writes d new.free (has_sender r new.idle d h) p)
 
   -- what passes the tests may be done
-  pub may_do : (r : Row) (u : Under) (d : Deed) → IsNew s r u (aims.Doing d) → IsPlannedFrom s.sizes q u.writes (Did d) → TellsItself d → HasWaiting s.waiting d → IsMarkOf s.sizes d
+  pub may_do : (r : Row) (u : Under) (d : Deed) → IsNew s r u (aims.Doing d) → IsPlannedFrom s.sizes q u.writes (Did d) → TellsItself d → HasWaiting s.waiting d
       → Passes (size_of s.sizes) (ledger_of s) (start_of r.txn (job_of d)) → MayDo s r u d
-  may_do r u (Append g n tag previous body) new p reads wait mark h =
+  may_do r u (Append g n tag previous body) new p reads wait h =
       let below = known r new.idle g h.1.1.1.1.0 in
       let free : is_free_for r.txn g s.ends.sending ≡ true = sym (free_is s k r.txn g) ∙ not-false _ h.1.1.1.1.1.1.0 in
       let room = not_full r new.idle h.1.1.1.1.1.1.1.1.0 in
@@ -233,7 +234,7 @@ module _ (s : State) (k : IsSound s) where
         waits = wait;
         room = omega (arith, room);
       }
-  may_do r u (UnlinkHead g n tag body) new p reads wait mark h =
+  may_do r u (UnlinkHead g n tag body) new p reads wait h =
       let below = known r new.idle g h.1.1.1.1.0 in
       let bound = k.counted.bound in
       record {
@@ -247,7 +248,7 @@ module _ (s : State) (k : IsSound s) where
         waits = wait;
         room = omega (arith, bound);
       }
-  may_do r u (Close g) new p reads wait mark h =
+  may_do r u (Close g) new p reads wait h =
       let below = known r new.idle g h.1.1.1.1.0 in
       let free : is_free_for r.txn g s.ends.sending ≡ true = sym (free_is s k r.txn g) ∙ not-false _ h.1.1.1.1.1.0 in
       let bound = k.counted.bound in
@@ -262,7 +263,23 @@ module _ (s : State) (k : IsSound s) where
         waits = wait;
         room = omega (arith, bound);
       }
-  may_do r u (Mark c tag previous) new p reads wait mark h = absurd mark.2
+  may_do r u (Mark c tag previous) new p reads wait h =
+      let below = ltb-true c (client_count s.sizes) (not-false (nat_lt c (client_count s.sizes)) h.1.1.1.1.0) in
+      let free : is_free_for r.txn (client_group c) s.ends.sending ≡ true = sym (free_is s k r.txn (client_group c)) ∙ not-false _ h.1.1.1.1.1.0 in
+      let bound = k.counted.bound in
+      let planned = fits_slots r u (Mark c tag previous) new p h in
+      let off = new.free (client_slot_at s.sizes c / 16) (latches_own s.sizes (Did (Mark c tag previous)) u.writes planned.plan) in
+      record {
+        planned = planned;
+        aim = new.aim_is;
+        forward = forward r new.idle h.1.1.0;
+        of_store = (below, few_senders);
+        reads = reads;
+        end = free;
+        not_closed = λ e. (shows_tag s c k below off).open_one;
+        waits = wait;
+        room = omega (arith, bound);
+      }
 
   pub may_undo : (r : Row) (u : Under) (fs : List Finished) (f : Finished) → IsNew s r u (aims.Undoing f.lsn f.deed) → IsPlannedFrom s.sizes q u.writes (Undid f.deed) → r.aborting ≡ true → r.finished ≡ fs ++ f ∷ [] → MayUndo s r u fs f
   may_undo r u fs f new p aborts newest = record {
@@ -304,7 +321,7 @@ from_take z q u g p = record {
 pub plans_start : PlansMayStart
 plans_start = record {
   planned = λ s r u d k new p h. fits_slots s k r u d new p h;
-  deeds = λ s r u d k new p reads wait mark h. may_do s k r u d new p reads wait mark h;
+  deeds = λ s r u d k new p reads wait h. may_do s k r u d new p reads wait h;
   inverses = λ s r u fs f k new p aborts newest. may_undo s k r u fs f new p aborts newest;
   sends = from_send;
   receives = from_take;

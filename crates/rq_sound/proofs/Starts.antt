@@ -1,4 +1,4 @@
--- An operation starts, beside others: a send, a receive, a close, or the inverse of what its transaction did last.
+-- An operation starts, beside others: a send, a receive, a close, a mark, or the inverse of what its transaction did last.
 use Rattle.std.proofs.Common.{◌≡◌, ℕ, ◌+◌, ◌≤◌, ◌++◌, List, [], ◌∷◌, reverse, refl, sym, ◌∙◌, ap, subst, Bool, true, false, cond, nat_eq, Some, None, inl, inr, arith}
 use Rattle.std.proofs.lemmas.Bool.{cases_Bool, eq-eqb}
 use Rattle.rq_model.specs.declared.txn.Txn.{Txn}

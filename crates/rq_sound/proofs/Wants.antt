@@ -1,20 +1,26 @@
--- What the level of chains finds in a sound store.
-use Rattle.std.proofs.Common.{◌≡◌, ℕ, ◌/◌, ◌<◌, ◌≤◌, ◌^◌, ◌++◌, List, [], ◌∷◌, length, refl, sym, ◌∙◌, subst, true, false, Option, Some, None, nat_eq, arith}
+-- What a level finds in a sound store.
+use Rattle.std.proofs.Common.{◌≡◌, ℕ, ◌/◌, ◌<◌, ◌≤◌, ◌^◌, ◌++◌, List, [], ◌∷◌, length, refl, sym, ◌∙◌, ap, subst, true, false, Option, Some, None, nat_eq, arith}
 use Rattle.std.proofs.lemmas.Bool.{eq-eqb, false_from_ne_true, eqb-true}
+use Rattle.std.proofs.lemmas.List.{length-append}
 use Rattle.rq_model.specs.declared.record.Deed.{Deed}
 use Rattle.rq_model.specs.declared.record.Deed.TheVariants.{Append, UnlinkHead, Close, Mark}
+use Rattle.rq_model.specs.Vocabulary.{client_group}
 use Rattle.rq_page.specs.declared.cell.Cell.{Cell}
 use Rattle.rq_page.specs.declared.directory.Directory.{Directory}
-use Rattle.rq_page.specs.Sizes.{IsCellAddress, directory_at, sender_count}
-use Rattle.rq_page.specs.Slots.Slot.{Sender}
-use Rattle.rq_views.specs.Items.{items}
+use Rattle.rq_page.specs.Sizes.{IsCellAddress, client_count, client_slot_at, directory_at, sender_count}
+use Rattle.rq_page.specs.Slots.Slot.{Client, Sender}
+use Rattle.rq_views.specs.Chain.{View, view_appended}
+use Rattle.rq_views.specs.InStore.{IsDeedOf}
+use Rattle.rq_views.specs.Items.{items, layout_of}
 use Rattle.rq_views.specs.Legal.{open_deeds, view}
-use Rattle.rq_views.specs.Plans.{deed_sender}
+use Rattle.rq_views.specs.Plans.{ShowsTag, deed_sender}
 use Rattle.rq_views.specs.Plans.Turn.{Undid}
-use Rattle.rq_views.proofs.CanUndo.{can_undo_taken}
+use Rattle.rq_views.proofs.CanUndo.{can_undo_sent, can_undo_taken}
+use Rattle.rq_views.proofs.Totals.{log_total}
 use Rattle.rq_level.specs.declared.slots.Given.{Given}
 use Rattle.rq_level.specs.ChainPlans.{Beside, CanSend, CanReceive, CanMark}
 use Rattle.rq_level.specs.Given.{GivenHolds}
+use Rattle.rq_level.specs.TagPlans.{CanTag, CanUntag}
 use Rattle.rq_txn.specs.declared.Finished.{Finished}
 use Rattle.rq_groups.specs.Waiting.{waits}
 use Rattle.rq_store.specs.Plans.{Stands_at}
@@ -26,10 +32,10 @@ use Rattle.rq_sound.specs.Sound.{IsSound}
 use Rattle.rq_sound.specs.Calls.{IsIdle}
 use Rattle.rq_sound.specs.Groups.{TellsGroup, slots_now}
 use Rattle.rq_sound.specs.Latching.{at_head, at_tail, before_tail, behind_head, head_in, named, needed, next_in, prev_in, tail_in}
+use Rattle.rq_sound.specs.Rows.{own_slot}
 use Rattle.rq_sound.specs.Wants.{AreGivenOf, CanUndo, LevelsFindAll}
-use Rattle.rq_sound.proofs.Groups.{tells_group}
+use Rattle.rq_sound.proofs.Groups.{shows_tag, tells_group}
 use Rattle.rq_sound.proofs.Latching as latching
-use Rattle.rq_sound.proofs.Own.{has_sender}
 use Rattle.rq_sound.proofs.PlanFits.{above}
 use Rattle.rq_sound.proofs.Planned.{sent_last}
 use Rattle.rq_sound.proofs.UndoPlans.{closed_before}
@@ -157,14 +163,60 @@ module _ (s : State) (given : List Given) (k : IsSound s) (g : ℕ) (inside : g 
     can_undo_one (Close e) is own h = subst (λ y. CanUndo s.sizes given (Close y)) (sym own) (
         can_reopen (closed_before (items s.sizes s.records) r.txn f.lsn g (placed fs) (groups_of s.sizes s.records k.log) (subst (λ y. open_deeds r.txn (items s.sizes s.records) ≡ record { lsn = f.lsn; deed = Close y } ∷ placed fs) own (open_deed s r fs f k m newest (Close e) is))) (subst (λ y. AreGivenOf s given (directory_at y ∷ [])) own h)
         )
-    can_undo_one (Mark c tag previous) is own h = absurd (deed_stored s r fs f k m newest (Mark c tag previous) is).2
+    can_undo_one (Mark c tag previous) is own h = absurd (omega (arith, k.range.directory_high, inside, own))
+
+-- ---- clients
+
+module _ (s : State) (given : List Given) (k : IsSound s) (c : ℕ) (inside : c < client_count s.sizes) (off : latched_in s.rows (client_slot_at s.sizes c / 16) ≡ false) where
+  abbrev marked : View
+  marked = view (items s.sizes s.records) (client_group c)
+
+  slot : ShowsTag (layout_of s.sizes) (slots_now s) c marked
+  slot = shows_tag s c k inside off
+
+  slot_given : AreGivenOf s given (client_slot_at s.sizes c ∷ []) → GivenHolds s.sizes given (client_slot_at s.sizes c) (Client slot.held)
+  slot_given h = subst (GivenHolds s.sizes given (client_slot_at s.sizes c)) slot.at h.0
+
+  can_tag : length s.records ≤ 2 ^ 50 → AreGivenOf s given (client_slot_at s.sizes c ∷ []) → CanTag s.sizes given c
+  can_tag few h =
+      let total = log_total s.sizes s.records (client_group c) in
+      let count = slot.count in
+      record { below = inside; held = slot.held; held_is = slot_given h; own = slot.own; room = omega (arith, total, count, few) }
+
+  -- the newest mark of a transaction is its client's last
+  can_untag : (r : Row) (fs : List Finished) (f : Finished) (tag previous : ℕ) → IsIdle s r → r.finished ≡ fs ++ f ∷ [] → f.deed ≡ Mark c tag previous → AreGivenOf s given (client_slot_at s.sizes c ∷ []) → CanUntag s.sizes given c tag
+  can_untag r fs f tag previous m newest is h =
+      let x = can_undo_sent (client_group c) (items s.sizes s.records) r.txn (record { lsn = f.lsn; deed = Mark c tag previous }) (placed fs) (groups_of s.sizes s.records k.log) (open_deed s r fs f k m newest (Mark c tag previous) is) (eq-eqb (client_group c) (client_group c) refl) in
+      let last : marked ≡ view_appended x.0 tag [] = x.1 in
+      let one : length marked.messages ≡ length (x.0.messages ++ (tag, []) ∷ []) = ap (λ (v : View). length v.messages) last in
+      let more = length-append x.0.messages ((tag, []) ∷ []) in
+      let count = slot.count in
+      record {
+        below = inside;
+        held = slot.held;
+        held_is = slot_given h;
+        own = slot.own;
+        some = omega (arith, count, one, more);
+        last = slot.tag ∙ ap (λ (v : View). v.last_tag) last;
+      }
+
+-- ---- the inverse of the newest deed
+
+module _ (s : State) (given : List Given) (r : Row) (fs : List Finished) (f : Finished) (k : IsSound s) (m : IsIdle s r) (newest : r.finished ≡ fs ++ f ∷ []) where
+  of_group : (d : Deed) → f.deed ≡ d → deed_sender d < sender_count s.sizes → latched_in s.rows (directory_at (deed_sender d) / 16) ≡ false → AreGivenOf s given (needed s.sizes (slots_now s) (Undid d)) → CanUndo s.sizes given d
+  of_group d is inside off h = can_undo_one s given k (deed_sender d) inside off r fs f m newest d is refl h
+
+  undo_found : (d : Deed) → f.deed ≡ d → IsDeedOf s.sizes d → latched_in s.rows (own_slot s.sizes d / 16) ≡ false → AreGivenOf s given (needed s.sizes (slots_now s) (Undid d)) → CanUndo s.sizes given d
+  undo_found (Append g n tag previous body) is inside off h = of_group (Append g n tag previous body) is inside off h
+  undo_found (UnlinkHead g n tag body) is inside off h = of_group (UnlinkHead g n tag body) is inside off h
+  undo_found (Close g) is inside off h = of_group (Close g) is inside off h
+  undo_found (Mark c tag previous) is inside off h = can_untag s given k c inside.0 off r fs f tag previous m newest is h
 
 pub levels_find : LevelsFindAll
 levels_find = record {
   sends = λ s given g k inside off few h. can_send s given k g inside off few h;
   receives = λ s given g k inside off wait h. can_receive s given k g inside off wait h;
   closes = λ s given g k inside off open_still h. can_close s given k g inside off open_still h;
-  undoes = λ s given r fs f k m newest off h.
-      let inside = has_sender s.sizes f.deed (deed_stored s r fs f k m newest f.deed refl) in
-      can_undo_one s given k (deed_sender f.deed) inside off r fs f m newest f.deed refl refl h;
+  tags = λ s given c k inside off few h. can_tag s given k c inside off few h;
+  undoes = λ s given r fs f k m newest off h. undo_found s given r fs f k m newest f.deed refl (deed_stored s r fs f k m newest f.deed refl) off h;
 }

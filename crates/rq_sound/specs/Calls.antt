@@ -20,6 +20,7 @@ use Rattle.rq_groups.specs.Ends.{HeldEnds, released}
 use Rattle.rq_groups.specs.Waiting.{waits}
 use Rattle.rq_groups.specs.Sent.{SentBy, sent_count, sent_tag}
 use Rattle.rq_store.specs.Fitting.{image_in}
+use Rattle.rq_store.specs.Sends.{group_of, place_count}
 use Rattle.rq_store.specs.Steps.{page_op, op_end}
 use Rattle.rq_txn.specs.declared.Aim.{Aim}
 use Rattle.rq_txn.specs.Rows.{Under, Row, found_row, change_row, without_row, fresh_row, row_started, row_stepped, row_finished, row_undone, row_aborting}
@@ -80,7 +81,7 @@ pub record IsReady (s : State) (r : Row) (u : Under) (aim : Aim) : Type 0 where
   pub aim_is : u.aim ≡ aim
   pub made : u.made ≡ length u.writes
 
--- a send, a receive or a close ends; what is received waits no more
+-- a send, a receive, a close or a mark ends; what is received waits no more
 abbrev pub finished : State → Row → Under → Deed → List ℕ → State
 finished s r u d waiting = record s {
   rows = change_row r.txn (row_finished (record { lsn = length s.records + 1; deed = d })) s.rows;
@@ -121,15 +122,17 @@ committed s r cells waiting sent = record s {
 abbrev pub sends_for : ℕ → Row → List Message
 sends_for g r = filter_map (sent_for g) (map op_done r.finished)
 
--- it may: it doesn't abort; the cells of what it took are free then, and what it sent waits, and is counted, the last
--- with its tag
+-- it may: it doesn't abort; the cells of what it took are free then, and what it sent waits; what it sent or marked is
+-- counted, the last with its tag
 pub record MayCommit (s : State) (r : Row) (cells : ℕ) (waiting : List ℕ) (sent : SentBy) : Type 0 where
   pub idle : IsIdle s r
   pub forward : r.aborting ≡ false
   pub freed : cells + takes_all r ≡ s.cells_in_use
   pub waits : (g : ℕ) → g < sender_count s.sizes → waits waiting g ≡ waits s.waiting g + sends_in g r
-  pub counts : (g : ℕ) → g < sender_count s.sizes → sent_count sent g ≡ sent_count s.sent g + sends_in g r
-  pub tags : (g : ℕ) → g < sender_count s.sizes → sent_tag sent g ≡ tag_after (sent_tag s.sent g) (sends_for g r)
+  pub counts : (i : ℕ) → i < place_count s.sizes
+      → sent_count sent i ≡ sent_count s.sent i + sends_in (group_of s.sizes i) r
+  pub tags : (i : ℕ) → i < place_count s.sizes
+      → sent_tag sent i ≡ tag_after (sent_tag s.sent i) (sends_for (group_of s.sizes i) r)
 
 -- a transaction starts to abort
 abbrev pub aborting : State → Row → State

@@ -1,10 +1,10 @@
--- Which slots the level of chains asks for before it plans: those that its operation needs, and no others; and how they
+-- Which slots a level asks for before it plans: those that its operation needs, and no others; and how they
 -- are given to it, one after the other.
 use Rattle.std.specs.Prelude.{◌≡◌, ℕ, ◌/◌, ◌%◌, ◌<◌, ◌++◌, false, true, List, [], ◌∷◌, Option, None, Some}
 use Rattle.rq_model.specs.declared.record.Deed.{Deed}
-use Rattle.rq_model.specs.Deeds.{deed_by}
+use Rattle.rq_model.specs.Deeds.{deed_by, deed_level}
 use Rattle.rq_model.specs.Vocabulary.{In}
-use Rattle.rq_page.specs.Sizes.{directory_at, sender_count}
+use Rattle.rq_page.specs.Sizes.{client_count, client_slot_at, directory_at, sender_count}
 use Rattle.rq_page.specs.Slots.{IsSlotOf, Slot, held_in}
 use Rattle.rq_views.specs.InStore.{IsDeedOf}
 use Rattle.rq_views.specs.Plans.Turn.{Undid}
@@ -12,6 +12,7 @@ use Rattle.rq_views.specs.Stored.{IsStoreSlot}
 use Rattle.rq_level.specs.declared.slots.Given.{Given}
 use Rattle.rq_level.specs.ChainPlans.{job_wanted}
 use Rattle.rq_level.specs.Given.{AreGiven, GivenHolds, given_at}
+use Rattle.rq_level.specs.TagPlans.{client_wanted}
 use Rattle.rq_level.specs.Ops.{Doing, Job, doing_by}
 use Rattle.rq_level.specs.Ops.Doing.{Send, Receive, Close}
 use Rattle.rq_store.specs.State.{State}
@@ -44,7 +45,8 @@ pub record IsWantedOf (s : State) (given : List Given) (wanted : Option ℕ) (al
   pub latched : (a : ℕ) → wanted ≡ Some a → latched_in s.rows (a / 16) ≡ true → any_latched s.rows all ≡ true
   pub none : wanted ≡ None → AreGivenOf s given all
 
--- What the level asks for, by what it is to plan and what it was given, whether the store is sound or not.
+-- What the level of chains asks for, by what it is to plan and what it was given, and that of tags, by the client; whether the
+-- store is sound or not.
 pub record WantsAreNeeded : Type 0 where
   pub sends : (s : State) (given : List Given) (job : Job) (g tag : ℕ) (body : List ℕ) → AreGivenFrom s given
       → IsToDo job (Send g tag body) → g < sender_count s.sizes
@@ -56,8 +58,10 @@ pub record WantsAreNeeded : Type 0 where
       → IsToDo job (Close g) → g < sender_count s.sizes
       → IsWantedOf s given (job_wanted job given) (directory_at g ∷ [])
   pub undoes : (s : State) (given : List Given) (job : Job) (d : Deed) → AreGivenFrom s given
-      → IsToUndo job d → IsDeedOf s.sizes d
+      → IsToUndo job d → deed_level d ≡ 1 → IsDeedOf s.sizes d
       → IsWantedOf s given (job_wanted job given) (needed s.sizes (slots_now s) (Undid d))
+  pub tags : (s : State) (given : List Given) (c : ℕ) → AreGivenFrom s given → c < client_count s.sizes
+      → IsWantedOf s given (client_wanted (Some s.sizes) (Some c) given) (client_slot_at s.sizes c ∷ [])
 
 -- what was given, with this slot behind it
 abbrev pub with_slot : List Given → ℕ → List ℕ → List Given

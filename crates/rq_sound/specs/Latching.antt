@@ -2,7 +2,7 @@
 use Rattle.std.specs.Prelude.{◌≡◌, ℕ, ◌/◌, ◌||◌, ◌++◌, ◌⊎◌, Bool, true, false, cond, nat_eq, nat_lt, List, [], ◌∷◌}
 use Rattle.rq_model.specs.declared.record.Deed.TheVariants.{Append, UnlinkHead, Close, Mark}
 use Rattle.rq_model.specs.History.{Call}
-use Rattle.rq_model.specs.History.Job.{Sending, Taking, Ending}
+use Rattle.rq_model.specs.History.Job.{Sending, Taking, Ending, Marking}
 use Rattle.rq_model.specs.Legal.{OnFound}
 use Rattle.rq_model.specs.Tests.{Passes, starts}
 use Rattle.rq_model.specs.Vocabulary.{last}
@@ -106,13 +106,9 @@ Begins s (Call.Start_send t m) (Did d) = job_of d ≡ Sending m
 Begins s (Call.Start_receive t) (Did d) = (g : ℕ) × WaitsFor s t g × (job_of d ≡ Taking g)
 Begins s (Call.Start_receive_from t g) (Did d) = job_of d ≡ Taking g
 Begins s (Call.Start_close t g) (Did d) = job_of d ≡ Ending g
+Begins s (Call.Start_mark t c tag) (Did d) = job_of d ≡ Marking c tag
 Begins s (Call.Undo_next t) (Undid d) = OnFound (found_row t s.rows) (λ r. OnFound (last r.finished) (λ f. f.deed ≡ d))
 Begins s _ _ = ⊥
-
--- the call starts a mark, which no level plans yet
-abbrev pub is_mark : Call → Bool
-is_mark (Call.Start_mark t client tag) = true
-is_mark _ = false
 
 -- the call is refused for others' latches: it may start something, and whatever it may start needs a latched page
 pub record IsLatched (s : State) (c : Call) : Type 0 where
@@ -128,8 +124,8 @@ pub record MayBePlanned (s : State) (turn : Turn) : Type 0 where
   pub off : AreOff s writes
 
 -- What is on a page that nobody has latched is as whole operations left it, so that the slots as they are tell as well
--- which pages are needed. A call that passes the model's tests and has something to start, but no mark, can be planned
--- exactly where it is not latched.
+-- which pages are needed. A call that passes the model's tests and has something to start can be planned exactly where it
+-- is not latched.
 pub record LatchedIsExact : Type 0 where
   pub whole : (s : State) (a : ℕ) → IsSound s → latched_in s.rows (a / 16) ≡ false → slots_now s a ≡ completed s a
   pub as_read : (s : State) (turn : Turn) → IsSound s
@@ -137,6 +133,6 @@ pub record LatchedIsExact : Type 0 where
       ≡ any_latched s.rows (needed s.sizes (completed s) turn)
   pub none : (s : State) (c : Call) (turn : Turn) → IsSound s → IsLatched s c → Begins s c turn
       → MayBePlanned s turn → ⊥
-  pub some : (s : State) (c : Call) → IsSound s → is_mark c ≡ false → Passes (size_of s.sizes) (ledger_of s) c
+  pub some : (s : State) (c : Call) → IsSound s → Passes (size_of s.sizes) (ledger_of s) c
       → starts (size_of s.sizes) (ledger_of s) c ≡ true → (IsLatched s c → ⊥)
       → (turn : Turn) × Begins s c turn × MayBePlanned s turn

@@ -14,8 +14,8 @@ use Rattle.rq_sound.specs.Wants.{LevelsFindAll}
 use Rattle.rq_sound.specs.Worked.{NotSound}
 
 pub record Laws : Type 0 where
-  -- Each call keeps a store sound: a begin; the start of a send, a receive, a close or an inverse, each of its writes
-  -- and its end; a commit; the start and the end of an abort; a force; and the failure of a device.
+  -- Each call keeps a store sound: a begin; the start of a send, a receive, a close, a mark or an inverse, each of its
+  -- writes and its end; a commit; the start and the end of an abort; a force; and the failure of a device.
   pub calls_keep_soundness : CallsKeepSoundness
   -- The inverse of what a transaction did last, a mark included, can be planned, whatever others do meanwhile, once
   -- nobody has latched the page of its own slot, and finds a cell where it needs one.
@@ -27,8 +27,8 @@ pub record Laws : Type 0 where
   pub aborts_are_steps : AbortsAreSteps
   -- So is a checkpoint of a store without open transactions: one record stands for all, and all else stays.
   pub checkpoints_are_steps : CheckpointsAreSteps
-  -- Deeds and commits are steps of the model: the start of a send, a receive or a close, that no message waits, the
-  -- end, and a commit.
+  -- Deeds and commits are steps of the model: the start of a send, a receive, a close or a mark, that no message waits,
+  -- the end, and a commit.
   pub deeds_are_steps : DeedsAreSteps
   -- While transactions are open a group's chain holds what is committed of it and not received, less the first
   -- messages, which the transaction that holds its receiving end took, and then those that the one that holds its
@@ -48,13 +48,13 @@ pub record Laws : Type 0 where
   -- Where nobody has latched the page of a group's directory slot, the slots as they are show the group, and the
   -- cells at both ends of its chain stand where the links name them.
   pub slots_tell_groups : SlotsTellGroups
-  -- What is planned from the slots as they are, on pages that nobody has latched, may start; a mark where it is of the
-  -- store.
+  -- What is planned from the slots as they are, on pages that nobody has latched, may start.
   pub plans_may_start : PlansMayStart
-  -- What the level of chains plans from slots of pages that nobody has latched is planned from the slots as they are.
+  -- What the levels of chains and of tags plan from slots of pages that nobody has latched is planned from the slots as
+  -- they are.
   pub levels_plan_from_slots : LevelsPlanFromSlots
   -- The level of chains refuses what can be done for want of memory alone, or where each free cell is on a latched
-  -- page.
+  -- page; that of tags for want of memory alone.
   pub levels_refuse_exactly : LevelsRefuseExactly
   -- A plan leaves the level knowing the cells, but for the one that it chose: that is to be written where the plan
   -- starts, and is given back where its slots are noted as they are.
@@ -63,14 +63,14 @@ pub record Laws : Type 0 where
   pub noted_cells_are_known : NotedCellsAreKnown
   -- The calls that change no list are steps of the model.
   pub unchanged_are_steps : UnchangedAreSteps
-  -- A call other than a mark's that passes the model's tests and has something to start can be planned over the slots as they
-  -- are exactly where not all that it may start needs a latched page, or a cell of which none is free outside those.
+  -- A call that passes the model's tests and has something to start can be planned over the slots as they are exactly
+  -- where not all that it may start needs a latched page, or a cell of which none is free outside those.
   pub latched_is_exact : LatchedIsExact
-  -- What the level of chains was given of the slots that it wants holds what its operation needs, where nobody has
-  -- latched the page of its group's directory slot.
+  -- What the levels of chains and of tags were given of the slots that they want holds what their operation needs, where
+  -- nobody has latched the page of its group's directory slot, or of its client's slot.
   pub levels_find_all : LevelsFindAll
-  -- What the level of chains asks for before it plans is among the slots that its operation needs, and it asks for
-  -- nothing more once it was given them all.
+  -- What the levels of chains and of tags ask for before they plan is among the slots that their operation needs, and
+  -- they ask for nothing more once they were given them all.
   pub wants_are_needed : WantsAreNeeded
   -- Slots of the store are given to a level one after the other, each as it is.
   pub slots_are_gathered : SlotsAreGathered

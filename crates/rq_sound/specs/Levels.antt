@@ -1,8 +1,8 @@
--- What the level of chains plans for a store, from slots that it was given, with others' operations under way.
+-- What the levels of chains and of tags plan for a store, from slots that it was given, with others' operations under way.
 use Rattle.std.specs.Prelude.{◌++◌, Bool, ◌||◌, [], ◌∷◌, length, map, drop, Option, None, Some, ◌≡◌, ℕ, ◌+◌, ◌/◌, ◌<◌, ◌≤◌, true, false, not, List}
 use Rattle.rq_model.specs.declared.refusal.Refusal.{Refusal}
 use Rattle.rq_model.specs.declared.refusal.Refusal.TheVariants as why
-use Rattle.rq_model.specs.declared.record.Deed.TheVariants.{Append, UnlinkHead, Close}
+use Rattle.rq_model.specs.declared.record.Deed.TheVariants.{Append, UnlinkHead, Close, Mark}
 use Rattle.rq_model.specs.Vocabulary.{has_number}
 use Rattle.rq_page.specs.Sizes.{Sizes, IsCellAddress, cell_at, cell_count}
 use Rattle.rq_page.specs.Slots.{Slot}
@@ -13,6 +13,7 @@ use Rattle.rq_views.specs.Stored.{is_used}
 use Rattle.rq_level.specs.declared.slots.Given.{Given}
 use Rattle.rq_level.specs.declared.writes.Plan.{Plan}
 use Rattle.rq_level.specs.ChainPlans.{CanMark, CanPutBack, CanReceive, CanSend, CanUnlinkTail, RefusesOther, RefusesTaking, IsSent, IsReceived, IsClosed, IsTailUnlinked, IsReturned, IsReopened}
+use Rattle.rq_level.specs.TagPlans.{CanTag, CanUntag, IsTagPlan, IsUntagPlan, RefusesTag}
 use Rattle.rq_level.specs.Given.{GivenHolds, has_page}
 use Rattle.rq_level.specs.LevelState.{LevelState, IsLowest, NoneToTake, SomeFree, flag_at}
 use Rattle.rq_txn.specs.declared.Finished.{Finished}
@@ -85,6 +86,12 @@ pub record LevelsPlanFromSlots : Type 0 where
       → IsReturned s.sizes k given latched g n tag body p after → IsUnlatchedPlan s p (Undid (UnlinkHead g n tag body))
   pub reopened : (s : State) (k : LevelState) (given : List Given) (g : ℕ) (p : Plan) (after : LevelState)
       → IsGathered s given → IsReopened s.sizes k given g p after → IsUnlatchedPlan s p (Undid (Close g))
+  pub tagged : (s : State) (k : LevelState) (given : List Given) (c tag : ℕ) (p : Plan) (after : LevelState)
+      → IsGathered s given → (m : IsTagPlan s.sizes k given c tag p after)
+      → IsUnlatchedPlan s p (Did (Mark c tag m.can.held.tag))
+  pub untagged : (s : State) (k : LevelState) (given : List Given) (c tag previous : ℕ) (p : Plan) (after : LevelState)
+      → IsGathered s given → IsUntagPlan s.sizes k given c tag previous p after
+      → IsUnlatchedPlan s p (Undid (Mark c tag previous))
 
 -- want of memory; or each free cell is on a latched page
 abbrev pub IsForLatches : State → Refusal → Type 0
@@ -110,3 +117,7 @@ pub record LevelsRefuseExactly : Type 0 where
       → RefusesOther g (CanMark z given g closed) r → r ≡ why.NoMemory
   pub unsends : (z : Sizes) (given : List Given) (g n : ℕ) (r : Refusal) → CanUnlinkTail z given g n
       → RefusesOther g (CanUnlinkTail z given g n) r → r ≡ why.NoMemory
+  pub tags : (z : Sizes) (given : List Given) (c : ℕ) (r : Refusal) → CanTag z given c
+      → RefusesTag z c (CanTag z given c) r → r ≡ why.NoMemory
+  pub untags : (z : Sizes) (given : List Given) (c tag : ℕ) (r : Refusal) → CanUntag z given c tag
+      → RefusesTag z c (CanUntag z given c tag) r → r ≡ why.NoMemory

@@ -10,7 +10,6 @@ use Rattle.rq_page.specs.declared.client.ClientSlot.{ClientSlot}
 use Rattle.rq_page.specs.declared.directory.Directory.{Directory}
 use Rattle.rq_page.specs.Sizes.{Sizes, IsCellAddress, client_slot_at, directory_at}
 use Rattle.rq_page.specs.Slots.Slot.{Free, Used, Sender, Client}
-use Rattle.rq_views.specs.InStore.{IsDeedOf}
 use Rattle.rq_views.specs.Items.{layout_of}
 use Rattle.rq_views.specs.Log.{Slots, Write}
 use Rattle.rq_views.specs.Plans.{Turn, append_writes, unlink_head_writes, unlink_tail_writes, put_back_writes, directory_write, client_write}
@@ -131,23 +130,16 @@ pub record IsNew (s : State) (r : Row) (u : Under) (aim : Aim) : Type 0 where
   pub aim_is : u.aim ≡ aim
   pub free : AreUnlatched s u.writes
 
--- a mark is of the store
-abbrev pub IsMarkOf : Sizes → Deed → Type 0
-IsMarkOf z (Mark c tag previous) = IsDeedOf z (Mark c tag previous)
-IsMarkOf z _ = Unit {0}
-
 -- What is planned from the slots as they are may start where its pages are nobody's: a deed that passes the model's
--- tests, where it takes a message one waits, and a mark of the store; and the inverse of the newest deed of a
--- transaction that aborts. The plan of any mark fits the slots. A send or a receive that is planned apart from levels is
--- planned so.
+-- tests, where it takes a message one waits; and the inverse of the newest deed of a transaction that aborts. A send or
+-- a receive that is planned apart from levels is planned so.
 pub record PlansMayStart : Type 0 where
   pub planned : (s : State) (r : Row) (u : Under) (d : Deed) → IsSound s → IsNew s r u (aims.Doing d)
       → IsPlannedFrom s.sizes (slots_now s) u.writes (Did d)
       → Passes (size_of s.sizes) (ledger_of s) (start_of r.txn (job_of d)) → IsPlanned s r u (Did d)
   pub deeds : (s : State) (r : Row) (u : Under) (d : Deed) → IsSound s → IsNew s r u (aims.Doing d)
       → IsPlannedFrom s.sizes (slots_now s) u.writes (Did d) → TellsItself d
-      → HasWaiting s.waiting d → IsMarkOf s.sizes d
-      → Passes (size_of s.sizes) (ledger_of s) (start_of r.txn (job_of d)) → MayDo s r u d
+      → HasWaiting s.waiting d → Passes (size_of s.sizes) (ledger_of s) (start_of r.txn (job_of d)) → MayDo s r u d
   pub inverses : (s : State) (r : Row) (u : Under) (rest : List Finished) (f : Finished) → IsSound s
       → IsNew s r u (aims.Undoing f.lsn f.deed) → IsPlannedFrom s.sizes (slots_now s) u.writes (Undid f.deed)
       → r.aborting ≡ true → r.finished ≡ rest ++ f ∷ [] → MayUndo s r u rest f

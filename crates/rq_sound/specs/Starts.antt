@@ -1,4 +1,4 @@
--- What an operation needs to start beside others: a send, a receive, a close, or an inverse.
+-- What an operation needs to start beside others: a send, a receive, a close, a mark, or an inverse.
 use Rattle.std.specs.Prelude.{◌≡◌, ℕ, ◌+◌, ◌≤◌, true, false, List, [], ◌∷◌, ◌++◌, reverse, Some, None}
 use Rattle.rq_model.specs.declared.txn.Txn.{Txn}
 use Rattle.rq_model.specs.declared.record.Deed.{Deed}
@@ -48,8 +48,8 @@ pub record IsPlanned (s : State) (r : Row) (u : Under) (turn : Turn) : Type 0 wh
   pub plan : IsPlan (layout_of s.sizes) turn (reverse (writes_of s.sizes u.writes))
   pub fits : HasBefores (reverse (writes_of s.sizes u.writes)) (left_by s.sizes s.records).slots
 
--- A deed may be done: its end is free, its group is open where it sends or closes, a message waits where it takes one,
--- and there is a cell for what it sends.
+-- A deed may be done: its end is free, its group is open where it sends, closes or marks, a message waits where it takes
+-- one, and there is a cell for what it sends.
 pub record MayDo (s : State) (r : Row) (u : Under) (d : Deed) : Type 0 where
   pub planned : IsPlanned s r u (Did d)
   pub aim : u.aim ≡ aims.Doing d

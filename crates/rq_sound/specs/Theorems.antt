@@ -138,8 +138,8 @@ abbrev pub CheckpointsAreSteps : Type 0
 CheckpointsAreSteps = (s : State) → IsSound s → s.rows ≡ [] → s.failed ≡ false → log_full (ledger_of s) 1 ≡ false
     → IsModelStep s Call.Checkpoint (Reply.Gave_checkpoint (length s.records + 1)) (checkpointed s)
 
--- So are deeds and commits: the start of a send, a receive or a close that passes the model's tests, a receive from
--- whichever sender included; that no message waits; its end; and a commit.
+-- So are deeds and commits: the start of a send, a receive, a close or a mark that passes the model's tests, a receive
+-- from whichever sender included; that no message waits; its end; and a commit.
 pub record DeedsAreSteps : Type 0 where
   pub starts : (s : State) (r : Row) (u : Under) (d : Deed) → IsSound s → MayDo s r u d
       → Passes (size_of s.sizes) (ledger_of s) (start_of r.txn (job_of d))

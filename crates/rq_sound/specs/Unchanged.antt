@@ -6,14 +6,15 @@ use Rattle.rq_model.specs.History.{Call, Group}
 use Rattle.rq_model.specs.Ledger.{group_in, sent_in, tag_of}
 use Rattle.rq_model.specs.Replay.{Reply, receipt}
 use Rattle.rq_model.specs.Tests.{below}
-use Rattle.rq_page.specs.Sizes.{sender_count}
+use Rattle.rq_model.specs.Vocabulary.{client_group}
+use Rattle.rq_page.specs.Sizes.{client_count, sender_count}
 use Rattle.rq_store.specs.State.{State}
 use Rattle.rq_txn.specs.Rows.{any_under}
 use Rattle.rq_sound.specs.Sound.{IsSound}
 use Rattle.rq_sound.specs.ModelSteps.{IsModelStep}
 
 -- A hand-over, a page that is written, a receipt exactly for what is forced in this incarnation, what a sender's last
--- committed send was, and the committed content, where nothing is under way.
+-- committed send was, or a client's mark, and the committed content, where nothing is under way.
 pub record UnchangedAreSteps : Type 0 where
   pub hands_over : (s : State) → IsSound s → s.failed ≡ false → IsModelStep s Call.Hand_over Reply.Gave_handed_over s
   pub writes : (s : State) (page : ℕ) (done : Bool) → IsSound s → s.failed ≡ false
@@ -24,6 +25,10 @@ pub record UnchangedAreSteps : Type 0 where
   pub tells : (s : State) (g : ℕ) → IsSound s → s.failed ≡ false → g < sender_count s.sizes
       → IsModelStep s (Call.Last_tag g)
       (Reply.Gave_tag (length (sent_in (committed_of s.records) g)) (tag_of (sent_in (committed_of s.records) g))) s
+  pub tells_client : (s : State) (c : ℕ) → IsSound s → s.failed ≡ false → c < client_count s.sizes
+      → IsModelStep s (Call.Client_tag c)
+      (Reply.Gave_client_tag (length (sent_in (committed_of s.records) (client_group c)))
+      (tag_of (sent_in (committed_of s.records) (client_group c)))) s
   pub shows : (s : State) (groups : List Group) → IsSound s → s.failed ≡ false → any_under s.rows ≡ false
       → groups ≡ map (group_in (committed_of s.records)) (below (sender_count s.sizes))
       → IsModelStep s Call.Show (Reply.Gave_content groups) s

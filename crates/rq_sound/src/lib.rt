@@ -1,4 +1,4 @@
-//! What is so of a store with any number of operations under way, of sends, receives and closes and of their inverses,
+//! What is so of a store with any number of operations under way, of sends, receives, closes, marks and their inverses,
 //! apart from any code; and that each call keeps it.
 //!
 //! The definitions stand in specs/, the theorems are the contracts of the functions here.

@@ -2,7 +2,7 @@
 use Rattle.std.proofs.Common.{◌≡◌, ℕ, zero, suc, ◌+◌, ◌<◌, ◌≤◌, ◌-◌, ◌&&◌, ◌||◌, List, [], ◌∷◌, ◌++◌, length, map, refl, sym, ◌∙◌, ap, subst, Bool, true, false, not, Option, Some, inl, inr, nat_eq, cond, arith}
 use Rattle.std.specs.List.{filter}
 use Rattle.std.specs.Prelude.{slice_index_or}
-use Rattle.std.proofs.lemmas.Bool.{cases_Bool, true≢false, false≢true, or_parts, or_from, and_parts, and_left, and_right, eqb-true, not-false, cases_eq}
+use Rattle.std.proofs.lemmas.Bool.{cases_Bool, cases_lt, le-ltb, lt-ltb, true≢false, false≢true, or_parts, or_from, and_parts, and_left, and_right, eqb-true, not-false, cases_eq}
 use Rattle.std.proofs.lemmas.List.{length-append, length-map, map-append}
 use Rattle.std.proofs.lemmas.List.Sums.{length-filter, count_by-le-length}
 use Rattle.std.proofs.Math.Bool.{or-false, or_assoc}
@@ -10,7 +10,7 @@ use Rattle.rq_model.specs.declared.txn.Txn.{Txn}
 use Rattle.rq_model.specs.declared.txn.Sub.{Sub}
 use Rattle.rq_model.specs.declared.record.Record.{Record}
 use Rattle.rq_model.specs.declared.record.Record.TheVariants as records
-use Rattle.rq_model.specs.Vocabulary.{same_txn, has_txn}
+use Rattle.rq_model.specs.Vocabulary.{client_group, same_txn, has_txn}
 use Rattle.rq_model.specs.Ledger.{Done, Ledger, after, rest_in, kept_in, sent_in, tag_of}
 use Rattle.rq_model.specs.History.Entry.{Restarted}
 use Rattle.rq_model.specs.Tests.{below, count_rest}
@@ -18,12 +18,12 @@ use Rattle.rq_model.specs.Content.{Ending, ending, ending_by, kept, deeds, has_e
 use Rattle.rq_model.specs.Unended.{any_record, operation_ended, has_pair, add_pair, operations, unfinished, add_txn, workers, lost}
 use Rattle.rq_model.specs.Commits.{committed_of}
 use Rattle.rq_model.proofs.Lists.{same_is}
-use Rattle.rq_page.specs.Sizes.{Sizes, IsInRange, address, cell_count, cell_at, sender_count, directory_at}
-use Rattle.rq_page.specs.Slots.{held_in}
-use Rattle.rq_views.specs.Log.{Slots, IsNewest, same_op}
+use Rattle.rq_page.specs.Sizes.{Sizes, IsInRange, address, cell_count, cell_at, client_count, client_slot_at, sender_count, directory_at}
+use Rattle.rq_page.specs.Slots.{Slot, held_in}
+use Rattle.rq_views.specs.Log.{Slots, IsNewest, Untouched, same_op}
 use Rattle.rq_views.specs.Chain.{View, message}
 use Rattle.rq_views.specs.Groups.{committed}
-use Rattle.rq_views.specs.Plans.{Spares}
+use Rattle.rq_views.specs.Plans.{ShowsAt, ShowsTag, Spares}
 use Rattle.rq_views.specs.Legal as ends
 use Rattle.rq_views.specs.Legal.{IsLegalLog, has_deed, view, open_deeds, of_op, is_of, is_end, began, over, under_way, rest_placed}
 use Rattle.rq_views.specs.Items.{items, item_of, layout_of, operation, ReadsItsDeeds}
@@ -31,6 +31,7 @@ use Rattle.rq_views.specs.InStore.{IsStranger, mentions}
 use Rattle.rq_views.specs.Stored.{slots_in, count_used, is_used}
 use Rattle.rq_views.proofs.Idle.{idle_quiet, idle_writes}
 use Rattle.rq_views.proofs.Stands.{store_is_layout}
+use Rattle.rq_views.proofs.Tags.{idle_tags}
 use Rattle.rq_views.proofs.Views.{views}
 use Rattle.rq_views.proofs.GroupRule.{settled_view}
 use Rattle.rq_views.proofs.Overlay.{same_is as same_op_is}
@@ -45,8 +46,8 @@ use Rattle.rq_model.specs.Incarnations.{InOrder, IsNext, incarnation_of, incarna
 use Rattle.rq_store.specs.Settled.{IsSettled}
 use Rattle.rq_store.specs.Whole.{IsWhole}
 use Rattle.rq_store.specs.Fitting.{left_by}
-use Rattle.rq_store.specs.Opening.{next_restart, opened, messages_told, waiting_in, sent_told, tag_told, sent_in_slots}
-use Rattle.rq_store.specs.Sends.{KeepsSends}
+use Rattle.rq_store.specs.Opening.{next_restart, opened, messages_told, waiting_in, place_slot, sent_told, tag_told, sent_in_slots}
+use Rattle.rq_store.specs.Sends.{KeepsSends, group_of, place_count}
 use Rattle.rq_store.proofs.Within.{all_within}
 use Rattle.rq_store.proofs.Grouping.{groups_of}
 
@@ -342,30 +343,49 @@ module _ (z : Sizes) (images : List (List ℕ)) (log : List Record) (range : IsI
       let h = v.shows.sent in
       omega (arith, a, b, c, e, f, h)
 
-  -- and what each sender's sends come to
+  -- and what each sender's sends, and each client's marks, come to
+  module _ (told : Slot → ℕ) (of : ℕ → ℕ) (sender : (g : ℕ) → g < sender_count z → told (slots_in z images (directory_at g)) ≡ of g)
+      (client : (c : ℕ) → c < client_count z → told (slots_in z images (client_slot_at z c)) ≡ of (client_group c)) where
+    told_at : (i : ℕ) → i < place_count z → waits (map (λ j. told (slots_in z images (place_slot z j))) (below (place_count z))) i ≡ of (group_of z i)
+    told_at i m = told_below (λ j. told (slots_in z images (place_slot z j))) (place_count z) i m ∙ elim (cases_lt i (sender_count z)) [
+      | inl y ↦ rw (lt-ltb i (sender_count z) y) (sender i y)
+      | inr n ↦ rw (le-ltb i (sender_count z) n) (client (i - sender_count z) (omega (arith, m, n)))
+    ]
+
+  group_view : (g : ℕ) → view (items z log) g ≡ committed (items z log) g
+  group_view g = settled_view g (items z log) (groups_of z log w) settled
+
+  -- what a view holds and what was received of it was sent
+  sent_view : (g n : ℕ) → n ≡ (view (items z log) g).received + length (view (items z log) g).messages → n ≡ length (sent_in (committed_of log) g)
+  sent_view g n is =
+      let d : length (view (items z log) g).messages ≡ length (committed (items z log) g).messages = ap (λ (x : View). length x.messages) (group_view g) in
+      let e : (view (items z log) g).received ≡ (committed (items z log) g).received = ap (λ (x : View). x.received) (group_view g) in
+      let f = (committed_is_group z g log w.rules w.reads).sent in
+      omega (arith, is, d, e, f)
+
+  tag_view : (g : ℕ) → (view (items z log) g).last_tag ≡ tag_of (sent_in (committed_of log) g)
+  tag_view g = ap (λ (x : View). x.last_tag) (group_view g) ∙ (committed_is_group z g log w.rules w.reads).last_tag
+
+  shown : (g : ℕ) → g < sender_count z → ShowsAt (layout_of z) (left_by z log).slots g (view (items z log) g)
+  shown g m = views (layout_of z) (items z log) g (store_is_layout z) w.legal m (λ o. subst (Spares g) (sym (idle_writes (layout_of z) (items z log) o w.legal (idle o))) tt)
+
+  shown_tag : (c : ℕ) → c < client_count z → ShowsTag (layout_of z) (left_by z log).slots c (view (items z log) (client_group c))
+  shown_tag c m = idle_tags z log c range w.legal w.in_store m (λ o. subst (Untouched (client_slot_at z c)) (sym (idle_writes (layout_of z) (items z log) o w.legal (idle o))) tt)
+
   pub sends_here : KeepsSends z new_log (sent_in_slots z images)
-  sends_here = record { counts = λ g m. count_here g m; tags = λ g m. tag_here g m } where
-    group_view : (g : ℕ) → view (items z log) g ≡ committed (items z log) g
-    group_view g = settled_view g (items z log) (groups_of z log w) settled
-
-    count_here : (g : ℕ) → g < sender_count z → sent_count (sent_in_slots z images) g ≡ length (sent_in (committed_of log) g)
-    count_here g m =
-        let v = views (layout_of z) (items z log) g (store_is_layout z) w.legal m (λ o. subst (Spares g) (sym (idle_writes (layout_of z) (items z log) o w.legal (idle o))) tt) in
-        let a : sent_count (sent_in_slots z images) g ≡ sent_told (slots_in z images (directory_at g)) = told_below (λ s. sent_told (slots_in z images (directory_at s))) (sender_count z) g m in
-        let b : sent_told (slots_in z images (directory_at g)) ≡ v.directory.sent = ap sent_told (pages (directory_at g) ∙ v.at) in
+  sends_here = record {
+    counts = told_at sent_told (λ g. length (sent_in (committed_of log) g)) (λ g m.
+        let v = shown g m in
         let c : length (view (items z log) g).messages ≡ length v.shows.nodes = ap (λ (l : List (ℕ × List ℕ)). length l) v.shows.messages ∙ length-map v.shows.nodes message in
-        let d : length (view (items z log) g).messages ≡ length (committed (items z log) g).messages = ap (λ (x : View). length x.messages) (group_view g) in
-        let e : (view (items z log) g).received ≡ (committed (items z log) g).received = ap (λ (x : View). x.received) (group_view g) in
-        let f = (committed_is_group z g log w.rules w.reads).sent in
         let h = v.shows.sent in
-        omega (arith, a, b, c, d, e, f, h, v.shows.received)
-
-    tag_here : (g : ℕ) → g < sender_count z → sent_tag (sent_in_slots z images) g ≡ tag_of (sent_in (committed_of log) g)
-    tag_here g m =
-        let v = views (layout_of z) (items z log) g (store_is_layout z) w.legal m (λ o. subst (Spares g) (sym (idle_writes (layout_of z) (items z log) o w.legal (idle o))) tt) in
-        told_below (λ s. tag_told (slots_in z images (directory_at s))) (sender_count z) g m
-        ∙ ap tag_told (pages (directory_at g) ∙ v.at) ∙ sym v.shows.last_tag ∙ ap (λ (x : View). x.last_tag) (group_view g)
-        ∙ (committed_is_group z g log w.rules w.reads).last_tag
+        ap sent_told (pages (directory_at g) ∙ v.at) ∙ sent_view g v.directory.sent (omega (arith, c, h, v.shows.received))) (λ c m.
+        let v = shown_tag c m in
+        let h = v.count in
+        ap sent_told (pages (client_slot_at z c) ∙ v.at) ∙ sent_view (client_group c) v.held.count (omega (arith, h, v.none_taken)));
+    tags = told_at tag_told (λ g. tag_of (sent_in (committed_of log) g))
+        (λ g m. let v = shown g m in ap tag_told (pages (directory_at g) ∙ v.at) ∙ sym v.shows.last_tag ∙ tag_view g)
+        (λ c m. let v = shown_tag c m in ap tag_told (pages (client_slot_at z c) ∙ v.at) ∙ v.tag ∙ tag_view (client_group c));
+  }
 
   -- all of which is durable
   pub opened_durable : (ledger_of (opened z images log)).durable ≡ length (committed_of log)

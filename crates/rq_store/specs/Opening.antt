@@ -1,15 +1,16 @@
 -- Opening a store: pages that fit a log, what going through the log makes of them, and the store that is open then.
-use Rattle.std.specs.Prelude.{◌≡◌, ◌≢◌, ℕ, ◌+◌, ◌-◌, ◌<◌, ◌≤◌, false, List, [], ◌∷◌, length, map, Option, Some, None}
+use Rattle.std.specs.Prelude.{◌≡◌, ◌≢◌, ℕ, ◌+◌, ◌-◌, ◌<◌, ◌≤◌, false, List, [], ◌∷◌, length, map, Option, Some, None, cond, nat_lt}
 use Rattle.rq_model.specs.declared.record.Record.{Record}
 use Rattle.rq_model.specs.declared.record.Record.TheVariants.{PageOp, Restart}
 use Rattle.rq_model.specs.Tests.{below}
-use Rattle.rq_page.specs.Sizes.{Sizes, page_count, directory_at, sender_count}
+use Rattle.rq_page.specs.Sizes.{Sizes, client_slot_at, directory_at, page_count, sender_count}
 use Rattle.rq_page.specs.Pages.{lsn_of, slot_of, IsWritten}
 use Rattle.rq_page.specs.Slots.{Slot, IsSlotOf}
 use Rattle.rq_page.specs.Slots.Slot.{Free, Used, Sender, Client}
 use Rattle.rq_page.specs.Formatted.{count_in}
 use Rattle.rq_views.specs.Stored.{slots_in, count_used}
 use Rattle.rq_groups.specs.Sent.{SentBy}
+use Rattle.rq_store.specs.Sends.{place_count}
 use Rattle.rq_store.specs.State.{State}
 use Rattle.rq_model.specs.Incarnations.{incarnation_of}
 use Rattle.rq_store.specs.Whole.{IsWhole}
@@ -54,24 +55,28 @@ messages_told (Client k) = 0
 abbrev pub waiting_in : Sizes → List (List ℕ) → List ℕ
 waiting_in z images = map (λ s. messages_told (slots_in z images (directory_at s))) (below (sender_count z))
 
--- how many messages a directory slot says were sent, and the last one's tag
+-- how many messages a directory slot says were sent, or a client's slot were marked, and the last one's tag
 abbrev pub sent_told : Slot → ℕ
 sent_told Free = 0
 sent_told (Used c) = 0
 sent_told (Sender s d) = d.sent
-sent_told (Client k) = 0
+sent_told (Client k) = k.count
 
 abbrev pub tag_told : Slot → ℕ
 tag_told Free = 0
 tag_told (Used c) = 0
 tag_told (Sender s d) = d.last_tag
-tag_told (Client k) = 0
+tag_told (Client k) = k.tag
 
--- what each sender's sends come to where nothing is open
+-- the slot of the group at a place
+abbrev pub place_slot : Sizes → ℕ → ℕ
+place_slot z i = cond (nat_lt i (sender_count z)) (directory_at i) (client_slot_at z (i - sender_count z))
+
+-- what each sender's sends, and each client's marks, come to where nothing is open
 abbrev pub sent_in_slots : Sizes → List (List ℕ) → SentBy
 sent_in_slots z images = record {
-  counts = map (λ s. sent_told (slots_in z images (directory_at s))) (below (sender_count z));
-  tags = map (λ s. tag_told (slots_in z images (directory_at s))) (below (sender_count z));
+  counts = map (λ i. sent_told (slots_in z images (place_slot z i))) (below (place_count z));
+  tags = map (λ i. tag_told (slots_in z images (place_slot z i))) (below (place_count z));
 }
 
 -- the open store: of the next incarnation, with nothing begun and all records forced

@@ -35,7 +35,7 @@ pub record State : Type 0 where
   pub cells_in_use : ℕ
   -- by sender, how many messages wait: they are committed, and nobody has taken them
   pub waiting : List ℕ
-  -- by sender, how many messages are committed, and the last one's tag
+  -- by sender, how many messages are committed, and the last one's tag; behind the senders the same of each client's marks
   pub sent : SentBy
 
 abbrev pub size_of : Sizes → Size

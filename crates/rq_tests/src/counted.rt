@@ -44,7 +44,7 @@ impl Counted {
     {
         match Arc::try_clone(drops) {
             Ok(drops) => Ok(Counted {
-                level: StoreLevel::Tags(TagLevel),
+                level: StoreLevel::Tags(TagLevel::new()),
                 drops,
             }),
             Err(_) => Err(AllocError),

@@ -47,7 +47,6 @@ fn open_and_close<B: Level>(
     requires clients { B.level tags ≡ 2 }
     requires sizes { (B.kept slots).sizes ≡ None }
     requires room { HasRoom (B.kept chains) }
-    requires untold { (B.kept tags).sizes ≡ None }
 {
     let (pages, log) = store(alloc, is_formatted)?;
     let mut levels = Vec::with_capacity(alloc, 3)?;

@@ -22,6 +22,7 @@ pub mod Counting
 pub mod Holding
 pub mod Settled
 pub mod OpenCounts
+pub mod ClientMarks
 pub mod Tags
 pub mod AllOpen
 pub mod Claims

@@ -151,11 +151,11 @@ sum_turn f n (t ∷ ts) =
     let d = sum_by-cons (λ u. sum_by (f u) (below n)) t ts in
     omega arith
 
-below_one_more : (n : ℕ) (ops : List Op) (op : Op) → AllBelow n ops → IsBelow n op → AllBelow n (ops ++ op ∷ [])
+pub below_one_more : (n : ℕ) (ops : List Op) (op : Op) → AllBelow n ops → IsBelow n op → AllBelow n (ops ++ op ∷ [])
 below_one_more n [] op h k = (k, tt)
 below_one_more n (x ∷ ops) op h k = (h.0, below_one_more n ops op h.1 k)
 
-said_below : (z : Sizes) (d : Deed) → IsDeedOf z d → IsBelow (sender_count z) (op_of (said d))
+pub said_below : (z : Sizes) (d : Deed) → IsDeedOf z d → IsBelow (sender_count z) (op_of (said d))
 said_below z (Append s k tag previous body) h = h
 said_below z (UnlinkHead s k tag body) h = h
 said_below z (Close s) h = h

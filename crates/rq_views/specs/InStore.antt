@@ -14,13 +14,12 @@ use Rattle.rq_page.specs.Slots.Slot.{Free, Used, Sender, Client}
 use Rattle.rq_views.specs.Log.{Slots, Write}
 use Rattle.rq_views.specs.Items.{told_deed}
 
--- The deed is of one of the store's senders or clients; no sender has the number of a client's group. No store has marks
--- yet.
+-- the deed is of one of the store's senders or clients; no sender has the number of a client's group
 abbrev pub IsDeedOf : Sizes → Deed → Type 0
 IsDeedOf z (Append s n tag previous body) = s < sender_count z
 IsDeedOf z (UnlinkHead s n tag body) = s < sender_count z
 IsDeedOf z (Close s) = s < sender_count z
-IsDeedOf z (Mark c tag previous) = (c < client_count z) × (sender_count z ≤ 2 ^ 32) × ⊥
+IsDeedOf z (Mark c tag previous) = (c < client_count z) × (sender_count z ≤ 2 ^ 32)
 
 -- a slot that the record writes is the store's, and so is the sender or client of its deed
 abbrev pub InStoreOne : Sizes → Record → Type 0

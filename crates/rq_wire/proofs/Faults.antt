@@ -53,10 +53,10 @@ is_no_size n h = grind (arith, nat_tests)
 a_size : (n : ℕ) → is_size n ≡ true → 0 < n
 a_size n e = grind (arith, nat_tests)
 
-no_kind : (k : ℕ) → is_kind k ≡ false → (k ≡ 0) ⊎ (8 < k)
+no_kind : (k : ℕ) → is_kind k ≡ false → (k ≡ 0) ⊎ (10 < k)
 no_kind k e = grind (arith, nat_tests)
 
-is_no_kind : (k : ℕ) → (k ≡ 0) ⊎ (8 < k) → is_kind k ≡ false
+is_no_kind : (k : ℕ) → (k ≡ 0) ⊎ (10 < k) → is_kind k ≡ false
 is_no_kind k h = grind (arith, nat_tests)
 
 module _ (bytes : List ℕ) where

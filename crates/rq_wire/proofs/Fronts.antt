@@ -95,7 +95,7 @@ behind_same a b two three all =
     let k : slice_index (a ++ b) 2 ≡ slice_index a 2 = kind_same a b three in
     let f : take (size a - 1) (drop 3 (a ++ b)) ≡ take (size a - 1) (drop 3 a) =
     fields_same a b (size a) three (omega (arith, all, length-drop 3 a)) in
-    rw (m, k, f) refl
+    rw (m, k, f) (refl {a = behind a})
 
 -- a frame stays
 pub frame_stays : (a b : List ℕ) (r : Request) (n : ℕ) → looks a ≡ Frame r n → looks (a ++ b) ≡ Frame r n
@@ -107,9 +107,7 @@ frame_stays a b r n e =
     let all : 2 + size a ≤ length a = ltb-false (length a) (2 + size a) p.cut in
     let m : size (a ++ b) ≡ size a = number_same a b two in
     let k : slice_index (a ++ b) 2 ≡ slice_index a 2 = kind_same a b three in
-    let f : take (size a - 1) (drop 3 (a ++ b)) ≡ take (size a - 1) (drop 3 a) =
-    fields_same a b (size a) three (omega (arith, all, length-drop 3 a)) in
-    let same : behind (a ++ b) ≡ behind a = rw (m, k, f) refl in
+    let same : behind (a ++ b) ≡ behind a = behind_same a b two three all in
     picked (nat_lt (length (a ++ b)) 2) (is_size (size (a ++ b))) (nat_lt (length (a ++ b)) 3) (is_kind (slice_index
     (a ++ b) 2)) (nat_lt (length (a ++ b)) (2 + size (a ++ b))) (behind (a ++ b)) (Frame r n)
     (le-ltb (length (a ++ b)) 2 (omega (arith, long, two)))

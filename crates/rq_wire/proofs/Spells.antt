@@ -8,9 +8,9 @@ use Rattle.std.proofs.Math.Seq.{take-append_seam, drop-append_seam}
 use Rattle.byteorder.specs.Endian.{big_number}
 use Rattle.rq_bytes.specs.Number.{number_at, AreBytes, number}
 use Rattle.rq_wire.specs.declared.request.Request.{Request}
-use Rattle.rq_wire.specs.declared.request.Request.TheVariants.{Begin, Send, Receive, ReceiveFrom, Close, Commit, Abort, LastTag}
+use Rattle.rq_wire.specs.declared.request.Request.TheVariants.{Begin, Send, Receive, ReceiveFrom, Close, Commit, Abort, LastTag, Mark, ClientTag}
 use Rattle.rq_wire.specs.declared.look.Prefix.TheVariants.{Frame}
-use Rattle.rq_wire.specs.Looks.{is_size, is_kind, only, whole_frame, request_in, looks}
+use Rattle.rq_wire.specs.Looks.{is_size, is_kind, only, whole_frame, tag_request_in, request_in, looks}
 use Rattle.rq_wire.specs.Spelling.{IsRequest, frame, request_kind, request_fields, spelled}
 use Rattle.rq_bytes.proofs.Strings.{AreBytes-take, AreBytes-drop, length-number, number_read, number_written, number_below}
 use Rattle.rq_wire.proofs.Fronts.{picked, told, size}
@@ -50,7 +50,7 @@ module _ (kind : ℕ) (fields rest : List ℕ) where
         length-append fields rest,
       )
 
-  pub looks_frame : 0 < kind → kind < 9 → length fields ≤ 511
+  pub looks_frame : 0 < kind → kind < 11 → length fields ≤ 511
       → looks whole ≡ whole_frame (request_in kind fields) (2 + (1 + length fields))
   looks_frame some most short =
       let size = size_told short in
@@ -68,13 +68,13 @@ module _ (kind : ℕ) (fields rest : List ℕ) where
       (le-ltb (length whole) 3 (omega (arith, long)))
       (rw third (grind (arith, nat_tests)))
       (rw size (le-ltb (length whole) (2 + (1 + length fields)) (omega (arith, long))))
-      (rw (size, third, inner) refl)
+      (rw (size, third, inner) (refl {a = whole_frame (request_in kind fields) (2 + (1 + length fields))}))
 
 four : (sender : ℕ) → (length (number 4 sender) == 4) ≡ true
 four sender = rw (length-number 4 sender) refl
 
-alone : (sender : ℕ) → sender < 256 ^ 4 → number_at 4 0 (number 4 sender) ≡ sender
-alone sender is = ap (big_number 4) (sym (append-nil (number 4 sender))) ∙ number_read 4 sender [] is
+alone : (width n : ℕ) → n < 256 ^ width → number_at width 0 (number width n) ≡ n
+alone width n is = ap (big_number width) (sym (append-nil (number width n))) ∙ number_read width n [] is
 
 behind_sender : (s t : ℕ) (b : List ℕ) → drop 4 (number 4 s ++ (number 8 t ++ b)) ≡ number 8 t ++ b
 unfolding number
@@ -101,15 +101,29 @@ send_back s t b is =
     let third : drop 12 all ≡ b = behind_both s t b in
     rw (le-ltb (length all) 12 long, first, second, third) refl
 
+behind_client : (c t : ℕ) → drop 4 (number 4 c ++ number 8 t) ≡ number 8 t
+unfolding number
+behind_client c t = refl
+
+mark_back : (c t : ℕ) → (c < 256 ^ 4) × (t < 256 ^ 8) → request_in 9 (number 4 c ++ number 8 t) ≡ Some (Mark c t)
+mark_back c t is =
+    let all = number 4 c ++ number 8 t in
+    let long : length all ≡ 12 = omega (arith, length-append (number 4 c) (number 8 t), length-number 4 c, length-number 8 t) in
+    let first : number_at 4 0 all ≡ c = number_read 4 c (number 8 t) is.0 in
+    let second : number_at 8 4 all ≡ t = ap (big_number 8) (behind_client c t) ∙ alone 8 t is.1 in
+    rw (long, first, second) refl
+
 -- the fields of a request are read as that request
 read_back : (r : Request) → IsRequest r → request_in (request_kind r) (request_fields r) ≡ Some r
 read_back (Send sender tag body) is = send_back sender tag body is
-read_back (ReceiveFrom sender) is = rw (four sender, alone sender is) refl
-read_back (Close sender) is = rw (four sender, alone sender is) refl
-read_back (LastTag sender) is = rw (four sender, alone sender is) refl
+read_back (ReceiveFrom sender) is = rw (four sender, alone 4 sender is) refl
+read_back (Close sender) is = rw (four sender, alone 4 sender is) refl
+read_back (LastTag sender) is = rw (four sender, alone 4 sender is) refl
+read_back (Mark client tag) is = mark_back client tag is
+read_back (ClientTag client) is = rw (four client, alone 4 client is) refl
 read_back _ is = refl
 
-in_range : (r : Request) → (0 < request_kind r) × (request_kind r < 9)
+in_range : (r : Request) → (0 < request_kind r) × (request_kind r < 11)
 in_range Begin = (omega arith, omega arith)
 in_range _ = (omega arith, omega arith)
 
@@ -130,6 +144,9 @@ short_fields (Close sender) is = omega (arith, length-number 4 sender)
 short_fields Commit is = omega arith
 short_fields Abort is = omega arith
 short_fields (LastTag sender) is = omega (arith, length-number 4 sender)
+short_fields (Mark client tag) is =
+    omega (arith, length-append (number 4 client) (number 8 tag), length-number 4 client, length-number 8 tag)
+short_fields (ClientTag client) is = omega (arith, length-number 4 client)
 
 length-frame : (kind : ℕ) (fields : List ℕ) → length (frame kind fields) ≡ 2 + (1 + length fields)
 unfolding frame
@@ -205,7 +222,7 @@ plain kind n fields q r k e of none good =
       | inr (not_so, is) ↦ absurd (let bad : None ≡ Some r = is in cc)
     ]
 
--- a request that says a sender
+-- a request that says a sender or a client
 with_sender : (kind : ℕ) (fields : List ℕ) (q : ℕ → Request) (r : Request) → AreBytes fields
     → only (length fields == 4) (q (number_at 4 0 fields)) ≡ Some r
     → kind ≡ request_kind (q (number_at 4 0 fields)) → request_fields (q (number_at 4 0 fields)) ≡ number 4
@@ -264,9 +281,38 @@ send_told fields r bytes most e =
           long) most)
     ]
 
-only_eight : (kind : ℕ) → is_kind kind ≡ true → (kind == 1) ≡ false → (kind == 2) ≡ false → (kind == 3) ≡ false
-    → (kind == 4) ≡ false → (kind == 5) ≡ false → (kind == 6) ≡ false → (kind == 7) ≡ false → kind ≡ 8
-only_eight kind known n1 n2 n3 n4 n5 n6 n7 = grind (arith, nat_tests)
+mark_spells : (fields : List ℕ) → AreBytes fields → length fields ≡ 12
+    → Spells 9 fields (Mark (number_at 4 0 fields) (number_at 8 4 fields))
+mark_spells fields bytes long =
+    let rest = drop 4 fields in
+    let rest_bytes : AreBytes rest = AreBytes-drop 4 fields bytes in
+    let eight : length rest ≡ 8 = omega (arith, long, length-drop 4 fields) in
+    let first : number 4 (number_at 4 0 fields) ≡ take 4 fields =
+    number_written 4 fields bytes (omega (arith, long)) in
+    let second : number 8 (number_at 8 4 fields) ≡ rest =
+    number_written 8 rest rest_bytes (omega (arith, eight)) ∙ take_whole 8 rest eight in
+    record {
+      of_kind = refl;
+      of_fields = sym (ap (λ (l : List ℕ). l ++ number 8 (number_at 8 4 fields)) first
+          ∙ ap (λ (l : List ℕ). take 4 fields ++ l) second ∙ take-append-drop 4 fields);
+      good = (number_below 4 fields bytes, number_below 8 rest rest_bytes);
+    }
+
+mark_told : (kind : ℕ) (fields : List ℕ) (r : Request) → AreBytes fields → (kind == 9) ≡ true
+    → only (length fields == 12) (Mark (number_at 4 0 fields) (number_at 8 4 fields)) ≡ Some r → Spells kind fields r
+mark_told kind fields r bytes k e =
+    elim (chosen (length fields == 12) (Some (Mark (number_at 4 0 fields) (number_at 8 4 fields))) None (Some r) e) [
+      | inl (long, is) ↦
+          let spells = subst (Spells 9 fields) (some_is _ r is)
+          (mark_spells fields bytes (eqb-true (length fields) 12 long)) in
+          subst (λ (n : ℕ). Spells n fields r) (sym (eqb-true kind 9 k)) spells
+      | inr (not_so, is) ↦ absurd (let bad : None ≡ Some r = is in cc)
+    ]
+
+only_ten : (kind : ℕ) → is_kind kind ≡ true → (kind == 1) ≡ false → (kind == 2) ≡ false → (kind == 3) ≡ false
+    → (kind == 4) ≡ false → (kind == 5) ≡ false → (kind == 6) ≡ false → (kind == 7) ≡ false → (kind == 8) ≡ false
+    → (kind == 9) ≡ false → kind ≡ 10
+only_ten kind known n1 n2 n3 n4 n5 n6 n7 n8 n9 = grind (arith, nat_tests)
 
 size_in : (n : ℕ) → is_size n ≡ true → (0 < n) × (n < 513)
 size_in n e = (grind (arith, nat_tests), grind (arith, nat_tests))
@@ -275,6 +321,18 @@ whole_is : (o : Option Request) (size : ℕ) (r : Request) (n : ℕ) → whole_f
     → (o ≡ Some r) × (size ≡ n)
 whole_is None size r n e = absurd cc
 whole_is (Some q) size r n e = (cc, cc)
+
+tags_told : (kind : ℕ) (fields : List ℕ) (r : Request) → AreBytes fields
+    → ((kind == 8) ≡ false → (kind == 9) ≡ false → kind ≡ 10) → tag_request_in kind fields ≡ Some r
+    → Spells kind fields r
+tags_told kind fields r bytes last whole =
+    elim (chosen (kind == 8) _ _ _ whole) [
+      | inl (k, g) ↦ with_sender kind fields LastTag r bytes g (eqb-true kind 8 k) refl (λ b. b)
+      | inr (n8, e) ↦ elim (chosen (kind == 9) _ _ _ e) [
+        | inl (k, g) ↦ mark_told kind fields r bytes k g
+        | inr (n9, g) ↦ with_sender kind fields ClientTag r bytes g (last n8 n9) refl (λ b. b)
+      ]
+    ]
 
 -- what is read from fields has these fields
 fields_told : (kind : ℕ) (fields : List ℕ) (r : Request) → AreBytes fields → length fields ≤ 511
@@ -297,8 +355,7 @@ fields_told kind fields r bytes most known whole =
                 | inl (k, g) ↦ plain kind 6 fields Commit r k g refl refl tt
                 | inr (n6, e) ↦ elim (chosen (kind == 7) _ _ _ e) [
                   | inl (k, g) ↦ plain kind 7 fields Abort r k g refl refl tt
-                  | inr (n7, g) ↦ with_sender kind fields LastTag r bytes g (only_eight kind known n1 n2 n3 n4 n5 n6
-                      n7) refl (λ b. b)
+                  | inr (n7, g) ↦ tags_told kind fields r bytes (only_ten kind known n1 n2 n3 n4 n5 n6 n7) g
                 ]
               ]
             ]

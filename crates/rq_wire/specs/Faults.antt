@@ -12,7 +12,7 @@ HasBadLength bytes = (2 ≤ length bytes) × ((number_at 2 0 bytes ≡ 0) ⊎ (5
 
 -- a kind that is no request's, as soon as its byte is there
 abbrev pub HasBadKind : List ℕ → Type 0
-HasBadKind bytes = (3 ≤ length bytes) × ((slice_index bytes 2 ≡ 0) ⊎ (8 < slice_index bytes 2))
+HasBadKind bytes = (3 ≤ length bytes) × ((slice_index bytes 2 ≡ 0) ⊎ (10 < slice_index bytes 2))
 
 -- no request's frame stands at the front
 abbrev pub IsNoRequest : List ℕ → Type 0

@@ -3,7 +3,7 @@ use Rattle.std.specs.Prelude.{ℕ, ◌+◌, ◌<◌, ◌≤◌, ◌^◌, List, [
 use Rattle.rq_bytes.specs.Number.{AreBytes, number}
 use Rattle.rq_model.specs.Numbers.{number_of}
 use Rattle.rq_wire.specs.declared.request.Request.{Request}
-use Rattle.rq_wire.specs.declared.request.Request.TheVariants.{Begin, Send, Receive, ReceiveFrom, Close, Commit, Abort, LastTag}
+use Rattle.rq_wire.specs.declared.request.Request.TheVariants.{Begin, Send, Receive, ReceiveFrom, Close, Commit, Abort, LastTag, Mark, ClientTag}
 use Rattle.rq_wire.specs.declared.answers.Answer.{Answer}
 use Rattle.rq_wire.specs.declared.answers.Answer.TheVariants as answers
 
@@ -22,6 +22,8 @@ request_kind (Close sender) = 5
 request_kind Commit = 6
 request_kind Abort = 7
 request_kind (LastTag sender) = 8
+request_kind (Mark client tag) = 9
+request_kind (ClientTag client) = 10
 
 abbrev pub request_fields : Request → List ℕ
 request_fields Begin = []
@@ -32,6 +34,8 @@ request_fields (Close sender) = number 4 sender
 request_fields Commit = []
 request_fields Abort = []
 request_fields (LastTag sender) = number 4 sender
+request_fields (Mark client tag) = number 4 client ++ number 8 tag
+request_fields (ClientTag client) = number 4 client
 
 -- the one frame of a request
 unfoldable pub spelled : Request → List ℕ
@@ -52,6 +56,8 @@ IsRequest (Close sender) = sender < 256 ^ 4
 IsRequest Commit = Unit {0}
 IsRequest Abort = Unit {0}
 IsRequest (LastTag sender) = sender < 256 ^ 4
+IsRequest (Mark client tag) = (client < 256 ^ 4) × (tag < 256 ^ 8)
+IsRequest (ClientTag client) = client < 256 ^ 4
 
 abbrev pub AreRequested : List Request → Type 0
 AreRequested [] = Unit {0}
@@ -69,6 +75,7 @@ answer_kind answers.Marked = 137
 answer_kind (answers.Committed lsn) = 134
 answer_kind answers.Aborted = 135
 answer_kind (answers.LastTag sent tag) = 136
+answer_kind (answers.ClientTag count tag) = 138
 answer_kind (answers.Refused refusal) = 255
 
 abbrev pub answer_fields : Answer → List ℕ
@@ -81,6 +88,7 @@ answer_fields answers.Marked = []
 answer_fields (answers.Committed lsn) = number 8 lsn
 answer_fields answers.Aborted = []
 answer_fields (answers.LastTag sent tag) = number 8 sent ++ number 8 tag
+answer_fields (answers.ClientTag count tag) = number 8 count ++ number 8 tag
 answer_fields (answers.Refused refusal) = number_of refusal ∷ []
 
 -- the one frame of an answer

@@ -24,6 +24,8 @@ pub enum Answer {
     Aborted,
     /// How many committed messages a sender has sent, and the tag of the last one; 0 where there is none.
     LastTag { sent: u64, tag: u64 },
+    /// How many tags are marked for a client by committed transactions, and the last one; 0 where there is none.
+    ClientTag { count: u64, tag: u64 },
     /// The request was refused.
     Refused(Refusal),
 }

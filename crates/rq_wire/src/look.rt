@@ -38,7 +38,7 @@ fn look_behind(alloc: Global, count: u16, bytes: &[u8]) -> Result<Prefix, AllocE
         return Ok(Prefix::More);
     }
     let kind = bytes[2];
-    if kind == 0 || kind > 8 {
+    if kind == 0 || kind > 10 {
         return Ok(Prefix::Fault);
     }
     let size = 2 + count as usize;
@@ -62,7 +62,7 @@ fn fields_of(count: u16, bytes: &[u8]) -> &[u8]
 
 // The request of this kind with these fields.
 fn request_of(alloc: Global, kind: u8, fields: &[u8]) -> Result<Option<Request>, AllocError>
-    requires kind { (0 < kind) × (kind < 9) }
+    requires kind { (0 < kind) × (kind < 11) }
     requires fields { length fields.now ≤ 511 }
     ensures { IfOk result (λ request. request ≡ request_in kind fields.now) }
 {
@@ -72,33 +72,56 @@ fn request_of(alloc: Global, kind: u8, fields: &[u8]) -> Result<Option<Request>,
         3 => Ok(plain(fields, Request::Receive)),
         6 => Ok(plain(fields, Request::Commit)),
         7 => Ok(plain(fields, Request::Abort)),
+        9 => Ok(mark_of(fields)),
         _ => {
             if fields.len() != 4 {
                 return Ok(None);
             }
-            Ok(Some(of_sender(kind, sender_of(fields))))
+            Ok(Some(of_number(kind, first_number(fields))))
         }
     }
 }
 
-// The request of this kind, one of those that have a sender and nothing else.
-fn of_sender(kind: u8, sender: u32) -> Request
-    ensures receive { kind ≡ 4 → result ≡ Request.ReceiveFrom sender }
-    ensures close { kind ≡ 5 → result ≡ Request.Close sender }
-    ensures last_tag { kind ≡ 8 → result ≡ Request.LastTag sender }
+// The request of this kind, one of those that have a sender or a client and nothing else.
+fn of_number(kind: u8, number: u32) -> Request
+    ensures receive { kind ≡ 4 → result ≡ Request.ReceiveFrom number }
+    ensures close { kind ≡ 5 → result ≡ Request.Close number }
+    ensures last_tag { kind ≡ 8 → result ≡ Request.LastTag number }
+    ensures client_tag { kind ≡ 10 → result ≡ Request.ClientTag number }
 {
     match kind {
-        4 => Request::ReceiveFrom(sender),
-        5 => Request::Close(sender),
-        _ => Request::LastTag(sender),
+        4 => Request::ReceiveFrom(number),
+        5 => Request::Close(number),
+        8 => Request::LastTag(number),
+        _ => Request::ClientTag(number),
     }
 }
 
-fn sender_of(fields: &[u8]) -> u32
+// The sender or the client.
+fn first_number(fields: &[u8]) -> u32
     requires { 4 ≤ length fields.now }
     ensures { result ≡ number_at 4 0 fields.now }
 {
     BigEndian::read_u32(fields)
+}
+
+// The tag behind the sender or the client.
+fn tag_of(fields: &[u8]) -> u64
+    requires { 12 ≤ length fields.now }
+    ensures { result ≡ number_at 8 4 fields.now }
+{
+    BigEndian::read_u64(&fields[4..])
+}
+
+fn mark_of(fields: &[u8]) -> Option<Request>
+    ensures { result ≡ request_in 9 fields.now }
+{
+    if fields.len() != 12 {
+        return None;
+    }
+    let client = first_number(fields);
+    let tag = tag_of(fields);
+    Some(Request::Mark { client, tag })
 }
 
 fn send_of(alloc: Global, fields: &[u8]) -> Result<Option<Request>, AllocError>
@@ -108,8 +131,8 @@ fn send_of(alloc: Global, fields: &[u8]) -> Result<Option<Request>, AllocError>
     if fields.len() < 12 {
         return Ok(None);
     }
-    let sender = sender_of(fields);
-    let tag = BigEndian::read_u64(&fields[4..]);
+    let sender = first_number(fields);
+    let tag = tag_of(fields);
     let body = SendBody::copy_of(alloc, &fields[12..])?;
     Ok(Some(Request::Send { sender, tag, body }))
 }

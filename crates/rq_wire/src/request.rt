@@ -70,4 +70,11 @@ pub enum Request {
     Abort,
     /// Tell how many committed messages this sender has sent, and the last one's tag.
     LastTag(u32),
+    /// Mark this tag for a client.
+    Mark {
+        client: u32,
+        tag: u64,
+    },
+    /// Tell how many tags are marked for this client by committed transactions, and the last one.
+    ClientTag(u32),
 }

@@ -27,6 +27,7 @@ pub fn answer(answer: &Answer, out: &mut BytesMut) -> Result<(), NoMemory>
         Answer::Committed(lsn) => put_frame(out, 134, &one_number(*lsn), &[]),
         Answer::Aborted => put_frame(out, 135, &[], &[]),
         Answer::LastTag { sent, tag } => put_frame(out, 136, &two_numbers(*sent, *tag), &[]),
+        Answer::ClientTag { count, tag } => put_frame(out, 138, &two_numbers(*count, *tag), &[]),
         Answer::Refused(refusal) => put_frame(out, 255, &[refusal.number()], &[]),
     }
 }

@@ -1,2 +1,3 @@
 mod Leading
+mod Leaving
 mod Rounds

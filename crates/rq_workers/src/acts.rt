@@ -78,6 +78,7 @@ pub(crate) fn heard_in(reply: &Reply) -> Heard
         Reply::Checkpointed(_) => Heard::Other,
         Reply::Written(_) => Heard::Other,
         Reply::LastTag(_) => Heard::Other,
+        Reply::ClientTag(_) => Heard::Other,
         Reply::Content(_) => Heard::Other,
         Reply::Refused(refusal) => Heard::Refused(*refusal),
     }

@@ -35,6 +35,11 @@ pub(crate) fn copy_event(event: &Event) -> Option<Event>
             txn: *txn,
             sender: *sender,
         }),
+        Event::StartMark { txn, client, tag } => Some(Event::StartMark {
+            txn: *txn,
+            client: *client,
+            tag: *tag,
+        }),
         Event::Step(sub) => Some(Event::Step(*sub)),
         Event::Finish(sub) => Some(Event::Finish(*sub)),
         Event::Commit(txn) => Some(Event::Commit(*txn)),
@@ -47,6 +52,7 @@ pub(crate) fn copy_event(event: &Event) -> Option<Event>
         Event::Checkpoint => Some(Event::Checkpoint),
         Event::WritePage(page) => Some(Event::WritePage(*page)),
         Event::LastTag(sender) => Some(Event::LastTag(*sender)),
+        Event::ClientTag(client) => Some(Event::ClientTag(*client)),
         Event::Content => Some(Event::Content),
     }
 }

@@ -111,6 +111,7 @@ fn is_start(event: &Event) -> bool
         Event::StartReceive(_) => true,
         Event::StartReceiveFrom { .. } => true,
         Event::StartClose { .. } => true,
+        Event::StartMark { .. } => true,
         Event::UndoNext(_) => true,
         Event::Begin => false,
         Event::Step(_) => false,
@@ -124,6 +125,7 @@ fn is_start(event: &Event) -> bool
         Event::Checkpoint => false,
         Event::WritePage(_) => false,
         Event::LastTag(_) => false,
+        Event::ClientTag(_) => false,
         Event::Content => false,
     }
 }

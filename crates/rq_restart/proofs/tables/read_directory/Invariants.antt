@@ -1,8 +1,9 @@
-use Rattle.rq_restart.proofs.Counting.{AreToldTo}
+use Rattle.rq_restart.specs.Tables.{AreSentTo, AreWaitingTo}
 use Rattle.rq_restart.proofs.tables.read_directory.Given as goal
 
 -- the senders so far are told of
 abbrev pub invariant-loop-sender : goal.invariant-loop-sender
 invariant-loop-sender g l = record {
-  so_far : AreToldTo l.fn.pages.sizes l.fn.pages.images l.sender l.waiting l.sent;
+  waiting : AreWaitingTo l.fn.pages.sizes l.fn.pages.images l.sender l.waiting;
+  sent : AreSentTo l.fn.pages.sizes l.fn.pages.images l.sender l.sent;
 }

@@ -25,7 +25,7 @@ invariant_of-self-2 g c =
     let failed : c.self.inside.log.failed ≡ c.append-lsn.new.self.failed = running ∙ sym c.append-lsn.ensures.failed in
     let room : c.append-lsn.new.self.reserved ≡ c.self.inside.log.reserved = (let a = c.append-lsn.ensures.reserved in let b = c.spelled_len.ensures in let d = ap (λ l. l.reserved) c.in_ok-reserve.ensures.ok in omega (arith, a, b, d)) in
     record {
-      kept = rw (c.end.ensures, c.add_sends.ensures, c.count_sends.ensures, c.finished-finished.ensures, c.append-lsn.ensures.records, c.append-lsn.ensures.forced, room, sym failed, c.in_ok-reserve.ensures.ok)
+      kept = rw (c.end.ensures, c.add_sends.ensures, c.count_sends.ensures, c.senders.ensures.number, c.layout.ensures.sizes, c.finished-finished.ensures, c.append-lsn.ensures.records, c.append-lsn.ensures.forced, room, sym failed, c.in_ok-reserve.ensures.ok)
           (commit_kept _ _ _ _ c.in_ok-check_open.field-0 c.args.txn _ c.release.new.self _ c.self.invariant.kept ready full);
       durable = rw (c.append-lsn.ensures.settled, c.in_ok-reserve.ensures.ok) c.self.invariant.durable;
       cells = c.self.invariant.cells;
@@ -37,7 +37,7 @@ returns-clause-answered g c h earlier long =
     let full = ap (λ (s : State). log_full (ledger_of (on earlier s)) 1) (state_is c.self.view_is) ∙ full_on earlier c.args.self.now.state long 1 ∙ sym c.if-is_log_full.ensures in
     let running = ap (λ (s : State). s.failed) (state_is c.self.view_is) ∙ c.in_ok-check_open.ensures.running in
     let tested = subst (λ (s : State). NoneHolds (ready_tests (ledger_of s) c.args.txn false)) (sym (state_is c.self.view_is)) c.in_ok-check_open.ensures.passes in
-    from_inside_on earlier (state_is c.self.view_is) long (λ as_many k. rw (c.new.ensures.txn, c.new.ensures.lsn, c.append-lsn.ensures.lsn, c.end.ensures, c.release.ensures, c.add_sends.ensures, c.count_sends.ensures, c.finished-finished.ensures, c.append-lsn.ensures.records, c.append-lsn.ensures.forced, c.in_ok-reserve.ensures.ok) (commit_done _ _ _ _ c.in_ok-check_open.field-0 _ _ c.args.txn (kept_on earlier _ c.self.invariant.kept as_many) running tested ready full (let n = records_long earlier c.self.inside.log.records as_many in omega (arith, n)) (c.saturating_sub-self-inside.ensures ∙ ap (λ (n : ℕ). c.self.inside.cells_in_use - n) (c.count_takes.ensures ∙ ap (sum_by takes_one) c.finished-finished.ensures)) k))
+    from_inside_on earlier (state_is c.self.view_is) long (λ as_many k. rw (c.new.ensures.txn, c.new.ensures.lsn, c.append-lsn.ensures.lsn, c.end.ensures, c.release.ensures, c.add_sends.ensures, c.count_sends.ensures, c.senders.ensures.number, c.layout.ensures.sizes, c.finished-finished.ensures, c.append-lsn.ensures.records, c.append-lsn.ensures.forced, c.in_ok-reserve.ensures.ok) (commit_done _ _ _ _ c.in_ok-check_open.field-0 _ _ c.args.txn (kept_on earlier _ c.self.invariant.kept as_many) running tested ready full (let n = records_long earlier c.self.inside.log.records as_many in omega (arith, n)) (c.saturating_sub-self-inside.ensures ∙ ap (λ (n : ℕ). c.self.inside.cells_in_use - n) (c.count_takes.ensures ∙ ap (sum_by takes_one) c.finished-finished.ensures)) k))
 
 pub returns-then-is_log_full-clause-answered : goal.returns-then-is_log_full-clause-answered
 returns-then-is_log_full-clause-answered g c h earlier long = refuse_full (on earlier c.args.self.now.state) c.args.txn c.in_ok-check_open.ensures.passes (full_on earlier c.args.self.now.state long _ ∙ sym c.if-is_log_full.ensures)
@@ -46,7 +46,7 @@ pub returns-clause-lists : goal.returns-clause-lists
 returns-clause-lists g c =
     let ready = subst (λ (s : State). HasNothingUnderWay s c.args.txn c.in_ok-check_open.field-0) (sym (state_is c.self.view_is)) c.in_ok-check_open.ensures.ready in
     committed_from c.args.txn _ _ (state_is c.self.view_is)
-    (rw (c.end.ensures, c.release.ensures, c.add_sends.ensures, c.count_sends.ensures, c.finished-finished.ensures, c.append-lsn.ensures.records, c.append-lsn.ensures.forced, c.in_ok-reserve.ensures.ok)
+    (rw (c.end.ensures, c.release.ensures, c.add_sends.ensures, c.count_sends.ensures, c.senders.ensures.number, c.layout.ensures.sizes, c.finished-finished.ensures, c.append-lsn.ensures.records, c.append-lsn.ensures.forced, c.in_ok-reserve.ensures.ok)
     (committed_lists _ c.args.txn c.in_ok-check_open.field-0 _ _ c.new.ensures.txn (let a = c.new.ensures.lsn in let b = c.append-lsn.ensures.lsn in let d = ap length c.append-lsn.ensures.records in let e = ap (λ l. length l.records) c.in_ok-reserve.ensures.ok in omega (arith, a, b, d, e)) ready
     (c.saturating_sub-self-inside.ensures ∙ ap (λ (n : ℕ). c.self.inside.cells_in_use - n) (c.count_takes.ensures ∙ ap (sum_by takes_one) c.finished-finished.ensures))))
 

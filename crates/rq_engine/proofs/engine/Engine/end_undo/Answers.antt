@@ -2,11 +2,11 @@ use Rattle.std.proofs.Common.{◌≡◌, ◌+◌, ◌<◌, sym, ap, ◌∙◌, s
 use Rattle.rq_txn.specs.declared.Aim.{Aim}
 use Rattle.rq_txn.specs.declared.Aim.TheVariants.{Undoing}
 use Rattle.rq_views.specs.Plans.{deed_sender}
-use Rattle.rq_sound.proofs.Own.{has_sender}
 use Rattle.rq_store.specs.State.{State}
 use Rattle.rq_engine.specs.Answers.{IsUnderWay}
 use Rattle.rq_engine.proofs.Calls.{AllMade, going_range, going_owed, end_fits, end_room, end_sender, undo_kept}
 use Rattle.rq_engine.proofs.Opened.{state_is}
+use Rattle.rq_engine.proofs.Waits.{takes_below}
 use Rattle.rq_engine.proofs.engine.Engine.end_undo.Goals as goal
 
 pub append_comp_end-self-inside-requires-clause-record : goal.append_comp_end-self-inside-requires-clause-record
@@ -43,9 +43,9 @@ invariant_of-self g c =
     }
 
 pub returns-clause-sender : goal.returns-clause-sender
-returns-clause-sender g c =
+returns-clause-sender g c takes =
     let aim : Aim = Undoing c.args.lsn c.args.deed.now in
     let h = subst (λ (s : State). IsUnderWay s c.args.sub (AllMade aim)) (sym (state_is c.self.view_is)) c.requires.ready in
-    let below = has_sender c.self.inside.pages.sizes c.args.deed.now (end_sender _ _ _ _ c.self.invariant.kept c.args.sub aim h) in
+    let below = takes_below c.self.inside.pages.sizes c.args.deed.now (end_sender _ _ _ _ c.self.invariant.kept c.args.sub aim h) takes in
     let count = c.self.invariant.kept.senders in
     subst (λ (s : State). deed_sender c.args.deed.now < length s.waiting) (state_is c.self.view_is) (omega (arith, below, count))

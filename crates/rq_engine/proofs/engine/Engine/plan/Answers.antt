@@ -1,13 +1,11 @@
 use Rattle.std.proofs.Common.{List, ◌<◌, subst}
-use Rattle.rq_level.proofs.EachLevel.{all_lawful}
-use Rattle.rq_page.specs.Sizes.{sender_count}
 use Rattle.rq_txn.specs.Rows.{Row}
 use Rattle.rq_store.specs.State.{State}
 use Rattle.rq_planner.specs.Answered.{IsPlanned}
-use Rattle.rq_planner.specs.Asked.{doing_sender, known_from}
+use Rattle.rq_planner.specs.Asked.{IsTaskOf, known_from}
 use Rattle.rq_planner.specs.Asked.Asked.{Do}
 use Rattle.rq_planner.proofs.Knowing.{is_one}
-use Rattle.rq_planner.proofs.Replies.{asks_to_do}
+use Rattle.rq_planner.proofs.Asking.{asks_to_do, there_is_one}
 use Rattle.rq_engine.specs.Plans.{known_part}
 use Rattle.rq_engine.proofs.Opened.{state_is}
 use Rattle.rq_engine.proofs.engine.Engine.plan.Goals as goal
@@ -16,12 +14,12 @@ pub plan-requires-clause-known : goal.plan-requires-clause-known
 plan-requires-clause-known g c = c.self.invariant.cells
 
 pub plan-requires-clause-level : goal.plan-requires-clause-level
-plan-requires-clause-level g c = is_one c.self.inside.pages.sizes c.self.inside.pages.images c.self.inside.planner c.args.op.now.level c.self.invariant.cells ((all_lawful c.args.op.now.level).asked c.args.op.now.bytes c.requires.asked)
+plan-requires-clause-level g c = is_one c.self.inside.pages.sizes c.self.inside.pages.images c.self.inside.planner c.args.op.now.level c.self.invariant.cells (there_is_one c.args.op.now.level c.args.op.now.bytes c.requires.asked)
 
 pub invariant_of-self : goal.invariant_of-self
 invariant_of-self g c = record { kept = rw (c.spare-room.ensures) c.self.invariant.kept; durable = c.self.invariant.durable; cells = rw (c.plan.ensures.same) c.self.invariant.cells }
 
 pub returns-clause-planned : goal.returns-clause-planned
 returns-clause-planned g c d asked =
-    subst (λ (s : State). doing_sender d < sender_count s.sizes → IsPlanned (known_part s) (Do d) c.plan.result) (state_is c.self.view_is)
-    (subst (λ (rows : List Row). doing_sender d < sender_count c.self.inside.pages.sizes → IsPlanned (known_from c.self.inside.pages rows) (Do d) c.plan.result) c.spare-room.ensures (c.plan.ensures.planned (Do d) (asks_to_do c.args.op.now d c.requires.forward asked)))
+    subst (λ (s : State). IsTaskOf s.sizes d → IsPlanned (known_part s) (Do d) c.plan.result) (state_is c.self.view_is)
+    (subst (λ (rows : List Row). IsTaskOf c.self.inside.pages.sizes d → IsPlanned (known_from c.self.inside.pages rows) (Do d) c.plan.result) c.spare-room.ensures (c.plan.ensures.planned (Do d) (asks_to_do c.args.op.now d c.requires.forward asked)))

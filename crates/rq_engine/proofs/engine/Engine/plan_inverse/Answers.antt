@@ -6,6 +6,7 @@ use Rattle.rq_store.specs.State.{State}
 use Rattle.rq_planner.specs.Answered.{IsPlanned}
 use Rattle.rq_planner.specs.Asked.{known_from}
 use Rattle.rq_planner.specs.Asked.Asked.{Undo}
+use Rattle.rq_planner.proofs.Asking.{has_place}
 use Rattle.rq_planner.proofs.Knowing.{is_one}
 use Rattle.rq_engine.specs.Plans.{known_part}
 use Rattle.rq_engine.proofs.Opened.{state_is}
@@ -23,4 +24,4 @@ invariant_of-self g c = record { kept = rw (c.spare-room.ensures) c.self.invaria
 pub returns-clause-planned : goal.returns-clause-planned
 returns-clause-planned g c d told =
     subst (λ (s : State). IsDeedOf s.sizes d → IsPlanned (known_part s) (Undo d) c.plan_inverse.result) (state_is c.self.view_is)
-    (subst (λ (rows : List Row). IsDeedOf c.self.inside.pages.sizes d → IsPlanned (known_from c.self.inside.pages rows) (Undo d) c.plan_inverse.result) c.spare-room.ensures (c.plan_inverse.ensures.planned (Undo d) (ap (option_map Undo) told)))
+    (subst (λ (rows : List Row). IsDeedOf c.self.inside.pages.sizes d → IsPlanned (known_from c.self.inside.pages rows) (Undo d) c.plan_inverse.result) c.spare-room.ensures (λ own. c.plan_inverse.ensures.planned (Undo d) (ap (option_map Undo) told) (has_place c.self.inside.pages.sizes d own)))

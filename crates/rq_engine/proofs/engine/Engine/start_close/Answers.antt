@@ -8,6 +8,8 @@ use Rattle.rq_store.specs.State.{State}
 use Rattle.rq_sound.specs.Latching.{IsLatched}
 use Rattle.rq_planner.specs.Answered.{IsHeldUp}
 use Rattle.rq_planner.specs.Asked.Asked.{Do}
+use Rattle.rq_planner.specs.Asked.Task.{Chain}
+use Rattle.rq_planner.proofs.Asking.{chained}
 use Rattle.rq_engine.specs.Answers.{Refuses}
 use Rattle.rq_engine.specs.Applied.{OnLatched}
 use Rattle.rq_engine.specs.Earlier.{on}
@@ -27,15 +29,15 @@ start_planned-requires-clause-forward g c = ap (λ (j : Job). j.undo) c.in-Ok.en
 
 pub start_planned-requires-clause-may : goal.start_planned-requires-clause-may
 start_planned-requires-clause-may g c = record {
-  doing = Close c.args.sender;
-  is = c.in-Ok.ensures.told;
+  task = Chain (Close c.args.sender);
+  is = chained c.in-Ok.op.level c.in-Ok.op.bytes _ c.in-Ok.ensures.told;
   may = record { ready = c.in_ok-number.ensures.ready; free = c.in_ok-check_close.ensures.free; log = c.in_ok-check_close.ensures.log; inside = c.in_ok-check_close.ensures.sender };
 }
 
 pub returns-in-Ok-start_planned-clause-answered : goal.returns-in-Ok-start_planned-clause-answered
 returns-in-Ok-start_planned-clause-answered g c h earlier long =
     let s = c.args.self.now.state in
-    let b : HasStarted s c.args.txn c.in_ok-number.number (Sending c.args.sender) (Close c.args.sender) c.start_planned.new.self.state = (c.in-Ok-start_planned.ensures.started (Close c.args.sender) c.in-Ok.ensures.told).begun in
+    let b : HasStarted s c.args.txn c.in_ok-number.number (Sending c.args.sender) (Chain (Close c.args.sender)) c.start_planned.new.self.state = (c.in-Ok-start_planned.ensures.started (Chain (Close c.args.sender)) (chained c.in-Ok.op.level c.in-Ok.op.bytes _ c.in-Ok.ensures.told)).begun in
     close_done (on earlier s) c.args.txn c.args.sender c.in_ok-number.ensures.passes _ c.in_ok-number.number b.plan
     c.in_ok-number.ensures.ready b.planned.free (close_plan s c.args.sender c.in_ok-number.number b.plan c.in_ok-check_close.ensures.sender b.planned) (λ k. c.in_ok-check_close.ensures.passes earlier long k c.in_ok-number.ensures.passes)
     (ap (on earlier) b.state)
@@ -43,18 +45,18 @@ returns-in-Ok-start_planned-clause-answered g c h earlier long =
 pub returns-in-Ok-start_planned-clause-sizes : goal.returns-in-Ok-start_planned-clause-sizes
 returns-in-Ok-start_planned-clause-sizes g c =
     let s = c.args.self.now.state in
-    let b : HasStarted s c.args.txn c.in_ok-number.number (Sending c.args.sender) (Close c.args.sender) c.start_planned.new.self.state = (c.in-Ok-start_planned.ensures.started (Close c.args.sender) c.in-Ok.ensures.told).begun in
+    let b : HasStarted s c.args.txn c.in_ok-number.number (Sending c.args.sender) (Chain (Close c.args.sender)) c.start_planned.new.self.state = (c.in-Ok-start_planned.ensures.started (Chain (Close c.args.sender)) (chained c.in-Ok.op.level c.in-Ok.op.bytes _ c.in-Ok.ensures.told)).begun in
     ap (λ (x : State). x.sizes) (b.state)
 
 pub returns-in-Ok-start_planned-clause-latched : goal.returns-in-Ok-start_planned-clause-latched
 returns-in-Ok-start_planned-clause-latched g c earlier long k =
     let s = on earlier c.args.self.now.state in
-    close_unlatched s k c.args.txn c.args.sender (close_free s c.args.sender (c.in-Ok-start_planned.ensures.started (Close c.args.sender) c.in-Ok.ensures.told).free)
+    close_unlatched s k c.args.txn c.args.sender (close_free s c.args.sender (c.in-Ok-start_planned.ensures.started (Chain (Close c.args.sender)) (chained c.in-Ok.op.level c.in-Ok.op.bytes _ c.in-Ok.ensures.told)).free)
 
 pub returns-in-Ok-start_planned-clause-lists : goal.returns-in-Ok-start_planned-clause-lists
 returns-in-Ok-start_planned-clause-lists g c =
     let s = c.args.self.now.state in
-    let b : HasStarted s c.args.txn c.in_ok-number.number (Sending c.args.sender) (Close c.args.sender) c.start_planned.new.self.state = (c.in-Ok-start_planned.ensures.started (Close c.args.sender) c.in-Ok.ensures.told).begun in (
+    let b : HasStarted s c.args.txn c.in_ok-number.number (Sending c.args.sender) (Chain (Close c.args.sender)) c.start_planned.new.self.state = (c.in-Ok-start_planned.ensures.started (Chain (Close c.args.sender)) (chained c.in-Ok.op.level c.in-Ok.op.bytes _ c.in-Ok.ensures.told)).begun in (
       refl,
       record {
         under = under_plan c.in_ok-number.number b.plan;
@@ -68,13 +70,13 @@ returns-in-Ok-start_planned-clause-lists g c =
 pub returns-clause-answered : goal.returns-clause-answered
 returns-clause-answered g c h earlier long k =
     let s = on earlier c.args.self.now.state in
-    let p = c.in-Err.ensures.started (Close c.args.sender) c.in-Ok.ensures.told in
-    rw (c.in-Err.ensures.refused) (refused_for (λ (r : Refusal). Refuses s (Start_close c.args.txn c.args.sender) r) (IsHeldUp (known_part s) (Do (Close c.args.sender))) c.in-Err.refusal p.causes (p.sound earlier long k (c.in_ok-check_close.ensures.unclosed earlier long k c.in_ok-number.ensures.passes))
+    let p = c.in-Err.ensures.started (Chain (Close c.args.sender)) (chained c.in-Ok.op.level c.in-Ok.op.bytes _ c.in-Ok.ensures.told) in
+    rw (c.in-Err.ensures.refused) (refused_for (λ (r : Refusal). Refuses s (Start_close c.args.txn c.args.sender) r) (IsHeldUp (known_part s) (Do (Chain (Close c.args.sender)))) c.in-Err.refusal p.causes (p.sound earlier long k (c.in_ok-check_close.ensures.unclosed earlier long k c.in_ok-number.ensures.passes))
     (no_memory s _ c.in_ok-number.ensures.running (λ k. c.in_ok-check_close.ensures.passes earlier long k c.in_ok-number.ensures.passes) (λ k. refl)) (λ held. refused s c.args.txn c.args.sender c.in_ok-number.ensures.passes (λ k. c.in_ok-check_close.ensures.passes earlier long k c.in_ok-number.ensures.passes) (close_held s c.args.sender held)) k)
 
 pub returns-clause-latched : goal.returns-clause-latched
 returns-clause-latched g c earlier long k =
     let s = on earlier c.args.self.now.state in
-    let p = c.in-Err.ensures.started (Close c.args.sender) c.in-Ok.ensures.told in
-    refused_for (OnLatched (IsLatched s (Start_close c.args.txn c.args.sender))) (IsHeldUp (known_part s) (Do (Close c.args.sender))) c.in-Err.refusal p.causes (p.sound earlier long k (c.in_ok-check_close.ensures.unclosed earlier long k c.in_ok-number.ensures.passes))
+    let p = c.in-Err.ensures.started (Chain (Close c.args.sender)) (chained c.in-Ok.op.level c.in-Ok.op.bytes _ c.in-Ok.ensures.told) in
+    refused_for (OnLatched (IsLatched s (Start_close c.args.txn c.args.sender))) (IsHeldUp (known_part s) (Do (Chain (Close c.args.sender)))) c.in-Err.refusal p.causes (p.sound earlier long k (c.in_ok-check_close.ensures.unclosed earlier long k c.in_ok-number.ensures.passes))
     tt (λ held. close_refused s k c.args.txn c.args.sender (close_held s c.args.sender held))

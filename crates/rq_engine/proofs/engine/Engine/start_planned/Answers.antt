@@ -1,19 +1,17 @@
 use Rattle.std.proofs.Common.{◌≡◌, ◌<◌, refl, sym, ◌∙◌, ap, subst, true}
 use Rattle.rq_model.specs.Vocabulary.{is_some}
-use Rattle.rq_level.specs.Ops.{Doing}
-use Rattle.rq_page.specs.Sizes.{sender_count}
 use Rattle.rq_txn.specs.Rows.{change_row, row_started}
 use Rattle.rq_groups.specs.Sides.{is_free_end, with_end}
 use Rattle.rq_store.specs.State.{State}
 use Rattle.rq_planner.specs.Answered.{IsPlanOf}
-use Rattle.rq_planner.specs.Asked.{doing_sender}
+use Rattle.rq_planner.specs.Asked.{Task}
 use Rattle.rq_planner.specs.Asked.Asked.{Do}
-use Rattle.rq_planner.proofs.Replies.{asked_of}
+use Rattle.rq_planner.proofs.Asking.{asked_of}
 use Rattle.rq_engine.specs.Answers.{HasNothingUnderWay}
 use Rattle.rq_engine.specs.Earlier.{on}
-use Rattle.rq_engine.specs.Plans.{FitsPlan, HasStarted, known_part, planned_of, under_plan}
+use Rattle.rq_engine.specs.Plans.{FitsPlan, HasStarted, IsWithin, known_part, planned_of, under_plan}
 use Rattle.rq_engine.specs.Sends.{HasRoom}
-use Rattle.rq_engine.proofs.Leveled.{deed_plan, never_failed, plain_memory, plan_reads, plan_room, some_doing, start_answered, start_refused, told_by}
+use Rattle.rq_engine.proofs.Leveled.{deed_plan, never_failed, plain_memory, plan_reads, plan_room, some_task, start_answered, start_refused, told_by, within}
 use Rattle.rq_engine.proofs.Opened.{state_is}
 use Rattle.rq_engine.proofs.engine.Engine.start_planned.Goals as goal
 
@@ -28,29 +26,29 @@ start-requires-clause-free g c = subst (λ (x : State). is_free_end c.args.txn c
 
 pub start-requires-clause-told : goal.start-requires-clause-told
 start-requires-clause-told g c =
-    let p : IsPlanOf (known_part c.args.self.now.state) c.requires.may.doing c.in-Ok.plan = (c.in-Ok.ensures.planned c.requires.may.doing c.requires.may.is c.requires.may.may.inside).plan in
-    told_by c.level.result c.in-Ok.plan.deed p.deed p.told (plan_reads c.args.self.now.state c.requires.may.doing c.in-Ok.plan p c.level.result (c.level.ensures ∙ asked_of c.args.op.now.level c.args.op.now.bytes c.requires.may.doing c.requires.may.is))
+    let p : IsPlanOf (known_part c.args.self.now.state) c.requires.may.task c.in-Ok.plan = (c.in-Ok.ensures.planned c.requires.may.task c.requires.may.is (within c.args.self.now.state.sizes c.requires.may.task c.requires.may.may.inside)).plan in
+    told_by c.level.result c.in-Ok.plan.deed p.deed p.told (plan_reads c.args.self.now.state c.requires.may.task c.in-Ok.plan p c.level.result (c.level.ensures ∙ asked_of c.args.op.now.level c.args.op.now.bytes c.requires.may.task c.requires.may.is))
 
 pub start-requires-clause-fits : goal.start-requires-clause-fits
 start-requires-clause-fits g c =
     let s = c.args.self.now.state in
-    let p : IsPlanOf (known_part s) c.requires.may.doing c.in-Ok.plan = (c.in-Ok.ensures.planned c.requires.may.doing c.requires.may.is c.requires.may.may.inside).plan in
-    subst (λ (x : State). FitsPlan x.sizes (planned_of c.level.result c.in-Ok.plan)) (sym (state_is c.in-Ok.ensures.same)) (deed_plan s c.requires.may.doing c.in-Ok.plan p c.level.result (c.level.ensures ∙ asked_of c.args.op.now.level c.args.op.now.bytes c.requires.may.doing c.requires.may.is) c.requires.may.may.inside).fits
+    let p : IsPlanOf (known_part s) c.requires.may.task c.in-Ok.plan = (c.in-Ok.ensures.planned c.requires.may.task c.requires.may.is (within c.args.self.now.state.sizes c.requires.may.task c.requires.may.may.inside)).plan in
+    subst (λ (x : State). FitsPlan x.sizes (planned_of c.level.result c.in-Ok.plan)) (sym (state_is c.in-Ok.ensures.same)) (deed_plan s c.requires.may.task c.in-Ok.plan p c.level.result (c.level.ensures ∙ asked_of c.args.op.now.level c.args.op.now.bytes c.requires.may.task c.requires.may.is) c.requires.may.may.inside).fits
 
 pub start-requires-clause-log : goal.start-requires-clause-log
 start-requires-clause-log g c =
     let s = c.args.self.now.state in
-    let d = c.requires.may.doing in
-    let p : IsPlanOf (known_part s) d c.in-Ok.plan = (c.in-Ok.ensures.planned c.requires.may.doing c.requires.may.is c.requires.may.may.inside).plan in
+    let d = c.requires.may.task in
+    let p : IsPlanOf (known_part s) d c.in-Ok.plan = (c.in-Ok.ensures.planned c.requires.may.task c.requires.may.is (within c.args.self.now.state.sizes c.requires.may.task c.requires.may.may.inside)).plan in
     subst (λ (x : State). HasRoom x c.in-Ok.plan.writes.items) (sym (state_is c.in-Ok.ensures.same))
-    (plan_room s d (planned_of c.level.result c.in-Ok.plan) c.requires.may.may.inside c.requires.may.may.log (deed_plan s d c.in-Ok.plan p c.level.result (c.level.ensures ∙ asked_of c.args.op.now.level c.args.op.now.bytes c.requires.may.doing c.requires.may.is) c.requires.may.may.inside))
+    (plan_room s d (planned_of c.level.result c.in-Ok.plan) c.requires.may.may.inside c.requires.may.may.log (deed_plan s d c.in-Ok.plan p c.level.result (c.level.ensures ∙ asked_of c.args.op.now.level c.args.op.now.bytes c.requires.may.task c.requires.may.is) c.requires.may.may.inside))
 
 pub returns-in-Ok-clause-started : goal.returns-in-Ok-clause-started
 returns-in-Ok-clause-started g c d e =
     let s = c.args.self.now.state in
     let plan = c.in-Ok.plan in
-    let inside : doing_sender d < sender_count s.sizes = subst (λ (x : Doing). doing_sender x < sender_count s.sizes) (some_doing c.requires.may.doing d (sym c.requires.may.is ∙ e)) c.requires.may.may.inside in
-    let is = c.in-Ok.ensures.planned d e inside in
+    let inside : IsWithin s.sizes d = subst (λ (x : Task). IsWithin s.sizes x) (some_task c.requires.may.task d (sym c.requires.may.is ∙ e)) c.requires.may.may.inside in
+    let is = c.in-Ok.ensures.planned d e (within s.sizes d inside) in
     start_answered s (Do d) (HasStarted s c.args.txn c.args.number c.args.end d c.start.new.self.state) c.start.result is.free
     (λ begun. record {
       plan = planned_of c.level.result plan;
@@ -62,12 +60,12 @@ returns-in-Ok-clause-started g c d e =
 pub returns-in-Err-clause-started : goal.returns-in-Err-clause-started
 returns-in-Err-clause-started g c d e =
     let s = c.args.self.now.state in
-    let inside : doing_sender d < sender_count s.sizes = subst (λ (x : Doing). doing_sender x < sender_count s.sizes) (some_doing c.requires.may.doing d (sym c.requires.may.is ∙ e)) c.requires.may.may.inside in
-    let is = c.in-Err.ensures.planned d e inside in
+    let inside : IsWithin s.sizes d = subst (λ (x : Task). IsWithin s.sizes x) (some_task c.requires.may.task d (sym c.requires.may.is ∙ e)) c.requires.may.may.inside in
+    let is = c.in-Err.ensures.planned d e (within s.sizes d inside) in
     start_refused s (Do d) _ c.in-Err.refusal is.causes (λ earlier long k may. is.sound (on earlier s) refl k may)
 
 pub returns-in-Ok-clause-plain : goal.returns-in-Ok-clause-plain
 returns-in-Ok-clause-plain g c = plain_memory c.start.result c.start.ensures.refusal
 
 pub returns-in-Err-clause-plain : goal.returns-in-Err-clause-plain
-returns-in-Err-clause-plain g c = never_failed _ c.in-Err.refusal (c.in-Err.ensures.planned c.requires.may.doing c.requires.may.is c.requires.may.may.inside).causes
+returns-in-Err-clause-plain g c = never_failed _ c.in-Err.refusal (c.in-Err.ensures.planned c.requires.may.task c.requires.may.is (within c.args.self.now.state.sizes c.requires.may.task c.requires.may.may.inside)).causes

@@ -5,8 +5,10 @@ use Rattle.rq_model.specs.Vocabulary.{message_of}
 use Rattle.rq_groups.specs.declared.End.TheVariants.{Sending}
 use Rattle.rq_level.specs.Ops.{Job}
 use Rattle.rq_level.specs.Ops.Doing.{Send}
+use Rattle.rq_planner.specs.Asked.Task.{Chain}
 use Rattle.rq_store.specs.State.{State}
 use Rattle.rq_sound.specs.Latching.{IsLatched}
+use Rattle.rq_planner.proofs.Asking.{chained}
 use Rattle.rq_engine.specs.Answers.{Refuses}
 use Rattle.rq_engine.specs.Applied.{OnLatched}
 use Rattle.rq_engine.specs.Earlier.{on}
@@ -29,15 +31,15 @@ start_planned-requires-clause-forward g c = ap (λ (j : Job). j.undo) c.in-Ok.en
 
 pub start_planned-requires-clause-may : goal.start_planned-requires-clause-may
 start_planned-requires-clause-may g c = record {
-  doing = Send c.args.sender c.args.tag c.args.body.now;
-  is = (c.in-Ok.ensures.told c.in_ok-check_send.ensures.short);
+  task = Chain (Send c.args.sender c.args.tag c.args.body.now);
+  is = (chained c.in-Ok.op.level c.in-Ok.op.bytes _ (c.in-Ok.ensures.told c.in_ok-check_send.ensures.short));
   may = record { ready = c.in_ok-number.ensures.ready; free = c.in_ok-check_send.ensures.free; log = c.in_ok-check_send.ensures.log; inside = c.in_ok-check_send.ensures.sender };
 }
 
 pub returns-in-Ok-start_planned-clause-answered : goal.returns-in-Ok-start_planned-clause-answered
 returns-in-Ok-start_planned-clause-answered g c h earlier long =
     let s = c.args.self.now.state in
-    let b : HasStarted s c.args.txn c.in_ok-number.number (Sending c.args.sender) (Send c.args.sender c.args.tag c.args.body.now) c.start_planned.new.self.state = (c.in-Ok-start_planned.ensures.started (Send c.args.sender c.args.tag c.args.body.now) (c.in-Ok.ensures.told c.in_ok-check_send.ensures.short)).begun in
+    let b : HasStarted s c.args.txn c.in_ok-number.number (Sending c.args.sender) (Chain (Send c.args.sender c.args.tag c.args.body.now)) c.start_planned.new.self.state = (c.in-Ok-start_planned.ensures.started (Chain (Send c.args.sender c.args.tag c.args.body.now)) (chained c.in-Ok.op.level c.in-Ok.op.bytes _ (c.in-Ok.ensures.told c.in_ok-check_send.ensures.short))).begun in
     send_done (on earlier s) _ c.args.txn c.in_ok-number.number c.args.sender c.args.tag c.args.body.now b.plan
     c.in_ok-number.ensures.ready c.in_ok-number.ensures.passes b.planned.free (send_plan s c.args.sender c.in_ok-number.number b.plan c.in_ok-check_send.ensures.sender c.args.tag c.args.body.now b.planned) c.in_ok-check_send.ensures.free c.in_ok-check_send.ensures.room
     (λ k. c.in_ok-check_send.ensures.passes earlier long k c.in_ok-number.ensures.passes)
@@ -46,23 +48,23 @@ returns-in-Ok-start_planned-clause-answered g c h earlier long =
 pub returns-in-Ok-start_planned-clause-sizes : goal.returns-in-Ok-start_planned-clause-sizes
 returns-in-Ok-start_planned-clause-sizes g c =
     let s = c.args.self.now.state in
-    let b : HasStarted s c.args.txn c.in_ok-number.number (Sending c.args.sender) (Send c.args.sender c.args.tag c.args.body.now) c.start_planned.new.self.state = (c.in-Ok-start_planned.ensures.started (Send c.args.sender c.args.tag c.args.body.now) (c.in-Ok.ensures.told c.in_ok-check_send.ensures.short)).begun in
+    let b : HasStarted s c.args.txn c.in_ok-number.number (Sending c.args.sender) (Chain (Send c.args.sender c.args.tag c.args.body.now)) c.start_planned.new.self.state = (c.in-Ok-start_planned.ensures.started (Chain (Send c.args.sender c.args.tag c.args.body.now)) (chained c.in-Ok.op.level c.in-Ok.op.bytes _ (c.in-Ok.ensures.told c.in_ok-check_send.ensures.short))).begun in
     ap (λ (x : State). x.sizes) (state_is c.self-2.view_is ∙ b.state)
 
 pub returns-in-Ok-start_planned-clause-latched : goal.returns-in-Ok-start_planned-clause-latched
 returns-in-Ok-start_planned-clause-latched g c earlier long k =
-    send_unlatched (on earlier c.args.self.now.state) k c.args.txn c.args.sender c.args.tag c.args.body.now (c.in-Ok-start_planned.ensures.started (Send c.args.sender c.args.tag c.args.body.now) (c.in-Ok.ensures.told c.in_ok-check_send.ensures.short)).free
+    send_unlatched (on earlier c.args.self.now.state) k c.args.txn c.args.sender c.args.tag c.args.body.now (c.in-Ok-start_planned.ensures.started (Chain (Send c.args.sender c.args.tag c.args.body.now)) (chained c.in-Ok.op.level c.in-Ok.op.bytes _ (c.in-Ok.ensures.told c.in_ok-check_send.ensures.short))).free
 
 pub returns-in-Ok-start_planned-clause-lowest : goal.returns-in-Ok-start_planned-clause-lowest
 returns-in-Ok-start_planned-clause-lowest g c =
     let s = c.args.self.now.state in
-    let b : HasStarted s c.args.txn c.in_ok-number.number (Sending c.args.sender) (Send c.args.sender c.args.tag c.args.body.now) c.start_planned.new.self.state = (c.in-Ok-start_planned.ensures.started (Send c.args.sender c.args.tag c.args.body.now) (c.in-Ok.ensures.told c.in_ok-check_send.ensures.short)).begun in
+    let b : HasStarted s c.args.txn c.in_ok-number.number (Sending c.args.sender) (Chain (Send c.args.sender c.args.tag c.args.body.now)) c.start_planned.new.self.state = (c.in-Ok-start_planned.ensures.started (Chain (Send c.args.sender c.args.tag c.args.body.now)) (chained c.in-Ok.op.level c.in-Ok.op.bytes _ (c.in-Ok.ensures.told c.in_ok-check_send.ensures.short))).begun in
     going_started s _ c.args.txn c.in_ok-number.number b.plan (λ r u. TakesLowest s u.writes) c.in_ok-number.ensures.ready (ap (λ (x : State). x.rows) (state_is c.self-2.view_is ∙ b.state)) (λ r. b.planned.lowest)
 
 pub returns-in-Ok-start_planned-clause-lists : goal.returns-in-Ok-start_planned-clause-lists
 returns-in-Ok-start_planned-clause-lists g c =
     let s = c.args.self.now.state in
-    let b : HasStarted s c.args.txn c.in_ok-number.number (Sending c.args.sender) (Send c.args.sender c.args.tag c.args.body.now) c.start_planned.new.self.state = (c.in-Ok-start_planned.ensures.started (Send c.args.sender c.args.tag c.args.body.now) (c.in-Ok.ensures.told c.in_ok-check_send.ensures.short)).begun in (
+    let b : HasStarted s c.args.txn c.in_ok-number.number (Sending c.args.sender) (Chain (Send c.args.sender c.args.tag c.args.body.now)) c.start_planned.new.self.state = (c.in-Ok-start_planned.ensures.started (Chain (Send c.args.sender c.args.tag c.args.body.now)) (chained c.in-Ok.op.level c.in-Ok.op.bytes _ (c.in-Ok.ensures.told c.in_ok-check_send.ensures.short))).begun in (
       refl,
       record {
         under = under_plan c.in_ok-number.number b.plan;
@@ -79,7 +81,7 @@ returns-clause-answered g c h earlier long k =
     let s = on earlier old in
     let few = not_full old 4 c.in_ok-check_send.ensures.log in
     let n = long_on earlier old long in
-    let p = c.in-Err.ensures.started (Send c.args.sender c.args.tag c.args.body.now) (c.in-Ok.ensures.told c.in_ok-check_send.ensures.short) in
+    let p = c.in-Err.ensures.started (Chain (Send c.args.sender c.args.tag c.args.body.now)) (chained c.in-Ok.op.level c.in-Ok.op.bytes _ (c.in-Ok.ensures.told c.in_ok-check_send.ensures.short)) in
     rw (c.in-Err.ensures.refused) (refused_for (λ (r : Refusal). Refuses s (Start_send c.args.txn (message_of c.args.sender c.args.tag c.args.body.now)) r) (SendIsLatched s c.args.sender) c.in-Err.refusal p.causes (p.sound earlier long k (c.in_ok-check_send.ensures.room, omega (arith, few, n)))
     (no_memory s _ c.in_ok-number.ensures.running (λ k. c.in_ok-check_send.ensures.passes earlier long k c.in_ok-number.ensures.passes) (λ k. refl)) (send_refused s c.args.txn c.args.sender c.args.tag c.args.body.now (λ k. c.in_ok-check_send.ensures.passes earlier long k c.in_ok-number.ensures.passes) c.in_ok-check_send.ensures.room) k)
 
@@ -89,13 +91,13 @@ returns-clause-latched g c earlier long k =
     let s = on earlier old in
     let few = not_full old 4 c.in_ok-check_send.ensures.log in
     let n = long_on earlier old long in
-    let p = c.in-Err.ensures.started (Send c.args.sender c.args.tag c.args.body.now) (c.in-Ok.ensures.told c.in_ok-check_send.ensures.short) in
+    let p = c.in-Err.ensures.started (Chain (Send c.args.sender c.args.tag c.args.body.now)) (chained c.in-Ok.op.level c.in-Ok.op.bytes _ (c.in-Ok.ensures.told c.in_ok-check_send.ensures.short)) in
     refused_for (OnLatched (IsLatched s (Start_send c.args.txn (message_of c.args.sender c.args.tag c.args.body.now)))) (SendIsLatched s c.args.sender) c.in-Err.refusal p.causes (p.sound earlier long k (c.in_ok-check_send.ensures.room, omega (arith, few, n)))
     tt (send_latched s k c.args.txn c.args.sender c.args.tag c.args.body.now)
 
 pub overflow_add-self : goal.overflow_add-self
 overflow_add-self g c =
-    let b : HasStarted c.args.self.now.state c.args.txn c.in_ok-number.number (Sending c.args.sender) (Send c.args.sender c.args.tag c.args.body.now) c.start_planned.new.self.state = (c.in-Ok-start_planned.ensures.started (Send c.args.sender c.args.tag c.args.body.now) (c.in-Ok.ensures.told c.in_ok-check_send.ensures.short)).begun in
+    let b : HasStarted c.args.self.now.state c.args.txn c.in_ok-number.number (Sending c.args.sender) (Chain (Send c.args.sender c.args.tag c.args.body.now)) c.start_planned.new.self.state = (c.in-Ok-start_planned.ensures.started (Chain (Send c.args.sender c.args.tag c.args.body.now)) (chained c.in-Ok.op.level c.in-Ok.op.bytes _ (c.in-Ok.ensures.told c.in_ok-check_send.ensures.short))).begun in
     let same : c.self-2.inside.cells_in_use ≡ c.args.self.now.state.cells_in_use = ap (λ (x : State). x.cells_in_use) (state_is c.self-2.view_is ∙ b.state) in
     let small = c.in_ok-check_send.ensures.small in
     omega (arith, same, small)

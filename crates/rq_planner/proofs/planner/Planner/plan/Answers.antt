@@ -3,7 +3,7 @@ use Rattle.rq_level.specs.LevelState.{LevelState}
 use Rattle.rq_level.specs.Meaning.{kept_at, meaning_of}
 use Rattle.rq_planner.specs.Answered.{IsAnswered, MayPlan, wants_of}
 use Rattle.rq_planner.specs.Asked.{known_from}
-use Rattle.rq_planner.proofs.Replies.{plan_says}
+use Rattle.rq_planner.proofs.Asking.{plan_says}
 use Rattle.rq_planner.proofs.planner.Planner.plan.Goals as goal
 
 pub returns-clause-planned : goal.returns-clause-planned

@@ -4,7 +4,7 @@ use Rattle.rq_level.specs.Meaning.{kept_at, meaning_of}
 use Rattle.rq_planner.specs.Answered.{IsAnswered, MayUndo, to_take_back, wants_of}
 use Rattle.rq_planner.specs.Asked.{known_from}
 use Rattle.rq_planner.proofs.Backs.{back_judged}
-use Rattle.rq_planner.proofs.Replies.{back_says}
+use Rattle.rq_planner.proofs.Asking.{back_says}
 use Rattle.rq_planner.proofs.planner.Planner.plan_inverse.Goals as goal
 
 pub returns-clause-planned : goal.returns-clause-planned

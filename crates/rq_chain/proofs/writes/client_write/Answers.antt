@@ -1,0 +1,22 @@
+use Rattle.rq_chain.proofs.Slots.{client_told, same_write_at}
+use Rattle.rq_chain.proofs.writes.client_write.Goals as goal
+
+pub returns-clause-write : goal.returns-clause-write
+returns-clause-write c =
+    let z = c.args.layout.now in
+    let held = c.args.held.now in
+    let after = c.args.after.now in
+    let at = c.client_slot_of-at.ensures in
+    let first = client_told z c.client_slot_of-at.result held c.encode.result at c.requires.below c.requires.held c.encode.ensures in
+    let last = client_told z c.client_slot_of-at.result after c.encode-2.result (rw c.requires.same at) (rw c.requires.same c.requires.below) c.requires.after c.encode-2.ensures in
+    same_write_at _ _ _ _ _ _ at first.told last.told
+
+pub returns-clause-slots : goal.returns-clause-slots
+returns-clause-slots c =
+    let z = c.args.layout.now in
+    let held = c.args.held.now in
+    let after = c.args.after.now in
+    let at = c.client_slot_of-at.ensures in
+    let first = client_told z c.client_slot_of-at.result held c.encode.result at c.requires.below c.requires.held c.encode.ensures in
+    let last = client_told z c.client_slot_of-at.result after c.encode-2.result (rw c.requires.same at) (rw c.requires.same c.requires.below) c.requires.after c.encode-2.ensures in
+    record { place = first.place; before = first.slot; after = last.slot }

@@ -1,0 +1,127 @@
+//! The plans of marks of clients' tags.
+ghost use Rattle.std.specs.Prelude.{◌≡◌, ◌+◌, ◌-◌, ◌<◌, ◌^◌, [], ◌∷◌, IfErr, IfOk, reverse};
+ghost use Rattle.rq_page.specs.Clients.{IsClientSlot};
+ghost use Rattle.rq_page.specs.Sizes.{client_count};
+ghost use Rattle.rq_views.specs.Items.{layout_of};
+ghost use Rattle.rq_views.specs.Plans.{client_write};
+ghost use Rattle.rq_level.specs.Given.{AreGiven};
+ghost use Rattle.rq_level.specs.LevelState.{LevelState};
+ghost use Rattle.rq_level.specs.TagPlans.{CanTag, CanUntag, IsTagPlan, IsUntagPlan, RefusesTag};
+ghost use Rattle.rq_level.specs.Writes.{AreSlotWrites, writes_of};
+ghost use Rattle.rq_chain.specs.Refusing.{IsOfClient};
+
+use crate::given::{MARK_LIMIT, client_given};
+use crate::level::inverse;
+use crate::writes::client_write;
+use rq_level::{Plan, Replies, SlotWrite, Slots, only};
+use rq_model::refusal::{Damage, NoMemory, Refusal};
+use rq_page::client::ClientSlot;
+use rq_page::layout::{Layout, SLOTS};
+use rq_record::encode_mark;
+
+/// The plan of a mark.
+pub(crate) fn marked(
+    room: Vec<SlotWrite>,
+    layout: &Layout,
+    given: &Slots,
+    client: u32,
+    tag: u64,
+) -> Result<Plan, Refusal>
+    requires { AreGiven layout.now given.now }
+    ensures ok { IfOk result (λ p. (k : LevelState) → IsTagPlan layout.now k given.now client tag p k) }
+    ensures err { IfErr result (λ r. RefusesTag layout.now client (CanTag layout.now given.now client) r) }
+{
+    let damaged = Refusal::Damaged(damage_of(layout, client));
+    let Some(held) = client_given(layout, given, client) else {
+        return Err(damaged);
+    };
+    if held.count > MARK_LIMIT {
+        return Err(damaged);
+    }
+    match rewritten(room, layout, &held, &counted(&held, tag)) {
+        Ok(writes) => Ok(Plan {
+            writes,
+            deed: encode_mark(client, tag, held.tag),
+            reply: Replies::Deed,
+        }),
+        Err(NoMemory) => Err(Refusal::NoMemory),
+    }
+}
+
+/// The plan of the inverse of a mark.
+pub(crate) fn unmarked(
+    room: Vec<SlotWrite>,
+    layout: &Layout,
+    given: &Slots,
+    client: u32,
+    tag: u64,
+    previous: u64,
+) -> Result<Plan, Refusal>
+    requires { AreGiven layout.now given.now }
+    ensures ok { IfOk result (λ p. (k : LevelState) → IsUntagPlan layout.now k given.now client tag previous p k) }
+    ensures err { IfErr result (λ r. RefusesTag layout.now client (CanUntag layout.now given.now client tag) r) }
+{
+    let damaged = Refusal::Damaged(damage_of(layout, client));
+    let Some(held) = client_given(layout, given, client) else {
+        return Err(damaged);
+    };
+    if held.count == 0 || held.tag != tag {
+        return Err(damaged);
+    }
+    match rewritten(room, layout, &held, &uncounted(&held, previous)) {
+        Ok(writes) => Ok(inverse(writes)),
+        Err(NoMemory) => Err(Refusal::NoMemory),
+    }
+}
+
+// The write that has a client's slot hold something else, in a vector.
+fn rewritten(
+    room: Vec<SlotWrite>,
+    layout: &Layout,
+    held: &ClientSlot,
+    after: &ClientSlot,
+) -> Result<Vec<SlotWrite>, NoMemory>
+    requires below { held.now.client < client_count layout.now }
+    requires held { IsClientSlot held.now }
+    requires after { IsClientSlot after.now }
+    requires same { after.now.client ≡ held.now.client }
+    ensures writes { IfOk result (λ writes. reverse (writes_of layout.now writes.items)
+        ≡ client_write (layout_of layout.now) held.now after.now ∷ []) }
+    ensures slots { IfOk result (λ writes. AreSlotWrites layout.now writes.items) }
+{
+    only(room, client_write(layout, held, after))
+}
+
+// What a client's slot holds once it counts one tag more.
+fn counted(held: &ClientSlot, tag: u64) -> ClientSlot
+    requires { held.now.count < 2 ^ 64 - 1 }
+    ensures held { result ≡ record held.now { count = held.now.count + 1; tag = tag } }
+    ensures fits { IsClientSlot result }
+{
+    ClientSlot {
+        client: held.client,
+        count: held.count + 1,
+        tag,
+    }
+}
+
+// What a client's slot holds once it counts one tag less, and has the one before it.
+fn uncounted(held: &ClientSlot, previous: u64) -> ClientSlot
+    requires some { 0 < held.now.count }
+    requires held { IsClientSlot held.now }
+    ensures held { result ≡ record held.now { count = held.now.count - 1; tag = previous } }
+    ensures fits { IsClientSlot result }
+{
+    ClientSlot {
+        client: held.client,
+        count: held.count - 1,
+        tag: previous,
+    }
+}
+
+// The damage that is told of a client's tags: that of the page where its slot stands.
+fn damage_of(layout: &Layout, client: u32) -> Damage
+    ensures { IsOfClient layout.now client result }
+{
+    Damage::Page(layout.tags_from() + client / SLOTS)
+}

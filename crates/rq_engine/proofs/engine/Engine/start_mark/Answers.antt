@@ -1,0 +1,105 @@
+use Rattle.std.proofs.Common.{rules, ◌≤◌, ◌+◌, ◌^◌, length, refl, ap, arith}
+use Rattle.rq_model.specs.declared.refusal.Refusal.{Refusal}
+use Rattle.rq_model.specs.History.Call.{Start_mark}
+use Rattle.rq_groups.specs.declared.End.TheVariants.{Marking}
+use Rattle.rq_level.specs.Ops.{Job, Tagging}
+use Rattle.rq_store.specs.State.{State}
+use Rattle.rq_sound.specs.Latching.{IsLatched}
+use Rattle.rq_planner.specs.Answered.{IsHeldUp}
+use Rattle.rq_planner.specs.Asked.Asked.{Do}
+use Rattle.rq_planner.specs.Asked.Task.{Tag}
+use Rattle.rq_planner.proofs.Asking.{tagged}
+use Rattle.rq_engine.specs.Answers.{Refuses}
+use Rattle.rq_engine.specs.Applied.{OnLatched}
+use Rattle.rq_engine.specs.Earlier.{on}
+use Rattle.rq_engine.specs.Plans.{HasStarted, known_part, under_plan}
+use Rattle.rq_engine.proofs.Earlier.{long_on}
+use Rattle.rq_engine.proofs.MarkCalls.{mark_done, refused}
+use Rattle.rq_engine.proofs.Latches.{mark_refused, mark_unlatched}
+use Rattle.rq_engine.proofs.Leveled.{mark_free, mark_held, mark_plan, refused_for}
+use Rattle.rq_engine.proofs.Refusals.{no_memory, not_full}
+use Rattle.rq_engine.proofs.engine.Engine.start_mark.Goals as goal
+
+pub returns-in_default-clause-answered : goal.returns-in_default-clause-answered
+returns-in_default-clause-answered g c h earlier long =
+    no_memory (on earlier c.args.self.now.state) _ c.in_ok-number.ensures.running (λ k. c.in_ok-check_mark.ensures.passes earlier c.args.tag long k c.in_ok-number.ensures.passes) (λ k. refl)
+
+pub start_planned-requires-clause-forward : goal.start_planned-requires-clause-forward
+start_planned-requires-clause-forward g c = ap (λ (j : Job). j.undo) c.in-Ok.ensures.op
+
+pub start_planned-requires-clause-may : goal.start_planned-requires-clause-may
+start_planned-requires-clause-may g c = record {
+  task = Tag (record { client = c.args.client; tag = c.args.tag });
+  is = tagged c.in-Ok.op.level c.in-Ok.op.bytes _ (ap (λ (j : Job). j.level) c.in-Ok.ensures.op) c.in-Ok.ensures.told;
+  may = record { ready = c.in_ok-number.ensures.ready; free = c.in_ok-check_mark.ensures.free; log = c.in_ok-check_mark.ensures.log; inside = c.in_ok-check_mark.ensures.client c.args.tag };
+}
+
+pub returns-in-Ok-start_planned-clause-answered : goal.returns-in-Ok-start_planned-clause-answered
+returns-in-Ok-start_planned-clause-answered g c h earlier long =
+    let s = c.args.self.now.state in
+    let mark : Tagging = record { client = c.args.client; tag = c.args.tag } in
+    let told = tagged c.in-Ok.op.level c.in-Ok.op.bytes _ (ap (λ (j : Job). j.level) c.in-Ok.ensures.op) c.in-Ok.ensures.told in
+    let b : HasStarted s c.args.txn c.in_ok-number.number (Marking c.args.client) (Tag mark) c.start_planned.new.self.state = (c.in-Ok-start_planned.ensures.started (Tag mark) told).begun in
+    mark_done (on earlier s) c.args.txn c.args.client c.args.tag c.in_ok-number.ensures.passes _ c.in_ok-number.number b.plan
+    c.in_ok-number.ensures.ready b.planned.free (mark_plan s mark c.in_ok-number.number b.plan (c.in_ok-check_mark.ensures.client c.args.tag).0 b.planned) (λ k. c.in_ok-check_mark.ensures.passes earlier c.args.tag long k c.in_ok-number.ensures.passes)
+    (ap (on earlier) b.state)
+
+pub returns-in-Ok-start_planned-clause-sizes : goal.returns-in-Ok-start_planned-clause-sizes
+returns-in-Ok-start_planned-clause-sizes g c =
+    let s = c.args.self.now.state in
+    let mark : Tagging = record { client = c.args.client; tag = c.args.tag } in
+    let told = tagged c.in-Ok.op.level c.in-Ok.op.bytes _ (ap (λ (j : Job). j.level) c.in-Ok.ensures.op) c.in-Ok.ensures.told in
+    let b : HasStarted s c.args.txn c.in_ok-number.number (Marking c.args.client) (Tag mark) c.start_planned.new.self.state = (c.in-Ok-start_planned.ensures.started (Tag mark) told).begun in
+    ap (λ (x : State). x.sizes) (b.state)
+
+pub returns-in-Ok-start_planned-clause-latched : goal.returns-in-Ok-start_planned-clause-latched
+returns-in-Ok-start_planned-clause-latched g c earlier long k =
+    let s = on earlier c.args.self.now.state in
+    let mark : Tagging = record { client = c.args.client; tag = c.args.tag } in
+    let told = tagged c.in-Ok.op.level c.in-Ok.op.bytes _ (ap (λ (j : Job). j.level) c.in-Ok.ensures.op) c.in-Ok.ensures.told in
+    mark_unlatched s k c.args.txn c.args.client c.args.tag (mark_free s mark (c.in-Ok-start_planned.ensures.started (Tag mark) told).free)
+
+pub returns-in-Ok-start_planned-clause-lists : goal.returns-in-Ok-start_planned-clause-lists
+returns-in-Ok-start_planned-clause-lists g c =
+    let s = c.args.self.now.state in
+    let mark : Tagging = record { client = c.args.client; tag = c.args.tag } in
+    let told = tagged c.in-Ok.op.level c.in-Ok.op.bytes _ (ap (λ (j : Job). j.level) c.in-Ok.ensures.op) c.in-Ok.ensures.told in
+    let b : HasStarted s c.args.txn c.in_ok-number.number (Marking c.args.client) (Tag mark) c.start_planned.new.self.state = (c.in-Ok-start_planned.ensures.started (Tag mark) told).begun in (
+      refl,
+      record {
+        under = under_plan c.in_ok-number.number b.plan;
+        number = refl;
+        ready = c.in_ok-number.ensures.ready;
+        plan = mark_plan s mark c.in_ok-number.number b.plan (c.in_ok-check_mark.ensures.client c.args.tag).0 b.planned;
+        lists = b.state;
+      },
+    )
+
+pub returns-clause-answered : goal.returns-clause-answered
+returns-clause-answered g c h earlier long k =
+    let old = c.args.self.now.state in
+    let s = on earlier old in
+    let mark : Tagging = record { client = c.args.client; tag = c.args.tag } in
+    let told = tagged c.in-Ok.op.level c.in-Ok.op.bytes _ (ap (λ (j : Job). j.level) c.in-Ok.ensures.op) c.in-Ok.ensures.told in
+    let p = c.in-Err.ensures.started (Tag mark) told in
+    let few = not_full old 2 c.in_ok-check_mark.ensures.log in
+    let n = long_on earlier old long in
+    rw (c.in-Err.ensures.refused) (refused_for (λ (r : Refusal). Refuses s (Start_mark c.args.txn c.args.client c.args.tag) r) (IsHeldUp (known_part s) (Do (Tag mark))) c.in-Err.refusal p.causes (p.sound earlier long k (omega (arith, few, n)))
+    (no_memory s _ c.in_ok-number.ensures.running (λ k. c.in_ok-check_mark.ensures.passes earlier c.args.tag long k c.in_ok-number.ensures.passes) (λ k. refl)) (λ held. refused s c.args.txn c.args.client c.args.tag c.in_ok-number.ensures.passes (λ k. c.in_ok-check_mark.ensures.passes earlier c.args.tag long k c.in_ok-number.ensures.passes) (mark_held s mark held)) k)
+
+pub returns-clause-latched : goal.returns-clause-latched
+returns-clause-latched g c earlier long k =
+    let old = c.args.self.now.state in
+    let s = on earlier old in
+    let mark : Tagging = record { client = c.args.client; tag = c.args.tag } in
+    let told = tagged c.in-Ok.op.level c.in-Ok.op.bytes _ (ap (λ (j : Job). j.level) c.in-Ok.ensures.op) c.in-Ok.ensures.told in
+    let p = c.in-Err.ensures.started (Tag mark) told in
+    let few = not_full old 2 c.in_ok-check_mark.ensures.log in
+    let n = long_on earlier old long in
+    refused_for (OnLatched (IsLatched s (Start_mark c.args.txn c.args.client c.args.tag))) (IsHeldUp (known_part s) (Do (Tag mark))) c.in-Err.refusal p.causes (p.sound earlier long k (omega (arith, few, n)))
+    tt (λ held. mark_refused s k c.args.txn c.args.client c.args.tag (mark_held s mark held))
+
+pub returns-in_err-check_mark-clause-answered : goal.returns-in_err-check_mark-clause-answered
+returns-in_err-check_mark-clause-answered g c =
+    let refuses = c.in_err-check_mark.ensures.refused c.args.tag c.in_ok-number.ensures.passes in
+    search (rules, refuses)
