@@ -206,7 +206,7 @@ def main():
             kills.load.look(server, is_last=True)
     sent = sum(kills.load.sent)
     assert sent > 10 * chosen.rounds, sent
-    assert kills.checkpoints and kills.cut_off and kills.based and kills.beside or chosen.rounds < 20, vars(kills)
+    assert kills.checkpoints and kills.cut_off and kills.based and kills.beside or chosen.rounds < 100, vars(kills)
     seconds = time.monotonic() - before
     made = f"{kills.checkpoints} checkpoints, {kills.cut_off} cut off, {kills.beside} servers that made some, {kills.based} starts behind a Base"
     print(f"killed {kills.kills} times among {sent} sends, {kills.torn} torn ends cut, {made}: {seconds:.0f} s")

@@ -1,4 +1,4 @@
--- What each sender has sent, and each client marked, once sends and marks are committed.
+-- What each sender has sent, and how each client was marked, once sends and marks are committed.
 use Rattle.std.proofs.Common.{◌≡◌, ℕ, ◌+◌, ◌-◌, ◌^◌, ◌<◌, ◌≤◌, nat_eq, List, [], ◌∷◌, length, map, refl, sym, ◌∙◌, ap, arith, inl, inr}
 use Rattle.std.specs.List.{filter_map}
 use Rattle.std.proofs.lemmas.Bool.{cases_lt, cases_eq, eq-eqb, le-ltb, lt-ltb, ne_eqb}

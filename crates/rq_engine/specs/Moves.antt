@@ -1,4 +1,4 @@
--- What sends and takes make of what waits, and sends and marks of what each sender has sent and each client marked.
+-- What sends and takes make of what waits, and sends and marks of what each sender has sent, and how each client was marked.
 use Rattle.std.specs.Prelude.{ℕ, ◌+◌, List, [], ◌∷◌}
 use Rattle.rq_model.specs.declared.record.Deed.{Deed}
 use Rattle.rq_model.specs.declared.record.Deed.TheVariants.{Append, UnlinkHead, Mark}

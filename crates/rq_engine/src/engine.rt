@@ -263,7 +263,8 @@ impl<P: PageDevice, L: LogDevice, B: Level> Engine<P, L, B> {
     }
 
     /// Commits a transaction: writes its Commit record, releases its locks and ends it. What it sent waits from then on,
-    /// and counts as sent, and the cells of what it took are free. The commit is durable once that record is forced.
+    /// and counts as sent. Its marks count, and the cells of what it took are free. The commit is durable once that record
+    /// is forced.
     ///
     /// # Errors
     /// `Failed`, `UnknownTransaction`, `NotOpen`, `Unfinished`, `LogFull`, `NoMemory`.

@@ -71,9 +71,9 @@ pub enum Progress {
 /// What a client's committed marks come to.
 #[derive(Clone, Copy, PartialEq, Eq)]
 pub struct ClientTag {
-    /// How many tags it marked.
+    /// How often it was marked.
     pub count: u64,
-    /// The last of them, 0 where there is none.
+    /// The last tag, 0 where there is none.
     pub tag: u64,
 }
 

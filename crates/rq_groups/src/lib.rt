@@ -1,4 +1,4 @@
-//! Who holds which ends of groups, how many messages of each wait, and what each sender has sent and each client marked.
+//! Who holds which ends of groups, how many messages of each wait, what each sender has sent, and how each client was marked.
 #![tactic(auto)]
 
 ghost use Rattle.std.specs.Prelude.{◌≡◌, ◌+◌, ◌≤◌, [], ◌∷◌, ℕ, List, not, true, false, IfOk, IfSome, IfNone, OnErr};

@@ -1,4 +1,4 @@
-//! How many messages each sender has sent, or tags each client marked, and the last tag.
+//! How many messages each sender has sent, and how often each client was marked, and the last tag of each.
 ghost use Rattle.std.specs.Prelude.{◌≡◌, ◌+◌, ◌<◌, ◌^◌, ℕ, length, IfOk};
 ghost use Rattle.rq_groups.specs.Sent.{sent_count, sent_tag, with_last, with_one_more};
 

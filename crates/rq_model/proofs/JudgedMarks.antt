@@ -12,8 +12,12 @@ worked_marks = record {
   told_unknown = λ a. (let e = a.0.0.1.0 in cc e);
   told_uncommitted = λ a. (let e = a.0.1 in omega (arith, e));
   told_uncommitted_tag = λ a. (let e = a.0.2 in omega (arith, e));
+  told_too_few = λ a. (let e = a.0.1 in omega (arith, e));
+  told_no_tag = λ a. (let e = a.0.2 in omega (arith, e));
   told_committed = search rules;
   told_after_loss = search rules;
+  told_none_once_lost = search rules;
+  told_once_lost = λ a. (let e = a.0.1 in omega (arith, e));
   told_without_undone = search rules;
   told_last = search rules;
   marks_in_order = refl;

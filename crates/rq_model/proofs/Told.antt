@@ -9,7 +9,7 @@ use Rattle.rq_model.specs.declared.txn.Txn.{Txn}
 use Rattle.rq_model.specs.declared.record.Record.{Record}
 use Rattle.rq_model.specs.declared.record.Record.TheVariants.{PageOp, PageUndo, OpEnd, OpVoid, CompEnd, Commit, Restart, AbortEnd, Base}
 use Rattle.rq_model.specs.declared.message.Message.{Message}
-use Rattle.rq_model.specs.Vocabulary.{sent_for, taken_from, ends, client_group, mark_of}
+use Rattle.rq_model.specs.Vocabulary.{sent_for, taken_from, ends, client_group}
 use Rattle.rq_model.specs.History.{Group}
 use Rattle.rq_model.specs.Ledger.{Done, any_ends, group_in, sent_in, taken_in}
 use Rattle.rq_model.specs.Content.{Said, Ending, ending, commits_txn, has_commit, has_end, kept, deeds, no_group, with_deeds, content, added_one, added, removed_one, removed, closed_one, closed, shape, tag_after, with_own}

@@ -28,6 +28,10 @@ two_marked = Begun (txn 1 3) ∷ (marked (txn 1 2) 1 3 71 8 ++ (Begun (txn 1 2) 
 abbrev pub mark_lost : List Entry
 mark_lost = Restarted 2 13 ∷ Crash 1 9 ∷ two_marked
 
+-- the committed one is lost too
+abbrev pub commit_lost : List Entry
+commit_lost = Restarted 2 13 ∷ Crash 0 3 ∷ one_marked
+
 -- it is undone, and another transaction marks the client twice and commits
 abbrev pub mark_undone : List Entry
 mark_undone = Aborted (txn 1 2) ∷ Undid (txn 1 2) 2 ∷ Stepped (txn 1 2) 2 10 ∷ Started (txn 1 2) 2 Undoing
@@ -78,8 +82,12 @@ pub record MarksAreWorked : Type 0 where
   pub told_unknown : IsLegal small (Told_client 15 0 0 ∷ one_marked) → ⊥
   pub told_uncommitted : IsLegal small (Told_client 3 2 71 ∷ two_marked) → ⊥
   pub told_uncommitted_tag : IsLegal small (Told_client 3 1 71 ∷ two_marked) → ⊥
+  pub told_too_few : IsLegal small (Told_client 3 0 0 ∷ one_marked) → ⊥
+  pub told_no_tag : IsLegal small (Told_client 3 1 0 ∷ one_marked) → ⊥
   pub told_committed : IsLegal small (Told_client 3 1 70 ∷ two_marked)
   pub told_after_loss : IsLegal small (Told_client 3 1 70 ∷ mark_lost)
+  pub told_none_once_lost : IsLegal small (Told_client 3 0 0 ∷ commit_lost)
+  pub told_once_lost : IsLegal small (Told_client 3 1 70 ∷ commit_lost) → ⊥
   pub told_without_undone : IsLegal small (Told_client 3 1 70 ∷ mark_undone)
   pub told_last : IsLegal small (Told_client 3 3 73 ∷ marked_twice)
   pub marks_in_order : marks marked_twice 3 ≡ 70 ∷ 72 ∷ 73 ∷ []

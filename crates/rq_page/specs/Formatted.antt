@@ -49,7 +49,7 @@ pub record IsFormatted (l : Sizes) (page : ℕ) (image : List ℕ) : Type 0 wher
   pub header : IsHeaderFor (kind_of l page) page 0 image
   pub slots : (n : ℕ) → 1 ≤ n → n ≤ 15 → slot_of n image ≡ formatted_slot l page n
 
--- the number in a slot that the length of the log bounds: how many messages a sender sent, how often a client marked
+-- the number in a slot that the length of the log bounds: how many messages a sender sent, how often a client was marked
 abbrev pub count_for : Option PageKind → List ℕ → ℕ
 count_for None bytes = 0
 count_for (Some kind.Superblock) bytes = 0

@@ -1,4 +1,4 @@
--- The sizes of a store, and where its pages, senders and cells stand.
+-- The sizes of a store, and where its pages, senders, cells and clients stand.
 use Rattle.std.specs.Prelude.{◌≡◌, ℕ, ◌+◌, ◌-◌, ◌*◌, ◌/◌, ◌%◌, ◌<◌, ◌≤◌, ◌⊎◌}
 
 -- how many directory, cell and tag pages a store has

@@ -14,7 +14,7 @@ use Rattle.rq_page.specs.declared.directory.DirectorySlot.{DirectorySlot}
 use Rattle.rq_page.specs.declared.layout.PageKind.{PageKind}
 use Rattle.rq_page.specs.declared.layout.PageKind.TheVariants as kind
 
--- what a slot holds: no message, a message, what the directory says of a sender, or what a client marked
+-- what a slot holds: no message, a message, what the directory says of a sender, or how a client was marked
 pub data Slot : Type 0 where
   Free : Slot
   Used : (cell : Cell) → Slot

@@ -46,7 +46,7 @@ impl Layout {
     }
 
     /// The number in a slot that the length of the log bounds. Of a directory slot: how many messages were sent. Of a client's
-    /// slot: how often it marked. Of any other: 0.
+    /// slot: how often it was marked. Of any other: 0.
     pub fn count(&self, page: u32, bytes: &Slot) -> u64
         ensures { result ≡ count_in self.now page bytes.now }
     {

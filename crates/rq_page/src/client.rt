@@ -12,14 +12,14 @@ use rq_model::record::{SLOT_BYTES, Slot};
 // The bytes of a client's slot before its zeros.
 const FRONT_BYTES: usize = 24;
 
-/// What a client's slot holds: its number, how many tags it marked, and the last one.
+/// What a client's slot holds: its number, how often it was marked, and the last tag.
 #[derive(Clone, Copy, PartialEq, Eq)]
 pub struct ClientSlot {
     /// The client's number.
     pub client: u32,
-    /// How many tags it marked.
+    /// How often it was marked.
     pub count: u64,
-    /// The last of them, or 0.
+    /// The last tag, or 0.
     pub tag: u64,
 }
 

@@ -1,4 +1,4 @@
--- What waits of each sender, and what each sender sent and each client marked, where nothing is open: as the slots tell.
+-- What waits of each sender, and what each sender sent and how each client was marked, where nothing is open: as the slots tell.
 use Rattle.std.proofs.Common.{◌≡◌, ℕ, zero, suc, ◌+◌, ◌-◌, ◌/◌, ◌%◌, ◌<◌, ◌≤◌, List, [], ◌∷◌, length, map, get_or, refl, sym, ◌∙◌, ap, subst, Some, inl, inr, arith}
 use Rattle.std.proofs.lemmas.Bool.{cases_lt, cases_eq, le-ltb, lt-ltb}
 use Rattle.std.specs.Prelude.{slice_set}
@@ -101,7 +101,7 @@ module _ (z : Sizes) (images : List (List ℕ)) where
   abbrev pub told : ℕ → ℕ
   told s = messages_told (directory_of s)
 
-  -- how many a sender sent or a client marked, and the last one's tag, by place
+  -- how many a sender sent, or how often a client was marked, and the last one's tag, by place
   abbrev pub told_sent : ℕ → ℕ
   told_sent i = sent_told (slots_in z images (place_slot z i))
 

@@ -11,7 +11,7 @@ use rq_model::refusal::Refusal;
 use rq_page::layout::Layout;
 use rq_page::page::Page;
 
-/// Writes the pages of an empty store with so many directory and cell pages, and syncs them; the
+/// Writes the pages of an empty store with so many directory, cell and tag pages, and syncs them; the
 /// superblock last, behind a sync of the others, so that a store that was not formatted to its end does not open. No
 /// other page is touched.
 ///

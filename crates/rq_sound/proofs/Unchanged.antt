@@ -29,7 +29,7 @@ receipt_says : (t : Txn) (lsn : ℕ) (b : Bool) → Says (Call.Acknowledge t lsn
 receipt_says t lsn false = refl
 receipt_says t lsn true = (refl, refl)
 
--- what was sent for a client's group is what the client marked
+-- what was sent for a client's group is what the client was marked with
 module _ (s : State) (k : IsSound s) (c : ℕ) where
   marks : map (λ (m : Message). m.tag) (sent_in (committed_of s.records) (client_group c)) ≡ marks_in (committed_of s.records) c
   marks =

@@ -1,4 +1,5 @@
--- What a client marked, as the commits of a log tell it, is what was sent for the client's group: no sender has its number.
+-- What a client was marked with, as the commits of a log tell it, is what was sent for the client's group: no sender has
+-- its number.
 use Rattle.std.proofs.Common.{◌≡◌, ◌≢◌, ℕ, ◌+◌, ◌≤◌, ◌^◌, ◌++◌, List, [], ◌∷◌, map, Bool, true, false, cond, nat_eq, Option, Some, None, option_map, refl, sym, ◌∙◌, ap, subst, inl, inr, arith}
 use Rattle.std.specs.List.{filter_map, flat_map}
 use Rattle.std.proofs.lemmas.Bool.{cases_Bool, cases_eq, eq-eqb, ne_eqb}
