@@ -1,5 +1,5 @@
 -- What is answered to what is asked of the level of chains: its answer, over what was gathered for it.
-use Rattle.std.proofs.Common.{◌≡◌, ⊎_elim, ℕ, ◌+◌, ◌/◌, ◌<◌, ◌≤◌, ◌++◌, not, List, [], ◌∷◌, reverse, Bool, true, false, cond, Option, Some, None, Result, Ok, Err, option_map, refl, sym, ◌∙◌, ap, subst, inl, inr, arith}
+use Rattle.std.proofs.Common.{◌≡◌, ⊎_elim, ℕ, ◌+◌, ◌/◌, ◌<◌, ◌≤◌, ◌++◌, not, List, [], ◌∷◌, reverse, Bool, true, false, Option, Some, None, Result, Ok, Err, option_map, refl, sym, ◌∙◌, ap, subst, inl, inr, arith}
 use Rattle.std.proofs.lemmas.Bool.{and_from, cases_Bool, cases_eq, cases_lt, or_from, true≢false}
 use Rattle.std.proofs.Math.Bool.{or-false}
 use Rattle.std.proofs.lemmas.List.{reverse-append, reverse-reverse}
@@ -8,16 +8,14 @@ use Rattle.rq_model.specs.declared.record.Deed.TheVariants.{Append, UnlinkHead, 
 use Rattle.rq_model.specs.declared.refusal.Damage.{Damage}
 use Rattle.rq_model.specs.declared.refusal.Refusal.{Refusal}
 use Rattle.rq_model.specs.declared.refusal.Refusal.TheVariants as why
-use Rattle.rq_model.specs.Vocabulary.{is_some}
 use Rattle.rq_model.specs.Deeds.{deed_by, deed_level}
-use Rattle.rq_model.proofs.Deeds.{told_by_its_level}
 use Rattle.rq_page.specs.declared.cell.Cell.{Cell}
 use Rattle.rq_page.specs.Sizes.{Sizes, cell_at, directory_at, place_of, sender_count}
 use Rattle.rq_page.specs.Slots.Slot.{Used}
 use Rattle.rq_page.proofs.Addresses.{cells_rise, places_are_cells}
 use Rattle.rq_views.specs.InStore.{IsDeedOf}
 use Rattle.rq_views.specs.Log.{Slots, Write}
-use Rattle.rq_views.specs.Plans.{deed_sender, relinked}
+use Rattle.rq_views.specs.Plans.{relinked}
 use Rattle.rq_views.specs.Plans.Turn.{Undid}
 use Rattle.rq_views.specs.Stored.{is_used}
 use Rattle.rq_level.specs.ChainPlans.{Plans, PlansFor, Undoes, job_wanted}
@@ -27,11 +25,10 @@ use Rattle.rq_level.specs.declared.writes.Replies.TheVariants as replies
 use Rattle.rq_level.specs.declared.writes.SlotWrite.{SlotWrite}
 use Rattle.rq_level.specs.Given.{has_page}
 use Rattle.rq_level.specs.LevelState.{LevelState, IsLowest, NoneToTake, flag_at}
-use Rattle.rq_level.specs.Meaning.{chain_meaning, kept_at, meaning_of}
-use Rattle.rq_level.specs.Ops.{Doing, Job, doing_by, doing_in, doing_level}
+use Rattle.rq_level.specs.Meaning.{chain_meaning}
+use Rattle.rq_level.specs.Ops.{Doing, Job, doing_by}
 use Rattle.rq_level.specs.Ops.Doing.{Send, Receive, Close}
 use Rattle.rq_level.specs.Writes.{IsFirstAt, answer_of, replied, reply_of, write_of, writes_of}
-use Rattle.rq_level.proofs.ChainLaws.{of_chains}
 use Rattle.rq_txn.specs.Rows.{Row, latched_in}
 use Rattle.rq_store.specs.State.{State}
 use Rattle.rq_sound.specs.Gathering.{AreGivenFrom, IsToDo, IsWantedOf}
@@ -48,7 +45,6 @@ use Rattle.rq_sound.specs.Lowest.{AreAllLatched, AreLatchedBelow, FirstIsLowest}
 use Rattle.rq_planner.specs.Asked.{Asked, doing_sender, known, slots_for}
 use Rattle.rq_planner.specs.Asked.Asked.{Do, Undo}
 use Rattle.rq_planner.specs.Asked.Task.{Chain, Tag}
-use Rattle.rq_planner.proofs.Knowing.{cells_known}
 use Rattle.rq_planner.specs.Answered.{ComesFrom, IsAnswered, IsHeldUp, IsNewestDeed, IsPlanBack, IsPlanFor, IsPlanned, IsPlanOf, MayBeAsked, MayPlan, MayUndo, Wants, to_take_back}
 
 -- the first write of a plan is of the cell that it takes

@@ -1,5 +1,5 @@
 -- What is answered to what is asked of the level of tags: its answer, over the slot of the client.
-use Rattle.std.proofs.Common.{◌≡◌, ℕ, ◌/◌, ◌<◌, List, [], ◌∷◌, Bool, true, false, cond, Option, Some, None, Result, Ok, Err, refl, sym, ◌∙◌, ap, subst, arith}
+use Rattle.std.proofs.Common.{◌≡◌, ℕ, ◌<◌, List, [], ◌∷◌, Bool, false, cond, Option, Some, Result, Ok, Err, refl, sym, ◌∙◌, ap, subst, arith}
 use Rattle.rq_model.specs.declared.record.Deed.{Deed}
 use Rattle.rq_model.specs.declared.record.Deed.TheVariants.{Mark}
 use Rattle.rq_model.specs.declared.refusal.Damage.{Damage}
@@ -8,7 +8,6 @@ use Rattle.rq_model.specs.declared.refusal.Refusal.TheVariants as why
 use Rattle.rq_model.specs.Deeds.{deed_by}
 use Rattle.rq_page.specs.Sizes.{Sizes, client_count, client_slot_at}
 use Rattle.rq_page.specs.Slots.Slot.{Client}
-use Rattle.rq_views.specs.Plans.Turn.{Undid}
 use Rattle.rq_level.specs.ChainPlans.{TellsDamage}
 use Rattle.rq_level.specs.declared.slots.Given.{Given}
 use Rattle.rq_level.specs.declared.writes.Plan.{Plan}
@@ -16,7 +15,7 @@ use Rattle.rq_level.specs.Given.{GivenHolds}
 use Rattle.rq_level.specs.LevelState.{LevelState}
 use Rattle.rq_level.specs.Meaning.{kept_at, meaning_of, tag_meaning}
 use Rattle.rq_level.specs.Ops.{Job, Tagging, tagging_by}
-use Rattle.rq_level.specs.TagPlans.{CanUntag, IsTagPlan, IsUntagPlan, PlansTag, RefusesTag, TagsFor, UndoesTag, client_marked, client_to_mark, client_wanted, tag_wants}
+use Rattle.rq_level.specs.TagPlans.{CanUntag, IsTagPlan, IsUntagPlan, PlansTag, TagsFor, UndoesTag, client_marked, client_to_mark, client_wanted, tag_wants}
 use Rattle.rq_store.specs.State.{State}
 use Rattle.rq_sound.specs.Gathering.{AreGivenFrom, IsWantedOf}
 use Rattle.rq_sound.specs.Groups.{slots_now}
@@ -25,11 +24,10 @@ use Rattle.rq_sound.specs.Wants.{AreGivenOf}
 use Rattle.rq_sound.proofs.Gathering.{wants_needed}
 use Rattle.rq_sound.proofs.Levels.{levels_plan}
 use Rattle.rq_sound.proofs.Wants.{levels_find}
-use Rattle.rq_txn.specs.Rows.{Row}
-use Rattle.rq_planner.specs.Asked.{Asked, known}
+use Rattle.rq_planner.specs.Asked.{known}
 use Rattle.rq_planner.specs.Asked.Asked.{Do, Undo}
 use Rattle.rq_planner.specs.Asked.Task.{Tag}
-use Rattle.rq_planner.specs.Answered.{IsAnswered, IsHeldUp, IsPlanBack, IsPlanned, IsPlanOf, KnowsCells, MayBeAsked, MayPlan, MayUndo, Wants, to_take_back}
+use Rattle.rq_planner.specs.Answered.{IsAnswered, IsPlanBack, IsPlanned, IsPlanOf, KnowsCells, MayBeAsked, MayPlan, MayUndo, Wants, to_take_back}
 use Rattle.rq_planner.specs.Backs.{IsJudgedBack, MarkedLast}
 use Rattle.rq_planner.proofs.Knowing.{is_one}
 use Rattle.rq_planner.proofs.Replies.{HasGatheredFor, WantsFor, by_deed, damaged_answer, from_wanted, latched_answer, memory_answer, not_latched, planned_answer, same_given}

@@ -7,7 +7,7 @@ use Rattle.rq_model.specs.declared.refusal.Refusal.{Refusal}
 use Rattle.rq_model.specs.declared.refusal.Refusal.TheVariants as why
 use Rattle.rq_model.specs.Deeds.{deed_by}
 use Rattle.rq_page.specs.declared.directory.Directory.{Directory}
-use Rattle.rq_page.specs.Sizes.{Sizes, client_slot_at, directory_at, sender_count}
+use Rattle.rq_page.specs.Sizes.{Sizes, client_slot_at, directory_at}
 use Rattle.rq_page.specs.Slots.Slot.{Client, Sender}
 use Rattle.rq_views.specs.Items.{told_deed}
 use Rattle.rq_views.specs.Log.{Slots}

@@ -39,7 +39,6 @@ use Rattle.rq_views.proofs.Strangers.{has_end_same}
 use Rattle.rq_views.proofs.Rules.{ended}
 use Rattle.rq_views.proofs.Settled.{settled_counts, rest_shown}
 use Rattle.rq_views.proofs.Holding.{committed_is_group}
-use Rattle.rq_groups.specs.Sent.{sent_count, sent_tag}
 use Rattle.rq_groups.specs.Waiting.{waits}
 use Rattle.rq_store.specs.State.{ledger_of}
 use Rattle.rq_model.specs.Incarnations.{InOrder, IsNext, incarnation_of, incarnation_one}

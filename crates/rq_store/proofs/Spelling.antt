@@ -1,15 +1,14 @@
 -- A log spelled in bytes goes back to the slots and deeds that it was spelled from.
-use Rattle.std.proofs.Common.{◌≡◌, ℕ, ◌/◌, ◌%◌, ◌<◌, ◌≤◌, List, [], ◌∷◌, refl, sym, ◌∙◌, ap, subst, arith}
+use Rattle.std.proofs.Common.{◌≡◌, ℕ, ◌/◌, ◌%◌, ◌≤◌, List, [], ◌∷◌, refl, sym, ◌∙◌, ap, subst, arith}
 use Rattle.rq_model.specs.Deeds.{TellsItself}
 use Rattle.rq_page.specs.Kinds.{kind_of}
-use Rattle.rq_page.specs.Sizes.{Sizes, sender_count}
+use Rattle.rq_page.specs.Sizes.{Sizes}
 use Rattle.rq_page.specs.Slots.{Slot, MayHold, IsSlotOf, held_in, slot_bytes}
 use Rattle.rq_page.proofs.Spellings.{spelling_tells}
 use Rattle.rq_views.specs.InStore.{InStore, InStoreOne, IsDeedOf}
 use Rattle.rq_views.specs.Items.{items, item_of, told_deed}
 use Rattle.rq_views.specs.Log.{Item}
 use Rattle.rq_views.specs.Log.Item.{PageOp, PageUndo, OpEnd}
-use Rattle.rq_views.specs.Plans.{deed_sender}
 use Rattle.rq_store.specs.Whole.{BeforesAreSlots, IsBefore}
 use Rattle.rq_store.specs.Worked.{record_of, spelled_log}
 use Rattle.rq_store.proofs.Owing.{address_is}

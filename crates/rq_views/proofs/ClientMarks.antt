@@ -1,7 +1,7 @@
 -- What a client was marked with, as the commits of a log tell it, is what was sent for the client's group: no sender has
 -- its number.
-use Rattle.std.proofs.Common.{◌≡◌, ◌≢◌, ℕ, ◌+◌, ◌≤◌, ◌^◌, ◌++◌, List, [], ◌∷◌, map, Bool, true, false, cond, nat_eq, Option, Some, None, option_map, refl, sym, ◌∙◌, ap, subst, inl, inr, arith}
-use Rattle.std.specs.List.{filter_map, flat_map}
+use Rattle.std.proofs.Common.{◌≡◌, ℕ, ◌≤◌, ◌^◌, ◌++◌, List, [], ◌∷◌, map, Bool, nat_eq, Option, Some, None, refl, sym, ◌∙◌, ap, inl, inr, arith}
+use Rattle.std.specs.List.{filter_map}
 use Rattle.std.proofs.lemmas.Bool.{cases_Bool, cases_eq, eq-eqb, ne_eqb}
 use Rattle.std.proofs.lemmas.List.{map-append}
 use Rattle.rq_model.specs.declared.message.Message.{Message}
@@ -9,7 +9,7 @@ use Rattle.rq_model.specs.declared.record.Deed.{Deed}
 use Rattle.rq_model.specs.declared.record.Record.{Record}
 use Rattle.rq_model.specs.declared.record.Record.TheVariants as records
 use Rattle.rq_model.specs.declared.txn.Txn.{Txn}
-use Rattle.rq_model.specs.Commits.{committed_of, op_of, ops_told, told}
+use Rattle.rq_model.specs.Commits.{committed_of, op_of, ops_told}
 use Rattle.rq_model.specs.Content.{deeds, ending_by, kept, said}
 use Rattle.rq_model.specs.Counts.{AllBelow}
 use Rattle.rq_model.specs.Deeds.{deed_by}

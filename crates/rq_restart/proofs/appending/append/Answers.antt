@@ -1,8 +1,6 @@
 use Rattle.std.proofs.Common.{◌≡◌, ◌∷◌, ◌+◌, length, rules, ap, refl, subst, sym, arith}
-use Rattle.std.proofs.lemmas.Bool.{false≢true}
 use Rattle.rq_analysis.specs.Rules.{FollowAll}
 use Rattle.rq_log.specs.Spelled.{AreAllSpelled, AreSpelled}
-use Rattle.rq_log.specs.Logged.{Logged}
 use Rattle.rq_log.specs.Reading.{IsRead}
 use Rattle.rq_model.proofs.Bases.{standing_plain}
 use Rattle.rq_store.specs.Fitting.{image_in, told_by}
@@ -13,7 +11,7 @@ use Rattle.rq_restart.proofs.Following.{next_of_found}
 use Rattle.rq_restart.proofs.Going.{found_next}
 use Rattle.rq_restart.proofs.ReadAgain.{few_spelled}
 use Rattle.rq_restart.proofs.Repeated.{written_more}
-use Rattle.rq_restart.proofs.Undos.{belongs_then, one_repeated, still}
+use Rattle.rq_restart.proofs.Undos.{one_repeated, still}
 use Rattle.rq_restart.proofs.appending.append.Goals as goal
 
 pub append-requires-clause-record : goal.append-requires-clause-record

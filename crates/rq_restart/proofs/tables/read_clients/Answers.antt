@@ -1,5 +1,4 @@
 use Rattle.std.proofs.Common.{◌≡◌, ℕ, ◌+◌, ◌<◌, ap, sym, ◌∙◌, subst, arith}
-use Rattle.rq_page.specs.Sizes.{client_count, sender_count}
 use Rattle.rq_views.specs.Stored.{slots_in}
 use Rattle.rq_restart.proofs.Counting.{client_place, one_more_sent}
 use Rattle.rq_restart.specs.Tables.{AreSentTo}

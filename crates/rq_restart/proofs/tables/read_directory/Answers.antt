@@ -1,5 +1,5 @@
-use Rattle.std.proofs.Common.{◌≡◌, ℕ, ◌+◌, ◌<◌, ap, sym, ◌∙◌, subst, arith}
-use Rattle.rq_page.specs.Sizes.{client_count, sender_count}
+use Rattle.std.proofs.Common.{◌≡◌, ◌<◌, ap, sym, ◌∙◌, subst, arith}
+use Rattle.rq_page.specs.Sizes.{sender_count}
 use Rattle.rq_views.specs.Stored.{slots_in}
 use Rattle.rq_restart.proofs.Counting.{one_more_sent, one_more_waiting, sender_place}
 use Rattle.rq_restart.specs.Tables.{AreSentTo, AreWaitingTo}

@@ -1,5 +1,5 @@
-use Rattle.std.proofs.Common.{◌≡◌, ℕ, ◌+◌, ap, ◌∙◌, subst, arith}
-use Rattle.rq_page.specs.Sizes.{Sizes, client_count, sender_count}
+use Rattle.std.proofs.Common.{◌≡◌, ◌+◌, ap, ◌∙◌, subst, arith}
+use Rattle.rq_page.specs.Sizes.{client_count, sender_count}
 use Rattle.rq_restart.specs.Tables.{AreSentTo, AreWaitingTo}
 use Rattle.rq_restart.proofs.Counting.{all_sent, all_waiting}
 use Rattle.rq_store.specs.Sends.{place_count}

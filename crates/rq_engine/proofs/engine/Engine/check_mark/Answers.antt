@@ -1,4 +1,4 @@
-use Rattle.std.proofs.Common.{◌≡◌, ◌<◌, ◌≤◌, ◌^◌, sym, ap, ◌∙◌, arith, true}
+use Rattle.std.proofs.Common.{◌≡◌, ◌<◌, sym, ap, ◌∙◌, arith, true}
 use Rattle.rq_model.specs.Vocabulary.{client_group}
 use Rattle.rq_page.specs.Sizes.{client_count, sender_count}
 use Rattle.rq_groups.specs.Ends.{is_free_for}

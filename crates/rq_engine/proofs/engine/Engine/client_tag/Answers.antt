@@ -1,5 +1,5 @@
-use Rattle.std.proofs.Common.{◌≡◌, ℕ, ◌+◌, ap, ◌∙◌, refl, arith}
-use Rattle.rq_page.specs.Sizes.{Sizes, client_count, sender_count}
+use Rattle.std.proofs.Common.{◌≡◌, ◌+◌, ap, ◌∙◌, refl, arith}
+use Rattle.rq_page.specs.Sizes.{client_count, sender_count}
 use Rattle.rq_groups.specs.Sent.{SentBy, sent_count, sent_tag}
 use Rattle.rq_store.specs.State.{State}
 use Rattle.rq_engine.proofs.Calls.{client_told}

@@ -1,4 +1,4 @@
-use Rattle.std.proofs.Common.{List, ◌<◌, subst}
+use Rattle.std.proofs.Common.{List, subst}
 use Rattle.rq_txn.specs.Rows.{Row}
 use Rattle.rq_store.specs.State.{State}
 use Rattle.rq_planner.specs.Answered.{IsPlanned}

@@ -1,4 +1,4 @@
-use Rattle.std.proofs.Common.{rules, ◌≤◌, ◌+◌, ◌^◌, length, refl, ap, arith}
+use Rattle.std.proofs.Common.{rules, refl, ap, arith}
 use Rattle.rq_model.specs.declared.refusal.Refusal.{Refusal}
 use Rattle.rq_model.specs.History.Call.{Start_mark}
 use Rattle.rq_groups.specs.declared.End.TheVariants.{Marking}

@@ -1,4 +1,4 @@
-use Rattle.std.proofs.Common.{◌≡◌, ◌<◌, refl, sym, ◌∙◌, ap, subst, true}
+use Rattle.std.proofs.Common.{◌≡◌, refl, sym, ◌∙◌, ap, subst, true}
 use Rattle.rq_model.specs.Vocabulary.{is_some}
 use Rattle.rq_txn.specs.Rows.{change_row, row_started}
 use Rattle.rq_groups.specs.Sides.{is_free_end, with_end}

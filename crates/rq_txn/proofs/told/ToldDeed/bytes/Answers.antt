@@ -1,4 +1,4 @@
-use Rattle.std.proofs.Common.{sym, subst, ap, Some, ◌≡◌, ◌∙◌}
+use Rattle.std.proofs.Common.{ap, Some, ◌≡◌, ◌∙◌}
 use Rattle.rq_model.specs.Deeds.{deed_by}
 use Rattle.rq_model.proofs.Deeds.{told_by_its_level}
 use Rattle.rq_txn.proofs.told.ToldDeed.bytes.Goals as goal
