@@ -54,7 +54,9 @@ fn filled<R: AllocGlobal + Files<File = File>>(
     messages: u32,
 ) -> Option<()> {
     let (mut engine, _) = opened(rt, folder).ok()?;
-    exchange(&mut engine, layout.senders(), messages)
+    let done = exchange(&mut engine, layout.senders(), messages);
+    drop(engine);
+    done
 }
 
 /// Opens the store, and prints what came of it: a report, or why not.
@@ -93,7 +95,11 @@ pub fn checkpoint<R: Print + Eprint + AllocGlobal + Clock + Files<File = File>>(
         return Err(io::ErrorKind::InvalidInput.into());
     };
     match opened(rt, folder.as_str()) {
-        Ok((mut engine, _)) => timed(rt, &mut engine, sent, received),
+        Ok((mut engine, _)) => {
+            let done = timed(rt, &mut engine, sent, received);
+            drop(engine);
+            done
+        }
         Err(_) => Err(io::ErrorKind::InvalidData.into()),
     }
 }
@@ -158,7 +164,10 @@ fn print_fault<W: Write>(writer: &mut W, fault: Fault) -> io::Result<()> {
 
 fn report_of<R: AllocGlobal + Files<File = File>>(rt: &R, folder: &str) -> Result<Report, Fault> {
     match opened(rt, folder) {
-        Ok((_, report)) => Ok(report),
+        Ok((engine, report)) => {
+            drop(engine);
+            Ok(report)
+        }
         Err(fault) => Err(fault),
     }
 }

@@ -15,13 +15,24 @@ pub fn run<R: Print + Input + AllocGlobal + Files<File = File>>(
     let Some(folder) = words.get(1) else {
         return Err(io::ErrorKind::InvalidInput.into());
     };
-    let (_pages, mut log) = match open_folder(rt, folder.as_str(), Unknown) {
-        Ok(files) => files,
-        Err(not_opened) => return Err(not_opened.error),
-    };
+    match open_folder(rt, folder.as_str(), Unknown) {
+        Ok((pages, mut log)) => {
+            let done = replaced_by_line(rt, &mut log);
+            drop(log);
+            drop(pages);
+            done
+        }
+        Err(not_opened) => Err(not_opened.error),
+    }
+}
+
+fn replaced_by_line<L: LogDevice, R: Print + Input + AllocGlobal>(
+    rt: &R,
+    log: &mut L,
+) -> io::Result<()> {
     for line in rt.lines(rt.alloc()) {
         line?;
-        match replaced(&mut log) {
+        match replaced(log) {
             Ok(zeros) => println!(rt; "{zeros} zeros")?,
             Err(_) => return Err(io::ErrorKind::Other.into()),
         }

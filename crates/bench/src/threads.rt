@@ -1,5 +1,5 @@
 //! Four threads that share an engine.
-ghost use Rattle.std.specs.Prelude.{◌≡◌, IfSome};
+ghost use Rattle.std.specs.Prelude.{◌≡◌, ◌<◌, IfSome};
 ghost use Rattle.rq_shared.specs.Entries.{WasSound};
 
 use crate::rounds::{batch, sender_of};
@@ -137,18 +137,41 @@ pub fn share<
     requires begins { engine.state ≡ G.begins }
 {
     let mut shared = Shared::<P, L, StoreLevel, G>::new(alloc, engine, blank, taking);
+    let counted = counted(rt, alloc, &mut shared, batches);
+    drop(shared);
+    counted
+}
+
+// Four threads over an engine that is shared, and what they counted.
+fn counted<
+    P: PageDevice + Drop + Send,
+    L: LogDevice + Drop + Send,
+    G: Sharing + Send + Sync,
+    R: Threads + Wait + Sync,
+>(rt: &R, alloc: Global, shared: &mut Shared<P, L, StoreLevel, G>, batches: u32) -> Option<Tally> {
     let (mark, mut seat) = Mark::new(alloc).ok()?;
-    let first = Pair {
-        one: own_of(&mut shared, &mark, &mut seat, sender_of(0))?,
-        other: own_of(&mut shared, &mark, &mut seat, sender_of(1))?,
-    };
-    let second = Pair {
-        one: own_of(&mut shared, &mark, &mut seat, sender_of(2))?,
-        other: own_of(&mut shared, &mark, &mut seat, sender_of(3))?,
-    };
+    let first = pair_of(shared, &mark, &mut seat, 0)?;
+    let second = pair_of(shared, &mark, &mut seat, 2)?;
     let common = Common { mark, batches };
     let ((a, b), (c, d)) = four(rt, alloc, shared.engine_lock(), first, second, &common);
     Some(a?.and(b?).and(c?).and(d?))
+}
+
+// What this thread and the next have of their own.
+fn pair_of<P: PageDevice + Drop, L: LogDevice + Drop, G: Sharing>(
+    shared: &mut Shared<P, L, StoreLevel, G>,
+    mark: &Mark,
+    seat: &mut MarkPass,
+    thread: u32,
+) -> Option<Pair<G>>
+    requires seat { seat.old.table ≡ mark.now }
+    requires few { thread < 4 }
+    ensures { IfSome result (λ pair. (pair.one.seat.table ≡ mark.now) × (pair.other.seat.table ≡ mark.now))
+        × (seat.new.table ≡ mark.now) }
+{
+    let one = own_of(shared, mark, seat, sender_of(thread))?;
+    let other = own_of(shared, mark, seat, sender_of(thread + 1))?;
+    Some(Pair { one, other })
 }
 
 // A pass, a seat at the mark, and a sender.

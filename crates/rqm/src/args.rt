@@ -83,10 +83,15 @@ fn not_text<R: Eprint>(rt: &R) -> io::Result<Args> {
 
 fn parse(alloc: Global, words: &[String]) -> Result<Option<Args>, Error> {
     let matches = command(alloc)?.try_get_matches_from(words)?;
+    Ok(asked(alloc, &matches)?)
+}
+
+// What the words ask for, which were accepted.
+fn asked(alloc: Global, matches: &ArgMatches<'_>) -> Result<Option<Args>, AllocError> {
     match matches.subcommand() {
         Some(("run", run)) => Ok(layout(run).map(Args::Run)),
-        Some(("format", format)) => Ok(store(alloc, format)?),
-        Some(("serve", serve)) => Ok(server(alloc, serve)?),
+        Some(("format", format)) => store(alloc, format),
+        Some(("serve", serve)) => server(alloc, serve),
         Some(("checkpoint", checkpoint)) => { Ok(folder(alloc, checkpoint)?.map(Args::Checkpoint)) }
         Some(("inspect", inspect)) => Ok(folder(alloc, inspect)?.map(Args::Inspect)),
         _ => Ok(None),
@@ -130,16 +135,30 @@ fn layout(matches: &ArgMatches<'_>) -> Option<Layout> {
 }
 
 fn command<'a>(alloc: Global) -> Result<Command<'a>, AllocError> {
-    Command::new(alloc, "rqm")
+    let rqm = Command::new(alloc, "rqm")
         .bin_name("rqm")?
         .about("A recoverable queue manager")
         .version(VERSION)
-        .subcommand_required(true)
-        .subcommand(run_command(alloc)?)?
-        .subcommand(format_command(alloc)?)?
-        .subcommand(serve_command(alloc)?)?
-        .subcommand(checkpoint_command(alloc)?)?
-        .subcommand(inspect_command(alloc)?)
+        .subcommand_required(true);
+    let rqm = with(rqm, run_command(alloc))?;
+    let rqm = with(rqm, format_command(alloc))?;
+    let rqm = with(rqm, serve_command(alloc))?;
+    let rqm = with(rqm, checkpoint_command(alloc))?;
+    with(rqm, inspect_command(alloc))
+}
+
+// A command with this one under it, where that could be made.
+fn with<'a>(
+    command: Command<'a>,
+    under: Result<Command<'a>, AllocError>,
+) -> Result<Command<'a>, AllocError> {
+    match under {
+        Ok(under) => command.subcommand(under),
+        Err(error) => {
+            drop(command);
+            Err(error)
+        }
+    }
 }
 
 fn run_command<'a>(alloc: Global) -> Result<Command<'a>, AllocError> {

@@ -1,8 +1,13 @@
 //! `rqm checkpoint`: a store's log is made one record.
 use crate::progress::{Opening, while_told};
 use crate::serving::{opened, tell_fault};
-use rq_disk::Unknown;
+use rq_disk::{LogDevice, PageDevice, Unknown};
+use rq_engine::engine::Engine;
 use rq_files::{Fault, Measures, Renames};
+use rq_level::Level;
+use rq_model::refusal::Refusal;
+use rq_model::txn::Lsn;
+use rq_restart::restart::Report;
 use std::fs::{File, Files};
 use std::io;
 use std::sync::Wait;
@@ -39,16 +44,35 @@ fn make_checkpoint<R: AllocGlobal + Print + Eprint + Files<File = File> + Rename
     folder: &str,
     opening: &Opening,
 ) -> io::Result<u8> {
-    let (mut engine, report) = match opened(rt, folder, Unknown) {
-        Ok(opened) => opened,
-        Err(fault) => return tell_fault(rt, fault),
-    };
-    opening.end();
+    match opened(rt, folder, Unknown) {
+        Ok((mut engine, report)) => {
+            opening.end();
+            let status = tell_checkpoint(rt, &mut engine, &report);
+            drop(engine);
+            status
+        }
+        Err(fault) => tell_fault(rt, fault),
+    }
+}
+
+// Prints what the restart found, makes the log of a store that is open one record, and prints its LSN, or why not. The exit
+// status.
+fn tell_checkpoint<P: PageDevice, L: LogDevice, B: Level, R: Print>(
+    rt: &R,
+    engine: &mut Engine<P, L, B>,
+    report: &Report,
+) -> io::Result<u8> {
     println!(rt;
         "restarted {} unfinished {} lost {}",
         report.incarnation, report.unfinished, report.lost
     )?;
-    match engine.checkpoint() {
+    let made = engine.checkpoint();
+    tell_made(rt, made)
+}
+
+// Prints the LSN of the record that the log is now, or why it is not one. The exit status.
+fn tell_made<R: Print>(rt: &R, made: Result<Lsn, Refusal>) -> io::Result<u8> {
+    match made {
         Ok(lsn) => {
             println!(rt; "checkpoint {lsn}")?;
             Ok(0)

@@ -104,11 +104,18 @@ fn opened_and_bound<
         (HoldStore S.pages S.bytes) o.0) }
 {
     let began = Instant::now(rt);
-    let (engine, report) = opened(rt, asked.folder.as_str(), held)?;
-    opening.end();
-    tell_opened(rt, &report, millis_since(rt, began));
-    match listening(rt, asked) {
-        Ok((listener, plan)) => Ok((engine, listener, plan)),
+    match opened(rt, asked.folder.as_str(), held) {
+        Ok((engine, report)) => {
+            opening.end();
+            tell_opened(rt, &report, millis_since(rt, began));
+            match listening(rt, asked) {
+                Ok((listener, plan)) => Ok((engine, listener, plan)),
+                Err(fault) => {
+                    drop(engine);
+                    Err(fault)
+                }
+            }
+        }
         Err(fault) => Err(fault),
     }
 }
@@ -150,6 +157,8 @@ pub fn opened<'a, S: FileContents, R: AllocGlobal + Eprint + Files<File = File> 
         }
     };
     let Ok(levels) = levels_of_store(rt.alloc()) else {
+        drop(log);
+        drop(pages);
         return Err(Fault::Refused(Refusal::NoMemory));
     };
     match restart(rt.alloc(), pages, log, levels) {
