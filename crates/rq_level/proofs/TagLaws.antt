@@ -1,10 +1,8 @@
 -- The level of tags keeps the laws of levels.
-use Rattle.std.proofs.Common.{◌≡◌, ◌≢◌, ℕ, ◌+◌, ◌-◌, ◌^◌, ◌/◌, ◌%◌, ◌<◌, ◌≤◌, List, [], ◌∷◌, length, Bool, true, false, cond, nat_eq, Option, None, Some, Ok, Err, map, option_map, reverse, All, refl, sym, ap, ◌∙◌, subst, inl, inr, arith}
+use Rattle.std.proofs.Common.{◌≡◌, ◌≢◌, ℕ, ◌+◌, ◌-◌, ◌/◌, ◌%◌, ◌≤◌, List, [], ◌∷◌, length, Bool, true, false, cond, nat_eq, Option, None, Some, Ok, Err, map, option_map, reverse, All, refl, sym, ap, ◌∙◌, subst, inl, inr, arith}
 use Rattle.std.proofs.lemmas.Bool.{cases_Bool, eqb-true, false≢true, ne_eqb}
-use Rattle.std.proofs.lemmas.List.{append-nil, length-append, length-map, length-reverse}
+use Rattle.std.proofs.lemmas.List.{length-append, length-map, length-reverse}
 use Rattle.std.proofs.lemmas.List.Elements.{All-cons, All-nil, All-weaker, recursion_from_All}
-use Rattle.byteorder.specs.Endian.{big_bytes, big_number}
-use Rattle.byteorder.specs.Numbers.{big_number-reads_back}
 use Rattle.rq_model.specs.declared.record.Deed.{Deed}
 use Rattle.rq_model.specs.declared.record.Deed.TheVariants.{Append, UnlinkHead, Close, Mark}
 use Rattle.rq_model.specs.declared.record.Record.{Record}
@@ -33,7 +31,7 @@ use Rattle.rq_level.specs.Given.{GivenHolds, HoldsBytes, IsGiven, given_at}
 use Rattle.rq_level.specs.Lawful.{IsLawful, IsUntouchedAt, MayHaveNoPlan}
 use Rattle.rq_level.specs.LevelState.{LevelState}
 use Rattle.rq_level.specs.Meaning.{AreOf, tag_meaning}
-use Rattle.rq_level.specs.Ops.{Job, Tagging, doing_in, tag_job, tagging_by, tagging_in}
+use Rattle.rq_level.specs.Ops.{Job, Tagging, doing_in, tagging_by, tagging_in}
 use Rattle.rq_level.specs.TagPlans.{CanTag, CanUntag, IsTagPlan, IsUntagPlan, PlansTag, RefusesTag, TagsFor, UndoesTag, client_marked, client_to_mark, client_wanted, tag_note, tag_plans, tag_undoes, tag_wants}
 use Rattle.rq_level.specs.TakenBack.{AreOverHeld, LeadsBack, LeavesAt, LeavesOthers, ShowsOf, newest_first}
 use Rattle.rq_level.specs.Writes.{AreSlotWrites, IsSlotWrite, answer_of, replied, reply_of, write_of, writes_of}
@@ -45,17 +43,6 @@ use Rattle.rq_level.proofs.ChainLaws.{same_kept}
 use Rattle.rq_level.proofs.Gathered.{asks_client, few_of_client, unless_within}
 use Rattle.rq_level.proofs.TakenBack.{same_deed}
 use Rattle.rq_level.proofs.Unread.{asked_there, may_damage, there_is}
-
--- ---- what is asked of it
-
--- a mark that is asked for is read
-pub tag_job_is_read : (client tag : ℕ) → client < 2 ^ 32 → tag < 2 ^ 64 → tagging_by 2 (tag_job client tag).bytes ≡ Some (record { client = client; tag = tag })
-tag_job_is_read client tag c t =
-    let one = big_number-reads_back 4 client (big_bytes 8 tag) (omega (arith, c)) in
-    let two = big_number-reads_back 8 tag [] (omega (arith, t)) in
-    let all = append-nil (big_bytes 8 tag) in
-    ap (λ (n : ℕ). let it : Tagging = record { client = n; tag = big_number 8 (big_bytes 8 tag) } in Some it) one
-    ∙ ap (λ (n : ℕ). let it : Tagging = record { client = client; tag = n } in Some it) (ap (λ bs. big_number 8 bs) (sym all) ∙ two)
 
 -- ---- its one write
 

@@ -16,7 +16,7 @@ use Rattle.rq_page.specs.Formatted.{count_in, count_for}
 use Rattle.rq_page.proofs.Addresses.{clients_have_slots, senders_have_slots, kind_directory, kind_tags}
 use Rattle.rq_views.specs.Stored.{IsStoreSlot, slot_at, slots_in}
 use Rattle.rq_pool.proofs.Slots.{slots_here}
-use Rattle.rq_groups.specs.Sent.{SentBy, sent_count, sent_tag, with_last}
+use Rattle.rq_groups.specs.Sent.{SentBy, sent_count, with_last}
 use Rattle.rq_store.specs.Opening.{IsCounted, messages_told, place_slot, sent_told, sent_in_slots, tag_told, waiting_in}
 use Rattle.rq_store.specs.Sends.{place_count}
 use Rattle.rq_store.specs.Fitting.{image_in}
@@ -193,15 +193,3 @@ module _ (z : Sizes) (images : List (List ℕ)) where
   all_sent sent k = both sent.counts sent.tags (all_counted told_sent (place_count z) sent.counts k.counts k.numbers) (all_counted told_tag (place_count z) sent.tags k.tags k.last) where
     both : (xs ys : List ℕ) → xs ≡ (sent_in_slots z images).counts → ys ≡ (sent_in_slots z images).tags → ◌≡◌ {A = SentBy} (record { counts = xs; tags = ys }) (sent_in_slots z images)
     both xs ys a b = ap (λ (l : List ℕ). let x : SentBy = record { counts = l; tags = ys } in x) a ∙ ap (λ (l : List ℕ). let x : SentBy = record { counts = (sent_in_slots z images).counts; tags = l } in x) b
-
-  -- at first nothing is told
-  pub none_waiting : (ws : List ℕ) → length ws ≡ sender_count z → ((s : ℕ) → waits ws s ≡ 0) → AreWaitingTo z images 0 ws
-  none_waiting ws count none = record { senders = count; counted = record { told_so = λ i lt. absurd (omega (arith, lt)); rest = λ i high. none i } }
-
-  pub none_sent : (sent : SentBy) → length sent.counts ≡ place_count z → length sent.tags ≡ place_count z → ((i : ℕ) → (sent_count sent i ≡ 0) × (sent_tag sent i ≡ 0)) → AreSentTo z images 0 sent
-  none_sent sent counts tags none = record {
-    counts = counts;
-    tags = tags;
-    numbers = record { told_so = λ i lt. absurd (omega (arith, lt)); rest = λ i high. (none i).0 };
-    last = record { told_so = λ i lt. absurd (omega (arith, lt)); rest = λ i high. (none i).1 };
-  }
