@@ -1,7 +1,8 @@
 #!/usr/bin/env python3
 """Opens stores whose log begins with a Base, with a part of a record behind its last one or without. Each call on their files fails in
 turn. The machine stops in each, and so in up to three openings one after the other. Each allocation of an opening fails in turn. The same
-is done to checkpoints, also of a log without a Base. What opens then is what tests/opening.py reads from the bytes, and holds what it held.
+is done to checkpoints and migrations, also of a log without a Base. What opens then is what tests/opening.py reads from the bytes, and
+holds what it held.
 
     python3 tests/based.py [--bench PROGRAM] [--rqm PROGRAM] [NAME..]
 
@@ -23,7 +24,7 @@ from cases import built
 from damaged import FILL, base, restarts_behind_a_base
 from files import BASED, SHIM, WHOLE, files_of, folder_of
 from inspector import record
-from mutated import Looks
+from mutated import TAGS, Looks
 from server import LONGEST
 from shim import failing
 
@@ -42,10 +43,11 @@ Ended = namedtuple("Ended", "status printed said is_met pages log fresh synced")
 
 
 class Opens:
-    """Openings by `bench` over a library, and checkpoints by `rqm`, which shows what a store holds."""
+    """Openings by `bench` over a library, and checkpoints and migrations by `rqm`, which shows what a store holds."""
 
     def __init__(self, bench, rqm, library):
         self.opening, self.checkpoint, self.library = [bench, "open"], [rqm, "checkpoint"], library
+        self.migration = [rqm, "migrate", "--tags", str(TAGS)]
         self.looks = Looks(rqm, None, tempfile.gettempdir())
 
     def run(self, command, pages, log, fresh=None, **words):
@@ -83,6 +85,18 @@ class Opens:
         with folder_of(pages=pages, log=log, **more) as folder:
             wrong = list(self.looks.checkpoints(folder, pages, log))
             assert not wrong and {*files_of(folder)} == {"pages", "log"}, (wrong, log.hex())
+
+
+    def check_migration(self, pages, log, **more):
+        """A store of these files is given tag pages, or refused for those that it has, whatever else is there."""
+        with folder_of(pages=pages, log=log, **more) as folder:
+            wrong = list(self.looks.migrations(folder, pages, log))
+            left = {"pages", "log", *(more if has_tags(pages) else ())}
+            assert not wrong and {*files_of(folder)} == left, (wrong, log.hex())
+
+
+def has_tags(pages):
+    return opening.Pages(pages).tags > 0
 
 
 def content_of(pages, log):
@@ -178,6 +192,60 @@ def checkpoints_that_fail(opens, pages, log):
     return count + stops_of(opens, {each[:2] for each in left}, content)
 
 
+def migrations(opens, pages, log):
+    """A migration makes the log one record, and the store holds what it held, with tag pages."""
+    opens.check_migration(pages, log)
+    return 1
+
+
+def migrations_that_fail(opens, pages, log):
+    """A call of a migration fails, or the program is killed in it. The log is the old one, with any of what a restart adds, or the new one
+    where it is told. Over the new one the store has its tag pages or not. Where it has none the next migration is made. So it is where up
+    to three openings are stopped before."""
+    count, left, came, content = 0, set(), set(), content_of(pages, log)
+    (_, made, old), (_, new, _) = opening.said_of(pages, log), opening.migrated(pages, log, TAGS)
+    added = b"".join(made.added)
+    whole = old.removesuffix(added)
+    for stops in ({}, {"STOPS": "1"}):
+        for ended in opens.each(opens.migration, pages, log, NAMES="1", **stops):
+            count += 1
+            assert ended.log in (log, whole, whole + added[: len(added) // 2], old, new), ended
+            if ended.status == 0:
+                assert ended.log == new and ended.printed.endswith(b"\nmigrated %d\n" % (made.records + 1)), ended[:4]
+                came.add("a stream was not looked at")
+            else:
+                assert ended.status == (-signal.SIGKILL if stops else 1) and b"migrated" not in ended.printed, ended[:4]
+                assert stops or ended.printed.endswith(REFUSED), ended[:4]
+                assert ended.log == new or not has_tags(ended.pages), ended[:4]
+                came.add((bool(stops), ended.log == new, has_tags(ended.pages)))
+            left.add((ended.pages, ended.log, ended.fresh))
+    assert len(came) == 7, came
+    for pages, log, fresh in left:
+        opens.check_migration(pages, log, **({} if fresh is None else {"log.new": fresh}))
+    return count + stops_of(opens, {each[:2] for each in left}, content)
+
+
+def migration_allocations(opens, pages, log):
+    """A migration one of whose allocations fails is refused, and the log is the old one, or it is made. The next one is made, or refused for
+    the tag pages."""
+    count, left, content = 0, set(), content_of(pages, log)
+    old, new = opening.said_of(pages, log)[2], opening.migrated(pages, log, TAGS)[1]
+    for number in range(1, 1 + int(opens.run(opens.migration, pages, log, FAIL_AT="0").said)):
+        ended = opens.run(opens.migration, pages, log, FAIL_AT=str(number))
+        if ended.status == 0:
+            assert ended.log == new and has_tags(ended.pages), ended[:4]
+        else:
+            *_, last = ended.printed.splitlines(keepends=True) or [b""]
+            assert (ended.status, last) in [unable[:2] for unable in memory.UNABLE] and ended.log in (log, old), ended[:4]
+            assert not has_tags(ended.pages), ended[:4]
+            count += 1
+        left.add((ended.pages, ended.log))
+    for each in left:
+        opens.check(*each, content)
+        opens.check_migration(*each)
+    return count
+
+
 def checkpoint_allocations(opens, pages, log):
     """A checkpoint one of whose allocations fails is refused, and the log is the old one, or it is made. The next one is made."""
     count, left, content = 0, set(), content_of(pages, log)
@@ -214,7 +282,8 @@ def unended():
 # Each test with its library and its stores, and more than how many runs it has to try on each of these.
 TESTS = {
     failures: (SHIM, stores, 10), stops: (SHIM, stores, 10), allocations: (memory.SHIM, stores, 10), checkpoints: ("", stores, 0),
-    checkpoints_that_fail: (SHIM, unended, 100), checkpoint_allocations: (memory.SHIM, unended, 10),
+    checkpoints_that_fail: (SHIM, unended, 100), checkpoint_allocations: (memory.SHIM, unended, 10), migrations: ("", stores, 0),
+    migrations_that_fail: (SHIM, unended, 100), migration_allocations: (memory.SHIM, unended, 10),
 }  # fmt: skip
 
 

@@ -35,7 +35,9 @@ WANTED = {
     "BaseShorter": 900, "BaseTorn": 160, "BaseOld": 75, "BaseNewest": 39, "BaseLost": 300, "BaseUnfinished": 280,
     "StoppedOverBase": 450, "GivenOverBase": 490, "MarkStarted": 1300, "Marked": 1300, "MarkedAgain": 100, "MarkUndone": 180,
     "MarkLost": 350, "MarkCut": 32, "UnmarkCut": 46, "MarkPage": 10, "UnmarkPage": 6, "ClientTag": 190, "NoClientTag": 500,
-    "ClientBusy": 240, "UnknownClient": 66,
+    "ClientBusy": 240, "UnknownClient": 66, "Migrated": 72, "AnsweredGrown": 72, "OpenedGrown": 280, "BadTags": 72,
+    "OddTags": 23, "HasTags": 48, "MigrationNotQuiet": 25, "MigrationOfNone": 7, "CutOffAsItWas": 7,
+    "MigrationFailedInTags": 5, "MigrationFailedInForce": 2,
 }  # fmt: skip
 
 
@@ -62,7 +64,10 @@ USUAL, TAGGED, SMALL, LARGE = (2, 3, 0), (2, 3, 1), (1, 2, 0), (3, 4, 2)
 # Lines that are no command. One may end a course.
 FAULTS = [b"", b"begin ", b"send 1.1 0", b"send 1.1 0 +1 x", b"recv 1", b"step 1.1  1", b"crash", b"crash 1 new", b"restart -1",
           b"dump\r", b"write 4294967296", b"last 0x1", b"fail sync", b"commit 1.18446744073709551616", b"undo",
-          b"mark 1.1 0", b"mark 1.1 4294967296 1", b"tag", b"tag 0 1", b"migrate 1", b"BEGIN"]  # fmt: skip
+          b"mark 1.1 0", b"mark 1.1 4294967296 1", b"tag", b"tag 0 1", b"migrate", b"migrate 4294967296", b"BEGIN"]  # fmt: skip
+
+# How many tag pages a store is to be given, and how many none can be given.
+MAY_GROW, BAD_TAGS = (1, 1, 1, 2, 3), (0, 0, 1025, 2**32 - 1)
 
 
 def shape_of(seed):
@@ -90,6 +95,7 @@ class Drawing:
         self.lines = []
         self.may_fail = self.is_first_of(3)
         self.may_check = seed % 5 < 2  # checkpoints are drawn
+        self.may_grow = seed % 5 == 3 and seed % 33 > 2  # migrations are drawn
         self.stops_left = 0  # so many restarts are to be stopped before the one that is not
 
     def is_first_of(self, count):
@@ -121,12 +127,12 @@ class Drawing:
         if not self.store.open:
             yield ("restart",)
         yield ("force",)
-        for page in range(1 + sum(self.sizes)):
+        for page in range(len(self.store.devices.pages)):
             yield "write", page
         yield ("dump",)
         if self.is_first_of(4):
             yield from (("crash", 0, "old"), ("restart",), ("dump",))
-            for page in range(1 + sum(self.sizes)):
+            for page in range(len(self.store.devices.pages)):
                 yield "write", page
 
     def next(self):
@@ -146,21 +152,34 @@ class Drawing:
             return self.add("restart", *([self.random.randrange(9)] if self.is_first_of(2) else []))
         if self.may_check and self.is_first_of(6 if self.lines and self.lines[-1] == b"checkpoint" else 60):
             return self.checkpoint()
+        if self.may_grow and self.is_first_of(200 if self.store.tags else 40):
+            return self.migrate()
         if self.may_check and self.lines and self.lines[-1].startswith((b"force", b"write")) and self.is_first_of(2):
             return self.crash() if self.shape.crashes and self.is_first_of(6) else self.write()
         self.call()
 
     def checkpoint(self):
         """A checkpoint, most times where each transaction was ended. It may fail, and a crash may come right behind it."""
+        self.end_most()
+        self.add("checkpoint")
+        if self.shape.crashes and self.is_first_of(8):
+            self.crash()
+
+    def migrate(self):
+        """A migration, most times where each transaction was ended, and seldom of pages that no store can be given. It may fail. A crash
+        comes behind it, now and then right behind."""
+        self.end_most()
+        self.add("migrate", self.random.choice(BAD_TAGS if self.is_first_of(6) else MAY_GROW))
+        if self.is_first_of(2):
+            self.crash()
+
+    def end_most(self):
         for _ in range(self.random.choice([0, 1000, 1000, 1000])):
             if not self.end_one():
                 break
         if self.may_fail and self.is_first_of(3):
             self.add(*self.random.choice([("force",), ("last", 0)]))
             self.add("fail", self.random.choice(["write", "write", "force"]))
-        self.add("checkpoint")
-        if self.shape.crashes and self.is_first_of(8):
-            self.crash()
 
     def of_shut(self):
         """A store that waits for its restart: restarts that are stopped, most times, before the one that is not."""
@@ -250,7 +269,7 @@ class Drawing:
         self.write()
 
     def write(self):
-        self.add("write", self.random.randrange(sum(self.sizes) + 2))
+        self.add("write", self.random.randrange(len(self.store.devices.pages) + 1))
 
     def start(self, row):
         if self.store.clients and self.is_first_of(8):
@@ -281,7 +300,7 @@ class Drawing:
         """Most times one of the first few of a tag page."""
         if self.is_first_of(30):
             return self.random.choice([self.store.clients, self.random.randrange(self.store.clients), 2**32 - 1])
-        return self.random.randrange(3) + 15 * self.random.randrange(self.sizes[2])
+        return self.random.randrange(3) + 15 * self.random.randrange(self.store.tags)
 
     def body(self):
         """No body, or one; of its bytes any but the end of a line may be."""

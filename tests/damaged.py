@@ -797,6 +797,31 @@ def marks_that_are_taken_back():
     yield bytes(behind), [base(2), write(1, 3, 4, ONE_MARK, client(3, 2, 71), txn=2), end(1, marked(3, 71, 70), 2, txn=2)], OPENED
 
 
+def what_a_migration_leaves():
+    """Pages behind those of a store without tag pages don't count, whole or not. Once page 0 tells them they are the store's. The log is as it
+    was, or a Base."""
+    whole, marks = formatted(tags=2), [base(5), record(1, [1, 2, 1, 3, 4], client(3) + ONE_MARK), record(3, [1, 2, 1, 2], marked(3, 70))]
+    for behind in (whole[3 * PAGE :], whole[3 * PAGE : 4 * PAGE], whole[3 * PAGE : 3 * PAGE + 1000], bytes(2 * PAGE), bytes([7] * PAGE)):
+        pages = bytes(formatted()) + behind
+        yield pages, [], OPENED
+        yield pages, ONE_COMMITTED, OPENED
+        yield bytes(written()) + behind, [base(5)], OPENED
+        yield bytes(written()) + behind, [base(5), FILL], at_record(7)
+        yield bytes(written()) + behind, marks, at_record(7)
+    told = bytes(whole[:PAGE]) + bytes(written()[PAGE:])
+    yield told + whole[3 * PAGE :], [base(5)], OPENED
+    yield told + whole[3 * PAGE :] + bytes([7] * 100), [base(5)], OPENED
+    yield told + whole[3 * PAGE :], marks, "restarted 2 unfinished 0 lost 1"
+    yield told + whole[3 * PAGE :], ONE_COMMITTED, OPENED
+    # one of its pages lacks, is none, or stands in the place of the other
+    yield told, [base(5)], UNREAD
+    yield told + whole[3 * PAGE : 4 * PAGE], [base(5)], UNREAD
+    yield told + whole[3 * PAGE : -1], [base(5)], UNREAD
+    yield told + bytes(2 * PAGE), [base(5)], at_page(3)
+    yield told + whole[3 * PAGE : 4 * PAGE] + bytes(PAGE), [base(5)], at_page(4)
+    yield told + whole[4 * PAGE :] + whole[3 * PAGE : 4 * PAGE], [base(5)], at_page(3)
+
+
 def other_lengths():
     """Pages behind those of the store, and one that is missing."""
     yield formatted() + bytes([7] * PAGE), [], OPENED
@@ -808,7 +833,7 @@ def other_lengths():
 PAGES = [
     pages_that_were_written, superblocks, headers, slots, more_sent_than_there_are_records, before_images, images_put_back, no_cell_is_free,
     chains, chains_beside_a_whole_one, chains_on_two_pages, bases, several_faults, tag_pages, writes_of_tag_pages,
-    marks_that_are_taken_back, other_lengths,
+    marks_that_are_taken_back, what_a_migration_leaves, other_lengths,
 ]  # fmt: skip
 
 

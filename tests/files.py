@@ -27,7 +27,9 @@ from damaged import (
     FREE, MESSAGE, ONE_COMMITTED, ONE_SENT, PAGE, base, cell, end, formatted, group, received, sent, small, write,
 )  # fmt: skip
 from inspector import record
-from server import LONGEST, STORE_FAILED, DiskWrite, Failed, NotStarted, Server, everything, first_line, raises, wait_until
+from server import (
+    LONGEST, STORE_FAILED, DiskWrite, Failed, NotStarted, Server, UnknownClient, everything, first_line, raises, wait_until,
+)  # fmt: skip
 from shim import failing
 
 SHIM = """#define _GNU_SOURCE
@@ -703,13 +705,111 @@ def not_checkpointed(program):
         assert files_of(folder) == {"pages": bytes(formatted()), "log": base(2**50 - 2) + record(7, [2])}
 
 
+def migrate(program, folder, *tags, **words):
+    """What is printed where a store is given so many tag pages, and the exit status."""
+    command, words = [program, "migrate", str(folder), *(["--tags", str(*tags)] if tags else [])], dict(os.environ, **words)
+    ended = subprocess.run(command, stdout=subprocess.PIPE, stderr=subprocess.DEVNULL, env=words, timeout=LONGEST)
+    return ended.stdout, ended.returncode
+
+
+def grown(pages, tags):
+    """The pages of a small store with so many tag pages, which no client was marked on yet."""
+    whole = formatted(tags=tags)
+    return bytes(whole[:PAGE] + pages[PAGE : 3 * PAGE] + whole[3 * PAGE :]) + pages[len(whole) :]
+
+
+def migrated(program):
+    """Tag pages stand behind the others, as they are formatted, and page 0 tells them. The log is one record that counts those before it. What
+    comes next counts on, and marks clients. No more are given then. What a crash left behind the pages does no harm, nor what it left
+    where the new log is made. What had no end is undone before."""
+    written = files_behind(10, 8, group(2, 0, 33, 34), [FIRST, SECOND])["pages"]
+    for behind, left in ((b"", {}), (b"", {"log.new": OLD}), (bytes([7]) * 5000, {}), (bytes([7]) * 3 * PAGE, {})):
+        with folder_of(pages=formatted() + behind, log=b"".join(MESSAGES[:10]), **left) as folder:
+            assert migrate(program, folder, 2) == (b"restarted 2 unfinished 0 lost 0\nmigrated 12\n", 0)
+            pages = grown(written + behind, 2)
+            assert files_of(folder) == {"pages": pages, "log": base(11, 2)}
+            assert migrate(program, folder, 1) == (b"restarted 3 unfinished 0 lost 0\nfault 24 BadTags\n", 1)
+            assert files_of(folder) == {"pages": pages, "log": base(11, 2) + record(7, [3])}
+            server = Server(program, folder)
+            with server.connect() as connection:
+                assert connection.client_tag(29) == (0, 0)
+                with connection.transaction() as transaction:
+                    transaction.mark(29, 70)
+                assert transaction.lsn == 17 and connection.client_tag(29) == (1, 70)
+                raises(UnknownClient, lambda: connection.client_tag(30))
+            server.kill()
+            assert held_by(program, folder) == {0: [(7, b"hello")] * 2}
+    # a page behind the cells stays as it is unless it is one of them
+    with folder_of(pages=formatted() + bytes([7]) * 5 * PAGE, log=b"") as folder:
+        assert migrate(program, folder, 2) == (b"restarted 1 unfinished 0 lost 0\nmigrated 2\n", 0)
+        assert files_of(folder) == {"pages": bytes(formatted(tags=2)) + bytes([7]) * 3 * PAGE, "log": base(1)}
+    for records, unfinished, lost, made in ((8, 1, 0, 13), (9, 0, 1, 15)):
+        with folder_of(pages=formatted(), log=b"".join(MESSAGES[:records])) as folder:
+            told = b"restarted 2 unfinished %d lost %d\nmigrated %d\n" % (unfinished, lost, made + 1)
+            assert migrate(program, folder, 1) == (told, 0)
+            assert (folder / "log").read_bytes() == base(made, 2)
+            assert held_by(program, folder) == {0: [(7, b"hello")]}
+    with folder_of() as folder:
+        assert format_store(program, folder, 3, 2) == (b"formatted 3 2\n", 0)
+        assert migrate(program, folder, 1024) == (b"restarted 1 unfinished 0 lost 0\nmigrated 2\n", 0)
+        assert files_of(folder) == {"pages": bytes(formatted(3, 2, 1024)), "log": base(1)}
+
+
+def not_migrated(program):
+    """Where there is no store nothing is made. Where the log has no room for a record nothing is done but a restart, and there are zeros
+    behind the pages. Words that are not accepted change nothing, nor does a number of pages that no store has."""
+    more = bytes(2 * PAGE)
+    with folder_of() as folder:
+        assert migrate(program, folder / "none", 1) == migrate(program, folder, 1) == (b"fault open\n", 1)
+        assert files_of(folder) == {}
+    for tags in ((), ("x",), ("",), (-1,), (0,), (1025,), (2**32 - 1,), (2**32,)):
+        with folder_of(pages=formatted(), log=b"") as folder:
+            assert migrate(program, folder, *tags) == (b"", 2), tags
+            assert files_of(folder) == {"pages": bytes(formatted()), "log": b""}
+    with folder_of(pages=formatted(), log=base(2**50 - 2)) as folder:
+        assert migrate(program, folder, 2) == (b"restarted 2 unfinished 0 lost 0\nfault 19 LogFull\n", 1)
+        assert files_of(folder) == {"pages": bytes(formatted()) + more, "log": base(2**50 - 2) + record(7, [2])}
+    with folder_of(pages=formatted(), log=b"\1") as folder:
+        assert migrate(program, folder, 2) == (b"fault 16 Damaged\n", 1)
+        assert files_of(folder) == {"pages": bytes(formatted()) + more, "log": b"\1"}
+    for pages, fault in ((formatted()[:-1], b"fault 3 DiskRead\n"), (bytes(3 * PAGE), b"fault 16 Damaged\n"), (b"", b"fault 3 DiskRead\n")):
+        with folder_of(pages=pages, log=b"") as folder:
+            assert migrate(program, folder, 2) == (fault, 1), fault
+            assert files_of(folder) == {"pages": bytes(pages), "log": b""}
+    with folder_of(pages=formatted(), log=b"") as folder:
+        server = Server(program, folder)
+        before = files_of(folder)
+        assert migrate(program, folder, 1) == (b"fault open\n", 1)
+        assert files_of(folder) == before
+        server.kill()
+
+
+def no_room_for_tag_pages(program):
+    """Where the file of pages can't be made longer, it stays as it is, and so does the log."""
+
+    def limit():
+        signal.signal(signal.SIGXFSZ, signal.SIG_IGN)
+        resource.setrlimit(resource.RLIMIT_FSIZE, (4 * PAGE, 4 * PAGE))
+
+    with folder_of(pages=formatted(), log=UNENDED) as folder:
+        command = [program, "migrate", str(folder), "--tags", "2"]
+        ended = subprocess.run(command, stdout=subprocess.PIPE, stderr=subprocess.DEVNULL, preexec_fn=limit, timeout=LONGEST)
+        assert (ended.stdout, ended.returncode) == (b"fault 15 DiskWrite\n", 1), ended
+        assert files_of(folder) == {"pages": bytes(formatted()), "log": UNENDED}
+
+
 # ---- the power is cut
 
-# The calls of a checkpoint of a small store, and of a format, each with its file. Where the same is made again, it stands once.
-CHECKPOINT = [
-    "open null", "open pages", "lock pages", "fsync pages", "open log", "lock log", "fsync log", "read pages", "read log", "write log",
-    "fdatasync log", "write pages", "fdatasync pages", "open .", "remove log.new", "make log.new", "lock log.new", "mode log.new",
-    "write log.new", "fsync log.new", "rename log", "fsync .",
+# The calls of a checkpoint of a small store, of a migration and of a format, each with its file. Where the same is made again, it stands
+# once.
+OPENED = ["fsync pages", "open log", "lock log", "fsync log", "read pages", "read log", "write log", "fdatasync log"]
+REPLACED = [
+    "open .", "remove log.new", "make log.new", "lock log.new", "mode log.new", "write log.new", "fsync log.new", "rename log", "fsync .",
+]  # fmt: skip
+CHECKPOINT = ["open null", "open pages", "lock pages", *OPENED, "write pages", "fdatasync pages", *REPLACED]
+MIGRATION = [
+    "open null", "open pages", "lock pages", "read pages", "cut pages", "lock pages", *OPENED, "write pages", "fdatasync log", "write pages",
+    "fdatasync pages", *REPLACED, "write pages", "fdatasync pages",
 ]  # fmt: skip
 FORMAT = [
     "open null", "make pages", "make log", "lock pages", "cut pages", "lock pages", "fsync pages", "write pages", "fdatasync pages",
@@ -761,27 +861,34 @@ def powered(**files):
 
 
 def power_is_cut(program):
-    """The power is cut in each call of a checkpoint: what was synced holds what the store held, also where pages are on the disk before that.
-    Behind a whole one it is all, and so is what is committed then."""
-    for files in (WHOLE, BASED):
-        for words, told in each_call(29):
-            with powered(**files) as power:
-                checkpoint(program, power.folder, NAMES="1", STOPS="1", **words, **power.words)
-                assert power.holds() == power.holds(pages=files_of(power.folder)["pages"]) == HELD, words
-                if not told.exists():
-                    assert power.made() == CHECKPOINT, power.made()
-                    assert power.left() == {**files_of(power.folder), "log": base(15, 2)}
-                    commits(program, power, words)
-    assert [cuts_that_lose(program, left_out) > 0 for left_out in ({}, *LEFT_OUT)] == [False, True, True, True, True]
+    """The power is cut in each call of a checkpoint, or of a migration: what was synced holds what the store held, also where pages are on the
+    disk before that. Behind a whole one it is all, and so is what is committed then."""
+    for calls, change, made in ((29, checkpoint, CHECKPOINT), (36, migrate_by_two, MIGRATION)):
+        for files in (WHOLE, BASED):
+            for words, told in each_call(calls):
+                with powered(**files) as power:
+                    change(program, power.folder, NAMES="1", STOPS="1", **words, **power.words)
+                    assert power.holds() == power.holds(pages=files_of(power.folder)["pages"]) == HELD, words
+                    if not told.exists():
+                        assert power.made() == made, power.made()
+                        assert power.left() == {**files_of(power.folder), "log": base(15, 2)}
+                        assert opening.Pages(power.left()["pages"]).tags == (2 if change is migrate_by_two else 0)
+                        commits(program, power, words)
+        lose = [cuts_that_lose(program, change, calls, left_out) > 0 for left_out in ({}, *LEFT_OUT)]
+        assert lose == [False, True, True, True, True], (change, lose)
 
 
-def cuts_that_lose(program, left_out):
-    """Where a sync is left out or comes late: how often a checkpoint is cut so that the store holds something else, or is not the one
-    that it has made."""
+def migrate_by_two(program, folder, **words):
+    return migrate(program, folder, 2, **words)
+
+
+def cuts_that_lose(program, change, calls, left_out):
+    """Where a sync is left out or comes late: how often a checkpoint, or a migration, is cut so that the store holds something else, or is
+    not the one that it has made."""
     lose = 0
-    for words, told in each_call(30 if "LATE" in left_out else 29):
+    for words, told in each_call(calls + ("LATE" in left_out)):
         with powered(**WHOLE) as power:
-            checkpoint(program, power.folder, NAMES="1", STOPS="1", **words, **power.words, **left_out)
+            change(program, power.folder, NAMES="1", STOPS="1", **words, **power.words, **left_out)
             lose += power.holds() != HELD or not told.exists() and power.left() != files_of(power.folder)
     return lose
 
@@ -878,7 +985,7 @@ def slow_openings(program):
     with folder_of() as folder, failing(SHIM) as (_, words):
         assert format_store(program, folder, 1, 1300)[1] == 0
         pages, log = ((folder / name).stat().st_size for name in ("pages", "log"))
-        for subcommand in (["serve", "--port", "0"], ["checkpoint"]):
+        for subcommand in (["serve", "--port", "0"], ["checkpoint"], ["migrate", "--tags", "1"]):
             for micros in (2000, 0):
                 began = time.monotonic()
                 lines = told_opening(program, folder, *subcommand, environment={**words, "MICROS": str(micros)})
@@ -906,8 +1013,8 @@ def told_opening(program, folder, subcommand, *words, environment):
 
 TESTS = [
     made, there, no_folder, open_once, messages, log_of_all, formats, courses, torn_ends, last_force,
-    replaced, left_behind, not_replaced, no_room, replaced_while_open, checkpointed, not_checkpointed, odd_fresh_names, power_is_cut,
-    power_is_cut_in_a_format, slow_openings,
+    replaced, left_behind, not_replaced, no_room, replaced_while_open, checkpointed, not_checkpointed, migrated, not_migrated,
+    no_room_for_tag_pages, odd_fresh_names, power_is_cut, power_is_cut_in_a_format, slow_openings,
 ]  # fmt: skip
 
 # What looks at the bytes of each file.

@@ -4,12 +4,16 @@ checkpoints all the while. Between the rounds `rqm checkpoint` is run, and every
 once it is open again. Nothing that was acknowledged is lost, nothing comes twice, and each group is in order. What each client was
 marked with tells exactly its commits.
 
+Then stores without tag pages are given some by `rqm migrate`, which is killed again and again. Each holds what it held, with tag pages or
+without. It has them once `migrated` is printed.
+
     python3 tests/kill.py [--program PROGRAM] [--seed N] [--rounds N]
 
 A write that the system cuts off leaves a part of a record at the log's end. It was acknowledged to nobody, and the next server cuts
 it off. How often that came is said.
 """
 import argparse
+import itertools
 import random
 import signal
 import subprocess
@@ -19,7 +23,7 @@ from concurrent.futures import ThreadPoolExecutor
 from contextlib import contextmanager
 
 from cases import built
-from server import LONGEST, Server, base_of, everything, has_base, store, torn_end
+from server import LONGEST, Server, UnknownClient, base_of, everything, first_line, has_base, raises, serving, store, torn_end
 
 sys.dont_write_bytecode = True
 from rqm import Full  # noqa: E402, where `server` finds it
@@ -190,6 +194,86 @@ class Kills:
         self.kills += 1
 
 
+class Migrations:
+    """Stores without tag pages, and how often a migration of one was killed and left them so, made the log one record alone, or left tag
+    pages. Between, each is served."""
+
+    def __init__(self, program, seed):
+        self.program, self.random = program, random.Random(f"migrations {seed}")
+        self.made = self.cut_off = self.based = self.grown = 0
+
+    def life(self):
+        """A store, from its format until it has tag pages and a client was marked."""
+        with store(self.program, 1, 20) as folder:
+            held = {}
+            for tag in itertools.count(1):
+                with serving(self.program, folder, "--workers", 1) as server, server.connect() as connection:
+                    self.look(connection, held, tags_of(folder))
+                    if tags_of(folder):
+                        return
+                    with connection.transaction() as transaction:
+                        sender = self.random.randrange(15)
+                        transaction.send(sender, tag, body_of(sender, tag))
+                    held[sender] = [*held.get(sender, []), tag]
+                    self.take(connection, held)
+                self.migrate(folder, is_cut_off=tag < 50)
+
+    def migrate(self, folder, is_cut_off):
+        """Gives a store two tag pages; that may be cut off anywhere."""
+        before, command = base_of(folder), [self.program, "migrate", str(folder), "--tags", "2"]
+        with subprocess.Popen(command, stdout=subprocess.PIPE, stderr=subprocess.DEVNULL) as process:
+            line = b""
+            if is_cut_off:
+                # mostly behind the line that stands in front of the migration
+                if self.random.randrange(4):
+                    line = first_line(process)
+                    time.sleep(self.random.uniform(0, self.random.choice((0.001, 0.004, 0.015, 0.06))))
+                else:
+                    time.sleep(self.random.uniform(0, 0.05))
+                process.kill()
+            printed, _ = process.communicate(timeout=LONGEST)
+        printed = line + printed
+        is_made = b"\nmigrated " in printed
+        is_killed = process.returncode == -signal.SIGKILL
+        assert process.returncode == 0 and is_made or is_cut_off and is_killed, (process.returncode, printed)
+        tags, is_based = tags_of(folder), base_of(folder) > before
+        assert tags in (0, 2) and is_based >= (tags > 0) >= is_made, (tags, is_based, printed)
+        self.made += is_made
+        self.cut_off += not is_made
+        self.based += is_based and not tags
+        self.grown += tags > 0 and not is_made
+
+    def take(self, connection, held):
+        """Takes messages where many stand there, so that there is room for more."""
+        while sum(map(len, held.values())) > 40:
+            sender = max(held, key=lambda each: len(held[each]))
+            with connection.transaction() as transaction:
+                message = transaction.receive_from(sender)
+            assert message == (sender, held[sender][0], body_of(sender, held[sender][0])), (message, held)
+            del held[sender][0]
+
+    def look(self, connection, held, tags):
+        """Looks what the store holds. Where it has tag pages, clients may be marked; no other client is known."""
+        transaction = connection.transaction()
+        for sender, left in held.items():
+            assert connection.last_tag(sender).tag == left[-1], (connection.last_tag(sender), held)
+            messages = [transaction.receive_from(sender) for _ in range(len(left) + 1)]
+            assert messages == [*((sender, tag, body_of(sender, tag)) for tag in left), None], (messages, held)
+        transaction.abort()
+        if tags:
+            assert connection.client_tag(15 * tags - 1) == (0, 0)
+            with connection.transaction() as transaction:
+                transaction.mark(15 * tags - 1, 7)
+            assert connection.client_tag(15 * tags - 1) == (1, 7)
+        raises(UnknownClient, lambda: connection.client_tag(15 * tags))
+
+
+def tags_of(folder):
+    """How many tag pages page 0 of a store tells."""
+    with open(folder / "pages", "rb") as pages:
+        return int.from_bytes(pages.read(280)[276:], "big")
+
+
 def main():
     words = argparse.ArgumentParser(description="Kills `rqm serve` in the midst of load, and looks what its store then holds.")
     words.add_argument("--program", help="a program that was built elsewhere")
@@ -207,9 +291,16 @@ def main():
     sent = sum(kills.load.sent)
     assert sent > 10 * chosen.rounds, sent
     assert kills.checkpoints and kills.cut_off and kills.based and kills.beside or chosen.rounds < 100, vars(kills)
+    migrations = Migrations(program, chosen.seed)
+    for _ in range(chosen.rounds // 2):
+        migrations.life()
+    assert migrations.made + migrations.grown == chosen.rounds // 2, vars(migrations)
+    assert migrations.cut_off and migrations.based and migrations.grown or chosen.rounds < 100, vars(migrations)
     seconds = time.monotonic() - before
     made = f"{kills.checkpoints} checkpoints, {kills.cut_off} cut off, {kills.beside} servers that made some, {kills.based} starts behind a Base"
+    cut = f"{migrations.cut_off} cut off, {migrations.based} of these behind their Base, {migrations.grown} behind the tag pages"
     print(f"killed {kills.kills} times among {sent} sends, {kills.torn} torn ends cut, {made}: {seconds:.0f} s")
+    print(f"{migrations.made} migrations made, {cut}")
 
 
 if __name__ == "__main__":

@@ -82,9 +82,9 @@ UNABLE = [
 ]  # fmt: skip
 
 # So many allocations of a list or a script at most are for that. Lists have up to 47: some 40 to be read, 7 to print what they come
-# to, and one where a crash names images. What `more_others` counts comes beside. Scripts have up to 127, all before their first line is
-# run, 83 of them for words.
-MOST_OF_LIST, MOST_OF_SCRIPT = 48, 128
+# to, and one where a crash names images. What `more_others` counts comes beside. Scripts have up to 136, all before their first line is
+# run, 82 of them for words.
+MOST_OF_LIST, MOST_OF_SCRIPT = 48, 137
 
 # More than the allocations by which a program reads one line more.
 MORE = 12
@@ -92,7 +92,7 @@ MORE = 12
 # Scripts each of whose lines is one call.
 STEP_BY_STEP = [
     "a-send-is-aborted-and-one-is-committed-step-by-step", "two-sends-go-on-at-once-on-pages-of-their-own",
-    "checkpoints-between-sends-step-by-step",
+    "checkpoints-between-sends-step-by-step", "a-migration-waits-step-by-step",
 ]  # fmt: skip
 
 
@@ -133,8 +133,8 @@ class Lists:
             # where nothing shows it, it was the handing over as the store crashes, of which the crash leaves nothing
             places = crashes if at is None else [at - first]
             if at is not None and told[at] in WANTING:
-                if self.door is not SCRIPTS and lines[at] == b"checkpoint":  # a script keeps an account of its calls
-                    return f"{name}: allocation {number} of {made} is a checkpoint's", 0
+                if self.door is not SCRIPTS and writes_all(lines[at]):  # a script keeps an account of its calls
+                    return f"{name}: allocation {number} of {made} is a checkpoint's or a migration's", 0
                 wanting.setdefault(at, []).append(number)
             elif any(told == self.where_a_device_fails(name, lines, place, told) for place in places):
                 grown += 1
@@ -151,10 +151,12 @@ class Lists:
         return None, grown + sum(map(len, wanting.values()))
 
     def more_others(self, name, lines):
-        """One for each body, one for each page behind the third, and four for the levels of each restart behind the second."""
+        """One for each body, one for each page behind the third, seven for the levels of each restart behind the second, and two for
+        each crash behind the first that names images: the line is read, and the images are taken."""
         pages = 1 + sum(int(word) for word in self.door.words_of(name) if word.isdigit())
         bodies, restarts = (sum(line.startswith(kind) for line in lines) for kind in (b"start-send", b"restart"))
-        return bodies + pages - 3 + 4 * max(0, restarts - 2)
+        named = sum(line.startswith(b"crash") and not line.endswith(b" -") for line in lines)
+        return bodies + pages - 3 + 7 * max(0, restarts - 2) + 2 * max(0, named - 1)
 
     def made_again(self, name, lines, base, at, place, numbers):
         """What is wrong where the line at a place, in which these allocations fail, stands twice."""
@@ -180,9 +182,10 @@ class Lists:
 
     def where_a_device_fails(self, name, lines, place, told):
         """What lines print by the reference where the call at a place meets a failing device: its first write. At a crash that is the
-        handing over of what is buffered. In a checkpoint it is the device call behind which they print what was told, if one is."""
-        most = 4 + sum(int(word) for word in self.door.words_of(name) if word.isdigit())
-        calls = range(1, most + 1) if lines[place] == b"checkpoint" else [1]
+        handing over of what is buffered. In a checkpoint or a migration it is the device call behind which they print what was told, if
+        one is."""
+        most = 6 + sum(int(word) for word in [*self.door.words_of(name), *lines[place].split(b" ")] if word.isdigit())
+        calls = range(1, most + 1) if writes_all(lines[place]) else [1]
         came = [self.where_it_fails(name, lines, place, call, told) for call in calls]
         return told if told in came else came[0]
 
@@ -206,6 +209,11 @@ class Lists:
                 world.printed.pop()
             world.happen(line, picked_at(lines, told, at))
         return world.printed
+
+
+def writes_all(line):
+    """Whether it is a checkpoint or a migration."""
+    return line == b"checkpoint" or line.startswith(b"migrate ")
 
 
 def doubled(lines, place):

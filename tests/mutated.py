@@ -1,7 +1,7 @@
 #!/usr/bin/env python3
 """Changes the bytes of stores that runs of `rqm serve` left, by seeds. Their logs are cut, spliced, shuffled, or have other fields and
 lengths that fit again, and pages change too. Of some logs a Base stands for the beginning. An inspection and an opening have to come to
-what tests/opening.py reads from the bytes, in time. A store that is opened holds that, also behind a checkpoint, and one that is refused
+what tests/opening.py reads from the bytes, in time. A store that is opened holds that, also behind a checkpoint or a migration. One that is refused
 stays as it is.
 
     python3 tests/mutated.py [--rqm PROGRAM] [--bench PROGRAM] [--first SEED] [--stores N] [--counts]
@@ -32,10 +32,14 @@ from rqm import Closed, Refused  # noqa: E402, where `server` finds it
 # Directory pages, cell pages and tag pages.
 SIZES = [(1, 1, 0), (1, 2, 1), (2, 2, 0)]
 
+# How many tag pages a store is given.
+TAGS = 2
+
 # What has to be met among the usual stores, those of the seeds from 0, and how often at least.
 USUAL = 1500
 WANTED = {"opened": 300, "opened with undoing": 100, "opened with marks undone": 10, "opened behind a base": 60,
-          "undoing behind a base": 30, "damaged behind a base": 150, "damaged record": 300, "damaged page": 100, "torn": 50, "fault 3 DiskRead": 5}  # fmt: skip
+          "undoing behind a base": 30, "migrated": 100, "not migrated for its tags": 50, "damaged behind a base": 150,
+          "damaged record": 300, "damaged page": 100, "torn": 50, "fault 3 DiskRead": 5}  # fmt: skip
 
 
 # ---- what runs leave
@@ -367,6 +371,11 @@ class Looks:
                 yield "it is refused, and its files have changed"
             put_files(folder, pages, log)
             yield from self.checkpoints(folder, pages, log)
+            put_files(folder, pages, log)
+            yield from self.migrations(folder, pages, log)
+        with self.counting:
+            met["migrated"] += bool(made and not made.pages.tags)
+            met["not migrated for its tags"] += bool(made and made.pages.tags)
 
     def checkpoints(self, folder, pages, log):
         """What is wrong with a checkpoint of this store, which is there."""
@@ -381,6 +390,27 @@ class Looks:
             yield "no checkpoint is made, and the pages have changed"
         elif "fault " not in printed and held_in(opening.Opening(left_pages, left_log)) != held_in(made):
             yield "it holds something else behind a checkpoint"
+
+    def migrations(self, folder, pages, log):
+        """What is wrong with a migration of this store, which is there. One that is refused may leave zeros behind the pages."""
+        printed, left, made = opening.migrated(pages, log, TAGS)
+        ran = subprocess.run([self.rqm, "migrate", folder, "--tags", str(TAGS)], capture_output=True, timeout=LONGEST)
+        if (ran.stdout.decode(), ran.stderr, ran.returncode) != (printed, b"", int("fault " in printed)):
+            yield f"migrate says {ran.stdout}, {ran.stderr}, {ran.returncode}, and not {printed}"
+        left_pages, left_log = files_in(folder)
+        if left_log != left:
+            yield f"migrate leaves the log {left_log[:100]}, and not {left[:100]}"
+        elif "fault " in printed:
+            more = left_pages[len(pages) :]
+            if not left_pages.startswith(pages) or more.strip(b"\0") or len(more) > TAGS * opening.PAGE:
+                yield "no migration is made, and the pages have changed"
+        else:
+            whole, first = bytes(formatted(made.pages.directory, made.pages.cells, TAGS)), made.pages.count * opening.PAGE
+            now = left_pages[: opening.PAGE], left_pages[first : len(whole)], left_pages[len(whole) :]
+            if now != (whole[: opening.PAGE], whole[first:], pages[len(whole) :]):
+                yield "behind a migration its superblock, its tag pages, or what is behind them are not as they should"
+            elif held_in(opening.Opening(left_pages, left_log)) != (made.pages.content(), dict.fromkeys(range(15 * TAGS), (0, 0))):
+                yield "it holds something else behind a migration"
 
     def serves(self, folder, said, made, left):
         held, marks = {}, {}

@@ -3,7 +3,7 @@ refused for, or what the store holds and what is added to its log. It is written
 from inspector import front, is_torn, record
 
 PAGE, SLOT, SLOTS = 4096, 256, 15
-LONGEST = 2**50
+LONGEST, MOST_TAGS = 2**50, 1024
 SHORT, FULL = "fault 3 DiskRead", "fault 19 LogFull"
 
 # By level and first byte, the least and the greatest length of a deed: append, unlink-head and close, then mark.
@@ -420,9 +420,20 @@ def said_of(pages, log):
 
 def checkpointed(pages, log):
     """What `rqm checkpoint` prints of a store, its log then, and the opening where it is made."""
+    return made_one_record(pages, log, "checkpoint")
+
+
+def migrated(pages, log, tags):
+    """The same of `rqm migrate` with so many tag pages."""
+    return made_one_record(pages, log, "migrated", tags)
+
+
+def made_one_record(pages, log, word, tags=None):
     said, made, left = said_of(pages, log)
     if made is None:
         return "fault 16 Damaged\n" if said.startswith("damaged") else f"{said}\n", log, None
+    if tags is not None and (made.pages.tags or not 1 <= tags <= MOST_TAGS):
+        return f"{said}\nfault 24 BadTags\n", left, made
     if made.records == LONGEST:
         return f"{said}\nfault 19 LogFull\n", left, made
-    return f"{said}\ncheckpoint {made.records + 1}\n", record(9, [made.records, made.incarnation]), made
+    return f"{said}\n{word} {made.records + 1}\n", record(9, [made.records, made.incarnation]), made

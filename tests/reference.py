@@ -14,13 +14,14 @@ from collections import Counter
 SLOTS = 15  # of a page: senders of a directory page, cells of a cell page, clients of a tag page
 LONGEST_BODY = 216
 MOST_OPEN = 4096
+MOST_TAGS = 1024  # tag pages of a store
 ALL = 2**64 - 1
 
 REFUSALS = {
     "NoMemory": 1, "Failed": 2, "DiskRead": 3, "UnknownTransaction": 4, "NotOpen": 5, "Unfinished": 6, "UnknownSender": 7,
     "TooLong": 8, "SenderBusy": 9, "Closed": 10, "ReceiverBusy": 11, "Full": 12, "Latched": 13, "PoolFull": 14, "DiskWrite": 15,
     "Damaged": 16, "TooManyTransactions": 17, "NotForced": 18, "LogFull": 19, "UnknownOperation": 20,
-    "NotQuiet": 21, "UnknownClient": 22, "ClientBusy": 23,
+    "NotQuiet": 21, "UnknownClient": 22, "ClientBusy": 23, "BadTags": 24,
 }  # fmt: skip
 
 INVERSES = {"append": "unsend", "take": "put-back", "close": "reopen", "mark": "unmark"}
@@ -88,13 +89,24 @@ class Page:
         self.lsn, self.changed = self.images[-1], False
 
 
+class Superblock(Page):
+    """Page 0: of its images, how many tag pages each tells. No record changes it."""
+
+    def __init__(self, tags):
+        super().__init__()
+        self.images = [tags]
+
+    def load(self):
+        pass
+
+
 # The records of a log, as tuples that begin with their kind.
 #   ("restart", incarnation)
 #   ("write", operation, page, kind of what is done, writes to come behind it)
 #   ("back", operation, page, LSN of the write that it undoes)      ("void", operation)
 #   ("end", operation, deed)      ("undone", operation, LSN of the end of what it undid, cell)
 #   ("commit", transaction)       ("abort", transaction)
-#   ("base", incarnation): a checkpoint, of which the records before it stand on no device
+#   ("base", incarnation): a checkpoint or a migration, of which the records before it stand on no device
 
 
 def bytes_of(record):
@@ -112,10 +124,10 @@ class Devices:
     WINDOW = 65_536  # bytes of the log that are read and not taken, at most
     LONGEST = 546  # bytes of the longest record: where fewer are left of what was read, it is read on
 
-    def __init__(self, pages):
+    def __init__(self, pages, tags):
         self.records, self.handed, self.forced = [], 0, 0
         self.torn = 0  # bytes of a record behind those that were handed over, which a crash left of it
-        self.pages = [Page() for _ in range(pages)]
+        self.pages = [Superblock(tags), *(Page() for _ in range(pages + tags))]  # those of the store
         self.calls = self.failing = self.stopping = 0
         self.armed = set()  # kinds of calls of which the next fails: read, write, force
 
@@ -181,6 +193,27 @@ class Devices:
         page.changed = False
         return True
 
+    def write_changed(self):
+        for page in range(len(self.pages)):
+            self.write(page)
+
+    def write_behind(self, count):
+        """Writes so many pages behind those of the store, as they are formatted. Nobody reads them before they are synced."""
+        for _ in range(count):
+            if not self.meet("write"):
+                raise Refused("DiskWrite")
+
+    def write_superblock(self, tags):
+        """Writes a superblock that tells so many tag pages."""
+        try:
+            made = self.meet("write")
+        except Stopped:
+            self.pages[0].images.append(tags)
+            raise
+        if not made:
+            raise Refused("DiskWrite")
+        self.pages[0].images.append(tags)
+
     def sync(self):
         if not self.meet("force"):
             raise Refused("DiskWrite")
@@ -240,6 +273,10 @@ class Devices:
         self.handed = self.forced = len(self.records)
         for number, page in enumerate(self.pages):
             page.crash(places[number] if number < len(places) else ALL)
+
+    def grow(self, tags):
+        """The store has so many tag pages more, as they are formatted."""
+        self.pages += [Page() for _ in range(tags)]
 
     def load(self):
         """Every page is read, and each record's change is made that its page lacks."""
@@ -436,13 +473,15 @@ class Store:
     def __init__(self, directory, cells, tags=0, met=None):
         self.directory, self.cells, self.tags = directory, cells, tags
         self.senders, self.room, self.clients = directory * SLOTS, cells * SLOTS, tags * SLOTS
-        self.devices = Devices(1 + directory + cells + tags)
+        self.devices = Devices(directory + cells, tags)
         self.chains = Chains(directory, cells)
         self.met = Counter() if met is None else met
         self.commits = []  # (transaction, LSN, its deeds), in order
         self.rows = {}
         self.open = self.failed = False
+        self.formatted_tags = tags
         self.is_cut, self.mending = False, None  # whether no restart was begun since the last crash, and what the last one did
+        self.migration = None  # of the one since the last crash, whether it was answered or cut off, and the base before it
         self.incarnation = self.begins = 0
         self.recount()
 
@@ -498,11 +537,24 @@ class Store:
             self.met["BaseTorn"] += self.devices.torn > 0
             self.met["BaseShorter"] += left < before
             self.met["BaseNewest" if are_newest else "BaseOld"] += differ
+        self.look_at_size()
         self.commits = [commit for commit in self.commits if commit[1] <= left]
         self.recount()
         self.rows, self.open, self.failed = {}, False, False
         self.is_cut = True
         return left
+
+    def look_at_size(self):
+        """A migration whose superblock was left gave the store its tag pages."""
+        tags = self.devices.pages[0].images[-1]
+        is_grown = tags > self.tags
+        if self.migration:
+            how, base = self.migration
+            self.met[f"{how}{'Grown' if is_grown else 'NotGrown' if self.devices.base() > base else 'AsItWas'}"] += 1
+            self.migration = None
+        if is_grown:
+            self.devices.grow(tags - self.tags)
+            self.tags, self.clients = tags, tags * SLOTS
 
     def restart(self):
         """A whole restart: (incarnation, unfinished, lost). Its records go out in one append, and are forced."""
@@ -535,6 +587,7 @@ class Store:
         self.open, self.failed, self.rows = True, False, {}
         self.incarnation, self.begins = incarnation, 0
         self.met["Opened"] += 1
+        self.met["OpenedGrown"] += self.tags > self.formatted_tags
         self.met.update(kind for _, kind in mending.met)
         assert all(len(self.chains.of[s]) == self.left(s) for s in range(self.senders)), "a chain is not the committed rest"
         assert all(self.chains.marked(c) == self.client_tag(c) for c in range(self.clients)), "a client's slot has not its committed marks"
@@ -592,6 +645,7 @@ class Store:
     def call(self, name, *words):
         """What a call of this name answers; a refusal is raised."""
         if not self.open or self.failed:
+            self.met["MigrationOfNone"] += name == "migrate"
             raise Refused("Failed")
         try:
             return getattr(self, name)(*words)
@@ -860,28 +914,52 @@ class Store:
     def checkpoint(self):
         if self.rows:
             raise Refused("NotQuiet")
-        devices, part = self.devices, "Force"
-        is_second = devices.base() == len(devices.records)
-        try:
-            devices.force()
-            part = "Write"
-            for page in range(len(devices.pages)):
-                devices.write(page)
-            part = "Sync"
-            devices.sync()
-            part = "Replace"
-            devices.put_base(self.incarnation)
-        except (Refused, Stopped) as met:
-            self.met[f"Checkpoint{'Stopped' if isinstance(met, Stopped) else 'Failed'}In{part}"] += 1
-            raise
+        is_second = self.devices.base() == len(self.devices.records)
+        self.in_parts("Checkpoint", self.parts_of_checkpoint())
         self.met["CheckpointedTwice"] += is_second
-        return devices.forced
+        return self.devices.forced
+
+    def parts_of_checkpoint(self):
+        devices = self.devices
+        return [
+            ("Force", devices.force), ("Write", devices.write_changed), ("Sync", devices.sync),
+            ("Replace", lambda: devices.put_base(self.incarnation)),
+        ]  # fmt: skip
+
+    def in_parts(self, name, parts):
+        """Does the parts in turn. In which one a device failed, or the machine stopped, is counted."""
+        for part, work in parts:
+            try:
+                work()
+            except (Refused, Stopped) as met:
+                self.met[f"{name}{'Stopped' if isinstance(met, Stopped) else 'Failed'}In{part}"] += 1
+                raise
 
     def calls_of_checkpoint(self):
         """How many device calls a checkpoint makes of an open store that runs: an append, a force, page writes, a sync, and the one
         that replaces the log."""
         devices = self.devices
         return (devices.handed < len(devices.records)) + 3 + sum(page.changed for page in devices.pages)
+
+    def migrate(self, tags):
+        """Gives a store without tag pages so many. It stops then."""
+        if not 1 <= tags <= MOST_TAGS or self.tags:
+            self.met["HasTags" if self.tags else "OddTags"] += 1
+            raise Refused("BadTags")
+        if self.rows:
+            self.met["MigrationNotQuiet"] += 1
+            raise Refused("NotQuiet")
+        devices = self.devices
+        self.migration = "CutOff", devices.base()
+        parts = [("Tags", lambda: devices.write_behind(tags)), *self.parts_of_checkpoint()]
+        self.in_parts("Migration", [*parts, ("Superblock", lambda: devices.write_superblock(tags)), ("LastSync", devices.sync)])
+        self.migration, self.failed = ("Answered", self.migration[1]), True
+        return devices.forced
+
+    def calls_of_migration(self, tags):
+        """How many device calls a migration makes: those of a checkpoint, the writes of the new pages before, and the write of the
+        superblock and a sync behind."""
+        return tags + self.calls_of_checkpoint() + 2
 
     def write_page(self, page):
         return self.devices.write(page)

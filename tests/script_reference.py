@@ -49,7 +49,7 @@ FORMS = {
     b"close": [(txn, short)], b"commit": [(txn,)], b"ack": [(txn,)], b"abort": [(txn,)], b"start-abort": [(txn,)],
     b"undo": [(txn,)], b"end-abort": [(txn,)], b"step": [(txn, number)], b"finish": [(txn, number)], b"write": [(short,)],
     b"last": [(short,)], b"fail": [(one_of(b"read", b"write", b"force"),)], b"crash": [(kept,), (kept, one_of(b"old"))],
-    b"checkpoint": [()], b"mark": [(txn, short, number)], b"tag": [(short,)],
+    b"checkpoint": [()], b"mark": [(txn, short, number)], b"tag": [(short,)], b"migrate": [(short,)],
 }  # fmt: skip
 
 
@@ -228,6 +228,11 @@ class Script:
         lsn = self.call("checkpoint")
         self.met["Checkpointed"] += 1
         return f"checkpoint {lsn}"
+
+    def migrate(self, pages):
+        lsn = self.call("migrate", pages)
+        self.met["Migrated"] += 1
+        return f"migrated {lsn}"
 
     def write(self, page):
         is_written = self.call("write_page", page)

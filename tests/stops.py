@@ -29,7 +29,7 @@ from worlds import Worlds
 BASES = [
     "restarts-that-are-stopped-go-on", "a-lost-receive-from-a-full-store-is-undone",
     "five-senders-on-five-directory-pages-and-a-forced-send", "commits-are-acknowledged-and-pages-written-amid-what-is-lost",
-    "checkpoints-amid-commits-and-what-is-lost", "a-mark-is-under-way-beside-others",
+    "checkpoints-amid-commits-and-what-is-lost", "a-mark-is-under-way-beside-others", "a-store-is-given-tag-pages",
 ]  # fmt: skip
 
 # Lists with more in them: receipts of their commits, and these with writes of their pages.

@@ -22,7 +22,7 @@ READERS = {
     b"begin": [], b"start-receive": [txn_of], b"start-receive-from": [txn_of, int], b"start-close": [txn_of, int],
     b"step": [txn_of, int], b"finish": [txn_of, int], b"commit": [txn_of], b"start-abort": [txn_of], b"undo-next": [txn_of],
     b"end-abort": [txn_of], b"hand-over": [], b"force": [], b"checkpoint": [], b"write": [int], b"last": [int], b"content": [],
-    b"start-mark": [txn_of, int, int], b"tag": [int],
+    b"start-mark": [txn_of, int, int], b"tag": [int], b"migrate": [int],
 }  # fmt: skip
 
 
@@ -202,6 +202,9 @@ class World:
 
     def said_of_checkpoint(self, lsn, _):
         return f"checkpoint {lsn}", "Checkpointed"
+
+    def said_of_migrate(self, lsn, _):
+        return f"migrated {lsn}", "Migrated"
 
     def said_of_write_page(self, is_written, _):
         return ("written", "Written") if is_written else ("not-written", "NotWritten")

@@ -16,6 +16,7 @@ import random
 
 import courses
 import drawn
+from courses import BAD_TAGS, MAY_GROW
 from cases import Cases
 from reference import ALL
 from world_reference import World, picked_at, printed_by, shown
@@ -46,6 +47,12 @@ WANTED = {
     "BaseOld": 93, "BaseNewest": 180, "BaseLost": 350, "BaseUnfinished": 330, "StoppedOverBase": 310, "GivenOverBase": 420,
     "MarkStarted": 1200, "Marked": 1000, "MarkedAgain": 68, "MarkUndone": 140, "MarkLost": 280, "MarkCut": 72, "UnmarkCut": 22,
     "MarkPage": 100, "UnmarkPage": 20, "ClientTag": 140, "NoClientTag": 800, "ClientBusy": 200, "UnknownClient": 50,
+    "Migrated": 130, "AnsweredGrown": 130, "OpenedGrown": 610, "BadTags": 380, "OddTags": 49, "HasTags": 330,
+    "MigrationNotQuiet": 77, "MigrationOfNone": 170, "CutOffAsItWas": 100, "CutOffNotGrown": 11, "CutOffGrown": 30,
+    "MigrationFailedInTags": 21, "MigrationFailedInForce": 9, "MigrationFailedInWrite": 7, "MigrationFailedInSync": 11,
+    "MigrationFailedInReplace": 8, "MigrationFailedInSuperblock": 9, "MigrationFailedInLastSync": 12,
+    "MigrationStoppedInTags": 12, "MigrationStoppedInForce": 12, "MigrationStoppedInWrite": 4, "MigrationStoppedInSync": 7,
+    "MigrationStoppedInReplace": 9, "MigrationStoppedInSuperblock": 10, "MigrationStoppedInLastSync": 10,
 }  # fmt: skip
 
 LENGTH = 160
@@ -68,7 +75,8 @@ class Drawing:
         self.fills = seed % 4 == 0  # it sends and does not receive, and little else happens
         self.opened = False  # the last happening opened the store
         self.may_check = seed % 5 < 2  # checkpoints are drawn
-        self.failing = False  # the last happening has a device call of a checkpoint fail
+        self.may_grow = seed % 5 > 2  # migrations are drawn
+        self.failing = None  # the call that comes next, of which the last happening has a device call fail
 
     def is_first_of(self, count):
         return self.random.randrange(count) == 0
@@ -86,10 +94,14 @@ class Drawing:
             return "write", self.page()  # it shows which image was left
         if (self.store.has_idle_beside() and self.is_first_of(4)) or (len(self.store.works()) > 1 and self.is_first_of(16)):
             return "crash", *self.choice(ALL)
-        if self.may_check and self.store.failed and self.is_first_of(4):
+        if (self.may_check or self.may_grow) and self.store.failed and self.is_first_of(4):
             return "crash", *self.choice()
-        if self.failing or (self.may_check and self.is_first_of(40 if self.store.rows else 2)):
-            return self.checkpoint()
+        if self.failing:
+            return self.whole_call(self.failing)
+        if self.may_check and self.is_first_of(40 if self.store.rows else 2):
+            return self.whole_call(("checkpoint",))
+        if self.may_grow and self.is_first_of(60 if self.store.rows or self.store.tags else 2):
+            return self.whole_call(("migrate", self.random.choice(BAD_TAGS if self.is_first_of(9) else MAY_GROW)))
         kind = self.random.randrange(400 if self.fills else 50)
         if kind == 0:
             return "ack", self.random.randrange(LENGTH)
@@ -105,13 +117,14 @@ class Drawing:
             return self.acknowledgement()
         return ("write", self.page()) if kind < 15 else self.call()
 
-    def checkpoint(self):
-        """A checkpoint, one that is stopped, or the failure of a device call of one that comes next."""
-        call, kind = self.random.randrange(self.store.calls_of_checkpoint() + 1), 0 if self.failing else self.random.randrange(6)
-        self.failing = kind == 1
+    def whole_call(self, call):
+        """A checkpoint or a migration, one that is stopped, or the failure of a device call of one that comes next."""
+        number = self.random.randrange(calls_of(self.store, call) + 1)
+        kind = 0 if self.failing else self.random.randrange(6 if call == ("checkpoint",) else 3)
+        self.failing = call if kind == 1 else None
         if kind == 1:
-            return "fail", call
-        return ("stop-in", call, *self.choice(), "checkpoint") if kind == 2 else ("checkpoint",)
+            return "fail", number
+        return ("stop-in", number, *self.choice(), *call) if kind == 2 else call
 
     def of_shut(self):
         kind = self.random.randrange(12)
@@ -142,7 +155,7 @@ class Drawing:
             keep = self.random.choice([0, ALL, self.random.randrange(5), self.random.randrange(24)])
         if self.is_first_of(3):
             keep = f"{keep}+{self.random.choice([1, 4, self.random.randrange(546), ALL])}"
-        places = [self.random.choice([ALL, 0, 1, 2, 3]) for _ in range(self.random.randrange(sum(self.sizes) + 3))]
+        places = [self.random.choice([ALL, 0, 1, 2, 3]) for _ in range(self.random.randrange(len(self.store.devices.pages) + 2))]
         return keep, ",".join(map(str, places)) or "-"
 
     def stop_in(self):
@@ -195,7 +208,7 @@ class Drawing:
 
     def of_client(self):
         """A mark, or what a client's marks are told to be."""
-        client = self.random.randrange(17 if self.is_first_of(10) else 3) + 15 * self.random.randrange(self.sizes[2])
+        client = self.random.randrange(17 if self.is_first_of(10) else 3) + 15 * self.random.randrange(self.store.tags)
         if self.is_first_of(3):
             return "tag", client
         return "start-mark", self.txn(), client, self.random.choice([0, ALL, self.random.getrandbits(31), len(self.lines)])
@@ -218,8 +231,13 @@ class Drawing:
 
     def page(self):
         """Most times one that changes."""
-        count = 1 + sum(self.sizes)
+        count = len(self.store.devices.pages)
         return self.random.randrange(count + 2) if self.is_first_of(8) else self.random.randrange(1, count)
+
+
+def calls_of(store, call):
+    """How many device calls a checkpoint or a migration makes of an open store that runs."""
+    return store.calls_of_checkpoint() if call == ("checkpoint",) else store.calls_of_migration(min(call[1], 3))
 
 
 class Calls(courses.Drawing):
@@ -250,9 +268,10 @@ class Calls(courses.Drawing):
             return self.happen("fail", self.random.randrange(1, 9))
         if name == "crash":
             return self.happen("crash", *self.left(words))
-        if name == "checkpoint" and self.is_first_of(4):
-            call, keep = self.random.randrange(self.store.calls_of_checkpoint() + 1), self.random.choice([0, 2, 5, "all"])
-            return self.happen("stop-in", call, *self.left([keep, *["old"] * self.random.randrange(2)]), "checkpoint")
+        if name in ("checkpoint", "migrate") and self.is_first_of(4):
+            calls, keep = calls_of(self.store, (name, *words)), self.random.choice([0, 2, 5, "all"])
+            left = self.left([keep, *["old"] * self.random.randrange(2)])
+            return self.happen("stop-in", self.random.randrange(calls + 1), *left, name, *words)
         if name == "restart" and words:
             append = self.store.reads_of_restart() + (2 if self.store.devices.torn else 1)
             return self.happen("restart-stop", append + self.random.randrange(2), words[0], "-")

@@ -176,7 +176,7 @@ fn opened<'a, R: AllocGlobal + Files<File = File>>(
     rt: &'a R,
     folder: &str,
 ) -> Result<(Store<'a, R>, Report), Fault> {
-    let (pages, log) = match open_folder(rt, folder, Unknown) {
+    let (pages, log) = match open_folder(rt, folder, 0, Unknown) {
         Ok(files) => files,
         Err(not_opened) => return Err(not_opened.fault),
     };

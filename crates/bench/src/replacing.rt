@@ -15,7 +15,7 @@ pub fn run<R: Print + Input + AllocGlobal + Files<File = File>>(
     let Some(folder) = words.get(1) else {
         return Err(io::ErrorKind::InvalidInput.into());
     };
-    match open_folder(rt, folder.as_str(), Unknown) {
+    match open_folder(rt, folder.as_str(), 0, Unknown) {
         Ok((pages, mut log)) => {
             let done = replaced_by_line(rt, &mut log);
             drop(log);

@@ -75,7 +75,7 @@ fn happen(alloc: Global, layout: Layout, input: &[u8], output: &mut Vec<u8>) -> 
 
 fn entries_of(alloc: Global, layout: Layout, list: &List) -> Result<Vec<Entry>, AllocError> {
     run_world(
-        World::new(alloc, layout)?,
+        World::new(alloc, layout, list.room)?,
         alloc,
         &list.happenings,
         list.restarts,

@@ -47,6 +47,7 @@ fn print_reply(output: &mut Vec<u8>, reply: &Reply) -> io::Result<()> {
         Reply::HandedOver => print_word(output, "handed-over"),
         Reply::Forced(lsn) => print_numbers(output, "forced", &[*lsn]),
         Reply::Checkpointed(lsn) => print_numbers(output, "checkpoint", &[*lsn]),
+        Reply::Migrated(lsn) => print_numbers(output, "migrated", &[*lsn]),
         Reply::Written(Written::Done) => print_word(output, "written"),
         Reply::Written(Written::Nothing) => print_word(output, "not-written"),
         Reply::LastTag(last) => print_numbers(output, "last", &[last.sent, last.tag]),

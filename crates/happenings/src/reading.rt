@@ -8,12 +8,13 @@
 //! Its marks: `start-mark TXN CLIENT TAG`.
 //! Calls of an operation: `step OPERATION`, `finish OPERATION`.
 //! Calls of an abort: `start-abort TXN`, `undo-next TXN`, `end-abort TXN`.
-//! Calls of the store: `hand-over`, `force`, `checkpoint`, `write PAGE`, `last SENDER`, `tag CLIENT`,
-//! `content`.
+//! Calls of the store: `hand-over`, `force`, `checkpoint`, `migrate PAGES`, `write PAGE`, `last SENDER`,
+//! `tag CLIENT`, `content`.
 //! The others: `ack N`, `fail N`, `crash KEPT`, `stop-in N KEPT CALL`, `restart`, `restart-stop N KEPT`.
 use crate::line::Line;
 use rq_core::happening::{Choice, Happening};
 use rq_engine::event::Event;
+use rq_page::layout::TAGS_LIMIT;
 use std::alloc::{AllocError, Global};
 
 /// What was read.
@@ -22,6 +23,8 @@ pub struct List {
     pub happenings: Vec<Happening>,
     /// How many of them restart.
     pub restarts: usize,
+    /// For how many pages more the store's device has room.
+    pub room: u32,
     /// The number of the first line that is no happening, from 1; 0 where each is one.
     pub fault: u64,
 }
@@ -44,6 +47,7 @@ enum Name {
     HandOver,
     Force,
     Checkpoint,
+    Migrate,
     Write,
     Last,
     Tag,
@@ -57,7 +61,7 @@ enum Name {
     Unknown,
 }
 
-const NAMES: [(&[u8], Name); 25] = [
+const NAMES: [(&[u8], Name); 26] = [
     (b"begin", Name::Begin),
     (b"start-send", Name::StartSend),
     (b"start-receive", Name::StartReceive),
@@ -73,6 +77,7 @@ const NAMES: [(&[u8], Name); 25] = [
     (b"hand-over", Name::HandOver),
     (b"force", Name::Force),
     (b"checkpoint", Name::Checkpoint),
+    (b"migrate", Name::Migrate),
     (b"write", Name::Write),
     (b"last", Name::Last),
     (b"tag", Name::Tag),
@@ -90,6 +95,7 @@ pub fn read_list(alloc: Global, input: &[u8]) -> Result<List, AllocError> {
     let mut list = List {
         happenings: Vec::new(alloc),
         restarts: 0,
+        room: 0,
         fault: 0,
     };
     read_lines(alloc, input, &mut list)?;
@@ -108,6 +114,9 @@ fn read_lines(alloc: Global, input: &[u8], list: &mut List) -> Result<(), AllocE
 }
 
 fn read_line(alloc: Global, text: &[u8], number: u64, list: &mut List) -> Result<(), AllocError> {
+    if is_migration(text) {
+        list.room = TAGS_LIMIT;
+    }
     let mut line = Line::new(text);
     let happening = happening_of(alloc, &mut line)?;
     if let Happening::Restart | Happening::RestartStop(..) = happening {
@@ -118,6 +127,16 @@ fn read_line(alloc: Global, text: &[u8], number: u64, list: &mut List) -> Result
     }
     list.happenings.push(happening)?;
     Ok(())
+}
+
+// Whether a line may have the store be given tag pages, as many as a store may have.
+fn is_migration(text: &[u8]) -> bool {
+    for word in text.split(|byte| *byte == b' ') {
+        if word == b"migrate".as_slice() {
+            return true;
+        }
+    }
+    false
 }
 
 fn happening_of(alloc: Global, line: &mut Line) -> Result<Happening, AllocError> {
@@ -185,6 +204,7 @@ fn call_of(alloc: Global, name: Name, line: &mut Line) -> Result<Event, AllocErr
         Name::HandOver => Event::HandOver,
         Name::Force => Event::Force,
         Name::Checkpoint => Event::Checkpoint,
+        Name::Migrate => Event::Migrate(line.short()),
         Name::Write => Event::WritePage(line.short()),
         Name::Last => Event::LastTag(line.short()),
         Name::Tag => Event::ClientTag(line.short()),

@@ -1,5 +1,5 @@
 -- Stores behind a checkpoint, and in the midst of one.
-use Rattle.std.proofs.Common.{rules, List, [], refl, sym, ap, ◌∙◌, inl, inr, arith}
+use Rattle.std.proofs.Common.{rules, List, [], None, refl, sym, ap, ◌∙◌, inl, inr, arith}
 use Rattle.rq_model.specs.declared.record.Record.{Record}
 use Rattle.rq_model.specs.Bases.{standing}
 use Rattle.rq_model.specs.History.Call.{Checkpoint}
@@ -97,16 +97,17 @@ failed_sound = (failed_steps fresh fresh_sound refl Checkpoint).sound
 
 pub checkpoints : CheckpointsAreJudged
 checkpoints = record {
-  open_behind_one = λ pages log h. record { sizes = refl; past = log_1; long = refl; ledger = refl; sound = checkpoint_sound fresh fresh_sound refl; devices = inl (record { untried = refl; fit = based_fit pages log h }) };
+  open_behind_one = λ pages log h. record { sizes = refl; past = log_1; long = refl; ledger = refl; sound = checkpoint_sound fresh fresh_sound refl; devices = inl (record { untried = refl; settled = refl; fit = based_fit pages log h }) };
   shut_behind_one = λ pages log h. record {
     range = range;
     phase = refl;
+    settled = refl;
     older = based_log;
     ties = record { committed = refl; records = refl; incarnation = omega arith };
     left = λ images bytes a b. (based_log, ([], refl, tt), leaves_based pages log h images bytes a b);
   };
-  midway_as_it_was = λ pages log h. record { sizes = refl; past = []; long = refl; ledger = refl; sound = failed_sound; devices = inr (record { failed = refl; none_open = refl; leaves = λ images bytes a b. inl (cut_first pages log h images bytes a b) }) };
-  midway_as_it_was_to_be = λ pages log h. record { sizes = refl; past = []; long = refl; ledger = refl; sound = failed_sound; devices = inr (record { failed = refl; none_open = refl; leaves = λ images bytes a b. inr (cut_based pages log h images bytes a b) }) };
+  midway_as_it_was = λ pages log h. record { sizes = refl; past = []; long = refl; ledger = refl; sound = failed_sound; devices = inr (record { failed = refl; none_open = refl; leaves = λ images bytes a b. (None, tt, inl (cut_first pages log h images bytes a b)) }) };
+  midway_as_it_was_to_be = λ pages log h. record { sizes = refl; past = []; long = refl; ledger = refl; sound = failed_sound; devices = inr (record { failed = refl; none_open = refl; leaves = λ images bytes a b. (None, tt, inr (refl, cut_based pages log h images bytes a b)) }) };
   midway_and_running = λ z h e half runs o. elim o.devices [
     | inl f ↦ (let e = sym half ∙ f.untried in cc e)
     | inr m ↦ (let e = sym runs ∙ m.failed in cc e)
@@ -129,10 +130,16 @@ ties_1 = record { committed = refl; records = refl; incarnation = omega arith }
 -- the power may fail in one, and leave the Base
 pub in_one : CheckpointCrashGoesOn small → (pages : MemPages) (log : MemLog) → Hold pages formatted_pages log based_log → MayFail (course_to 1) (Stops_in Checkpoint) pages log
 in_one goes pages log h = record {
-  range = range;
   history = first_entries 1;
   tells = told_1;
   legal = legal_1;
   may = (refl, refl);
-  leaves = λ images bytes a b. (based_log, leaves_based pages log h images bytes a b, goes (first_entries 1) log_1 legal_1 ties_1 fresh_sound.log.rules refl);
+  leaves = λ images bytes a b. record {
+    tags = None;
+    left = tt;
+    now = based_log;
+    loses_none = tt;
+    store = leaves_based pages log h images bytes a b;
+    ends = goes (first_entries 1) log_1 legal_1 ties_1 fresh_sound.log.rules refl;
+  };
 }

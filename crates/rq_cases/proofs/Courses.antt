@@ -22,9 +22,9 @@ told_opened = ([], refl, (refl, refl))
 
 pub stops : StopsAreJudged
 stops = record {
-  in_a_force = (opened_history, told_opened, ((refl, refl), refl));
-  in_a_hand_over = (opened_history, told_opened, ((refl, refl), refl));
-  in_a_page_write = (opened_history, told_opened, ((refl, refl), refl));
+  in_a_force = (opened_history, told_opened, ((refl, refl), None, tt, tt, refl));
+  in_a_hand_over = (opened_history, told_opened, ((refl, refl), None, tt, tt, refl));
+  in_a_page_write = (opened_history, told_opened, ((refl, refl), None, tt, tt, refl));
   in_a_begin = λ h t. cc t.2.0.1;
   in_a_commit = λ h t. cc t.2.0.1;
   in_a_step = λ h t. cc t.2.0.1;

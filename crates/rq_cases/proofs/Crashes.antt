@@ -1,5 +1,5 @@
 -- Runs of calls of both devices, crashes that a course may meet, and pages and logs over their devices.
-use Rattle.std.proofs.Common.{◌≡◌, ◌≢◌, ⊎_elim, ℕ, ◌≤◌, List, [], drop, refl, sym, ap, ◌∙◌, arith}
+use Rattle.std.proofs.Common.{◌≡◌, ◌≢◌, ⊎_elim, ℕ, ◌≤◌, List, [], drop, refl, sym, ap, ◌∙◌, arith, None}
 use Rattle.rq_model.specs.Incarnations.{Ties}
 use Rattle.rq_model.specs.History.{Entry}
 use Rattle.rq_model.specs.History.Call.{Force}
@@ -17,7 +17,7 @@ use Rattle.rq_engine.specs.Devices.{EachPair, Path}
 use Rattle.rq_engine.specs.Devices.Path.{Log, Pages, Start}
 use Rattle.rq_core.specs.Devices.{mem_log, mem_pages}
 use Rattle.rq_core.proofs.Devices.{log_now as log_since, page_now, path_end}
-use Rattle.rq_core.specs.Happenings.{Happening, MayCrashIt}
+use Rattle.rq_core.specs.Happenings.{Happening, MayCrashIt, IsGrownBy, growth, growth_in}
 use Rattle.rq_core.specs.Happenings.Happening.{Crashes, Stops_in}
 use Rattle.rq_core.specs.Worked.{first_entries}
 use Rattle.rq_cases.specs.Crashes.{CrashesAreJudged, MayFail, RunsAreJudged}
@@ -91,33 +91,35 @@ ties = record { committed = refl; records = refl; incarnation = omega arith }
 
 -- crashes
 module _ (goes : CrashGoesOn small) (half : CheckpointCrashGoesOn small) where
-  fails : (x : Happening) → MayCrashIt x (ledger (first_entries 9)).phase → (pages : MemPages) (log : MemLog) → Hold pages formatted_pages log log_5 → MayFail (course_to 9) x pages log
-  fails x may pages log h = record {
-    range = range;
+  fails : (x : Happening) → MayCrashIt x (ledger (first_entries 9)).phase → IsGrownBy (growth_in x (growth (first_entries 9))) None → (pages : MemPages) (log : MemLog) → Hold pages formatted_pages log log_5 → MayFail (course_to 9) x pages log
+  fails x may none pages log h = record {
     history = first_entries 9;
     tells = told_9;
     legal = legal_crash.1;
     may = may;
-    leaves = λ images bytes a b. (
-      log_5,
-      leaves_store pages log h images bytes a b,
-      goes (first_entries 9) [] log_5 legal_crash.1 ties whole_5.rules (omega arith) (omega arith),
-    );
+    leaves = λ images bytes a b. record {
+      tags = None;
+      left = none;
+      now = log_5;
+      loses_none = tt;
+      store = leaves_store pages log h images bytes a b;
+      ends = goes (first_entries 9) [] log_5 legal_crash.1 ties whole_5.rules (omega arith) (omega arith);
+    };
   }
 
   pub crashes : CrashesAreJudged
   crashes = record {
     ties = ties;
     ties_to_less = λ t. (let e : 5 ≡ 1 = t.records in omega (arith, e));
-    once_forced = fails Crashes tt;
-    in_a_force = fails (Stops_in Force) (refl, refl);
+    once_forced = fails Crashes tt tt;
+    in_a_force = fails (Stops_in Force) (refl, refl) tt;
     in_a_checkpoint = in_one half;
     in_a_begin = λ course pages log k. (let e = k.may.1 in cc e);
     in_a_restart_of_an_open_store = λ pages log k.
         (let e = sym (ap (λ (h : List Entry). (ledger h).phase) k.tells.2.1) ∙ k.may in cc e);
     by_a_call = λ course pages log k. k.may;
     leaves_what_begins_no_record = λ course x pages log may k.
-        (let y = k.leaves (mem_pages.seen pages) no_record (some_pages pages) may in short_log y.0 y.1.are_spelled y.1.is);
+        (let y = k.leaves (mem_pages.seen pages) no_record (some_pages pages) may in short_log y.now y.store.are_spelled y.store.is);
     leaves_less_than_was_forced = λ course x pages log records n told few may k.
-        forced_is_left course k.history pages log records n k.tells k.legal k.leaves told few may;
+        forced_is_left course k.history pages log records n (growth_in x (growth k.history)) k.tells k.legal k.leaves told few may;
   }

@@ -2,6 +2,7 @@ mod Images
 pub mod Pages
 mod Running
 mod Linking
+mod Migrations
 mod Sound
 mod Bytes
 mod Held

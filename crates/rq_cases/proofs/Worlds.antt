@@ -1,5 +1,5 @@
 -- Stores between two happenings, and headlines, over the worked run.
-use Rattle.std.proofs.Common.{rules, ◌≡◌, ℕ, ◌+◌, ◌-◌, ◌≤◌, ◌<◌, false, List, [], ◌∷◌, ◌++◌, length, take, drop, refl, sym, ap, ◌∙◌, subst, inl, ⊎_elim, arith, append_assoc, length-append}
+use Rattle.std.proofs.Common.{rules, ◌≡◌, ℕ, ◌+◌, ◌-◌, ◌≤◌, ◌<◌, false, List, [], ◌∷◌, ◌++◌, length, take, drop, refl, sym, ap, ◌∙◌, subst, inl, ⊎_elim, arith, append_assoc, length-append, None, Some, Option}
 use Rattle.std.proofs.lemmas.List.{length-drop, length-take-le, take-append-drop}
 use Rattle.std.proofs.Math.Seq.{drop-append_seam}
 use Rattle.byteorder.specs.Endian.{big_number}
@@ -43,8 +43,8 @@ use Rattle.rq_engine.proofs.Crashing.{commits_of_cut, leaves_cut}
 use Rattle.rq_restart.specs.Underway.{IsStore}
 use Rattle.rq_log.proofs.Runs.{ends_all, go_on_all, go_on_newer, spelled_whole}
 use Rattle.rq_core.specs.Devices.{mem_log, mem_pages}
-use Rattle.rq_core.specs.Happenings.{Course, Tells}
-use Rattle.rq_core.specs.Headline.{LeavesStores}
+use Rattle.rq_core.specs.Happenings.{Course, Tells, Growth, grown, growth}
+use Rattle.rq_core.specs.Headline.{EndsHistory, LeavesStores}
 use Rattle.rq_core.specs.Runs.{IsHeadline, Ran}
 use Rattle.rq_core.specs.Worked.{first_entries, hello}
 use Rattle.rq_core.specs.World.World.{Is_open, Is_shut}
@@ -72,7 +72,7 @@ pub told_9 : Tells (course_to 9) (first_entries 9)
 told_9 = (first_entries 8, (first_entries 7, told_7, (Acknowledged (txn 1 1) 5 false, refl, tt, refl)), (Forced 5, refl, tt, refl))
 
 pub told_crash : Tells crashed_course crashed
-told_crash = (first_entries 9, told_9, (tt, refl))
+told_crash = (first_entries 9, told_9, (tt, None, tt, tt, refl))
 
 pub legal_7 : IsLegal small (first_entries 7)
 legal_7 = search rules
@@ -90,10 +90,10 @@ some_pages d p = pages_seen (pages_of d) p
 
 module _ (pages : MemPages) (log : MemLog) where
   opens : Hold pages formatted_pages log log_1 → Opens sizes (first_entries 7) (over committed pages log)
-  opens h = record { sizes = refl; past = []; long = refl; ledger = refl; sound = running.commit_send.sound; devices = inl (record { untried = refl; fit = pages_fit pages h.0 log_1 (1, refl) first_plain }) }
+  opens h = record { sizes = refl; past = []; long = refl; ledger = refl; sound = running.commit_send.sound; devices = inl (record { untried = refl; settled = refl; fit = pages_fit pages h.0 log_1 (1, refl) first_plain }) }
 
   opens_forced : Hold pages formatted_pages log log_5 → Opens sizes (first_entries 9) (over forced pages log)
-  opens_forced h = record { sizes = refl; past = []; long = refl; ledger = refl; sound = running.force.sound; devices = inl (record { untried = refl; fit = pages_fit pages h.0 log_5 (5, refl) records_plain }) }
+  opens_forced h = record { sizes = refl; past = []; long = refl; ledger = refl; sound = running.force.sound; devices = inl (record { untried = refl; settled = refl; fit = pages_fit pages h.0 log_5 (5, refl) records_plain }) }
 
   a_page_ahead : AreNewPages pages sent_pages → Opens sizes (first_entries 7) (over committed pages log) → ⊥
   a_page_ahead n o = ⊎_elim
@@ -122,6 +122,7 @@ module _ (pages : MemPages) (log : MemLog) where
   shuts h = record {
     range = range;
     phase = refl;
+    settled = refl;
     older = log_5;
     ties = record { committed = refl; records = refl; incarnation = omega arith };
     left = λ images bytes a b. (log_5, ([], refl, tt), leaves_store h images bytes a b);
@@ -295,19 +296,23 @@ ran_crashed pages log h = record {
   counted = λ images bytes a b. (log_5, leaves_store pages log h images bytes a b, refl);
 }
 
+same_forced : (tags : Option ℕ) (h : List Entry) → (ledger (grown tags h)).forced ≡ (ledger h).forced
+same_forced None h = refl
+same_forced (Some n) h = refl
+
 -- what was forced is left
-pub forced_is_left : (course : Course) (h : List Entry) (pages : MemPages) (log : MemLog) (records : List Record) (n : ℕ) → Tells ((Asks Force, Answered (Gave_forced n)) ∷ course) h → IsLegal small h
-    → LeavesStores mem_pages mem_log sizes h pages log → AreSpelled records → length (marked records) < n → mem_log.may_leave log (spelled records) → ⊥
-forced_is_left course h pages log records n tells legal leaves told few may =
-    let x = leaves (mem_pages.seen pages) (spelled records) (some_pages pages) may in
-    let stands : standing x.0 ≡ standing records = one_log (standing x.0) (standing records) (spelled records) x.1.are_spelled told x.1.is (ends_all (standing records) (spelled records) refl) in
-    let same : marked x.0 ≡ marked records = one_marked (marked x.0) (marked records) (marked_is x.0) (marked_is records) (marked_stands x.0 ∙ stands ∙ sym (marked_stands records)) in
-    let count : length x.0 ≡ length (marked records) = sym (marked_length x.0 x.1.left.whole.based) ∙ ap (λ (l : List Record). length l) same in
+pub forced_is_left : (course : Course) (h : List Entry) (pages : MemPages) (log : MemLog) (records : List Record) (n : ℕ) (g : Growth) → Tells ((Asks Force, Answered (Gave_forced n)) ∷ course) h → IsLegal small h
+    → LeavesStores mem_pages mem_log sizes g h pages log → AreSpelled records → length (marked records) < n → mem_log.may_leave log (spelled records) → ⊥
+forced_is_left course h pages log records n g tells legal leaves told few may =
+    let x : EndsHistory mem_pages mem_log sizes g h (mem_pages.seen pages) (spelled records) = leaves (mem_pages.seen pages) (spelled records) (some_pages pages) may in
+    let stands : standing x.now ≡ standing records = one_log (standing x.now) (standing records) (spelled records) x.store.are_spelled told x.store.is (ends_all (standing records) (spelled records) refl) in
+    let same : marked x.now ≡ marked records = one_marked (marked x.now) (marked records) (marked_is x.now) (marked_is records) (marked_stands x.now ∙ stands ∙ sym (marked_stands records)) in
+    let count : length x.now ≡ length (marked records) = sym (marked_length x.now x.store.left.whole.based) ∙ ap (λ (l : List Record). length l) same in
     let older : List Entry = tells.0 in
     let is : h ≡ Forced n ∷ older = tells.2.3 ∙ ap (λ (e : Entry). e ∷ older) tells.2.1 in
     let all : n ≡ (ledger older).records = (subst (IsLegal small) is legal).0.1 in
     let forced_is : (ledger h).forced ≡ (ledger older).records = ap (λ (k : List Entry). (ledger k).forced) is in
-    let kept : (ledger h).forced ≤ length x.0 = x.2.legal.0.forced in
+    let kept : (ledger h).forced ≤ length x.now = subst (λ (m : ℕ). m ≤ length x.now) (same_forced x.tags h) x.ends.legal.0.forced in
     omega (arith, few, count, all, forced_is, kept)
 
 -- headlines
@@ -327,11 +332,11 @@ module _ (fifo : (h : List Entry) → IsLegal small h → FifoThroughout h) (sta
     after_the_crash = after_the_crash;
     tells_nothing = λ pages log k. k.tells.2.0;
     loses_what_was_forced = λ course pages log records n told few may k.
-        forced_is_left course k.history pages log records n k.tells k.legal (λ images bytes a b. let w = k.leaves images bytes a b in (w.0, w.1, w.2)) told few may;
+        forced_is_left course k.history pages log records n (growth k.history) k.tells k.legal (λ images bytes a b. (k.leaves images bytes a b).0) told few may;
     leaves_what_begins_no_record = λ course pages log may k.
-        (let x = k.leaves (mem_pages.seen pages) no_record (some_pages pages) may in short_log x.0 x.1.are_spelled x.1.is);
+        (let x = (k.leaves (mem_pages.seen pages) no_record (some_pages pages) may).0 in short_log x.now x.store.are_spelled x.store.is);
     left = λ pages log h images bytes a b. (log_5, leaves_store pages log h images bytes a b, refl);
-    leaves_another_count = λ x course pages log n other l left.
+    leaves_another_count = λ h x course pages log n other l left.
         (let y = left (mem_pages.seen pages) (spelled log_5) (some_pages pages) (log_left log log_5 l) in
         let same : y.0 ≡ log_5 = sym (the_log log_5 records_plain y.0 (spelled log_5) records_spelled y.1.are_spelled refl y.1.is) in
         other (sym y.2 ∙ ap (λ (l : List Record). length l) same));

@@ -10,8 +10,9 @@ use Rattle.rq_log.specs.Spelled.{AreSpelled, EndsWith, spelled}
 use Rattle.rq_page.specs.Sizes.{Sizes, page_count}
 use Rattle.rq_page.specs.Formatted.{IsFormatted}
 use Rattle.rq_pool.specs.Reading.{IsSuperblock}
+use Rattle.rq_pool.specs.Writing.{HasRun}
 use Rattle.rq_core.specs.Devices.{mem_pages}
-use Rattle.rq_restart.specs.Formatting.{AreBeforeOrFormatted, HasRun, IsBeforeOrFormatted, KeepsOthers}
+use Rattle.rq_restart.specs.Formatting.{AreBeforeOrFormatted, IsBeforeOrFormatted, KeepsOthers}
 
 pub record DevicesAreJudged : Type 0 where
   pub nothing_written : (z : Sizes) (d : MemPages) (images : Images) → ((q : ℕ) → mem_pages.may_be d q (images q))

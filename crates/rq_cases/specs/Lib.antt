@@ -17,6 +17,7 @@ pub mod Openings
 pub mod RollingBack
 pub mod Bounds
 pub mod Crashes
+pub mod Migrations
 pub mod Closes
 pub mod Replies
 pub mod Bases

@@ -23,7 +23,7 @@ use Rattle.rq_core.specs.Devices.{mem_log, mem_pages}
 use Rattle.rq_core.specs.Happenings.{Course, Happening, Tells}
 use Rattle.rq_core.specs.Happenings.Answer.{Answered, Crashed, Nothing}
 use Rattle.rq_core.specs.Happenings.Happening.{Asks, Crashes}
-use Rattle.rq_core.specs.Headline.{LeftLast}
+use Rattle.rq_core.specs.Headline.{LeftLast, sizes_at}
 use Rattle.rq_core.specs.Runs.{IsFresh, IsHeadline}
 use Rattle.rq_core.specs.Worked.{first_entries, happened, turned}
 use Rattle.rq_core.specs.World.{IsOpen, IsShut}
@@ -65,7 +65,7 @@ pub record WorldsAreJudged : Type 0 where
   pub open_and_forced_too_early : (pages : MemPages) (log : MemLog)
       → Opens sizes (first_entries 7) (over forced pages log) → ⊥
   pub open_after_a_crash : (pages : MemPages) (log : MemLog) → Opens sizes crashed (over forced pages log) → ⊥
-  pub open_of_another_size : (z : Sizes) (h : List Entry) (e : OpenStore MemPages MemLog) → e.state.sizes ≢ z
+  pub open_of_another_size : (z : Sizes) (h : List Entry) (e : OpenStore MemPages MemLog) → e.state.sizes ≢ sizes_at z h
       → Opens z h e → ⊥
   pub open_with_a_page_ahead : (pages : MemPages) (log : MemLog) → AreNewPages pages sent_pages
       → Opens sizes (first_entries 7) (over committed pages log) → ⊥
@@ -105,7 +105,7 @@ pub record HeadlinesAreJudged : Type 0 where
       → IsHeadline sizes course pages log → ⊥
   -- after a crash so many records are left as it told
   pub left : (pages : MemPages) (log : MemLog) → Hold pages formatted_pages log log_5
-      → LeftLast mem_pages mem_log sizes crashed_course pages log
-  pub leaves_another_count : (x : Happening) (course : Course) (pages : MemPages) (log : MemLog) (n : ℕ) → n ≢ 5
+      → LeftLast mem_pages mem_log sizes crashed crashed_course pages log
+  pub leaves_another_count : (h : List Entry) (x : Happening) (course : Course) (pages : MemPages) (log : MemLog) (n : ℕ) → n ≢ 5
       → IsNewLog log log_5
-      → LeftLast mem_pages mem_log sizes ((x, Crashed n) ∷ course) pages log → ⊥
+      → LeftLast mem_pages mem_log sizes h ((x, Crashed n) ∷ course) pages log → ⊥

@@ -6,6 +6,7 @@ ghost use Rattle.rq_cases.specs.Courses.{NoneIsJudged};
 ghost use Rattle.rq_cases.specs.Crashes.{CrashesAreJudged};
 ghost use Rattle.rq_cases.specs.Devices.{DevicesAreJudged};
 ghost use Rattle.rq_cases.specs.Histories.{HistoriesGoOn};
+ghost use Rattle.rq_cases.specs.Migrations.{MigrationsAreJudged};
 ghost use Rattle.rq_cases.specs.Worlds.{HeadlinesAreJudged};
 
 use rq_model::laws::{
@@ -56,6 +57,11 @@ pub fn crashes_are_judged()
     crash_goes_on();
     checkpoint_crash_goes_on();
 }
+
+/// Histories with migrations: each legal or refused as it should be, what the store has then, and what a crash may leave.
+pub fn migrations_are_judged()
+    ensures { MigrationsAreJudged }
+{}
 
 /// The worked cases that rest on no law: each field says what of.
 pub fn worked_cases()

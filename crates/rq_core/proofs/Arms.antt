@@ -8,7 +8,7 @@ use Rattle.rq_model.specs.History.Entry.{Restarted as Restarted_entry, Refused a
 use Rattle.rq_model.specs.Ledger.{Ledger, Phase, ledger, runs}
 use Rattle.rq_model.specs.Ledger.Phase.{Running as Runs, Shut}
 use Rattle.rq_model.specs.Legal.{IsLegal}
-use Rattle.rq_model.specs.Tests.{Size, any_busy}
+use Rattle.rq_model.specs.Tests.{Size, any_busy, size_at}
 use Rattle.rq_model.specs.Promises.{AcknowledgedStay, CheckpointCrashGoesOn, CrashGoesOn, FifoThroughout, RestartGoesOn, ShutCrashGoesOn, StillStoreRefuses}
 use Rattle.rq_model.specs.Replay.{Says}
 use Rattle.rq_model.specs.Replay.Reply.{Gave_refusal}
@@ -29,17 +29,17 @@ use Rattle.rq_restart.specs.Underway.{pages_left, log_left}
 use Rattle.rq_restart.specs.declared.restart.Report.{Report}
 use Rattle.rq_restart.specs.declared.restart.Stopped.{Stopped}
 use Rattle.rq_core.specs.Devices.{mem_pages, mem_log}
-use Rattle.rq_core.specs.Happenings.{Happening, Answer, AddsCall, Course, MayCrashIt, Tells, called, is_of_device, EndsWithoutCrash, MayRestart, is_no_crash}
+use Rattle.rq_core.specs.Happenings.{Happening, Answer, AddsCall, growth, growth_in, Course, MayCrashIt, Tells, called, is_of_device, EndsWithoutCrash, MayRestart, is_no_crash}
 use Rattle.rq_core.specs.Happenings.Answer.{Answered, Crashed, Refused, Restarted}
 use Rattle.rq_core.specs.Happened.{Keeps}
-use Rattle.rq_core.specs.Headline.{LeavesStores, LeftBy, LeftLast}
+use Rattle.rq_core.specs.Headline.{LeavesStores, LeftBy, LeftLast, sizes_at}
 use Rattle.rq_core.specs.Runs.{CanCrash, IsFresh, IsHeadline, IsOpened, IsRefused, Ran}
-use Rattle.rq_core.specs.World.{IsOpen, IsShut}
+use Rattle.rq_core.specs.World.{IsOpen, IsShut, LeftBehind}
 use Rattle.rq_core.specs.World.World.{Is_open, Is_shut}
 use Rattle.rq_core.specs.Happenings.Happening.{Stops_in}
 use Rattle.rq_core.proofs.Devices.{log_now, page_now, some_page, some_log}
-use Rattle.rq_core.proofs.HalfMade.{LeftBehind}
-use Rattle.rq_core.proofs.Worlds.{caused, read_of, reopened, stays_shut, calls, leaves_open, leaves_shut, headline}
+use Rattle.rq_core.proofs.HalfMade.{plain_leaves}
+use Rattle.rq_core.proofs.Worlds.{caused, read_of, reopened, runs_there, stands_at, stays_shut, calls, leaves_open, leaves_shut, headline}
 
 abbrev pub Engine : Type 0
 Engine = OpenStore MemPages MemLog
@@ -50,14 +50,13 @@ asks z course x e r old new is a ran = calls mem_pages mem_log (λ d. tt) (λ d.
 
 -- a store that is shut, whatever a crash at its end leaves
 pub shut_crashes : (z : Sizes) (course : Course) (x : Happening) (h : List Entry) (pages : MemPages) (log : MemLog) → ShutCrashGoesOn (size_of z) → Tells course h → IsLegal (size_of z) h → (s : IsShut mem_pages mem_log z h pages log)
-    → ((p : Phase) → p ≡ Shut → MayCrashIt x p) → CanCrash z course x pages log
-shut_crashes z course x h pages log law tells legal s may = record {
-  range = s.range;
+    → ((p : Phase) → p ≡ Shut → MayCrashIt x p) → growth_in x (growth h) ≡ growth h → CanCrash z course x pages log
+shut_crashes z course x h pages log law tells legal s may same = record {
   history = h;
   tells = tells;
   legal = legal;
   may = may (ledger h).phase s.phase;
-  leaves = leaves_shut mem_pages mem_log (λ d. tt) (λ d. tt) z law h pages log legal s;
+  leaves = subst (λ g. LeavesStores mem_pages mem_log z g h pages log) (sym same) (leaves_shut mem_pages mem_log (λ d. tt) (λ d. tt) z law h pages log legal s);
 }
 
 -- a call of a store that is shut
@@ -68,18 +67,18 @@ not_open law z course x call pages log is ran =
     record {
       history = Refused_entry call why.Failed ∷ ran.history;
       tells = (ran.history, ran.tells, subst (λ c. AddsCall c (Gave_refusal why.Failed) ran.history (Refused_entry call why.Failed ∷ ran.history)) (sym is) (Refused_entry call why.Failed, says call, tt, refl));
-      legal = (law (size_of z) (ledger ran.history) call (ap runs s.phase), ran.legal);
-      stands = record { range = s.range; phase = s.phase; older = s.older; ties = s.ties; left = s.left };
+      legal = (law (size_at (size_of z) ran.history) (ledger ran.history) call (ap runs s.phase), ran.legal);
+      stands = record { range = s.range; phase = s.phase; settled = s.settled; older = s.older; ties = s.ties; left = s.left };
       counted = tt;
     } where
       says : (c : Call) → Says c (Gave_refusal why.Failed) (Refused_entry c why.Failed)
       says c = refl
 
 -- a course that ended without a crash
-ended : (z : Sizes) (course : Course) (pages : MemPages) (log : MemLog) → EndsWithoutCrash course → LeftLast mem_pages mem_log z course pages log
-ended z [] pages log h = tt
-ended z (a ∷ course) pages log h = by a.1 h where
-  by : (a : Answer) → is_no_crash a → LeftBy mem_pages mem_log z a pages log
+ended : (z : Sizes) (history : List Entry) (course : Course) (pages : MemPages) (log : MemLog) → EndsWithoutCrash course → LeftLast mem_pages mem_log z history course pages log
+ended z history [] pages log h = tt
+ended z history (a ∷ course) pages log h = by a.1 h where
+  by : (a : Answer) → is_no_crash a → LeftBy mem_pages mem_log z history a pages log
   by (Crashed n) h = absurd h
   by _ h = tt
 
@@ -88,9 +87,10 @@ pub open_ends : (z : Sizes) (course : Course) (e : Engine) (pages : MemPages) (l
     → Keeps mem_pages mem_log e → pages ≡ e.pages → log ≡ e.log → IsHeadline z course pages log
 open_ends z course e pages log fifo stay law half ran keeps i j =
     let o : IsOpen mem_pages mem_log z ran.history e = ran.stands in
-    let left : LeftBehind mem_pages mem_log (on o.past e.state) e.pages e.log = ⊎_elim (λ w. inl (keeps w.untried tt o.past o.long o.sound w.fit)) (λ half. inr (half.none_open, half.leaves)) o.devices in
+    let left : LeftBehind mem_pages mem_log (growth ran.history) (on o.past e.state) e.pages e.log = ⊎_elim (λ w. plain_leaves mem_pages mem_log (growth ran.history) (on o.past e.state) e.pages e.log w.settled (keeps w.untried tt o.past o.long o.sound w.fit)) (λ half. half.leaves) o.devices in
+    let stores = leaves_open mem_pages mem_log (λ d. tt) (λ d. tt) z law half ran.history (on o.past e.state) (stands_at z ran.history (on o.past e.state) ran.legal o.sizes o.ledger o.sound) (runs_there ran.history (on o.past e.state) o.ledger) (growth ran.history) e.pages e.log left in
     headline mem_pages mem_log (λ d. tt) (λ d. tt) z fifo stay course ran.history pages log ran.tells ran.legal
-    (subst (λ d. LeavesStores mem_pages mem_log z ran.history d log) (sym i) (subst (λ d. LeavesStores mem_pages mem_log z ran.history e.pages d) (sym j) (leaves_open mem_pages mem_log (λ d. tt) (λ d. tt) z ran.history (on o.past e.state) ran.legal o.sizes o.ledger o.sound law half e.pages e.log left))) (ended z course pages log ran.counted)
+    (subst (λ d. LeavesStores mem_pages mem_log z (growth ran.history) ran.history d log) (sym i) (subst (λ d. LeavesStores mem_pages mem_log z (growth ran.history) ran.history e.pages d) (sym j) stores)) (ended z ran.history course pages log ran.counted)
 
 pub shut_ends : (z : Sizes) (course : Course) (pages : MemPages) (log : MemLog) → ((h : List Entry) → IsLegal (size_of z) h → FifoThroughout h) → AcknowledgedStay (size_of z) → ShutCrashGoesOn (size_of z) → Ran z course (Is_shut pages log)
     → IsHeadline z course pages log
@@ -122,7 +122,7 @@ pub refused_stays : OneLogEach → (z : Sizes) (h : List Entry) (pages : MemPage
     → IsShut mem_pages mem_log z h new_pages new_log
 refused_stays one z h pages log r new_pages new_log stopped here =
     let read = read_of mem_pages mem_log (λ d. tt) (λ d. tt) z some_page some_log h pages log here in
-    stays_shut mem_pages mem_log (λ d. tt) (λ d. tt) z some_page some_log one h pages new_pages log new_log here read (stopped.keeps.crash tt tt z read.read read.told read.reads read.each)
+    stays_shut mem_pages mem_log (λ d. tt) (λ d. tt) z some_page some_log one h pages new_pages log new_log here read (stopped.keeps.crash tt tt (sizes_at z h) read.read read.told read.reads read.each)
 
 -- a restart that was refused, as a happening
 pub refuses : OneLogEach → (z : Sizes) (course : Course) (x : Happening) (pages new_pages : MemPages) (log new_log : MemLog) (r : Refusal) → MayRestart course x → IsRefused pages log r new_pages new_log → Ran z course (Is_shut pages log)
@@ -141,6 +141,7 @@ begins z pages log fresh = record {
   stands = record {
     range = fresh.range;
     phase = refl;
+    settled = refl;
     older = [];
     ties = record { committed = refl; records = refl; incarnation = omega arith };
     left = λ images bytes a b. ([], ([], refl, tt), fresh.left images bytes a b);

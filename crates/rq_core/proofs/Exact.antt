@@ -1,5 +1,5 @@
 -- None, both ways.
-use Rattle.std.proofs.Common.{◌≡◌, ◌⊎◌, ℕ, zero, suc, ◌<◌, true, false, nat_lt, List, [], ◌∷◌, ◌++◌, length, Option, Some, None, refl, sym, ◌∙◌, ap, subst, inl, inr, arith}
+use Rattle.std.proofs.Common.{◌≡◌, ◌⊎◌, ℕ, zero, suc, ◌<◌, true, false, nat_lt, List, [], ◌∷◌, ◌++◌, length, map, Option, Some, None, refl, sym, ◌∙◌, ap, subst, inl, inr, arith}
 use Rattle.std.proofs.lemmas.Bool.{lt-ltb, ltb-true, not-false, or_cases, and_parts}
 use Rattle.rq_model.specs.declared.txn.Txn.{Txn}
 use Rattle.rq_model.specs.Vocabulary.{In}
@@ -7,8 +7,9 @@ use Rattle.rq_model.specs.History.{Entry, rest}
 use Rattle.rq_model.specs.Groups.{group}
 use Rattle.rq_model.specs.Ledger.{Ledger, Open, found, group_in, ledger, own_takes, rest_in}
 use Rattle.rq_model.specs.Legal.{IsLegal, OnFound}
-use Rattle.rq_model.specs.Tests.{Size, any_gives, below, free_to_receive, gives, holds_for}
-use Rattle.rq_core.specs.Always.{GivesTo, NoneIsExact}
+use Rattle.rq_model.specs.History.Entry.{Grew}
+use Rattle.rq_model.specs.Tests.{Size, any_gives, below, free_to_receive, gives, holds_for, size_at}
+use Rattle.rq_core.specs.Always.{ContentIsTheRest, GivesTo, NoneIsExact}
 
 on_found : (P Q : Open → Type 0) (o : Option Open) → ((x : Open) → P x → Q x) → OnFound o P → OnFound o Q
 on_found P Q None f h = h
@@ -40,6 +41,12 @@ module _ (l : Ledger) (t : Txn) where
     | inr there ↦ (let more = some_gives ss (Some o) there in (more.0, inr more.1, more.2, more.3))
   ]
 
+-- the senders of a store stay
+pub senders_stay : (z : Size) (h : List Entry) → (size_at z h).senders ≡ z.senders
+senders_stay z [] = refl
+senders_stay z (Grew pages ∷ h) = senders_stay z h
+senders_stay z (_ ∷ h) = senders_stay z h
+
 module _ (z : Size) (shown : (h : List Entry) (s : ℕ) → IsLegal z h → group h s ≡ group_in (ledger h).committed s) where
   rest_is : (h : List Entry) (s : ℕ) → IsLegal z h → rest h s ≡ rest_in (ledger h).committed s
   rest_is h s a = ap (λ g. g.rest) (shown h s a)
@@ -61,14 +68,22 @@ module _ (z : Size) (shown : (h : List Entry) (s : ℕ) → IsLegal z h → grou
 
   pub exact : NoneIsExact z
   exact = record {
-    none = λ h t a. on_found _ _ (found t (ledger h).open_ones) (λ o p s low g. holds_not h o s a.1 (p s low g.0) g.1) a.0.1;
+    none = λ h t a. on_found _ _ (found t (ledger h).open_ones) (λ o p s low g. holds_not h o s a.1 (p s (subst (λ n. s < n) (sym (senders_stay z h)) low) g.0) g.1) a.0.1;
     none_from = λ h t s a. on_found _ _ (found t (ledger h).open_ones) (λ o p g. holds_not h o s a.1 p g.1) a.0.1;
     started = λ h t n s a.
         let passes = a.0.0 in
-        let low : s < z.senders = ltb-true s z.senders (not-false (nat_lt s z.senders) passes.1.1.1.1.0) in
+        let now = (size_at z h).senders in
+        let there : s < now = ltb-true s now (not-false (nat_lt s now) passes.1.1.1.1.0) in
+        let low : s < z.senders = subst (λ n. s < n) (senders_stay z h) there in
         let free : free_to_receive t s (ledger h).open_ones ≡ true = not-false (free_to_receive t s (ledger h).open_ones) passes.1.1.1.1.1.0 in
         on_found _ _ (found t (ledger h).open_ones) (λ o p. (low, (free, holds h o s a.1 p.1))) a.0.1;
     latched = λ h t a.
-        on_found _ _ (found t (ledger h).open_ones) (λ o p. (p.0, in_below z.senders p.0 p.1, (p.2, holds h o p.0 a.1 p.3))) (some_gives (ledger h) t (below z.senders) (found t (ledger h).open_ones) a.0.1);
+        on_found _ _ (found t (ledger h).open_ones) (λ o p. (p.0, subst (λ n. p.0 < n) (senders_stay z h) (in_below (size_at z h).senders p.0 p.1), (p.2, holds h o p.0 a.1 p.3))) (some_gives (ledger h) t (below (size_at z h).senders) (found t (ledger h).open_ones) a.0.1);
     latched_from = λ h t s a. gives_one h t s (found t (ledger h).open_ones) a.1 a.0.1;
   }
+
+  pub shows_rest : ContentIsTheRest z
+  shows_rest h groups a =
+      let c = (ledger h).committed in
+      let same : map (group_in c) (below z.senders) ≡ map (group h) (below z.senders) = λ i. map (λ s. (sym (shown h s a.1)) i) (below z.senders) in
+      a.0.1 ∙ ap (λ n. map (group_in c) (below n)) (senders_stay z h) ∙ same

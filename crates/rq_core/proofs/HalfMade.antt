@@ -1,8 +1,14 @@
--- Stores whose checkpoint a device stopped: what calls make of them, and what a crash leaves.
-use Rattle.std.proofs.Common.{◌≡◌, ◌⊎◌, ℕ, ◌≤◌, true, List, [], inl, inr, ⊎_elim, ap, subst, sym, ◌∙◌}
+-- Stores that a device stopped in a checkpoint, or that a migration stopped: what calls make of them, and what a crash leaves.
+use Rattle.std.proofs.Common.{◌≡◌, ◌⊎◌, ◌↔◌, ℕ, ◌+◌, ◌^◌, ◌<◌, ◌≤◌, true, false, List, [], ◌∷◌, length, Option, None, Some, inl, inr, ⊎_elim, ap, subst, sym, refl, ◌∙◌, arith}
+use Rattle.std.proofs.lemmas.Bool.{true≢false}
 use Rattle.rq_model.specs.declared.record.Record.{Record}
 use Rattle.rq_model.specs.declared.refusal.Refusal.{Refusal}
 use Rattle.rq_model.specs.declared.refusal.Refusal.TheVariants as why
+use Rattle.rq_model.specs.History.{Call, Entry}
+use Rattle.rq_model.specs.History.Entry.{Refused as Refused_entry}
+use Rattle.rq_model.specs.History.Call.{Begin, Start_send, Start_receive, Start_receive_from, Start_close, Start_mark, Step, Finish, Commit, Acknowledge, Start_abort, Undo_next, End_abort, Hand_over, Force, Checkpoint, Migrate, Write_page, Last_tag, Client_tag, Show}
+use Rattle.rq_model.specs.Replay.{Reply as Gave, Says}
+use Rattle.rq_model.specs.Replay.Reply.{Gave_txn, Gave_sub, Gave_none, Gave_nothing_left, Gave_lsn, Gave_ready, Gave_sent, Gave_message, Gave_closed, Gave_marked, Gave_undone, Gave_handed_over, Gave_checkpoint, Gave_migrated, Gave_forced, Gave_aborting, Gave_aborted, Gave_commit, Gave_receipt, Gave_written, Gave_tag, Gave_client_tag, Gave_content, Gave_refusal}
 use Rattle.rq_disk.specs.Device.{Images, Leaves}
 use Rattle.rq_disk.specs.declared.device.LogDevice as log_device
 use Rattle.rq_disk.specs.declared.device.PageDevice as page_device
@@ -15,89 +21,217 @@ use Rattle.rq_engine.specs.declared.event.Event.TheVariants as event
 use Rattle.rq_engine.specs.declared.event.Reply.{Reply}
 use Rattle.rq_engine.specs.declared.event.Reply.TheVariants as reply
 use Rattle.rq_engine.specs.Applied.{Applied, RefusalLeaves}
+use Rattle.rq_engine.specs.Says.{call_of, gave}
 use Rattle.rq_engine.specs.Checkpoint.{HasMadeOneRecord, IsCutOrBased, NotCheckpointed}
 use Rattle.rq_engine.specs.Crash.{IsCut}
 use Rattle.rq_engine.specs.Devices.{EachPair}
 use Rattle.rq_engine.specs.Earlier.{IsEarlier, on}
+use Rattle.rq_engine.specs.Migration.{HasMigrated, IsCutGrown, IsCutOrGrown, MayGetTags, NotMigrated}
 use Rattle.rq_engine.specs.Opened.{AreHonest, OpenStore}
-use Rattle.rq_core.specs.Happenings.{is_of_device}
-use Rattle.rq_core.specs.World.{IsHalfMade, IsWritten}
+use Rattle.rq_engine.proofs.Earlier.{long_on}
+use Rattle.rq_engine.proofs.Migrating.{grown_failed, left_after}
+use Rattle.rq_core.specs.Happenings.{Growth, IsGrownBy, call_growth, growth, growth_by, is_of_device, refused_growth}
+use Rattle.rq_core.specs.Happenings.Growth.{Grows, May_grow, Stays}
+use Rattle.rq_core.specs.World.{IsCutBy, IsHalfMade, IsWritten, LeftBehind}
 use Rattle.rq_core.proofs.Devices.{path_end}
 
--- a cut of a store is one of it where it has failed
+-- ---- cuts of a store that has failed
+
 cut_failed : (s : State) (images : Images) (bytes : List ℕ) → IsCut s images bytes → IsCut (record s { failed = true }) images bytes
 cut_failed s images bytes c = record { lost = c.lost; forced = c.forced; incarnation = c.incarnation; told = c.told; spells = c.spells; begins = c.begins; store = c.store; durable = c.durable; content = c.content }
 
-cut_or_failed : (s : State) (images : Images) (bytes : List ℕ) → IsCutOrBased s images bytes → IsCutOrBased (record s { failed = true }) images bytes
-cut_or_failed s images bytes c = ⊎_elim (λ a. inl (cut_failed s images bytes a)) (λ b. inr (cut_failed (checkpointed s) images bytes b)) c
+based_by : (s : State) (images : Images) (bytes : List ℕ) → s.rows ≡ [] → IsCutOrBased s images bytes → IsCutBy None s images bytes
+based_by s images bytes none (inl c) = inl c
+based_by s images bytes none (inr c) = inr (none, c)
 
-module _ {P L : Type 0} (p : page_device.Ghosts P) (l : log_device.Ghosts L) where
-  -- What a crash leaves of a store: a cut, or one of what a checkpoint was to make where no transaction was open.
-  abbrev pub LeftBehind : State → P → L → Type 0
-  LeftBehind s pages log = EachPair p l pages log (IsCut s) ⊎ ((s.rows ≡ []) × EachPair p l pages log (IsCutOrBased s))
+by_failed : (tags : Option ℕ) (s : State) (images : Images) (bytes : List ℕ) → IsCutBy tags s images bytes → IsCutBy tags (record s { failed = true }) images bytes
+by_failed None s images bytes (inl c) = inl (cut_failed s images bytes c)
+by_failed None s images bytes (inr c) = inr (c.0, cut_failed (checkpointed s) images bytes c.1)
+by_failed (Some n) s images bytes c = (c.0, c.1, ⊎_elim (λ a. inl (a.0, grown_failed n s images bytes a.1)) (λ b. inr (grown_failed n (checkpointed s) images bytes b)) c.2)
+
+-- ---- what a call that was answered tells of migrations
+
+-- only a migration tells of one
+abbrev is_plain : Call → Type 0
+is_plain (Migrate pages) = ⊥
+is_plain _ = Unit {0}
+
+plain_refusal : (r : Refusal) (c : Call) (g : Growth) → is_plain c → refused_growth r c g ≡ g
+plain_refusal why.DiskWrite (Migrate pages) g plain = absurd plain
+plain_refusal why.DiskWrite _ g plain = refl
+plain_refusal _ c g plain = refl
+
+pub plain_growth : (c : Call) (r : Gave) (e : Entry) (g : Growth) → Says c r e → is_plain c → growth_by e g ≡ g
+plain_growth c (Gave_refusal r) e g s plain = ap (λ (x : Entry). growth_by x g) s ∙ plain_refusal r c g plain
+plain_growth Begin (Gave_txn t) e g s plain = ap (λ (x : Entry). growth_by x g) s
+plain_growth (Start_send t m) (Gave_sub u n) e g s plain = ap (λ (x : Entry). growth_by x g) s.1
+plain_growth (Start_receive t) (Gave_sub u n) e g s plain = ap (λ (x : Entry). growth_by x g) s.2
+plain_growth (Start_receive t) Gave_none e g s plain = ap (λ (x : Entry). growth_by x g) s
+plain_growth (Start_receive_from t sender) (Gave_sub u n) e g s plain = ap (λ (x : Entry). growth_by x g) s.1
+plain_growth (Start_receive_from t sender) Gave_none e g s plain = ap (λ (x : Entry). growth_by x g) s
+plain_growth (Start_close t sender) (Gave_sub u n) e g s plain = ap (λ (x : Entry). growth_by x g) s.1
+plain_growth (Start_mark t client tag) (Gave_sub u n) e g s plain = ap (λ (x : Entry). growth_by x g) s.1
+plain_growth (Step t n) (Gave_lsn lsn) e g s plain = ap (λ (x : Entry). growth_by x g) s
+plain_growth (Step t n) Gave_ready e g s plain = ap (λ (x : Entry). growth_by x g) s
+plain_growth (Finish t n) Gave_sent e g s plain = ap (λ (x : Entry). growth_by x g) s.1
+plain_growth (Finish t n) (Gave_message m) e g s plain = ap (λ (x : Entry). growth_by x g) s
+plain_growth (Finish t n) Gave_closed e g s plain = ap (λ (x : Entry). growth_by x g) s.1
+plain_growth (Finish t n) Gave_marked e g s plain = ap (λ (x : Entry). growth_by x g) s.2
+plain_growth (Finish t n) Gave_undone e g s plain = ap (λ (x : Entry). growth_by x g) s
+plain_growth (Commit t) (Gave_commit c) e g s plain = ap (λ (x : Entry). growth_by x g) s.1
+plain_growth (Start_abort t) Gave_aborting e g s plain = ap (λ (x : Entry). growth_by x g) s
+plain_growth (Undo_next t) (Gave_sub u n) e g s plain = ap (λ (x : Entry). growth_by x g) s.1
+plain_growth (Undo_next t) Gave_nothing_left e g s plain = ap (λ (x : Entry). growth_by x g) s
+plain_growth (End_abort t) Gave_aborted e g s plain = ap (λ (x : Entry). growth_by x g) s
+plain_growth (Acknowledge t lsn) (Gave_receipt None) e g s plain = ap (λ (x : Entry). growth_by x g) s
+plain_growth (Acknowledge t lsn) (Gave_receipt (Some c)) e g s plain = ap (λ (x : Entry). growth_by x g) s.1
+plain_growth Hand_over Gave_handed_over e g s plain = ap (λ (x : Entry). growth_by x g) s
+plain_growth Force (Gave_forced lsn) e g s plain = ap (λ (x : Entry). growth_by x g) s
+plain_growth Checkpoint (Gave_checkpoint lsn) e g s plain = ap (λ (x : Entry). growth_by x g) s
+plain_growth (Migrate pages) r e g s plain = absurd plain
+plain_growth (Write_page page) (Gave_written done) e g s plain = ap (λ (x : Entry). growth_by x g) s
+plain_growth (Last_tag sender) (Gave_tag sent tag) e g s plain = ap (λ (x : Entry). growth_by x g) s
+plain_growth (Client_tag client) (Gave_client_tag count tag) e g s plain = ap (λ (x : Entry). growth_by x g) s
+plain_growth Show (Gave_content groups) e g s plain = ap (λ (x : Entry). growth_by x g) s
+plain_growth c r e g s plain = absurd s
+
+-- a store that has failed tells of none
+failed_growth : (e : Event) (r : Reply) (x : Entry) (g : Growth) → Says (call_of e) (gave r) x → r ≡ reply.Refused why.Failed → growth_by x g ≡ g
+failed_growth e r x g s is =
+    let there : x ≡ Refused_entry (call_of e) why.Failed = subst (λ (y : Reply). Says (call_of e) (gave y) x) is s in
+    ap (λ (y : Entry). growth_by y g) there
+
+none_grown : (g : Growth) → g ≡ Stays → IsGrownBy g None
+none_grown g is = subst (λ (x : Growth). IsGrownBy x None) (sym is) tt
+
+-- a crash of a store that no migration has met
+pub plain_leaves : {P L : Type 0} (p : page_device.Ghosts P) (l : log_device.Ghosts L) (g : Growth) (s : State) (pages : P) (log : L) → g ≡ Stays → EachPair p l pages log (IsCut s) → LeftBehind p l g s pages log
+plain_leaves p l g s pages log is leaves = λ images bytes a b. (None, none_grown g is, inl (leaves images bytes a b))
 
 module _ {P L : Type 0} (p : page_device.Ghosts P) (l : log_device.Ghosts L) (z : Sizes) (now_p : (d : P) (t : ℕ) (c : Images) → t ≤ p.moment d → Leaves (p.may_be d) c → p.left_since d t c)
-    (now_l : (d : L) (t : ℕ) (c : List ℕ) → t ≤ l.moment d → l.may_leave d c → l.left_since d t c) (past : List Record) (old new : OpenStore P L) where
-  abbrev Written : OpenStore P L → Type 0
-  Written s = IsWritten p l z past s
+    (now_l : (d : L) (t : ℕ) (c : List ℕ) → t ≤ l.moment d → l.may_leave d c → l.left_since d t c) (h : List Entry) (past : List Record) (old new : OpenStore P L) where
+  -- ---- behind a call that was answered, of which this is the entry
+  module _ (x : Entry) where
+    abbrev Written : OpenStore P L → Type 0
+    Written s = IsWritten p l z (x ∷ h) past s
 
-  abbrev Half : OpenStore P L → Type 0
-  Half s = IsHalfMade p l z past s
+    abbrev Half : OpenStore P L → Type 0
+    Half s = IsHalfMade p l z (x ∷ h) past s
 
-  -- a checkpoint that was refused
-  not_made : (r : Refusal) → NotCheckpointed p l old new r → EachPair p l new.pages new.log (IsCutOrBased (on past old.state)) → Written old → Written new ⊎ Half new
-  not_made why.DiskWrite n leaves w =
-      let s = n.0 in
-      inr (record {
-        failed = ap (λ (x : State). x.failed) s.state;
-        none_open = ap (λ (x : State). x.rows) s.state ∙ s.could.none_open;
-        leaves = λ images bytes a b. subst (λ (x : State). IsCutOrBased (on past x) images bytes) (sym s.state) (cut_or_failed (on past old.state) images bytes (leaves images bytes a b));
-      })
-  not_made why.Failed n leaves w = inl (subst Written (sym n.1) w)
-  not_made why.NotQuiet n leaves w = inl (subst Written (sym n.2) w)
-  not_made why.LogFull n leaves w = inl (subst Written (sym n.3) w)
-  not_made why.NotForced n leaves w = inl (subst Written (sym n.4) w)
-  not_made _ n leaves w = absurd n
+    abbrev Before : Type 0
+    Before = IsWritten p l z h past old
 
-  written_after : (e : Event) (r : Reply) → Applied p l old e r new → AreHonest p l new → IsEarlier past old.state → IsSound (on past old.state) → Written old → Written new ⊎ Half new
-  written_after event.Checkpoint (reply.Checkpointed lsn) a honest long sound w =
-      let m : HasMadeOneRecord p l old new lsn = a.checkpoint in
-      inl (record { untried = m.replacing ∙ w.untried; fit = a.fit honest (ap (λ (x : State). x.failed) m.state ∙ m.could.running) past long sound w.fit })
-  written_after event.Checkpoint (reply.Refused r) a honest long sound w = not_made r a.checkpoint (path_end p l now_p now_l (a.crash w.untried honest past long sound w.fit)) w
-  written_after event.Checkpoint _ a honest long sound w = absurd a.checkpoint
-  written_after e r a honest long sound w = inl (record { untried = a.replacing ∙ w.untried; fit = a.fit honest tt past long sound w.fit })
+    -- a call that changes nothing of the devices
+    unchanged : growth_by x (growth h) ≡ growth h → new ≡ old → Before → Written new
+    unchanged same is w = subst Written (sym is) (record { untried = w.untried; settled = same ∙ w.settled; fit = w.fit })
 
-  -- a store that a checkpoint stopped answers no call, and stays
+    -- it has stopped for a device
+    half : old.state.rows ≡ [] → new.state ≡ record old.state { failed = true } → LeftBehind p l (growth_by x (growth h)) (on past old.state) new.pages new.log → Half new
+    half none is leaves = record {
+      failed = ap (λ (s : State). s.failed) is;
+      none_open = ap (λ (s : State). s.rows) is ∙ none;
+      leaves = λ images bytes a b. let c = leaves images bytes a b in
+          (c.0, c.1, subst (λ (s : State). IsCutBy c.0 (on past s) images bytes) (sym is) (by_failed c.0 (on past old.state) images bytes c.2));
+    }
+
+    -- a checkpoint that was refused
+    not_made : (r : Refusal) → growth_by x (growth h) ≡ growth h → NotCheckpointed p l old new r → EachPair p l new.pages new.log (IsCutOrBased (on past old.state)) → Before → Written new ⊎ Half new
+    not_made why.DiskWrite same n leaves w =
+        inr (half n.0.could.none_open n.0.state (λ images bytes a b. (None, none_grown (growth_by x (growth h)) (same ∙ w.settled), based_by (on past old.state) images bytes n.0.could.none_open (leaves images bytes a b))))
+    not_made why.Failed same n leaves w = inl (unchanged same n.1 w)
+    not_made why.NotQuiet same n leaves w = inl (unchanged same n.2 w)
+    not_made why.LogFull same n leaves w = inl (unchanged same n.3 w)
+    not_made why.NotForced same n leaves w = inl (unchanged same n.4 w)
+    not_made _ same n leaves w = absurd n
+
+    -- what a crash in a migration leaves
+    either_by : (n : ℕ) (images : Images) (bytes : List ℕ) → MayGetTags n old.state → old.state.rows ≡ [] → IsCutOrGrown n (on past old.state) images bytes → (tags : Option ℕ) × IsGrownBy (May_grow n) tags × IsCutBy tags (on past old.state) images bytes
+    either_by n images bytes may none (inl c) = (None, tt, based_by (on past old.state) images bytes none c)
+    either_by n images bytes may none (inr c) = (Some n, refl, (none, may, inr c))
+
+    -- a migration that was refused
+    not_grown : (n : ℕ) (r : Refusal) → x ≡ Refused_entry (Migrate n) r → NotMigrated p l n old new r → EachPair p l new.pages new.log (IsCutOrGrown n (on past old.state)) → Before → Written new ⊎ Half new
+    not_grown n why.DiskWrite is w leaves before =
+        inr (half w.1.none_open w.2 (λ images bytes a b. let c = either_by n images bytes w.0 w.1.none_open (leaves images bytes a b) in
+        (c.0, subst (λ (y : Entry). IsGrownBy (growth_by y (growth h)) c.0) (sym is) c.1, c.2)))
+    not_grown n why.Failed is w leaves before = inl (unchanged (ap (λ (y : Entry). growth_by y (growth h)) is) w.1 before)
+    not_grown n why.BadTags is w leaves before = inl (unchanged (ap (λ (y : Entry). growth_by y (growth h)) is) w.2 before)
+    not_grown n why.NotQuiet is w leaves before = inl (unchanged (ap (λ (y : Entry). growth_by y (growth h)) is) w.1.2 before)
+    not_grown n why.LogFull is w leaves before = inl (unchanged (ap (λ (y : Entry). growth_by y (growth h)) is) w.1.3 before)
+    not_grown n why.NotForced is w leaves before = inl (unchanged (ap (λ (y : Entry). growth_by y (growth h)) is) w.1.4 before)
+    not_grown n _ is w leaves before = absurd w.1
+
+    written_after : (e : Event) (r : Reply) → Says (call_of e) (gave r) x → Applied p l old e r new → AreHonest p l new → IsEarlier past old.state → IsSound (on past old.state) → Before → Written new ⊎ Half new
+    written_after event.Checkpoint (reply.Checkpointed lsn) says a honest long sound w =
+        let m : HasMadeOneRecord p l old new lsn = a.checkpoint in
+        inl (record { untried = m.replacing ∙ w.untried; settled = ap (λ (y : Entry). growth_by y (growth h)) says ∙ w.settled; fit = a.fit honest (ap (λ (s : State). s.failed) m.state ∙ m.could.running) past long sound w.fit })
+    written_after event.Checkpoint (reply.Refused r) says a honest long sound w = not_made r (plain_growth Checkpoint (Gave_refusal r) x (growth h) says tt) a.checkpoint (path_end p l now_p now_l (a.crash w.untried honest past long sound w.fit)) w
+    written_after event.Checkpoint _ says a honest long sound w = absurd a.checkpoint
+    written_after (event.Migrate n) (reply.Migrated lsn) says a honest long sound w =
+        let m : HasMigrated p l n old new lsn = a.checkpoint.1 in
+        let leaves = left_after p l n old new lsn past honest long sound a.checkpoint.0 m in
+        let later : IsEarlier past new.state = long ∙ ap (λ (u : List Record). length u) (sym a.unknown) in
+        let all : new.state.forced ≡ length (on past new.state).records = ap (λ (s : State). s.forced) m.state ∙ ap (λ (s : State). length s.records) (sym m.state) ∙ sym (long_on past new.state later) in
+        inr (record {
+          failed = ap (λ (s : State). s.failed) m.state;
+          none_open = ap (λ (s : State). s.rows) m.state ∙ m.could.none_open;
+          leaves = λ images bytes c d. (
+            Some n,
+            subst (λ (y : Entry). IsGrownBy (growth_by y (growth h)) (Some n)) (sym says) refl,
+            (ap (λ (s : State). s.rows) m.state ∙ m.could.none_open, subst (λ (s : State). MayGetTags n (on past s)) (sym m.state) a.checkpoint.0, inl (all, leaves images bytes c d)),
+          );
+        })
+    written_after (event.Migrate n) (reply.Refused r) says a honest long sound w = not_grown n r says a.checkpoint (path_end p l now_p now_l (a.crash w.untried honest past long sound w.fit)) w
+    written_after (event.Migrate n) _ says a honest long sound w = absurd a.checkpoint
+    written_after e r says a honest long sound w = inl (record { untried = a.replacing ∙ w.untried; settled = plain_growth (call_of e) (gave r) x (growth h) says tt ∙ w.settled; fit = a.fit honest tt past long sound w.fit })
+
+  -- a store that was stopped answers no call, and stays
   still : (e : Event) (r : Reply) → Applied p l old e r new → old.state.failed ≡ true → new ≡ old
   still e r a failed = subst (λ (x : Reply). RefusalLeaves old e x new) (a.failed.1 failed) a.refused
 
+  half_after : (x : Entry) (e : Event) (r : Reply) → Says (call_of e) (gave r) x → Applied p l old e r new → IsHalfMade p l z h past old → IsHalfMade p l z (x ∷ h) past new
+  half_after x e r says a half =
+      let same = failed_growth e r x (growth h) says (a.failed.1 half.failed) in
+      subst (IsHalfMade p l z (x ∷ h) past) (sym (still e r a half.failed)) (record { failed = half.failed; none_open = half.none_open; leaves = subst (λ (g : Growth). LeftBehind p l g (on past old.state) old.pages old.log) (sym same) half.leaves })
+
   -- what a call makes of the devices of an open store
-  pub devices_after : (e : Event) (r : Reply) → Applied p l old e r new → AreHonest p l new → IsEarlier past old.state → IsSound (on past old.state) → Written old ⊎ Half old → Written new ⊎ Half new
-  devices_after e r a honest long sound d =
-      ⊎_elim (written_after e r a honest long sound) (λ half. inr (subst Half (sym (still e r a half.failed)) half)) d
+  pub devices_after : (x : Entry) (e : Event) (r : Reply) → Says (call_of e) (gave r) x → Applied p l old e r new → AreHonest p l new → IsEarlier past old.state → IsSound (on past old.state) → IsWritten p l z h past old ⊎ IsHalfMade p l z h past old → IsWritten p l z (x ∷ h) past new ⊎ IsHalfMade p l z (x ∷ h) past new
+  devices_after x e r says a honest long sound d =
+      ⊎_elim (written_after x e r says a honest long sound) (λ half. inr (half_after x e r says a half)) d
 
-  -- what a crash behind a call leaves, of the store before it
-  abbrev Leaves_behind : Type 0
-  Leaves_behind = LeftBehind p l (on past old.state) new.pages new.log
-
+  -- ---- what a crash behind a call leaves, of the store before it
   of_checkpoint : (r : Refusal) → is_of_device r ≡ true → NotCheckpointed p l old new r → old.state.rows ≡ []
   of_checkpoint why.DiskWrite device n = n.0.could.none_open
   of_checkpoint why.DiskRead device n = absurd n
   of_checkpoint _ device n = cc device
 
+  of_migration : (n : ℕ) (r : Refusal) → is_of_device r ≡ true → NotMigrated p l n old new r → MayGetTags n old.state × (old.state.rows ≡ [])
+  of_migration n why.DiskWrite device w = (w.0, w.1.none_open)
+  of_migration n why.DiskRead device w = absurd w.1
+  of_migration n _ device w = cc device
+
   -- one that a device refused
-  stopped : (e : Event) (r : Refusal) → is_of_device r ≡ true → Applied p l old e (reply.Refused r) new → AreHonest p l new → IsEarlier past old.state → IsSound (on past old.state) → Written old → Leaves_behind
-  stopped event.Checkpoint r device a honest long sound w = inr (of_checkpoint r device a.checkpoint, path_end p l now_p now_l (a.crash w.untried honest past long sound w.fit))
-  stopped e r device a honest long sound w = inl (path_end p l now_p now_l (a.crash w.untried honest past long sound w.fit))
+  stopped : (e : Event) (r : Refusal) → is_of_device r ≡ true → Applied p l old e (reply.Refused r) new → AreHonest p l new → IsEarlier past old.state → IsSound (on past old.state) → IsWritten p l z h past old → LeftBehind p l (call_growth (call_of e) (growth h)) (on past old.state) new.pages new.log
+  stopped event.Checkpoint r device a honest long sound w =
+      let none = of_checkpoint r device a.checkpoint in
+      let leaves = path_end p l now_p now_l (a.crash w.untried honest past long sound w.fit) in
+      λ images bytes c d. (None, none_grown (growth h) w.settled, based_by (on past old.state) images bytes none (leaves images bytes c d))
+  stopped (event.Migrate n) r device a honest long sound w =
+      let may = of_migration n r device a.checkpoint in
+      let leaves = path_end p l now_p now_l (a.crash w.untried honest past long sound w.fit) in
+      λ images bytes c d. either_by (Refused_entry (Migrate n) r) n images bytes may.0 may.1 (leaves images bytes c d)
+  stopped e r device a honest long sound w = plain_leaves p l (growth h) (on past old.state) new.pages new.log w.settled (path_end p l now_p now_l (a.crash w.untried honest past long sound w.fit))
 
-  left_still : (e : Event) (r : Reply) → Applied p l old e r new → Half old → Leaves_behind
-  left_still e r a half =
-      inr (half.none_open, subst (λ (s : OpenStore P L). EachPair p l s.pages s.log (IsCutOrBased (on past old.state))) (sym (still e r a half.failed)) half.leaves)
+  no_device : (r : Refusal) → is_of_device r ≡ true → reply.Refused r ≡ reply.Refused why.Failed → ⊥
+  no_device why.DiskWrite d e = cc e
+  no_device why.DiskRead d e = cc e
+  no_device _ d e = cc d
 
-  pub left_stopped : (e : Event) (r : Refusal) → is_of_device r ≡ true → Applied p l old e (reply.Refused r) new → AreHonest p l new → IsEarlier past old.state → IsSound (on past old.state) → Written old ⊎ Half old → Leaves_behind
-  left_stopped e r device a honest long sound d = ⊎_elim (stopped e r device a honest long sound) (left_still e (reply.Refused r) a) d
+  pub left_stopped : (e : Event) (r : Refusal) → is_of_device r ≡ true → Applied p l old e (reply.Refused r) new → AreHonest p l new → IsEarlier past old.state → IsSound (on past old.state) → IsWritten p l z h past old ⊎ IsHalfMade p l z h past old → LeftBehind p l (call_growth (call_of e) (growth h)) (on past old.state) new.pages new.log
+  left_stopped e r device a honest long sound d = ⊎_elim (stopped e r device a honest long sound) (λ half. absurd (no_device r device (a.failed.1 half.failed))) d
 
   -- a hand-over
-  pub left_handed : (r : Reply) → Applied p l old event.HandOver r new → AreHonest p l new → IsEarlier past old.state → IsSound (on past old.state) → Written old ⊎ Half old → Leaves_behind
+  pub left_handed : (r : Reply) → Applied p l old event.HandOver r new → AreHonest p l new → IsEarlier past old.state → IsSound (on past old.state) → IsWritten p l z h past old ⊎ IsHalfMade p l z h past old → LeftBehind p l (growth h) (on past old.state) new.pages new.log
   left_handed r a honest long sound d =
-      ⊎_elim (λ w. inl (path_end p l now_p now_l (a.crash w.untried honest past long sound w.fit))) (left_still event.HandOver r a) d
+      ⊎_elim (λ w. plain_leaves p l (growth h) (on past old.state) new.pages new.log w.settled (path_end p l now_p now_l (a.crash w.untried honest past long sound w.fit)))
+      (λ half. subst (λ (s : OpenStore P L). LeftBehind p l (growth h) (on past old.state) s.pages s.log) (sym (still event.HandOver r a half.failed)) half.leaves) d

@@ -33,6 +33,7 @@ use Rattle.rq_restart.specs.declared.restart.Report.{Report}
 use Rattle.rq_core.specs.Happenings.{Course}
 use Rattle.rq_core.specs.Judged.{AreRunsJudged, Asked, IsLatchedOver, IsRefusedOver, IsReportedOver}
 use Rattle.rq_core.specs.Runs.{IsOpened, IsRefused, Led, MemWorld, Ran}
+use Rattle.rq_core.specs.Headline.{sizes_at}
 use Rattle.rq_core.specs.World.{IsOpen, IsShut}
 use Rattle.rq_core.specs.World.World.{Is_open, Is_shut}
 use Rattle.rq_core.proofs.Devices.{some_page, some_log}
@@ -42,6 +43,7 @@ still_log : (page : ℕ) (e : Event) (r : Reply) (old new : OpenStore MemPages M
 still_log page event.HandOver r old new is h = cc is
 still_log page event.Force r old new is h = cc is
 still_log page event.Checkpoint r old new is h = cc is
+still_log page (event.Migrate pages) r old new is h = cc is
 still_log page _ r old new is h = h
 
 -- the reply that gave a refusal
@@ -85,6 +87,7 @@ module _ (s : State) where
   by_latches event.HandOver legal say = starts_none (call_of event.HandOver) refl legal
   by_latches event.Force legal say = starts_none (call_of event.Force) refl legal
   by_latches event.Checkpoint legal say = starts_none (call_of event.Checkpoint) refl legal
+  by_latches (event.Migrate pages) legal say = starts_none (call_of (event.Migrate pages)) refl legal
   by_latches (event.WritePage page) legal say = starts_none (call_of (event.WritePage page)) refl legal
   by_latches (event.LastTag sender) legal say = starts_none (call_of (event.LastTag sender)) refl legal
   by_latches (event.ClientTag client) legal say = starts_none (call_of (event.ClientTag client)) refl legal
@@ -100,15 +103,19 @@ given (why.Damaged e) left z older a b c d there s = λ u. s there
 given _ left z older a b c d there s = absurd s
 
 -- a restart of a store that is shut was refused
-pub refused_over : (z : Sizes) (h : List Entry) (pages new_pages : MemPages) (log new_log : MemLog) (r : Refusal) → IsShut mem_pages mem_log z h pages log → IsRefused pages log r new_pages new_log → IsRefusedOver z pages log r new_pages new_log
+pub refused_over : (z : Sizes) (h : List Entry) (pages new_pages : MemPages) (log new_log : MemLog) (r : Refusal) → IsShut mem_pages mem_log z h pages log → IsRefused pages log r new_pages new_log → IsRefusedOver pages log r new_pages new_log
 refused_over z h pages new_pages log new_log r here stopped =
     let there = read_of mem_pages mem_log (λ d. tt) (λ d. tt) z some_page some_log h pages log here in
+    let y = sizes_at z h in
     record {
+      z = y;
+      range = here.range;
+      told = there.left.fits.superblock;
       read = there.read;
       reads = there.reads;
       whole = there.left.whole;
-      cause = given r (IsLeftOn mem_pages z pages new_pages there.read) z there.read (mem_pages.faults pages) (mem_pages.faults new_pages) (mem_log.faults log) (mem_log.faults new_log) (record { honest = tt; left = there.left })
-          (stopped.refuses.stops z (record { range = here.range; formatted = there.left.fits.superblock }) there.read (record { honest = tt; are_spelled = there.told; reads = there.reads }));
+      cause = given r (IsLeftOn mem_pages y pages new_pages there.read) y there.read (mem_pages.faults pages) (mem_pages.faults new_pages) (mem_log.faults log) (mem_log.faults new_log) (record { honest = tt; left = there.left })
+          (stopped.refuses.stops y (record { range = here.range; formatted = there.left.fits.superblock }) there.read (record { honest = tt; are_spelled = there.told; reads = there.reads }));
     }
 
 module _ (size_once : OneSizeEach) (met : (z : Sizes) (course : Course) (w : MemWorld) → Led z course w → Ran z course w) (z : Sizes) (course : Course) where
@@ -128,7 +135,7 @@ module _ (size_once : OneSizeEach) (met : (z : Sizes) (course : Course) (w : Mem
         let is : call_of a.event ≡ call = ap (λ o. call_in o call) (sym a.call_is) in
         subst (IsLatched (on past old.state)) is (by_latches (on past old.state) a.event legal (b.latched past long sound))
 
-  refused : (pages new_pages : MemPages) (log new_log : MemLog) (r : Refusal) → Led z course (Is_shut pages log) → IsRefused pages log r new_pages new_log → IsRefusedOver z pages log r new_pages new_log
+  refused : (pages new_pages : MemPages) (log new_log : MemLog) (r : Refusal) → Led z course (Is_shut pages log) → IsRefused pages log r new_pages new_log → IsRefusedOver pages log r new_pages new_log
   refused pages new_pages log new_log r led stopped =
       let ran : Ran z course (Is_shut pages log) = met z course (Is_shut pages log) led in
       refused_over z ran.history pages new_pages log new_log r ran.stands stopped
@@ -139,7 +146,7 @@ module _ (size_once : OneSizeEach) (met : (z : Sizes) (course : Course) (w : Mem
       let here : IsShut mem_pages mem_log z ran.history pages log = ran.stands in
       let there = read_of mem_pages mem_log (λ d. tt) (λ d. tt) z some_page some_log ran.history pages log here in
       let told : Reports new.state.sizes there.read new.state.records report.incarnation report.records report.unfinished report.lost = (opened.over there.read (record { honest = tt; are_spelled = there.told; reads = there.reads })).reports in
-      let is : new.state.sizes ≡ z = size_once new.state.sizes z (mem_pages.seen pages 0) (opened.sizes tt) (record { range = here.range; formatted = there.left.fits.superblock }) in
+      let is : new.state.sizes ≡ sizes_at z ran.history = size_once new.state.sizes (sizes_at z ran.history) (mem_pages.seen pages 0) (opened.sizes tt) (record { range = here.range; formatted = there.left.fits.superblock }) in
       let whole : IsWhole new.state.sizes there.read = subst (λ y. IsWhole y there.read) (sym is) there.left.whole in
       record { read = there.read; reads = there.reads; whole = whole; unfinished_are = told.unfinished_are whole; lost_are = told.lost_are whole; records_are = told.records_are }
 

@@ -7,7 +7,7 @@ use Rattle.rq_model.specs.Tests.{Size}
 use Rattle.rq_model.specs.Promises.{AcknowledgedStay, CheckpointCrashGoesOn, CrashGoesOn, FifoThroughout, RestartGoesOn, ShutCrashGoesOn, StillStoreRefuses}
 use Rattle.rq_disk.specs.declared.mem_log.MemLog.{MemLog}
 use Rattle.rq_disk.specs.declared.mem_pages.MemPages.{MemPages}
-use Rattle.rq_page.specs.Sizes.{IsInRange, Sizes}
+use Rattle.rq_page.specs.Sizes.{Sizes}
 use Rattle.rq_store.specs.State.{size_of}
 use Rattle.rq_engine.specs.Applied.{Applied}
 use Rattle.rq_engine.specs.Earlier.{on}
@@ -15,17 +15,17 @@ use Rattle.rq_engine.specs.declared.event.Event.{Event}
 use Rattle.rq_engine.specs.declared.event.Reply.{Reply}
 use Rattle.rq_restart.specs.Once.{OneLogEach, OneSizeEach}
 use Rattle.rq_core.specs.Devices.{mem_pages, mem_log}
-use Rattle.rq_core.specs.Happenings.{Answer, Course, DoesNothing, Happening, MayCrashIt, called, restarts}
+use Rattle.rq_core.specs.Happenings.{Answer, Course, DoesNothing, Happening, MayCrashIt, call_growth, called, growth, growth_in, restarts}
 use Rattle.rq_core.specs.Happenings.Answer.{Answered, Crashed, Nothing, Refused, Restarted, Running}
 use Rattle.rq_core.specs.Happenings.Happening.{Crashes, Stops_in, Stops_restart}
 use Rattle.rq_core.specs.Happened.{CrashesOpen, CrashesShut, IsAsked, IsLast, IsNotOpen, StopsRestart}
 use Rattle.rq_core.specs.Runs.{CanCrash, Happened, IsHeadline, IsRun, Led, GivesUp, MemWorld, Ran}
-use Rattle.rq_core.specs.World.{IsOpen}
+use Rattle.rq_core.specs.World.{IsOpen, LeftBehind}
 use Rattle.rq_core.specs.World.World.{Is_open, Is_shut}
 use Rattle.rq_core.proofs.Arms.{Engine, asks, begins, not_open, open_ends, opened, refused_stays, refuses, shut_crashes, shut_ends, stop_may}
 use Rattle.rq_core.proofs.Devices.{log_now, page_now, some_page, some_log}
-use Rattle.rq_core.proofs.HalfMade.{LeftBehind, left_handed, left_stopped}
-use Rattle.rq_core.proofs.Worlds.{crashed, leaves_open, runs_there}
+use Rattle.rq_core.proofs.HalfMade.{left_handed, left_stopped}
+use Rattle.rq_core.proofs.Worlds.{crashed, leaves_open, runs_there, stands_at}
 
 -- what holds of the words that a run is told in
 pub record Laws (z : Sizes) : Type 0 where
@@ -47,13 +47,14 @@ module _ (z : Sizes) (k : Laws z) (course : Course) where
       subst (λ c. MayCrashIt (Stops_in c) (ledger ran.history).phase) last.0 (stop_may z course e last.1 old mid ran (subst (λ y. Applied mem_pages mem_log old e y mid) last.2 a) last.3)
   may_crash _ e r old mid last a ran = absurd last
 
-  left_behind : (x : Happening) (e : Event) (r : Reply) (old mid : Engine) → IsLast x e r → Applied mem_pages mem_log old e r mid → (ran : Ran z course (Is_open old)) → LeftBehind mem_pages mem_log (on ran.stands.past old.state) mid.pages mid.log
+  left_behind : (x : Happening) (e : Event) (r : Reply) (old mid : Engine) → IsLast x e r → Applied mem_pages mem_log old e r mid → (ran : Ran z course (Is_open old)) → LeftBehind mem_pages mem_log (growth_in x (growth ran.history)) (on ran.stands.past old.state) mid.pages mid.log
   left_behind Crashes e r old mid last a ran =
       let o : IsOpen mem_pages mem_log z ran.history old = ran.stands in
-      left_handed mem_pages mem_log z page_now log_now o.past old mid r (subst (λ y. Applied mem_pages mem_log old y r mid) last a) (tt, tt) o.long o.sound o.devices
+      left_handed mem_pages mem_log z page_now log_now ran.history o.past old mid r (subst (λ y. Applied mem_pages mem_log old y r mid) last a) (tt, tt) o.long o.sound o.devices
   left_behind (Stops_in call) e r old mid last a ran =
       let o : IsOpen mem_pages mem_log z ran.history old = ran.stands in
-      left_stopped mem_pages mem_log z page_now log_now o.past old mid e last.1 last.3 (subst (λ y. Applied mem_pages mem_log old e y mid) last.2 a) (tt, tt) o.long o.sound o.devices
+      subst (λ c. LeftBehind mem_pages mem_log (call_growth c (growth ran.history)) (on o.past old.state) mid.pages mid.log) last.0
+      (left_stopped mem_pages mem_log z page_now log_now ran.history o.past old mid e last.1 last.3 (subst (λ y. Applied mem_pages mem_log old e y mid) last.2 a) (tt, tt) o.long o.sound o.devices)
   left_behind _ e r old mid last a ran = absurd last
 
   -- of what its last call went through, a crash behind it leaves the end
@@ -61,22 +62,22 @@ module _ (z : Sizes) (k : Laws z) (course : Course) where
   crashes_open x old pages log n c ran =
       let o : IsOpen mem_pages mem_log z ran.history old = ran.stands in
       let can : CanCrash z course x c.mid.pages c.mid.log = record {
-        range = subst IsInRange o.sizes o.sound.range;
         history = ran.history;
         tells = ran.tells;
         legal = ran.legal;
         may = may_crash x c.event c.told old c.mid c.last c.applied ran;
-        leaves = leaves_open mem_pages mem_log (λ d. tt) (λ d. tt) z ran.history (on o.past old.state) ran.legal o.sizes o.ledger o.sound k.crash k.half c.mid.pages c.mid.log (left_behind x c.event c.told old c.mid c.last c.applied ran);
+        leaves = leaves_open mem_pages mem_log (λ d. tt) (λ d. tt) z k.crash k.half ran.history (on o.past old.state) (stands_at z ran.history (on o.past old.state) ran.legal o.sizes o.ledger o.sound) (runs_there ran.history (on o.past old.state) o.ledger)
+            (growth_in x (growth ran.history)) c.mid.pages c.mid.log (left_behind x c.event c.told old c.mid c.last c.applied ran);
       } in
       crashed mem_pages mem_log (λ d. tt) (λ d. tt) z some_page some_log course x c.mid.pages pages c.mid.log log n can c.crashed
 
   crashes_shut : (x : Happening) (pages : MemPages) (log : MemLog) (new_pages : MemPages) (new_log : MemLog) (n : ℕ) → CrashesShut mem_pages mem_log x pages log new_pages new_log n → Ran z course (Is_shut pages log) → Ran z ((x, Crashed n) ∷ course) (Is_shut new_pages new_log)
   crashes_shut Crashes pages log new_pages new_log n c ran =
-      crashed mem_pages mem_log (λ d. tt) (λ d. tt) z some_page some_log course Crashes pages new_pages log new_log n (shut_crashes z course Crashes ran.history pages log k.shut ran.tells ran.legal ran.stands (λ p s. tt)) c
+      crashed mem_pages mem_log (λ d. tt) (λ d. tt) z some_page some_log course Crashes pages new_pages log new_log n (shut_crashes z course Crashes ran.history pages log k.shut ran.tells ran.legal ran.stands (λ p s. tt) refl) c
   crashes_shut Stops_restart pages log new_pages new_log n c ran =
       let there : StopsRestart mem_pages mem_log pages log new_pages new_log n = c in
       let left = refused_stays k.one z ran.history pages log there.refusal there.mid_pages there.mid_log there.refused ran.stands in
-      crashed mem_pages mem_log (λ d. tt) (λ d. tt) z some_page some_log course Stops_restart there.mid_pages new_pages there.mid_log new_log n (shut_crashes z course Stops_restart ran.history there.mid_pages there.mid_log k.shut ran.tells ran.legal left (λ p s. s)) there.crashed
+      crashed mem_pages mem_log (λ d. tt) (λ d. tt) z some_page some_log course Stops_restart there.mid_pages new_pages there.mid_log new_log n (shut_crashes z course Stops_restart ran.history there.mid_pages there.mid_log k.shut ran.tells ran.legal left (λ p s. s) refl) there.crashed
   crashes_shut _ pages log new_pages new_log n c ran = absurd c
 
   nothing : (x : Happening) (w : MemWorld) → DoesNothing course x → Ran z course w → Ran z ((x, Nothing) ∷ course) w

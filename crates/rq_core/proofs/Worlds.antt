@@ -1,25 +1,27 @@
 -- Each kind of happening keeps what is so of a store between two of them.
 use Rattle.std.specs.Prelude.{◌==◌, if◌then◌else◌}
-use Rattle.std.proofs.Common.{◌≡◌, ℕ, ◌+◌, ◌≤◌, List, [], ◌∷◌, ◌++◌, length, take, drop, refl, sym, ◌∙◌, ap, subst, true, false, Some, arith, inl, inr, ◌⊎◌, ⊎_elim}
-use Rattle.std.proofs.lemmas.Bool.{cases_eq}
+use Rattle.std.proofs.Common.{◌≡◌, ℕ, ◌+◌, ◌*◌, ◌≤◌, List, [], ◌∷◌, ◌++◌, length, take, drop, refl, sym, ◌∙◌, ap, subst, Bool, true, false, Option, Some, None, arith, inl, inr, ◌⊎◌, ⊎_elim}
+use Rattle.std.proofs.lemmas.Bool.{cases_eq, true≢false}
 use Rattle.std.proofs.lemmas.List.{take-append-drop, length-drop}
 use Rattle.rq_model.specs.declared.record.Record.{Record}
 use Rattle.rq_model.specs.Vocabulary.{In}
 use Rattle.rq_model.specs.History.{Entry, commits}
-use Rattle.rq_model.specs.History.Entry.{Crash as Crash_entry, Restarted as Restarted_entry}
+use Rattle.rq_model.specs.History.Entry.{Crash as Crash_entry, Grew, Restarted as Restarted_entry}
 use Rattle.rq_model.specs.Incarnations.{Extends, Ties, incarnation_of}
 use Rattle.rq_model.specs.Commits.{committed_of}
 use Rattle.rq_model.specs.Ledger.{Ledger, ledger, after, kept_in}
 use Rattle.rq_model.specs.Ledger.Phase.{Shut}
 use Rattle.rq_model.specs.Legal.{Legal, IsLegal}
-use Rattle.rq_model.specs.Tests.{any_busy}
+use Rattle.rq_model.specs.Tests.{Size, any_busy, bad_tags, size_at}
+use Rattle.rq_model.specs.Rules.{KeepsRules}
+use Rattle.rq_model.proofs.Replayed.{is_break, never_break}
 use Rattle.rq_model.specs.Promises.{CheckpointCrashGoesOn, CrashGoesOn, ShutCrashGoesOn, RestartGoesOn, EndsInCrash, crash_to, AcknowledgedStay, FifoThroughout}
 use Rattle.rq_disk.specs.Device.{Images, Leaves}
 use Rattle.rq_disk.specs.declared.device.LogDevice as log_device
 use Rattle.rq_disk.specs.declared.device.PageDevice as page_device
 use Rattle.rq_disk.specs.Memory.{if_yes, if_no}
 use Rattle.rq_log.specs.Spelled.{AreSpelled, EndsWith}
-use Rattle.rq_page.specs.Sizes.{Sizes, IsInRange}
+use Rattle.rq_page.specs.Sizes.{Sizes, IsInRange, with_tags}
 use Rattle.rq_store.specs.State.{State, ledger_of, open_ones_of, size_of, phase_of}
 use Rattle.rq_sound.specs.Calls.{checkpointed}
 use Rattle.rq_sound.specs.Sound.{IsSound}
@@ -29,6 +31,8 @@ use Rattle.rq_store.proofs.Opens.{busy_is}
 use Rattle.rq_page.specs.Formatted.{IsFormatted, IsHeaderOf}
 use Rattle.rq_engine.specs.Applied.{Applied}
 use Rattle.rq_engine.specs.Crash.{IsCut}
+use Rattle.rq_engine.specs.Migration.{IsCutGrown, MayGetTags}
+use Rattle.rq_engine.proofs.Migrating.{may_get}
 use Rattle.rq_engine.specs.Devices.{EachPair}
 use Rattle.rq_engine.specs.Opened.{AreHonest, OpenStore}
 use Rattle.rq_engine.specs.Says.{RefusedForCause, call_of, gave}
@@ -52,12 +56,13 @@ use Rattle.rq_analysis.proofs.Recovering.{recovered_from}
 use Rattle.rq_restart.specs.Underway.{IsGoneOnWith, IsStore, IsSomeStore, IsLeftOrGoesOn}
 use Rattle.rq_restart.specs.Once.{OneLogEach, OneSizeEach}
 use Rattle.rq_restart.specs.declared.restart.Report.{Report}
-use Rattle.rq_core.specs.Happenings.{Happening, Course, Tells, AddsCall, called}
+use Rattle.rq_core.specs.Happenings.{Growth, Happening, Course, IsGrownBy, LosesNone, Tells, AddsCall, called, grown, growth, growth_in}
+use Rattle.rq_core.specs.Happenings.Growth.{Stays}
 use Rattle.rq_core.specs.Happenings.Answer.{Answered, Crashed}
-use Rattle.rq_core.specs.Headline.{AcknowledgedAreKept, LeavesStores, LeftLast, IsHeadline}
+use Rattle.rq_core.specs.Headline.{AcknowledgedAreKept, EndsHistory, LeavesStores, LeftLast, IsHeadline, sizes_at, sizes_by}
 use Rattle.rq_core.specs.Happened.{IsCrashed, IsOpened}
-use Rattle.rq_core.specs.World.{World, IsShut, IsOpen, Ran, CanCrash}
-use Rattle.rq_core.proofs.HalfMade.{LeftBehind, devices_after}
+use Rattle.rq_core.specs.World.{World, IsCutBy, IsShut, IsOpen, LeftBehind, Ran, CanCrash}
+use Rattle.rq_core.proofs.HalfMade.{devices_after}
 use Rattle.rq_core.specs.World.World.{Is_shut, Is_open}
 
 not_shut : (failed : _) → phase_of failed ≡ Shut → ⊥
@@ -78,6 +83,73 @@ caused e (reply.Finished outcome.Closed) s h = tt
 caused e (reply.Finished outcome.Undone) s h = tt
 caused e _ s h = tt
 
+-- ---- sizes
+
+-- the model's size of a store, wherever its history has led
+pub size_is : (z : Sizes) (h : List Entry) → size_of (sizes_at z h) ≡ size_at (size_of z) h
+size_is z [] = refl
+size_is z (Grew pages ∷ h) = ap (λ (y : Size). record y { clients = 15 * pages }) (size_is z h)
+size_is z (_ ∷ h) = size_is z h
+
+-- a call leaves them
+sizes_stay : (z : Sizes) (e : Entry) → is_break e ≡ false → sizes_by e z ≡ z
+sizes_stay z (Grew pages) b = absurd (true≢false b)
+sizes_stay z _ b = refl
+
+-- ---- where a history ends
+
+-- what the end of a history asks of a store that stands there, whether it runs or has failed
+pub record StandsAt (z : Sizes) (h : List Entry) (s : State) : Type 0 where
+  pub legal : IsLegal (size_of z) h
+  pub sizes : s.sizes ≡ sizes_at z h
+  pub range : IsInRange s.sizes
+  pub committed : committed_of s.records ≡ (ledger h).committed
+  pub records : length s.records ≡ (ledger h).records
+  pub incarnation : s.incarnation ≡ (ledger h).incarnation
+  pub forced : s.forced ≡ (ledger h).forced
+  pub open_ones : open_ones_of s.ends s.rows ≡ (ledger h).open_ones
+  pub begun : incarnation_of s.records ≡ s.incarnation
+  pub rules : KeepsRules s.records
+
+pub stands_at : (z : Sizes) (h : List Entry) (s : State) → IsLegal (size_of z) h → s.sizes ≡ sizes_at z h → ledger_of s ≡ ledger h → IsSound s → StandsAt z h s
+stands_at z h s legal sizes at sound = record {
+  legal = legal;
+  sizes = sizes;
+  range = sound.range;
+  committed = ap (λ (k : Ledger). k.committed) at;
+  records = ap (λ (k : Ledger). k.records) at;
+  incarnation = ap (λ (k : Ledger). k.incarnation) at;
+  forced = ap (λ (k : Ledger). k.forced) at;
+  open_ones = ap (λ (k : Ledger). k.open_ones) at;
+  begun = sound.incarnation;
+  rules = sound.log.rules;
+}
+
+-- with tag pages that it could get
+with_range : (n : ℕ) (z : Sizes) → n ≤ 1024 → IsInRange z → IsInRange (with_tags n z)
+with_range n z most r = record { directory_low = r.directory_low; directory_high = r.directory_high; cells_low = r.cells_low; cells_high = r.cells_high; tags_high = most }
+
+grown_stands : (z : Sizes) (h : List Entry) (s : State) (n : ℕ) → StandsAt z h s → ((ledger h).phase ≡ Shut → ⊥) → s.rows ≡ [] → MayGetTags n s → StandsAt z (Grew n ∷ h) (record s { sizes = with_tags n s.sizes })
+grown_stands z h s n k not_closed none may = record {
+  legal = (
+    record {
+      tags = subst (λ y. bad_tags y n ≡ false) (ap size_of k.sizes ∙ size_is z h) may;
+      none_open = sym k.open_ones ∙ ap (open_ones_of s.ends) none;
+      not_shut = not_closed;
+    },
+    k.legal,
+  );
+  sizes = ap (with_tags n) k.sizes;
+  range = with_range n s.sizes (may_get s.sizes n may).2 k.range;
+  committed = k.committed;
+  records = k.records;
+  incarnation = k.incarnation;
+  forced = k.forced;
+  open_ones = k.open_ones;
+  begun = k.begun;
+  rules = k.rules;
+}
+
 module _ {P L : Type 0} (p : page_device.Ghosts P) (l : log_device.Ghosts L) (honest_p : (d : P) → p.honest d) (honest_l : (d : L) → l.honest d) (z : Sizes) where
   abbrev Ran_to : Course → World P L → Type 0
   Ran_to course w = Ran p l z course w
@@ -89,98 +161,151 @@ module _ {P L : Type 0} (p : page_device.Ghosts P) (l : log_device.Ghosts L) (ho
       let o : IsOpen p l z ran.history old = ran.stands in
       let honest : AreHonest p l new = (honest_p new.pages, honest_l new.log) in
       let s = a.steps honest o.past o.long o.sound in
+      let same : sizes_at z (s.entry ∷ ran.history) ≡ sizes_at z ran.history = sizes_stay (sizes_at z ran.history) s.entry (never_break (call_of e) (gave r) s.entry s.says) in
+      let there : Legal (size_of (sizes_at z ran.history)) (ledger_of (on o.past old.state)) s.entry = subst (λ y. Legal (size_of y) (ledger_of (on o.past old.state)) s.entry) o.sizes s.legal in
       record {
         history = s.entry ∷ ran.history;
         tells = (ran.history, ran.tells, subst (λ c. AddsCall c (gave r) ran.history (s.entry ∷ ran.history)) (sym is) (s.entry, s.says, subst (λ l. IsCaused (any_busy l.open_ones) (call_of e) (gave r)) o.ledger (caused e r (on o.past old.state) (a.cause honest o.past o.long o.sound)), refl));
-        legal = (subst (λ b. Legal (size_of z) b s.entry) o.ledger (subst (λ y. Legal (size_of y) (ledger_of (on o.past old.state)) s.entry) o.sizes s.legal), ran.legal);
+        legal = (subst (λ b. Legal (size_at (size_of z) ran.history) b s.entry) o.ledger (subst (λ y. Legal y (ledger_of (on o.past old.state)) s.entry) (size_is z ran.history) there), ran.legal);
         stands = record {
-          sizes = a.sizes ∙ o.sizes;
+          sizes = a.sizes ∙ o.sizes ∙ sym same;
           past = o.past;
           long = o.long ∙ ap (λ (u : List Record). length u) (sym a.unknown);
           ledger = s.after ∙ ap (after s.entry) o.ledger;
           sound = s.sound;
-          devices = devices_after p l z now_p now_l o.past old new e r a honest o.long o.sound o.devices;
+          devices = devices_after p l z now_p now_l ran.history o.past old new s.entry e r s.says a honest o.long o.sound o.devices;
         };
         counted = tt;
       }
 
   -- whatever a crash leaves of a store that stands where a history ends may end the history
-  module _ (h : List Entry) (s : State) (legal : IsLegal (size_of z) h) (sizes : s.sizes ≡ z) (at : ledger_of s ≡ ledger h) (sound : IsSound s) where
+  module _ (h : List Entry) (s : State) (k : StandsAt z h s) where
     abbrev Ends : Images → List ℕ → Type 0
-    Ends images bytes = (now : List Record) × IsStore z now images bytes × EndsInCrash (size_of z) h now
+    Ends images bytes = (now : List Record) × IsStore (sizes_at z h) now images bytes × EndsInCrash (size_of z) h now
 
     ties : Ties (ledger h) s.records
     ties =
-        let i : s.incarnation ≡ (ledger h).incarnation = ap (λ (k : Ledger). k.incarnation) at in
-        let j = sound.incarnation in
-        record { committed = ap (λ (k : Ledger). k.committed) (sym at); records = ap (λ (k : Ledger). k.records) (sym at); incarnation = omega (arith, i, j) }
+        let i = k.incarnation in
+        let j = k.begun in
+        record { committed = sym k.committed; records = sym k.records; incarnation = omega (arith, i, j) }
 
-    range : IsInRange z
-    range = subst IsInRange sizes sound.range
+    range : IsInRange (sizes_at z h)
+    range = subst IsInRange k.sizes k.range
 
-    cut_ends : CrashGoesOn (size_of z) → (images : Images) (bytes : List ℕ) → IsCut s images bytes → Ends images bytes
-    cut_ends law images bytes c =
+    cut_told : CrashGoesOn (size_of z) → (images : Images) (bytes : List ℕ) (c : IsCut s images bytes) → (e : Ends images bytes) × (e.0 ≡ drop c.lost s.records)
+    cut_told law images bytes c =
         let kept = drop c.lost s.records in
         let whole : take c.lost s.records ++ kept ≡ s.records = take-append-drop c.lost s.records in
-        let left : IsLeft z images kept = subst (λ y. IsLeft y images kept) sizes c.store in
+        let left : IsLeft (sizes_at z h) images kept = subst (λ y. IsLeft y images kept) k.sizes c.store in
         let begun = c.incarnation in
-        let i : s.incarnation ≡ (ledger h).incarnation = ap (λ (k : Ledger). k.incarnation) at in
-        let f : s.forced ≡ (ledger h).forced = ap (λ (k : Ledger). k.forced) at in
+        let i = k.incarnation in
+        let f = k.forced in
         let n = length-drop c.lost s.records in
         let m = c.forced in (
-          kept,
-          record { range = range; are_spelled = c.told; is = c.spells; left = left },
-          law h (take c.lost s.records) kept legal (subst (Ties (ledger h)) (sym whole) ties) left.whole.rules (omega (arith, f, n, m)) (omega (arith, i, begun)),
+          (
+            kept,
+            record { range = range; are_spelled = c.told; is = c.spells; left = left },
+            law h (take c.lost s.records) kept k.legal (subst (Ties (ledger h)) (sym whole) ties) left.whole.rules (omega (arith, f, n, m)) (omega (arith, i, begun)),
+          ),
+          refl,
         )
 
     -- the Base that a checkpoint puts in the place of all is left whole
-    base_ends : CheckpointCrashGoesOn (size_of z) → s.rows ≡ [] → (images : Images) (bytes : List ℕ) → IsCut (checkpointed s) images bytes → Ends images bytes
-    base_ends law none images bytes c =
+    base_told : CheckpointCrashGoesOn (size_of z) → s.rows ≡ [] → (images : Images) (bytes : List ℕ) → IsCut (checkpointed s) images bytes → (e : Ends images bytes) × (e.0 ≡ based s.incarnation s.records)
+    base_told law none images bytes c =
         let all : List Record = based s.incarnation s.records in
         let within = c.forced in
         let lost : c.lost ≡ 0 = omega (arith, within) in
-        let same : drop c.lost all ≡ all = ap (λ (k : ℕ). drop k all) lost in
-        let left : IsLeft z images all = subst (IsLeft z images) same (subst (λ y. IsLeft y images (drop c.lost all)) sizes c.store) in
-        let none_left : (ledger h).open_ones ≡ [] = ap (λ (k : Ledger). k.open_ones) (sym at) ∙ ap (open_ones_of s.ends) none in
-        let ends : EndsInCrash (size_of z) h (based (incarnation_of s.records) s.records) = law h s.records legal ties sound.log.rules none_left in (
-          all,
-          record { range = range; are_spelled = subst AreSpelled same c.told; is = subst (λ (r : List Record). EndsWith r bytes) same c.spells; left = left },
-          subst (λ (i : ℕ). EndsInCrash (size_of z) h (based i s.records)) sound.incarnation ends,
+        let same : drop c.lost all ≡ all = ap (λ (n : ℕ). drop n all) lost in
+        let left : IsLeft (sizes_at z h) images all = subst (IsLeft (sizes_at z h) images) same (subst (λ y. IsLeft y images (drop c.lost all)) k.sizes c.store) in
+        let none_left : (ledger h).open_ones ≡ [] = sym k.open_ones ∙ ap (open_ones_of s.ends) none in
+        let ends : EndsInCrash (size_of z) h (based (incarnation_of s.records) s.records) = law h s.records k.legal ties k.rules none_left in (
+          (
+            all,
+            record { range = range; are_spelled = subst AreSpelled same c.told; is = subst (λ (rs : List Record). EndsWith rs bytes) same c.spells; left = left },
+            subst (λ (i : ℕ). EndsInCrash (size_of z) h (based i s.records)) k.begun ends,
+          ),
+          refl,
         )
 
-    pub leaves_open : CrashGoesOn (size_of z) → CheckpointCrashGoesOn (size_of z) → (pages : P) (log : L) → LeftBehind p l s pages log → LeavesStores p l z h pages log
-    leaves_open law half pages log (inl cut) = λ images bytes a b. cut_ends law images bytes (cut images bytes a b)
-    leaves_open law half pages log (inr base) = λ images bytes a b. ⊎_elim (cut_ends law images bytes) (base_ends half base.0 images bytes) (base.1 images bytes a b)
+    -- where all records are forced none is lost
+    abbrev Ends_whole : Images → List ℕ → Type 0
+    Ends_whole images bytes = (e : Ends images bytes) × (length s.records ≤ length e.0)
+
+    either_ends : CrashGoesOn (size_of z) → CheckpointCrashGoesOn (size_of z) → s.rows ≡ [] → (images : Images) (bytes : List ℕ) → ((s.forced ≡ length s.records) × IsCut s images bytes) ⊎ IsCut (checkpointed s) images bytes → Ends_whole images bytes
+    either_ends law half none images bytes (inl c) =
+        let all = c.0 in
+        let within = c.1.forced in
+        let left = length-drop c.1.lost s.records in
+        let e = cut_told law images bytes c.1 in
+        let now = ap (λ (rs : List Record). length rs) e.1 in
+        (e.0, omega (arith, all, within, left, now))
+    either_ends law half none images bytes (inr c) =
+        let e = base_told half none images bytes c in
+        let now = ap (λ (rs : List Record). length rs) e.1 in
+        (e.0, omega (arith, now))
+
+  -- by whether tag pages are left that it had not
+  module _ (law : CrashGoesOn (size_of z)) (half : CheckpointCrashGoesOn (size_of z)) (h : List Entry) (s : State) (k : StandsAt z h s) (not_closed : (ledger h).phase ≡ Shut → ⊥) where
+    ends_grown : (n : ℕ) (images : Images) (bytes : List ℕ) (c : IsCutBy (Some n) s images bytes) → Ends_whole (Grew n ∷ h) (record s { sizes = with_tags n s.sizes }) (grown_stands z h s n k not_closed c.0 c.1) images bytes
+    ends_grown n images bytes c = either_ends (Grew n ∷ h) (record s { sizes = with_tags n s.sizes }) (grown_stands z h s n k not_closed c.0 c.1) law half c.0 images bytes c.2
+
+    ends_by : (tags : Option ℕ) (images : Images) (bytes : List ℕ) → IsCutBy tags s images bytes
+        → (e : (now : List Record) × IsStore (sizes_at z (grown tags h)) now images bytes × EndsInCrash (size_of z) (grown tags h) now) × LosesNone tags (ledger h) (length e.0)
+    ends_by None images bytes (inl c) = ((cut_told h s k law images bytes c).0, tt)
+    ends_by None images bytes (inr c) = ((base_told h s k half c.0 images bytes c.1).0, tt)
+    ends_by (Some n) images bytes c =
+        let count = k.records in
+        let e = ends_grown n images bytes c in
+        let more = e.1 in
+        (e.0, omega (arith, count, more))
+
+    pub leaves_open : (g : Growth) (pages : P) (log : L) → LeftBehind p l g s pages log → LeavesStores p l z g h pages log
+    leaves_open g pages log left images bytes a b =
+        let c = left images bytes a b in
+        let e = ends_by c.0 images bytes c.2 in
+        record { tags = c.0; left = c.1; now = e.0.0; loses_none = e.1; store = e.0.1; ends = e.0.2 }
 
   -- and so may whatever a crash leaves of one that is shut
-  pub leaves_shut : (law : ShutCrashGoesOn (size_of z)) (h : List Entry) (pages : P) (log : L) → IsLegal (size_of z) h → IsShut p l z h pages log → LeavesStores p l z h pages log
+  pub leaves_shut : (law : ShutCrashGoesOn (size_of z)) (h : List Entry) (pages : P) (log : L) → IsLegal (size_of z) h → IsShut p l z h pages log → LeavesStores p l z (growth h) h pages log
   leaves_shut law h pages log legal s = λ images bytes a b.
       let x = s.left images bytes a b in
-      let store : IsStore z x.0 images bytes = x.2 in
-      (x.0, store, law h s.older x.0 legal s.phase s.ties x.1 store.left.whole.order store.left.whole.rules)
+      let store : IsStore (sizes_at z h) x.0 images bytes = x.2 in
+      record {
+        tags = None;
+        left = subst (λ g. IsGrownBy g None) (sym s.settled) tt;
+        now = x.0;
+        loses_none = tt;
+        store = store;
+        ends = law h s.older x.0 legal s.phase s.ties x.1 store.left.whole.order store.left.whole.rules;
+      }
 
   module _ (some_p : (d : P) (page : ℕ) → p.may_be d page (p.seen d page)) (some_l : (d : L) → l.may_leave d (l.seen d)) where
     -- a crash, which leaves one image of each page, and one log
     pub crashed : (course : Course) (x : Happening) (pages new_pages : P) (log new_log : L) (count : ℕ) → CanCrash p l z course x pages log → IsCrashed p l pages new_pages log new_log count → Ran_to ((x, Crashed count) ∷ course) (Is_shut new_pages new_log)
     crashed course x pages new_pages log new_log count can c =
-        let h = can.history in
         let seen = l.seen new_log in
-        let pick = can.leaves (p.seen new_pages) seen (c.pages_left (p.seen new_pages) (some_p new_pages)) (c.log_left seen (some_l new_log)) in
-        let now = pick.0 in
-        let store : IsStore z now (p.seen new_pages) seen = pick.1 in
-        let ends : EndsInCrash (size_of z) h now = pick.2 in
+        let pick : EndsHistory p l z (growth_in x (growth can.history)) can.history (p.seen new_pages) seen = can.leaves (p.seen new_pages) seen (c.pages_left (p.seen new_pages) (some_p new_pages)) (c.log_left seen (some_l new_log)) in
+        let h = grown pick.tags can.history in
+        let now = pick.now in
+        let store : IsStore (sizes_at z h) now (p.seen new_pages) seen = pick.store in
+        let ends : EndsInCrash (size_of z) h now = pick.ends in
         let m : count ≡ length now = c.holds now store.are_spelled store.is ∙ marked_length now store.left.whole.based in
-        let e : crash_to now h ≡ Crash_entry (kept_in count (ledger h).committed) count = ap (λ n. Crash_entry (kept_in n (ledger h).committed) n) (sym m) in
-        let only : EachPair p l new_pages new_log (IsStore z now) = λ images bytes a b.
+        let e : crash_to now h ≡ Crash_entry (kept_in count (ledger can.history).committed) count = ap (λ n. Crash_entry (kept_in n (ledger h).committed) n) (sym m) ∙ ap (λ (ds : _). Crash_entry (kept_in count ds) count) (same_commits pick.tags can.history) in
+        let only : EachPair p l new_pages new_log (IsStore (sizes_at z h) now) = λ images bytes a b.
         let pages_are : p.seen new_pages ≡ images = λ i q. (sym (c.pages_only q (images q) (a q))) i in
-        subst (λ bs. IsStore z now images bs) (sym (c.log_only bytes b)) (subst (λ is. IsStore z now is seen) pages_are store) in
+        subst (λ bs. IsStore (sizes_at z h) now images bs) (sym (c.log_only bytes b)) (subst (λ is. IsStore (sizes_at z h) now is seen) pages_are store) in
         record {
           history = crash_to now h ∷ h;
-          tells = (h, can.tells, (can.may, ap (λ (entry : Entry). entry ∷ h) e));
+          tells = (can.history, can.tells, (can.may, pick.tags, pick.left, subst (LosesNone pick.tags (ledger can.history)) (sym m) pick.loses_none, ap (λ (entry : Entry). entry ∷ h) e));
           legal = ends.legal;
-          stands = record { range = can.range; phase = refl; older = now; ties = ends.ties; left = λ images bytes a b. (now, ([], refl, tt), only images bytes a b) };
+          stands = record { range = store.range; phase = refl; settled = refl; older = now; ties = ends.ties; left = λ images bytes a b. (now, ([], refl, tt), only images bytes a b) };
           counted = λ images bytes a b. (now, only images bytes a b, sym m);
         }
+      where
+        same_commits : (tags : Option ℕ) (h : List Entry) → (ledger (grown tags h)).committed ≡ (ledger h).committed
+        same_commits None h = refl
+        same_commits (Some n) h = refl
 
     -- the pages of a store that is shut fit its log, whichever image each of them has
     abbrev with_image : (ℕ → List ℕ) → ℕ → List ℕ → Images
@@ -200,18 +325,18 @@ module _ {P L : Type 0} (p : page_device.Ghosts P) (l : log_device.Ghosts L) (ho
     extends_earlier older log e = ap earlier (sym e.1) ∙ added_earlier e.0 older e.2
 
     -- the log of a store that is shut, as it is read
-    pub record IsReadOf (older : List Record) (pages : P) (log : L) : Type 0 where
+    pub record IsReadOf (y : Sizes) (older : List Record) (pages : P) (log : L) : Type 0 where
       pub read : List Record
       pub told : AreSpelled read
       pub reads : EndsWith read (l.seen log)
       pub more : Extends older read
-      pub left : IsLeft z (p.seen pages) read
-      pub each : EachPair p l pages log (IsSomeStore z (earlier read))
+      pub left : IsLeft y (p.seen pages) read
+      pub each : EachPair p l pages log (IsSomeStore y (earlier read))
 
-    pub read_of : (h : List Entry) (pages : P) (log : L) (s : IsShut p l z h pages log) → IsReadOf s.older pages log
+    pub read_of : (h : List Entry) (pages : P) (log : L) (s : IsShut p l z h pages log) → IsReadOf (sizes_at z h) s.older pages log
     read_of h pages log s =
         let x = s.left (p.seen pages) (l.seen log) (some_p pages) (some_l log) in
-        let store : IsStore z x.0 (p.seen pages) (l.seen log) = x.2 in
+        let store : IsStore (sizes_at z h) x.0 (p.seen pages) (l.seen log) = x.2 in
         record {
           read = x.0;
           told = store.are_spelled;
@@ -226,18 +351,18 @@ module _ {P L : Type 0} (p : page_device.Ghosts P) (l : log_device.Ghosts L) (ho
       one_whole : (a b : List Record) (bytes : List ℕ) → earlier a ≡ earlier b → AreSpelled a → AreSpelled b → EndsWith a bytes → EndsWith b bytes → a ≡ b
       one_whole a b bytes past are told ends end = same_log a b (one a b bytes are told ends end) past
 
-      all_fit : (h : List Entry) (pages : P) (log : L) (s : IsShut p l z h pages log) (r : IsReadOf s.older pages log) → AllFit (p.may_be pages) z r.read
+      all_fit : (h : List Entry) (pages : P) (log : L) (s : IsShut p l z h pages log) (r : IsReadOf (sizes_at z h) s.older pages log) → AllFit (p.may_be pages) (sizes_at z h) r.read
       all_fit h pages log s r = record {
-        superblock = λ c may. subst (IsFormatted z 0) (is_image (p.seen pages) 0 c) (at 0 c may).fits.superblock;
-        headers = λ q c low high may. subst (IsHeaderOf z q) (is_image (p.seen pages) q c) ((at q c may).fits.headers q low high);
-        pages = λ q c low high may. subst (FitsPage z r.read q) (is_image (p.seen pages) q c) ((at q c may).fits.pages q low high);
-        based = λ q c low high may. subst (HoldsBase z r.read q) (is_image (p.seen pages) q c) ((at q c may).based q low high);
+        superblock = λ c may. subst (IsFormatted (sizes_at z h) 0) (is_image (p.seen pages) 0 c) (at 0 c may).fits.superblock;
+        headers = λ q c low high may. subst (IsHeaderOf (sizes_at z h) q) (is_image (p.seen pages) q c) ((at q c may).fits.headers q low high);
+        pages = λ q c low high may. subst (FitsPage (sizes_at z h) r.read q) (is_image (p.seen pages) q c) ((at q c may).fits.pages q low high);
+        based = λ q c low high may. subst (HoldsBase (sizes_at z h) r.read q) (is_image (p.seen pages) q c) ((at q c may).based q low high);
       } where
-        at : (q : ℕ) (c : List ℕ) → p.may_be pages q c → IsLeft z (with_image (p.seen pages) q c) r.read
+        at : (q : ℕ) (c : List ℕ) → p.may_be pages q c → IsLeft (sizes_at z h) (with_image (p.seen pages) q c) r.read
         at q c may =
             let x = r.each (with_image (p.seen pages) q c) (l.seen log) (leaves_image pages q c may) (some_l log) in
-            let store : IsStore z x.0 (with_image (p.seen pages) q c) (l.seen log) = x.1 in
-            subst (IsLeft z (with_image (p.seen pages) q c)) (one_whole x.0 r.read (l.seen log) x.2 store.are_spelled r.told store.is r.reads) store.left
+            let store : IsStore (sizes_at z h) x.0 (with_image (p.seen pages) q c) (l.seen log) = x.1 in
+            subst (IsLeft (sizes_at z h) (with_image (p.seen pages) q c)) (one_whole x.0 r.read (l.seen log) x.2 store.are_spelled r.told store.is r.reads) store.left
 
       -- a restart that opened the store
       pub record IsReopened (h : List Entry) (report : Report) (new : OpenStore P L) : Type 0 where
@@ -251,7 +376,7 @@ module _ {P L : Type 0} (p : page_device.Ghosts P) (l : log_device.Ghosts L) (ho
           let past : List Record = earlier now in
           let whole = r.left.whole in
           let read : IsReadAs l log new.log now = record { honest = honest_l new.log; are_spelled = r.told; reads = r.reads } in
-          let is : new.state.sizes ≡ z = size_once new.state.sizes z (p.seen pages 0) (o.sizes (honest_p new.pages)) (record { range = s.range; formatted = r.left.fits.superblock }) in
+          let is : new.state.sizes ≡ sizes_at z h = size_once new.state.sizes (sizes_at z h) (p.seen pages 0) (o.sizes (honest_p new.pages)) (record { range = s.range; formatted = r.left.fits.superblock }) in
           let on_left : IsLeftOn p new.state.sizes pages new.pages now = record { honest = honest_p new.pages; left = subst (λ y. IsLeft y (p.seen pages) now) (sym is) r.left } in
           let over = o.over now read in
           let opened = over.value in
@@ -259,7 +384,7 @@ module _ {P L : Type 0} (p : page_device.Ghosts P) (l : log_device.Ghosts L) (ho
           let rolled_back = drop 1 new.state.records in
           let all = rebased past rolled_back in
           let is_past : IsPast past rolled_back = (mended_added past (marked now) rolled_back opened.0).past (past_of now r.told) in
-          let from : IsRecoveredFrom z now all = recovered_from z now all whole (subst (λ y. IsRecovered y now all) is back.recovered) in
+          let from : IsRecoveredFrom (sizes_at z h) now all = recovered_from (sizes_at z h) now all whole (subst (λ y. IsRecovered y now all) is back.recovered) in
           let law = goes h s.older all legal s.phase s.ties (extends_join s.older now all r.more from.extends) from.whole.order in
           let content : (ledger h).committed ≡ committed_of now = ap (λ (k : Ledger). k.committed) (sym law.ledger) ∙ from.committed in
           let entry : ledger_of (on past new.state) ≡ after (Restarted_entry report.incarnation report.records) (ledger h) = back.entry (ledger h) content in
@@ -274,41 +399,42 @@ module _ {P L : Type 0} (p : page_device.Ghosts P) (l : log_device.Ghosts L) (ho
               long = opened_earlier now new.state opened r.told whole.based;
               ledger = entry;
               sound = back.sound;
-              devices = inl (record { untried = o.untried; fit = over.fit whole.based (subst (λ y. AllFit (p.may_be pages) y now) (sym is) (all_fit h pages log s r)) });
+              devices = inl (record { untried = o.untried; settled = s.settled; fit = over.fit whole.based (subst (λ y. AllFit (p.may_be pages) y now) (sym is) (all_fit h pages log s r)) });
             };
           }
 
       -- a restart that was refused
-      pub stays_shut : (h : List Entry) (pages new_pages : P) (log new_log : L) (s : IsShut p l z h pages log) (r : IsReadOf s.older pages log) → EachPair p l new_pages new_log (IsLeftOrGoesOn l log z r.read) → IsShut p l z h new_pages new_log
+      pub stays_shut : (h : List Entry) (pages new_pages : P) (log new_log : L) (s : IsShut p l z h pages log) (r : IsReadOf (sizes_at z h) s.older pages log) → EachPair p l new_pages new_log (IsLeftOrGoesOn l log (sizes_at z h) r.read) → IsShut p l z h new_pages new_log
       stays_shut h pages new_pages log new_log s r leaves =
           record {
             range = s.range;
             phase = s.phase;
+            settled = s.settled;
             older = s.older;
             ties = s.ties;
             left = λ images bytes a b.
                 let x = leaves images bytes a b in
-                let store : IsStore z x.0 images bytes = x.1 in
+                let store : IsStore (sizes_at z h) x.0 images bytes = x.1 in
                 (x.0, over images bytes x.0 store x.2 x.3, store);
           } where
-            over : (images : Images) (bytes : List ℕ) (now : List Record) → IsStore z now images bytes → earlier now ≡ earlier r.read → l.may_leave log bytes ⊎ IsGoneOnWith r.read (l.seen log) now bytes → Extends s.older now
+            over : (images : Images) (bytes : List ℕ) (now : List Record) → IsStore (sizes_at z h) now images bytes → earlier now ≡ earlier r.read → l.may_leave log bytes ⊎ IsGoneOnWith r.read (l.seen log) now bytes → Extends s.older now
             over images bytes now store past (inl was) =
                 let y = s.left (p.seen pages) bytes (some_p pages) was in
-                let there : IsStore z y.0 (p.seen pages) bytes = y.2 in
+                let there : IsStore (sizes_at z h) y.0 (p.seen pages) bytes = y.2 in
                 let same = past ∙ extends_earlier s.older r.read r.more ∙ sym (extends_earlier s.older y.0 y.1) in
                 subst (Extends s.older) (sym (one_whole now y.0 bytes same store.are_spelled there.are_spelled store.is there.is)) y.1
             over images bytes now store past (inr on) = extends_join s.older r.read now r.more on.more
 
   -- the headline, where an open store is given up, and where one is shut
   pub headline : (fifo : (h : List Entry) → IsLegal (size_of z) h → FifoThroughout h) (stay : AcknowledgedStay (size_of z)) (course : Course) (h : List Entry) (pages : P) (log : L) → Tells course h → IsLegal (size_of z) h
-      → LeavesStores p l z h pages log → LeftLast p l z course pages log → IsHeadline p l z course pages log
+      → LeavesStores p l z (growth h) h pages log → LeftLast p l z h course pages log → IsHeadline p l z course pages log
   headline fifo stay course h pages log tells legal leaves last = record {
     history = h;
     tells = tells;
     legal = legal;
     order = fifo h legal;
     acknowledged = kept h legal;
-    leaves = λ images bytes a b. let w = leaves images bytes a b in (w.0, w.1, w.2, kept (crash_to w.0 h ∷ h) w.2.legal);
+    leaves = λ images bytes a b. let w = leaves images bytes a b in (w, kept (crash_to w.now (grown w.tags h) ∷ grown w.tags h) w.ends.legal);
     left = last;
   } where
     kept : (k : List Entry) → IsLegal (size_of z) k → AcknowledgedAreKept k

@@ -1,19 +1,21 @@
 -- The headline: what a course tells, and what a crash at its end leaves.
-use Rattle.std.specs.Prelude.{◌≡◌, ℕ, List, [], ◌∷◌, ◌++◌, length, true}
+use Rattle.std.specs.Prelude.{◌≡◌, ℕ, List, [], ◌∷◌, ◌++◌, length, true, Option}
 use Rattle.rq_model.specs.declared.record.Record.{Record}
 use Rattle.rq_model.specs.declared.txn.Txn.{Txn}
 use Rattle.rq_model.specs.Vocabulary.{In}
 use Rattle.rq_model.specs.History.{Entry, commits}
-use Rattle.rq_model.specs.History.Entry.{Acknowledged, Committed}
+use Rattle.rq_model.specs.History.Entry.{Acknowledged, Committed, Grew}
+use Rattle.rq_model.specs.Ledger.{ledger}
 use Rattle.rq_model.specs.Legal.{IsLegal}
 use Rattle.rq_model.specs.Promises.{FifoThroughout, EndsInCrash, crash_to}
+use Rattle.rq_disk.specs.Device.{Images}
 use Rattle.rq_disk.specs.declared.device.LogDevice as log_device
 use Rattle.rq_disk.specs.declared.device.PageDevice as page_device
-use Rattle.rq_page.specs.Sizes.{Sizes}
+use Rattle.rq_page.specs.Sizes.{Sizes, with_tags}
 use Rattle.rq_store.specs.State.{size_of}
 use Rattle.rq_engine.specs.Devices.{EachPair}
 use Rattle.rq_restart.specs.Underway.{IsStore}
-use Rattle.rq_core.specs.Happenings.{Answer, Course, Tells}
+use Rattle.rq_core.specs.Happenings.{Answer, Course, Growth, IsGrownBy, LosesNone, Tells, grown, growth}
 use Rattle.rq_core.specs.Happenings.Answer.{Crashed}
 
 -- each commit that was acknowledged by a receipt anywhere in the history is among its commits
@@ -21,30 +23,47 @@ abbrev pub AcknowledgedAreKept : List Entry → Type 0
 AcknowledgedAreKept h = (newer older : List Entry) (t : Txn) (lsn : ℕ) → newer ++ (Acknowledged t lsn true ∷ older) ≡ h
     → In (Committed t lsn) older → In t (commits h)
 
+-- the sizes of a store behind a history, which was formatted with these: a migration gave it tag pages
+abbrev pub sizes_by : Entry → Sizes → Sizes
+sizes_by (Grew pages) z = with_tags pages z
+sizes_by _ z = z
+
+abbrev pub sizes_at : Sizes → List Entry → Sizes
+sizes_at z [] = z
+sizes_at z (e ∷ h) = sizes_by e (sizes_at z h)
+
 module _ {P L : Type 0} (p : page_device.Ghosts P) (l : log_device.Ghosts L) (z : Sizes) where
-  -- Whatever a crash now leaves of both devices is a store, for some records that stood before its Base. The crash that leaves
-  -- it may end the history. The store's content is that of the commits that it keeps.
-  abbrev pub LeavesStores : List Entry → P → L → Type 0
-  LeavesStores h pages log = EachPair p l pages log (λ images bytes. (now : List Record) × IsStore z now images bytes
-      × EndsInCrash (size_of z) h now)
+  -- These are the pages and the log of a store, for some records that stood before its Base. The crash that leaves them may end the
+  -- history, with the tag pages that a migration has given the store.
+  pub record EndsHistory (g : Growth) (h : List Entry) (images : Images) (bytes : List ℕ) : Type 0 where
+    pub tags : Option ℕ
+    pub left : IsGrownBy g tags
+    pub now : List Record
+    pub loses_none : LosesNone tags (ledger h) (length now)
+    pub store : IsStore (sizes_at z (grown tags h)) now images bytes
+    pub ends : EndsInCrash (size_of z) (grown tags h) now
+
+  -- Whatever a crash now leaves of both devices is such a store. Its content is that of the commits that it keeps.
+  abbrev pub LeavesStores : Growth → List Entry → P → L → Type 0
+  LeavesStores g h pages log = EachPair p l pages log (EndsHistory g h)
 
   -- and each commit that was acknowledged is among those that it keeps
   abbrev pub LeavesAcknowledged : List Entry → P → L → Type 0
-  LeavesAcknowledged h pages log = EachPair p l pages log (λ images bytes. (now : List Record)
-      × IsStore z now images bytes × EndsInCrash (size_of z) h now × AcknowledgedAreKept (crash_to now h ∷ h))
+  LeavesAcknowledged h pages log = EachPair p l pages log (λ images bytes. (e : EndsHistory (growth h) h images bytes)
+      × AcknowledgedAreKept (crash_to e.now (grown e.tags h) ∷ grown e.tags h))
 
   -- after a crash that left so many records, whatever a crash now leaves are exactly so many, with those before the Base
-  abbrev pub LeftBy : Answer → P → L → Type 0
-  LeftBy (Crashed n) pages log =
-      EachPair p l pages log (λ images bytes. (now : List Record) × IsStore z now images bytes × (length now ≡ n))
-  LeftBy _ pages log = Unit {0}
+  abbrev pub LeftBy : List Entry → Answer → P → L → Type 0
+  LeftBy h (Crashed n) pages log = EachPair p l pages log (λ images bytes. (now : List Record)
+      × IsStore (sizes_at z h) now images bytes × (length now ≡ n))
+  LeftBy h _ pages log = Unit {0}
 
-  abbrev pub LeftLast : Course → P → L → Type 0
-  LeftLast [] pages log = Unit {0}
-  LeftLast (a ∷ course) pages log = LeftBy a.1 pages log
+  abbrev pub LeftLast : List Entry → Course → P → L → Type 0
+  LeftLast h [] pages log = Unit {0}
+  LeftLast h (a ∷ course) pages log = LeftBy h a.1 pages log
 
-  -- What is so of every course, with both devices as they are at its end. For some choice of the groups that were picked its
-  -- answers tell a history. In it each reply is legal, each crash keeps what it must, and each restart opens what was left. At
+  -- What is so of every course, with both devices as they are at its end. For some choice of the groups that were picked, and of
+  -- whether migrations came through that crashes cut off or devices refused, its answers tell a history. In it each reply is legal, each crash keeps what it must, and each restart opens what was left. At
   -- every place of it what committed transactions took from a sender is a beginning of what they sent for it; an acknowledged
   -- commit stays.
   pub record IsHeadline (course : Course) (pages : P) (log : L) : Type 0 where
@@ -54,4 +73,4 @@ module _ {P L : Type 0} (p : page_device.Ghosts P) (l : log_device.Ghosts L) (z 
     pub order : FifoThroughout history
     pub acknowledged : AcknowledgedAreKept history
     pub leaves : LeavesAcknowledged history pages log
-    pub left : LeftLast course pages log
+    pub left : LeftLast history course pages log

@@ -11,7 +11,8 @@ use Rattle.rq_model.specs.Unended.{lost, unfinished}
 use Rattle.rq_disk.specs.declared.mem_log.MemLog.{MemLog}
 use Rattle.rq_disk.specs.declared.mem_pages.MemPages.{MemPages}
 use Rattle.rq_log.specs.Spelled.{EndsWith}
-use Rattle.rq_page.specs.Sizes.{Sizes}
+use Rattle.rq_page.specs.Formatted.{IsFormatted}
+use Rattle.rq_page.specs.Sizes.{Sizes, IsInRange}
 use Rattle.rq_store.specs.State.{State}
 use Rattle.rq_store.specs.Whole.{IsWhole}
 use Rattle.rq_sound.specs.Latching.{IsLatched}
@@ -31,9 +32,13 @@ abbrev pub Asked : Call → Reply → OpenStore MemPages MemLog → OpenStore Me
 Asked call reply old new = IsAsked mem_pages mem_log (Some call) reply old new
 
 -- Why a restart was refused, by the log that it read. Memory was wanting, a device failed then, or it was refused as LogFull.
--- For LogFull that log is at its greatest length. It is never refused for what stands on its devices.
-pub record IsRefusedOver (z : Sizes) (pages : MemPages) (log : MemLog) (refusal : Refusal) (new_pages : MemPages)
-    (new_log : MemLog) : Type 0 where
+-- For LogFull that log is at its greatest length. It is never refused for what stands on its devices. The sizes are those that its
+-- first page tells.
+pub record IsRefusedOver (pages : MemPages) (log : MemLog) (refusal : Refusal) (new_pages : MemPages) (new_log : MemLog)
+    : Type 0 where
+  pub z : Sizes
+  pub range : IsInRange z
+  pub told : IsFormatted z 0 (mem_pages.seen pages 0)
   pub read : List Record
   pub reads : EndsWith read (mem_log.seen log)
   pub whole : IsWhole z read
@@ -63,7 +68,7 @@ pub record AreRunsJudged : Type 0 where
       → Led z course (Is_open old) → Asked call (Gave_refusal why.Latched) old new → IsLatchedOver old.state call
   pub refused : (z : Sizes) (course : Course) (pages new_pages : MemPages) (log new_log : MemLog) (refusal : Refusal)
       → Led z course (Is_shut pages log) → IsRefused pages log refusal new_pages new_log
-      → IsRefusedOver z pages log refusal new_pages new_log
+      → IsRefusedOver pages log refusal new_pages new_log
   pub reported : (z : Sizes) (course : Course) (pages : MemPages) (log : MemLog) (report : Report)
       (new : OpenStore MemPages MemLog) → Led z course (Is_shut pages log) → IsOpened pages log report new
       → IsReportedOver log report new

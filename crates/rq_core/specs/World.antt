@@ -1,5 +1,5 @@
 -- What is so of a store between two happenings.
-use Rattle.std.specs.Prelude.{◌≡◌, ◌⊎◌, false, true, ℕ, List, []}
+use Rattle.std.specs.Prelude.{◌≡◌, ◌⊎◌, false, true, ℕ, List, [], length, Option, None, Some}
 use Rattle.rq_model.specs.declared.record.Record.{Record}
 use Rattle.rq_model.specs.History.{Entry}
 use Rattle.rq_model.specs.Incarnations.{Extends, Ties}
@@ -10,16 +10,18 @@ use Rattle.rq_disk.specs.Device.{Images}
 use Rattle.rq_disk.specs.declared.device.LogDevice as log_device
 use Rattle.rq_disk.specs.declared.device.PageDevice as page_device
 use Rattle.rq_page.specs.Sizes.{Sizes, IsInRange}
-use Rattle.rq_store.specs.State.{ledger_of, size_of}
+use Rattle.rq_store.specs.State.{State, ledger_of, size_of}
+use Rattle.rq_sound.specs.Calls.{checkpointed}
 use Rattle.rq_sound.specs.Sound.{IsSound}
-use Rattle.rq_engine.specs.Checkpoint.{IsCutOrBased}
-use Rattle.rq_engine.specs.Crash.{AreFit}
+use Rattle.rq_engine.specs.Crash.{AreFit, IsCut}
+use Rattle.rq_engine.specs.Migration.{IsCutGrown, MayGetTags}
 use Rattle.rq_engine.specs.Devices.{EachPair}
 use Rattle.rq_engine.specs.Earlier.{IsEarlier, on, over}
 use Rattle.rq_engine.specs.Opened.{OpenStore}
 use Rattle.rq_restart.specs.Underway.{IsStore}
-use Rattle.rq_core.specs.Headline.{LeavesStores, LeftLast}
-use Rattle.rq_core.specs.Happenings.{Happening, Course, Tells, EndsWithoutCrash, MayCrashIt}
+use Rattle.rq_core.specs.Headline.{LeavesStores, LeftLast, sizes_at}
+use Rattle.rq_core.specs.Happenings.{Happening, Course, Growth, IsGrownBy, Tells, EndsWithoutCrash, MayCrashIt, growth, growth_in}
+use Rattle.rq_core.specs.Happenings.Growth.{Stays}
 
 -- a store is shut, with both devices as it was left, or open
 pub data World (P L : Type 0) : Type 0 where
@@ -30,45 +32,60 @@ pub data World (P L : Type 0) : Type 0 where
 abbrev pub IsOver : Sizes → List Record → Images → List ℕ → Type 0
 IsOver z older images bytes = (now : List Record) × Extends older now × IsStore z now images bytes
 
+-- What a crash leaves of a store, by whether tag pages are left that it had not: a cut of it. Or of one record for all, where no
+-- transaction is open. Or with the tag pages, which it could get: then all its records are left, or one for all.
+abbrev pub IsCutBy : Option ℕ → State → Images → List ℕ → Type 0
+IsCutBy None s images bytes = IsCut s images bytes ⊎ ((s.rows ≡ []) × IsCut (checkpointed s) images bytes)
+IsCutBy (Some n) s images bytes = (s.rows ≡ []) × MayGetTags n s
+    × (((s.forced ≡ length s.records) × IsCutGrown n s images bytes) ⊎ IsCutGrown n (checkpointed s) images bytes)
+
+module _ {P L : Type 0} (p : page_device.Ghosts P) (l : log_device.Ghosts L) where
+  abbrev pub LeftBehind : Growth → State → P → L → Type 0
+  LeftBehind g s pages log = EachPair p l pages log (λ images bytes. (tags : Option ℕ) × IsGrownBy g tags
+      × IsCutBy tags s images bytes)
+
 module _ {P L : Type 0} (p : page_device.Ghosts P) (l : log_device.Ghosts L) (z : Sizes) where
   -- whatever a crash leaves of a store that is shut is a store, over the log that the history tells
   pub record IsShut (h : List Entry) (pages : P) (log : L) : Type 0 where
-    pub range : IsInRange z
+    pub range : IsInRange (sizes_at z h)
     pub phase : (ledger h).phase ≡ Shut
+    -- no migration was called since the crash
+    pub settled : growth h ≡ Stays
     -- the whole log, with what stood before its Base
     pub older : List Record
     pub ties : Ties (ledger h) older
-    pub left : EachPair p l pages log (IsOver z older)
+    pub left : EachPair p l pages log (IsOver (sizes_at z h) older)
 
-  -- its pages fit what is forced, and no checkpoint has failed
-  pub record IsWritten (past : List Record) (engine : OpenStore P L) : Type 0 where
+  -- its pages fit what is forced, and no checkpoint has failed, nor was a migration called
+  pub record IsWritten (h : List Entry) (past : List Record) (engine : OpenStore P L) : Type 0 where
     pub untried : engine.replacing ≡ false
+    pub settled : growth h ≡ Stays
     pub fit : AreFit p (over past engine)
 
-  -- A checkpoint has failed for a device, which stopped the store. Whatever a crash leaves is a cut of it, or of what that was to
-  -- make.
-  pub record IsHalfMade (past : List Record) (engine : OpenStore P L) : Type 0 where
+  -- A checkpoint or a migration has failed for a device, which stopped the store, or a migration has stopped it. Whatever a crash
+  -- leaves is a cut of it, or of what that was to make.
+  pub record IsHalfMade (h : List Entry) (past : List Record) (engine : OpenStore P L) : Type 0 where
     pub failed : engine.state.failed ≡ true
     pub none_open : engine.state.rows ≡ []
-    pub leaves : EachPair p l engine.pages engine.log (IsCutOrBased (on past engine.state))
+    pub leaves : LeftBehind p l (growth h) (on past engine.state) engine.pages engine.log
 
   -- an open store, with the records that stood before its Base, goes back to a legal log, and stands where the history ends
   pub record IsOpen (h : List Entry) (engine : OpenStore P L) : Type 0 where
-    pub sizes : engine.state.sizes ≡ z
+    pub sizes : engine.state.sizes ≡ sizes_at z h
     pub past : List Record
     pub long : IsEarlier past engine.state
     pub ledger : ledger_of (on past engine.state) ≡ ledger h
     pub sound : IsSound (on past engine.state)
-    pub devices : IsWritten past engine ⊎ IsHalfMade past engine
+    pub devices : IsWritten h past engine ⊎ IsHalfMade h past engine
 
   abbrev pub Stands : List Entry → World P L → Type 0
   Stands h (Is_shut pages log) = IsShut h pages log
   Stands h (Is_open engine) = IsOpen h engine
 
   -- where the last happening was a crash, its records are those that are left; and no store is open then
-  abbrev pub IsCounted : Course → World P L → Type 0
-  IsCounted course (Is_shut pages log) = LeftLast p l z course pages log
-  IsCounted course (Is_open engine) = EndsWithoutCrash course
+  abbrev pub IsCounted : List Entry → Course → World P L → Type 0
+  IsCounted h course (Is_shut pages log) = LeftLast p l z h course pages log
+  IsCounted h course (Is_open engine) = EndsWithoutCrash course
 
   -- For some choice of the groups that were picked the course tells a legal history, and the world stands where it
   -- ends.
@@ -77,13 +94,12 @@ module _ {P L : Type 0} (p : page_device.Ghosts P) (l : log_device.Ghosts L) (z 
     pub tells : Tells course history
     pub legal : IsLegal (size_of z) history
     pub stands : Stands history world
-    pub counted : IsCounted course world
+    pub counted : IsCounted history course world
 
   -- The course tells a legal history, which this happening may end with a crash of both devices, whatever that leaves.
   pub record CanCrash (course : Course) (x : Happening) (pages : P) (log : L) : Type 0 where
-    pub range : IsInRange z
     pub history : List Entry
     pub tells : Tells course history
     pub legal : IsLegal (size_of z) history
     pub may : MayCrashIt x (ledger history).phase
-    pub leaves : LeavesStores p l z history pages log
+    pub leaves : LeavesStores p l z (growth_in x (growth history)) history pages log

@@ -64,15 +64,16 @@ enum WorldState<B: Level> {
 }
 
 impl World {
-    /// A formatted store with these pages, over devices in memory. It is not open.
+    /// A formatted store with these pages, over devices in memory, which have room for so many pages more. It is not open.
     ///
     /// # Errors
     /// Where memory is wanting.
-    pub fn new(alloc: Global, layout: Layout) -> Result<World, AllocError>
+    pub fn new(alloc: Global, layout: Layout, room: u32) -> Result<World, AllocError>
         ensures { IfOk result (λ w. w ≡ layout) }
     {
         let switch = Switch::new(alloc)?;
-        let mut pages = MemPages::zeroed(alloc, layout.pages(), switch.share()?)?;
+        let count = layout.pages().saturating_add(room);
+        let mut pages = MemPages::zeroed(alloc, count, switch.share()?)?;
         let log = MemLog::new(alloc, Vec::new(alloc), switch.share()?);
         match format(&mut pages, &layout) {
             Ok(()) => Ok(World {

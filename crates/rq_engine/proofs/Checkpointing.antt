@@ -32,6 +32,7 @@ use Rattle.rq_model.proofs.Rises.{kept_less}
 use Rattle.rq_page.specs.Pages.{lsn_of}
 use Rattle.rq_page.specs.Sizes.{Sizes, page_count}
 use Rattle.rq_disk.specs.Device.{Images, Leaves, Only}
+use Rattle.rq_disk.specs.Memory.{if_no}
 use Rattle.rq_disk.specs.declared.device.LogDevice as log_device
 use Rattle.rq_disk.specs.declared.device.PageDevice as page_device
 use Rattle.rq_log.specs.Crash.{LeavesOnly}
@@ -101,6 +102,18 @@ module _ {P L : Type 0} (p : page_device.Ghosts P) (l : log_device.Ghosts L) whe
       let one = first none (falls h) e long k fit in
       let two = second (tried ∙ none) h e (subst (IsEarlier e) (sym same) long) (subst (λ (s : State). IsSound (on e s)) (sym same) k) one.fit in
       record { fit = two.fit; crash = path_join p l one.crash (subst (λ (s : State). Path p l (IsCut (on e s)) mid.pages mid.log new.pages new.log) same two.crash) }
+
+  -- the same behind a force
+  pub forced_join : (old mid new : OpenStore P L) (n : ℕ) → mid.state ≡ record old.state { forced = n } → old.state.forced ≤ n → mid.replacing ≡ old.replacing → (AreHonest p l new → AreHonest p l mid)
+      → ((e : List Record) → IsEarlier e old.state → IsSound (on e old.state) → IsSound (on e mid.state)) → KeepsFit p l old mid → KeepsFit p l mid new → KeepsFit p l old new
+  forced_join old mid new n same more tried falls sound first second none h e long k fit =
+      let one = first none (falls h) e long k fit in
+      let two = second (tried ∙ none) h e (subst (IsEarlier e) (sym same) long) (sound e long k) one.fit in
+      let crash : Path p l (IsCut (record (on e old.state) { forced = n })) mid.pages mid.log new.pages new.log = subst (λ (s : State). Path p l (IsCut (on e s)) mid.pages mid.log new.pages new.log) same two.crash in
+      record {
+        fit = two.fit;
+        crash = path_join p l one.crash (path_weaker p l (IsCut (record (on e old.state) { forced = n })) (IsCut (on e old.state)) (λ images bytes c. cut_forced (on e old.state) n old.state.failed images bytes more c) crash);
+      }
 
   -- or that only force records
   pub either_join : (old mid new : OpenStore P L) (n : ℕ) → mid.state ≡ record old.state { forced = n } → old.state.forced ≤ n → mid.replacing ≡ old.replacing → (AreHonest p l new → AreHonest p l mid)
@@ -216,7 +229,7 @@ module _ {P L : Type 0} (p : page_device.Ghosts P) (l : log_device.Ghosts L) (ol
 -- ---- why a checkpoint is refused
 
 -- an open transaction has its entry
-some_open : (ends : HeldEnds) (rows : List Row) → rows ≢ [] → is_some (first (open_ones_of ends rows)) ≡ true
+pub some_open : (ends : HeldEnds) (rows : List Row) → rows ≢ [] → is_some (first (open_ones_of ends rows)) ≡ true
 some_open ends [] some = absurd (some refl)
 some_open ends (r ∷ rows) some = refl
 
@@ -224,7 +237,7 @@ pub none_open : (ends : HeldEnds) (rows : List Row) → rows ≡ [] → is_some 
 none_open ends rows none = ap (λ (rs : List Row). is_some (first (open_ones_of ends rs))) none
 
 -- no page of a sound store is ahead of its log
-none_beyond : {P L : Type 0} (old : OpenStore P L) (e : List Record) → IsEarlier e old.state → IsSound (on e old.state) → HasChangeBeyond (pooled old) (length old.state.records) → ⊥
+pub none_beyond : {P L : Type 0} (old : OpenStore P L) (e : List Record) → IsEarlier e old.state → IsSound (on e old.state) → HasChangeBeyond (pooled old) (length old.state.records) → ⊥
 none_beyond old e long k beyond =
     let within = (k.fits.pages beyond.0 beyond.1 beyond.2.of_store).within in
     let more = beyond.3 in
@@ -329,6 +342,11 @@ module _ {P L : Type 0} (p : page_device.Ghosts P) (l : log_device.Ghosts L) (fi
   pub page_counts_none : (w : Written) → DeviceAfter p page (image_at old.state.images page) old.pages new.pages (Ok w) → p.faults new.pages ≡ p.faults old.pages
   page_counts_none out.Done after = after.2
   page_counts_none out.Nothing after = ap p.faults after
+
+-- and leaves what other pages read as
+pub page_others : {P L : Type 0} (p : page_device.Ghosts P) (old new : OpenStore P L) (page : ℕ) (w : Written) → DeviceAfter p page (image_at old.state.images page) old.pages new.pages (Ok w) → (q : ℕ) → (q ≢ page) → p.seen new.pages q ≡ p.seen old.pages q
+page_others p old new page out.Done after q other = after.0 q ∙ if_no q page (image_at old.state.images page) (p.seen old.pages q) other
+page_others p old new page out.Nothing after q other = ap (λ (d : _). p.seen d q) after
 
 -- ---- what the log is left as
 

@@ -150,6 +150,25 @@ module _ {P L : Type 0} (p : page_device.Ghosts P) (l : log_device.Ghosts L) (on
         later = w.time.later;
       }
 
+    -- a page behind those of the store is
+    behind : (page : ℕ) (image : List ℕ) → page_count z ≤ page → MayHaveWritten p page image old.pages new.pages → Goes
+    behind page image over w =
+        let was : (q : ℕ) (c : List ℕ) → q < page_count z → p.may_be new.pages q c → p.may_be old.pages q c = λ q c low may. ⊎_elim (λ b. b) (λ e. absurd (let same = e.0 in omega (arith, same, low, over))) (w.crash q c may) in
+        let now : AllFit (p.may_be new.pages) z kept = record {
+          superblock = λ c may. fit.superblock c (was 0 c (omega arith) may);
+          headers = λ q c low high may. fit.headers q c low high (was q c high may);
+          pages = λ q c low high may. fit.pages q c low high (was q c high may);
+          based = λ q c low high may. fit.based q c low high (was q c high may);
+        } in
+        record {
+          now = now;
+          each = λ images left. ⊎_elim
+              (λ before. are_left (p.may_be old.pages) z kept images fit (only_now old.pages images before))
+              (λ since. are_left (p.may_be new.pages) z kept images now since)
+              (w.time.nothing_else (p.moment old.pages) images (omega arith) left);
+          later = w.time.later;
+        }
+
     -- the pages are made durable
     synced : MayHaveSynced p old.pages new.pages → Goes
     synced w = record {
@@ -173,6 +192,7 @@ module _ {P L : Type 0} (p : page_device.Ghosts P) (l : log_device.Ghosts L) (on
     goes : (e : Event) (r : Reply) → IsNoCheckpoint e → WritesSay old e r → PagesSay p old new e r → Goes
     goes (event.WritePage page) r other when say = goes_out page (written_by r) when say
     goes event.Checkpoint r other when say = absurd other
+    goes (event.Migrate pages) r other when say = absurd other
     goes _ r other when say = stays say
 
     pub fit_kept : (e : Event) (r : Reply) → IsNoCheckpoint e → (call : Call) (gave : Gave) → new.state.sizes ≡ old.state.sizes → base_lsn new.state.records ≡ base_lsn old.state.records → IsModelStep old.state call gave new.state → WritesSay old e r → PagesSay p old new e r → AreFit p new
@@ -327,6 +347,15 @@ module _ {P L : Type 0} (p : page_device.Ghosts P) (l : log_device.Ghosts L) (on
   page_fit page r when after state log none h x long k fit =
       page_fits p l only_pages only_log (over x old) (over x new) (told_over x long) (leaves_over x long none) page r (when_over x old page r when) after
       (ap (on x) state ∙ after_over x old.state r) log h k fit
+
+  -- a page behind those of the store is handed to its device
+  pub behind_fit : (page : ℕ) (image : List ℕ) → page_count old.state.sizes ≤ page → MayHaveWritten p page image old.pages new.pages → new.state.sizes ≡ old.state.sizes → new.state.records ≡ old.state.records → new.state.forced ≡ old.state.forced → new.log ≡ old.log → KeepsFit p l old new
+  behind_fit page image past w sizes records forced log none h x long k fit =
+      let few = k.forced in
+      let honest : l.honest old.log = subst (λ (d : L). l.honest d) log h.1 in
+      stays_fit p l only_pages (over x old) (over x new) k fit (told_over x long) sizes (ap (rebased x) records) (leaves_over x long none honest)
+      (behind p l only_pages (over x old) (over x new) k fit (told_over x long) page image past w) (omega (arith, forced)) (omega (arith, forced, few))
+      (log_still p l only_pages only_log (over x old) (over x new) (told_over x long) (leaves_over x long none) honest log)
 
   -- its pages are made durable
   pub sync_fit : MayHaveSynced p old.pages new.pages → new.state.sizes ≡ old.state.sizes → new.state.records ≡ old.state.records → new.state.forced ≡ old.state.forced → new.log ≡ old.log → KeepsFit p l old new

@@ -21,6 +21,7 @@ pub mod AbortCalls
 pub mod Causes
 pub mod Crashing
 pub mod Checkpointing
+pub mod Migrating
 pub mod Leaving
 pub mod Listing
 pub mod Applying

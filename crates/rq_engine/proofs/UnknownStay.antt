@@ -18,9 +18,10 @@ use Rattle.rq_engine.specs.Lists.{ListsSay}
 use Rattle.rq_engine.specs.Opened.{OpenStore}
 use Rattle.rq_engine.specs.Says.{call_of}
 
--- only a checkpoint adds a Base
+-- only a checkpoint adds a Base, and a migration
 abbrev pub IsNoCheckpoint : Event → Type 0
 IsNoCheckpoint event.Checkpoint = ⊥
+IsNoCheckpoint (event.Migrate pages) = ⊥
 IsNoCheckpoint _ = Unit {0}
 
 module _ {P L : Type 0} (old new : OpenStore P L) where
@@ -87,12 +88,16 @@ module _ {P L : Type 0} (old new : OpenStore P L) where
   both_stay event.Content (reply.Content gs) other h f = ap under h
   both_stay event.Content (reply.Refused r) other h f = refused event.Content r f
   both_stay event.Checkpoint r other h f = absurd other
+  both_stay (event.Migrate pages) r other h f = absurd other
   both_stay _ _ other h f = absurd h
 
   pub unknown_stay : (e : Event) (r : Reply) → ListsSay old.state e r new.state → RefusalLeaves old e r new → unknown new.state.records ≡ unknown old.state.records
   unknown_stay event.Checkpoint (reply.Checkpointed lsn) h f = ap (λ (s : State). unknown s.records) h.1
   unknown_stay event.Checkpoint (reply.Refused r) h f = ap (λ k. k.0) (refused event.Checkpoint r f)
   unknown_stay event.Checkpoint _ h f = absurd h
+  unknown_stay (event.Migrate pages) (reply.Migrated lsn) h f = ap (λ (s : State). unknown s.records) h.1
+  unknown_stay (event.Migrate pages) (reply.Refused r) h f = ap (λ k. k.0) (refused (event.Migrate pages) r f)
+  unknown_stay (event.Migrate pages) _ h f = absurd h
   unknown_stay e r h f = ap (λ k. k.0) (both_stay e r tt h f)
 
   pub base_stays : (earlier : List Record) (e : Event) (r : Reply) → IsNoCheckpoint e → ListsSay old.state e r new.state → RefusalLeaves old e r new → base_lsn (rebased earlier new.state.records) ≡ base_lsn (rebased earlier old.state.records)

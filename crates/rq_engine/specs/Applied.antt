@@ -29,6 +29,7 @@ use Rattle.rq_engine.specs.Lists.{ListsSay}
 use Rattle.rq_engine.specs.Sends.{TakesLowest}
 use Rattle.rq_engine.specs.Opened.{OpenStore, AreHonest}
 use Rattle.rq_engine.specs.Checkpoint.{HasMadeOneRecord, IsBeginningOrBase, IsCutOrBased, KeepsFitOrBased, NotCheckpointed}
+use Rattle.rq_engine.specs.Migration.{HasMigrated, IsCutOrGrown, KeepsOrGrows, MayGetTags, NotMigrated}
 use Rattle.rq_engine.specs.Crash.{AreFit, RunsThroughCuts}
 use Rattle.rq_engine.specs.Devices.{Path}
 use Rattle.rq_engine.specs.Says.{RefusedForCause, LogSays, PagesSay, WritesSay, call_of, gave, written_by}
@@ -59,11 +60,12 @@ SteppedSay old (reply.Stepped p) new = StepChanges old p new
 SteppedSay old _ new = new.changed ≡ old.changed
 
 -- Which pages count as changed then. A step adds the page that it writes, and a page that is written out is taken off. What a
--- checkpoint takes off is said with that.
+-- checkpoint takes off is said with that. Behind a migration it is not said.
 abbrev pub ChangesSay : {P L : Type 0} → OpenStore P L → Event → Reply → OpenStore P L → Type 0
 ChangesSay old (event.Step sub) r new = SteppedSay old r new
 ChangesSay old (event.WritePage page) r new = new.changed ≡ changed_after old.changed page (written_by r)
 ChangesSay old event.Checkpoint r new = Unit {0}
+ChangesSay old (event.Migrate pages) r new = Unit {0}
 ChangesSay old _ r new = new.changed ≡ old.changed
 
 -- the operation that a send started is under way, and takes the lowest free cell on a page that nobody has latched
@@ -104,46 +106,58 @@ LatchedSay s (event.StartMark txn client tag) r = LatchedReply s (Start_mark txn
 LatchedSay s (event.UndoNext txn) r = LatchedReply s (Undo_next txn) r
 LatchedSay s _ r = Unit {0}
 
--- a checkpoint was made, or why not; any other call is none
+-- a checkpoint was made, or why not; so of a migration; any other call is none
 abbrev pub CheckpointReply : {P L : Type 0} → page_device.Ghosts P → log_device.Ghosts L → OpenStore P L → Reply
     → OpenStore P L → Type 0
 CheckpointReply p l old (reply.Checkpointed lsn) new = HasMadeOneRecord p l old new lsn
 CheckpointReply p l old (reply.Refused r) new = NotCheckpointed p l old new r
 CheckpointReply p l old _ new = ⊥
 
+abbrev pub MigrateReply : {P L : Type 0} → page_device.Ghosts P → log_device.Ghosts L → ℕ → OpenStore P L → Reply
+    → OpenStore P L → Type 0
+MigrateReply p l n old (reply.Migrated lsn) new = MayGetTags n old.state × HasMigrated p l n old new lsn
+MigrateReply p l n old (reply.Refused r) new = NotMigrated p l n old new r
+MigrateReply p l n old _ new = ⊥
+
 abbrev pub CheckpointSays : {P L : Type 0} → page_device.Ghosts P → log_device.Ghosts L → OpenStore P L → Event → Reply
     → OpenStore P L → Type 0
 CheckpointSays p l old event.Checkpoint r new = CheckpointReply p l old r new
+CheckpointSays p l old (event.Migrate pages) r new = MigrateReply p l pages old r new
 CheckpointSays p l old _ r new = Unit {0}
 
--- a checkpoint may fail as it replaces the log
+-- a checkpoint may fail as it replaces the log, and a migration too
 abbrev pub MayHalfReplace : {P L : Type 0} → OpenStore P L → Reply → OpenStore P L → Type 0
 MayHalfReplace old (reply.Refused why.DiskWrite) new = Unit {0}
 MayHalfReplace old _ new = new.replacing ≡ old.replacing
 
 abbrev pub ReplacingSays : {P L : Type 0} → OpenStore P L → Event → Reply → OpenStore P L → Type 0
 ReplacingSays old event.Checkpoint r new = MayHalfReplace old r new
+ReplacingSays old (event.Migrate pages) r new = MayHalfReplace old r new
 ReplacingSays old _ r new = new.replacing ≡ old.replacing
 
 -- what a crash at any moment of the call leaves of the log
 abbrev pub MayLeave : State → Event → List ℕ → Type 0
 MayLeave s event.Checkpoint bytes = IsBeginningOrBase s.records s.forced bytes
+MayLeave s (event.Migrate pages) bytes = IsBeginningOrBase s.records s.forced bytes
 MayLeave s _ bytes = IsBeginning s.records s.forced bytes
 
--- whose pages fit after the call: a store's that a checkpoint did not stop
+-- whose pages fit after the call: a store's that no checkpoint and no migration stopped
 abbrev pub StaysWhole : {P L : Type 0} → Event → OpenStore P L → Type 0
 StaysWhole event.Checkpoint new = new.state.failed ≡ false
+StaysWhole (event.Migrate pages) new = new.state.failed ≡ false
 StaysWhole _ new = Unit {0}
 
 -- what a crash at any moment of the call leaves of both devices
 abbrev pub RunsThrough : {P L : Type 0} → page_device.Ghosts P → log_device.Ghosts L → OpenStore P L → Event
     → OpenStore P L → Type 0
 RunsThrough p l old event.Checkpoint new = Path p l (IsCutOrBased old.state) old.pages old.log new.pages new.log
+RunsThrough p l old (event.Migrate pages) new = Path p l (IsCutOrGrown pages old.state) old.pages old.log new.pages new.log
 RunsThrough p l old _ new = RunsThroughCuts p l old new
 
 abbrev pub KeepsOrBased : {P L : Type 0} → page_device.Ghosts P → log_device.Ghosts L → OpenStore P L → Event
     → OpenStore P L → Type 0
 KeepsOrBased p l old event.Checkpoint new = KeepsFitOrBased p l old new
+KeepsOrBased p l old (event.Migrate pages) new = KeepsOrGrows p l pages old new
 KeepsOrBased p l old _ new = Unit {0}
 
 -- The call was made, and answered so.

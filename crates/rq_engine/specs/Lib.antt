@@ -12,6 +12,7 @@ pub mod Marks
 pub mod Aborts
 pub mod Crash
 pub mod Checkpoint
+pub mod Migration
 pub mod Applied
 pub mod Devices
 pub mod Lists

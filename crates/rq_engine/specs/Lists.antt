@@ -23,7 +23,7 @@ use Rattle.rq_store.specs.State.{State}
 use Rattle.rq_store.specs.Plans.{IsSendPlan, IsTakePlan, WaitsFor, NoneWaits}
 use Rattle.rq_store.specs.Settled.{takes_one}
 use Rattle.rq_store.specs.Steps.{op_end, gave_done}
-use Rattle.rq_sound.specs.Calls.{checkpointed}
+use Rattle.rq_sound.specs.Calls.{checkpointed, migrated}
 use Rattle.rq_engine.specs.Aborts.{IsAborted, IsAborting, IsUndoFinished, UndoSays}
 use Rattle.rq_engine.specs.Closes.{IsClosePlan}
 use Rattle.rq_engine.specs.Marks.{IsMarkPlan}
@@ -244,6 +244,11 @@ AfterCheckpoint old (reply.Checkpointed lsn) new = (lsn ≡ length old.records +
 AfterCheckpoint old (reply.Refused r) new = Unit {0}
 AfterCheckpoint old _ new = ⊥
 
+abbrev pub AfterMigrate : State → Reply → State → Type 0
+AfterMigrate old (reply.Migrated lsn) new = (lsn ≡ length old.records + 1) × (new ≡ migrated old)
+AfterMigrate old (reply.Refused r) new = Unit {0}
+AfterMigrate old _ new = ⊥
+
 abbrev pub AfterWritePage : State → Reply → State → Type 0
 AfterWritePage old (reply.Written w) new = new ≡ old
 AfterWritePage old (reply.Refused r) new = Unit {0}
@@ -282,6 +287,7 @@ ListsSay old (event.Acknowledged number) r new = AfterAcknowledged old number r 
 ListsSay old event.HandOver r new = AfterHandOver old r new
 ListsSay old event.Force r new = AfterForce old r new
 ListsSay old event.Checkpoint r new = AfterCheckpoint old r new
+ListsSay old (event.Migrate pages) r new = AfterMigrate old r new
 ListsSay old (event.WritePage page) r new = AfterWritePage old r new
 ListsSay old (event.LastTag sender) r new = AfterLastTag old sender r new
 ListsSay old (event.ClientTag client) r new = AfterClientTag old client r new

@@ -4,9 +4,9 @@ use Rattle.rq_store.specs.State.{State}
 use Rattle.std.specs.Prelude.{◌≡◌, Bool, true, false, map, Option, Some, None, Result, Ok, Err}
 use Rattle.rq_model.specs.declared.refusal.Refusal.{Refusal}
 use Rattle.rq_model.specs.History.{Call}
-use Rattle.rq_model.specs.History.Call.{Begin as Call_begin, Start_send as Call_start_send, Start_receive as Call_start_receive, Start_receive_from as Call_start_receive_from, Start_close as Call_start_close, Start_mark as Call_start_mark, Write_page as Call_write_page, Step as Call_step, Finish as Call_finish, Commit as Call_commit, Acknowledge as Call_acknowledge, Start_abort as Call_start_abort, Undo_next as Call_undo_next, End_abort as Call_end_abort, Hand_over as Call_hand_over, Force as Call_force, Checkpoint as Call_checkpoint, Last_tag as Call_last_tag, Client_tag as Call_client_tag, Show as Call_show}
+use Rattle.rq_model.specs.History.Call.{Begin as Call_begin, Start_send as Call_start_send, Start_receive as Call_start_receive, Start_receive_from as Call_start_receive_from, Start_close as Call_start_close, Start_mark as Call_start_mark, Write_page as Call_write_page, Step as Call_step, Finish as Call_finish, Commit as Call_commit, Acknowledge as Call_acknowledge, Start_abort as Call_start_abort, Undo_next as Call_undo_next, End_abort as Call_end_abort, Hand_over as Call_hand_over, Force as Call_force, Checkpoint as Call_checkpoint, Migrate as Call_migrate, Last_tag as Call_last_tag, Client_tag as Call_client_tag, Show as Call_show}
 use Rattle.rq_model.specs.Replay.{Number, Reply as Gave}
-use Rattle.rq_model.specs.Replay.Reply.{Gave_nothing_left, Gave_txn, Gave_sub, Gave_lsn, Gave_forced, Gave_checkpoint, Gave_ready, Gave_sent, Gave_message, Gave_closed, Gave_marked, Gave_undone, Gave_handed_over, Gave_aborting, Gave_aborted, Gave_commit, Gave_receipt, Gave_none, Gave_written, Gave_tag, Gave_client_tag, Gave_content, Gave_refusal}
+use Rattle.rq_model.specs.Replay.Reply.{Gave_nothing_left, Gave_txn, Gave_sub, Gave_lsn, Gave_forced, Gave_checkpoint, Gave_migrated, Gave_ready, Gave_sent, Gave_message, Gave_closed, Gave_marked, Gave_undone, Gave_handed_over, Gave_aborting, Gave_aborted, Gave_commit, Gave_receipt, Gave_none, Gave_written, Gave_tag, Gave_client_tag, Gave_content, Gave_refusal}
 use Rattle.rq_content.specs.Read.{group_of}
 use Rattle.rq_model.specs.declared.txn.Sub.{Sub}
 use Rattle.rq_disk.specs.Device.{Only}
@@ -48,6 +48,7 @@ call_of (event.EndAbort txn) = Call_end_abort txn
 call_of event.HandOver = Call_hand_over
 call_of event.Force = Call_force
 call_of event.Checkpoint = Call_checkpoint
+call_of (event.Migrate pages) = Call_migrate pages
 call_of (event.WritePage page) = Call_write_page page
 call_of (event.LastTag sender) = Call_last_tag sender
 call_of (event.ClientTag client) = Call_client_tag client
@@ -92,6 +93,7 @@ gave reply.Aborted = Gave_aborted
 gave reply.HandedOver = Gave_handed_over
 gave (reply.Forced lsn) = Gave_forced lsn
 gave (reply.Checkpointed lsn) = Gave_checkpoint lsn
+gave (reply.Migrated lsn) = Gave_migrated lsn
 gave (reply.Written w) = Gave_written (is_done w)
 gave (reply.LastTag last) = Gave_tag last.sent last.tag
 gave (reply.ClientTag last) = Gave_client_tag last.count last.tag
@@ -128,11 +130,12 @@ ForcedSay g old new (reply.Refused r) = NotWritten g old new r
 ForcedSay g old new _ = HasForced g old new
 
 -- What an event and its reply say of the log's device. It stays as it is, but where records are handed over or forced. What a
--- checkpoint makes of it is said with that.
+-- checkpoint or a migration makes of it is said with that.
 abbrev pub LogSays : {P L : Type 0} → log_device.Ghosts L → OpenStore P L → OpenStore P L → Event → Reply → Type 0
 LogSays g old new event.HandOver r = HandedSay g old new r
 LogSays g old new event.Force r = ForcedSay g old new r
 LogSays g old new event.Checkpoint r = Unit {0}
+LogSays g old new (event.Migrate pages) r = Unit {0}
 LogSays g old new _ r = new.log ≡ old.log
 
 -- the reply to the start of a receive
@@ -153,12 +156,13 @@ written_by (reply.Written w) = Ok w
 written_by (reply.Refused r) = Err r
 written_by _ = Ok Nothing
 
--- What an event and its reply say of the pages' device. It stays as it is, but where a page is written. What a checkpoint makes
--- of it is said with that.
+-- What an event and its reply say of the pages' device. It stays as it is, but where a page is written. What a checkpoint or a
+-- migration makes of it is said with that.
 abbrev pub PagesSay : {P L : Type 0} → page_device.Ghosts P → OpenStore P L → OpenStore P L → Event → Reply → Type 0
 PagesSay g old new (event.WritePage page) r = DeviceAfter g page (image_at old.state.images page) old.pages new.pages
     (written_by r)
 PagesSay g old new event.Checkpoint r = Unit {0}
+PagesSay g old new (event.Migrate pages) r = Unit {0}
 PagesSay g old new _ r = new.pages ≡ old.pages
 
 -- when a page is written, or is not

@@ -55,7 +55,7 @@ impl<P: PageDevice, L: LogDevice, B: Level> Engine<P, L, B> {
     /// Makes the call that an event stands for. A crash may come at any moment of the call, or after it. Where the
     /// store is sound, its pages fit, its devices are honest and no checkpoint has failed, the crash leaves the log's
     /// first records. All forced ones are among them, and the pages that are left fit them. A checkpoint may leave its
-    /// one record instead.
+    /// one record instead, and a migration that with the tag pages.
     pub fn apply(&mut self, event: &Event) -> Reply
         ensures applied { Applied P.PageDevice L.LogDevice self.old event.now result self.new }
         // a reply that memory is wanting for, or that shows the content, leaves all as it was
@@ -97,7 +97,7 @@ impl<P: PageDevice, L: LogDevice, B: Level> Engine<P, L, B> {
         ensures replacing { ReplacingSays self.old event.now result self.new }
         ensures any_moment { self.old.replacing ≡ false → L.honest self.new.log → LeavesOnly L.LogDevice self.old.log self.new.log
             (MayLeave self.old.state event.now) }
-        // Of a checkpoint.
+        // Of a checkpoint, and of a migration.
         ensures checkpoint { CheckpointSays P.PageDevice L.LogDevice self.old event.now result self.new }
         ensures based { KeepsOrBased P.PageDevice L.LogDevice self.old event.now self.new }
     {
@@ -132,6 +132,7 @@ impl<P: PageDevice, L: LogDevice, B: Level> Engine<P, L, B> {
             Event::HandOver => reply!(self.hand_over(), () => Reply::HandedOver),
             Event::Force => reply!(self.force(), lsn => Reply::Forced(lsn)),
             Event::Checkpoint => reply!(self.checkpoint(), lsn => Reply::Checkpointed(lsn)),
+            Event::Migrate(pages) => reply!(self.migrate(*pages), lsn => Reply::Migrated(lsn)),
             Event::WritePage(page) => {
                 reply!(self.write_page(*page), written => Reply::Written(written))
             }

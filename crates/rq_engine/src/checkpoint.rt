@@ -4,6 +4,7 @@ ghost use Rattle.rq_model.specs.History.Call.{Checkpoint};
 ghost use Rattle.rq_model.specs.Replay.Reply.{Gave_checkpoint};
 ghost use Rattle.rq_disk.specs.Device.{Only};
 ghost use Rattle.rq_log.specs.Crash.{LeavesOnly};
+ghost use Rattle.rq_log.specs.Spelled.{IsBeginning};
 ghost use Rattle.rq_page.specs.Sizes.{page_count};
 ghost use Rattle.rq_pool.specs.Pooled.{is_changed};
 ghost use Rattle.rq_pool.specs.Writing.{NoChangeBeyond};
@@ -53,7 +54,7 @@ impl<P: PageDevice, L: LogDevice, B: Level> Engine<P, L, B> {
     }
 
     // The store runs, no transaction is open, the log has room for a record, and no page is ahead of it.
-    fn check_quiet(&self) -> Result<(), Refusal>
+    pub(crate) fn check_quiet(&self) -> Result<(), Refusal>
         ensures ok { OnOk result (MayMakeOneRecord self.now) }
         ensures refused { IfErr result (λ r. NotCheckpointed P.PageDevice L.LogDevice self.now self.now r) }
         ensures failed { (result ≡ Err Refusal.Failed) ↔ (self.now.state.failed ≡ true) }
@@ -84,10 +85,32 @@ impl<P: PageDevice, L: LogDevice, B: Level> Engine<P, L, B> {
         ensures fit { KeepsFitOrBased P.PageDevice L.LogDevice self.old self.new }
     {
         self.shows_kept();
+        self.make_durable()?;
+        self.put_base()
+    }
+
+    // Forces the log, writes out what was changed, and makes the pages durable.
+    pub(crate) fn make_durable(&mut self) -> Result<(), Refusal>
+        requires { MayMakeOneRecord self.old }
+        ensures state { OnOk result (self.new.state ≡ record self.old.state { forced = length self.old.state.records }) }
+        ensures clean { OnOk result ((page : ℕ) → 1 ≤ page → page < page_count self.old.state.sizes
+            → is_changed self.new.changed page ≡ false) }
+        ensures durable { OnOk result ((page : ℕ) → Only (P.seen self.new.pages page) (P.may_be self.new.pages page)) }
+        ensures behind { OnOk result ((page : ℕ) → page_count self.old.state.sizes ≤ page
+            → P.seen self.new.pages page ≡ P.seen self.old.pages page) }
+        ensures refused { IfErr result (λ r. IsStopped self.old.state self.new.state r) }
+        ensures cause { CountsFailure P.PageDevice L.LogDevice self.old self.new result }
+        ensures fewer { HasFewer self.old.changed self.new.changed }
+        ensures replacing { self.new.replacing ≡ self.old.replacing }
+        ensures honest { AreHonest P.PageDevice L.LogDevice self.new → AreHonest P.PageDevice L.LogDevice self.old }
+        ensures any_moment { self.old.replacing ≡ false → L.honest self.new.log → LeavesOnly L.LogDevice self.old.log self.new.log
+            (IsBeginning self.old.state.records self.old.state.forced) }
+        ensures fit { KeepsFit P.PageDevice L.LogDevice self.old self.new }
+    {
+        self.shows_kept();
         self.force()?;
         self.write_all()?;
-        self.sync_pages()?;
-        self.put_base()
+        self.sync_pages()
     }
 
     // Writes out each page that was changed.
@@ -98,6 +121,8 @@ impl<P: PageDevice, L: LogDevice, B: Level> Engine<P, L, B> {
         ensures state { OnOk result (self.new.state ≡ self.old.state) }
         ensures clean { OnOk result ((page : ℕ) → 1 ≤ page → page < page_count self.old.state.sizes
             → is_changed self.new.changed page ≡ false) }
+        ensures behind { OnOk result ((page : ℕ) → page_count self.old.state.sizes ≤ page
+            → P.seen self.new.pages page ≡ P.seen self.old.pages page) }
         ensures refused { IfErr result (λ r. IsStopped self.old.state self.new.state r) }
         ensures cause { CountsFailure P.PageDevice L.LogDevice self.old self.new result }
         ensures fewer { HasFewer self.old.changed self.new.changed }
@@ -119,6 +144,7 @@ impl<P: PageDevice, L: LogDevice, B: Level> Engine<P, L, B> {
         requires running { self.old.state.failed ≡ false }
         ensures state { OnOk result (self.new.state ≡ self.old.state) }
         ensures durable { OnOk result ((page : ℕ) → Only (P.seen self.new.pages page) (P.may_be self.new.pages page)) }
+        ensures seen { P.seen self.new.pages ≡ P.seen self.old.pages }
         ensures refused { IfErr result (λ r. IsStopped self.old.state self.new.state r) }
         ensures cause { CountsFailure P.PageDevice L.LogDevice self.old self.new result }
         ensures changed { self.new.changed ≡ self.old.changed }

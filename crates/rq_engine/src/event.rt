@@ -111,6 +111,7 @@ pub enum Event {
     HandOver,
     Force,
     Checkpoint,
+    Migrate(u32),
     WritePage(u32),
     LastTag(u32),
     ClientTag(u32),
@@ -146,6 +147,8 @@ pub enum Reply {
     Forced(Lsn),
     /// The log is one record, with this LSN.
     Checkpointed(Lsn),
+    /// The store got its tag pages; the log is one record, with this LSN.
+    Migrated(Lsn),
     /// What was done for the page.
     Written(Written),
     /// What the sender's committed sends come to.

@@ -10,6 +10,7 @@ pub mod event;
 mod last;
 mod looking;
 mod marks;
+mod migration;
 mod moves;
 mod operations;
 mod pages;

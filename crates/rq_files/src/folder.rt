@@ -4,6 +4,7 @@ ghost use Rattle.rq_disk.specs.Device.{Only};
 ghost use Rattle.rq_disk.specs.Stored.{first_len};
 
 use crate::fault::{Fault, NotOpened};
+use crate::looking::layout_in;
 use crate::renaming::{FolderLog, InFolder, LogPaths, Renames};
 use rq_disk::{FileContents, FileLog, FilePages, LogDevice, PAGE, PageDevice, Unknown};
 use rq_model::refusal::Refusal;
@@ -90,11 +91,16 @@ pub fn format_folder<R: Files<File = File> + AllocGlobal>(
 /// Opens the files of the store in a folder, each locked for this opening alone, and synced. `S` stands for what they
 /// hold; its value is used up, so that code over any `S` opens one store.
 ///
+/// Where the store has no tag pages, its file of pages is first made long enough for `room` of them, if a store may have so
+/// many. A file that is longer, or too short for its store, stays as it is, and so does any other where `room` is 0.
+///
 /// # Errors
-/// `Open` where a file or its lock cannot be had, `Refused` with `DiskWrite` where it cannot be synced, and with `NoMemory`.
+/// `Open` where a file or its lock cannot be had, `Refused` with `DiskWrite` where it cannot be made longer or synced, and with
+/// `NoMemory`.
 pub fn open_folder<'a, S: FileContents, R: Files<File = File> + AllocGlobal + Renames>(
     rt: &'a R,
     folder: &str,
+    room: u32,
     _held: S,
 ) -> Result<(FilePages<S>, FolderLog<'a, S, R>), NotOpened>
     ensures pages { IfOk result (λ d. ⟦<FilePages<S> as PageDevice>⟧.seen d.0 ≡ S.pages) }
@@ -113,6 +119,9 @@ pub fn open_folder<'a, S: FileContents, R: Files<File = File> + AllocGlobal + Re
     ensures log_failures { IfOk result (λ d. ⟦<FolderLog<'a, S, R> as LogDevice>⟧.faults d.1 ≡ 0) }
 {
     let pages = opened(rt, &path_of(rt, folder, PAGES).map_err(no_memory)?)?;
+    if room > 0 {
+        make_room(&pages, room).map_err(not_synced)?;
+    }
     let pages = FilePages::open(pages).map_err(not_synced)?;
     // behind the lock of the pages: whoever has that one may put another file in the place of the log
     let paths = LogPaths::of(rt, folder).map_err(no_memory)?;
@@ -131,6 +140,22 @@ fn opened<R: Files<File = File>>(rt: &R, path: &PathBuf) -> Result<File, NotOpen
             error,
         }),
     }
+}
+
+// Locks a file of pages, and makes it as long as its store is with so many tag pages, where it has none.
+fn make_room(file: &File, tags: u32) -> io::Result<()> {
+    file.try_lock()?;
+    let Ok(layout) = layout_in(file) else {
+        return Ok(());
+    };
+    let Some(grown) = Layout::new(layout.directory(), layout.cells(), tags) else {
+        return Ok(());
+    };
+    let length = file.metadata()?.len();
+    if layout.tags() == 0 && length_of(&layout) <= length && length < length_of(&grown) {
+        file.set_len(length_of(&grown))?;
+    }
+    Ok(())
 }
 
 // Of a path that could not be made.
@@ -155,7 +180,7 @@ pub(crate) fn open_file<R: Files<File = File>>(
     }
 }
 
-// Why a file that is there was not locked and synced.
+// Why a file that is there was not locked, made longer and synced.
 fn not_synced(error: io::Error) -> NotOpened {
     let fault = if error.kind() == ErrorKind::WouldBlock {
         Fault::Open
@@ -225,10 +250,14 @@ fn format_pages(file: File, layout: &Layout) -> Result<(), Fault> {
     if file.try_lock().is_err() {
         return Err(Fault::Open);
     }
-    let length = u64::from(layout.pages()) * PAGE as u64;
-    file.set_len(length).map_err(write_failed)?;
+    file.set_len(length_of(layout)).map_err(write_failed)?;
     let mut pages = FilePages::<Unknown>::open(file).map_err(write_failed)?;
     format(&mut pages, layout).map_err(Fault::Refused)
+}
+
+/// How many bytes the pages of a store are.
+pub(crate) fn length_of(layout: &Layout) -> u64 {
+    u64::from(layout.pages()) * PAGE as u64
 }
 
 // Makes the names in a folder durable.

@@ -113,6 +113,11 @@ pub fn look_at_layout<R: Files<File = File> + AllocGlobal>(
     let Ok(file) = open_file(rt, &path, OpenOptions::new().read(true)) else {
         return Err(Fault::Open);
     };
+    layout_in(&file)
+}
+
+/// How large the store in a file of pages is, as the first of them tells.
+pub(crate) fn layout_in(file: &File) -> Result<Layout, Fault> {
     let mut first = [0; PAGE_BYTES];
     if file.read_exact_at(&mut first, 0).is_err() {
         return Err(Fault::Refused(Refusal::DiskRead));

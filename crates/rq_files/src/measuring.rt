@@ -1,7 +1,6 @@
 //! How long files are, and how much was read of them.
-use crate::folder::log_path;
+use crate::folder::{length_of, log_path};
 use crate::looking::look_at_layout;
-use rq_disk::PAGE;
 use std::fs::{File, Files};
 use std::io::Read;
 use std::{fs, str};
@@ -34,8 +33,7 @@ impl<R: Files<File = File> + AllocGlobal> Measures for R {
 
     fn store_bytes(&self, folder: &str) -> Option<u64> {
         let layout = look_at_layout(self, folder).ok()?;
-        let pages = u64::from(layout.pages()) * PAGE as u64;
-        pages.checked_add(self.log_bytes(folder)?)
+        length_of(&layout).checked_add(self.log_bytes(folder)?)
     }
 
     fn bytes_read(&self) -> Option<u64> {

@@ -296,6 +296,46 @@ module _ {L : Type 0} (g : Ghosts L) where
       let few = buffered.1 in
       omega (arith, whole, few, all)
 
+  -- where all are forced, some stand on the device
+  some_kept : {total : ℕ} (log : Logged L) (last : ℕ) (buffer : List ℕ) (capacity : ℕ) → Keeps g log last total buffer capacity → log.forced ≡ length log.records → 1 ≤ length log.records → 0 < kept log
+  some_kept log last buffer capacity k all some = let less = k.is_log.based (omega (arith, all, some)) in omega (arith, less)
+
+  -- a Base that the device holds is noted
+  module _ {total : ℕ} (log : Logged L) (last : ℕ) (buffer : List ℕ) (capacity : ℕ) (k : Keeps g log last total buffer capacity) (all : log.forced ≡ length log.records) (i : ℕ) (is : IsInRange (Base (length log.records) i))
+      (idle : length buffer ≡ 0) (reads : g.seen log.device ≡ spelled (based i log.records)) (durable : Only (spelled (based i log.records)) (g.may_leave log.device)) where
+    abbrev noted : Record
+    noted = Base (length log.records) i
+
+    untorn : log.torn_at ≡ None
+    untorn = k.whole (some_kept log last buffer capacity k all (let some : 1 ≤ length log.records = is.0 in some))
+
+    none_buffered : (bytes : List ℕ) → length bytes ≡ 0 → bytes ≡ []
+    none_buffered [] none = refl
+    none_buffered (b ∷ bytes) none = absurd (omega (arith, none))
+
+    pub base_noted : (settled : L) (records : List Record) → records ≡ Base last i ∷ log.records
+        → Keeps g (record { records = records; forced = last + 1; pending = length buffer; reserved = log.reserved; torn_at = log.torn_at; failed = false; replacing = None; device = log.device; settled = settled }) (last + 1) 21 buffer capacity
+    base_noted settled records grown =
+        let count = k.count in
+        let one : last + 1 - length log.records ≤ 1 = omega (arith, count) in
+        subst (λ (rs : List Record). Keeps g (record { records = rs; forced = last + 1; pending = length buffer; reserved = log.reserved; torn_at = log.torn_at; failed = false; replacing = None; device = log.device; settled = settled }) (last + 1) 21 buffer capacity)
+        (sym (grown ∙ ap (λ (n : ℕ). Base n i ∷ log.records) count))
+        (record {
+          is_log = record {
+            spelled = (fits_base (length log.records) i is, tt);
+            order = omega (arith, count);
+            based = λ some. omega (arith, count);
+            leaves = λ h was c left. all_of (noted ∷ []) (last + 1 - length log.records) c one (durable c left);
+            running = λ _. refl;
+            replaced = λ h was j tried. absurd (none_torn j tried);
+          };
+          count = omega (arith, count);
+          total = λ few. sym (length-spelling_base (length log.records) i);
+          room = k.room;
+          whole = λ some. untorn;
+          buffered = λ _. (0, omega (arith, one), λ h. subst (λ (t : Option ℕ). HoldsTo t (noted ∷ []) (g.seen log.device)) (sym untorn) reads, none_buffered buffer idle);
+        })
+
   module _ {total : ℕ} (log : Logged L) (last : ℕ) (buffer : List ℕ) (capacity : ℕ) (k : Keeps g log last total buffer capacity) (running : log.failed ≡ false) (all : log.forced ≡ length log.records)
       (i : ℕ) (is : IsInRange (Base (length log.records) i)) (device : L) (falls : g.honest device → g.honest log.device) (bytes : List ℕ) (spells : bytes ≡ spelling (Base last i)) (crash : Replaced bytes (g.may_leave log.device) (g.may_leave device)) where
     abbrev now : List Record
@@ -311,13 +351,10 @@ module _ {L : Type 0} (g : Ghosts L) where
     empty = buffers.3 ∙ ap (λ (n : ℕ). spelled_all (take n (held log))) none_newer
 
     stand : 0 < kept log
-    stand =
-        let whole = length_standing log.records in
-        let less = k.is_log.based (let some : 1 ≤ length log.records = is.0 in omega (arith, all, some)) in
-        omega (arith, less)
+    stand = some_kept log last buffer capacity k all (let some : 1 ≤ length log.records = is.0 in some)
 
-    untorn : log.torn_at ≡ None
-    untorn = k.whole stand
+    pub none_pending : length buffer ≡ 0
+    none_pending = ap length empty
 
     abbrev base : Record
     base = Base (length log.records) i
@@ -346,29 +383,6 @@ module _ {L : Type 0} (g : Ghosts L) where
         one_call g log.device device (λ c. (c ≡ spelled log.records) ⊎ (c ≡ spelled now)) (g.may_leave log.device) (g.may_leave device) only_now time
         (λ c may. inl (before c may))
         (λ c may. elim (crash c may) [ inl was ↦ inl (before c was) | inr e ↦ inr (e ∙ are) ])
-
-    pub replaced_all : Only bytes (g.may_leave device) → g.seen device ≡ bytes → (settled : L) → (records : List Record) → records ≡ Base last i ∷ log.records
-        → Keeps g (record { records = records; forced = last + 1; pending = length buffer; reserved = log.reserved; torn_at = log.torn_at; failed = log.failed; replacing = log.replacing; device = device; settled = settled }) (last + 1) 21 buffer capacity
-    replaced_all durable reads settled records grown =
-        let count = k.count in
-        let one : last + 1 - length log.records ≤ 1 = omega (arith, count) in
-        subst (λ (rs : List Record). Keeps g (record { records = rs; forced = last + 1; pending = length buffer; reserved = log.reserved; torn_at = log.torn_at; failed = log.failed; replacing = log.replacing; device = device; settled = settled }) (last + 1) 21 buffer capacity)
-        (sym (grown ∙ ap (λ (n : ℕ). Base n i ∷ log.records) count))
-        (record {
-          is_log = record {
-            spelled = (is_record, tt);
-            order = omega (arith, count);
-            based = λ some. omega (arith, count);
-            leaves = λ h was c left. all_of (base ∷ []) (last + 1 - length log.records) c one (durable c left ∙ are);
-            running = λ _. none_tried;
-            replaced = λ h was j tried. absurd (none_torn j (sym none_tried ∙ tried));
-          };
-          count = omega (arith, count);
-          total = λ few. sym (length-spelling_base (length log.records) i);
-          room = k.room;
-          whole = λ some. untorn;
-          buffered = λ _. (0, omega (arith, one), λ h. subst (λ (t : Option ℕ). HoldsTo t (base ∷ []) (g.seen device)) (sym untorn) (reads ∙ are), empty);
-        })
 
     pub replaced_not : Keeps g (record { records = log.records; forced = log.forced; pending = length buffer; reserved = log.reserved; torn_at = log.torn_at; failed = true; replacing = Some i; device = device; settled = log.settled }) last total buffer capacity
     replaced_not = record {

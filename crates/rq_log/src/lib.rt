@@ -31,6 +31,9 @@ use std::alloc::Global;
 use std::marker::Model;
 use std::snapshot::Snapshot;
 
+// The bytes of a Base.
+const BASE_BYTES: u64 = 21;
+
 /// The log: what its device holds, and records that are not handed over yet.
 #[derive(Drop)]
 pub struct Log<L: LogDevice> {
@@ -485,22 +488,64 @@ impl<L: LogDevice> Log<L> {
             → LeavesOnly L.LogDevice self.old.device self.new.device (λ c.
             (c ≡ spelled self.old.records) ⊎ (c ≡ spelled (based incarnation self.old.records))) }
     {
+        self.shows_kept();
+        self.put_base(incarnation)?;
+        Ok(self.note_base(incarnation))
+    }
+
+    /// Puts that Base on the device alone. Until it is noted the log is one of which a replacement has failed.
+    ///
+    /// # Errors
+    /// `DiskWrite`.
+    pub fn put_base(&mut self, incarnation: u64) -> Result<(), Refusal>
+        requires running { self.old.failed ≡ false }
+        requires forced { self.old.forced ≡ length self.old.records }
+        requires record { IsInRange (Base (length self.old.records) incarnation) }
+        ensures same { self.new ≡ record self.old { failed = true; replacing = Some incarnation; device = self.new.device } }
+        ensures idle { self.new.pending ≡ 0 }
+        ensures honest { L.honest self.new.device → L.honest self.old.device }
+        ensures reads { OnOk result (L.seen self.new.device ≡ spelled (based incarnation self.old.records)) }
+        ensures durable { OnOk result (Only (spelled (based incarnation self.old.records)) (L.may_leave self.new.device)) }
+        ensures err { IfErr result (λ e. e ≡ Refusal.DiskWrite) }
+        ensures cause { FailureIsCounted (L.faults self.old.device) (L.faults self.new.device) result }
+        ensures any_moment { L.honest self.new.device → WasDurable L.LogDevice self.old
+            → LeavesOnly L.LogDevice self.old.device self.new.device (λ c.
+            (c ≡ spelled self.old.records) ⊎ (c ≡ spelled (based incarnation self.old.records))) }
+    {
         let base = base_bytes(self.last, incarnation);
-        match self.device.replace(&base) {
-            Ok(()) => {
-                self.past.put_base(self.last, incarnation);
-                self.last += 1;
-                self.size = base.len() as u64;
-                self.forced = self.last;
-                self.settled = Snapshot::of(&self.device);
-                Ok(self.last)
-            }
-            Err(_) => {
-                self.failed = true;
-                self.replacing = Some(incarnation);
-                Err(Refusal::DiskWrite)
-            }
+        let replaced = self.device.replace(&base);
+        self.failed = true;
+        self.replacing = Some(incarnation);
+        match replaced {
+            Ok(()) => Ok(()),
+            Err(_) => Err(Refusal::DiskWrite),
         }
+    }
+
+    /// Notes the Base that the device holds alone. Answers its LSN. The log runs on.
+    pub fn note_base(&mut self, incarnation: u64) -> Lsn
+        requires forced { self.old.forced ≡ length self.old.records }
+        requires record { IsInRange (Base (length self.old.records) incarnation) }
+        requires idle { self.old.pending ≡ 0 }
+        requires reads { L.seen self.old.device ≡ spelled (based incarnation self.old.records) }
+        requires durable { Only (spelled (based incarnation self.old.records)) (L.may_leave self.old.device) }
+        ensures lsn { result ≡ length self.old.records + 1 }
+        ensures noted { self.new ≡ record self.old {
+          records = based incarnation self.old.records;
+          forced = length self.old.records + 1;
+          failed = false;
+          replacing = None;
+          settled = self.old.device;
+        } }
+    {
+        self.past.put_base(self.last, incarnation);
+        self.last += 1;
+        self.size = BASE_BYTES;
+        self.forced = self.last;
+        self.settled = Snapshot::of(&self.device);
+        self.failed = false;
+        self.replacing = None;
+        self.last
     }
 
     /// Counts no more records as forced than these, of those that are.

@@ -9,10 +9,10 @@ use Rattle.rq_model.specs.Vocabulary.{Op, In, client_group, has_number, ends, ha
 use Rattle.rq_model.specs.Vocabulary.Op.{Send, Take, End, Mark}
 use Rattle.rq_model.specs.History.{Job, Entry, Call, finished, did_by, ops_by, commits, is_send_by, sends_to, NoneAfterEnd}
 use Rattle.rq_model.specs.History.Job.{Sending, Taking, Ending, Marking, Undoing}
-use Rattle.rq_model.specs.History.Entry.{Begun, Started, None_free, None_from, Stepped, Ready, Did, Undid, Committed, Acknowledged, Aborting, None_left, Aborted, Handed_over, Forced, Checkpointed, Wrote, Told, Told_client, Shown, Refused, Crash, Restarted}
+use Rattle.rq_model.specs.History.Entry.{Begun, Started, None_free, None_from, Stepped, Ready, Did, Undid, Committed, Acknowledged, Aborting, None_left, Aborted, Handed_over, Forced, Checkpointed, Migrated, Grew, Wrote, Told, Told_client, Shown, Refused, Crash, Restarted}
 use Rattle.rq_model.specs.Ledger.{Open, Done, Ledger, found, change, without, ops_of, after, ledger, started, stepped, writes, done_more, undone, fresh_one, any_ends, ended_in, add_number}
 use Rattle.rq_model.specs.Legal.{Legal, IsLegal, start_of, IsDoneBy}
-use Rattle.rq_model.specs.Tests.{Size, Passes, is_aborting, has_closed, free_to_send}
+use Rattle.rq_model.specs.Tests.{Size, Passes, is_aborting, has_closed, free_to_send, size_at}
 use Rattle.rq_model.proofs.Lists.{same_self, In-map, In-to, In-left, In-right, In-parts}
 use Rattle.rq_model.proofs.Keeps.{found_in, changed, gone}
 use Rattle.rq_model.proofs.Each.{start_at, did_at, undid_at, step_at, GoodAt, Good-ledger, known, add_same, add_from, add_not, free_is}
@@ -349,6 +349,8 @@ Clear-after z h l (None_left t) a good tied g = Clear-same h (None_left t) l.com
 Clear-after z h l Handed_over a good tied g = Clear-same h Handed_over l.committed l.open_ones g refl
 Clear-after z h l (Forced lsn) a good tied g = Clear-same h (Forced lsn) l.committed l.open_ones g refl
 Clear-after z h l (Checkpointed lsn) a good tied g = Clear-same h (Checkpointed lsn) l.committed l.open_ones g refl
+Clear-after z h l (Migrated pages lsn) a good tied g = Clear-same h (Migrated pages lsn) l.committed l.open_ones g refl
+Clear-after z h l (Grew pages) a good tied g = Clear-same h (Grew pages) l.committed l.open_ones g refl
 Clear-after z h l (Wrote page done) a good tied g = Clear-same h (Wrote page done) l.committed l.open_ones g refl
 Clear-after z h l (Told s sent tag) a good tied g = Clear-same h (Told s sent tag) l.committed l.open_ones g refl
 Clear-after z h l (Told_client c count tag) a good tied g = Clear-same h (Told_client c count tag) l.committed l.open_ones g refl
@@ -364,7 +366,7 @@ Clear-ledger z [] a = record {
   send_open = λ q m j. absurd j;
   after = λ s. tt;
 }
-Clear-ledger z (e ∷ h) a = Clear-after z h (ledger h) e a.0 (Good-ledger z h a.1) (Tied-ledger z h a.1) (Clear-ledger z h a.1)
+Clear-ledger z (e ∷ h) a = Clear-after (size_at z h) h (ledger h) e a.0 (Good-ledger z h a.1) (Tied-ledger z h a.1) (Clear-ledger z h a.1)
 
 pub none_after_end : (z : Size) (h : List Entry) (s : ℕ) → IsLegal z h → NoneAfterEnd (commits h) s h
 none_after_end z h s a =

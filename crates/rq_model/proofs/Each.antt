@@ -12,10 +12,10 @@ use Rattle.rq_model.specs.Vocabulary.{Op, IsPrefix, In, same_txn, taken_from, ha
 use Rattle.rq_model.specs.Vocabulary.Op.{Send, Take, End, Mark}
 use Rattle.rq_model.specs.History.{Job, Entry, Call}
 use Rattle.rq_model.specs.History.Job.{Sending, Taking, Ending, Marking, Undoing}
-use Rattle.rq_model.specs.History.Entry.{Begun, Started, None_free, None_from, Stepped, Ready, Did, Undid, Committed, Acknowledged, Aborting, None_left, Aborted, Handed_over, Forced, Checkpointed, Wrote, Told, Told_client, Shown, Refused, Crash, Restarted}
+use Rattle.rq_model.specs.History.Entry.{Begun, Started, None_free, None_from, Stepped, Ready, Did, Undid, Committed, Acknowledged, Aborting, None_left, Aborted, Handed_over, Forced, Checkpointed, Migrated, Grew, Wrote, Told, Told_client, Shown, Refused, Crash, Restarted}
 use Rattle.rq_model.specs.Ledger.{Open, Done, Ledger, rest_in, found, without, ops_of, after, ledger, started, stepped, writes, done_more, undone, fresh_one, add_number, own_takes}
 use Rattle.rq_model.specs.Legal.{OnFound, At, CanStart, Legal, IsLegal, IsDoneBy, start_of}
-use Rattle.rq_model.specs.Tests.{free_to_receive, free_of, Size, Passes}
+use Rattle.rq_model.specs.Tests.{free_to_receive, free_of, size_at, Size, Passes}
 use Rattle.rq_model.proofs.Lists.{prefix_nil, prefix_shorter, prefix_next, same_is}
 use Rattle.rq_model.proofs.Keeps.{Good, IsCurrent, Changes, Good-change, Good-commit, Good-without, Good-crash, Good-none, found_in}
 
@@ -237,6 +237,8 @@ Good-after z l (None_left t) a g = g
 Good-after z l Handed_over a g = g
 Good-after z l (Forced lsn) a g = g
 Good-after z l (Checkpointed lsn) a g = g
+Good-after z l (Migrated pages lsn) a g = g
+Good-after z l (Grew pages) a g = g
 Good-after z l (Wrote page done) a g = g
 Good-after z l (Told s sent tag) a g = g
 Good-after z l (Told_client c count tag) a g = g
@@ -244,4 +246,4 @@ Good-after z l (Shown groups) a g = g
 
 pub Good-ledger : (z : Size) (h : List Entry) → IsLegal z h → GoodAt (ledger h)
 Good-ledger z [] a = Good-none 0 0
-Good-ledger z (e ∷ h) a = Good-after z (ledger h) e a.0 (Good-ledger z h a.1)
+Good-ledger z (e ∷ h) a = Good-after (size_at z h) (ledger h) e a.0 (Good-ledger z h a.1)

@@ -4,7 +4,7 @@ use Rattle.rq_model.specs.declared.txn.Txn.{Txn}
 use Rattle.rq_model.specs.declared.refusal.Refusal.{Refusal}
 use Rattle.rq_model.specs.declared.refusal.Refusal.TheVariants.{DiskWrite}
 use Rattle.rq_model.specs.History.{Entry, Call}
-use Rattle.rq_model.specs.History.Entry.{Begun, Started, None_free, None_from, Stepped, Ready, Did, Undid, Committed, Acknowledged, Aborting, None_left, Aborted, Handed_over, Forced, Checkpointed, Wrote, Told, Told_client, Shown, Refused, Crash, Restarted}
+use Rattle.rq_model.specs.History.Entry.{Begun, Started, None_free, None_from, Stepped, Ready, Did, Undid, Committed, Acknowledged, Aborting, None_left, Aborted, Handed_over, Forced, Checkpointed, Migrated, Grew, Wrote, Told, Told_client, Shown, Refused, Crash, Restarted}
 use Rattle.rq_model.specs.Ledger.{Ledger, runs, after}
 
 -- the commits, the incarnation and what is forced stay, and no record is lost
@@ -25,6 +25,7 @@ pub data Kind : Entry → Type 0 where
   Commits : (t : Txn) (lsn : ℕ) → Kind (Committed t lsn)
   Forces : (lsn : ℕ) → Kind (Forced lsn)
   Checkpoints : (lsn : ℕ) → Kind (Checkpointed lsn)
+  Migrates : (pages lsn : ℕ) → Kind (Migrated pages lsn)
   Crashes : (kept records : ℕ) → Kind (Crash kept records)
   Restarts : (i records : ℕ) → Kind (Restarted i records)
 
@@ -57,5 +58,7 @@ kind (Refused c r) = Plain (λ l. refused_same l c r) refl
 kind (Committed t lsn) = Commits t lsn
 kind (Forced lsn) = Forces lsn
 kind (Checkpointed lsn) = Checkpoints lsn
+kind (Migrated pages lsn) = Migrates pages lsn
+kind (Grew pages) = Plain (λ l. record { committed = refl; incarnation = refl; forced = refl; durable = refl; records = omega arith; running = λ y. cc y }) refl
 kind (Crash kept records) = Crashes kept records
 kind (Restarted i records) = Restarts i records

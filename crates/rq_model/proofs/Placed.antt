@@ -7,17 +7,17 @@ use Rattle.std.proofs.lemmas.Bool.Decides.{nat_tests}
 use Rattle.rq_model.specs.declared.txn.Txn.{Txn}
 use Rattle.rq_model.specs.Vocabulary.{In, is_some}
 use Rattle.rq_model.specs.History.{Entry, commits}
-use Rattle.rq_model.specs.History.Entry.{Acknowledged, Committed, Forced, Checkpointed, Crash, Restarted}
+use Rattle.rq_model.specs.History.Entry.{Acknowledged, Committed, Forced, Checkpointed, Migrated, Crash, Restarted}
 use Rattle.rq_model.specs.Ledger.{Done, Ledger, runs, kept_in, ledger, after, found, ops_of, Rising}
 use Rattle.rq_model.specs.Legal.{Legal, IsLegal}
-use Rattle.rq_model.specs.Tests.{Size}
+use Rattle.rq_model.specs.Tests.{Size, size_at}
 use Rattle.rq_model.proofs.Rises.{kept_within, all_kept, rising_append, rising_further, rising_cut, kept_cut}
 use Rattle.rq_model.proofs.Same.{In-take, Tied-ledger}
 use Rattle.rq_model.proofs.Keeps.{found_in}
 use Rattle.rq_model.proofs.Each.{Good-ledger, some_is}
 use Rattle.rq_model.proofs.Cuts.{kept_beyond, among}
 use Rattle.rq_model.proofs.EntryKinds.{Kind, Same, kind, is_commit}
-use Rattle.rq_model.proofs.EntryKinds.Kind.{Plain, Commits, Forces, Checkpoints, Crashes, Restarts}
+use Rattle.rq_model.proofs.EntryKinds.Kind.{Plain, Commits, Forces, Checkpoints, Migrates, Crashes, Restarts}
 use Rattle.rq_model.proofs.Lists.{In-left, In-last, In-to}
 
 -- the beginnings of a legal history are legal
@@ -60,6 +60,9 @@ placed_after z l e (Forces n) a w =
 placed_after z l e (Checkpoints n) a w =
     let all = all_kept 0 l.records (l.records + 1) l.committed w.rising (omega arith) in
     record { rising = rising_further 0 l.records (l.records + 1) l.committed (omega arith) w.rising; forced = omega arith; durable = omega (arith, all); exact = λ r. omega (arith, all) }
+placed_after z l e (Migrates pages n) a w =
+    let all = all_kept 0 l.records (l.records + 1) l.committed w.rising (omega arith) in
+    record { rising = rising_further 0 l.records (l.records + 1) l.committed (omega arith) w.rising; forced = omega arith; durable = omega (arith, all); exact = λ r. cc r }
 placed_after z l e (Crashes k n) a w =
     let e : k ≡ kept_in n l.committed = a.exact in
     let c : kept_in n (take k l.committed) ≡ k = subst (λ j. kept_in n (take j l.committed) ≡ j) (sym e) (kept_cut l.records n l.committed w.rising) in
@@ -77,7 +80,7 @@ placed_after z l e (Restarts i n) a w =
 
 pub placed : (z : Size) (h : List Entry) → IsLegal z h → Placed (ledger h)
 placed z [] a = record { rising = omega arith; forced = omega arith; durable = omega arith; exact = λ r. omega arith }
-placed z (e ∷ h) a = placed_after z (ledger h) e (kind e) a.0 (placed z h a.1)
+placed z (e ∷ h) a = placed_after (size_at z h) (ledger h) e (kind e) a.0 (placed z h a.1)
 
 -- the commit stands in the list
 pub record StandsIn (t : Txn) (lsn : ℕ) (c : List Done) : Type 0 where
@@ -98,7 +101,7 @@ older : (e : Entry) (h : List Entry) (t : Txn) (n : ℕ) → is_commit e ≡ fal
 older e h t n none j = elim j [ inl q ↦ absurd (no_commit e t n none q) | inr i ↦ i ]
 
 -- who commits has begun in this incarnation
-pub committer : (z : Size) (h : List Entry) (t : Txn) (n : ℕ) → IsLegal z h → Legal z (ledger h) (Committed t n) → t.incarnation ≡ (ledger h).incarnation
+pub committer : (z : Size) (h : List Entry) (t : Txn) (n : ℕ) → IsLegal z h → Legal (size_at z h) (ledger h) (Committed t n) → t.incarnation ≡ (ledger h).incarnation
 committer z h t n a c =
     let s = some_is (found t (ledger h).open_ones) (not-false (is_some (found t (ledger h).open_ones)) c.0.1.0) in
     let at = found_in t (ledger h).open_ones s.0 s.1 in
@@ -130,6 +133,10 @@ known_after z h e (Checkpoints m) a w = record {
   old = λ t n j. w.old t n (older (Checkpointed m) h t n refl j);
   stands = λ r t n j i. w.stands r t n (older (Checkpointed m) h t n refl j) i;
 }
+known_after z h e (Migrates pages m) a w = record {
+  old = λ t n j. w.old t n (older (Migrated pages m) h t n refl j);
+  stands = λ r. cc r;
+}
 known_after z h e (Crashes k m) a w = record {
   old = λ t n j. w.old t n (older (Crash k m) h t n refl j);
   stands = λ r. cc r;
@@ -158,15 +165,16 @@ firm_after z l e d (Commits u n) a w g =
     subst (In d) (sym (take-append-le l.durable l.committed (record { txn = u; lsn = n; ops = ops_of (found u l.open_ones) } ∷ []) (omega (arith, k, b)))) g
 firm_after z l e d (Forces n) a w g = subst (In d) (sym (all_of l.committed)) (In-take l.durable l.committed d g)
 firm_after z l e d (Checkpoints n) a w g = subst (In d) (sym (all_of l.committed)) (In-take l.durable l.committed d g)
+firm_after z l e d (Migrates pages n) a w g = subst (In d) (sym (all_of l.committed)) (In-take l.durable l.committed d g)
 firm_after z l e d (Crashes k n) a w g = subst (In d) (sym (take-take l.durable k l.committed a.durable)) g
 firm_after z l e d (Restarts i n) a w g = subst (In d) (sym (all_of l.committed)) (In-take l.durable l.committed d g)
 
 firm_on : (z : Size) (newer h : List Entry) (d : Done) → IsLegal z (newer ++ h) → Firm d (ledger h) → Firm d (ledger (newer ++ h))
 firm_on z [] h d a g = g
-firm_on z (e ∷ newer) h d a g = firm_after z (ledger (newer ++ h)) e d (kind e) a.0 (placed z (newer ++ h) a.1) (firm_on z newer h d a.1 g)
+firm_on z (e ∷ newer) h d a g = firm_after (size_at z (newer ++ h)) (ledger (newer ++ h)) e d (kind e) a.0 (placed z (newer ++ h) a.1) (firm_on z newer h d a.1 g)
 
 -- a commit that was acknowledged is firm
-firm_acknowledged : (z : Size) (h : List Entry) (t : Txn) (n : ℕ) → IsLegal z h → Legal z (ledger h) (Acknowledged t n true) → In (Committed t n) h → (d : Done) × (d.txn ≡ t) × Firm d (ledger h)
+firm_acknowledged : (z : Size) (h : List Entry) (t : Txn) (n : ℕ) → IsLegal z h → Legal (size_at z h) (ledger h) (Acknowledged t n true) → In (Committed t n) h → (d : Done) × (d.txn ≡ t) × Firm d (ledger h)
 firm_acknowledged z h t n a c j =
     let l = ledger h in
     let w = placed z h a in

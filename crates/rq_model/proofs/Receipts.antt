@@ -6,11 +6,11 @@ use Rattle.rq_model.specs.declared.txn.Txn.{Txn}
 use Rattle.rq_model.specs.declared.refusal.Refusal.{Refusal}
 use Rattle.rq_model.specs.declared.refusal.Refusal.TheVariants.{DiskWrite}
 use Rattle.rq_model.specs.History.{Entry, Call}
-use Rattle.rq_model.specs.History.Entry.{Stepped, Did, Undid, Committed, Aborted, Forced, Checkpointed, Refused, Crash, Restarted}
+use Rattle.rq_model.specs.History.Entry.{Stepped, Did, Undid, Committed, Aborted, Forced, Checkpointed, Migrated, Grew, Refused, Crash, Restarted}
 use Rattle.rq_model.specs.Ledger.{Ledger, runs, after, ledger}
 use Rattle.rq_model.specs.Legal.{Legal, IsLegal}
 use Rattle.rq_model.specs.Promises.{is_force, is_restart, any_entry, ReceiptsAreExact}
-use Rattle.rq_model.specs.Tests.{Size}
+use Rattle.rq_model.specs.Tests.{Size, size_at}
 use Rattle.rq_model.proofs.Placed.{placed, committer}
 
 -- what is so of a commit's number behind it: until a restart it is of the running incarnation, and its record is forced
@@ -74,6 +74,15 @@ since_after z t lsn newer l (Checkpointed n) a s = record {
   kept = λ a b c. (let d = s.within a b in omega (arith, d));
   pending = λ a b c. absurd (true≢false c);
 }
+since_after z t lsn newer l (Migrated pages n) a s = record {
+  not_later = s.not_later;
+  earlier = s.earlier;
+  current = s.current;
+  within = λ a b. absurd (false≢true b);
+  kept = λ a b c. absurd (false≢true b);
+  pending = λ a b c. absurd (true≢false c);
+}
+since_after z t lsn newer l (Grew pages) a s = still t lsn _ _ _ _ _ _ _ _ s
 since_after z t lsn newer l (Refused c r) a s = since_refused t lsn newer l c r s
 since_after z t lsn newer l (Crash k n) a s = still t lsn _ _ _ _ _ _ _ _ s
 since_after z t lsn newer l (Restarted i n) a s =
@@ -102,7 +111,7 @@ since z t lsn [] older a =
       kept = λ _ _ b. absurd (false≢true b);
       pending = λ _ _ _. omega (arith, n, f);
     }
-since z t lsn (e ∷ newer) older a = since_after z t lsn newer (ledger (newer ++ (Committed t lsn ∷ older))) e a.0 (since z t lsn newer older a.1)
+since z t lsn (e ∷ newer) older a = since_after (size_at z (newer ++ (Committed t lsn ∷ older))) t lsn newer (ledger (newer ++ (Committed t lsn ∷ older))) e a.0 (since z t lsn newer older a.1)
 
 -- what is asked of a number, by what is so of it
 given_is : (t : Txn) (lsn : ℕ) (opened was_forced : Bool) (incarnation records forced : ℕ) → Since t lsn opened was_forced true incarnation records forced → (nat_eq t.incarnation incarnation && not (nat_lt forced lsn)) ≡ (was_forced && not opened)

@@ -9,10 +9,10 @@ use Rattle.rq_model.specs.declared.refusal.Refusal.TheVariants.{DiskWrite}
 use Rattle.rq_model.specs.Vocabulary.{Op, IsPrefix, In, same_txn, taken_from, sent_for, marked_for}
 use Rattle.rq_model.specs.History.{Job, Entry, Call, ops_by, commits, sends, takes, marks}
 use Rattle.rq_model.specs.History.Job.{Sending, Taking, Ending, Marking, Undoing}
-use Rattle.rq_model.specs.History.Entry.{Begun, Started, None_free, None_from, Stepped, Ready, Did, Undid, Committed, Acknowledged, Aborting, None_left, Aborted, Handed_over, Forced, Checkpointed, Wrote, Told, Told_client, Shown, Refused, Crash, Restarted}
+use Rattle.rq_model.specs.History.Entry.{Begun, Started, None_free, None_from, Stepped, Ready, Did, Undid, Committed, Acknowledged, Aborting, None_left, Aborted, Handed_over, Forced, Checkpointed, Migrated, Grew, Wrote, Told, Told_client, Shown, Refused, Crash, Restarted}
 use Rattle.rq_model.specs.Ledger.{Open, Done, Ledger, sent_in, taken_in, marks_in, found, change, without, ops_of, after, ledger, started, stepped, writes, done_more, undone, fresh_one}
 use Rattle.rq_model.specs.Legal.{Legal, IsLegal, start_of}
-use Rattle.rq_model.specs.Tests.{Size, Passes, is_aborting}
+use Rattle.rq_model.specs.Tests.{Size, Passes, is_aborting, size_at}
 use Rattle.rq_model.proofs.Lists.{same_is, same_self}
 use Rattle.rq_model.proofs.Keeps.{IsOld, current_old, found_in, changed, gone}
 use Rattle.rq_model.proofs.Each.{start_at, did_at, undid_at, step_at, GoodAt, Good-ledger, known}
@@ -188,6 +188,8 @@ Tied-after z h l (None_left t) a good g = Tied-all h (None_left t) l.committed l
 Tied-after z h l Handed_over a good g = Tied-all h Handed_over l.committed l.open_ones l.incarnation l.begins g refl (λ u. refl)
 Tied-after z h l (Forced lsn) a good g = Tied-all h (Forced lsn) l.committed l.open_ones l.incarnation l.begins g refl (λ u. refl)
 Tied-after z h l (Checkpointed lsn) a good g = Tied-all h (Checkpointed lsn) l.committed l.open_ones l.incarnation l.begins g refl (λ u. refl)
+Tied-after z h l (Migrated pages lsn) a good g = Tied-all h (Migrated pages lsn) l.committed l.open_ones l.incarnation l.begins g refl (λ u. refl)
+Tied-after z h l (Grew pages) a good g = Tied-all h (Grew pages) l.committed l.open_ones l.incarnation l.begins g refl (λ u. refl)
 Tied-after z h l (Wrote page done) a good g = Tied-all h (Wrote page done) l.committed l.open_ones l.incarnation l.begins g refl (λ u. refl)
 Tied-after z h l (Told s sent tag) a good g = Tied-all h (Told s sent tag) l.committed l.open_ones l.incarnation l.begins g refl (λ u. refl)
 Tied-after z h l (Told_client c count tag) a good g = Tied-all h (Told_client c count tag) l.committed l.open_ones l.incarnation l.begins g refl (λ u. refl)
@@ -206,7 +208,7 @@ Tied-empty = record {
 
 pub Tied-ledger : (z : Size) (h : List Entry) → IsLegal z h → TiedAt h (ledger h)
 Tied-ledger z [] a = Tied-empty
-Tied-ledger z (e ∷ h) a = Tied-after z h (ledger h) e a.0 (Good-ledger z h a.1) (Tied-ledger z h a.1)
+Tied-ledger z (e ∷ h) a = Tied-after (size_at z h) h (ledger h) e a.0 (Good-ledger z h a.1) (Tied-ledger z h a.1)
 
 -- going through the names is going through the transactions
 through : {Y : Type 0} (F : Op → Option Y) (h : List Entry) (c : List Done) → ((d : Done) → In d c → ops_by h d.txn ≡ d.ops) → flat_map (λ t. filter_map F (ops_by h t)) (map (λ (d : Done). d.txn) c) ≡ flat_map (λ (d : Done). filter_map F d.ops) c

@@ -6,9 +6,9 @@ use Rattle.rq_model.specs.declared.txn.Txn.{Txn}
 use Rattle.rq_model.specs.declared.refusal.Refusal.{Refusal}
 use Rattle.rq_model.specs.declared.refusal.Refusal.TheVariants.{DiskWrite}
 use Rattle.rq_model.specs.Vocabulary.{Op, In, same_txn, taken_from, sent_for, last_or, ends, has_txn}
-use Rattle.rq_model.specs.History.Entry.{Committed, Forced, Checkpointed, Told_client, Refused, Crash, Restarted}
+use Rattle.rq_model.specs.History.Entry.{Committed, Forced, Checkpointed, Migrated, Told_client, Refused, Crash, Restarted}
 use Rattle.rq_model.specs.Legal.{Legal, IsLegal}
-use Rattle.rq_model.specs.Tests.{Size}
+use Rattle.rq_model.specs.Tests.{Size, size_at}
 use Rattle.rq_model.proofs.Lists.{same_is, In-to, In-map}
 use Rattle.rq_model.proofs.Same.{Tied-ledger, sends_are, takes_are, marks_are}
 use Rattle.std.proofs.lemmas.List.{drop-drop, drop-append-le, length-append, take-append-le, take-take, length-take, length-map, length_push}
@@ -111,19 +111,20 @@ bound_one : (z : Size) (l : Ledger) (e : Entry) (c : List Txn) (d : ℕ) → Leg
 bound_one z l (Committed t n) c d a e w = (omega (arith, w, length_push c t), omega arith)
 bound_one z l (Forced n) c d a e w = (omega arith, w)
 bound_one z l (Checkpointed n) c d a e w = (omega arith, w)
+bound_one z l (Migrated pages n) c d a e w = (omega arith, w)
 bound_one z l (Crash k r) c d a e w = (let x : l.durable ≤ k = a.durable in omega (arith, x, e, w, length-take k c), omega arith)
 bound_one z l (Restarted i r) c d a e w = (omega arith, w)
 bound_one z l _ c d a e w = (w, omega arith)
 
 durable_within : (z : Size) (h : List Entry) → IsLegal z h → durable h ≤ length (commits h)
 durable_within z [] a = omega arith
-durable_within z (e ∷ h) a = (bound_one z (ledger h) e (commits h) (durable h) a.0 (durable_is z h a.1) (durable_within z h a.1)).0
+durable_within z (e ∷ h) a = (bound_one (size_at z h) (ledger h) e (commits h) (durable h) a.0 (durable_is z h a.1) (durable_within z h a.1)).0
 
 durable_grows : (z : Size) (newer h : List Entry) → IsLegal z (newer ++ h) → durable h ≤ durable (newer ++ h)
 durable_grows z [] h a = omega arith
 durable_grows z (e ∷ newer) h a =
     let x = durable_grows z newer h a.1 in
-    let y = (bound_one z (ledger (newer ++ h)) e (commits (newer ++ h)) (durable (newer ++ h)) a.0 (durable_is z (newer ++ h) a.1) (durable_within z (newer ++ h) a.1)).1 in
+    let y = (bound_one (size_at z (newer ++ h)) (ledger (newer ++ h)) e (commits (newer ++ h)) (durable (newer ++ h)) a.0 (durable_is z (newer ++ h) a.1) (durable_within z (newer ++ h) a.1)).1 in
     omega arith
 
 -- the commits that a force has followed stay, whatever comes
@@ -132,4 +133,4 @@ survives z [] h a = refl
 survives z (e ∷ newer) h a =
     let d = durable_grows z newer h a.1 in
     let w = durable_within z (newer ++ h) a.1 in
-    kept_one z (ledger (newer ++ h)) e (commits (newer ++ h)) (durable h) a.0 (let q = durable_is z (newer ++ h) a.1 in omega arith) (omega arith) ∙ survives z newer h a.1
+    kept_one (size_at z (newer ++ h)) (ledger (newer ++ h)) e (commits (newer ++ h)) (durable h) a.0 (let q = durable_is z (newer ++ h) a.1 in omega arith) (omega arith) ∙ survives z newer h a.1

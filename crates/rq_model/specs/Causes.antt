@@ -3,7 +3,7 @@ use Rattle.std.specs.Prelude.{◌≡◌, Bool, true, false}
 use Rattle.rq_model.specs.declared.refusal.Refusal.{Refusal}
 use Rattle.rq_model.specs.declared.refusal.Refusal.TheVariants as why
 use Rattle.rq_model.specs.History.{Call}
-use Rattle.rq_model.specs.History.Call.{Step, Finish, Acknowledge, Start_abort, Hand_over, Force, Checkpoint, Write_page, Last_tag, Client_tag}
+use Rattle.rq_model.specs.History.Call.{Step, Finish, Acknowledge, Start_abort, Hand_over, Force, Checkpoint, Migrate, Write_page, Last_tag, Client_tag}
 use Rattle.rq_model.specs.Replay.{Reply}
 use Rattle.rq_model.specs.Replay.Reply.{Gave_refusal}
 
@@ -18,6 +18,7 @@ takes_memory (Client_tag c) = false
 takes_memory Hand_over = false
 takes_memory Force = false
 takes_memory Checkpoint = false
+takes_memory (Migrate pages) = false
 takes_memory (Write_page page) = false
 takes_memory _ = true
 
@@ -26,6 +27,7 @@ abbrev pub writes_out : Call → Bool
 writes_out Hand_over = true
 writes_out Force = true
 writes_out Checkpoint = true
+writes_out (Migrate pages) = true
 writes_out (Write_page page) = true
 writes_out _ = false
 

@@ -42,12 +42,14 @@ pub data Call : Type 0 where
   Hand_over : Call
   Force : Call
   Checkpoint : Call
+  Migrate : (pages : ℕ) → Call
   Write_page : (page : ℕ) → Call
   Last_tag : (sender : ℕ) → Call
   Client_tag : (client : ℕ) → Call
   Show : Call
 
--- One call with its reply, a crash, or a restart.
+-- One call with its reply, a crash, or a restart. Or, before a crash, that a migration came through: so many tag pages stand on the
+-- device, and the store that is opened next has them.
 pub data Entry : Type 0 where
   Begun : (t : Txn) → Entry
   Started : (t : Txn) (number : ℕ) (job : Job) → Entry
@@ -65,11 +67,13 @@ pub data Entry : Type 0 where
   Handed_over : Entry
   Forced : (lsn : ℕ) → Entry
   Checkpointed : (lsn : ℕ) → Entry
+  Migrated : (pages lsn : ℕ) → Entry
   Wrote : (page : ℕ) (done : Bool) → Entry
   Told : (sender sent tag : ℕ) → Entry
   Told_client : (client count tag : ℕ) → Entry
   Shown : (groups : List Group) → Entry
   Refused : (call : Call) (refusal : Refusal) → Entry
+  Grew : (pages : ℕ) → Entry
   Crash : (kept records : ℕ) → Entry
   Restarted : (incarnation records : ℕ) → Entry
 
@@ -88,6 +92,7 @@ commits (e ∷ h) = committed_by e (commits h)
 abbrev pub durable_by : Entry → ℕ → ℕ → ℕ
 durable_by (Forced lsn) committed n = committed
 durable_by (Checkpointed lsn) committed n = committed
+durable_by (Migrated pages lsn) committed n = committed
 durable_by (Restarted i records) committed n = committed
 durable_by _ committed n = n
 

@@ -8,7 +8,7 @@ use Rattle.rq_model.specs.Vocabulary.{Op, client_group, last, same_txn, sent_for
 use Rattle.rq_model.specs.Vocabulary.Op.{Send, Take, End, Mark}
 use Rattle.rq_model.specs.History.{Job, Group, Entry}
 use Rattle.rq_model.specs.History.Job.{Sending, Taking, Ending, Marking, Undoing}
-use Rattle.rq_model.specs.History.Entry.{Begun, Started, Did, Undid, Committed, Aborting, Aborted, Stepped, Forced, Checkpointed, Refused, Crash, Restarted}
+use Rattle.rq_model.specs.History.Entry.{Begun, Started, Did, Undid, Committed, Aborting, Aborted, Stepped, Forced, Checkpointed, Migrated, Grew, Refused, Crash, Restarted}
 
 -- A transaction that has not ended. Its operations are those finished and not undone, in order. It holds the sending and
 -- receiving ends of these groups: those of senders, and those of clients, which are numbered from 2 ^ 32 on. Of the
@@ -208,6 +208,13 @@ after (Aborting t) l = record l { open_ones = change t (λ o. record o { abortin
 after (Aborted t) l = record l { open_ones = without t l.open_ones; records = l.records + 1 }
 after (Forced lsn) l = record l { forced = l.records; durable = length l.committed }
 after (Checkpointed lsn) l = record l { records = l.records + 1; forced = l.records + 1; durable = length l.committed }
+after (Migrated pages lsn) l = record l {
+  phase = Stopped;
+  records = l.records + 1;
+  forced = l.records + 1;
+  durable = length l.committed;
+}
+after (Grew pages) l = record l { phase = Stopped }
 after (Crash kept records) l = record l {
   committed = take kept l.committed;
   open_ones = [];

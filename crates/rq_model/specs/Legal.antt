@@ -6,12 +6,12 @@ use Rattle.rq_model.specs.declared.refusal.Refusal.TheVariants.{NoMemory, DiskRe
 use Rattle.rq_model.specs.Vocabulary.{Op, last, last_or, is_some}
 use Rattle.rq_model.specs.Vocabulary.Op.{Send, Take, End, Mark}
 use Rattle.rq_model.specs.History.{Job, Entry, Call}
-use Rattle.rq_model.specs.History.Call.{Begin, Start_send, Start_receive, Start_receive_from, Start_close, Start_mark, Step, Finish, Commit, Acknowledge, Start_abort, Undo_next, End_abort, Hand_over, Force, Checkpoint, Write_page, Last_tag, Client_tag, Show}
+use Rattle.rq_model.specs.History.Call.{Begin, Start_send, Start_receive, Start_receive_from, Start_close, Start_mark, Step, Finish, Commit, Acknowledge, Start_abort, Undo_next, End_abort, Hand_over, Force, Checkpoint, Migrate, Write_page, Last_tag, Client_tag, Show}
 use Rattle.rq_model.specs.History.Job.{Sending, Taking, Ending, Marking, Undoing}
-use Rattle.rq_model.specs.History.Entry.{Begun, Started, None_free, None_from, Stepped, Ready, Did, Undid, Committed, Acknowledged, Aborting, None_left, Aborted, Handed_over, Forced, Checkpointed, Wrote, Told, Told_client, Shown, Refused, Crash, Restarted}
+use Rattle.rq_model.specs.History.Entry.{Begun, Started, None_free, None_from, Stepped, Ready, Did, Undid, Committed, Acknowledged, Aborting, None_left, Aborted, Handed_over, Forced, Checkpointed, Migrated, Grew, Wrote, Told, Told_client, Shown, Refused, Crash, Restarted}
 use Rattle.rq_model.specs.Ledger.{Open, Ledger, Phase, runs, kept_in, ledger, group_in, sent_in, marks_in, rest_in, found, tag_of, own_takes}
 use Rattle.rq_model.specs.Ledger.Phase.{Running, Stopped, Shut as Is_shut}
-use Rattle.rq_model.specs.Tests.{Size, below, free_to_receive, holds_for, first_of, tests, Passes, starts, writes_page}
+use Rattle.rq_model.specs.Tests.{Size, bad_tags, below, free_to_receive, holds_for, first_of, size_at, tests, Passes, starts, writes_page}
 
 -- Where each refusal may come: memory's and the disk's own where the store runs, latches and frames where an operation
 -- would start, a page that is not forced where one is to be written, and each of the others exactly where its test is
@@ -74,6 +74,12 @@ pub record MayCrash (l : Ledger) (kept records : ℕ) : Type 0 where
   pub exact : kept ≡ kept_in records l.committed
   pub up_to : IsUpTo l.records l.phase records ⊎ IsCheckpointed l records
 
+-- A migration came through, of a store that is open, where no transaction is. The store had no tag pages.
+pub record MayGrow (z : Size) (l : Ledger) (pages : ℕ) : Type 0 where
+  pub tags : bad_tags z pages ≡ false
+  pub none_open : l.open_ones ≡ []
+  pub not_shut : l.phase ≡ Is_shut → ⊥
+
 -- A restart opens a store that is not open. It makes a record, and begins an incarnation that was not there before.
 pub record MayRestart (l : Ledger) (i records : ℕ) : Type 0 where
   pub later : l.incarnation < i
@@ -100,6 +106,7 @@ Legal z l (Aborted t) = Passes z l (End_abort t)
 Legal z l Handed_over = Passes z l Hand_over
 Legal z l (Forced lsn) = Passes z l Force × (lsn ≡ l.records)
 Legal z l (Checkpointed lsn) = Passes z l Checkpoint × (lsn ≡ l.records + 1)
+Legal z l (Migrated pages lsn) = Passes z l (Migrate pages) × (lsn ≡ l.records + 1)
 Legal z l (Wrote page done) = Passes z l (Write_page page)
 Legal z l (Told s sent tag) = Passes z l (Last_tag s) × (sent ≡ length (sent_in l.committed s))
     × (tag ≡ tag_of (sent_in l.committed s))
@@ -107,10 +114,11 @@ Legal z l (Told_client c count tag) = Passes z l (Client_tag c) × (count ≡ le
     × (tag ≡ last_or 0 (marks_in l.committed c))
 Legal z l (Shown groups) = Passes z l Show × (groups ≡ map (group_in l.committed) (below z.senders))
 Legal z l (Refused c r) = LegalRefusal z l c r
+Legal z l (Grew pages) = MayGrow z l pages
 Legal z l (Crash kept records) = MayCrash l kept records
 Legal z l (Restarted i records) = MayRestart l i records
 
--- every entry may come where it stands. The newest comes first
+-- Every entry may come where it stands, at a store of the size that it has there. The newest comes first.
 abbrev pub IsLegal : Size → List Entry → Type 0
 IsLegal z [] = Unit {0}
-IsLegal z (e ∷ h) = Legal z (ledger h) e × IsLegal z h
+IsLegal z (e ∷ h) = Legal (size_at z h) (ledger h) e × IsLegal z h

@@ -1,7 +1,7 @@
 -- The number and the name of each refusal.
 use Rattle.std.specs.Prelude.{ℕ, List, codes}
 use Rattle.rq_model.specs.declared.refusal.Refusal.{Refusal}
-use Rattle.rq_model.specs.declared.refusal.Refusal.TheVariants.{NoMemory, Failed, DiskRead, UnknownTransaction, NotOpen, Unfinished, UnknownSender, TooLong, SenderBusy, Closed, ReceiverBusy, Full, Latched, PoolFull, DiskWrite, Damaged, TooManyTransactions, NotForced, LogFull, UnknownOperation, NotQuiet, UnknownClient, ClientBusy}
+use Rattle.rq_model.specs.declared.refusal.Refusal.TheVariants.{NoMemory, Failed, DiskRead, UnknownTransaction, NotOpen, Unfinished, UnknownSender, TooLong, SenderBusy, Closed, ReceiverBusy, Full, Latched, PoolFull, DiskWrite, Damaged, TooManyTransactions, NotForced, LogFull, UnknownOperation, NotQuiet, UnknownClient, ClientBusy, BadTags}
 
 abbrev pub number_of : Refusal → ℕ
 number_of NoMemory = 1
@@ -27,6 +27,7 @@ number_of UnknownOperation = 20
 number_of NotQuiet = 21
 number_of UnknownClient = 22
 number_of ClientBusy = 23
+number_of BadTags = 24
 
 abbrev pub name_of : Refusal → List ℕ
 name_of NoMemory = codes "NoMemory"
@@ -52,3 +53,4 @@ name_of UnknownOperation = codes "UnknownOperation"
 name_of NotQuiet = codes "NotQuiet"
 name_of UnknownClient = codes "UnknownClient"
 name_of ClientBusy = codes "ClientBusy"
+name_of BadTags = codes "BadTags"

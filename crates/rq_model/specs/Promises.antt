@@ -7,12 +7,12 @@ use Rattle.rq_model.specs.declared.record.Record.{Record}
 use Rattle.rq_model.specs.declared.record.Record.TheVariants.{Restart as Restart_record}
 use Rattle.rq_model.specs.Vocabulary.{In}
 use Rattle.rq_model.specs.History.{Entry, Call, Fifo, commits, ended}
-use Rattle.rq_model.specs.History.Entry.{Started, Acknowledged, Committed, Forced, Checkpointed, Crash, Refused, Restarted}
+use Rattle.rq_model.specs.History.Entry.{Started, Acknowledged, Committed, Forced, Checkpointed, Migrated, Crash, Refused, Restarted}
 use Rattle.rq_model.specs.History.Job.{Sending}
 use Rattle.rq_model.specs.Ledger.{Done, Ledger, ledger, kept_in, runs}
 use Rattle.rq_model.specs.Ledger.Phase.{Shut}
 use Rattle.rq_model.specs.Legal.{Legal, IsLegal}
-use Rattle.rq_model.specs.Tests.{Size}
+use Rattle.rq_model.specs.Tests.{Size, size_at}
 use Rattle.rq_model.specs.Content.{content}
 use Rattle.rq_model.specs.Commits.{committed_of}
 use Rattle.rq_model.specs.Rules.{KeepsRules}
@@ -34,6 +34,7 @@ AcknowledgedStay z = (newer older : List Entry) (t : Txn) (lsn : ℕ)
 abbrev pub is_force : Entry → Bool
 is_force (Forced lsn) = true
 is_force (Checkpointed lsn) = true
+is_force (Migrated pages lsn) = true
 is_force _ = false
 
 abbrev pub is_restart : Entry → Bool
@@ -59,7 +60,7 @@ NothingBehindClose z = (h : List Entry) (t : Txn) (n : ℕ) (m : Message) → Is
 -- a replay from the ledger of a legal history is a longer legal history, whose entries are what was asked and answered
 abbrev pub ReplayGoesOn : Size → Type 0
 ReplayGoesOn z = (h : List Entry) (audit : List (Call × Reply)) (l : Ledger) → IsLegal z h
-    → Replays z (ledger h) audit l
+    → Replays (size_at z h) (ledger h) audit l
     → (newer : List Entry) × IsLegal z (newer ++ h) × (ledger (newer ++ h) ≡ l) × AllSay audit newer
 
 -- the crash that leaves this log

@@ -6,9 +6,9 @@ use Rattle.rq_model.specs.declared.refusal.Refusal.{Refusal}
 use Rattle.rq_model.specs.declared.message.Message.{Message}
 use Rattle.rq_model.specs.Vocabulary.Op.{Send, Take, End, Mark}
 use Rattle.rq_model.specs.History.{Group, Entry, Call}
-use Rattle.rq_model.specs.History.Call.{Begin, Start_send, Start_receive, Start_receive_from, Start_close, Start_mark, Step, Finish, Commit, Acknowledge, Start_abort, Undo_next, End_abort, Hand_over, Force, Checkpoint, Write_page, Last_tag, Client_tag, Show}
+use Rattle.rq_model.specs.History.Call.{Begin, Start_send, Start_receive, Start_receive_from, Start_close, Start_mark, Step, Finish, Commit, Acknowledge, Start_abort, Undo_next, End_abort, Hand_over, Force, Checkpoint, Migrate, Write_page, Last_tag, Client_tag, Show}
 use Rattle.rq_model.specs.History.Job.{Sending, Taking, Ending, Marking, Undoing}
-use Rattle.rq_model.specs.History.Entry.{Begun, Started, None_free, None_from, Stepped, Ready, Did, Undid, Committed, Acknowledged, Aborting, None_left, Aborted, Handed_over, Forced, Checkpointed, Wrote, Told, Told_client, Shown, Refused}
+use Rattle.rq_model.specs.History.Entry.{Begun, Started, None_free, None_from, Stepped, Ready, Did, Undid, Committed, Acknowledged, Aborting, None_left, Aborted, Handed_over, Forced, Checkpointed, Migrated, Wrote, Told, Told_client, Shown, Refused}
 use Rattle.rq_model.specs.Ledger.{Ledger, after}
 use Rattle.rq_model.specs.Legal.{Legal}
 use Rattle.rq_model.specs.Tests.{Size}
@@ -33,6 +33,7 @@ pub data Reply : Type 0 where
   Gave_handed_over : Reply
   Gave_forced : (lsn : ℕ) → Reply
   Gave_checkpoint : (lsn : ℕ) → Reply
+  Gave_migrated : (lsn : ℕ) → Reply
   Gave_aborting : Reply
   Gave_aborted : Reply
   Gave_commit : (number : Number) → Reply
@@ -71,6 +72,7 @@ Says (Acknowledge t lsn) (Gave_receipt (Some c)) e = (c ≡ record { txn = t; ls
 Says Hand_over Gave_handed_over e = e ≡ Handed_over
 Says Force (Gave_forced lsn) e = e ≡ Forced lsn
 Says Checkpoint (Gave_checkpoint lsn) e = e ≡ Checkpointed lsn
+Says (Migrate pages) (Gave_migrated lsn) e = e ≡ Migrated pages lsn
 Says (Write_page page) (Gave_written done) e = e ≡ Wrote page done
 Says (Last_tag s) (Gave_tag sent tag) e = e ≡ Told s sent tag
 Says (Client_tag c) (Gave_client_tag count tag) e = e ≡ Told_client c count tag

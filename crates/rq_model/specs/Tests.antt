@@ -1,21 +1,32 @@
 -- What each call is tested for, in order.
-use Rattle.std.specs.Prelude.{◌≡◌, ℕ, zero, suc, ◌+◌, ◌-◌, ◌^◌, Bool, true, false, cond, List, [], ◌∷◌, ◌++◌, Option, Some, None, nat_eq, nat_lt, ◌&&◌, ◌||◌, length, not, IsTrue}
+use Rattle.std.specs.Prelude.{◌≡◌, ℕ, zero, suc, ◌+◌, ◌-◌, ◌*◌, ◌^◌, Bool, true, false, cond, List, [], ◌∷◌, ◌++◌, Option, Some, None, nat_eq, nat_lt, ◌&&◌, ◌||◌, length, not, IsTrue}
 use Rattle.std.specs.List.{filter, sum_by}
 use Rattle.rq_model.specs.declared.txn.Txn.{Txn}
 use Rattle.rq_model.specs.declared.refusal.Refusal.{Refusal}
-use Rattle.rq_model.specs.declared.refusal.Refusal.TheVariants.{Failed, UnknownTransaction, NotOpen, Unfinished, UnknownSender, TooLong, SenderBusy, Closed, ReceiverBusy, TooManyTransactions, LogFull, UnknownOperation, NotQuiet, UnknownClient, ClientBusy, Full, DiskRead, Latched, PoolFull, DiskWrite, Damaged, NotForced}
+use Rattle.rq_model.specs.declared.refusal.Refusal.TheVariants.{Failed, UnknownTransaction, NotOpen, Unfinished, UnknownSender, TooLong, SenderBusy, Closed, ReceiverBusy, TooManyTransactions, LogFull, UnknownOperation, NotQuiet, UnknownClient, ClientBusy, BadTags, Full, DiskRead, Latched, PoolFull, DiskWrite, Damaged, NotForced}
 use Rattle.rq_model.specs.Vocabulary.{Op, client_group, same_txn, has_number, first, last, is_some}
 use Rattle.rq_model.specs.Vocabulary.Op.{Send, Take, End, Mark}
-use Rattle.rq_model.specs.History.{Job, Call}
-use Rattle.rq_model.specs.History.Call.{Begin, Start_send, Start_receive, Start_receive_from, Start_close, Start_mark, Step, Finish, Commit, Acknowledge, Start_abort, Undo_next, End_abort, Hand_over, Force, Checkpoint, Write_page, Last_tag, Client_tag, Show}
+use Rattle.rq_model.specs.History.{Job, Entry, Call}
+use Rattle.rq_model.specs.History.Call.{Begin, Start_send, Start_receive, Start_receive_from, Start_close, Start_mark, Step, Finish, Commit, Acknowledge, Start_abort, Undo_next, End_abort, Hand_over, Force, Checkpoint, Migrate, Write_page, Last_tag, Client_tag, Show}
 use Rattle.rq_model.specs.History.Job.{Sending}
+use Rattle.rq_model.specs.History.Entry.{Grew}
 use Rattle.rq_model.specs.Ledger.{Open, Done, Ledger, runs, rest_in, ended_in, any_ends, found, own_takes}
 
--- the numbers of a store that stay
+-- how many senders, cells and clients a store has
 pub record Size : Type 0 where
   pub senders : ℕ
   pub cells : ℕ
   pub clients : ℕ
+
+-- they stay, but that a migration gives a store without clients 15 for each tag page
+abbrev pub grown_by : Entry → Size → Size
+grown_by (Grew pages) z = record z { clients = 15 * pages }
+grown_by _ z = z
+
+-- the size of a store behind a history, which had this size when it was formatted
+abbrev pub size_at : Size → List Entry → Size
+size_at z [] = z
+size_at z (e ∷ h) = grown_by e (size_at z h)
 
 -- below n: 0, 1, .. in order
 abbrev pub below : ℕ → List ℕ
@@ -132,6 +143,10 @@ ready_tests l t aborting =
     (not (runs l.phase), Failed) ∷ (not (is_some o), UnknownTransaction) ∷ (turned aborting o, NotOpen)
     ∷ (is_busy o, Unfinished) ∷ []
 
+-- a store cannot get so many tag pages: they are not 1 to 1,024, or it has some
+abbrev pub bad_tags : Size → ℕ → Bool
+bad_tags z pages = not (nat_lt 0 pages) || nat_lt 1024 pages || nat_lt 0 z.clients
+
 -- the tests of each call, in order
 abbrev pub tests : Size → Ledger → Call → List (Bool × Refusal)
 tests z l Begin = (not (runs l.phase), Failed) ∷ (
@@ -185,6 +200,9 @@ tests z l (Acknowledge t lsn) = (not (runs l.phase), Failed) ∷ []
 tests z l Hand_over = (not (runs l.phase), Failed) ∷ []
 tests z l Force = (not (runs l.phase), Failed) ∷ []
 tests z l Checkpoint = (not (runs l.phase), Failed) ∷ (is_some (first l.open_ones), NotQuiet) ∷ (log_full l 1, LogFull) ∷ []
+tests z l (Migrate pages) =
+    (not (runs l.phase), Failed) ∷ (bad_tags z pages, BadTags) ∷ (is_some (first l.open_ones), NotQuiet)
+    ∷ (log_full l 1, LogFull) ∷ []
 tests z l (Write_page p) = (not (runs l.phase), Failed) ∷ []
 
 -- no test is true

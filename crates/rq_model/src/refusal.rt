@@ -68,6 +68,8 @@ pub enum Refusal {
     UnknownClient,
     /// 23: another transaction holds the client's end.
     ClientBusy,
+    /// 24: a store cannot get so many tag pages: they are not 1 to 1,024, or it has some.
+    BadTags,
 }
 
 impl fmt::Display for Refusal {
@@ -92,7 +94,7 @@ impl From<NoMemory> for Refusal {
 impl Refusal {
     ghost use Rattle.rq_model.specs.Numbers.{number_of, name_of};
 
-    /// The refusal's number, 1 to 23.
+    /// The refusal's number, 1 to 24.
     pub fn number(&self) -> u8
         ensures { result ≡ number_of self.now }
     {
@@ -120,6 +122,7 @@ impl Refusal {
             Refusal::NotQuiet => 21,
             Refusal::UnknownClient => 22,
             Refusal::ClientBusy => 23,
+            Refusal::BadTags => 24,
         }
     }
 
@@ -151,6 +154,7 @@ impl Refusal {
             Refusal::NotQuiet => "NotQuiet",
             Refusal::UnknownClient => "UnknownClient",
             Refusal::ClientBusy => "ClientBusy",
+            Refusal::BadTags => "BadTags",
         }
     }
 }

@@ -6,3 +6,4 @@ pub mod PageParts
 pub mod Spellings
 pub mod Formats
 pub mod FormattedSlots
+pub mod Growing

@@ -7,6 +7,10 @@ pub record Sizes : Type 0 where
   pub cells : ℕ
   pub tags : ℕ
 
+-- the sizes with so many tag pages
+abbrev pub with_tags : ℕ → Sizes → Sizes
+with_tags n z = record z { tags = n }
+
 -- what a store may have
 pub record IsInRange (l : Sizes) : Type 0 where
   pub directory_low : 1 ≤ l.directory

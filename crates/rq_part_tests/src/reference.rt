@@ -31,11 +31,15 @@ enum Call {
     HandOver,
     Force,
     Checkpoint,
+    /// Pages of tags.
+    Migrate(u32),
     /// A sender.
     LastTag(u32),
     /// A client.
     ClientTag(u32),
     Content,
+    /// Pages of tags that a migration leaves, before a crash.
+    Grow(u32),
     /// A crash that leaves so many records.
     Crash(u64),
     /// An incarnation, and how many records there are then.
@@ -115,9 +119,11 @@ fn ask_other(queue: &mut Reference, call: Call, now: u64) -> Result<u64, Refusal
         Call::HandOver => queue.hand_over()?,
         Call::Force => return queue.force(),
         Call::Checkpoint => return queue.checkpoint(),
+        Call::Migrate(pages) => return queue.migrate(pages),
         Call::LastTag(sender) => return Ok(with_tag(queue.last_tag(sender)?)),
         Call::ClientTag(client) => return Ok(with_tag(queue.client_tag(client)?)),
         Call::Content => return content(queue),
+        Call::Grow(pages) => return Ok(grow(queue, pages)),
         Call::Crash(records) => return Ok(crash(queue, records)),
         Call::Restart(incarnation, records) => return Ok(restart(queue, incarnation, records)),
         _ => return Ok(OTHER),
@@ -167,6 +173,15 @@ fn sum_of(group: &GroupContent) -> u64 {
         .saturating_add(group.received.saturating_mul(10))
         .saturating_add(group.sent.saturating_mul(100))
         .saturating_add(if group.closed { 1000 } else { 0 })
+}
+
+// Whether a migration may come through so, and did.
+fn grow(queue: &mut Reference, pages: u32) -> u64 {
+    let may = queue.may_grow(pages);
+    if may {
+        queue.grow(pages);
+    }
+    u64::from(may)
 }
 
 // Whether it may crash so, and did.
@@ -322,9 +337,73 @@ const ROWS: [Row; 109] = [
     (Call::ClientTag(15), 122),
 ];
 
+// A store without clients gets some, where no transaction is open, and answers nothing more before it is opened again. Then its
+// clients can be marked, and it gets no others.
+const MIGRATED_ROWS: [Row; 32] = [
+    (Call::Migrate(1), 102),
+    (Call::Restart(1, 1), 1),
+    (Call::Begin, 1),
+    (Call::Mark(1, 3, 70), 122),
+    (Call::Migrate(1), 121),
+    (Call::Migrate(0), 124),
+    (Call::Migrate(1025), 124),
+    (Call::Send(1, 0, 7), 1),
+    (Call::Step(1, 1), 2),
+    (Call::Step(1, 1), 3),
+    (Call::Finish(1, 1), 0),
+    (Call::Commit(1), 5),
+    (Call::ClientTag(0), 122),
+    (Call::Migrate(1), 6),
+    (Call::Acknowledge, 102),
+    (Call::Content, 102),
+    (Call::Migrate(1), 102),
+    (Call::Grow(1), 0),
+    (Call::Restart(2, 7), 0),
+    (Call::Crash(5), 0),
+    (Call::Crash(6), 1),
+    (Call::Restart(2, 7), 1),
+    (Call::Content, 101),
+    (Call::ClientTag(14), 0),
+    (Call::ClientTag(15), 122),
+    (Call::Begin, 1),
+    (Call::Mark(1, 3, 70), 1),
+    (Call::Step(1, 1), 8),
+    (Call::Migrate(2), 124),
+    (Call::Finish(1, 1), 0),
+    (Call::Commit(1), 10),
+    (Call::ClientTag(3), 170),
+];
+
+// A crash cuts a migration off, and leaves the pages of tags that it wrote.
+const GROWN_ROWS: [Row; 14] = [
+    (Call::Grow(1), 0),
+    (Call::Restart(1, 1), 1),
+    (Call::Begin, 1),
+    (Call::Grow(1), 0),
+    (Call::Commit(1), 2),
+    (Call::Grow(0), 0),
+    (Call::Grow(1025), 0),
+    (Call::Grow(1024), 1),
+    (Call::Force, 102),
+    (Call::Crash(3), 1),
+    (Call::Grow(1), 0),
+    (Call::Restart(2, 4), 1),
+    (Call::ClientTag(15359), 0),
+    (Call::ClientTag(15360), 122),
+];
+
 // A store of one directory, one cell and one tag page.
 #[test]
 fn lists_answer_each_call(rt: HostRuntime) {
     let mut queue = Reference::new(rt.alloc(), 15, 15, 15);
     assert_eq!(rt; first_other(&mut queue, &ROWS), None);
+}
+
+// A store of one directory and one cell page, which gets tag pages.
+#[test]
+fn lists_answer_migrations(rt: HostRuntime) {
+    let mut queue = Reference::new(rt.alloc(), 15, 15, 0);
+    assert_eq!(rt; first_other(&mut queue, &MIGRATED_ROWS), None);
+    let mut queue = Reference::new(rt.alloc(), 15, 15, 0);
+    assert_eq!(rt; first_other(&mut queue, &GROWN_ROWS), None);
 }

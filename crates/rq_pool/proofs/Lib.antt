@@ -5,3 +5,4 @@ pub mod Slots
 pub mod Indexes
 pub mod Kept
 pub mod Over
+pub mod Growths

@@ -1,5 +1,5 @@
 -- Pages stay tied to their device.
-use Rattle.std.proofs.Common.{◌≡◌, ◌≢◌, ℕ, ◌<◌, Bool, true, false, List, length, replicate, slice_set, sym, ap, subst, arith, ◌∙◌, inl, inr}
+use Rattle.std.proofs.Common.{◌≡◌, ◌≢◌, ℕ, ◌<◌, ◌≤◌, Bool, true, false, List, length, replicate, slice_set, sym, ap, subst, arith, ◌∙◌, inl, inr}
 use Rattle.std.proofs.lemmas.Bool.{cases_eq, true≢false}
 use Rattle.std.proofs.lemmas.List.{get_or-set_same, get_or-set_other, length-set, length-replicate}
 use Rattle.rq_disk.specs.Device.{Holds}
@@ -34,6 +34,14 @@ module _ {P : Type 0} (g : Ghosts P) (z : Sizes) (images : List (List ℕ)) (cha
       | inl here ↦ absurd (true≢false (sym was ∙ ap (is_changed changed) (sym here) ∙ same))
       | inr other ↦ over.clean (falls h) p lt same ∙ sym (others p other)
     ];
+  }
+
+  -- a page behind the last was perhaps written
+  pub over_beyond : (n : ℕ) → page_count z ≤ n → (g.honest new → g.honest old) → ((p : ℕ) → p ≢ n → g.seen new p ≡ g.seen old p) → AreOver g new z images changed
+  over_beyond n high falls others = record {
+    pool = over.pool;
+    flags = over.flags;
+    clean = λ h p lt same. over.clean (falls h) p lt same ∙ sym (others p (λ e. absurd (omega (arith, e, lt, high))));
   }
 
 -- a slot of a page was written

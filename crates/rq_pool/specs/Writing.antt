@@ -8,6 +8,7 @@ use Rattle.rq_page.specs.Sizes.{Sizes, page_count}
 use Rattle.rq_page.specs.Slots.{IsSlotOf}
 use Rattle.rq_level.specs.Meaning.{Redo}
 use Rattle.rq_page.specs.Pages.{lsn_of}
+use Rattle.rq_page.specs.Formatted.{IsFormatted}
 use Rattle.rq_pool.specs.declared.Written.{Written}
 use Rattle.rq_pool.specs.declared.Written.TheVariants.{Done, Nothing}
 use Rattle.rq_pool.specs.Pooled.{Pooled, image_at, is_changed}
@@ -56,6 +57,18 @@ DeviceAfter g page image old new (Ok Nothing) = new ≡ old
 DeviceAfter g page image old new (Err why.DiskWrite) =
     MayHaveWritten g page image old new × (g.faults new ≡ (g.faults old + 1) % 2 ^ 64)
 DeviceAfter g page image old new (Err _) = new ≡ old
+
+-- a formatted page was handed to the device: it reads that image, or has failed once more
+abbrev pub IsFormattedAfter : {P : Type 0} → Ghosts P → Sizes → ℕ → P → P → Result Unit Refusal → Type 0
+IsFormattedAfter g z page old new (Ok _) = (image : List ℕ) × IsFormatted z page image
+    × Holds (g.seen old) page image (g.seen new) × MayHaveWritten g page image old new × (g.faults new ≡ g.faults old)
+IsFormattedAfter g z page old new (Err why.DiskWrite) = (image : List ℕ) × IsFormatted z page image
+    × MayHaveWritten g page image old new × (g.faults new ≡ (g.faults old + 1) % 2 ^ 64)
+IsFormattedAfter g z page old new (Err _) = ⊥
+
+-- the device has not stopped before, where it is honest
+abbrev pub HasRun : {P : Type 0} → Ghosts P → P → P → Type 0
+HasRun g old new = g.honest new → g.stopped old → ⊥
 
 -- The device was synced, or has failed in it. It reads as before, and a crash leaves no image that it did not leave before.
 -- Time goes on.

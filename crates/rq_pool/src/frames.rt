@@ -56,12 +56,12 @@ pub(crate) fn redo_frame<B: Level>(
     made
 }
 
-/// Has a page count as written.
-pub(crate) fn mark_written(frames: &mut Vec<Frame>, page: u32)
+/// Has a page count as changed, or as written.
+pub(crate) fn mark(frames: &mut Vec<Frame>, page: u32, changed: bool)
     requires { page < length frames.old.items }
     ensures images { images_of frames.new.items ≡ images_of frames.old.items }
-    ensures changed { changed_of frames.new.items ≡ slice_set (changed_of frames.old.items) page false }
+    ensures changed { changed_of frames.new.items ≡ slice_set (changed_of frames.old.items) page changed }
 {
     let frame = &mut frames[page as usize];
-    frame.changed = false;
+    frame.changed = changed;
 }

@@ -12,11 +12,13 @@ ghost use Rattle.rq_disk.specs.Device.{FailureIsCounted, Only};
 ghost use Rattle.rq_level.specs.Meaning.{AppliesOnce, redo_of};
 ghost use Rattle.rq_pool.specs.Pooled.{IsPool, image_at, is_changed};
 
+pub mod formatting;
 mod frames;
 mod free;
+mod growing;
 mod reading;
 
-use crate::frames::{mark_written, redo_frame, write_slot};
+use crate::frames::{mark, redo_frame, write_slot};
 use crate::free::note_slot;
 use crate::reading::{read_frames, read_superblock};
 use rq_bitset::Index;
@@ -254,7 +256,7 @@ impl<P: PageDevice> Pages<P> {
         if self.device.write(page, frame.page.image()).is_err() {
             return Err(Refusal::DiskWrite);
         }
-        mark_written(&mut self.frames, page);
+        mark(&mut self.frames, page, false);
         Ok(Written::Done)
     }
 

@@ -1,10 +1,12 @@
 -- The queue as plain lists: what its rows stand for in the ledger, and what its calls answer.
-use Rattle.std.specs.Prelude.{◌≡◌, ℕ, ◌-◌, ◌<◌, ◌≤◌, Bool, true, false, cond, List, [], ◌∷◌, Option, Some, None, map, length, IsTrue, not, slice_index_or, ◌++◌}
+use Rattle.std.specs.Prelude.{◌≡◌, ℕ, ◌-◌, ◌<◌, ◌≤◌, Bool, cond, List, [], ◌∷◌, Option, Some, None, map, length, IsTrue, not, slice_index_or, ◌++◌}
 use Rattle.std.specs.List.{filter, filter_map, flat_map}
 use Rattle.rq_model.specs.declared.txn.Txn.{Txn}
 use Rattle.rq_model.specs.declared.message.Message.{Message}
 use Rattle.rq_model.specs.declared.refusal.Refusal.{Refusal}
 use Rattle.rq_model.specs.declared.refusal.Refusal.TheVariants.{Failed, UnknownOperation}
+use Rattle.rq_reference.specs.declared.rows.State.{State}
+use Rattle.rq_reference.specs.declared.rows.State.TheVariants.{Running as Running_state, Stopped as Stopped_state, Shut as Shut_state}
 use Rattle.rq_reference.specs.declared.rows.Act.{Act}
 use Rattle.rq_reference.specs.declared.rows.Act.TheVariants.{Sent, Taken, Closed, Marked}
 use Rattle.rq_reference.specs.declared.rows.Work.{Work}
@@ -19,16 +21,17 @@ use Rattle.rq_model.specs.Vocabulary.{Op, client_group, first, front, has_number
 use Rattle.rq_model.specs.Vocabulary.Op.{Send, Take, End, Mark}
 use Rattle.rq_model.specs.History.{Job, Call, Entry}
 use Rattle.rq_model.specs.History.Job.{Sending, Taking, Ending, Marking, Undoing}
-use Rattle.rq_model.specs.History.Entry.{Refused, Ready, Stepped, Did, Undid, Started, None_free, None_from, None_left}
+use Rattle.rq_model.specs.History.Entry.{Refused, Ready, Stepped, Did, Undid, Started, None_free, None_from, None_left, Grew}
 use Rattle.rq_model.specs.Ledger.{Open, Done, Ledger, Phase, runs, after, found, kept_in, add_number, Rising}
-use Rattle.rq_model.specs.Ledger.Phase.{Running, Shut}
+use Rattle.rq_model.specs.Ledger.Phase.{Running, Stopped, Shut}
 use Rattle.rq_model.specs.Legal.{Legal, IsDoneBy}
-use Rattle.rq_model.specs.Tests.{Size, NoneHolds, first_of, has_under, ready_tests, below, gives, without_pages}
+use Rattle.rq_model.specs.Tests.{Size, NoneHolds, first_of, grown_by, has_under, ready_tests, below, gives, without_pages}
 
--- a reference runs, or is not open: it has no device that could fail
-abbrev pub phase_of : Bool → Phase
-phase_of true = Running
-phase_of false = Shut
+-- a reference runs; or a migration came through, and it answers nothing more; or it is not open
+abbrev pub phase_of : State → Phase
+phase_of Running_state = Running
+phase_of Stopped_state = Stopped
+phase_of Shut_state = Shut
 
 -- what a reference is: the numbers that stay, and the ledger
 pub record Stand : Type 0 where
@@ -41,6 +44,10 @@ May s e = Legal s.size s.ledger e
 
 abbrev pub next : Entry → Stand → Stand
 next e s = record { size = s.size; ledger = after e s.ledger }
+
+-- what it makes of the reference that a migration came through: so many tag pages stand on the device
+abbrev pub grown : ℕ → Stand → Stand
+grown pages s = record { size = grown_by (Grew pages) s.size; ledger = after (Grew pages) s.ledger }
 
 -- the call may be refused so
 abbrev pub MayBeRefused : Stand → Call → Refusal → Type 0

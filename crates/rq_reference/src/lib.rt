@@ -6,14 +6,14 @@ ghost use Rattle.std.specs.Prelude.{◌≡◌, ◌≢◌, ◌↔◌, ◌⊎◌, 
 ghost use Rattle.rq_model.specs.History.Call.{Begin, Commit, Finish, Show, Step, Acknowledge, Start_abort, End_abort, Hand_over, Force, Checkpoint, Last_tag, Client_tag};
 ghost use Rattle.rq_model.specs.History.Entry.{Begun, Shown, Committed, Acknowledged, Aborting, Aborted, Handed_over, Forced, Checkpointed, Told, Told_client, Crash, Restarted};
 ghost use Rattle.rq_model.specs.Vocabulary.{first, is_some, last_or};
-ghost use Rattle.rq_model.specs.Ledger.{empty, kept_in, marks_in, sent_in};
+ghost use Rattle.rq_model.specs.Ledger.{empty, kept_in, marks_in, runs, sent_in};
 ghost use Rattle.rq_model.specs.Ledger.Phase.{Shut};
 ghost use Rattle.rq_model.specs.Legal.{At, IsCheckpointed, IsUpTo};
 ghost use Rattle.rq_reference.specs.Plain.{May, MayBeRefused, next, ComesTo, FindsReady, IsBusy, IsIdle, StandsAt, finish_entry, job_of, open_of, step_entry, tags_in};
 ghost use Rattle.rq_model.specs.Tests.{IsUnready};
 ghost use Rattle.rq_model.specs.declared.refusal.Refusal.TheVariants.{NoMemory};
 
-use crate::rows::{Act, CommittedTxn, GroupContent, OpenTxn, Work};
+use crate::rows::{Act, CommittedTxn, GroupContent, OpenTxn, State, Work};
 use crate::scans::Tagged;
 use rq_model::limits::TRANSACTION_LIMIT;
 use rq_model::refusal::Refusal;
@@ -21,6 +21,7 @@ use rq_model::txn::{Lsn, Txn};
 use std::alloc::Global;
 use std::marker::Model;
 
+mod migrating;
 pub mod rows;
 mod scans;
 mod starts;
@@ -35,7 +36,7 @@ pub struct Reference {
     clients: u32,
     committed: Vec<CommittedTxn>,
     open_txns: Vec<OpenTxn>,
-    running: bool,
+    state: State,
     incarnation: u64,
     begins: u64,
     records: u64,
@@ -54,7 +55,7 @@ impl Model for Reference {
       ledger = record {
         committed = map done_of r.committed.items;
         open_ones = map open_of r.open_txns.items;
-        phase = phase_of r.running;
+        phase = phase_of r.state;
         incarnation = r.incarnation;
         begins = r.begins;
         records = r.records;
@@ -66,7 +67,7 @@ impl Model for Reference {
     ghost invariant = { λ r. Sound (record {
       committed = map done_of r.committed.items;
       open_ones = map open_of r.open_txns.items;
-      phase = phase_of r.running;
+      phase = phase_of r.state;
       incarnation = r.incarnation;
       begins = r.begins;
       records = r.records;
@@ -90,7 +91,7 @@ impl Reference {
             clients,
             committed: Vec::new(alloc),
             open_txns: Vec::new(alloc),
-            running: false,
+            state: State::Shut,
             incarnation: 0,
             begins: 0,
             records: 0,
@@ -131,7 +132,7 @@ impl Reference {
     pub fn may_restart(&self, incarnation: u64, records: u64) -> bool
         ensures { (result ≡ true) ↔ May self.now (Restarted incarnation records) }
     {
-        if self.running {
+        if !self.is_shut() {
             return false;
         }
         if incarnation <= self.incarnation {
@@ -147,13 +148,27 @@ impl Reference {
         if records < self.forced {
             return false;
         }
-        if !self.running {
+        if self.is_shut() {
             return true;
         }
         if records <= self.records {
             return true;
         }
         self.is_quiet() && records - 1 == self.records
+    }
+
+    // Whether it answers calls.
+    fn is_running(&self) -> bool
+        ensures { result ≡ runs self.now.ledger.phase }
+    {
+        self.state.is_running()
+    }
+
+    // Whether it is not open.
+    fn is_shut(&self) -> bool
+        ensures { (result ≡ true) ↔ (self.now.ledger.phase ≡ Shut) }
+    {
+        self.state.is_shut()
     }
 
     // Whether no transaction is open.
@@ -172,7 +187,7 @@ impl Reference {
         ensures step { self.new ≡ next (Restarted incarnation records) self.old }
     {
         self.open_txns.clear();
-        self.running = true;
+        self.state = State::Running;
         self.incarnation = incarnation;
         self.begins = 0;
         self.records = records;
@@ -190,7 +205,7 @@ impl Reference {
         let kept = scans::kept_in(&self.committed, records);
         self.committed.truncate(kept);
         self.open_txns.clear();
-        self.running = false;
+        self.state = State::Shut;
         self.records = records;
         self.forced = records;
     }
@@ -205,7 +220,7 @@ impl Reference {
         ensures refused { IfErr result (λ r. MayBeRefused self.old Begin r) }
         ensures same { OnErr result (self.new ≡ self.old) }
     {
-        if !self.running {
+        if !self.is_running() {
             return Err(Refusal::Failed);
         }
         if self.open_txns.len() >= TRANSACTION_LIMIT || self.begins == u64::MAX {
@@ -243,7 +258,7 @@ impl Reference {
         ensures refused { IfErr result (λ r. MayBeRefused self.now (Acknowledge txn lsn) r) }
         ensures memory { IfErr result (λ r. r ≢ NoMemory) }
     {
-        if !self.running {
+        if !self.is_running() {
             return Err(Refusal::Failed);
         }
         Ok(txn.incarnation == self.incarnation && lsn <= self.forced)
@@ -258,7 +273,7 @@ impl Reference {
         ensures refused { IfErr result (λ r. MayBeRefused self.now Hand_over r) }
         ensures memory { IfErr result (λ r. r ≢ NoMemory) }
     {
-        if self.running {
+        if self.is_running() {
             Ok(())
         } else {
             Err(Refusal::Failed)
@@ -276,7 +291,7 @@ impl Reference {
         ensures same { OnErr result (self.new ≡ self.old) }
         ensures memory { IfErr result (λ r. r ≢ NoMemory) }
     {
-        if !self.running {
+        if !self.is_running() {
             return Err(Refusal::Failed);
         }
         self.forced = self.records;
@@ -295,7 +310,7 @@ impl Reference {
         ensures same { OnErr result (self.new ≡ self.old) }
         ensures memory { IfErr result (λ r. r ≢ NoMemory) }
     {
-        if !self.running {
+        if !self.is_running() {
             return Err(Refusal::Failed);
         }
         if !self.is_quiet() {
@@ -316,7 +331,7 @@ impl Reference {
         ensures refused { IfErr result (λ r. IsUnready self.now.ledger txn aborting r) }
         ensures memory { IfErr result (λ r. r ≢ NoMemory) }
     {
-        if !self.running {
+        if !self.is_running() {
             return Err(Refusal::Failed);
         }
         let Some(place) = scans::place_of(&self.open_txns, txn) else {
@@ -388,7 +403,7 @@ impl Reference {
         ensures ok { IfOk result (λ groups. May self.now (Shown groups.items)) }
         ensures refused { IfErr result (λ r. MayBeRefused self.now Show r) }
     {
-        if !self.running {
+        if !self.is_running() {
             return Err(Refusal::Failed);
         }
         if scans::any_busy(&self.open_txns) {
@@ -406,7 +421,7 @@ impl Reference {
         ensures refused { IfErr result (λ r. IsIdle self.now.ledger txn number r) }
         ensures memory { IfErr result (λ r. r ≢ NoMemory) }
     {
-        if !self.running {
+        if !self.is_running() {
             return Err(Refusal::Failed);
         }
         let Some(place) = scans::place_of(&self.open_txns, txn) else {
@@ -547,7 +562,7 @@ impl Reference {
         ensures refused { IfErr result (λ r. MayBeRefused self.now (Last_tag sender) r) }
         ensures memory { IfErr result (λ r. r ≡ NoMemory → 2 ^ 64 - 1 ≤ length (sent_in self.now.ledger.committed sender)) }
     {
-        if !self.running {
+        if !self.is_running() {
             return Err(Refusal::Failed);
         }
         if sender >= self.senders {
@@ -565,7 +580,7 @@ impl Reference {
         ensures refused { IfErr result (λ r. MayBeRefused self.now (Client_tag client) r) }
         ensures memory { IfErr result (λ r. r ≡ NoMemory → 2 ^ 64 - 1 ≤ length (marks_in self.now.ledger.committed client)) }
     {
-        if !self.running {
+        if !self.is_running() {
             return Err(Refusal::Failed);
         }
         if client >= self.clients {

@@ -1,10 +1,48 @@
 //! What the reference keeps: its transactions as rows of plain lists.
-ghost use Rattle.std.specs.Prelude.{◌≡◌};
+ghost use Rattle.std.specs.Prelude.{◌≡◌, ◌↔◌, true};
+ghost use Rattle.rq_model.specs.Ledger.{runs};
+ghost use Rattle.rq_model.specs.Ledger.Phase.{Shut};
+ghost use Rattle.rq_reference.specs.Plain.{phase_of};
 ghost use Rattle.rq_model.specs.Vocabulary.{client_group};
 
 use rq_model::message::Message;
 use rq_model::txn::{Lsn, Txn};
 use std::marker::Model;
+
+/// Whether a reference is open.
+#[derive(Clone, Copy, PartialEq, Eq)]
+pub enum State {
+    /// It is, and answers calls.
+    Running,
+    /// A migration came through, and it answers nothing more.
+    Stopped,
+    /// It is not.
+    Shut,
+}
+
+impl State {
+    /// Whether it answers calls.
+    pub fn is_running(self) -> bool
+        ensures { result ≡ runs (phase_of self) }
+    {
+        match self {
+            State::Running => true,
+            State::Stopped => false,
+            State::Shut => false,
+        }
+    }
+
+    /// Whether it is not open.
+    pub fn is_shut(self) -> bool
+        ensures { (result ≡ true) ↔ (phase_of self ≡ Shut) }
+    {
+        match self {
+            State::Running => false,
+            State::Stopped => false,
+            State::Shut => true,
+        }
+    }
+}
 
 /// What a finished operation of a transaction did.
 #[derive(Clone, Copy, PartialEq, Eq)]

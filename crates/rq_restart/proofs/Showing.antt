@@ -10,13 +10,14 @@ use Rattle.rq_pool.specs.Pooled.{IsPool}
 use Rattle.rq_views.specs.Log.{put}
 use Rattle.rq_views.specs.Stored.{slots_in}
 use Rattle.rq_views.proofs.Overlay.{put_agree}
+use Rattle.rq_views.proofs.Stands.{page_of_slot}
 use Rattle.rq_level.specs.declared.writes.SlotWrite.{SlotWrite}
 use Rattle.rq_store.specs.Fitting.{FitsLog, HoldsPage, image_in, left_by, oldest, told_by}
 use Rattle.rq_store.specs.Opening.{MayRedo, FitsUpTo, Redoes}
 use Rattle.rq_store.specs.State.{State}
 use Rattle.rq_store.specs.Steps.{page_op}
 use Rattle.rq_store.specs.Whole.{IsWhole}
-use Rattle.rq_store.proofs.Bounds.{may_redo, page_of_slot}
+use Rattle.rq_store.proofs.Bounds.{may_redo}
 use Rattle.rq_store.proofs.Fitting.{page_fits_more, slot_holds}
 use Rattle.rq_store.proofs.Redoing.{redo_one, redone_slots}
 use Rattle.rq_store.proofs.Owing.{address_is}

@@ -28,7 +28,3 @@ WritesItsPages p z old new = PagesLeave p old new (AreBeforeOrFormatted p z old)
 -- The pages past the store's last one read as before.
 abbrev pub KeepsOthers : {P : Type 0} → Ghosts P → Sizes → P → P → Type 0
 KeepsOthers p z old new = (q : ℕ) → page_count z ≤ q → p.seen new q ≡ p.seen old q
-
--- the device has not stopped before, where it is honest
-abbrev pub HasRun : {P : Type 0} → Ghosts P → P → P → Type 0
-HasRun p old new = p.honest new → p.stopped old → ⊥

@@ -1,15 +1,17 @@
 //! A new store.
-ghost use Rattle.std.specs.Prelude.{◌≡◌, ◌≢◌, ◌<◌, ◌+◌, ◌%◌, ◌^◌, ℕ, [], OnOk, IfErr};
-ghost use Rattle.rq_disk.specs.Device.{Holds, Only, Written, NoMore, Leaves, Elapses};
+ghost use Rattle.std.specs.Prelude.{◌≡◌, ◌<◌, ◌+◌, ◌%◌, ◌^◌, ℕ, [], OnOk, IfErr};
+ghost use Rattle.rq_disk.specs.Device.{Only, NoMore, Leaves, Elapses};
 ghost use Rattle.rq_page.specs.Sizes.{page_count};
 ghost use Rattle.rq_page.specs.Formatted.{IsFormatted};
 ghost use Rattle.rq_store.specs.Fitting.{AllFit, FitsLog};
-ghost use Rattle.rq_restart.specs.Formatting.{HasRun, KeepsOthers, SuperblockIsLast, WritesItsPages};
+ghost use Rattle.rq_pool.specs.Writing.{HasRun};
+ghost use Rattle.rq_restart.specs.Formatting.{KeepsOthers, SuperblockIsLast, WritesItsPages};
 
 use rq_disk::{PAGE, PageDevice};
 use rq_model::refusal::Refusal;
 use rq_page::layout::Layout;
 use rq_page::page::Page;
+use rq_pool::formatting::write_formatted;
 
 /// Writes the pages of an empty store with so many directory, cell and tag pages, and syncs them; the
 /// superblock last, behind a sync of the others, so that a store that was not formatted to its end does not open. No
@@ -41,32 +43,6 @@ pub fn format<P: PageDevice>(pages: &mut P, layout: &Layout) -> Result<(), Refus
     sync(pages)?;
     write_formatted(pages, layout, 0, &mut page)?;
     sync(pages)
-}
-
-fn write_formatted<P: PageDevice>(
-    pages: &mut P,
-    layout: &Layout,
-    number: u32,
-    page: &mut Page,
-) -> Result<(), Refusal>
-    requires { number < page_count layout.now }
-    ensures formatted { IsFormatted layout.now number page.new }
-    ensures others { (p : ℕ) → p ≢ number → P.seen pages.new p ≡ P.seen pages.old p }
-    ensures honest { P.honest pages.new → P.honest pages.old }
-    ensures runs { OnOk result (HasRun P.PageDevice pages.old pages.new) }
-    ensures crash { Written number page.new (P.may_be pages.old) (P.may_be pages.new) }
-    ensures time { Elapses (P.moment pages.old) (P.moment pages.new) (P.left_since pages.old) (P.left_since pages.new)
-        (Leaves (P.may_be pages.new)) }
-    ensures written { OnOk result (Holds (P.seen pages.old) number page.new (P.seen pages.new)) }
-    ensures cause { OnOk result (P.faults pages.new ≡ P.faults pages.old) }
-    ensures err { IfErr result (λ e. (e ≡ Refusal.DiskWrite)
-        × (P.faults pages.new ≡ (P.faults pages.old + 1) % 2 ^ 64)) }
-{
-    layout.format(number, page);
-    match pages.write(number, page.image()) {
-        Ok(()) => Ok(()),
-        Err(_) => Err(Refusal::DiskWrite),
-    }
 }
 
 fn sync<P: PageDevice>(pages: &mut P) -> Result<(), Refusal>

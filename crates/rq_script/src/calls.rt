@@ -80,6 +80,7 @@ fn call<S: Store>(store: &mut S, alloc: Global, command: Command<'_>) -> Reply {
         Command::Ack(txn) => ack(store, txn),
         Command::Force => store.ask(Event::Force),
         Command::Checkpoint => store.ask(Event::Checkpoint),
+        Command::Migrate(pages) => store.ask(Event::Migrate(pages)),
         Command::Write(page) => store.ask(Event::WritePage(page)),
         Command::Last(sender) => store.ask(Event::LastTag(sender)),
         Command::ClientTag(client) => store.ask(Event::ClientTag(client)),

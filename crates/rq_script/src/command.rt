@@ -22,6 +22,8 @@ pub enum Command<'a> {
     Ack(Txn),
     Force,
     Checkpoint,
+    /// The store is to have so many tag pages.
+    Migrate(u32),
     Write(u32),
     Last(u32),
     ClientTag(u32),
@@ -110,6 +112,7 @@ enum Word {
     Undo,
     EndAbort,
     Ack,
+    Migrate,
     Write,
     Last,
     Tag,
@@ -118,7 +121,7 @@ enum Word {
     Restart,
 }
 
-const WORDS: [(&[u8], Word); 20] = [
+const WORDS: [(&[u8], Word); 21] = [
     (b"send", Word::Send),
     (b"open-send", Word::OpenSend),
     (b"step", Word::Step),
@@ -133,6 +136,7 @@ const WORDS: [(&[u8], Word); 20] = [
     (b"undo", Word::Undo),
     (b"end-abort", Word::EndAbort),
     (b"ack", Word::Ack),
+    (b"migrate", Word::Migrate),
     (b"write", Word::Write),
     (b"last", Word::Last),
     (b"tag", Word::Tag),
@@ -173,6 +177,7 @@ fn with_words<'a>(name: &[u8], rest: &'a [u8]) -> Option<Command<'a>> {
         Word::Undo => Some(Command::Undo(txn(rest)?)),
         Word::EndAbort => Some(Command::EndAbort(txn(rest)?)),
         Word::Ack => Some(Command::Ack(txn(rest)?)),
+        Word::Migrate => Some(Command::Migrate(short_number(rest)?)),
         Word::Write => Some(Command::Write(short_number(rest)?)),
         Word::Last => Some(Command::Last(short_number(rest)?)),
         Word::Tag => Some(Command::ClientTag(short_number(rest)?)),

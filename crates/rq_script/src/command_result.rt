@@ -89,6 +89,7 @@ fn print_reply(output: &mut Vec<u8>, reply: &Reply) -> io::Result<()> {
         Reply::HandedOver => Ok(()),
         Reply::Forced(lsn) => print_number(output, "forced", *lsn),
         Reply::Checkpointed(lsn) => print_number(output, "checkpoint", *lsn),
+        Reply::Migrated(lsn) => print_number(output, "migrated", *lsn),
         Reply::Written(Written::Done) => print_word(output, "written"),
         Reply::Written(Written::Nothing) => print_word(output, "nothing"),
         Reply::LastTag(last) => print_last(output, *last),

@@ -7,7 +7,7 @@ use crate::command_result::{CommandResult, LINE_ROOM};
 use crate::machine::{Machine, Medium};
 use crate::store::Memory;
 use rq_level::Level;
-use rq_page::layout::Layout;
+use rq_page::layout::{Layout, TAGS_LIMIT};
 use rq_planner::StoreLevels;
 use std::alloc::Global;
 use std::io;
@@ -52,6 +52,17 @@ pub fn sets_wanted(script: &[u8]) -> usize {
     sets
 }
 
+// For how many pages more the device of a script's store has room: all tag pages that a store may be given, where a line begins
+// with `migrate`.
+fn room_wanted(script: &[u8]) -> u32 {
+    for line in script.split(|byte| *byte == b'\n') {
+        if line.starts_with(b"migrate") {
+            return TAGS_LIMIT;
+        }
+    }
+    0
+}
+
 // Makes a store, and carries out the lines over it.
 fn run_lines<W: Write, B: Level>(
     alloc: Global,
@@ -66,7 +77,7 @@ fn run_lines<W: Write, B: Level>(
         writer.write_all(b"fault 1 NoMemory\n")?;
         return Ok(1);
     };
-    match Memory::formatted(alloc, &layout, sets) {
+    match Memory::formatted(alloc, &layout, room_wanted(input), sets) {
         Ok((memory, devices)) => run_over(alloc, memory, devices, input, writer, &mut output),
         Err(refusal) => {
             CommandResult::Fault(refusal).print(&mut output);

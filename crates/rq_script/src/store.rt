@@ -28,13 +28,15 @@ pub struct Memory<B: Level> {
 }
 
 impl<B: Level> Memory<B> {
-    /// A formatted store that is opened with these sets, and its devices.
+    /// A formatted store that is opened with these sets, and its devices. They have room for so many pages more.
     pub fn formatted(
         alloc: Global,
         layout: &Layout,
+        room: u32,
         sets: Vec<StoreLevels<B>>,
     ) -> Result<(Memory<B>, (MemPages, MemLog)), Refusal> {
-        let Ok((switch, mut pages, log)) = devices(alloc, layout) else {
+        let Ok((switch, mut pages, log)) = devices(alloc, layout.pages().saturating_add(room))
+        else {
             return Err(Refusal::NoMemory);
         };
         format_all(&mut pages, layout)?;
@@ -110,10 +112,10 @@ impl<B: Level> Medium<Kept<MemPages, MemLog, B>, (MemPages, MemLog)> for Memory<
     }
 }
 
-// Devices in memory for a store, both under one switch.
-fn devices(alloc: Global, layout: &Layout) -> Result<(Switch, MemPages, MemLog), AllocError> {
+// Devices in memory with so many pages, both under one switch.
+fn devices(alloc: Global, count: u32) -> Result<(Switch, MemPages, MemLog), AllocError> {
     let switch = Switch::new(alloc)?;
-    let pages = MemPages::zeroed(alloc, layout.pages(), switch.share()?)?;
+    let pages = MemPages::zeroed(alloc, count, switch.share()?)?;
     let log = MemLog::new(alloc, Vec::new(alloc), switch.share()?);
     Ok((switch, pages, log))
 }

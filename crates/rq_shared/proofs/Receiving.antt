@@ -15,8 +15,9 @@ use Rattle.rq_model.specs.Legal.{Legal}
 use Rattle.rq_model.specs.Commits.{committed_of, told}
 use Rattle.rq_model.specs.Replay.{Number, Reply, Says, Replays}
 use Rattle.rq_model.specs.Replay.Reply.{Gave_txn, Gave_sub, Gave_none, Gave_nothing_left, Gave_lsn, Gave_ready, Gave_sent, Gave_message, Gave_closed, Gave_marked, Gave_undone, Gave_handed_over, Gave_checkpoint, Gave_forced, Gave_aborting, Gave_aborted, Gave_commit, Gave_receipt, Gave_written, Gave_tag, Gave_client_tag, Gave_content, Gave_refusal}
+use Rattle.rq_model.proofs.Replayed.{never_break}
 use Rattle.rq_model.proofs.EntryKinds.{Kind, kind}
-use Rattle.rq_model.proofs.EntryKinds.Kind.{Plain, Commits, Forces, Checkpoints, Crashes, Restarts}
+use Rattle.rq_model.proofs.EntryKinds.Kind.{Plain, Commits, Forces, Checkpoints, Migrates, Crashes, Restarts}
 use Rattle.rq_model.proofs.Same.{In-append}
 use Rattle.rq_model.proofs.Lists.{In-left, In-last, In-to, In-reverse}
 use Rattle.rq_disk.specs.declared.device.LogDevice as log_device
@@ -33,45 +34,6 @@ use Rattle.rq_engine.proofs.Earlier.{beginning_on, long_on, standing_on}
 use Rattle.rq_shared.proofs.Replaying.{earlier_there}
 use Rattle.rq_shared.specs.Entries.{Noted, Follows, answers, answer_of}
 use Rattle.rq_shared.specs.Receipts.{IsReceiptOf, KeepsCommit, IsDurable}
-
--- no call stands for a crash, or for a restart
-abbrev is_break : Entry → Bool
-is_break (Crash kept records) = true
-is_break (Restarted i records) = true
-is_break e = false
-
-never_break : (c : Call) (g : Reply) (e : Entry) → Says c g e → is_break e ≡ false
-never_break c (Gave_refusal r) e s = ap is_break s
-never_break Begin (Gave_txn t) e s = ap is_break s
-never_break (Start_send t m) (Gave_sub u n) e s = ap is_break s.1
-never_break (Start_receive t) (Gave_sub u n) e s = ap is_break s.2
-never_break (Start_receive t) Gave_none e s = ap is_break s
-never_break (Start_receive_from t sender) (Gave_sub u n) e s = ap is_break s.1
-never_break (Start_receive_from t sender) Gave_none e s = ap is_break s
-never_break (Start_close t sender) (Gave_sub u n) e s = ap is_break s.1
-never_break (Start_mark t client tag) (Gave_sub u n) e s = ap is_break s.1
-never_break (Step t n) (Gave_lsn lsn) e s = ap is_break s
-never_break (Step t n) Gave_ready e s = ap is_break s
-never_break (Finish t n) Gave_sent e s = ap is_break s.1
-never_break (Finish t n) (Gave_message m) e s = ap is_break s
-never_break (Finish t n) Gave_closed e s = ap is_break s.1
-never_break (Finish t n) Gave_marked e s = ap is_break s.2
-never_break (Finish t n) Gave_undone e s = ap is_break s
-never_break (Commit t) (Gave_commit c) e s = ap is_break s.1
-never_break (Start_abort t) Gave_aborting e s = ap is_break s
-never_break (Undo_next t) (Gave_sub u n) e s = ap is_break s.1
-never_break (Undo_next t) Gave_nothing_left e s = ap is_break s
-never_break (End_abort t) Gave_aborted e s = ap is_break s
-never_break (Acknowledge t lsn) (Gave_receipt None) e s = ap is_break s
-never_break (Acknowledge t lsn) (Gave_receipt (Some c)) e s = ap is_break s.1
-never_break Hand_over Gave_handed_over e s = ap is_break s
-never_break Force (Gave_forced lsn) e s = ap is_break s
-never_break Checkpoint (Gave_checkpoint lsn) e s = ap is_break s
-never_break (Write_page page) (Gave_written done) e s = ap is_break s
-never_break (Last_tag sender) (Gave_tag sent tag) e s = ap is_break s
-never_break (Client_tag client) (Gave_client_tag count tag) e s = ap is_break s
-never_break Show (Gave_content groups) e s = ap is_break s
-never_break c g e s = absurd s
 
 commit_says : (c : Call) (n : Number) (e : Entry) → Says c (Gave_commit n) e → e ≡ Committed n.txn n.lsn
 commit_says (Commit t) n e s = s.1 ∙ ap (λ u. Committed u n.lsn) (sym s.0)
@@ -98,6 +60,7 @@ grows c g l e (Commits t lsn) s low =
     record { commits = λ d i. In-left l.committed (record { txn = t; lsn = lsn; ops = ops_of (found t l.open_ones) } ∷ []) d i; forced = omega arith; records = omega arith; within = omega (arith, low) }
 grows c g l e (Forces lsn) s low = record { commits = λ d i. i; forced = low; records = omega arith; within = omega arith }
 grows c g l e (Checkpoints lsn) s low = record { commits = λ d i. i; forced = omega (arith, low); records = omega arith; within = omega arith }
+grows c g l e (Migrates pages lsn) s low = record { commits = λ d i. i; forced = omega (arith, low); records = omega arith; within = omega arith }
 grows c g l e (Crashes kept records) s low = absurd (true≢false (never_break c g (Crash kept records) s))
 grows c g l e (Restarts i records) s low = absurd (true≢false (never_break c g (Restarted i records) s))
 

@@ -351,6 +351,7 @@ fn copy_of(alloc: Global, reply: &Reply) -> Result<Reply, AllocError>
         Reply::HandedOver => Reply::HandedOver,
         Reply::Forced(lsn) => Reply::Forced(*lsn),
         Reply::Checkpointed(lsn) => Reply::Checkpointed(*lsn),
+        Reply::Migrated(lsn) => Reply::Migrated(*lsn),
         Reply::Written(written) => Reply::Written(*written),
         Reply::LastTag(last) => Reply::LastTag(*last),
         Reply::ClientTag(last) => Reply::ClientTag(*last),

@@ -10,9 +10,10 @@ use Rattle.rq_model.specs.declared.record.Record.TheVariants as records
 use Rattle.rq_model.specs.Bases.{based}
 use Rattle.rq_model.specs.Content.{Said, deeds, ending_by, has_end, kept, said}
 use Rattle.rq_model.specs.History.{Call, Entry}
-use Rattle.rq_model.specs.Ledger.{Ledger, kept_in}
+use Rattle.rq_model.specs.Ledger.{Ledger, after, kept_in}
+use Rattle.rq_model.specs.Ledger.Phase.{Stopped}
 use Rattle.rq_model.specs.Replay.{Reply}
-use Rattle.rq_model.specs.Tests.{log_full}
+use Rattle.rq_model.specs.Tests.{bad_tags, log_full}
 use Rattle.rq_model.specs.Vocabulary.{In, first, is_some, same_txn}
 use Rattle.rq_page.specs.Sizes.{Sizes, address}
 use Rattle.rq_txn.specs.Rows.{Row, found_row}
@@ -20,18 +21,19 @@ use Rattle.rq_views.specs.Items.{ReadsItsDeeds, items}
 use Rattle.rq_views.proofs.Strangers.{has_end_same}
 use Rattle.rq_views.specs.Legal as legal
 use Rattle.rq_views.specs.Legal.{has_deed, under_way}
-use Rattle.rq_store.specs.State.{State, ledger_of, open_ones_of}
+use Rattle.rq_store.specs.State.{State, ledger_of, open_ones_of, size_of}
 use Rattle.rq_store.specs.Fitting.{AllHoldBase, image_in, left_by, oldest}
 use Rattle.rq_store.specs.Settled.{IsSettled}
 use Rattle.rq_store.specs.Whole.{IsWhole}
 use Rattle.rq_store.proofs.Begun.{begun_all}
 use Rattle.rq_store.proofs.Fitting.{fits_more, slot_holds}
 use Rattle.rq_store.proofs.Within.{all_within}
-use Rattle.rq_sound.specs.Calls.{checkpointed}
+use Rattle.rq_sound.specs.Calls.{checkpointed, migrated}
 use Rattle.rq_sound.specs.ModelSteps.{IsModelStep}
 use Rattle.rq_sound.specs.Sound.{IsSound}
 use Rattle.rq_sound.specs.Standing.{AreStanding}
 use Rattle.rq_sound.proofs.AbortSteps.{runs_now}
+use Rattle.rq_sound.proofs.Contracts.{calls_keep}
 
 some_none : {x : Said} {xs : List Said} → x ∷ xs ≡ [] → ⊥
 some_none e = cc
@@ -115,17 +117,35 @@ module _ (s : State) (k : IsSound s) (none : s.rows ≡ []) where
     forced = omega arith;
   }
 
+  -- what the ledger comes to
+  ledger_now : ledger_of (checkpointed s) ≡ after (Entry.Checkpointed (length s.records + 1)) (ledger_of s)
+  ledger_now =
+      let l : Ledger = ledger_of s in
+      let longer : length now ≡ length s.records + 1 = omega arith in
+      ap (λ (n : ℕ). record l { records = n; forced = n; durable = kept_in n l.committed }) longer
+      ∙ ap (λ (n : ℕ). record l { records = length s.records + 1; forced = length s.records + 1; durable = n }) (all_within s.records (length s.records + 1) (omega arith))
+
+  no_open_ones : is_some (first (open_ones_of s.ends s.rows)) ≡ false
+  no_open_ones = ap (λ (rows : List Row). is_some (first (open_ones_of s.ends rows))) none
+
   pub checkpoint : s.failed ≡ false → log_full (ledger_of s) 1 ≡ false → IsModelStep s Call.Checkpoint (Reply.Gave_checkpoint (length s.records + 1)) (checkpointed s)
   checkpoint running room = record {
     entry = Entry.Checkpointed (length s.records + 1);
     says = refl;
-    legal = ((runs_now s k running, (ap (λ (rows : List Row). is_some (first (open_ones_of s.ends rows))) none, (room, tt))), refl);
-    after =
-        let l : Ledger = ledger_of s in
-        let longer : length now ≡ length s.records + 1 = omega arith in
-        ap (λ (n : ℕ). record l { records = n; forced = n; durable = kept_in n l.committed }) longer
-        ∙ ap (λ (n : ℕ). record l { records = length s.records + 1; forced = length s.records + 1; durable = n }) (all_within s.records (length s.records + 1) (omega arith));
+    legal = ((runs_now s k running, (no_open_ones, (room, tt))), refl);
+    after = ledger_now;
     sound = checkpoint_sound;
+    goes_on = (1, refl);
+    stays_forced = let within = k.forced in omega (arith, within);
+  }
+
+  pub migration : (pages : ℕ) → s.failed ≡ false → log_full (ledger_of s) 1 ≡ false → bad_tags (size_of s.sizes) pages ≡ false → IsModelStep s (Call.Migrate pages) (Reply.Gave_migrated (length s.records + 1)) (migrated s)
+  migration pages running room tags = record {
+    entry = Entry.Migrated pages (length s.records + 1);
+    says = refl;
+    legal = ((runs_now s k running, (tags, (no_open_ones, (room, tt)))), refl);
+    after = ap (λ (l : Ledger). record l { phase = Stopped }) ledger_now;
+    sound = calls_keep.fails (checkpointed s) checkpoint_sound;
     goes_on = (1, refl);
     stays_forced = let within = k.forced in omega (arith, within);
   }

@@ -157,3 +157,7 @@ checkpointed s = record s { records = based s.incarnation s.records; forced = le
 -- a device fails
 abbrev pub failed : State → State
 failed s = record s { failed = true }
+
+-- one record stands for all, and the store stops
+abbrev pub migrated : State → State
+migrated s = failed (checkpointed s)

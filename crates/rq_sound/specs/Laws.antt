@@ -7,7 +7,7 @@ use Rattle.rq_sound.specs.Latching.{LatchedIsExact}
 use Rattle.rq_sound.specs.Levels.{LevelsPlanFromSlots, LevelsRefuseExactly}
 use Rattle.rq_sound.specs.Plans.{PlansMayStart}
 use Rattle.rq_sound.specs.Refusals.{RefusalsAreSteps, TestsReadRows}
-use Rattle.rq_sound.specs.Theorems.{AbortsAreSteps, CallsKeepSoundness, CheckpointsAreSteps, DeedsAreSteps, InversesCanBePlanned, OpenedIsSound, TestsAreAnswered}
+use Rattle.rq_sound.specs.Theorems.{AbortsAreSteps, CallsKeepSoundness, CheckpointsAreSteps, DeedsAreSteps, InversesCanBePlanned, MigrationsAreSteps, OpenedIsSound, TestsAreAnswered}
 use Rattle.rq_sound.specs.Unchanged.{UnchangedAreSteps}
 use Rattle.rq_sound.specs.Waits.{WaitsAreGiven}
 use Rattle.rq_sound.specs.Wants.{LevelsFindAll}
@@ -27,6 +27,8 @@ pub record Laws : Type 0 where
   pub aborts_are_steps : AbortsAreSteps
   -- So is a checkpoint of a store without open transactions: one record stands for all, and all else stays.
   pub checkpoints_are_steps : CheckpointsAreSteps
+  -- And a migration, which stops the store.
+  pub migrations_are_steps : MigrationsAreSteps
   -- Deeds and commits are steps of the model: the start of a send, a receive, a close or a mark, that no message waits,
   -- the end, and a commit.
   pub deeds_are_steps : DeedsAreSteps

@@ -10,7 +10,7 @@ use Rattle.rq_model.specs.Commits.{committed_of}
 use Rattle.rq_model.specs.History.{Call}
 use Rattle.rq_model.specs.Ledger.{ended_in, in_chain, rest_in}
 use Rattle.rq_model.specs.Tests as tests
-use Rattle.rq_model.specs.Tests.{Passes, cells_in_use, has_closed, log_full, undo_cost}
+use Rattle.rq_model.specs.Tests.{Passes, bad_tags, cells_in_use, has_closed, log_full, undo_cost}
 use Rattle.rq_model.specs.Legal.{start_of}
 use Rattle.rq_model.specs.Replay.{Reply}
 use Rattle.rq_model.specs.Unended.{unfinished, lost}
@@ -42,7 +42,7 @@ use Rattle.rq_sound.specs.Rows.{own_slot}
 use Rattle.rq_sound.specs.Sound.{IsSound}
 use Rattle.rq_sound.specs.Starts.{MayDo, MayUndo, with_end}
 use Rattle.rq_sound.specs.ModelSteps.{IsModelStep}
-use Rattle.rq_sound.specs.Calls.{next_txn, begun, started, stepped, IsNextWrite, finished, undone, IsReady, IsIdle, committed, MayCommit, aborting, aborted, checkpointed, forced, failed}
+use Rattle.rq_sound.specs.Calls.{next_txn, begun, started, stepped, IsNextWrite, finished, undone, IsReady, IsIdle, committed, MayCommit, aborting, aborted, checkpointed, forced, failed, migrated}
 
 -- each call keeps a store sound
 pub record CallsKeepSoundness : Type 0 where
@@ -137,6 +137,12 @@ pub record AbortsAreSteps : Type 0 where
 abbrev pub CheckpointsAreSteps : Type 0
 CheckpointsAreSteps = (s : State) → IsSound s → s.rows ≡ [] → s.failed ≡ false → log_full (ledger_of s) 1 ≡ false
     → IsModelStep s Call.Checkpoint (Reply.Gave_checkpoint (length s.records + 1)) (checkpointed s)
+
+-- So is a migration, where besides so many tag pages may be added.
+abbrev pub MigrationsAreSteps : Type 0
+MigrationsAreSteps = (s : State) (pages : ℕ) → IsSound s → s.rows ≡ [] → s.failed ≡ false
+    → log_full (ledger_of s) 1 ≡ false → bad_tags (size_of s.sizes) pages ≡ false
+    → IsModelStep s (Call.Migrate pages) (Reply.Gave_migrated (length s.records + 1)) (migrated s)
 
 -- So are deeds and commits: the start of a send, a receive, a close or a mark that passes the model's tests, a receive
 -- from whichever sender included; that no message waits; its end; and a commit.

@@ -1,5 +1,5 @@
 -- What the numbers in slots are bounded by: no sender has sent more than the log has records. So a legal log passes the checks of a restart.
-use Rattle.std.proofs.Common.{◌≡◌, ℕ, suc, ◌+◌, ◌-◌, ◌/◌, ◌%◌, ◌<◌, ◌≤◌, ◌&&◌, List, [], ◌∷◌, length, refl, sym, ◌∙◌, ap, subst, Bool, true, false, Option, Some, None, inl, inr, cond, nat_lt, nat_le, arith}
+use Rattle.std.proofs.Common.{◌≡◌, ℕ, suc, ◌+◌, ◌-◌, ◌/◌, ◌%◌, ◌≤◌, ◌&&◌, List, [], ◌∷◌, length, refl, sym, ◌∙◌, ap, subst, Bool, true, false, Option, Some, None, inl, inr, cond, nat_lt, nat_le, arith}
 use Rattle.std.proofs.lemmas.Bool.{cases_Bool, cases_eq}
 use Rattle.std.proofs.lemmas.List.{length-map, length-drop}
 use Rattle.rq_model.specs.declared.txn.Sub.{Sub}
@@ -14,7 +14,7 @@ use Rattle.rq_page.specs.Kinds.{kind_of}
 use Rattle.rq_page.specs.Directories.{directory_in}
 use Rattle.rq_page.specs.Clients.{client_in}
 use Rattle.rq_page.specs.Pages.{lsn_of, slot_of}
-use Rattle.rq_page.specs.Slots.{Slot, held_in, held_for, IsSlotOf, IsSlotFor}
+use Rattle.rq_page.specs.Slots.{Slot, held_in, held_for, IsSlotOf}
 use Rattle.rq_page.specs.Slots.Slot.{Free, Used, Sender, Client}
 use Rattle.rq_page.specs.Formatted.{count_in, count_for}
 use Rattle.rq_views.specs.Log.{Item, Places, Slots, Write, put, rest_of, IsNewest, same_op, state_of}
@@ -25,7 +25,7 @@ use Rattle.rq_views.specs.Legal.{IsLegalLog, onto}
 use Rattle.rq_views.specs.Items.{items, item_of, layout_of, formatted_at}
 use Rattle.rq_views.specs.InStore.{InStore, InStoreOne}
 use Rattle.rq_views.proofs.Overlay.{put_at, put_off}
-use Rattle.rq_views.proofs.Stands.{page_of_cells, page_of_directory, page_of_tags}
+use Rattle.rq_views.proofs.Stands.{page_of_slot}
 use Rattle.rq_store.specs.Fitting.{left_by, oldest, told_by, FitsPage}
 use Rattle.rq_store.specs.Whole.{BeforesAreSlots}
 use Rattle.rq_store.specs.Opening.{FitsUpTo, IsBeforeIn, IsSoundTold, IsSoundWrite, MayRedo, IsCounted}
@@ -175,16 +175,6 @@ sound_write : (z : Sizes) (r : Record) (log : List Record) → IsLegalLog (layou
 sound_write z (records.PageOp t n page slot before after) log k store = sound_told z (records.PageOp t n page slot before after) log page slot after k store refl
 sound_write z (records.PageUndo t n undone page slot after) log k store = sound_told z (records.PageUndo t n undone page slot after) log page slot after k store refl
 sound_write z _ log k store = tt
-
--- a slot of the store is on a page behind the first
-pub page_of_slot : (z : Sizes) (page slot : ℕ) (bytes : List ℕ) → IsSlotOf z page slot bytes → (1 ≤ page) × (page < page_count z)
-page_of_slot z page slot bytes h = by (kind_of z page) refl h.held where
-  by : (k : Option PageKind) → kind_of z page ≡ k → IsSlotFor k z page slot bytes → (1 ≤ page) × (page < page_count z)
-  by None e f = absurd f
-  by (Some kind.Superblock) e f = absurd f
-  by (Some kind.Directory) e f = let p = page_of_directory z page e in let low = p.0 in let high = p.1 in (low, omega (arith, high))
-  by (Some kind.Cells) e f = let p = page_of_cells z page e in let low = p.0 in let high = p.1 in (omega (arith, low), omega (arith, high))
-  by (Some kind.Tags) e f = let p = page_of_tags z page e in let low = p.0 in (omega (arith, low), p.1)
 
 -- a legal log passes each check of going through it
 pub may_redo : (z : Sizes) (log : List Record) (image : ℕ → List ℕ) (k : ℕ) (r : Record) → IsLegalLog (layout_of z) (items z log) → InStore z log → BeforesAreSlots z log

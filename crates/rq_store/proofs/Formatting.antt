@@ -25,7 +25,7 @@ header_lsn page kind =
     ap (big_number 8) (append_assoc (big_bytes 8 0) (big_bytes 4 page ++ kind ∷ []) (replicate 243 0))
     ∙ big_number-reads_back 8 0 ((big_bytes 4 page ++ kind ∷ []) ++ replicate 243 0) (omega arith)
 
-no_lsn : (k : Option PageKind) (page : ℕ) (image : List ℕ) → IsHeaderFor k page 0 image → lsn_of image ≡ 0
+pub no_lsn : (k : Option PageKind) (page : ℕ) (image : List ℕ) → IsHeaderFor k page 0 image → lsn_of image ≡ 0
 no_lsn None page image h = absurd h
 no_lsn (Some k) page image h = lsn_of_header image ∙ ap (big_number 8) h ∙ header_lsn page (kind_byte k)
 

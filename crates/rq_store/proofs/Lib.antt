@@ -21,3 +21,4 @@ pub mod Begun
 pub mod WorkedFits
 pub mod Based
 pub mod Behind
+pub mod Growing

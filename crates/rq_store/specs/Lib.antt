@@ -9,3 +9,4 @@ pub mod Theorems
 pub mod Whole
 pub mod Rows
 pub mod Sends
+pub mod Growing

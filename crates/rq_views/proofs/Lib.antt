@@ -31,3 +31,4 @@ pub mod Inverses
 pub mod WorkedTags
 pub mod Worked
 pub mod Rules
+pub mod Growing

@@ -76,6 +76,16 @@ page_of_tags z page e = elim (cases_lt page (page_count z)) [
   | inr beyond ↦ let bad : ◌≡◌ {A = Option PageKind} None (Some kind.Tags) = sym (no_kind z page beyond) ∙ e in absurd (cc)
 ]
 
+-- a slot of the store is on a page behind the first
+pub page_of_slot : (z : Sizes) (page slot : ℕ) (bytes : List ℕ) → IsSlotOf z page slot bytes → (1 ≤ page) × (page < page_count z)
+page_of_slot z page slot bytes h = by (kind_of z page) refl h.held where
+  by : (k : Option PageKind) → kind_of z page ≡ k → IsSlotFor k z page slot bytes → (1 ≤ page) × (page < page_count z)
+  by None e f = absurd f
+  by (Some kind.Superblock) e f = absurd f
+  by (Some kind.Directory) e f = let p = page_of_directory z page e in let low = p.0 in let high = p.1 in (low, omega (arith, high))
+  by (Some kind.Cells) e f = let p = page_of_cells z page e in let low = p.0 in let high = p.1 in (omega (arith, low), omega (arith, high))
+  by (Some kind.Tags) e f = let p = page_of_tags z page e in let low = p.0 in (omega (arith, low), p.1)
+
 cell_stands : (z : Sizes) (a : ℕ) (x : CellSlot) → IsCellAddress z a → IsInPlace z a (of_cell_slot x)
 cell_stands z a cells.Free h = tt
 cell_stands z a (cells.Used c) h = h

@@ -76,6 +76,7 @@ pub(crate) fn heard_in(reply: &Reply) -> Heard
         Reply::HandedOver => Heard::Other,
         Reply::Forced(_) => Heard::Other,
         Reply::Checkpointed(_) => Heard::Other,
+        Reply::Migrated(_) => Heard::Other,
         Reply::Written(_) => Heard::Other,
         Reply::LastTag(_) => Heard::Other,
         Reply::ClientTag(_) => Heard::Other,

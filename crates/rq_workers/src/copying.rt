@@ -50,6 +50,7 @@ pub(crate) fn copy_event(event: &Event) -> Option<Event>
         Event::HandOver => Some(Event::HandOver),
         Event::Force => Some(Event::Force),
         Event::Checkpoint => Some(Event::Checkpoint),
+        Event::Migrate(pages) => Some(Event::Migrate(*pages)),
         Event::WritePage(page) => Some(Event::WritePage(*page)),
         Event::LastTag(sender) => Some(Event::LastTag(*sender)),
         Event::ClientTag(client) => Some(Event::ClientTag(*client)),

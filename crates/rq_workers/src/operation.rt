@@ -123,6 +123,7 @@ fn is_start(event: &Event) -> bool
         Event::HandOver => false,
         Event::Force => false,
         Event::Checkpoint => false,
+        Event::Migrate(_) => false,
         Event::WritePage(_) => false,
         Event::LastTag(_) => false,
         Event::ClientTag(_) => false,

@@ -30,6 +30,8 @@ pub enum Args {
     Serve(Serve),
     /// One record in the place of the log of the store in this folder.
     Checkpoint(String),
+    /// So many tag pages for the store in this folder, which has none.
+    Migrate(String, u32),
     /// What the log of the store in this folder holds.
     Inspect(String),
     /// Nothing more: the words were answered, with this status.
@@ -93,6 +95,7 @@ fn asked(alloc: Global, matches: &ArgMatches<'_>) -> Result<Option<Args>, AllocE
         Some(("format", format)) => store(alloc, format),
         Some(("serve", serve)) => server(alloc, serve),
         Some(("checkpoint", checkpoint)) => { Ok(folder(alloc, checkpoint)?.map(Args::Checkpoint)) }
+        Some(("migrate", migrate)) => migration(alloc, migrate),
         Some(("inspect", inspect)) => Ok(folder(alloc, inspect)?.map(Args::Inspect)),
         _ => Ok(None),
     }
@@ -120,6 +123,14 @@ fn server(alloc: Global, matches: &ArgMatches<'_>) -> Result<Option<Args>, Alloc
     })))
 }
 
+fn migration(alloc: Global, matches: &ArgMatches<'_>) -> Result<Option<Args>, AllocError> {
+    let (Some(folder), Some(tags)) = (folder(alloc, matches)?, matches.get_one::<u32>("tags"))
+    else {
+        return Ok(None);
+    };
+    Ok(Some(Args::Migrate(folder, tags)))
+}
+
 fn folder(alloc: Global, matches: &ArgMatches<'_>) -> Result<Option<String>, AllocError> {
     match matches.get_str("folder") {
         Some(folder) => Ok(Some(String::from_str(alloc, folder)?)),
@@ -144,6 +155,7 @@ fn command<'a>(alloc: Global) -> Result<Command<'a>, AllocError> {
     let rqm = with(rqm, format_command(alloc))?;
     let rqm = with(rqm, serve_command(alloc))?;
     let rqm = with(rqm, checkpoint_command(alloc))?;
+    let rqm = with(rqm, migrate_command(alloc))?;
     with(rqm, inspect_command(alloc))
 }
 
@@ -166,7 +178,10 @@ fn run_command<'a>(alloc: Global) -> Result<Command<'a>, AllocError> {
         .about("Runs a script from standard input over a store in memory")
         .arg(directory(alloc))?
         .arg(cells(alloc))?
-        .arg(tags(alloc))?
+        .arg(tags(
+            alloc,
+            "Tag pages, of 15 clients each; none where it is not said",
+        ))?
         .arg(frames(alloc))
 }
 
@@ -176,7 +191,10 @@ fn format_command<'a>(alloc: Global) -> Result<Command<'a>, AllocError> {
         .arg(named_folder(alloc, "Where the files are made"))?
         .arg(directory(alloc))?
         .arg(cells(alloc))?
-        .arg(tags(alloc))
+        .arg(tags(
+            alloc,
+            "Tag pages, of 15 clients each; none where it is not said",
+        ))
 }
 
 fn serve_command<'a>(alloc: Global) -> Result<Command<'a>, AllocError> {
@@ -196,6 +214,13 @@ fn checkpoint_command<'a>(alloc: Global) -> Result<Command<'a>, AllocError> {
     Command::new(alloc, "checkpoint")
         .about("Makes the log of the store in a folder one record, so that it opens at once")
         .arg(named_folder(alloc, "Where the files are"))
+}
+
+fn migrate_command<'a>(alloc: Global) -> Result<Command<'a>, AllocError> {
+    Command::new(alloc, "migrate")
+        .about("Gives the store in a folder tag pages, where it has none")
+        .arg(named_folder(alloc, "Where the files are"))?
+        .arg(tags(alloc, "Tag pages that it is given, of 15 clients each").required(true))
 }
 
 fn inspect_command<'a>(alloc: Global) -> Result<Command<'a>, AllocError> {
@@ -261,8 +286,7 @@ fn cells<'a>(alloc: Global) -> Arg<'a> {
     number(alloc, "cells", help, 1, i64::from(CELLS_LIMIT)).required(true)
 }
 
-fn tags<'a>(alloc: Global) -> Arg<'a> {
-    let help = "Tag pages, of 15 clients each; none where it is not said";
+fn tags<'a>(alloc: Global, help: &'a str) -> Arg<'a> {
     number(alloc, "tags", help, 1, i64::from(TAGS_LIMIT))
 }
 

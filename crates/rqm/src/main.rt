@@ -2,13 +2,13 @@
 #![tactic(auto)]
 
 mod args;
-mod checkpoint;
+mod change;
 mod inspect;
 mod progress;
 mod serving;
 
 use args::Args;
-use checkpoint::run_checkpoint;
+use change::{Change, run_change};
 use inspect::run_inspect;
 use rq_files::{Measures, Renames, run_format};
 use rq_levels::sets_of_levels;
@@ -73,7 +73,8 @@ fn run<
         Args::Run(layout) => run_input(rt, &mut writer, layout)?,
         Args::Format(folder, layout) => run_format(rt, &mut writer, folder.as_str(), &layout),
         Args::Serve(asked) => run_serve(rt, &asked)?,
-        Args::Checkpoint(folder) => run_checkpoint(rt, folder.as_str())?,
+        Args::Checkpoint(folder) => run_change(rt, folder.as_str(), Change::Checkpoint)?,
+        Args::Migrate(folder, tags) => run_change(rt, folder.as_str(), Change::Migrate(tags))?,
         Args::Inspect(folder) => run_inspect(rt, &mut writer, folder.as_str())?,
         Args::Answered(status) => status,
     })

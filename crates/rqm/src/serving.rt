@@ -104,7 +104,7 @@ fn opened_and_bound<
         (HoldStore S.pages S.bytes) o.0) }
 {
     let began = Instant::now(rt);
-    match opened(rt, asked.folder.as_str(), held) {
+    match opened(rt, asked.folder.as_str(), 0, held) {
         Ok((engine, report)) => {
             opening.end();
             tell_opened(rt, &report, millis_since(rt, began));
@@ -137,19 +137,20 @@ fn listening<
     }
 }
 
-/// The store of a folder, opened.
+/// The store of a folder, opened. Where it has no tag pages there is room for so many.
 ///
 /// # Errors
 /// Why it is not.
 pub fn opened<'a, S: FileContents, R: AllocGlobal + Eprint + Files<File = File> + Renames>(
     rt: &'a R,
     folder: &str,
+    room: u32,
     held: S,
 ) -> Result<(Store<'a, S, R>, Report), Fault>
     ensures { IfOk result (λ o. WasSound ⟦<FilePages<S> as PageDevice>⟧ ⟦<FolderLog<'a, S, R> as LogDevice>⟧
         (HoldStore S.pages S.bytes) o.0) }
 {
-    let (pages, log) = match open_folder(rt, folder, held) {
+    let (pages, log) = match open_folder(rt, folder, room, held) {
         Ok(files) => files,
         Err(NotOpened { fault, error }) => {
             tell_not_opened(rt, &error);

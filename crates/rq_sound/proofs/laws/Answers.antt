@@ -1,6 +1,6 @@
 use Rattle.rq_sound.proofs.Contracts.{calls_keep, planned, answered, opened_is}
 use Rattle.rq_sound.proofs.AbortSteps.{abort_steps}
-use Rattle.rq_sound.proofs.Checkpoints.{checkpoint}
+use Rattle.rq_sound.proofs.Checkpoints.{checkpoint, migration}
 use Rattle.rq_sound.proofs.DeedSteps.{deed_steps}
 use Rattle.rq_sound.proofs.Holders.{views_held}
 use Rattle.rq_sound.proofs.Worked.{not_sound}
@@ -23,6 +23,7 @@ returns c = record {
   tests_are_answered = answered;
   aborts_are_steps = abort_steps;
   checkpoints_are_steps = checkpoint;
+  migrations_are_steps = λ s pages k none running room tags. migration s k none pages running room tags;
   deeds_are_steps = deed_steps;
   views_are_of_holders = views_held;
   opened_is_sound = opened_is;

@@ -1,32 +1,12 @@
-use Rattle.std.proofs.Common.{ℕ, subst, sym}
-use Rattle.rq_model.specs.declared.record.Record.TheVariants.{Base}
-use Rattle.rq_disk.specs.Records.{AreRecords}
-use Rattle.rq_record.specs.Spelling.{IsInRange}
-use Rattle.rq_log.proofs.Kept.{replaced_all, replaced_not, replaced_moments, one_base}
+use Rattle.std.proofs.Common.{ap, subst, sym, ◌∙◌, rules, refl}
+use Rattle.rq_log.specs.Logged.{Logged, WasDurable}
 use Rattle.rq_log.proofs.Log.replace.Goals as goal
 
-pub replace-requires : goal.replace-requires
-replace-requires g c =
-    let k = c.self.invariant in
-    let fits : IsInRange (Base c.self.inside.last c.args.incarnation) = subst (λ (n : ℕ). IsInRange (Base n c.args.incarnation)) (sym k.count) (rw (← c.self.view_is) at c.requires.record) in
-    (1, subst (AreRecords 1) (sym c.base_bytes-base.ensures) (one_base c.self.inside.last c.args.incarnation fits))
+pub returns-clause-settled : goal.returns-clause-settled
+returns-clause-settled g c =
+    let is = c.note_base.ensures.noted in
+    let put = c.in_ok-put_base.ensures in
+    subst (λ (x : Logged _). WasDurable g.L.LogDevice x) (sym is) ((λ b may. put.durable b may ∙ sym put.reads), refl)
 
-pub invariant_of-self : goal.invariant_of-self
-invariant_of-self g c =
-    replaced_all g.L.LogDevice _ _ c.self.inside.buffer.items _ c.self.invariant (rw (← c.self.view_is) at c.requires.running) (rw (← c.self.view_is) at c.requires.forced) c.args.incarnation (rw (← c.self.view_is) at c.requires.record)
-    c.replace.new.self c.replace.ensures.honest c.base_bytes-base.result c.base_bytes-base.ensures c.replace.ensures.crash c.in-Ok.ensures.durable c.in-Ok.ensures.left c.of.result.value c.put_base.new.self c.put_base.ensures
-
-pub invariant_of-self-in-Err : goal.invariant_of-self-in-Err
-invariant_of-self-in-Err g c =
-    replaced_not g.L.LogDevice _ _ c.self.inside.buffer.items _ c.self.invariant (rw (← c.self.view_is) at c.requires.running) (rw (← c.self.view_is) at c.requires.forced) c.args.incarnation (rw (← c.self.view_is) at c.requires.record)
-    c.replace.new.self c.replace.ensures.honest c.base_bytes-base.result c.base_bytes-base.ensures c.replace.ensures.crash
-
-pub returns-in-Ok-clause-any_moment : goal.returns-in-Ok-clause-any_moment
-returns-in-Ok-clause-any_moment g c =
-    rw (← c.self.view_is) (replaced_moments g.L.LogDevice _ _ c.self.inside.buffer.items _ c.self.invariant (rw (← c.self.view_is) at c.requires.running) (rw (← c.self.view_is) at c.requires.forced) c.args.incarnation (rw (← c.self.view_is) at c.requires.record)
-    c.replace.new.self c.replace.ensures.honest c.base_bytes-base.result c.base_bytes-base.ensures c.replace.ensures.crash (g.met.L.LogDevice.only_now c.self.inside.device) c.replace.ensures.time)
-
-pub returns-in-Err-clause-any_moment : goal.returns-in-Err-clause-any_moment
-returns-in-Err-clause-any_moment g c =
-    rw (← c.self.view_is) (replaced_moments g.L.LogDevice _ _ c.self.inside.buffer.items _ c.self.invariant (rw (← c.self.view_is) at c.requires.running) (rw (← c.self.view_is) at c.requires.forced) c.args.incarnation (rw (← c.self.view_is) at c.requires.record)
-    c.replace.new.self c.replace.ensures.honest c.base_bytes-base.result c.base_bytes-base.ensures c.replace.ensures.crash (g.met.L.LogDevice.only_now c.self.inside.device) c.replace.ensures.time)
+pub returns-clause-untried : goal.returns-clause-untried
+returns-clause-untried g c = ap (λ (x : Logged _). x.replacing) c.note_base.ensures.noted ∙ sym (c.shows_kept.ensures.log.running c.requires.running)

@@ -78,3 +78,9 @@ returns-in-StartReceiveFrom-clause-answered g c = begun_answered g.P.PageDevice 
 pub returns-in-StartReceiveFrom-clause-any_moment : goal.returns-in-StartReceiveFrom-clause-any_moment
 returns-in-StartReceiveFrom-clause-any_moment g c =
     λ none. rw (c.in-StartReceiveFrom.is) (log_left g.L.LogDevice c.args.self.now.log c.start_receive_from.new.self.log _ c.start_receive_from.ensures.devices.1 g.met.L.LogDevice.only_now (c.shows_kept.ensures.leaves none))
+
+pub returns-in-Err-migrate-clause-answered : goal.returns-in-Err-migrate-clause-answered
+returns-in-Err-migrate-clause-answered g c h earlier long k = rw (c.in-Migrate.is) (c.in-Err-migrate.ensures.answered h earlier long k).0
+
+pub returns-in-Err-migrate-clause-cause : goal.returns-in-Err-migrate-clause-cause
+returns-in-Err-migrate-clause-cause g c h earlier long k = rw (c.in-Migrate.is) (c.in-Err-migrate.ensures.answered h earlier long k).1

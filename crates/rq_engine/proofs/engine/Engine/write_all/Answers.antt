@@ -1,10 +1,13 @@
 use Rattle.std.proofs.Common.{ap, refl, rules, ◌∙◌, Bool, Err, List, subst, arith, Ok}
+use Rattle.rq_page.specs.Sizes.{page_count}
 use Rattle.rq_pool.specs.declared.Written.{Written}
 use Rattle.rq_pool.specs.Pooled.{is_changed}
 use Rattle.rq_engine.specs.Checkpoint.{CountsOne, IsStopped}
 use Rattle.rq_engine.specs.Opened.{WritesWhen}
-use Rattle.rq_engine.proofs.Checkpointing.{cleared, fewer_after, keeps_join, page_counts, page_counts_none, page_stops}
+use Rattle.rq_engine.proofs.Checkpointing.{cleared, fewer_after, keeps_join, page_counts, page_counts_none, page_others, page_stops}
 use Rattle.rq_engine.proofs.Crashing.{none_fit}
+use Rattle.rq_store.specs.State.{State}
+use Rattle.rq_engine.proofs.Opened.{state_is}
 use Rattle.rq_engine.proofs.engine.Engine.write_all.Goals as goal
 
 pub loop-page-init : goal.loop-page-init
@@ -12,6 +15,7 @@ loop-page-init g c = record {
   low = omega arith;
   state = refl;
   clean = λ p low high. absurd (omega (arith, low, high));
+  behind = λ p past. refl;
   fewer = λ p h. h;
   faults = refl;
   log = refl;
@@ -65,6 +69,7 @@ loop-page-preserved g c =
       clean = λ p low high. ap (λ (f : List Bool). is_changed f p) made.changed ∙ cleared old.changed n p w
           (λ e. (subst (λ (x : Written). WritesWhen old n (Ok x)) e made.answer).1)
           (λ other. kept.clean p low (omega (arith, high, other)));
+      behind = λ p past. page_others g.P.PageDevice old c.write_page.new.self n w made.device p (let end = c.pages-page-end.ensures.number in let z = ap page_count (c.layout-layout.ensures.sizes ∙ ap (λ (s : State). s.sizes) (state_is c.self.view_is)) in let within = c.loop-page-test.true in λ e. absurd (omega (arith, end, z, within, past, e))) ∙ kept.behind p past;
       fewer = λ p h. ap (λ (f : List Bool). is_changed f p) made.changed ∙ fewer_after old.changed n (Ok w) p (kept.fewer p h);
       faults = page_counts_none g.P.PageDevice g.L.LogDevice c.args.self.now old c.write_page.new.self n w made.device ∙ kept.faults;
       log = made.log ∙ kept.log;

@@ -1,6 +1,6 @@
 use Rattle.std.proofs.Common.{refl}
 use Rattle.rq_pool.proofs.Framed.{changed_set, images_kept}
-use Rattle.rq_pool.proofs.frames.mark_written.Goals as goal
+use Rattle.rq_pool.proofs.frames.mark.Goals as goal
 
 pub returns-clause-images : goal.returns-clause-images
 returns-clause-images c = images_kept _ _ _ _ c.index_mut-frame.ensures.value refl

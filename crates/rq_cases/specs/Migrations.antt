@@ -1,0 +1,64 @@
+-- Worked histories with migrations: which are legal, what the store has then, and which are not legal.
+use Rattle.std.specs.Prelude.{◌≡◌, List, [], ◌∷◌, false, None, Some}
+use Rattle.rq_model.specs.declared.refusal.Refusal.TheVariants.{BadTags, DiskWrite, Failed, NotQuiet, UnknownClient}
+use Rattle.rq_model.specs.History.{Entry}
+use Rattle.rq_model.specs.History.Call.{Migrate, Show, Start_mark}
+use Rattle.rq_model.specs.History.Entry.{Begun, Crash, Grew, Migrated, Refused, Restarted, Started, Told_client}
+use Rattle.rq_model.specs.History.Job.{Marking}
+use Rattle.rq_model.specs.Ledger.{group_in, ledger}
+use Rattle.rq_model.specs.Legal.{IsLegal}
+use Rattle.rq_model.specs.Tests.{size_at}
+use Rattle.rq_model.specs.Worked.{committed_once, hello, sent_once, small, txn}
+use Rattle.rq_model.specs.WorkedMarks.{untagged}
+use Rattle.rq_core.specs.Happenings.{IsGrownBy, growth}
+
+-- one commit, and one tag page more
+abbrev migrated : List Entry
+migrated = Migrated 1 6 ∷ committed_once
+
+-- and the store is opened again
+abbrev opened : List Entry
+opened = Restarted 2 7 ∷ Crash 1 6 ∷ Grew 1 ∷ migrated
+
+pub record MigrationsAreJudged : Type 0 where
+  pub answered : IsLegal untagged migrated
+  pub refuses_all_then : IsLegal untagged (Refused Show Failed ∷ Refused (Migrate 1) Failed ∷ migrated)
+  pub goes_on_then : IsLegal untagged (Begun (txn 1 2) ∷ migrated) → ⊥
+  pub migrates_twice : IsLegal untagged (Migrated 1 7 ∷ migrated) → ⊥
+  pub elsewhere : IsLegal untagged (Migrated 1 5 ∷ committed_once) → ⊥
+  pub of_tagged : IsLegal small (Migrated 1 6 ∷ committed_once) → ⊥
+  pub none : IsLegal untagged (Migrated 0 6 ∷ committed_once) → ⊥
+  pub most : IsLegal untagged (Migrated 1024 6 ∷ committed_once)
+  pub too_many : IsLegal untagged (Migrated 1025 6 ∷ committed_once) → ⊥
+  pub of_open : IsLegal untagged (Migrated 1 5 ∷ sent_once) → ⊥
+  pub refused_none : IsLegal untagged (Refused (Migrate 0) BadTags ∷ committed_once)
+  pub refused_many : IsLegal untagged (Refused (Migrate 1025) BadTags ∷ committed_once)
+  pub refused_tagged : IsLegal small (Refused (Migrate 1) BadTags ∷ committed_once)
+  pub refused_for_nothing : IsLegal untagged (Refused (Migrate 1) BadTags ∷ committed_once) → ⊥
+  pub not_quiet : IsLegal untagged (Refused (Migrate 1) NotQuiet ∷ sent_once)
+  pub bad_before_quiet : IsLegal untagged (Refused (Migrate 0) NotQuiet ∷ sent_once) → ⊥
+  -- what a crash leaves
+  pub comes_through : IsLegal untagged opened
+  pub loses_nothing : IsLegal untagged (Crash 1 5 ∷ migrated) → ⊥
+  pub stopped_before : IsLegal untagged (Crash 1 5 ∷ Refused (Migrate 1) DiskWrite ∷ committed_once)
+  pub stopped_behind : IsLegal untagged (Crash 1 6 ∷ Grew 1 ∷ Refused (Migrate 1) DiskWrite ∷ committed_once)
+  pub grows_open : IsLegal untagged (Grew 1 ∷ sent_once) → ⊥
+  pub grows_shut : IsLegal untagged (Grew 1 ∷ Crash 1 5 ∷ committed_once) → ⊥
+  pub grows_twice : IsLegal untagged (Grew 1 ∷ opened) → ⊥
+  pub content : group_in (ledger opened).committed 0
+      ≡ record { sent = 1; last_tag = 7; received = 0; closed = false; rest = hello ∷ [] }
+  pub size : size_at untagged opened ≡ small
+  -- clients before and behind it
+  pub unknown_before : IsLegal untagged (Refused (Start_mark (txn 1 2) 0 5) UnknownClient ∷ Begun (txn 1 2) ∷ committed_once)
+  pub marks_before : IsLegal untagged (Started (txn 1 2) 1 (Marking 0 5) ∷ Begun (txn 1 2) ∷ committed_once) → ⊥
+  pub marks_then : IsLegal untagged (Started (txn 2 1) 1 (Marking 14 5) ∷ Begun (txn 2 1) ∷ opened)
+  pub unknown_then : IsLegal untagged (Refused (Start_mark (txn 2 1) 15 5) UnknownClient ∷ Begun (txn 2 1) ∷ opened)
+  pub told_then : IsLegal untagged (Told_client 14 0 0 ∷ opened)
+  pub refused_then : IsLegal untagged (Refused (Migrate 1) BadTags ∷ opened)
+  -- what may be left of the tag pages
+  pub must_grow : IsGrownBy (growth migrated) None → ⊥
+  pub grows_as_asked : IsGrownBy (growth migrated) (Some 1)
+  pub grows_otherwise : IsGrownBy (growth migrated) (Some 2) → ⊥
+  pub may_stay : IsGrownBy (growth (Refused (Migrate 1) DiskWrite ∷ committed_once)) None
+  pub may_grow : IsGrownBy (growth (Refused (Migrate 1) DiskWrite ∷ committed_once)) (Some 1)
+  pub unasked : IsGrownBy (growth committed_once) (Some 1) → ⊥

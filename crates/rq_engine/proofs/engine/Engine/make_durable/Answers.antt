@@ -1,0 +1,28 @@
+use Rattle.std.proofs.Common.{subst, ◌∙◌, length}
+use Rattle.rq_engine.proofs.Checkpointing.{forced_join, forced_sound, keeps_join}
+use Rattle.rq_engine.proofs.engine.Engine.make_durable.Goals as goal
+
+pub returns-in_err-write_all-clause-fit : goal.returns-in_err-write_all-clause-fit
+returns-in_err-write_all-clause-fit g c =
+    let P = g.P.PageDevice in
+    let L = g.L.LogDevice in
+    let old = c.args.self.now in
+    let wrote = c.in_err-write_all.ensures in
+    forced_join P L old c.force.new.self c.write_all.new.self (length old.state.records) c.in_ok-force.ensures.state c.shows_kept.ensures.order c.in_ok-force.ensures.replacing
+    (λ h. (wrote.honest h.0, subst L.honest wrote.log h.1))
+    (forced_sound old.state c.force.new.self.state c.in_ok-force.ensures.state) c.in_ok-force.ensures.fit wrote.fit
+
+pub returns-clause-fit : goal.returns-clause-fit
+returns-clause-fit g c =
+    let P = g.P.PageDevice in
+    let L = g.L.LogDevice in
+    let old = c.args.self.now in
+    let one = c.force.new.self in
+    let two = c.write_all.new.self in
+    let three = c.sync_pages.new.self in
+    let wrote = c.in_ok-write_all.ensures in
+    let made = c.sync_pages.ensures in
+    forced_join P L old one three (length old.state.records) c.in_ok-force.ensures.state c.shows_kept.ensures.order c.in_ok-force.ensures.replacing
+    (λ h. (wrote.honest (made.honest h.0), subst L.honest wrote.log (subst L.honest made.log h.1)))
+    (forced_sound old.state one.state c.in_ok-force.ensures.state) c.in_ok-force.ensures.fit
+    (keeps_join P L one two three wrote.state wrote.replacing (λ h. (made.honest h.0, subst L.honest made.log h.1)) wrote.fit made.fit)

@@ -1,0 +1,53 @@
+use Rattle.std.proofs.Common.{rules, ap, subst, sym, ◌∙◌, ◌≡◌}
+use Rattle.rq_model.specs.Replay.Reply.{Gave_migrated}
+use Rattle.rq_model.specs.Vocabulary.{is_some}
+use Rattle.rq_page.specs.Sizes.{Sizes, with_tags}
+use Rattle.rq_engine.specs.Migration.{HasMigrated, KeepsOrGrows, MayGetTags, NotMigrated}
+use Rattle.rq_engine.specs.Opened.{OpenStore}
+use Rattle.rq_engine.proofs.Crashing.{none_fit}
+use Rattle.rq_engine.proofs.Migrating.{grows_either, migrated_legally, not_legally, stopped_so}
+use Rattle.rq_engine.proofs.engine.Engine.migrate.Goals as goal
+
+pub returns-in_err-grown-clause-answered : goal.returns-in_err-grown-clause-answered
+returns-in_err-grown-clause-answered g c =
+    let old = c.args.self.now in
+    let that = not_legally g.P.PageDevice g.L.LogDevice c.args.pages old old (λ lsn. Gave_migrated lsn) c.in_err-grown.field-0.0 c.in_err-grown.ensures.refused in
+    search (rules, that)
+
+pub returns-in_err-grown-clause-fit : goal.returns-in_err-grown-clause-fit
+returns-in_err-grown-clause-fit g c =
+    grows_either g.P.PageDevice g.L.LogDevice c.args.pages c.args.self.now c.args.self.now (none_fit g.P.PageDevice g.L.LogDevice g.met.P.PageDevice.only_now g.met.L.LogDevice.only_now c.args.self.now (c.shows_kept.ensures.spelled, c.shows_kept.ensures.based) c.shows_kept.ensures.leaves)
+
+pub returns-in-Ok-clause-answered : goal.returns-in-Ok-clause-answered
+returns-in-Ok-clause-answered g c =
+    let tags : c.in_ok-grown.grown.tags ≡ c.args.pages = ap (λ (z : Sizes). z.tags) c.in_ok-grown.ensures.grown in
+    migrated_legally g.P.PageDevice g.L.LogDevice c.args.pages c.args.self.now c.grow.new.self c.in-Ok.lsn c.in_ok-grown.ensures.ok.1
+    (subst (λ (n : _). HasMigrated g.P.PageDevice g.L.LogDevice n c.args.self.now c.grow.new.self c.in-Ok.lsn) tags c.in-Ok.ensures.made)
+
+pub returns-in-Err-clause-answered : goal.returns-in-Err-clause-answered
+returns-in-Err-clause-answered g c =
+    let i = c.self-2.inside in
+    let new : OpenStore g.row.P.Denot g.row.L.Denot = record {
+      state = record {
+        sizes = i.pages.sizes;
+        rows = i.transactions;
+        ends = i.ends;
+        images = i.pages.images;
+        records = c.forget_force.new.self.records;
+        forced = c.forget_force.new.self.forced;
+        failed = i.failed;
+        incarnation = i.incarnation;
+        begins = i.begins;
+        cells_in_use = i.cells_in_use;
+        waiting = i.waiting;
+        sent = i.sent;
+      };
+      pages = i.pages.device;
+      log = c.forget_force.new.self.device;
+      changed = i.pages.changed;
+      replacing = is_some c.forget_force.new.self.replacing;
+    } in
+    let mid = c.grow.new.self in
+    let why : NotMigrated g.P.PageDevice g.L.LogDevice c.args.pages c.args.self.now new c.in-Err.refusal =
+    stopped_so g.P.PageDevice g.L.LogDevice c.args.pages c.args.self.now mid new c.in-Err.refusal c.in_ok-grown.ensures.ok.1 c.in_ok-grown.ensures.ok.0 c.in-Err.ensures.refused c.in-Err.ensures.cause (search rules) (search rules) (search rules) in
+    not_legally g.P.PageDevice g.L.LogDevice c.args.pages c.args.self.now new (λ lsn. Gave_migrated lsn) c.in-Err.refusal why

@@ -1,0 +1,12 @@
+use Rattle.std.proofs.Common.{arith, map, ◌+◌}
+use Rattle.std.proofs.lemmas.Grind.{common_steps}
+use Rattle.rq_reference.specs.Plain.{done_of}
+use Rattle.rq_model.proofs.Rises.{all_kept, rising_further}
+use Rattle.rq_reference.proofs.Reference.migrate.Goals as goal
+
+pub invariant_of-self : goal.invariant_of-self
+invariant_of-self c =
+    let i = c.self.inside in
+    let done = map done_of i.committed.items in
+    let h = all_kept 0 i.records (i.records + 1) done c.self.invariant.rising (omega arith) in
+    record { numbered = c.self.invariant.numbered; rising = rising_further 0 i.records (i.records + 1) done (omega arith) c.self.invariant.rising; forced = omega arith; durable = grind (arith, common_steps, h) }

@@ -1,0 +1,91 @@
+//! Migrations: a store without clients gets some.
+ghost use Rattle.std.specs.Prelude.{◌≡◌, ◌≢◌, ◌↔◌, ◌*◌, IfErr, IfNone, IfOk, IfSome, OnErr, [], false, true};
+ghost use Rattle.rq_model.specs.History.Call.{Migrate};
+ghost use Rattle.rq_model.specs.History.Entry.{Grew, Migrated};
+ghost use Rattle.rq_model.specs.Legal.{MayGrow};
+ghost use Rattle.rq_model.specs.Tests.{bad_tags};
+ghost use Rattle.rq_reference.specs.Plain.{May, MayBeRefused, grown, next};
+ghost use Rattle.rq_model.specs.declared.refusal.Refusal.TheVariants.{NoMemory};
+
+use crate::rows::State;
+use crate::{Reference, scans};
+use rq_model::refusal::Refusal;
+use rq_model::txn::Lsn;
+
+// How many clients a page of tags is for.
+const CLIENTS: u32 = 15;
+
+// How many pages of tags a store may have.
+const TAGS_LIMIT: u32 = 1024;
+
+impl Reference {
+    /// Gives a store without clients 15 for each of so many pages, and answers the LSN of the one record that then stands in
+    /// the place of all others. Every commit is then durable. It answers nothing more before it is opened again.
+    ///
+    /// # Errors
+    /// `Failed`; `BadTags` where the pages are not 1 to 1,024, or the store has clients; `NotQuiet`, `LogFull`.
+    pub fn migrate(&mut self, pages: u32) -> Result<Lsn, Refusal>
+        ensures ok { IfOk result (λ lsn. May self.old (Migrated pages lsn)) }
+        ensures grows { IfOk result (λ lsn. May (next (Migrated pages lsn) self.old) (Grew pages)) }
+        ensures step { IfOk result (λ lsn. self.new ≡ grown pages (next (Migrated pages lsn) self.old)) }
+        ensures refused { IfErr result (λ r. MayBeRefused self.old (Migrate pages) r) }
+        ensures same { OnErr result (self.new ≡ self.old) }
+        ensures memory { IfErr result (λ r. r ≢ NoMemory) }
+    {
+        if !self.is_running() {
+            return Err(Refusal::Failed);
+        }
+        let Some(clients) = self.clients_with(pages) else {
+            return Err(Refusal::BadTags);
+        };
+        if !self.is_quiet() {
+            return Err(Refusal::NotQuiet);
+        }
+        if scans::log_full(&self.open_txns, self.records, 1) {
+            return Err(Refusal::LogFull);
+        }
+        self.records += 1;
+        self.forced = self.records;
+        self.durable = self.committed.len();
+        self.clients = clients;
+        self.state = State::Stopped;
+        Ok(self.records)
+    }
+
+    /// Whether a crash may leave so many pages of tags, which a migration has not answered.
+    pub fn may_grow(&self, pages: u32) -> bool
+        ensures { (result ≡ true) ↔ May self.now (Grew pages) }
+    {
+        if self.is_shut() {
+            return false;
+        }
+        if self.clients_with(pages).is_none() {
+            return false;
+        }
+        self.is_quiet()
+    }
+
+    /// A migration comes through that has not answered: the store has clients, and answers nothing more before it is opened
+    /// again.
+    pub fn grow(&mut self, pages: u32)
+        requires { MayGrow self.old.size self.old.ledger pages }
+        ensures ok { May self.old (Grew pages) }
+        ensures step { self.new ≡ grown pages self.old }
+    {
+        if let Some(clients) = self.clients_with(pages) {
+            self.clients = clients;
+            self.state = State::Stopped;
+        }
+    }
+
+    // How many clients the store has with so many pages of tags; none where it cannot get them.
+    fn clients_with(&self, pages: u32) -> Option<u32>
+        ensures some { IfSome result (λ clients. (clients ≡ 15 * pages) × (bad_tags self.now.size pages ≡ false)) }
+        ensures none { IfNone result (bad_tags self.now.size pages ≡ true) }
+    {
+        if self.clients > 0 || pages == 0 || pages > TAGS_LIMIT {
+            return None;
+        }
+        Some(CLIENTS * pages)
+    }
+}
