@@ -25,7 +25,7 @@ from damaged import FILL, base, restarts_behind_a_base
 from files import BASED, SHIM, WHOLE, files_of, folder_of
 from inspector import record
 from mutated import TAGS, Looks
-from server import LONGEST
+from server import LONGEST, without_progress
 from shim import failing
 
 # What stands behind the last record.
@@ -59,7 +59,7 @@ class Opens:
             environment = {**os.environ, **self.library, **more, **words}
             ran = subprocess.run([*command, str(folder)], capture_output=True, env=environment, timeout=LONGEST)
             files = files_of(folder)
-            came = ran.returncode, ran.stdout, ran.stderr, told.exists()
+            came = ran.returncode, ran.stdout, without_progress(ran.stderr), told.exists()
             return Ended(*came, files["pages"], files["log"], files.get("log.new"), synced.stat().st_size)
 
     def each(self, command, pages, log, **words):

@@ -991,7 +991,7 @@ def slow_openings(program):
                 lines = told_opening(program, folder, *subcommand, environment={**words, "MICROS": str(micros)})
                 seconds = time.monotonic() - began
                 if not micros:
-                    assert lines == [], (subcommand, lines)
+                    assert lines == [] or seconds > 1, (subcommand, lines)  # (a busy machine may keep it for so long)
                     continue
                 read, whole = zip(*(map(int, re.fullmatch(rb"opening: ([0-9]+) of ([0-9]+) MB read", line).groups()) for line in lines))
                 assert {*whole} == {-(-(pages + log) // 10**6)}, (subcommand, lines)

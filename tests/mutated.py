@@ -24,7 +24,7 @@ import opening
 from cases import built
 from damaged import formatted
 from inspector import KINDS, front, record, wanted
-from server import LONGEST, Connection, store
+from server import LONGEST, Connection, store, without_progress
 
 sys.dont_write_bytecode = True
 from rqm import Closed, Refused  # noqa: E402, where `server` finds it
@@ -68,7 +68,7 @@ def served(program, folder, work):
             with Connection(int(line.split(b":")[1]), timeout=LONGEST) as connection:
                 work(connection)
         printed, told = server.communicate(timeout=LONGEST)
-        return line + printed, told, server.returncode
+        return line + printed, without_progress(told), server.returncode
     finally:
         slow.cancel()
         server.kill()
@@ -381,7 +381,7 @@ class Looks:
         """What is wrong with a checkpoint of this store, which is there."""
         printed, left, made = opening.checkpointed(pages, log)
         ran = subprocess.run([self.rqm, "checkpoint", folder], capture_output=True, timeout=LONGEST)
-        if (ran.stdout.decode(), ran.stderr, ran.returncode) != (printed, b"", int("fault " in printed)):
+        if (ran.stdout.decode(), without_progress(ran.stderr), ran.returncode) != (printed, b"", int("fault " in printed)):
             yield f"checkpoint says {ran.stdout}, {ran.stderr}, {ran.returncode}, and not {printed}"
         left_pages, left_log = files_in(folder)
         if left_log != left:
@@ -395,7 +395,7 @@ class Looks:
         """What is wrong with a migration of this store, which is there. One that is refused may leave zeros behind the pages."""
         printed, left, made = opening.migrated(pages, log, TAGS)
         ran = subprocess.run([self.rqm, "migrate", folder, "--tags", str(TAGS)], capture_output=True, timeout=LONGEST)
-        if (ran.stdout.decode(), ran.stderr, ran.returncode) != (printed, b"", int("fault " in printed)):
+        if (ran.stdout.decode(), without_progress(ran.stderr), ran.returncode) != (printed, b"", int("fault " in printed)):
             yield f"migrate says {ran.stdout}, {ran.stderr}, {ran.returncode}, and not {printed}"
         left_pages, left_log = files_in(folder)
         if left_log != left:

@@ -221,9 +221,9 @@ class Server:
         return self.process.returncode, printed
 
     def tells(self):
-        """What stands on standard error so far, line by line."""
+        """What stands on standard error so far, line by line, but for how far the opening was."""
         self.told.seek(0)
-        return self.told.read().splitlines()
+        return without_progress(self.told.read()).splitlines()
 
     def kill(self):
         self.process.kill()
@@ -239,6 +239,11 @@ def first_line(process):
         line += byte
     slow.cancel()
     return line
+
+
+def without_progress(told):
+    """What a program told, without how far its opening was. A busy machine may keep any opening for so long that it is told."""
+    return re.sub(rb"^opening: [0-9]+ of [0-9]+ MB read\n", b"", told, flags=re.M)
 
 
 class NotStarted(Exception):
