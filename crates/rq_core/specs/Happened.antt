@@ -62,7 +62,7 @@ module _ {P L : Type 0} (p : page_device.Ghosts P) (l : log_device.Ghosts L) whe
     pub log_only : (bytes : List ℕ) → l.may_leave new_log bytes → bytes ≡ l.seen new_log
     pub holds : LastLsn (l.seen new_log) count
 
-  -- What is so of every open store, if no checkpoint has failed, whatever stood before its Base. A crash leaves a part of its
+  -- What is so of every open store whose log no failed call may have replaced, whatever stood before its Base. A crash leaves a part of its
   -- log, with pages that fit.
   abbrev pub Keeps : OpenStore P L → Type 0
   Keeps s = s.replacing ≡ false → l.honest s.log → (e : List Record) → IsEarlier e s.state → IsSound (on e s.state)

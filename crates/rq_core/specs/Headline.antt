@@ -62,10 +62,10 @@ module _ {P L : Type 0} (p : page_device.Ghosts P) (l : log_device.Ghosts L) (z 
   LeftLast h [] pages log = Unit {0}
   LeftLast h (a ∷ course) pages log = LeftBy h a.1 pages log
 
-  -- What is so of every course, with both devices as they are at its end. For some choice of the groups that were picked, and of
-  -- whether migrations came through that crashes cut off or devices refused, its answers tell a history. In it each reply is legal, each crash keeps what it must, and each restart opens what was left. At
-  -- every place of it what committed transactions took from a sender is a beginning of what they sent for it; an acknowledged
-  -- commit stays.
+  -- What is so of every course, with both devices as they are at its end. Its answers tell a history, for some choice of the groups
+  -- that were picked, and of which migrations came through that were cut off or refused by a device. In it each reply is legal, each
+  -- crash keeps what it must, and each restart opens what was left. At every place of it what committed transactions took from a
+  -- sender is a beginning of what they sent for it; an acknowledged commit stays.
   pub record IsHeadline (course : Course) (pages : P) (log : L) : Type 0 where
     pub history : List Entry
     pub tells : Tells course history

@@ -1,5 +1,5 @@
 -- What a crash in a checkpoint leaves.
-use Rattle.std.proofs.Common.{◌≡◌, ◌≢◌, ◌⊎◌, ℕ, zero, suc, ◌+◌, ◌-◌, ◌%◌, ◌^◌, ◌<◌, ◌≤◌, Bool, true, false, List, [], ◌∷◌, length, drop, slice_set, Option, Some, None, Result, Ok, Err, IfOk, IfErr, refl, sym, ◌∙◌, ap, subst, inl, inr, ⊎_elim, arith}
+use Rattle.std.proofs.Common.{◌≡◌, ◌≢◌, ◌⊎◌, ℕ, zero, suc, ◌+◌, ◌-◌, ◌%◌, ◌^◌, ◌<◌, ◌≤◌, Bool, true, false, List, [], ◌∷◌, length, drop, slice_set, Option, Some, None, Result, Ok, Err, IfOk, refl, sym, ◌∙◌, ap, subst, inl, inr, ⊎_elim, arith}
 use Rattle.std.proofs.lemmas.Bool.{cases_eq, true_from_ne_false, true≢false}
 use Rattle.rq_model.specs.declared.refusal.Refusal.{Refusal}
 use Rattle.rq_model.specs.declared.refusal.Refusal.TheVariants as why
@@ -16,8 +16,7 @@ use Rattle.rq_pool.specs.declared.Written.{Written}
 use Rattle.rq_pool.specs.declared.Written.TheVariants as out
 use Rattle.rq_pool.specs.Pooled.{image_at, is_changed}
 use Rattle.rq_pool.specs.Writing.{DeviceAfter, HasChangeBeyond, NoChangeBeyond, changed_after}
-use Rattle.rq_store.specs.State.{ledger_of, open_ones_of}
-use Rattle.rq_model.specs.Tests.{log_full}
+use Rattle.rq_store.specs.State.{open_ones_of}
 use Rattle.rq_sound.specs.ModelSteps.{IsModelStep}
 use Rattle.rq_engine.specs.Answers.{AnswersLegally, IsCausedIn}
 use Rattle.rq_engine.proofs.Earlier.{full_on, lsn_on, standing_on}
@@ -46,7 +45,7 @@ use Rattle.rq_sound.specs.Calls.{checkpointed}
 use Rattle.rq_sound.specs.Sound.{IsSound}
 use Rattle.rq_sound.proofs.Checkpoints.{checkpoint, checkpoint_sound}
 use Rattle.rq_sound.proofs.Contracts.{calls_keep}
-use Rattle.rq_engine.specs.Opened.{AreHonest, NotWritten, OpenStore, WritesWhen, pooled, state_after}
+use Rattle.rq_engine.specs.Opened.{AreHonest, OpenStore, WritesWhen, pooled, state_after}
 use Rattle.rq_engine.specs.Crash.{AreFit, IsCut, KeepsFit, LeavesCut}
 use Rattle.rq_engine.specs.Checkpoint.{CountsFailure, CountsOne, HasFewer, HasMadeOneRecord, MayMakeOneRecord, IsBeginningOrBase, IsCutOrBased, IsStopped, KeepsFitOrBased, NotCheckpointed}
 use Rattle.rq_engine.specs.Devices.{Path}
@@ -270,14 +269,6 @@ stopped_is p l old mid new why.DiskWrite could s counts fewer is marks pages log
 )
 stopped_is p l old mid new _ could s counts fewer is marks pages log = absurd s
 
--- behind a force
-pub stopped_more : (a b c : State) (n : ℕ) (r : Refusal) → b ≡ record a { forced = n } → a.forced ≤ n → IsStopped b c r → IsStopped a c r
-stopped_more a b c n why.DiskWrite is le s =
-    let k : IsStopped (record a { forced = n }) c why.DiskWrite = subst (λ (x : State). IsStopped x c why.DiskWrite) is s in
-    let more = k.1 in
-    (k.0, omega (arith, le, more))
-stopped_more a b c n _ is le s = absurd s
-
 -- ---- failures that are counted
 
 module _ {P L : Type 0} (p : page_device.Ghosts P) (l : log_device.Ghosts L) where
@@ -398,21 +389,6 @@ begins_join l old mid log between new is le first second =
     (weaker l between new (IsBeginningOrBase mid.records mid.forced) (IsBeginningOrBase old.records old.forced) second
     (λ bytes b. base_less mid old bytes (ap (λ (s : State). s.records) is) (let count = ap (λ (s : State). s.forced) is in omega (arith, count, le)) b))
 
--- the log could not be forced
-pub not_forced : {P L : Type 0} (p : page_device.Ghosts P) (l : log_device.Ghosts L) (old new : OpenStore P L) (r : Refusal) → old.state.failed ≡ false → NotWritten l old new r → new.pages ≡ old.pages → CountsOne p l old new
-not_forced p l old new why.Failed running n pages = absurd (true≢false (sym n.0 ∙ running))
-not_forced p l old new why.DiskWrite running n pages = inr (ap p.faults pages, n.1)
-not_forced p l old new _ running n pages = absurd n
-
--- where one could be made, it can be behind a force, and behind pages that were written
-pub could_still : {P L : Type 0} (old new : OpenStore P L) (n : ℕ) → new.state ≡ record old.state { forced = n } → HasFewer old.changed new.changed → MayMakeOneRecord old → MayMakeOneRecord new
-could_still old new n is fewer could = record {
-  running = ap (λ (s : State). s.failed) is ∙ could.running;
-  none_open = ap (λ (s : State). s.rows) is ∙ could.none_open;
-  room = ap (λ (s : State). log_full (ledger_of s) 1) is ∙ could.room;
-  within = λ page low changed. subst (λ (s : State). lsn_of (image_at s.images page) ≤ length s.records) (sym is) (could.within page low (still_changed old.changed new.changed page fewer changed));
-}
-
 -- ---- the whole of it
 
 -- the entry of one that is made
@@ -449,7 +425,3 @@ forced_sound s t is e long k =
 pub if_ok : {A E : Type 0} {X Y : A → Type 0} (r : Result A E) → ((x : A) → X x → Y x) → IfOk r X → IfOk r Y
 if_ok (Ok x) f h = f x h
 if_ok (Err e) f h = tt
-
-pub if_err : {A E : Type 0} {X Y : E → Type 0} (r : Result A E) → ((e : E) → X e → Y e) → IfErr r X → IfErr r Y
-if_err (Ok x) f h = tt
-if_err (Err e) f h = f e h

@@ -4,7 +4,6 @@ use Rattle.std.proofs.lemmas.Bool.{cases_Bool, false≢true, or_left, true≢fal
 use Rattle.rq_model.specs.declared.message.Message.{Message}
 use Rattle.rq_model.specs.declared.record.Deed.{Deed}
 use Rattle.rq_model.specs.declared.record.Deed.TheVariants.{Append, UnlinkHead, Close, Mark}
-use Rattle.rq_model.specs.declared.refusal.Refusal.{Refusal}
 use Rattle.rq_model.specs.declared.refusal.Refusal.TheVariants as why
 use Rattle.rq_model.specs.declared.txn.Txn.{Txn}
 use Rattle.rq_model.specs.Legal.{OnFound}
@@ -31,7 +30,6 @@ use Rattle.rq_sound.proofs.Groups.{all_stand, none_latched}
 use Rattle.rq_sound.proofs.UsedCells.{some_free}
 use Rattle.rq_sound.proofs.Latching.{latched_exact}
 use Rattle.rq_sound.specs.Inverses.{MayBeUndone}
-use Rattle.rq_engine.specs.Applied.{OnLatched}
 use Rattle.rq_engine.specs.Aborts.{UndoIsLatched}
 use Rattle.rq_engine.specs.Closes.{close_latched}
 use Rattle.rq_engine.specs.Marks.{mark_latched}
@@ -54,9 +52,6 @@ any_busy rows (a ∷ xs) h = elim (cases_Bool (latched_in rows (a / 16))) [
 ]
 
 -- ---- calls
-
-pub memory_latched : (P : Type 0) (r : Refusal) → r ≡ why.NoMemory → OnLatched P r
-memory_latched P r e = subst (OnLatched P) (sym e) tt
 
 module _ (s : State) (k : IsSound s) where
   -- what a send needs, read from the slots as they are

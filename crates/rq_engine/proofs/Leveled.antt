@@ -92,9 +92,6 @@ few_of z q us (Mark c tag previous) p = let a = of_writes z us _ p.writes in ome
 pub some_task : (a b : Task) → Some a ≡ Some b → a ≡ b
 some_task a b e = cc
 
-some_deed : (a b : Deed) → Some a ≡ Some b → a ≡ b
-some_deed a b e = cc
-
 -- bytes that are a deed's spelling, and are read as it
 pub told_by : (level : ℕ) (bytes : List ℕ) (d : Deed) → bytes ≡ spelled_deed d → deed_by level bytes ≡ Some d → IsTold level bytes
 told_by level bytes d spelled reads =

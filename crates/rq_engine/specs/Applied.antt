@@ -186,7 +186,7 @@ pub record Applied {P L : Type 0} (p : page_device.Ghosts P) (l : log_device.Gho
   pub log : LogSays l old new e r
   pub checkpoint : CheckpointSays p l old e r new
   pub honest : AreHonest p l new → AreHonest p l old
-  -- of crashes, at every moment since the call began, where no checkpoint has failed
+  -- of crashes, at every moment since the call began, where no failed call may have replaced the log
   pub any_moment : old.replacing ≡ false → l.honest new.log → LeavesOnly l old.log new.log (MayLeave old.state e)
   pub fit : AreHonest p l new → StaysWhole e new → (earlier : List Record) → IsEarlier earlier old.state → IsSound (on earlier old.state)
       → AreFit p (over earlier old) → AreFit p (over earlier new)

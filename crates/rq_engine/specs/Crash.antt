@@ -49,8 +49,8 @@ abbrev pub RunsThroughCuts : {P L : Type 0} → page_device.Ghosts P → log_dev
     → OpenStore P L → Type 0
 RunsThroughCuts p l old new = Path p l (IsCut old.state) old.pages old.log new.pages new.log
 
--- Of a sound store over honest devices whose pages fit, and whose checkpoints did not fail, whatever the earlier records were. They
--- fit after the call, and a crash at any moment of it leaves such a cut.
+-- Of a sound store over honest devices whose pages fit, whatever the earlier records were. No failed call may have replaced its log.
+-- The pages fit after the call, and a crash at any moment of it leaves such a cut.
 pub record StaysFit {P L : Type 0} (p : page_device.Ghosts P) (l : log_device.Ghosts L) (old new : OpenStore P L) : Type 0 where
   pub fit : AreFit p new
   pub crash : RunsThroughCuts p l old new

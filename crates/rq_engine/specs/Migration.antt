@@ -1,6 +1,6 @@
 -- A migration: a store without tag pages gets some. One record, a Base, stands for all, as after a checkpoint, and the first page
 -- tells the new sizes last.
-use Rattle.std.specs.Prelude.{◌≡◌, ◌≢◌, ◌⊎◌, ℕ, ◌+◌, ◌<◌, ◌≤◌, true, false, List, length, IsOk, Result}
+use Rattle.std.specs.Prelude.{◌≡◌, ◌≢◌, ◌⊎◌, ℕ, ◌+◌, ◌<◌, ◌≤◌, true, false, List, length}
 use Rattle.rq_model.specs.declared.record.Record.{Record}
 use Rattle.rq_model.specs.declared.refusal.Refusal.{Refusal}
 use Rattle.rq_model.specs.declared.refusal.Refusal.TheVariants as why
@@ -33,21 +33,21 @@ IsCutOrGrown n s images bytes = IsCutOrBased s images bytes ⊎ IsCutGrown n (ch
 abbrev pub MayGetTags : ℕ → State → Type 0
 MayGetTags n s = bad_tags (size_of s.sizes) n ≡ false
 
--- The first page was handed to the device as that of these sizes, and no other page.
+-- At most the first page was handed to the device, as that of these sizes.
 pub record TellsSizes {P : Type 0} (p : page_device.Ghosts P) (z : Sizes) (old new : P) : Type 0 where
   pub first : (c : List ℕ) → p.may_be new 0 c → p.may_be old 0 c ⊎ IsFormatted z 0 c
   pub others : (page : ℕ) (c : List ℕ) → page ≢ 0 → p.may_be new page c → p.may_be old page c
   pub each : PagesLeave p old new (λ images. ((page : ℕ) → page ≢ 0 → p.may_be old page (images page))
       × (p.may_be old 0 (images 0) ⊎ IsFormatted z 0 (images 0)))
 
--- The pages behind the store's are the tag pages, as they are formatted, and the first page tells them, whatever a crash leaves.
+-- Behind the store's pages stand the tag pages as they are formatted, and the first page tells them. So it is whatever a crash leaves.
 pub record HasTags {P : Type 0} (p : page_device.Ghosts P) (n : ℕ) (z : Sizes) (pages : P) : Type 0 where
   pub superblock : (c : List ℕ) → p.may_be pages 0 c → IsFormatted (with_tags n z) 0 c
   pub added : (page : ℕ) (c : List ℕ) → page_count z ≤ page → page < page_count (with_tags n z)
       → p.may_be pages page c → IsFormatted (with_tags n z) page c
 
 module _ {P L : Type 0} (p : page_device.Ghosts P) (l : log_device.Ghosts L) (n : ℕ) where
-  -- Of a sound store over honest devices whose pages fit, and of which no checkpoint has failed. A crash at any moment of the
+  -- Of a sound store over honest devices whose pages fit, and whose log no failed call may have replaced. A crash at any moment of the
   -- call leaves a cut of the store as it was, or of what it was to be.
   abbrev pub KeepsOrGrows : OpenStore P L → OpenStore P L → Type 0
   KeepsOrGrows old new = old.replacing ≡ false → AreHonest p l new → (e : List Record) → IsEarlier e old.state

@@ -52,10 +52,10 @@ impl<P: PageDevice, L: LogDevice, B: Level> Engine<P, L, B> {
         }
     }
 
-    /// Makes the call that an event stands for. A crash may come at any moment of the call, or after it. Where the
-    /// store is sound, its pages fit, its devices are honest and no checkpoint has failed, the crash leaves the log's
-    /// first records. All forced ones are among them, and the pages that are left fit them. A checkpoint may leave its
-    /// one record instead, and a migration that with the tag pages.
+    /// Makes the call that an event stands for. A crash may come at any moment of the call, or after it. Let the store be
+    /// sound, its pages fit, its devices honest, and its log such that no failed call may have replaced it. The crash
+    /// leaves the log's first records. All forced ones are among them, and the pages that are left fit them. A checkpoint
+    /// may leave its one record instead, and a migration that with the tag pages.
     pub fn apply(&mut self, event: &Event) -> Reply
         ensures applied { Applied P.PageDevice L.LogDevice self.old event.now result self.new }
         // a reply that memory is wanting for, or that shows the content, leaves all as it was

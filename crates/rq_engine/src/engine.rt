@@ -207,7 +207,7 @@ impl<P: PageDevice, L: LogDevice, B: Level> Engine<P, L, B> {
     ghost use Rattle.rq_model.specs.Tests.{IsUnready};
     ghost use Rattle.rq_model.specs.Tests.{NoneHolds, ready_tests};
 
-    /// For proofs: what a crash at this moment leaves of the log, and where no checkpoint has failed of both devices.
+    /// For proofs: what a crash at this moment leaves of the log, and of both devices where none has failed to replace it.
     /// It shows too that each record has a spelling, and that a Base is forced. It runs no code.
     pub fn shows_kept(&self)
         ensures running { self.now.state.failed ≡ false → self.now.replacing ≡ false }

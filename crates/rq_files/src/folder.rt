@@ -92,7 +92,7 @@ pub fn format_folder<R: Files<File = File> + AllocGlobal>(
 /// hold; its value is used up, so that code over any `S` opens one store.
 ///
 /// Where the store has no tag pages, its file of pages is first made long enough for `room` of them, if a store may have so
-/// many. A file that is longer, or too short for its store, stays as it is, and so does any other where `room` is 0.
+/// many. A file that is longer, or too short for its store, stays as it is. So does any file where `room` is 0.
 ///
 /// # Errors
 /// `Open` where a file or its lock cannot be had, `Refused` with `DiskWrite` where it cannot be made longer or synced, and with

@@ -123,10 +123,6 @@ plain_drop zero log plain = plain
 plain_drop (suc n) [] plain = tt
 plain_drop (suc n) (r ∷ log) plain = plain_drop n log plain.1
 
-pub base_alone : (r : Record) → standing (r ∷ []) ≡ r ∷ []
-base_alone (Base many i) = refl
-base_alone _ = refl
-
 -- a log that is read record by record is marked
 pub next_marked : (r : Record) (log : List Record) → (is_base r ≡ false) ⊎ (log ≡ []) → IsMarked log → IsMarked (with_next r log)
 next_marked (Base many i) log first marked = refl

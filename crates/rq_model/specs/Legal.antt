@@ -63,7 +63,7 @@ IsUpTo n Running records = records ≤ n
 IsUpTo n Stopped records = records ≤ n
 IsUpTo n Is_shut records = Unit {0}
 
--- one record more, where no transaction is open: that of a checkpoint which the crash stopped
+-- one record more, where no transaction is open: that of a checkpoint or a migration which the crash stopped
 abbrev pub IsCheckpointed : Ledger → ℕ → Type 0
 IsCheckpointed l records = (l.open_ones ≡ []) × (records ≡ l.records + 1)
 

@@ -81,7 +81,7 @@ CrashGoesOn z = (h : List Entry) (newer older : List Record) → IsLegal z h →
     → KeepsRules older
     → (ledger h).forced ≤ length older → (ledger h).incarnation ≤ incarnation_of older → EndsInCrash z h older
 
--- a crash in a checkpoint, where no transaction is open, which leaves the Base that stands for all records
+-- a crash in a checkpoint or a migration, where no transaction is open, which leaves the Base that stands for all records
 abbrev pub CheckpointCrashGoesOn : Size → Type 0
 CheckpointCrashGoesOn z = (h : List Entry) (log : List Record) → IsLegal z h → Ties (ledger h) log → KeepsRules log
     → (ledger h).open_ones ≡ [] → EndsInCrash z h (based (incarnation_of log) log)

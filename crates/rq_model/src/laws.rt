@@ -59,8 +59,8 @@ pub fn crash_goes_on()
     ensures { (size : Size) → CrashGoesOn size }
 {}
 
-/// A crash in a checkpoint, which leaves the record that stands for all others, is the next entry of a legal history too: the
-/// commits and the content that this log tells are those of the history.
+/// A crash in a checkpoint or a migration, which leaves the record that stands for all others, is the next entry of a legal
+/// history too: the commits and the content that this log tells are those of the history.
 pub fn checkpoint_crash_goes_on()
     ensures { (size : Size) → CheckpointCrashGoesOn size }
 {}

@@ -24,7 +24,7 @@ pub struct NoMemory;
 pub enum Refusal {
     /// 1: a growth of memory was refused in this call.
     NoMemory,
-    /// 2: an earlier call answered `DiskWrite`, or the store is not open.
+    /// 2: an earlier call answered `DiskWrite`, the store was migrated, or it is not open.
     Failed,
     /// 3: a device read failed in this call.
     DiskRead,

@@ -27,10 +27,6 @@ pub wish_slot : (o : Option ℕ) (answer : Want) (a : ℕ) → answer ≡ wish o
 wish_slot None answer a e slot = absurd (let no : wants.Ready ≡ wants.Slot a = sym e ∙ slot in cc)
 wish_slot (Some b) answer a e slot = let is : wants.Slot b ≡ wants.Slot a = sym e ∙ slot in cc
 
-pub wish_ready : (o : Option ℕ) (answer : Want) → answer ≡ wish o → ((a : ℕ) → answer ≡ wants.Slot a → ⊥) → o ≡ None
-wish_ready None answer e not_one = refl
-wish_ready (Some a) answer e not_one = absurd (not_one a e)
-
 -- ---- gathering
 
 more_wanted : (want : List Given → Option ℕ) (front given : List Given) (g : Given) → AreWanted want front given → want (front ++ given) ≡ Some g.at → AreWanted want front (given ++ g ∷ [])

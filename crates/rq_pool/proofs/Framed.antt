@@ -1,6 +1,6 @@
 -- Pages in frames.
-use Rattle.std.proofs.Common.{◌≡◌, ◌≢◌, ℕ, Bool, false, ◌<◌, List, [], length, slice_set, slice_index_or, Option, None, Some, refl, sym, ap, subst, arith, ◌∙◌}
-use Rattle.std.proofs.lemmas.List.{map-set, set-get_or, get_or-map, get_or-set_same, get_or-set_other, length-map}
+use Rattle.std.proofs.Common.{◌≡◌, ◌≢◌, ℕ, Bool, ◌<◌, List, [], length, slice_set, slice_index_or, Option, refl, sym, ap, subst, arith, ◌∙◌}
+use Rattle.std.proofs.lemmas.List.{map-set, get_or-map, get_or-set_same, get_or-set_other, length-map}
 use Rattle.std.proofs.Math.Seq.{map-set_same}
 use Rattle.rq_page.specs.Sizes.{Sizes}
 use Rattle.rq_page.specs.Pages.{IsWritten}
@@ -61,14 +61,3 @@ changed_set fs i j f b at is =
 -- a frame with the same page
 pub images_kept : (fs : List Frame) (j : ℕ) (f g : Frame) → f ≡ slice_index_or fs j f → image_of g ≡ image_of f → images_of (slice_set fs j g) ≡ images_of fs
 images_kept fs j f g read same = map-set_same image_of fs j g f (same ∙ ap image_of read)
-
--- a frame whose page a record was not applied to
-unapplied : (w : Option Redo) (old new : List ℕ) (lsn : ℕ) (made : Bool) → AppliesOnce w old lsn made new → made ≡ false → new ≡ old
-unapplied None old new lsn made is not = is.1
-unapplied (Some w) old new lsn made is not = is.kept not
-
-pub frame_kept : (fs : List Frame) (i : ℕ) (f : Frame) (page : List ℕ) (w : Option Redo) (lsn : ℕ) (made : Bool) → f ≡ slice_index_or fs i f
-    → AppliesOnce w (image_of f) lsn made page → made ≡ false → slice_set fs i (record { page = page; changed = f.changed }) ≡ fs
-frame_kept fs i f page w lsn made read is not =
-    ap (λ (p : List ℕ). slice_set fs i (record { page = p; changed = f.changed })) (unapplied w (image_of f) page lsn made is not)
-    ∙ ap (slice_set fs i) read ∙ set-get_or fs i f

@@ -19,8 +19,8 @@ const CLIENTS: u32 = 15;
 const TAGS_LIMIT: u32 = 1024;
 
 impl Reference {
-    /// Gives a store without clients 15 for each of so many pages, and answers the LSN of the one record that then stands in
-    /// the place of all others. Every commit is then durable. It answers nothing more before it is opened again.
+    /// Gives a store without clients 15 for each of so many pages. One record then stands in the place of all others: its LSN is
+    /// the answer. Every commit is then durable. It answers nothing more before it is opened again.
     ///
     /// # Errors
     /// `Failed`; `BadTags` where the pages are not 1 to 1,024, or the store has clients; `NotQuiet`, `LogFull`.

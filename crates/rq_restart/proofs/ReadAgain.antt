@@ -43,10 +43,6 @@ pub ok_under : {A E : Type 0} (sure : Type 0) (x : Result A E) (a : A) (Q : A �
 ok_under {A} {E} sure (Ok r) a Q is q = λ h. let e : ◌≡◌ {A = Result A E} (Ok r) (Ok a) = is h in let same : a ≡ r = cc in subst Q same q
 ok_under sure (Err e) a Q is q = tt
 
-pub err_under : {A E : Type 0} (sure : Type 0) (x : Result A E) (a : A) → (sure → x ≡ Ok a) → IfErr x (λ e. sure → ⊥)
-err_under sure (Ok r) a is = tt
-err_under {A} {E} sure (Err e) a is = λ h. let bad : ◌≡◌ {A = Result A E} (Err e) (Ok a) = is h in cc
-
 pub none_map : {A : Type 0} (x : Option A) (P Q : Type 0) → (P → Q) → IfNone x P → IfNone x Q
 none_map None P Q f h = f h
 none_map (Some a) P Q f h = tt
@@ -214,10 +210,6 @@ not_put_back kept _ (why.Damaged d) h = refl
 not_put_back kept r _ h = absurd h
 
 -- ---- what is to be taken back
-
-pub due_like : (t : Txn) (lsn : ℕ) (r : Record) → IfOk (due_told t lsn r) (λ d. (d.txn ≡ t) × (d.lsn ≡ lsn))
-due_like t lsn (records.OpEnd u n level deed) = (refl, refl)
-due_like t lsn _ = tt
 
 pub due_named : (t : Txn) (lsn : ℕ) (r : Record) → IfErr (due_told t lsn r) (λ e. e ≡ why.Damaged (damage.Record lsn))
 due_named t lsn (records.OpEnd u n level deed) = tt

@@ -1,6 +1,5 @@
 -- Undoing operations that have no end, record by record.
-use Rattle.std.specs.List.{filter}
-use Rattle.std.proofs.Common.{◌≡◌, ℕ, ◌+◌, ◌<◌, true, false, List, [], ◌∷◌, length, inl, inr, refl, sym, ◌∙◌, ap, subst, arith}
+use Rattle.std.proofs.Common.{◌≡◌, ℕ, ◌+◌, ◌<◌, false, List, [], ◌∷◌, length, inl, inr, refl, sym, ◌∙◌, ap, subst, arith}
 use Rattle.rq_model.specs.declared.record.Record.{Record}
 use Rattle.rq_model.specs.declared.record.Record.TheVariants.{PageOp, PageUndo, OpEnd, OpVoid, CompEnd, Base}
 use Rattle.rq_model.specs.declared.refusal.Refusal.{Refusal}
@@ -30,9 +29,7 @@ use Rattle.rq_analysis.specs.Pages.IsNextUndo.{Voids, Undoes}
 use Rattle.rq_analysis.proofs.Lists.{in_undoable, in_with, in_without, sub_in}
 use Rattle.rq_analysis.proofs.Stacks.{in_newest}
 use Rattle.rq_analysis.proofs.Undos.{undo_leaves_less, undoing_more}
-use Rattle.rq_analysis.specs.LogTables.{PutsBack}
 use Rattle.rq_analysis.specs.Rules.{CanBeRead}
-use Rattle.rq_views.proofs.Overlay.{same_self as op_self}
 use Rattle.rq_restart.specs.Again.{IsLike, IsLikeUndo, NotUndoneFor}
 use Rattle.rq_restart.specs.Found.{MayComeNext}
 use Rattle.rq_restart.specs.Repeating.{ArePagesCounted, Belongs, IsRecordRedone, Marks, Paged, Repeats}
@@ -122,14 +119,6 @@ module _ (log : List Record) (h : OpenWorkView) (r : Record) (is : h ≡ open_wo
       let a : work after ≡ work (open_work_of (like.0 ∷ log)) = ap work (noted ∙ ap open_work_of more ∙ like_work like.0 r log like.2) in
       let b : work h ≡ work (open_work_of log) = ap work is in
       omega (arith, less, a, b)
-
--- the record that is next puts back what stood before
-pub next_puts_back : (log : List Record) (h : OpenWorkView) (r : Record) → IsNextUndo h r → PutsBack h r
-next_puts_back log h r (Voids o spent least e) = subst (PutsBack h) (sym e) tt
-next_puts_back log h r (Undoes p ps none f e) = subst (PutsBack h) (sym e) (
-    let own : undoable_by p.by p ≡ true = op_self p.by in
-    ap (λ (l : List UndoableWrite). first (filter (undoable_by p.by) l)) f ∙ rw own refl
-    )
 
 module _ {L : Type 0} (g : Ghosts L) (only_now : (d : L) (c : List ℕ) → g.left_since d (g.moment d) c → g.may_leave d c) where
   pub still : (d : L) → IsRead g d d

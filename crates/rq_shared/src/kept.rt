@@ -231,7 +231,7 @@ impl<P: PageDevice + Drop, L: LogDevice + Drop, B: Level> Kept<P, L, B> {
         self.audit.as_slice()
     }
 
-    /// For proofs: what a crash at this moment leaves of the log, where no checkpoint has failed and else. It shows too
+    /// For proofs: what a crash at this moment leaves of the log, where none has failed to replace it and else. It shows too
     /// that each record has a spelling, that a Base is forced, and that the entries replay. It runs no code.
     pub fn shows_kept(&self)
         ensures leaves { self.now.engine.replacing ≡ false → L.honest self.now.engine.log → (bytes : List ℕ) → L.may_leave self.now.engine.log bytes

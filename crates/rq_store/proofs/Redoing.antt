@@ -20,7 +20,7 @@ use Rattle.rq_views.specs.InStore.{InStore, InStoreOne, IsInPlace, AllStand}
 use Rattle.rq_views.specs.Stored.{IsStoreSlot, slots_in, slot_at}
 use Rattle.rq_views.proofs.Overlay.{put_at, put_off}
 use Rattle.rq_views.proofs.Stands.{slots_stand, page_of_cells, page_of_directory, page_of_tags}
-use Rattle.rq_store.specs.Fitting.{left_by, oldest, ToldWrite, told_by, IsOfPage, IsStamp, HoldsPage, HoldsBase, AllHoldBase, FitsPage, FitsLog, image_in}
+use Rattle.rq_store.specs.Fitting.{left_by, oldest, ToldWrite, told_by, IsOfPage, IsStamp, HoldsPage, HoldsBase, AllHoldBase, FitsLog, image_in}
 use Rattle.rq_store.specs.Whole.{BeforesAreSlots}
 use Rattle.rq_store.specs.Opening.{FitsPageUpTo, FitsUpTo, Redoes}
 use Rattle.rq_store.proofs.Fitting.{oldest_all}
@@ -146,12 +146,6 @@ module _ (z : Sizes) (log : List Record) (k : ℕ) (r : Record) (grows : oldest 
             | inr ge ↦ subst (λ image. FitsPageUpTo z log (k + 1) w.page image) (sym (one.kept ge)) (newer w.page (old w.page) f ge)
           ])
     ]
-
--- before the first record
-pub redo_none : (z : Sizes) (log : List Record) (image : ℕ → List ℕ) → FitsLog z image log → FitsUpTo z image log 0
-redo_none z log image h p low high =
-    let f : FitsPage z log p (image p) = h.pages p low high in
-    record { fits = f; caught_up = λ le. let e : lsn_of (image p) ≡ 0 = omega (arith, le) in subst (λ n. HoldsPage z p (image p) (oldest n log)) e f.held }
 
 -- behind the newest Base, if pages hold what that stands for
 pub redo_base : (z : Sizes) (log : List Record) (image : ℕ → List ℕ) → FitsLog z image log → AllHoldBase z image log → FitsUpTo z image log (base_lsn log)

@@ -51,8 +51,8 @@ impl Change {
     }
 }
 
-/// Opens the store of a folder, does this to it, and prints what the restart found and the LSN of the record that the log is then,
-/// or why not. Answers the exit status: 0, or 1 after a fault.
+/// Opens the store of a folder, and does this to it. Prints what the restart found, and the LSN of the record that the log is
+/// then, or why not. Answers the exit status: 0, or 1 after a fault.
 ///
 /// # Errors
 /// Where a line cannot be printed.
@@ -94,8 +94,8 @@ fn make_change<R: AllocGlobal + Print + Eprint + Files<File = File> + Renames>(
     }
 }
 
-// Prints what the restart found, does this to a store that is open, and prints the LSN of the record that its log is then, or why
-// not. The exit status.
+// Prints what the restart found, and does this to the store, which is open. Prints the LSN of the record that its log is then, or
+// why not. The exit status.
 fn tell_change<P: PageDevice, L: LogDevice, B: Level, R: Print>(
     rt: &R,
     engine: &mut Engine<P, L, B>,
