@@ -24,7 +24,7 @@ from cases import built
 from damaged import FILL, base, restarts_behind_a_base
 from files import BASED, SHIM, WHOLE, files_of, folder_of
 from inspector import record
-from mutated import TAGS, Looks
+from mutated import MIGRATE, TAGS, Looks
 from server import LONGEST, without_progress
 from shim import failing
 
@@ -47,7 +47,7 @@ class Opens:
 
     def __init__(self, bench, rqm, library):
         self.opening, self.checkpoint, self.library = [bench, "open"], [rqm, "checkpoint"], library
-        self.migration = [rqm, "migrate", "--tags", str(TAGS)]
+        self.migration = [rqm, *MIGRATE]
         self.looks = Looks(rqm, None, tempfile.gettempdir())
 
     def run(self, command, pages, log, fresh=None, **words):

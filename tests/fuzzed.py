@@ -1,6 +1,6 @@
 #!/usr/bin/env python3
 """Gives the built `rqm` stores and sessions with other bytes. What it says of them, and leaves, is what tests/opening.py,
-tests/inspector.py and tests/reference.py make of the bytes. A store that is refused stays as it is.
+tests/inspector.py and tests/reference.py make of the bytes. A store that is refused stays as it is. One is also given tag pages.
 
     python3 tests/fuzzed.py [--program PROGRAM]
     python3 tests/fuzzed.py --minutes M [--seed N] [--jobs N] [--keep FOLDER] [--program PROGRAM]
@@ -34,7 +34,7 @@ import opening
 from cases import TOP, built, built_twice
 from damaged import formatted, rows
 from hostile import drawn_frame, drawn_stream, requests_in
-from mutated import Mutation, held_in, left_by_runs, put_files
+from mutated import MIGRATE, Mutation, faults_of_migration, files_in, held_in, left_by_runs, put_files
 from reference import REFUSALS, Refused
 from script_reference import Script
 from server import CLOSING, FAULTS, LONGEST, MARKING, SESSION, frame_of, read_bytes, read_to_end, without_progress
@@ -84,7 +84,7 @@ def told_of(made):
 
 
 class Stores:
-    """Pages and logs, which `rqm inspect` and the start of `rqm serve` read."""
+    """Pages and logs, which `rqm inspect`, the start of `rqm serve` and `rqm migrate` read."""
 
     kind = "store"
 
@@ -94,31 +94,36 @@ class Stores:
         self.inspect = runs([program, "inspect", str(self.folder)])
         words = ["--port", "0", "--workers", "1", "--until-input-ends"]
         self.serve = runs([program, "serve", str(self.folder), *words])
+        self.migrate = runs([program, *MIGRATE, str(self.folder)])
 
     def come(self, held, is_whole=False):
-        """What comes of these bytes, and what they reach."""
-        put_files(self.folder, *held)
-        *shown, reached = self.inspect.run(LONGEST, is_whole=is_whole)
-        *opened, also_reached = self.serve.run(LONGEST, is_whole=is_whole)
-        return (shown, opened), {*reached, *also_reached}
+        """What comes of these bytes, and what they reach. Of each run its status, what it printed and told, and the files it left."""
+        came, all_reached = [], set()
+        for command in (self.inspect, self.serve, self.migrate):
+            put_files(self.folder, *held)
+            *ended, reached = command.run(LONGEST, is_whole=is_whole)
+            came.append((*ended, files_in(self.folder)))
+            all_reached.update(reached)
+        return came, all_reached
 
     def faults(self, held, came):
         """What is wrong with what came of them."""
-        (pages, log), (shown, opened) = held, came
+        (pages, log), (shown, opened, (*migrated, migrated_files)) = held, came
         lines, status = inspector.wanted(log)
-        if shown != [status, "".join(f"{line}\n" for line in lines).encode(), b""]:
-            yield f"inspect comes to {shown}, and not to {lines[-5:]}, {status}"
+        if shown != (status, "".join(f"{line}\n" for line in lines).encode(), b"", held):
+            yield f"inspect comes to {shown[:3]}, and not to {lines[-5:]}, {status}, or its files have changed"
         said, made, left = opening.said_of(pages, log)
         yield from self.faults_of_opening(opened, said, made, pages, left)
+        yield from faults_of_migration(migrated, migrated_files, pages, log)
 
     def faults_of_opening(self, came, said, made, pages, left):
-        status, printed, told = *came[:2], without_progress(came[2])
-        files = [(self.folder / name).read_bytes() for name in ("pages", "log")]
+        (status, printed, told, files), came = came, came[:3]
+        told = without_progress(told)
         if not made:
             fault = b"fault 16 Damaged\n" if said.startswith("damaged") else f"{said}\n".encode()
             if (status, printed, told) != (1, fault, b""):
                 yield f"serve comes to {came}, and not to {said}"
-            if files != [pages, left]:
+            if files != (pages, left):
                 yield f"it is refused ({said}), and its files have changed"
             return
         is_right = re.fullmatch(rb"listening 127\.0\.0\.1:[0-9]+\nserved 0\n", printed) and told_of(made).fullmatch(told)

@@ -32,8 +32,9 @@ from rqm import Closed, Refused  # noqa: E402, where `server` finds it
 # Directory pages, cell pages and tag pages.
 SIZES = [(1, 1, 0), (1, 2, 1), (2, 2, 0)]
 
-# How many tag pages a store is given.
+# How many tag pages a store is given, and the words that give them.
 TAGS = 2
+MIGRATE = ["migrate", "--tags", str(TAGS)]
 
 # What has to be met among the usual stores, those of the seeds from 0, and how often at least.
 USUAL = 1500
@@ -388,29 +389,13 @@ class Looks:
             yield f"checkpoint leaves the log {left_log[:100]}, and not {left[:100]}"
         elif "fault " in printed and left_pages != pages:
             yield "no checkpoint is made, and the pages have changed"
-        elif "fault " not in printed and held_in(opening.Opening(left_pages, left_log)) != held_in(made):
+        elif "fault " not in printed and not is_held(left_pages, left_log, held_in(made)):
             yield "it holds something else behind a checkpoint"
 
     def migrations(self, folder, pages, log):
-        """What is wrong with a migration of this store, which is there. One that is refused may leave zeros behind the pages."""
-        printed, left, made = opening.migrated(pages, log, TAGS)
-        ran = subprocess.run([self.rqm, "migrate", folder, "--tags", str(TAGS)], capture_output=True, timeout=LONGEST)
-        if (ran.stdout.decode(), without_progress(ran.stderr), ran.returncode) != (printed, b"", int("fault " in printed)):
-            yield f"migrate says {ran.stdout}, {ran.stderr}, {ran.returncode}, and not {printed}"
-        left_pages, left_log = files_in(folder)
-        if left_log != left:
-            yield f"migrate leaves the log {left_log[:100]}, and not {left[:100]}"
-        elif "fault " in printed:
-            more = left_pages[len(pages) :]
-            if not left_pages.startswith(pages) or more.strip(b"\0") or len(more) > TAGS * opening.PAGE:
-                yield "no migration is made, and the pages have changed"
-        else:
-            whole, first = bytes(formatted(made.pages.directory, made.pages.cells, TAGS)), made.pages.count * opening.PAGE
-            now = left_pages[: opening.PAGE], left_pages[first : len(whole)], left_pages[len(whole) :]
-            if now != (whole[: opening.PAGE], whole[first:], pages[len(whole) :]):
-                yield "behind a migration its superblock, its tag pages, or what is behind them are not as they should"
-            elif held_in(opening.Opening(left_pages, left_log)) != (made.pages.content(), dict.fromkeys(range(15 * TAGS), (0, 0))):
-                yield "it holds something else behind a migration"
+        """What is wrong with a migration of this store, which is there."""
+        ran = subprocess.run([self.rqm, *MIGRATE, folder], capture_output=True, timeout=LONGEST)
+        yield from faults_of_migration((ran.returncode, ran.stdout, ran.stderr), files_in(folder), pages, log)
 
     def serves(self, folder, said, made, left):
         held, marks = {}, {}
@@ -434,6 +419,28 @@ class Looks:
             yield "its log goes on otherwise"
 
 
+def faults_of_migration(came, left, pages, log):
+    """What is wrong with a migration of these files that came to this and left those. One that is refused may leave zeros behind the
+    pages."""
+    (status, said, told), (left_pages, left_log) = came, left
+    printed, left_by_it, made = opening.migrated(pages, log, TAGS)
+    if (said.decode(), without_progress(told), status) != (printed, b"", int("fault " in printed)):
+        yield f"migrate says {said}, {told}, {status}, and not {printed}"
+    if left_log != left_by_it:
+        yield f"migrate leaves the log {left_log[:100]}, and not {left_by_it[:100]}"
+    elif "fault " in printed:
+        more = left_pages[len(pages) :]
+        if not left_pages.startswith(pages) or more.strip(b"\0") or len(more) > TAGS * opening.PAGE:
+            yield "no migration is made, and the pages have changed"
+    else:
+        whole, first = bytes(formatted(made.pages.directory, made.pages.cells, TAGS)), made.pages.count * opening.PAGE
+        now = left_pages[: opening.PAGE], left_pages[first : len(whole)], left_pages[len(whole) :]
+        if now != (whole[: opening.PAGE], whole[first:], pages[len(whole) :]):
+            yield "behind a migration its superblock, its tag pages, or what is behind them are not as they should"
+        elif not is_held(left_pages, left_log, (made.pages.content(), dict.fromkeys(range(15 * TAGS), (0, 0)))):
+            yield "it holds something else behind a migration"
+
+
 def put_files(folder, pages, log):
     (folder / "pages").write_bytes(pages)
     (folder / "log").write_bytes(log)
@@ -442,6 +449,12 @@ def put_files(folder, pages, log):
 def held_in(made):
     """What an opened store holds, by senders and by clients."""
     return made.pages.content(), made.pages.marks()
+
+
+def is_held(pages, log, held):
+    """Whether a store of these files holds this. One whose log has as many records as there may be is opened no more."""
+    said, made, _ = opening.said_of(pages, log)
+    return held_in(made) == held if made else said == opening.FULL
 
 
 def files_in(folder):
