@@ -178,13 +178,17 @@ def checked(uses, crate, edits, functions, kept):
 
 
 def try_round(uses, crate, edits, kept):
-    """Of each edit: whether it is refused, and why or why not. One that is not, beside others, is tried alone: it may call
-    a function that another edit changes, and then the prover does not judge it."""
+    """Of each edit: whether it is refused, and why or why not. Those that are not, beside others, are tried again without these: one may
+    call a function that another edit changes, and then the prover does not judge it. Where all are left, each is tried alone."""
     status, said, texts = checked(uses, crate, edits, [edit.function for edit in edits], kept)
     if status != 1:
         return [(edit, False, f"BAD EDIT: the prover ended with {status}: {said.strip()[-200:]}") for edit in edits]
     answers = [(edit, *judge(edit, text, said)) for edit, text in zip(edits, texts)]
-    return [it if it[1] or len(edits) == 1 else try_round(uses, crate, [it[0]], kept)[0] for it in answers]
+    left = [edit for edit, is_refused, _ in answers if not is_refused]
+    if not left or len(edits) == 1:
+        return answers
+    again = [left] if len(left) < len(edits) else [[edit] for edit in left]
+    return [it for it in answers if it[1]] + [it for group in again for it in try_round(uses, crate, group, kept)]
 
 
 def try_crate(uses, crate, edits):
