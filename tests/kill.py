@@ -218,6 +218,9 @@ class Migrations:
                     self.take(connection, held)
                 self.migrate(folder, is_cut_off=tag < 50)
 
+    def is_all_met(self):
+        return self.cut_off > 0 and self.based > 0 and self.grown > 0
+
     def migrate(self, folder, is_cut_off):
         """Gives a store two tag pages; that may be cut off anywhere."""
         before, command = base_of(folder), [self.program, "migrate", str(folder), "--tags", "2"]
@@ -291,11 +294,13 @@ def main():
     sent = sum(kills.load.sent)
     assert sent > 10 * chosen.rounds, sent
     assert kills.checkpoints and kills.cut_off and kills.based and kills.beside or chosen.rounds < 100, vars(kills)
-    migrations = Migrations(program, chosen.seed)
-    for _ in range(chosen.rounds // 2):
+    migrations, lives = Migrations(program, chosen.seed), 0
+    # (few are killed in the last sync: where none was, there are more lives)
+    while lives < chosen.rounds // 2 or chosen.rounds >= 100 and not migrations.is_all_met() and lives < 10 * chosen.rounds:
         migrations.life()
-    assert migrations.made + migrations.grown == chosen.rounds // 2, vars(migrations)
-    assert migrations.cut_off and migrations.based and migrations.grown or chosen.rounds < 100, vars(migrations)
+        lives += 1
+    assert migrations.made + migrations.grown == lives, vars(migrations)
+    assert migrations.is_all_met() or chosen.rounds < 100, vars(migrations)
     seconds = time.monotonic() - before
     made = f"{kills.checkpoints} checkpoints, {kills.cut_off} cut off, {kills.beside} servers that made some, {kills.based} starts behind a Base"
     cut = f"{migrations.cut_off} cut off, {migrations.based} of these behind their Base, {migrations.grown} behind the tag pages"
