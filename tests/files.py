@@ -496,11 +496,10 @@ def courses_from(program, log):
                 assert refused.line in (b"fault 3 DiskRead\n", b"fault 15 DiskWrite\n"), refused
             else:
                 course.run(server)
-                wait_until(lambda: told.exists() or course.has_written(folder))
-                if told.exists():
-                    wait_until(lambda: is_failed(server))
-                assert told.exists() or not course.has_failed
-                assert server.tells()[1:] == [STORE_FAILED] * told.exists()
+                wait_until(lambda: has_told_failure(server) if told.exists() else course.has_written(folder))
+                lines = server.tells()[1:]  # (a call may also fail only now)
+                assert lines in ([], [STORE_FAILED]), lines
+                assert told.exists() or not course.has_failed and not lines
                 server.kill()
             files = files_of(folder)
             left = files["log"][: synced.stat().st_size]
@@ -978,6 +977,11 @@ def is_failed(server):
         except Failed:
             return True
     return False
+
+
+def has_told_failure(server):
+    """Every call is refused, and who runs the server was told, which a busy machine may keep for a while."""
+    return is_failed(server) and server.tells()[1:] == [STORE_FAILED]
 
 
 def slow_openings(program):

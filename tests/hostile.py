@@ -827,7 +827,7 @@ def fill_disk(program, top, words, grow=lambda: None):
     with serving(program, folder, environment=words) as server, server.connect() as connection:
         acknowledged = send_until_full(connection)
         raises(Failed, connection.transaction)
-        assert server.tells()[1:] == [STORE_FAILED], server.tells()
+        wait_until(lambda: server.tells()[1:] == [STORE_FAILED])
     for command in (SERVE, CHECKPOINT):  # what a start needs may find no room
         came = limited(program, folder, environment=words, words=command)
         assert told_by(came, False) == "done" or came[0].endswith(b"fault 15 DiskWrite\n"), came
