@@ -145,7 +145,8 @@ def judge(edit, text, said):
     place = re.compile(rf"(?:note: )?(?:\./)?({re.escape(edit.file)}:(\d+):\d+: .*not proved.*)")
     reasons = [it[1] for it in map(place.match, said.split("\n")) if it and any(int(it[2]) in span for span in spans(edit, text))]
     # (an answer that is written by hand, and does not show any more what its clause asks)
-    answer = re.compile(rf"(?:\./)?proofs/.*\b{edit.function.rsplit('::', 1)[-1]}/Answers\.antt:\d+:\d+: error: (`[^`]*`: .*)")
+    path = "/".join(map(re.escape, edit.function.split("::")))
+    answer = re.compile(rf"(?:\./)?proofs/(?:.*/)?{path}/Answers\.antt:\d+:\d+: error: (`[^`]*`: .*)")
     names = re.compile(r"has no field|is not in scope|has no `|was not admitted")
     # (a message goes on in lines that begin with blanks)
     for line in re.sub(r"\n  +", " ", said).split("\n"):
