@@ -156,9 +156,9 @@ fn happening_of(alloc: Global, line: &mut Line) -> Result<Happening, AllocError>
 }
 
 fn name_of(word: &[u8]) -> Name {
-    for (text, name) in NAMES {
-        if text == word {
-            return name;
+    for (text, name) in &NAMES {
+        if *text == word {
+            return *name;
         }
     }
     Name::Unknown

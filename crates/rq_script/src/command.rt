@@ -146,9 +146,9 @@ const WORDS: [(&[u8], Word); 21] = [
 ];
 
 fn word_of(name: &[u8]) -> Option<Word> {
-    for (text, word) in WORDS {
-        if text == name {
-            return Some(word);
+    for (text, word) in &WORDS {
+        if *text == name {
+            return Some(*word);
         }
     }
     None
