@@ -1,6 +1,6 @@
 //! A store over devices in memory, and what happens to it: calls, failures of devices, crashes at any device
 //! call, restarts.
-ghost use Rattle.std.specs.Prelude.{◌≡◌, IfOk, IfErr, IsTrue, Some, None, length, map, option_map, slice_get, true};
+ghost use Rattle.std.specs.Prelude.{◌≡◌, ◌++◌, [], ◌∷◌, IfOk, IfErr, IsTrue, Some, None, length, map, option_map, slice_get, true};
 ghost use Rattle.rq_model.specs.History.{Call};
 ghost use Rattle.rq_model.specs.History.Call.{Acknowledge};
 ghost use Rattle.rq_page.specs.Sizes.{Sizes};
@@ -12,6 +12,7 @@ ghost use Rattle.rq_core.specs.Happenings.Happening.{Crashes, Restarts, Stops_in
 ghost use Rattle.rq_core.specs.Runs.{GivesUp, Happened, HappensIn, Is, IsFresh, IsHeadline, IsLeftBy, IsOpened, IsRefused, IsRun, Makes};
 ghost use Rattle.rq_core.specs.Views.{answer_in, commit_told, course, happens, world_of};
 ghost use Rattle.rq_core.specs.World.World.{Is_open, Is_shut};
+ghost use Rattle.rq_core.specs.declared.happening.Entry.{Entry};
 
 use crate::happening::{Choice, Entry, Happening};
 use crate::laws::a_run_is_told;
@@ -105,6 +106,7 @@ impl World {
         ensures chosen { IfOk result (λ o. IsRunAsChosen self happenings.now o.entries.items o.pages o.log) }
         ensures headline { IfOk result (λ o. IsHeadline self (course happenings.now o.entries.items) o.pages o.log) }
     {
+        let mut entries = Vec::with_capacity(self.alloc, happenings.len())?;
         let World {
             alloc,
             switch,
@@ -112,12 +114,9 @@ impl World {
             pages,
             log,
         } = self;
-        let mut entries = Vec::with_capacity(alloc, happenings.len())?;
         let mut store = WorldState::Shut(pages, log);
         for happening in happenings {
-            let (next, entry) = happen(alloc, &switch, store, happening, &entries, &mut sets)?;
-            store = next;
-            entries.push(entry)?;
+            store = happen_next(alloc, &switch, store, happening, &mut entries, &mut sets)?;
         }
         a_run_is_told();
         let (pages, log) = given_up(store);
@@ -126,6 +125,30 @@ impl World {
             pages,
             log,
         })
+    }
+}
+
+// One happening more, and its entry.
+fn happen_next<B: Level>(
+    alloc: Global,
+    switch: &Switch,
+    store: WorldState<B>,
+    happening: &Happening,
+    entries: &mut Vec<Entry>,
+    sets: &mut Vec<StoreLevels<B>>,
+) -> Result<WorldState<B>, AllocError>
+    ensures { IfOk result (λ next. (entry : Entry) × (entries.new.items ≡ entries.old.items ++ entry ∷ [])
+        × ((c : Course) → answers_of c ≡ map answer_in entries.old.items
+        → Happened c (happens happening.now) (world_of store) (answer_in entry) (world_of next))
+        × IsAsChosen happening.now (world_of store) (answer_in entry) (world_of next)) }
+{
+    let (next, entry) = happen(alloc, switch, store, happening, entries, sets)?;
+    match entries.push(entry) {
+        Ok(()) => Ok(next),
+        Err(_) => {
+            drop(next);
+            Err(AllocError)
+        }
     }
 }
 
@@ -170,14 +193,20 @@ fn happen_to_open<B: Level>(
             switch.arm_call(*n, Mishap::Fail);
             Ok((WorldState::Open(engine), Entry::Nothing))
         }
-        Happening::Crash(choice) => {
-            let images = images(choice)?;
-            Ok(crash_open(switch, engine, choice.keep, choice.bytes, images))
-        }
-        Happening::StopIn(event, n, choice) => {
-            let images = images(choice)?;
-            Ok(stop_in(switch, engine, event, *n, choice.keep, choice.bytes, images))
-        }
+        Happening::Crash(choice) => match images(choice) {
+            Ok(images) => Ok(crash_open(switch, engine, choice.keep, choice.bytes, images)),
+            Err(error) => {
+                drop(engine);
+                Err(error)
+            }
+        },
+        Happening::StopIn(event, n, choice) => match images(choice) {
+            Ok(images) => Ok(stop_in(switch, engine, event, *n, choice.keep, choice.bytes, images)),
+            Err(error) => {
+                drop(engine);
+                Err(error)
+            }
+        },
         Happening::Restart | Happening::RestartStop(..) => {
             Ok((WorldState::Open(engine), Entry::Running))
         }

@@ -1,8 +1,6 @@
 use Rattle.std.proofs.Common.{option_map, refl, ap, ◌∙◌, subst, sym}
 use Rattle.rq_model.specs.History.Call.{Acknowledge}
 use Rattle.rq_engine.specs.Says.{call_of}
-use Rattle.rq_engine.specs.declared.event.Event.TheVariants as event
-use Rattle.rq_core.specs.Chosen.{IfCrashed, IsAsChosen, OpenLeavesChosen}
 use Rattle.rq_core.specs.Happenings.{acknowledging, nth}
 use Rattle.rq_core.specs.Happenings.Happening.{Acknowledges, Asks, Crashes, Stops_in}
 use Rattle.rq_core.specs.Runs.{Happened}
@@ -23,22 +21,12 @@ returns-in-Some-clause-happened g c = λ course same.
     subst (λ h. Happened course (happens h) (Is_open c.args.engine) (answer_in c.ask-in-Some.result.1) (world_of c.ask-in-Some.result.0)) (sym c.in-Ack.is)
     (c.ask-in-Some.ensures course (Acknowledges n) told)
 
-pub returns-in_ok-images-in-Crash-clause-happened : goal.returns-in_ok-images-in-Crash-clause-happened
-returns-in_ok-images-in-Crash-clause-happened g c = λ course same.
+pub returns-in-Ok-clause-happened : goal.returns-in-Ok-clause-happened
+returns-in-Ok-clause-happened g c = λ course same.
     subst (λ h. Happened course (happens h) (Is_open c.args.engine) (answer_in c.crash_open.result.1) (world_of c.crash_open.result.0)) (sym c.in-Crash.is)
     (c.crash_open.ensures.happened course Crashes refl)
 
-pub returns-in_ok-images-in-StopIn-clause-happened : goal.returns-in_ok-images-in-StopIn-clause-happened
-returns-in_ok-images-in-StopIn-clause-happened g c = λ course same.
+pub returns-in-Ok-images-clause-happened : goal.returns-in-Ok-images-clause-happened
+returns-in-Ok-images-clause-happened g c = λ course same.
     subst (λ h. Happened course (happens h) (Is_open c.args.engine) (answer_in c.stop_in.result.1) (world_of c.stop_in.result.0)) (sym c.in-StopIn.is)
     (c.stop_in.ensures.happened course (Stops_in (call_of c.in-StopIn.event)) refl)
-
-pub returns-in_ok-images-in-Crash-clause-chosen : goal.returns-in_ok-images-in-Crash-clause-chosen
-returns-in_ok-images-in-Crash-clause-chosen g c =
-    subst (λ h. IsAsChosen h (Is_open c.args.engine) (answer_in c.crash_open.result.1) (world_of c.crash_open.result.0)) (sym c.in-Crash.is)
-    (subst (λ f. OpenLeavesChosen (record { keep = c.in-Crash.choice.keep; torn = c.in-Crash.choice.bytes; places = f }) event.HandOver c.args.engine (world_of c.crash_open.result.0)) c.in_ok-images-in-Crash.ensures c.crash_open.ensures.chosen)
-
-pub returns-in_ok-images-in-StopIn-clause-chosen : goal.returns-in_ok-images-in-StopIn-clause-chosen
-returns-in_ok-images-in-StopIn-clause-chosen g c =
-    subst (λ h. IsAsChosen h (Is_open c.args.engine) (answer_in c.stop_in.result.1) (world_of c.stop_in.result.0)) (sym c.in-StopIn.is)
-    (subst (λ f. IfCrashed (answer_in c.stop_in.result.1) (OpenLeavesChosen (record { keep = c.in-StopIn.choice.keep; torn = c.in-StopIn.choice.bytes; places = f }) c.in-StopIn.event c.args.engine (world_of c.stop_in.result.0))) c.in_ok-images-in-StopIn.ensures c.stop_in.ensures.chosen)

@@ -19,20 +19,22 @@ loop-happening-preserved g c =
     let i = c.loop-happening.happening-index in
     let count = c.loop-happening.invariant.each in
     let within = c.loop-happening-test.true in
-    let items = c.in_ok-push.ensures.items in
+    let next = c.in_ok-store.ensures in
+    let entry = next.0 in
+    let items = next.1 in
     let xs = c.args.happenings.now in
     let es = c.loop-happening.entries.items in
     let met = world_of c.loop-happening.store in
-    let same = told_so_far xs es i (omega (arith, within)) count in
+    let left = world_of c.in_ok-store.store in
     record {
-      each = ap length items ∙ length_push es c.in_ok-next.entry ∙ ap (λ n. n + 1) count;
-      led = subst (λ k. LedAsChosen c.args.self k (world_of c.in_ok-next.next)) (sym (entered_pushed xs es c.push.new.self.items i c.happening-item.result c.in_ok-next.entry within count items)) (
+      each = ap length items ∙ length_push es entry ∙ ap (λ n. n + 1) count;
+      led = subst (λ k. LedAsChosen c.args.self k left) (sym (entered_pushed xs es c.happen_next.new.entries.items i c.happening-item.result entry within count items)) (
         met,
         c.loop-happening.invariant.led,
-        subst (λ h. Happened (course_in (entered [] (take i xs) es)) (happens h) met (answer_in c.in_ok-next.entry) (world_of c.in_ok-next.next)) c.happening-item.is
-            (subst (λ k. Happened k (happens c.happening-item.result) met (answer_in c.in_ok-next.entry) (world_of c.in_ok-next.next)) (sym (course_is (take i xs) es))
-            (c.in_ok-next.ensures.happened (course (take i xs) es) (same ∙ ap (map answer_in) (sym c.deref.ensures.value)))),
-        subst (λ h. IsAsChosen h met (answer_in c.in_ok-next.entry) (world_of c.in_ok-next.next)) c.happening-item.is c.in_ok-next.ensures.chosen,
+        subst (λ h. Happened (course_in (entered [] (take i xs) es)) (happens h) met (answer_in entry) left) c.happening-item.is
+            (subst (λ k. Happened k (happens c.happening-item.result) met (answer_in entry) left) (sym (course_is (take i xs) es))
+            (next.2 (course (take i xs) es) (told_so_far xs es i (omega (arith, within)) count))),
+        subst (λ h. IsAsChosen h met (answer_in entry) left) c.happening-item.is next.3,
       );
     }
 
