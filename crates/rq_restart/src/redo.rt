@@ -143,9 +143,13 @@ fn check_and_redo<P: PageDevice + Drop, B: Level>(
     if !analysis.may_take(reads, puts_back, record) || !may_redo(pages, lsn, record) {
         return Err(Refusal::Damaged(Damage::Record(lsn)));
     }
-    analysis.note(lsn, record)?;
-    apply(pages, levels, lsn, record);
-    Ok(())
+    match analysis.note(lsn, record) {
+        Ok(()) => {
+            apply(pages, levels, lsn, record);
+            Ok(())
+        }
+        Err(refusal) => Err(refusal),
+    }
 }
 
 // Whether the deed in a record, if there is one, is read by its level.

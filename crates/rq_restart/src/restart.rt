@@ -33,7 +33,7 @@ use rq_level::Level;
 use rq_log::{Log, LogReader};
 use rq_model::limits::LOG_LIMIT;
 use rq_model::record::Record;
-use rq_model::refusal::{Damage, Refusal};
+use rq_model::refusal::{Damage, NoMemory, Refusal};
 use rq_planner::{Planner, StoreLevels};
 use rq_pool::Pages;
 use rq_record::{shows_fits, spelled_len};
@@ -252,10 +252,19 @@ fn finish_restart<P: PageDevice + Drop, L: LogDevice + Drop, B: Level>(
     ensures fails { IfErr result (λ e. FailsWith e (L.faults log.old.device) (L.faults log.new.device)) }
     ensures read { IfErr result (λ e. (e ≢ Refusal.DiskWrite) → IsRead L.LogDevice log.old.device log.new.device) }
 {
-    check_page_numbers(numbers, log.last())?;
+    match check_page_numbers(numbers, log.last()) {
+        Ok(()) => {}
+        Err(refusal) => return Err(refusal),
+    }
     let unfinished = analysis.open_work.unfinished();
-    let (lost, planner) = undo_all(alloc, pages, log, analysis, levels)?;
-    let tables = read_slots(alloc, pages, planner)?;
+    let (lost, planner) = match undo_all(alloc, pages, log, analysis, levels) {
+        Ok(undone) => undone,
+        Err(refusal) => return Err(refusal),
+    };
+    let tables = match read_slots(alloc, pages, planner) {
+        Ok(tables) => tables,
+        Err(NoMemory) => return Err(Refusal::NoMemory),
+    };
     match begin_incarnation(log, analysis.open_work.incarnation(), unfinished, lost) {
         Ok(report) => Ok((tables, report)),
         Err(refusal) => Err(refusal),

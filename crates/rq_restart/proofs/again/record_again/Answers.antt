@@ -22,3 +22,6 @@ returns-in-Err-clause-err g c =
     let few = few_spelled log c.shows_kept.ensures.log.spelled (let k = c.last.ensures in let low = c.if-last-ge-LOG_LIMIT.false in omega (arith, k, low)) in
     subst (λ e. NotGivenFor g.L.LogDevice e c.args.lsn log c.args.place c.args.log.now.device c.record_at.new.self.device) (sym c.not_given.ensures)
     (why_not_given log c.args.place g.L.LogDevice c.args.log.now.device c.record_at.new.self.device c.args.lsn few c.in-Err.refusal (c.in-Err.ensures.err c.requires.running))
+
+pub returns-then-last-ge-LOG_LIMIT-clause-err : goal.returns-then-last-ge-LOG_LIMIT-clause-err
+returns-then-last-ge-LOG_LIMIT-clause-err g c = (let k = c.last.ensures in let high = c.if-last-ge-LOG_LIMIT.true in omega (arith, k, high), refl)

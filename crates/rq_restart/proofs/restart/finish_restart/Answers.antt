@@ -19,42 +19,42 @@ use Rattle.rq_restart.proofs.restart.finish_restart.Goals as goal
 
 pub begin_incarnation-requires-clause-low : goal.begin_incarnation-requires-clause-low
 begin_incarnation-requires-clause-low g c =
-    let rollback = c.in_ok-lost.ensures in
+    let rollback = c.in-Ok-undo_all.ensures in
     let now = c.undo_all.new.log.records in
     let few = few_read now rollback.found.order rollback.found.marked in
     let is = last_is now c.undo_all.new.analysis.open_work rollback.found.open_work c.incarnation.result c.incarnation.ensures in
     omega (arith, few, is)
 
-pub returns-in-Ok-clause-restarted : goal.returns-in-Ok-clause-restarted
-returns-in-Ok-clause-restarted g c =
-    let rollback = c.in_ok-lost.ensures in
+pub returns-in-Ok-begin_incarnation-clause-restarted : goal.returns-in-Ok-begin_incarnation-clause-restarted
+returns-in-Ok-begin_incarnation-clause-restarted g c =
+    let rollback = c.in-Ok-undo_all.ensures in
     let z = c.undo_all.new.pages.sizes in
     let images = c.undo_all.new.pages.images in
     let count : ℕ = length c.undo_all.new.log.records in
-    let counted : ArePagesCounted z count (paged c.undo_all.new.pages) = subst (λ y. ArePagesCounted y count (paged c.undo_all.new.pages)) (sym rollback.stays.sizes) (rollback.counted (c.requires.pages.3 (subst (λ m. ArePagesCounted c.args.pages.now.sizes m c.requires.pages.0) c.last.ensures (c.in_ok-check_page_numbers.ensures.counted c.args.pages.now.sizes c.requires.pages.0 c.requires.pages.2)))) in
-    let longer : count + 1 ≡ length c.begin_incarnation.new.log.records = (let e : length c.begin_incarnation.new.log.records ≡ length (records.Restart (c.incarnation.result + 1) ∷ c.undo_all.new.log.records) = ap length c.in-Ok.ensures.records in omega (arith, e)) in
-    let told = c.in-Ok.ensures.report in
+    let counted : ArePagesCounted z count (paged c.undo_all.new.pages) = subst (λ y. ArePagesCounted y count (paged c.undo_all.new.pages)) (sym rollback.stays.sizes) (rollback.counted (c.requires.pages.3 (subst (λ m. ArePagesCounted c.args.pages.now.sizes m c.requires.pages.0) c.last.ensures (c.in-Ok.ensures.counted c.args.pages.now.sizes c.requires.pages.0 c.requires.pages.2)))) in
+    let longer : count + 1 ≡ length c.begin_incarnation.new.log.records = (let e : length c.begin_incarnation.new.log.records ≡ length (records.Restart (c.incarnation.result + 1) ∷ c.undo_all.new.log.records) = ap length c.in-Ok-begin_incarnation.ensures.records in omega (arith, e)) in
+    let told = c.in-Ok-begin_incarnation.ensures.report in
     let found = c.requires.found.open_work in
-    let t = c.in-Ok.report in
+    let t = c.in-Ok-begin_incarnation.report in
     let now = c.begin_incarnation.new.log.records in
     record {
-      forced = c.in-Ok.ensures.forced.0;
+      forced = c.in-Ok-begin_incarnation.ensures.forced.0;
       reports = λ hh e past. subst (λ y. Reports y (rebased e c.args.log.now.records) now t.incarnation t.records t.unfinished t.lost) (sym rollback.stays.sizes)
           (reports c.args.log.now.records c.undo_all.new.log.records (rollback.rolls_back (c.begin_incarnation.ensures.honest hh)).is c.undo_all.new.analysis.open_work rollback.found.open_work c.incarnation.result c.incarnation.ensures c.args.pages.now.sizes now
           t.incarnation t.records t.unfinished t.lost
           (told.0, told.1, told.2 ∙ c.unfinished-unfinished.ensures ∙ ap (λ (h : OpenWorkView). length h.unfinished) found, told.3 ∙ rollback.lost ∙ ap (λ (h : OpenWorkView). length h.active) found)
           e past);
-      told = subst (λ n. AreTold z images n c.in_ok-tables.tables.waiting c.in_ok-tables.tables.sent) longer (are_told z images count c.in_ok-tables.tables.waiting c.in_ok-tables.tables.sent c.in_ok-tables.ensures.waiting c.in_ok-tables.ensures.sent counted);
-      known = c.in_ok-tables.ensures.known;
-      ready = c.in-Ok.ensures.ready;
-      room = c.in-Ok.ensures.room ∙ rollback.room;
-      cause = c.in-Ok.ensures.cause ∙ rollback.cause;
+      told = subst (λ n. AreTold z images n c.in-Ok-read_slots.tables.waiting c.in-Ok-read_slots.tables.sent) longer (are_told z images count c.in-Ok-read_slots.tables.waiting c.in-Ok-read_slots.tables.sent c.in-Ok-read_slots.ensures.waiting c.in-Ok-read_slots.ensures.sent counted);
+      known = c.in-Ok-read_slots.ensures.known;
+      ready = c.in-Ok-begin_incarnation.ensures.ready;
+      room = c.in-Ok-begin_incarnation.ensures.room ∙ rollback.room;
+      cause = c.in-Ok-begin_incarnation.ensures.cause ∙ rollback.cause;
     }
 
-pub returns-in-Ok-clause-checked : goal.returns-in-Ok-clause-checked
-returns-in-Ok-clause-checked g c = λ hh first before k.
-    let rollback = c.in_ok-lost.ensures in
-    let page_numbers = c.in_ok-check_page_numbers.ensures in
+pub returns-in-Ok-begin_incarnation-clause-checked : goal.returns-in-Ok-begin_incarnation-clause-checked
+returns-in-Ok-begin_incarnation-clause-checked g c = λ hh first before k.
+    let rollback = c.in-Ok-undo_all.ensures in
+    let page_numbers = c.in-Ok.ensures in
     let rolls = rollback.rolls_back (c.begin_incarnation.ensures.honest hh) in
     record {
       rolled_back = c.undo_all.new.log.records;
@@ -66,25 +66,25 @@ returns-in-Ok-clause-checked g c = λ hh first before k.
         linked = rollback.linked;
         recovered = rolls.recovered first before;
       };
-      begun = begins c.undo_all.new.log.records c.undo_all.new.analysis.open_work rollback.found.open_work c.incarnation.result c.incarnation.ensures c.begin_incarnation.new.log.records c.in-Ok.ensures.records;
+      begun = begins c.undo_all.new.log.records c.undo_all.new.analysis.open_work rollback.found.open_work c.incarnation.result c.incarnation.ensures c.begin_incarnation.new.log.records c.in-Ok-begin_incarnation.ensures.records;
     }
 
-pub returns-in-Ok-clause-left : goal.returns-in-Ok-clause-left
-returns-in-Ok-clause-left g c =
-    let rollback = c.in_ok-lost.ensures in
+pub returns-in-Ok-begin_incarnation-clause-left : goal.returns-in-Ok-begin_incarnation-clause-left
+returns-in-Ok-begin_incarnation-clause-left g c =
+    let rollback = c.in-Ok-undo_all.ensures in
     begun_left g.L.LogDevice c.args.pages.now.sizes (paged c.args.pages.now) (paged c.undo_all.new.pages) c.args.log.now c.undo_all.new.log c.begin_incarnation.new.log rollback.stays.read rollback.rolls_back
     c.undo_all.new.analysis.open_work c.incarnation.result rollback.found.open_work c.incarnation.ensures c.begin_incarnation.ensures.honest c.begin_incarnation.ensures.any_moment
 
-pub returns-in-Err-clause-left : goal.returns-in-Err-clause-left
-returns-in-Err-clause-left g c =
-    let rollback = c.in_ok-lost.ensures in
+pub returns-in-Err-begin_incarnation-clause-left : goal.returns-in-Err-begin_incarnation-clause-left
+returns-in-Err-begin_incarnation-clause-left g c =
+    let rollback = c.in-Ok-undo_all.ensures in
     begun_left g.L.LogDevice c.args.pages.now.sizes (paged c.args.pages.now) (paged c.undo_all.new.pages) c.args.log.now c.undo_all.new.log c.begin_incarnation.new.log rollback.stays.read rollback.rolls_back
     c.undo_all.new.analysis.open_work c.incarnation.result rollback.found.open_work c.incarnation.ensures c.begin_incarnation.ensures.honest c.begin_incarnation.ensures.any_moment
 
-pub returns-in-Err-clause-shut : goal.returns-in-Err-clause-shut
-returns-in-Err-clause-shut g c = λ hh first before k.
-    let rollback = c.in_ok-lost.ensures in
-    let page_numbers = c.in_ok-check_page_numbers.ensures in
+pub returns-in-Err-begin_incarnation-clause-shut : goal.returns-in-Err-begin_incarnation-clause-shut
+returns-in-Err-begin_incarnation-clause-shut g c = λ hh first before k.
+    let rollback = c.in-Ok-undo_all.ensures in
+    let page_numbers = c.in-Ok.ensures in
     let rolls = rollback.rolls_back (c.begin_incarnation.ensures.honest hh) in
     let z = c.args.pages.now.sizes in
     let older = c.args.log.now.records in
@@ -94,28 +94,26 @@ returns-in-Err-clause-shut g c = λ hh first before k.
     let was : WasReadAndRedone z older first = (paged c.args.pages.now, gone_through z older first (paged c.args.pages.now) c.last.result c.args.numbers.now.numbers.items c.last.ensures page_numbers.counted before k) in
     let l = g.L.LogDevice in
     let old = c.args.log.now.device in
-    subst (λ n. WhyShut z older first c.in-Err.refusal n (faults new) (IsRead l old new)) rollback.cause
-    (shut_by z older first c.in-Err.refusal (faults mid) (faults new) (λ same. subst (IsRead l old) (sym same) rollback.stays.read) (not_begun older c.undo_all.new.log.records rolls.is c.undo_all.new.analysis.open_work rollback.found.open_work c.incarnation.result c.incarnation.ensures z first (paged c.undo_all.new.pages) c.in-Err.refusal (faults mid) (faults new) (new ≡ mid) (rolls.repeated first before) (rolls.planned first before) (rolls.recovered first before) was c.in-Err.ensures.err))
+    subst (λ n. WhyShut z older first c.in-Err-begin_incarnation.refusal n (faults new) (IsRead l old new)) rollback.cause
+    (shut_by z older first c.in-Err-begin_incarnation.refusal (faults mid) (faults new) (λ same. subst (IsRead l old) (sym same) rollback.stays.read) (not_begun older c.undo_all.new.log.records rolls.is c.undo_all.new.analysis.open_work rollback.found.open_work c.incarnation.result c.incarnation.ensures z first (paged c.undo_all.new.pages) c.in-Err-begin_incarnation.refusal (faults mid) (faults new) (new ≡ mid) (rolls.repeated first before) (rolls.planned first before) (rolls.recovered first before) was c.in-Err-begin_incarnation.ensures.err))
 
-pub returns-in_err-lost-clause-shut : goal.returns-in_err-lost-clause-shut
-returns-in_err-lost-clause-shut g c =
+pub returns-in-Err-undo_all-clause-shut : goal.returns-in-Err-undo_all-clause-shut
+returns-in-Err-undo_all-clause-shut g c =
     let z = c.args.pages.now.sizes in
     let older = c.args.log.now.records in
     let old = paged c.args.pages.now in
     let numbers = c.args.numbers.now.numbers.items in
-    let page_numbers = c.in_ok-check_page_numbers.ensures in
+    let page_numbers = c.in-Ok.ensures in
     let faults = g.L.LogDevice.faults in
     let was = c.args.log.now.device in
     let now = c.undo_all.new.log.device in
     let only = c.undo_all.ensures.stays.read in
     let l = g.L.LogDevice in
-    let e = c.in_err-lost.field-0.0 in
-    let h : l.honest now → (first : Paged) → Repeats z older first old → AreNumbersOf z first numbers → WhyShut z older first e (faults was) (faults now) (IsRead l was now) =
-    λ hh first before k. rollback_shut z older first e (faults was) (faults now) (IsRead l was now) (old, gone_through z older first old c.last.result numbers c.last.ensures page_numbers.counted before k) c.in_err-lost.ensures.fails only (c.in_err-lost.ensures.stops hh first before) in
-    search (rules, h)
+    let e = c.in-Err-undo_all.refusal in
+    λ hh first before k. rollback_shut z older first e (faults was) (faults now) (IsRead l was now) (old, gone_through z older first old c.last.result numbers c.last.ensures page_numbers.counted before k) c.in-Err-undo_all.ensures.fails only (c.in-Err-undo_all.ensures.stops hh first before)
 
-pub returns-in_err-check_page_numbers-clause-shut : goal.returns-in_err-check_page_numbers-clause-shut
-returns-in_err-check_page_numbers-clause-shut g c =
+pub returns-in-Err-clause-shut : goal.returns-in-Err-clause-shut
+returns-in-Err-clause-shut g c =
     let z = c.args.pages.now.sizes in
     let older = c.args.log.now.records in
     let old = paged c.args.pages.now in
@@ -123,38 +121,35 @@ returns-in_err-check_page_numbers-clause-shut g c =
     let n = c.last.ensures in
     let was = c.args.log.now.device in
     let faults = g.L.LogDevice.faults was in
-    let e = c.in_err-check_page_numbers.field-0.0 in
+    let e = c.in-Err.refusal in
     let l = g.L.LogDevice in
-    let h : l.honest was → (first : Paged) → Repeats z older first old → AreNumbersOf z first numbers → WhyShut z older first e faults faults (IsRead l was was) =
-    λ hh first before k. beyond_shut z older first old e faults faults (IsRead l was was) before (still l g.met.L.LogDevice.only_now was) (subst (λ m. NamesFirst z m first e) n (c.in_err-check_page_numbers.ensures.names z first k)) in
-    search (rules, h)
+    λ hh first before k. beyond_shut z older first old e faults faults (IsRead l was was) before (still l g.met.L.LogDevice.only_now was) (subst (λ m. NamesFirst z m first e) n (c.in-Err.ensures.names z first k))
 
-pub returns-in_err-check_page_numbers-clause-left : goal.returns-in_err-check_page_numbers-clause-left
-returns-in_err-check_page_numbers-clause-left g c = left_alone g.L.LogDevice c.args.pages.now.sizes (paged c.args.pages.now) c.args.log.now c.args.log.now (still g.L.LogDevice g.met.L.LogDevice.only_now c.args.log.now.device)
+pub returns-in-Err-clause-left : goal.returns-in-Err-clause-left
+returns-in-Err-clause-left g c = left_alone g.L.LogDevice c.args.pages.now.sizes (paged c.args.pages.now) c.args.log.now c.args.log.now (still g.L.LogDevice g.met.L.LogDevice.only_now c.args.log.now.device)
 
-pub returns-in_err-tables-clause-left : goal.returns-in_err-tables-clause-left
-returns-in_err-tables-clause-left g c = left_alone g.L.LogDevice c.args.pages.now.sizes (paged c.args.pages.now) c.args.log.now c.undo_all.new.log c.undo_all.ensures.stays.read
+pub returns-in-Err-read_slots-clause-left : goal.returns-in-Err-read_slots-clause-left
+returns-in-Err-read_slots-clause-left g c = left_alone g.L.LogDevice c.args.pages.now.sizes (paged c.args.pages.now) c.args.log.now c.undo_all.new.log c.undo_all.ensures.stays.read
 
 pub undo_all-requires-clause-follow : goal.undo_all-requires-clause-follow
 undo_all-requires-clause-follow g c = λ h. (repeated_read c.args.pages.now.sizes c.args.log.now.records c.requires.pages.0 (paged c.args.pages.now) (c.requires.pages.1 h)).1
 
-pub returns-in-Err-clause-fails : goal.returns-in-Err-clause-fails
-returns-in-Err-clause-fails g c =
+pub returns-in-Err-begin_incarnation-clause-fails : goal.returns-in-Err-begin_incarnation-clause-fails
+returns-in-Err-begin_incarnation-clause-fails g c =
     let faults = g.L.LogDevice.faults in
-    let rollback = c.in_ok-lost.ensures in
+    let rollback = c.in-Ok-undo_all.ensures in
     let new = c.begin_incarnation.new.log.device in
-    subst (λ n. FailsWith c.in-Err.refusal n (faults new)) rollback.cause (begins_fails c.in-Err.refusal (length c.undo_all.new.log.records) c.incarnation.result (faults c.undo_all.new.log.device) (faults new) (new ≡ c.undo_all.new.log.device) (ap faults) c.in-Err.ensures.err)
+    subst (λ n. FailsWith c.in-Err-begin_incarnation.refusal n (faults new)) rollback.cause (begins_fails c.in-Err-begin_incarnation.refusal (length c.undo_all.new.log.records) c.incarnation.result (faults c.undo_all.new.log.device) (faults new) (new ≡ c.undo_all.new.log.device) (ap faults) c.in-Err-begin_incarnation.ensures.err)
 
-pub returns-in-Err-clause-read : goal.returns-in-Err-clause-read
-returns-in-Err-clause-read g c = λ other.
+pub returns-in-Err-begin_incarnation-clause-read : goal.returns-in-Err-begin_incarnation-clause-read
+returns-in-Err-begin_incarnation-clause-read g c = λ other.
     let l = g.L.LogDevice in
     let new = c.begin_incarnation.new.log.device in
-    let same : new ≡ c.undo_all.new.log.device = begins_untouched c.in-Err.refusal (length c.undo_all.new.log.records) c.incarnation.result (l.faults c.undo_all.new.log.device) (l.faults new) (new ≡ c.undo_all.new.log.device) other c.in-Err.ensures.err in
-    subst (IsRead l c.args.log.now.device) (sym same) c.in_ok-lost.ensures.stays.read
+    let same : new ≡ c.undo_all.new.log.device = begins_untouched c.in-Err-begin_incarnation.refusal (length c.undo_all.new.log.records) c.incarnation.result (l.faults c.undo_all.new.log.device) (l.faults new) (new ≡ c.undo_all.new.log.device) other c.in-Err-begin_incarnation.ensures.err in
+    subst (IsRead l c.args.log.now.device) (sym same) c.in-Ok-undo_all.ensures.stays.read
 
-pub returns-in_err-check_page_numbers-clause-fails : goal.returns-in_err-check_page_numbers-clause-fails
-returns-in_err-check_page_numbers-clause-fails g c =
-    let e = c.in_err-check_page_numbers.field-0.0 in
+pub returns-in-Err-clause-fails : goal.returns-in-Err-clause-fails
+returns-in-Err-clause-fails g c =
+    let e = c.in-Err.refusal in
     let faults = g.L.LogDevice.faults c.args.log.now.device in
-    let h : FailsWith e faults faults = names_fail c.args.pages.now.sizes c.last.result c.requires.pages.0 e faults (c.in_err-check_page_numbers.ensures.names c.args.pages.now.sizes c.requires.pages.0 c.requires.pages.2) in
-    search (rules, h)
+    names_fail c.args.pages.now.sizes c.last.result c.requires.pages.0 e faults (c.in-Err.ensures.names c.args.pages.now.sizes c.requires.pages.0 c.requires.pages.2)

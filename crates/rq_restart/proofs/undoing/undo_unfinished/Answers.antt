@@ -93,3 +93,6 @@ returns-in_err-append-clause-stops g c =
     (subst (λ rs. StepStops (length rs) (Belongs old.sizes rs r (paged old)) e) same (c.in_err-append.ensures.stops h)) in
     let is : c.from_residual-in_err-append.result ≡ Err e = search rules in
     subst (λ r. IfErr r (λ x. l.honest c.append.new.log.device → (start : Paged) → Repeats z first start (paged c.args.pages.now) → UndoStops z first start x)) (sym is) h
+
+pub returns-clause-stops : goal.returns-clause-stops
+returns-clause-stops g c = tt
