@@ -91,7 +91,7 @@ impl<P: PageDevice, L: LogDevice, B: Level> Engine<P, L, B> {
     {
         match self.plan_inverse(done.deed.level(), done.deed.bytes()) {
             Ok(plan) => self.start_undo(txn, number, done, plan.writes),
-            Err(refusal) => Err(refusal),
+            Err(why) => Err(why),
         }
     }
 

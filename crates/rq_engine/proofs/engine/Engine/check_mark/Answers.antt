@@ -50,3 +50,6 @@ returns-clause-client g c tag =
     let high = c.layout.ensures.pool.range.directory_high in
     let few : sender_count s.sizes ≡ sender_count c.self.inside.pages.sizes = ap sender_count (ap (λ (x : State). x.sizes) (sym (state_is c.self.view_is))) in
     (omega (arith, n, lt), omega (arith, few, high))
+
+pub returns-clause-free : goal.returns-clause-free
+returns-clause-free g c = ap (λ (x : State). is_free_for c.args.txn (client_group c.args.client) x.ends.sending) (sym (state_is c.self.view_is)) ∙ sym c.if-not-may_mark.ensures

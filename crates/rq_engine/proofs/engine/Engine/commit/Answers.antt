@@ -1,5 +1,6 @@
 use Rattle.std.proofs.Common.{rules, ◌≡◌, ℕ, ◌-◌, sym, ap, ◌∙◌, subst, arith, length, false}
 use Rattle.std.specs.List.{sum_by}
+use Rattle.rq_groups.specs.Ends.{released}
 use Rattle.rq_store.specs.Settled.{takes_one}
 use Rattle.rq_store.specs.State.{State, ledger_of}
 use Rattle.rq_engine.specs.Answers.{HasNothingUnderWay, RefusesOver}
@@ -37,7 +38,8 @@ returns-clause-answered g c h earlier long =
     let full = ap (λ (s : State). log_full (ledger_of (on earlier s)) 1) (state_is c.self.view_is) ∙ full_on earlier c.args.self.now.state long 1 ∙ sym c.if-is_log_full.ensures in
     let running = ap (λ (s : State). s.failed) (state_is c.self.view_is) ∙ c.in_ok-check_open.ensures.running in
     let tested = subst (λ (s : State). NoneHolds (ready_tests (ledger_of s) c.args.txn false)) (sym (state_is c.self.view_is)) c.in_ok-check_open.ensures.passes in
-    from_inside_on earlier (state_is c.self.view_is) long (λ as_many k. rw (c.new.ensures.txn, c.new.ensures.lsn, c.append-lsn.ensures.lsn, c.end.ensures, c.release.ensures, c.add_sends.ensures, c.count_sends.ensures, c.senders.ensures.number, c.layout.ensures.sizes, c.finished-finished.ensures, c.append-lsn.ensures.records, c.append-lsn.ensures.forced, c.in_ok-reserve.ensures.ok) (commit_done _ _ _ _ c.in_ok-check_open.field-0 _ _ c.args.txn (kept_on earlier _ c.self.invariant.kept as_many) running tested ready full (let n = records_long earlier c.self.inside.log.records as_many in omega (arith, n)) (c.saturating_sub-self-inside.ensures ∙ ap (λ (n : ℕ). c.self.inside.cells_in_use - n) (c.count_takes.ensures ∙ ap (sum_by takes_one) c.finished-finished.ensures)) k))
+    let freed : c.release.new.self ≡ record { sending = released c.args.txn c.self.inside.ends.sending; receiving = released c.args.txn c.self.inside.ends.receiving } = c.release.ensures in
+    from_inside_on earlier (state_is c.self.view_is) long (λ as_many k. rw (c.new.ensures.txn, c.new.ensures.lsn, c.append-lsn.ensures.lsn, c.end.ensures, freed, c.add_sends.ensures, c.count_sends.ensures, c.senders.ensures.number, c.layout.ensures.sizes, c.finished-finished.ensures, c.append-lsn.ensures.records, c.append-lsn.ensures.forced, c.in_ok-reserve.ensures.ok) (commit_done _ _ _ _ c.in_ok-check_open.field-0 _ _ c.args.txn (kept_on earlier _ c.self.invariant.kept as_many) running tested ready full (let n = records_long earlier c.self.inside.log.records as_many in omega (arith, n)) (c.saturating_sub-self-inside.ensures ∙ ap (λ (n : ℕ). c.self.inside.cells_in_use - n) (c.count_takes.ensures ∙ ap (sum_by takes_one) c.finished-finished.ensures)) k))
 
 pub returns-then-is_log_full-clause-answered : goal.returns-then-is_log_full-clause-answered
 returns-then-is_log_full-clause-answered g c h earlier long = refuse_full (on earlier c.args.self.now.state) c.args.txn c.in_ok-check_open.ensures.passes (full_on earlier c.args.self.now.state long _ ∙ sym c.if-is_log_full.ensures)
@@ -45,8 +47,9 @@ returns-then-is_log_full-clause-answered g c h earlier long = refuse_full (on ea
 pub returns-clause-lists : goal.returns-clause-lists
 returns-clause-lists g c =
     let ready = subst (λ (s : State). HasNothingUnderWay s c.args.txn c.in_ok-check_open.field-0) (sym (state_is c.self.view_is)) c.in_ok-check_open.ensures.ready in
+    let freed : c.release.new.self ≡ record { sending = released c.args.txn c.self.inside.ends.sending; receiving = released c.args.txn c.self.inside.ends.receiving } = c.release.ensures in
     committed_from c.args.txn _ _ (state_is c.self.view_is)
-    (rw (c.end.ensures, c.release.ensures, c.add_sends.ensures, c.count_sends.ensures, c.senders.ensures.number, c.layout.ensures.sizes, c.finished-finished.ensures, c.append-lsn.ensures.records, c.append-lsn.ensures.forced, c.in_ok-reserve.ensures.ok)
+    (rw (c.end.ensures, freed, c.add_sends.ensures, c.count_sends.ensures, c.senders.ensures.number, c.layout.ensures.sizes, c.finished-finished.ensures, c.append-lsn.ensures.records, c.append-lsn.ensures.forced, c.in_ok-reserve.ensures.ok)
     (committed_lists _ c.args.txn c.in_ok-check_open.field-0 _ _ c.new.ensures.txn (let a = c.new.ensures.lsn in let b = c.append-lsn.ensures.lsn in let d = ap length c.append-lsn.ensures.records in let e = ap (λ l. length l.records) c.in_ok-reserve.ensures.ok in omega (arith, a, b, d, e)) ready
     (c.saturating_sub-self-inside.ensures ∙ ap (λ (n : ℕ). c.self.inside.cells_in_use - n) (c.count_takes.ensures ∙ ap (sum_by takes_one) c.finished-finished.ensures))))
 

@@ -1,5 +1,6 @@
-use Rattle.std.proofs.Common.{subst, ◌∙◌, length}
-use Rattle.rq_engine.proofs.Checkpointing.{forced_join, forced_sound, keeps_join}
+use Rattle.std.proofs.Common.{subst, ◌∙◌, length, rules}
+use Rattle.rq_engine.specs.Checkpoint.{CountsFailure}
+use Rattle.rq_engine.proofs.Checkpointing.{forced_join, forced_sound, if_ok, keeps_join}
 use Rattle.rq_engine.proofs.engine.Engine.make_durable.Goals as goal
 
 pub returns-in_err-write_all-clause-fit : goal.returns-in_err-write_all-clause-fit
@@ -26,3 +27,14 @@ returns-clause-fit g c =
     (λ h. (wrote.honest (made.honest h.0), subst L.honest wrote.log (subst L.honest made.log h.1)))
     (forced_sound old.state one.state c.in_ok-force.ensures.state) c.in_ok-force.ensures.fit
     (keeps_join P L one two three wrote.state wrote.replacing (λ h. (made.honest h.0, subst L.honest made.log h.1)) wrote.fit made.fit)
+
+pub returns-clause-durable : goal.returns-clause-durable
+returns-clause-durable g c = c.sync_pages.ensures.durable
+
+pub returns-clause-state : goal.returns-clause-state
+returns-clause-state g c = if_ok c.sync_pages.result (λ _ same. same ∙ c.in_ok-write_all.ensures.state ∙ c.in_ok-force.ensures.state) c.sync_pages.ensures.state
+
+pub returns-clause-cause : goal.returns-clause-cause
+returns-clause-cause g c =
+    let counted : CountsFailure g.P.PageDevice g.L.LogDevice c.args.self.now c.sync_pages.new.self c.sync_pages.result = search rules in
+    counted

@@ -1,4 +1,4 @@
-use Rattle.std.proofs.Common.{rules, ap, refl, subst, sym, ◌∙◌, ◌≡◌, ◌⊎◌, ◌<◌, ◌≤◌, arith, length, List, ℕ, true}
+use Rattle.std.proofs.Common.{rules, ap, refl, subst, sym, ◌∙◌, ◌≡◌, ◌⊎◌, ◌+◌, ◌<◌, ◌≤◌, arith, length, List, ℕ, true}
 use Rattle.rq_model.specs.Bases.{based}
 use Rattle.rq_model.specs.declared.record.Record.TheVariants.{Base}
 use Rattle.rq_model.specs.Vocabulary.{is_some}
@@ -178,3 +178,20 @@ returns-clause-fit g c =
     (subst (λ (z : Sizes). TellsSizes g.P.PageDevice z old.pages c.tell_sizes.new.pages.device) c.requires.grown
     (subst (λ (o : OpenStore _ _). TellsSizes g.P.PageDevice c.args.grown.now o.pages c.tell_sizes.new.pages.device) c.self.view_is c.in_ok-tell_sizes.ensures.device))
     (λ page image least most may. subst (λ (z : Sizes). IsFormatted z page image) c.requires.grown (subst (IsFormatted c.args.grown.now page) (sym (c.requires.durable page image may)) (c.requires.written page least (subst (λ (z : Sizes). page < page_count z) (sym c.requires.grown) most))))
+
+pub returns-clause-made : goal.returns-clause-made
+returns-clause-made g c = record {
+  could = c.requires.could;
+  lsn_is = (let next : c.note_base-lsn.result ≡ length c.args.self.now.state.records + 1 = search rules in next);
+  state = search rules;
+  told = search rules;
+  reads = search rules;
+  durable = search rules;
+  pages = search rules;
+  tags = record {
+    superblock = subst (λ (z : Sizes). (b : List ℕ) → g.P.PageDevice.may_be c.tell_sizes.new.pages.device 0 b → IsFormatted z 0 b) c.requires.grown c.in_ok-tell_sizes.ensures.told;
+    added = search rules;
+  };
+  replacing = search rules;
+  counts = search rules;
+}

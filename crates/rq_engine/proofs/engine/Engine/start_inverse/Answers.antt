@@ -68,11 +68,11 @@ pub returns-in-Err-clause-started : goal.returns-in-Err-clause-started
 returns-in-Err-clause-started g c =
     let s = c.args.self.now.state in
     let is = c.in-Err.ensures.planned c.args.done.now.deed (ap (λ n. deed_by n c.bytes.result.now) c.level.ensures ∙ c.bytes.ensures.reads) c.requires.kept.sender in
-    start_refused s (Undo c.args.done.now.deed) _ c.in-Err.refusal is.causes (λ earlier long k may. is.sound (on earlier s) refl k may)
+    start_refused s (Undo c.args.done.now.deed) _ c.in-Err.why is.causes (λ earlier long k may. is.sound (on earlier s) refl k may)
 
 pub returns-in-Ok-clause-plain : goal.returns-in-Ok-clause-plain
 returns-in-Ok-clause-plain g c = plain_memory c.start_undo.result c.start_undo.ensures.refusal
 
 pub returns-in-Err-clause-plain : goal.returns-in-Err-clause-plain
 returns-in-Err-clause-plain g c =
-    never_failed _ c.in-Err.refusal (c.in-Err.ensures.planned c.args.done.now.deed (ap (λ n. deed_by n c.bytes.result.now) c.level.ensures ∙ c.bytes.ensures.reads) c.requires.kept.sender).causes
+    never_failed _ c.in-Err.why (c.in-Err.ensures.planned c.args.done.now.deed (ap (λ n. deed_by n c.bytes.result.now) c.level.ensures ∙ c.bytes.ensures.reads) c.requires.kept.sender).causes

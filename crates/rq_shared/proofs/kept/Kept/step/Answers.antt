@@ -1,3 +1,6 @@
+use Rattle.std.proofs.Common.{subst, ap}
+use Rattle.rq_engine.specs.Applied.{Applied}
+use Rattle.rq_engine.specs.Opened.{OpenStore}
 use Rattle.rq_shared.specs.declared.kept.AuditEntry.{AuditEntry}
 use Rattle.rq_shared.proofs.Replaying.{one_noted}
 use Rattle.rq_shared.proofs.kept.Kept.step.Goals as goal
@@ -8,3 +11,7 @@ invariant_of-self-2 g c =
     let entry : AuditEntry = record { pass = c.args.pass; event = c.in-Ok.noted_event; reply = c.in-Ok-copy_of.noted_reply } in
     one_noted g.P.PageDevice g.L.LogDevice before.base.value before.engine c.apply-reply.new.self before.audit.items c.add_entry.new.audit.items entry c.args.event c.apply-reply.result
     (rw c.in-Ok.ensures.audit at c.add_entry.ensures) c.in-Ok.ensures.copy c.in-Ok-copy_of.ensures.same c.self.invariant c.apply-reply.ensures.applied
+
+pub returns-clause-applied : goal.returns-clause-applied
+returns-clause-applied g c some =
+    subst (λ (old : OpenStore _ _). Applied g.P.PageDevice g.L.LogDevice old c.args.event c.apply-reply.result c.apply-reply.new.self) (ap (λ k. k.engine) c.self.view_is) c.apply-reply.ensures.applied
