@@ -1,12 +1,13 @@
 -- Pages in frames.
-use Rattle.std.proofs.Common.{◌≡◌, ◌≢◌, ℕ, Bool, ◌<◌, List, [], length, slice_set, slice_index_or, Option, refl, sym, ap, subst, arith, ◌∙◌}
+use Rattle.std.proofs.Common.{◌≡◌, ◌≢◌, ℕ, Bool, true, ◌<◌, ◌≤◌, List, [], length, slice_set, slice_index_or, Option, refl, sym, ap, subst, arith, ◌∙◌}
 use Rattle.std.proofs.lemmas.List.{map-set, get_or-map, get_or-set_same, get_or-set_other, length-map}
 use Rattle.std.proofs.Math.Seq.{map-set_same}
-use Rattle.rq_page.specs.Sizes.{Sizes}
-use Rattle.rq_page.specs.Pages.{IsWritten}
+use Rattle.rq_page.specs.Sizes.{Sizes, page_count}
+use Rattle.rq_page.specs.Pages.{IsWritten, lsn_of}
 use Rattle.rq_page.specs.Formatted.{IsHeaderOf}
 use Rattle.rq_level.specs.Meaning.{AppliesOnce, Redo}
 use Rattle.rq_pool.specs.declared.Frame.{Frame}
+use Rattle.rq_pool.specs.Writing.{IsUnwritten}
 use Rattle.rq_pool.specs.Frames.{image_of, images_of, framed_at, was_changed, changed_of}
 
 -- the page in a frame
@@ -61,3 +62,19 @@ changed_set fs i j f b at is =
 -- a frame with the same page
 pub images_kept : (fs : List Frame) (j : ℕ) (f g : Frame) → f ≡ slice_index_or fs j f → image_of g ≡ image_of f → images_of (slice_set fs j g) ≡ images_of fs
 images_kept fs j f g read same = map-set_same image_of fs j g f (same ∙ ap image_of read)
+
+-- the page in a frame that was got
+pub framed_got : (fs : List Frame) (i : ℕ) (f : Frame) → (i < length fs) × ((d : Frame) → f ≡ slice_index_or fs i d) → framed_at fs i ≡ image_of f
+framed_got fs i f got = framed_read fs i f got.0 ∙ ap image_of (sym (got.1 f))
+
+-- it is to be written, and its record is forced
+pub forced_frame : {P : Type 0} (device : P) (z : Sizes) (fs : List Frame) (i : ℕ) (f : Frame) (lsn forced : ℕ) → length (images_of fs) ≡ page_count z
+    → (i < length fs) × ((d : Frame) → f ≡ slice_index_or fs i d) → f.changed ≡ true → lsn ≡ lsn_of (image_of f) → lsn ≤ forced
+    → IsUnwritten (record { device = device; sizes = z; images = images_of fs; changed = changed_of fs }) i × (lsn_of (framed_at fs i) ≤ forced)
+forced_frame device z fs i f lsn forced count got changed told low = (
+  record {
+    of_store = (let long = length-map fs image_of in let within = got.0 in omega (arith, long, count, within));
+    changed = get_or-map was_changed fs i f _ got.0 ∙ ap was_changed (sym (got.1 f)) ∙ changed;
+  },
+  (let e = ap lsn_of (framed_got fs i f got) in omega (arith, e, told, low)),
+)

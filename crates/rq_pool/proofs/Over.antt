@@ -36,6 +36,17 @@ module _ {P : Type 0} (g : Ghosts P) (z : Sizes) (images : List (List ℕ)) (cha
     ];
   }
 
+  -- the same, and it counts as changed from then on
+  pub over_marked : (n : ℕ) → n < page_count z → (g.honest new → g.honest old) → ((p : ℕ) → p ≢ n → g.seen new p ≡ g.seen old p) → AreOver g new z images (slice_set changed n true)
+  over_marked n high falls others = record {
+    pool = over.pool;
+    flags = length-set changed n true ∙ over.flags;
+    clean = λ h p lt same. elim (cases_eq p n) [
+      | inl here ↦ absurd (true≢false (sym (get_or-set_same changed n true false (let f = over.flags in omega (arith, high, f))) ∙ ap (is_changed (slice_set changed n true)) (sym here) ∙ same))
+      | inr other ↦ over.clean (falls h) p lt (sym (get_or-set_other changed n p true false other) ∙ same) ∙ sym (others p other)
+    ];
+  }
+
   -- a page behind the last was perhaps written
   pub over_beyond : (n : ℕ) → page_count z ≤ n → (g.honest new → g.honest old) → ((p : ℕ) → p ≢ n → g.seen new p ≡ g.seen old p) → AreOver g new z images changed
   over_beyond n high falls others = record {

@@ -253,11 +253,13 @@ impl<P: PageDevice> Pages<P> {
         if frame.page.lsn() > forced {
             return Err(Refusal::NotForced);
         }
-        if self.device.write(page, frame.page.image()).is_err() {
-            return Err(Refusal::DiskWrite);
+        match self.device.write(page, frame.page.image()) {
+            Ok(()) => {
+                mark(&mut self.frames, page, false);
+                Ok(Written::Done)
+            }
+            Err(_) => Err(Refusal::DiskWrite),
         }
-        mark(&mut self.frames, page, false);
-        Ok(Written::Done)
     }
 
     /// Whether some page behind the superblock has a change that was not written, by a record behind this LSN.

@@ -1,4 +1,4 @@
-use Rattle.std.proofs.Common.{◌≡◌, ℕ, Some, ◌/◌, refl, sym, ◌∙◌, ap, arith}
+use Rattle.std.proofs.Common.{rules, ◌≡◌, ℕ, Some, ◌/◌, refl, sym, ◌∙◌, ap, arith}
 use Rattle.rq_page.specs.Slots.{held_in}
 use Rattle.rq_txn.specs.Rows.{latched_in}
 use Rattle.rq_store.specs.State.{State}
@@ -30,3 +30,6 @@ loop-at-preserved g c =
 pub loop-at-smaller : goal.loop-at-smaller
 loop-at-smaller g c =
     fewer_left (known_from c.args.pages.now c.args.transactions.now) c.args.levels.now c.args.op.now.level c.args.op.now c.loop-at.slots c.add.new.self c.in-Slot.at c.in-Some.bytes.now c.in_ok-add.ensures.ok (loop-at-preserved g c)
+
+pub returns-then-has_latched-clause-refusal : goal.returns-then-has_latched-clause-refusal
+returns-then-has_latched-clause-refusal g c = search rules

@@ -10,6 +10,12 @@ returns-clause-found g c = elim c.match-record_at.branch [
   | in-Err w ↦ rw w.result-is tt
 ]
 
+pub returns-clause-front : goal.returns-clause-front
+returns-clause-front g c = elim c.match-record_at.branch [
+  | in-Ok w ↦ rw w.result-is (rw (← c.self.view_is) (λ h. (_, w.in-Ok.ensures.found h)))
+  | in-Err w ↦ rw w.result-is tt
+]
+
 pub returns-clause-err : goal.returns-clause-err
 returns-clause-err g c = elim c.match-record_at.branch [
   | in-Ok w ↦ rw w.result-is tt

@@ -60,6 +60,12 @@ returns-in-Bad-clause-err g c =
       f.cause.ok,
     )
 
+pub returns-in-Bad-clause-none : goal.returns-in-Bad-clause-none
+returns-in-Bad-clause-none g c = tt
+
+pub returns-in-Bad-clause-bound : goal.returns-in-Bad-clause-bound
+returns-in-Bad-clause-bound g c = tt
+
 pub returns-in_default-clause-err : goal.returns-in_default-clause-err
 returns-in_default-clause-err g c =
     let s = c.fill.new.self in

@@ -1,4 +1,4 @@
-use Rattle.std.proofs.Common.{option_map, ap, subst}
+use Rattle.std.proofs.Common.{rules, option_map, ap, subst}
 use Rattle.rq_views.specs.Stored.{slots_in}
 use Rattle.rq_planner.specs.Answered.{IsHeldUp, RefusesPlan}
 use Rattle.rq_planner.specs.Asked.{known_from}
@@ -22,3 +22,6 @@ returns-in-Err-Latched-clause-refused g c d told can =
     let s = known_from c.args.pages.now c.new-nobody.result in
     not_held_up z c.args.pages.now.images c.new-nobody.result c.new-nobody.ensures c.args.level c.args.deed.now d
     (subst (RefusesPlan (IsHeldUp s (Undo d))) c.in-Err-Latched.field-0-is (c.in-Err-Latched.ensures.planned (Undo d) (ap (option_map Undo) told) (can_below z q d can)).causes) can
+
+pub returns-clause-refused : goal.returns-clause-refused
+returns-clause-refused g c = search rules
