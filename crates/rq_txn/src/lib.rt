@@ -157,14 +157,15 @@ impl Transaction {
     }
 }
 
-// Takes the memory for one more: for each of the first two alone, since most transactions finish no more.
+// Takes the memory for one more. The first takes that of the second too, so that the inverse of a transaction's one operation
+// finds its room.
 fn make_room(finished: &mut Vec<Finished>) -> Result<(), NoMemory>
     ensures items { finished.new.items ≡ finished.old.items }
     ensures room { OnOk result (vec_len finished.new < vec_capacity finished.new) }
     ensures kept { vec_len finished.old < vec_capacity finished.old → vec_len finished.new < vec_capacity finished.new }
 {
-    let taken = if finished.len() < 2 {
-        finished.try_reserve_exact(1)
+    let taken = if finished.is_empty() {
+        finished.try_reserve_exact(2)
     } else {
         finished.try_reserve(1)
     };
