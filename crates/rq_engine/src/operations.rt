@@ -58,18 +58,16 @@ impl<P: PageDevice, L: LogDevice, B: Level> Engine<P, L, B> {
         ensures refused { OnErr result (self.new ≡ self.old) }
         ensures failed { (result ≡ Err Refusal.Failed) ↔ (self.old.state.failed ≡ true) }
     {
-        match self.ready_aim(sub) {
-            Ok(aim) => match &aim {
-                Aim::Doing(deed) => {
-                    self.end(sub, deed);
-                    Ok(done(deed))
-                }
-                Aim::Undoing { lsn, deed } => {
-                    self.end_undo(sub, *lsn, deed);
-                    Ok(Outcome::Undone)
-                }
-            },
-            Err(refusal) => Err(refusal),
+        let aim = self.ready_aim(sub)?;
+        match &aim {
+            Aim::Doing(deed) => {
+                self.end(sub, deed);
+                Ok(done(deed))
+            }
+            Aim::Undoing { lsn, deed } => {
+                self.end_undo(sub, *lsn, deed);
+                Ok(Outcome::Undone)
+            }
         }
     }
 
