@@ -210,6 +210,7 @@ impl<L: LogDevice> Log<L> {
     }
 
     /// Adds a record, into reserved room, and answers its LSN. It is neither handed over nor forced.
+    #[inline(always)]
     pub fn append(&mut self, added: &Record) -> Lsn
         requires record { IsInRange added.now }
         requires room { length (spelling added.now) ≤ self.old.reserved }

@@ -305,6 +305,7 @@ pub fn shows_size(record: &Record)
 }
 
 /// The number of bytes of a record's spelling.
+#[inline(always)]
 pub fn spelled_len(record: &Record) -> usize
     ensures { result ≡ length (spelling «record».now) }
 {
@@ -322,6 +323,7 @@ pub fn spelled_len(record: &Record) -> usize
 }
 
 // Puts a record at the end, in room that is reserved.
+#[inline(always)]
 #[tactic(auto, using(crate::proofs::Spelled::lengths))]
 fn put_record(out: &mut Vec<u8>, record: &Record)
     requires { vec_len out.old + length (spelling «record».now) ≤ vec_capacity out.old }
@@ -369,6 +371,7 @@ fn put_record(out: &mut Vec<u8>, record: &Record)
 
 /// Puts the spelling of a record at the end: all of it, or nothing where memory is wanting. Where the
 /// room is reserved, it succeeds.
+#[inline(always)]
 pub fn encode(record: &Record, out: &mut Vec<u8>) -> Result<(), NoMemory>
     requires { IsInRange «record».now }
     ensures ok { OnOk result (out.new.items ≡ out.old.items ++ spelling «record».now) }
