@@ -332,6 +332,7 @@ impl Level for ChainLevel {
         }
     }
 
+    #[inline(always)]
     fn plan(
         &mut self,
         room: Vec<SlotWrite>,

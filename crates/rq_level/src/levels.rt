@@ -77,6 +77,7 @@ impl<B: Level> Levels<B> {
     }
 
     /// Plans an operation that is to be done.
+    #[inline(always)]
     pub fn plan(
         &mut self,
         room: Vec<SlotWrite>,

@@ -132,6 +132,7 @@ impl Op {
     }
 
     // The operation with these bytes, first the one and then the other.
+    #[inline(always)]
     fn of(alloc: Global, level: u8, undo: bool, front: &[u8], rest: &[u8]) -> Result<Op, NoMemory>
         ensures { IfOk result (λ op. op ≡ record { level = level; undo = undo; bytes = front.now ++ rest.now }) }
     {

@@ -63,6 +63,7 @@ impl Level for StoreLevel {
         }
     }
 
+    #[inline(always)]
     fn plan(
         &mut self,
         room: Vec<SlotWrite>,
