@@ -36,7 +36,7 @@ use Rattle.rq_sound.proofs.Planned.{plans_start}
 use Rattle.rq_sound.proofs.Refusals.{tests_read}
 use Rattle.rq_sound.specs.Inverses.{MayBeUndone}
 use Rattle.rq_sound.proofs.Inverses.{may_be_undone as newest_may}
-use Rattle.rq_engine.specs.Aborts.{IsTurnedBack, IsUndoPlan, UndoIsLatched}
+use Rattle.rq_engine.specs.Aborts.{IsTurnedBack, IsUndoPlan, UndoIsLatched, newest_of}
 use Rattle.rq_engine.specs.Answers.{HasNothingUnderWay, IsUnderWay, Refuses}
 use Rattle.rq_engine.specs.Moves.{with_taken}
 use Rattle.rq_engine.proofs.Calls.{AllMade, going_of}
@@ -80,6 +80,10 @@ last_some (g ∷ fs) f e = at g fs f e where
   at : (g : Finished) (fs : List Finished) (f : Finished) → Some (last_or g fs) ≡ Some f → g ∷ fs ≡ front (g ∷ fs) ++ f ∷ []
   at g [] f e = let same : g ≡ f = cc e in ap (λ y. y ∷ []) same
   at g (h ∷ fs) f e = ap (λ l. g ∷ l) (at h fs f e)
+
+-- what is found newest in the state inside, is so of the state
+pub is_newest_of : (s inside : State) (t : Txn) (o found : Option Finished) → inside ≡ s → o ≡ newest_of inside t → o ≡ found → newest_of s t ≡ found
+is_newest_of s inside t o found same e is = ap (λ (x : State). newest_of x t) (sym same) ∙ sym e ∙ is
 
 -- what is so of all is so of the last
 pub last_kept : (P : Finished → Type 0) (fs : List Finished) (o : Option Finished) → last fs ≡ o → ((f : Finished) → In f fs → P f) → IfSome o P

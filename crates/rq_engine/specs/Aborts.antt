@@ -15,7 +15,7 @@ use Rattle.rq_level.specs.declared.writes.SlotWrite.{SlotWrite}
 use Rattle.rq_groups.specs.Ends.{released}
 use Rattle.rq_txn.specs.declared.Finished.{Finished}
 use Rattle.rq_txn.specs.declared.Aim.TheVariants.{Undoing}
-use Rattle.rq_txn.specs.Rows.{Under, found_row, change_row, row_aborting, row_started, row_taken_back, without_row}
+use Rattle.rq_txn.specs.Rows.{Under, finished_of, found_row, change_row, row_aborting, row_started, row_taken_back, without_row}
 use Rattle.rq_store.specs.State.{State}
 use Rattle.rq_sound.specs.Groups.{slots_now}
 use Rattle.rq_sound.specs.Plans.{IsPlannedFrom}
@@ -31,6 +31,10 @@ use Rattle.rq_engine.specs.Moves.{with_taken}
 abbrev pub IsTurnedBack : State → Txn → ℕ → Option Finished → Type 0
 IsTurnedBack s t n newest = OnFound (found_row t s.rows)
     (λ r. (r.under ≡ None) × (n ≡ r.number + 1) × (r.aborting ≡ true) × (last r.finished ≡ newest))
+
+-- what the transaction did last and has not undone
+abbrev pub newest_of : State → Txn → Option Finished
+newest_of s t = last (finished_of (found_row t s.rows))
 
 -- ---- inverses
 

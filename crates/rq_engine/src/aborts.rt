@@ -6,7 +6,7 @@ ghost use Rattle.rq_model.specs.Replay.Reply.{Gave_aborted, Gave_aborting};
 ghost use Rattle.rq_store.specs.State.{ledger_of};
 ghost use Rattle.rq_engine.specs.Opened.{LeavesDevices};
 ghost use Rattle.rq_engine.specs.Answers.{AnswersLegally, RefusesOver};
-ghost use Rattle.rq_engine.specs.Aborts.{IsAborted, IsAborting, IsTurnedBack};
+ghost use Rattle.rq_engine.specs.Aborts.{IsAborted, IsAborting, IsTurnedBack, newest_of};
 ghost use Rattle.rq_engine.specs.Invariant.{IsDoneConsistent};
 
 use crate::engine::Engine;
@@ -16,7 +16,6 @@ use rq_model::record::Record;
 use rq_model::refusal::Refusal;
 use rq_model::txn::Txn;
 use rq_record::spelled_len;
-use rq_txn::Finished;
 
 impl<P: PageDevice, L: LogDevice, B: Level> Engine<P, L, B> {
     /// Has a transaction abort: it does nothing more, and what it did is undone from then on, the newest first. Nothing
@@ -74,20 +73,19 @@ impl<P: PageDevice, L: LogDevice, B: Level> Engine<P, L, B> {
         ensures failed { (result ≡ Err Refusal.Failed) ↔ (self.now.state.failed ≡ true) }
         ensures refused { IfErr result (λ r. RefusesOver self.now.state (End_abort txn) r) }
     {
-        let (_, newest) = self.check_aborting(txn)?;
-        match newest {
+        self.check_aborting(txn)?;
+        match self.transactions.next_undo(txn) {
             None => Ok(()),
             Some(_) => Err(Refusal::Unfinished),
         }
     }
 
-    // The transaction is aborting and has no operation under way. Answers the number of its next operation, and what it
-    // did last and has not undone.
-    pub(crate) fn check_aborting(&self, txn: Txn) -> Result<(u64, Option<Finished>), Refusal>
-        ensures ready { IfOk result (λ found. IsTurnedBack self.now.state txn found.0 found.1) }
+    // The transaction is aborting and has no operation under way. Answers the number of its next operation.
+    pub(crate) fn check_aborting(&self, txn: Txn) -> Result<u64, Refusal>
+        ensures ready { IfOk result (λ n. IsTurnedBack self.now.state txn n (newest_of self.now.state txn)) }
         ensures running { OnOk result (self.now.state.failed ≡ false) }
         ensures passes { OnOk result (NoneHolds (ready_tests (ledger_of self.now.state) txn true)) }
-        ensures kept { IfOk result (λ found. IfSome found.1 (λ done. IsDoneConsistent self.now.state.sizes done)) }
+        ensures kept { OnOk result (IfSome (newest_of self.now.state txn) (λ done. IsDoneConsistent self.now.state.sizes done)) }
         ensures failed { (result ≡ Err Refusal.Failed) ↔ (self.now.state.failed ≡ true) }
         ensures refused { IfErr result (λ r. IsUnready (ledger_of self.now.state) txn true r) }
     {
@@ -101,6 +99,6 @@ impl<P: PageDevice, L: LogDevice, B: Level> Engine<P, L, B> {
         if row.under_way.is_some() {
             return Err(Refusal::Unfinished);
         }
-        Ok((row.number + 1, self.transactions.next_undo(txn)))
+        Ok(row.number + 1)
     }
 }

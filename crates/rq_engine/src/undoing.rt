@@ -64,8 +64,8 @@ impl<P: PageDevice, L: LogDevice, B: Level> Engine<P, L, B> {
         ensures refused { OnErr result (self.new ≡ self.old) }
         ensures failed { (result ≡ Err Refusal.Failed) ↔ (self.old.state.failed ≡ true) }
     {
-        let (number, newest) = self.check_aborting(txn)?;
-        let Some(done) = newest else {
+        let number = self.check_aborting(txn)?;
+        let Some(done) = self.transactions.next_undo(txn) else {
             return Ok(None);
         };
         if self.is_log_full(undo_records(&done.deed)) {

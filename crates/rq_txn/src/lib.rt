@@ -284,6 +284,7 @@ impl Transactions {
     }
 
     /// What the transaction did last and has not undone: none where nothing is left to undo, or it has ended.
+    #[inline(always)]
     pub fn next_undo(&self, txn: Txn) -> Option<Finished>
         ensures { result ≡ last (finished_of (found_row txn self.now)) }
     {

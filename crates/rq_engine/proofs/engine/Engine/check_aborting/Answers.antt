@@ -36,9 +36,9 @@ returns-clause-passes g c =
 pub returns-clause-ready : goal.returns-clause-ready
 returns-clause-ready g c =
     turned_back c.args.self.now.state c.args.txn _ _ (ap (λ (s : State). found_row c.args.txn s.rows) (sym (state_is c.self.view_is)) ∙ c.in-Some.ensures.found)
-    (no_way _ (sym c.if-is_some.ensures), refl, c.if-not-row.false, sym (c.next_undo.ensures ∙ ap (λ (o : Option Row). last (finished_of o)) c.in-Some.ensures.found))
+    (no_way _ (sym c.if-is_some.ensures), refl, c.if-not-row.false, sym (ap (λ (o : Option Row). last (finished_of o)) (ap (λ (s : State). found_row c.args.txn s.rows) (sym (state_is c.self.view_is)) ∙ c.in-Some.ensures.found)))
 
 pub returns-clause-kept : goal.returns-clause-kept
 returns-clause-kept g c =
     let row = kept_at _ _ _ _ c.args.txn _ c.self.invariant.kept c.in-Some.ensures.found in
-    last_kept (λ f. IsDoneConsistent c.args.self.now.state.sizes f) c.in-Some.row.now.finished.items c.next_undo.result (sym (c.next_undo.ensures ∙ ap (λ (o : Option Row). last (finished_of o)) c.in-Some.ensures.found)) (subst (λ (s : State). (f : Finished) → In f c.in-Some.row.now.finished.items → IsDoneConsistent s.sizes f) (state_is c.self.view_is) row.done)
+    last_kept (λ f. IsDoneConsistent c.args.self.now.state.sizes f) c.in-Some.row.now.finished.items _ (sym (ap (λ (o : Option Row). last (finished_of o)) (ap (λ (s : State). found_row c.args.txn s.rows) (sym (state_is c.self.view_is)) ∙ c.in-Some.ensures.found))) (subst (λ (s : State). (f : Finished) → In f c.in-Some.row.now.finished.items → IsDoneConsistent s.sizes f) (state_is c.self.view_is) row.done)

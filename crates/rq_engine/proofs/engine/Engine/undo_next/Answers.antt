@@ -12,30 +12,31 @@ use Rattle.rq_engine.specs.Answers.{Refuses}
 use Rattle.rq_engine.specs.Applied.{OnLatched}
 use Rattle.rq_engine.specs.Earlier.{on}
 use Rattle.rq_engine.specs.Invariant.{IsDoneConsistent}
-use Rattle.rq_engine.proofs.AbortCalls.{is_newest, may_be_undone, none_done, turned_newest, undo_done, undo_full, undo_memory, undo_refused}
+use Rattle.rq_engine.proofs.AbortCalls.{is_newest, is_newest_of, may_be_undone, none_done, turned_newest, undo_done, undo_full, undo_memory, undo_refused}
 use Rattle.rq_engine.proofs.Earlier.{full_on}
 use Rattle.rq_engine.proofs.Latches.{undo_latched, undo_unlatched}
 use Rattle.rq_engine.proofs.Leveled.{refused_for}
+use Rattle.rq_engine.proofs.Opened.{state_is}
 use Rattle.rq_engine.proofs.engine.Engine.undo_next.Goals as goal
 
 pub returns-in_default-clause-answered : goal.returns-in_default-clause-answered
 returns-in_default-clause-answered g c h earlier long =
     let s = on earlier c.args.self.now.state in
     none_done s c.args.txn c.in_ok-number.number c.in_ok-number.ensures.running
-    (subst (λ (o : Option Finished). IsTurnedBack s c.args.txn c.in_ok-number.number o) c.in_default.is c.in_ok-number.ensures.ready)
+    (subst (λ (o : Option Finished). IsTurnedBack s c.args.txn c.in_ok-number.number o) (is_newest_of c.args.self.now.state _ c.args.txn _ _ (state_is c.self.view_is) c.next_undo.ensures c.in_default.is) c.in_ok-number.ensures.ready)
 
 pub returns-then-is_log_full-clause-answered : goal.returns-then-is_log_full-clause-answered
 returns-then-is_log_full-clause-answered g c h earlier long =
     let s = on earlier c.args.self.now.state in
     let f = c.in-Some.done in
-    let back : IsTurnedBack s c.args.txn c.in_ok-number.number (Some f) = subst (λ (o : Option Finished). IsTurnedBack s c.args.txn c.in_ok-number.number o) c.in-Some.is c.in_ok-number.ensures.ready in
+    let back : IsTurnedBack s c.args.txn c.in_ok-number.number (Some f) = subst (λ (o : Option Finished). IsTurnedBack s c.args.txn c.in_ok-number.number o) (is_newest_of c.args.self.now.state _ c.args.txn _ _ (state_is c.self.view_is) c.next_undo.ensures c.in-Some.is) c.in_ok-number.ensures.ready in
     undo_full s c.args.txn c.in_ok-number.number f c.in_ok-number.ensures.passes back (ap (log_full (ledger_of s)) (sym c.undo_records.ensures) ∙ full_on earlier c.args.self.now.state long _ ∙ sym c.if-is_log_full.ensures)
 
 pub start_inverse-requires-clause-ready : goal.start_inverse-requires-clause-ready
-start_inverse-requires-clause-ready g c = subst (λ (o : Option Finished). IsTurnedBack c.args.self.now.state c.args.txn c.in_ok-number.number o) c.in-Some.is c.in_ok-number.ensures.ready
+start_inverse-requires-clause-ready g c = subst (λ (o : Option Finished). IsTurnedBack c.args.self.now.state c.args.txn c.in_ok-number.number o) (is_newest_of c.args.self.now.state _ c.args.txn _ _ (state_is c.self.view_is) c.next_undo.ensures c.in-Some.is) c.in_ok-number.ensures.ready
 
 pub start_inverse-requires-clause-kept : goal.start_inverse-requires-clause-kept
-start_inverse-requires-clause-kept g c = some_told (λ (f : Finished). IsDoneConsistent c.args.self.now.state.sizes f) c.in_ok-number.newest _ c.in-Some.is c.in_ok-number.ensures.kept
+start_inverse-requires-clause-kept g c = some_told (λ (f : Finished). IsDoneConsistent c.args.self.now.state.sizes f) _ _ (is_newest_of c.args.self.now.state _ c.args.txn _ _ (state_is c.self.view_is) c.next_undo.ensures c.in-Some.is) c.in_ok-number.ensures.kept
 
 pub start_inverse-requires-clause-log : goal.start_inverse-requires-clause-log
 start_inverse-requires-clause-log g c = ap (log_full (ledger_of c.args.self.now.state)) (sym c.undo_records.ensures) ∙ sym c.if-is_log_full.ensures
@@ -44,7 +45,7 @@ pub returns-in-Ok-clause-answered : goal.returns-in-Ok-clause-answered
 returns-in-Ok-clause-answered g c h earlier long =
     let s = on earlier c.args.self.now.state in
     let f = c.in-Some.done in
-    let back : IsTurnedBack s c.args.txn c.in_ok-number.number (Some f) = subst (λ (o : Option Finished). IsTurnedBack s c.args.txn c.in_ok-number.number o) c.in-Some.is c.in_ok-number.ensures.ready in
+    let back : IsTurnedBack s c.args.txn c.in_ok-number.number (Some f) = subst (λ (o : Option Finished). IsTurnedBack s c.args.txn c.in_ok-number.number o) (is_newest_of c.args.self.now.state _ c.args.txn _ _ (state_is c.self.view_is) c.next_undo.ensures c.in-Some.is) c.in_ok-number.ensures.ready in
     let room : log_full (ledger_of s) (undo_cost (Some (op_done f))) ≡ false = ap (log_full (ledger_of s)) (sym c.undo_records.ensures) ∙ full_on earlier c.args.self.now.state long _ ∙ sym c.if-is_log_full.ensures in
     let b = c.in-Ok.ensures.started.begun in
     undo_done s c.args.txn c.in_ok-number.number f c.in_ok-number.ensures.passes back _ (record { number = c.in_ok-number.number; writes = b.writes; made = 0; aim = Undoing f.lsn f.deed }) c.in_ok-number.ensures.running refl b.planned.free
@@ -57,7 +58,7 @@ pub returns-in-Ok-clause-latched : goal.returns-in-Ok-clause-latched
 returns-in-Ok-clause-latched g c earlier long k =
     let s = on earlier c.args.self.now.state in
     let f = c.in-Some.done in
-    let back : IsTurnedBack s c.args.txn c.in_ok-number.number (Some f) = subst (λ (o : Option Finished). IsTurnedBack s c.args.txn c.in_ok-number.number o) c.in-Some.is c.in_ok-number.ensures.ready in
+    let back : IsTurnedBack s c.args.txn c.in_ok-number.number (Some f) = subst (λ (o : Option Finished). IsTurnedBack s c.args.txn c.in_ok-number.number o) (is_newest_of c.args.self.now.state _ c.args.txn _ _ (state_is c.self.view_is) c.next_undo.ensures c.in-Some.is) c.in_ok-number.ensures.ready in
     undo_unlatched s k c.args.txn f (turned_newest s c.args.txn c.in_ok-number.number (Some f) back) c.in-Ok.ensures.started.free
 
 pub returns-in-Ok-clause-lists : goal.returns-in-Ok-clause-lists
@@ -70,7 +71,7 @@ returns-in-Ok-clause-lists g c =
         under = record { number = c.in_ok-number.number; writes = b.writes; made = 0; aim = Undoing f.lsn f.deed };
         done = f;
         number = refl;
-        ready = subst (λ (o : Option Finished). IsTurnedBack s c.args.txn c.in_ok-number.number o) c.in-Some.is c.in_ok-number.ensures.ready;
+        ready = subst (λ (o : Option Finished). IsTurnedBack s c.args.txn c.in_ok-number.number o) (is_newest_of c.args.self.now.state _ c.args.txn _ _ (state_is c.self.view_is) c.next_undo.ensures c.in-Some.is) c.in_ok-number.ensures.ready;
         plan = record { made = refl; aim = refl; plan = b.planned.planned };
         lowest = b.planned.lowest;
         lists = b.state;
@@ -81,7 +82,7 @@ pub returns-in-Err-clause-answered : goal.returns-in-Err-clause-answered
 returns-in-Err-clause-answered g c h earlier long k =
     let s = on earlier c.args.self.now.state in
     let f = c.in-Some.done in
-    let back : IsTurnedBack s c.args.txn c.in_ok-number.number (Some f) = subst (λ (o : Option Finished). IsTurnedBack s c.args.txn c.in_ok-number.number o) c.in-Some.is c.in_ok-number.ensures.ready in
+    let back : IsTurnedBack s c.args.txn c.in_ok-number.number (Some f) = subst (λ (o : Option Finished). IsTurnedBack s c.args.txn c.in_ok-number.number o) (is_newest_of c.args.self.now.state _ c.args.txn _ _ (state_is c.self.view_is) c.next_undo.ensures c.in-Some.is) c.in_ok-number.ensures.ready in
     let room : log_full (ledger_of s) (undo_cost (Some (op_done f))) ≡ false = full_on earlier c.args.self.now.state long _ ∙ ap (log_full (ledger_of c.args.self.now.state)) (sym c.undo_records.ensures) ∙ sym c.if-is_log_full.ensures in
     let p = c.in-Err.ensures.started in
     rw (c.in-Err.ensures.refused) (refused_for (λ (r : Refusal). Refuses s (Undo_next c.args.txn) r) (UndoIsLatched s f.deed) c.in-Err.refusal p.causes (p.sound earlier long k (is_newest s c.args.txn c.in_ok-number.number f c.in_ok-number.ensures.passes back))
@@ -92,7 +93,7 @@ pub returns-in-Err-clause-latched : goal.returns-in-Err-clause-latched
 returns-in-Err-clause-latched g c earlier long k =
     let s = on earlier c.args.self.now.state in
     let f = c.in-Some.done in
-    let back : IsTurnedBack s c.args.txn c.in_ok-number.number (Some f) = subst (λ (o : Option Finished). IsTurnedBack s c.args.txn c.in_ok-number.number o) c.in-Some.is c.in_ok-number.ensures.ready in
+    let back : IsTurnedBack s c.args.txn c.in_ok-number.number (Some f) = subst (λ (o : Option Finished). IsTurnedBack s c.args.txn c.in_ok-number.number o) (is_newest_of c.args.self.now.state _ c.args.txn _ _ (state_is c.self.view_is) c.next_undo.ensures c.in-Some.is) c.in_ok-number.ensures.ready in
     let p = c.in-Err.ensures.started in
     refused_for (OnLatched (IsLatched s (Undo_next c.args.txn))) (UndoIsLatched s f.deed) c.in-Err.refusal p.causes (p.sound earlier long k (is_newest s c.args.txn c.in_ok-number.number f c.in_ok-number.ensures.passes back))
     tt (undo_latched s k c.args.txn f (turned_newest s c.args.txn c.in_ok-number.number (Some f) back))
