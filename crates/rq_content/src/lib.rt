@@ -25,7 +25,7 @@ use rq_txn::Transactions;
 use std::alloc::Global;
 
 /// The committed content of a sender's group.
-#[derive(Clone, Drop)]
+#[derive(Drop)]
 pub struct GroupContent {
     /// How many messages committed transactions sent.
     pub sent: u64,

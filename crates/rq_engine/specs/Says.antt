@@ -54,6 +54,11 @@ call_of (event.LastTag sender) = Call_last_tag sender
 call_of (event.ClientTag client) = Call_client_tag client
 call_of event.Content = Call_show
 
+-- the call has a body
+abbrev pub has_body : Call → Bool
+has_body (Call_start_send txn message) = true
+has_body _ = false
+
 abbrev pub progress_of : Progress → Gave
 progress_of (progress.Done lsn) = Gave_lsn lsn
 progress_of progress.Ready = Gave_ready

@@ -1,5 +1,6 @@
 //! What is asked of the engine, and what it answers.
-ghost use Rattle.std.specs.Prelude.{◌≡◌};
+ghost use Rattle.std.specs.Prelude.{◌≡◌, true, IfSome, IfNone};
+ghost use Rattle.rq_engine.specs.Says.{call_of, has_body};
 
 pub use rq_content::GroupContent;
 pub use rq_groups::LastTag;
@@ -78,7 +79,7 @@ pub struct ClientTag {
 }
 
 /// One call of the engine.
-#[derive(Clone, Drop)]
+#[derive(Drop)]
 pub enum Event {
     Begin,
     StartSend {
@@ -118,8 +119,63 @@ pub enum Event {
     Content,
 }
 
+impl Event {
+    /// The same event; None where it has a body, and there is no memory for that.
+    pub fn copied(&self) -> Option<Event>
+        ensures same { IfSome result (λ copy. call_of copy ≡ call_of self.now) }
+        ensures body { IfNone result (has_body (call_of self.now) ≡ true) }
+    {
+        match self {
+            Event::Begin => Some(Event::Begin),
+            Event::StartSend {
+                txn,
+                sender,
+                tag,
+                body,
+            } => match body.clone() {
+                Ok(body) => Some(Event::StartSend {
+                    txn: *txn,
+                    sender: *sender,
+                    tag: *tag,
+                    body,
+                }),
+                Err(_) => None,
+            },
+            Event::StartReceive(txn) => Some(Event::StartReceive(*txn)),
+            Event::StartReceiveFrom { txn, sender } => Some(Event::StartReceiveFrom {
+                txn: *txn,
+                sender: *sender,
+            }),
+            Event::StartClose { txn, sender } => Some(Event::StartClose {
+                txn: *txn,
+                sender: *sender,
+            }),
+            Event::StartMark { txn, client, tag } => Some(Event::StartMark {
+                txn: *txn,
+                client: *client,
+                tag: *tag,
+            }),
+            Event::Step(sub) => Some(Event::Step(*sub)),
+            Event::Finish(sub) => Some(Event::Finish(*sub)),
+            Event::Commit(txn) => Some(Event::Commit(*txn)),
+            Event::StartAbort(txn) => Some(Event::StartAbort(*txn)),
+            Event::UndoNext(txn) => Some(Event::UndoNext(*txn)),
+            Event::EndAbort(txn) => Some(Event::EndAbort(*txn)),
+            Event::Acknowledged(number) => Some(Event::Acknowledged(*number)),
+            Event::HandOver => Some(Event::HandOver),
+            Event::Force => Some(Event::Force),
+            Event::Checkpoint => Some(Event::Checkpoint),
+            Event::Migrate(pages) => Some(Event::Migrate(*pages)),
+            Event::WritePage(page) => Some(Event::WritePage(*page)),
+            Event::LastTag(sender) => Some(Event::LastTag(*sender)),
+            Event::ClientTag(client) => Some(Event::ClientTag(*client)),
+            Event::Content => Some(Event::Content),
+        }
+    }
+}
+
 /// The answer to an event.
-#[derive(Clone, Drop)]
+#[derive(Drop)]
 pub enum Reply {
     /// The transaction that was begun.
     Begun(Txn),

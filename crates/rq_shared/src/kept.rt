@@ -306,7 +306,9 @@ fn room_for(audit: &mut Vec<AuditEntry>, event: &Event) -> Result<Event, AllocEr
     ensures room { OnOk result (vec_len audit.new < vec_capacity audit.new) }
     ensures audit { audit.new.items ≡ audit.old.items }
 {
-    let copy = event.clone()?;
+    let Some(copy) = event.copied() else {
+        return Err(AllocError);
+    };
     audit.try_reserve(1)?;
     Ok(copy)
 }

@@ -6,7 +6,7 @@ use Rattle.std.specs.declared.snapshot.Snapshot.{Snapshot}
 use Rattle.rq_model.specs.declared.refusal.Refusal.TheVariants.{NoMemory, Latched}
 use Rattle.rq_model.specs.declared.txn.Sub.{Sub}
 use Rattle.rq_model.specs.History.{Call}
-use Rattle.rq_engine.specs.Says.{call_of}
+use Rattle.rq_engine.specs.Says.{call_of, has_body}
 use Rattle.rq_shared.specs.declared.kept.Stamped.{Stamped}
 use Rattle.rq_workers.specs.declared.acts.Act.{Act}
 use Rattle.rq_workers.specs.declared.acts.Act.TheVariants.{Asked, Lacked, Made}
@@ -15,7 +15,7 @@ use Rattle.rq_workers.specs.declared.acts.Heard.TheVariants as heard
 use Rattle.rq_workers.specs.declared.acts.Part.{Part}
 use Rattle.rq_workers.specs.declared.acts.Part.TheVariants as part
 use Rattle.rq_workers.specs.declared.acts.AfterStep.TheVariants as turn
-use Rattle.rq_workers.specs.Hearing.{has_body, heard_of, may_try_again, wants_memory, operation_of, turn_of, part_event}
+use Rattle.rq_workers.specs.Hearing.{heard_of, may_try_again, wants_memory, operation_of, turn_of, part_event}
 use Rattle.rq_workers.specs.Acts.{Work, DidOne, IsCalled, may_call}
 use Rattle.rq_workers.specs.Operations.{Stage, Lead, LeadsOn, Carries, IsTried, after_start, after_asking, after_part, once_started, once_answered, started_stage}
 use Rattle.rq_workers.specs.Operations.Stage.{Starting, Refused_start, Due, Due_again, Between, Over}

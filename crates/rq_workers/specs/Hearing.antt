@@ -47,11 +47,6 @@ starts_one (Start_mark txn client tag) = true
 starts_one (Undo_next txn) = true
 starts_one _ = false
 
--- the call has a body
-abbrev pub has_body : Call → Bool
-has_body (Start_send txn message) = true
-has_body _ = false
-
 -- the call of a part of an operation
 abbrev pub part_event : Part → Sub → Event
 part_event part.Step sub = event.Step sub

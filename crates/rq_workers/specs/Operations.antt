@@ -4,7 +4,7 @@ use Rattle.std.specs.declared.snapshot.Snapshot.{Snapshot}
 use Rattle.rq_model.specs.declared.refusal.Refusal.TheVariants.{NoMemory, Latched}
 use Rattle.rq_model.specs.declared.txn.Sub.{Sub}
 use Rattle.rq_model.specs.History.{Call}
-use Rattle.rq_engine.specs.Says.{call_of}
+use Rattle.rq_engine.specs.Says.{call_of, has_body}
 use Rattle.rq_shared.specs.declared.kept.Stamped.{Stamped}
 use Rattle.rq_workers.specs.declared.acts.Act.{Act}
 use Rattle.rq_workers.specs.declared.acts.Act.TheVariants.{Asked, Lacked, Made}
@@ -13,7 +13,7 @@ use Rattle.rq_workers.specs.declared.acts.Heard.TheVariants as heard
 use Rattle.rq_workers.specs.declared.acts.RunEnd.{RunEnd}
 use Rattle.rq_workers.specs.declared.acts.Part.{Part}
 use Rattle.rq_workers.specs.declared.acts.Part.TheVariants as part
-use Rattle.rq_workers.specs.Hearing.{has_body, heard_of, ended_of, part_event}
+use Rattle.rq_workers.specs.Hearing.{heard_of, ended_of, part_event}
 use Rattle.rq_workers.specs.Acts.{Work, Did, DidOne}
 
 -- How far an operation is.

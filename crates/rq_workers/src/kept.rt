@@ -1,12 +1,10 @@
 //! The step interface over a kept engine of one thread.
 ghost use Rattle.std.specs.Prelude.{◌≡◌, ◌≤◌, ◌+◌, ◌∷◌, ◌++◌, true, length, IfSome, IfNone};
-ghost use Rattle.rq_engine.specs.Says.{call_of};
+ghost use Rattle.rq_engine.specs.Says.{call_of, has_body};
 ghost use Rattle.rq_shared.specs.Calls.{IsStepOf};
 ghost use Rattle.rq_workers.specs.Forcing.{lsn_forced, most_forced};
-ghost use Rattle.rq_workers.specs.Hearing.{has_body};
 ghost use Rattle.rq_workers.specs.Keeping.{count_left, entries_left};
 
-use crate::copying::copy_event;
 use crate::steps::Steps;
 use rq_bytes::GhostList;
 use rq_disk::{LogDevice, PageDevice};
@@ -139,7 +137,7 @@ impl<P: PageDevice + Drop, L: LogDevice + Drop, B: Level> Steps for KeptSteps<P,
         ensures kept { (self.new.kept ≡ self.old.kept) × (self.new.pass ≡ self.old.pass)
             × (self.new.begun.value ≡ self.old.begun.value) }
     {
-        let copy = copy_event(event);
+        let copy = event.copied();
         if copy.is_none() {
             GhostList::push(&mut self.lacked, &());
         }

@@ -2,7 +2,6 @@
 #![tactic(auto)]
 
 pub mod acts;
-mod copying;
 pub mod gate;
 pub mod kept;
 pub mod operation;

@@ -1,13 +1,11 @@
 //! The step interface over a shared engine, for one thread.
 ghost use Rattle.std.specs.Prelude.{◌≡◌, ◌≤◌, ◌+◌, List, [], ◌∷◌, true, length, IfSome, IfNone};
-ghost use Rattle.rq_engine.specs.Says.{call_of};
+ghost use Rattle.rq_engine.specs.Says.{call_of, has_body};
 ghost use Rattle.rq_shared.specs.declared.kept.Stamped.{Stamped as Stamp};
 ghost use Rattle.rq_workers.specs.Forcing.{lsn_forced};
-ghost use Rattle.rq_workers.specs.Hearing.{has_body};
 ghost use Rattle.rq_workers.specs.Keeping.{count_left};
 ghost use Rattle.rq_shared.specs.Calls.{CountsTaken, IsCalled, IsForced, IsTaken};
 
-use crate::copying::copy_event;
 use crate::steps::Steps;
 use rq_bytes::GhostList;
 use rq_disk::{LogDevice, PageDevice};
@@ -227,7 +225,7 @@ impl<
         ensures shown { self.old.seat.saw ≤ self.new.seat.saw }
         ensures pass { (self.new.pass ≡ self.old.pass) × (self.new.seat ≡ self.old.seat) }
     {
-        let copy = copy_event(event);
+        let copy = event.copied();
         if copy.is_none() {
             GhostList::push(&mut self.lacked, &());
         }

@@ -1,8 +1,7 @@
 //! How a worker calls a store.
 ghost use Rattle.std.specs.Prelude.{◌≡◌, ◌≤◌, ◌+◌, ℕ, List, ◌∷◌, true, IfSome, IfNone};
-ghost use Rattle.rq_engine.specs.Says.{call_of};
+ghost use Rattle.rq_engine.specs.Says.{call_of, has_body};
 ghost use Rattle.rq_workers.specs.Forcing.{lsn_forced};
-ghost use Rattle.rq_workers.specs.Hearing.{has_body};
 ghost use Rattle.rq_workers.specs.Keeping.{count_left};
 ghost use Rattle.rq_shared.specs.declared.kept.Stamped.{Stamped as Stamp};
 

@@ -1,9 +1,8 @@
 //! A worker: a gate and a step interface, and what was done through them.
 ghost use Rattle.std.specs.Prelude.{◌≡◌, ◌≤◌, ◌+◌, [], ◌++◌, true, not, IfSome, IfNone};
-ghost use Rattle.rq_engine.specs.Says.{call_of};
+ghost use Rattle.rq_engine.specs.Says.{call_of, has_body};
 ghost use Rattle.rq_workers.specs.Acts.{asked_in, stamps_in, forced_in, lacked_in, was_stopped, passed_at, may_call, KeepsRule, DidOne, IsCalled, IsForced};
 ghost use Rattle.rq_workers.specs.Forcing.{most_forced};
-ghost use Rattle.rq_workers.specs.Hearing.{has_body};
 ghost use Rattle.rq_workers.specs.Keeping.{counts_left};
 
 use crate::acts::{Act, Heard, heard_in};
