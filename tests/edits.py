@@ -4,15 +4,18 @@
     python3 tests/edits.py [NAME..]      of all crates, or of these
 
 An edit is a text file: a line 'function: PATH', a line 'file: src/..' and pairs of lines 'old: TEXT' and 'new: TEXT', each TEXT
-one line. An old text stands in the file once. In a copy of the crate the prover checks the function and what it calls, over
-the built libraries below it (out/rlib, as the gate or `rt lib` leaves them). It has to say that the function is not proved, and
-which clause or condition of it fails. Edits of several functions of a crate are tried in one copy. One of the functions is checked
-as it stands, too: it has to be proved, so that nothing else than the edits can have made the others fail. What a check of a crate
-proved is kept for the next (out/incremental, as the gate leaves it, and then by each check here).
+one line. An old text stands in the file once. It is made in a copy of the function, with its proofs, under a name of its own, or where
+that can't be (a trait's method, a text beside the function) in the function itself. So all edits of a crate are tried at once, in a
+copy of the crate: the prover checks these functions and what they call, over the built libraries below it (out/rlib, as the gate or
+`rt lib` leaves them). It has to say that each is not proved, and which clause or condition of it fails. One more copy, of the shortest
+of them, changes nothing: it has to be proved, so that nothing else than the edits can have made the others fail.
+What a check of a crate proved is kept for the next (out/incremental, as the gate leaves it, and then by each check here).
 """
 
 import concurrent.futures
+import copy
 import os
+import pathlib
 import re
 import shutil
 import subprocess
@@ -90,17 +93,81 @@ class Edit:
             line = text[: text.index(old)].count("\n") + 1
             if re.match(r" *(ensures|requires)", text.split("\n")[line - 1]):
                 return f"it changes a clause: {old}"
-        file, old, _ = self.pairs[-1]
-        text = text_of(f"{ROOT}/crates/{self.crate}/{file}")
-        if not any(text[: text.index(old)].count("\n") + 1 in span for span in spans(self, text)):
-            return f"no {self.function} stands where it changes {file}"
+        text = text_of(f"{ROOT}/crates/{self.crate}/{self.file}")
+        if not self.span(text):
+            return f"no {self.function} stands where it changes {self.file}"
+        is_method = text.split("\n")[self.span(text)[0] - 1].startswith(" ")
+        if is_method and not re.search(r"\b[A-Z]\w*::\w+$", self.function):
+            return f"{self.function} is a method, and its type is not named"
         return None
 
-    def apply(self, folder):
-        for file, old, new in self.pairs:
-            text = text_of(f"{folder}/{file}")
-            with open(f"{folder}/{file}", "w", encoding="utf-8") as it:
-                it.write(text.replace(old, new))
+    def span(self, text):
+        """The lines of its function in its file's text; None where it changes none there."""
+        line = text[: text.index(self.pairs[-1][1])].count("\n") + 1
+        return next((span for span in spans(self.function, text) if line in span), None)
+
+    def is_copied(self):
+        """Whether it is made in a copy of its function: it changes nothing beside that, which is no trait's method."""
+        text = text_of(f"{ROOT}/crates/{self.crate}/{self.file}")
+        lines, span = text.split("\n"), self.span(text)
+        if any(file != self.file or not any(old in lines[at - 1] for at in span) for file, old, _ in self.pairs):
+            return False
+        if not lines[span[0] - 1].startswith(" "):
+            return True
+        head = max(at for at in range(span[0]) if re.match(r"(unsafe )?(impl|trait)\b", lines[at]))
+        return lines[head].startswith("impl") and " for " not in "\n".join(lines[head : span[0]]).split("{")[0]
+
+    def tried(self):
+        """The function that is to be refused."""
+        return f"{self.function}_{self.name}" if self.is_copied() else self.function
+
+    def copied(self, text):
+        """The last line of its function in its file's text, and the function once more, changed and under a name of its own."""
+        lines, span = text.split("\n"), self.span(text)
+        block = "\n".join(lines[span[0] - 1 : span[-1]])
+        for _, old, new in self.pairs:
+            block = block.replace(old, new)
+        name = self.function.rsplit("::", 1)[-1]
+        return span[-1], re.sub(rf"\bfn {name}\b", f"fn {name}_{self.name}", block, count=1)
+
+    def proofs(self, folder):
+        """Where the proofs of its function stand in a copy of its crate, and those of its closures beside."""
+        *above, name = self.function.split("::")
+        if not above or not above[-1][0].isupper():
+            path = re.sub(r"^src/|\.rt$", "", self.file).split("/")
+            above = [it for it in path if it not in ("lib", "main", "mod")]
+        within = above[-1:] or ["proofs"]
+        for last in (within, [*within, "fn"]):
+            yield from ((last, found) for found in pathlib.Path(folder).glob("/".join(["**", *last, name])) if found.is_dir())
+
+    def copy_proofs(self, folder):
+        """Has the copy of its function have what the function's proofs have."""
+        name = self.function.rsplit("::", 1)[-1]
+        for last, proofs in [*self.proofs(folder)]:
+            copied = proofs.with_name(f"{name}_{self.name}")
+            shutil.copytree(proofs, copied)
+            place = re.compile(rf"\b({'.'.join(last)}\.{name})(?=\.)")
+            for file in copied.rglob("*.antt"):
+                file.write_text(place.sub(rf"\1_{self.name}", file.read_text(encoding="utf-8")), encoding="utf-8")
+
+
+def apply(edits, folder):
+    """Makes edits in a copy of their crate."""
+    for path in {file for edit in edits for file, _, _ in edit.pairs}:
+        text = text_of(f"{folder}/{path}")
+        lines, copies = text.split("\n"), []
+        for edit in edits:
+            if not edit.is_copied():
+                for _, old, new in [pair for pair in edit.pairs if pair[0] == path]:
+                    lines = [line.replace(old, new) for line in lines]
+            elif edit.file == path:
+                copies.append(edit.copied(text))
+        for at, copied in sorted(copies, reverse=True):
+            lines[at:at] = ["", *copied.split("\n")]
+        with open(f"{folder}/{path}", "w", encoding="utf-8") as it:
+            it.write("\n".join(lines))
+    for edit in [edit for edit in edits if edit.is_copied()]:
+        edit.copy_proofs(folder)
 
 
 def text_of(path):
@@ -109,21 +176,21 @@ def text_of(path):
 
 
 def rounds(edits):
-    """Edits in groups, of which each has at most one of a function."""
+    """Edits in groups, of which each has at most one that is made in a function itself."""
     left, found = list(edits), []
     while left:
         group = {}
         for edit in left:
-            group.setdefault(edit.function, edit)
+            group.setdefault(edit.tried(), edit)
         found.append(list(group.values()))
         left = [edit for edit in left if edit not in found[-1]]
     return found
 
 
-def spans(edit, text):
-    """The first and the last line of each function of the edited one's name in its file, attributes counted."""
+def spans(function, text):
+    """The first and the last line of each function of this one's name in a file, attributes counted."""
     lines = text.split("\n")
-    head = re.compile(rf"( *)(pub(\([a-z]+\))? )?(const )?fn {edit.function.rsplit('::', 1)[-1]}\b")
+    head = re.compile(rf"( *)(pub(\([a-z]+\))? )?(const )?fn {function.rsplit('::', 1)[-1]}\b")
     for at, line in enumerate(lines):
         if found := head.match(line):
             last = next(i for i, other in enumerate(lines) if i > at and other == found[1] + "}")
@@ -135,7 +202,8 @@ def spans(edit, text):
 
 def judge(edit, text, said):
     """Whether the edit is refused, and why or why not."""
-    told = re.search(rf"^fn \S*\b{re.escape(edit.function)}: (.*)$", said, re.M)
+    function = edit.tried()
+    told = re.search(rf"^fn \S*\b{re.escape(function)}: (.*)$", said, re.M)
     if not told:
         lines = said.strip().split("\n")
         error = next((line for line in lines if line.startswith("error")), lines[-1])
@@ -143,9 +211,10 @@ def judge(edit, text, said):
     if told[1].startswith("proved"):
         return False, "NOT REFUSED: the function is still proved"
     place = re.compile(rf"(?:note: )?(?:\./)?({re.escape(edit.file)}:(\d+):\d+: .*not proved.*)")
-    reasons = [it[1] for it in map(place.match, said.split("\n")) if it and any(int(it[2]) in span for span in spans(edit, text))]
+    lines = [line for span in spans(function, text) for line in span]
+    reasons = [it[1] for it in map(place.match, said.split("\n")) if it and int(it[2]) in lines]
     # (an answer that is written by hand, and does not show any more what its clause asks)
-    path = "/".join(map(re.escape, edit.function.split("::")))
+    path = "/".join(map(re.escape, function.split("::")))
     answer = re.compile(rf"(?:\./)?proofs/(?:.*/)?{path}/Answers\.antt:\d+:\d+: error: (`[^`]*`: .*)")
     names = re.compile(r"has no field|is not in scope|has no `|was not admitted")
     # (a message goes on in lines that begin with blanks)
@@ -158,14 +227,34 @@ def judge(edit, text, said):
     return True, f"refused: {reasons[0][:150]}"
 
 
+def unchanged(edit):
+    """A copy of the edit's function that changes nothing."""
+    control = copy.copy(edit)
+    control.name, control.pairs = "as_it_stands", [[file, old, old] for file, old, _ in edit.pairs]
+    return control
+
+
+def controls(edits):
+    """A copy that changes nothing of the shortest function that is copied, with proofs by hand where one has any; none where none is."""
+
+    def cost(edit):
+        folder = f"{ROOT}/crates/{edit.crate}"
+        return not [*edit.proofs(folder)], len(edit.span(text_of(f"{folder}/{edit.file}")))
+
+    return [unchanged(edit) for edit in sorted([edit for edit in edits if edit.is_copied()], key=cost)[:1]]
+
+
+def is_proved(function, said):
+    return bool(re.search(rf"^fn \S*\b{re.escape(function)}: proved", said, re.M))
+
+
 def checked(uses, crate, edits, functions, kept):
-    """What the prover answers and says of these functions, with the edits, over what is kept of a check, and the texts of the edits' files."""
+    """What the prover answers and says of these functions, with the edits, over what is kept of a check; and the texts of the edits' files."""
     with tempfile.TemporaryDirectory(prefix="rt-edit-") as room:
         for part in PARTS:
             if os.path.isdir(f"{ROOT}/crates/{crate}/{part}"):
                 shutil.copytree(f"{ROOT}/crates/{crate}/{part}", f"{room}/{part}")
-        for edit in edits:
-            edit.apply(room)
+        apply(edits, room)
         ran = subprocess.run(
             [*words(uses, crate, functions), "--incremental", kept],
             cwd=room,
@@ -178,28 +267,37 @@ def checked(uses, crate, edits, functions, kept):
         return ran.returncode, ran.stdout, [text_of(f"{room}/{edit.file}") for edit in edits]
 
 
-def try_round(uses, crate, edits, kept):
+def try_round(uses, crate, edits, kept, proved):
     """Of each edit: whether it is refused, and why or why not. Those that are not, beside others, are tried again without these: one may
-    call a function that another edit changes, and then the prover does not judge it. Where all are left, each is tried alone."""
-    status, said, texts = checked(uses, crate, edits, [edit.function for edit in edits], kept)
-    if status != 1:
-        return [(edit, False, f"BAD EDIT: the prover ended with {status}: {said.strip()[-200:]}") for edit in edits]
+    call a function that another edit changes, and then the prover does not judge it. Where all are left, each half is tried alone.
+    `proved` gets whether a function was proved that stood as it is."""
+    tried = [*edits, *controls(edits)]
+    status, said, texts = checked(uses, crate, tried, [edit.tried() for edit in tried], kept)
+    proved += [is_proved(control.tried(), said) for control in tried[len(edits) :]]
+    if status != 1 and len(edits) == 1:
+        return [(edits[0], False, f"BAD EDIT: the prover ended with {status}: {said.strip()[-200:]}")]
     answers = [(edit, *judge(edit, text, said)) for edit, text in zip(edits, texts)]
     left = [edit for edit, is_refused, _ in answers if not is_refused]
     if not left or len(edits) == 1:
         return answers
-    again = [left] if len(left) < len(edits) else [[edit] for edit in left]
-    return [it for it in answers if it[1]] + [it for group in again for it in try_round(uses, crate, group, kept)]
+    half = len(left) // 2
+    again = [left] if len(left) < len(edits) else [left[:half], left[half:]]
+    return [it for it in answers if it[1]] + [it for group in again for it in try_round(uses, crate, group, kept, proved)]
 
 
 def try_crate(uses, crate, edits):
-    """Of each edit of a crate: whether it is refused, and why or why not; and what is wrong where the first function is not proved as it stands."""
+    """Of each edit of a crate: whether it is refused, and why or why not. Where no function was proved beside them, the first one is checked
+    as it stands, and it is told where that is not proved."""
     with tempfile.TemporaryDirectory(prefix="rt-edit-") as kept:
-        if os.path.isdir(proved := f"{ROOT}/crates/{crate}/out/incremental"):
-            shutil.copytree(proved, kept, dirs_exist_ok=True)
+        if os.path.isdir(kept_before := f"{ROOT}/crates/{crate}/out/incremental"):
+            shutil.copytree(kept_before, kept, dirs_exist_ok=True)
+        proved = []
+        answers = [it for group in rounds(edits) for it in try_round(uses, crate, group, kept, proved)]
+        if any(proved):
+            return answers
         status, said, _ = checked(uses, crate, [], [edits[0].function], kept)
         wrong = [(edits[0], False, f"NOT PROVED as it stands: {said.strip()[-200:]}")] if status else []
-        return wrong + [it for group in rounds(edits) for it in try_round(uses, crate, group, kept)]
+        return wrong + answers
 
 
 def main(names):
