@@ -4,7 +4,7 @@ made again, it answers as where no allocation fails, and so does all behind it. 
 failure of its call, or of the handing over as the store crashes. A restart that it stopped is made again. A store is opened with as
 many allocations over a log in which many transactions ended as over one in which few did.
 
-    python3 tests/memory.py [--happenings PROGRAM] [--rqm PROGRAM] [--bench PROGRAM]
+    python3 tests/memory.py [--rqm PROGRAM] [--bench PROGRAM]
 
 A library that the loader puts in front of the C library's has the allocation fail; it is built with `cc`.
 """
@@ -278,7 +278,6 @@ def check(lists):
 
 def main():
     words = argparse.ArgumentParser(description="Has each allocation of lists and of scripts fail in turn.")
-    words.add_argument("--happenings", help="a program that was built elsewhere")
     words.add_argument("--rqm", help="a program that was built elsewhere")
     words.add_argument("--bench", help="a program that was built elsewhere")
     chosen = words.parse_args()
@@ -286,12 +285,12 @@ def main():
         source, library = pathlib.Path(folder) / "shim.c", str(pathlib.Path(folder) / "shim.so")
         source.write_text(SHIM)
         subprocess.run(["cc", "-O2", "-shared", "-fPIC", "-o", library, str(source), "-ldl"], check=True)
-        happenings = Worlds.cases
+        bench, happenings = built(chosen.bench, "bench"), Worlds.cases
         lists = [name for name in happenings.names() if name in BASES or is_calm(happenings.lines_of(name)[0])]
         ran = [
-            check(Lists(built(chosen.happenings, "happenings"), library, happenings, lists, MOST_OF_LIST)),
+            check(Lists(bench, library, happenings, lists, MOST_OF_LIST)),
             check(Lists(built(chosen.rqm, "rqm"), library, SCRIPTS, STEP_BY_STEP, MOST_OF_SCRIPT)),
-            check_openings(built(chosen.bench, "bench"), library),
+            check_openings(bench, library),
         ]
     sys.exit(0 if all(ran) else 1)
 

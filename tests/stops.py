@@ -107,7 +107,7 @@ def variants(name):
 def printed_by(program, sizes, lines):
     """What the program prints for these lines, and its status."""
     given = b"".join(line + b"\n" for line in lines)
-    ran = subprocess.run([program, *map(str, sizes)], input=given, capture_output=True, timeout=MOST_SECONDS)
+    ran = subprocess.run([program, "happenings", *map(str, sizes)], input=given, capture_output=True, timeout=MOST_SECONDS)
     return ran.stdout.split(b"\n")[:-1], ran.returncode
 
 
@@ -178,7 +178,7 @@ def fault(program, base, lines):
     lines = lines + base.last
     (printed, status), world = printed_by(program, base.sizes, lines), base.told(lines)
     given = b"".join(line + b"\n" for line in lines).decode()
-    replay = f"{base.name}: {program} {' '.join(map(str, base.sizes))} < the list\n{given}"
+    replay = f"{base.name}: {program} happenings {' '.join(map(str, base.sizes))} < the list\n{given}"
     if (printed, status) != (world.printed, 0):
         return f"{replay}  printed {printed[-3:]}, status {status}, wanted {world.printed[-3:]}"
     opened = printed[-len(base.last)]
@@ -239,7 +239,7 @@ def main():
     words.add_argument("--first", type=int, default=0, metavar="SEED", help="the first of their seeds")
     words.add_argument("names", nargs="*", metavar="NAME", help="these lists alone")
     chosen = words.parse_args()
-    program = built(chosen.program, "happenings")
+    program = built(chosen.program, "bench")
     seeds = range(chosen.first, chosen.first + chosen.drawn)
     bases = [Base(program, name, more) for name in chosen.names or BASES for more in ["", *variants(name)]]
     ran = [run(program, base, seeds) for base in bases]

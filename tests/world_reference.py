@@ -1,4 +1,4 @@
-"""What happenings come to, by the reference: a line each, as crates/happenings prints it."""
+"""What happenings come to, by the reference: a line each, as the word `happenings` of crates/bench prints it."""
 from reference import ALL, Refused, Stopped, Store
 
 

@@ -357,8 +357,8 @@ def comes_wrong(job):
 
 
 class Worlds(drawn.Door):
-    cases, runs_cases = Cases("worlds", "happenings", [], ["1", "1"]), True
-    name, crate, courses, wanted = "happenings", "happenings", 1500, WANTED
+    cases, runs_cases = Cases("worlds", "happenings", ["happenings"], ["1", "1"]), True
+    name, crate, subcommand, courses, wanted = "happenings", "bench", ["happenings"], 1500, WANTED
 
     def words(self, sizes):
         return [str(size) for size in sizes]

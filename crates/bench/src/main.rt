@@ -1,4 +1,4 @@
-//! What is timed and counted, by one program: its first word says what is done, and what it prints says what was.
+//! What is timed, counted or let happen, by one program: its first word says what is done, and what it prints says what was.
 //!
 //! | Words | What is done |
 //! |---|---|
@@ -11,12 +11,14 @@
 //! | `open FOLDER` | opens it, or says why not |
 //! | `checkpoint FOLDER SENT RECEIVED` | opens it, sends messages, receives some of the first sender, and makes its log one record |
 //! | `calls THREADS BATCHES` | makes calls by one thread or by four |
+//! | `happenings DIRECTORY CELLS [TAGS]` | lets what standard input says happen to a store in memory |
 #![tactic(auto)]
 
 mod beside;
 mod decode;
 mod feed;
 mod files;
+mod happenings;
 mod others;
 mod reopen;
 mod replacing;
@@ -67,6 +69,7 @@ fn run<
         Some(Verb::Open) => reopen::open(rt, &words),
         Some(Verb::Checkpoint) => reopen::checkpoint(rt, &words),
         Some(Verb::Calls) => ways::run(rt, &words),
+        Some(Verb::Happenings) => happenings::run(rt, &words),
         None => Err(io::ErrorKind::InvalidInput.into()),
     }
 }

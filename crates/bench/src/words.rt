@@ -16,9 +16,10 @@ pub enum Verb {
     Open,
     Checkpoint,
     Calls,
+    Happenings,
 }
 
-const VERBS: [(&str, Verb); 9] = [
+const VERBS: [(&str, Verb); 10] = [
     ("decode", Verb::Decode),
     ("feed", Verb::Feed),
     ("append", Verb::Append),
@@ -28,6 +29,7 @@ const VERBS: [(&str, Verb); 9] = [
     ("open", Verb::Open),
     ("checkpoint", Verb::Checkpoint),
     ("calls", Verb::Calls),
+    ("happenings", Verb::Happenings),
 ];
 
 /// Reads the words.

@@ -1,5 +1,5 @@
-//! Tests over stores of what no script and no list of happenings shows: workers, threads that share a store, sessions with the
-//! bytes that a connection brings, and levels in boxes.
+//! Tests of what no script and no list of happenings shows: workers, threads that share a store, sessions with the bytes that a
+//! connection brings, and levels in boxes; numbers and records in bytes; and the queue as plain lists.
 #![tactic(auto)]
 
 #[cfg(test)]
@@ -11,9 +11,15 @@ mod counted;
 #[tactic(auto, unfolding(rq_level::specs::Meaning::meaning_of))]
 mod drops;
 #[cfg(test)]
+mod fields;
+#[cfg(test)]
 mod gates;
 #[cfg(test)]
 mod mark;
+#[cfg(test)]
+mod records;
+#[cfg(test)]
+mod reference;
 #[cfg(test)]
 mod stores;
 #[cfg(test)]

@@ -199,8 +199,8 @@ fn first_cut_that_differs<R: Wait>(
 
 #[test]
 fn sessions_are_served_wherever_they_are_cut(rt: HostRuntime) -> Result<(), Fail> {
-    for row in ROWS {
-        assert_eq!(rt; first_cut_that_differs(&rt, rt.alloc(), &row)?, None);
+    for row in &ROWS {
+        assert_eq!(rt; first_cut_that_differs(&rt, rt.alloc(), row)?, None);
     }
     Ok(())
 }

@@ -11,7 +11,7 @@
 //! Calls of the store: `hand-over`, `force`, `checkpoint`, `migrate PAGES`, `write PAGE`, `last SENDER`,
 //! `tag CLIENT`, `content`.
 //! The others: `ack N`, `fail N`, `crash KEPT`, `stop-in N KEPT CALL`, `restart`, `restart-stop N KEPT`.
-use crate::line::Line;
+use crate::happenings::line::Line;
 use rq_core::happening::{Choice, Happening};
 use rq_engine::event::Event;
 use rq_page::layout::TAGS_LIMIT;
