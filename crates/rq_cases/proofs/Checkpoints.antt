@@ -101,13 +101,12 @@ checkpoints = record {
   shut_behind_one = λ pages log h. record {
     range = range;
     phase = refl;
-    settled = refl;
     older = based_log;
     ties = record { committed = refl; records = refl; incarnation = omega arith };
     left = λ images bytes a b. (based_log, ([], refl, tt), leaves_based pages log h images bytes a b);
   };
-  midway_as_it_was = λ pages log h. record { sizes = refl; past = []; long = refl; ledger = refl; sound = failed_sound; devices = inr (record { failed = refl; none_open = refl; leaves = λ images bytes a b. (None, tt, inl (cut_first pages log h images bytes a b)) }) };
-  midway_as_it_was_to_be = λ pages log h. record { sizes = refl; past = []; long = refl; ledger = refl; sound = failed_sound; devices = inr (record { failed = refl; none_open = refl; leaves = λ images bytes a b. (None, tt, inr (refl, cut_based pages log h images bytes a b)) }) };
+  midway_as_it_was = λ pages log h. record { sizes = refl; past = []; long = refl; ledger = refl; sound = failed_sound; devices = inr (record { failed = refl; none_open = refl; leaves = λ images bytes a b. (None, tt, tt, inl (cut_first pages log h images bytes a b)) }) };
+  midway_as_it_was_to_be = λ pages log h. record { sizes = refl; past = []; long = refl; ledger = refl; sound = failed_sound; devices = inr (record { failed = refl; none_open = refl; leaves = λ images bytes a b. (None, tt, tt, inr (refl, cut_based pages log h images bytes a b)) }) };
   midway_and_running = λ z h e half runs o. elim o.devices [
     | inl f ↦ (let e = sym half ∙ f.untried in cc e)
     | inr m ↦ (let e = sym runs ∙ m.failed in cc e)
@@ -133,13 +132,13 @@ in_one goes pages log h = record {
   history = first_entries 1;
   tells = told_1;
   legal = legal_1;
+  range = range;
   may = (refl, refl);
   leaves = λ images bytes a b. record {
     tags = None;
     left = tt;
     now = based_log;
-    loses_none = tt;
     store = leaves_based pages log h images bytes a b;
-    ends = goes (first_entries 1) log_1 legal_1 ties_1 fresh_sound.log.rules refl;
+    ends = goes (first_entries 1) log_1 legal_1 tt ties_1 fresh_sound.log.rules refl;
   };
 }

@@ -22,9 +22,9 @@ told_opened = ([], refl, (refl, refl))
 
 pub stops : StopsAreJudged
 stops = record {
-  in_a_force = (opened_history, told_opened, ((refl, refl), None, tt, tt, refl));
-  in_a_hand_over = (opened_history, told_opened, ((refl, refl), None, tt, tt, refl));
-  in_a_page_write = (opened_history, told_opened, ((refl, refl), None, tt, tt, refl));
+  in_a_force = (opened_history, told_opened, ((refl, refl), None, tt, refl));
+  in_a_hand_over = (opened_history, told_opened, ((refl, refl), None, tt, refl));
+  in_a_page_write = (opened_history, told_opened, ((refl, refl), None, tt, refl));
   in_a_begin = λ h t. cc t.2.0.1;
   in_a_commit = λ h t. cc t.2.0.1;
   in_a_step = λ h t. cc t.2.0.1;
@@ -35,7 +35,7 @@ stops = record {
   not_met = (opened_history, told_opened, (Forced 1, refl, tt, refl));
   left_out = λ h t. t.2.0;
   answered_as_a_restart = λ h t. cc t.2.0;
-  loses_the_forced = λ a. (let e : 5 ≤ 1 = a.0.forced in omega (arith, e));
+  loses_the_forced = λ a. (let e : 5 ≤ 1 = a.0.0.forced in omega (arith, e));
   keeps_the_forced = search rules;
 }
 

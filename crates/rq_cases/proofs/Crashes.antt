@@ -4,6 +4,7 @@ use Rattle.rq_model.specs.Incarnations.{Ties}
 use Rattle.rq_model.specs.History.{Entry}
 use Rattle.rq_model.specs.History.Call.{Force}
 use Rattle.rq_model.specs.Ledger.{ledger}
+use Rattle.rq_model.specs.Growth.{IsGrownBy, growth}
 use Rattle.rq_model.specs.Promises.{CheckpointCrashGoesOn, CrashGoesOn}
 use Rattle.rq_disk.specs.Device.{Images}
 use Rattle.rq_disk.specs.Memory.{log_seen as log_device_seen}
@@ -17,7 +18,7 @@ use Rattle.rq_engine.specs.Devices.{EachPair, Path}
 use Rattle.rq_engine.specs.Devices.Path.{Log, Pages, Start}
 use Rattle.rq_core.specs.Devices.{mem_log, mem_pages}
 use Rattle.rq_core.proofs.Devices.{log_now as log_since, page_now, path_end}
-use Rattle.rq_core.specs.Happenings.{Happening, MayCrashIt, IsGrownBy, growth, growth_in}
+use Rattle.rq_core.specs.Happenings.{Happening, MayCrashIt, growth_in}
 use Rattle.rq_core.specs.Happenings.Happening.{Crashes, Stops_in}
 use Rattle.rq_core.specs.Worked.{first_entries}
 use Rattle.rq_cases.specs.Crashes.{CrashesAreJudged, MayFail, RunsAreJudged}
@@ -96,14 +97,14 @@ module _ (goes : CrashGoesOn small) (half : CheckpointCrashGoesOn small) where
     history = first_entries 9;
     tells = told_9;
     legal = legal_crash.1;
+    range = range;
     may = may;
     leaves = λ images bytes a b. record {
       tags = None;
       left = none;
       now = log_5;
-      loses_none = tt;
       store = leaves_store pages log h images bytes a b;
-      ends = goes (first_entries 9) [] log_5 legal_crash.1 ties whole_5.rules (omega arith) (omega arith);
+      ends = goes (first_entries 9) [] log_5 legal_crash.1 tt ties whole_5.rules (omega arith) (omega arith);
     };
   }
 

@@ -10,6 +10,7 @@ use Rattle.rq_model.specs.History.{Entry}
 use Rattle.rq_model.specs.History.Entry.{Acknowledged, Begun, Committed, Did, Forced, Started, Stepped}
 use Rattle.rq_model.specs.History.Job.{Sending}
 use Rattle.rq_model.specs.Ledger.{Ledger, ledger, group_in}
+use Rattle.rq_model.specs.Growth.{Growth, growth}
 use Rattle.rq_model.specs.Legal.{IsLegal}
 use Rattle.rq_model.specs.Promises.{AcknowledgedStay, CheckpointCrashGoesOn, CrashGoesOn, FifoThroughout, ShutCrashGoesOn}
 use Rattle.rq_model.specs.Vocabulary.Op.{Send}
@@ -43,7 +44,7 @@ use Rattle.rq_engine.proofs.Crashing.{commits_of_cut, leaves_cut}
 use Rattle.rq_restart.specs.Underway.{IsStore}
 use Rattle.rq_log.proofs.Runs.{ends_all, go_on_all, go_on_newer, spelled_whole}
 use Rattle.rq_core.specs.Devices.{mem_log, mem_pages}
-use Rattle.rq_core.specs.Happenings.{Course, Tells, Growth, grown, growth}
+use Rattle.rq_core.specs.Happenings.{Course, Tells, grown}
 use Rattle.rq_core.specs.Headline.{EndsHistory, LeavesStores}
 use Rattle.rq_core.specs.Runs.{IsHeadline, Ran}
 use Rattle.rq_core.specs.Worked.{first_entries, hello}
@@ -72,7 +73,7 @@ pub told_9 : Tells (course_to 9) (first_entries 9)
 told_9 = (first_entries 8, (first_entries 7, told_7, (Acknowledged (txn 1 1) 5 false, refl, tt, refl)), (Forced 5, refl, tt, refl))
 
 pub told_crash : Tells crashed_course crashed
-told_crash = (first_entries 9, told_9, (tt, None, tt, tt, refl))
+told_crash = (first_entries 9, told_9, (tt, None, tt, refl))
 
 pub legal_7 : IsLegal small (first_entries 7)
 legal_7 = search rules
@@ -122,7 +123,6 @@ module _ (pages : MemPages) (log : MemLog) where
   shuts h = record {
     range = range;
     phase = refl;
-    settled = refl;
     older = log_5;
     ties = record { committed = refl; records = refl; incarnation = omega arith };
     left = λ images bytes a b. (log_5, ([], refl, tt), leaves_store h images bytes a b);
@@ -296,9 +296,9 @@ ran_crashed pages log h = record {
   counted = λ images bytes a b. (log_5, leaves_store pages log h images bytes a b, refl);
 }
 
-same_forced : (tags : Option ℕ) (h : List Entry) → (ledger (grown tags h)).forced ≡ (ledger h).forced
-same_forced None h = refl
-same_forced (Some n) h = refl
+same_forced : (tags : Option ℕ) (h : List Entry) → (ledger h).forced ≡ (ledger h).records → (ledger (grown tags h)).forced ≡ (ledger h).forced
+same_forced None h all = refl
+same_forced (Some n) h all = sym all
 
 -- what was forced is left
 pub forced_is_left : (course : Course) (h : List Entry) (pages : MemPages) (log : MemLog) (records : List Record) (n : ℕ) (g : Growth) → Tells ((Asks Force, Answered (Gave_forced n)) ∷ course) h → IsLegal small h
@@ -312,7 +312,7 @@ forced_is_left course h pages log records n g tells legal leaves told few may =
     let is : h ≡ Forced n ∷ older = tells.2.3 ∙ ap (λ (e : Entry). e ∷ older) tells.2.1 in
     let all : n ≡ (ledger older).records = (subst (IsLegal small) is legal).0.1 in
     let forced_is : (ledger h).forced ≡ (ledger older).records = ap (λ (k : List Entry). (ledger k).forced) is in
-    let kept : (ledger h).forced ≤ length x.now = subst (λ (m : ℕ). m ≤ length x.now) (same_forced x.tags h) x.ends.legal.0.forced in
+    let kept : (ledger h).forced ≤ length x.now = subst (λ (m : ℕ). m ≤ length x.now) (same_forced x.tags h (subst (λ (k : List Entry). (ledger k).forced ≡ (ledger k).records) (sym is) refl)) x.ends.legal.0.0.forced in
     omega (arith, few, count, all, forced_is, kept)
 
 -- headlines

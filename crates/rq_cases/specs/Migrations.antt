@@ -1,20 +1,28 @@
 -- Worked histories with migrations: which are legal, what the store has then, and which are not legal.
-use Rattle.std.specs.Prelude.{◌≡◌, List, [], ◌∷◌, false, None, Some}
-use Rattle.rq_model.specs.declared.refusal.Refusal.TheVariants.{BadTags, DiskWrite, Failed, NotQuiet, UnknownClient}
+use Rattle.std.specs.Prelude.{◌≡◌, ◌+◌, ◌^◌, List, [], ◌∷◌, false, None, Some}
+use Rattle.rq_model.specs.declared.refusal.Refusal.TheVariants.{BadTags, DiskWrite, Failed, LogFull, NotQuiet, UnknownClient}
 use Rattle.rq_model.specs.History.{Entry}
 use Rattle.rq_model.specs.History.Call.{Migrate, Show, Start_mark}
 use Rattle.rq_model.specs.History.Entry.{Begun, Crash, Grew, Migrated, Refused, Restarted, Started, Told_client}
 use Rattle.rq_model.specs.History.Job.{Marking}
 use Rattle.rq_model.specs.Ledger.{group_in, ledger}
+use Rattle.rq_model.specs.Growth.{IsGrownBy, growth}
 use Rattle.rq_model.specs.Legal.{IsLegal}
 use Rattle.rq_model.specs.Tests.{size_at}
-use Rattle.rq_model.specs.Worked.{committed_once, hello, sent_once, small, txn}
+use Rattle.rq_model.specs.Worked.{committed_once, failed_force, hello, sent_once, small, txn}
 use Rattle.rq_model.specs.WorkedMarks.{untagged}
-use Rattle.rq_core.specs.Happenings.{IsGrownBy, growth}
 
 -- one commit, and one tag page more
 abbrev migrated : List Entry
 migrated = Migrated 1 6 ∷ committed_once
+
+-- a device refused it
+abbrev refused : List Entry
+refused = Refused (Migrate 1) DiskWrite ∷ committed_once
+
+-- a store was opened over a log of the greatest length
+abbrev filled : List Entry
+filled = Restarted 1 (2 ^ 50) ∷ []
 
 -- and the store is opened again
 abbrev opened : List Entry
@@ -36,12 +44,31 @@ pub record MigrationsAreJudged : Type 0 where
   pub refused_tagged : IsLegal small (Refused (Migrate 1) BadTags ∷ committed_once)
   pub refused_for_nothing : IsLegal untagged (Refused (Migrate 1) BadTags ∷ committed_once) → ⊥
   pub not_quiet : IsLegal untagged (Refused (Migrate 1) NotQuiet ∷ sent_once)
+  pub quiet : IsLegal untagged (Refused (Migrate 1) NotQuiet ∷ committed_once) → ⊥
+  pub has_no_room : IsLegal untagged (Migrated 1 (2 ^ 50 + 1) ∷ filled) → ⊥
+  pub full : IsLegal untagged (Refused (Migrate 1) LogFull ∷ filled)
+  pub full_for_nothing : IsLegal untagged (Refused (Migrate 1) LogFull ∷ committed_once) → ⊥
+  pub refused_then_for_a_device : IsLegal untagged (Refused (Migrate 1) DiskWrite ∷ migrated) → ⊥
   pub bad_before_quiet : IsLegal untagged (Refused (Migrate 0) NotQuiet ∷ sent_once) → ⊥
   -- what a crash leaves
   pub comes_through : IsLegal untagged opened
   pub loses_nothing : IsLegal untagged (Crash 1 5 ∷ migrated) → ⊥
-  pub stopped_before : IsLegal untagged (Crash 1 5 ∷ Refused (Migrate 1) DiskWrite ∷ committed_once)
-  pub stopped_behind : IsLegal untagged (Crash 1 6 ∷ Grew 1 ∷ Refused (Migrate 1) DiskWrite ∷ committed_once)
+  pub stopped_before : IsLegal untagged (Crash 1 5 ∷ refused)
+  pub stopped_behind : IsLegal untagged (Crash 1 6 ∷ Grew 1 ∷ refused)
+  pub cut_off_before : IsLegal untagged (Crash 0 4 ∷ refused)
+  pub cut_off_behind : IsLegal untagged (Crash 0 4 ∷ Grew 1 ∷ refused) → ⊥
+  pub inside : IsLegal untagged (Crash 1 6 ∷ Grew 1 ∷ committed_once)
+  pub inside_of_all : IsLegal untagged (Crash 1 5 ∷ Grew 1 ∷ committed_once)
+  pub inside_of_less : IsLegal untagged (Crash 0 4 ∷ Grew 1 ∷ committed_once) → ⊥
+  pub is_forgotten : IsLegal untagged (Crash 1 6 ∷ migrated) → ⊥
+  pub other_pages : IsLegal untagged (Grew 2 ∷ migrated) → ⊥
+  pub other_pages_than_refused : IsLegal untagged (Grew 2 ∷ refused) → ⊥
+  pub grows_unasked : IsLegal untagged (Grew 1 ∷ failed_force) → ⊥
+  pub grows_full : IsLegal untagged (Grew 1 ∷ filled) → ⊥
+  pub grows_full_refused : IsLegal untagged (Grew 1 ∷ Refused (Migrate 1) DiskWrite ∷ filled) → ⊥
+  pub grows_none : IsLegal untagged (Grew 0 ∷ committed_once) → ⊥
+  pub grows_too_many : IsLegal untagged (Grew 1025 ∷ committed_once) → ⊥
+  pub grows_tagged : IsLegal small (Grew 1 ∷ committed_once) → ⊥
   pub grows_open : IsLegal untagged (Grew 1 ∷ sent_once) → ⊥
   pub grows_shut : IsLegal untagged (Grew 1 ∷ Crash 1 5 ∷ committed_once) → ⊥
   pub grows_twice : IsLegal untagged (Grew 1 ∷ opened) → ⊥
@@ -59,6 +86,6 @@ pub record MigrationsAreJudged : Type 0 where
   pub must_grow : IsGrownBy (growth migrated) None → ⊥
   pub grows_as_asked : IsGrownBy (growth migrated) (Some 1)
   pub grows_otherwise : IsGrownBy (growth migrated) (Some 2) → ⊥
-  pub may_stay : IsGrownBy (growth (Refused (Migrate 1) DiskWrite ∷ committed_once)) None
-  pub may_grow : IsGrownBy (growth (Refused (Migrate 1) DiskWrite ∷ committed_once)) (Some 1)
+  pub may_stay : IsGrownBy (growth refused) None
+  pub may_grow : IsGrownBy (growth refused) (Some 1)
   pub unasked : IsGrownBy (growth committed_once) (Some 1) → ⊥

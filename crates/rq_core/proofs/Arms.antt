@@ -1,12 +1,13 @@
 -- Each function of a world, over the devices in memory.
 use Rattle.rq_model.specs.Causes.{HasCause, writes_out}
-use Rattle.std.proofs.Common.{◌↔◌, Bool, false, ◌≡◌, List, [], ◌∷◌, arith, refl, sym, ◌∙◌, ap, subst, true, Some, Result, Ok, Err, IfErr, inl, inr, ⊎_elim}
+use Rattle.std.proofs.Common.{◌↔◌, Bool, false, ◌≡◌, List, [], ◌∷◌, arith, refl, sym, ◌∙◌, ap, subst, true, Some, Result, Ok, Err, IfErr, ⊎_elim}
 use Rattle.rq_model.specs.declared.refusal.Refusal.{Refusal}
 use Rattle.rq_model.specs.declared.refusal.Refusal.TheVariants as why
 use Rattle.rq_model.specs.History.{Entry, Call}
 use Rattle.rq_model.specs.History.Entry.{Restarted as Restarted_entry, Refused as Refused_entry}
 use Rattle.rq_model.specs.Ledger.{Ledger, Phase, ledger, runs}
 use Rattle.rq_model.specs.Ledger.Phase.{Running as Runs, Shut}
+use Rattle.rq_model.specs.Growth.{growth}
 use Rattle.rq_model.specs.Legal.{IsLegal}
 use Rattle.rq_model.specs.Tests.{Size, any_busy, size_at}
 use Rattle.rq_model.specs.Promises.{AcknowledgedStay, CheckpointCrashGoesOn, CrashGoesOn, FifoThroughout, RestartGoesOn, ShutCrashGoesOn, StillStoreRefuses}
@@ -29,7 +30,7 @@ use Rattle.rq_restart.specs.Underway.{pages_left, log_left}
 use Rattle.rq_restart.specs.declared.restart.Report.{Report}
 use Rattle.rq_restart.specs.declared.restart.Stopped.{Stopped}
 use Rattle.rq_core.specs.Devices.{mem_pages, mem_log}
-use Rattle.rq_core.specs.Happenings.{Happening, Answer, AddsCall, growth, growth_in, Course, MayCrashIt, Tells, called, is_of_device, EndsWithoutCrash, MayRestart, is_no_crash}
+use Rattle.rq_core.specs.Happenings.{Happening, Answer, AddsCall, growth_in, Course, MayCrashIt, Tells, called, is_of_device, EndsWithoutCrash, MayRestart, is_no_crash}
 use Rattle.rq_core.specs.Happenings.Answer.{Answered, Crashed, Refused, Restarted}
 use Rattle.rq_core.specs.Happened.{Keeps}
 use Rattle.rq_core.specs.Headline.{LeavesStores, LeftBy, LeftLast, sizes_at}
@@ -55,6 +56,7 @@ shut_crashes z course x h pages log law tells legal s may same = record {
   history = h;
   tells = tells;
   legal = legal;
+  range = s.range;
   may = may (ledger h).phase s.phase;
   leaves = subst (λ g. LeavesStores mem_pages mem_log z g h pages log) (sym same) (leaves_shut mem_pages mem_log (λ d. tt) (λ d. tt) z law h pages log legal s);
 }
@@ -68,7 +70,7 @@ not_open law z course x call pages log is ran =
       history = Refused_entry call why.Failed ∷ ran.history;
       tells = (ran.history, ran.tells, subst (λ c. AddsCall c (Gave_refusal why.Failed) ran.history (Refused_entry call why.Failed ∷ ran.history)) (sym is) (Refused_entry call why.Failed, says call, tt, refl));
       legal = (law (size_at (size_of z) ran.history) (ledger ran.history) call (ap runs s.phase), ran.legal);
-      stands = record { range = s.range; phase = s.phase; settled = s.settled; older = s.older; ties = s.ties; left = s.left };
+      stands = record { range = s.range; phase = s.phase; older = s.older; ties = s.ties; left = s.left };
       counted = tt;
     } where
       says : (c : Call) → Says c (Gave_refusal why.Failed) (Refused_entry c why.Failed)
@@ -87,7 +89,7 @@ pub open_ends : (z : Sizes) (course : Course) (e : Engine) (pages : MemPages) (l
     → Keeps mem_pages mem_log e → pages ≡ e.pages → log ≡ e.log → IsHeadline z course pages log
 open_ends z course e pages log fifo stay law half ran keeps i j =
     let o : IsOpen mem_pages mem_log z ran.history e = ran.stands in
-    let left : LeftBehind mem_pages mem_log (growth ran.history) (on o.past e.state) e.pages e.log = ⊎_elim (λ w. plain_leaves mem_pages mem_log (growth ran.history) (on o.past e.state) e.pages e.log w.settled (keeps w.untried tt o.past o.long o.sound w.fit)) (λ half. half.leaves) o.devices in
+    let left : LeftBehind mem_pages mem_log ran.history (growth ran.history) (on o.past e.state) e.pages e.log = ⊎_elim (λ w. plain_leaves mem_pages mem_log ran.history (on o.past e.state) e.pages e.log w.settled (keeps w.untried tt o.past o.long o.sound w.fit)) (λ half. half.leaves) o.devices in
     let stores = leaves_open mem_pages mem_log (λ d. tt) (λ d. tt) z law half ran.history (on o.past e.state) (stands_at z ran.history (on o.past e.state) ran.legal o.sizes o.ledger o.sound) (runs_there ran.history (on o.past e.state) o.ledger) (growth ran.history) e.pages e.log left in
     headline mem_pages mem_log (λ d. tt) (λ d. tt) z fifo stay course ran.history pages log ran.tells ran.legal
     (subst (λ d. LeavesStores mem_pages mem_log z (growth ran.history) ran.history d log) (sym i) (subst (λ d. LeavesStores mem_pages mem_log z (growth ran.history) ran.history e.pages d) (sym j) stores)) (ended z ran.history course pages log ran.counted)
@@ -141,7 +143,6 @@ begins z pages log fresh = record {
   stands = record {
     range = fresh.range;
     phase = refl;
-    settled = refl;
     older = [];
     ties = record { committed = refl; records = refl; incarnation = omega arith };
     left = λ images bytes a b. ([], ([], refl, tt), fresh.left images bytes a b);

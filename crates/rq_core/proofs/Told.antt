@@ -1,13 +1,14 @@
 -- What a run tells.
 use Rattle.std.proofs.Common.{ℕ, IsTrue, List, [], ◌∷◌, refl, sym, subst}
 use Rattle.rq_model.specs.History.{Entry}
+use Rattle.rq_model.specs.Growth.{growth}
 use Rattle.rq_model.specs.Ledger.{ledger}
 use Rattle.rq_model.specs.Legal.{IsLegal}
 use Rattle.rq_model.specs.Tests.{Size}
 use Rattle.rq_model.specs.Promises.{AcknowledgedStay, CheckpointCrashGoesOn, CrashGoesOn, FifoThroughout, RestartGoesOn, ShutCrashGoesOn, StillStoreRefuses}
 use Rattle.rq_disk.specs.declared.mem_log.MemLog.{MemLog}
 use Rattle.rq_disk.specs.declared.mem_pages.MemPages.{MemPages}
-use Rattle.rq_page.specs.Sizes.{Sizes}
+use Rattle.rq_page.specs.Sizes.{Sizes, IsInRange}
 use Rattle.rq_store.specs.State.{size_of}
 use Rattle.rq_engine.specs.Applied.{Applied}
 use Rattle.rq_engine.specs.Earlier.{on}
@@ -15,7 +16,7 @@ use Rattle.rq_engine.specs.declared.event.Event.{Event}
 use Rattle.rq_engine.specs.declared.event.Reply.{Reply}
 use Rattle.rq_restart.specs.Once.{OneLogEach, OneSizeEach}
 use Rattle.rq_core.specs.Devices.{mem_pages, mem_log}
-use Rattle.rq_core.specs.Happenings.{Answer, Course, DoesNothing, Happening, MayCrashIt, call_growth, called, growth, growth_in, restarts}
+use Rattle.rq_core.specs.Happenings.{Answer, Course, DoesNothing, Happening, MayCrashIt, call_growth, called, growth_in, restarts}
 use Rattle.rq_core.specs.Happenings.Answer.{Answered, Crashed, Nothing, Refused, Restarted, Running}
 use Rattle.rq_core.specs.Happenings.Happening.{Crashes, Stops_in, Stops_restart}
 use Rattle.rq_core.specs.Happened.{CrashesOpen, CrashesShut, IsAsked, IsLast, IsNotOpen, StopsRestart}
@@ -47,26 +48,28 @@ module _ (z : Sizes) (k : Laws z) (course : Course) where
       subst (λ c. MayCrashIt (Stops_in c) (ledger ran.history).phase) last.0 (stop_may z course e last.1 old mid ran (subst (λ y. Applied mem_pages mem_log old e y mid) last.2 a) last.3)
   may_crash _ e r old mid last a ran = absurd last
 
-  left_behind : (x : Happening) (e : Event) (r : Reply) (old mid : Engine) → IsLast x e r → Applied mem_pages mem_log old e r mid → (ran : Ran z course (Is_open old)) → LeftBehind mem_pages mem_log (growth_in x (growth ran.history)) (on ran.stands.past old.state) mid.pages mid.log
+  left_behind : (x : Happening) (e : Event) (r : Reply) (old mid : Engine) → IsLast x e r → Applied mem_pages mem_log old e r mid → (ran : Ran z course (Is_open old)) → LeftBehind mem_pages mem_log ran.history (growth_in x (growth ran.history)) (on ran.stands.past old.state) mid.pages mid.log
   left_behind Crashes e r old mid last a ran =
       let o : IsOpen mem_pages mem_log z ran.history old = ran.stands in
-      left_handed mem_pages mem_log z page_now log_now ran.history o.past old mid r (subst (λ y. Applied mem_pages mem_log old y r mid) last a) (tt, tt) o.long o.sound o.devices
+      left_handed mem_pages mem_log z page_now log_now ran.history o.past old mid o.long o.ledger r (subst (λ y. Applied mem_pages mem_log old y r mid) last a) (tt, tt) o.sound o.devices
   left_behind (Stops_in call) e r old mid last a ran =
       let o : IsOpen mem_pages mem_log z ran.history old = ran.stands in
-      subst (λ c. LeftBehind mem_pages mem_log (call_growth c (growth ran.history)) (on o.past old.state) mid.pages mid.log) last.0
-      (left_stopped mem_pages mem_log z page_now log_now ran.history o.past old mid e last.1 last.3 (subst (λ y. Applied mem_pages mem_log old e y mid) last.2 a) (tt, tt) o.long o.sound o.devices)
+      subst (λ c. LeftBehind mem_pages mem_log ran.history (call_growth c (growth ran.history)) (on o.past old.state) mid.pages mid.log) last.0
+      (left_stopped mem_pages mem_log z page_now log_now ran.history o.past old mid o.long o.ledger e last.1 last.3 (subst (λ y. Applied mem_pages mem_log old e y mid) last.2 a) (tt, tt) o.sound o.devices)
   left_behind _ e r old mid last a ran = absurd last
 
   -- of what its last call went through, a crash behind it leaves the end
   crashes_open : (x : Happening) (old : Engine) (pages : MemPages) (log : MemLog) (n : ℕ) → CrashesOpen mem_pages mem_log x old pages log n → Ran z course (Is_open old) → Ran z ((x, Crashed n) ∷ course) (Is_shut pages log)
   crashes_open x old pages log n c ran =
       let o : IsOpen mem_pages mem_log z ran.history old = ran.stands in
+      let there = stands_at z ran.history (on o.past old.state) ran.legal o.sizes o.ledger o.sound in
       let can : CanCrash z course x c.mid.pages c.mid.log = record {
         history = ran.history;
         tells = ran.tells;
         legal = ran.legal;
+        range = subst IsInRange there.sizes there.range;
         may = may_crash x c.event c.told old c.mid c.last c.applied ran;
-        leaves = leaves_open mem_pages mem_log (λ d. tt) (λ d. tt) z k.crash k.half ran.history (on o.past old.state) (stands_at z ran.history (on o.past old.state) ran.legal o.sizes o.ledger o.sound) (runs_there ran.history (on o.past old.state) o.ledger)
+        leaves = leaves_open mem_pages mem_log (λ d. tt) (λ d. tt) z k.crash k.half ran.history (on o.past old.state) there (runs_there ran.history (on o.past old.state) o.ledger)
             (growth_in x (growth ran.history)) c.mid.pages c.mid.log (left_behind x c.event c.told old c.mid c.last c.applied ran);
       } in
       crashed mem_pages mem_log (λ d. tt) (λ d. tt) z some_page some_log course x c.mid.pages pages c.mid.log log n can c.crashed

@@ -15,7 +15,7 @@ use Rattle.rq_core.specs.Happenings.{Tells}
 use Rattle.rq_core.specs.Worked.{AreJudged, course, first_entries, hello, history, taking}
 
 told : Tells course history
-told = (first_entries 17, (first_entries 16, (first_entries 15, (first_entries 15, (first_entries 15, (first_entries 14, (first_entries 13, (first_entries 12, (first_entries 11, (first_entries 10, (first_entries 10, (first_entries 10, (first_entries 9, (first_entries 8, (first_entries 7, (first_entries 6, (first_entries 5, (first_entries 4, (first_entries 3, (first_entries 2, (first_entries 1, (first_entries 0, refl, (refl, refl)), (Begun (txn 1 1), refl, tt, refl)), (Started (txn 1 1) 1 (Sending hello), (refl, refl), tt, refl)), (Stepped (txn 1 1) 1 2, refl, tt, refl)), (Stepped (txn 1 1) 1 3, refl, tt, refl)), (Did (txn 1 1) 1 (Send hello), (hello, refl), tt, refl)), (Committed (txn 1 1) 5, (refl, refl), tt, refl)), (Acknowledged (txn 1 1) 5 false, refl, tt, refl)), (Forced 5, refl, tt, refl)), (Acknowledged (txn 1 1) 5 true, (refl, refl), tt, refl)), (tt, refl)), (refl, (λ e. cc e), refl)), (Begun (txn 1 2), refl, tt, refl)), (Committed (txn 1 2) 6, (refl, refl), tt, refl)), ((refl, refl), None, tt, tt, refl)), (Refused_entry (Acknowledge (txn 1 1) 5) Failed, refl, tt, refl)), (refl, None, tt, tt, refl)), (tt, refl)), (refl, refl, refl)), (tt, None, tt, tt, refl)), (refl, refl)), (Acknowledged (txn 1 1) 5 false, refl, tt, refl))
+told = (first_entries 17, (first_entries 16, (first_entries 15, (first_entries 15, (first_entries 15, (first_entries 14, (first_entries 13, (first_entries 12, (first_entries 11, (first_entries 10, (first_entries 10, (first_entries 10, (first_entries 9, (first_entries 8, (first_entries 7, (first_entries 6, (first_entries 5, (first_entries 4, (first_entries 3, (first_entries 2, (first_entries 1, (first_entries 0, refl, (refl, refl)), (Begun (txn 1 1), refl, tt, refl)), (Started (txn 1 1) 1 (Sending hello), (refl, refl), tt, refl)), (Stepped (txn 1 1) 1 2, refl, tt, refl)), (Stepped (txn 1 1) 1 3, refl, tt, refl)), (Did (txn 1 1) 1 (Send hello), (hello, refl), tt, refl)), (Committed (txn 1 1) 5, (refl, refl), tt, refl)), (Acknowledged (txn 1 1) 5 false, refl, tt, refl)), (Forced 5, refl, tt, refl)), (Acknowledged (txn 1 1) 5 true, (refl, refl), tt, refl)), (tt, refl)), (refl, (λ e. cc e), refl)), (Begun (txn 1 2), refl, tt, refl)), (Committed (txn 1 2) 6, (refl, refl), tt, refl)), ((refl, refl), None, tt, refl)), (Refused_entry (Acknowledge (txn 1 1) 5) Failed, refl, tt, refl)), (refl, None, tt, refl)), (tt, refl)), (refl, refl, refl)), (tt, None, tt, refl)), (refl, refl)), (Acknowledged (txn 1 1) 5 false, refl, tt, refl))
 
 -- where the only message is another's, no free group holds one
 abbrev taken : List Entry
@@ -42,8 +42,8 @@ judged = record {
   refused_while_open = λ h t. cc (sym (ap (λ (k : List Entry). (ledger k).phase) t.1.2.1) ∙ t.2.1);
   acknowledged_of_no_commit = λ h t. t.2;
   answered_before_the_first = λ h t. t.2;
-  loses_what_was_left = λ h a. (let e : 3 ≤ 1 = a.0.forced in omega (arith, e));
-  keeps_a_commit_without_its_record = λ a. (let e : 1 ≡ 0 = a.0.exact in omega (arith, e));
+  loses_what_was_left = λ h a. (let e : 3 ≤ 1 = a.0.0.forced in omega (arith, e));
+  keeps_a_commit_without_its_record = λ a. (let e : 1 ≡ 0 = a.0.0.exact in omega (arith, e));
   opened_while_open = λ a. cc (a.0.shut);
   none_where_one_waits = λ a. cc (a.0.1 0 (omega arith) refl);
   none_where_it_is_taken = ((search rules, none_of), search rules);

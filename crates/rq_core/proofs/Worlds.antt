@@ -1,7 +1,7 @@
 -- Each kind of happening keeps what is so of a store between two of them.
 use Rattle.std.specs.Prelude.{◌==◌, if◌then◌else◌}
-use Rattle.std.proofs.Common.{◌≡◌, ℕ, ◌+◌, ◌*◌, ◌≤◌, List, [], ◌∷◌, ◌++◌, length, take, drop, refl, sym, ◌∙◌, ap, subst, Bool, true, false, Option, Some, None, arith, inl, inr, ◌⊎◌, ⊎_elim}
-use Rattle.std.proofs.lemmas.Bool.{cases_eq, true≢false}
+use Rattle.std.proofs.Common.{◌≡◌, ℕ, ◌+◌, ◌≤◌, List, [], ◌∷◌, ◌++◌, length, take, drop, refl, sym, ◌∙◌, ap, subst, true, false, Option, Some, None, arith, inl, inr, ◌⊎◌, ⊎_elim}
+use Rattle.std.proofs.lemmas.Bool.{cases_eq}
 use Rattle.std.proofs.lemmas.List.{take-append-drop, length-drop}
 use Rattle.rq_model.specs.declared.record.Record.{Record}
 use Rattle.rq_model.specs.Vocabulary.{In}
@@ -12,9 +12,11 @@ use Rattle.rq_model.specs.Commits.{committed_of}
 use Rattle.rq_model.specs.Ledger.{Ledger, ledger, after, kept_in}
 use Rattle.rq_model.specs.Ledger.Phase.{Shut}
 use Rattle.rq_model.specs.Legal.{Legal, IsLegal}
-use Rattle.rq_model.specs.Tests.{Size, any_busy, bad_tags, size_at}
+use Rattle.rq_model.specs.Tests.{any_busy, bad_tags, size_at, with_clients}
 use Rattle.rq_model.specs.Rules.{KeepsRules}
-use Rattle.rq_model.proofs.Replayed.{is_break, never_break}
+use Rattle.rq_model.specs.Growth.{Growth, IsGrownBy, IsOfMigration, growth}
+use Rattle.rq_model.proofs.Follows.{follows, none_told, shut_told}
+use Rattle.rq_model.proofs.Replayed.{never_break, size_stays}
 use Rattle.rq_model.specs.Promises.{CheckpointCrashGoesOn, CrashGoesOn, ShutCrashGoesOn, RestartGoesOn, EndsInCrash, crash_to, AcknowledgedStay, FifoThroughout}
 use Rattle.rq_disk.specs.Device.{Images, Leaves}
 use Rattle.rq_disk.specs.declared.device.LogDevice as log_device
@@ -31,7 +33,7 @@ use Rattle.rq_store.proofs.Opens.{busy_is}
 use Rattle.rq_page.specs.Formatted.{IsFormatted, IsHeaderOf}
 use Rattle.rq_engine.specs.Applied.{Applied}
 use Rattle.rq_engine.specs.Crash.{IsCut}
-use Rattle.rq_engine.specs.Migration.{IsCutGrown, MayGetTags}
+use Rattle.rq_engine.specs.Migration.{MayGetTags}
 use Rattle.rq_engine.proofs.Migrating.{may_get}
 use Rattle.rq_engine.specs.Devices.{EachPair}
 use Rattle.rq_engine.specs.Opened.{AreHonest, OpenStore}
@@ -56,12 +58,11 @@ use Rattle.rq_analysis.proofs.Recovering.{recovered_from}
 use Rattle.rq_restart.specs.Underway.{IsGoneOnWith, IsStore, IsSomeStore, IsLeftOrGoesOn}
 use Rattle.rq_restart.specs.Once.{OneLogEach, OneSizeEach}
 use Rattle.rq_restart.specs.declared.restart.Report.{Report}
-use Rattle.rq_core.specs.Happenings.{Growth, Happening, Course, IsGrownBy, LosesNone, Tells, AddsCall, called, grown, growth, growth_in}
-use Rattle.rq_core.specs.Happenings.Growth.{Stays}
+use Rattle.rq_core.specs.Happenings.{Happening, Course, Tells, AddsCall, called, grown, growth_in}
 use Rattle.rq_core.specs.Happenings.Answer.{Answered, Crashed}
-use Rattle.rq_core.specs.Headline.{AcknowledgedAreKept, EndsHistory, LeavesStores, LeftLast, IsHeadline, sizes_at, sizes_by}
+use Rattle.rq_core.specs.Headline.{AcknowledgedAreKept, EndsHistory, LeavesStores, LeftLast, IsHeadline, sizes_at}
 use Rattle.rq_core.specs.Happened.{IsCrashed, IsOpened}
-use Rattle.rq_core.specs.World.{World, IsCutBy, IsShut, IsOpen, LeftBehind, Ran, CanCrash}
+use Rattle.rq_core.specs.World.{World, IsCutBy, IsShut, IsOpen, LeftBehind, MayBeTold, Ran, CanCrash}
 use Rattle.rq_core.proofs.HalfMade.{devices_after}
 use Rattle.rq_core.specs.World.World.{Is_shut, Is_open}
 
@@ -88,13 +89,8 @@ caused e _ s h = tt
 -- the model's size of a store, wherever its history has led
 pub size_is : (z : Sizes) (h : List Entry) → size_of (sizes_at z h) ≡ size_at (size_of z) h
 size_is z [] = refl
-size_is z (Grew pages ∷ h) = ap (λ (y : Size). record y { clients = 15 * pages }) (size_is z h)
+size_is z (Grew pages ∷ h) = ap (with_clients pages) (size_is z h)
 size_is z (_ ∷ h) = size_is z h
-
--- a call leaves them
-sizes_stay : (z : Sizes) (e : Entry) → is_break e ≡ false → sizes_by e z ≡ z
-sizes_stay z (Grew pages) b = absurd (true≢false b)
-sizes_stay z _ b = refl
 
 -- ---- where a history ends
 
@@ -129,14 +125,21 @@ stands_at z h s legal sizes at sound = record {
 with_range : (n : ℕ) (z : Sizes) → n ≤ 1024 → IsInRange z → IsInRange (with_tags n z)
 with_range n z most r = record { directory_low = r.directory_low; directory_high = r.directory_high; cells_low = r.cells_low; cells_high = r.cells_high; tags_high = most }
 
-grown_stands : (z : Sizes) (h : List Entry) (s : State) (n : ℕ) → StandsAt z h s → ((ledger h).phase ≡ Shut → ⊥) → s.rows ≡ [] → MayGetTags n s → StandsAt z (Grew n ∷ h) (record s { sizes = with_tags n s.sizes })
-grown_stands z h s n k not_closed none may = record {
+-- and all its records forced
+abbrev pub grown_store : ℕ → State → State
+grown_store n s = record s { sizes = with_tags n s.sizes; forced = length s.records }
+
+grown_stands : (z : Sizes) (h : List Entry) (s : State) (n : ℕ) → StandsAt z h s → IsOfMigration (growth h) (ledger h) n → ((ledger h).phase ≡ Shut → ⊥) → s.rows ≡ [] → MayGetTags n s → StandsAt z (Grew n ∷ h) (grown_store n s)
+grown_stands z h s n k of not_closed none may = record {
   legal = (
-    record {
-      tags = subst (λ y. bad_tags y n ≡ false) (ap size_of k.sizes ∙ size_is z h) may;
-      none_open = sym k.open_ones ∙ ap (open_ones_of s.ends) none;
-      not_shut = not_closed;
-    },
+    (
+      record {
+        tags = subst (λ y. bad_tags y n ≡ false) (ap size_of k.sizes ∙ size_is z h) may;
+        none_open = sym k.open_ones ∙ ap (open_ones_of s.ends) none;
+        not_shut = not_closed;
+      },
+      of,
+    ),
     k.legal,
   );
   sizes = ap (with_tags n) k.sizes;
@@ -144,7 +147,7 @@ grown_stands z h s n k not_closed none may = record {
   committed = k.committed;
   records = k.records;
   incarnation = k.incarnation;
-  forced = k.forced;
+  forced = k.records;
   open_ones = k.open_ones;
   begun = k.begun;
   rules = k.rules;
@@ -161,27 +164,31 @@ module _ {P L : Type 0} (p : page_device.Ghosts P) (l : log_device.Ghosts L) (ho
       let o : IsOpen p l z ran.history old = ran.stands in
       let honest : AreHonest p l new = (honest_p new.pages, honest_l new.log) in
       let s = a.steps honest o.past o.long o.sound in
-      let same : sizes_at z (s.entry ∷ ran.history) ≡ sizes_at z ran.history = sizes_stay (sizes_at z ran.history) s.entry (never_break (call_of e) (gave r) s.entry s.says) in
+      let plain = never_break (call_of e) (gave r) s.entry s.says in
+      let same : sizes_at z (s.entry ∷ ran.history) ≡ sizes_at z ran.history = size_stays with_tags (sizes_at z ran.history) s.entry plain in
       let there : Legal (size_of (sizes_at z ran.history)) (ledger_of (on o.past old.state)) s.entry = subst (λ y. Legal (size_of y) (ledger_of (on o.past old.state)) s.entry) o.sizes s.legal in
       record {
         history = s.entry ∷ ran.history;
         tells = (ran.history, ran.tells, subst (λ c. AddsCall c (gave r) ran.history (s.entry ∷ ran.history)) (sym is) (s.entry, s.says, subst (λ l. IsCaused (any_busy l.open_ones) (call_of e) (gave r)) o.ledger (caused e r (on o.past old.state) (a.cause honest o.past o.long o.sound)), refl));
-        legal = (subst (λ b. Legal (size_at (size_of z) ran.history) b s.entry) o.ledger (subst (λ y. Legal y (ledger_of (on o.past old.state)) s.entry) (size_is z ran.history) there), ran.legal);
+        legal = (follows (size_of z) ran.history s.entry plain (subst (λ b. Legal (size_at (size_of z) ran.history) b s.entry) o.ledger (subst (λ y. Legal y (ledger_of (on o.past old.state)) s.entry) (size_is z ran.history) there)), ran.legal);
         stands = record {
           sizes = a.sizes ∙ o.sizes ∙ sym same;
           past = o.past;
           long = o.long ∙ ap (λ (u : List Record). length u) (sym a.unknown);
           ledger = s.after ∙ ap (after s.entry) o.ledger;
           sound = s.sound;
-          devices = devices_after p l z now_p now_l ran.history o.past old new s.entry e r s.says a honest o.long o.sound o.devices;
+          devices = devices_after p l z now_p now_l ran.history o.past old new o.long o.ledger s.entry e r s.says a honest o.sound o.devices;
         };
         counted = tt;
       }
 
   -- whatever a crash leaves of a store that stands where a history ends may end the history
+  abbrev Ends_at : List Entry → Images → List ℕ → Type 0
+  Ends_at h images bytes = (now : List Record) × IsStore (sizes_at z h) now images bytes × EndsInCrash (size_of z) h now
+
   module _ (h : List Entry) (s : State) (k : StandsAt z h s) where
     abbrev Ends : Images → List ℕ → Type 0
-    Ends images bytes = (now : List Record) × IsStore (sizes_at z h) now images bytes × EndsInCrash (size_of z) h now
+    Ends images bytes = Ends_at h images bytes
 
     ties : Ties (ledger h) s.records
     ties =
@@ -192,8 +199,8 @@ module _ {P L : Type 0} (p : page_device.Ghosts P) (l : log_device.Ghosts L) (ho
     range : IsInRange (sizes_at z h)
     range = subst IsInRange k.sizes k.range
 
-    cut_told : CrashGoesOn (size_of z) → (images : Images) (bytes : List ℕ) (c : IsCut s images bytes) → (e : Ends images bytes) × (e.0 ≡ drop c.lost s.records)
-    cut_told law images bytes c =
+    cut_told : CrashGoesOn (size_of z) → IsGrownBy (growth h) None → (images : Images) (bytes : List ℕ) → IsCut s images bytes → Ends images bytes
+    cut_told law told images bytes c =
         let kept = drop c.lost s.records in
         let whole : take c.lost s.records ++ kept ≡ s.records = take-append-drop c.lost s.records in
         let left : IsLeft (sizes_at z h) images kept = subst (λ y. IsLeft y images kept) k.sizes c.store in
@@ -202,69 +209,42 @@ module _ {P L : Type 0} (p : page_device.Ghosts P) (l : log_device.Ghosts L) (ho
         let f = k.forced in
         let n = length-drop c.lost s.records in
         let m = c.forced in (
-          (
-            kept,
-            record { range = range; are_spelled = c.told; is = c.spells; left = left },
-            law h (take c.lost s.records) kept k.legal (subst (Ties (ledger h)) (sym whole) ties) left.whole.rules (omega (arith, f, n, m)) (omega (arith, i, begun)),
-          ),
-          refl,
+          kept,
+          record { range = range; are_spelled = c.told; is = c.spells; left = left },
+          law h (take c.lost s.records) kept k.legal told (subst (Ties (ledger h)) (sym whole) ties) left.whole.rules (omega (arith, f, n, m)) (omega (arith, i, begun)),
         )
 
     -- the Base that a checkpoint puts in the place of all is left whole
-    base_told : CheckpointCrashGoesOn (size_of z) → s.rows ≡ [] → (images : Images) (bytes : List ℕ) → IsCut (checkpointed s) images bytes → (e : Ends images bytes) × (e.0 ≡ based s.incarnation s.records)
-    base_told law none images bytes c =
+    base_told : CheckpointCrashGoesOn (size_of z) → IsGrownBy (growth h) None → s.rows ≡ [] → (images : Images) (bytes : List ℕ) → IsCut (checkpointed s) images bytes → Ends images bytes
+    base_told law told none images bytes c =
         let all : List Record = based s.incarnation s.records in
         let within = c.forced in
         let lost : c.lost ≡ 0 = omega (arith, within) in
         let same : drop c.lost all ≡ all = ap (λ (n : ℕ). drop n all) lost in
         let left : IsLeft (sizes_at z h) images all = subst (IsLeft (sizes_at z h) images) same (subst (λ y. IsLeft y images (drop c.lost all)) k.sizes c.store) in
         let none_left : (ledger h).open_ones ≡ [] = sym k.open_ones ∙ ap (open_ones_of s.ends) none in
-        let ends : EndsInCrash (size_of z) h (based (incarnation_of s.records) s.records) = law h s.records k.legal ties k.rules none_left in (
-          (
-            all,
-            record { range = range; are_spelled = subst AreSpelled same c.told; is = subst (λ (rs : List Record). EndsWith rs bytes) same c.spells; left = left },
-            subst (λ (i : ℕ). EndsInCrash (size_of z) h (based i s.records)) k.begun ends,
-          ),
-          refl,
+        let ends : EndsInCrash (size_of z) h (based (incarnation_of s.records) s.records) = law h s.records k.legal told ties k.rules none_left in (
+          all,
+          record { range = range; are_spelled = subst AreSpelled same c.told; is = subst (λ (rs : List Record). EndsWith rs bytes) same c.spells; left = left },
+          subst (λ (i : ℕ). EndsInCrash (size_of z) h (based i s.records)) k.begun ends,
         )
-
-    -- where all records are forced none is lost
-    abbrev Ends_whole : Images → List ℕ → Type 0
-    Ends_whole images bytes = (e : Ends images bytes) × (length s.records ≤ length e.0)
-
-    either_ends : CrashGoesOn (size_of z) → CheckpointCrashGoesOn (size_of z) → s.rows ≡ [] → (images : Images) (bytes : List ℕ) → ((s.forced ≡ length s.records) × IsCut s images bytes) ⊎ IsCut (checkpointed s) images bytes → Ends_whole images bytes
-    either_ends law half none images bytes (inl c) =
-        let all = c.0 in
-        let within = c.1.forced in
-        let left = length-drop c.1.lost s.records in
-        let e = cut_told law images bytes c.1 in
-        let now = ap (λ (rs : List Record). length rs) e.1 in
-        (e.0, omega (arith, all, within, left, now))
-    either_ends law half none images bytes (inr c) =
-        let e = base_told half none images bytes c in
-        let now = ap (λ (rs : List Record). length rs) e.1 in
-        (e.0, omega (arith, now))
 
   -- by whether tag pages are left that it had not
   module _ (law : CrashGoesOn (size_of z)) (half : CheckpointCrashGoesOn (size_of z)) (h : List Entry) (s : State) (k : StandsAt z h s) (not_closed : (ledger h).phase ≡ Shut → ⊥) where
-    ends_grown : (n : ℕ) (images : Images) (bytes : List ℕ) (c : IsCutBy (Some n) s images bytes) → Ends_whole (Grew n ∷ h) (record s { sizes = with_tags n s.sizes }) (grown_stands z h s n k not_closed c.0 c.1) images bytes
-    ends_grown n images bytes c = either_ends (Grew n ∷ h) (record s { sizes = with_tags n s.sizes }) (grown_stands z h s n k not_closed c.0 c.1) law half c.0 images bytes c.2
+    ends_by : (tags : Option ℕ) → MayBeTold tags (growth h) (ledger h) → (images : Images) (bytes : List ℕ) → IsCutBy tags s images bytes → Ends_at (grown tags h) images bytes
+    ends_by None told images bytes (inl c) = cut_told h s k law told images bytes c
+    ends_by None told images bytes (inr c) = base_told h s k half told c.0 images bytes c.1
+    ends_by (Some n) told images bytes c =
+        let there = grown_stands z h s n k told not_closed c.0 c.1 in
+        let now : State = grown_store n s in
+        ⊎_elim (λ x. cut_told (Grew n ∷ h) now there law tt images bytes (subst (λ (f : ℕ). IsCut (record s { sizes = with_tags n s.sizes; forced = f }) images bytes) x.0 x.1))
+        (λ x. base_told (Grew n ∷ h) now there half tt c.0 images bytes x) c.2
 
-    ends_by : (tags : Option ℕ) (images : Images) (bytes : List ℕ) → IsCutBy tags s images bytes
-        → (e : (now : List Record) × IsStore (sizes_at z (grown tags h)) now images bytes × EndsInCrash (size_of z) (grown tags h) now) × LosesNone tags (ledger h) (length e.0)
-    ends_by None images bytes (inl c) = ((cut_told h s k law images bytes c).0, tt)
-    ends_by None images bytes (inr c) = ((base_told h s k half c.0 images bytes c.1).0, tt)
-    ends_by (Some n) images bytes c =
-        let count = k.records in
-        let e = ends_grown n images bytes c in
-        let more = e.1 in
-        (e.0, omega (arith, count, more))
-
-    pub leaves_open : (g : Growth) (pages : P) (log : L) → LeftBehind p l g s pages log → LeavesStores p l z g h pages log
+    pub leaves_open : (g : Growth) (pages : P) (log : L) → LeftBehind p l h g s pages log → LeavesStores p l z g h pages log
     leaves_open g pages log left images bytes a b =
         let c = left images bytes a b in
-        let e = ends_by c.0 images bytes c.2 in
-        record { tags = c.0; left = c.1; now = e.0.0; loses_none = e.1; store = e.0.1; ends = e.0.2 }
+        let e = ends_by c.0 c.2 images bytes c.3 in
+        record { tags = c.0; left = c.1; now = e.0; store = e.1; ends = e.2 }
 
   -- and so may whatever a crash leaves of one that is shut
   pub leaves_shut : (law : ShutCrashGoesOn (size_of z)) (h : List Entry) (pages : P) (log : L) → IsLegal (size_of z) h → IsShut p l z h pages log → LeavesStores p l z (growth h) h pages log
@@ -273,9 +253,8 @@ module _ {P L : Type 0} (p : page_device.Ghosts P) (l : log_device.Ghosts L) (ho
       let store : IsStore (sizes_at z h) x.0 images bytes = x.2 in
       record {
         tags = None;
-        left = subst (λ g. IsGrownBy g None) (sym s.settled) tt;
+        left = none_told (growth h) (shut_told (size_of z) h legal s.phase);
         now = x.0;
-        loses_none = tt;
         store = store;
         ends = law h s.older x.0 legal s.phase s.ties x.1 store.left.whole.order store.left.whole.rules;
       }
@@ -297,9 +276,9 @@ module _ {P L : Type 0} (p : page_device.Ghosts P) (l : log_device.Ghosts L) (ho
         subst (λ bs. IsStore (sizes_at z h) now images bs) (sym (c.log_only bytes b)) (subst (λ is. IsStore (sizes_at z h) now is seen) pages_are store) in
         record {
           history = crash_to now h ∷ h;
-          tells = (can.history, can.tells, (can.may, pick.tags, pick.left, subst (LosesNone pick.tags (ledger can.history)) (sym m) pick.loses_none, ap (λ (entry : Entry). entry ∷ h) e));
+          tells = (can.history, can.tells, (can.may, pick.tags, pick.left, ap (λ (entry : Entry). entry ∷ h) e));
           legal = ends.legal;
-          stands = record { range = store.range; phase = refl; settled = refl; older = now; ties = ends.ties; left = λ images bytes a b. (now, ([], refl, tt), only images bytes a b) };
+          stands = record { range = store.range; phase = refl; older = now; ties = ends.ties; left = λ images bytes a b. (now, ([], refl, tt), only images bytes a b) };
           counted = λ images bytes a b. (now, only images bytes a b, sym m);
         }
       where
@@ -399,7 +378,7 @@ module _ {P L : Type 0} (p : page_device.Ghosts P) (l : log_device.Ghosts L) (ho
               long = opened_earlier now new.state opened r.told whole.based;
               ledger = entry;
               sound = back.sound;
-              devices = inl (record { untried = o.untried; settled = s.settled; fit = over.fit whole.based (subst (λ y. AllFit (p.may_be pages) y now) (sym is) (all_fit h pages log s r)) });
+              devices = inl (record { untried = o.untried; settled = shut_told (size_of z) h legal s.phase; fit = over.fit whole.based (subst (λ y. AllFit (p.may_be pages) y now) (sym is) (all_fit h pages log s r)) });
             };
           }
 
@@ -409,7 +388,6 @@ module _ {P L : Type 0} (p : page_device.Ghosts P) (l : log_device.Ghosts L) (ho
           record {
             range = s.range;
             phase = s.phase;
-            settled = s.settled;
             older = s.older;
             ties = s.ties;
             left = λ images bytes a b.

@@ -1,12 +1,14 @@
 -- What may happen to a store, what is answered, and the history that this tells.
-use Rattle.std.specs.Prelude.{◌≡◌, ℕ, ◌≤◌, zero, suc, Bool, true, false, IsTrue, List, [], ◌∷◌, Option, Some, None, map, reverse, slice_get}
+use Rattle.std.specs.Prelude.{◌≡◌, ℕ, zero, suc, Bool, true, false, IsTrue, List, [], ◌∷◌, Option, Some, None, map, reverse, slice_get}
 use Rattle.rq_restart.specs.declared.restart.Report.{Report}
 use Rattle.rq_model.specs.declared.refusal.Refusal.{Refusal}
 use Rattle.rq_model.specs.declared.refusal.Refusal.TheVariants as why
 use Rattle.rq_model.specs.History.{Entry, Call}
 use Rattle.rq_model.specs.History.Call.{Acknowledge, Migrate}
-use Rattle.rq_model.specs.History.Entry.{Crash as Crash_entry, Grew, Migrated, Refused as Refused_entry, Restarted as Restarted_entry}
-use Rattle.rq_model.specs.Ledger.{Ledger, Phase, ledger, kept_in}
+use Rattle.rq_model.specs.History.Entry.{Crash as Crash_entry, Grew, Restarted as Restarted_entry}
+use Rattle.rq_model.specs.Growth.{Growth, IsGrownBy, growth}
+use Rattle.rq_model.specs.Growth.Growth.{May_grow}
+use Rattle.rq_model.specs.Ledger.{Phase, ledger, kept_in}
 use Rattle.rq_model.specs.Ledger.Phase.{Running as Runs, Shut}
 use Rattle.rq_model.specs.Replay.{Reply, Says}
 use Rattle.rq_model.specs.Causes.{IsCaused, writes_out}
@@ -104,29 +106,7 @@ MayCrashIt (Stops_in call) phase = (phase ≡ Runs) × (writes_out call ≡ true
 MayCrashIt Stops_restart phase = phase ≡ Shut
 MayCrashIt _ phase = ⊥
 
--- What a migration makes of the pages that a crash leaves: none was called since the last one, or it may have come through, or
--- it has.
-pub data Growth : Type 0 where
-  Stays : Growth
-  May_grow : (pages : ℕ) → Growth
-  Grows : (pages : ℕ) → Growth
-
--- one that a device refused may have come through
-abbrev pub refused_growth : Refusal → Call → Growth → Growth
-refused_growth why.DiskWrite (Migrate pages) g = May_grow pages
-refused_growth _ _ g = g
-
-abbrev pub growth_by : Entry → Growth → Growth
-growth_by (Migrated pages lsn) g = Grows pages
-growth_by (Refused_entry call refusal) g = refused_growth refusal call g
-growth_by (Crash_entry kept records) g = Stays
-growth_by _ g = g
-
-abbrev pub growth : List Entry → Growth
-growth [] = Stays
-growth (e ∷ h) = growth_by e (growth h)
-
--- so may one inside which the crash comes
+-- a migration inside which the crash comes may have come through
 abbrev pub call_growth : Call → Growth → Growth
 call_growth (Migrate pages) g = May_grow pages
 call_growth _ g = g
@@ -135,24 +115,10 @@ abbrev pub growth_in : Happening → Growth → Growth
 growth_in (Stops_in call) g = call_growth call g
 growth_in _ g = g
 
--- the tag pages that are left: none more than before, or those
-abbrev pub IsGrownBy : Growth → Option ℕ → Type 0
-IsGrownBy Stays None = Unit {0}
-IsGrownBy Stays (Some n) = ⊥
-IsGrownBy (May_grow pages) None = Unit {0}
-IsGrownBy (May_grow pages) (Some n) = n ≡ pages
-IsGrownBy (Grows pages) None = ⊥
-IsGrownBy (Grows pages) (Some n) = n ≡ pages
-
 -- the history that the crash ends then
 abbrev pub grown : Option ℕ → List Entry → List Entry
 grown None h = h
 grown (Some pages) h = Grew pages ∷ h
-
--- one that came through lost no record
-abbrev pub LosesNone : Option ℕ → Ledger → ℕ → Type 0
-LosesNone None l records = Unit {0}
-LosesNone (Some n) l records = l.records ≤ records
 
 -- by it a device's failure is told
 abbrev pub is_of_device : Refusal → Bool
@@ -170,7 +136,7 @@ AddsCall (Some call) reply older h = (e : Entry) × Says call reply e × IsCause
 abbrev pub Adds : Course → Happening → Answer → List Entry → List Entry → Type 0
 Adds course x (Answered reply) older h = AddsCall (called course x) reply older h
 Adds course x (Crashed records) older h = MayCrashIt x (ledger older).phase × (tags : Option ℕ)
-    × IsGrownBy (growth_in x (growth older)) tags × LosesNone tags (ledger older) records
+    × IsGrownBy (growth_in x (growth older)) tags
     × (h ≡ Crash_entry (kept_in records (ledger older).committed) records ∷ grown tags older)
 Adds course x (Restarted report) older h = IsTrue (restarts x)
     × (h ≡ Restarted_entry report.incarnation report.records ∷ older)

@@ -4,9 +4,10 @@ use Rattle.rq_model.specs.declared.record.Record.{Record}
 use Rattle.rq_model.specs.declared.txn.Txn.{Txn}
 use Rattle.rq_model.specs.Vocabulary.{In}
 use Rattle.rq_model.specs.History.{Entry, commits}
-use Rattle.rq_model.specs.History.Entry.{Acknowledged, Committed, Grew}
-use Rattle.rq_model.specs.Ledger.{ledger}
+use Rattle.rq_model.specs.History.Entry.{Acknowledged, Committed}
+use Rattle.rq_model.specs.Growth.{Growth, IsGrownBy, growth}
 use Rattle.rq_model.specs.Legal.{IsLegal}
+use Rattle.rq_model.specs.Tests.{grown_at}
 use Rattle.rq_model.specs.Promises.{FifoThroughout, EndsInCrash, crash_to}
 use Rattle.rq_disk.specs.Device.{Images}
 use Rattle.rq_disk.specs.declared.device.LogDevice as log_device
@@ -15,7 +16,7 @@ use Rattle.rq_page.specs.Sizes.{Sizes, with_tags}
 use Rattle.rq_store.specs.State.{size_of}
 use Rattle.rq_engine.specs.Devices.{EachPair}
 use Rattle.rq_restart.specs.Underway.{IsStore}
-use Rattle.rq_core.specs.Happenings.{Answer, Course, Growth, IsGrownBy, LosesNone, Tells, grown, growth}
+use Rattle.rq_core.specs.Happenings.{Answer, Course, Tells, grown}
 use Rattle.rq_core.specs.Happenings.Answer.{Crashed}
 
 -- each commit that was acknowledged by a receipt anywhere in the history is among its commits
@@ -24,13 +25,8 @@ AcknowledgedAreKept h = (newer older : List Entry) (t : Txn) (lsn : ℕ) → new
     → In (Committed t lsn) older → In t (commits h)
 
 -- the sizes of a store behind a history, which was formatted with these: a migration gave it tag pages
-abbrev pub sizes_by : Entry → Sizes → Sizes
-sizes_by (Grew pages) z = with_tags pages z
-sizes_by _ z = z
-
 abbrev pub sizes_at : Sizes → List Entry → Sizes
-sizes_at z [] = z
-sizes_at z (e ∷ h) = sizes_by e (sizes_at z h)
+sizes_at z h = grown_at with_tags z h
 
 module _ {P L : Type 0} (p : page_device.Ghosts P) (l : log_device.Ghosts L) (z : Sizes) where
   -- These are the pages and the log of a store, for some records that stood before its Base. The crash that leaves them may end the
@@ -39,7 +35,6 @@ module _ {P L : Type 0} (p : page_device.Ghosts P) (l : log_device.Ghosts L) (z 
     pub tags : Option ℕ
     pub left : IsGrownBy g tags
     pub now : List Record
-    pub loses_none : LosesNone tags (ledger h) (length now)
     pub store : IsStore (sizes_at z (grown tags h)) now images bytes
     pub ends : EndsInCrash (size_of z) (grown tags h) now
 

@@ -3,7 +3,9 @@ use Rattle.std.specs.Prelude.{◌≡◌, ◌⊎◌, false, true, ℕ, List, [], 
 use Rattle.rq_model.specs.declared.record.Record.{Record}
 use Rattle.rq_model.specs.History.{Entry}
 use Rattle.rq_model.specs.Incarnations.{Extends, Ties}
-use Rattle.rq_model.specs.Ledger.{ledger}
+use Rattle.rq_model.specs.Growth.{Growth, IsGrownBy, IsOfMigration, growth}
+use Rattle.rq_model.specs.Growth.Growth.{Stays}
+use Rattle.rq_model.specs.Ledger.{Ledger, ledger}
 use Rattle.rq_model.specs.Ledger.Phase.{Shut}
 use Rattle.rq_model.specs.Legal.{IsLegal}
 use Rattle.rq_disk.specs.Device.{Images}
@@ -20,8 +22,7 @@ use Rattle.rq_engine.specs.Earlier.{IsEarlier, on, over}
 use Rattle.rq_engine.specs.Opened.{OpenStore}
 use Rattle.rq_restart.specs.Underway.{IsStore}
 use Rattle.rq_core.specs.Headline.{LeavesStores, LeftLast, sizes_at}
-use Rattle.rq_core.specs.Happenings.{Happening, Course, Growth, IsGrownBy, Tells, EndsWithoutCrash, MayCrashIt, growth, growth_in}
-use Rattle.rq_core.specs.Happenings.Growth.{Stays}
+use Rattle.rq_core.specs.Happenings.{Happening, Course, Tells, EndsWithoutCrash, MayCrashIt, growth_in}
 
 -- a store is shut, with both devices as it was left, or open
 pub data World (P L : Type 0) : Type 0 where
@@ -39,18 +40,21 @@ IsCutBy None s images bytes = IsCut s images bytes ⊎ ((s.rows ≡ []) × IsCut
 IsCutBy (Some n) s images bytes = (s.rows ≡ []) × MayGetTags n s
     × (((s.forced ≡ length s.records) × IsCutGrown n s images bytes) ⊎ IsCutGrown n (checkpointed s) images bytes)
 
+-- A crash behind a history with this ledger may be told, without tag pages, or with those of a migration.
+abbrev pub MayBeTold : Option ℕ → Growth → Ledger → Type 0
+MayBeTold None g l = IsGrownBy g None
+MayBeTold (Some n) g l = IsOfMigration g l n
+
 module _ {P L : Type 0} (p : page_device.Ghosts P) (l : log_device.Ghosts L) where
-  abbrev pub LeftBehind : Growth → State → P → L → Type 0
-  LeftBehind g s pages log = EachPair p l pages log (λ images bytes. (tags : Option ℕ) × IsGrownBy g tags
-      × IsCutBy tags s images bytes)
+  abbrev pub LeftBehind : List Entry → Growth → State → P → L → Type 0
+  LeftBehind h g s pages log = EachPair p l pages log (λ images bytes. (tags : Option ℕ) × IsGrownBy g tags
+      × MayBeTold tags (growth h) (ledger h) × IsCutBy tags s images bytes)
 
 module _ {P L : Type 0} (p : page_device.Ghosts P) (l : log_device.Ghosts L) (z : Sizes) where
   -- whatever a crash leaves of a store that is shut is a store, over the log that the history tells
   pub record IsShut (h : List Entry) (pages : P) (log : L) : Type 0 where
     pub range : IsInRange (sizes_at z h)
     pub phase : (ledger h).phase ≡ Shut
-    -- no migration was called since the crash
-    pub settled : growth h ≡ Stays
     -- the whole log, with what stood before its Base
     pub older : List Record
     pub ties : Ties (ledger h) older
@@ -67,7 +71,7 @@ module _ {P L : Type 0} (p : page_device.Ghosts P) (l : log_device.Ghosts L) (z 
   pub record IsHalfMade (h : List Entry) (past : List Record) (engine : OpenStore P L) : Type 0 where
     pub failed : engine.state.failed ≡ true
     pub none_open : engine.state.rows ≡ []
-    pub leaves : LeftBehind p l (growth h) (on past engine.state) engine.pages engine.log
+    pub leaves : LeftBehind p l h (growth h) (on past engine.state) engine.pages engine.log
 
   -- an open store, with the records that stood before its Base, goes back to a legal log, and stands where the history ends
   pub record IsOpen (h : List Entry) (engine : OpenStore P L) : Type 0 where
@@ -101,5 +105,6 @@ module _ {P L : Type 0} (p : page_device.Ghosts P) (l : log_device.Ghosts L) (z 
     pub history : List Entry
     pub tells : Tells course history
     pub legal : IsLegal (size_of z) history
+    pub range : IsInRange (sizes_at z history)
     pub may : MayCrashIt x (ledger history).phase
     pub leaves : LeavesStores p l z (growth_in x (growth history)) history pages log

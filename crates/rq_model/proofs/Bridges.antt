@@ -1,5 +1,5 @@
 -- A crash and a restart go on with a legal history, and the ledger still has what the log tells.
-use Rattle.std.proofs.Common.{◌≡◌, ℕ, ◌+◌, ◌≤◌, List, [], ◌∷◌, ◌++◌, length, take, map, inl, inr, refl, sym, ◌∙◌, ap, subst, arith}
+use Rattle.std.proofs.Common.{◌≡◌, ℕ, ◌+◌, ◌≤◌, List, [], ◌∷◌, ◌++◌, length, take, map, inl, inr, refl, sym, ◌∙◌, ap, subst, arith, None}
 use Rattle.std.proofs.lemmas.List.{length-append}
 use Rattle.rq_model.specs.declared.record.Record.{Record}
 use Rattle.rq_model.specs.declared.record.Record.TheVariants.{Restart as Restart_record}
@@ -14,6 +14,8 @@ use Rattle.rq_model.specs.Rules.{KeepsRules}
 use Rattle.rq_model.specs.Incarnations.{Ties, Extends, incarnation_of, InOrder, opened_ledger}
 use Rattle.rq_model.specs.Promises.{EndsInCrash, EndsInRestart, crash_to}
 use Rattle.rq_model.specs.Bases.{based}
+use Rattle.rq_model.specs.Growth.{IsGrownBy, growth}
+use Rattle.rq_model.proofs.Follows.{none_told, shut_told}
 use Rattle.rq_model.proofs.Same.{Tied-ledger}
 use Rattle.rq_model.proofs.Shown.{group_are}
 use Rattle.rq_model.proofs.Told.{content_is}
@@ -27,9 +29,9 @@ up_to Running n m h = h
 up_to Stopped n m h = h
 up_to Shut n m h = tt
 
-pub crash_goes_on : (z : Size) (h : List Entry) (newer older : List Record) → IsLegal z h → Ties (ledger h) (newer ++ older) → KeepsRules older
+pub crash_goes_on : (z : Size) (h : List Entry) (newer older : List Record) → IsLegal z h → IsGrownBy (growth h) None → Ties (ledger h) (newer ++ older) → KeepsRules older
     → (ledger h).forced ≤ length older → (ledger h).incarnation ≤ incarnation_of older → EndsInCrash z h older
-crash_goes_on z h newer older a t rules f i =
+crash_goes_on z h newer older a told t rules f i =
     let l = ledger h in
     let w = placed z h a in
     let c : take (kept_in (length older) l.committed) l.committed ≡ committed_of older = subst (λ x. take (kept_in (length older) x) x ≡ committed_of older) (sym t.committed) (cut_commits newer older) in
@@ -37,7 +39,7 @@ crash_goes_on z h newer older a t rules f i =
     let less = kept_less l.forced (length older) l.committed f in
     let n = length-append newer older in
     let r = t.records in
-    let legal : IsLegal z (crash_to older h ∷ h) = (record { durable = omega (arith, d, less); forced = f; exact = refl; up_to = inl (up_to l.phase (length older) l.records (omega (arith, n, r))) }, a) in
+    let legal : IsLegal z (crash_to older h ∷ h) = ((record { durable = omega (arith, d, less); forced = f; exact = refl; up_to = inl (up_to l.phase (length older) l.records (omega (arith, n, r))) }, told), a) in
     record {
       legal = legal;
       ties = record { committed = c; records = refl; incarnation = i };
@@ -45,9 +47,9 @@ crash_goes_on z h newer older a t rules f i =
       content = λ s. content_is s older rules ∙ ap (λ x. group_in x s) (sym c) ∙ sym (group_are z (crash_to older h ∷ h) s legal);
     }
 
-pub checkpoint_crash_goes_on : (z : Size) (h : List Entry) (log : List Record) → IsLegal z h → Ties (ledger h) log → KeepsRules log → (ledger h).open_ones ≡ []
+pub checkpoint_crash_goes_on : (z : Size) (h : List Entry) (log : List Record) → IsLegal z h → IsGrownBy (growth h) None → Ties (ledger h) log → KeepsRules log → (ledger h).open_ones ≡ []
     → EndsInCrash z h (based (incarnation_of log) log)
-checkpoint_crash_goes_on z h log a t rules none =
+checkpoint_crash_goes_on z h log a told t rules none =
     let l = ledger h in
     let now : List Record = based (incarnation_of log) log in
     let n : length now ≡ length log + 1 = omega arith in
@@ -59,7 +61,7 @@ checkpoint_crash_goes_on z h log a t rules none =
     let d = w.durable in
     let less = kept_less l.forced (length now) l.committed (omega (arith, n, r, f)) in
     let legal : IsLegal z (crash_to now h ∷ h) =
-    (record { durable = omega (arith, d, less); forced = omega (arith, n, r, f); exact = refl; up_to = inr (none, omega (arith, n, r)) }, a) in
+    ((record { durable = omega (arith, d, less); forced = omega (arith, n, r, f); exact = refl; up_to = inr (none, omega (arith, n, r)) }, told), a) in
     record {
       legal = legal;
       ties = record { committed = c; records = refl; incarnation = t.incarnation };
@@ -85,7 +87,7 @@ shut_crash_goes_on z h older now a p t g o rules =
     let d = w.durable in
     let less = kept_less l.forced (length now) l.committed (omega (arith, n, r, f)) in
     let legal : IsLegal z (crash_to now h ∷ h) =
-    (record { durable = omega (arith, d, less); forced = omega (arith, n, r, f); exact = refl; up_to = inl (shut_to l.phase (length now) l.records p) }, a) in
+    ((record { durable = omega (arith, d, less); forced = omega (arith, n, r, f); exact = refl; up_to = inl (shut_to l.phase (length now) l.records p) }, none_told (growth h) (shut_told z h a p)), a) in
     record {
       legal = legal;
       ties = record { committed = c; records = refl; incarnation = (let i = t.incarnation in omega (arith, i, j)) };

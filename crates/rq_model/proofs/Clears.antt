@@ -19,6 +19,7 @@ use Rattle.rq_model.proofs.Each.{start_at, did_at, undid_at, step_at, GoodAt, Go
 use Rattle.rq_model.proofs.Same.{other_same, TiedAt, Tied-ledger, In-append, In-take}
 use Rattle.rq_model.proofs.Ends.{any_ends_more, ended_none, fewer}
 use Rattle.rq_model.proofs.Shown.{not_ended}
+use Rattle.rq_model.proofs.Follows.{legal_there}
 
 abbrev pub alive : List Done → List Open → List Txn
 alive c os = map (λ (d : Done). d.txn) c ++ map (λ (o : Open). o.txn) os
@@ -366,7 +367,7 @@ Clear-ledger z [] a = record {
   send_open = λ q m j. absurd j;
   after = λ s. tt;
 }
-Clear-ledger z (e ∷ h) a = Clear-after (size_at z h) h (ledger h) e a.0 (Good-ledger z h a.1) (Tied-ledger z h a.1) (Clear-ledger z h a.1)
+Clear-ledger z (e ∷ h) a = Clear-after (size_at z h) h (ledger h) e (legal_there z h e a.0) (Good-ledger z h a.1) (Tied-ledger z h a.1) (Clear-ledger z h a.1)
 
 pub none_after_end : (z : Size) (h : List Entry) (s : ℕ) → IsLegal z h → NoneAfterEnd (commits h) s h
 none_after_end z h s a =

@@ -18,6 +18,7 @@ use Rattle.rq_model.specs.Legal.{OnFound, At, CanStart, Legal, IsLegal, IsDoneBy
 use Rattle.rq_model.specs.Tests.{free_to_receive, free_of, size_at, Size, Passes}
 use Rattle.rq_model.proofs.Lists.{prefix_nil, prefix_shorter, prefix_next, same_is}
 use Rattle.rq_model.proofs.Keeps.{Good, IsCurrent, Changes, Good-change, Good-commit, Good-without, Good-crash, Good-none, found_in}
+use Rattle.rq_model.proofs.Follows.{legal_there}
 
 abbrev pub GoodAt : Ledger → Type 0
 GoodAt l = Good l.committed l.open_ones l.incarnation l.begins
@@ -246,4 +247,4 @@ Good-after z l (Shown groups) a g = g
 
 pub Good-ledger : (z : Size) (h : List Entry) → IsLegal z h → GoodAt (ledger h)
 Good-ledger z [] a = Good-none 0 0
-Good-ledger z (e ∷ h) a = Good-after (size_at z h) (ledger h) e a.0 (Good-ledger z h a.1)
+Good-ledger z (e ∷ h) a = Good-after (size_at z h) (ledger h) e (legal_there z h e a.0) (Good-ledger z h a.1)

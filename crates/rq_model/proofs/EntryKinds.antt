@@ -26,6 +26,7 @@ pub data Kind : Entry → Type 0 where
   Forces : (lsn : ℕ) → Kind (Forced lsn)
   Checkpoints : (lsn : ℕ) → Kind (Checkpointed lsn)
   Migrates : (pages lsn : ℕ) → Kind (Migrated pages lsn)
+  Grows : (pages : ℕ) → Kind (Grew pages)
   Crashes : (kept records : ℕ) → Kind (Crash kept records)
   Restarts : (i records : ℕ) → Kind (Restarted i records)
 
@@ -59,6 +60,6 @@ kind (Committed t lsn) = Commits t lsn
 kind (Forced lsn) = Forces lsn
 kind (Checkpointed lsn) = Checkpoints lsn
 kind (Migrated pages lsn) = Migrates pages lsn
-kind (Grew pages) = Plain (λ l. record { committed = refl; incarnation = refl; forced = refl; durable = refl; records = omega arith; running = λ y. cc y }) refl
+kind (Grew pages) = Grows pages
 kind (Crash kept records) = Crashes kept records
 kind (Restarted i records) = Restarts i records

@@ -38,13 +38,13 @@ worked = record {
   checkpoint_for_nothing = λ a. (let e = a.0 in cc e);
   checkpoint_of_open = λ a. (let e = a.0.0.1.0 in cc e);
   checkpoint_elsewhere = λ a. (let e = a.0.1 in omega (arith, e));
-  checkpoint_lost = λ a. (let e = a.0.forced in omega (arith, e));
-  checkpoint_stopped_of_open = λ a. elim a.0.up_to [ inl e ↦ omega (arith, e) | inr e ↦ (let none = e.0 in cc none) ];
-  keeps_lost_commit = λ a. (let e = a.0.exact in cc e);
-  loses_kept_commit = λ a. (let e = a.0.exact in cc e);
-  loses_forced_commit = λ a. (let e = a.0.forced in omega (arith, e));
-  leaves_more_than_there_was = λ a. elim a.0.up_to [ inl e ↦ omega (arith, e) | inr e ↦ (let one = e.1 in omega (arith, one)) ];
-  takes_what_was_kept = λ a. (let e = a.0.forced in omega (arith, e));
+  checkpoint_lost = λ a. (let e = a.0.0.forced in omega (arith, e));
+  checkpoint_stopped_of_open = λ a. elim a.0.0.up_to [ inl e ↦ omega (arith, e) | inr e ↦ (let none = e.0 in cc none) ];
+  keeps_lost_commit = λ a. (let e = a.0.0.exact in cc e);
+  loses_kept_commit = λ a. (let e = a.0.0.exact in cc e);
+  loses_forced_commit = λ a. (let e = a.0.0.forced in omega (arith, e));
+  leaves_more_than_there_was = λ a. elim a.0.0.up_to [ inl e ↦ omega (arith, e) | inr e ↦ (let one = e.1 in omega (arith, one)) ];
+  takes_what_was_kept = λ a. (let e = a.0.0.forced in omega (arith, e));
   opened_twice = λ a. (let e = a.0.shut in cc e);
   opened_without_crash = λ a. (let e = a.0.shut in cc e);
   opened_in_the_same = λ a. (let e = a.0.later in omega (arith, e));
@@ -87,7 +87,7 @@ worked = record {
   sent_behind_close = λ a. (let e = a.0.0.1.1.1.1.1.1.1.0 in cc e);
   replayed = (ledger (Begun (txn 1 1) ∷ opened), Committed (txn 1 1) 2, (ledger opened, Begun (txn 1 1), refl, refl, search rules, refl), (refl, refl), search rules, refl);
   replayed_wrongly = λ r. (let e = ap (λ (t : Txn). t.count) r.3.0 in omega (arith, e));
-  crash_left = crash_goes_on small opened [] first_log (search rules) (record { committed = refl; records = refl; incarnation = omega arith }) (tt, (λ t e. cc e), tt) (omega arith) (omega arith);
-  crash_left_nothing = λ e. (let f = e.legal.0.forced in omega (arith, f));
+  crash_left = crash_goes_on small opened [] first_log (search rules) tt (record { committed = refl; records = refl; incarnation = omega arith }) (tt, (λ t e. cc e), tt) (omega arith) (omega arith);
+  crash_left_nothing = λ e. (let f = e.legal.0.0.forced in omega (arith, f));
   restart_left = restart_goes_on small (crash_to first_log opened ∷ opened) first_log first_log (search rules) refl (record { committed = refl; records = refl; incarnation = omega arith }) ([], refl, tt) (refl, tt);
 }

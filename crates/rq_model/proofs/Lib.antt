@@ -1,5 +1,6 @@
 pub mod Lists
 pub mod Keeps
+pub mod Follows
 pub mod Each
 pub mod Same
 pub mod Ends

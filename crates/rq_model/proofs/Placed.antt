@@ -7,7 +7,7 @@ use Rattle.std.proofs.lemmas.Bool.Decides.{nat_tests}
 use Rattle.rq_model.specs.declared.txn.Txn.{Txn}
 use Rattle.rq_model.specs.Vocabulary.{In, is_some}
 use Rattle.rq_model.specs.History.{Entry, commits}
-use Rattle.rq_model.specs.History.Entry.{Acknowledged, Committed, Forced, Checkpointed, Migrated, Crash, Restarted}
+use Rattle.rq_model.specs.History.Entry.{Acknowledged, Committed, Forced, Checkpointed, Migrated, Grew, Crash, Restarted}
 use Rattle.rq_model.specs.Ledger.{Done, Ledger, runs, kept_in, ledger, after, found, ops_of, Rising}
 use Rattle.rq_model.specs.Legal.{Legal, IsLegal}
 use Rattle.rq_model.specs.Tests.{Size, size_at}
@@ -17,8 +17,9 @@ use Rattle.rq_model.proofs.Keeps.{found_in}
 use Rattle.rq_model.proofs.Each.{Good-ledger, some_is}
 use Rattle.rq_model.proofs.Cuts.{kept_beyond, among}
 use Rattle.rq_model.proofs.EntryKinds.{Kind, Same, kind, is_commit}
-use Rattle.rq_model.proofs.EntryKinds.Kind.{Plain, Commits, Forces, Checkpoints, Migrates, Crashes, Restarts}
+use Rattle.rq_model.proofs.EntryKinds.Kind.{Plain, Commits, Forces, Checkpoints, Migrates, Grows, Crashes, Restarts}
 use Rattle.rq_model.proofs.Lists.{In-left, In-last, In-to}
+use Rattle.rq_model.proofs.Follows.{legal_there}
 
 -- the beginnings of a legal history are legal
 pub tail_legal : (z : Size) (newer h : List Entry) → IsLegal z (newer ++ h) → IsLegal z h
@@ -63,6 +64,9 @@ placed_after z l e (Checkpoints n) a w =
 placed_after z l e (Migrates pages n) a w =
     let all = all_kept 0 l.records (l.records + 1) l.committed w.rising (omega arith) in
     record { rising = rising_further 0 l.records (l.records + 1) l.committed (omega arith) w.rising; forced = omega arith; durable = omega (arith, all); exact = λ r. cc r }
+placed_after z l e (Grows pages) a w =
+    let all = all_kept 0 l.records l.records l.committed w.rising (omega arith) in
+    record { rising = w.rising; forced = omega arith; durable = omega (arith, all); exact = λ r. cc r }
 placed_after z l e (Crashes k n) a w =
     let e : k ≡ kept_in n l.committed = a.exact in
     let c : kept_in n (take k l.committed) ≡ k = subst (λ j. kept_in n (take j l.committed) ≡ j) (sym e) (kept_cut l.records n l.committed w.rising) in
@@ -80,7 +84,7 @@ placed_after z l e (Restarts i n) a w =
 
 pub placed : (z : Size) (h : List Entry) → IsLegal z h → Placed (ledger h)
 placed z [] a = record { rising = omega arith; forced = omega arith; durable = omega arith; exact = λ r. omega arith }
-placed z (e ∷ h) a = placed_after (size_at z h) (ledger h) e (kind e) a.0 (placed z h a.1)
+placed z (e ∷ h) a = placed_after (size_at z h) (ledger h) e (kind e) (legal_there z h e a.0) (placed z h a.1)
 
 -- the commit stands in the list
 pub record StandsIn (t : Txn) (lsn : ℕ) (c : List Done) : Type 0 where
@@ -137,6 +141,10 @@ known_after z h e (Migrates pages m) a w = record {
   old = λ t n j. w.old t n (older (Migrated pages m) h t n refl j);
   stands = λ r. cc r;
 }
+known_after z h e (Grows pages) a w = record {
+  old = λ t n j. w.old t n (older (Grew pages) h t n refl j);
+  stands = λ r. cc r;
+}
 known_after z h e (Crashes k m) a w = record {
   old = λ t n j. w.old t n (older (Crash k m) h t n refl j);
   stands = λ r. cc r;
@@ -166,12 +174,13 @@ firm_after z l e d (Commits u n) a w g =
 firm_after z l e d (Forces n) a w g = subst (In d) (sym (all_of l.committed)) (In-take l.durable l.committed d g)
 firm_after z l e d (Checkpoints n) a w g = subst (In d) (sym (all_of l.committed)) (In-take l.durable l.committed d g)
 firm_after z l e d (Migrates pages n) a w g = subst (In d) (sym (all_of l.committed)) (In-take l.durable l.committed d g)
+firm_after z l e d (Grows pages) a w g = subst (In d) (sym (all_of l.committed)) (In-take l.durable l.committed d g)
 firm_after z l e d (Crashes k n) a w g = subst (In d) (sym (take-take l.durable k l.committed a.durable)) g
 firm_after z l e d (Restarts i n) a w g = subst (In d) (sym (all_of l.committed)) (In-take l.durable l.committed d g)
 
 firm_on : (z : Size) (newer h : List Entry) (d : Done) → IsLegal z (newer ++ h) → Firm d (ledger h) → Firm d (ledger (newer ++ h))
 firm_on z [] h d a g = g
-firm_on z (e ∷ newer) h d a g = firm_after (size_at z (newer ++ h)) (ledger (newer ++ h)) e d (kind e) a.0 (placed z (newer ++ h) a.1) (firm_on z newer h d a.1 g)
+firm_on z (e ∷ newer) h d a g = firm_after (size_at z (newer ++ h)) (ledger (newer ++ h)) e d (kind e) (legal_there z (newer ++ h) e a.0) (placed z (newer ++ h) a.1) (firm_on z newer h d a.1 g)
 
 -- a commit that was acknowledged is firm
 firm_acknowledged : (z : Size) (h : List Entry) (t : Txn) (n : ℕ) → IsLegal z h → Legal (size_at z h) (ledger h) (Acknowledged t n true) → In (Committed t n) h → (d : Done) × (d.txn ≡ t) × Firm d (ledger h)

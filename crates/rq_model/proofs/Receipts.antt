@@ -12,6 +12,7 @@ use Rattle.rq_model.specs.Legal.{Legal, IsLegal}
 use Rattle.rq_model.specs.Promises.{is_force, is_restart, any_entry, ReceiptsAreExact}
 use Rattle.rq_model.specs.Tests.{Size, size_at}
 use Rattle.rq_model.proofs.Placed.{placed, committer}
+use Rattle.rq_model.proofs.Follows.{legal_there}
 
 -- what is so of a commit's number behind it: until a restart it is of the running incarnation, and its record is forced
 -- exactly where a force has answered
@@ -111,7 +112,7 @@ since z t lsn [] older a =
       kept = λ _ _ b. absurd (false≢true b);
       pending = λ _ _ _. omega (arith, n, f);
     }
-since z t lsn (e ∷ newer) older a = since_after (size_at z (newer ++ (Committed t lsn ∷ older))) t lsn newer (ledger (newer ++ (Committed t lsn ∷ older))) e a.0 (since z t lsn newer older a.1)
+since z t lsn (e ∷ newer) older a = since_after (size_at z (newer ++ (Committed t lsn ∷ older))) t lsn newer (ledger (newer ++ (Committed t lsn ∷ older))) e (legal_there z (newer ++ (Committed t lsn ∷ older)) e a.0) (since z t lsn newer older a.1)
 
 -- what is asked of a number, by what is so of it
 given_is : (t : Txn) (lsn : ℕ) (opened was_forced : Bool) (incarnation records forced : ℕ) → Since t lsn opened was_forced true incarnation records forced → (nat_eq t.incarnation incarnation && not (nat_lt forced lsn)) ≡ (was_forced && not opened)

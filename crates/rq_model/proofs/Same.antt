@@ -16,6 +16,7 @@ use Rattle.rq_model.specs.Tests.{Size, Passes, is_aborting, size_at}
 use Rattle.rq_model.proofs.Lists.{same_is, same_self}
 use Rattle.rq_model.proofs.Keeps.{IsOld, current_old, found_in, changed, gone}
 use Rattle.rq_model.proofs.Each.{start_at, did_at, undid_at, step_at, GoodAt, Good-ledger, known}
+use Rattle.rq_model.proofs.Follows.{legal_there}
 
 pub record Tied (h : List Entry) (c : List Done) (os : List Open) (i b : ℕ) : Type 0 where
   pub names : map (λ (d : Done). d.txn) c ≡ commits h
@@ -208,7 +209,7 @@ Tied-empty = record {
 
 pub Tied-ledger : (z : Size) (h : List Entry) → IsLegal z h → TiedAt h (ledger h)
 Tied-ledger z [] a = Tied-empty
-Tied-ledger z (e ∷ h) a = Tied-after (size_at z h) h (ledger h) e a.0 (Good-ledger z h a.1) (Tied-ledger z h a.1)
+Tied-ledger z (e ∷ h) a = Tied-after (size_at z h) h (ledger h) e (legal_there z h e a.0) (Good-ledger z h a.1) (Tied-ledger z h a.1)
 
 -- going through the names is going through the transactions
 through : {Y : Type 0} (F : Op → Option Y) (h : List Entry) (c : List Done) → ((d : Done) → In d c → ops_by h d.txn ≡ d.ops) → flat_map (λ t. filter_map F (ops_by h t)) (map (λ (d : Done). d.txn) c) ≡ flat_map (λ (d : Done). filter_map F d.ops) c

@@ -6,7 +6,7 @@ use Rattle.rq_model.specs.declared.txn.Txn.{Txn}
 use Rattle.rq_model.specs.declared.refusal.Refusal.{Refusal}
 use Rattle.rq_model.specs.declared.refusal.Refusal.TheVariants.{DiskWrite}
 use Rattle.rq_model.specs.Vocabulary.{Op, In, same_txn, taken_from, sent_for, last_or, ends, has_txn}
-use Rattle.rq_model.specs.History.Entry.{Committed, Forced, Checkpointed, Migrated, Told_client, Refused, Crash, Restarted}
+use Rattle.rq_model.specs.History.Entry.{Committed, Forced, Checkpointed, Migrated, Grew, Told_client, Refused, Crash, Restarted}
 use Rattle.rq_model.specs.Legal.{Legal, IsLegal}
 use Rattle.rq_model.specs.Tests.{Size, size_at}
 use Rattle.rq_model.proofs.Lists.{same_is, In-to, In-map}
@@ -18,6 +18,7 @@ use Rattle.rq_model.specs.Groups.{group, with_ops, Survives}
 use Rattle.rq_model.proofs.Keeps.{taken_more, sent_more}
 use Rattle.rq_model.proofs.Ends.{in_has, any_ends_more, ended_none}
 use Rattle.rq_model.proofs.Commits.{group_is, tag_more}
+use Rattle.rq_model.proofs.Follows.{legal_there}
 
 closes_has : (c : List Txn) (s : ℕ) (u : Txn) (w : Option Fin) (ops : List Op) → In u c → any_ends s (did_by u w ops) ≡ true → (closes_by c s w ≡ true) ⊎ (any_ends s ops ≡ true)
 closes_has c s u None ops j e = inr e
@@ -112,19 +113,20 @@ bound_one z l (Committed t n) c d a e w = (omega (arith, w, length_push c t), om
 bound_one z l (Forced n) c d a e w = (omega arith, w)
 bound_one z l (Checkpointed n) c d a e w = (omega arith, w)
 bound_one z l (Migrated pages n) c d a e w = (omega arith, w)
+bound_one z l (Grew pages) c d a e w = (omega arith, w)
 bound_one z l (Crash k r) c d a e w = (let x : l.durable ≤ k = a.durable in omega (arith, x, e, w, length-take k c), omega arith)
 bound_one z l (Restarted i r) c d a e w = (omega arith, w)
 bound_one z l _ c d a e w = (w, omega arith)
 
 durable_within : (z : Size) (h : List Entry) → IsLegal z h → durable h ≤ length (commits h)
 durable_within z [] a = omega arith
-durable_within z (e ∷ h) a = (bound_one (size_at z h) (ledger h) e (commits h) (durable h) a.0 (durable_is z h a.1) (durable_within z h a.1)).0
+durable_within z (e ∷ h) a = (bound_one (size_at z h) (ledger h) e (commits h) (durable h) (legal_there z h e a.0) (durable_is z h a.1) (durable_within z h a.1)).0
 
 durable_grows : (z : Size) (newer h : List Entry) → IsLegal z (newer ++ h) → durable h ≤ durable (newer ++ h)
 durable_grows z [] h a = omega arith
 durable_grows z (e ∷ newer) h a =
     let x = durable_grows z newer h a.1 in
-    let y = (bound_one (size_at z (newer ++ h)) (ledger (newer ++ h)) e (commits (newer ++ h)) (durable (newer ++ h)) a.0 (durable_is z (newer ++ h) a.1) (durable_within z (newer ++ h) a.1)).1 in
+    let y = (bound_one (size_at z (newer ++ h)) (ledger (newer ++ h)) e (commits (newer ++ h)) (durable (newer ++ h)) (legal_there z (newer ++ h) e a.0) (durable_is z (newer ++ h) a.1) (durable_within z (newer ++ h) a.1)).1 in
     omega arith
 
 -- the commits that a force has followed stay, whatever comes
@@ -133,4 +135,4 @@ survives z [] h a = refl
 survives z (e ∷ newer) h a =
     let d = durable_grows z newer h a.1 in
     let w = durable_within z (newer ++ h) a.1 in
-    kept_one (size_at z (newer ++ h)) (ledger (newer ++ h)) e (commits (newer ++ h)) (durable h) a.0 (let q = durable_is z (newer ++ h) a.1 in omega arith) (omega arith) ∙ survives z newer h a.1
+    kept_one (size_at z (newer ++ h)) (ledger (newer ++ h)) e (commits (newer ++ h)) (durable h) (legal_there z (newer ++ h) e a.0) (let q = durable_is z (newer ++ h) a.1 in omega arith) (omega arith) ∙ survives z newer h a.1

@@ -93,6 +93,7 @@ abbrev pub durable_by : Entry → ℕ → ℕ → ℕ
 durable_by (Forced lsn) committed n = committed
 durable_by (Checkpointed lsn) committed n = committed
 durable_by (Migrated pages lsn) committed n = committed
+durable_by (Grew pages) committed n = committed
 durable_by (Restarted i records) committed n = committed
 durable_by _ committed n = n
 

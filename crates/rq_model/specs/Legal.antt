@@ -11,6 +11,7 @@ use Rattle.rq_model.specs.History.Job.{Sending, Taking, Ending, Marking, Undoing
 use Rattle.rq_model.specs.History.Entry.{Begun, Started, None_free, None_from, Stepped, Ready, Did, Undid, Committed, Acknowledged, Aborting, None_left, Aborted, Handed_over, Forced, Checkpointed, Migrated, Grew, Wrote, Told, Told_client, Shown, Refused, Crash, Restarted}
 use Rattle.rq_model.specs.Ledger.{Open, Ledger, Phase, runs, kept_in, ledger, group_in, sent_in, marks_in, rest_in, found, tag_of, own_takes}
 use Rattle.rq_model.specs.Ledger.Phase.{Running, Stopped, Shut as Is_shut}
+use Rattle.rq_model.specs.Growth.{IsGrownBy, IsOfMigration, growth}
 use Rattle.rq_model.specs.Tests.{Size, bad_tags, below, free_to_receive, holds_for, first_of, size_at, tests, Passes, starts, writes_page}
 
 -- Where each refusal may come: memory's and the disk's own where the store runs, latches and frames where an operation
@@ -118,7 +119,14 @@ Legal z l (Grew pages) = MayGrow z l pages
 Legal z l (Crash kept records) = MayCrash l kept records
 Legal z l (Restarted i records) = MayRestart l i records
 
--- Every entry may come where it stands, at a store of the size that it has there. The newest comes first.
+-- The entry may come behind a history, at a store of the size that it has there. Tag pages that a crash leaves are of a migration, and
+-- those of one that was answered are left.
+abbrev pub MayFollow : Size → List Entry → Entry → Type 0
+MayFollow z h (Grew pages) = MayGrow (size_at z h) (ledger h) pages × IsOfMigration (growth h) (ledger h) pages
+MayFollow z h (Crash kept records) = MayCrash (ledger h) kept records × IsGrownBy (growth h) None
+MayFollow z h e = Legal (size_at z h) (ledger h) e
+
+-- Every entry may come where it stands. The newest comes first.
 abbrev pub IsLegal : Size → List Entry → Type 0
 IsLegal z [] = Unit {0}
-IsLegal z (e ∷ h) = Legal (size_at z h) (ledger h) e × IsLegal z h
+IsLegal z (e ∷ h) = MayFollow z h e × IsLegal z h

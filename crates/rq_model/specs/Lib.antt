@@ -2,6 +2,7 @@ pub mod Numbers
 pub mod Vocabulary
 pub mod History
 pub mod Ledger
+pub mod Growth
 pub mod Legal
 pub mod Deeds
 pub mod Content

@@ -1,5 +1,5 @@
 -- What holds at every place of every legal history, and how a history goes on.
-use Rattle.std.specs.Prelude.{◌≡◌, ℕ, ◌+◌, ◌≤◌, List, [], ◌∷◌, ◌++◌, length, Bool, true, false, ◌&&◌, ◌||◌, not, map}
+use Rattle.std.specs.Prelude.{◌≡◌, ℕ, ◌+◌, ◌≤◌, List, [], ◌∷◌, ◌++◌, length, Bool, true, false, None, ◌&&◌, ◌||◌, not, map}
 use Rattle.rq_model.specs.declared.refusal.Refusal.TheVariants.{Failed}
 use Rattle.rq_model.specs.declared.txn.Txn.{Txn}
 use Rattle.rq_model.specs.declared.message.Message.{Message}
@@ -11,6 +11,7 @@ use Rattle.rq_model.specs.History.Entry.{Started, Acknowledged, Committed, Force
 use Rattle.rq_model.specs.History.Job.{Sending}
 use Rattle.rq_model.specs.Ledger.{Done, Ledger, ledger, kept_in, runs}
 use Rattle.rq_model.specs.Ledger.Phase.{Shut}
+use Rattle.rq_model.specs.Growth.{IsGrownBy, growth}
 use Rattle.rq_model.specs.Legal.{Legal, IsLegal}
 use Rattle.rq_model.specs.Tests.{Size, size_at}
 use Rattle.rq_model.specs.Content.{content}
@@ -75,15 +76,18 @@ pub record EndsInCrash (z : Size) (h : List Entry) (log : List Record) : Type 0 
   pub commits : map (λ (d : Done). d.txn) (committed_of log) ≡ commits (crash_to log h ∷ h)
   pub content : (s : ℕ) → content log s ≡ group (crash_to log h ∷ h) s
 
--- a crash that leaves the first records of the log, with all that are forced and the one that began the incarnation
+-- A crash that leaves the first records of the log, with all that are forced and the one that began the incarnation. It leaves the tag
+-- pages of a migration that was answered, as an entry before it tells.
 abbrev pub CrashGoesOn : Size → Type 0
-CrashGoesOn z = (h : List Entry) (newer older : List Record) → IsLegal z h → Ties (ledger h) (newer ++ older)
+CrashGoesOn z = (h : List Entry) (newer older : List Record) → IsLegal z h → IsGrownBy (growth h) None
+    → Ties (ledger h) (newer ++ older)
     → KeepsRules older
     → (ledger h).forced ≤ length older → (ledger h).incarnation ≤ incarnation_of older → EndsInCrash z h older
 
 -- a crash in a checkpoint or a migration, where no transaction is open, which leaves the Base that stands for all records
 abbrev pub CheckpointCrashGoesOn : Size → Type 0
-CheckpointCrashGoesOn z = (h : List Entry) (log : List Record) → IsLegal z h → Ties (ledger h) log → KeepsRules log
+CheckpointCrashGoesOn z = (h : List Entry) (log : List Record) → IsLegal z h → IsGrownBy (growth h) None → Ties (ledger h) log
+    → KeepsRules log
     → (ledger h).open_ones ≡ [] → EndsInCrash z h (based (incarnation_of log) log)
 
 -- a crash of a store that is not open, which leaves what was left before, with some of what a restart that was stopped

@@ -18,15 +18,22 @@ pub record Size : Type 0 where
   pub cells : ℕ
   pub clients : ℕ
 
--- they stay, but that a migration gives a store without clients 15 for each tag page
-abbrev pub grown_by : Entry → Size → Size
-grown_by (Grew pages) z = record z { clients = 15 * pages }
-grown_by _ z = z
+-- what a history makes of a size, by what so many tag pages make of it
+abbrev pub grown_by : {X : Type 0} → (ℕ → X → X) → Entry → X → X
+grown_by f (Grew pages) x = f pages x
+grown_by f _ x = x
+
+abbrev pub grown_at : {X : Type 0} → (ℕ → X → X) → X → List Entry → X
+grown_at f x [] = x
+grown_at f x (e ∷ h) = grown_by f e (grown_at f x h)
+
+-- 15 clients for each tag page
+abbrev pub with_clients : ℕ → Size → Size
+with_clients pages z = record z { clients = 15 * pages }
 
 -- the size of a store behind a history, which had this size when it was formatted
 abbrev pub size_at : Size → List Entry → Size
-size_at z [] = z
-size_at z (e ∷ h) = grown_by e (size_at z h)
+size_at z h = grown_at with_clients z h
 
 -- below n: 0, 1, .. in order
 abbrev pub below : ℕ → List ℕ

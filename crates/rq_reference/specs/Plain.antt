@@ -25,7 +25,7 @@ use Rattle.rq_model.specs.History.Entry.{Refused, Ready, Stepped, Did, Undid, St
 use Rattle.rq_model.specs.Ledger.{Open, Done, Ledger, Phase, runs, after, found, kept_in, add_number, Rising}
 use Rattle.rq_model.specs.Ledger.Phase.{Running, Stopped, Shut}
 use Rattle.rq_model.specs.Legal.{Legal, IsDoneBy}
-use Rattle.rq_model.specs.Tests.{Size, NoneHolds, first_of, grown_by, has_under, ready_tests, below, gives, without_pages}
+use Rattle.rq_model.specs.Tests.{Size, NoneHolds, first_of, with_clients, has_under, ready_tests, below, gives, without_pages}
 
 -- a reference runs; or a migration came through, and it answers nothing more; or it is not open
 abbrev pub phase_of : State → Phase
@@ -47,7 +47,7 @@ next e s = record { size = s.size; ledger = after e s.ledger }
 
 -- what it makes of the reference that a migration came through: so many tag pages stand on the device
 abbrev pub grown : ℕ → Stand → Stand
-grown pages s = record { size = grown_by (Grew pages) s.size; ledger = after (Grew pages) s.ledger }
+grown pages s = record { size = with_clients pages s.size; ledger = after (Grew pages) s.ledger }
 
 -- the call may be refused so
 abbrev pub MayBeRefused : Stand → Call → Refusal → Type 0

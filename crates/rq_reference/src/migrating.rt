@@ -74,6 +74,8 @@ impl Reference {
     {
         if let Some(clients) = self.clients_with(pages) {
             self.clients = clients;
+            self.forced = self.records;
+            self.durable = self.committed.len();
             self.state = State::Stopped;
         }
     }

@@ -8,7 +8,7 @@ use Rattle.rq_model.specs.declared.record.Record.TheVariants.{Base, Restart, Com
 use Rattle.rq_model.specs.Vocabulary.{In}
 use Rattle.rq_model.specs.History.{Entry, Call}
 use Rattle.rq_model.specs.History.Call.{Begin, Start_send, Start_receive, Start_receive_from, Start_close, Start_mark, Step, Finish, Commit, Acknowledge, Start_abort, Undo_next, End_abort, Hand_over, Force, Checkpoint, Write_page, Last_tag, Client_tag, Show}
-use Rattle.rq_model.specs.History.Entry.{Acknowledged, Committed, Crash, Restarted}
+use Rattle.rq_model.specs.History.Entry.{Acknowledged, Committed, Crash, Grew, Restarted}
 use Rattle.rq_model.specs.Ledger.{Done, Ledger, after, found, ops_of}
 use Rattle.rq_model.specs.Tests.{Size}
 use Rattle.rq_model.specs.Legal.{Legal}
@@ -17,7 +17,7 @@ use Rattle.rq_model.specs.Replay.{Number, Reply, Says, Replays}
 use Rattle.rq_model.specs.Replay.Reply.{Gave_txn, Gave_sub, Gave_none, Gave_nothing_left, Gave_lsn, Gave_ready, Gave_sent, Gave_message, Gave_closed, Gave_marked, Gave_undone, Gave_handed_over, Gave_checkpoint, Gave_forced, Gave_aborting, Gave_aborted, Gave_commit, Gave_receipt, Gave_written, Gave_tag, Gave_client_tag, Gave_content, Gave_refusal}
 use Rattle.rq_model.proofs.Replayed.{never_break}
 use Rattle.rq_model.proofs.EntryKinds.{Kind, kind}
-use Rattle.rq_model.proofs.EntryKinds.Kind.{Plain, Commits, Forces, Checkpoints, Migrates, Crashes, Restarts}
+use Rattle.rq_model.proofs.EntryKinds.Kind.{Plain, Commits, Forces, Checkpoints, Migrates, Grows as Gains_pages, Crashes, Restarts}
 use Rattle.rq_model.proofs.Same.{In-append}
 use Rattle.rq_model.proofs.Lists.{In-left, In-last, In-to, In-reverse}
 use Rattle.rq_disk.specs.declared.device.LogDevice as log_device
@@ -61,6 +61,7 @@ grows c g l e (Commits t lsn) s low =
 grows c g l e (Forces lsn) s low = record { commits = λ d i. i; forced = low; records = omega arith; within = omega arith }
 grows c g l e (Checkpoints lsn) s low = record { commits = λ d i. i; forced = omega (arith, low); records = omega arith; within = omega arith }
 grows c g l e (Migrates pages lsn) s low = record { commits = λ d i. i; forced = omega (arith, low); records = omega arith; within = omega arith }
+grows c g l e (Gains_pages pages) s low = absurd (true≢false (never_break c g (Grew pages) s))
 grows c g l e (Crashes kept records) s low = absurd (true≢false (never_break c g (Crash kept records) s))
 grows c g l e (Restarts i records) s low = absurd (true≢false (never_break c g (Restarted i records) s))
 

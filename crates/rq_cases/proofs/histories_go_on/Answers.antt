@@ -8,7 +8,7 @@ use Rattle.rq_cases.specs.Store.{small}
 pub returns : goal.returns
 returns c = record {
   with_the_record_of_a_restart = c.shut_crash_goes_on.ensures small crashed first_log (Restart_record 2 ∷ first_log) (search rules) refl (record { committed = refl; records = refl; incarnation = omega arith }) (Restart_record 2 ∷ [], refl, (refl, tt)) (search rules) (search rules);
-  with_nothing = λ e. (let f : 1 ≤ 0 = e.legal.0.forced in omega (arith, f));
+  with_nothing = λ e. (let f : 1 ≤ 0 = e.legal.0.0.forced in omega (arith, f));
   restarted = c.restart_goes_on.ensures small crashed first_log first_log (search rules) refl (record { committed = refl; records = refl; incarnation = omega arith }) ([], refl, tt) (search rules);
   restarted_in_the_same = λ e. (let f : 1 < 1 = e.legal.0.later in omega (arith, f));
   restarted_without_a_record = λ e. (let f : 1 < 1 = e.legal.0.more in omega (arith, f));
