@@ -166,10 +166,10 @@ module _ {P L : Type 0} (p : page_device.Ghosts P) (l : log_device.Ghosts L) (z 
     -- a migration that was refused
     not_grown : (n : ℕ) (r : Refusal) → x ≡ Refused_entry (Migrate n) r → NotMigrated p l n old new r → EachPair p l new.pages new.log (IsCutOrGrown n (on past old.state)) → Before → Written new ⊎ Half new
     not_grown n why.DiskWrite is w leaves before =
-        inr (half w.1.none_open w.2 (λ images bytes a b. let c = either_by n images bytes w.0 w.1.none_open (leaves images bytes a b) in (
+        inr (half w.1.could.none_open w.1.state (λ images bytes a b. let c = either_by n images bytes w.0 w.1.could.none_open (leaves images bytes a b) in (
           c.0,
           subst (λ (y : Entry). IsGrownBy (growth_by y (growth h)) c.0) (sym is) c.1,
-          subst (λ (y : Entry). MayBeTold c.0 (growth_by y (growth h)) (after y (ledger h))) (sym is) (refused_told n (growth h) (ledger h) (room w.1) c.0 c.1),
+          subst (λ (y : Entry). MayBeTold c.0 (growth_by y (growth h)) (after y (ledger h))) (sym is) (refused_told n (growth h) (ledger h) (room w.1.could) c.0 c.1),
           c.2,
         )))
     not_grown n why.Failed is w leaves before = inl (unchanged (ap (λ (y : Entry). growth_by y (growth h)) is) w.1 before)
@@ -225,7 +225,7 @@ module _ {P L : Type 0} (p : page_device.Ghosts P) (l : log_device.Ghosts L) (z 
   of_checkpoint _ device n = cc device
 
   of_migration : (n : ℕ) (r : Refusal) → is_of_device r ≡ true → NotMigrated p l n old new r → MayGetTags n old.state × MayMakeOneRecord old
-  of_migration n why.DiskWrite device w = (w.0, w.1)
+  of_migration n why.DiskWrite device w = (w.0, w.1.could)
   of_migration n why.DiskRead device w = absurd w.1
   of_migration n _ device w = cc device
 

@@ -45,7 +45,7 @@ module _ {P L : Type 0} (p : page_device.Ghosts P) (l : log_device.Ghosts L) (ol
   not_grown n why.NotQuiet w = w.1.2
   not_grown n why.LogFull w = w.1.3
   not_grown n why.NotForced w = w.1.4
-  not_grown n why.DiskWrite w = w.2
+  not_grown n why.DiskWrite w = w.1.state
   not_grown n _ w = absurd w.1
 
   -- a store that runs behind a migration was refused one, and is as it was
@@ -55,7 +55,7 @@ module _ {P L : Type 0} (p : page_device.Ghosts P) (l : log_device.Ghosts L) (ol
   runs_as_before n why.NotQuiet w running = w.1.2
   runs_as_before n why.LogFull w running = w.1.3
   runs_as_before n why.NotForced w running = w.1.4
-  runs_as_before n why.DiskWrite w running = absurd (true≢false (sym (ap (λ (s : State). s.failed) w.2) ∙ running))
+  runs_as_before n why.DiskWrite w running = absurd (true≢false (sym (ap (λ (s : State). s.failed) w.1.state) ∙ running))
   runs_as_before n _ w running = absurd w.1
 
   pub as_before : (n : ℕ) (r : Reply) → CheckpointSays p l old (event.Migrate n) r new → new.state.failed ≡ false → new ≡ old

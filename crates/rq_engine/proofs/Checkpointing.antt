@@ -335,9 +335,11 @@ module _ {P L : Type 0} (p : page_device.Ghosts P) (l : log_device.Ghosts L) (fi
   page_counts_none out.Nothing after = ap p.faults after
 
 -- and leaves what other pages read as
-pub page_others : {P L : Type 0} (p : page_device.Ghosts P) (old new : OpenStore P L) (page : ℕ) (w : Written) → DeviceAfter p page (image_at old.state.images page) old.pages new.pages (Ok w) → (q : ℕ) → (q ≢ page) → p.seen new.pages q ≡ p.seen old.pages q
-page_others p old new page out.Done after q other = after.0 q ∙ if_no q page (image_at old.state.images page) (p.seen old.pages q) other
-page_others p old new page out.Nothing after q other = ap (λ (d : _). p.seen d q) after
+pub page_others : {P L : Type 0} (p : page_device.Ghosts P) (old new : OpenStore P L) (page : ℕ) (r : Result Written Refusal) → DeviceAfter p page (image_at old.state.images page) old.pages new.pages r → (q : ℕ) → (q ≢ page) → p.seen new.pages q ≡ p.seen old.pages q
+page_others p old new page (Ok out.Done) after q other = after.0 q ∙ if_no q page (image_at old.state.images page) (p.seen old.pages q) other
+page_others p old new page (Ok out.Nothing) after q other = ap (λ (d : _). p.seen d q) after
+page_others p old new page (Err why.DiskWrite) after q other = after.0.others q other
+page_others p old new page (Err r) after q other = ap (λ (d : _). p.seen d q) after
 
 -- ---- what the log is left as
 

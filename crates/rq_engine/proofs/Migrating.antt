@@ -1,12 +1,12 @@
 -- A migration: its entry, why it is refused, and what a crash in it leaves.
-use Rattle.std.proofs.Common.{◌≡◌, ◌≢◌, ◌⊎◌, ℕ, zero, suc, ◌+◌, ◌-◌, ◌*◌, ◌%◌, ◌^◌, ◌<◌, ◌≤◌, ◌||◌, Bool, true, false, not, nat_lt, List, [], ◌∷◌, length, drop, Result, Ok, Err, refl, sym, ◌∙◌, ap, subst, inl, inr, ⊎_elim, arith}
-use Rattle.std.proofs.lemmas.Bool.{cases_eq, or_parts, ltb-false}
+use Rattle.std.proofs.Common.{◌≡◌, ◌≢◌, ◌⊎◌, ℕ, zero, suc, ◌+◌, ◌-◌, ◌*◌, ◌<◌, ◌≤◌, ◌||◌, false, not, nat_lt, List, [], ◌∷◌, length, drop, Ok, Err, refl, sym, ◌∙◌, ap, subst, inl, inr, ⊎_elim, arith}
+use Rattle.std.proofs.lemmas.Bool.{or_parts}
 use Rattle.std.proofs.lemmas.Bool.Decides.{nat_tests}
 use Rattle.rq_model.specs.declared.record.Record.{Record}
 use Rattle.rq_model.specs.declared.record.Record.TheVariants.{Base}
 use Rattle.rq_model.specs.declared.refusal.Refusal.{Refusal}
 use Rattle.rq_model.specs.declared.refusal.Refusal.TheVariants as why
-use Rattle.rq_model.specs.History.Call.{Checkpoint, Migrate}
+use Rattle.rq_model.specs.History.Call.{Migrate}
 use Rattle.rq_model.specs.Replay.{Reply as Gave}
 use Rattle.rq_model.specs.Replay.Reply.{Gave_migrated, Gave_refusal}
 use Rattle.rq_model.specs.Tests.{bad_tags}
@@ -23,7 +23,7 @@ use Rattle.rq_pool.specs.Pooled.{image_at}
 use Rattle.rq_record.specs.Spelling.{IsInRange as IsInRecord}
 use Rattle.rq_log.proofs.Runs.{all_of}
 use Rattle.rq_pool.specs.Writing.{IsFormattedAfter, MayHaveWritten}
-use Rattle.rq_store.specs.State.{State, ledger_of, size_of}
+use Rattle.rq_store.specs.State.{State, size_of}
 use Rattle.rq_store.specs.Fitting.{AllFit, image_in, oldest}
 use Rattle.rq_store.specs.Growing.{IsGrown}
 use Rattle.rq_store.proofs.Growing.{stores_grow}
@@ -32,15 +32,15 @@ use Rattle.rq_sound.specs.ModelSteps.{IsModelStep}
 use Rattle.rq_sound.specs.Sound.{IsSound}
 use Rattle.rq_sound.proofs.Checkpoints.{checkpoint_sound, migration}
 use Rattle.rq_engine.specs.Answers.{AnswersLegally, IsCausedIn}
-use Rattle.rq_engine.specs.Checkpoint.{CountsOne, IsCutOrBased, IsStopped, KeepsFitOrBased, MayMakeOneRecord, NotCheckpointed}
+use Rattle.rq_engine.specs.Checkpoint.{CountsOne, IsCutOrBased, IsStopped, KeepsFitOrBased, MayMakeOneRecord}
 use Rattle.rq_engine.specs.Crash.{AreFit, IsCut, KeepsFit, LeavesCut}
-use Rattle.rq_engine.specs.Devices.{EachPair, PagesLeave, Path}
+use Rattle.rq_engine.specs.Devices.{EachPair, Path}
 use Rattle.rq_engine.specs.Devices.Path.{Pages}
 use Rattle.rq_engine.specs.Earlier.{IsEarlier, on, over, rebased}
-use Rattle.rq_engine.specs.Migration.{HasMigrated, HasTags, IsCutGrown, IsCutOrGrown, KeepsOrGrows, MayGetTags, NotMigrated, TellsSizes}
-use Rattle.rq_engine.specs.Opened.{AreHonest, OpenStore, pooled}
+use Rattle.rq_engine.specs.Migration.{AreTagPages, HasMigrated, HasTags, IsCutGrown, IsCutOrGrown, KeepsBeyond, KeepsOrGrows, MayGetTags, NotMigrated, TellsSizes}
+use Rattle.rq_engine.specs.Opened.{AreHonest, OpenStore}
 use Rattle.rq_engine.proofs.Checkpointing.{base_put, checkpointed_on, cut_forced, none_beyond, none_open, path_join, path_weaker, some_open}
-use Rattle.rq_engine.proofs.Crashing.{AreLeft, IsOnDevice, are_left, cut, on_device}
+use Rattle.rq_engine.proofs.Crashing.{AreLeft, IsOnDevice, are_left, cut}
 use Rattle.rq_engine.proofs.Earlier.{full_on, long_on, lsn_on, told_on}
 use Rattle.rq_engine.proofs.Refusals.{refuse, refuse_failed}
 use Rattle.rq_engine.proofs.Standing.{failed_steps}
@@ -61,7 +61,7 @@ module _ {P L X : Type 0} (p : page_device.Ghosts P) (l : log_device.Ghosts L) (
       stays e why.NotQuiet w.1.2 (refuse (on e old.state) (Migrate n) why.NotQuiet refl tt (rw (w.1.0, w.0, some_open old.state.ends old.state.rows w.1.1) refl) k)
   not_legally why.LogFull w h e long k =
       stays e why.LogFull w.1.3 (refuse (on e old.state) (Migrate n) why.LogFull refl tt (rw (w.1.0, w.0, none_open old.state.ends old.state.rows w.1.1, full_on e old.state long 1 ∙ w.1.2) refl) k)
-  not_legally why.DiskWrite w h e long k = subst (Says e why.DiskWrite) (sym w.2) (failed_steps (on e old.state) k w.1.running (Migrate n), refl)
+  not_legally why.DiskWrite w h e long k = subst (Says e why.DiskWrite) (sym w.1.state) (failed_steps (on e old.state) k w.1.could.running (Migrate n), refl)
   not_legally why.NotForced w h e long k = absurd (none_beyond old e long k w.1.3)
   not_legally _ w h e long k = absurd w.1
 
@@ -176,11 +176,25 @@ handed p z page old new r is after =
     let w : IsFormattedAfter p z page old new (Err why.DiskWrite) = subst (λ (y : Refusal). IsFormattedAfter p z page old new (Err y)) is after in
     (w.0, w.2)
 
+-- ---- what was written of the tag pages, and behind them
+
+module _ {P : Type 0} (p : page_device.Ghosts P) (n : ℕ) (z : Sizes) where
+  -- a call leaves what pages behind the store's own read as
+  pub beyond_stays : (may : bad_tags (size_of z) n ≡ false) (old mid new : P) → KeepsBeyond p n z old mid → ((page : ℕ) → page_count z ≤ page → p.seen new page ≡ p.seen mid page) → KeepsBeyond p n z old new
+  beyond_stays may old mid new first behind page past = let none = (may_get z n may).0 in behind page (omega (arith, none, past)) ∙ first page past
+
+  pub tags_stay : (mid new : P) → AreTagPages p n z mid → ((page : ℕ) → page_count z ≤ page → p.seen new page ≡ p.seen mid page) → AreTagPages p n z new
+  tags_stay mid new tags behind page low high = subst (IsFormatted (with_tags n z) page) (sym (behind page low)) (tags page low high)
+
+  -- so does one that writes the first page
+  pub behind_first : (mid new : P) → ((page : ℕ) → page ≢ 0 → p.seen new page ≡ p.seen mid page) → (page : ℕ) → page_count z ≤ page → p.seen new page ≡ p.seen mid page
+  behind_first mid new others page low = others page (λ e. absurd (omega (arith, e, low)))
+
 module _ {P L : Type 0} (p : page_device.Ghosts P) (l : log_device.Ghosts L) (n : ℕ) where
   -- behind calls that count no failure
   pub migrated_later : (old mid new : OpenStore P L) (lsn m : ℕ) → MayMakeOneRecord old → mid.state ≡ record old.state { forced = m } → mid.replacing ≡ old.replacing
-      → p.faults mid.pages ≡ p.faults old.pages → l.faults mid.log ≡ l.faults old.log → HasMigrated p l n mid new lsn → HasMigrated p l n old new lsn
-  migrated_later old mid new lsn m could is tried pages log h = record {
+      → p.faults mid.pages ≡ p.faults old.pages → l.faults mid.log ≡ l.faults old.log → KeepsBeyond p n old.state.sizes old.pages mid.pages → HasMigrated p l n mid new lsn → HasMigrated p l n old new lsn
+  migrated_later old mid new lsn m could is tried pages log beyond h = record {
     could = could;
     lsn_is = h.lsn_is ∙ ap (λ (s : State). length s.records + 1) is;
     state = h.state ∙ ap migrated is;
@@ -189,6 +203,7 @@ module _ {P L : Type 0} (p : page_device.Ghosts P) (l : log_device.Ghosts L) (n 
     durable = h.durable;
     pages = λ honest page low high. subst (λ (s : State). Only (image_at s.images page) (p.may_be new.pages page)) is (h.pages honest page low (subst (λ (s : State). page < page_count s.sizes) (sym is) high));
     tags = subst (λ (s : State). HasTags p n s.sizes new.pages) is h.tags;
+    beyond = λ page past b may. h.beyond page (subst (λ (s : State). page_count (with_tags n s.sizes) ≤ page) (sym is) past) b may ∙ beyond page past;
     replacing = h.replacing ∙ tried;
     counts = (h.counts.0 ∙ pages, h.counts.1 ∙ log);
   }
@@ -221,14 +236,19 @@ module _ {P L : Type 0} (p : page_device.Ghosts P) (l : log_device.Ghosts L) (n 
 
 -- it stopped in its midst, and counts no more as forced than before
 pub stopped_so : {P L : Type 0} (p : page_device.Ghosts P) (l : log_device.Ghosts L) (n : ℕ) (old mid new : OpenStore P L) (r : Refusal) → MayGetTags n old.state → MayMakeOneRecord old → IsStopped old.state mid.state r → CountsOne p l old mid
+    → (mid.log ≡ old.log) ⊎ AreTagPages p n old.state.sizes mid.pages → KeepsBeyond p n old.state.sizes old.pages mid.pages
     → new.state ≡ record mid.state { forced = old.state.forced } → new.pages ≡ mid.pages → new.log ≡ mid.log → NotMigrated p l n old new r
-stopped_so p l n old mid new why.DiskWrite may could s counts is pages log = (
+stopped_so p l n old mid new why.DiskWrite may could s counts first beyond is pages log = (
   may,
-  could,
-  is ∙ ap (λ (x : State). record x { forced = old.state.forced }) s.0,
-  subst (λ (d : _). CountsOne p l old (record new { pages = d })) (sym pages) (subst (λ (d : _). CountsOne p l old (record new { pages = mid.pages; log = d })) (sym log) counts),
+  record {
+    could = could;
+    state = is ∙ ap (λ (x : State). record x { forced = old.state.forced }) s.0;
+    counts = subst (λ (d : _). CountsOne p l old (record new { pages = d })) (sym pages) (subst (λ (d : _). CountsOne p l old (record new { pages = mid.pages; log = d })) (sym log) counts);
+    first = ⊎_elim (λ e. inl (log ∙ e)) (λ tags. inr (subst (AreTagPages p n old.state.sizes) (sym pages) tags)) first;
+    beyond = subst (KeepsBeyond p n old.state.sizes old.pages) (sym pages) beyond;
+  },
 )
-stopped_so p l n old mid new _ may could s counts is pages log = absurd s
+stopped_so p l n old mid new _ may could s counts first beyond is pages log = absurd s
 
 -- a cut of a store is one of it where it has failed
 pub grown_failed : (n : ℕ) (s : State) (images : Images) (bytes : List ℕ) → IsCutGrown n s images bytes → IsCutGrown n (failed s) images bytes

@@ -46,6 +46,15 @@ pub record HasTags {P : Type 0} (p : page_device.Ghosts P) (n : ℕ) (z : Sizes)
   pub added : (page : ℕ) (c : List ℕ) → page_count z ≤ page → page < page_count (with_tags n z)
       → p.may_be pages page c → IsFormatted (with_tags n z) page c
 
+-- Each tag page reads as it is formatted.
+abbrev pub AreTagPages : {P : Type 0} → page_device.Ghosts P → ℕ → Sizes → P → Type 0
+AreTagPages p n z pages = (page : ℕ) → page_count z ≤ page → page < page_count (with_tags n z)
+    → IsFormatted (with_tags n z) page (p.seen pages page)
+
+-- Pages behind them read as before.
+abbrev pub KeepsBeyond : {P : Type 0} → page_device.Ghosts P → ℕ → Sizes → P → P → Type 0
+KeepsBeyond p n z old new = (page : ℕ) → page_count (with_tags n z) ≤ page → p.seen new page ≡ p.seen old page
+
 module _ {P L : Type 0} (p : page_device.Ghosts P) (l : log_device.Ghosts L) (n : ℕ) where
   -- Of a sound store over honest devices whose pages fit, and whose log no failed call may have replaced. A crash at any moment of the
   -- call leaves a cut of the store as it was, or of what it was to be.
@@ -66,13 +75,22 @@ module _ {P L : Type 0} (p : page_device.Ghosts P) (l : log_device.Ghosts L) (n 
     pub pages : p.honest new.pages → (page : ℕ) → 1 ≤ page → page < page_count old.state.sizes
         → Only (image_at old.state.images page) (p.may_be new.pages page)
     pub tags : HasTags p n old.state.sizes new.pages
+    pub beyond : (page : ℕ) → page_count (with_tags n old.state.sizes) ≤ page → Only (p.seen old.pages page) (p.may_be new.pages page)
     pub replacing : new.replacing ≡ old.replacing
     pub counts : CountsNone p l old new
+
+  -- A device failed in it, which stops the store. The log was left alone, or each tag page had been written. Pages behind them read as
+  -- before.
+  pub record HasStoppedGrowing (old new : OpenStore P L) : Type 0 where
+    pub could : MayMakeOneRecord old
+    pub state : new.state ≡ record old.state { failed = true }
+    pub counts : CountsOne p l old new
+    pub first : (new.log ≡ old.log) ⊎ AreTagPages p n old.state.sizes new.pages
+    pub beyond : KeepsBeyond p n old.state.sizes old.pages new.pages
 
   -- Why it did not, and what that leaves: for the tag pages, for what refuses a checkpoint, or for a device, which stops the store.
   abbrev pub NotMigrated : OpenStore P L → OpenStore P L → Refusal → Type 0
   NotMigrated old new why.Failed = (old.state.failed ≡ true) × (new ≡ old)
   NotMigrated old new why.BadTags = (old.state.failed ≡ false) × (bad_tags (size_of old.state.sizes) n ≡ true) × (new ≡ old)
-  NotMigrated old new why.DiskWrite = MayGetTags n old.state × MayMakeOneRecord old
-      × (new.state ≡ record old.state { failed = true }) × CountsOne p l old new
+  NotMigrated old new why.DiskWrite = MayGetTags n old.state × HasStoppedGrowing old new
   NotMigrated old new r = MayGetTags n old.state × NotCheckpointed p l old new r

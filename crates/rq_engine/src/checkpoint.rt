@@ -96,8 +96,7 @@ impl<P: PageDevice, L: LogDevice, B: Level> Engine<P, L, B> {
         ensures clean { OnOk result ((page : ℕ) → 1 ≤ page → page < page_count self.old.state.sizes
             → is_changed self.new.changed page ≡ false) }
         ensures durable { OnOk result ((page : ℕ) → Only (P.seen self.new.pages page) (P.may_be self.new.pages page)) }
-        ensures behind { OnOk result ((page : ℕ) → page_count self.old.state.sizes ≤ page
-            → P.seen self.new.pages page ≡ P.seen self.old.pages page) }
+        ensures behind { (page : ℕ) → page_count self.old.state.sizes ≤ page → P.seen self.new.pages page ≡ P.seen self.old.pages page }
         ensures refused { IfErr result (λ r. IsStopped self.old.state self.new.state r) }
         ensures cause { CountsFailure P.PageDevice L.LogDevice self.old self.new result }
         ensures fewer { HasFewer self.old.changed self.new.changed }
@@ -121,8 +120,7 @@ impl<P: PageDevice, L: LogDevice, B: Level> Engine<P, L, B> {
         ensures state { OnOk result (self.new.state ≡ self.old.state) }
         ensures clean { OnOk result ((page : ℕ) → 1 ≤ page → page < page_count self.old.state.sizes
             → is_changed self.new.changed page ≡ false) }
-        ensures behind { OnOk result ((page : ℕ) → page_count self.old.state.sizes ≤ page
-            → P.seen self.new.pages page ≡ P.seen self.old.pages page) }
+        ensures behind { (page : ℕ) → page_count self.old.state.sizes ≤ page → P.seen self.new.pages page ≡ P.seen self.old.pages page }
         ensures refused { IfErr result (λ r. IsStopped self.old.state self.new.state r) }
         ensures cause { CountsFailure P.PageDevice L.LogDevice self.old self.new result }
         ensures fewer { HasFewer self.old.changed self.new.changed }

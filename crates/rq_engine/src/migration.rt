@@ -1,5 +1,5 @@
 //! Migrations: a store without tag pages gets some.
-ghost use Rattle.std.specs.Prelude.{◌≡◌, ◌≢◌, ◌<◌, ◌≤◌, ◌↔◌, ℕ, IfOk, IfErr, OnOk, Err, true, false, length, slice_set, IfSome, IfNone};
+ghost use Rattle.std.specs.Prelude.{◌≡◌, ◌≢◌, ◌⊎◌, ◌<◌, ◌≤◌, ◌↔◌, ℕ, IfOk, IfErr, OnOk, Err, true, false, length, slice_set, IfSome, IfNone};
 ghost use Rattle.rq_model.specs.History.Call.{Migrate};
 ghost use Rattle.rq_model.specs.Replay.Reply.{Gave_migrated};
 ghost use Rattle.rq_model.specs.Tests.{bad_tags};
@@ -12,7 +12,7 @@ ghost use Rattle.rq_store.specs.State.{size_of};
 ghost use Rattle.rq_engine.specs.Answers.{AnswersLegally};
 ghost use Rattle.rq_engine.specs.Checkpoint.{CountsFailure, IsBeginningOrBase, IsStopped, MayMakeOneRecord};
 ghost use Rattle.rq_engine.specs.Crash.{KeepsFit};
-ghost use Rattle.rq_engine.specs.Migration.{HasMigrated, HasTags, KeepsOrGrows, MayGetTags, NotMigrated, TellsSizes};
+ghost use Rattle.rq_engine.specs.Migration.{AreTagPages, HasMigrated, HasTags, KeepsBeyond, KeepsOrGrows, MayGetTags, NotMigrated, TellsSizes};
 ghost use Rattle.rq_engine.specs.Opened.{AreHonest};
 
 use crate::engine::Engine;
@@ -83,6 +83,8 @@ impl<P: PageDevice, L: LogDevice, B: Level> Engine<P, L, B> {
         ensures made { IfOk result (λ lsn. HasMigrated P.PageDevice L.LogDevice grown.now.tags self.old self.new lsn) }
         ensures refused { IfErr result (λ r. IsStopped self.old.state self.new.state r) }
         ensures cause { CountsFailure P.PageDevice L.LogDevice self.old self.new result }
+        ensures first { (self.new.log ≡ self.old.log) ⊎ AreTagPages P.PageDevice grown.now.tags self.old.state.sizes self.new.pages }
+        ensures beyond { KeepsBeyond P.PageDevice grown.now.tags self.old.state.sizes self.old.pages self.new.pages }
         ensures honest { AreHonest P.PageDevice L.LogDevice self.new → AreHonest P.PageDevice L.LogDevice self.old }
         ensures any_moment { self.old.replacing ≡ false → L.honest self.new.log → LeavesOnly L.LogDevice self.old.log self.new.log
             (IsBeginningOrBase self.old.state.records self.old.state.forced) }
@@ -101,6 +103,7 @@ impl<P: PageDevice, L: LogDevice, B: Level> Engine<P, L, B> {
         ensures state { OnOk result (self.new.state ≡ self.old.state) }
         ensures written { OnOk result ((page : ℕ) → page_count self.old.state.sizes ≤ page → page < page_count grown.now
             → IsFormatted grown.now page (P.seen self.new.pages page)) }
+        ensures beyond { (page : ℕ) → page_count grown.now ≤ page → P.seen self.new.pages page ≡ P.seen self.old.pages page }
         ensures refused { IfErr result (λ r. IsStopped self.old.state self.new.state r) }
         ensures cause { CountsFailure P.PageDevice L.LogDevice self.old self.new result }
         ensures changed { self.new.changed ≡ self.old.changed }
@@ -123,7 +126,7 @@ impl<P: PageDevice, L: LogDevice, B: Level> Engine<P, L, B> {
         requires within { page < page_count grown.now }
         ensures state { OnOk result (self.new.state ≡ self.old.state) }
         ensures written { OnOk result (IsFormatted grown.now page (P.seen self.new.pages page)) }
-        ensures others { OnOk result ((other : ℕ) → other ≢ page → P.seen self.new.pages other ≡ P.seen self.old.pages other) }
+        ensures others { (other : ℕ) → other ≢ page → P.seen self.new.pages other ≡ P.seen self.old.pages other }
         ensures refused { IfErr result (λ r. IsStopped self.old.state self.new.state r) }
         ensures cause { CountsFailure P.PageDevice L.LogDevice self.old self.new result }
         ensures changed { self.new.changed ≡ self.old.changed }
@@ -156,6 +159,7 @@ impl<P: PageDevice, L: LogDevice, B: Level> Engine<P, L, B> {
         ensures made { IfOk result (λ lsn. HasMigrated P.PageDevice L.LogDevice grown.now.tags self.old self.new lsn) }
         ensures refused { IfErr result (λ r. IsStopped self.old.state self.new.state r) }
         ensures cause { CountsFailure P.PageDevice L.LogDevice self.old self.new result }
+        ensures others { (page : ℕ) → page ≢ 0 → P.seen self.new.pages page ≡ P.seen self.old.pages page }
         ensures honest { AreHonest P.PageDevice L.LogDevice self.new → AreHonest P.PageDevice L.LogDevice self.old }
         ensures honest_log { L.honest self.new.log → L.honest self.old.log }
         ensures any_moment { self.old.replacing ≡ false → L.honest self.new.log → LeavesOnly L.LogDevice self.old.log self.new.log
@@ -189,6 +193,7 @@ fn tell_sizes<P: PageDevice>(pages: &mut Pages<P>, grown: &Layout) -> Result<(),
     ensures same { pages.new ≡ record pages.old { device = pages.new.device; changed = slice_set pages.old.changed 0 true } }
     ensures told { OnOk result ((c : _) → P.may_be pages.new.device 0 c → IsFormatted grown.now 0 c) }
     ensures device { TellsSizes P.PageDevice grown.now pages.old.device pages.new.device }
+    ensures others { (page : ℕ) → page ≢ 0 → P.seen pages.new.device page ≡ P.seen pages.old.device page }
     ensures honest { P.honest pages.new.device → P.honest pages.old.device }
     ensures err { IfErr result (λ r. r ≡ Refusal.DiskWrite) }
     ensures cause { FailureIsCounted (P.faults pages.old.device) (P.faults pages.new.device) result }

@@ -1,5 +1,5 @@
 -- What is written back to a device of pages.
-use Rattle.std.specs.Prelude.{◌≡◌, ℕ, ◌+◌, ◌/◌, ◌%◌, ◌^◌, ◌<◌, ◌≤◌, true, false, Bool, List, Option, None, Some, Result, Ok, Err, slice_set}
+use Rattle.std.specs.Prelude.{◌≡◌, ◌≢◌, ℕ, ◌+◌, ◌/◌, ◌%◌, ◌^◌, ◌<◌, ◌≤◌, true, false, Bool, List, Option, None, Some, Result, Ok, Err, slice_set}
 use Rattle.rq_model.specs.declared.refusal.Refusal.{Refusal}
 use Rattle.rq_model.specs.declared.refusal.Refusal.TheVariants as why
 use Rattle.rq_disk.specs.Device.{Leaves, Holds, NoMore, Written as OrWritten, Elapses}
@@ -43,9 +43,11 @@ changed_after changed page (Ok Done) = slice_set changed page false
 changed_after changed page (Ok Nothing) = changed
 changed_after changed page (Err _) = changed
 
--- a page was handed to the device, which may have failed: a crash may leave that image of it too, and time goes on
+-- A page was handed to the device, which may have failed. Others read as before, a crash may leave that image of it too, and time
+-- goes on.
 pub record MayHaveWritten {P : Type 0} (g : Ghosts P) (page : ℕ) (image : List ℕ) (old new : P) : Type 0 where
   pub honest : g.honest new → g.honest old
+  pub others : (p : ℕ) → p ≢ page → g.seen new p ≡ g.seen old p
   pub crash : OrWritten page image (g.may_be old) (g.may_be new)
   pub time : Elapses (g.moment old) (g.moment new) (g.left_since old) (g.left_since new) (Leaves (g.may_be new))
 

@@ -1,8 +1,8 @@
-use Rattle.std.proofs.Common.{rules, ap, subst, sym, ◌∙◌, ◌≡◌}
+use Rattle.std.proofs.Common.{rules, ap, subst, ◌≡◌, ◌⊎◌}
 use Rattle.rq_model.specs.Replay.Reply.{Gave_migrated}
 use Rattle.rq_model.specs.Vocabulary.{is_some}
-use Rattle.rq_page.specs.Sizes.{Sizes, with_tags}
-use Rattle.rq_engine.specs.Migration.{HasMigrated, KeepsOrGrows, MayGetTags, NotMigrated}
+use Rattle.rq_page.specs.Sizes.{Sizes}
+use Rattle.rq_engine.specs.Migration.{AreTagPages, HasMigrated, KeepsBeyond, NotMigrated}
 use Rattle.rq_engine.specs.Opened.{OpenStore}
 use Rattle.rq_engine.proofs.Crashing.{none_fit}
 use Rattle.rq_engine.proofs.Migrating.{grows_either, migrated_legally, not_legally, stopped_so}
@@ -48,6 +48,10 @@ returns-in-Err-clause-answered g c =
       replacing = is_some c.forget_force.new.self.replacing;
     } in
     let mid = c.grow.new.self in
+    let tags : c.in_ok-grown.grown.tags ≡ c.args.pages = ap (λ (z : Sizes). z.tags) c.in_ok-grown.ensures.grown in
     let why : NotMigrated g.P.PageDevice g.L.LogDevice c.args.pages c.args.self.now new c.in-Err.refusal =
-    stopped_so g.P.PageDevice g.L.LogDevice c.args.pages c.args.self.now mid new c.in-Err.refusal c.in_ok-grown.ensures.ok.1 c.in_ok-grown.ensures.ok.0 c.in-Err.ensures.refused c.in-Err.ensures.cause (search rules) (search rules) (search rules) in
+    stopped_so g.P.PageDevice g.L.LogDevice c.args.pages c.args.self.now mid new c.in-Err.refusal c.in_ok-grown.ensures.ok.1 c.in_ok-grown.ensures.ok.0 c.in-Err.ensures.refused c.in-Err.ensures.cause
+    (subst (λ (n : _). (mid.log ≡ c.args.self.now.log) ⊎ AreTagPages g.P.PageDevice n c.args.self.now.state.sizes mid.pages) tags c.in-Err.ensures.first)
+    (subst (λ (n : _). KeepsBeyond g.P.PageDevice n c.args.self.now.state.sizes c.args.self.now.pages mid.pages) tags c.in-Err.ensures.beyond)
+    (search rules) (search rules) (search rules) in
     not_legally g.P.PageDevice g.L.LogDevice c.args.pages c.args.self.now new (λ lsn. Gave_migrated lsn) c.in-Err.refusal why

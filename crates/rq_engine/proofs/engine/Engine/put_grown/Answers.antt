@@ -1,17 +1,14 @@
 use Rattle.std.proofs.Common.{rules, ap, refl, subst, sym, ◌∙◌, ◌≡◌, ◌⊎◌, ◌+◌, ◌<◌, ◌≤◌, arith, length, List, ℕ, true}
 use Rattle.rq_model.specs.Bases.{based}
-use Rattle.rq_model.specs.declared.record.Record.TheVariants.{Base}
 use Rattle.rq_model.specs.Vocabulary.{is_some}
 use Rattle.rq_log.proofs.Moments.{weaker}
 use Rattle.rq_log.specs.Crash.{LeavesOnly}
 use Rattle.rq_log.specs.Logged.{Logged}
 use Rattle.rq_log.specs.Spelled.{spelled}
 use Rattle.rq_disk.specs.Device.{Only}
-use Rattle.rq_page.specs.Sizes.{Sizes, page_count, with_tags}
+use Rattle.rq_page.specs.Sizes.{Sizes, page_count}
 use Rattle.rq_page.specs.Formatted.{IsFormatted}
 use Rattle.rq_pool.specs.Pooled.{AreOver}
-use Rattle.rq_record.specs.Spelling.{IsInRange}
-use Rattle.rq_store.specs.Fitting.{image_in}
 use Rattle.rq_store.specs.State.{State}
 use Rattle.rq_engine.specs.Checkpoint.{IsBeginningOrBase}
 use Rattle.rq_engine.specs.Migration.{TellsSizes}
@@ -192,6 +189,9 @@ returns-clause-made g c = record {
     superblock = subst (λ (z : Sizes). (b : List ℕ) → g.P.PageDevice.may_be c.tell_sizes.new.pages.device 0 b → IsFormatted z 0 b) c.requires.grown c.in_ok-tell_sizes.ensures.told;
     added = search rules;
   };
+  beyond = λ page past b may.
+      let tells = subst (λ (o : OpenStore _ _). TellsSizes g.P.PageDevice c.args.grown.now o.pages c.tell_sizes.new.pages.device) c.self.view_is c.in_ok-tell_sizes.ensures.device in
+      c.requires.durable page b (tells.others page b (λ e. absurd (omega (arith, past, e))) may);
   replacing = search rules;
   counts = search rules;
 }

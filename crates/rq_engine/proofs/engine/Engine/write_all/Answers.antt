@@ -44,6 +44,14 @@ returns-in_err-write_page-clause-cause g c =
     page_counts g.P.PageDevice g.L.LogDevice c.args.self.now c.loop-page.self c.write_page.new.self c.loop-page.page c.in_err-write_page.field-0.0 stops made.device kept.faults (made.log ∙ kept.log) in
     search (rules, that)
 
+pub returns-in_err-write_page-clause-behind : goal.returns-in_err-write_page-clause-behind
+returns-in_err-write_page-clause-behind g c = λ p past.
+    let kept = c.loop-page.invariant in
+    let end = c.pages-page-end.ensures.number in
+    let z = ap page_count (c.layout-layout.ensures.sizes ∙ ap (λ (s : State). s.sizes) (state_is c.self.view_is)) in
+    let within = c.loop-page-test.true in
+    page_others g.P.PageDevice c.loop-page.self c.write_page.new.self c.loop-page.page (Err c.in_err-write_page.field-0.0) c.in_err-write_page.ensures.device p (λ e. absurd (omega (arith, end, z, within, past, e))) ∙ kept.behind p past
+
 pub returns-in_err-write_page-clause-fewer : goal.returns-in_err-write_page-clause-fewer
 returns-in_err-write_page-clause-fewer g c = λ q h.
     let kept = c.loop-page.invariant in
@@ -69,7 +77,7 @@ loop-page-preserved g c =
       clean = λ p low high. ap (λ (f : List Bool). is_changed f p) made.changed ∙ cleared old.changed n p w
           (λ e. (subst (λ (x : Written). WritesWhen old n (Ok x)) e made.answer).1)
           (λ other. kept.clean p low (omega (arith, high, other)));
-      behind = λ p past. page_others g.P.PageDevice old c.write_page.new.self n w made.device p (let end = c.pages-page-end.ensures.number in let z = ap page_count (c.layout-layout.ensures.sizes ∙ ap (λ (s : State). s.sizes) (state_is c.self.view_is)) in let within = c.loop-page-test.true in λ e. absurd (omega (arith, end, z, within, past, e))) ∙ kept.behind p past;
+      behind = λ p past. page_others g.P.PageDevice old c.write_page.new.self n (Ok w) made.device p (let end = c.pages-page-end.ensures.number in let z = ap page_count (c.layout-layout.ensures.sizes ∙ ap (λ (s : State). s.sizes) (state_is c.self.view_is)) in let within = c.loop-page-test.true in λ e. absurd (omega (arith, end, z, within, past, e))) ∙ kept.behind p past;
       fewer = λ p h. ap (λ (f : List Bool). is_changed f p) made.changed ∙ fewer_after old.changed n (Ok w) p (kept.fewer p h);
       faults = page_counts_none g.P.PageDevice g.L.LogDevice c.args.self.now old c.write_page.new.self n w made.device ∙ kept.faults;
       log = made.log ∙ kept.log;

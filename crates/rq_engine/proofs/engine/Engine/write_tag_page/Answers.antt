@@ -1,7 +1,5 @@
-use Rattle.std.proofs.Common.{ap, refl, true, ◌∙◌, ◌≡◌, ◌≤◌, subst}
+use Rattle.std.proofs.Common.{refl, true}
 use Rattle.std.proofs.lemmas.Bool.{true≢false}
-use Rattle.rq_page.specs.Sizes.{page_count}
-use Rattle.rq_store.specs.State.{State}
 use Rattle.rq_engine.proofs.Crashing.{behind_fit}
 use Rattle.rq_engine.proofs.Keeping.{kept_device}
 use Rattle.rq_engine.proofs.Migrating.{handed}
@@ -26,3 +24,11 @@ returns-in-Err-clause-fit g c =
     let w = handed g.P.PageDevice c.args.grown.now c.args.page _ _ c.in-Err.refusal c.in-Err.ensures.err c.in-Err.ensures.device in
     behind_fit g.P.PageDevice g.L.LogDevice g.met.P.PageDevice.only_now g.met.L.LogDevice.only_now c.args.self.now _ (c.shows_kept.ensures.spelled, c.shows_kept.ensures.based) c.shows_kept.ensures.leaves
     c.args.page w.0 c.requires.behind (rw (← c.self.view_is) w.1) (rw (← c.self.view_is, c.in-Err.ensures.same) refl) (rw (← c.self.view_is) refl) (rw (← c.self.view_is) refl) (rw (← c.self.view_is) refl)
+
+pub returns-in-Ok-clause-others : goal.returns-in-Ok-clause-others
+returns-in-Ok-clause-others g c = rw (← c.self.view_is) c.in-Ok.ensures.device.3.others
+
+pub returns-in-Err-clause-others : goal.returns-in-Err-clause-others
+returns-in-Err-clause-others g c =
+    let w = handed g.P.PageDevice c.args.grown.now c.args.page _ _ c.in-Err.refusal c.in-Err.ensures.err c.in-Err.ensures.device in
+    rw (← c.self.view_is) w.1.others

@@ -1,4 +1,4 @@
-use Rattle.std.proofs.Common.{ap, refl, rules, sym, ◌∙◌, ◌≡◌, ◌≢◌, ◌+◌, ◌<◌, ◌≤◌, ℕ, subst, arith, inl, inr, Err}
+use Rattle.std.proofs.Common.{ap, refl, rules, sym, ◌∙◌, ◌≡◌, ℕ, subst, arith, inl, inr}
 use Rattle.std.proofs.lemmas.Bool.{cases_eq}
 use Rattle.rq_page.specs.Sizes.{page_count}
 use Rattle.rq_page.specs.Formatted.{IsFormatted}
@@ -16,6 +16,7 @@ loop-page-init g c =
       low = omega (arith, first);
       state = refl;
       written = λ p low high. absurd (omega (arith, first, low, high));
+      beyond = λ p past. refl;
       faults = refl;
       changed = refl;
       log = refl;
@@ -45,6 +46,12 @@ returns-in_err-write_tag_page-clause-cause g c =
     let that : CountsOne g.P.PageDevice g.L.LogDevice c.args.self.now c.write_tag_page.new.self =
     counts_one g.P.PageDevice g.L.LogDevice c.args.self.now c.loop-page.self c.write_tag_page.new.self kept.faults (ap g.L.LogDevice.faults kept.log) c.in_err-write_tag_page.ensures.cause in
     search (rules, that)
+
+pub returns-in_err-write_tag_page-clause-beyond : goal.returns-in_err-write_tag_page-clause-beyond
+returns-in_err-write_tag_page-clause-beyond g c = λ p past.
+    let end = c.pages-page-end.ensures.number in
+    let within = c.loop-page-test.true in
+    c.in_err-write_tag_page.ensures.others p (λ e. absurd (omega (arith, end, within, past, e))) ∙ c.loop-page.invariant.beyond p past
 
 pub returns-in_err-write_tag_page-clause-changed : goal.returns-in_err-write_tag_page-clause-changed
 returns-in_err-write_tag_page-clause-changed g c = c.in_err-write_tag_page.ensures.changed ∙ c.loop-page.invariant.changed
@@ -79,6 +86,7 @@ loop-page-preserved g c =
         | inl is ↦ subst (λ (q : ℕ). IsFormatted c.args.grown.now q (P.seen now.pages q)) (sym is) made.written
         | inr other ↦ subst (IsFormatted c.args.grown.now p) (sym (made.others p other)) (kept.written p least (omega (arith, most, other)))
       ];
+      beyond = λ p past. made.others p (let end = c.pages-page-end.ensures.number in let within = c.loop-page-test.true in λ e. absurd (omega (arith, end, within, past, e))) ∙ kept.beyond p past;
       faults = made.cause.0 ∙ kept.faults;
       changed = made.changed ∙ kept.changed;
       log = made.log ∙ kept.log;
@@ -95,6 +103,9 @@ returns-clause-written g c = λ p low high.
     let end = c.pages-page-end.ensures.number in
     let over = c.loop-page-test.false in
     c.loop-page.invariant.written p low (omega (arith, high, end, over))
+
+pub returns-clause-beyond : goal.returns-clause-beyond
+returns-clause-beyond g c = c.loop-page.invariant.beyond
 
 pub returns-clause-cause : goal.returns-clause-cause
 returns-clause-cause g c = (c.loop-page.invariant.faults, ap g.L.LogDevice.faults c.loop-page.invariant.log)

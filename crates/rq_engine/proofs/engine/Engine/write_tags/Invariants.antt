@@ -9,6 +9,7 @@ invariant-loop-page g l = record {
   low : page_count l.fn.self.state.sizes ≤ l.page;
   state : l.self.state ≡ l.fn.self.state;
   written : (p : ℕ) → page_count l.fn.self.state.sizes ≤ p → p < l.page → IsFormatted l.fn.grown p (g.P.PageDevice.seen l.self.pages p);
+  beyond : (p : ℕ) → page_count l.fn.grown ≤ p → g.P.PageDevice.seen l.self.pages p ≡ g.P.PageDevice.seen l.fn.self.pages p;
   faults : g.P.PageDevice.faults l.self.pages ≡ g.P.PageDevice.faults l.fn.self.pages;
   changed : l.self.changed ≡ l.fn.self.changed;
   log : l.self.log ≡ l.fn.self.log;
