@@ -17,15 +17,15 @@ use Rattle.rq_engine.specs.Opened.{OpenStore, pooled}
 use Rattle.rq_laws.specs.Refusals.{IsWant, RefuseAlike}
 use Rattle.rq_laws.proofs.Ending.{some_none}
 
-abbrev has_some : List Row → Bool
+abbrev pub has_some : List Row → Bool
 has_some [] = false
 has_some (r ∷ rows) = true
 
 -- what of the lists refuses a checkpoint
-abbrev refuses : State → Option Refusal
+abbrev pub refuses : State → Option Refusal
 refuses s = cond s.failed (Some why.Failed) (cond (has_some s.rows) (Some why.NotQuiet) (cond (log_full (ledger_of s) 1) (Some why.LogFull) None))
 
-rows_some : (rows : List Row) → (rows ≡ [] → ⊥) → has_some rows ≡ true
+pub rows_some : (rows : List Row) → (rows ≡ [] → ⊥) → has_some rows ≡ true
 rows_some [] other = absurd (other refl)
 rows_some (r ∷ rows) other = refl
 
@@ -33,11 +33,14 @@ refuses_none : (s : State) → s.failed ≡ false → s.rows ≡ [] → log_full
 refuses_none s runs none room = rw (runs, ap has_some none, room) refl
 
 module _ {P L : Type 0} (p : page_device.Ghosts P) (l : log_device.Ghosts L) (old : OpenStore P L) where
-  -- it is the lists that refuse, or a page, or a device
-  abbrev Why : Refusal → Type 0
-  Why r = (refuses old.state ≡ Some r) ⊎ (HasChangeBeyond (pooled old) (length old.state.records) × (refuses old.state ≡ None) × (r ≡ why.NotForced)) ⊎ IsWant r
+  -- it is the lists that refuse, for this or not at all, or a page, or a device
+  abbrev pub WhyBy : Option Refusal → Refusal → Type 0
+  WhyBy lists r = (lists ≡ Some r) ⊎ (HasChangeBeyond (pooled old) (length old.state.records) × (lists ≡ None) × (r ≡ why.NotForced)) ⊎ IsWant r
 
-  why_not : (new : OpenStore P L) (r : Refusal) → NotCheckpointed p l old new r → Why r
+  abbrev pub Why : Refusal → Type 0
+  Why r = WhyBy (refuses old.state) r
+
+  pub why_not : (new : OpenStore P L) (r : Refusal) → NotCheckpointed p l old new r → Why r
   why_not new why.Failed n = inl (rw n.0 refl)
   why_not new why.NotQuiet n = inl (rw (n.0, rows_some old.state.rows n.1) refl)
   why_not new why.LogFull n = inl (rw (n.0, ap has_some n.1, n.2) refl)
@@ -52,25 +55,28 @@ module _ {P L : Type 0} (p : page_device.Ghosts P) (l : log_device.Ghosts L) (ol
       omega (arith, low, high)
 
   -- where one can be made, only a device refuses
-  wanting : (r : Refusal) → MayMakeOneRecord old → Why r → IsWant r
-  wanting r could (inl e) = absurd (some_none r (sym e ∙ refuses_none old.state could.running could.none_open could.room))
-  wanting r could (inr (inl n)) = absurd (beyond could.within n.0)
-  wanting r could (inr (inr w)) = w
+  pub wanting : (lists : Option Refusal) (r : Refusal) → lists ≡ None → MayMakeOneRecord old → WhyBy lists r → IsWant r
+  wanting lists r none could (inl e) = absurd (some_none r (sym e ∙ none))
+  wanting lists r none could (inr (inl n)) = absurd (beyond could.within n.0)
+  wanting lists r none could (inr (inr w)) = w
 
-  both : (r s : Refusal) → Why r → Why s → (r ≡ s) ⊎ (IsWant r ⊎ IsWant s)
-  both r s (inl e) (inl f) = inl (same_Some r s (sym e ∙ f))
-  both r s (inl e) (inr (inl n)) = absurd (some_none r (sym e ∙ n.1))
-  both r s (inr (inl n)) (inl f) = absurd (some_none s (sym f ∙ n.1))
-  both r s (inr (inl n)) (inr (inl m)) = inl (n.2 ∙ sym m.2)
-  both r s (inr (inr w)) k = inr (inl w)
-  both r s h (inr (inr w)) = inr (inr w)
+  abbrev could_none : MayMakeOneRecord old → refuses old.state ≡ None
+  could_none could = refuses_none old.state could.running could.none_open could.room
+
+  pub both : (lists : Option Refusal) (r s : Refusal) → WhyBy lists r → WhyBy lists s → (r ≡ s) ⊎ (IsWant r ⊎ IsWant s)
+  both lists r s (inl e) (inl f) = inl (same_Some r s (sym e ∙ f))
+  both lists r s (inl e) (inr (inl n)) = absurd (some_none r (sym e ∙ n.1))
+  both lists r s (inr (inl n)) (inl f) = absurd (some_none s (sym f ∙ n.1))
+  both lists r s (inr (inl n)) (inr (inl m)) = inl (n.2 ∙ sym m.2)
+  both lists r s (inr (inr w)) k = inr (inl w)
+  both lists r s h (inr (inr w)) = inr (inr w)
 
   -- what a refusal leaves of the lists
-  abbrev after : Refusal → State
+  abbrev pub after : Refusal → State
   after why.DiskWrite = record old.state { failed = true }
   after _ = old.state
 
-  left : (new : OpenStore P L) (r : Refusal) → NotCheckpointed p l old new r → new.state ≡ after r
+  pub left : (new : OpenStore P L) (r : Refusal) → NotCheckpointed p l old new r → new.state ≡ after r
   left new why.Failed n = ap (λ (o : OpenStore P L). o.state) n.1
   left new why.NotQuiet n = ap (λ (o : OpenStore P L). o.state) n.2
   left new why.LogFull n = ap (λ (o : OpenStore P L). o.state) n.3
@@ -85,9 +91,9 @@ module _ {P L : Type 0} (p : page_device.Ghosts P) (l : log_device.Ghosts L) (ol
 
   pub decided : (x y : OpenStore P L) (a b : Result ℕ Refusal) → Answered x a → Answered y b → RefuseAlike a b
   decided x y (Ok a) (Ok b) m n = tt
-  decided x y (Ok a) (Err s) m n = wanting s m.made.could (why_not y s n.refused)
-  decided x y (Err r) (Ok b) m n = wanting r n.made.could (why_not x r m.refused)
-  decided x y (Err r) (Err s) m n = both r s (why_not x r m.refused) (why_not y s n.refused)
+  decided x y (Ok a) (Err s) m n = wanting (refuses old.state) s (could_none m.made.could) m.made.could (why_not y s n.refused)
+  decided x y (Err r) (Ok b) m n = wanting (refuses old.state) r (could_none n.made.could) n.made.could (why_not x r m.refused)
+  decided x y (Err r) (Err s) m n = both (refuses old.state) r s (why_not x r m.refused) (why_not y s n.refused)
 
   pub same : (x y : OpenStore P L) (a b : Result ℕ Refusal) → Answered x a → Answered y b → IfOk a (λ i. IfOk b (λ j. i ≡ j))
   same x y (Ok a) (Ok b) m n = m.made.lsn ∙ sym n.made.lsn
@@ -122,7 +128,7 @@ module _ {P L : Type 0} (p : page_device.Ghosts P) (l : log_device.Ghosts L) (ol
   pages x y (Err r) b m n = tt
 
   -- a refusal changes nothing, but where a device failed
-  same_store : (new : OpenStore P L) (r : Refusal) → NotCheckpointed p l old new r → (r ≡ why.DiskWrite → ⊥) → new ≡ old
+  pub same_store : (new : OpenStore P L) (r : Refusal) → NotCheckpointed p l old new r → (r ≡ why.DiskWrite → ⊥) → new ≡ old
   same_store new why.Failed n other = n.1
   same_store new why.NotQuiet n other = n.2
   same_store new why.LogFull n other = n.3
@@ -134,7 +140,7 @@ module _ {P L : Type 0} (p : page_device.Ghosts P) (l : log_device.Ghosts L) (ol
   refused x (Ok a) m = tt
   refused x (Err r) m = same_store x r m.refused
 
-  never : (new : OpenStore P L) (r : Refusal) → NotCheckpointed p l old new r → r ≡ why.NoMemory → ⊥
+  pub never : (new : OpenStore P L) (r : Refusal) → NotCheckpointed p l old new r → r ≡ why.NoMemory → ⊥
   never new r n e = subst (λ (x : Refusal). NotCheckpointed p l old new x) e n
 
   pub memory : (x : OpenStore P L) (a : Result ℕ Refusal) → Answered x a → IfErr a (λ r. r ≡ why.NoMemory → ⊥)

@@ -13,3 +13,4 @@ pub mod Restarting
 pub mod Writing
 pub mod Broken
 pub mod Checkpoints
+pub mod Migrations

@@ -58,8 +58,12 @@ pub record StartedAlike (p q : Option Sub) (a b : State) : Type 0 where
   pub lists : record a { rows = []; ends = record { sending = a.ends.sending; receiving = [] } }
       ≡ record b { rows = []; ends = record { sending = b.ends.sending; receiving = [] } }
 
--- two pages have the same LSN, the same header and the same slots
+-- two pages have the same slots
+abbrev pub HoldSlotsAlike : List ℕ → List ℕ → Type 0
+HoldSlotsAlike p q = (k : ℕ) → 1 ≤ k → k ≤ 15 → slot_of k p ≡ slot_of k q
+
+-- the same LSN, the same header and the same slots
 pub record PagesAlike (p q : List ℕ) : Type 0 where
   pub lsn : lsn_of p ≡ lsn_of q
   pub header : rest_of_header p ≡ rest_of_header q
-  pub slots : (k : ℕ) → 1 ≤ k → k ≤ 15 → slot_of k p ≡ slot_of k q
+  pub slots : HoldSlotsAlike p q

@@ -3,8 +3,9 @@ ghost use Rattle.std.specs.Prelude.{◌≡◌, ◌≢◌, ◌≤◌, ◌<◌, �
 ghost use Rattle.rq_content.specs.Read.{group_of};
 ghost use Rattle.rq_engine.specs.Opened.{AreHonest};
 ghost use Rattle.rq_engine.specs.Says.{receipt_of};
+ghost use Rattle.rq_laws.specs.Alike.{HoldSlotsAlike};
 ghost use Rattle.rq_laws.specs.Refusals.{RefuseAlike, RefuseTheSame};
-ghost use Rattle.rq_page.specs.Sizes.{page_count};
+ghost use Rattle.rq_page.specs.Sizes.{page_count, with_tags};
 ghost use Rattle.rq_sound.specs.Sound.{IsSound};
 
 use rq_content::GroupContent;
@@ -152,6 +153,41 @@ pub fn checkpoint<P: PageDevice, L: LogDevice, B: Level>(
     ensures decided { RefuseAlike result.0 result.1 }
 {
     (first.checkpoint(), second.checkpoint())
+}
+
+/// A migration answers the same LSN and leaves the same state. Both logs read as the same bytes. A crash leaves the same of both
+/// logs, of each page of the store, and of each behind the tag pages. It leaves first pages, and tag pages, with the same slots.
+/// Where one is refused, so is the other, but for a device that failed, and never for memory. Refused for the same they leave
+/// the same state; unless a device failed, the same store. Excludes a contract that leaves open the LSN, which tag pages come,
+/// what is written behind them, or when a migration is refused. Excludes one that leaves open whether the store runs on.
+pub fn migrate<P: PageDevice, L: LogDevice, B: Level>(
+    first: &mut Engine<P, L, B>,
+    second: &mut Engine<P, L, B>,
+    pages: u32,
+) -> (Result<Lsn, Refusal>, Result<Lsn, Refusal>)
+    requires same { first.old ≡ second.old }
+    ensures same { IfOk result.0 (λ a. IfOk result.1 (λ b. a ≡ b)) }
+    ensures state { IfOk result.0 (λ _. IfOk result.1 (λ _. first.new.state ≡ second.new.state)) }
+    ensures stopped { IfErr result.0 (λ r. IfErr result.1 (λ s. r ≡ s → first.new.state ≡ second.new.state)) }
+    ensures refused { IfErr result.0 (λ r. r ≢ Refusal.DiskWrite → first.new ≡ first.old) }
+    ensures memory { IfErr result.0 (λ r. r ≢ Refusal.NoMemory) }
+    ensures reads { IfOk result.0 (λ _. IfOk result.1 (λ _. L.honest first.new.log → L.honest second.new.log
+        → L.seen first.new.log ≡ L.seen second.new.log)) }
+    ensures durable { IfOk result.0 (λ _. IfOk result.1 (λ _. L.honest first.new.log → L.honest second.new.log
+        → (c d : List ℕ) → L.may_leave first.new.log c → L.may_leave second.new.log d → c ≡ d)) }
+    ensures pages { IfOk result.0 (λ _. IfOk result.1 (λ _. P.honest first.new.pages → P.honest second.new.pages
+        → (p : ℕ) → 1 ≤ p → p < page_count first.old.state.sizes → (c d : List ℕ) → P.may_be first.new.pages p c
+        → P.may_be second.new.pages p d → c ≡ d)) }
+    ensures first { IfOk result.0 (λ _. IfOk result.1 (λ _. (c d : List ℕ) → P.may_be first.new.pages 0 c
+        → P.may_be second.new.pages 0 d → HoldSlotsAlike c d)) }
+    ensures tags { IfOk result.0 (λ _. IfOk result.1 (λ _. (p : ℕ) → page_count first.old.state.sizes ≤ p
+        → p < page_count (with_tags pages first.old.state.sizes) → (c d : List ℕ) → P.may_be first.new.pages p c
+        → P.may_be second.new.pages p d → HoldSlotsAlike c d)) }
+    ensures beyond { IfOk result.0 (λ _. IfOk result.1 (λ _. (p : ℕ) → page_count (with_tags pages first.old.state.sizes) ≤ p
+        → (c d : List ℕ) → P.may_be first.new.pages p c → P.may_be second.new.pages p d → c ≡ d)) }
+    ensures decided { RefuseAlike result.0 result.1 }
+{
+    (first.migrate(pages), second.migrate(pages))
 }
 
 /// The last tag is told alike; and of a sound store both are refused for the same, or neither is. Of a store that is not
