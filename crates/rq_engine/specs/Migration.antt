@@ -64,7 +64,7 @@ module _ {P L : Type 0} (p : page_device.Ghosts P) (l : log_device.Ghosts L) (n 
       → Path p l (IsCutOrGrown n (on e old.state)) old.pages old.log new.pages new.log
 
   -- The store got its tag pages. One record, with this LSN, was put in the place of all. The log is that record alone, each page
-  -- is its image, and the new pages are there, whatever a crash leaves. The store has stopped.
+  -- is its image, the new pages are there, and those behind them as they read before, whatever a crash leaves. The store has stopped.
   pub record HasMigrated (old new : OpenStore P L) (lsn : ℕ) : Type 0 where
     pub could : MayMakeOneRecord old
     pub lsn_is : lsn ≡ length old.state.records + 1

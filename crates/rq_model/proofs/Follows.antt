@@ -30,7 +30,7 @@ follows z h (Crash kept records) b a = absurd (true≢false b)
 follows z h _ b a = a
 
 -- only a store that has stopped has a migration that is not told
-abbrev IsToldIn : Phase → Growth → Type 0
+abbrev pub IsToldIn : Phase → Growth → Type 0
 IsToldIn Stopped g = Unit {0}
 IsToldIn _ g = g ≡ Stays
 
@@ -43,7 +43,7 @@ told_after z l (Refused c DiskWrite) g a t = tt
 told_after z l (Refused c r) g a t = t
 told_after z l _ g a t = t
 
-told : (z : Size) (h : List Entry) → IsLegal z h → IsToldIn (ledger h).phase (growth h)
+pub told : (z : Size) (h : List Entry) → IsLegal z h → IsToldIn (ledger h).phase (growth h)
 told z [] a = refl
 told z (e ∷ h) a = told_after (size_at z h) (ledger h) e (growth h) (legal_there z h e a.0) (told z h a.1)
 

@@ -1,6 +1,7 @@
 pub mod Lists
 pub mod Keeps
 pub mod Follows
+pub mod Growths
 pub mod Each
 pub mod Same
 pub mod Ends

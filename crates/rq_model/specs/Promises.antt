@@ -1,5 +1,5 @@
 -- What holds at every place of every legal history, and how a history goes on.
-use Rattle.std.specs.Prelude.{◌≡◌, ℕ, ◌+◌, ◌≤◌, List, [], ◌∷◌, ◌++◌, length, Bool, true, false, None, ◌&&◌, ◌||◌, not, map}
+use Rattle.std.specs.Prelude.{◌≡◌, ℕ, ◌+◌, ◌*◌, ◌≤◌, List, [], ◌∷◌, ◌++◌, length, Bool, true, false, None, ◌&&◌, ◌||◌, not, map}
 use Rattle.rq_model.specs.declared.refusal.Refusal.TheVariants.{Failed}
 use Rattle.rq_model.specs.declared.txn.Txn.{Txn}
 use Rattle.rq_model.specs.declared.message.Message.{Message}
@@ -52,6 +52,15 @@ abbrev pub ReceiptsAreExact : Size → Type 0
 ReceiptsAreExact z = (newer older : List Entry) (t : Txn) (lsn : ℕ) (given : Bool)
     → IsLegal z (Acknowledged t lsn given ∷ (newer ++ (Committed t lsn ∷ older)))
     → given ≡ (any_entry is_force newer && not (any_entry is_restart newer))
+
+abbrev pub is_crash : Entry → Bool
+is_crash (Crash kept records) = true
+is_crash _ = false
+
+-- a migration that was answered stays: from the next crash on the store has the clients of its tag pages
+abbrev pub MigrationsStay : Size → Type 0
+MigrationsStay z = (newer older : List Entry) (pages lsn : ℕ) → IsLegal z (newer ++ (Migrated pages lsn ∷ older))
+    → any_entry is_crash newer ≡ true → (size_at z (newer ++ (Migrated pages lsn ∷ older))).clients ≡ 15 * pages
 
 -- nothing is sent to a group that a committed transaction closed
 abbrev pub NothingBehindClose : Size → Type 0

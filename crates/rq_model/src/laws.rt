@@ -11,7 +11,7 @@ ghost use Rattle.rq_model.specs.Rules.{KeepsRules};
 ghost use Rattle.rq_model.specs.Ledger.{ledger, group_in};
 ghost use Rattle.rq_model.specs.History.{Entry, marks};
 ghost use Rattle.rq_model.specs.History.Entry.{Told_client};
-ghost use Rattle.rq_model.specs.Promises.{AcknowledgedStay, CheckpointCrashGoesOn, CrashGoesOn, FifoThroughout, NothingBehindClose, ReceiptsAreExact, ReplayGoesOn, RestartGoesOn, ShutCrashGoesOn, StillStoreRefuses};
+ghost use Rattle.rq_model.specs.Promises.{AcknowledgedStay, CheckpointCrashGoesOn, CrashGoesOn, FifoThroughout, MigrationsStay, NothingBehindClose, ReceiptsAreExact, ReplayGoesOn, RestartGoesOn, ShutCrashGoesOn, StillStoreRefuses};
 ghost use Rattle.rq_model.specs.Legal.{IsLegal};
 ghost use Rattle.rq_model.specs.Tests.{Size};
 ghost use Rattle.rq_model.specs.Worked.{AreWorked};
@@ -39,6 +39,11 @@ pub fn acknowledged_stay()
 /// not opened again.
 pub fn receipts_are_exact()
     ensures { (size : Size) → ReceiptsAreExact size }
+{}
+
+/// A migration that was answered stays: from the next crash on the store has the clients of its tag pages.
+pub fn migrations_stay()
+    ensures { (size : Size) → MigrationsStay size }
 {}
 
 /// Nothing is sent to a group that a committed transaction has closed.
