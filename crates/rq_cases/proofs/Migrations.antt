@@ -1,6 +1,34 @@
 -- Worked histories with migrations: that they are legal, and that others are not.
-use Rattle.std.proofs.Common.{rules, refl, arith}
+use Rattle.std.proofs.Common.{◌≡◌, ℕ, ◌+◌, ◌≤◌, List, [], Option, None, Some, length, rules, refl, sym, ◌∙◌, ap, arith}
+use Rattle.std.specs.Prelude.{replicate}
+use Rattle.std.proofs.lemmas.List.{length-append}
+use Rattle.rq_model.specs.declared.record.Record.{Record}
+use Rattle.rq_disk.specs.Device.{Images}
+use Rattle.rq_page.proofs.Formats.{told_sizes}
+use Rattle.rq_page.specs.Formatted.{IsHeaderFor}
+use Rattle.rq_page.specs.Kinds.{kind_byte, kind_of}
+use Rattle.rq_page.specs.Pages.{header_bytes, header_front, header_of, lsn_of}
+use Rattle.rq_page.specs.Sizes.{IsInRange, with_tags}
+use Rattle.rq_page.specs.declared.layout.PageKind.{PageKind}
+use Rattle.rq_store.specs.Opening.{IsLeft}
+use Rattle.rq_cases.specs.Store.{sizes}
+use Rattle.rq_cases.proofs.Pages.{range}
 use Rattle.rq_cases.specs.Migrations.{MigrationsAreJudged}
+
+untold : (n : ℕ) (log : List Record) (images : Images) → 1 ≤ n → n ≤ 1024 → IsLeft sizes images log → IsLeft (with_tags n sizes) images log → ⊥
+untold n log images low high without with =
+    let within : IsInRange (with_tags n sizes) = record { directory_low = range.directory_low; directory_high = range.directory_high; cells_low = range.cells_low; cells_high = range.cells_high; tags_high = high } in
+    let none = (told_sizes sizes (images 0) range without.fits.superblock).2 in
+    let some = (told_sizes (with_tags n sizes) (images 0) within with.fits.superblock).2 in
+    omega (arith, low, none, some)
+
+-- a page has a header
+no_bytes : (k : Option PageKind) (page lsn : ℕ) (image : List ℕ) → image ≡ [] → IsHeaderFor k page lsn image → ⊥
+unfolding header_of header_bytes
+no_bytes None page lsn image none is = is
+no_bytes (Some k) page lsn image none is =
+    let length_is : 0 ≡ length (header_front lsn page (kind_byte k)) + 243 = ap length (ap header_of (sym none) ∙ is) ∙ length-append (header_front lsn page (kind_byte k)) (replicate 243 0) in
+    omega (arith, length_is)
 
 pub worked_migrations : MigrationsAreJudged
 worked_migrations = record {
@@ -60,4 +88,6 @@ worked_migrations = record {
   may_stay = tt;
   may_grow = refl;
   unasked = λ a. a;
+  untold = untold;
+  unwritten = λ n p log images low high none left. no_bytes (kind_of (with_tags n sizes) p) p (lsn_of (images p)) (images p) none (left.fits.headers p low high);
 }

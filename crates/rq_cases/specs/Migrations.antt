@@ -1,5 +1,6 @@
 -- Worked histories with migrations: which are legal, what the store has then, and which are not legal.
-use Rattle.std.specs.Prelude.{◌≡◌, ◌+◌, ◌^◌, List, [], ◌∷◌, false, None, Some}
+use Rattle.std.specs.Prelude.{◌≡◌, ℕ, ◌+◌, ◌^◌, ◌<◌, ◌≤◌, List, [], ◌∷◌, false, None, Some}
+use Rattle.rq_model.specs.declared.record.Record.{Record}
 use Rattle.rq_model.specs.declared.refusal.Refusal.TheVariants.{BadTags, DiskWrite, Failed, LogFull, NotQuiet, UnknownClient}
 use Rattle.rq_model.specs.History.{Entry}
 use Rattle.rq_model.specs.History.Call.{Migrate, Show, Start_mark}
@@ -11,6 +12,10 @@ use Rattle.rq_model.specs.Legal.{IsLegal}
 use Rattle.rq_model.specs.Tests.{size_at}
 use Rattle.rq_model.specs.Worked.{committed_once, failed_force, hello, sent_once, small, txn}
 use Rattle.rq_model.specs.WorkedMarks.{untagged}
+use Rattle.rq_disk.specs.Device.{Images}
+use Rattle.rq_page.specs.Sizes.{page_count, with_tags}
+use Rattle.rq_store.specs.Opening.{IsLeft}
+use Rattle.rq_cases.specs.Store.{sizes}
 
 -- one commit, and one tag page more
 abbrev migrated : List Entry
@@ -89,3 +94,8 @@ pub record MigrationsAreJudged : Type 0 where
   pub may_stay : IsGrownBy (growth refused) None
   pub may_grow : IsGrownBy (growth refused) (Some 1)
   pub unasked : IsGrownBy (growth committed_once) (Some 1) → ⊥
+  -- pages that are no store with tag pages: those of one without, and those of which one has no bytes
+  pub untold : (n : ℕ) (log : List Record) (images : Images) → 1 ≤ n → n ≤ 1024 → IsLeft sizes images log
+      → IsLeft (with_tags n sizes) images log → ⊥
+  pub unwritten : (n p : ℕ) (log : List Record) (images : Images) → 1 ≤ p → p < page_count (with_tags n sizes) → images p ≡ []
+      → IsLeft (with_tags n sizes) images log → ⊥

@@ -375,7 +375,7 @@ const MIGRATED_ROWS: [Row; 32] = [
 ];
 
 // A crash cuts a migration off, and leaves the pages of tags that it wrote.
-const GROWN_ROWS: [Row; 14] = [
+const GROWN_ROWS: [Row; 15] = [
     (Call::Grow(1), 0),
     (Call::Restart(1, 1), 1),
     (Call::Begin, 1),
@@ -385,6 +385,7 @@ const GROWN_ROWS: [Row; 14] = [
     (Call::Grow(1025), 0),
     (Call::Grow(1024), 1),
     (Call::Force, 102),
+    (Call::Crash(1), 0),
     (Call::Crash(3), 1),
     (Call::Grow(1), 0),
     (Call::Restart(2, 4), 1),
