@@ -1,4 +1,8 @@
 //! `rqm checkpoint` and `rqm migrate`: a store is opened, and its log made one record.
+ghost use Rattle.std.specs.Prelude.{◌≡◌, ◌↔◌, Err, true};
+ghost use Rattle.rq_engine.specs.Answers.{AnswersLegally};
+ghost use Rattle.rqm.specs.Changing.{call_of, told};
+
 use crate::progress::{Opening, while_told};
 use crate::serving::{opened, tell_fault};
 use rq_disk::{LogDevice, PageDevice, Unknown};
@@ -43,7 +47,11 @@ impl Change {
     fn make<P: PageDevice, L: LogDevice, B: Level>(
         self,
         engine: &mut Engine<P, L, B>,
-    ) -> Result<Lsn, Refusal> {
+    ) -> Result<Lsn, Refusal>
+        ensures answered { AnswersLegally P.PageDevice L.LogDevice engine.old (call_of self) (told self) result engine.new }
+        ensures sizes { engine.new.state.sizes ≡ engine.old.state.sizes }
+        ensures failed { (result ≡ Err Refusal.Failed) ↔ (engine.old.state.failed ≡ true) }
+    {
         match self {
             Change::Checkpoint => engine.checkpoint(),
             Change::Migrate(tags) => engine.migrate(tags),
