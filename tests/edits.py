@@ -1,15 +1,22 @@
 #!/usr/bin/env python3
 """Tries wrong bodies: each edit of crates/NAME/wrong-bodies has to be refused by the contract of the function that it changes.
 
-    python3 tests/edits.py [NAME..]      of all crates, or of these
+    python3 tests/edits.py [NAME..]                  of all crates, or of these
+    python3 tests/edits.py --unchanged [NAME..]      copies that change nothing: each has to be proved
 
 An edit is a text file: a line 'function: PATH', a line 'file: src/..' and pairs of lines 'old: TEXT' and 'new: TEXT', each TEXT
-one line. An old text stands in the file once. It is made in a copy of the function, with its proofs, under a name of its own, or where
-that can't be (a trait's method, a text beside the function) in the function itself. So all edits of a crate are tried at once, in a
-copy of the crate: the prover checks these functions and what they call, over the built libraries below it (out/rlib, as the gate or
-`rt lib` leaves them). It has to say that each is not proved, and which clause or condition of it fails. One more copy, of the shortest
-of them, changes nothing: it has to be proved, so that nothing else than the edits can have made the others fail.
-What a check of a crate proved is kept for the next (out/incremental, as the gate leaves it, and then by each check here).
+one line. An old text stands in the file once. A line 'clause: NAME' says which clause has to fail.
+
+It is made in a copy of the function, with its proofs, under a name of its own. Where that can't be (a trait's method, a text beside the
+function), it is made in the function itself. So all edits of a crate are tried at once, in a copy of the crate. The prover checks these
+functions and what they call, over the built libraries below it (out/rlib, as the gate or `rt lib` leaves them). It has to say that each
+is not proved, and which clause or condition of it fails.
+
+One more copy changes nothing. It is of the shortest function, of those with proofs by hand where there are any. It has to be proved, so
+it is neither the libraries nor the copying that makes the others fail; `--unchanged` shows that of each function. An answer by hand may
+also fail since the edit gave a value another name: who writes an edit sees to it that a goal is false.
+
+What a check of a crate proved is kept for the next (out/incremental, as `rt check` leaves it, and then by each check here).
 """
 
 import concurrent.futures
@@ -66,7 +73,7 @@ def words(uses, crate, functions):
 class Edit:
     def __init__(self, crate, path):
         self.crate, self.name = crate, os.path.basename(path)[: -len(".edit")]
-        self.function, self.file, self.pairs = "", "", []
+        self.function, self.file, self.clause, self.pairs = "", "", "", []
         with open(path, encoding="utf-8") as lines:
             for line in lines.read().split("\n"):
                 word, _, text = line.partition(": ")
@@ -74,6 +81,8 @@ class Edit:
                     self.function = text
                 elif word == "file":
                     self.file = text
+                elif word == "clause":
+                    self.clause = text
                 elif word == "old":
                     self.pairs.append([self.file, text, ""])
                 elif word.rstrip(":") == "new":
@@ -222,8 +231,10 @@ def judge(edit, text, said):
         it = answer.match(line)
         if it and not names.search(it[1]):
             reasons.append(f"the answer of {it[1]}")
+    if edit.clause:
+        reasons = [reason for reason in reasons if re.search(rf"`\S*\bclause-{edit.clause}`", reason)]
     if not reasons:
-        return False, f"NOT REFUSED by a clause: {told[1][:100]}"
+        return False, f"NOT REFUSED by {f'its clause {edit.clause}' if edit.clause else 'a clause'}: {told[1][:100]}"
     return True, f"refused: {reasons[0][:150]}"
 
 
@@ -235,7 +246,7 @@ def unchanged(edit):
 
 
 def controls(edits):
-    """A copy that changes nothing of the shortest function that is copied, with proofs by hand where one has any; none where none is."""
+    """A copy that changes nothing, of the shortest function that is copied, of those with proofs by hand where there are any."""
 
     def cost(edit):
         folder = f"{ROOT}/crates/{edit.crate}"
@@ -267,40 +278,52 @@ def checked(uses, crate, edits, functions, kept):
         return ran.returncode, ran.stdout, [text_of(f"{room}/{edit.file}") for edit in edits]
 
 
-def try_round(uses, crate, edits, kept, proved):
+def try_round(uses, crate, edits, kept):
     """Of each edit: whether it is refused, and why or why not. Those that are not, beside others, are tried again without these: one may
-    call a function that another edit changes, and then the prover does not judge it. Where all are left, each half is tried alone.
-    `proved` gets whether a function was proved that stood as it is."""
+    call a function that another edit changes, and then the prover does not judge it. Where all are left, each half is tried alone."""
     tried = [*edits, *controls(edits)]
     status, said, texts = checked(uses, crate, tried, [edit.tried() for edit in tried], kept)
-    proved += [is_proved(control.tried(), said) for control in tried[len(edits) :]]
-    if status != 1 and len(edits) == 1:
-        return [(edits[0], False, f"BAD EDIT: the prover ended with {status}: {said.strip()[-200:]}")]
-    answers = [(edit, *judge(edit, text, said)) for edit, text in zip(edits, texts)]
+    if status not in (0, 1):
+        answers = [(edit, False, f"BAD EDIT: the prover ended with {status}: {said.strip()[-200:]}") for edit in edits]
+    elif not all(is_proved(control.tried(), said) for control in tried[len(edits) :]):
+        answers = [(edit, False, "NOT JUDGED: a copy that changes nothing is not proved") for edit in edits]
+    else:
+        answers = [(edit, *judge(edit, text, said)) for edit, text in zip(edits, texts)]
     left = [edit for edit, is_refused, _ in answers if not is_refused]
     if not left or len(edits) == 1:
         return answers
+    left.sort(key=Edit.is_copied)
     half = len(left) // 2
     again = [left] if len(left) < len(edits) else [left[:half], left[half:]]
-    return [it for it in answers if it[1]] + [it for group in again for it in try_round(uses, crate, group, kept, proved)]
+    return [it for it in answers if it[1]] + [it for group in again for it in try_round(uses, crate, group, kept)]
 
 
 def try_crate(uses, crate, edits):
-    """Of each edit of a crate: whether it is refused, and why or why not. Where no function was proved beside them, the first one is checked
-    as it stands, and it is told where that is not proved."""
+    """Of each edit of a crate: whether it is refused, and why or why not. Where none is made in a copy, the first function is checked as it
+    stands, and it is told where that is not proved."""
     with tempfile.TemporaryDirectory(prefix="rt-edit-") as kept:
         if os.path.isdir(kept_before := f"{ROOT}/crates/{crate}/out/incremental"):
             shutil.copytree(kept_before, kept, dirs_exist_ok=True)
-        proved = []
-        answers = [it for group in rounds(edits) for it in try_round(uses, crate, group, kept, proved)]
-        if any(proved):
+        answers = [it for group in rounds(edits) for it in try_round(uses, crate, group, kept)]
+        if controls(edits):
             return answers
         status, said, _ = checked(uses, crate, [], [edits[0].function], kept)
         wrong = [(edits[0], False, f"NOT PROVED as it stands: {said.strip()[-200:]}")] if status else []
         return wrong + answers
 
 
-def main(names):
+def try_unchanged(uses, crate, edits):
+    """Of each function that is copied: whether a copy that changes nothing is proved."""
+    copies = [*{edit.function: unchanged(edit) for edit in edits if edit.is_copied()}.values()]
+    with tempfile.TemporaryDirectory(prefix="rt-edit-") as kept:
+        _, said, _ = checked(uses, crate, copies, [copied.tried() for copied in copies], kept)
+    proved = [(copied, is_proved(copied.tried(), said)) for copied in copies]
+    return [(copied, is_right, "proved, unchanged" if is_right else "NOT PROVED, unchanged") for copied, is_right in proved]
+
+
+def main(words):
+    names = [word for word in words if word != "--unchanged"]
+    attempt = try_crate if len(names) == len(words) else try_unchanged
     uses, bad, work = crates(), 0, []
     unknown = {name for name in os.listdir(f"{ROOT}/crates") if os.path.isdir(f"{ROOT}/crates/{name}/wrong-bodies")} - {*uses}
     for crate in uses:
@@ -317,13 +340,13 @@ def main(names):
     with concurrent.futures.ThreadPoolExecutor(min(4, os.cpu_count() or 1)) as pool:
         # (those with most edits first)
         work.sort(key=lambda it: -len(it[1]))
-        for task in concurrent.futures.as_completed([pool.submit(try_crate, uses, *it) for it in work]):
+        for task in concurrent.futures.as_completed([pool.submit(attempt, uses, *it) for it in work]):
             for edit, is_refused, why in task.result():
                 refused, bad = refused + is_refused, bad + (not is_refused)
                 print(f"{edit.crate}/{edit.name}: {edit.function}: {why}", flush=True)
     for name in unknown:
         print(f"{name}: it has edits, and crates.txt does not name it")
-    print(f"edits: {refused} refused, {bad} not, in {time.monotonic() - start:.0f} s")
+    print(f"edits: {refused} {'refused' if attempt == try_crate else 'proved'}, {bad} not, in {time.monotonic() - start:.0f} s")
     return 1 if bad or unknown or not refused else 0
 
 
