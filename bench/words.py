@@ -32,11 +32,13 @@ ROWS = [
     (["replace", "."], b"\n\n", "600 zeros\n" * 2),
     (["calls", "1", "2"], b"", "7168 calls\n"),
     (["calls", "4", "2"], b"", "7168 calls\n"),
+    (["happenings", "1", "1"], b"restart\n", "restarted 1 0 0 1\n"),
+    (["happenings", "1", "1", "1"], b"restart\ntag 14\n", "restarted 1 0 0 1\ntag 0 0\n"),
 ]
 
 MOST_SECONDS = 60  # of one run of the program
 
-# What is no word, or lacks one, or is at fault: nothing is printed, and the status is 1. An opening says why.
+# What is no word, or lacks one, or is at fault: nothing is printed, and the status is 1. An opening says why, and so does a list.
 REFUSED = [
     (["decode"], LOG[:-1]),
     (["feed"], b"\0\0"),
@@ -47,6 +49,8 @@ REFUSED = [
     (["checkpoint", "none", "1", "1"], b""),
     (["checkpoint", ".", "1"], b""),
     (["calls", "2", "1"], b""),
+    (["happenings", "0", "1"], b"restart\n"),
+    (["happenings", "1", "1", "0.5"], b"restart\n"),
     (["other"], b""),
     ([], b""),
 ]
@@ -65,6 +69,7 @@ def check(program):
     """Runs all rows by a program, in a folder of their own. Ends at the first that comes to something else."""
     wanted = [(*row[:2], 0, row[2]) for row in ROWS] + [(*row, 1, "") for row in REFUSED]
     wanted.append((["open", "none"], b"", 1, "fault open\n"))
+    wanted.append((["happenings", "1", "1"], b"restart\nnone\n", 1, "fault line 2\n"))
     with tempfile.TemporaryDirectory() as folder:
         for words, stdin, status, output in wanted:
             came = ended(program, words, stdin, folder)

@@ -483,7 +483,7 @@ def courses(program):
 
 def courses_from(program, log):
     """The same over a store that is formatted, but for this log."""
-    shorter = 0
+    shorter, failures = 0, 0
     for words, told in each_call(*range(18, 24)):
         course = Course()
         with folder_of(pages=formatted(), log=log) as folder, folder_of(synced=log) as beside:
@@ -496,6 +496,7 @@ def courses_from(program, log):
                 assert refused.line in (b"fault 3 DiskRead\n", b"fault 15 DiskWrite\n"), refused
             else:
                 course.run(server)
+                failures += told.exists()
                 wait_until(lambda: has_told_failure(server) if told.exists() else course.has_written(folder))
                 lines = server.tells()[1:]  # (a call may also fail only now)
                 assert lines in ([], [STORE_FAILED]), lines
@@ -510,8 +511,9 @@ def courses_from(program, log):
                 assert held in course.may_leave(), (words, held, course.done, len(left))
             held = held_by(program, folder)
             assert held in course.may_leave(), (words, held, course.done)
-    # so often fails the sync of the opening or of a commit, in either pass
+    # so often fails the sync of the opening or of a commit, in either pass, and of a commit alone
     assert shorter >= 2 * len(Course.left), f"only {shorter} logs were not synced whole"
+    assert failures >= 2 * (len(Course.left) - 1), f"only {failures} servers were to tell that their store failed"
 
 
 def torn_ends(program):

@@ -32,8 +32,8 @@ from damaged import formatted
 from files import NO_FILES, checkpoint, files_of, folder_of, format_store, held_by
 from kill import Kills
 from server import (
-    BEGIN, LAST_KIND, LENGTHS, LONGEST, STORE_FAILED, Client, Connection, NotStarted, Server, broken_off, compare, everything, first_line,
-    frame_of, in_threads, raises, read_bytes, read_to_end, reset, serving, store, told_of, wait_until,
+    BEGIN, LAST_KIND, LENGTHS, LONGEST, Client, Connection, NotStarted, Server, broken_off, compare, everything, first_line, frame_of,
+    in_threads, raises, read_bytes, read_to_end, reset, serving, store, tells_failure_once, told_of, wait_until,
 )  # fmt: skip
 from shim import failing
 
@@ -827,7 +827,7 @@ def fill_disk(program, top, words, grow=lambda: None):
     with serving(program, folder, environment=words) as server, server.connect() as connection:
         acknowledged = send_until_full(connection)
         raises(Failed, connection.transaction)
-        wait_until(lambda: server.tells()[1:] == [STORE_FAILED])
+        tells_failure_once(server)
     for command in (SERVE, CHECKPOINT):  # what a start needs may find no room
         came = limited(program, folder, environment=words, words=command)
         assert told_by(came, False) == "done" or came[0].endswith(b"fault 15 DiskWrite\n"), came

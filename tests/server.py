@@ -641,7 +641,7 @@ def failing_force(program, _):
             assert processor_time(server) - spent < 0.3, "it waits busily"
             with server.connect() as connection:
                 raises(Failed, connection.transaction)
-            wait_until(lambda: server.tells()[1:] == [STORE_FAILED])
+            tells_failure_once(server)
         with serving(program, folder) as server, server.connect() as connection:
             held = everything(connection)
         assert held.pop(0) == [(1, b"kept")] and all(left == [(7, b"")] for left in held.values()), held
@@ -1072,7 +1072,7 @@ def full_disk(program, _):
             acknowledged = send_until_failed(server)
             with server.connect() as connection:
                 raises(Failed, connection.transaction)
-            wait_until(lambda: server.tells()[1:] == [STORE_FAILED])
+            tells_failure_once(server)
         with serving(program, folder) as server, server.connect() as connection:
             held = everything(connection).get(0, [])
             assert held[: len(acknowledged)] == acknowledged and len(held) <= len(acknowledged) + 1, (held, acknowledged)
@@ -1435,6 +1435,13 @@ def wait_until(comes, seconds=LONGEST):
     while not comes():
         assert time.monotonic() < until, "it does not come"
         time.sleep(0.01)
+
+
+def tells_failure_once(server):
+    """Who runs the server is told once that the store has failed, which a busy machine may keep for a while."""
+    wait_until(lambda: server.tells()[1:] == [STORE_FAILED])
+    time.sleep(0.1)
+    assert server.tells()[1:] == [STORE_FAILED], server.tells()
 
 
 def raises(kind, call):
