@@ -7,13 +7,16 @@ use Rattle.rq_model.specs.Tests.{bad_tags}
 use Rattle.rq_disk.specs.declared.device.LogDevice as log_device
 use Rattle.rq_disk.specs.declared.device.PageDevice as page_device
 use Rattle.rq_log.specs.Spelled.{spelled}
-use Rattle.rq_page.specs.Formatted.{IsFormatted}
+use Rattle.rq_page.specs.Formatted.{IsFormatted, IsHeaderFor}
+use Rattle.rq_page.specs.Kinds.{kind_of}
+use Rattle.rq_page.specs.declared.layout.PageKind.{PageKind}
+use Rattle.rq_page.specs.Pages.{header_of}
 use Rattle.rq_page.specs.Sizes.{Sizes, page_count, with_tags}
 use Rattle.rq_store.specs.State.{State, size_of}
 use Rattle.rq_engine.specs.Checkpoint.{MayMakeOneRecord}
 use Rattle.rq_engine.specs.Migration.{HasMigrated, MayGetTags, NotMigrated}
 use Rattle.rq_engine.specs.Opened.{OpenStore}
-use Rattle.rq_laws.specs.Alike.{HoldSlotsAlike}
+use Rattle.rq_laws.specs.Alike.{ReadAlike}
 use Rattle.rq_laws.specs.Refusals.{RefuseAlike}
 use Rattle.rq_laws.proofs.Checkpoints.{WhyBy, after, both, has_some, left, never, refuses, rows_some, same_store, wanting}
 
@@ -21,8 +24,12 @@ use Rattle.rq_laws.proofs.Checkpoints.{WhyBy, after, both, has_some, left, never
 abbrev refuses_tags : ℕ → State → Option Refusal
 refuses_tags n s = cond s.failed (Some why.Failed) (cond (bad_tags (size_of s.sizes) n) (Some why.BadTags) (refuses s))
 
-same_slots : (z : Sizes) (page : ℕ) (c d : List ℕ) → IsFormatted z page c → IsFormatted z page d → HoldSlotsAlike c d
-same_slots z page c d f g k low high = f.slots k low high ∙ sym (g.slots k low high)
+same_header : (k : Option PageKind) (page : ℕ) (c d : List ℕ) → IsHeaderFor k page 0 c → IsHeaderFor k page 0 d → header_of c ≡ header_of d
+same_header None page c d f g = absurd f
+same_header (Some k) page c d f g = f ∙ sym g
+
+same_page : (z : Sizes) (page : ℕ) (c d : List ℕ) → IsFormatted z page c → IsFormatted z page d → ReadAlike c d
+same_page z page c d f g = (same_header (kind_of z page) page c d f.header g.header, λ k low high. f.slots k low high ∙ sym (g.slots k low high))
 
 module _ {P L : Type 0} (p : page_device.Ghosts P) (l : log_device.Ghosts L) (n : ℕ) (old : OpenStore P L) where
   abbrev Why : Refusal → Type 0
@@ -108,11 +115,11 @@ module _ {P L : Type 0} (p : page_device.Ghosts P) (l : log_device.Ghosts L) (n 
     pub both_paged : p.honest x.pages → p.honest y.pages → (q : ℕ) → 1 ≤ q → q < page_count old.state.sizes → (c d : List ℕ) → p.may_be x.pages q c → p.may_be y.pages q d → c ≡ d
     both_paged h g q low high c d e f = m.pages h q low high c e ∙ sym (k.pages g q low high d f)
 
-    pub both_first : (c d : List ℕ) → p.may_be x.pages 0 c → p.may_be y.pages 0 d → HoldSlotsAlike c d
-    both_first c d e f = same_slots (with_tags n old.state.sizes) 0 c d (m.tags.superblock c e) (k.tags.superblock d f)
+    pub both_first : (c d : List ℕ) → p.may_be x.pages 0 c → p.may_be y.pages 0 d → ReadAlike c d
+    both_first c d e f = same_page (with_tags n old.state.sizes) 0 c d (m.tags.superblock c e) (k.tags.superblock d f)
 
-    pub both_tags : (q : ℕ) → page_count old.state.sizes ≤ q → q < page_count (with_tags n old.state.sizes) → (c d : List ℕ) → p.may_be x.pages q c → p.may_be y.pages q d → HoldSlotsAlike c d
-    both_tags q low high c d e f = same_slots (with_tags n old.state.sizes) q c d (m.tags.added q c low high e) (k.tags.added q d low high f)
+    pub both_tags : (q : ℕ) → page_count old.state.sizes ≤ q → q < page_count (with_tags n old.state.sizes) → (c d : List ℕ) → p.may_be x.pages q c → p.may_be y.pages q d → ReadAlike c d
+    both_tags q low high c d e f = same_page (with_tags n old.state.sizes) q c d (m.tags.added q c low high e) (k.tags.added q d low high f)
 
     pub both_beyond : (q : ℕ) → page_count (with_tags n old.state.sizes) ≤ q → (c d : List ℕ) → p.may_be x.pages q c → p.may_be y.pages q d → c ≡ d
     both_beyond q past c d e f = m.beyond q past c e ∙ sym (k.beyond q past d f)

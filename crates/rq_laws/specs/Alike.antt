@@ -2,7 +2,7 @@
 use Rattle.std.specs.Prelude.{◌≡◌, ℕ, ◌≤◌, Bool, List, [], Option, Some, None, map, reverse}
 use Rattle.rq_model.specs.declared.txn.Sub.{Sub}
 use Rattle.rq_model.specs.declared.txn.Txn.{Txn}
-use Rattle.rq_page.specs.Pages.{lsn_of, rest_of_header, slot_of}
+use Rattle.rq_page.specs.Pages.{header_of, lsn_of, rest_of_header, slot_of}
 use Rattle.rq_page.specs.Sizes.{Sizes}
 use Rattle.rq_views.specs.Log.{Write}
 use Rattle.rq_views.specs.Stored.{slots_in}
@@ -62,7 +62,11 @@ pub record StartedAlike (p q : Option Sub) (a b : State) : Type 0 where
 abbrev pub HoldSlotsAlike : List ℕ → List ℕ → Type 0
 HoldSlotsAlike p q = (k : ℕ) → 1 ≤ k → k ≤ 15 → slot_of k p ≡ slot_of k q
 
--- the same LSN, the same header and the same slots
+-- and the same header, with the LSN in it
+abbrev pub ReadAlike : List ℕ → List ℕ → Type 0
+ReadAlike p q = (header_of p ≡ header_of q) × HoldSlotsAlike p q
+
+-- the same LSN, the same header behind it and the same slots
 pub record PagesAlike (p q : List ℕ) : Type 0 where
   pub lsn : lsn_of p ≡ lsn_of q
   pub header : rest_of_header p ≡ rest_of_header q

@@ -3,7 +3,7 @@ ghost use Rattle.std.specs.Prelude.{◌≡◌, ◌≢◌, ◌≤◌, ◌<◌, �
 ghost use Rattle.rq_content.specs.Read.{group_of};
 ghost use Rattle.rq_engine.specs.Opened.{AreHonest};
 ghost use Rattle.rq_engine.specs.Says.{receipt_of};
-ghost use Rattle.rq_laws.specs.Alike.{HoldSlotsAlike};
+ghost use Rattle.rq_laws.specs.Alike.{ReadAlike};
 ghost use Rattle.rq_laws.specs.Refusals.{RefuseAlike, RefuseTheSame};
 ghost use Rattle.rq_page.specs.Sizes.{page_count, with_tags};
 ghost use Rattle.rq_sound.specs.Sound.{IsSound};
@@ -156,8 +156,8 @@ pub fn checkpoint<P: PageDevice, L: LogDevice, B: Level>(
 }
 
 /// A migration answers the same LSN and leaves the same state. Both logs read as the same bytes. A crash leaves the same of both
-/// logs, of each page of the store, and of each behind the tag pages. It leaves first pages, and tag pages, with the same slots.
-/// Where one is refused, so is the other, but for a device that failed, and never for memory. Refused for the same they leave
+/// logs, of each page of the store, and of each behind the tag pages. Of page 0 and of each tag page it leaves the same header
+/// and slots. Where one is refused, so is the other, but for a device that failed, and never for memory. Refused for the same they leave
 /// the same state; unless a device failed, the same store. Excludes a contract that leaves open the LSN, which tag pages come,
 /// what is written behind them, or when a migration is refused. Excludes one that leaves open whether the store runs on.
 pub fn migrate<P: PageDevice, L: LogDevice, B: Level>(
@@ -179,10 +179,10 @@ pub fn migrate<P: PageDevice, L: LogDevice, B: Level>(
         → (p : ℕ) → 1 ≤ p → p < page_count first.old.state.sizes → (c d : List ℕ) → P.may_be first.new.pages p c
         → P.may_be second.new.pages p d → c ≡ d)) }
     ensures first { IfOk result.0 (λ _. IfOk result.1 (λ _. (c d : List ℕ) → P.may_be first.new.pages 0 c
-        → P.may_be second.new.pages 0 d → HoldSlotsAlike c d)) }
+        → P.may_be second.new.pages 0 d → ReadAlike c d)) }
     ensures tags { IfOk result.0 (λ _. IfOk result.1 (λ _. (p : ℕ) → page_count first.old.state.sizes ≤ p
         → p < page_count (with_tags pages first.old.state.sizes) → (c d : List ℕ) → P.may_be first.new.pages p c
-        → P.may_be second.new.pages p d → HoldSlotsAlike c d)) }
+        → P.may_be second.new.pages p d → ReadAlike c d)) }
     ensures beyond { IfOk result.0 (λ _. IfOk result.1 (λ _. (p : ℕ) → page_count (with_tags pages first.old.state.sizes) ≤ p
         → (c d : List ℕ) → P.may_be first.new.pages p c → P.may_be second.new.pages p d → c ≡ d)) }
     ensures decided { RefuseAlike result.0 result.1 }

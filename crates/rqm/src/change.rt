@@ -1,7 +1,7 @@
 //! `rqm checkpoint` and `rqm migrate`: a store is opened, and its log made one record.
-ghost use Rattle.std.specs.Prelude.{◌≡◌, ◌↔◌, Err, true};
+ghost use Rattle.std.specs.Prelude.{◌≡◌, ◌↔◌, IfErr, IfOk, Err, true};
 ghost use Rattle.rq_engine.specs.Answers.{AnswersLegally};
-ghost use Rattle.rqm.specs.Changing.{call_of, told};
+ghost use Rattle.rqm.specs.Changing.{HasChanged, NotChanged, answered_by, call_made};
 
 use crate::progress::{Opening, while_told};
 use crate::serving::{opened, tell_fault};
@@ -43,12 +43,14 @@ impl Change {
         }
     }
 
-    // Does it to a store that is open. The LSN of the record that the log is then.
+    // Does it to a store that is open. Answers the LSN of the one record that its log is then.
     fn make<P: PageDevice, L: LogDevice, B: Level>(
         self,
         engine: &mut Engine<P, L, B>,
     ) -> Result<Lsn, Refusal>
-        ensures answered { AnswersLegally P.PageDevice L.LogDevice engine.old (call_of self) (told self) result engine.new }
+        ensures answered { AnswersLegally P.PageDevice L.LogDevice engine.old (call_made self) (answered_by self) result engine.new }
+        ensures made { IfOk result (λ lsn. HasChanged P.PageDevice L.LogDevice self engine.old engine.new lsn) }
+        ensures refused { IfErr result (λ r. NotChanged P.PageDevice L.LogDevice self engine.old engine.new r) }
         ensures sizes { engine.new.state.sizes ≡ engine.old.state.sizes }
         ensures failed { (result ≡ Err Refusal.Failed) ↔ (engine.old.state.failed ≡ true) }
     {
