@@ -51,6 +51,7 @@ REFUSED = [
     (["calls", "2", "1"], b""),
     (["happenings", "0", "1"], b"restart\n"),
     (["happenings", "1", "1", "0.5"], b"restart\n"),
+    (["happenings", "1", "1", "1", "1"], b"restart\n"),
     (["other"], b""),
     ([], b""),
 ]

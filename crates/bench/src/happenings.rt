@@ -18,7 +18,8 @@ use std::io::Write;
 /// pages as the words say; it is formatted, and not open before the first `restart`.
 ///
 /// # Errors
-/// Where the words name no store, and where a line is no happening, which is printed; then nothing happens.
+/// Where the words name no store, memory is wanting, or input or output fails. Where a line is no happening it is named, and nothing
+/// happens.
 pub fn run<R: Print + Input + AllocGlobal>(rt: &R, words: &[String]) -> io::Result<()> {
     let Some(layout) = layout_of(words) else {
         return Err(io::ErrorKind::InvalidInput.into());
@@ -38,10 +39,10 @@ pub fn run<R: Print + Input + AllocGlobal>(rt: &R, words: &[String]) -> io::Resu
 
 // How large the store is; none where the words do not say so.
 fn layout_of(words: &[String]) -> Option<Layout> {
-    let tags = if words.len() < 4 {
-        0
-    } else {
-        number(words, 3)?
+    let tags = match words.len() {
+        3 => 0,
+        4 => number(words, 3)?,
+        _ => return None,
     };
     Layout::new(number(words, 1)?, number(words, 2)?, tags)
 }
