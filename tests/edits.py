@@ -13,10 +13,12 @@ functions and what they call, over the built libraries below it (out/rlib, as th
 is not proved, and which clause or condition of it fails.
 
 One more copy changes nothing. It is of the shortest function, of those with proofs by hand where there are any. It has to be proved, so
-it is neither the libraries nor the copying that makes the others fail; `--unchanged` shows that of each function. An answer by hand may
-also fail since the edit gave a value another name: who writes an edit sees to it that a goal is false.
+it is neither the libraries nor the copying that makes the others fail. `--unchanged` shows that of each function that is copied, and
+of the others as they stand. An answer by hand may also fail since the edit gave a value another name, and the goal of a new exit since
+it has none: who writes an edit sees to it that a goal is false.
 
-What a check of a crate proved is kept for the next (out/incremental, as `rt check` leaves it, and then by each check here).
+What a check of a crate proved is kept for the next (out/incremental, as `rt check` leaves it, and then by each check here);
+`--unchanged` begins with nothing.
 """
 
 import concurrent.futures
@@ -73,7 +75,7 @@ def words(uses, crate, functions):
 class Edit:
     def __init__(self, crate, path):
         self.crate, self.name = crate, os.path.basename(path)[: -len(".edit")]
-        self.function, self.file, self.clause, self.pairs = "", "", "", []
+        self.function, self.file, self.clause, self.pairs, self.strange = "", "", "", [], ""
         with open(path, encoding="utf-8") as lines:
             for line in lines.read().split("\n"):
                 word, _, text = line.partition(": ")
@@ -87,11 +89,15 @@ class Edit:
                     self.pairs.append([self.file, text, ""])
                 elif word.rstrip(":") == "new":
                     self.pairs[-1][2] = text
+                elif line:
+                    self.strange = line
 
     def why_bad(self):
         """Why it cannot be applied, or None."""
         if not self.function or not self.pairs:
             return "it has no function, or no old and new text"
+        if self.strange:
+            return f"it has a line of no known word: {self.strange}"
         for file, old, _ in self.pairs:
             path = f"{ROOT}/crates/{self.crate}/{file}"
             if not file.startswith("src/") or not os.path.isfile(path):
@@ -232,7 +238,7 @@ def judge(edit, text, said):
         if it and not names.search(it[1]):
             reasons.append(f"the answer of {it[1]}")
     if edit.clause:
-        reasons = [reason for reason in reasons if re.search(rf"`\S*\bclause-{edit.clause}`", reason)]
+        reasons = [reason for reason in reasons if re.search(rf"`(?!\S*requires-)\S*\bclause-{re.escape(edit.clause)}`", reason)]
     if not reasons:
         return False, f"NOT REFUSED by {f'its clause {edit.clause}' if edit.clause else 'a clause'}: {told[1][:100]}"
     return True, f"refused: {reasons[0][:150]}"
@@ -286,7 +292,8 @@ def try_round(uses, crate, edits, kept):
     if status not in (0, 1):
         answers = [(edit, False, f"BAD EDIT: the prover ended with {status}: {said.strip()[-200:]}") for edit in edits]
     elif not all(is_proved(control.tried(), said) for control in tried[len(edits) :]):
-        answers = [(edit, False, "NOT JUDGED: a copy that changes nothing is not proved") for edit in edits]
+        error = next((line for line in said.split("\n") if line.startswith("error")), "")
+        answers = [(edit, False, f"NOT JUDGED: a copy that changes nothing is not proved: {error[:200]}") for edit in edits]
     else:
         answers = [(edit, *judge(edit, text, said)) for edit, text in zip(edits, texts)]
     left = [edit for edit, is_refused, _ in answers if not is_refused]
@@ -313,17 +320,17 @@ def try_crate(uses, crate, edits):
 
 
 def try_unchanged(uses, crate, edits):
-    """Of each function that is copied: whether a copy that changes nothing is proved."""
-    copies = [*{edit.function: unchanged(edit) for edit in edits if edit.is_copied()}.values()]
+    """Of each function: whether it is proved unchanged, in a copy where it is copied."""
+    copies = [*{edit.function: unchanged(edit) for edit in edits}.values()]
     with tempfile.TemporaryDirectory(prefix="rt-edit-") as kept:
         _, said, _ = checked(uses, crate, copies, [copied.tried() for copied in copies], kept)
     proved = [(copied, is_proved(copied.tried(), said)) for copied in copies]
     return [(copied, is_right, "proved, unchanged" if is_right else "NOT PROVED, unchanged") for copied, is_right in proved]
 
 
-def main(words):
-    names = [word for word in words if word != "--unchanged"]
-    attempt = try_crate if len(names) == len(words) else try_unchanged
+def main(given):
+    names = [word for word in given if word != "--unchanged"]
+    attempt = try_crate if len(names) == len(given) else try_unchanged
     uses, bad, work = crates(), 0, []
     unknown = {name for name in os.listdir(f"{ROOT}/crates") if os.path.isdir(f"{ROOT}/crates/{name}/wrong-bodies")} - {*uses}
     for crate in uses:
@@ -336,18 +343,21 @@ def main(words):
             bad += 1
         good = [edit for edit in edits if not edit.why_bad()]
         work += [(crate, good)] * bool(good)
-    refused, start = 0, time.monotonic()
+    right, start = 0, time.monotonic()
     with concurrent.futures.ThreadPoolExecutor(min(4, os.cpu_count() or 1)) as pool:
         # (those with most edits first)
         work.sort(key=lambda it: -len(it[1]))
         for task in concurrent.futures.as_completed([pool.submit(attempt, uses, *it) for it in work]):
-            for edit, is_refused, why in task.result():
-                refused, bad = refused + is_refused, bad + (not is_refused)
+            for edit, is_right, why in task.result():
+                right, bad = right + is_right, bad + (not is_right)
                 print(f"{edit.crate}/{edit.name}: {edit.function}: {why}", flush=True)
     for name in unknown:
         print(f"{name}: it has edits, and crates.txt does not name it")
-    print(f"edits: {refused} {'refused' if attempt == try_crate else 'proved'}, {bad} not, in {time.monotonic() - start:.0f} s")
-    return 1 if bad or unknown or not refused else 0
+    strange = {*names} - {crate for crate, _ in work}
+    for name in strange:
+        print(f"{name}: no crate of this name has edits")
+    print(f"edits: {right} {'refused' if attempt == try_crate else 'proved'}, {bad} not, in {time.monotonic() - start:.0f} s")
+    return 1 if bad or unknown or strange or not right else 0
 
 
 if __name__ == "__main__":

@@ -157,9 +157,10 @@ pub fn checkpoint<P: PageDevice, L: LogDevice, B: Level>(
 
 /// A migration answers the same LSN and leaves the same state. Both logs read as the same bytes. A crash leaves the same of both
 /// logs, of each page of the store, and of each behind the tag pages. Of page 0 and of each tag page it leaves the same header
-/// and slots. Where one is refused, so is the other, but for a device that failed, and never for memory. Refused for the same they leave
-/// the same state; unless a device failed, the same store. Excludes a contract that leaves open the LSN, which tag pages come,
-/// what is written behind them, or when a migration is refused. Excludes one that leaves open whether the store runs on.
+/// and slots. Where one is refused, so is the other, but for a device that failed, and never for memory. Refused for the same
+/// they leave the same state; unless a device failed, the same store. Excludes a contract that leaves open the LSN, which tag
+/// pages come, what is written behind them, or when a migration is refused. Excludes one that leaves open whether the store
+/// runs on.
 pub fn migrate<P: PageDevice, L: LogDevice, B: Level>(
     first: &mut Engine<P, L, B>,
     second: &mut Engine<P, L, B>,
