@@ -23,6 +23,7 @@ use Rattle.rq_level.specs.TagPlans.{IsTagPlan, IsUntagPlan}
 use Rattle.rq_level.specs.Writes.{AreSlotWrites, writes_of}
 use Rattle.rq_level.specs.declared.slots.Given.{Given}
 use Rattle.rq_level.specs.declared.writes.Plan.{Plan}
+use Rattle.rq_level.specs.declared.writes.Gist.TheVariants as gists
 use Rattle.rq_level.specs.declared.writes.Replies.TheVariants as replies
 use Rattle.rq_chain.specs.CellEntries.{IsClientGiven}
 use Rattle.rq_chain.proofs.Givens.{given_is, holds}
@@ -67,7 +68,7 @@ module _ (z : Sizes) (given : List Given) (c a : ℕ) (bytes : List ℕ) (below 
 module _ (z : Sizes) (k : LevelState) (given : List Given) (c tag : ℕ) (p : Plan) (held after : ClientSlot) (is : IsClientGiven z given c held)
     (writes : reverse (writes_of z p.writes.items) ≡ client_write (layout_of z) held after ∷ []) (slots : AreSlotWrites z p.writes.items) where
   pub is_tag_plan : held.count ≤ 2 ^ 50 → after ≡ record held { count = held.count + 1; tag = tag } → p.deed ≡ spelled_deed (Mark c tag held.tag)
-      → deed_by 2 p.deed ≡ Some (Mark c tag held.tag) → p.reply ≡ replies.Deed → IsTagPlan z k given c tag p k
+      → deed_by 2 p.deed ≡ Some (Mark c tag held.tag) → p.reply ≡ replies.Deed (gists.Mark c tag) → IsTagPlan z k given c tag p k
   is_tag_plan room after_is deed reads reply = record {
     can = record { below = is.below; held = held; held_is = is.holds; own = is.fits.own; room = room };
     writes = writes ∙ ap (λ (x : ClientSlot). client_write (layout_of z) held x ∷ []) after_is;

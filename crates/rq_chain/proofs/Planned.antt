@@ -18,6 +18,7 @@ use Rattle.rq_level.specs.ChainPlans.{Beside, IsSent, CanReceive, IsReceived, Ca
 use Rattle.rq_level.specs.Writes.{writes_of, AreSlotWrites}
 use Rattle.rq_level.specs.declared.slots.Given.{Given}
 use Rattle.rq_level.specs.declared.writes.Plan.{Plan}
+use Rattle.rq_level.specs.declared.writes.Gist.TheVariants as gists
 use Rattle.rq_level.specs.declared.writes.Replies.TheVariants as replies
 use Rattle.rq_chain.specs.declared.CellEntry.{CellEntry}
 use Rattle.rq_chain.specs.declared.DirectoryEntry.{DirectoryEntry}
@@ -30,7 +31,7 @@ module _ (z : Sizes) (k : LevelState) (given : List Given) (latched : List ℕ) 
       → reverse (writes_of z p.writes.items) ≡ append_writes (layout_of z) g.sender g.directory new tag body (cell_beside tail)
       → AreSlotWrites z p.writes.items → p.deed ≡ spelled_deed (Append s (g.directory.sent + 1) tag g.directory.last_tag body)
       → deed_in p.deed ≡ Some (Append s (g.directory.sent + 1) tag g.directory.last_tag body)
-      → p.reply ≡ replies.Deed → after ≡ reserved_at z k new → IsSent z k given latched s tag body p after
+      → p.reply ≡ replies.Deed (gists.Append s tag) → after ≡ reserved_at z k new → IsSent z k given latched s tag body p after
   is_sent tail new at below own holds room at_is beside lowest writes slots deed reads reply kept = record {
     can = record { below = below; directory = g.directory; directory_is = holds; room = room; old = cell_beside tail; beside = subst (λ (a : ℕ). Beside z given a (cell_beside tail)) at_is beside };
     new = new;
@@ -48,7 +49,7 @@ module _ (z : Sizes) (k : LevelState) (given : List Given) (latched : List ℕ) 
       → reverse (writes_of z p.writes.items) ≡ unlink_head_writes (layout_of z) g.sender g.directory (cell_in head.bytes.now) (cell_beside next)
       → AreSlotWrites z p.writes.items → p.deed ≡ spelled_deed (UnlinkHead s (g.directory.received + 1) (cell_in head.bytes.now).tag (cell_in head.bytes.now).body)
       → deed_in p.deed ≡ Some (UnlinkHead s (g.directory.received + 1) (cell_in head.bytes.now).tag (cell_in head.bytes.now).body)
-      → p.reply ≡ replies.Deed → after ≡ k → IsReceived z k given s p after
+      → p.reply ≡ replies.Deed (gists.UnlinkHead s) → after ≡ k → IsReceived z k given s p after
   is_received head next at behind below own holds some used at_is head_is behind_is beside writes slots deed reads reply kept = record {
     can = record {
       below = below;

@@ -14,7 +14,7 @@ use crate::given::{SENT_LIMIT, beside_given, cell_given, group_given, head_of, t
 use crate::plans::{append, put_back, set_closed, unlink_head, unlink_tail};
 use crate::wants::{body_in, next_in, prev_in, sequence_in, tag_in, wanted};
 use byteorder::{BigEndian, ByteOrder};
-use rq_level::{Level, Op, PageSet, Plan, Replies, SlotWrite, Slots, Want, redo_page};
+use rq_level::{Gist, Level, Op, PageSet, Plan, Replies, SlotWrite, Slots, Want, redo_page};
 use rq_model::message::Body;
 use rq_model::record::{Deed, DeedBytes, Record, Slot};
 use rq_model::refusal::{Damage, NoMemory, Refusal};
@@ -159,7 +159,7 @@ impl ChainLevel {
         Ok(Plan {
             writes,
             deed: encode_append(sender, directory.sent + 1, tag, directory.last_tag, &body),
-            reply: Replies::Deed,
+            reply: Replies::Deed(Gist::Append { sender, tag }),
         })
     }
 
@@ -199,7 +199,7 @@ impl ChainLevel {
         Ok(Plan {
             writes,
             deed: encode_unlink_head(sender, sequence, tag_in(head.bytes), &body_in(head.bytes)),
-            reply: Replies::Deed,
+            reply: Replies::Deed(Gist::UnlinkHead { sender }),
         })
     }
 
@@ -219,7 +219,7 @@ impl ChainLevel {
         Ok(Plan {
             writes,
             deed: encode_close(sender),
-            reply: Replies::Deed,
+            reply: Replies::Deed(Gist::Close { sender }),
         })
     }
 

@@ -13,7 +13,7 @@ ghost use Rattle.rq_chain.specs.Refusing.{IsOfClient};
 use crate::given::{MARK_LIMIT, client_given};
 use crate::level::inverse;
 use crate::writes::client_write;
-use rq_level::{Plan, Replies, SlotWrite, Slots, only};
+use rq_level::{Gist, Plan, Replies, SlotWrite, Slots, only};
 use rq_model::refusal::{Damage, NoMemory, Refusal};
 use rq_page::client::ClientSlot;
 use rq_page::layout::{Layout, SLOTS};
@@ -42,7 +42,7 @@ pub(crate) fn marked(
         Ok(writes) => Ok(Plan {
             writes,
             deed: encode_mark(client, tag, held.tag),
-            reply: Replies::Deed,
+            reply: Replies::Deed(Gist::Mark { client, tag }),
         }),
         Err(NoMemory) => Err(Refusal::NoMemory),
     }

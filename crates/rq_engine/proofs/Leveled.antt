@@ -32,6 +32,8 @@ use Rattle.rq_views.specs.Plans.Turn.{Did}
 use Rattle.rq_groups.specs.declared.End.TheVariants.{Receiving}
 use Rattle.rq_level.specs.ChainPlans.{TellsDamage}
 use Rattle.rq_level.specs.declared.writes.Plan.{Plan}
+use Rattle.rq_level.specs.declared.writes.Replies.TheVariants as replies
+use Rattle.rq_level.specs.Gists.{gist_of}
 use Rattle.rq_level.specs.declared.writes.SlotWrite.{SlotWrite}
 use Rattle.rq_level.specs.Ops.{Tagging}
 use Rattle.rq_level.specs.Ops.Doing.{Send, Receive, Close}
@@ -50,7 +52,7 @@ use Rattle.rq_planner.specs.Asked.Task.{Chain, Tag}
 use Rattle.rq_engine.specs.Closes.{IsClosePlan, close_latched}
 use Rattle.rq_engine.specs.Marks.{IsMarkPlan, mark_latched}
 use Rattle.rq_engine.specs.Earlier.{IsEarlier, on}
-use Rattle.rq_engine.specs.Plans.{AreHeldUp, HasStarted, IsDeedPlan, IsStartOf, IsTakeOf, IsWithin, Planned, is_latch, is_latched, known_part, planned_of, records_of, under_plan}
+use Rattle.rq_engine.specs.Plans.{AreHeldUp, HasStarted, IsDeedPlan, IsStartOf, IsTakeOf, IsWithin, Planned, TellsDeed, is_latch, is_latched, known_part, planned_of, records_of, under_plan}
 use Rattle.rq_engine.specs.Sends.{HasRoom, take_latched}
 use Rattle.rq_engine.proofs.Latches.{one_write}
 use Rattle.rq_engine.proofs.Inverses.{of_writes, relinked_count}
@@ -93,14 +95,20 @@ pub some_task : (a b : Task) → Some a ≡ Some b → a ≡ b
 some_task a b e = cc
 
 -- bytes that are a deed's spelling, and are read as it
-pub told_by : (level : ℕ) (bytes : List ℕ) (d : Deed) → bytes ≡ spelled_deed d → deed_by level bytes ≡ Some d → IsTold level bytes
+told_by : (level : ℕ) (bytes : List ℕ) (d : Deed) → bytes ≡ spelled_deed d → deed_by level bytes ≡ Some d → IsTold level bytes
 told_by level bytes d spelled reads =
     let is : told_deed (deed_by level bytes) ≡ d = ap told_deed reads in
     record { reads = reads ∙ ap (λ (e : Deed). Some e) (sym is); spelled = ap spelled_deed is ∙ sym spelled }
 
 module _ (s : State) (d : Task) (p : Plan) (h : IsPlanOf (known_part s) d p) (level : ℕ) (of_level : level ≡ task_level d) where
-  pub plan_reads : deed_by level p.deed ≡ Some h.deed
+  plan_reads : deed_by level p.deed ≡ Some h.deed
   plan_reads = ap (λ n. deed_by n p.deed) of_level ∙ h.reads
+
+  pub tells_deed : TellsDeed level p
+  tells_deed = record {
+    told = told_by level p.deed h.deed h.told plan_reads;
+    reply = h.reply ∙ ap (λ e. replies.Deed (gist_of e)) (sym (ap told_deed plan_reads));
+  }
 
   -- with its deed
   pub deed_plan : IsWithin s.sizes d → IsDeedPlan s d (planned_of level p)

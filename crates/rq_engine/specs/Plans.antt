@@ -14,7 +14,9 @@ use Rattle.rq_views.specs.Plans.Turn.{Did, Undid}
 use Rattle.rq_level.specs.ChainPlans.{TellsDamage}
 use Rattle.rq_level.specs.Ops.Doing.{Send, Receive, Close}
 use Rattle.rq_level.specs.declared.writes.Plan.{Plan}
+use Rattle.rq_level.specs.declared.writes.Replies.TheVariants as replies
 use Rattle.rq_level.specs.declared.writes.SlotWrite.{SlotWrite}
+use Rattle.rq_level.specs.Gists.{gist_of}
 use Rattle.rq_level.specs.Writes.{AreSlotWrites}
 use Rattle.rq_groups.specs.declared.End.{End}
 use Rattle.rq_groups.specs.declared.End.TheVariants.{Receiving}
@@ -22,6 +24,7 @@ use Rattle.rq_groups.specs.Sides.{is_free_end, with_end}
 use Rattle.rq_txn.specs.declared.Aim.TheVariants as aims
 use Rattle.rq_txn.specs.declared.Finished.{Finished}
 use Rattle.rq_txn.specs.Rows.{Under, change_row, row_started}
+use Rattle.rq_txn.specs.Told.{IsTold}
 use Rattle.rq_store.specs.Plans.{WaitsFor}
 use Rattle.rq_store.specs.State.{State, ledger_of}
 use Rattle.rq_sound.specs.Groups.{slots_now}
@@ -47,6 +50,11 @@ pub record Planned : Type 0 where
 -- as a level planned it
 abbrev pub planned_of : (level : ℕ) → Plan → Planned
 planned_of level p = record { writes = p.writes.items; deed = told_deed (deed_by level p.deed) }
+
+-- its end replies the deed that it tells
+pub record TellsDeed (level : ℕ) (p : Plan) : Type 0 where
+  pub told : IsTold level p.deed
+  pub reply : p.reply ≡ replies.Deed (gist_of (told_deed (deed_by level p.deed)))
 
 -- the operation that a plan begins as
 abbrev pub under_plan : ℕ → Planned → Under

@@ -8,7 +8,8 @@ ghost use Rattle.rq_views.specs.Claims.{appends_of};
 ghost use Rattle.rq_engine.specs.Moves.{with_sends, with_taken, with_tags, without_taken};
 
 use rq_groups::{Sent, Waiting};
-use rq_txn::{Finished, Gist, ToldDeed};
+use rq_level::Gist;
+use rq_txn::{Finished, ToldDeed};
 
 /// Has the messages wait that these operations sent.
 pub(crate) fn add_sends(waiting: &mut Waiting, finished: &[Finished])

@@ -19,10 +19,10 @@ use crate::engine::Engine;
 use crate::event::{Outcome, Progress};
 use crate::moves::{cells_given_back, leave_out_taken, put_in_taken};
 use rq_disk::{LogDevice, PageDevice};
-use rq_level::Level;
+use rq_level::{Gist, Level};
 use rq_model::refusal::Refusal;
 use rq_model::txn::{Lsn, Sub};
-use rq_txn::{Aim, Finished, Gist, Operation, ToldDeed, Transactions};
+use rq_txn::{Aim, Finished, Operation, ToldDeed, Transactions};
 
 impl<P: PageDevice, L: LogDevice, B: Level> Engine<P, L, B> {
     /// Makes the next slot write of an operation, with its record. Takes no memory and touches no device.

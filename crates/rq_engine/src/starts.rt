@@ -2,13 +2,12 @@
 ghost use Rattle.std.specs.Prelude.{◌≡◌, ◌≢◌, ◌<◌, IfErr, OnOk, OnErr, Some, false, true};
 ghost use Rattle.rq_model.specs.Vocabulary.{is_some};
 ghost use Rattle.rq_txn.specs.Rows.{change_row, row_started, under_of};
-ghost use Rattle.rq_txn.specs.Told.{IsTold};
 ghost use Rattle.rq_groups.specs.Sides.{is_free_end, with_end};
 ghost use Rattle.rq_planner.specs.Answered.{IsPlanned};
 ghost use Rattle.rq_planner.specs.Asked.{Do, IsTaskOf, Task, task_by};
 ghost use Rattle.rq_engine.specs.Opened.{LeavesDevices};
 ghost use Rattle.rq_engine.specs.Answers.{HasNothingUnderWay};
-ghost use Rattle.rq_engine.specs.Plans.{FitsPlan, HasStarted, IsStartOf, IsToStart, is_latched, known_part, planned_of, under_plan};
+ghost use Rattle.rq_engine.specs.Plans.{FitsPlan, HasStarted, IsStartOf, IsToStart, TellsDeed, is_latched, known_part, planned_of, under_plan};
 ghost use Rattle.rq_engine.specs.Sends.{FitsUnder, HasRoom};
 
 use crate::engine::Engine;
@@ -74,7 +73,7 @@ impl<P: PageDevice, L: LogDevice, B: Level> Engine<P, L, B> {
     ) -> Result<(), Refusal>
         requires ready { HasNothingUnderWay self.old.state txn number }
         requires free { is_free_end txn end self.old.state.ends ≡ true }
-        requires told { IsTold level plan.deed }
+        requires told { TellsDeed level plan }
         requires fits { FitsPlan self.old.state.sizes (planned_of level plan) }
         requires log { HasRoom self.old.state plan.writes.items }
         ensures started { OnOk result (self.new.state ≡ record self.old.state {
@@ -89,7 +88,7 @@ impl<P: PageDevice, L: LogDevice, B: Level> Engine<P, L, B> {
         let Plan {
             writes,
             deed,
-            reply: _,
+            reply,
         } = plan;
         let last = OP_END_BYTES + deed.as_slice().len();
         let room = writes.len() * PAGE_OP_BYTES + last;
@@ -97,7 +96,7 @@ impl<P: PageDevice, L: LogDevice, B: Level> Engine<P, L, B> {
             number,
             writes,
             made: 0,
-            aim: Aim::Doing(ToldDeed::new(level, deed)),
+            aim: Aim::Doing(ToldDeed::new(level, deed, reply.gist().unwrap())),
         };
         let newly = self.ends.take(txn, end)?;
         match self.launch(txn, operation, room) {

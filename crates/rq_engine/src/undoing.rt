@@ -28,12 +28,12 @@ ghost use Rattle.rq_engine.specs.Plans.{HasTurnedBack, IsStartOf, known_part};
 use crate::engine::Engine;
 use crate::starts::{CHAIN_RECORDS, ONE_SLOT_RECORDS};
 use rq_disk::{LogDevice, PageDevice};
-use rq_level::{Level, Plan, SlotWrite};
+use rq_level::{Gist, Level, Plan, SlotWrite};
 use rq_model::record::DeedBytes;
 use rq_model::refusal::Refusal;
 use rq_model::txn::{Sub, Txn};
 use rq_record::{COMP_END_BYTES, PAGE_OP_BYTES};
-use rq_txn::{Aim, Finished, Gist, Operation, ToldDeed};
+use rq_txn::{Aim, Finished, Operation, ToldDeed};
 
 /// What the inverse of an operation is counted as where it starts.
 fn undo_records(deed: &ToldDeed) -> u64

@@ -1,5 +1,5 @@
 -- What the level of chains keeps to.
-use Rattle.std.proofs.Common.{◌≡◌, ◌≢◌, ◌⊎◌, ℕ, ◌/◌, ◌%◌, arith, List, [], ◌∷◌, Bool, true, false, cond, nat_eq, Option, None, Some, Ok, map, option_map, reverse, refl, sym, ap, ◌∙◌, subst, inl, inr}
+use Rattle.std.proofs.Common.{◌≡◌, ◌≢◌, ◌⊎◌, ℕ, ◌/◌, ◌%◌, arith, List, [], ◌∷◌, Bool, true, false, cond, nat_eq, Option, None, Some, Ok, map, reverse, refl, sym, ap, ◌∙◌, subst, inl, inr}
 use Rattle.std.proofs.lemmas.Bool.{cases_Bool, eqb-true, false≢true}
 use Rattle.std.proofs.lemmas.List.{reverse-reverse, set-set}
 use Rattle.rq_model.specs.declared.record.Deed.{Deed}
@@ -23,7 +23,9 @@ use Rattle.rq_level.specs.LevelState.{LevelState, IsLowest, is_free_slot, noted,
 use Rattle.rq_level.specs.Meaning.{AreOf, Meaning, chain_meaning}
 use Rattle.rq_level.specs.Ops.{Doing, Job, doing_by, doing_in}
 use Rattle.rq_level.specs.Ops.Doing.{Send, Receive, Close}
-use Rattle.rq_level.specs.Writes.{AreSlotWrites, answer_of, replied, reply_of, writes_of}
+use Rattle.std.proofs.lemmas.Option.{same_Some}
+use Rattle.rq_level.specs.Gists.{gist_of}
+use Rattle.rq_level.specs.Writes.{AreSlotWrites, reply_of, writes_of}
 use Rattle.rq_level.specs.declared.slots.Given.{Given}
 use Rattle.rq_level.specs.declared.writes.Replies.TheVariants as replies
 use Rattle.rq_level.specs.declared.writes.Plan.{Plan}
@@ -251,15 +253,15 @@ pub plan_told : (undo : Bool) (z : Option Sizes) (d : Option Doing) (k : LevelSt
 plan_told true z d k given latched p after h = absurd h
 plan_told false z d k given latched p after h = inl (deed_read z d k given latched p after h)
 
--- what its end replies
-by_deed : (z : Option Sizes) (d : Option Doing) (k : LevelState) (given : List Given) (latched : List ℕ) (p : Plan) (after : LevelState) → Plans z d k given latched (Ok p) after → p.reply ≡ replies.Deed
-by_deed (Some z) (Some (Send s tag body)) k given latched p after h = h.reply
-by_deed (Some z) (Some (Receive s)) k given latched p after h = h.reply
-by_deed (Some z) (Some (Close s)) k given latched p after h = h.reply
-by_deed (Some z) None k given latched p after h = absurd h
-by_deed None (Some d) k given latched p after h = absurd h
-by_deed None None k given latched p after h = absurd h
+-- what its end replies, by the deed that it tells
+by_deed : (p : Plan) (d e : Deed) → p.reply ≡ replies.Deed (gist_of d) → deed_in p.deed ≡ Some d → deed_in p.deed ≡ Some e → p.reply ≡ replies.Deed (gist_of e)
+by_deed p d e is reads told = is ∙ ap (λ x. replies.Deed (gist_of x)) (same_Some d e (sym reads ∙ told))
 
-pub plan_replies : (undo : Bool) (z : Option Sizes) (d : Option Doing) (k : LevelState) (given : List Given) (latched : List ℕ) (p : Plan) (after : LevelState) → PlansFor undo z d k given latched (Ok p) after → (e : Deed) → deed_in p.deed ≡ Some e → reply_of 1 p ≡ Some (answer_of e)
+pub plan_replies : (undo : Bool) (z : Option Sizes) (d : Option Doing) (k : LevelState) (given : List Given) (latched : List ℕ) (p : Plan) (after : LevelState) → PlansFor undo z d k given latched (Ok p) after → (e : Deed) → deed_in p.deed ≡ Some e → p.reply ≡ replies.Deed (gist_of e)
 plan_replies true z d k given latched p after h e told = absurd h
-plan_replies false z d k given latched p after h e told = ap (λ r. replied r (deed_in p.deed)) (by_deed z d k given latched p after h) ∙ ap (option_map answer_of) told
+plan_replies false (Some z) (Some (Send s tag body)) k given latched p after h e told = by_deed p _ e h.reply h.reads told
+plan_replies false (Some z) (Some (Receive s)) k given latched p after h e told = by_deed p _ e h.reply h.reads told
+plan_replies false (Some z) (Some (Close s)) k given latched p after h e told = by_deed p _ e h.reply h.reads told
+plan_replies false (Some z) None k given latched p after h e told = absurd h
+plan_replies false None (Some d) k given latched p after h e told = absurd h
+plan_replies false None None k given latched p after h e told = absurd h

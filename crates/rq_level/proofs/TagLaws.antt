@@ -1,5 +1,5 @@
 -- The level of tags keeps the laws of levels.
-use Rattle.std.proofs.Common.{◌≡◌, ◌≢◌, ℕ, ◌+◌, ◌-◌, ◌/◌, ◌%◌, ◌≤◌, List, [], ◌∷◌, length, Bool, true, false, cond, nat_eq, Option, None, Some, Ok, Err, map, option_map, reverse, All, refl, sym, ap, ◌∙◌, subst, inl, inr, arith}
+use Rattle.std.proofs.Common.{◌≡◌, ◌≢◌, ℕ, ◌+◌, ◌-◌, ◌/◌, ◌%◌, ◌≤◌, List, [], ◌∷◌, length, Bool, true, false, cond, nat_eq, Option, None, Some, Ok, Err, map, reverse, All, refl, sym, ap, ◌∙◌, subst, inl, inr, arith}
 use Rattle.std.proofs.lemmas.Bool.{cases_Bool, eqb-true, false≢true, ne_eqb}
 use Rattle.std.proofs.lemmas.List.{length-append, length-map, length-reverse}
 use Rattle.std.proofs.lemmas.List.Elements.{All-cons, All-nil, All-weaker, recursion_from_All}
@@ -34,7 +34,10 @@ use Rattle.rq_level.specs.Meaning.{AreOf, tag_meaning}
 use Rattle.rq_level.specs.Ops.{Job, Tagging, doing_in, tagging_by, tagging_in}
 use Rattle.rq_level.specs.TagPlans.{CanTag, CanUntag, IsTagPlan, IsUntagPlan, PlansTag, RefusesTag, TagsFor, UndoesTag, client_marked, client_to_mark, client_wanted, tag_note, tag_plans, tag_undoes, tag_wants}
 use Rattle.rq_level.specs.TakenBack.{AreOverHeld, LeadsBack, LeavesAt, LeavesOthers, ShowsOf, newest_first}
-use Rattle.rq_level.specs.Writes.{AreSlotWrites, IsSlotWrite, answer_of, replied, reply_of, write_of, writes_of}
+use Rattle.std.proofs.lemmas.Option.{same_Some}
+use Rattle.rq_level.specs.declared.writes.Replies.TheVariants as replies
+use Rattle.rq_level.specs.Gists.{gist_of}
+use Rattle.rq_level.specs.Writes.{AreSlotWrites, IsSlotWrite, replied, reply_of, write_of, writes_of}
 use Rattle.rq_level.specs.declared.slots.Given.{Given}
 use Rattle.rq_level.specs.declared.writes.Plan.{Plan}
 use Rattle.rq_level.specs.declared.writes.SlotWrite.{SlotWrite}
@@ -176,8 +179,10 @@ module _ (k : LevelState) (given : List Given) (p : Plan) (after : LevelState) w
   tells : (job : Job) (latched : List ℕ) → tag_plans k job given latched (Ok p) after → is_some (deed_by 2 p.deed) ≡ true
   tells job latched h = ap is_some (marks job.undo k.sizes (tagging_by job.level job.bytes) h).4.reads
 
-  answers : (job : Job) (latched : List ℕ) → tag_plans k job given latched (Ok p) after → (d : Deed) → deed_by 2 p.deed ≡ Some d → reply_of 2 p ≡ Some (answer_of d)
-  answers job latched h d told = ap (λ r. replied r (deed_by 2 p.deed)) (marks job.undo k.sizes (tagging_by job.level job.bytes) h).4.reply ∙ ap (option_map answer_of) told
+  answers : (job : Job) (latched : List ℕ) → tag_plans k job given latched (Ok p) after → (d : Deed) → deed_by 2 p.deed ≡ Some d → p.reply ≡ replies.Deed (gist_of d)
+  answers job latched h d told =
+      let m = (marks job.undo k.sizes (tagging_by job.level job.bytes) h).4 in
+      m.reply ∙ ap (λ x. replies.Deed (gist_of x)) (same_Some _ d (sym m.reads ∙ told))
 
   plan_own : (job : Job) (latched : List ℕ) → tag_plans k job given latched (Ok p) after → job.level ≡ 2
   plan_own job latched h = elim (cases_Bool (nat_eq job.level 2)) [

@@ -25,6 +25,7 @@ use Rattle.rq_level.specs.Ops.Doing.{Send, Receive, Close}
 use Rattle.rq_level.specs.Given.{given_at, GivenHolds}
 use Rattle.rq_level.specs.Writes.{writes_of, AreSlotWrites}
 use Rattle.rq_level.specs.declared.slots.Given.{Given}
+use Rattle.rq_level.specs.declared.writes.Gist.TheVariants as gists
 use Rattle.rq_level.specs.declared.writes.Plan.{Plan}
 use Rattle.rq_level.specs.declared.writes.Replies.TheVariants as replies
 
@@ -51,7 +52,7 @@ pub record IsSent (z : Sizes) (k : LevelState) (given : List Given) (latched : L
   pub slots : AreSlotWrites z p.writes.items
   pub deed : p.deed ≡ spelled_deed (Append s (can.directory.sent + 1) tag can.directory.last_tag body)
   pub reads : deed_by 1 p.deed ≡ Some (Append s (can.directory.sent + 1) tag can.directory.last_tag body)
-  pub reply : p.reply ≡ replies.Deed
+  pub reply : p.reply ≡ replies.Deed (gists.Append s tag)
   pub kept : after ≡ reserved_at z k new
 
 -- the slots hold what a receive needs
@@ -73,7 +74,7 @@ pub record IsReceived (z : Sizes) (k : LevelState) (given : List Given) (s : ℕ
   pub slots : AreSlotWrites z p.writes.items
   pub deed : p.deed ≡ spelled_deed (UnlinkHead s (can.directory.received + 1) can.cell.tag can.cell.body)
   pub reads : deed_by 1 p.deed ≡ Some (UnlinkHead s (can.directory.received + 1) can.cell.tag can.cell.body)
-  pub reply : p.reply ≡ replies.Deed
+  pub reply : p.reply ≡ replies.Deed (gists.UnlinkHead s)
   pub kept : after ≡ k
 
 -- the slots hold what a close needs, or what opening again does: a group that is not as it shall be
@@ -95,7 +96,7 @@ pub record IsClosed (z : Sizes) (k : LevelState) (given : List Given) (s : ℕ) 
   pub marked : IsMarked z given s true p
   pub deed : p.deed ≡ spelled_deed (Close_deed s)
   pub reads : deed_by 1 p.deed ≡ Some (Close_deed s)
-  pub reply : p.reply ≡ replies.Deed
+  pub reply : p.reply ≡ replies.Deed (gists.Close s)
   pub kept : after ≡ k
 
 -- the plan of an inverse tells no deed, and its end answers that something is undone

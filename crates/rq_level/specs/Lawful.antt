@@ -14,12 +14,14 @@ use Rattle.rq_views.specs.Plans.{deed_sender}
 use Rattle.rq_level.specs.LevelState.{LevelState, flag_at}
 use Rattle.rq_level.specs.Ops.{Job, doing_by}
 use Rattle.rq_level.specs.Given.{given_at}
-use Rattle.rq_level.specs.Writes.{answer_of, reply_of}
+use Rattle.rq_level.specs.Gists.{gist_of}
+use Rattle.rq_level.specs.Writes.{reply_of}
 use Rattle.rq_level.specs.Asked.{IsGathered, job_back, answer_back, TellsDeedOf, AreNoted, AreOver, AreBackOver, AreWritten, AsksForNone, Knows, AreAsGiven, StandsYet, AreOverSlots, Chooses, ChoosesBack, MayChoose, AreOfSlots, AreBackOfSlots}
 use Rattle.rq_level.specs.OwnState.{OwnStateIsAnew}
 use Rattle.rq_level.specs.TakenBack.{AreOverHeld, LeavesOthers, ShowsOf, newest_first}
 use Rattle.rq_level.specs.Meaning.{Meaning, OfPlans, OfBacks, AreOf, Redo, AppliesOnce, level_count, meaning_of}
 use Rattle.rq_level.specs.declared.slots.Given.{Given}
+use Rattle.rq_level.specs.declared.writes.Replies.TheVariants as replies
 
 abbrev pub IsNotGiven : List Given → Option ℕ → Type 0
 IsNotGiven given None = Unit {0}
@@ -78,9 +80,9 @@ pub record IsLawful (n : ℕ) (m : Meaning) : Type 0 where
   pub told : OfPlans m (λ k job given latched p after. (is_some (deed_by n p.deed) ≡ true)
       ⊎ ((p.deed ≡ []) × (reply_of n p ≡ None)))
   pub silent : OfBacks m (λ k told given latched p after. p.deed ≡ [])
-  -- a plan replies what the end of its deed answers; what takes an operation back, that it is undone
+  -- a plan replies what its deed tells, with what is counted of that; what takes an operation back, that it is undone
   pub replies : OfPlans m (λ k job given latched p after. (d : Deed) → deed_by n p.deed ≡ Some d
-      → reply_of n p ≡ Some (answer_of d))
+      → p.reply ≡ replies.Deed (gist_of d))
   pub replies_undo : OfBacks m (λ k told given latched p after. reply_of n p ≡ answer_back told)
   -- a plan does to its group what its deed tells. What takes that back leaves what was done meanwhile on the other end.
   -- Neither changes another group

@@ -1,4 +1,5 @@
 pub mod Writes
+pub mod Gists
 pub mod Ops
 pub mod Given
 pub mod LevelState

@@ -19,6 +19,7 @@ use Rattle.rq_level.specs.LevelState.{LevelState, told_sizes}
 use Rattle.rq_level.specs.Ops.{Job, Tagging, tagging_by}
 use Rattle.rq_level.specs.Writes.{writes_of, AreSlotWrites}
 use Rattle.rq_level.specs.declared.slots.Given.{Given}
+use Rattle.rq_level.specs.declared.writes.Gist.TheVariants as gists
 use Rattle.rq_level.specs.declared.writes.Plan.{Plan}
 use Rattle.rq_level.specs.declared.writes.Replies.TheVariants as replies
 
@@ -38,7 +39,7 @@ pub record IsTagPlan (z : Sizes) (k : LevelState) (given : List Given) (c tag : 
   pub slots : AreSlotWrites z p.writes.items
   pub deed : p.deed ≡ spelled_deed (Mark c tag can.held.tag)
   pub reads : deed_by 2 p.deed ≡ Some (Mark c tag can.held.tag)
-  pub reply : p.reply ≡ replies.Deed
+  pub reply : p.reply ≡ replies.Deed (gists.Mark c tag)
   pub kept : after ≡ k
 
 -- the slots hold what the inverse of a mark needs: its tag is the client's last

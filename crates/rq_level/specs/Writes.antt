@@ -44,7 +44,7 @@ answer_of (Mark c tag previous) = gives.Marked
 
 abbrev pub replied : Replies → Option Deed → Option Outcome
 replied replies.Nothing told = None
-replied replies.Deed told = option_map answer_of told
+replied (replies.Deed gist) told = option_map answer_of told
 replied replies.Undone told = Some gives.Undone
 
 -- what the end of an operation replies that the level of this number planned

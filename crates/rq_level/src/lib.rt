@@ -16,4 +16,4 @@ pub use level::{
 pub use levels::Levels;
 pub use op::Op;
 pub use slots::{Given, PageSet, Slots};
-pub use writes::{Outcome, Plan, Replies, SlotWrite, only};
+pub use writes::{Gist, Outcome, Plan, Replies, SlotWrite, only};

@@ -1,5 +1,6 @@
 //! Writes of slots, and plans of them.
 ghost use Rattle.std.specs.Prelude.{◌≡◌, ◌<◌, ◌^◌, ◌/◌, ◌%◌, [], ◌∷◌, IfOk};
+ghost use Rattle.rq_level.specs.Gists.{counted};
 
 use rq_model::message::Message;
 use rq_model::record::{DeedBytes, Slot};
@@ -31,15 +32,41 @@ pub enum Outcome {
     Undone,
 }
 
+/// What is counted of a deed: its kind, its group or client, and its tag.
+#[derive(Clone, Copy)]
+pub enum Gist {
+    /// A message was sent.
+    Append { sender: u32, tag: u64 },
+    /// A message was taken.
+    UnlinkHead { sender: u32 },
+    /// A group was closed.
+    Close { sender: u32 },
+    /// A client's tag was marked.
+    Mark { client: u32, tag: u64 },
+}
+
 /// What the end of a planned operation replies.
 #[derive(Clone, Copy)]
 pub enum Replies {
     /// Nothing: the operation has no end.
     Nothing,
-    /// What its deed tells: that a message was sent, which one was received, that a group was closed or a tag marked.
-    Deed,
+    /// What its deed tells: that a message was sent, which one was received, that a group was closed or a tag marked. With what is
+    /// counted of it.
+    Deed(Gist),
     /// That an earlier operation was undone.
     Undone,
+}
+
+impl Replies {
+    /// What is counted of the deed that the end tells; none where it tells none.
+    pub fn gist(&self) -> Option<Gist>
+        ensures { result ≡ counted self.now }
+    {
+        match self {
+            Replies::Deed(gist) => Some(*gist),
+            _ => None,
+        }
+    }
 }
 
 /// The writes of an operation, in order, the deed that its end tells, and what that replies.

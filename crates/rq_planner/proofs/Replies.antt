@@ -142,10 +142,6 @@ first_new z us beside (Some c) f first new e = first_at z us (first ∷ record {
 
 -- ---- plans
 
--- what its end replies, where its deed tells that
-pub by_deed : (level : ℕ) (p : Plan) (d : Deed) → p.reply ≡ replies.Deed → deed_by level p.deed ≡ Some d → reply_of level p ≡ Some (answer_of d)
-by_deed level p d is reads = ap (λ r. replied r (deed_by level p.deed)) is ∙ ap (option_map answer_of) reads
-
 module _ (s : State) (k : LevelState) (given : List Given) (latched : List ℕ) (keeps : KeepsCells s k) (on : AreLatched s latched) where
   do_plan : (d : Doing) (p : Plan) (after : LevelState) → HasGatheredFor s given (Do (Chain d)) → Plans (Some s.sizes) (Some d) k given latched (Ok p) after → IsPlanOf s (Chain d) p
   do_plan (Send g tag body) p after h m = record {
@@ -153,7 +149,7 @@ module _ (s : State) (k : LevelState) (given : List Given) (latched : List ℕ) 
     asked = (refl, refl, refl);
     told = m.deed;
     reads = m.reads;
-    answer = by_deed 1 p _ m.reply m.reads;
+    reply = m.reply;
     follows = levels_plan.sent s k given latched g tag body p after h.gathered keeps on m;
     slots = m.slots;
     lowest = takes_lowest s.sizes (slots_now s) s.rows m.new p.writes.items
@@ -164,7 +160,7 @@ module _ (s : State) (k : LevelState) (given : List Given) (latched : List ℕ) 
     asked = refl;
     told = m.deed;
     reads = m.reads;
-    answer = by_deed 1 p _ m.reply m.reads;
+    reply = m.reply;
     follows = levels_plan.received s k given g p after h.gathered m;
     slots = m.slots;
     lowest = tt;
@@ -174,7 +170,7 @@ module _ (s : State) (k : LevelState) (given : List Given) (latched : List ℕ) 
     asked = refl;
     told = m.deed;
     reads = m.reads;
-    answer = by_deed 1 p _ m.reply m.reads;
+    reply = m.reply;
     follows = levels_plan.closed s k given g p after h.gathered m;
     slots = m.marked.slots;
     lowest = tt;

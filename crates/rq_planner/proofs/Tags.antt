@@ -30,7 +30,7 @@ use Rattle.rq_planner.specs.Asked.Task.{Tag}
 use Rattle.rq_planner.specs.Answered.{IsAnswered, IsPlanBack, IsPlanned, IsPlanOf, KnowsCells, MayBeAsked, MayPlan, MayUndo, Wants, to_take_back}
 use Rattle.rq_planner.specs.Backs.{IsJudgedBack, MarkedLast}
 use Rattle.rq_planner.proofs.Knowing.{is_one}
-use Rattle.rq_planner.proofs.Replies.{HasGatheredFor, WantsFor, by_deed, damaged_answer, from_wanted, latched_answer, memory_answer, not_latched, planned_answer, same_given}
+use Rattle.rq_planner.proofs.Replies.{HasGatheredFor, WantsFor, damaged_answer, from_wanted, latched_answer, memory_answer, not_latched, planned_answer, same_given}
 
 -- ---- its answers
 
@@ -41,7 +41,7 @@ module _ (s : State) (k : LevelState) (given : List Given) (after : LevelState) 
     asked = (refl, refl);
     told = m.deed;
     reads = m.reads;
-    answer = by_deed 2 p _ m.reply m.reads;
+    reply = m.reply;
     follows = levels_plan.tagged s k given t.client t.tag p after h.gathered m;
     slots = m.slots;
     lowest = tt;

@@ -17,12 +17,14 @@ use Rattle.rq_level.specs.Asked.{AreWanted}
 use Rattle.rq_level.specs.ChainPlans.{IsInverse, TellsDamage}
 use Rattle.rq_level.specs.declared.slots.Given.{Given}
 use Rattle.rq_level.specs.declared.writes.Plan.{Plan}
+use Rattle.rq_level.specs.declared.writes.Replies.TheVariants as replies
 use Rattle.rq_level.specs.declared.writes.SlotWrite.{SlotWrite}
 use Rattle.rq_level.specs.LevelState.{LevelState, is_free_slot}
 use Rattle.rq_level.specs.Meaning.{AreTold, Meaning, kept_at, level_count, meaning_of}
 use Rattle.rq_level.specs.Ops.{Job}
 use Rattle.rq_level.specs.Ops.Doing.{Send, Receive, Close}
-use Rattle.rq_level.specs.Writes.{AreSlotWrites, answer_of, reply_of}
+use Rattle.rq_level.specs.Gists.{gist_of}
+use Rattle.rq_level.specs.Writes.{AreSlotWrites}
 use Rattle.rq_txn.specs.declared.Finished.{Finished}
 use Rattle.rq_txn.specs.Rows.{Row, latched_in}
 use Rattle.rq_groups.specs.Waiting.{waits}
@@ -115,13 +117,13 @@ SendTakesLowest z q rows (Chain (Close g)) ws = Unit {0}
 SendTakesLowest z q rows (Tag t) ws = Unit {0}
 
 -- The plan of what is to be done, over the slots as they are, on pages that nobody has latched: with its deed, which its
--- bytes tell, and what its end answers.
+-- bytes tell, and which its end replies.
 pub record IsPlanOf (s : State) (task : Task) (p : Plan) : Type 0 where
   pub deed : Deed
   pub asked : IsDeedFor task deed
   pub told : p.deed ≡ spelled_deed deed
   pub reads : deed_by (task_level task) p.deed ≡ Some deed
-  pub answer : reply_of (task_level task) p ≡ Some (answer_of deed)
+  pub reply : p.reply ≡ replies.Deed (gist_of deed)
   pub follows : IsUnlatchedPlan s p (Did deed)
   pub slots : AreSlotWrites s.sizes p.writes.items
   pub lowest : SendTakesLowest s.sizes (slots_now s) s.rows task p.writes.items

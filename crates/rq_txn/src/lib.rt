@@ -18,7 +18,7 @@ mod table;
 mod tally;
 mod told;
 
-pub use told::{Gist, ToldDeed};
+pub use told::ToldDeed;
 
 /// An operation that is finished and not undone.
 #[derive(Clone, Copy)]

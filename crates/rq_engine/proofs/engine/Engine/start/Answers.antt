@@ -18,7 +18,7 @@ pub launch-requires-clause-fits : goal.launch-requires-clause-fits
 launch-requires-clause-fits g c =
     let s = c.args.self.now.state in
     let d : told_deed (deed_by c.args.level c.args.plan.deed) ≡ c.new.result = ap told_deed c.new.ensures in
-    let spelled : spelled_deed c.new.result ≡ c.args.plan.deed = ap spelled_deed (sym d) ∙ c.requires.told.spelled in
+    let spelled : spelled_deed c.new.result ≡ c.args.plan.deed = ap spelled_deed (sym d) ∙ c.requires.told.told.spelled in
     let bytes : length c.as_slice.result.now ≡ length c.args.plan.deed = ap length c.as_slice.ensures.bytes in
     let size : length (spelled_deed c.new.result) ≡ length c.args.plan.deed = ap length spelled in
     let count : c.len.result ≡ length c.args.plan.writes.items = c.len.ensures ∙ items_count c.args.plan.writes in

@@ -11,7 +11,7 @@ use Rattle.rq_engine.specs.Answers.{HasNothingUnderWay}
 use Rattle.rq_engine.specs.Earlier.{on}
 use Rattle.rq_engine.specs.Plans.{FitsPlan, HasStarted, IsWithin, known_part, planned_of, under_plan}
 use Rattle.rq_engine.specs.Sends.{HasRoom}
-use Rattle.rq_engine.proofs.Leveled.{deed_plan, never_failed, plain_memory, plan_reads, plan_room, some_task, start_answered, start_refused, told_by, within}
+use Rattle.rq_engine.proofs.Leveled.{deed_plan, never_failed, plain_memory, plan_room, some_task, start_answered, start_refused, tells_deed, within}
 use Rattle.rq_engine.proofs.Opened.{state_is}
 use Rattle.rq_engine.proofs.engine.Engine.start_planned.Goals as goal
 
@@ -27,7 +27,7 @@ start-requires-clause-free g c = subst (λ (x : State). is_free_end c.args.txn c
 pub start-requires-clause-told : goal.start-requires-clause-told
 start-requires-clause-told g c =
     let p : IsPlanOf (known_part c.args.self.now.state) c.requires.may.task c.in-Ok.plan = (c.in-Ok.ensures.planned c.requires.may.task c.requires.may.is (within c.args.self.now.state.sizes c.requires.may.task c.requires.may.may.inside)).plan in
-    told_by c.level.result c.in-Ok.plan.deed p.deed p.told (plan_reads c.args.self.now.state c.requires.may.task c.in-Ok.plan p c.level.result (c.level.ensures ∙ asked_of c.args.op.now.level c.args.op.now.bytes c.requires.may.task c.requires.may.is))
+    tells_deed c.args.self.now.state c.requires.may.task c.in-Ok.plan p c.level.result (c.level.ensures ∙ asked_of c.args.op.now.level c.args.op.now.bytes c.requires.may.task c.requires.may.is)
 
 pub start-requires-clause-fits : goal.start-requires-clause-fits
 start-requires-clause-fits g c =

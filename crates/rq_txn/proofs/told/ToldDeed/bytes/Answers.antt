@@ -5,5 +5,5 @@ use Rattle.rq_txn.proofs.told.ToldDeed.bytes.Goals as goal
 
 pub returns-clause-reads : goal.returns-clause-reads
 returns-clause-reads c =
-    let told : deed_by c.self.inside.level c.self.inside.bytes ≡ Some c.args.self.now = c.self.invariant.reads ∙ ap Some c.self.view_is in
+    let told : deed_by c.self.inside.level c.self.inside.bytes ≡ Some c.args.self.now = c.self.invariant.told.reads ∙ ap Some c.self.view_is in
     ap (λ n. deed_by n c.self.inside.bytes) (told_by_its_level c.self.inside.level c.self.inside.bytes c.args.self.now told) ∙ told
