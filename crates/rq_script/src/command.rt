@@ -1,6 +1,7 @@
 //! The commands of a script, one a line.
 use rq_disk::CallKind;
 use rq_model::txn::{Sub, Txn};
+use std::str::from_utf8;
 
 /// A line of a script.
 #[derive(Clone, Copy)]
@@ -288,24 +289,10 @@ fn short_number(word: &[u8]) -> Option<u32> {
     u32::try_from(number(word)?).ok()
 }
 
-// Digits alone.
+// Digits alone: no sign stands before them.
 fn number(word: &[u8]) -> Option<u64> {
-    if word.is_empty() {
+    if !word.first()?.is_ascii_digit() {
         return None;
     }
-    let mut value: u64 = 0;
-    for byte in word {
-        value = with_digit(value, *byte)?;
-    }
-    Some(value)
-}
-
-// The number with this digit behind it.
-fn with_digit(value: u64, byte: u8) -> Option<u64> {
-    let digit = byte.checked_sub(b'0')?;
-    if digit > 9 {
-        return None;
-    }
-    let tens = value.checked_mul(10)?;
-    tens.checked_add(u64::from(digit))
+    from_utf8(word).ok()?.parse().ok()
 }

@@ -1,5 +1,6 @@
 //! The words and numbers of a line, from its front on.
 use rq_model::txn::{Sub, Txn};
+use std::str::from_utf8;
 
 /// What is left of a line, and whether something in it was no number that it had to be.
 #[derive(Clone, Copy)]
@@ -108,24 +109,10 @@ fn split_at_byte(text: &[u8], end: u8) -> (&[u8], &[u8]) {
     }
 }
 
-// Digits alone.
+// Digits alone: no sign stands before them.
 fn number_of(word: &[u8]) -> Option<u64> {
-    if word.is_empty() {
+    if !word.first()?.is_ascii_digit() {
         return None;
     }
-    let mut value: u64 = 0;
-    for byte in word {
-        value = with_digit(value, *byte)?;
-    }
-    Some(value)
-}
-
-// The number with this digit behind it.
-fn with_digit(value: u64, byte: u8) -> Option<u64> {
-    let digit = byte.checked_sub(b'0')?;
-    if digit > 9 {
-        return None;
-    }
-    let tens = value.checked_mul(10)?;
-    tens.checked_add(u64::from(digit))
+    from_utf8(word).ok()?.parse().ok()
 }
