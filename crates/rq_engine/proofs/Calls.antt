@@ -12,7 +12,7 @@ use Rattle.rq_model.specs.declared.record.Record.{Record}
 use Rattle.rq_model.specs.declared.record.Record.TheVariants as records
 use Rattle.rq_model.specs.declared.refusal.Refusal.{Refusal}
 use Rattle.rq_model.specs.declared.refusal.Refusal.TheVariants as why
-use Rattle.rq_model.specs.Vocabulary.{client_group, is_some, same_txn}
+use Rattle.rq_model.specs.Vocabulary.{In, client_group, is_some, same_txn}
 use Rattle.rq_views.specs.InStore.{IsDeedOf}
 use Rattle.rq_model.specs.History.{Call, Group}
 use Rattle.rq_model.specs.History.Call.{Commit, Step, Finish, Show, Last_tag, Client_tag}
@@ -48,7 +48,8 @@ use Rattle.rq_store.proofs.RowLists.{found_in}
 use Rattle.rq_store.proofs.Opens.{busy_is}
 use Rattle.rq_model.specs.Commits.{committed_of}
 use Rattle.rq_engine.proofs.Standing.{going_at, step_steps, finish_steps, commit_steps}
-use Rattle.rq_engine.specs.Invariant.{EndFits, IsConsistent, end_bytes, room_one, room_of}
+use Rattle.rq_engine.specs.Earlier.{on}
+use Rattle.rq_engine.specs.Invariant.{EndFits, IsConsistent, end_bytes, end_of, room_one, room_of}
 use Rattle.rq_engine.proofs.Waits.{AreDeedsOf, waits-with_sends, waits-without_taken}
 use Rattle.rq_engine.specs.Answers.{Refuses, OnUnder, IsUnderWay, IsNotUnderWay, NotFound, IsOther, Idle, CannotFinish, IsMade, HasNothingUnderWay}
 use Rattle.rq_engine.proofs.Keeping.{kept_at, under_at, kept_stepped, kept_finished, kept_undone, kept_committed}

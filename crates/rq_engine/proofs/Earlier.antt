@@ -1,5 +1,5 @@
 -- The store with other earlier records.
-use Rattle.std.proofs.Common.{◌≡◌, ℕ, ◌+◌, ◌-◌, ◌/◌, ◌%◌, ◌^◌, false, zero, suc, List, [], ◌∷◌, length, refl, sym, ◌∙◌, ap, subst, Bool, nat_lt, arith}
+use Rattle.std.proofs.Common.{◌≡◌, ℕ, ◌+◌, ◌-◌, ◌/◌, ◌%◌, ◌^◌, false, zero, suc, List, [], ◌∷◌, length, refl, sym, ◌∙◌, ap, subst, nat_lt, arith}
 use Rattle.std.specs.List.{sum_by}
 use Rattle.rq_model.specs.declared.record.Record.{Record}
 use Rattle.rq_model.specs.declared.record.Record.TheVariants.{Base, Restart}
@@ -23,7 +23,6 @@ use Rattle.rq_store.specs.Steps.{op_end}
 use Rattle.rq_engine.specs.Answers.{IsMade}
 use Rattle.rq_engine.specs.Moves.{without_taken}
 use Rattle.rq_engine.proofs.Standing.{force_steps}
-use Rattle.rq_engine.specs.Invariant.{IsConsistent}
 use Rattle.rq_engine.specs.Earlier.{unknown, unknown_one, rebased, rebased_one, on, IsEarlier}
 
 long_one : (e : List Record) (r : Record) (log rest new : List Record) → length e ≡ length (unknown_one r log rest) → (length e ≡ length rest → length new ≡ length log) → length (rebased_one e r new) ≡ suc (length log)

@@ -117,13 +117,8 @@ impl<P: PageDevice, L: LogDevice, B: Level> Engine<P, L, B> {
             → IsPlanned (known_part self.old.state) (Undo d) result }
     {
         let room = self.transactions.spare();
-        self.planner.plan_inverse(
-            self.alloc,
-            room,
-            &self.pages,
-            &self.transactions,
-            told,
-        )
+        self.planner
+            .plan_inverse(self.alloc, room, &self.pages, &self.transactions, told)
     }
 
     // Lets a planned inverse begin.

@@ -20,7 +20,7 @@ use Rattle.rq_level.specs.ChainPlans.{Plans, PlansFor, Undoes, chain_plans, chai
 use Rattle.rq_level.specs.Given.{AreGiven, given_at}
 use Rattle.rq_level.specs.LevelState.{LevelState, IsLowest, is_free_slot, noted, noted_cell, reserved_at}
 use Rattle.rq_level.specs.Meaning.{AreOf, Meaning, chain_meaning}
-use Rattle.rq_level.specs.Ops.{Doing, Job, doing_by, is_asked}
+use Rattle.rq_level.specs.Ops.{Doing, Job, doing_by, doing_in}
 use Rattle.rq_level.specs.Ops.Doing.{Send, Receive, Close}
 use Rattle.rq_level.specs.Writes.{AreSlotWrites, answer_of, replied, reply_of, writes_of}
 use Rattle.rq_level.specs.declared.slots.Given.{Given}
@@ -29,7 +29,7 @@ use Rattle.rq_level.specs.declared.writes.Plan.{Plan}
 use Rattle.rq_level.specs.declared.writes.SlotWrite.{SlotWrite}
 use Rattle.rq_level.proofs.Based.{IsChainPlan, IsSomething, all_each, are_over, chosen, done, holds_at, holds_free, free_is, known_free, lowest_cell, noted_there, over_slots, undone, was_given}
 use Rattle.rq_level.proofs.Gathered.{IsTouched, done_touched, undone_touched}
-use Rattle.rq_level.proofs.Unread.{chain_asked}
+use Rattle.rq_level.proofs.Unread.{read_of}
 
 -- a plan is of a store whose sizes were told, and what was asked for is written
 record IsOfStore (k : LevelState) (given : List Given) (latched : List ℕ) (p : Plan) (after : LevelState) (want : List Given → Option ℕ) : Type 0 where
@@ -83,8 +83,8 @@ doing_done k given latched p after false (Some z) None h = absurd h
 doing_done k given latched p after false None (Some d) h = absurd h
 doing_done k given latched p after false None None h = absurd h
 
-pub plan_own : (k : LevelState) (job : Job) (given : List Given) (latched : List ℕ) (p : Plan) (after : LevelState) → chain_plans k job given latched (Ok p) after → (job.level ≡ 1) × (is_asked 1 job.bytes ≡ true)
-plan_own k job given latched p after h = chain_asked job.level job.bytes (doing_done k given latched p after job.undo k.sizes (doing_by job.level job.bytes) h)
+pub plan_own : (k : LevelState) (job : Job) (given : List Given) (latched : List ℕ) (p : Plan) (after : LevelState) → chain_plans k job given latched (Ok p) after → (job.level ≡ 1) × (chain_meaning.asks job.bytes ≡ true)
+plan_own k job given latched p after h = read_of 1 job.level (doing_in job.bytes) (doing_done k given latched p after job.undo k.sizes (doing_by job.level job.bytes) h)
 
 -- ---- what its writes are over, and what it asks for
 

@@ -8,7 +8,7 @@ use Rattle.rq_level.specs.Asked.{AreWanted, IsGathered, job_back, TellsDeedOf, A
 use Rattle.rq_level.specs.Given.{given_at}
 use Rattle.rq_level.specs.LevelState.{LevelState}
 use Rattle.rq_level.specs.Meaning.{page_meaning}
-use Rattle.rq_level.specs.Ops.{Job, Overwrite, is_asked, overwrite_by}
+use Rattle.rq_level.specs.Ops.{Job, Overwrite, overwrite_by, overwrite_in}
 use Rattle.rq_level.specs.PagePlans.{IsOneWrite, IsOverwritten, TakesBack, WritesFor, is_slot_number, page_plans, page_undoes, write_wants}
 use Rattle.rq_level.specs.declared.slots.Given.{Given}
 use Rattle.rq_level.specs.Writes.{replied, reply_of}
@@ -16,7 +16,7 @@ use Rattle.rq_level.specs.declared.writes.Plan.{Plan}
 use Rattle.rq_level.specs.declared.writes.SlotWrite.{SlotWrite}
 use Rattle.rq_level.proofs.Based.{all_each, each_in, was_given}
 use Rattle.rq_level.proofs.Gathered.{none_within, unless_within}
-use Rattle.rq_level.proofs.Unread.{slot_asked}
+use Rattle.rq_level.proofs.Unread.{read_of}
 
 -- of the one write
 of_one : (P : SlotWrite → Type 0) (a : ℕ) (x y : List ℕ) (ws : List SlotWrite) → ((w : SlotWrite) → w.at ≡ a → w.before ≡ x → P w) → IsOneWrite a x y ws → All P ws
@@ -79,8 +79,8 @@ module _ (k : LevelState) (given : List Given) (latched : List ℕ) (p : Plan) (
   back_kept (records.PageOp t n page slot x y) h = (back_one (is_slot_number slot) (page * 16 + slot) x y h).2
   back_kept _ h = absurd h
 
-  pub plan_own : (job : Job) → page_plans k job given latched (Ok p) after → (job.level ≡ 0) × (is_asked 0 job.bytes ≡ true)
-  plan_own job h = slot_asked job.level job.bytes (ap is_some (written job.undo k (overwrite_by job.level job.bytes) given p after h).1)
+  pub plan_own : (job : Job) → page_plans k job given latched (Ok p) after → (job.level ≡ 0) × (page_meaning.asks job.bytes ≡ true)
+  plan_own job h = read_of 0 job.level (overwrite_in job.bytes) (ap is_some (written job.undo k (overwrite_by job.level job.bytes) given p after h).1)
 
   pub back_read : (told : Record) → page_undoes k told given latched (Ok p) after → TellsDeedOf 0 told
   back_read (records.PageOp t n page slot x y) h = tt

@@ -31,7 +31,7 @@ use Rattle.rq_level.specs.Given.{GivenHolds, HoldsBytes, IsGiven, given_at}
 use Rattle.rq_level.specs.Lawful.{IsLawful, IsUntouchedAt, MayHaveNoPlan}
 use Rattle.rq_level.specs.LevelState.{LevelState}
 use Rattle.rq_level.specs.Meaning.{AreOf, tag_meaning}
-use Rattle.rq_level.specs.Ops.{Job, Tagging, is_asked, tagging_by}
+use Rattle.rq_level.specs.Ops.{Job, Tagging, tagging_by, tagging_in}
 use Rattle.rq_level.specs.TagPlans.{CanTag, CanUntag, IsTagPlan, IsUntagPlan, PlansTag, RefusesTag, TagsFor, UndoesTag, client_marked, client_to_mark, client_wanted, tag_note, tag_plans, tag_undoes, tag_wants}
 use Rattle.rq_level.specs.TakenBack.{AreOverHeld, LeadsBack, LeavesAt, LeavesOthers, ShowsOf, newest_first}
 use Rattle.rq_level.specs.Writes.{AreSlotWrites, IsSlotWrite, answer_of, replied, reply_of, write_of, writes_of}
@@ -42,7 +42,7 @@ use Rattle.rq_level.proofs.Based.{all_each, holds_at, same_bytes, was_given}
 use Rattle.rq_level.proofs.ChainLaws.{same_kept}
 use Rattle.rq_level.proofs.Gathered.{asks_client, few_of_client, unless_within}
 use Rattle.rq_level.proofs.TakenBack.{same_deed}
-use Rattle.rq_level.proofs.Unread.{asked_there, may_damage, tag_asked, there_is}
+use Rattle.rq_level.proofs.Unread.{may_damage, read_of, there_is}
 
 -- ---- its one write
 
@@ -179,8 +179,8 @@ module _ (k : LevelState) (given : List Given) (p : Plan) (after : LevelState) w
   answers : (job : Job) (latched : List ℕ) → tag_plans k job given latched (Ok p) after → (d : Deed) → deed_by 2 p.deed ≡ Some d → reply_of 2 p ≡ Some (answer_of d)
   answers job latched h d told = ap (λ r. replied r (deed_by 2 p.deed)) (marks job.undo k.sizes (tagging_by job.level job.bytes) h).4.reply ∙ ap (option_map answer_of) told
 
-  plan_own : (job : Job) (latched : List ℕ) → tag_plans k job given latched (Ok p) after → (job.level ≡ 2) × (is_asked 2 job.bytes ≡ true)
-  plan_own job latched h = tag_asked job.level job.bytes (ap is_some (marks job.undo k.sizes (tagging_by job.level job.bytes) h).3)
+  plan_own : (job : Job) (latched : List ℕ) → tag_plans k job given latched (Ok p) after → (job.level ≡ 2) × (tag_meaning.asks job.bytes ≡ true)
+  plan_own job latched h = read_of 2 job.level (tagging_in job.bytes) (ap is_some (marks job.undo k.sizes (tagging_by job.level job.bytes) h).3)
 
   -- what takes something back is of a mark that its end tells
   unmarks : (z : Option Sizes) (d : Option Deed) → UndoesTag z d k given (Ok p) after → (y : Sizes) × (c : ℕ) × (tag : ℕ) × (previous : ℕ) × (d ≡ Some (Mark c tag previous)) × IsUntagPlan y k given c tag previous p after
@@ -385,7 +385,7 @@ tags_lawful = record {
   no_others = λ k z y h told. (let is : Some y ≡ Some z = sym told ∙ h in cc);
   stays = λ k z a x ne h. ap (λ (l : LevelState). l.sizes) (note_far k a x ne) ∙ h;
   reads = there_is 2;
-  asked = λ bytes some. asked_there 2 bytes some;
+  asked = λ bytes some. omega arith;
   own = λ k job given latched p after h. plan_own k given p after job latched h;
   own_back = λ k told given latched p after h. back_own k given p after told latched h;
 }

@@ -12,7 +12,7 @@ use Rattle.rq_views.specs.Items.{layout_of}
 use Rattle.rq_views.specs.Log.{Slots}
 use Rattle.rq_views.specs.Plans.{deed_sender}
 use Rattle.rq_level.specs.LevelState.{LevelState, flag_at}
-use Rattle.rq_level.specs.Ops.{Job, is_asked}
+use Rattle.rq_level.specs.Ops.{Job}
 use Rattle.rq_level.specs.Given.{given_at}
 use Rattle.rq_level.specs.Writes.{answer_of, reply_of}
 use Rattle.rq_level.specs.Asked.{IsGathered, job_back, answer_back, TellsDeedOf, AreNoted, AreOver, AreBackOver, AreWritten, AsksForNone, Knows, AreAsGiven, StandsYet, AreOverSlots, Chooses, ChoosesBack, MayChoose, AreOfSlots, AreBackOfSlots}
@@ -106,9 +106,9 @@ pub record IsLawful (n : ℕ) (m : Meaning) : Type 0 where
   pub stays : (k : LevelState) (z : Sizes) (a : ℕ) (x : List ℕ) → a ≢ 1 → m.ready z k → m.ready z (m.note k a x)
   -- bytes that are a deed, or ask for something, are of a level that there is
   pub reads : (bytes : List ℕ) → is_some (deed_by n bytes) ≡ true → n < level_count
-  pub asked : (bytes : List ℕ) → is_asked n bytes ≡ true → n < level_count
+  pub asked : (bytes : List ℕ) → m.asks bytes ≡ true → n < level_count
   -- what it plans is asked of it, and what it takes back tells one of its deeds
-  pub own : OfPlans m (λ k job given latched p after. (job.level ≡ n) × (is_asked n job.bytes ≡ true))
+  pub own : OfPlans m (λ k job given latched p after. (job.level ≡ n) × (m.asks job.bytes ≡ true))
   pub own_back : OfBacks m (λ k told given latched p after. TellsDeedOf n told)
 
 -- a record that is applied again to its page changes nothing

@@ -1,7 +1,6 @@
 -- Operations to be planned, as bytes that their level alone reads.
-use Rattle.std.specs.Prelude.{ℕ, ◌+◌, ◌/◌, ◌%◌, ◌^◌, ◌&&◌, ◌||◌, not, cond, nat_eq, nat_lt, Bool, false, List, [], ◌∷◌, ◌++◌, Option, None, Some, length, drop}
+use Rattle.std.specs.Prelude.{ℕ, ◌+◌, ◌/◌, ◌%◌, ◌^◌, ◌&&◌, not, cond, nat_eq, nat_lt, Bool, false, List, [], ◌∷◌, ◌++◌, Option, None, Some, length, drop}
 use Rattle.byteorder.specs.Endian.{big_bytes, big_number}
-use Rattle.rq_model.specs.Vocabulary.{is_some}
 
 -- what is to be planned: of a level, something to do or a deed to take back
 pub record Job : Type 0 where
@@ -99,8 +98,3 @@ tagging_by level bytes = cond (nat_eq level 2) (tagging_in bytes) None
 -- to mark a tag for a client on the level of tags
 abbrev pub tag_job : ℕ → ℕ → Job
 tag_job client tag = record { level = 2; undo = false; bytes = 1 ∷ (big_bytes 4 client ++ big_bytes 8 tag) }
-
--- the bytes ask the level of this number for something
-abbrev pub is_asked : (level : ℕ) → List ℕ → Bool
-is_asked level bytes =
-    is_some (overwrite_by level bytes) || (is_some (doing_by level bytes) || is_some (tagging_by level bytes))

@@ -1,6 +1,5 @@
 -- What is answered to what is asked, by the level that is asked.
-use Rattle.std.proofs.Common.{◌≡◌, ℕ, ◌<◌, List, Bool, true, false, cond, nat_eq, Option, Some, None, Result, option_map, refl, sym, ◌∙◌, ap, subst, inl, inr, arith}
-use Rattle.std.proofs.lemmas.Bool.{cases_Bool, eqb-true, false≢true}
+use Rattle.std.proofs.Common.{◌≡◌, ℕ, ◌<◌, List, Bool, true, false, cond, nat_eq, Option, Some, None, Result, option_map, refl, sym, ◌∙◌, ap, subst, arith}
 use Rattle.rq_model.specs.declared.record.Deed.{Deed}
 use Rattle.rq_model.specs.declared.record.Deed.TheVariants.{Append, UnlinkHead, Close as Close_deed, Mark}
 use Rattle.rq_model.specs.declared.record.Record.{Record}
@@ -13,13 +12,13 @@ use Rattle.rq_model.proofs.Deeds.{told_by_its_level}
 use Rattle.rq_model.proofs.Each.{some_is}
 use Rattle.rq_page.specs.Sizes.{Sizes, client_count, sender_count}
 use Rattle.rq_views.specs.InStore.{IsDeedOf}
-use Rattle.rq_level.specs.Asked.{job_back}
+use Rattle.rq_level.specs.Asked.{deed_back, job_back}
 use Rattle.rq_level.specs.declared.writes.Plan.{Plan}
 use Rattle.rq_level.specs.LevelState.{LevelState}
 use Rattle.rq_level.specs.Meaning.{kept_at, level_count, meaning_of}
 use Rattle.rq_level.specs.Ops.{Doing, Job, Tagging, doing_by, doing_in, tagging_by, tagging_in}
 use Rattle.rq_level.specs.Ops.Doing.{Send, Receive, Close}
-use Rattle.rq_level.proofs.Unread.{of_level}
+use Rattle.rq_level.proofs.Unread.{read_of}
 use Rattle.rq_txn.specs.Rows.{Row}
 use Rattle.rq_store.specs.State.{State}
 use Rattle.rq_planner.specs.Answered.{IsAnswered, IsAnsweredBack, IsPlanned, IsPlannedBy, KnowsCells, MayPlan, MayUndo, wants_of}
@@ -47,8 +46,8 @@ some_task e = cc
 pub task_cases : (P : Task → Type 0) (level : ℕ) (bytes : List ℕ) (task : Task) → task_by level bytes ≡ Some task → ((d : Doing) → doing_by level bytes ≡ Some d → level ≡ 1 → P (Chain d)) → ((t : Tagging) → tagging_by level bytes ≡ Some t → level ≡ 2 → P (Tag t)) → P task
 task_cases P level bytes task told chain tag = by (doing_by level bytes) (tagging_by level bytes) refl refl told where
   by : (o : Option Doing) (p : Option Tagging) → doing_by level bytes ≡ o → tagging_by level bytes ≡ p → chain_or_tag o p ≡ Some task → P task
-  by (Some d) p e f t = subst P (some_task t) (chain d e (of_level 1 level (doing_in bytes) (ap is_some e)))
-  by None (Some u) e f t = subst P (some_task t) (tag u f (of_level 2 level (tagging_in bytes) (ap is_some f)))
+  by (Some d) p e f t = subst P (some_task t) (chain d e (read_of 1 level (doing_in bytes) (ap is_some e)).0)
+  by None (Some u) e f t = subst P (some_task t) (tag u f (read_of 2 level (tagging_in bytes) (ap is_some f)).0)
   by None None e f t = absurd (let no : None ≡ Some task = t in cc)
 
 module _ (z : Sizes) (images : List (List ℕ)) (rows : List Row) (levels : List LevelState) (knows : KnowsCells z images levels) (answer : Result Plan Refusal) where
@@ -110,6 +109,11 @@ module _ (z : Sizes) (images : List (List ℕ)) (rows : List Row) (levels : List
 -- something that is to be done is asked for by its job
 pub asks_to_do : (job : Job) (task : Task) → job.undo ≡ false → task_by job.level job.bytes ≡ Some task → asked_by job ≡ Some (Do task)
 asks_to_do job task forward told = ap (λ (b : Bool). cond b (option_map Undo (deed_by job.level job.bytes)) (option_map Do (task_by job.level job.bytes))) forward ∙ ap (option_map Do) told
+
+-- what takes back the deed that a record tells is asked for by its job
+pub asks_back : (told : Record) (d : Deed) → deed_back told ≡ Some d → asked_by (job_back told) ≡ Some (Undo d)
+asks_back (OpEnd t j level deed) d told = ap (option_map Undo) told
+asks_back _ d told = absurd (let no : None ≡ Some d = told in cc)
 
 -- what is to be done is asked of the level that does it
 pub asked_of : (level : ℕ) (bytes : List ℕ) (task : Task) → task_by level bytes ≡ Some task → level ≡ task_level task

@@ -1,5 +1,5 @@
 -- The level plans what takes back a deed exactly where the slots hold what that needs.
-use Rattle.std.proofs.Common.{◌≡◌, ℕ, ◌<◌, not, List, [], ◌∷◌, true, false, Option, Some, None, Result, Ok, Err, option_map, refl, sym, ◌∙◌, ap, subst, inl, inr, arith, ◌⊎◌}
+use Rattle.std.proofs.Common.{◌≡◌, ℕ, ◌<◌, not, List, [], ◌∷◌, true, false, Option, Some, None, Result, Ok, Err, refl, sym, ◌∙◌, ap, subst, inl, inr, arith, ◌⊎◌}
 use Rattle.std.proofs.lemmas.Bool.{cases_eq, cases_lt, false≢true, true≢false}
 use Rattle.rq_model.specs.declared.record.Deed.{Deed}
 use Rattle.rq_model.specs.declared.record.Deed.TheVariants.{Append, UnlinkHead, Close, Mark}
@@ -10,7 +10,6 @@ use Rattle.rq_model.proofs.Deeds.{told_by_its_level}
 use Rattle.rq_model.specs.declared.record.Record.{Record}
 use Rattle.rq_model.specs.declared.record.Record.TheVariants.{OpEnd}
 use Rattle.rq_model.specs.declared.txn.Txn.{Txn}
-use Rattle.rq_model.proofs.Each.{some_is}
 use Rattle.rq_page.specs.declared.cell.Cell.{Cell}
 use Rattle.rq_page.specs.Sizes.{Sizes, IsCellAddress, client_count, client_slot_at, directory_at, place_of, sender_count}
 use Rattle.rq_page.specs.Slots.Slot.{Free, Used, Sender}
@@ -28,7 +27,6 @@ use Rattle.rq_level.specs.LevelState.{LevelState, NoneFree, flag_at}
 use Rattle.rq_level.specs.Meaning.{chain_meaning, kept_at, meaning_of, tag_meaning}
 use Rattle.rq_level.specs.Ops.{Job}
 use Rattle.rq_level.specs.TagPlans.{tag_wants}
-use Rattle.rq_level.proofs.EachLevel.{all_lawful}
 use Rattle.rq_txn.specs.Rows.{Row}
 use Rattle.rq_store.specs.Plans.{Stands_at}
 use Rattle.rq_store.specs.State.{State}
@@ -39,7 +37,7 @@ use Rattle.rq_sound.specs.Wants.{AreGivenOf}
 use Rattle.rq_sound.proofs.Levels.{levels_plan}
 use Rattle.rq_sound.specs.Inverses.{InverseIsLatched, InverseTakesLowest}
 use Rattle.rq_sound.proofs.Wants.{given_parts, given_named}
-use Rattle.rq_planner.specs.Asked.{HasPlace, asked_by, known}
+use Rattle.rq_planner.specs.Asked.{HasPlace, known}
 use Rattle.rq_planner.specs.Asked.Asked.{Undo}
 use Rattle.rq_planner.specs.Answered.{ComesFrom, IsAnswered, IsAnsweredBack, IsHeldUp, IsPlanBack, KnowsCells, MayUndo, Wants, wants_of}
 use Rattle.rq_planner.proofs.Knowing.{cells_known}
@@ -244,11 +242,6 @@ module _ (z : Sizes) (images : List (List ℕ)) (rows : List Row) (levels : List
   pub back_judged : (told : Record) (d : Deed) → deed_back told ≡ Some d → IsAnsweredBack s levels told answer → IsJudgedBack z (slots_now s) d answer
   back_judged (OpEnd t j level deed) d told h = back_told t j level deed d told h
   back_judged _ d told h = absurd (let no : None ≡ Some d = told in cc)
-
--- what takes back the deed that a record tells is asked for by its job
-pub asks_back : (told : Record) (d : Deed) → deed_back told ≡ Some d → asked_by (job_back told) ≡ Some (Undo d)
-asks_back (OpEnd t j level deed) d told = ap (option_map Undo) told
-asks_back _ d told = absurd (let no : None ≡ Some d = told in cc)
 
 -- ---- where nothing is under way
 

@@ -68,7 +68,13 @@ pub(crate) fn plan_inverse<P: PageDevice, B: Level>(
     };
     match gather(pages, transactions, levels, &op, slots) {
         Ok(()) => {
-            let answer = levels.undo(room, op.level() as usize, told, slots, transactions.latched());
+            let answer = levels.undo(
+                room,
+                op.level() as usize,
+                told,
+                slots,
+                transactions.latched(),
+            );
             give_back(pages, levels, &answer);
             answer
         }

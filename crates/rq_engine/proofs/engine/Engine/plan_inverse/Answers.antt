@@ -6,8 +6,7 @@ use Rattle.rq_store.specs.State.{State}
 use Rattle.rq_planner.specs.Answered.{IsPlanned, level_back}
 use Rattle.rq_planner.specs.Asked.{known_from}
 use Rattle.rq_planner.specs.Asked.Asked.{Undo}
-use Rattle.rq_planner.proofs.Asking.{has_place}
-use Rattle.rq_planner.proofs.Backs.{asks_back}
+use Rattle.rq_planner.proofs.Asking.{asks_back, has_place}
 use Rattle.rq_planner.proofs.Knowing.{is_one}
 use Rattle.rq_level.proofs.EachLevel.{all_lawful}
 use Rattle.rq_engine.specs.Plans.{known_part}

@@ -1,11 +1,12 @@
-use Rattle.std.proofs.Common.{rules, option_map, ◌∙◌, ap, subst, sym}
+use Rattle.std.proofs.Common.{rules, ◌∙◌, subst, sym}
 use Rattle.rq_model.proofs.Each.{some_is}
 use Rattle.rq_views.specs.Stored.{slots_in}
 use Rattle.rq_level.specs.Asked.{deed_back}
 use Rattle.rq_planner.specs.Answered.{IsHeldUp, RefusesPlan}
 use Rattle.rq_planner.specs.Asked.{known_from}
 use Rattle.rq_planner.specs.Asked.Asked.{Undo}
-use Rattle.rq_planner.proofs.Backs.{asks_back, can_below, not_held_up, taken_back}
+use Rattle.rq_planner.proofs.Asking.{asks_back}
+use Rattle.rq_planner.proofs.Backs.{can_below, not_held_up, taken_back}
 use Rattle.rq_planner.proofs.planner.Planner.plan_inverse_alone.Goals as goal
 
 pub returns-in-Ok-clause-plan : goal.returns-in-Ok-clause-plan
