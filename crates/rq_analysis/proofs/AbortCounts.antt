@@ -48,15 +48,15 @@ use Rattle.rq_analysis.proofs.AbortEnds.{none_row}
 use Rattle.rq_analysis.proofs.Workers.{lost_apart}
 
 -- what is finished, as it is placed in the log
-back_placed : (ps : List Placed) → placed (reverse (map finished_one ps)) ≡ ps
-back_placed [] = refl
-back_placed (p ∷ ps) =
-    ap placed (reverse-append (finished_one p ∷ []) (map finished_one ps))
-    ∙ placed_more (reverse (map finished_one ps)) (finished_one p)
-    ∙ ap (λ (l : List Placed). p ∷ l) (back_placed ps)
+back_placed : (log : List Record) (ps : List Placed) → placed (reverse (map (finished_one log) ps)) ≡ ps
+back_placed log [] = refl
+back_placed log (p ∷ ps) =
+    ap placed (reverse-append (finished_one log p ∷ []) (map (finished_one log) ps))
+    ∙ placed_more (reverse (map (finished_one log) ps)) (finished_one log p)
+    ∙ ap (λ (l : List Placed). p ∷ l) (back_placed log ps)
 
 pub lost_placed : (z : Sizes) (log : List Record) (t : Txn) → open_deeds t (items z log) ≡ placed (finished_in z log t)
-lost_placed z log t = sym (back_placed (open_deeds t (items z log)))
+lost_placed z log t = sym (back_placed log (open_deeds t (items z log)))
 
 pub keeps_sends : (z : Sizes) (log : List Record) → KeepsSends z log (sent_by_log z log)
 keeps_sends z log = record {

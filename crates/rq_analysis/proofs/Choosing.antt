@@ -1,6 +1,6 @@
 -- Which transaction is next is told by the stack and the transactions that are lost.
 use Rattle.rq_analysis.specs.Pages.{txn_less}
-use Rattle.std.proofs.Common.{◌≡◌, ◌≢◌, true, false, not, List, [], ◌∷◌, map, Option, Some, None, inl, inr, refl, sym, ◌∙◌, ap, subst, arith}
+use Rattle.std.proofs.Common.{ℕ, ◌≡◌, ◌≢◌, true, false, not, List, [], ◌∷◌, map, Option, Some, None, inl, inr, refl, sym, ◌∙◌, ap, subst, arith}
 use Rattle.std.specs.List.{filter}
 use Rattle.std.proofs.lemmas.Bool.{cases_Bool, true≢false, false≢true, false_from_ne_true}
 use Rattle.std.proofs.lemmas.Bool.Decides.{nat_tests}
@@ -186,12 +186,13 @@ module _ (s : State) (k : IsSound s) (are : AreLost s) where
       )
 
   pub chosen_back : (d : PendingUndo) (ds : List PendingUndo) → least_free (dues s.records) (lost s.records) ≡ None → dues s.records ≡ d ∷ ds
-      → (r : Row) × (rest : List Finished) × (r.txn ≡ d.txn) × TakesBackNext s.rows r rest (finished_due d)
+      → (r : Row) × (rest : List Finished) × (n : ℕ) × (r.txn ≡ d.txn) × TakesBackNext s.rows r rest (finished_due n d)
   chosen_back d ds e first =
       let n = first_due s k d ds first in
       let at = found_in d.txn s.rows n.row n.at_row in (
         n.row,
         n.rest,
+        n.number,
         at.1,
         record {
           row = at.0;

@@ -174,8 +174,9 @@ module _ (s : State) (k : IsSound s) where
                 record {
                   row = r;
                   rest = h.0;
+                  number = h.1.number;
                   at_row = f;
-                  last = h.2 ∙ ap (λ (p : Placed). h.0 ++ record { lsn = p.lsn; deed = p.deed } ∷ []) is;
+                  last = h.2 ∙ ap (λ (p : Placed). h.0 ++ record { lsn = p.lsn; number = h.1.number; deed = p.deed } ∷ []) is;
                   newest = newest;
                 }
           ]

@@ -107,7 +107,7 @@ due_may base images log d ds k b none first =
     let s = newest_store base b.stores in
     let sound = come_sound base b.stores images log k b.come in
     let h = chosen_back s sound b.come.lost d ds (subst (λ l. least_free (dues l) (lost l) ≡ None) (sym b.come.records_are) none) (ap dues b.come.records_are ∙ first) in
-    let m : IsIdle s h.0 = record { at_row = in_found s.rows h.0 sound.standing.distinct h.3.row; idle = none_of h.0.under (none_under s.rows h.0 b.idle h.3.row) } in
+    let m : IsIdle s h.0 = record { at_row = in_found s.rows h.0 sound.standing.distinct h.4.row; idle = none_of h.0.under (none_under s.rows h.0 b.idle h.4.row) } in
     let sizes : s.sizes ≡ base.sizes = come_sizes base b.stores images log k b.come in
     let below : IsDeedOf s.sizes (deed_due d) = (due_reads s.sizes s.records d sound.log (subst (In d) (sym (ap dues b.come.records_are ∙ first)) (inl refl))).1 in
     record {
@@ -116,8 +116,8 @@ due_may base images log d ds k b none first =
       stands = stands_idle s base.sizes images sizes b.come.images_are b.idle;
       records_are = b.come.records_are;
       idle = b.idle;
-      may = may_be_undone s h.0 h.1 (finished_due d) sound m h.3.last;
-      last = subst (λ z. StandsLast z (slots_in z images) (deed_due d)) sizes (subst (λ x. StandsLast s.sizes (slots_in s.sizes x) (deed_due d)) b.come.images_are (last_stands s h.0 h.1 (finished_due d) sound m b.idle h.3.last below));
+      may = may_be_undone s h.0 h.1 (finished_due h.2 d) sound m h.4.last;
+      last = subst (λ z. StandsLast z (slots_in z images) (deed_due d)) sizes (subst (λ x. StandsLast s.sizes (slots_in s.sizes x) (deed_due d)) b.come.images_are (last_stands s h.0 h.1 (finished_due h.2 d) sound m b.idle h.4.last below));
     }
 
 pub dues_undone : DuesCanBeUndone

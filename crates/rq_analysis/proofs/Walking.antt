@@ -168,25 +168,25 @@ module _ (base : State) (k : IsSound base) (stores : List State) (images : List 
   begin off d ds ws none first plan low =
       let h = chosen_back s sound c.lost d ds (subst (λ l. least_free (dues l) (lost l) ≡ None) (sym c.records_are) none) (ap dues c.records_are ∙ first) in
       let r = h.0 in
-      let t = h.3 in
+      let t = h.4 in
       let u : Under = record { number = number_of d.txn (numbers log) + 1; writes = ws; made = 0; aim = aims.Undoing d.lsn (deed_due d) } in
       let i = idle_row r off t.row in
-      let e : number_of d.txn (numbers log) ≡ r.number = ap (λ (x : Txn). number_of x (numbers log)) (sym h.2) ∙ ap (λ (l : List Record). number_of r.txn (numbers l)) (sym c.records_are) ∙ row_number s r sound t.row i.idle in
+      let e : number_of d.txn (numbers log) ≡ r.number = ap (λ (x : Txn). number_of x (numbers log)) (sym h.3) ∙ ap (λ (l : List Record). number_of r.txn (numbers l)) (sym c.records_are) ∙ row_number s r sound t.row i.idle in
       let over : IsPlannedFrom s.sizes (slots_in s.sizes s.images) ws (Undid (deed_due d)) =
       subst (λ z. IsPlannedFrom z (slots_in z s.images) ws (Undid (deed_due d))) (sym sizes) (subst (λ x. IsPlannedFrom base.sizes (slots_in base.sizes x) ws (Undid (deed_due d))) (sym c.images_are) plan) in
-      let may : MayUndo s r u h.1 (finished_due d) = plans_start.inverses s r u h.1 (finished_due d) sound
+      let may : MayUndo s r u h.1 (finished_due h.2 d) = plans_start.inverses s r u h.1 (finished_due h.2 d) sound
       (record { idle = i; number = ap (λ (n : ℕ). n + 1) e; made = refl; aim_is = refl; free = λ p x. none_latched s.rows p off }) over (c.aborting r t.row) t.last in
       let lowest : InverseTakesLowest s.sizes (slots_now s) s.rows (deed_due d) ws =
       subst (λ z. InverseTakesLowest z (slots_in z s.images) s.rows (deed_due d) ws) (sym sizes)
       (subst (λ x. InverseTakesLowest base.sizes (slots_in base.sizes x) s.rows (deed_due d) ws) (sym c.images_are) (lowest_of base.sizes (slots_in base.sizes images) s.rows (deed_due d) ws (λ p. none_latched s.rows p off) low)) in
       record {
         stores = started s r u s.ends ∷ stores;
-        come = step (started s r u s.ends) (Starts r u h.1 (finished_due d) may lowest refl) images log (off, t) c.images_are c.records_are;
+        come = step (started s r u s.ends) (Starts r u h.1 (finished_due h.2 d) may lowest refl) images log (off, t) c.images_are c.records_are;
         row = row_started u r;
-        of = h.2;
+        of = h.3;
         at_row = found_change_same r.txn (row_started u) s.rows (λ q. refl) ∙ ap (λ (o : Option Row). option_map (row_started u) o) i.at_row;
         under = refl;
-        alone = ap any_under (ap (λ (x : Txn). without_row x (change_row r.txn (row_started u) s.rows)) (sym h.2) ∙ without_changed r.txn (row_started u) s.rows (λ q. refl)) ∙ none_without r.txn s.rows off;
+        alone = ap any_under (ap (λ (x : Txn). without_row x (change_row r.txn (row_started u) s.rows)) (sym h.3) ∙ without_changed r.txn (row_started u) s.rows (λ q. refl)) ∙ none_without r.txn s.rows off;
       }
 
   pub end : any_under s.rows ≡ false → (t : Txn) → least_free (dues log) (lost log) ≡ Some t → IsBetween base images (AbortEnd t ∷ log)

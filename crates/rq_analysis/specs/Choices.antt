@@ -37,7 +37,7 @@ pub record TurnsAreChosen : Type 0 where
       → (r : Row) × (r.txn ≡ t) × EndsNext s.rows r
   pub back : (s : State) (d : PendingUndo) (ds : List PendingUndo) → IsSound s → AreLost s
       → least_free (dues s.records) (lost s.records) ≡ None → dues s.records ≡ d ∷ ds
-      → (r : Row) × (rest : List Finished) × (r.txn ≡ d.txn) × TakesBackNext s.rows r rest (finished_due d)
+      → (r : Row) × (rest : List Finished) × (n : ℕ) × (r.txn ≡ d.txn) × TakesBackNext s.rows r rest (finished_due n d)
   pub done : (s : State) → IsSound s → AreLost s → least_free (dues s.records) (lost s.records) ≡ None
       → dues s.records ≡ [] → s.rows ≡ []
   pub first : (z : Sizes) (images : List (List ℕ)) (log : List Record) (forced : ℕ)

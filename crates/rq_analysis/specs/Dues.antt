@@ -36,7 +36,7 @@ abbrev pub but_own : Txn → List PendingUndo → List PendingUndo
 but_own t ds = filter (λ d. not (due_of t d)) ds
 
 abbrev pub dues_after : ℕ → Record → List PendingUndo → List PendingUndo
-dues_after n (OpEnd t m level deed) ds = record { txn = t; lsn = n; level = level; deed = deed } ∷ ds
+dues_after n (OpEnd t m level deed) ds = record { txn = t; lsn = n; number = m; level = level; deed = deed } ∷ ds
 dues_after n (CompEnd t m undone) ds = but_newest t ds
 dues_after n (Commit t) ds = but_own t ds
 dues_after n (AbortEnd t) ds = but_own t ds
@@ -50,15 +50,21 @@ dues (r ∷ log) = dues_after (length log + 1) r (dues log)
 abbrev pub deed_due : PendingUndo → Deed
 deed_due d = told_deed (deed_by d.level d.deed)
 
-abbrev pub finished_due : PendingUndo → Finished
-finished_due d = record { lsn = d.lsn; deed = deed_due d }
+-- the OpEnd that tells what is due
+abbrev pub end_due : PendingUndo → Record
+end_due d = OpEnd d.txn d.number d.level d.deed
+
+-- what an operation of this number finished, if that is due
+abbrev pub finished_due : ℕ → PendingUndo → Finished
+finished_due n d = record { lsn = d.lsn; number = n; deed = deed_due d }
 
 -- the due is the last of its transaction's row, and the newest of all
 pub record IsNewestDue (s : State) (d : PendingUndo) : Type 0 where
   pub row : Row
   pub rest : List Finished
+  pub number : ℕ
   pub at_row : found_row d.txn s.rows ≡ Some row
-  pub last : row.finished ≡ rest ++ finished_due d ∷ []
+  pub last : row.finished ≡ rest ++ finished_due number d ∷ []
   pub newest : (q : Row) (g : Finished) → In q s.rows → In g q.finished → g.lsn ≤ d.lsn
 
 -- Of a sound store the first due is what is taken back next, the rest are due once its inverse has ended, and where

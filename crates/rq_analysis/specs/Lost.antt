@@ -1,8 +1,9 @@
 -- The store that a crash leaves, with the transactions that it stopped: their rows, ends and counts, by the log alone.
-use Rattle.std.specs.Prelude.{◌≡◌, ℕ, ◌+◌, ◌-◌, ◌≤◌, max, true, false, List, [], ◌∷◌, length, map, reverse, Option, Some, None}
+use Rattle.std.specs.Prelude.{◌≡◌, ℕ, ◌+◌, ◌-◌, ◌≤◌, cond, max, nat_eq, true, false, List, [], ◌∷◌, length, map, reverse, Option, Some, None}
 use Rattle.std.specs.List.{sum_by}
 use Rattle.rq_model.specs.declared.txn.Txn.{Txn}
 use Rattle.rq_model.specs.declared.record.Record.{Record}
+use Rattle.rq_model.specs.declared.record.Record.TheVariants.{OpEnd}
 use Rattle.rq_model.specs.Vocabulary.{same_txn, client_group}
 use Rattle.rq_model.specs.Commits.{committed_of}
 use Rattle.rq_model.specs.Content.{Said, deeds}
@@ -27,12 +28,18 @@ use Rattle.rq_store.specs.State.{State}
 use Rattle.rq_store.specs.Whole.{IsWhole}
 use Rattle.rq_sound.specs.Counted.{takes_all, takes_in}
 
-abbrev pub finished_one : Placed → Finished
-finished_one p = record { lsn = p.lsn; deed = p.deed }
+-- the number of the operation whose OpEnd has this LSN
+abbrev pub number_ended : ℕ → List Record → ℕ
+number_ended n [] = 0
+number_ended n (OpEnd t m level deed ∷ log) = cond (nat_eq n (length log + 1)) m (number_ended n log)
+number_ended n (_ ∷ log) = number_ended n log
+
+abbrev pub finished_one : List Record → Placed → Finished
+finished_one log p = record { lsn = p.lsn; number = number_ended p.lsn log; deed = p.deed }
 
 -- what a transaction has finished and not undone, in order
 abbrev pub finished_in : Sizes → List Record → Txn → List Finished
-finished_in z log t = reverse (map finished_one (open_deeds t (items z log)))
+finished_in z log t = reverse (map (finished_one log) (open_deeds t (items z log)))
 
 -- the row of a transaction that the crash stopped: it has nothing under way, and is to be undone
 abbrev pub lost_row : Sizes → List Record → Txn → Row

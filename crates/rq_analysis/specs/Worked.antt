@@ -15,16 +15,16 @@ log_two = spelled_log done_two
 
 -- what t2 had finished
 abbrev pub sent_two : Finished
-sent_two = record { lsn = 8; deed = sends 15 }
+sent_two = record { lsn = 8; number = 1; deed = sends 15 }
 
 abbrev pub took_two : Finished
-took_two = record { lsn = 11; deed = takes 0 }
+took_two = record { lsn = 11; number = 2; deed = takes 0 }
 
 abbrev pub sent_due : PendingUndo
-sent_due = record { txn = t2; lsn = 8; level = 1; deed = spelled_deed (sends 15) }
+sent_due = record { txn = t2; lsn = 8; number = 1; level = 1; deed = spelled_deed (sends 15) }
 
 abbrev pub took_due : PendingUndo
-took_due = record { txn = t2; lsn = 11; level = 1; deed = spelled_deed (takes 0) }
+took_due = record { txn = t2; lsn = 11; number = 2; level = 1; deed = spelled_deed (takes 0) }
 
 abbrev pub row_two : Row
 row_two = record {

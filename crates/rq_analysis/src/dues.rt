@@ -23,7 +23,9 @@ pub struct PendingUndo {
     pub txn: Txn,
     /// The LSN of its OpEnd.
     pub lsn: Lsn,
-    /// The level that this says.
+    /// The operation's number.
+    pub number: u64,
+    /// The level that its OpEnd says.
     pub level: u8,
     /// What it says was done.
     pub deed: DeedBytes,
@@ -167,14 +169,15 @@ fn take(dues: &mut Vec<KeptUndo>, lsn: Lsn, record: &Record)
     match record {
         Record::OpEnd {
             txn,
+            operation,
             level,
             deed,
-            ..
         } => add(
             dues,
             &PendingUndo {
                 txn: *txn,
                 lsn,
+                number: *operation,
                 level: *level,
                 deed: *deed,
             },

@@ -16,7 +16,7 @@ abbrev pub close_under : ℕ → Under
 close_under made = record { number = 1; writes = set_closed ∷ []; made = made; aim = Doing (Close 0) }
 
 abbrev pub did_close : Finished
-did_close = record { lsn = 3; deed = Close 0 }
+did_close = record { lsn = 3; number = 1; deed = Close 0 }
 
 abbrev pub log_marked : List Record
 log_marked = page_op t1 1 set_closed ∷ log_1

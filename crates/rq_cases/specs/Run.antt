@@ -29,10 +29,10 @@ abbrev pub done_row : Txn → Finished → Row
 done_row t f = record { txn = t; aborting = false; finished = f ∷ []; number = 1; under = None }
 
 abbrev pub did_send : Finished
-did_send = record { lsn = 4; deed = sends 0 }
+did_send = record { lsn = 4; number = 1; deed = sends 0 }
 
 abbrev pub did_take : Finished
-did_take = record { lsn = 8; deed = takes 0 }
+did_take = record { lsn = 8; number = 1; deed = takes 0 }
 
 -- who holds the end of sender 0
 abbrev pub held : Txn → List Held

@@ -211,13 +211,14 @@ module _ (s : State) (t : Txn) (n : ℕ) (f : Finished) (h : NoneHolds (ready_te
         row = r.0;
         older = front r.0.finished;
         lsn = f.lsn;
+        number = f.number;
         idle = record { at_row = ap (λ (q : Txn). found_row q s.rows) (found_in t s.rows r.0 r.1).1 ∙ r.1; idle = r.2.0 };
         last = last_some r.0.finished f r.2.3;
       }
 
   -- what it needs is there
   pub may_be_undone : IsSound s → MayBeUndone s f.deed
-  may_be_undone k = newest_may s is_newest.row is_newest.older (record { lsn = is_newest.lsn; deed = f.deed }) k is_newest.idle is_newest.last
+  may_be_undone k = newest_may s is_newest.row is_newest.older (record { lsn = is_newest.lsn; number = is_newest.number; deed = f.deed }) k is_newest.idle is_newest.last
 
   -- an inverse that meets a latched page
   pub undo_refused : (IsSound s → MayBeUndone s f.deed) → log_full (ledger_of s) (undo_cost (Some (op_done f))) ≡ false → UndoIsLatched s f.deed → Refuses s (Undo_next t) why.Latched

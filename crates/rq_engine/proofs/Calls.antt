@@ -12,7 +12,7 @@ use Rattle.rq_model.specs.declared.record.Record.{Record}
 use Rattle.rq_model.specs.declared.record.Record.TheVariants as records
 use Rattle.rq_model.specs.declared.refusal.Refusal.{Refusal}
 use Rattle.rq_model.specs.declared.refusal.Refusal.TheVariants as why
-use Rattle.rq_model.specs.Vocabulary.{client_group, is_some, same_txn}
+use Rattle.rq_model.specs.Vocabulary.{In, client_group, is_some, same_txn}
 use Rattle.rq_views.specs.InStore.{IsDeedOf}
 use Rattle.rq_model.specs.History.{Call, Group}
 use Rattle.rq_model.specs.History.Call.{Commit, Step, Finish, Show, Last_tag, Client_tag}
@@ -48,7 +48,8 @@ use Rattle.rq_store.proofs.RowLists.{found_in}
 use Rattle.rq_store.proofs.Opens.{busy_is}
 use Rattle.rq_model.specs.Commits.{committed_of}
 use Rattle.rq_engine.proofs.Standing.{going_at, step_steps, finish_steps, commit_steps}
-use Rattle.rq_engine.specs.Invariant.{EndFits, IsConsistent, end_bytes, room_one, room_of}
+use Rattle.rq_engine.specs.Earlier.{on}
+use Rattle.rq_engine.specs.Invariant.{EndFits, IsConsistent, end_bytes, end_of, room_one, room_of}
 use Rattle.rq_engine.proofs.Waits.{AreDeedsOf, waits-with_sends, waits-without_taken}
 use Rattle.rq_engine.specs.Answers.{Refuses, OnUnder, IsUnderWay, IsNotUnderWay, NotFound, IsOther, Idle, CannotFinish, IsMade, HasNothingUnderWay}
 use Rattle.rq_engine.proofs.Keeping.{kept_at, under_at, kept_stepped, kept_finished, kept_undone, kept_committed}
@@ -176,9 +177,10 @@ module _ (s : State) (f : Bool) (o res : ℕ) (k : IsConsistent s f o res) (sub 
   same_end : (left : ℕ) → left + end_bytes aim ≡ res → left + end_bytes gd.under.aim ≡ res
   same_end left e = let c : end_bytes gd.under.aim ≡ end_bytes aim = ap end_bytes gd.so.1 in omega (arith, c, e)
 
-  pub end_kept : (d : Deed) (x : Record) (end : Finished) (left : ℕ) → left + end_bytes aim ≡ res → 1 ≤ end.lsn → end.deed ≡ deed_of aim → TellsItself end.deed → IsConsistent (record s { rows = change_row sub.txn (row_finished end) s.rows; records = x ∷ s.records; waiting = without_taken d s.waiting }) f (o - 1) left
-  end_kept d x end left e low is reads = kept_finished s f o res k sub.txn gd.row gd.found gd.under x end left d gd.is all_made (same_end left e)
-      (record { lsn = low; sender = subst (IsDeedOf s.sizes) (sym is) end_sender; reads = reads })
+  pub end_kept : (d : Deed) (x : Record) (end : Finished) (left : ℕ) → left + end_bytes aim ≡ res → end.lsn ≡ length s.records + 1 → end.deed ≡ deed_of aim → TellsItself end.deed → x ≡ end_of sub.txn end → IsConsistent (record s { rows = change_row sub.txn (row_finished end) s.rows; records = x ∷ s.records; waiting = without_taken d s.waiting }) f (o - 1) left
+  end_kept d x end left e at is reads told = kept_finished s f o res k sub.txn gd.row gd.found gd.under x end left d gd.is all_made (same_end left e)
+      (record { lsn = omega (arith, at); sender = subst (IsDeedOf s.sizes) (sym is) end_sender; reads = reads })
+      (told ∙ ap (λ t. end_of t end) (sym (found_in sub.txn s.rows gd.row gd.found).1)) at
 
   pub undo_kept : (d : Deed) (x : Record) (cells left : ℕ) → left + end_bytes aim ≡ res → IsConsistent (record s { rows = change_row sub.txn row_taken_back s.rows; records = x ∷ s.records; cells_in_use = cells; waiting = with_taken d s.waiting }) f (o - 1) left
   undo_kept d x cells left e = kept_undone s f o res k sub.txn gd.row gd.found gd.under x cells left d gd.is all_made (same_end left e)
@@ -253,13 +255,13 @@ step_idle s sub why.Failed h = refuse_failed s (Step sub.txn sub.number) h
 step_idle s sub why.UnknownOperation h = unknown_operation s sub (Step sub.txn sub.number) h.0 h.1 (inl refl)
 step_idle s sub _ h = absurd h
 
-pub finish_done : (s new : State) (sub : Sub) (d : Deed) → s.failed ≡ false → IsUnderWay s sub (AllMade (Doing d)) → new ≡ record s { rows = change_row sub.txn (row_finished (record { lsn = length s.records + 1; deed = d })) s.rows; records = op_end sub.txn sub.number d ∷ s.records; waiting = without_taken d s.waiting } → IsSound s → IsModelStep s (Finish sub.txn sub.number) (gave_done d) new
+pub finish_done : (s new : State) (sub : Sub) (d : Deed) → s.failed ≡ false → IsUnderWay s sub (AllMade (Doing d)) → new ≡ record s { rows = change_row sub.txn (row_finished (record { lsn = length s.records + 1; number = sub.number; deed = d })) s.rows; records = op_end sub.txn sub.number d ∷ s.records; waiting = without_taken d s.waiting } → IsSound s → IsModelStep s (Finish sub.txn sub.number) (gave_done d) new
 finish_done s new sub d running h e k =
     let g = going_of s sub (AllMade (Doing d)) h in
     let made = (going_at s k sub.txn g.row g.under g.found g.is).0 in
     let all = g.so.0 in
     let a = finish_steps s k sub.txn g.row g.under d (without_taken d s.waiting) g.found g.is g.so.1 (omega (arith, made, all)) (λ p. waits-without_taken d s.waiting p) running in
-    let b = subst (λ (n : ℕ). IsModelStep s (Finish sub.txn n) (gave_done d) (record s { rows = change_row sub.txn (row_finished (record { lsn = length s.records + 1; deed = d })) s.rows; records = op_end sub.txn n d ∷ s.records; waiting = without_taken d s.waiting })) g.number a in
+    let b = subst (λ (n : ℕ). IsModelStep s (Finish sub.txn n) (gave_done d) (record s { rows = change_row sub.txn (row_finished (record { lsn = length s.records + 1; number = n; deed = d })) s.rows; records = op_end sub.txn n d ∷ s.records; waiting = without_taken d s.waiting })) g.number a in
     subst (λ (x : State). IsModelStep s (Finish sub.txn sub.number) (gave_done d) x) (sym e) b
 
 steps_are_left : (s : State) (sub : Sub) → s.failed ≡ false → IsUnderWay s sub (λ r u. u.made < length u.writes) → Refuses s (Finish sub.txn sub.number) why.Unfinished
@@ -293,9 +295,19 @@ commit_kept s f o res n t x ends cells k h room =
     subst (λ (q : Option Row). IsConsistent (record s { rows = without_row t s.rows; ends = ends; records = x ∷ s.records; cells_in_use = cells; waiting = with_sends (finished_of q) s.waiting; sent = with_tags (sender_count s.sizes) (finished_of q) s.sent }) f o res) (sym r.1)
     (kept_committed s f o res k t r.0 r.1 x ends cells r.2.0 (not_full s 1 room))
 
-pub commit_done : (s : State) (f : Bool) (o res n lsn cells : ℕ) (t : Txn) → IsConsistent s f o res → s.failed ≡ false → NoneHolds (ready_tests (ledger_of s) t false) → HasNothingUnderWay s t n → log_full (ledger_of s) 1 ≡ false → lsn ≡ length s.records + 1 → cells ≡ s.cells_in_use - sum_by takes_one (finished_of (found_row t s.rows)) → IsSound s
+-- each finished deed is of the store, and each sender and client has its numbers
+pub record AreCountable (s : State) : Type 0 where
+  stored : (r : Row) → In r s.rows → AreDeedsOf s.sizes r.finished
+  senders : length s.waiting ≡ sender_count s.sizes
+  counts : length s.sent.counts ≡ place_count s.sizes
+  tags : length s.sent.tags ≡ place_count s.sizes
+
+pub countable_on : (e : List Record) (s : State) {f : Bool} {o res : ℕ} → IsConsistent s f o res → AreCountable (on e s)
+countable_on e s k = record { stored = λ r i x j. ((k.rows r i).done x j).sender; senders = k.senders; counts = k.sent.counts; tags = k.sent.tags }
+
+pub commit_done : (s : State) (n lsn cells : ℕ) (t : Txn) → AreCountable s → s.failed ≡ false → NoneHolds (ready_tests (ledger_of s) t false) → HasNothingUnderWay s t n → log_full (ledger_of s) 1 ≡ false → lsn ≡ length s.records + 1 → cells ≡ s.cells_in_use - sum_by takes_one (finished_of (found_row t s.rows)) → IsSound s
     → IsModelStep s (Commit t) (Gave_commit (record { txn = t; lsn = lsn })) (record s { rows = without_row t s.rows; ends = record { sending = released t s.ends.sending; receiving = released t s.ends.receiving }; records = records.Commit t ∷ s.records; cells_in_use = cells; waiting = with_sends (finished_of (found_row t s.rows)) s.waiting; sent = with_tags (sender_count s.sizes) (finished_of (found_row t s.rows)) s.sent })
-commit_done s f o res n lsn cells t c running tested h room at freed k =
+commit_done s n lsn cells t c running tested h room at freed k =
     let r = found_of (λ r. (r.under ≡ None) × (n ≡ r.number + 1)) (found_row t s.rows) h in
     let fs = finished_of (found_row t s.rows) in
     let own : fs ≡ r.0.finished = ap finished_of r.1 in
@@ -304,15 +316,15 @@ commit_done s f o res n lsn cells t c running tested h room at freed k =
     let used = k.counted.used in
     let forward : r.0.aborting ≡ false = sym (ap is_aborting (found_some s t r.0 r.1)) ∙ tested.1.1.0 in
     let enough : sum_by takes_one r.0.finished ≤ s.cells_in_use = omega (arith, part, used) in
-    let stored : AreDeedsOf s.sizes r.0.finished = (λ x i. ((kept_at s f o res t r.0 c r.1).done x i).sender) in
+    let stored : AreDeedsOf s.sizes r.0.finished = c.stored r.0 (found_in t s.rows r.0 r.1).0 in
     let waited : (g : ℕ) → g < sender_count s.sizes → waits (with_sends fs s.waiting) g ≡ waits s.waiting g + sends_in g r.0 =
     (λ g m. ap (λ l. waits (with_sends l s.waiting) g) own ∙ waits-with_sends s.sizes r.0.finished s.waiting g stored m (let l = c.senders in omega (arith, l, m))) in
     let n = sender_count s.sizes in
     let few : n ≤ 2 ^ 32 = (let d = k.range.directory_high in omega (arith, d)) in
     let counted : (i : ℕ) → i < place_count s.sizes → sent_count (with_tags n fs s.sent) i ≡ sent_count s.sent i + sends_in (group_of s.sizes i) r.0 =
-    (λ i m. ap (λ l. sent_count (with_tags n l s.sent) i) own ∙ count-with_tags s.sizes few i r.0.finished s.sent stored (let l = c.sent.counts in omega (arith, l, m))) in
+    (λ i m. ap (λ l. sent_count (with_tags n l s.sent) i) own ∙ count-with_tags s.sizes few i r.0.finished s.sent stored (let l = c.counts in omega (arith, l, m))) in
     let tagged : (i : ℕ) → i < place_count s.sizes → sent_tag (with_tags n fs s.sent) i ≡ tag_after (sent_tag s.sent i) (sends_for (group_of s.sizes i) r.0) =
-    (λ i m. ap (λ l. sent_tag (with_tags n l s.sent) i) own ∙ tag-with_tags s.sizes few i r.0.finished s.sent stored (let l = c.sent.tags in omega (arith, l, m))) in
+    (λ i m. ap (λ l. sent_tag (with_tags n l s.sent) i) own ∙ tag-with_tags s.sizes few i r.0.finished s.sent stored (let l = c.tags in omega (arith, l, m))) in
     subst (λ (m : ℕ). IsModelStep s (Commit t) (Gave_commit (record { txn = t; lsn = m })) (record s { rows = without_row t s.rows; ends = record { sending = released t s.ends.sending; receiving = released t s.ends.receiving }; records = records.Commit t ∷ s.records; cells_in_use = cells; waiting = with_sends fs s.waiting; sent = with_tags (sender_count s.sizes) fs s.sent })) (sym at)
     (commit_steps s k t r.0 cells (with_sends fs s.waiting) (with_tags (sender_count s.sizes) fs s.sent) r.1 r.2.0 forward (omega (arith, freed, taken, enough)) waited counted tagged running room)
 

@@ -1,5 +1,5 @@
 -- The store with other earlier records.
-use Rattle.std.proofs.Common.{◌≡◌, ℕ, ◌+◌, ◌-◌, ◌/◌, ◌%◌, ◌^◌, false, zero, suc, List, [], ◌∷◌, length, refl, sym, ◌∙◌, ap, subst, Bool, nat_lt, arith}
+use Rattle.std.proofs.Common.{◌≡◌, ℕ, ◌+◌, ◌-◌, ◌/◌, ◌%◌, ◌^◌, false, zero, suc, List, [], ◌∷◌, length, refl, sym, ◌∙◌, ap, subst, nat_lt, arith}
 use Rattle.std.specs.List.{sum_by}
 use Rattle.rq_model.specs.declared.record.Record.{Record}
 use Rattle.rq_model.specs.declared.record.Record.TheVariants.{Base, Restart}
@@ -23,7 +23,6 @@ use Rattle.rq_store.specs.Steps.{op_end}
 use Rattle.rq_engine.specs.Answers.{IsMade}
 use Rattle.rq_engine.specs.Moves.{without_taken}
 use Rattle.rq_engine.proofs.Standing.{force_steps}
-use Rattle.rq_engine.specs.Invariant.{IsConsistent}
 use Rattle.rq_engine.specs.Earlier.{unknown, unknown_one, rebased, rebased_one, on, IsEarlier}
 
 long_one : (e : List Record) (r : Record) (log rest new : List Record) → length e ≡ length (unknown_one r log rest) → (length e ≡ length rest → length new ≡ length log) → length (rebased_one e r new) ≡ suc (length log)
@@ -73,24 +72,6 @@ from_inside_on {a} {b} {new} {c} {gave} e same at h k = subst (λ (s : State). I
 pub full_on : (e : List Record) (s : State) → IsEarlier e s → (n : ℕ) → log_full (ledger_of (on e s)) n ≡ log_full (ledger_of s) n
 full_on e s h n = ap (λ (m : ℕ). nat_lt (2 ^ 50) (m + sum_by owed (ledger_of s).open_ones + n)) (long_on e s h)
 
--- what is so of every engine is so with other earlier records
-pub kept_on : (e : List Record) (s : State) {f : Bool} {o res : ℕ} → IsConsistent s f o res → IsEarlier e s → IsConsistent (on e s) f o res
-kept_on e s k h =
-    let n = long_on e s h in
-    record {
-      incarnation = k.incarnation;
-      low = (let a = k.low in omega (arith, n, a));
-      fails = k.fails;
-      owes = k.owes;
-      room = k.room;
-      count = (let a = k.count in omega (arith, n, a));
-      distinct = k.distinct;
-      rows = λ r at. (let a = k.rows r at in rw n a);
-      senders = k.senders;
-      few = λ g. (let a = k.few g in omega (arith, n, a));
-      sent = rw n k.sent;
-    }
-
 -- a slot write was made, with its record
 pub made_on : (e : List Record) (old new : State) (sub : Sub) (w : SlotWrite) → IsEarlier e old → IsMade old sub w new → IsMade (on e old) sub w (on e new)
 made_on e old new sub w h m = record {
@@ -111,9 +92,9 @@ lsn_on e s h lsn at = at ∙ ap (λ (n : ℕ). n + 1) (sym (long_on e s h))
 
 -- an operation ended
 pub ended_on : (e : List Record) (s new : State) (sub : Sub) (d : Deed) → IsEarlier e s
-    → new ≡ record s { rows = change_row sub.txn (row_finished (record { lsn = length s.records + 1; deed = d })) s.rows; records = op_end sub.txn sub.number d ∷ s.records; waiting = without_taken d s.waiting }
-    → on e new ≡ record (on e s) { rows = change_row sub.txn (row_finished (record { lsn = length (on e s).records + 1; deed = d })) s.rows; records = op_end sub.txn sub.number d ∷ (on e s).records; waiting = without_taken d s.waiting }
-ended_on e s new sub d h is = ap (on e) is ∙ ap (λ (n : ℕ). record (on e s) { rows = change_row sub.txn (row_finished (record { lsn = n + 1; deed = d })) s.rows; records = op_end sub.txn sub.number d ∷ (on e s).records; waiting = without_taken d s.waiting }) (sym (long_on e s h))
+    → new ≡ record s { rows = change_row sub.txn (row_finished (record { lsn = length s.records + 1; number = sub.number; deed = d })) s.rows; records = op_end sub.txn sub.number d ∷ s.records; waiting = without_taken d s.waiting }
+    → on e new ≡ record (on e s) { rows = change_row sub.txn (row_finished (record { lsn = length (on e s).records + 1; number = sub.number; deed = d })) s.rows; records = op_end sub.txn sub.number d ∷ (on e s).records; waiting = without_taken d s.waiting }
+ended_on e s new sub d h is = ap (on e) is ∙ ap (λ (n : ℕ). record (on e s) { rows = change_row sub.txn (row_finished (record { lsn = n + 1; number = sub.number; deed = d })) s.rows; records = op_end sub.txn sub.number d ∷ (on e s).records; waiting = without_taken d s.waiting }) (sym (long_on e s h))
 
 -- a force
 pub force_inside : (e : List Record) {a b : State} → a ≡ b → IsEarlier e b → a.failed ≡ false → IsSound (on e b) → IsModelStep (on e b) Force (Gave_forced (length a.records)) (on e (record a { forced = length a.records }))

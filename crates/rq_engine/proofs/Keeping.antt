@@ -10,7 +10,7 @@ use Rattle.rq_model.specs.Vocabulary.{In, front}
 use Rattle.rq_page.specs.Sizes.{Sizes, sender_count}
 use Rattle.rq_txn.specs.declared.Finished.{Finished}
 use Rattle.rq_txn.specs.Rows.{Row, Under, found_row, change_row, without_row, fresh_row, row_started, row_stepped, row_aborting, row_finished, row_taken_back, under_stepped}
-use Rattle.rq_engine.specs.Invariant.{AreSendsConsistent, IsDoneConsistent, IsConsistent, IsRowConsistent, IsUnderConsistent, UnderConsistent, end_bytes, room_one, room_of, total_of, done_one}
+use Rattle.rq_engine.specs.Invariant.{AreSendsConsistent, IsDoneConsistent, IsConsistent, IsLogged, IsRowConsistent, IsUnderConsistent, UnderConsistent, end_bytes, end_of, room_one, room_of, total_of, done_one}
 use Rattle.rq_engine.specs.Moves.{with_tags, with_sends, with_taken, without_taken}
 use Rattle.rq_engine.proofs.Tags.{sends_on, sends_more}
 use Rattle.rq_groups.specs.Ends.{HeldEnds}
@@ -66,14 +66,23 @@ kept_begun s f o res k =
       senders = k.senders;
       few = λ g. (let c = sum_by-cons done_one (fresh_row t) s.rows in let d = k.few g in omega (arith, c, d));
       sent = sends_on k.sent (let c = sum_by-cons done_one (fresh_row t) s.rows in omega (arith, c));
+      ended = λ r f i j. elim i [ inl e ↦ absurd (subst (λ (q : Row). In f q.finished) e j) | inr h ↦ k.ended r f h j ];
     }
 
+-- a record more is logged
+one_logged : (log : List Record) (x : Record) (lsn : ℕ) (r : Record) → IsLogged log lsn r → IsLogged (x ∷ log) lsn r
+one_logged log x lsn r h = record { newer = x ∷ h.newer; older = h.older; log_is = ap (λ (l : List Record). x ∷ l) h.log_is; at = h.at }
+
+-- the one that is logged now
+now_logged : (log : List Record) (x r : Record) (lsn : ℕ) → x ≡ r → lsn ≡ length log + 1 → IsLogged (x ∷ log) lsn r
+now_logged log x r lsn is at = record { newer = []; older = log; log_is = ap (λ (y : Record). y ∷ log) is; at = at }
+
 -- one more is done, or the newest is undone
-done_more : (z : Sizes) (fs : List Finished) (f : Finished) → ((x : Finished) → In x fs → IsDoneConsistent z x) → IsDoneConsistent z f → (x : Finished) → In x (fs ++ f ∷ []) → IsDoneConsistent z x
-done_more z [] f h own x (inl e) = subst (IsDoneConsistent z) (sym e) own
-done_more z [] f h own x (inr i) = absurd i
-done_more z (y ∷ fs) f h own x (inl e) = h x (inl e)
-done_more z (y ∷ fs) f h own x (inr i) = done_more z fs f (λ q j. h q (inr j)) own x i
+done_more : (P : Finished → Type 0) (fs : List Finished) (f : Finished) → ((x : Finished) → In x fs → P x) → P f → (x : Finished) → In x (fs ++ f ∷ []) → P x
+done_more P [] f h own x (inl e) = subst P (sym e) own
+done_more P [] f h own x (inr i) = absurd i
+done_more P (y ∷ fs) f h own x (inl e) = h x (inl e)
+done_more P (y ∷ fs) f h own x (inr i) = done_more P fs f (λ q j. h q (inr j)) own x i
 
 in_front : (fs : List Finished) (x : Finished) → In x (front fs) → In x fs
 in_front [] x i = absurd i
@@ -94,6 +103,17 @@ module _ (s : State) (f : Bool) (o res : ℕ) (k : IsConsistent s f o res) (t : 
     | inl e ↦ subst (λ (y : Row). IsRowConsistent s.sizes s.incarnation s.begins total y) (sym e) own
     | inr h ↦ row_more s.sizes s.incarnation s.begins s.begins (total_of s) total q (omega arith) more (k.rows q h.0)
   ]
+
+  -- whose finished operations are its own, and those of others
+  changed_ended : (g : Row → Row) (log : List Record) → ((lsn : ℕ) (x : Record) → IsLogged s.records lsn x → IsLogged log lsn x) → ((f : Finished) → In f (g r).finished → IsLogged log f.lsn (end_of (g r).txn f))
+      → (q : Row) (f : Finished) → In q (change_row t g s.rows) → In f q.finished → IsLogged log f.lsn (end_of q.txn f)
+  changed_ended g log more own q f i j = elim (changed t g s.rows r q k.distinct at_row i) [
+    | inl e ↦ subst (λ (y : Row). IsLogged log f.lsn (end_of y.txn f)) (sym e) (own f (subst (λ (y : Row). In f y.finished) e j))
+    | inr h ↦ more f.lsn (end_of q.txn f) (k.ended q f h.0 j)
+  ]
+
+  here : In r s.rows
+  here = (found_in t s.rows r at_row).0
 
   pub kept_started : (u : Under) (ends : HeldEnds) (cells : ℕ) → r.under ≡ None → IsUnderConsistent s.sizes u → u.number ≡ r.number + 1 → u.made ≡ 0 → total_of s + (length u.writes + 1) ≤ 2 ^ 50
       → IsConsistent (record s { rows = change_row t (row_started u) s.rows; ends = ends; cells_in_use = cells }) f (o + (length u.writes + 1)) (res + (546 * length u.writes + end_bytes u.aim))
@@ -118,6 +138,7 @@ module _ (s : State) (f : Bool) (o res : ℕ) (k : IsConsistent s f o res) (t : 
         senders = k.senders;
         few = λ g. (let c = rows_sum done_one t (row_started u) s.rows (λ q i e. refl) in let d = k.few g in omega (arith, c, d));
         sent = sends_on k.sent (let c = rows_sum done_one t (row_started u) s.rows (λ q i e. refl) in omega (arith, c));
+        ended = changed_ended (row_started u) s.records (λ lsn x h. h) (λ y i. k.ended r y here i);
       }
 
   pub kept_stepped : (u : Under) (x : Record) (images : List (List ℕ)) (left : ℕ) → r.under ≡ Some u → u.made < length u.writes → left + 546 ≡ res
@@ -145,11 +166,12 @@ module _ (s : State) (f : Bool) (o res : ℕ) (k : IsConsistent s f o res) (t : 
         senders = k.senders;
         few = λ g. (let c = rows_sum done_one t row_stepped s.rows (λ q i e. refl) in let d = k.few g in omega (arith, c, d));
         sent = sends_on k.sent (let c = rows_sum done_one t row_stepped s.rows (λ q i e. refl) in omega (arith, c));
+        ended = changed_ended row_stepped (x ∷ s.records) (one_logged s.records x) (λ y i. one_logged s.records x y.lsn (end_of r.txn y) (k.ended r y here i));
       }
 
-  pub kept_finished : (u : Under) (x : Record) (end : Finished) (left : ℕ) (d : Deed) → r.under ≡ Some u → u.made ≡ length u.writes → left + end_bytes u.aim ≡ res → IsDoneConsistent s.sizes end
+  pub kept_finished : (u : Under) (x : Record) (end : Finished) (left : ℕ) (d : Deed) → r.under ≡ Some u → u.made ≡ length u.writes → left + end_bytes u.aim ≡ res → IsDoneConsistent s.sizes end → x ≡ end_of r.txn end → end.lsn ≡ length s.records + 1
       → IsConsistent (record s { rows = change_row t (row_finished end) s.rows; records = x ∷ s.records; waiting = without_taken d s.waiting }) f (o - 1) left
-  kept_finished u x end left d0 under made fits own =
+  kept_finished u x end left d0 under made fits own is at =
       let a = rows_one owed_one t (row_finished end) s.rows r k.distinct at_row in
       let b = rows_one room_one t (row_finished end) s.rows r k.distinct at_row in
       let c : owed_one r ≡ length u.writes - u.made + 1 = ap owed_under under in
@@ -167,7 +189,7 @@ module _ (s : State) (f : Bool) (o res : ℕ) (k : IsConsistent s f o res) (t : 
         room = (let w = k.room in omega (arith, b, d, v, w, fits, made));
         count = (let w = k.count in omega (arith, same, w));
         distinct = distinct_change t (row_finished end) s.rows (λ q. refl) k.distinct;
-        rows = changed_rows (row_finished end) (length (x ∷ s.records) + owed_by (change_row t (row_finished end) s.rows)) (λ q. refl) (omega (arith, same)) (record { mine = row.mine; low = row.low; high = row.high; number = (let n = row.number in omega (arith, n, same)); done = done_more s.sizes r.finished end row.done own; under = tt });
+        rows = changed_rows (row_finished end) (length (x ∷ s.records) + owed_by (change_row t (row_finished end) s.rows)) (λ q. refl) (omega (arith, same)) (record { mine = row.mine; low = row.low; high = row.high; number = (let n = row.number in omega (arith, n, same)); done = done_more (IsDoneConsistent s.sizes) r.finished end row.done own; under = tt });
         senders = length-without_taken d0 s.waiting ∙ k.senders;
         few = λ g.
             (let p = rows_one done_one t (row_finished end) s.rows r k.distinct at_row in
@@ -179,6 +201,7 @@ module _ (s : State) (f : Bool) (o res : ℕ) (k : IsConsistent s f o res) (t : 
             (let p = rows_one done_one t (row_finished end) s.rows r k.distinct at_row in
             let q : done_one (row_finished end r) ≡ done_one r + 1 = length-append r.finished (end ∷ []) in
             omega (arith, p, q));
+        ended = changed_ended (row_finished end) (x ∷ s.records) (one_logged s.records x) (done_more (λ y. IsLogged (x ∷ s.records) y.lsn (end_of r.txn y)) r.finished end (λ y i. one_logged s.records x y.lsn (end_of r.txn y) (k.ended r y here i)) (now_logged s.records x (end_of r.txn end) end.lsn is at));
       }
 
   -- an inverse ends
@@ -214,6 +237,7 @@ module _ (s : State) (f : Bool) (o res : ℕ) (k : IsConsistent s f o res) (t : 
             (let p = rows_one done_one t row_taken_back s.rows r k.distinct at_row in
             let q : done_one (row_taken_back r) ≤ done_one r = (let h = length-front r.finished in omega (arith, h)) in
             omega (arith, p, q));
+        ended = changed_ended row_taken_back (x ∷ s.records) (one_logged s.records x) (λ y i. one_logged s.records x y.lsn (end_of r.txn y) (k.ended r y here (in_front r.finished y i)));
       }
 
   -- a transaction is turned to abort
@@ -234,6 +258,7 @@ module _ (s : State) (f : Bool) (o res : ℕ) (k : IsConsistent s f o res) (t : 
         senders = k.senders;
         few = λ g. (let c = rows_sum done_one t row_aborting s.rows (λ q i e. refl) in let d = k.few g in omega (arith, c, d));
         sent = sends_on k.sent (let c = rows_sum done_one t row_aborting s.rows (λ q i e. refl) in omega (arith, c));
+        ended = changed_ended row_aborting s.records (λ lsn x h. h) (λ y i. k.ended r y here i);
       }
 
   -- an abort ends
@@ -256,6 +281,7 @@ module _ (s : State) (f : Bool) (o res : ℕ) (k : IsConsistent s f o res) (t : 
         senders = k.senders;
         few = λ g. (let p = rows_without done_one t s.rows r k.distinct at_row in let m = k.few g in omega (arith, p, m));
         sent = sends_on k.sent (let p = rows_without done_one t s.rows r k.distinct at_row in omega (arith, p));
+        ended = λ q y i j. one_logged s.records x y.lsn (end_of q.txn y) (k.ended q y (gone t s.rows q i).0 j);
       }
 
   pub kept_committed : (x : Record) (ends : HeldEnds) (cells : ℕ) → r.under ≡ None → total_of s + 1 ≤ 2 ^ 50
@@ -277,6 +303,7 @@ module _ (s : State) (f : Bool) (o res : ℕ) (k : IsConsistent s f o res) (t : 
         senders = length-with_sends r.finished s.waiting ∙ k.senders;
         few = λ g. (let p = rows_without done_one t s.rows r k.distinct at_row in let m = k.few g in let n = few_sends r.finished s.waiting g in omega (arith, p, m, n));
         sent = sends_more (sender_count s.sizes) r.finished s.sent k.sent (let p = rows_without done_one t s.rows r k.distinct at_row in omega (arith, p));
+        ended = λ q y i j. one_logged s.records x y.lsn (end_of q.txn y) (k.ended q y (gone t s.rows q i).0 j);
       }
 
 -- what a device did, and whether it failed, is all that changed
@@ -293,8 +320,9 @@ kept_device s f g o res left forced failed log k same room fails = record {
   senders = k.senders;
   few = λ g. subst (λ (l : List Record). waits s.waiting g + sum_by done_one s.rows ≤ length l) (sym same) (k.few g);
   sent = subst (λ (l : List Record). AreSendsConsistent s.sizes (length l) (sum_by done_one s.rows) s.sent) (sym same) k.sent;
+  ended = λ r y i j. subst (λ (l : List Record). IsLogged l y.lsn (end_of r.txn y)) (sym same) (k.ended r y i j);
 }
 
 -- the ends are of no account to it, nor is room that was taken and given back
 pub kept_back : (s : State) (f : Bool) (o res left : ℕ) (ends : HeldEnds) → IsConsistent s f o res → left ≡ res → IsConsistent (record s { ends = ends }) f o left
-kept_back s f o res left ends k e = record { incarnation = k.incarnation; low = k.low; fails = k.fails; owes = k.owes; room = (let a = k.room in omega (arith, a, e)); count = k.count; distinct = k.distinct; rows = k.rows; senders = k.senders; few = k.few; sent = k.sent }
+kept_back s f o res left ends k e = record { incarnation = k.incarnation; low = k.low; fails = k.fails; owes = k.owes; room = (let a = k.room in omega (arith, a, e)); count = k.count; distinct = k.distinct; rows = k.rows; senders = k.senders; few = k.few; sent = k.sent; ended = k.ended }

@@ -88,9 +88,9 @@ step_steps s k t r u w images at_row under next slots put_in before slot running
 
 -- a deed's end
 pub finish_steps : (s : State) (k : IsSound s) (t : Txn) (r : Row) (u : Under) (d : Deed) (ws : List ℕ) → found_row t s.rows ≡ Some r → r.under ≡ Some u → u.aim ≡ Doing d → u.made ≡ length u.writes → ((g : ℕ) → waits ws g ≡ waits s.waiting g - took g d) → s.failed ≡ false
-    → IsModelStep s (Finish t u.number) (gave_done d) (record s { rows = change_row t (row_finished (record { lsn = length s.records + 1; deed = d })) s.rows; records = op_end t u.number d ∷ s.records; waiting = ws })
+    → IsModelStep s (Finish t u.number) (gave_done d) (record s { rows = change_row t (row_finished (record { lsn = length s.records + 1; number = u.number; deed = d })) s.rows; records = op_end t u.number d ∷ s.records; waiting = ws })
 finish_steps s k t r u d ws at_row under aim made waited running =
-    at_own s t r (λ q. IsModelStep s (Finish q u.number) (gave_done d) (record s { rows = change_row q (row_finished (record { lsn = length s.records + 1; deed = d })) s.rows; records = op_end q u.number d ∷ s.records; waiting = ws })) at_row
+    at_own s t r (λ q. IsModelStep s (Finish q u.number) (gave_done d) (record s { rows = change_row q (row_finished (record { lsn = length s.records + 1; number = u.number; deed = d })) s.rows; records = op_end q u.number d ∷ s.records; waiting = ws })) at_row
     (λ e. deed_steps.finishes s r u d ws k running (record { at_row = e; under = under; aim_is = aim; made = made }) waited)
 
 pub commit_steps : (s : State) (k : IsSound s) (t : Txn) (r : Row) (cells : ℕ) (ws : List ℕ) (ss : SentBy) → found_row t s.rows ≡ Some r → r.under ≡ None → r.aborting ≡ false → cells + takes_all r ≡ s.cells_in_use

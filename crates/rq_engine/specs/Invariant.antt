@@ -1,6 +1,8 @@
 -- What is so of the fields of every engine, whatever log it was opened over.
-use Rattle.std.specs.Prelude.{◌≡◌, ℕ, ◌+◌, ◌-◌, ◌*◌, ◌^◌, ◌≤◌, Bool, false, List, length, Option, Some, None}
+use Rattle.std.specs.Prelude.{◌≡◌, ℕ, ◌+◌, ◌-◌, ◌*◌, ◌^◌, ◌≤◌, Bool, false, List, ◌∷◌, ◌++◌, length, Option, Some, None}
 use Rattle.std.specs.List.{sum_by}
+use Rattle.rq_model.specs.declared.record.Record.{Record}
+use Rattle.rq_model.specs.declared.txn.Txn.{Txn}
 use Rattle.rq_model.specs.Vocabulary.{In}
 use Rattle.rq_model.specs.Deeds.{spelled_deed, TellsItself}
 use Rattle.rq_disk.specs.declared.device.LogDevice as log_device
@@ -17,6 +19,7 @@ use Rattle.rq_groups.specs.Sent.{SentBy, sent_count}
 use Rattle.rq_groups.specs.Waiting.{waits}
 use Rattle.rq_store.specs.Sends.{place_count}
 use Rattle.rq_store.specs.State.{State, owed_by}
+use Rattle.rq_store.specs.Steps.{op_end}
 use Rattle.rq_planner.specs.Answered.{KnowsCells}
 
 -- the bytes of the record that ends an operation
@@ -54,6 +57,17 @@ pub record IsDoneConsistent (z : Sizes) (f : Finished) : Type 0 where
   pub lsn : 1 ≤ f.lsn
   pub sender : IsDeedOf z f.deed
   pub reads : TellsItself f.deed
+
+-- the log holds this record, with this LSN
+pub record IsLogged (log : List Record) (lsn : ℕ) (r : Record) : Type 0 where
+  pub newer : List Record
+  pub older : List Record
+  pub log_is : log ≡ newer ++ r ∷ older
+  pub at : lsn ≡ length older + 1
+
+-- the end of a finished operation of the transaction
+abbrev pub end_of : Txn → Finished → Record
+end_of t f = op_end t f.number f.deed
 
 -- what is so of a transaction that has not ended, where no more than so many records are logged or owed
 pub record IsRowConsistent (z : Sizes) (incarnation begins total : ℕ) (r : Row) : Type 0 where
@@ -93,6 +107,8 @@ pub record IsConsistent (s : State) (failed : Bool) (owed reserved : ℕ) : Type
   pub senders : length s.waiting ≡ sender_count s.sizes
   pub few : (g : ℕ) → waits s.waiting g + sum_by done_one s.rows ≤ length s.records
   pub sent : AreSendsConsistent s.sizes (length s.records) (sum_by done_one s.rows) s.sent
+  -- the end of each finished operation stands in the log, at its LSN
+  pub ended : (r : Row) (f : Finished) → In r s.rows → In f r.finished → IsLogged s.records f.lsn (end_of r.txn f)
 
 -- And when its log was last forced, a crash would have left that log alone; and its levels know the cells.
 pub record IsEngine {L : Type 0} (g : log_device.Ghosts L) (s : State) (log : Logged L) (owed : ℕ) (known : List LevelState)

@@ -111,7 +111,7 @@ pub record IsFinished (old : State) (sub : Sub) (o : Outcome) (new : State) : Ty
   pub going : IsUnderWay old sub (λ r u. (length u.writes ≤ u.made) × (u.aim ≡ Doing deed))
   pub outcome : outcome_of o ≡ gave_done deed
   pub lists : new ≡ record old {
-    rows = change_row sub.txn (row_finished (record { lsn = length old.records + 1; deed = deed })) old.rows;
+    rows = change_row sub.txn (row_finished (record { lsn = length old.records + 1; number = sub.number; deed = deed })) old.rows;
     records = op_end sub.txn sub.number deed ∷ old.records;
     waiting = without_taken deed old.waiting;
   }

@@ -7,7 +7,7 @@ ghost use Rattle.rq_store.specs.State.{ledger_of};
 ghost use Rattle.rq_engine.specs.Opened.{LeavesDevices};
 ghost use Rattle.rq_engine.specs.Answers.{AnswersLegally, RefusesOver};
 ghost use Rattle.rq_engine.specs.Aborts.{IsAborted, IsAborting, IsTurnedBack, newest_of};
-ghost use Rattle.rq_engine.specs.Invariant.{IsDoneConsistent};
+ghost use Rattle.rq_engine.specs.Invariant.{IsDoneConsistent, IsLogged, end_of};
 
 use crate::engine::Engine;
 use rq_disk::{LogDevice, PageDevice};
@@ -86,6 +86,8 @@ impl<P: PageDevice, L: LogDevice, B: Level> Engine<P, L, B> {
         ensures running { OnOk result (self.now.state.failed ≡ false) }
         ensures passes { OnOk result (NoneHolds (ready_tests (ledger_of self.now.state) txn true)) }
         ensures kept { OnOk result (IfSome (newest_of self.now.state txn) (λ done. IsDoneConsistent self.now.state.sizes done)) }
+        ensures ended { OnOk result (IfSome (newest_of self.now.state txn)
+            (λ done. IsLogged self.now.state.records done.lsn (end_of txn done))) }
         ensures failed { (result ≡ Err Refusal.Failed) ↔ (self.now.state.failed ≡ true) }
         ensures refused { IfErr result (λ r. IsUnready (ledger_of self.now.state) txn true r) }
     {

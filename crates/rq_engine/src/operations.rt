@@ -129,7 +129,7 @@ impl<P: PageDevice, L: LogDevice, B: Level> Engine<P, L, B> {
         requires ready { IsUnderWay self.old.state sub (λ r u. (length u.writes ≤ u.made) × (u.aim ≡ Aim.Doing deed.now)) }
         ensures ended { self.new.state ≡ record self.old.state {
           rows = change_row sub.txn
-              (row_finished (record { lsn = length self.old.state.records + 1; deed = deed.now })) self.old.state.rows;
+              (row_finished (record { lsn = length self.old.state.records + 1; number = sub.number; deed = deed.now })) self.old.state.rows;
           records = op_end sub.txn sub.number deed.now
               ∷ self.old.state.records;
           waiting = without_taken deed.now self.old.state.waiting;
@@ -139,7 +139,11 @@ impl<P: PageDevice, L: LogDevice, B: Level> Engine<P, L, B> {
         let lsn = self
             .log
             .append_op_end(sub.txn, sub.number, deed.level(), deed.bytes());
-        let finished = Finished { lsn, deed: *deed };
+        let finished = Finished {
+            lsn,
+            number: sub.number,
+            deed: *deed,
+        };
         self.transactions.note(sub.txn, finished);
         leave_out_taken(&mut self.waiting, deed);
         self.owed -= 1;

@@ -1,18 +1,19 @@
 //! What an abort undoes: the inverses of finished operations.
-ghost use Rattle.std.specs.Prelude.{◌≡◌, ◌≢◌, ◌↔◌, ◌≤◌, Err, IfOk, IfErr, OnOk, OnErr, Some, false, true, length, List};
+ghost use Rattle.std.specs.Prelude.{◌≡◌, ◌≢◌, ◌↔◌, ◌≤◌, Err, IfOk, IfErr, OnOk, OnErr, Some, false, true, length, List, ℕ};
 ghost use Rattle.rq_model.specs.History.Call.{Undo_next};
 ghost use Rattle.rq_model.specs.Tests.{log_full, undo_cost};
 ghost use Rattle.rq_model.specs.Commits.{op_of};
 ghost use Rattle.rq_model.specs.Content.{said};
+ghost use Rattle.rq_level.specs.Asked.{deed_back};
 ghost use Rattle.rq_level.specs.Writes.{AreSlotWrites};
 ghost use Rattle.rq_txn.specs.Rows.{change_row, row_started};
 ghost use Rattle.rq_sound.specs.Sound.{IsSound};
 ghost use Rattle.rq_engine.specs.Earlier.{on, IsEarlier};
-ghost use Rattle.rq_model.specs.declared.record.Record.{Record};
+ghost use Rattle.rq_model.specs.declared.record.Record.{Record as AnyRecord};
 ghost use Rattle.rq_engine.specs.Opened.{LeavesDevices};
 ghost use Rattle.rq_engine.specs.Answers.{AnswersLegally};
 ghost use Rattle.rq_engine.specs.Applied.{TakesUnlatched};
-ghost use Rattle.rq_engine.specs.Invariant.{IsDoneConsistent};
+ghost use Rattle.rq_engine.specs.Invariant.{IsDoneConsistent, IsLogged, end_of};
 ghost use Rattle.rq_engine.specs.Receives.{undoing_of};
 ghost use Rattle.rq_engine.specs.Sends.{HasRoom};
 ghost use Rattle.rq_engine.specs.Aborts.{IsTurnedBack, UndoSays};
@@ -21,7 +22,6 @@ ghost use Rattle.rq_model.specs.Vocabulary.{is_some};
 ghost use Rattle.rq_planner.specs.Answered.{IsPlanned};
 ghost use Rattle.rq_planner.specs.Asked.{Undo};
 ghost use Rattle.rq_model.specs.declared.record.Deed.{Deed};
-ghost use Rattle.rq_model.specs.Deeds.{deed_by};
 ghost use Rattle.rq_views.specs.InStore.{IsDeedOf};
 ghost use Rattle.rq_engine.specs.Plans.{HasTurnedBack, IsStartOf, known_part};
 
@@ -29,7 +29,7 @@ use crate::engine::Engine;
 use crate::starts::{CHAIN_RECORDS, ONE_SLOT_RECORDS};
 use rq_disk::{LogDevice, PageDevice};
 use rq_level::{Gist, Level, Plan, SlotWrite};
-use rq_model::record::DeedBytes;
+use rq_model::record::Record;
 use rq_model::refusal::Refusal;
 use rq_model::txn::{Sub, Txn};
 use rq_record::{COMP_END_BYTES, PAGE_OP_BYTES};
@@ -47,6 +47,18 @@ fn undo_records(deed: &ToldDeed) -> u64
     }
 }
 
+/// The record that ended a finished operation of the transaction.
+fn op_end_of(txn: Txn, done: &Finished) -> Record
+    ensures { result ≡ end_of txn done.now }
+{
+    Record::OpEnd {
+        txn,
+        operation: done.number,
+        level: done.deed.level(),
+        deed: *done.deed.bytes(),
+    }
+}
+
 impl<P: PageDevice, L: LogDevice, B: Level> Engine<P, L, B> {
     /// Starts to undo what an aborting transaction did last and has not undone. Takes everything that the steps and the
     /// finish of the inverse will need. None where nothing is left to undo.
@@ -58,7 +70,7 @@ impl<P: PageDevice, L: LogDevice, B: Level> Engine<P, L, B> {
         ensures answered { AnswersLegally P.PageDevice L.LogDevice self.old (Undo_next txn) undoing_of result self.new }
         ensures sizes { self.new.state.sizes ≡ self.old.state.sizes }
         ensures lists { IfOk result (λ started. UndoSays self.old.state txn started self.new.state) }
-        ensures latched { (e : List Record) → IsEarlier e self.old.state → IsSound (on e self.old.state)
+        ensures latched { (e : List AnyRecord) → IsEarlier e self.old.state → IsSound (on e self.old.state)
             → TakesUnlatched (on e self.old.state) (Undo_next txn) result }
         ensures devices { LeavesDevices self.old self.new }
         ensures refused { OnErr result (self.new ≡ self.old) }
@@ -82,6 +94,7 @@ impl<P: PageDevice, L: LogDevice, B: Level> Engine<P, L, B> {
     fn start_inverse(&mut self, txn: Txn, number: u64, done: &Finished) -> Result<(), Refusal>
         requires ready { IsTurnedBack self.old.state txn number (Some done.now) }
         requires kept { IsDoneConsistent self.old.state.sizes done.now }
+        requires ended { IsLogged self.old.state.records done.now.lsn (end_of txn done.now) }
         requires log { log_full (ledger_of self.old.state) (undo_cost (Some (op_done done.now))) ≡ false }
         ensures started { IsStartOf self.old.state (Undo done.now.deed)
             (HasTurnedBack self.old.state txn number done.now self.new.state) result }
@@ -89,28 +102,23 @@ impl<P: PageDevice, L: LogDevice, B: Level> Engine<P, L, B> {
         ensures plain { IfErr result (λ r. r ≢ Refusal.Failed) }
         ensures refused { OnErr result (self.new ≡ self.old) }
     {
-        match self.plan_inverse(done.deed.level(), done.deed.bytes()) {
+        match self.plan_inverse(&op_end_of(txn, done)) {
             Ok(plan) => self.start_undo(txn, number, done, plan.writes),
             Err(why) => Err(why),
         }
     }
 
-    // What the level of this number plans to take back the deed that it tells by the bytes.
-    fn plan_inverse(&mut self, level: u8, deed: &DeedBytes) -> Result<Plan, Refusal>
-        requires { is_some (deed_by level deed.now) ≡ true }
+    // What the level plans whose deed the record tells, to take that back. The log holds the record.
+    fn plan_inverse(&mut self, told: &Record) -> Result<Plan, Refusal>
+        requires logged { (lsn : ℕ) × IsLogged self.old.state.records lsn told.now }
+        requires reads { is_some (deed_back told.now) ≡ true }
         ensures same { self.new ≡ self.old }
-        ensures planned { (d : Deed) → deed_by level deed.now ≡ Some d → IsDeedOf self.old.state.sizes d
+        ensures planned { (d : Deed) → deed_back told.now ≡ Some d → IsDeedOf self.old.state.sizes d
             → IsPlanned (known_part self.old.state) (Undo d) result }
     {
         let room = self.transactions.spare();
-        self.planner.plan_inverse(
-            self.alloc,
-            room,
-            &self.pages,
-            &self.transactions,
-            level,
-            deed,
-        )
+        self.planner
+            .plan_inverse(self.alloc, room, &self.pages, &self.transactions, told)
     }
 
     // Lets a planned inverse begin.

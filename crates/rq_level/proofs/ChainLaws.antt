@@ -1,6 +1,5 @@
 -- What the level of chains keeps to.
-use Rattle.std.proofs.Common.{◌≡◌, ◌≢◌, ◌⊎◌, ℕ, ◌/◌, ◌%◌, arith, List, [], ◌∷◌, Bool, true, false, cond, nat_eq, Option, None, Some, Ok, map, reverse, refl, sym, ap, ◌∙◌, subst, inl, inr}
-use Rattle.std.proofs.lemmas.Bool.{cases_Bool, eqb-true, false≢true}
+use Rattle.std.proofs.Common.{◌≡◌, ◌≢◌, ◌⊎◌, ℕ, ◌/◌, ◌%◌, arith, List, [], ◌∷◌, Bool, true, false, Option, None, Some, Ok, map, reverse, refl, sym, ap, ◌∙◌, subst, inl, inr}
 use Rattle.std.proofs.lemmas.List.{reverse-reverse, set-set}
 use Rattle.rq_model.specs.declared.record.Deed.{Deed}
 use Rattle.rq_model.specs.declared.record.Deed.TheVariants.{Append, UnlinkHead, Close as Close_deed, Mark}
@@ -32,6 +31,7 @@ use Rattle.rq_level.specs.declared.writes.Plan.{Plan}
 use Rattle.rq_level.specs.declared.writes.SlotWrite.{SlotWrite}
 use Rattle.rq_level.proofs.Based.{IsChainPlan, IsSomething, all_each, are_over, chosen, done, holds_at, holds_free, free_is, known_free, lowest_cell, noted_there, over_slots, undone, was_given}
 use Rattle.rq_level.proofs.Gathered.{IsTouched, done_touched, undone_touched}
+use Rattle.rq_level.proofs.Unread.{read_of}
 
 -- a plan is of a store whose sizes were told, and what was asked for is written
 record IsOfStore (k : LevelState) (given : List Given) (latched : List ℕ) (p : Plan) (after : LevelState) (want : List Given → Option ℕ) : Type 0 where
@@ -71,13 +71,6 @@ deed_back k given latched p after (Some z) None h = absurd h
 deed_back k given latched p after None (Some d) h = absurd h
 deed_back k given latched p after None None h = absurd h
 
--- only the level of chains is asked for something at an end of a chain
-pub of_chains : {X : Type 0} (n : ℕ) (o : Option X) → is_some (cond (nat_eq n 1) o None) ≡ true → n ≡ 1
-of_chains n o some = elim (cases_Bool (nat_eq n 1)) [
-  | inl one ↦ eqb-true n 1 one
-  | inr other ↦ absurd (false≢true (sym (ap (λ b. is_some (cond b o None)) other) ∙ some))
-]
-
 pub back_read : (k : LevelState) (told : Record) (given : List Given) (latched : List ℕ) (p : Plan) (after : LevelState) → chain_undoes k told given latched (Ok p) after → TellsDeedOf 1 told
 back_read k (records.OpEnd t n level deed) given latched p after h =
     let back = deed_back k given latched p after k.sizes (deed_by level deed) h in
@@ -92,8 +85,8 @@ doing_done k given latched p after false (Some z) None h = absurd h
 doing_done k given latched p after false None (Some d) h = absurd h
 doing_done k given latched p after false None None h = absurd h
 
-pub plan_own : (k : LevelState) (job : Job) (given : List Given) (latched : List ℕ) (p : Plan) (after : LevelState) → chain_plans k job given latched (Ok p) after → job.level ≡ 1
-plan_own k job given latched p after h = of_chains job.level (doing_in job.bytes) (doing_done k given latched p after job.undo k.sizes (doing_by job.level job.bytes) h)
+pub plan_own : (k : LevelState) (job : Job) (given : List Given) (latched : List ℕ) (p : Plan) (after : LevelState) → chain_plans k job given latched (Ok p) after → (job.level ≡ 1) × (chain_meaning.asks job.bytes ≡ true)
+plan_own k job given latched p after h = read_of 1 job.level (doing_in job.bytes) (doing_done k given latched p after job.undo k.sizes (doing_by job.level job.bytes) h)
 
 -- ---- what its writes are over, and what it asks for
 

@@ -5,7 +5,7 @@ use Rattle.rq_page.specs.Pages.{lsn_of}
 use Rattle.std.proofs.lemmas.List.{length-set, set-set}
 use Rattle.rq_page.specs.Sizes.{Sizes, directory_at, place_of}
 use Rattle.rq_level.specs.LevelState.{LevelState, KnowsStore, noted, noted_in, noted_cell, is_cell_address, is_free_slot}
-use Rattle.rq_level.specs.Ops.{Doing, Overwrite, doing_by, doing_in, overwrite_by}
+use Rattle.rq_level.specs.Ops.{Doing, Overwrite, doing_by, overwrite_by}
 use Rattle.rq_level.specs.PagePlans.{write_wants, PlansWrite, WritesFor, CannotOverwrite, TakesBack, is_slot_number, page_undoes}
 use Rattle.rq_model.specs.declared.record.Record.{Record}
 use Rattle.rq_model.specs.declared.record.Record.TheVariants as records
@@ -28,7 +28,7 @@ use Rattle.rq_level.proofs.Gathered as gathered
 use Rattle.rq_level.proofs.PageLaws as pages
 use Rattle.rq_level.proofs.TagLaws.{tags_lawful}
 use Rattle.rq_level.proofs.TakenBack as back
-use Rattle.rq_level.proofs.Unread.{asked_there, may_damage, there_is}
+use Rattle.rq_level.proofs.Unread.{may_damage, there_is}
 
 asks_chain : (given : List Given) (d : Option Doing) → IsNotGiven given (wanted d given)
 asks_chain given None = tt
@@ -188,7 +188,7 @@ pages_lawful = record {
   no_others = no_sizes;
   stays = λ k z a x ne h. h;
   reads = there_is 0;
-  asked = λ bytes some. asked_there 0 (doing_in bytes) some;
+  asked = λ bytes some. omega arith;
   own = λ k job given latched p after h. pages.plan_own k given latched p after job h;
   own_back = λ k told given latched p after h. pages.back_read k given latched p after told h;
 }
@@ -227,7 +227,7 @@ chains_lawful = record {
   no_others = λ k z y h told. (let is : Some y ≡ Some z = sym told ∙ h.sizes in cc);
   stays = stays_ready;
   reads = there_is 1;
-  asked = λ bytes some. asked_there 1 (doing_in bytes) some;
+  asked = λ bytes some. omega arith;
   own = chains.plan_own;
   own_back = chains.back_read;
 }
@@ -266,7 +266,7 @@ none_lawful n = record {
   no_others = no_sizes;
   stays = λ k z a x ne h. h;
   reads = there_is n;
-  asked = λ bytes some. asked_there n (doing_in bytes) some;
+  asked = λ bytes some. absurd (false≢true some);
   own = λ k job given latched p after h. absurd h;
   own_back = λ k told given latched p after h. absurd h;
 }

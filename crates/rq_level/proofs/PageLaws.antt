@@ -1,10 +1,9 @@
 -- What the level of single slots keeps to.
-use Rattle.std.proofs.Common.{◌≡◌, cond, nat_eq, ℕ, ◌+◌, ◌*◌, List, [], ◌∷◌, Bool, true, false, Option, None, Some, Ok, map, All, refl, sym, ap, ◌∙◌, subst, inl, inr}
-use Rattle.std.proofs.lemmas.Bool.{cases_Bool, eqb-true}
+use Rattle.std.proofs.Common.{◌≡◌, cond, ℕ, ◌+◌, ◌*◌, List, [], ◌∷◌, Bool, true, false, Option, None, Some, Ok, map, All, refl, sym, ap, ◌∙◌, subst, inl}
 use Rattle.std.proofs.lemmas.List.Elements.{All-cons, All-nil, recursion_from_All}
 use Rattle.rq_model.specs.declared.record.Record.{Record}
 use Rattle.rq_model.specs.declared.record.Record.TheVariants as records
-use Rattle.rq_model.specs.Vocabulary.{In}
+use Rattle.rq_model.specs.Vocabulary.{In, is_some}
 use Rattle.rq_level.specs.Asked.{AreWanted, IsGathered, job_back, TellsDeedOf, AreOver, IsOver, AreBackOver, AreWritten, AreAsGiven, AreOverSlots, StandsYet, Chooses, ChoosesBack, AreBackOfSlots}
 use Rattle.rq_level.specs.Given.{given_at}
 use Rattle.rq_level.specs.LevelState.{LevelState}
@@ -17,6 +16,7 @@ use Rattle.rq_level.specs.declared.writes.Plan.{Plan}
 use Rattle.rq_level.specs.declared.writes.SlotWrite.{SlotWrite}
 use Rattle.rq_level.proofs.Based.{all_each, each_in, was_given}
 use Rattle.rq_level.proofs.Gathered.{none_within, unless_within}
+use Rattle.rq_level.proofs.Unread.{read_of}
 
 -- of the one write
 of_one : (P : SlotWrite → Type 0) (a : ℕ) (x y : List ℕ) (ws : List SlotWrite) → ((w : SlotWrite) → w.at ≡ a → w.before ≡ x → P w) → IsOneWrite a x y ws → All P ws
@@ -79,13 +79,8 @@ module _ (k : LevelState) (given : List Given) (latched : List ℕ) (p : Plan) (
   back_kept (records.PageOp t n page slot x y) h = (back_one (is_slot_number slot) (page * 16 + slot) x y h).2
   back_kept _ h = absurd h
 
-  pub plan_own : (job : Job) → page_plans k job given latched (Ok p) after → job.level ≡ 0
-  plan_own job h =
-      let m = written job.undo k (overwrite_by job.level job.bytes) given p after h in
-      elim (cases_Bool (nat_eq job.level 0)) [
-        | inl y ↦ eqb-true job.level 0 y
-        | inr n ↦ absurd (let no : None ≡ Some m.0 = sym (ap (λ b. cond b (overwrite_in job.bytes) None) n) ∙ m.1 in cc)
-      ]
+  pub plan_own : (job : Job) → page_plans k job given latched (Ok p) after → (job.level ≡ 0) × (page_meaning.asks job.bytes ≡ true)
+  plan_own job h = read_of 0 job.level (overwrite_in job.bytes) (ap is_some (written job.undo k (overwrite_by job.level job.bytes) given p after h).1)
 
   pub back_read : (told : Record) → page_undoes k told given latched (Ok p) after → TellsDeedOf 0 told
   back_read (records.PageOp t n page slot x y) h = tt

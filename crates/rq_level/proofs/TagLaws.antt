@@ -1,6 +1,6 @@
 -- The level of tags keeps the laws of levels.
 use Rattle.std.proofs.Common.{◌≡◌, ◌≢◌, ℕ, ◌+◌, ◌-◌, ◌/◌, ◌%◌, ◌≤◌, List, [], ◌∷◌, length, Bool, true, false, cond, nat_eq, Option, None, Some, Ok, Err, map, reverse, All, refl, sym, ap, ◌∙◌, subst, inl, inr, arith}
-use Rattle.std.proofs.lemmas.Bool.{cases_Bool, eqb-true, false≢true, ne_eqb}
+use Rattle.std.proofs.lemmas.Bool.{cases_Bool, false≢true, ne_eqb}
 use Rattle.std.proofs.lemmas.List.{length-append, length-map, length-reverse}
 use Rattle.std.proofs.lemmas.List.Elements.{All-cons, All-nil, All-weaker, recursion_from_All}
 use Rattle.rq_model.specs.declared.record.Deed.{Deed}
@@ -31,7 +31,7 @@ use Rattle.rq_level.specs.Given.{GivenHolds, HoldsBytes, IsGiven, given_at}
 use Rattle.rq_level.specs.Lawful.{IsLawful, IsUntouchedAt, MayHaveNoPlan}
 use Rattle.rq_level.specs.LevelState.{LevelState}
 use Rattle.rq_level.specs.Meaning.{AreOf, tag_meaning}
-use Rattle.rq_level.specs.Ops.{Job, Tagging, doing_in, tagging_by, tagging_in}
+use Rattle.rq_level.specs.Ops.{Job, Tagging, tagging_by, tagging_in}
 use Rattle.rq_level.specs.TagPlans.{CanTag, CanUntag, IsTagPlan, IsUntagPlan, PlansTag, RefusesTag, TagsFor, UndoesTag, client_marked, client_to_mark, client_wanted, tag_note, tag_plans, tag_undoes, tag_wants}
 use Rattle.rq_level.specs.TakenBack.{AreOverHeld, LeadsBack, LeavesAt, LeavesOthers, ShowsOf, newest_first}
 use Rattle.std.proofs.lemmas.Option.{same_Some}
@@ -45,7 +45,7 @@ use Rattle.rq_level.proofs.Based.{all_each, holds_at, same_bytes, was_given}
 use Rattle.rq_level.proofs.ChainLaws.{same_kept}
 use Rattle.rq_level.proofs.Gathered.{asks_client, few_of_client, unless_within}
 use Rattle.rq_level.proofs.TakenBack.{same_deed}
-use Rattle.rq_level.proofs.Unread.{asked_there, may_damage, there_is}
+use Rattle.rq_level.proofs.Unread.{may_damage, read_of, there_is}
 
 -- ---- its one write
 
@@ -184,13 +184,8 @@ module _ (k : LevelState) (given : List Given) (p : Plan) (after : LevelState) w
       let m = (marks job.undo k.sizes (tagging_by job.level job.bytes) h).4 in
       m.reply ∙ ap (λ x. replies.Deed (gist_of x)) (same_Some _ d (sym m.reads ∙ told))
 
-  plan_own : (job : Job) (latched : List ℕ) → tag_plans k job given latched (Ok p) after → job.level ≡ 2
-  plan_own job latched h = elim (cases_Bool (nat_eq job.level 2)) [
-    | inl two ↦ eqb-true job.level 2 two
-    | inr other ↦
-        let m = marks job.undo k.sizes (tagging_by job.level job.bytes) h in
-        absurd (let no : None ≡ Some m.1 = sym (ap (λ b. cond b (tagging_in job.bytes) None) other) ∙ m.3 in cc)
-  ]
+  plan_own : (job : Job) (latched : List ℕ) → tag_plans k job given latched (Ok p) after → (job.level ≡ 2) × (tag_meaning.asks job.bytes ≡ true)
+  plan_own job latched h = read_of 2 job.level (tagging_in job.bytes) (ap is_some (marks job.undo k.sizes (tagging_by job.level job.bytes) h).3)
 
   -- what takes something back is of a mark that its end tells
   unmarks : (z : Option Sizes) (d : Option Deed) → UndoesTag z d k given (Ok p) after → (y : Sizes) × (c : ℕ) × (tag : ℕ) × (previous : ℕ) × (d ≡ Some (Mark c tag previous)) × IsUntagPlan y k given c tag previous p after
@@ -395,7 +390,7 @@ tags_lawful = record {
   no_others = λ k z y h told. (let is : Some y ≡ Some z = sym told ∙ h in cc);
   stays = λ k z a x ne h. ap (λ (l : LevelState). l.sizes) (note_far k a x ne) ∙ h;
   reads = there_is 2;
-  asked = λ bytes some. asked_there 2 (doing_in bytes) some;
+  asked = λ bytes some. omega arith;
   own = λ k job given latched p after h. plan_own k given p after job latched h;
   own_back = λ k told given latched p after h. back_own k given p after told latched h;
 }

@@ -8,7 +8,6 @@ use Rattle.rq_model.specs.declared.refusal.Refusal.TheVariants as why
 use Rattle.rq_level.specs.ChainPlans.{RefusesUnread}
 use Rattle.rq_level.specs.Lawful.{MayHaveNoPlan}
 use Rattle.rq_level.specs.LevelState.{LevelState}
-use Rattle.rq_level.proofs.ChainLaws.{of_chains}
 
 pub there_is : (n : ℕ) (bytes : List ℕ) → is_some (deed_by n bytes) ≡ true → n < 3
 there_is n bytes some = elim (cases_Bool (nat_eq n 1)) [
@@ -19,8 +18,12 @@ there_is n bytes some = elim (cases_Bool (nat_eq n 1)) [
   ]
 ]
 
-pub asked_there : {X : Type 0} (n : ℕ) (o : Option X) → is_some (cond (nat_eq n 1) o None) ≡ true → n < 3
-asked_there n o some = let one = of_chains n o some in omega (arith, one)
+-- what the level of a number reads is read where that is the number
+pub read_of : {X : Type 0} (m n : ℕ) (o : Option X) → is_some (cond (nat_eq n m) o None) ≡ true → (n ≡ m) × (is_some o ≡ true)
+read_of m n o some = elim (cases_Bool (nat_eq n m)) [
+  | inl y ↦ (eqb-true n m y, ap (λ b. is_some (cond b o None)) (sym y) ∙ some)
+  | inr other ↦ absurd (false≢true (sym (ap (λ b. is_some (cond b o None)) other) ∙ some))
+]
 
 pub may_damage : (k : LevelState) (r : Refusal) (after : LevelState) → RefusesUnread k (Err r) after → MayHaveNoPlan r × (after ≡ k)
 may_damage k (why.Damaged d) after h = (tt, h.1)

@@ -1,5 +1,6 @@
 -- What a level asks for before it plans, what its writes are over, which cell it chooses, and slots noted one after another.
 use Rattle.std.specs.Prelude.{◌≡◌, ◌⊎◌, ◌/◌, ◌%◌, ◌+◌, ◌*◌, ℕ, true, List, [], ◌∷◌, ◌++◌, Option, None, Some, map, All}
+use Rattle.rq_model.specs.declared.record.Deed.{Deed}
 use Rattle.rq_model.specs.declared.record.Record.{Record}
 use Rattle.rq_model.specs.declared.record.Record.TheVariants.{OpEnd, PageOp}
 use Rattle.rq_model.specs.Deeds.{deed_by}
@@ -29,10 +30,18 @@ AreWanted want front (g ∷ gs) = (want front ≡ Some g.at) × AreWanted want (
 abbrev pub IsGathered : Meaning → Option Sizes → Job → List Given → Type 0
 IsGathered m z job given = AreWanted (m.want z job) [] given
 
+-- to take back what a deed of a level tells
+abbrev pub to_take_back : (level : ℕ) → List ℕ → Job
+to_take_back level deed = record { level = level; undo = true; bytes = deed }
+
 -- the operation that slots are asked for before a record is taken back
 abbrev pub job_back : Record → Job
-job_back (OpEnd t n level deed) = record { level = level; undo = true; bytes = deed }
-job_back _ = record { level = 0; undo = true; bytes = [] }
+job_back (OpEnd t n level deed) = to_take_back level deed
+job_back _ = to_take_back 0 []
+
+-- the deed that it tells, if it tells one
+abbrev pub deed_back : Record → Option Deed
+deed_back told = deed_by (job_back told).level (job_back told).bytes
 
 -- an end tells a deed of the level of this number
 abbrev pub TellsDeedOf : (level : ℕ) → Record → Type 0

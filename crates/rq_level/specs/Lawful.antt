@@ -12,7 +12,7 @@ use Rattle.rq_views.specs.Items.{layout_of}
 use Rattle.rq_views.specs.Log.{Slots}
 use Rattle.rq_views.specs.Plans.{deed_sender}
 use Rattle.rq_level.specs.LevelState.{LevelState, flag_at}
-use Rattle.rq_level.specs.Ops.{Job, doing_by}
+use Rattle.rq_level.specs.Ops.{Job}
 use Rattle.rq_level.specs.Given.{given_at}
 use Rattle.rq_level.specs.Gists.{gist_of}
 use Rattle.rq_level.specs.Writes.{reply_of}
@@ -106,11 +106,11 @@ pub record IsLawful (n : ℕ) (m : Meaning) : Type 0 where
   -- one that is ready for a store was told no other sizes, and stays ready when a slot is noted
   pub no_others : (k : LevelState) (z y : Sizes) → m.ready z k → k.sizes ≡ Some y → y ≡ z
   pub stays : (k : LevelState) (z : Sizes) (a : ℕ) (x : List ℕ) → a ≢ 1 → m.ready z k → m.ready z (m.note k a x)
-  -- bytes that are a deed, or ask for something at an end of a chain, are of a level that there is
+  -- bytes that are a deed, or ask for something, are of a level that there is
   pub reads : (bytes : List ℕ) → is_some (deed_by n bytes) ≡ true → n < level_count
-  pub asked : (bytes : List ℕ) → is_some (doing_by n bytes) ≡ true → n < level_count
+  pub asked : (bytes : List ℕ) → m.asks bytes ≡ true → n < level_count
   -- what it plans is asked of it, and what it takes back tells one of its deeds
-  pub own : OfPlans m (λ k job given latched p after. job.level ≡ n)
+  pub own : OfPlans m (λ k job given latched p after. (job.level ≡ n) × (m.asks job.bytes ≡ true))
   pub own_back : OfBacks m (λ k told given latched p after. TellsDeedOf n told)
 
 -- a record that is applied again to its page changes nothing

@@ -1,10 +1,11 @@
 //! Operations to be planned.
 ghost use Rattle.std.specs.Prelude.{◌≡◌, ◌++◌, IfOk, Some, length, ◌≤◌, ◌<◌, ◌/◌, ◌%◌, ◌^◌, true, false};
+ghost use Rattle.rq_level.specs.Asked.{job_back};
 ghost use Rattle.rq_level.specs.Ops.{Job, doing_by, chain_job, Send, Receive, Close, page_job, overwrite_by, tag_job, tagging_by};
 
 use byteorder::{BigEndian, ByteOrder};
 use rq_bytes::end::put;
-use rq_model::record::Slot;
+use rq_model::record::{Record, Slot};
 use rq_model::refusal::NoMemory;
 use rq_page::addr::Addr;
 use std::alloc::Global;
@@ -100,14 +101,17 @@ impl Op {
         Op::of(alloc, 2, false, &front, &[])
     }
 
-    /// To take back what a deed of a level tells.
+    /// To take back what a record tells: the deed of an operation's end. Of another record no level reads the bytes.
     ///
     /// # Errors
     /// `NoMemory`.
-    pub fn undo(alloc: Global, level: u8, deed: &[u8]) -> Result<Op, NoMemory>
-        ensures { IfOk result (λ op. op ≡ record { level = level; undo = true; bytes = deed.now }) }
+    pub fn back(alloc: Global, record: &Record) -> Result<Op, NoMemory>
+        ensures { IfOk result (λ op. op ≡ job_back «record».now) }
     {
-        Op::of(alloc, level, true, deed, &[])
+        match record {
+            Record::OpEnd { level, deed, .. } => Op::of(alloc, *level, true, deed.as_slice(), &[]),
+            _ => Op::of(alloc, 0, true, &[], &[]),
+        }
     }
 
     /// Whether something is to be taken back.

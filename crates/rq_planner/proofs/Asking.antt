@@ -1,24 +1,27 @@
 -- What is answered to what is asked, by the level that is asked.
-use Rattle.std.proofs.Common.{◌≡◌, ℕ, ◌<◌, List, Bool, true, false, cond, nat_eq, Option, Some, None, Result, option_map, refl, sym, ◌∙◌, ap, subst, inl, inr, arith}
-use Rattle.std.proofs.lemmas.Bool.{cases_Bool, eqb-true, false≢true}
+use Rattle.std.proofs.Common.{◌≡◌, ℕ, ◌<◌, List, Bool, true, false, cond, nat_eq, Option, Some, None, Result, option_map, refl, sym, ◌∙◌, ap, subst, arith}
 use Rattle.rq_model.specs.declared.record.Deed.{Deed}
 use Rattle.rq_model.specs.declared.record.Deed.TheVariants.{Append, UnlinkHead, Close as Close_deed, Mark}
+use Rattle.rq_model.specs.declared.record.Record.{Record}
+use Rattle.rq_model.specs.declared.record.Record.TheVariants.{OpEnd}
 use Rattle.rq_model.specs.declared.refusal.Refusal.{Refusal}
+use Rattle.rq_model.specs.declared.txn.Txn.{Txn}
 use Rattle.rq_model.specs.Deeds.{deed_by, deed_level}
 use Rattle.rq_model.specs.Vocabulary.{is_some}
 use Rattle.rq_model.proofs.Deeds.{told_by_its_level}
 use Rattle.rq_model.proofs.Each.{some_is}
 use Rattle.rq_page.specs.Sizes.{Sizes, client_count, sender_count}
 use Rattle.rq_views.specs.InStore.{IsDeedOf}
+use Rattle.rq_level.specs.Asked.{deed_back, job_back}
 use Rattle.rq_level.specs.declared.writes.Plan.{Plan}
 use Rattle.rq_level.specs.LevelState.{LevelState}
 use Rattle.rq_level.specs.Meaning.{kept_at, level_count, meaning_of}
 use Rattle.rq_level.specs.Ops.{Doing, Job, Tagging, doing_by, doing_in, tagging_by, tagging_in}
 use Rattle.rq_level.specs.Ops.Doing.{Send, Receive, Close}
-use Rattle.rq_level.proofs.ChainLaws.{of_chains}
+use Rattle.rq_level.proofs.Unread.{read_of}
 use Rattle.rq_txn.specs.Rows.{Row}
 use Rattle.rq_store.specs.State.{State}
-use Rattle.rq_planner.specs.Answered.{IsAnswered, IsPlanned, IsPlannedBy, KnowsCells, MayPlan, MayUndo, to_take_back, wants_of}
+use Rattle.rq_planner.specs.Answered.{IsAnswered, IsAnsweredBack, IsPlanned, IsPlannedBy, KnowsCells, MayPlan, MayUndo, wants_of}
 use Rattle.rq_planner.specs.Asked.{Asked, HasPlace, IsOfStore, IsTaskOf, Task, asked_by, chain_or_tag, doing_sender, known, task_by, task_level}
 use Rattle.rq_planner.specs.Asked.Asked.{Do, Undo}
 use Rattle.rq_planner.specs.Asked.Task.{Chain, Tag}
@@ -39,19 +42,12 @@ some_asked e = cc
 some_task : {a b : Task} → Some a ≡ Some b → a ≡ b
 some_task e = cc
 
--- a mark is asked of the level of tags
-of_tags : {X : Type 0} (n : ℕ) (o : Option X) → is_some (cond (nat_eq n 2) o None) ≡ true → n ≡ 2
-of_tags n o some = elim (cases_Bool (nat_eq n 2)) [
-  | inl two ↦ eqb-true n 2 two
-  | inr other ↦ absurd (false≢true (sym (ap (λ b. is_some (cond b o None)) other) ∙ some))
-]
-
 -- by which level a task is read
 pub task_cases : (P : Task → Type 0) (level : ℕ) (bytes : List ℕ) (task : Task) → task_by level bytes ≡ Some task → ((d : Doing) → doing_by level bytes ≡ Some d → level ≡ 1 → P (Chain d)) → ((t : Tagging) → tagging_by level bytes ≡ Some t → level ≡ 2 → P (Tag t)) → P task
 task_cases P level bytes task told chain tag = by (doing_by level bytes) (tagging_by level bytes) refl refl told where
   by : (o : Option Doing) (p : Option Tagging) → doing_by level bytes ≡ o → tagging_by level bytes ≡ p → chain_or_tag o p ≡ Some task → P task
-  by (Some d) p e f t = subst P (some_task t) (chain d e (of_chains level (doing_in bytes) (ap is_some e)))
-  by None (Some u) e f t = subst P (some_task t) (tag u f (of_tags level (tagging_in bytes) (ap is_some f)))
+  by (Some d) p e f t = subst P (some_task t) (chain d e (read_of 1 level (doing_in bytes) (ap is_some e)).0)
+  by None (Some u) e f t = subst P (some_task t) (tag u f (read_of 2 level (tagging_in bytes) (ap is_some f)).0)
   by None None e f t = absurd (let no : None ≡ Some task = t in cc)
 
 module _ (z : Sizes) (images : List (List ℕ)) (rows : List Row) (levels : List LevelState) (knows : KnowsCells z images levels) (answer : Result Plan Refusal) where
@@ -60,9 +56,6 @@ module _ (z : Sizes) (images : List (List ℕ)) (rows : List Row) (levels : List
 
   abbrev MayDo : ℕ → Job → Type 0
   MayDo n job = IsAnswered s (wants_of levels n) job (MayPlan s (meaning_of n) (kept_at levels n) job) answer
-
-  abbrev MayBack : (asked level : ℕ) → List ℕ → Type 0
-  MayBack n level deed = IsAnswered s (wants_of levels n) (to_take_back level deed) (MayUndo s (meaning_of n) (kept_at levels n) level deed) answer
 
   of_one : (job : Job) → MayDo 1 job → (d : Doing) → job.undo ≡ false → doing_by job.level job.bytes ≡ Some d → doing_sender d < sender_count z → IsPlanned s (Do (Chain d)) answer
   unfolding meaning_of
@@ -78,20 +71,6 @@ module _ (z : Sizes) (images : List (List ℕ)) (rows : List Row) (levels : List
       (λ t e two below. of_two job (subst (λ n. MayDo n job) two h) t forward e below)
       inside
 
-  back_of_one : (level : ℕ) (deed : List ℕ) → MayBack 1 level deed → (d : Deed) → deed_by level deed ≡ Some d → deed_level d ≡ 1 → IsDeedOf z d → IsPlanned s (Undo d) answer
-  unfolding meaning_of
-  back_of_one level deed h d told one inside = to_undo_planned s (kept_at levels 1) (cells_known z images levels rows knows) level d deed answer told one inside h
-
-  back_of_two : (level : ℕ) (deed : List ℕ) → MayBack 2 level deed → (c tag previous : ℕ) → deed_by level deed ≡ Some (Mark c tag previous) → c < client_count z → IsPlanned s (Undo (Mark c tag previous)) answer
-  unfolding meaning_of
-  back_of_two level deed h c tag previous told inside = to_unmark_planned s (kept_at levels 2) (tags_know z images levels knows) level deed c tag previous told answer inside h
-
-  back_answered : (level : ℕ) (deed : List ℕ) (d : Deed) → deed_by level deed ≡ Some d → HasPlace z d → MayBack level level deed → IsPlanned s (Undo d) answer
-  back_answered level deed (Append g n tag previous body) told inside h = back_of_one level deed (subst (λ m. MayBack m level deed) (sym (told_by_its_level level deed _ told)) h) (Append g n tag previous body) told refl inside
-  back_answered level deed (UnlinkHead g n tag body) told inside h = back_of_one level deed (subst (λ m. MayBack m level deed) (sym (told_by_its_level level deed _ told)) h) (UnlinkHead g n tag body) told refl inside
-  back_answered level deed (Close_deed g) told inside h = back_of_one level deed (subst (λ m. MayBack m level deed) (sym (told_by_its_level level deed _ told)) h) (Close_deed g) told refl inside
-  back_answered level deed (Mark c tag previous) told inside h = back_of_two level deed (subst (λ m. MayBack m level deed) (sym (told_by_its_level level deed _ told)) h) c tag previous told inside
-
   -- whatever is asked
   pub plan_says : (job : Job) → job.undo ≡ false → MayDo job.level job → IsPlannedBy s job answer
   plan_says job forward h asked told inside = by (task_by job.level job.bytes) refl (sym (ap (λ (b : Bool). cond b (option_map Undo (deed_by job.level job.bytes)) (option_map Do (task_by job.level job.bytes))) forward) ∙ told) where
@@ -99,15 +78,42 @@ module _ (z : Sizes) (images : List (List ℕ)) (rows : List Row) (levels : List
     by None e t = absurd (let no : None ≡ Some asked = t in cc)
     by (Some d) e t = let is : Do d ≡ asked = some_asked t in subst (λ a. IsPlanned s a answer) is (plan_answered job d forward e (subst (IsOfStore z) (sym is) inside) h)
 
-  pub back_says : (level : ℕ) (deed : List ℕ) → MayBack level level deed → IsPlannedBy s (to_take_back level deed) answer
-  back_says level deed h asked told inside = by (deed_by level deed) refl told where
-    by : (o : Option Deed) → deed_by level deed ≡ o → option_map Undo o ≡ Some asked → IsPlanned s asked answer
-    by None e t = absurd (let no : None ≡ Some asked = t in cc)
-    by (Some d) e t = let is : Undo d ≡ asked = some_asked t in subst (λ a. IsPlanned s a answer) is (back_answered level deed d e (subst (IsOfStore z) (sym is) inside) h)
+  module _ (t : Txn) (j : ℕ) where
+    abbrev MayBack : (asked level : ℕ) → List ℕ → Type 0
+    MayBack n level deed = IsAnswered s (wants_of levels n) (job_back (OpEnd t j level deed)) (MayUndo s (meaning_of n) (kept_at levels n) (OpEnd t j level deed)) answer
+
+    back_of_one : (level : ℕ) (deed : List ℕ) → MayBack 1 level deed → (d : Deed) → deed_by level deed ≡ Some d → deed_level d ≡ 1 → IsDeedOf z d → IsPlanned s (Undo d) answer
+    unfolding meaning_of
+    back_of_one level deed h d told one inside = to_undo_planned s (kept_at levels 1) (cells_known z images levels rows knows) t j level d deed answer told one inside h
+
+    back_of_two : (level : ℕ) (deed : List ℕ) → MayBack 2 level deed → (c tag previous : ℕ) → deed_by level deed ≡ Some (Mark c tag previous) → c < client_count z → IsPlanned s (Undo (Mark c tag previous)) answer
+    unfolding meaning_of
+    back_of_two level deed h c tag previous told inside = to_unmark_planned s (kept_at levels 2) (tags_know z images levels knows) t j level deed c tag previous told answer inside h
+
+    back_answered : (level : ℕ) (deed : List ℕ) (d : Deed) → deed_by level deed ≡ Some d → HasPlace z d → MayBack level level deed → IsPlanned s (Undo d) answer
+    back_answered level deed (Append g n tag previous body) told inside h = back_of_one level deed (subst (λ m. MayBack m level deed) (sym (told_by_its_level level deed _ told)) h) (Append g n tag previous body) told refl inside
+    back_answered level deed (UnlinkHead g n tag body) told inside h = back_of_one level deed (subst (λ m. MayBack m level deed) (sym (told_by_its_level level deed _ told)) h) (UnlinkHead g n tag body) told refl inside
+    back_answered level deed (Close_deed g) told inside h = back_of_one level deed (subst (λ m. MayBack m level deed) (sym (told_by_its_level level deed _ told)) h) (Close_deed g) told refl inside
+    back_answered level deed (Mark c tag previous) told inside h = back_of_two level deed (subst (λ m. MayBack m level deed) (sym (told_by_its_level level deed _ told)) h) c tag previous told inside
+
+    back_told : (level : ℕ) (deed : List ℕ) → MayBack level level deed → IsPlannedBy s (job_back (OpEnd t j level deed)) answer
+    back_told level deed h asked told inside = by (deed_by level deed) refl told where
+      by : (o : Option Deed) → deed_by level deed ≡ o → option_map Undo o ≡ Some asked → IsPlanned s asked answer
+      by None e t = absurd (let no : None ≡ Some asked = t in cc)
+      by (Some d) e t = let is : Undo d ≡ asked = some_asked t in subst (λ a. IsPlanned s a answer) is (back_answered level deed d e (subst (IsOfStore z) (sym is) inside) h)
+
+  pub back_says : (told : Record) → IsAnsweredBack s levels told answer → IsPlannedBy s (job_back told) answer
+  back_says (OpEnd t j level deed) h asked told inside = back_told t j level deed h asked told inside
+  back_says _ h asked told inside = absurd (let no : None ≡ Some asked = told in cc)
 
 -- something that is to be done is asked for by its job
 pub asks_to_do : (job : Job) (task : Task) → job.undo ≡ false → task_by job.level job.bytes ≡ Some task → asked_by job ≡ Some (Do task)
 asks_to_do job task forward told = ap (λ (b : Bool). cond b (option_map Undo (deed_by job.level job.bytes)) (option_map Do (task_by job.level job.bytes))) forward ∙ ap (option_map Do) told
+
+-- what takes back the deed that a record tells is asked for by its job
+pub asks_back : (told : Record) (d : Deed) → deed_back told ≡ Some d → asked_by (job_back told) ≡ Some (Undo d)
+asks_back (OpEnd t j level deed) d told = ap (option_map Undo) told
+asks_back _ d told = absurd (let no : None ≡ Some d = told in cc)
 
 -- what is to be done is asked of the level that does it
 pub asked_of : (level : ℕ) (bytes : List ℕ) (task : Task) → task_by level bytes ≡ Some task → level ≡ task_level task

@@ -7,8 +7,9 @@ use Rattle.rq_model.specs.declared.refusal.Refusal.{Refusal}
 use Rattle.rq_model.specs.declared.refusal.Refusal.TheVariants as why
 use Rattle.rq_model.specs.Deeds.{deed_by, deed_level}
 use Rattle.rq_model.proofs.Deeds.{told_by_its_level}
+use Rattle.rq_model.specs.declared.record.Record.{Record}
 use Rattle.rq_model.specs.declared.record.Record.TheVariants.{OpEnd}
-use Rattle.rq_model.proofs.Each.{some_is}
+use Rattle.rq_model.specs.declared.txn.Txn.{Txn}
 use Rattle.rq_page.specs.declared.cell.Cell.{Cell}
 use Rattle.rq_page.specs.Sizes.{Sizes, IsCellAddress, client_count, client_slot_at, directory_at, place_of, sender_count}
 use Rattle.rq_page.specs.Slots.Slot.{Free, Used, Sender}
@@ -17,6 +18,7 @@ use Rattle.rq_views.specs.Log.{Slots}
 use Rattle.rq_views.specs.InStore.{IsDeedOf}
 use Rattle.rq_views.specs.Plans.Turn.{Undid}
 use Rattle.rq_views.specs.Stored.{is_used, slots_in}
+use Rattle.rq_level.specs.Asked.{deed_back, job_back}
 use Rattle.rq_level.specs.ChainPlans.{Beside, CanMark, CanPutBack, CanUnlinkTail, TellsDamage, Undoes, job_wanted}
 use Rattle.rq_level.specs.declared.slots.Given.{Given}
 use Rattle.rq_level.specs.declared.writes.Plan.{Plan}
@@ -25,7 +27,6 @@ use Rattle.rq_level.specs.LevelState.{LevelState, NoneFree, flag_at}
 use Rattle.rq_level.specs.Meaning.{chain_meaning, kept_at, meaning_of, tag_meaning}
 use Rattle.rq_level.specs.Ops.{Job}
 use Rattle.rq_level.specs.TagPlans.{tag_wants}
-use Rattle.rq_level.proofs.EachLevel.{all_lawful}
 use Rattle.rq_txn.specs.Rows.{Row}
 use Rattle.rq_store.specs.Plans.{Stands_at}
 use Rattle.rq_store.specs.State.{State}
@@ -38,7 +39,7 @@ use Rattle.rq_sound.specs.Inverses.{InverseIsLatched, InverseTakesLowest}
 use Rattle.rq_sound.proofs.Wants.{given_parts, given_named}
 use Rattle.rq_planner.specs.Asked.{HasPlace, known}
 use Rattle.rq_planner.specs.Asked.Asked.{Undo}
-use Rattle.rq_planner.specs.Answered.{ComesFrom, IsAnswered, IsHeldUp, IsPlanBack, KnowsCells, MayUndo, to_take_back, Wants, wants_of}
+use Rattle.rq_planner.specs.Answered.{ComesFrom, IsAnswered, IsAnsweredBack, IsHeldUp, IsPlanBack, KnowsCells, MayUndo, Wants, wants_of}
 use Rattle.rq_planner.proofs.Knowing.{cells_known}
 use Rattle.rq_planner.proofs.Replies.{HasGatheredFor, from_wanted, of_undo, wants_undo}
 use Rattle.rq_planner.proofs.Tags.{planned_below, tags_know, unmark_judged}
@@ -126,12 +127,6 @@ back_plan s want job May p h = (h.given, by (want job h.given) h.comes) where
   by None c = elim c [ inl may ↦ may | inr e ↦ absurd (let no : ◌≡◌ {A = Result Plan Refusal} (Ok p) (Err why.NoMemory) = e in cc) ]
   by (Some a) c = absurd c
 
--- it is of a deed that the level reads
-pub plan_read : (s : State) (levels : List LevelState) (k : LevelState) (n : ℕ) (deed : List ℕ) (p : Plan) → IsAnswered s (wants_of levels n) (to_take_back n deed) (MayUndo s (meaning_of n) k n deed) (Ok p) → (d : Deed) × (deed_by n deed ≡ Some d)
-plan_read s levels k n deed p h =
-    let m = (back_plan s (wants_of levels n) (to_take_back n deed) (MayUndo s (meaning_of n) k n deed) p h).1 in
-    some_is (deed_by n deed) ((all_lawful n).own_back k (OpEnd m.txn m.number n deed) _ m.latched p m.after m.undoes).1
-
 -- ---- what the level of chains answers
 
 module _ (s : State) (k : LevelState) (given : List Given) (latched : List ℕ) (keeps : KeepsCells s k) (on : AreLatched s latched) (after : LevelState) where
@@ -197,9 +192,6 @@ module _ (z : Sizes) (images : List (List ℕ)) (rows : List Row) (levels : List
   abbrev keeps : KeepsCells s (kept_at levels 1)
   keeps = cells_known z images levels rows knows
 
-  abbrev MayBack : (asked level : ℕ) → List ℕ → Type 0
-  MayBack n level deed = IsAnswered s (wants_of levels n) (to_take_back level deed) (MayUndo s (meaning_of n) (kept_at levels n) level deed) answer
-
   -- without a plan there is none of what is not the store's
   unplanned : (d : Deed) → ((p : Plan) → answer ≡ Ok p → ⊥) → (HasPlace z d → ⊥) → IsJudgedBack z (slots_now s) d answer
   unplanned d none out = by answer none where
@@ -207,41 +199,49 @@ module _ (z : Sizes) (images : List (List ℕ)) (rows : List Row) (levels : List
     by (Ok p) n = absurd (n p refl)
     by (Err r) n = record { can = tt; damaged = λ damage can. out (can_below z (slots_now s) d can) }
 
-  of_one : (level : ℕ) (deed : List ℕ) → MayBack 1 level deed → (d : Deed) → deed_by level deed ≡ Some d → deed_level d ≡ 1 → IsDeedOf z d → IsJudgedBack z (slots_now s) d answer
-  unfolding meaning_of
-  of_one level deed h d told one inside =
-      from_wanted s job_wanted (to_take_back level deed) (Undo d) (wants_undo s (kept_at levels 1) keeps level d deed told one inside) (MayUndo s chain_meaning (kept_at levels 1) level deed) (IsJudgedBack z (slots_now s) d)
-      (record { can = tt; damaged = λ x. absurd x }) (λ held. record { can = tt; damaged = λ x. absurd x })
-      (λ given a has m. judged_back s (kept_at levels 1) given m.latched keeps m.on m.after d a one has (of_undo s (kept_at levels 1) keeps d deed level given a told m)) answer h
+  module _ (t : Txn) (j : ℕ) where
+    abbrev MayBack : (asked level : ℕ) → List ℕ → Type 0
+    MayBack n level deed = IsAnswered s (wants_of levels n) (job_back (OpEnd t j level deed)) (MayUndo s (meaning_of n) (kept_at levels n) (OpEnd t j level deed)) answer
 
-  -- a deed of another store's group has no plan
-  outside : (level : ℕ) (deed : List ℕ) → MayBack 1 level deed → (d : Deed) → deed_by level deed ≡ Some d → (HasPlace z d → ⊥) → IsJudgedBack z (slots_now s) d answer
-  unfolding meaning_of
-  outside level deed h d told out = unplanned d (λ p is.
-      let m = back_plan s job_wanted (to_take_back level deed) (MayUndo s chain_meaning (kept_at levels 1) level deed) p (subst (IsAnswered s job_wanted (to_take_back level deed) (MayUndo s chain_meaning (kept_at levels 1) level deed)) is h) in
-      out (plan_below s (kept_at levels 1) m.0 m.1.latched m.1.after d p (of_undo s (kept_at levels 1) keeps d deed level m.0 (Ok p) told m.1))) out
+    of_one : (level : ℕ) (deed : List ℕ) → MayBack 1 level deed → (d : Deed) → deed_by level deed ≡ Some d → deed_level d ≡ 1 → IsDeedOf z d → IsJudgedBack z (slots_now s) d answer
+    unfolding meaning_of
+    of_one level deed h d told one inside =
+        from_wanted s job_wanted (job_back (OpEnd t j level deed)) (Undo d) (wants_undo s (kept_at levels 1) keeps t j level d deed told one inside) (MayUndo s chain_meaning (kept_at levels 1) (OpEnd t j level deed)) (IsJudgedBack z (slots_now s) d)
+        (record { can = tt; damaged = λ x. absurd x }) (λ held. record { can = tt; damaged = λ x. absurd x })
+        (λ given a has m. judged_back s (kept_at levels 1) given m.latched keeps m.on m.after d a one has (of_undo s (kept_at levels 1) keeps t j d deed level given a told m)) answer h
 
-  of_chain : (level : ℕ) (deed : List ℕ) (d : Deed) → deed_level d ≡ 1 → deed_by level deed ≡ Some d → (HasPlace z d → IsDeedOf z d) → (HasPlace z d ⊎ (HasPlace z d → ⊥)) → MayBack level level deed → IsJudgedBack z (slots_now s) d answer
-  of_chain level deed d one told low where_is h =
-      let by_chains : MayBack 1 level deed = subst (λ n. MayBack n level deed) (sym (told_by_its_level level deed d told) ∙ one) h in
-      elim where_is [ inl inside ↦ of_one level deed by_chains d told one (low inside) | inr out ↦ outside level deed by_chains d told out ]
+    -- a deed of another store's group has no plan
+    outside : (level : ℕ) (deed : List ℕ) → MayBack 1 level deed → (d : Deed) → deed_by level deed ≡ Some d → (HasPlace z d → ⊥) → IsJudgedBack z (slots_now s) d answer
+    unfolding meaning_of
+    outside level deed h d told out = unplanned d (λ p is.
+        let m = back_plan s job_wanted (job_back (OpEnd t j level deed)) (MayUndo s chain_meaning (kept_at levels 1) (OpEnd t j level deed)) p (subst (IsAnswered s job_wanted (job_back (OpEnd t j level deed)) (MayUndo s chain_meaning (kept_at levels 1) (OpEnd t j level deed))) is h) in
+        out (plan_below s (kept_at levels 1) m.0 m.1.latched m.1.after d p (of_undo s (kept_at levels 1) keeps t j d deed level m.0 (Ok p) told m.1))) out
 
-  -- a mark of one of the store's clients, or of another's
-  of_tags : (level : ℕ) (deed : List ℕ) → MayBack 2 level deed → (c tag previous : ℕ) → deed_by level deed ≡ Some (Mark c tag previous) → ((c < client_count z) ⊎ (c < client_count z → ⊥)) → IsJudgedBack z (slots_now s) (Mark c tag previous) answer
-  unfolding meaning_of
-  of_tags level deed h c tag previous told where_is = elim where_is [
-    | inl inside ↦ unmark_judged s (kept_at levels 2) (tags_know z images levels knows) level deed c tag previous told answer inside h
-    | inr out ↦ unplanned (Mark c tag previous) (λ p is.
-        let k = kept_at levels 2 in
-        let m = back_plan s (tag_wants k.sizes) (to_take_back level deed) (MayUndo s tag_meaning k level deed) p (subst (IsAnswered s (tag_wants k.sizes) (to_take_back level deed) (MayUndo s tag_meaning k level deed)) is h) in
-        out (planned_below s k (tags_know z images levels knows) level deed c tag previous told m.0 p m.1)) out
-  ]
+    of_chain : (level : ℕ) (deed : List ℕ) (d : Deed) → deed_level d ≡ 1 → deed_by level deed ≡ Some d → (HasPlace z d → IsDeedOf z d) → (HasPlace z d ⊎ (HasPlace z d → ⊥)) → MayBack level level deed → IsJudgedBack z (slots_now s) d answer
+    of_chain level deed d one told low where_is h =
+        let by_chains : MayBack 1 level deed = subst (λ n. MayBack n level deed) (sym (told_by_its_level level deed d told) ∙ one) h in
+        elim where_is [ inl inside ↦ of_one level deed by_chains d told one (low inside) | inr out ↦ outside level deed by_chains d told out ]
 
-  pub back_judged : (level : ℕ) (deed : List ℕ) (d : Deed) → deed_by level deed ≡ Some d → MayBack level level deed → IsJudgedBack z (slots_now s) d answer
-  back_judged level deed (Append g n tag previous body) told h = of_chain level deed (Append g n tag previous body) refl told (λ low. low) (below_or_not g (sender_count z)) h
-  back_judged level deed (UnlinkHead g n tag body) told h = of_chain level deed (UnlinkHead g n tag body) refl told (λ low. low) (below_or_not g (sender_count z)) h
-  back_judged level deed (Close g) told h = of_chain level deed (Close g) refl told (λ low. low) (below_or_not g (sender_count z)) h
-  back_judged level deed (Mark c tag previous) told h = of_tags level deed (subst (λ n. MayBack n level deed) (sym (told_by_its_level level deed _ told)) h) c tag previous told (below_or_not c (client_count z))
+    -- a mark of one of the store's clients, or of another's
+    of_tags : (level : ℕ) (deed : List ℕ) → MayBack 2 level deed → (c tag previous : ℕ) → deed_by level deed ≡ Some (Mark c tag previous) → ((c < client_count z) ⊎ (c < client_count z → ⊥)) → IsJudgedBack z (slots_now s) (Mark c tag previous) answer
+    unfolding meaning_of
+    of_tags level deed h c tag previous told where_is = elim where_is [
+      | inl inside ↦ unmark_judged s (kept_at levels 2) (tags_know z images levels knows) t j level deed c tag previous told answer inside h
+      | inr out ↦ unplanned (Mark c tag previous) (λ p is.
+          let k = kept_at levels 2 in
+          let m = back_plan s (tag_wants k.sizes) (job_back (OpEnd t j level deed)) (MayUndo s tag_meaning k (OpEnd t j level deed)) p (subst (IsAnswered s (tag_wants k.sizes) (job_back (OpEnd t j level deed)) (MayUndo s tag_meaning k (OpEnd t j level deed))) is h) in
+          out (planned_below s k (tags_know z images levels knows) t j level deed c tag previous told m.0 p m.1)) out
+    ]
+
+    back_told : (level : ℕ) (deed : List ℕ) (d : Deed) → deed_by level deed ≡ Some d → MayBack level level deed → IsJudgedBack z (slots_now s) d answer
+    back_told level deed (Append g n tag previous body) told h = of_chain level deed (Append g n tag previous body) refl told (λ low. low) (below_or_not g (sender_count z)) h
+    back_told level deed (UnlinkHead g n tag body) told h = of_chain level deed (UnlinkHead g n tag body) refl told (λ low. low) (below_or_not g (sender_count z)) h
+    back_told level deed (Close g) told h = of_chain level deed (Close g) refl told (λ low. low) (below_or_not g (sender_count z)) h
+    back_told level deed (Mark c tag previous) told h = of_tags level deed (subst (λ n. MayBack n level deed) (sym (told_by_its_level level deed _ told)) h) c tag previous told (below_or_not c (client_count z))
+
+  pub back_judged : (told : Record) (d : Deed) → deed_back told ≡ Some d → IsAnsweredBack s levels told answer → IsJudgedBack z (slots_now s) d answer
+  back_judged (OpEnd t j level deed) d told h = back_told t j level deed d told h
+  back_judged _ d told h = absurd (let no : None ≡ Some d = told in cc)
 
 -- ---- where nothing is under way
 
@@ -258,9 +258,9 @@ never_latched z q (UnlinkHead g n tag body) c h = elim h [
 never_latched z q (Close g) c h = false≢true h
 never_latched z q (Mark e tag previous) c h = true≢false (sym h ∙ nobody (client_slot_at z e ∷ []))
 
-module _ (z : Sizes) (images : List (List ℕ)) (rows : List Row) (none : rows ≡ []) (level : ℕ) (bytes : List ℕ) where
-  pub taken_back : (d : Deed) (p : Plan) → deed_by level bytes ≡ Some d → IsPlanBack (known z images rows) d p → CanBeTakenBack z (slots_in z images) d → IsTakingBack z (slots_in z images) (deed_by level bytes) p.writes.items
-  taken_back d p reads back can = record {
+module _ (z : Sizes) (images : List (List ℕ)) (rows : List Row) (none : rows ≡ []) where
+  pub taken_back : (told : Option Deed) (d : Deed) (p : Plan) → told ≡ Some d → IsPlanBack (known z images rows) d p → CanBeTakenBack z (slots_in z images) d → IsTakingBack z (slots_in z images) told p.writes.items
+  taken_back told d p reads back can = record {
     deed = d;
     reads = reads;
     can = can;

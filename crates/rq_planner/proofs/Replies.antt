@@ -8,6 +8,8 @@ use Rattle.rq_model.specs.declared.record.Deed.TheVariants.{Append, UnlinkHead, 
 use Rattle.rq_model.specs.declared.refusal.Damage.{Damage}
 use Rattle.rq_model.specs.declared.refusal.Refusal.{Refusal}
 use Rattle.rq_model.specs.declared.refusal.Refusal.TheVariants as why
+use Rattle.rq_model.specs.declared.record.Record.TheVariants.{OpEnd}
+use Rattle.rq_model.specs.declared.txn.Txn.{Txn}
 use Rattle.rq_model.specs.Deeds.{deed_by, deed_level}
 use Rattle.rq_page.specs.declared.cell.Cell.{Cell}
 use Rattle.rq_page.specs.Sizes.{Sizes, cell_at, directory_at, place_of, sender_count}
@@ -18,6 +20,7 @@ use Rattle.rq_views.specs.Log.{Slots, Write}
 use Rattle.rq_views.specs.Plans.{relinked}
 use Rattle.rq_views.specs.Plans.Turn.{Undid}
 use Rattle.rq_views.specs.Stored.{is_used}
+use Rattle.rq_level.specs.Asked.{job_back}
 use Rattle.rq_level.specs.ChainPlans.{Plans, PlansFor, Undoes, job_wanted}
 use Rattle.rq_level.specs.declared.slots.Given.{Given}
 use Rattle.rq_level.specs.declared.writes.Plan.{Plan}
@@ -45,7 +48,7 @@ use Rattle.rq_sound.specs.Lowest.{AreAllLatched, AreLatchedBelow, FirstIsLowest}
 use Rattle.rq_planner.specs.Asked.{Asked, doing_sender, known, slots_for}
 use Rattle.rq_planner.specs.Asked.Asked.{Do, Undo}
 use Rattle.rq_planner.specs.Asked.Task.{Chain, Tag}
-use Rattle.rq_planner.specs.Answered.{ComesFrom, IsAnswered, IsHeldUp, IsNewestDeed, IsPlanBack, IsPlanFor, IsPlanned, IsPlanOf, MayBeAsked, MayPlan, MayUndo, Wants, to_take_back}
+use Rattle.rq_planner.specs.Answered.{ComesFrom, IsAnswered, IsHeldUp, IsNewestDeed, IsPlanBack, IsPlanFor, IsPlanned, IsPlanOf, MayBeAsked, MayPlan, MayUndo, Wants}
 
 -- the first write of a plan is of the cell that it takes
 takes_lowest : (z : Sizes) (q : Slots) (rows : List Row) (a : ℕ) (ws : List SlotWrite) → IsFirstAt a ws → AreLatchedBelow z q rows a → latched_in rows (a / 16) ≡ false → FirstIsLowest z q rows ws
@@ -233,13 +236,13 @@ module _ (whole : State) (sound : IsSound whole) where
         m.0.1 (levels_find.closes whole given g sound inside (h.gathered.unlatched (directory_at g) (slots_now whole (directory_at g)) h.all.0) may (same_given given (slots_for whole.sizes (slots_now bare) (Do (Chain (Close g)))) h.all))
 
     finds : (d : Deed) → IsNewestDeed whole d → latched_in whole.rows (own_slot whole.sizes d / 16) ≡ false → AreGivenOf bare given (needed whole.sizes (slots_now whole) (Undid d)) → CanUndo whole.sizes given d
-    finds d may off all = levels_find.undoes whole given may.row may.older (record { lsn = may.lsn; deed = d }) sound may.idle may.last off (same_given given (needed whole.sizes (slots_now whole) (Undid d)) all)
+    finds d may off all = levels_find.undoes whole given may.row may.older (record { lsn = may.lsn; number = may.number; deed = d }) sound may.idle may.last off (same_given given (needed whole.sizes (slots_now whole) (Undid d)) all)
 
     no_undoing : (d : Deed) → HasGatheredFor bare given (Undo d) → deed_level d ≡ 1 → Undoes (Some whole.sizes) (Some d) k given latched (Err (why.Damaged x)) after → MayBeAsked whole (Undo d) → ⊥
     no_undoing (Append g n tag previous body) h inside m may =
         m.0.1 (finds (Append g n tag previous body) may (h.gathered.unlatched (directory_at g) (slots_now whole (directory_at g)) h.all.0) h.all)
     no_undoing (UnlinkHead g n tag body) h inside m may =
-        levels_refuse.returns whole k given latched may.row may.older may.lsn g n tag body (why.Damaged x) sound (same_keeps k keeps) on may.idle may.last
+        levels_refuse.returns whole k given latched may.row may.older may.lsn may.number g n tag body (why.Damaged x) sound (same_keeps k keeps) on may.idle may.last
         (finds (UnlinkHead g n tag body) may (h.gathered.unlatched (directory_at g) (slots_now whole (directory_at g)) h.all.0) h.all) m.0
     no_undoing (Close_deed g) h inside m may =
         m.0.1 (finds (Close_deed g) may (h.gathered.unlatched (directory_at g) (slots_now whole (directory_at g)) h.all.0) h.all)
@@ -325,16 +328,17 @@ module _ (s : State) (k : LevelState) (keeps : KeepsCells s k) where
           (subst (λ (z : Option Sizes). Plans z (doing_by job.level job.bytes) k given m.latched answer m.after) keeps.sizes
           (subst (λ (b : Bool). PlansFor b k.sizes (doing_by job.level job.bytes) k given m.latched answer m.after) to.forward m.plans))
 
-  -- of what takes a deed back
-  pub of_undo : (d : Deed) (deed : List ℕ) (level : ℕ) (given : List Given) (answer : Result Plan Refusal) → deed_by level deed ≡ Some d → (m : MayUndo s chain_meaning k level deed given answer) → Undoes (Some s.sizes) (Some d) k given m.latched answer m.after
-  of_undo d deed level given answer told m =
-      subst (λ (o : Option Deed). Undoes (Some s.sizes) o k given m.latched answer m.after) told
-      (subst (λ (z : Option Sizes). Undoes z (deed_by level deed) k given m.latched answer m.after) keeps.sizes m.undoes)
+  module _ (t : Txn) (j : ℕ) where
+    -- of what takes a deed back
+    pub of_undo : (d : Deed) (deed : List ℕ) (level : ℕ) (given : List Given) (answer : Result Plan Refusal) → deed_by level deed ≡ Some d → (m : MayUndo s chain_meaning k (OpEnd t j level deed) given answer) → Undoes (Some s.sizes) (Some d) k given m.latched answer m.after
+    of_undo d deed level given answer told m =
+        subst (λ (o : Option Deed). Undoes (Some s.sizes) o k given m.latched answer m.after) told
+        (subst (λ (z : Option Sizes). Undoes z (deed_by level deed) k given m.latched answer m.after) keeps.sizes m.undoes)
 
-  pub wants_undo : (level : ℕ) (d : Deed) (deed : List ℕ) → deed_by level deed ≡ Some d → deed_level d ≡ 1 → IsDeedOf s.sizes d → WantsFor s job_wanted (to_take_back level deed) (Undo d)
-  wants_undo level d deed told one inside given h = wants_needed.undoes s given (to_take_back level deed) d h (record { back = refl; told = told }) one inside
+    pub wants_undo : (level : ℕ) (d : Deed) (deed : List ℕ) → deed_by level deed ≡ Some d → deed_level d ≡ 1 → IsDeedOf s.sizes d → WantsFor s job_wanted (job_back (OpEnd t j level deed)) (Undo d)
+    wants_undo level d deed told one inside given h = wants_needed.undoes s given (job_back (OpEnd t j level deed)) d h (record { back = refl; told = told }) one inside
 
-  pub to_undo_planned : (level : ℕ) (d : Deed) (deed : List ℕ) (answer : Result Plan Refusal) → deed_by level deed ≡ Some d → deed_level d ≡ 1 → IsDeedOf s.sizes d → IsAnswered s job_wanted (to_take_back level deed) (MayUndo s chain_meaning k level deed) answer → IsPlanned s (Undo d) answer
-  to_undo_planned level d deed answer told one inside h =
-      from_wanted s job_wanted (to_take_back level deed) (Undo d) (wants_undo level d deed told one inside) (MayUndo s chain_meaning k level deed) (IsPlanned s (Undo d)) (memory_answer s (Undo d)) (latched_answer s (Undo d))
-      (λ given answer has m. undid s k given m.latched keeps m.on m.after d answer has one (of_undo d deed level given answer told m)) answer h
+    pub to_undo_planned : (level : ℕ) (d : Deed) (deed : List ℕ) (answer : Result Plan Refusal) → deed_by level deed ≡ Some d → deed_level d ≡ 1 → IsDeedOf s.sizes d → IsAnswered s job_wanted (job_back (OpEnd t j level deed)) (MayUndo s chain_meaning k (OpEnd t j level deed)) answer → IsPlanned s (Undo d) answer
+    to_undo_planned level d deed answer told one inside h =
+        from_wanted s job_wanted (job_back (OpEnd t j level deed)) (Undo d) (wants_undo level d deed told one inside) (MayUndo s chain_meaning k (OpEnd t j level deed)) (IsPlanned s (Undo d)) (memory_answer s (Undo d)) (latched_answer s (Undo d))
+        (λ given answer has m. undid s k given m.latched keeps m.on m.after d answer has one (of_undo d deed level given answer told m)) answer h

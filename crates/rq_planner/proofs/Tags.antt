@@ -5,9 +5,12 @@ use Rattle.rq_model.specs.declared.record.Deed.TheVariants.{Mark}
 use Rattle.rq_model.specs.declared.refusal.Damage.{Damage}
 use Rattle.rq_model.specs.declared.refusal.Refusal.{Refusal}
 use Rattle.rq_model.specs.declared.refusal.Refusal.TheVariants as why
+use Rattle.rq_model.specs.declared.record.Record.TheVariants.{OpEnd}
+use Rattle.rq_model.specs.declared.txn.Txn.{Txn}
 use Rattle.rq_model.specs.Deeds.{deed_by}
 use Rattle.rq_page.specs.Sizes.{Sizes, client_count, client_slot_at}
 use Rattle.rq_page.specs.Slots.Slot.{Client}
+use Rattle.rq_level.specs.Asked.{job_back}
 use Rattle.rq_level.specs.ChainPlans.{TellsDamage}
 use Rattle.rq_level.specs.declared.slots.Given.{Given}
 use Rattle.rq_level.specs.declared.writes.Plan.{Plan}
@@ -27,7 +30,7 @@ use Rattle.rq_sound.proofs.Wants.{levels_find}
 use Rattle.rq_planner.specs.Asked.{known}
 use Rattle.rq_planner.specs.Asked.Asked.{Do, Undo}
 use Rattle.rq_planner.specs.Asked.Task.{Tag}
-use Rattle.rq_planner.specs.Answered.{IsAnswered, IsPlanBack, IsPlanned, IsPlanOf, KnowsCells, MayBeAsked, MayPlan, MayUndo, Wants, to_take_back}
+use Rattle.rq_planner.specs.Answered.{IsAnswered, IsPlanBack, IsPlanned, IsPlanOf, KnowsCells, MayBeAsked, MayPlan, MayUndo, Wants}
 use Rattle.rq_planner.specs.Backs.{IsJudgedBack, MarkedLast}
 use Rattle.rq_planner.proofs.Knowing.{is_one}
 use Rattle.rq_planner.proofs.Replies.{HasGatheredFor, WantsFor, damaged_answer, from_wanted, latched_answer, memory_answer, not_latched, planned_answer, same_given}
@@ -66,7 +69,7 @@ module _ (s : State) (k : LevelState) (given : List Given) (after : LevelState) 
       → UndoesTag (Some whole.sizes) (Some (Mark c tag previous)) k given (Err (why.Damaged x)) after → MayBeAsked whole (Undo (Mark c tag previous)) → ⊥
   no_unmark whole sound c tag previous x h m may =
       let a = client_slot_at whole.sizes c in
-      m.0.1 (levels_find.undoes whole given may.row may.older (record { lsn = may.lsn; deed = Mark c tag previous }) sound may.idle may.last (h.gathered.unlatched a (slots_now whole a) h.all.0) (same_given whole sound given (a ∷ []) h.all))
+      m.0.1 (levels_find.undoes whole given may.row may.older (record { lsn = may.lsn; number = may.number; deed = Mark c tag previous }) sound may.idle may.last (h.gathered.unlatched a (slots_now whole a) h.all.0) (same_given whole sound given (a ∷ []) h.all))
 
   mark_refused : (t : Tagging) (r : Refusal) → HasGatheredFor s given (Do (Tag t)) → t.client < client_count s.sizes → PlansTag (Some s.sizes) (Some t) k given (Err r) after → IsPlanned s (Do (Tag t)) (Err r)
   mark_refused t why.NoMemory h inside m = memory_answer s (Do (Tag t))
@@ -150,28 +153,28 @@ module _ (s : State) (k : LevelState) (sizes : k.sizes ≡ Some s.sizes) where
           (subst (λ (z : Option Sizes). PlansTag z (tagging_by job.level job.bytes) k given a m.after) sizes
           (subst (λ (b : Bool). TagsFor b k.sizes (tagging_by job.level job.bytes) k given a m.after) forward m.plans))
 
-  module _ (level : ℕ) (deed : List ℕ) (c tag previous : ℕ) (told : deed_by level deed ≡ Some (Mark c tag previous)) where
-    of_undo : (given : List Given) (a : Result Plan Refusal) (m : MayUndo s tag_meaning k level deed given a) → UndoesTag (Some s.sizes) (Some (Mark c tag previous)) k given a m.after
+  module _ (t : Txn) (j level : ℕ) (deed : List ℕ) (c tag previous : ℕ) (told : deed_by level deed ≡ Some (Mark c tag previous)) where
+    of_undo : (given : List Given) (a : Result Plan Refusal) (m : MayUndo s tag_meaning k (OpEnd t j level deed) given a) → UndoesTag (Some s.sizes) (Some (Mark c tag previous)) k given a m.after
     of_undo given a m =
         subst (λ (o : Option Deed). UndoesTag (Some s.sizes) o k given a m.after) told
         (subst (λ (z : Option Sizes). UndoesTag z (deed_by level deed) k given a m.after) sizes m.undoes)
 
-    wants_back : c < client_count s.sizes → WantsFor s want (to_take_back level deed) (Undo (Mark c tag previous))
-    wants_back inside given from = wants_client (to_take_back level deed) c given (ap client_marked told) inside from
+    wants_back : c < client_count s.sizes → WantsFor s want (job_back (OpEnd t j level deed)) (Undo (Mark c tag previous))
+    wants_back inside given from = wants_client (job_back (OpEnd t j level deed)) c given (ap client_marked told) inside from
 
-    pub to_unmark_planned : (answer : Result Plan Refusal) → c < client_count s.sizes → IsAnswered s want (to_take_back level deed) (MayUndo s tag_meaning k level deed) answer → IsPlanned s (Undo (Mark c tag previous)) answer
+    pub to_unmark_planned : (answer : Result Plan Refusal) → c < client_count s.sizes → IsAnswered s want (job_back (OpEnd t j level deed)) (MayUndo s tag_meaning k (OpEnd t j level deed)) answer → IsPlanned s (Undo (Mark c tag previous)) answer
     to_unmark_planned answer inside h =
-        from_wanted s want (to_take_back level deed) (Undo (Mark c tag previous)) (wants_back inside) (MayUndo s tag_meaning k level deed) (IsPlanned s (Undo (Mark c tag previous))) (memory_answer s (Undo (Mark c tag previous))) (latched_answer s (Undo (Mark c tag previous)))
+        from_wanted s want (job_back (OpEnd t j level deed)) (Undo (Mark c tag previous)) (wants_back inside) (MayUndo s tag_meaning k (OpEnd t j level deed)) (IsPlanned s (Undo (Mark c tag previous))) (memory_answer s (Undo (Mark c tag previous))) (latched_answer s (Undo (Mark c tag previous)))
         (λ given a has m. unmarked s k given m.after c tag previous a has (of_undo given a m)) answer h
 
-    pub unmark_judged : (answer : Result Plan Refusal) → c < client_count s.sizes → IsAnswered s want (to_take_back level deed) (MayUndo s tag_meaning k level deed) answer → IsJudgedBack s.sizes (slots_now s) (Mark c tag previous) answer
+    pub unmark_judged : (answer : Result Plan Refusal) → c < client_count s.sizes → IsAnswered s want (job_back (OpEnd t j level deed)) (MayUndo s tag_meaning k (OpEnd t j level deed)) answer → IsJudgedBack s.sizes (slots_now s) (Mark c tag previous) answer
     unmark_judged answer inside h =
-        from_wanted s want (to_take_back level deed) (Undo (Mark c tag previous)) (wants_back inside) (MayUndo s tag_meaning k level deed) (IsJudgedBack s.sizes (slots_now s) (Mark c tag previous))
+        from_wanted s want (job_back (OpEnd t j level deed)) (Undo (Mark c tag previous)) (wants_back inside) (MayUndo s tag_meaning k (OpEnd t j level deed)) (IsJudgedBack s.sizes (slots_now s) (Mark c tag previous))
         (record { can = tt; damaged = λ x. absurd x }) (λ held. record { can = tt; damaged = λ x. absurd x })
         (λ given a has m. judged s k given m.after c tag previous a has (of_undo given a m)) answer h
 
     -- a plan is of one of the store's clients
-    pub planned_below : (given : List Given) (p : Plan) → MayUndo s tag_meaning k level deed given (Ok p) → c < client_count s.sizes
+    pub planned_below : (given : List Given) (p : Plan) → MayUndo s tag_meaning k (OpEnd t j level deed) given (Ok p) → c < client_count s.sizes
     planned_below given p m = unmark_below s k given m.after c tag previous p (of_undo given (Ok p) m)
 
 -- the level of tags knows the sizes of a store whose slots it was told

@@ -5,15 +5,14 @@ use Rattle.rq_model.specs.declared.record.Deed.TheVariants.{Append, UnlinkHead, 
 use Rattle.rq_model.specs.declared.refusal.Refusal.{Refusal}
 use Rattle.rq_model.specs.declared.refusal.Refusal.TheVariants as why
 use Rattle.rq_model.specs.Deeds.{deed_by, spelled_deed}
-use Rattle.rq_model.specs.declared.record.Record.TheVariants.{OpEnd}
-use Rattle.rq_model.specs.declared.txn.Txn.{Txn}
+use Rattle.rq_model.specs.declared.record.Record.{Record}
 use Rattle.rq_page.specs.Sizes.{Sizes, cell_count}
 use Rattle.rq_views.specs.Items.{items}
 use Rattle.rq_views.specs.Legal.{view}
 use Rattle.rq_views.specs.Log.{Slots}
 use Rattle.rq_views.specs.Plans.Turn.{Did, Undid}
 use Rattle.rq_views.specs.Stored.{IsStoreSlot, slot_at}
-use Rattle.rq_level.specs.Asked.{AreWanted}
+use Rattle.rq_level.specs.Asked.{AreWanted, job_back}
 use Rattle.rq_level.specs.ChainPlans.{IsInverse, TellsDamage}
 use Rattle.rq_level.specs.declared.slots.Given.{Given}
 use Rattle.rq_level.specs.declared.writes.Plan.{Plan}
@@ -85,19 +84,22 @@ pub record MayPlan (s : State) (m : Meaning) (k : LevelState) (job : Job) (given
   pub after : LevelState
   pub plans : m.plans k job given latched answer after
 
--- and to a deed that is to be taken back
-pub record MayUndo (s : State) (m : Meaning) (k : LevelState) (level : ℕ) (deed : List ℕ) (given : List Given)
+-- and to a record that is to be taken back
+pub record MayUndo (s : State) (m : Meaning) (k : LevelState) (told : Record) (given : List Given)
     (answer : Result Plan Refusal) : Type 0 where
   pub latched : List ℕ
   pub on : AreLatched s latched
-  pub txn : Txn
-  pub number : ℕ
   pub after : LevelState
-  pub undoes : m.undoes k (OpEnd txn number level deed) given latched answer after
+  pub undoes : m.undoes k told given latched answer after
 
--- the job of taking back a deed
-abbrev pub to_take_back : (level : ℕ) → List ℕ → Job
-to_take_back level deed = record { level = level; undo = true; bytes = deed }
+-- the level of what a record tells, if it tells anything that is taken back
+abbrev pub level_back : Record → ℕ
+level_back told = (job_back told).level
+
+-- The answer to what takes a record back is one of its level.
+abbrev pub IsAnsweredBack : State → List LevelState → Record → Result Plan Refusal → Type 0
+IsAnsweredBack s levels told answer = IsAnswered s (wants_of levels (level_back told)) (job_back told)
+    (MayUndo s (meaning_of (level_back told)) (kept_at levels (level_back told)) told) answer
 
 -- ---- plans
 
@@ -153,8 +155,9 @@ pub record IsNewestDeed (s : State) (d : Deed) : Type 0 where
   pub row : Row
   pub older : List Finished
   pub lsn : ℕ
+  pub number : ℕ
   pub idle : IsIdle s row
-  pub last : row.finished ≡ older ++ record { lsn = lsn; deed = d } ∷ []
+  pub last : row.finished ≡ older ++ record { lsn = lsn; number = number; deed = d } ∷ []
 
 -- A sound store may do it, but for latches: a send where it is not full, a receive where a message waits, a close where
 -- the group is open, a mark, and what takes back the newest deed of a transaction.

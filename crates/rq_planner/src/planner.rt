@@ -2,11 +2,13 @@
 ghost use Rattle.std.specs.Prelude.{◌≡◌, ◌≢◌, ◌<◌, ◌/◌, ℕ, IfErr, IfOk, IsTrue, Some, true, false, length, slice_set};
 ghost use Rattle.rq_model.specs.declared.record.Deed.{Deed};
 ghost use Rattle.rq_model.specs.Deeds.{deed_by};
+ghost use Rattle.rq_model.specs.Vocabulary.{is_some};
 ghost use Rattle.rq_views.specs.Stored.{IsStoreSlot, slot_at, slots_in};
+ghost use Rattle.rq_level.specs.Asked.{deed_back, job_back};
 ghost use Rattle.rq_level.specs.Meaning.{AppliesOnce, AreTold, kept_at, meaning_of, redo_of};
 ghost use Rattle.rq_pool.specs.Pooled.{image_at};
 ghost use Rattle.rq_pool.specs.Writing.{IsRedoAt};
-ghost use Rattle.rq_planner.specs.Answered.{IsAnswered, IsPlannedBy, KnowsCells, MayPlan, MayUndo, to_take_back, wants_of};
+ghost use Rattle.rq_planner.specs.Answered.{IsAnswered, IsAnsweredBack, IsPlannedBy, KnowsCells, MayPlan, level_back, wants_of};
 ghost use Rattle.rq_planner.specs.Asked.{known_from};
 ghost use Rattle.rq_planner.specs.Backs.{IsJudgedBack, IsRefusedBack, IsTakingBack};
 ghost use Rattle.rq_planner.specs.Handed.{AreForStores};
@@ -40,14 +42,15 @@ pub struct Planner<B: Level> {
 
 impl<B: Level> Model for Planner<B> {
     ghost use Rattle.std.specs.Prelude.{List};
-    ghost use Rattle.std.specs.Prelude.{◌<◌, length};
+    ghost use Rattle.std.specs.Prelude.{◌≤◌, length};
     ghost use Rattle.rq_level.specs.LevelState.{LevelState};
+    ghost use Rattle.rq_level.specs.Meaning.{level_count};
 
     ghost Value = { List LevelState };
 
     ghost view = { λ p. p.levels };
 
-    ghost invariant = { λ p. 1 < length p.levels };
+    ghost invariant = { λ p. level_count ≤ length p.levels };
 }
 
 impl<B: Level> Planner<B> {
@@ -117,7 +120,7 @@ impl<B: Level> Planner<B> {
         )
     }
 
-    /// The plan of what takes back the deed that the level of this number tells by the bytes, as `plan` does.
+    /// The plan of what takes back what a record tells, as `plan` does.
     ///
     /// # Errors
     /// `Latched`, `NoMemory`; of a store that is not sound, or where the operation may not be undone, also `Damaged`.
@@ -127,16 +130,14 @@ impl<B: Level> Planner<B> {
         room: Vec<SlotWrite>,
         pages: &Pages<P>,
         transactions: &Transactions,
-        level: u8,
-        deed: &DeedBytes,
+        told: &Record,
     ) -> Result<Plan, Refusal>
         requires known { KnowsCells pages.now.sizes pages.now.images self.old }
-        requires level { level < length self.old }
+        requires level { level_back told.now < length self.old }
         ensures same { self.new ≡ self.old }
-        ensures answered { IsAnswered (known_from pages.now transactions.now) (wants_of self.old level) (to_take_back level deed.now)
-            (MayUndo (known_from pages.now transactions.now) (meaning_of level) (kept_at self.old level) level deed.now) result }
-        ensures planned { IsPlannedBy (known_from pages.now transactions.now) (to_take_back level deed.now) result }
-        ensures judged { (d : Deed) → deed_by level deed.now ≡ Some d
+        ensures answered { IsAnsweredBack (known_from pages.now transactions.now) self.old told.now result }
+        ensures planned { IsPlannedBy (known_from pages.now transactions.now) (job_back told.now) result }
+        ensures judged { (d : Deed) → deed_back told.now ≡ Some d
             → IsJudgedBack pages.now.sizes (slots_in pages.now.sizes pages.now.images) d result }
     {
         plan_inverse(
@@ -145,13 +146,12 @@ impl<B: Level> Planner<B> {
             pages,
             transactions,
             &mut self.levels,
-            level,
-            deed,
+            told,
             &mut self.slots,
         )
     }
 
-    /// The writes that take back the deed that the level of this number tells by the bytes, where nothing is under way.
+    /// The writes that take back the deed that a record tells, where nothing is under way.
     ///
     /// # Errors
     /// `Damaged` where it tells none, or one that the slots do not show to be done last. A close is shown by its closed
@@ -160,24 +160,20 @@ impl<B: Level> Planner<B> {
         &mut self,
         alloc: Global,
         pages: &Pages<P>,
-        level: u8,
-        deed: &DeedBytes,
+        told: &Record,
     ) -> Result<Vec<SlotWrite>, Refusal>
         requires { KnowsCells pages.now.sizes pages.now.images self.old }
         ensures same { self.new ≡ self.old }
         ensures plan { IfOk result (λ writes. IsTakingBack pages.now.sizes
-            (slots_in pages.now.sizes pages.now.images) (deed_by level deed.now) writes.items) }
+            (slots_in pages.now.sizes pages.now.images) (deed_back told.now) writes.items) }
         ensures refused { IfErr result (λ r. IsRefusedBack pages.now.sizes
-            (slots_in pages.now.sizes pages.now.images) (deed_by level deed.now) r) }
+            (slots_in pages.now.sizes pages.now.images) (deed_back told.now) r) }
     {
-        if level as usize >= self.levels.len() {
-            return Err(Refusal::Damaged(Damage::Page(0)));
-        }
-        if !self.levels.reads(level as usize, deed.as_slice()) {
+        if !self.reads_back(told) {
             return Err(Refusal::Damaged(Damage::Page(0)));
         }
         let nobody = Transactions::new(alloc);
-        match self.plan_inverse(alloc, Vec::new(alloc), pages, &nobody, level, deed) {
+        match self.plan_inverse(alloc, Vec::new(alloc), pages, &nobody, told) {
             Ok(plan) => Ok(plan.writes),
             // Nobody has latched a page.
             Err(Refusal::Latched) => Err(Refusal::Damaged(Damage::Page(0))),
@@ -185,6 +181,25 @@ impl<B: Level> Planner<B> {
             // No level refuses for another cause than memory.
             Err(_) => Err(Refusal::NoMemory),
         }
+    }
+
+    // Whether the record tells a deed that its level reads.
+    fn reads_back(&self, told: &Record) -> bool
+        ensures reads { result ≡ is_some (deed_back told.now) }
+        ensures level { IsTrue result → level_back told.now < length self.now }
+    {
+        match told {
+            Record::OpEnd { level, deed, .. } => self.reads(*level, deed),
+            _ => false,
+        }
+    }
+
+    // Whether these bytes are a deed of the level of this number, which may be none.
+    fn reads(&self, level: u8, deed: &DeedBytes) -> bool
+        ensures reads { result ≡ is_some (deed_by level deed.now) }
+        ensures level { IsTrue result → level < length self.now }
+    {
+        (level as usize) < self.levels.len() && self.levels.reads(level as usize, deed.as_slice())
     }
 
     /// The write that undoes what a PageOp wrote.

@@ -1,16 +1,15 @@
 //! Plans of operations, and of what takes them back.
 ghost use Rattle.std.specs.Prelude.{◌≡◌, ◌<◌, length};
 ghost use Rattle.rq_level.specs.Meaning.{kept_at, meaning_of};
-ghost use Rattle.rq_planner.specs.Answered.{IsAnswered, KnowsCells, MayPlan, MayUndo, to_take_back, wants_of};
+ghost use Rattle.rq_planner.specs.Answered.{IsAnswered, IsAnsweredBack, KnowsCells, MayPlan, level_back, wants_of};
 ghost use Rattle.rq_planner.specs.Asked.{known_from};
 
 use crate::gathering::gather;
 use crate::telling::give_back;
 use rq_disk::PageDevice;
 use rq_level::{Level, Levels, Op, Plan, SlotWrite, Slots};
-use rq_model::record::{DeedBytes, Record};
+use rq_model::record::Record;
 use rq_model::refusal::Refusal;
-use rq_model::txn::Txn;
 use rq_pool::Pages;
 use rq_txn::Transactions;
 use std::alloc::Global;
@@ -46,7 +45,7 @@ pub(crate) fn plan<P: PageDevice, B: Level>(
     }
 }
 
-/// Has the level of this number plan what takes back the deed that the bytes tell, as `plan` does.
+/// Has the level that a record tells plan what takes it back, as `plan` does.
 ///
 /// # Errors
 /// As those of `plan`.
@@ -56,32 +55,26 @@ pub(crate) fn plan_inverse<P: PageDevice, B: Level>(
     pages: &Pages<P>,
     transactions: &Transactions,
     levels: &mut Levels<B>,
-    level: u8,
-    deed: &DeedBytes,
+    told: &Record,
     slots: &mut Slots,
 ) -> Result<Plan, Refusal>
     requires known { KnowsCells pages.now.sizes pages.now.images levels.old }
-    requires level { level < length levels.old }
+    requires level { level_back told.now < length levels.old }
     ensures same { levels.new ≡ levels.old }
-    ensures answered { IsAnswered (known_from pages.now transactions.now) (wants_of levels.old level) (to_take_back level deed.now)
-        (MayUndo (known_from pages.now transactions.now) (meaning_of level) (kept_at levels.old level) level deed.now) result }
+    ensures answered { IsAnsweredBack (known_from pages.now transactions.now) levels.old told.now result }
 {
-    let Ok(op) = Op::undo(alloc, level, deed.as_slice()) else {
+    let Ok(op) = Op::back(alloc, told) else {
         return Err(Refusal::NoMemory);
-    };
-    // Of this record the level reads the deed alone.
-    let end = Record::OpEnd {
-        txn: Txn {
-            incarnation: 1,
-            count: 1,
-        },
-        operation: 1,
-        level,
-        deed: *deed,
     };
     match gather(pages, transactions, levels, &op, slots) {
         Ok(()) => {
-            let answer = levels.undo(room, level as usize, &end, slots, transactions.latched());
+            let answer = levels.undo(
+                room,
+                op.level() as usize,
+                told,
+                slots,
+                transactions.latched(),
+            );
             give_back(pages, levels, &answer);
             answer
         }

@@ -27,7 +27,7 @@ own_stay t (d ∷ ds) off = let k = or_parts (same_txn d.txn t) (any_due t ds) o
 
 -- what is due is told by an OpEnd of the log
 pub due_told : (P : PendingUndo → Type 0) (Q : List Record → Type 0) → ((r : Record) (log : List Record) → is_base r ≡ false → Q (r ∷ log) → Q log)
-    → ((t : Txn) (n level : ℕ) (deed : List ℕ) (log : List Record) → Q (OpEnd t n level deed ∷ log) → P (record { txn = t; lsn = length log + 1; level = level; deed = deed }))
+    → ((t : Txn) (n level : ℕ) (deed : List ℕ) (log : List Record) → Q (OpEnd t n level deed ∷ log) → P (record { txn = t; lsn = length log + 1; number = n; level = level; deed = deed }))
     → (log : List Record) → Q log → (d : PendingUndo) → In d (dues log) → P d
 due_told P Q older one [] q d i = absurd i
 due_told P Q older one (OpEnd t n level deed ∷ log) q d i = elim i [

@@ -19,7 +19,7 @@ use Rattle.rq_model.specs.Bases.{is_base, standing}
 use Rattle.rq_model.proofs.Bases.{standing_plain}
 use Rattle.rq_analysis.specs.declared.dues.PendingUndo.{PendingUndo}
 use Rattle.rq_analysis.specs.declared.open_work.UndoableWrite.{UndoableWrite}
-use Rattle.rq_analysis.specs.Dues.{due_of, dues}
+use Rattle.rq_analysis.specs.Dues.{due_of, dues, end_due}
 use Rattle.rq_analysis.specs.OpenWorkView.{open_work_of, undoable_by}
 use Rattle.rq_analysis.proofs.Stacks.{in_newest}
 use Rattle.rq_views.specs.Log.{same_op}
@@ -181,30 +181,27 @@ write_kept (records.AbortEnd t ∷ log) w i = still_more log (records.AbortEnd t
 write_kept (records.Restart n ∷ log) w i = still_more log (records.Restart n) w [] refl refl (write_kept log w i)
 write_kept (records.Base many n ∷ log) w i = absurd i
 
-due_more : (log : List Record) (r : Record) (d : PendingUndo) → is_base r ≡ false → ((n : ℕ) (p : Place) → p.by ≡ operation d.txn n → In p (places_of log).ends → In p (places_of (r ∷ log)).ends) → IsDueKept log d → IsDueKept (r ∷ log) d
-due_more log r d plain stays k = (k.0, kept_more log r (places_of log).ends (places_of (r ∷ log)).ends d.lsn (operation d.txn k.0) _ plain (stays k.0) k.1)
+due_more : (log : List Record) (r : Record) (d : PendingUndo) → is_base r ≡ false → ((p : Place) → p.by ≡ operation d.txn d.number → In p (places_of log).ends → In p (places_of (r ∷ log)).ends) → IsDueKept log d → IsDueKept (r ∷ log) d
+due_more log r d plain stays k = kept_more log r (places_of log).ends (places_of (r ∷ log)).ends d.lsn (operation d.txn d.number) _ plain stays k
 
 due_still : (log : List Record) (r : Record) (d : PendingUndo) (own : List Place) → is_base r ≡ false → (places_of (r ∷ log)).ends ≡ filter (λ q. not false) (places_of log).ends ++ own → IsDueKept log d → IsDueKept (r ∷ log) d
-due_still log r d own plain left k = due_more log r d plain (λ n p same i. subst (In p) (sym left) (left_in (places_of log).ends own p i)) k
+due_still log r d own plain left k = due_more log r d plain (λ p same i. subst (In p) (sym left) (left_in (places_of log).ends own p i)) k
 
 -- of a transaction that has no end yet
 due_ended : (log : List Record) (r : Record) (t : Txn) (d : PendingUndo) → is_base r ≡ false → (places_of (r ∷ log)).ends ≡ filter (λ q. not (same_txn q.by.txn t)) (places_of log).ends ++ [] → not (due_of t d) ≡ true → IsDueKept log d → IsDueKept (r ∷ log) d
 due_ended log r t d plain left other k = due_more log r d plain
-    (λ n p same i. subst (In p) (sym left) (in_left (filter (λ q. not (same_txn q.by.txn t)) (places_of log).ends) [] p
+    (λ p same i. subst (In p) (sym left) (in_left (filter (λ q. not (same_txn q.by.txn t)) (places_of log).ends) [] p
     (filter_in (λ q. not (same_txn q.by.txn t)) (places_of log).ends p i (subst (λ (o : Sub). not (same_txn o.txn t) ≡ true) (sym same) other)))) k
 
 due_kept : (log : List Record) (d : PendingUndo) → In d (dues log) → IsDueKept log d
 due_kept [] d i = absurd i
 due_kept (records.OpEnd t n level deed ∷ log) d (inl e) =
     let r : Record = records.OpEnd t n level deed in
-    subst (IsDueKept (r ∷ log)) (sym e) (
-      n,
-      record {
-        place = length (spelled log);
-        among = in_right (filter (λ q. not false) (places_of log).ends) (place_at (length log + 1) (length (spelled log)) t n ∷ []) (place_at (length log + 1) (length (spelled log)) t n) (inl refl);
-        there = ([], standing log, refl, refl);
-      },
-    )
+    subst (IsDueKept (r ∷ log)) (sym e) (record {
+      place = length (spelled log);
+      among = in_right (filter (λ q. not false) (places_of log).ends) (place_at (length log + 1) (length (spelled log)) t n ∷ []) (place_at (length log + 1) (length (spelled log)) t n) (inl refl);
+      there = ([], standing log, refl, refl);
+    })
 due_kept (records.OpEnd t n level deed ∷ log) d (inr i) = due_still log (records.OpEnd t n level deed) d (place_at (length log + 1) (length (spelled log)) t n ∷ []) refl refl (due_kept log d i)
 due_kept (records.CompEnd t n undone ∷ log) d i = due_still log (records.CompEnd t n undone) d [] refl refl (due_kept log d (in_newest (due_of t) (dues log) d i))
 due_kept (records.Commit t ∷ log) d i =
@@ -309,15 +306,15 @@ pub write_found : (log : List Record) (w : UndoableWrite) → In w (open_work_of
 write_found log w i none = let k = write_kept log w i in none (record { lsn = w.lsn; by = w.by; place = k.1.place }) k.1.among refl
 
 -- so does that of what is to be taken back
-pub due_there : (log : List Record) (d : PendingUndo) (p : Place) → In d (dues log) → In p (places_of log).ends → p.lsn ≡ d.lsn → (n : ℕ) × IsAt log p.place (records.OpEnd d.txn n d.level d.deed)
+pub due_there : (log : List Record) (d : PendingUndo) (p : Place) → In d (dues log) → In p (places_of log).ends → p.lsn ≡ d.lsn → IsAt log p.place (end_due d)
 due_there log d p i j e =
     let k = due_kept log d i in
-    let q : Place = record { lsn = d.lsn; by = operation d.txn k.0; place = k.1.place } in
-    let same : p ≡ q = one_kept end_at (λ r x. ends_txn r x.by.txn) (λ log. (places_of log).ends) refl (λ r log. refl) one_end own_end log p q j k.1.among e in
-    (k.0, subst (λ n. IsAt log n (records.OpEnd d.txn k.0 d.level d.deed)) (sym (ap (λ (x : Place). x.place) same)) k.1.there)
+    let q : Place = record { lsn = d.lsn; by = operation d.txn d.number; place = k.place } in
+    let same : p ≡ q = one_kept end_at (λ r x. ends_txn r x.by.txn) (λ log. (places_of log).ends) refl (λ r log. refl) one_end own_end log p q j k.among e in
+    subst (λ n. IsAt log n (end_due d)) (sym (ap (λ (x : Place). x.place) same)) k.there
 
 pub due_found : (log : List Record) (d : PendingUndo) → In d (dues log) → ((p : Place) → In p (places_of log).ends → p.lsn ≢ d.lsn) → ⊥
-due_found log d i none = let k = due_kept log d i in none (record { lsn = d.lsn; by = operation d.txn k.0; place = k.1.place }) k.1.among refl
+due_found log d i none = let k = due_kept log d i in none (record { lsn = d.lsn; by = operation d.txn d.number; place = k.place }) k.among refl
 
 -- ---- a place that is looked for by its LSN
 

@@ -29,6 +29,7 @@ use Rattle.rq_analysis.specs.Pages.{IsNextUndo, IsUndoneNext, undo_of}
 use Rattle.rq_analysis.specs.Pages.IsNextUndo.{Undoes}
 use Rattle.rq_restart.specs.declared.analysis.Analysis.{Analysis}
 use Rattle.rq_restart.specs.declared.places.Place.{Place}
+use Rattle.rq_analysis.specs.Dues.{end_due}
 use Rattle.rq_restart.specs.Again.{HasRecord, IsLikeUndo, NotGivenFor, NotMadeFor, NotReadFor, NotToldFor, NotUndoneFor, WroteOver, due_told, told_again, undo_told}
 use Rattle.rq_level.specs.declared.writes.SlotWrite.{SlotWrite}
 use Rattle.rq_planner.specs.PageUndos.{NotPutBackFor, PutsBackWrite}
@@ -220,25 +221,19 @@ module _ (f : Analysis) (log : List Record) (are : IsAnalysisOf f log) (t : Txn)
   due_is_kept none = due_found log d (subst (In d) are.dues i) (λ q j same. none q (subst (λ (s : OpenPlaces). In q s.ends) (sym are.places) j) (same ∙ at))
 
   module _ (kept : Place) (among : In kept f.places.ends) (same : kept.lsn ≡ lsn) where
-    pub end_stands : (n : ℕ) × IsAt log kept.place (records.OpEnd d.txn n d.level d.deed)
-    end_stands = due_there log d kept (subst (In d) are.dues i) (subst (λ (s : OpenPlaces). In kept s.ends) are.places among) (same ∙ sym at)
+    pub end_at : IsAt log kept.place (end_due d)
+    end_at = due_there log d kept (subst (In d) are.dues i) (subst (λ (s : OpenPlaces). In kept s.ends) are.places among) (same ∙ sym at)
 
-    abbrev pub end_told : Record
-    end_told = records.OpEnd d.txn end_stands.0 d.level d.deed
-
-    pub end_at : IsAt log kept.place end_told
-    end_at = end_stands.1
-
-    pub due_is : due_told t lsn end_told ≡ Ok d
-    due_is =
-        ap (λ (x : PendingUndo). Ok x) (ap (λ (x : Txn). record { txn = x; lsn = lsn; level = d.level; deed = d.deed }) (sym of) ∙ ap (λ (x : ℕ). record { txn = d.txn; lsn = x; level = d.level; deed = d.deed }) (sym at))
+  pub due_is : due_told t lsn (end_due d) ≡ Ok d
+  due_is =
+      ap (λ (x : PendingUndo). Ok x) (ap (λ (x : Txn). record { txn = x; lsn = lsn; number = d.number; level = d.level; deed = d.deed }) (sym of) ∙ ap (λ (x : ℕ). record { txn = d.txn; lsn = x; number = d.number; level = d.level; deed = d.deed }) (sym at))
 
   pub due_has : (ps : List Place) → ps ≡ f.places.ends → HasRecord log ps lsn
   due_has ps e =
       subst (λ l. HasRecord log l lsn) (sym e) (record {
         rise = subst (λ (s : OpenPlaces). AreRising s.ends) (sym are.places) (ends_rise log);
         kept = due_is_kept;
-        stands = λ p i same. (end_told p i same, end_at p i same);
+        stands = λ p i same. (end_due d, end_at p i same);
       })
 
 -- ---- a PageUndo that is read

@@ -162,7 +162,7 @@ module _ {P : Type 0} (z : Sizes) (log : List Record) (old : Pooled P) (f : Anal
           let sound : IsSound s = moves_sound base b.1.stores k (behind base b.1.stores b.1.come.turns) in
           let records = b.1.come.records_are in
           let h = chosen_back s sound b.1.come.lost d ds (subst (λ l. least_free (dues l) (lost l) ≡ None) (sym records) (least_is x base k same b None none)) (ap dues records ∙ first_on) in
-          (h.0, h.2, h.3.row)
+          (h.0, h.3, h.4.row)
 
     -- its transaction is lost
     pub first_lost : OfStore z shown (λ x base. In d.txn f.open_work.active)

@@ -39,7 +39,7 @@ NotMadeFor (Err told) e = e ≡ told
 
 -- what the transaction's OpEnd with this LSN did, as this record tells it
 abbrev pub due_told : Txn → ℕ → Record → Result PendingUndo Refusal
-due_told t lsn (OpEnd u n level deed) = Ok (record { txn = t; lsn = lsn; level = level; deed = deed })
+due_told t lsn (OpEnd u n level deed) = Ok (record { txn = t; lsn = lsn; number = n; level = level; deed = deed })
 due_told t lsn _ = Err (why.Damaged (damage.Record lsn))
 
 -- a record with this LSN has its place among these, by rising LSN, and stands where each with this LSN says

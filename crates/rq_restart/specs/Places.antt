@@ -11,7 +11,7 @@ use Rattle.rq_log.specs.Places.{IsAt}
 use Rattle.rq_log.specs.Spelled.{spelled}
 use Rattle.rq_analysis.specs.declared.dues.PendingUndo.{PendingUndo}
 use Rattle.rq_analysis.specs.declared.open_work.UndoableWrite.{UndoableWrite}
-use Rattle.rq_analysis.specs.Dues.{dues}
+use Rattle.rq_analysis.specs.Dues.{dues, end_due}
 use Rattle.rq_analysis.specs.OpenWorkView.{open_work_of}
 use Rattle.rq_views.specs.Log.{same_op}
 use Rattle.rq_views.specs.Items.{operation}
@@ -107,7 +107,7 @@ IsWriteKept log w = (after : List ℕ) × IsKept log (places_of log).writes w.ls
 
 -- that of the OpEnd that tells what is to be taken back
 abbrev pub IsDueKept : List Record → PendingUndo → Type 0
-IsDueKept log d = (n : ℕ) × IsKept log (places_of log).ends d.lsn (operation d.txn n) (OpEnd d.txn n d.level d.deed)
+IsDueKept log d = IsKept log (places_of log).ends d.lsn (operation d.txn d.number) (end_due d)
 
 -- Of every log: all that a restart has to undo is told by records whose places are kept.
 pub record UndosHavePlaces : Type 0 where

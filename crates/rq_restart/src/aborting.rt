@@ -6,6 +6,7 @@ ghost use Rattle.rq_planner.specs.Answered.{KnowsCells};
 ghost use Rattle.rq_planner.specs.Backs.{IsTakingBack};
 ghost use Rattle.rq_analysis.specs.declared.dues.PendingUndo.{PendingUndo};
 ghost use Rattle.rq_analysis.specs.Choices.{least_free};
+ghost use Rattle.rq_analysis.specs.Dues.{end_due};
 ghost use Rattle.rq_analysis.specs.Rules.{FollowAll};
 ghost use Rattle.rq_record.specs.Spelling.{IsTxnInRange};
 ghost use Rattle.rq_store.specs.Steps.{page_op};
@@ -268,6 +269,18 @@ fn written(due: &PendingUndo, operation: u64, write: &SlotWrite) -> Record
     }
 }
 
+// The OpEnd that tells what is due.
+fn op_end(due: &PendingUndo) -> Record
+    ensures { result ≡ end_due due.now }
+{
+    Record::OpEnd {
+        txn: due.txn,
+        operation: due.number,
+        level: due.level,
+        deed: due.deed,
+    }
+}
+
 // The writes that take back what is due, over the slots as they are. Nobody has latched a page.
 fn plan<P: PageDevice, B: Level>(
     alloc: Global,
@@ -281,7 +294,7 @@ fn plan<P: PageDevice, B: Level>(
         (deed_by due.now.level due.now.deed) writes.items) }
     ensures stops { IfErr result (λ e. PlanStops pages.now.sizes pages.now.images due.now e) }
 {
-    match planner.plan_inverse_alone(alloc, pages, due.level, &due.deed) {
+    match planner.plan_inverse_alone(alloc, pages, &op_end(due)) {
         Ok(writes) => Ok(writes),
         Err(refusal) => Err(blamed(due.lsn, refusal)),
     }

@@ -155,9 +155,15 @@ fn due_as(txn: Txn, lsn: Lsn, told: &Record) -> Result<PendingUndo, Refusal>
     ensures { result ≡ due_told txn lsn told.now }
 {
     match told {
-        Record::OpEnd { level, deed, .. } => Ok(PendingUndo {
+        Record::OpEnd {
+            operation,
+            level,
+            deed,
+            ..
+        } => Ok(PendingUndo {
             txn,
             lsn,
+            number: *operation,
             level: *level,
             deed: *deed,
         }),

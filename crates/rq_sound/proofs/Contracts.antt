@@ -133,7 +133,7 @@ module _ (s : State) (k : IsSound s) where
   }
 
   -- what an inverse that is ready undoes is what its transaction did last
-  newest : (r : Row) (u : Under) (lsn : ℕ) (d : Deed) → IsReady s r u (aims.Undoing lsn d) → (fs : List Finished) × (r.finished ≡ fs ++ record { lsn = lsn; deed = d } ∷ [])
+  newest : (r : Row) (u : Under) (lsn : ℕ) (d : Deed) → IsReady s r u (aims.Undoing lsn d) → (fs : List Finished) × (n : ℕ) × (r.finished ≡ fs ++ record { lsn = lsn; number = n; deed = d } ∷ [])
   newest r u lsn d m = (subst (IsAimOf r) m.aim_is (subst (IsAsPlanned s.sizes s.records s.ends r) m.under (k.standing.each r (found_in r.txn s.rows r m.at_row).0).going).2).1
 
   rest_is : (r : Row) (fs : List Finished) (f : Finished) → r.finished ≡ fs ++ f ∷ [] → fs ≡ front r.finished
@@ -142,15 +142,15 @@ module _ (s : State) (k : IsSound s) where
   undo : (r : Row) (u : Under) (lsn : ℕ) (d : Deed) (ws : List ℕ) → IsReady s r u (aims.Undoing lsn d) → ((g : ℕ) → waits ws g ≡ waits s.waiting g + took g d) → IsSound (undone s r u lsn d ws)
   undo r u lsn d ws m more =
       let left = (aborts s.sizes s.records s.ends s.rows s.incarnation s.begins s.cells_in_use s.waiting ws k.log k.standing k.counted k.incarnation k.some r u lsn d m.at_row m.under m.aim_is m.made more).1 in
-      subst (λ (fs : List Finished). IsSound (record s { rows = change_row r.txn (row_undone fs) s.rows; records = comp_end r.txn u.number lsn ∷ s.records; cells_in_use = s.cells_in_use - appends_of d; waiting = ws })) (rest_is r left.0 (record { lsn = lsn; deed = d }) left.1)
+      subst (λ (fs : List Finished). IsSound (record s { rows = change_row r.txn (row_undone fs) s.rows; records = comp_end r.txn u.number lsn ∷ s.records; cells_in_use = s.cells_in_use - appends_of d; waiting = ws })) (rest_is r left.0 (record { lsn = lsn; number = left.1; deed = d }) left.2)
       (undo_sound s k r u lsn d ws m.at_row m.under m.aim_is m.made more)
 
   pub undo_entry : (r : Row) (u : Under) (lsn : ℕ) (d : Deed) (ws : List ℕ) → IsReady s r u (aims.Undoing lsn d) → ledger_of (undone s r u lsn d ws) ≡ after (Entry.Undid r.txn u.number) (ledger_of s)
   undo_entry r u lsn d ws m =
       let n = newest r u lsn d m in
-      let f : Finished = record { lsn = lsn; deed = d } in
-      subst (λ (fs : List Finished). ledger_of (record s { rows = change_row r.txn (row_undone fs) s.rows; records = comp_end r.txn u.number lsn ∷ s.records; cells_in_use = s.cells_in_use - appends_of d; waiting = ws }) ≡ after (Entry.Undid r.txn u.number) (ledger_of s)) (rest_is r n.0 f n.1)
-      (undid_after s r u lsn (s.cells_in_use - appends_of d) ws n.0 f k.standing.distinct m.at_row m.under m.made n.1)
+      let f : Finished = record { lsn = lsn; number = n.1; deed = d } in
+      subst (λ (fs : List Finished). ledger_of (record s { rows = change_row r.txn (row_undone fs) s.rows; records = comp_end r.txn u.number lsn ∷ s.records; cells_in_use = s.cells_in_use - appends_of d; waiting = ws }) ≡ after (Entry.Undid r.txn u.number) (ledger_of s)) (rest_is r n.0 f n.2)
+      (undid_after s r u lsn (s.cells_in_use - appends_of d) ws n.0 f k.standing.distinct m.at_row m.under m.made n.2)
 
   -- a transaction with nothing under way undoes its newest deed
   module _ (r : Row) (fs : List Finished) (f : Finished) (m : IsIdle s r) (last : r.finished ≡ fs ++ f ∷ []) where

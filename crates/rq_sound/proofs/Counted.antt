@@ -221,7 +221,7 @@ module _ (z : Sizes) (log : List Record) (ends : HeldEnds) (rows : List Row) (ce
     (at_row : found_row t rows ≡ Some r) (under : r.under ≡ Some u) (aim : u.aim ≡ Doing d) (made : u.made ≡ length u.writes) (g : FollowsPlan z log ends t u) (reads : TellsItself d)
     (fewer : (g : ℕ) → waits ws g ≡ waits waiting g - took g d) (apart : (q : Row) → In q rows → q.txn ≢ t → (v : Under) → q.under ≡ Some v → deed_sender d ≢ deed_sender (deed_of v.aim)) where
   abbrev f : Finished
-  f = record { lsn = length log + 1; deed = d }
+  f = record { lsn = length log + 1; number = u.number; deed = d }
 
   abbrev to : Row → Row
   to = row_finished f
@@ -288,7 +288,7 @@ more_covered ws vs (Some v) more h = at v.aim h where
 -- a compensation ends whose writes are all made
 module _ (z : Sizes) (log : List Record) (ends : HeldEnds) (rows : List Row) (cells : ℕ) (waiting ws : List ℕ) (t : Txn) (r : Row) (u : Under) (lsn : ℕ) (d : Deed) (fs : List Finished) (whole : IsWhole z log) (c : AreCounted z log rows cells waiting) (distinct : AreDistinct rows)
     (at_row : found_row t rows ≡ Some r) (under : r.under ≡ Some u) (aim : u.aim ≡ Undoing lsn d) (made : u.made ≡ length u.writes) (g : FollowsPlan z log ends t u)
-    (newest : r.finished ≡ fs ++ record { lsn = lsn; deed = d } ∷ []) (rest : List Placed) (done : open_deeds t (items z log) ≡ record { lsn = lsn; deed = d } ∷ rest)
+    (number : ℕ) (newest : r.finished ≡ fs ++ record { lsn = lsn; number = number; deed = d } ∷ []) (rest : List Placed) (done : open_deeds t (items z log) ≡ record { lsn = lsn; deed = d } ∷ rest)
     (more : (g : ℕ) → waits ws g ≡ waits waiting g + took g d) where
   abbrev back : Row → Row
   back = row_undone fs
@@ -302,7 +302,7 @@ module _ (z : Sizes) (log : List Record) (ends : HeldEnds) (rows : List Row) (ce
 
   pub counted_undo : AreCounted z (comp_end t u.number lsn ∷ log) (change_row t back rows) (cells - appends_of d) ws
   counted_undo =
-      let f : Finished = record { lsn = lsn; deed = d } in
+      let f : Finished = record { lsn = lsn; number = number; deed = d } in
       let a = rows_one appends_all t back rows r distinct at_row in
       let b = rows_one appending_in t back rows r distinct at_row in
       let e = rows_one takes_all t back rows r distinct at_row in

@@ -222,7 +222,7 @@ module _ (s : State) (k : IsSound s) where
         (subst (λ a. TellsFor a (view (items s.sizes s.records) (deed_sender (deed_of a)))) m.aim_is g.told)
 
     abbrev f : Finished
-    f = record { lsn = length s.records + 1; deed = d }
+    f = record { lsn = length s.records + 1; number = u.number; deed = d }
 
     none : left_under r.under ≡ 0
     none = none_to_make s k running r u m.under m.made

@@ -113,7 +113,7 @@ module _ (s : State) (k : IsSound s) where
 
   -- it ends, all its writes made
   pub finish_sound : (r : Row) (u : Under) (d : Deed) (ws : List ℕ) → found_row r.txn s.rows ≡ Some r → r.under ≡ Some u → u.aim ≡ Doing d → u.made ≡ length u.writes → ((g : ℕ) → waits ws g ≡ waits s.waiting g - took g d)
-      → IsSound (record s { rows = change_row r.txn (row_finished (record { lsn = length log + 1; deed = d })) s.rows; records = op_end r.txn u.number d ∷ log; waiting = ws })
+      → IsSound (record s { rows = change_row r.txn (row_finished (record { lsn = length log + 1; number = u.number; deed = d })) s.rows; records = op_end r.txn u.number d ∷ log; waiting = ws })
   finish_sound r u d ws at_row under aim made fewer = record {
     range = k.range;
     log = whole_finish z log s.ends s.rows s.incarnation s.begins s.cells_in_use s.waiting ws k.log k.standing k.counted k.incarnation k.some r u d at_row under aim made fewer;

@@ -100,7 +100,7 @@ module _ (z : Sizes) (log : List Record) (ends : HeldEnds) (rows : List Row) (i 
   x = op_end t u.number d
 
   abbrev f : Finished
-  f = record { lsn = length log + 1; deed = d }
+  f = record { lsn = length log + 1; number = u.number; deed = d }
 
   abbrev said_deed : Deed
   said_deed = told_deed (deed_by (deed_level d) (spelled_deed d))

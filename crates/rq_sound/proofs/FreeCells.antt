@@ -97,7 +97,7 @@ aim_gains : (q : Row) (a : Aim) → IsAimOf q a → gained (turn_of a) ≤ appen
 aim_gains q (Doing d) h = let a = did_gains d in omega (arith, a)
 aim_gains q (Undoing lsn d) h =
     let a = undid_gains d in
-    let b : takes_all q ≡ sum_by takes_one h.1.0 + takes_of d = ap (sum_by takes_one) h.1.1 ∙ sum_by_push takes_one h.1.0 (record { lsn = lsn; deed = d }) in
+    let b : takes_all q ≡ sum_by takes_one h.1.0 + takes_of d = ap (sum_by takes_one) h.1.2 ∙ sum_by_push takes_one h.1.0 (record { lsn = lsn; number = h.1.1; deed = d }) in
     omega (arith, a, b)
 
 -- what a row's operation under way has used so far is what it appends, or what it took before

@@ -153,8 +153,8 @@ refuses_other g Can r can h = absurd h
 pub levels_refuse : LevelsRefuseExactly
 levels_refuse = record {
   sends = λ s k given latched g r sound c on less can h. refuses_taking s k latched g _ r c on (some_known s k sound c less) can h;
-  returns = λ s k given latched row rest lsn g n tag body r sound c on m newest can h.
-      let a = planned.put_back_finds s row rest (record { lsn = lsn; deed = UnlinkHead g n tag body }) sound m newest refl in
+  returns = λ s k given latched row rest lsn number g n tag body r sound c on m newest can h.
+      let a = planned.put_back_finds s row rest (record { lsn = lsn; number = number; deed = UnlinkHead g n tag body }) sound m newest refl in
       refuses_taking s k latched g _ r c on (free_known s k a.0 sound c a.1 a.2) can h;
   receives = λ z given g r can h. refuses_other g _ r can h;
   marks = λ z given g closed r can h. refuses_other g _ r can h;

@@ -180,7 +180,7 @@ may_undo z log ends rows i b cells waiting whole k c r u fs f at_row idle aborti
         idle = idle;
         number = number;
         made = made;
-        aims = subst (IsAimOf r) (sym aim) (aborting, (fs, newest));
+        aims = subst (IsAimOf r) (sym aim) (aborting, (fs, f.number, newest));
         free = free;
         plan = subst (λ a. IsPlan (layout_of z) (turn_of a) (reverse (writes_of z u.writes))) (sym aim) plan;
         fits = fits;

@@ -37,7 +37,7 @@ use Rattle.rq_sound.proofs.Counted.{writes_are, counted_undo}
 use Rattle.rq_sound.proofs.OwnRecord.{row, of_order, running, going, greatest_now, idle_now, others_differ}
 use Rattle.rq_sound.proofs.Standings.{stands_changed}
 
-aim_is : (r : Row) (a : Aim) (lsn : ℕ) (d : Deed) → a ≡ Undoing lsn d → IsAimOf r a → (r.aborting ≡ true) × ((fs : List Finished) × (r.finished ≡ fs ++ record { lsn = lsn; deed = d } ∷ []))
+aim_is : (r : Row) (a : Aim) (lsn : ℕ) (d : Deed) → a ≡ Undoing lsn d → IsAimOf r a → (r.aborting ≡ true) × ((fs : List Finished) × (n : ℕ) × (r.finished ≡ fs ++ record { lsn = lsn; number = n; deed = d } ∷ []))
 aim_is r a lsn d e h = subst (IsAimOf r) e h
 
 module _ (z : Sizes) (log : List Record) (ends : HeldEnds) (rows : List Row) (i b cells : ℕ) (waiting ws : List ℕ) (whole : IsWhole z log) (k : AreStanding z log ends rows i b) (c : AreCounted z log rows cells waiting)
@@ -55,17 +55,17 @@ module _ (z : Sizes) (log : List Record) (ends : HeldEnds) (rows : List Row) (i 
   g : FollowsPlan z log ends t u × (r.number ≡ u.number) × IsAimOf r u.aim
   g = going z log ends rows i b k incarnation some r at_row u under
 
-  pub aborts : (r.aborting ≡ true) × ((fs : List Finished) × (r.finished ≡ fs ++ record { lsn = lsn; deed = d } ∷ []))
+  pub aborts : (r.aborting ≡ true) × ((fs : List Finished) × (n : ℕ) × (r.finished ≡ fs ++ record { lsn = lsn; number = n; deed = d } ∷ []))
   aborts = aim_is r u.aim lsn d aim g.2
 
   abbrev fs : List Finished
   fs = aborts.1.0
 
   abbrev f : Finished
-  f = record { lsn = lsn; deed = d }
+  f = record { lsn = lsn; number = aborts.1.1; deed = d }
 
   open_is : open_deeds t (items z log) ≡ placed_one f ∷ placed fs
-  open_is = own.done ∙ ap placed aborts.1.1 ∙ placed_more fs f
+  open_is = own.done ∙ ap placed aborts.1.2 ∙ placed_more fs f
 
   plan_is : IsPlan (layout_of z) (Undid d) ((left_by z log).writes (operation t u.number))
   plan_is = subst (IsPlan (layout_of z) (Undid d)) (sym (writes_are z log ends t u whole made g.0)) (subst (λ a. IsPlan (layout_of z) (turn_of a) (reverse (writes_of z u.writes))) aim g.0.plan)
@@ -120,4 +120,4 @@ module _ (z : Sizes) (log : List Record) (ends : HeldEnds) (rows : List Row) (i 
       none_some v e = cc
 
   pub counts_undo : AreCounted z (x ∷ log) (change_row t (row_undone fs) rows) (cells - appends_of d) ws
-  counts_undo = counted_undo z log ends rows cells waiting ws t r u lsn d fs whole c k.distinct at_row under aim made g.0 aborts.1.1 (placed fs) open_is more
+  counts_undo = counted_undo z log ends rows cells waiting ws t r u lsn d fs whole c k.distinct at_row under aim made g.0 aborts.1.1 aborts.1.2 (placed fs) open_is more

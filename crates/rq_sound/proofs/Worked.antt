@@ -35,7 +35,7 @@ not_sound = record {
   undoes = λ s r u lsn d i under is forward k. true≢false (sym (goes s k r u (aims.Undoing lsn d) i under is).0 ∙ forward);
   older = λ s r u lsn d rest f i under is newest ne k.
       let a = (goes s k r u (aims.Undoing lsn d) i under is).1 in
-      ne (ap (λ (x : Finished). x.lsn) (last_is rest a.0 f (record { lsn = lsn; deed = d }) (sym newest ∙ a.1)));
+      ne (ap (λ (x : Finished). x.lsn) (last_is rest a.0 f (record { lsn = lsn; number = a.1; deed = d }) (sym newest ∙ a.2)));
   let_go = λ s r g i used none k. true≢false (sym ((k.standing.each r i).held.sends g used) ∙ none);
   counts_more = λ s k l. (let a = k.counted.committed in let b = l.counted.committed in omega (arith, a, b));
   forced_beyond = λ s over k. (let f = k.forced in omega (arith, f, over));

@@ -84,7 +84,7 @@ pub record IsReady (s : State) (r : Row) (u : Under) (aim : Aim) : Type 0 where
 -- a send, a receive, a close or a mark ends; what is received waits no more
 abbrev pub finished : State → Row → Under → Deed → List ℕ → State
 finished s r u d waiting = record s {
-  rows = change_row r.txn (row_finished (record { lsn = length s.records + 1; deed = d })) s.rows;
+  rows = change_row r.txn (row_finished (record { lsn = length s.records + 1; number = u.number; deed = d })) s.rows;
   records = op_end r.txn u.number d ∷ s.records;
   waiting = waiting;
 }

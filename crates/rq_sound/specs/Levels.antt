@@ -107,8 +107,8 @@ pub record LevelsRefuseExactly : Type 0 where
       → KeepsCells s k → AreLatched s latched → s.cells_in_use < cell_count s.sizes → CanSend s.sizes given g
       → RefusesTaking s.sizes k latched g (CanSend s.sizes given g) r → IsForLatches s r
   pub returns : (s : State) (k : LevelState) (given : List Given) (latched : List ℕ) (row : Row) (rest : List Finished)
-      (lsn g n tag : ℕ) (body : List ℕ) (r : Refusal) → IsSound s → KeepsCells s k → AreLatched s latched
-      → IsIdle s row → row.finished ≡ rest ++ record { lsn = lsn; deed = UnlinkHead g n tag body } ∷ []
+      (lsn m g n tag : ℕ) (body : List ℕ) (r : Refusal) → IsSound s → KeepsCells s k → AreLatched s latched
+      → IsIdle s row → row.finished ≡ rest ++ record { lsn = lsn; number = m; deed = UnlinkHead g n tag body } ∷ []
       → CanPutBack s.sizes given g n → RefusesTaking s.sizes k latched g (CanPutBack s.sizes given g n) r
       → IsForLatches s r
   pub receives : (z : Sizes) (given : List Given) (g : ℕ) (r : Refusal) → CanReceive z given g

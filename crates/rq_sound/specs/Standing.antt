@@ -55,11 +55,11 @@ pub record FollowsPlan (z : Sizes) (log : List Record) (ends : HeldEnds) (t : Tx
   pub of_store : IsDeedOf z (deed_of u.aim)
   pub reads : ReadsFor u.aim
 
--- who does a deed is not aborting; who is aborting undoes its newest deed
+-- who does a deed is not aborting; who is aborting undoes what it finished last
 abbrev pub IsAimOf : Row → Aim → Type 0
 IsAimOf r (aims.Doing d) = r.aborting ≡ false
 IsAimOf r (aims.Undoing lsn d) = (r.aborting ≡ true)
-    × ((fs : List Finished) × (r.finished ≡ fs ++ record { lsn = lsn; deed = d } ∷ []))
+    × ((fs : List Finished) × (n : ℕ) × (r.finished ≡ fs ++ record { lsn = lsn; number = n; deed = d } ∷ []))
 
 abbrev pub IsAsPlanned : Sizes → List Record → HeldEnds → Row → Option Under → Type 0
 IsAsPlanned z log ends r None = Unit {0}

@@ -25,7 +25,9 @@ pub use told::ToldDeed;
 pub struct Finished {
     /// The LSN of its OpEnd.
     pub lsn: Lsn,
-    /// What that says was done.
+    /// Its number.
+    pub number: u64,
+    /// What its OpEnd says was done.
     pub deed: ToldDeed,
 }
 

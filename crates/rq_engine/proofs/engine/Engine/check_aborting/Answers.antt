@@ -1,10 +1,12 @@
 use Rattle.std.proofs.Common.{Option, refl, sym, ap, ◌∙◌, arith, subst}
+use Rattle.rq_model.specs.declared.txn.Txn.{Txn}
 use Rattle.rq_model.specs.Vocabulary.{In, last}
 use Rattle.rq_txn.specs.declared.Finished.{Finished}
 use Rattle.rq_store.specs.State.{State}
-use Rattle.rq_txn.specs.Rows.{Row, finished_of, found_row}
+use Rattle.rq_store.proofs.RowLists.{found_in}
+use Rattle.rq_txn.specs.Rows.{Row, finished_of, found_row, row_of}
 use Rattle.rq_engine.proofs.Keeping.{kept_at}
-use Rattle.rq_engine.specs.Invariant.{IsDoneConsistent}
+use Rattle.rq_engine.specs.Invariant.{IsDoneConsistent, IsLogged, end_of}
 use Rattle.rq_engine.proofs.AbortCalls.{last_kept, turned_back, back_unknown, not_aborting, back_unfinished, back_ready}
 use Rattle.rq_engine.proofs.Refusals.{some_way, no_way}
 use Rattle.rq_engine.proofs.Opened.{state_is}
@@ -42,3 +44,10 @@ pub returns-clause-kept : goal.returns-clause-kept
 returns-clause-kept g c =
     let row = kept_at _ _ _ _ c.args.txn _ c.self.invariant.kept c.in-Some.ensures.found in
     last_kept (λ f. IsDoneConsistent c.args.self.now.state.sizes f) c.in-Some.row.now.finished.items _ (sym (ap (λ (o : Option Row). last (finished_of o)) (ap (λ (s : State). found_row c.args.txn s.rows) (sym (state_is c.self.view_is)) ∙ c.in-Some.ensures.found))) (subst (λ (s : State). (f : Finished) → In f c.in-Some.row.now.finished.items → IsDoneConsistent s.sizes f) (state_is c.self.view_is) row.done)
+
+pub returns-clause-ended : goal.returns-clause-ended
+returns-clause-ended g c =
+    let at = found_in c.args.txn c.self.inside.transactions (row_of c.in-Some.row.now) c.in-Some.ensures.found in
+    last_kept (λ f. IsLogged c.args.self.now.state.records f.lsn (end_of c.args.txn f)) c.in-Some.row.now.finished.items _ (sym (ap (λ (o : Option Row). last (finished_of o)) (ap (λ (s : State). found_row c.args.txn s.rows) (sym (state_is c.self.view_is)) ∙ c.in-Some.ensures.found)))
+    (subst (λ (s : State). (f : Finished) → In f c.in-Some.row.now.finished.items → IsLogged s.records f.lsn (end_of c.args.txn f)) (state_is c.self.view_is)
+    (subst (λ (t : Txn). (f : Finished) → In f c.in-Some.row.now.finished.items → IsLogged c.self.inside.log.records f.lsn (end_of t f)) at.1 (λ f i. c.self.invariant.kept.ended (row_of c.in-Some.row.now) f at.0 i)))

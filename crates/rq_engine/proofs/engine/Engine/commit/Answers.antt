@@ -5,11 +5,11 @@ use Rattle.rq_store.specs.Settled.{takes_one}
 use Rattle.rq_store.specs.State.{State, ledger_of}
 use Rattle.rq_engine.specs.Answers.{HasNothingUnderWay, RefusesOver}
 use Rattle.rq_model.specs.Tests.{NoneHolds, ready_tests, log_full}
-use Rattle.rq_engine.proofs.Calls.{commit_range, commit_kept, commit_done}
+use Rattle.rq_engine.proofs.Calls.{commit_range, commit_kept, commit_done, countable_on}
 use Rattle.rq_engine.proofs.Opened.{state_is}
 use Rattle.rq_engine.proofs.Listing.{committed_lists, committed_from}
 use Rattle.rq_engine.specs.Earlier.{on}
-use Rattle.rq_engine.proofs.Earlier.{from_inside_on, full_on, kept_on, long as records_long}
+use Rattle.rq_engine.proofs.Earlier.{from_inside_on, full_on, long as records_long}
 use Rattle.rq_engine.proofs.Refusals.{commit_memory, refuse_full}
 use Rattle.rq_model.specs.History.Call.{Commit}
 use Rattle.rq_model.specs.declared.refusal.Refusal.TheVariants as why
@@ -39,7 +39,7 @@ returns-clause-answered g c h earlier long =
     let running = ap (λ (s : State). s.failed) (state_is c.self.view_is) ∙ c.in_ok-check_open.ensures.running in
     let tested = subst (λ (s : State). NoneHolds (ready_tests (ledger_of s) c.args.txn false)) (sym (state_is c.self.view_is)) c.in_ok-check_open.ensures.passes in
     let freed : c.release.new.self ≡ record { sending = released c.args.txn c.self.inside.ends.sending; receiving = released c.args.txn c.self.inside.ends.receiving } = c.release.ensures in
-    from_inside_on earlier (state_is c.self.view_is) long (λ as_many k. rw (c.new.ensures.txn, c.new.ensures.lsn, c.append-lsn.ensures.lsn, c.end.ensures, freed, c.add_sends.ensures, c.count_sends.ensures, c.senders.ensures.number, c.layout.ensures.sizes, c.finished-finished.ensures, c.append-lsn.ensures.records, c.append-lsn.ensures.forced, c.in_ok-reserve.ensures.ok) (commit_done _ _ _ _ c.in_ok-check_open.field-0 _ _ c.args.txn (kept_on earlier _ c.self.invariant.kept as_many) running tested ready full (let n = records_long earlier c.self.inside.log.records as_many in omega (arith, n)) (c.saturating_sub-self-inside.ensures ∙ ap (λ (n : ℕ). c.self.inside.cells_in_use - n) (c.count_takes.ensures ∙ ap (sum_by takes_one) c.finished-finished.ensures)) k))
+    from_inside_on earlier (state_is c.self.view_is) long (λ as_many k. rw (c.new.ensures.txn, c.new.ensures.lsn, c.append-lsn.ensures.lsn, c.end.ensures, freed, c.add_sends.ensures, c.count_sends.ensures, c.senders.ensures.number, c.layout.ensures.sizes, c.finished-finished.ensures, c.append-lsn.ensures.records, c.append-lsn.ensures.forced, c.in_ok-reserve.ensures.ok) (commit_done _ c.in_ok-check_open.field-0 _ _ c.args.txn (countable_on earlier _ c.self.invariant.kept) running tested ready full (let n = records_long earlier c.self.inside.log.records as_many in omega (arith, n)) (c.saturating_sub-self-inside.ensures ∙ ap (λ (n : ℕ). c.self.inside.cells_in_use - n) (c.count_takes.ensures ∙ ap (sum_by takes_one) c.finished-finished.ensures)) k))
 
 pub returns-then-is_log_full-clause-answered : goal.returns-then-is_log_full-clause-answered
 returns-then-is_log_full-clause-answered g c h earlier long = refuse_full (on earlier c.args.self.now.state) c.args.txn c.in_ok-check_open.ensures.passes (full_on earlier c.args.self.now.state long _ ∙ sym c.if-is_log_full.ensures)

@@ -1,7 +1,8 @@
-use Rattle.std.proofs.Common.{◌≡◌, ◌+◌, refl, sym, ap, ◌∙◌, subst, arith, length}
+use Rattle.std.proofs.Common.{◌≡◌, ℕ, List, ◌+◌, refl, sym, ap, ◌∙◌, subst, arith, length}
 use Rattle.rq_store.specs.State.{State}
 use Rattle.rq_engine.specs.Answers.{IsUnderWay}
-use Rattle.rq_model.specs.Deeds.{spelled_deed}
+use Rattle.rq_model.specs.declared.record.Record.TheVariants.{OpEnd}
+use Rattle.rq_model.specs.Deeds.{deed_level, spelled_deed}
 use Rattle.rq_model.proofs.Deeds.{has_level}
 use Rattle.rq_engine.proofs.Calls.{AllMade, going_range, going_owed, end_fits, end_room, end_kept}
 use Rattle.rq_txn.specs.declared.Aim.TheVariants.{Doing}
@@ -39,7 +40,8 @@ invariant_of-self g c =
     let failed : c.self.inside.log.failed ≡ c.append_op_end-lsn.new.self.failed = c.self.invariant.kept.fails (ap (λ (s : State). s.failed) (state_is c.self.view_is) ∙ c.requires.running) ∙ sym c.append_op_end-lsn.ensures.failed in
     record {
       kept = rw (c.note.ensures, c.leave_out_taken.ensures, c.append_op_end-lsn.ensures.records, c.append_op_end-lsn.ensures.forced, sym failed)
-          (end_kept _ _ _ _ c.self.invariant.kept c.args.sub (Doing c.args.deed.now) h c.args.deed.now _ _ c.append_op_end-lsn.new.self.reserved room (let l = c.append_op_end-lsn.ensures.lsn in let r = ap length c.append_op_end-lsn.ensures.records in omega (arith, l, r)) refl (end_fits _ _ _ _ c.self.invariant.kept c.args.sub (Doing c.args.deed.now) h).2);
+          (end_kept _ _ _ _ c.self.invariant.kept c.args.sub (Doing c.args.deed.now) h c.args.deed.now _ _ c.append_op_end-lsn.new.self.reserved room (let l = c.append_op_end-lsn.ensures.lsn in let r = ap length c.append_op_end-lsn.ensures.records in omega (arith, l, r)) refl (end_fits _ _ _ _ c.self.invariant.kept c.args.sub (Doing c.args.deed.now) h).2
+          (ap (λ (n : ℕ). OpEnd c.args.sub.txn c.args.sub.number n c.bytes.result.now) c.level.ensures ∙ ap (λ (b : List ℕ). OpEnd c.args.sub.txn c.args.sub.number (deed_level c.args.deed.now) b) c.bytes.ensures.spelled));
       durable = rw (c.append_op_end-lsn.ensures.settled) c.self.invariant.durable;
       cells = c.self.invariant.cells;
     }

@@ -1,13 +1,14 @@
-use Rattle.std.proofs.Common.{List, ap, option_map, subst}
-use Rattle.rq_level.proofs.EachLevel.{all_lawful}
+use Rattle.std.proofs.Common.{List, subst}
 use Rattle.rq_views.specs.InStore.{IsDeedOf}
+use Rattle.rq_level.specs.Asked.{job_back}
 use Rattle.rq_txn.specs.Rows.{Row}
 use Rattle.rq_store.specs.State.{State}
-use Rattle.rq_planner.specs.Answered.{IsPlanned}
+use Rattle.rq_planner.specs.Answered.{IsPlanned, level_back}
 use Rattle.rq_planner.specs.Asked.{known_from}
 use Rattle.rq_planner.specs.Asked.Asked.{Undo}
-use Rattle.rq_planner.proofs.Asking.{has_place}
+use Rattle.rq_planner.proofs.Asking.{asks_back, has_place}
 use Rattle.rq_planner.proofs.Knowing.{is_one}
+use Rattle.rq_level.proofs.EachLevel.{all_lawful}
 use Rattle.rq_engine.specs.Plans.{known_part}
 use Rattle.rq_engine.proofs.Opened.{state_is}
 use Rattle.rq_engine.proofs.engine.Engine.plan_inverse.Goals as goal
@@ -16,7 +17,9 @@ pub plan_inverse-requires-clause-known : goal.plan_inverse-requires-clause-known
 plan_inverse-requires-clause-known g c = c.self.invariant.cells
 
 pub plan_inverse-requires-clause-level : goal.plan_inverse-requires-clause-level
-plan_inverse-requires-clause-level g c = is_one c.self.inside.pages.sizes c.self.inside.pages.images c.self.inside.planner c.args.level c.self.invariant.cells ((all_lawful c.args.level).reads c.args.deed.now c.requires)
+plan_inverse-requires-clause-level g c =
+    let told = c.args.told.now in
+    is_one c.self.inside.pages.sizes c.self.inside.pages.images c.self.inside.planner (level_back told) c.self.invariant.cells ((all_lawful (level_back told)).reads (job_back told).bytes c.requires.reads)
 
 pub invariant_of-self : goal.invariant_of-self
 invariant_of-self g c = record { kept = rw (c.spare-room.ensures) c.self.invariant.kept; durable = c.self.invariant.durable; cells = rw (c.plan_inverse.ensures.same) c.self.invariant.cells }
@@ -24,4 +27,4 @@ invariant_of-self g c = record { kept = rw (c.spare-room.ensures) c.self.invaria
 pub returns-clause-planned : goal.returns-clause-planned
 returns-clause-planned g c d told =
     subst (λ (s : State). IsDeedOf s.sizes d → IsPlanned (known_part s) (Undo d) c.plan_inverse.result) (state_is c.self.view_is)
-    (subst (λ (rows : List Row). IsDeedOf c.self.inside.pages.sizes d → IsPlanned (known_from c.self.inside.pages rows) (Undo d) c.plan_inverse.result) c.spare-room.ensures (λ own. c.plan_inverse.ensures.planned (Undo d) (ap (option_map Undo) told) (has_place c.self.inside.pages.sizes d own)))
+    (subst (λ (rows : List Row). IsDeedOf c.self.inside.pages.sizes d → IsPlanned (known_from c.self.inside.pages rows) (Undo d) c.plan_inverse.result) c.spare-room.ensures (λ own. c.plan_inverse.ensures.planned (Undo d) (asks_back c.args.told.now d told) (has_place c.self.inside.pages.sizes d own)))

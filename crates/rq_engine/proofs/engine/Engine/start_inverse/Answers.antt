@@ -1,7 +1,8 @@
 use Rattle.std.proofs.Common.{Some, refl, sym, ◌∙◌, ap, subst, arith}
-use Rattle.rq_model.specs.Deeds.{deed_by}
+use Rattle.rq_model.specs.declared.record.Record.{Record}
 use Rattle.rq_model.specs.Tests.{undo_cost}
 use Rattle.rq_model.specs.Vocabulary.{is_some}
+use Rattle.rq_level.specs.Asked.{deed_back}
 use Rattle.rq_level.specs.Writes.{AreSlotWrites}
 use Rattle.rq_views.specs.Stored.{slots_in}
 use Rattle.rq_txn.specs.declared.Aim.TheVariants.{Undoing}
@@ -11,7 +12,7 @@ use Rattle.rq_planner.specs.Answered.{IsPlanBack}
 use Rattle.rq_planner.specs.Asked.Asked.{Undo}
 use Rattle.rq_engine.specs.Aborts.{IsTurnedBack}
 use Rattle.rq_engine.specs.Earlier.{on}
-use Rattle.rq_engine.specs.Invariant.{IsDoneConsistent}
+use Rattle.rq_engine.specs.Invariant.{IsDoneConsistent, IsLogged}
 use Rattle.rq_engine.specs.Plans.{HasTurnedBack, known_part}
 use Rattle.rq_engine.specs.Sends.{HasRoom}
 use Rattle.rq_engine.proofs.Inverses.{cost_is, few_writes}
@@ -20,8 +21,11 @@ use Rattle.rq_engine.proofs.Opened.{state_is}
 use Rattle.rq_engine.proofs.SendCalls.{has_room}
 use Rattle.rq_engine.proofs.engine.Engine.start_inverse.Goals as goal
 
-pub plan_inverse-requires : goal.plan_inverse-requires
-plan_inverse-requires g c = ap is_some (ap (λ n. deed_by n c.bytes.result.now) c.level.ensures ∙ c.bytes.ensures.reads)
+pub plan_inverse-requires-clause-logged : goal.plan_inverse-requires-clause-logged
+plan_inverse-requires-clause-logged g c = (c.args.done.now.lsn, subst (λ (r : Record). IsLogged c.args.self.now.state.records c.args.done.now.lsn r) (sym c.op_end_of.ensures) c.requires.ended)
+
+pub plan_inverse-requires-clause-reads : goal.plan_inverse-requires-clause-reads
+plan_inverse-requires-clause-reads g c = ap is_some (ap deed_back c.op_end_of.ensures ∙ c.requires.kept.reads)
 
 pub start_undo-requires-clause-ready : goal.start_undo-requires-clause-ready
 start_undo-requires-clause-ready g c = subst (λ (x : State). IsTurnedBack x c.args.txn c.args.number (Some c.args.done.now)) (sym (state_is c.in-Ok.ensures.same)) c.requires.ready
@@ -32,13 +36,13 @@ start_undo-requires-clause-kept g c = subst (λ (x : State). IsDoneConsistent x.
 pub start_undo-requires-clause-slots : goal.start_undo-requires-clause-slots
 start_undo-requires-clause-slots g c =
     let s = c.args.self.now.state in
-    let p : IsPlanBack (known_part s) c.args.done.now.deed c.in-Ok.plan = (c.in-Ok.ensures.planned c.args.done.now.deed (ap (λ n. deed_by n c.bytes.result.now) c.level.ensures ∙ c.bytes.ensures.reads) c.requires.kept.sender).plan in
+    let p : IsPlanBack (known_part s) c.args.done.now.deed c.in-Ok.plan = (c.in-Ok.ensures.planned c.args.done.now.deed (ap deed_back c.op_end_of.ensures ∙ c.requires.kept.reads) c.requires.kept.sender).plan in
     subst (λ (x : State). AreSlotWrites x.sizes c.in-Ok.plan.writes.items) (sym (state_is c.in-Ok.ensures.same)) p.slots
 
 pub start_undo-requires-clause-count : goal.start_undo-requires-clause-count
 start_undo-requires-clause-count g c =
     let s = c.args.self.now.state in
-    let p : IsPlanBack (known_part s) c.args.done.now.deed c.in-Ok.plan = (c.in-Ok.ensures.planned c.args.done.now.deed (ap (λ n. deed_by n c.bytes.result.now) c.level.ensures ∙ c.bytes.ensures.reads) c.requires.kept.sender).plan in
+    let p : IsPlanBack (known_part s) c.args.done.now.deed c.in-Ok.plan = (c.in-Ok.ensures.planned c.args.done.now.deed (ap deed_back c.op_end_of.ensures ∙ c.requires.kept.reads) c.requires.kept.sender).plan in
     let few = few_writes s.sizes (slots_in s.sizes s.images) c.in-Ok.plan.writes.items c.args.done.now.deed p.follows.0 in
     let four = cost_is c.args.done.now.deed in
     omega (arith, few, four)
@@ -46,7 +50,7 @@ start_undo-requires-clause-count g c =
 pub start_undo-requires-clause-log : goal.start_undo-requires-clause-log
 start_undo-requires-clause-log g c =
     let s = c.args.self.now.state in
-    let p : IsPlanBack (known_part s) c.args.done.now.deed c.in-Ok.plan = (c.in-Ok.ensures.planned c.args.done.now.deed (ap (λ n. deed_by n c.bytes.result.now) c.level.ensures ∙ c.bytes.ensures.reads) c.requires.kept.sender).plan in
+    let p : IsPlanBack (known_part s) c.args.done.now.deed c.in-Ok.plan = (c.in-Ok.ensures.planned c.args.done.now.deed (ap deed_back c.op_end_of.ensures ∙ c.requires.kept.reads) c.requires.kept.sender).plan in
     subst (λ (x : State). HasRoom x c.in-Ok.plan.writes.items) (sym (state_is c.in-Ok.ensures.same))
     (has_room s c.in-Ok.plan.writes.items (undo_cost (Some (op_done c.args.done.now))) c.requires.log (few_writes s.sizes (slots_in s.sizes s.images) c.in-Ok.plan.writes.items c.args.done.now.deed p.follows.0))
 
@@ -54,7 +58,7 @@ pub returns-in-Ok-clause-started : goal.returns-in-Ok-clause-started
 returns-in-Ok-clause-started g c =
     let s = c.args.self.now.state in
     let f = c.args.done.now in
-    let is = c.in-Ok.ensures.planned f.deed (ap (λ n. deed_by n c.bytes.result.now) c.level.ensures ∙ c.bytes.ensures.reads) c.requires.kept.sender in
+    let is = c.in-Ok.ensures.planned f.deed (ap deed_back c.op_end_of.ensures ∙ c.requires.kept.reads) c.requires.kept.sender in
     let p : IsPlanBack (known_part s) f.deed c.in-Ok.plan = is.plan in
     start_answered s (Undo f.deed) (HasTurnedBack s c.args.txn c.args.number f c.start_undo.new.self.state) c.start_undo.result is.free
     (λ begun. record {
@@ -67,7 +71,7 @@ returns-in-Ok-clause-started g c =
 pub returns-in-Err-clause-started : goal.returns-in-Err-clause-started
 returns-in-Err-clause-started g c =
     let s = c.args.self.now.state in
-    let is = c.in-Err.ensures.planned c.args.done.now.deed (ap (λ n. deed_by n c.bytes.result.now) c.level.ensures ∙ c.bytes.ensures.reads) c.requires.kept.sender in
+    let is = c.in-Err.ensures.planned c.args.done.now.deed (ap deed_back c.op_end_of.ensures ∙ c.requires.kept.reads) c.requires.kept.sender in
     start_refused s (Undo c.args.done.now.deed) _ c.in-Err.why is.causes (λ earlier long k may. is.sound (on earlier s) refl k may)
 
 pub returns-in-Ok-clause-plain : goal.returns-in-Ok-clause-plain
@@ -75,4 +79,4 @@ returns-in-Ok-clause-plain g c = plain_memory c.start_undo.result c.start_undo.e
 
 pub returns-in-Err-clause-plain : goal.returns-in-Err-clause-plain
 returns-in-Err-clause-plain g c =
-    never_failed _ c.in-Err.why (c.in-Err.ensures.planned c.args.done.now.deed (ap (λ n. deed_by n c.bytes.result.now) c.level.ensures ∙ c.bytes.ensures.reads) c.requires.kept.sender).causes
+    never_failed _ c.in-Err.why (c.in-Err.ensures.planned c.args.done.now.deed (ap deed_back c.op_end_of.ensures ∙ c.requires.kept.reads) c.requires.kept.sender).causes

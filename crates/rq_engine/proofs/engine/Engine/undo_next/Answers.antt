@@ -11,7 +11,7 @@ use Rattle.rq_engine.specs.Aborts.{IsTurnedBack, UndoIsLatched}
 use Rattle.rq_engine.specs.Answers.{Refuses}
 use Rattle.rq_engine.specs.Applied.{OnLatched}
 use Rattle.rq_engine.specs.Earlier.{on}
-use Rattle.rq_engine.specs.Invariant.{IsDoneConsistent}
+use Rattle.rq_engine.specs.Invariant.{IsDoneConsistent, IsLogged, end_of}
 use Rattle.rq_engine.proofs.AbortCalls.{is_newest, is_newest_of, may_be_undone, none_done, turned_newest, undo_done, undo_full, undo_memory, undo_refused}
 use Rattle.rq_engine.proofs.Earlier.{full_on}
 use Rattle.rq_engine.proofs.Latches.{undo_latched, undo_unlatched}
@@ -37,6 +37,9 @@ start_inverse-requires-clause-ready g c = subst (λ (o : Option Finished). IsTur
 
 pub start_inverse-requires-clause-kept : goal.start_inverse-requires-clause-kept
 start_inverse-requires-clause-kept g c = some_told (λ (f : Finished). IsDoneConsistent c.args.self.now.state.sizes f) _ _ (is_newest_of c.args.self.now.state _ c.args.txn _ _ (state_is c.self.view_is) c.next_undo.ensures c.in-Some.is) c.in_ok-number.ensures.kept
+
+pub start_inverse-requires-clause-ended : goal.start_inverse-requires-clause-ended
+start_inverse-requires-clause-ended g c = some_told (λ (f : Finished). IsLogged c.args.self.now.state.records f.lsn (end_of c.args.txn f)) _ _ (is_newest_of c.args.self.now.state _ c.args.txn _ _ (state_is c.self.view_is) c.next_undo.ensures c.in-Some.is) c.in_ok-number.ensures.ended
 
 pub start_inverse-requires-clause-log : goal.start_inverse-requires-clause-log
 start_inverse-requires-clause-log g c = ap (log_full (ledger_of c.args.self.now.state)) (sym c.undo_records.ensures) ∙ sym c.if-is_log_full.ensures

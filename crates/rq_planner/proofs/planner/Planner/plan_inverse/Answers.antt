@@ -1,7 +1,6 @@
 use Rattle.std.proofs.Common.{List, subst}
 use Rattle.rq_level.specs.LevelState.{LevelState}
-use Rattle.rq_level.specs.Meaning.{kept_at, meaning_of}
-use Rattle.rq_planner.specs.Answered.{IsAnswered, MayUndo, to_take_back, wants_of}
+use Rattle.rq_planner.specs.Answered.{IsAnsweredBack}
 use Rattle.rq_planner.specs.Asked.{known_from}
 use Rattle.rq_planner.proofs.Backs.{back_judged}
 use Rattle.rq_planner.proofs.Asking.{back_says}
@@ -10,13 +9,11 @@ use Rattle.rq_planner.proofs.planner.Planner.plan_inverse.Goals as goal
 pub returns-clause-planned : goal.returns-clause-planned
 returns-clause-planned g c =
     let s = known_from c.args.pages.now c.args.transactions.now in
-    let n = c.args.level in
-    back_says c.args.pages.now.sizes c.args.pages.now.images c.args.transactions.now c.args.self.now c.requires.known c.plan_inverse.result n c.args.deed.now
-    (subst (λ (ks : List LevelState). IsAnswered s (wants_of ks n) (to_take_back n c.args.deed.now) (MayUndo s (meaning_of n) (kept_at ks n) n c.args.deed.now) c.plan_inverse.result) c.self.view_is c.plan_inverse.ensures.answered)
+    back_says c.args.pages.now.sizes c.args.pages.now.images c.args.transactions.now c.args.self.now c.requires.known c.plan_inverse.result c.args.told.now
+    (subst (λ (ks : List LevelState). IsAnsweredBack s ks c.args.told.now c.plan_inverse.result) c.self.view_is c.plan_inverse.ensures.answered)
 
 pub returns-clause-judged : goal.returns-clause-judged
 returns-clause-judged g c d told =
     let s = known_from c.args.pages.now c.args.transactions.now in
-    let n = c.args.level in
-    back_judged c.args.pages.now.sizes c.args.pages.now.images c.args.transactions.now c.args.self.now c.requires.known c.plan_inverse.result n c.args.deed.now d told
-    (subst (λ (ks : List LevelState). IsAnswered s (wants_of ks n) (to_take_back n c.args.deed.now) (MayUndo s (meaning_of n) (kept_at ks n) n c.args.deed.now) c.plan_inverse.result) c.self.view_is c.plan_inverse.ensures.answered)
+    back_judged c.args.pages.now.sizes c.args.pages.now.images c.args.transactions.now c.args.self.now c.requires.known c.plan_inverse.result c.args.told.now d told
+    (subst (λ (ks : List LevelState). IsAnsweredBack s ks c.args.told.now c.plan_inverse.result) c.self.view_is c.plan_inverse.ensures.answered)
