@@ -10,8 +10,8 @@ ghost use Rattle.rq_cases.specs.Migrations.{MigrationsAreJudged};
 ghost use Rattle.rq_cases.specs.Worlds.{HeadlinesAreJudged};
 
 use rq_model::laws::{
-    acknowledged_stay, checkpoint_crash_goes_on, crash_goes_on, first_in_first_out,
-    growth_goes_on, restart_goes_on, shown_is_committed, shut_crash_goes_on,
+    acknowledged_stay, checkpoint_crash_goes_on, crash_goes_on, first_in_first_out, growth_goes_on,
+    restart_goes_on, shown_is_committed, shut_crash_goes_on,
 };
 use rq_restart::laws::{one_log, one_size};
 
