@@ -97,7 +97,7 @@ failed_sound = (failed_steps fresh fresh_sound refl Checkpoint).sound
 
 pub checkpoints : CheckpointsAreJudged
 checkpoints = record {
-  open_behind_one = λ pages log h. record { sizes = refl; past = log_1; long = refl; ledger = refl; sound = checkpoint_sound fresh fresh_sound refl; devices = inl (record { untried = refl; settled = refl; fit = based_fit pages log h }) };
+  open_behind_one = λ pages log h. record { sizes = refl; past = log_1; long = refl; ledger = refl; sound = checkpoint_sound fresh fresh_sound refl; devices = inl (record { untried = refl; stays = refl; fit = based_fit pages log h }) };
   shut_behind_one = λ pages log h. record {
     range = range;
     phase = refl;
@@ -106,7 +106,7 @@ checkpoints = record {
     left = λ images bytes a b. (based_log, ([], refl, tt), leaves_based pages log h images bytes a b);
   };
   midway_as_it_was = λ pages log h. record { sizes = refl; past = []; long = refl; ledger = refl; sound = failed_sound; devices = inr (record { failed = refl; none_open = refl; leaves = λ images bytes a b. (None, tt, tt, inl (cut_first pages log h images bytes a b)) }) };
-  midway_as_it_was_to_be = λ pages log h. record { sizes = refl; past = []; long = refl; ledger = refl; sound = failed_sound; devices = inr (record { failed = refl; none_open = refl; leaves = λ images bytes a b. (None, tt, tt, inr (refl, cut_based pages log h images bytes a b)) }) };
+  midway_as_it_was_to_be = λ pages log h. record { sizes = refl; past = []; long = refl; ledger = refl; sound = failed_sound; devices = inr (record { failed = refl; none_open = refl; leaves = λ images bytes a b. (None, tt, tt, inr (record { none_open = refl; room = refl; cut_off = tt }, cut_based pages log h images bytes a b)) }) };
   midway_and_running = λ z h e half runs o. elim o.devices [
     | inl f ↦ (let e = sym half ∙ f.untried in cc e)
     | inr m ↦ (let e = sym runs ∙ m.failed in cc e)
@@ -139,6 +139,6 @@ in_one goes pages log h = record {
     left = tt;
     now = based_log;
     store = leaves_based pages log h images bytes a b;
-    ends = goes (first_entries 1) log_1 legal_1 tt ties_1 fresh_sound.log.rules refl;
+    ends = goes (first_entries 1) log_1 legal_1 tt ties_1 fresh_sound.log.rules (record { none_open = refl; room = refl; cut_off = refl });
   };
 }

@@ -1,5 +1,5 @@
 -- Worked histories with migrations: that they are legal, and that others are not.
-use Rattle.std.proofs.Common.{◌≡◌, ℕ, ◌+◌, ◌≤◌, List, [], Option, None, Some, length, rules, refl, sym, ◌∙◌, ap, arith}
+use Rattle.std.proofs.Common.{◌≡◌, ℕ, ◌+◌, ◌≤◌, List, [], Option, None, Some, length, rules, refl, sym, ◌∙◌, ap, arith, inl, inr}
 use Rattle.std.specs.Prelude.{replicate}
 use Rattle.std.proofs.lemmas.List.{length-append}
 use Rattle.rq_model.specs.declared.record.Record.{Record}
@@ -56,24 +56,34 @@ worked_migrations = record {
   comes_through = search rules;
   loses_nothing = λ a. (let e = a.0.0.forced in omega (arith, e));
   stopped_before = search rules;
+  stopped_at_its_record = search rules;
   stopped_behind = search rules;
+  stopped_without_its_record = λ a. (let e = a.0.2 in omega (arith, e));
+  stopped_with_one_more = λ a. (let e = a.0.2 in omega (arith, e));
   cut_off_before = search rules;
-  cut_off_behind = λ a. (let e = a.0.0.forced in omega (arith, e));
+  cut_off_behind = λ a. (let e = a.0.2 in omega (arith, e));
   inside = search rules;
-  inside_of_all = search rules;
-  inside_of_less = λ a. (let e = a.0.0.forced in omega (arith, e));
+  inside_without_its_record = λ a. (let e = a.0.2 in omega (arith, e));
+  inside_with_one_more = λ a. (let e = a.0.2 in omega (arith, e));
+  answered_of_less = λ a. (let e = a.0.2 in omega (arith, e));
+  answered_with_one_more = λ a. (let e = a.0.2 in omega (arith, e));
   is_forgotten = λ a. a.0.1;
   other_pages = λ a. (let e = a.0.1 in omega (arith, e));
   other_pages_than_refused = λ a. (let e = a.0.1.0 in omega (arith, e));
   grows_unasked = λ a. (let e = a.0.1.0 in cc e);
+  grows_by_a_checkpoint = λ a. a.0.1;
   grows_full = λ a. (let e = a.0.1.1 in cc e);
   grows_full_refused = λ a. (let e = a.0.1.1 in cc e);
+  full_refused_at_its_record = λ a. elim a.0.2 [ inl e ↦ omega (arith, e) | inr e ↦ (let room = e.0.room in cc room) ];
   grows_none = λ a. (let e = a.0.0.tags in cc e);
   grows_too_many = λ a. (let e = a.0.0.tags in cc e);
   grows_tagged = λ a. (let e = a.0.0.tags in cc e);
   grows_open = λ a. (let e = a.0.0.none_open in cc e);
   grows_shut = λ a. a.0.0.not_shut refl;
   grows_twice = λ a. (let e = a.0.0.tags in cc e);
+  refuses_behind = search rules;
+  goes_on_behind = λ a. (let e = a.0.0.0 in cc e);
+  crashes_behind = search rules;
   content = refl;
   size = refl;
   unknown_before = search rules;

@@ -7,12 +7,13 @@ use Rattle.rq_model.proofs.Bases.{marked_is, marked_stands, one_marked, plain_dr
 use Rattle.rq_model.specs.declared.record.Record.{Record}
 use Rattle.rq_model.specs.declared.record.Record.TheVariants.{Commit}
 use Rattle.rq_model.specs.History.{Entry}
-use Rattle.rq_model.specs.History.Entry.{Acknowledged, Begun, Committed, Did, Forced, Started, Stepped}
+use Rattle.rq_model.specs.History.Entry.{Acknowledged, Begun, Committed, Did, Forced, Grew, Started, Stepped}
 use Rattle.rq_model.specs.History.Job.{Sending}
 use Rattle.rq_model.specs.Ledger.{Ledger, ledger, group_in}
 use Rattle.rq_model.specs.Growth.{Growth, growth}
-use Rattle.rq_model.specs.Legal.{IsLegal}
-use Rattle.rq_model.specs.Promises.{AcknowledgedStay, CheckpointCrashGoesOn, CrashGoesOn, FifoThroughout, ShutCrashGoesOn}
+use Rattle.rq_model.specs.Legal.{IsLegal, MayFollow}
+use Rattle.rq_model.specs.Promises.{AcknowledgedStay, CheckpointCrashGoesOn, CrashGoesOn, FifoThroughout, GrowthGoesOn, ShutCrashGoesOn, crash_with}
+use Rattle.rq_model.proofs.Follows.{legal_there}
 use Rattle.rq_model.specs.Vocabulary.Op.{Send}
 use Rattle.rq_model.proofs.Told.{content_is}
 use Rattle.rq_model.specs.History.Call.{Force}
@@ -44,7 +45,7 @@ use Rattle.rq_engine.proofs.Crashing.{commits_of_cut, leaves_cut}
 use Rattle.rq_restart.specs.Underway.{IsStore}
 use Rattle.rq_log.proofs.Runs.{ends_all, go_on_all, go_on_newer, spelled_whole}
 use Rattle.rq_core.specs.Devices.{mem_log, mem_pages}
-use Rattle.rq_core.specs.Happenings.{Course, Tells, grown}
+use Rattle.rq_core.specs.Happenings.{Course, Tells}
 use Rattle.rq_core.specs.Headline.{EndsHistory, LeavesStores}
 use Rattle.rq_core.specs.Runs.{IsHeadline, Ran}
 use Rattle.rq_core.specs.Worked.{first_entries, hello}
@@ -91,10 +92,10 @@ some_pages d p = pages_seen (pages_of d) p
 
 module _ (pages : MemPages) (log : MemLog) where
   opens : Hold pages formatted_pages log log_1 → Opens sizes (first_entries 7) (over committed pages log)
-  opens h = record { sizes = refl; past = []; long = refl; ledger = refl; sound = running.commit_send.sound; devices = inl (record { untried = refl; settled = refl; fit = pages_fit pages h.0 log_1 (1, refl) first_plain }) }
+  opens h = record { sizes = refl; past = []; long = refl; ledger = refl; sound = running.commit_send.sound; devices = inl (record { untried = refl; stays = refl; fit = pages_fit pages h.0 log_1 (1, refl) first_plain }) }
 
   opens_forced : Hold pages formatted_pages log log_5 → Opens sizes (first_entries 9) (over forced pages log)
-  opens_forced h = record { sizes = refl; past = []; long = refl; ledger = refl; sound = running.force.sound; devices = inl (record { untried = refl; settled = refl; fit = pages_fit pages h.0 log_5 (5, refl) records_plain }) }
+  opens_forced h = record { sizes = refl; past = []; long = refl; ledger = refl; sound = running.force.sound; devices = inl (record { untried = refl; stays = refl; fit = pages_fit pages h.0 log_5 (5, refl) records_plain }) }
 
   a_page_ahead : AreNewPages pages sent_pages → Opens sizes (first_entries 7) (over committed pages log) → ⊥
   a_page_ahead n o = ⊎_elim
@@ -296,9 +297,10 @@ ran_crashed pages log h = record {
   counted = λ images bytes a b. (log_5, leaves_store pages log h images bytes a b, refl);
 }
 
-same_forced : (tags : Option ℕ) (h : List Entry) → (ledger h).forced ≡ (ledger h).records → (ledger (grown tags h)).forced ≡ (ledger h).forced
-same_forced None h all = refl
-same_forced (Some n) h all = sym all
+-- a crash leaves what was forced
+forced_left : (tags : Option ℕ) (h : List Entry) (m : ℕ) → (ledger h).forced ≡ (ledger h).records → MayFollow small h (crash_with tags m h) → (ledger h).forced ≤ m
+forced_left None h m all a = a.0.forced
+forced_left (Some n) h m all a = let more = (legal_there small h (Grew n m) a).1 in omega (arith, all, more)
 
 -- what was forced is left
 pub forced_is_left : (course : Course) (h : List Entry) (pages : MemPages) (log : MemLog) (records : List Record) (n : ℕ) (g : Growth) → Tells ((Asks Force, Answered (Gave_forced n)) ∷ course) h → IsLegal small h
@@ -312,15 +314,15 @@ forced_is_left course h pages log records n g tells legal leaves told few may =
     let is : h ≡ Forced n ∷ older = tells.2.3 ∙ ap (λ (e : Entry). e ∷ older) tells.2.1 in
     let all : n ≡ (ledger older).records = (subst (IsLegal small) is legal).0.1 in
     let forced_is : (ledger h).forced ≡ (ledger older).records = ap (λ (k : List Entry). (ledger k).forced) is in
-    let kept : (ledger h).forced ≤ length x.now = subst (λ (m : ℕ). m ≤ length x.now) (same_forced x.tags h (subst (λ (k : List Entry). (ledger k).forced ≡ (ledger k).records) (sym is) refl)) x.ends.legal.0.0.forced in
+    let kept : (ledger h).forced ≤ length x.now = forced_left x.tags h (length x.now) (subst (λ (k : List Entry). (ledger k).forced ≡ (ledger k).records) (sym is) refl) x.ends.legal.0 in
     omega (arith, few, count, all, forced_is, kept)
 
 -- headlines
-module _ (fifo : (h : List Entry) → IsLegal small h → FifoThroughout h) (stay : AcknowledgedStay small) (goes : CrashGoesOn small) (half : CheckpointCrashGoesOn small) (shut_goes : ShutCrashGoesOn small) where
+module _ (fifo : (h : List Entry) → IsLegal small h → FifoThroughout h) (stay : AcknowledgedStay small) (goes : CrashGoesOn small) (half : CheckpointCrashGoesOn small) (grows : GrowthGoesOn small) (shut_goes : ShutCrashGoesOn small) where
   before_the_force : (pages : MemPages) (log : MemLog) → Hold pages formatted_pages log log_1 → IsHeadline sizes (course_to 7) pages log
   before_the_force pages log h =
       let ran : Ran sizes (course_to 7) (Is_open (over committed pages log)) = record { history = first_entries 7; tells = told_7; legal = legal_7; stands = opens pages log h; counted = tt } in
-      open_ends sizes (course_to 7) (over committed pages log) pages log fifo stay goes half ran (λ untried honest e long k fit. leaves pages log h) refl refl
+      open_ends sizes (course_to 7) (over committed pages log) pages log fifo stay goes half grows ran (λ untried honest e long k fit. leaves pages log h) refl refl
 
   after_the_crash : (pages : MemPages) (log : MemLog) → Hold pages formatted_pages log log_5 → IsHeadline sizes crashed_course pages log
   after_the_crash pages log h =

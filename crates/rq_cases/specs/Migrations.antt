@@ -3,7 +3,7 @@ use Rattle.std.specs.Prelude.{◌≡◌, ℕ, ◌+◌, ◌^◌, ◌<◌, ◌≤�
 use Rattle.rq_model.specs.declared.record.Record.{Record}
 use Rattle.rq_model.specs.declared.refusal.Refusal.TheVariants.{BadTags, DiskWrite, Failed, LogFull, NotQuiet, UnknownClient}
 use Rattle.rq_model.specs.History.{Entry}
-use Rattle.rq_model.specs.History.Call.{Migrate, Show, Start_mark}
+use Rattle.rq_model.specs.History.Call.{Checkpoint, Migrate, Show, Start_mark}
 use Rattle.rq_model.specs.History.Entry.{Begun, Crash, Grew, Migrated, Refused, Restarted, Started, Told_client}
 use Rattle.rq_model.specs.History.Job.{Marking}
 use Rattle.rq_model.specs.Ledger.{group_in, ledger}
@@ -31,7 +31,7 @@ filled = Restarted 1 (2 ^ 50) ∷ []
 
 -- and the store is opened again
 abbrev opened : List Entry
-opened = Restarted 2 7 ∷ Crash 1 6 ∷ Grew 1 ∷ migrated
+opened = Restarted 2 7 ∷ Grew 1 6 ∷ migrated
 
 pub record MigrationsAreJudged : Type 0 where
   pub answered : IsLegal untagged migrated
@@ -59,24 +59,35 @@ pub record MigrationsAreJudged : Type 0 where
   pub comes_through : IsLegal untagged opened
   pub loses_nothing : IsLegal untagged (Crash 1 5 ∷ migrated) → ⊥
   pub stopped_before : IsLegal untagged (Crash 1 5 ∷ refused)
-  pub stopped_behind : IsLegal untagged (Crash 1 6 ∷ Grew 1 ∷ refused)
+  pub stopped_at_its_record : IsLegal untagged (Crash 1 6 ∷ refused)
+  pub stopped_behind : IsLegal untagged (Grew 1 6 ∷ refused)
+  pub stopped_without_its_record : IsLegal untagged (Grew 1 5 ∷ refused) → ⊥
+  pub stopped_with_one_more : IsLegal untagged (Grew 1 7 ∷ refused) → ⊥
   pub cut_off_before : IsLegal untagged (Crash 0 4 ∷ refused)
-  pub cut_off_behind : IsLegal untagged (Crash 0 4 ∷ Grew 1 ∷ refused) → ⊥
-  pub inside : IsLegal untagged (Crash 1 6 ∷ Grew 1 ∷ committed_once)
-  pub inside_of_all : IsLegal untagged (Crash 1 5 ∷ Grew 1 ∷ committed_once)
-  pub inside_of_less : IsLegal untagged (Crash 0 4 ∷ Grew 1 ∷ committed_once) → ⊥
+  pub cut_off_behind : IsLegal untagged (Grew 1 4 ∷ refused) → ⊥
+  pub inside : IsLegal untagged (Grew 1 6 ∷ committed_once)
+  pub inside_without_its_record : IsLegal untagged (Grew 1 5 ∷ committed_once) → ⊥
+  pub inside_with_one_more : IsLegal untagged (Grew 1 7 ∷ committed_once) → ⊥
+  pub answered_of_less : IsLegal untagged (Grew 1 5 ∷ migrated) → ⊥
+  pub answered_with_one_more : IsLegal untagged (Grew 1 7 ∷ migrated) → ⊥
   pub is_forgotten : IsLegal untagged (Crash 1 6 ∷ migrated) → ⊥
-  pub other_pages : IsLegal untagged (Grew 2 ∷ migrated) → ⊥
-  pub other_pages_than_refused : IsLegal untagged (Grew 2 ∷ refused) → ⊥
-  pub grows_unasked : IsLegal untagged (Grew 1 ∷ failed_force) → ⊥
-  pub grows_full : IsLegal untagged (Grew 1 ∷ filled) → ⊥
-  pub grows_full_refused : IsLegal untagged (Grew 1 ∷ Refused (Migrate 1) DiskWrite ∷ filled) → ⊥
-  pub grows_none : IsLegal untagged (Grew 0 ∷ committed_once) → ⊥
-  pub grows_too_many : IsLegal untagged (Grew 1025 ∷ committed_once) → ⊥
-  pub grows_tagged : IsLegal small (Grew 1 ∷ committed_once) → ⊥
-  pub grows_open : IsLegal untagged (Grew 1 ∷ sent_once) → ⊥
-  pub grows_shut : IsLegal untagged (Grew 1 ∷ Crash 1 5 ∷ committed_once) → ⊥
-  pub grows_twice : IsLegal untagged (Grew 1 ∷ opened) → ⊥
+  pub other_pages : IsLegal untagged (Grew 2 6 ∷ migrated) → ⊥
+  pub other_pages_than_refused : IsLegal untagged (Grew 2 6 ∷ refused) → ⊥
+  pub grows_unasked : IsLegal untagged (Grew 1 6 ∷ failed_force) → ⊥
+  pub grows_by_a_checkpoint : IsLegal untagged (Grew 1 6 ∷ Refused Checkpoint DiskWrite ∷ committed_once) → ⊥
+  pub grows_full : IsLegal untagged (Grew 1 (2 ^ 50 + 1) ∷ filled) → ⊥
+  pub grows_full_refused : IsLegal untagged (Grew 1 (2 ^ 50 + 1) ∷ Refused (Migrate 1) DiskWrite ∷ filled) → ⊥
+  pub full_refused_at_its_record : IsLegal untagged (Crash 0 (2 ^ 50 + 1) ∷ Refused (Migrate 1) DiskWrite ∷ filled) → ⊥
+  pub grows_none : IsLegal untagged (Grew 0 6 ∷ committed_once) → ⊥
+  pub grows_too_many : IsLegal untagged (Grew 1025 6 ∷ committed_once) → ⊥
+  pub grows_tagged : IsLegal small (Grew 1 6 ∷ committed_once) → ⊥
+  pub grows_open : IsLegal untagged (Grew 1 5 ∷ sent_once) → ⊥
+  pub grows_shut : IsLegal untagged (Grew 1 6 ∷ Crash 1 5 ∷ committed_once) → ⊥
+  pub grows_twice : IsLegal untagged (Grew 1 8 ∷ opened) → ⊥
+  -- it is a crash: the store is not open then, and another may come
+  pub refuses_behind : IsLegal untagged (Refused Show Failed ∷ Grew 1 6 ∷ migrated)
+  pub goes_on_behind : IsLegal untagged (Begun (txn 1 2) ∷ Grew 1 6 ∷ migrated) → ⊥
+  pub crashes_behind : IsLegal untagged (Crash 1 6 ∷ Grew 1 6 ∷ migrated)
   pub content : group_in (ledger opened).committed 0
       ≡ record { sent = 1; last_tag = 7; received = 0; closed = false; rest = hello ∷ [] }
   pub size : size_at untagged opened ≡ small

@@ -10,7 +10,7 @@ ghost use Rattle.rq_cases.specs.Migrations.{MigrationsAreJudged};
 ghost use Rattle.rq_cases.specs.Worlds.{HeadlinesAreJudged};
 
 use rq_model::laws::{
-    acknowledged_stay, checkpoint_crash_goes_on, crash_goes_on, first_in_first_out,
+    acknowledged_stay, checkpoint_crash_goes_on, crash_goes_on, first_in_first_out, growth_goes_on,
     restart_goes_on, shown_is_committed, shut_crash_goes_on,
 };
 use rq_restart::laws::{one_log, one_size};
@@ -23,11 +23,12 @@ pub fn devices_are_judged()
     one_size();
 }
 
-/// What goes on with a history whose store is not open: crashes and restarts that may come there, and some that may
-/// not.
+/// What goes on with a history whose store is not open, or got tag pages: crashes and restarts that may come there, and some
+/// that may not.
 pub fn histories_go_on()
     ensures { HistoriesGoOn }
 {
+    growth_goes_on();
     restart_goes_on();
     shut_crash_goes_on();
 }
@@ -40,6 +41,7 @@ pub fn headlines_are_judged()
     acknowledged_stay();
     crash_goes_on();
     checkpoint_crash_goes_on();
+    growth_goes_on();
     shut_crash_goes_on();
 }
 

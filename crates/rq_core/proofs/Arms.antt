@@ -10,7 +10,7 @@ use Rattle.rq_model.specs.Ledger.Phase.{Running as Runs, Shut}
 use Rattle.rq_model.specs.Growth.{growth}
 use Rattle.rq_model.specs.Legal.{IsLegal}
 use Rattle.rq_model.specs.Tests.{Size, any_busy, size_at}
-use Rattle.rq_model.specs.Promises.{AcknowledgedStay, CheckpointCrashGoesOn, CrashGoesOn, FifoThroughout, RestartGoesOn, ShutCrashGoesOn, StillStoreRefuses}
+use Rattle.rq_model.specs.Promises.{AcknowledgedStay, CheckpointCrashGoesOn, CrashGoesOn, FifoThroughout, GrowthGoesOn, RestartGoesOn, ShutCrashGoesOn, StillStoreRefuses}
 use Rattle.rq_model.specs.Replay.{Says}
 use Rattle.rq_model.specs.Replay.Reply.{Gave_refusal}
 use Rattle.rq_disk.specs.declared.mem_log.MemLog.{MemLog}
@@ -85,12 +85,12 @@ ended z history (a ∷ course) pages log h = by a.1 h where
   by _ h = tt
 
 -- the headline at the end
-pub open_ends : (z : Sizes) (course : Course) (e : Engine) (pages : MemPages) (log : MemLog) → ((h : List Entry) → IsLegal (size_of z) h → FifoThroughout h) → AcknowledgedStay (size_of z) → CrashGoesOn (size_of z) → CheckpointCrashGoesOn (size_of z) → Ran z course (Is_open e)
+pub open_ends : (z : Sizes) (course : Course) (e : Engine) (pages : MemPages) (log : MemLog) → ((h : List Entry) → IsLegal (size_of z) h → FifoThroughout h) → AcknowledgedStay (size_of z) → CrashGoesOn (size_of z) → CheckpointCrashGoesOn (size_of z) → GrowthGoesOn (size_of z) → Ran z course (Is_open e)
     → Keeps mem_pages mem_log e → pages ≡ e.pages → log ≡ e.log → IsHeadline z course pages log
-open_ends z course e pages log fifo stay law half ran keeps i j =
+open_ends z course e pages log fifo stay law half grows ran keeps i j =
     let o : IsOpen mem_pages mem_log z ran.history e = ran.stands in
-    let left : LeftBehind mem_pages mem_log ran.history (growth ran.history) (on o.past e.state) e.pages e.log = ⊎_elim (λ w. plain_leaves mem_pages mem_log ran.history (on o.past e.state) e.pages e.log w.settled (keeps w.untried tt o.past o.long o.sound w.fit)) (λ half. half.leaves) o.devices in
-    let stores = leaves_open mem_pages mem_log (λ d. tt) (λ d. tt) z law half ran.history (on o.past e.state) (stands_at z ran.history (on o.past e.state) ran.legal o.sizes o.ledger o.sound) (runs_there ran.history (on o.past e.state) o.ledger) (growth ran.history) e.pages e.log left in
+    let left : LeftBehind mem_pages mem_log ran.history (growth ran.history) (on o.past e.state) e.pages e.log = ⊎_elim (λ w. plain_leaves mem_pages mem_log ran.history (on o.past e.state) e.pages e.log w.stays (keeps w.untried tt o.past o.long o.sound w.fit)) (λ half. half.leaves) o.devices in
+    let stores = leaves_open mem_pages mem_log (λ d. tt) (λ d. tt) z law half grows ran.history (on o.past e.state) (stands_at z ran.history (on o.past e.state) ran.legal o.sizes o.ledger o.sound) (runs_there ran.history (on o.past e.state) o.ledger) (growth ran.history) e.pages e.log left in
     headline mem_pages mem_log (λ d. tt) (λ d. tt) z fifo stay course ran.history pages log ran.tells ran.legal
     (subst (λ d. LeavesStores mem_pages mem_log z (growth ran.history) ran.history d log) (sym i) (subst (λ d. LeavesStores mem_pages mem_log z (growth ran.history) ran.history e.pages d) (sym j) stores)) (ended z ran.history course pages log ran.counted)
 

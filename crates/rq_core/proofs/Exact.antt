@@ -44,7 +44,7 @@ module _ (l : Ledger) (t : Txn) where
 -- the senders of a store stay
 pub senders_stay : (z : Size) (h : List Entry) → (size_at z h).senders ≡ z.senders
 senders_stay z [] = refl
-senders_stay z (Grew pages ∷ h) = senders_stay z h
+senders_stay z (Grew pages records ∷ h) = senders_stay z h
 senders_stay z (_ ∷ h) = senders_stay z h
 
 module _ (z : Size) (shown : (h : List Entry) (s : ℕ) → IsLegal z h → group h s ≡ group_in (ledger h).committed s) where

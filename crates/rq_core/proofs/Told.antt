@@ -5,7 +5,7 @@ use Rattle.rq_model.specs.Growth.{growth}
 use Rattle.rq_model.specs.Ledger.{ledger}
 use Rattle.rq_model.specs.Legal.{IsLegal}
 use Rattle.rq_model.specs.Tests.{Size}
-use Rattle.rq_model.specs.Promises.{AcknowledgedStay, CheckpointCrashGoesOn, CrashGoesOn, FifoThroughout, RestartGoesOn, ShutCrashGoesOn, StillStoreRefuses}
+use Rattle.rq_model.specs.Promises.{AcknowledgedStay, CheckpointCrashGoesOn, CrashGoesOn, FifoThroughout, GrowthGoesOn, RestartGoesOn, ShutCrashGoesOn, StillStoreRefuses}
 use Rattle.rq_disk.specs.declared.mem_log.MemLog.{MemLog}
 use Rattle.rq_disk.specs.declared.mem_pages.MemPages.{MemPages}
 use Rattle.rq_page.specs.Sizes.{Sizes, IsInRange}
@@ -36,6 +36,7 @@ pub record Laws (z : Sizes) : Type 0 where
   pub stay : AcknowledgedStay (size_of z)
   pub crash : CrashGoesOn (size_of z)
   pub half : CheckpointCrashGoesOn (size_of z)
+  pub grows : GrowthGoesOn (size_of z)
   pub shut : ShutCrashGoesOn (size_of z)
   pub restart : RestartGoesOn (size_of z)
   pub still : (size : Size) → StillStoreRefuses size
@@ -69,7 +70,7 @@ module _ (z : Sizes) (k : Laws z) (course : Course) where
         legal = ran.legal;
         range = subst IsInRange there.sizes there.range;
         may = may_crash x c.event c.told old c.mid c.last c.applied ran;
-        leaves = leaves_open mem_pages mem_log (λ d. tt) (λ d. tt) z k.crash k.half ran.history (on o.past old.state) there (runs_there ran.history (on o.past old.state) o.ledger)
+        leaves = leaves_open mem_pages mem_log (λ d. tt) (λ d. tt) z k.crash k.half k.grows ran.history (on o.past old.state) there (runs_there ran.history (on o.past old.state) o.ledger)
             (growth_in x (growth ran.history)) c.mid.pages c.mid.log (left_behind x c.event c.told old c.mid c.last c.applied ran);
       } in
       crashed mem_pages mem_log (λ d. tt) (λ d. tt) z some_page some_log course x c.mid.pages pages c.mid.log log n can c.crashed
@@ -127,7 +128,7 @@ module _ (z : Sizes) (k : Laws z) where
 
   ends : (course : Course) (pages : MemPages) (log : MemLog) (w : MemWorld) → Ran z course w → GivesUp w pages log → IsHeadline z course pages log
   ends course pages log (Is_open e) ran g =
-      open_ends z course e pages log k.fifo k.stay k.crash k.half ran g.2 g.0 g.1
+      open_ends z course e pages log k.fifo k.stay k.crash k.half k.grows ran g.2 g.0 g.1
   ends course pages log (Is_shut d e) ran g =
       subst (λ y. IsHeadline z course y log) (sym g.0) (subst (λ y. IsHeadline z course d y) (sym g.1) (shut_ends z course d e k.fifo k.stay k.shut ran))
 

@@ -6,18 +6,19 @@ use Rattle.std.proofs.lemmas.List.{take-append-drop, length-drop}
 use Rattle.rq_model.specs.declared.record.Record.{Record}
 use Rattle.rq_model.specs.Vocabulary.{In}
 use Rattle.rq_model.specs.History.{Entry, commits}
-use Rattle.rq_model.specs.History.Entry.{Crash as Crash_entry, Grew, Restarted as Restarted_entry}
+use Rattle.rq_model.specs.History.Entry.{Grew, Restarted as Restarted_entry}
 use Rattle.rq_model.specs.Incarnations.{Extends, Ties, incarnation_of}
 use Rattle.rq_model.specs.Commits.{committed_of}
-use Rattle.rq_model.specs.Ledger.{Ledger, ledger, after, kept_in}
+use Rattle.rq_model.specs.Ledger.{Ledger, ledger, after}
 use Rattle.rq_model.specs.Ledger.Phase.{Shut}
 use Rattle.rq_model.specs.Legal.{Legal, IsLegal}
 use Rattle.rq_model.specs.Tests.{any_busy, bad_tags, size_at, with_clients}
 use Rattle.rq_model.specs.Rules.{KeepsRules}
-use Rattle.rq_model.specs.Growth.{Growth, IsGrownBy, IsOfMigration, growth}
+use Rattle.rq_model.specs.Growth.{Growth, IsGrownBy, IsOfMigration, MayStand, growth, records_grown}
+use Rattle.rq_model.specs.Growth.Growth.{Grows, May_grow, May_stand, Stays}
 use Rattle.rq_model.proofs.Follows.{follows, none_told, shut_told}
 use Rattle.rq_model.proofs.Replayed.{never_break, size_stays}
-use Rattle.rq_model.specs.Promises.{CheckpointCrashGoesOn, CrashGoesOn, ShutCrashGoesOn, RestartGoesOn, EndsInCrash, crash_to, AcknowledgedStay, FifoThroughout}
+use Rattle.rq_model.specs.Promises.{CheckpointCrashGoesOn, CrashGoesOn, GrowthGoesOn, ShutCrashGoesOn, RestartGoesOn, EndsBy, EndsInCrash, crash_with, AcknowledgedStay, FifoThroughout}
 use Rattle.rq_disk.specs.Device.{Images, Leaves}
 use Rattle.rq_disk.specs.declared.device.LogDevice as log_device
 use Rattle.rq_disk.specs.declared.device.PageDevice as page_device
@@ -33,7 +34,7 @@ use Rattle.rq_store.proofs.Opens.{busy_is}
 use Rattle.rq_page.specs.Formatted.{IsFormatted, IsHeaderOf}
 use Rattle.rq_engine.specs.Applied.{Applied}
 use Rattle.rq_engine.specs.Crash.{IsCut}
-use Rattle.rq_engine.specs.Migration.{MayGetTags}
+use Rattle.rq_engine.specs.Migration.{IsCutGrown, MayGetTags}
 use Rattle.rq_engine.proofs.Migrating.{may_get}
 use Rattle.rq_engine.specs.Devices.{EachPair}
 use Rattle.rq_engine.specs.Opened.{AreHonest, OpenStore}
@@ -58,11 +59,11 @@ use Rattle.rq_analysis.proofs.Recovering.{recovered_from}
 use Rattle.rq_restart.specs.Underway.{IsGoneOnWith, IsStore, IsSomeStore, IsLeftOrGoesOn}
 use Rattle.rq_restart.specs.Once.{OneLogEach, OneSizeEach}
 use Rattle.rq_restart.specs.declared.restart.Report.{Report}
-use Rattle.rq_core.specs.Happenings.{Happening, Course, Tells, AddsCall, called, grown, growth_in}
+use Rattle.rq_core.specs.Happenings.{Happening, Course, Tells, AddsCall, called, growth_in}
 use Rattle.rq_core.specs.Happenings.Answer.{Answered, Crashed}
 use Rattle.rq_core.specs.Headline.{AcknowledgedAreKept, EndsHistory, LeavesStores, LeftLast, IsHeadline, sizes_at}
 use Rattle.rq_core.specs.Happened.{IsCrashed, IsOpened}
-use Rattle.rq_core.specs.World.{World, IsCutBy, IsShut, IsOpen, LeftBehind, MayBeTold, Ran, CanCrash}
+use Rattle.rq_core.specs.World.{World, IsCutBy, IsCutTagged, IsShut, IsOpen, LeftBehind, MayBeTold, Ran, CanCrash}
 use Rattle.rq_core.proofs.HalfMade.{devices_after}
 use Rattle.rq_core.specs.World.World.{Is_shut, Is_open}
 
@@ -89,7 +90,7 @@ caused e _ s h = tt
 -- the model's size of a store, wherever its history has led
 pub size_is : (z : Sizes) (h : List Entry) → size_of (sizes_at z h) ≡ size_at (size_of z) h
 size_is z [] = refl
-size_is z (Grew pages ∷ h) = ap (with_clients pages) (size_is z h)
+size_is z (Grew pages records ∷ h) = ap (with_clients pages) (size_is z h)
 size_is z (_ ∷ h) = size_is z h
 
 -- ---- where a history ends
@@ -125,33 +126,48 @@ stands_at z h s legal sizes at sound = record {
 with_range : (n : ℕ) (z : Sizes) → n ≤ 1024 → IsInRange z → IsInRange (with_tags n z)
 with_range n z most r = record { directory_low = r.directory_low; directory_high = r.directory_high; cells_low = r.cells_low; cells_high = r.cells_high; tags_high = most }
 
--- and all its records forced
-abbrev pub grown_store : ℕ → State → State
-grown_store n s = record s { sizes = with_tags n s.sizes; forced = length s.records }
+-- What is left with the tag pages, where nothing is lost: a log of so many records, with these commits.
+record IsAllLeft (y : Sizes) (many : ℕ) (k : Ledger) (images : Images) (bytes : List ℕ) : Type 0 where
+  now : List Record
+  left : IsLeft y images now
+  are_spelled : AreSpelled now
+  ends : EndsWith now bytes
+  many_are : length now ≡ many
+  committed : k.committed ≡ committed_of now
+  begun : k.incarnation ≤ incarnation_of now
 
-grown_stands : (z : Sizes) (h : List Entry) (s : State) (n : ℕ) → StandsAt z h s → IsOfMigration (growth h) (ledger h) n → ((ledger h).phase ≡ Shut → ⊥) → s.rows ≡ [] → MayGetTags n s → StandsAt z (Grew n ∷ h) (grown_store n s)
-grown_stands z h s n k of not_closed none may = record {
-  legal = (
-    (
-      record {
-        tags = subst (λ y. bad_tags y n ≡ false) (ap size_of k.sizes ∙ size_is z h) may;
-        none_open = sym k.open_ones ∙ ap (open_ones_of s.ends) none;
-        not_shut = not_closed;
-      },
-      of,
-    ),
-    k.legal,
-  );
-  sizes = ap (with_tags n) k.sizes;
-  range = with_range n s.sizes (may_get s.sizes n may).2 k.range;
-  committed = k.committed;
-  records = k.records;
-  incarnation = k.incarnation;
-  forced = k.records;
-  open_ones = k.open_ones;
-  begun = k.begun;
-  rules = k.rules;
-}
+-- the cut of a store whose records are all forced loses none of them
+all_left : (y : Sizes) (t : State) (many : ℕ) (k : Ledger) (images : Images) (bytes : List ℕ) → t.forced ≡ length t.records → length t.records ≡ many → k.committed ≡ committed_of t.records → k.incarnation ≤ incarnation_of t.records → IsCut (record t { sizes = y }) images bytes
+    → IsAllLeft y many k images bytes
+all_left y t many k images bytes all are committed begun c =
+    let within = c.forced in
+    let lost : c.lost ≡ 0 = omega (arith, within, all) in
+    let same : drop c.lost t.records ≡ t.records = ap (λ (n : ℕ). drop n t.records) lost in
+    record {
+      now = t.records;
+      left = subst (IsLeft y images) same c.store;
+      are_spelled = subst AreSpelled same c.told;
+      ends = subst (λ (rs : List Record). EndsWith rs bytes) same c.spells;
+      many_are = are;
+      committed = committed;
+      begun = begun;
+    }
+
+-- one record for all
+one_for_all : (z : Sizes) (h : List Entry) (s : State) (n : ℕ) → StandsAt z h s → (images : Images) (bytes : List ℕ) → IsCutGrown n (checkpointed s) images bytes → IsAllLeft (with_tags n s.sizes) ((ledger h).records + 1) (ledger h) images bytes
+one_for_all z h s n k images bytes c =
+    let i = k.incarnation in
+    let m = k.records in
+    all_left (with_tags n s.sizes) (checkpointed s) ((ledger h).records + 1) (ledger h) images bytes (omega arith) (omega (arith, m)) (sym k.committed) (omega (arith, i)) c
+
+tagged_left : (z : Sizes) (h : List Entry) (s : State) (n : ℕ) (g : Growth) → StandsAt z h s → (images : Images) (bytes : List ℕ) → IsCutTagged g n s images bytes → IsAllLeft (with_tags n s.sizes) (records_grown g (ledger h)) (ledger h) images bytes
+tagged_left z h s n (Grows pages) k images bytes c =
+    let i = k.incarnation in
+    let j = k.begun in
+    all_left (with_tags n s.sizes) s (ledger h).records (ledger h) images bytes c.0 k.records (sym k.committed) (omega (arith, i, j)) c.1
+tagged_left z h s n Stays k images bytes c = one_for_all z h s n k images bytes c
+tagged_left z h s n May_stand k images bytes c = one_for_all z h s n k images bytes c
+tagged_left z h s n (May_grow pages) k images bytes c = one_for_all z h s n k images bytes c
 
 module _ {P L : Type 0} (p : page_device.Ghosts P) (l : log_device.Ghosts L) (honest_p : (d : P) → p.honest d) (honest_l : (d : L) → l.honest d) (z : Sizes) where
   abbrev Ran_to : Course → World P L → Type 0
@@ -183,12 +199,12 @@ module _ {P L : Type 0} (p : page_device.Ghosts P) (l : log_device.Ghosts L) (ho
       }
 
   -- whatever a crash leaves of a store that stands where a history ends may end the history
-  abbrev Ends_at : List Entry → Images → List ℕ → Type 0
-  Ends_at h images bytes = (now : List Record) × IsStore (sizes_at z h) now images bytes × EndsInCrash (size_of z) h now
+  abbrev Ends_at : Option ℕ → List Entry → Images → List ℕ → Type 0
+  Ends_at tags h images bytes = (now : List Record) × IsStore (sizes_at z (crash_with tags (length now) h ∷ h)) now images bytes × EndsBy tags (size_of z) h now
 
   module _ (h : List Entry) (s : State) (k : StandsAt z h s) where
     abbrev Ends : Images → List ℕ → Type 0
-    Ends images bytes = Ends_at h images bytes
+    Ends images bytes = Ends_at None h images bytes
 
     ties : Ties (ledger h) s.records
     ties =
@@ -215,30 +231,38 @@ module _ {P L : Type 0} (p : page_device.Ghosts P) (l : log_device.Ghosts L) (ho
         )
 
     -- the Base that a checkpoint puts in the place of all is left whole
-    base_told : CheckpointCrashGoesOn (size_of z) → IsGrownBy (growth h) None → s.rows ≡ [] → (images : Images) (bytes : List ℕ) → IsCut (checkpointed s) images bytes → Ends images bytes
-    base_told law told none images bytes c =
+    base_told : CheckpointCrashGoesOn (size_of z) → IsGrownBy (growth h) None → MayStand (growth h) (ledger h) → (images : Images) (bytes : List ℕ) → IsCut (checkpointed s) images bytes → Ends images bytes
+    base_told law told may images bytes c =
         let all : List Record = based s.incarnation s.records in
         let within = c.forced in
         let lost : c.lost ≡ 0 = omega (arith, within) in
         let same : drop c.lost all ≡ all = ap (λ (n : ℕ). drop n all) lost in
         let left : IsLeft (sizes_at z h) images all = subst (IsLeft (sizes_at z h) images) same (subst (λ y. IsLeft y images (drop c.lost all)) k.sizes c.store) in
-        let none_left : (ledger h).open_ones ≡ [] = sym k.open_ones ∙ ap (open_ones_of s.ends) none in
-        let ends : EndsInCrash (size_of z) h (based (incarnation_of s.records) s.records) = law h s.records k.legal told ties k.rules none_left in (
+        let ends : EndsInCrash (size_of z) h (based (incarnation_of s.records) s.records) = law h s.records k.legal told ties k.rules may in (
           all,
           record { range = range; are_spelled = subst AreSpelled same c.told; is = subst (λ (rs : List Record). EndsWith rs bytes) same c.spells; left = left },
           subst (λ (i : ℕ). EndsInCrash (size_of z) h (based i s.records)) k.begun ends,
         )
 
+    -- the tag pages of a migration stand over all records
+    tagged_told : GrowthGoesOn (size_of z) → ((ledger h).phase ≡ Shut → ⊥) → (n : ℕ) → IsOfMigration (growth h) (ledger h) n → s.rows ≡ [] → MayGetTags n s → (images : Images) (bytes : List ℕ) → IsCutTagged (growth h) n s images bytes → Ends_at (Some n) h images bytes
+    tagged_told law not_closed n of none may images bytes c =
+        let a = tagged_left z h s n (growth h) k images bytes c in
+        let sizes : with_tags n s.sizes ≡ with_tags n (sizes_at z h) = ap (with_tags n) k.sizes in
+        let left : IsLeft (with_tags n (sizes_at z h)) images a.now = subst (λ y. IsLeft y images a.now) sizes a.left in (
+          a.now,
+          record { range = subst IsInRange sizes (with_range n s.sizes (may_get s.sizes n may).2 k.range); are_spelled = a.are_spelled; is = a.ends; left = left },
+          law h n a.now k.legal
+              (record { tags = subst (λ y. bad_tags y n ≡ false) (ap size_of k.sizes ∙ size_is z h) may; none_open = sym k.open_ones ∙ ap (open_ones_of s.ends) none; not_shut = not_closed }, of, a.many_are)
+              (record { committed = a.committed; records = refl; incarnation = a.begun }) left.whole.rules,
+        )
+
   -- by whether tag pages are left that it had not
-  module _ (law : CrashGoesOn (size_of z)) (half : CheckpointCrashGoesOn (size_of z)) (h : List Entry) (s : State) (k : StandsAt z h s) (not_closed : (ledger h).phase ≡ Shut → ⊥) where
-    ends_by : (tags : Option ℕ) → MayBeTold tags (growth h) (ledger h) → (images : Images) (bytes : List ℕ) → IsCutBy tags s images bytes → Ends_at (grown tags h) images bytes
+  module _ (law : CrashGoesOn (size_of z)) (half : CheckpointCrashGoesOn (size_of z)) (grows : GrowthGoesOn (size_of z)) (h : List Entry) (s : State) (k : StandsAt z h s) (not_closed : (ledger h).phase ≡ Shut → ⊥) where
+    ends_by : (tags : Option ℕ) → MayBeTold tags (growth h) (ledger h) → (images : Images) (bytes : List ℕ) → IsCutBy (growth h) (ledger h) tags s images bytes → Ends_at tags h images bytes
     ends_by None told images bytes (inl c) = cut_told h s k law told images bytes c
     ends_by None told images bytes (inr c) = base_told h s k half told c.0 images bytes c.1
-    ends_by (Some n) told images bytes c =
-        let there = grown_stands z h s n k told not_closed c.0 c.1 in
-        let now : State = grown_store n s in
-        ⊎_elim (λ x. cut_told (Grew n ∷ h) now there law tt images bytes (subst (λ (f : ℕ). IsCut (record s { sizes = with_tags n s.sizes; forced = f }) images bytes) x.0 x.1))
-        (λ x. base_told (Grew n ∷ h) now there half tt c.0 images bytes x) c.2
+    ends_by (Some n) told images bytes c = tagged_told h s k grows not_closed n told c.0 c.1 images bytes c.2
 
     pub leaves_open : (g : Growth) (pages : P) (log : L) → LeftBehind p l h g s pages log → LeavesStores p l z g h pages log
     leaves_open g pages log left images bytes a b =
@@ -265,26 +289,26 @@ module _ {P L : Type 0} (p : page_device.Ghosts P) (l : log_device.Ghosts L) (ho
     crashed course x pages new_pages log new_log count can c =
         let seen = l.seen new_log in
         let pick : EndsHistory p l z (growth_in x (growth can.history)) can.history (p.seen new_pages) seen = can.leaves (p.seen new_pages) seen (c.pages_left (p.seen new_pages) (some_p new_pages)) (c.log_left seen (some_l new_log)) in
-        let h = grown pick.tags can.history in
+        let older = can.history in
         let now = pick.now in
+        let h = crash_with pick.tags (length now) older ∷ older in
         let store : IsStore (sizes_at z h) now (p.seen new_pages) seen = pick.store in
-        let ends : EndsInCrash (size_of z) h now = pick.ends in
+        let ends : EndsBy pick.tags (size_of z) older now = pick.ends in
         let m : count ≡ length now = c.holds now store.are_spelled store.is ∙ marked_length now store.left.whole.based in
-        let e : crash_to now h ≡ Crash_entry (kept_in count (ledger can.history).committed) count = ap (λ n. Crash_entry (kept_in n (ledger h).committed) n) (sym m) ∙ ap (λ (ds : _). Crash_entry (kept_in count ds) count) (same_commits pick.tags can.history) in
         let only : EachPair p l new_pages new_log (IsStore (sizes_at z h) now) = λ images bytes a b.
         let pages_are : p.seen new_pages ≡ images = λ i q. (sym (c.pages_only q (images q) (a q))) i in
         subst (λ bs. IsStore (sizes_at z h) now images bs) (sym (c.log_only bytes b)) (subst (λ is. IsStore (sizes_at z h) now is seen) pages_are store) in
         record {
-          history = crash_to now h ∷ h;
-          tells = (can.history, can.tells, (can.may, pick.tags, pick.left, ap (λ (entry : Entry). entry ∷ h) e));
+          history = h;
+          tells = (older, can.tells, (can.may, pick.tags, pick.left, ap (λ (n : ℕ). crash_with pick.tags n older ∷ older) (sym m)));
           legal = ends.legal;
-          stands = record { range = store.range; phase = refl; older = now; ties = ends.ties; left = λ images bytes a b. (now, ([], refl, tt), only images bytes a b) };
+          stands = record { range = store.range; phase = is_shut pick.tags (length now) older; older = now; ties = ends.ties; left = λ images bytes a b. (now, ([], refl, tt), only images bytes a b) };
           counted = λ images bytes a b. (now, only images bytes a b, sym m);
         }
       where
-        same_commits : (tags : Option ℕ) (h : List Entry) → (ledger (grown tags h)).committed ≡ (ledger h).committed
-        same_commits None h = refl
-        same_commits (Some n) h = refl
+        is_shut : (tags : Option ℕ) (n : ℕ) (h : List Entry) → (ledger (crash_with tags n h ∷ h)).phase ≡ Shut
+        is_shut None n h = refl
+        is_shut (Some pages) n h = refl
 
     -- the pages of a store that is shut fit its log, whichever image each of them has
     abbrev with_image : (ℕ → List ℕ) → ℕ → List ℕ → Images
@@ -378,7 +402,7 @@ module _ {P L : Type 0} (p : page_device.Ghosts P) (l : log_device.Ghosts L) (ho
               long = opened_earlier now new.state opened r.told whole.based;
               ledger = entry;
               sound = back.sound;
-              devices = inl (record { untried = o.untried; settled = shut_told (size_of z) h legal s.phase; fit = over.fit whole.based (subst (λ y. AllFit (p.may_be pages) y now) (sym is) (all_fit h pages log s r)) });
+              devices = inl (record { untried = o.untried; stays = shut_told (size_of z) h legal s.phase; fit = over.fit whole.based (subst (λ y. AllFit (p.may_be pages) y now) (sym is) (all_fit h pages log s r)) });
             };
           }
 
@@ -412,7 +436,7 @@ module _ {P L : Type 0} (p : page_device.Ghosts P) (l : log_device.Ghosts L) (ho
     legal = legal;
     order = fifo h legal;
     acknowledged = kept h legal;
-    leaves = λ images bytes a b. let w = leaves images bytes a b in (w, kept (crash_to w.now (grown w.tags h) ∷ grown w.tags h) w.ends.legal);
+    leaves = λ images bytes a b. let w = leaves images bytes a b in (w, kept (crash_with w.tags (length w.now) h ∷ h) w.ends.legal);
     left = last;
   } where
     kept : (k : List Entry) → IsLegal (size_of z) k → AcknowledgedAreKept k

@@ -5,12 +5,13 @@ use Rattle.rq_model.specs.declared.refusal.Refusal.{Refusal}
 use Rattle.rq_model.specs.declared.refusal.Refusal.TheVariants as why
 use Rattle.rq_model.specs.History.{Entry, Call}
 use Rattle.rq_model.specs.History.Call.{Acknowledge, Migrate}
-use Rattle.rq_model.specs.History.Entry.{Crash as Crash_entry, Grew, Restarted as Restarted_entry}
+use Rattle.rq_model.specs.History.Entry.{Restarted as Restarted_entry}
 use Rattle.rq_model.specs.Growth.{Growth, IsGrownBy, growth}
 use Rattle.rq_model.specs.Growth.Growth.{May_grow}
-use Rattle.rq_model.specs.Ledger.{Phase, ledger, kept_in}
+use Rattle.rq_model.specs.Ledger.{Phase, ledger}
 use Rattle.rq_model.specs.Ledger.Phase.{Running as Runs, Shut}
 use Rattle.rq_model.specs.Replay.{Reply, Says}
+use Rattle.rq_model.specs.Promises.{crash_with}
 use Rattle.rq_model.specs.Causes.{IsCaused, writes_out}
 use Rattle.rq_model.specs.Replay.Reply.{Gave_commit}
 use Rattle.rq_model.specs.Tests.{any_busy}
@@ -115,11 +116,6 @@ abbrev pub growth_in : Happening → Growth → Growth
 growth_in (Stops_in call) g = call_growth call g
 growth_in _ g = g
 
--- the history that the crash ends then
-abbrev pub grown : Option ℕ → List Entry → List Entry
-grown None h = h
-grown (Some pages) h = Grew pages ∷ h
-
 -- by it a device's failure is told
 abbrev pub is_of_device : Refusal → Bool
 is_of_device why.DiskRead = true
@@ -137,7 +133,7 @@ abbrev pub Adds : Course → Happening → Answer → List Entry → List Entry 
 Adds course x (Answered reply) older h = AddsCall (called course x) reply older h
 Adds course x (Crashed records) older h = MayCrashIt x (ledger older).phase × (tags : Option ℕ)
     × IsGrownBy (growth_in x (growth older)) tags
-    × (h ≡ Crash_entry (kept_in records (ledger older).committed) records ∷ grown tags older)
+    × (h ≡ crash_with tags records older ∷ older)
 Adds course x (Restarted report) older h = IsTrue (restarts x)
     × (h ≡ Restarted_entry report.incarnation report.records ∷ older)
 Adds course x (Refused refusal) older h = IsTrue (restarts x) × ((ledger older).phase ≡ Shut)

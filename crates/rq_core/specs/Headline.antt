@@ -8,7 +8,7 @@ use Rattle.rq_model.specs.History.Entry.{Acknowledged, Committed}
 use Rattle.rq_model.specs.Growth.{Growth, IsGrownBy, growth}
 use Rattle.rq_model.specs.Legal.{IsLegal}
 use Rattle.rq_model.specs.Tests.{grown_at}
-use Rattle.rq_model.specs.Promises.{FifoThroughout, EndsInCrash, crash_to}
+use Rattle.rq_model.specs.Promises.{FifoThroughout, EndsBy, crash_with}
 use Rattle.rq_disk.specs.Device.{Images}
 use Rattle.rq_disk.specs.declared.device.LogDevice as log_device
 use Rattle.rq_disk.specs.declared.device.PageDevice as page_device
@@ -16,7 +16,7 @@ use Rattle.rq_page.specs.Sizes.{Sizes, with_tags}
 use Rattle.rq_store.specs.State.{size_of}
 use Rattle.rq_engine.specs.Devices.{EachPair}
 use Rattle.rq_restart.specs.Underway.{IsStore}
-use Rattle.rq_core.specs.Happenings.{Answer, Course, Tells, grown}
+use Rattle.rq_core.specs.Happenings.{Answer, Course, Tells}
 use Rattle.rq_core.specs.Happenings.Answer.{Crashed}
 
 -- each commit that was acknowledged by a receipt anywhere in the history is among its commits
@@ -35,8 +35,8 @@ module _ {P L : Type 0} (p : page_device.Ghosts P) (l : log_device.Ghosts L) (z 
     pub tags : Option ℕ
     pub left : IsGrownBy g tags
     pub now : List Record
-    pub store : IsStore (sizes_at z (grown tags h)) now images bytes
-    pub ends : EndsInCrash (size_of z) (grown tags h) now
+    pub store : IsStore (sizes_at z (crash_with tags (length now) h ∷ h)) now images bytes
+    pub ends : EndsBy tags (size_of z) h now
 
   -- Whatever a crash now leaves of both devices is such a store. Its content is that of the commits that it keeps.
   abbrev pub LeavesStores : Growth → List Entry → P → L → Type 0
@@ -45,7 +45,7 @@ module _ {P L : Type 0} (p : page_device.Ghosts P) (l : log_device.Ghosts L) (z 
   -- and each commit that was acknowledged is among those that it keeps
   abbrev pub LeavesAcknowledged : List Entry → P → L → Type 0
   LeavesAcknowledged h pages log = EachPair p l pages log (λ images bytes. (e : EndsHistory (growth h) h images bytes)
-      × AcknowledgedAreKept (crash_to e.now (grown e.tags h) ∷ grown e.tags h))
+      × AcknowledgedAreKept (crash_with e.tags (length e.now) h ∷ h))
 
   -- after a crash that left so many records, whatever a crash now leaves are exactly so many, with those before the Base
   abbrev pub LeftBy : List Entry → Answer → P → L → Type 0

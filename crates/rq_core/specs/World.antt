@@ -3,8 +3,8 @@ use Rattle.std.specs.Prelude.{◌≡◌, ◌⊎◌, false, true, ℕ, List, [], 
 use Rattle.rq_model.specs.declared.record.Record.{Record}
 use Rattle.rq_model.specs.History.{Entry}
 use Rattle.rq_model.specs.Incarnations.{Extends, Ties}
-use Rattle.rq_model.specs.Growth.{Growth, IsGrownBy, IsOfMigration, growth}
-use Rattle.rq_model.specs.Growth.Growth.{Stays}
+use Rattle.rq_model.specs.Growth.{Growth, IsGrownBy, IsOfMigration, MayStand, growth}
+use Rattle.rq_model.specs.Growth.Growth.{Grows, Stays}
 use Rattle.rq_model.specs.Ledger.{Ledger, ledger}
 use Rattle.rq_model.specs.Ledger.Phase.{Shut}
 use Rattle.rq_model.specs.Legal.{IsLegal}
@@ -33,12 +33,16 @@ pub data World (P L : Type 0) : Type 0 where
 abbrev pub IsOver : Sizes → List Record → Images → List ℕ → Type 0
 IsOver z older images bytes = (now : List Record) × Extends older now × IsStore z now images bytes
 
--- What a crash leaves of a store, by whether tag pages are left that it had not: a cut of it. Or of one record for all, where no
--- transaction is open. Or with the tag pages, which it could get: then all its records are left, or one for all.
-abbrev pub IsCutBy : Option ℕ → State → Images → List ℕ → Type 0
-IsCutBy None s images bytes = IsCut s images bytes ⊎ ((s.rows ≡ []) × IsCut (checkpointed s) images bytes)
-IsCutBy (Some n) s images bytes = (s.rows ≡ []) × MayGetTags n s
-    × (((s.forced ≡ length s.records) × IsCutGrown n s images bytes) ⊎ IsCutGrown n (checkpointed s) images bytes)
+-- With tag pages one record for all is left. That of a migration which was answered is among the store's.
+abbrev pub IsCutTagged : Growth → ℕ → State → Images → List ℕ → Type 0
+IsCutTagged (Grows pages) n s images bytes = (s.forced ≡ length s.records) × IsCutGrown n s images bytes
+IsCutTagged _ n s images bytes = IsCutGrown n (checkpointed s) images bytes
+
+-- What a crash leaves of a store, by whether tag pages are left that it had not: a cut of it. Or of one record for all, where it may
+-- stand. Or with the tag pages, which it could get.
+abbrev pub IsCutBy : Growth → Ledger → Option ℕ → State → Images → List ℕ → Type 0
+IsCutBy g l None s images bytes = IsCut s images bytes ⊎ (MayStand g l × IsCut (checkpointed s) images bytes)
+IsCutBy g l (Some n) s images bytes = (s.rows ≡ []) × MayGetTags n s × IsCutTagged g n s images bytes
 
 -- A crash behind a history with this ledger may be told, without tag pages, or with those of a migration.
 abbrev pub MayBeTold : Option ℕ → Growth → Ledger → Type 0
@@ -48,7 +52,7 @@ MayBeTold (Some n) g l = IsOfMigration g l n
 module _ {P L : Type 0} (p : page_device.Ghosts P) (l : log_device.Ghosts L) where
   abbrev pub LeftBehind : List Entry → Growth → State → P → L → Type 0
   LeftBehind h g s pages log = EachPair p l pages log (λ images bytes. (tags : Option ℕ) × IsGrownBy g tags
-      × MayBeTold tags (growth h) (ledger h) × IsCutBy tags s images bytes)
+      × MayBeTold tags (growth h) (ledger h) × IsCutBy (growth h) (ledger h) tags s images bytes)
 
 module _ {P L : Type 0} (p : page_device.Ghosts P) (l : log_device.Ghosts L) (z : Sizes) where
   -- whatever a crash leaves of a store that is shut is a store, over the log that the history tells
@@ -60,10 +64,10 @@ module _ {P L : Type 0} (p : page_device.Ghosts P) (l : log_device.Ghosts L) (z 
     pub ties : Ties (ledger h) older
     pub left : EachPair p l pages log (IsOver (sizes_at z h) older)
 
-  -- its pages fit what is forced, and no checkpoint has failed, nor was a migration called
+  -- Its pages fit what is forced. No checkpoint or migration has failed for a device, and none was answered that a crash is to tell.
   pub record IsWritten (h : List Entry) (past : List Record) (engine : OpenStore P L) : Type 0 where
     pub untried : engine.replacing ≡ false
-    pub settled : growth h ≡ Stays
+    pub stays : growth h ≡ Stays
     pub fit : AreFit p (over past engine)
 
   -- A checkpoint or a migration has failed for a device, which stopped the store, or a migration has stopped it. Whatever a crash

@@ -14,7 +14,7 @@ ghost use Rattle.rq_core.specs.Runs.{IsHeadline, IsRun, Led, MemWorld, Ran};
 ghost use Rattle.rq_core.specs.Judged.{AreRunsJudged};
 
 use rq_model::laws::{
-    acknowledged_stay, checkpoint_crash_goes_on, crash_goes_on, first_in_first_out,
+    acknowledged_stay, checkpoint_crash_goes_on, crash_goes_on, first_in_first_out, growth_goes_on,
     migrations_stay, nothing_behind_close, restart_goes_on, shown_is_committed, shut_crash_goes_on,
     still_store_refuses,
 };
@@ -56,6 +56,7 @@ pub fn a_run_is_told()
     acknowledged_stay();
     crash_goes_on();
     checkpoint_crash_goes_on();
+    growth_goes_on();
     shut_crash_goes_on();
     restart_goes_on();
     still_store_refuses();

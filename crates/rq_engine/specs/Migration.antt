@@ -63,8 +63,9 @@ module _ {P L : Type 0} (p : page_device.Ghosts P) (l : log_device.Ghosts L) (n 
       → IsSound (on e old.state) → AreFit p (over e old)
       → Path p l (IsCutOrGrown n (on e old.state)) old.pages old.log new.pages new.log
 
-  -- The store got its tag pages. One record, with this LSN, was put in the place of all. The log is that record alone, each page
-  -- is its image, the new pages are there, and those behind them as they read before, whatever a crash leaves. The store has stopped.
+  -- The store got its tag pages. One record, with this LSN, was put in the place of all. Whatever a crash leaves, the log is that
+  -- record alone, and each page is its image. The new pages are there, and those behind them are as they read before. The store has
+  -- stopped.
   pub record HasMigrated (old new : OpenStore P L) (lsn : ℕ) : Type 0 where
     pub could : MayMakeOneRecord old
     pub lsn_is : lsn ≡ length old.state.records + 1
@@ -79,8 +80,8 @@ module _ {P L : Type 0} (p : page_device.Ghosts P) (l : log_device.Ghosts L) (n 
     pub replacing : new.replacing ≡ old.replacing
     pub counts : CountsNone p l old new
 
-  -- A device failed in it, which stops the store. The log was left alone, or each tag page had been written. Pages behind them read as
-  -- before.
+  -- A device failed in it, which stops the store. The log was left alone, or in the end each tag page reads as formatted. Pages behind
+  -- them read as before.
   pub record HasStoppedGrowing (old new : OpenStore P L) : Type 0 where
     pub could : MayMakeOneRecord old
     pub state : new.state ≡ record old.state { failed = true }

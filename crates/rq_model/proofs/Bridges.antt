@@ -1,20 +1,20 @@
 -- A crash and a restart go on with a legal history, and the ledger still has what the log tells.
-use Rattle.std.proofs.Common.{◌≡◌, ℕ, ◌+◌, ◌≤◌, List, [], ◌∷◌, ◌++◌, length, take, map, inl, inr, refl, sym, ◌∙◌, ap, subst, arith, None}
+use Rattle.std.proofs.Common.{◌≡◌, ℕ, ◌+◌, ◌≤◌, List, ◌∷◌, ◌++◌, length, take, map, inl, inr, refl, sym, ◌∙◌, ap, subst, arith, None, Some}
 use Rattle.std.proofs.lemmas.List.{length-append}
 use Rattle.rq_model.specs.declared.record.Record.{Record}
 use Rattle.rq_model.specs.declared.record.Record.TheVariants.{Restart as Restart_record}
 use Rattle.rq_model.specs.History.{Entry}
-use Rattle.rq_model.specs.History.Entry.{Restarted}
+use Rattle.rq_model.specs.History.Entry.{Grew, Restarted}
 use Rattle.rq_model.specs.Ledger.{Done, Ledger, Phase, ledger, after, group_in, kept_in}
 use Rattle.rq_model.specs.Ledger.Phase.{Running, Stopped, Shut}
-use Rattle.rq_model.specs.Legal.{IsLegal, IsUpTo}
+use Rattle.rq_model.specs.Legal.{IsLegal, IsUpTo, MayFollow}
 use Rattle.rq_model.specs.Tests.{Size}
 use Rattle.rq_model.specs.Commits.{committed_of}
 use Rattle.rq_model.specs.Rules.{KeepsRules}
 use Rattle.rq_model.specs.Incarnations.{Ties, Extends, incarnation_of, InOrder, opened_ledger}
-use Rattle.rq_model.specs.Promises.{EndsInCrash, EndsInRestart, crash_to}
+use Rattle.rq_model.specs.Promises.{EndsBy, EndsInCrash, EndsInRestart, crash_to}
 use Rattle.rq_model.specs.Bases.{based}
-use Rattle.rq_model.specs.Growth.{IsGrownBy, growth}
+use Rattle.rq_model.specs.Growth.{IsGrownBy, MayStand, growth}
 use Rattle.rq_model.proofs.Follows.{none_told, shut_told}
 use Rattle.rq_model.proofs.Same.{Tied-ledger}
 use Rattle.rq_model.proofs.Shown.{group_are}
@@ -39,7 +39,7 @@ crash_goes_on z h newer older a told t rules f i =
     let less = kept_less l.forced (length older) l.committed f in
     let n = length-append newer older in
     let r = t.records in
-    let legal : IsLegal z (crash_to older h ∷ h) = ((record { durable = omega (arith, d, less); forced = f; exact = refl; up_to = inl (up_to l.phase (length older) l.records (omega (arith, n, r))) }, told), a) in
+    let legal : IsLegal z (crash_to older h ∷ h) = ((record { durable = omega (arith, d, less); forced = f; exact = refl }, told, inl (up_to l.phase (length older) l.records (omega (arith, n, r)))), a) in
     record {
       legal = legal;
       ties = record { committed = c; records = refl; incarnation = i };
@@ -47,9 +47,9 @@ crash_goes_on z h newer older a told t rules f i =
       content = λ s. content_is s older rules ∙ ap (λ x. group_in x s) (sym c) ∙ sym (group_are z (crash_to older h ∷ h) s legal);
     }
 
-pub checkpoint_crash_goes_on : (z : Size) (h : List Entry) (log : List Record) → IsLegal z h → IsGrownBy (growth h) None → Ties (ledger h) log → KeepsRules log → (ledger h).open_ones ≡ []
+pub checkpoint_crash_goes_on : (z : Size) (h : List Entry) (log : List Record) → IsLegal z h → IsGrownBy (growth h) None → Ties (ledger h) log → KeepsRules log → MayStand (growth h) (ledger h)
     → EndsInCrash z h (based (incarnation_of log) log)
-checkpoint_crash_goes_on z h log a told t rules none =
+checkpoint_crash_goes_on z h log a told t rules may =
     let l = ledger h in
     let now : List Record = based (incarnation_of log) log in
     let n : length now ≡ length log + 1 = omega arith in
@@ -61,12 +61,25 @@ checkpoint_crash_goes_on z h log a told t rules none =
     let d = w.durable in
     let less = kept_less l.forced (length now) l.committed (omega (arith, n, r, f)) in
     let legal : IsLegal z (crash_to now h ∷ h) =
-    ((record { durable = omega (arith, d, less); forced = omega (arith, n, r, f); exact = refl; up_to = inr (none, omega (arith, n, r)) }, told), a) in
+    ((record { durable = omega (arith, d, less); forced = omega (arith, n, r, f); exact = refl }, told, inr (may, omega (arith, n, r))), a) in
     record {
       legal = legal;
       ties = record { committed = c; records = refl; incarnation = t.incarnation };
       commits = ap (map (λ (x : Done). x.txn)) (sym c) ∙ (Tied-ledger z (crash_to now h ∷ h) legal).names;
       content = λ s. content_is s log rules ∙ ap (λ x. group_in x s) (sym c) ∙ sym (group_are z (crash_to now h ∷ h) s legal);
+    }
+
+pub growth_goes_on : (z : Size) (h : List Entry) (pages : ℕ) (log : List Record) → IsLegal z h → MayFollow z h (Grew pages (length log)) → Ties (after (Grew pages (length log)) (ledger h)) log → KeepsRules log
+    → EndsBy (Some pages) z h log
+growth_goes_on z h pages log a may t rules =
+    let e : Entry = Grew pages (length log) in
+    let c = t.committed in
+    let legal : IsLegal z (e ∷ h) = (may, a) in
+    record {
+      legal = legal;
+      ties = t;
+      commits = ap (map (λ (x : Done). x.txn)) (sym c) ∙ (Tied-ledger z (e ∷ h) legal).names;
+      content = λ s. content_is s log rules ∙ ap (λ x. group_in x s) (sym c) ∙ sym (group_are z (e ∷ h) s legal);
     }
 
 shut_to : (p : Phase) (n m : ℕ) → p ≡ Shut → IsUpTo m p n
@@ -87,7 +100,7 @@ shut_crash_goes_on z h older now a p t g o rules =
     let d = w.durable in
     let less = kept_less l.forced (length now) l.committed (omega (arith, n, r, f)) in
     let legal : IsLegal z (crash_to now h ∷ h) =
-    ((record { durable = omega (arith, d, less); forced = omega (arith, n, r, f); exact = refl; up_to = inl (shut_to l.phase (length now) l.records p) }, none_told (growth h) (shut_told z h a p)), a) in
+    ((record { durable = omega (arith, d, less); forced = omega (arith, n, r, f); exact = refl }, none_told (growth h) (shut_told z h a p), inl (shut_to l.phase (length now) l.records p)), a) in
     record {
       legal = legal;
       ties = record { committed = c; records = refl; incarnation = (let i = t.incarnation in omega (arith, i, j)) };

@@ -26,7 +26,7 @@ pub data Kind : Entry → Type 0 where
   Forces : (lsn : ℕ) → Kind (Forced lsn)
   Checkpoints : (lsn : ℕ) → Kind (Checkpointed lsn)
   Migrates : (pages lsn : ℕ) → Kind (Migrated pages lsn)
-  Grows : (pages : ℕ) → Kind (Grew pages)
+  Grows : (pages records : ℕ) → Kind (Grew pages records)
   Crashes : (kept records : ℕ) → Kind (Crash kept records)
   Restarts : (i records : ℕ) → Kind (Restarted i records)
 
@@ -60,6 +60,6 @@ kind (Committed t lsn) = Commits t lsn
 kind (Forced lsn) = Forces lsn
 kind (Checkpointed lsn) = Checkpoints lsn
 kind (Migrated pages lsn) = Migrates pages lsn
-kind (Grew pages) = Grows pages
+kind (Grew pages records) = Grows pages records
 kind (Crash kept records) = Crashes kept records
 kind (Restarted i records) = Restarts i records

@@ -44,7 +44,7 @@ module _ (z : Size) (pages : ℕ) (some : 1 ≤ pages) where
   either false h come = inr come
 
   stays : (h : List Entry) (e : Entry) → MayFollow z h e → HasCome h → HasCome (e ∷ h)
-  stays h (Grew n) a come = absurd (let none = (can_get (size_at z h) n a.0.tags).1 in omega (arith, none, come, some))
+  stays h (Grew n records) a come = absurd (let none = (can_get (size_at z h) n a.0.tags).1 in omega (arith, none, come, some))
   stays h _ a come = come
 
   -- a store that runs, or is shut, awaits none
@@ -59,7 +59,7 @@ module _ (z : Size) (pages : ℕ) (some : 1 ≤ pages) where
   not_shut Shut g t is shut = (let e = sym t ∙ is in cc e)
 
   goes_on : (h : List Entry) (e : Entry) → MayFollow z h e → IsToldIn (ledger h).phase (growth h) → IsAwaited h → IsKept (is_crash e) (e ∷ h)
-  goes_on h (Grew n) a t is = inr (ap (λ (m : ℕ). 15 * m) (subst (λ (g : Growth). IsOfMigration g (ledger h) n) is a.1))
+  goes_on h (Grew n records) a t is = ap (λ (m : ℕ). 15 * m) (subst (λ (g : Growth). IsOfMigration g (ledger h) n) is a.1)
   goes_on h (Crash kept records) a t is = absurd (subst (λ (g : Growth). IsGrownBy g None) is a.1)
   goes_on h (Restarted i records) a t is = absurd (not_shut (ledger h).phase (growth h) t is a.shut)
   goes_on h (Migrated n lsn) a t is = absurd (not_running (ledger h).phase (growth h) t is (not-false (runs (ledger h).phase) a.0.0))

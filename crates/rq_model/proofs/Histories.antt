@@ -39,11 +39,15 @@ worked = record {
   checkpoint_of_open = λ a. (let e = a.0.0.1.0 in cc e);
   checkpoint_elsewhere = λ a. (let e = a.0.1 in omega (arith, e));
   checkpoint_lost = λ a. (let e = a.0.0.forced in omega (arith, e));
-  checkpoint_stopped_of_open = λ a. elim a.0.0.up_to [ inl e ↦ omega (arith, e) | inr e ↦ (let none = e.0 in cc none) ];
+  checkpoint_stopped_of_open = λ a. elim a.0.2 [ inl e ↦ omega (arith, e) | inr e ↦ (let none = e.0.none_open in cc none) ];
+  checkpoint_inside = search rules;
+  checkpoint_behind_another_failure = λ a. elim a.0.2 [ inl e ↦ omega (arith, e) | inr e ↦ (let run = e.0.cut_off in cc run) ];
+  checkpoint_over_a_full_log = λ a. elim a.0.2 [ inl e ↦ omega (arith, e) | inr e ↦ (let room = e.0.room in cc room) ];
+  checkpoint_up_to_a_full_log = search rules;
   keeps_lost_commit = λ a. (let e = a.0.0.exact in cc e);
   loses_kept_commit = λ a. (let e = a.0.0.exact in cc e);
   loses_forced_commit = λ a. (let e = a.0.0.forced in omega (arith, e));
-  leaves_more_than_there_was = λ a. elim a.0.0.up_to [ inl e ↦ omega (arith, e) | inr e ↦ (let one = e.1 in omega (arith, one)) ];
+  leaves_more_than_there_was = λ a. elim a.0.2 [ inl e ↦ omega (arith, e) | inr e ↦ (let one = e.1 in omega (arith, one)) ];
   takes_what_was_kept = λ a. (let e = a.0.0.forced in omega (arith, e));
   opened_twice = λ a. (let e = a.0.shut in cc e);
   opened_without_crash = λ a. (let e = a.0.shut in cc e);

@@ -64,9 +64,10 @@ placed_after z l e (Checkpoints n) a w =
 placed_after z l e (Migrates pages n) a w =
     let all = all_kept 0 l.records (l.records + 1) l.committed w.rising (omega arith) in
     record { rising = rising_further 0 l.records (l.records + 1) l.committed (omega arith) w.rising; forced = omega arith; durable = omega (arith, all); exact = λ r. cc r }
-placed_after z l e (Grows pages) a w =
-    let all = all_kept 0 l.records l.records l.committed w.rising (omega arith) in
-    record { rising = w.rising; forced = omega arith; durable = omega (arith, all); exact = λ r. cc r }
+placed_after z l e (Grows pages n) a w =
+    let more : l.records ≤ n = a.1 in
+    let all = all_kept 0 l.records n l.committed w.rising more in
+    record { rising = rising_further 0 l.records n l.committed more w.rising; forced = omega arith; durable = omega (arith, all); exact = λ r. cc r }
 placed_after z l e (Crashes k n) a w =
     let e : k ≡ kept_in n l.committed = a.exact in
     let c : kept_in n (take k l.committed) ≡ k = subst (λ j. kept_in n (take j l.committed) ≡ j) (sym e) (kept_cut l.records n l.committed w.rising) in
@@ -141,8 +142,8 @@ known_after z h e (Migrates pages m) a w = record {
   old = λ t n j. w.old t n (older (Migrated pages m) h t n refl j);
   stands = λ r. cc r;
 }
-known_after z h e (Grows pages) a w = record {
-  old = λ t n j. w.old t n (older (Grew pages) h t n refl j);
+known_after z h e (Grows pages m) a w = record {
+  old = λ t n j. w.old t n (older (Grew pages m) h t n refl j);
   stands = λ r. cc r;
 }
 known_after z h e (Crashes k m) a w = record {
@@ -174,7 +175,7 @@ firm_after z l e d (Commits u n) a w g =
 firm_after z l e d (Forces n) a w g = subst (In d) (sym (all_of l.committed)) (In-take l.durable l.committed d g)
 firm_after z l e d (Checkpoints n) a w g = subst (In d) (sym (all_of l.committed)) (In-take l.durable l.committed d g)
 firm_after z l e d (Migrates pages n) a w g = subst (In d) (sym (all_of l.committed)) (In-take l.durable l.committed d g)
-firm_after z l e d (Grows pages) a w g = subst (In d) (sym (all_of l.committed)) (In-take l.durable l.committed d g)
+firm_after z l e d (Grows pages n) a w g = subst (In d) (sym (all_of l.committed)) (In-take l.durable l.committed d g)
 firm_after z l e d (Crashes k n) a w g = subst (In d) (sym (take-take l.durable k l.committed a.durable)) g
 firm_after z l e d (Restarts i n) a w g = subst (In d) (sym (all_of l.committed)) (In-take l.durable l.committed d g)
 

@@ -83,7 +83,7 @@ since_after z t lsn newer l (Migrated pages n) a s = record {
   kept = λ a b c. absurd (false≢true b);
   pending = λ a b c. absurd (true≢false c);
 }
-since_after z t lsn newer l (Grew pages) a s = still t lsn _ _ _ _ _ _ _ _ s
+since_after z t lsn newer l (Grew pages records) a s = still t lsn _ _ _ _ _ _ _ _ s
 since_after z t lsn newer l (Refused c r) a s = since_refused t lsn newer l c r s
 since_after z t lsn newer l (Crash k n) a s = still t lsn _ _ _ _ _ _ _ _ s
 since_after z t lsn newer l (Restarted i n) a s =

@@ -48,7 +48,7 @@ never_break c g e s = absurd s
 
 -- an entry that a call stands for leaves the size of the store
 pub size_stays : {X : Type 0} (f : ℕ → X → X) (x : X) (e : Entry) → is_break e ≡ false → grown_by f e x ≡ x
-size_stays f x (Grew pages) b = absurd (true≢false b)
+size_stays f x (Grew pages records) b = absurd (true≢false b)
 size_stays f x _ b = refl
 
 pub size_once_called : (z : Size) (h : List Entry) (audit : List (Call × Reply)) (newer : List Entry) → AllSay audit newer → size_at z (newer ++ h) ≡ size_at z h

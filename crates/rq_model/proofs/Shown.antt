@@ -113,7 +113,7 @@ bound_one z l (Committed t n) c d a e w = (omega (arith, w, length_push c t), om
 bound_one z l (Forced n) c d a e w = (omega arith, w)
 bound_one z l (Checkpointed n) c d a e w = (omega arith, w)
 bound_one z l (Migrated pages n) c d a e w = (omega arith, w)
-bound_one z l (Grew pages) c d a e w = (omega arith, w)
+bound_one z l (Grew pages records) c d a e w = (omega arith, w)
 bound_one z l (Crash k r) c d a e w = (let x : l.durable ≤ k = a.durable in omega (arith, x, e, w, length-take k c), omega arith)
 bound_one z l (Restarted i r) c d a e w = (omega arith, w)
 bound_one z l _ c d a e w = (w, omega arith)

@@ -48,7 +48,7 @@ pub data Call : Type 0 where
   Client_tag : (client : ℕ) → Call
   Show : Call
 
--- One call with its reply, a crash, or a restart. Or, before a crash, that a migration came through: so many tag pages stand on the
+-- One call with its reply, a crash, or a restart. `Grew` is a crash that left the tag pages of a migration: so many stand on the
 -- device, and the store that is opened next has them.
 pub data Entry : Type 0 where
   Begun : (t : Txn) → Entry
@@ -73,7 +73,7 @@ pub data Entry : Type 0 where
   Told_client : (client count tag : ℕ) → Entry
   Shown : (groups : List Group) → Entry
   Refused : (call : Call) (refusal : Refusal) → Entry
-  Grew : (pages : ℕ) → Entry
+  Grew : (pages records : ℕ) → Entry
   Crash : (kept records : ℕ) → Entry
   Restarted : (incarnation records : ℕ) → Entry
 
@@ -93,7 +93,7 @@ abbrev pub durable_by : Entry → ℕ → ℕ → ℕ
 durable_by (Forced lsn) committed n = committed
 durable_by (Checkpointed lsn) committed n = committed
 durable_by (Migrated pages lsn) committed n = committed
-durable_by (Grew pages) committed n = committed
+durable_by (Grew pages records) committed n = committed
 durable_by (Restarted i records) committed n = committed
 durable_by _ committed n = n
 

@@ -214,7 +214,7 @@ after (Migrated pages lsn) l = record l {
   forced = l.records + 1;
   durable = length l.committed;
 }
-after (Grew pages) l = record l { phase = Stopped; forced = l.records; durable = length l.committed }
+after (Grew pages records) l = record l { phase = Shut; records = records; forced = records; durable = length l.committed }
 after (Crash kept records) l = record l {
   committed = take kept l.committed;
   open_ones = [];

@@ -11,7 +11,7 @@ use Rattle.rq_model.specs.History.Job.{Sending, Taking, Ending, Marking, Undoing
 use Rattle.rq_model.specs.History.Entry.{Begun, Started, None_free, None_from, Stepped, Ready, Did, Undid, Committed, Acknowledged, Aborting, None_left, Aborted, Handed_over, Forced, Checkpointed, Migrated, Grew, Wrote, Told, Told_client, Shown, Refused, Crash, Restarted}
 use Rattle.rq_model.specs.Ledger.{Open, Ledger, Phase, runs, kept_in, ledger, group_in, sent_in, marks_in, rest_in, found, tag_of, own_takes}
 use Rattle.rq_model.specs.Ledger.Phase.{Running, Stopped, Shut as Is_shut}
-use Rattle.rq_model.specs.Growth.{IsGrownBy, IsOfMigration, growth}
+use Rattle.rq_model.specs.Growth.{Growth, IsGrownBy, IsOfMigration, MayStand, growth, records_grown}
 use Rattle.rq_model.specs.Tests.{Size, bad_tags, below, free_to_receive, holds_for, first_of, size_at, tests, Passes, starts, writes_page}
 
 -- Where each refusal may come: memory's and the disk's own where the store runs, latches and frames where an operation
@@ -64,18 +64,17 @@ IsUpTo n Running records = records ≤ n
 IsUpTo n Stopped records = records ≤ n
 IsUpTo n Is_shut records = Unit {0}
 
--- one record more, where no transaction is open: that of a checkpoint or a migration which the crash stopped
-abbrev pub IsCheckpointed : Ledger → ℕ → Type 0
-IsCheckpointed l records = (l.open_ones ≡ []) × (records ≡ l.records + 1)
+-- one record more: that of a checkpoint or a migration which the crash cut off, or which a device refused
+abbrev pub IsCheckpointed : Growth → Ledger → ℕ → Type 0
+IsCheckpointed g l records = MayStand g l × (records ≡ l.records + 1)
 
 -- What a crash may leave: all that is forced, and of the commits those, in their order, whose records it leaves.
 pub record MayCrash (l : Ledger) (kept records : ℕ) : Type 0 where
   pub durable : l.durable ≤ kept
   pub forced : l.forced ≤ records
   pub exact : kept ≡ kept_in records l.committed
-  pub up_to : IsUpTo l.records l.phase records ⊎ IsCheckpointed l records
 
--- A migration came through, of a store that is open, where no transaction is. The store had no tag pages.
+-- A crash may leave tag pages of a store that is open, where no transaction is. The store had none.
 pub record MayGrow (z : Size) (l : Ledger) (pages : ℕ) : Type 0 where
   pub tags : bad_tags z pages ≡ false
   pub none_open : l.open_ones ≡ []
@@ -87,7 +86,7 @@ pub record MayRestart (l : Ledger) (i records : ℕ) : Type 0 where
   pub shut : l.phase ≡ Is_shut
   pub more : l.records < records
 
--- the entry may come next
+-- The entry may come next, by the ledger. Of a crash this is what it keeps.
 abbrev pub Legal : Size → Ledger → Entry → Type 0
 Legal z l (Begun t) = Passes z l Begin × (t.incarnation ≡ l.incarnation) × (t.count ≡ l.begins + 1)
 Legal z l (Started t n job) = Passes z l (start_of t job) × At l t (λ o. (n ≡ o.number + 1) × CanStart l o job)
@@ -115,16 +114,21 @@ Legal z l (Told_client c count tag) = Passes z l (Client_tag c) × (count ≡ le
     × (tag ≡ last_or 0 (marks_in l.committed c))
 Legal z l (Shown groups) = Passes z l Show × (groups ≡ map (group_in l.committed) (below z.senders))
 Legal z l (Refused c r) = LegalRefusal z l c r
-Legal z l (Grew pages) = MayGrow z l pages
+Legal z l (Grew pages records) = MayGrow z l pages × (l.records ≤ records)
 Legal z l (Crash kept records) = MayCrash l kept records
 Legal z l (Restarted i records) = MayRestart l i records
 
--- The entry may come behind a history, at a store of the size that it has there. Tag pages that a crash leaves are of a migration, and
--- those of one that was answered are left.
+-- The entry may come next. Tag pages that a crash leaves are of a migration, whose record is the last that it leaves, and those of one
+-- that was answered are left.
+abbrev pub MayCome : Size → Growth → Ledger → Entry → Type 0
+MayCome z g l (Grew pages records) = MayGrow z l pages × IsOfMigration g l pages × (records ≡ records_grown g l)
+MayCome z g l (Crash kept records) = MayCrash l kept records × IsGrownBy g None
+    × (IsUpTo l.records l.phase records ⊎ IsCheckpointed g l records)
+MayCome z g l e = Legal z l e
+
+-- The entry may come behind a history, at a store of the size that it has there.
 abbrev pub MayFollow : Size → List Entry → Entry → Type 0
-MayFollow z h (Grew pages) = MayGrow (size_at z h) (ledger h) pages × IsOfMigration (growth h) (ledger h) pages
-MayFollow z h (Crash kept records) = MayCrash (ledger h) kept records × IsGrownBy (growth h) None
-MayFollow z h e = Legal (size_at z h) (ledger h) e
+MayFollow z h e = MayCome (size_at z h) (growth h) (ledger h) e
 
 -- Every entry may come where it stands. The newest comes first.
 abbrev pub IsLegal : Size → List Entry → Type 0

@@ -1,5 +1,5 @@
 -- What holds at every place of every legal history, and how a history goes on.
-use Rattle.std.specs.Prelude.{◌≡◌, ℕ, ◌+◌, ◌*◌, ◌≤◌, List, [], ◌∷◌, ◌++◌, length, Bool, true, false, None, ◌&&◌, ◌||◌, not, map}
+use Rattle.std.specs.Prelude.{◌≡◌, ℕ, ◌+◌, ◌*◌, ◌≤◌, List, [], ◌∷◌, ◌++◌, length, Bool, true, false, Option, Some, None, ◌&&◌, ◌||◌, not, map}
 use Rattle.rq_model.specs.declared.refusal.Refusal.TheVariants.{Failed}
 use Rattle.rq_model.specs.declared.txn.Txn.{Txn}
 use Rattle.rq_model.specs.declared.message.Message.{Message}
@@ -7,12 +7,12 @@ use Rattle.rq_model.specs.declared.record.Record.{Record}
 use Rattle.rq_model.specs.declared.record.Record.TheVariants.{Restart as Restart_record}
 use Rattle.rq_model.specs.Vocabulary.{In}
 use Rattle.rq_model.specs.History.{Entry, Call, Fifo, commits, ended}
-use Rattle.rq_model.specs.History.Entry.{Started, Acknowledged, Committed, Forced, Checkpointed, Migrated, Crash, Refused, Restarted}
+use Rattle.rq_model.specs.History.Entry.{Started, Acknowledged, Committed, Forced, Checkpointed, Migrated, Grew, Crash, Refused, Restarted}
 use Rattle.rq_model.specs.History.Job.{Sending}
-use Rattle.rq_model.specs.Ledger.{Done, Ledger, ledger, kept_in, runs}
+use Rattle.rq_model.specs.Ledger.{Done, Ledger, after, ledger, kept_in, runs}
 use Rattle.rq_model.specs.Ledger.Phase.{Shut}
-use Rattle.rq_model.specs.Growth.{IsGrownBy, growth}
-use Rattle.rq_model.specs.Legal.{Legal, IsLegal}
+use Rattle.rq_model.specs.Growth.{IsGrownBy, MayStand, growth}
+use Rattle.rq_model.specs.Legal.{Legal, IsLegal, MayFollow}
 use Rattle.rq_model.specs.Tests.{Size, size_at}
 use Rattle.rq_model.specs.Content.{content}
 use Rattle.rq_model.specs.Commits.{committed_of}
@@ -55,6 +55,7 @@ ReceiptsAreExact z = (newer older : List Entry) (t : Txn) (lsn : ℕ) (given : B
 
 abbrev pub is_crash : Entry → Bool
 is_crash (Crash kept records) = true
+is_crash (Grew pages records) = true
 is_crash _ = false
 
 -- a migration that was answered stays: from the next crash on the store has the clients of its tag pages
@@ -73,31 +74,45 @@ ReplayGoesOn z = (h : List Entry) (audit : List (Call × Reply)) (l : Ledger) �
     → Replays (size_at z h) (ledger h) audit l
     → (newer : List Entry) × IsLegal z (newer ++ h) × (ledger (newer ++ h) ≡ l) × AllSay audit newer
 
--- the crash that leaves this log
+-- the crash that leaves so many records, and the tag pages of a migration or none
+abbrev pub crash_with : Option ℕ → ℕ → List Entry → Entry
+crash_with None records h = Crash (kept_in records (ledger h).committed) records
+crash_with (Some pages) records h = Grew pages records
+
+-- the crash that leaves this log, and no tag pages more
 abbrev pub crash_to : List Record → List Entry → Entry
-crash_to log h = Crash (kept_in (length log) (ledger h).committed) (length log)
+crash_to log h = crash_with None (length log) h
 
--- A history ends with a crash that left this log: the entry may come there, and the commits and the content that the
--- log tells are those of the history.
-pub record EndsInCrash (z : Size) (h : List Entry) (log : List Record) : Type 0 where
-  pub legal : IsLegal z (crash_to log h ∷ h)
-  pub ties : Ties (ledger (crash_to log h ∷ h)) log
-  pub commits : map (λ (d : Done). d.txn) (committed_of log) ≡ commits (crash_to log h ∷ h)
-  pub content : (s : ℕ) → content log s ≡ group (crash_to log h ∷ h) s
+-- A history ends with a crash that left these tag pages and this log: the entry may come there, and the commits and the content that
+-- the log tells are those of the history.
+pub record EndsBy (tags : Option ℕ) (z : Size) (h : List Entry) (log : List Record) : Type 0 where
+  pub legal : IsLegal z (crash_with tags (length log) h ∷ h)
+  pub ties : Ties (ledger (crash_with tags (length log) h ∷ h)) log
+  pub commits : map (λ (d : Done). d.txn) (committed_of log) ≡ commits (crash_with tags (length log) h ∷ h)
+  pub content : (s : ℕ) → content log s ≡ group (crash_with tags (length log) h ∷ h) s
 
--- A crash that leaves the first records of the log, with all that are forced and the one that began the incarnation. It leaves the tag
--- pages of a migration that was answered, as an entry before it tells.
+abbrev pub EndsInCrash : Size → List Entry → List Record → Type 0
+EndsInCrash z h log = EndsBy None z h log
+
+-- A crash that leaves the first records of the log, with all that are forced and the one that began the incarnation. No answered
+-- migration awaits it.
 abbrev pub CrashGoesOn : Size → Type 0
 CrashGoesOn z = (h : List Entry) (newer older : List Record) → IsLegal z h → IsGrownBy (growth h) None
     → Ties (ledger h) (newer ++ older)
     → KeepsRules older
     → (ledger h).forced ≤ length older → (ledger h).incarnation ≤ incarnation_of older → EndsInCrash z h older
 
--- a crash in a checkpoint or a migration, where no transaction is open, which leaves the Base that stands for all records
+-- a crash that leaves the Base of a checkpoint or a migration, which may stand for all records
 abbrev pub CheckpointCrashGoesOn : Size → Type 0
 CheckpointCrashGoesOn z = (h : List Entry) (log : List Record) → IsLegal z h → IsGrownBy (growth h) None → Ties (ledger h) log
     → KeepsRules log
-    → (ledger h).open_ones ≡ [] → EndsInCrash z h (based (incarnation_of log) log)
+    → MayStand (growth h) (ledger h) → EndsInCrash z h (based (incarnation_of log) log)
+
+-- A crash that leaves tag pages, where it may, and the log that it is to leave.
+abbrev pub GrowthGoesOn : Size → Type 0
+GrowthGoesOn z = (h : List Entry) (pages : ℕ) (log : List Record) → IsLegal z h → MayFollow z h (Grew pages (length log))
+    → Ties (after (Grew pages (length log)) (ledger h)) log
+    → KeepsRules log → EndsBy (Some pages) z h log
 
 -- a crash of a store that is not open, which leaves what was left before, with some of what a restart that was stopped
 -- has added

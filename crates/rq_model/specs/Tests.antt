@@ -20,7 +20,7 @@ pub record Size : Type 0 where
 
 -- what a history makes of a size, by what so many tag pages make of it
 abbrev pub grown_by : {X : Type 0} → (ℕ → X → X) → Entry → X → X
-grown_by f (Grew pages) x = f pages x
+grown_by f (Grew pages records) x = f pages x
 grown_by f _ x = x
 
 abbrev pub grown_at : {X : Type 0} → (ℕ → X → X) → X → List Entry → X

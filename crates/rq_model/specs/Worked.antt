@@ -1,5 +1,5 @@
 -- Worked histories: which are legal, what they come to, and which are not.
-use Rattle.std.specs.Prelude.{◌≡◌, ◌+◌, ◌*◌, ◌^◌, ℕ, zero, suc, List, [], ◌∷◌, ◌++◌, Some, true, false, map, replicate}
+use Rattle.std.specs.Prelude.{◌≡◌, ◌+◌, ◌-◌, ◌*◌, ◌^◌, ℕ, zero, suc, List, [], ◌∷◌, ◌++◌, Some, true, false, map, replicate}
 use Rattle.rq_model.specs.declared.txn.Txn.{Txn}
 use Rattle.rq_model.specs.declared.message.Message.{Message}
 use Rattle.rq_model.specs.declared.refusal.Refusal.TheVariants.{DiskWrite, Failed, NoMemory, Full, SenderBusy, ReceiverBusy, TooLong, UnknownSender, Closed, Unfinished, UnknownOperation, UnknownTransaction, NotOpen, Latched, NotForced, LogFull, NotQuiet}
@@ -212,6 +212,10 @@ pub record AreWorked : Type 0 where
   pub checkpoint_elsewhere : IsLegal small (Checkpointed 5 ∷ committed_once) → ⊥
   pub checkpoint_lost : IsLegal small (Crash 1 5 ∷ Checkpointed 6 ∷ committed_once) → ⊥
   pub checkpoint_stopped_of_open : IsLegal small (Crash 0 5 ∷ sent_once) → ⊥
+  pub checkpoint_inside : IsLegal small (Crash 1 6 ∷ committed_once)
+  pub checkpoint_behind_another_failure : IsLegal small (Crash 1 6 ∷ failed_force) → ⊥
+  pub checkpoint_over_a_full_log : IsLegal small (Crash 0 (2 ^ 50 + 1) ∷ Restarted 1 (2 ^ 50) ∷ []) → ⊥
+  pub checkpoint_up_to_a_full_log : IsLegal small (Crash 0 (2 ^ 50) ∷ Restarted 1 (2 ^ 50 - 1) ∷ [])
   pub keeps_lost_commit : IsLegal small (Crash 1 4 ∷ committed_once) → ⊥
   pub loses_kept_commit : IsLegal small (Crash 0 5 ∷ committed_once) → ⊥
   pub loses_forced_commit : IsLegal small (Crash 0 1 ∷ Forced 5 ∷ committed_once) → ⊥

@@ -11,7 +11,7 @@ ghost use Rattle.rq_model.specs.Rules.{KeepsRules};
 ghost use Rattle.rq_model.specs.Ledger.{ledger, group_in};
 ghost use Rattle.rq_model.specs.History.{Entry, marks};
 ghost use Rattle.rq_model.specs.History.Entry.{Told_client};
-ghost use Rattle.rq_model.specs.Promises.{AcknowledgedStay, CheckpointCrashGoesOn, CrashGoesOn, FifoThroughout, MigrationsStay, NothingBehindClose, ReceiptsAreExact, ReplayGoesOn, RestartGoesOn, ShutCrashGoesOn, StillStoreRefuses};
+ghost use Rattle.rq_model.specs.Promises.{AcknowledgedStay, CheckpointCrashGoesOn, CrashGoesOn, FifoThroughout, GrowthGoesOn, MigrationsStay, NothingBehindClose, ReceiptsAreExact, ReplayGoesOn, RestartGoesOn, ShutCrashGoesOn, StillStoreRefuses};
 ghost use Rattle.rq_model.specs.Legal.{IsLegal};
 ghost use Rattle.rq_model.specs.Tests.{Size};
 ghost use Rattle.rq_model.specs.Worked.{AreWorked};
@@ -25,7 +25,7 @@ pub fn first_in_first_out()
     ensures { (size : Size) (history : List Entry) → IsLegal size history → FifoThroughout history }
 {}
 
-/// The commits that a force or a restart has followed stay in every history that goes on from there.
+/// The commits that a force, a checkpoint, a migration, `Grew` or a restart has followed stay in every history that goes on from there.
 pub fn forced_stay()
     ensures { (size : Size) (newer history : List Entry) → IsLegal size (newer ++ history) → Survives newer history }
 {}
@@ -68,6 +68,12 @@ pub fn crash_goes_on()
 /// history too: the commits and the content that this log tells are those of the history.
 pub fn checkpoint_crash_goes_on()
     ensures { (size : Size) → CheckpointCrashGoesOn size }
+{}
+
+/// A crash that leaves the tag pages of a migration, where it may, is the next entry of a legal history too: the commits and the
+/// content that its log tells are those of the history.
+pub fn growth_goes_on()
+    ensures { (size : Size) → GrowthGoesOn size }
 {}
 
 /// A crash of a store that is not open, as in a restart that was stopped, is the next entry of a legal history too: it

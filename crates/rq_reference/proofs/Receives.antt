@@ -15,10 +15,11 @@ use Rattle.rq_model.specs.History.{Job}
 use Rattle.rq_model.specs.History.Job.{Sending, Taking, Undoing}
 use Rattle.rq_model.specs.History.Call.{Start_receive, Finish}
 use Rattle.rq_model.specs.History.Entry.{Started}
-use Rattle.rq_model.specs.Ledger.{Open, Done, Ledger, found, started, rest_in, sent_in, tag_of, taken_in, after, change}
-use Rattle.rq_model.specs.Legal.{OnFound, At, IsDoneBy, Legal}
+use Rattle.rq_model.specs.Ledger.{Open, Done, Ledger, found, started, rest_in, sent_in, tag_of, taken_in, change}
+use Rattle.rq_model.specs.Growth.{Growth}
+use Rattle.rq_model.specs.Legal.{OnFound, At, IsDoneBy, Legal, MayCome}
 use Rattle.rq_model.specs.Tests.{Size, below, gives, any_gives, free_to_receive, holds_for, Passes, log_full}
-use Rattle.rq_reference.specs.Plain.{StandsAt, open_of, op_of, sending_with, receiving_with, pick, receivable, ops_with, tag_for, tag_in, tags_in, ComesTo, finish_entry}
+use Rattle.rq_reference.specs.Plain.{StandsAt, open_of, op_of, sending_with, receiving_with, pick, receivable, ops_with, tag_for, tag_in, tags_in, ComesTo, Stand, finish_entry, next}
 
 -- the last of a list stands at its last place
 last_or_got : {X : Type 0} (y : X) (ys : List X) (d : X) → last_or y ys ≡ get_or (y ∷ ys) (length ys) d
@@ -246,14 +247,14 @@ kept_txn n w _ o = refl
 abbrev pub finished_one : Option Act → Open → Open
 finished_one f o = record o { ops = ops_with f o.ops; under = None }
 
-pub after_finish : (t : Txn) (n : ℕ) (f : Option Act) (l : Ledger) → after (finish_entry t n f) l ≡ record l { open_ones = change t (finished_one f) l.open_ones; records = l.records + 1 }
-after_finish t n (Some a) l = refl
-after_finish t n None l = refl
+pub next_finish : (t : Txn) (n : ℕ) (f : Option Act) (s : Stand) → next (finish_entry t n f) s ≡ record s { ledger = record s.ledger { open_ones = change t (finished_one f) s.ledger.open_ones; records = s.ledger.records + 1 } }
+next_finish t n (Some a) s = refl
+next_finish t n None s = refl
 
-pub may_finish : (z : Size) (l : Ledger) (t : Txn) (n : ℕ) (f : Option Act) (j : Job) (o : Open) → Passes z l (Finish t n) → found t l.open_ones ≡ Some o → o.under ≡ Some j
-    → At l t (λ p. ComesTo l p j f) → Legal z l (finish_entry t n f)
-may_finish z l t n (Some a) j o p e u h = let k : IsDoneBy l o (Some j) (op_of a) = rw e at h in (p, rw e (rw u k))
-may_finish z l t n None j o p e u h = let k : j ≡ Undoing = rw e at h in (p, rw e (u ∙ ap (λ x. Some x) k))
+pub may_finish : (z : Size) (g : Growth) (l : Ledger) (t : Txn) (n : ℕ) (f : Option Act) (j : Job) (o : Open) → Passes z l (Finish t n) → found t l.open_ones ≡ Some o → o.under ≡ Some j
+    → At l t (λ p. ComesTo l p j f) → MayCome z g l (finish_entry t n f)
+may_finish z g l t n (Some a) j o p e u h = let k : IsDoneBy l o (Some j) (op_of a) = rw e at h in (p, rw e (rw u k))
+may_finish z g l t n None j o p e u h = let k : j ≡ Undoing = rw e at h in (p, rw e (u ∙ ap (λ x. Some x) k))
 
 -- what is told of a sender is that of its messages
 with_tag : (o : Option Message) (tags : List ℕ) (ms : List Message) → tags ≡ map (λ (m : Message). m.tag) ms → cons_option (tag_in o) tags ≡ map (λ (m : Message). m.tag) (cons_option o ms)

@@ -21,33 +21,37 @@ use Rattle.rq_model.specs.Vocabulary.{Op, client_group, first, front, has_number
 use Rattle.rq_model.specs.Vocabulary.Op.{Send, Take, End, Mark}
 use Rattle.rq_model.specs.History.{Job, Call, Entry}
 use Rattle.rq_model.specs.History.Job.{Sending, Taking, Ending, Marking, Undoing}
-use Rattle.rq_model.specs.History.Entry.{Refused, Ready, Stepped, Did, Undid, Started, None_free, None_from, None_left, Grew}
+use Rattle.rq_model.specs.History.Entry.{Refused, Ready, Stepped, Did, Undid, Started, None_free, None_from, None_left}
 use Rattle.rq_model.specs.Ledger.{Open, Done, Ledger, Phase, runs, after, found, kept_in, add_number, Rising}
 use Rattle.rq_model.specs.Ledger.Phase.{Running, Stopped, Shut}
-use Rattle.rq_model.specs.Legal.{Legal, IsDoneBy}
-use Rattle.rq_model.specs.Tests.{Size, NoneHolds, first_of, with_clients, has_under, ready_tests, below, gives, without_pages}
+use Rattle.rq_model.specs.Growth.{Growth, growth_by}
+use Rattle.rq_model.specs.Growth.Growth.{Grows, Stays}
+use Rattle.rq_model.specs.Legal.{MayCome, IsDoneBy}
+use Rattle.rq_model.specs.Tests.{Size, NoneHolds, first_of, grown_by, with_clients, has_under, ready_tests, below, gives, without_pages}
 
--- a reference runs; or a migration came through, and it answers nothing more; or it is not open
+-- a reference runs; or a migration was answered, and it answers nothing more; or it is not open
 abbrev pub phase_of : State → Phase
 phase_of Running_state = Running
-phase_of Stopped_state = Stopped
+phase_of (Stopped_state pages) = Stopped
 phase_of Shut_state = Shut
 
--- what a reference is: the numbers that stay, and the ledger
+-- what a crash leaves of the migration
+abbrev pub growth_of : State → Growth
+growth_of (Stopped_state pages) = Grows pages
+growth_of _ = Stays
+
+-- what a reference is: its sizes, what no crash has told yet, and the ledger
 pub record Stand : Type 0 where
   pub size : Size
+  pub growth : Growth
   pub ledger : Ledger
 
 -- the entry may come next, and what it makes of the reference
 abbrev pub May : Stand → Entry → Type 0
-May s e = Legal s.size s.ledger e
+May s e = MayCome s.size s.growth s.ledger e
 
 abbrev pub next : Entry → Stand → Stand
-next e s = record { size = s.size; ledger = after e s.ledger }
-
--- what it makes of the reference that a migration came through: so many tag pages stand on the device
-abbrev pub grown : ℕ → Stand → Stand
-grown pages s = record { size = with_clients pages s.size; ledger = after (Grew pages) s.ledger }
+next e s = record { size = grown_by with_clients e s.size; growth = growth_by e s.growth; ledger = after e s.ledger }
 
 -- the call may be refused so
 abbrev pub MayBeRefused : Stand → Call → Refusal → Type 0

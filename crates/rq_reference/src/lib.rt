@@ -2,12 +2,14 @@
 //! definitions: each call is answered as the ledger says.
 #![tactic(auto)]
 
-ghost use Rattle.std.specs.Prelude.{◌≡◌, ◌≢◌, ◌↔◌, ◌⊎◌, not, ◌<◌, ◌≤◌, ◌-◌, ◌^◌, IfOk, IfErr, OnErr, OnOk, length, map, true};
+ghost use Rattle.std.specs.Prelude.{◌≡◌, ◌≢◌, ◌↔◌, ◌⊎◌, not, ◌<◌, ◌≤◌, ◌-◌, ◌^◌, IfOk, IfErr, OnErr, OnOk, None, length, map, true};
 ghost use Rattle.rq_model.specs.History.Call.{Begin, Commit, Finish, Show, Step, Acknowledge, Start_abort, End_abort, Hand_over, Force, Checkpoint, Last_tag, Client_tag};
 ghost use Rattle.rq_model.specs.History.Entry.{Begun, Shown, Committed, Acknowledged, Aborting, Aborted, Handed_over, Forced, Checkpointed, Told, Told_client, Crash, Restarted};
 ghost use Rattle.rq_model.specs.Vocabulary.{first, is_some, last_or};
 ghost use Rattle.rq_model.specs.Ledger.{empty, kept_in, marks_in, runs, sent_in};
 ghost use Rattle.rq_model.specs.Ledger.Phase.{Shut};
+ghost use Rattle.rq_model.specs.Growth.{IsGrownBy};
+ghost use Rattle.rq_model.specs.Growth.Growth.{Stays};
 ghost use Rattle.rq_model.specs.Legal.{At, IsCheckpointed, IsUpTo};
 ghost use Rattle.rq_reference.specs.Plain.{May, MayBeRefused, next, ComesTo, FindsReady, IsBusy, IsIdle, StandsAt, finish_entry, job_of, open_of, step_entry, tags_in};
 ghost use Rattle.rq_model.specs.Tests.{IsUnready};
@@ -46,12 +48,13 @@ pub struct Reference {
 
 impl Model for Reference {
     ghost use Rattle.std.specs.Prelude.{map};
-    ghost use Rattle.rq_reference.specs.Plain.{Stand, Sound, done_of, open_of, phase_of};
+    ghost use Rattle.rq_reference.specs.Plain.{Stand, Sound, done_of, growth_of, open_of, phase_of};
 
     ghost Value = { Stand };
 
     ghost view = { λ r. record {
       size = record { senders = r.senders; cells = r.cells; clients = r.clients };
+      growth = growth_of r.state;
       ledger = record {
         committed = map done_of r.committed.items;
         open_ones = map open_of r.open_txns.items;
@@ -80,6 +83,7 @@ impl Reference {
     /// A store of so many senders, cells and clients, not yet opened.
     pub fn new(alloc: Global, senders: u32, cells: u64, clients: u32) -> Self
         ensures empty { result.ledger ≡ empty }
+        ensures stays { result.growth ≡ Stays }
         ensures senders { result.size.senders ≡ senders }
         ensures cells { result.size.cells ≡ cells }
         ensures clients { result.size.clients ≡ clients }
@@ -151,10 +155,13 @@ impl Reference {
         if self.is_shut() {
             return true;
         }
+        if !self.is_running() {
+            return false;
+        }
         if records <= self.records {
             return true;
         }
-        self.is_quiet() && records - 1 == self.records
+        self.may_stand() && records - 1 == self.records
     }
 
     // Whether it answers calls.
@@ -195,10 +202,11 @@ impl Reference {
         self.durable = self.committed.len();
     }
 
-    /// A crash that leaves the first `records` records of the log, or one more, a checkpoint's, where no transaction is open.
+    /// A crash that leaves the first `records` records of the log, or one more, that of a checkpoint which it cut off.
     pub fn crash(&mut self, records: u64)
         requires forced { self.old.ledger.forced ≤ records }
-        requires up_to { IsUpTo self.old.ledger.records self.old.ledger.phase records ⊎ IsCheckpointed self.old.ledger records }
+        requires told { IsGrownBy self.old.growth None }
+        requires up_to { IsUpTo self.old.ledger.records self.old.ledger.phase records ⊎ IsCheckpointed self.old.growth self.old.ledger records }
         ensures ok { May self.old (Crash (kept_in records self.old.ledger.committed) records) }
         ensures step { self.new ≡ next (Crash (kept_in records self.old.ledger.committed) records) self.old }
     {

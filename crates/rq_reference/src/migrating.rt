@@ -2,9 +2,9 @@
 ghost use Rattle.std.specs.Prelude.{◌≡◌, ◌≢◌, ◌↔◌, ◌*◌, IfErr, IfNone, IfOk, IfSome, OnErr, [], false, true};
 ghost use Rattle.rq_model.specs.History.Call.{Migrate};
 ghost use Rattle.rq_model.specs.History.Entry.{Grew, Migrated};
-ghost use Rattle.rq_model.specs.Legal.{MayGrow};
+ghost use Rattle.rq_model.specs.Growth.{IsOfMigration, MayStand, records_grown};
 ghost use Rattle.rq_model.specs.Tests.{bad_tags};
-ghost use Rattle.rq_reference.specs.Plain.{May, MayBeRefused, grown, next};
+ghost use Rattle.rq_reference.specs.Plain.{May, MayBeRefused, next};
 ghost use Rattle.rq_model.specs.declared.refusal.Refusal.TheVariants.{NoMemory};
 
 use crate::rows::State;
@@ -26,8 +26,7 @@ impl Reference {
     /// `Failed`; `BadTags` where the pages are not 1 to 1,024, or the store has clients; `NotQuiet`, `LogFull`.
     pub fn migrate(&mut self, pages: u32) -> Result<Lsn, Refusal>
         ensures ok { IfOk result (λ lsn. May self.old (Migrated pages lsn)) }
-        ensures grows { IfOk result (λ lsn. May (next (Migrated pages lsn) self.old) (Grew pages)) }
-        ensures step { IfOk result (λ lsn. self.new ≡ grown pages (next (Migrated pages lsn) self.old)) }
+        ensures step { IfOk result (λ lsn. self.new ≡ next (Migrated pages lsn) self.old) }
         ensures refused { IfErr result (λ r. MayBeRefused self.old (Migrate pages) r) }
         ensures same { OnErr result (self.new ≡ self.old) }
         ensures memory { IfErr result (λ r. r ≢ NoMemory) }
@@ -35,9 +34,9 @@ impl Reference {
         if !self.is_running() {
             return Err(Refusal::Failed);
         }
-        let Some(clients) = self.clients_with(pages) else {
+        if self.clients_with(pages).is_none() {
             return Err(Refusal::BadTags);
-        };
+        }
         if !self.is_quiet() {
             return Err(Refusal::NotQuiet);
         }
@@ -47,15 +46,17 @@ impl Reference {
         self.records += 1;
         self.forced = self.records;
         self.durable = self.committed.len();
-        self.clients = clients;
-        self.state = State::Stopped;
+        self.state = State::Stopped(pages);
         Ok(self.records)
     }
 
-    /// Whether a crash may leave so many pages of tags, which a migration has not answered.
+    /// Whether a crash may leave so many pages of tags: those of the migration that was answered, or of one that the crash cuts off.
     pub fn may_grow(&self, pages: u32) -> bool
-        ensures { (result ≡ true) ↔ May self.now (Grew pages) }
+        ensures { (result ≡ true) ↔ May self.now (Grew pages (records_grown self.now.growth self.now.ledger)) }
     {
+        if !self.is_of_migration(pages) {
+            return false;
+        }
         if self.is_shut() {
             return false;
         }
@@ -65,18 +66,53 @@ impl Reference {
         self.is_quiet()
     }
 
-    /// A migration comes through that has not answered: the store has clients, and answers nothing more before it is opened
-    /// again.
+    /// A crash that leaves so many pages of tags, and the record of their migration: the store has clients then.
     pub fn grow(&mut self, pages: u32)
-        requires { MayGrow self.old.size self.old.ledger pages }
-        ensures ok { May self.old (Grew pages) }
-        ensures step { self.new ≡ grown pages self.old }
+        requires { May self.old (Grew pages (records_grown self.old.growth self.old.ledger)) }
+        ensures { self.new ≡ next (Grew pages (records_grown self.old.growth self.old.ledger)) self.old }
     {
         if let Some(clients) = self.clients_with(pages) {
             self.clients = clients;
+            self.records = self.records_grown(pages);
             self.forced = self.records;
             self.durable = self.committed.len();
-            self.state = State::Stopped;
+            self.state = State::Shut;
+        }
+    }
+
+    /// Whether one record may stand for all, where a crash comes inside a checkpoint or a migration.
+    pub(super) fn may_stand(&self) -> bool
+        ensures { (result ≡ true) ↔ MayStand self.now.growth self.now.ledger }
+    {
+        if !self.state.is_running() {
+            return false;
+        }
+        if self.is_log_full(1) {
+            return false;
+        }
+        self.is_quiet()
+    }
+
+    // How many records stand where so many pages of tags do.
+    fn records_grown(&self, pages: u32) -> u64
+        requires { IsOfMigration self.now.growth self.now.ledger pages }
+        ensures { result ≡ records_grown self.now.growth self.now.ledger }
+    {
+        match self.state {
+            State::Running => self.records + 1,
+            State::Stopped(_) => self.records,
+            State::Shut => self.records,
+        }
+    }
+
+    // Whether so many pages of tags are of a migration.
+    fn is_of_migration(&self, pages: u32) -> bool
+        ensures { (result ≡ true) ↔ IsOfMigration self.now.growth self.now.ledger pages }
+    {
+        match self.state {
+            State::Running => !self.is_log_full(1),
+            State::Stopped(asked) => pages == asked,
+            State::Shut => false,
         }
     }
 

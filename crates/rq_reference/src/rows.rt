@@ -14,8 +14,8 @@ use std::marker::Model;
 pub enum State {
     /// It is, and answers calls.
     Running,
-    /// A migration came through, and it answers nothing more.
-    Stopped,
+    /// A migration to so many pages of tags was answered, and it answers nothing more.
+    Stopped(u32),
     /// It is not.
     Shut,
 }
@@ -27,7 +27,7 @@ impl State {
     {
         match self {
             State::Running => true,
-            State::Stopped => false,
+            State::Stopped(_) => false,
             State::Shut => false,
         }
     }
@@ -38,7 +38,7 @@ impl State {
     {
         match self {
             State::Running => false,
-            State::Stopped => false,
+            State::Stopped(_) => false,
             State::Shut => true,
         }
     }

@@ -339,7 +339,7 @@ const ROWS: [Row; 109] = [
 
 // A store without clients gets some, where no transaction is open, and answers nothing more before it is opened again. Then its
 // clients can be marked, and it gets no others.
-const MIGRATED_ROWS: [Row; 32] = [
+const MIGRATED_ROWS: [Row; 33] = [
     (Call::Migrate(1), 102),
     (Call::Restart(1, 1), 1),
     (Call::Begin, 1),
@@ -357,10 +357,11 @@ const MIGRATED_ROWS: [Row; 32] = [
     (Call::Acknowledge, 102),
     (Call::Content, 102),
     (Call::Migrate(1), 102),
-    (Call::Grow(1), 0),
+    (Call::Grow(2), 0),
     (Call::Restart(2, 7), 0),
     (Call::Crash(5), 0),
-    (Call::Crash(6), 1),
+    (Call::Crash(6), 0),
+    (Call::Grow(1), 1),
     (Call::Restart(2, 7), 1),
     (Call::Content, 101),
     (Call::ClientTag(14), 0),
@@ -374,8 +375,8 @@ const MIGRATED_ROWS: [Row; 32] = [
     (Call::ClientTag(3), 170),
 ];
 
-// A crash cuts a migration off, and leaves the pages of tags that it wrote.
-const GROWN_ROWS: [Row; 15] = [
+// A crash cuts a migration off, and leaves its record and the pages of tags that it wrote.
+const GROWN_ROWS: [Row; 16] = [
     (Call::Grow(1), 0),
     (Call::Restart(1, 1), 1),
     (Call::Begin, 1),
@@ -386,11 +387,20 @@ const GROWN_ROWS: [Row; 15] = [
     (Call::Grow(1024), 1),
     (Call::Force, 102),
     (Call::Crash(1), 0),
+    (Call::Restart(2, 3), 0),
     (Call::Crash(3), 1),
     (Call::Grow(1), 0),
     (Call::Restart(2, 4), 1),
     (Call::ClientTag(15359), 0),
     (Call::ClientTag(15360), 122),
+];
+
+// A log of the greatest length has no room for the record of a migration or a checkpoint that a crash would cut off.
+const FULL_ROWS: [Row; 4] = [
+    (Call::Restart(1, 1 << 50), 1),
+    (Call::Grow(1), 0),
+    (Call::Crash((1 << 50) + 1), 0),
+    (Call::Crash(1 << 50), 1),
 ];
 
 // A store of one directory, one cell and one tag page.
@@ -407,4 +417,6 @@ fn lists_answer_migrations(rt: HostRuntime) {
     assert_eq!(rt; first_other(&mut queue, &MIGRATED_ROWS), None);
     let mut queue = Reference::new(rt.alloc(), 15, 15, 0);
     assert_eq!(rt; first_other(&mut queue, &GROWN_ROWS), None);
+    let mut queue = Reference::new(rt.alloc(), 15, 15, 0);
+    assert_eq!(rt; first_other(&mut queue, &FULL_ROWS), None);
 }

@@ -27,13 +27,15 @@ returns-clause-ok c =
     let n = c.args.records in
     let l : i.forced ≤ n = rw (ap (λ (s : Stand). s.ledger.forced) c.self.view_is) c.requires.forced in
     let k = kept_less i.forced n (map done_of i.committed.items) l in
-    let h : i.durable ≤ kept_in n (map done_of i.committed.items) = omega (arith, k, c.self.invariant.durable) in
-    record {
-      durable = subst (λ (s : Stand). s.ledger.durable ≤ kept_in n s.ledger.committed) c.self.view_is h;
-      forced = c.requires.forced;
-      exact = refl;
-      up_to = c.requires.up_to;
-    }
+    let h : i.durable ≤ kept_in n (map done_of i.committed.items) = omega (arith, k, c.self.invariant.durable) in (
+      record {
+        durable = subst (λ (s : Stand). s.ledger.durable ≤ kept_in n s.ledger.committed) c.self.view_is h;
+        forced = c.requires.forced;
+        exact = refl;
+      },
+      c.requires.told,
+      c.requires.up_to,
+    )
 
 pub returns-clause-step : goal.returns-clause-step
 returns-clause-step c =

@@ -3,11 +3,11 @@ use Rattle.std.proofs.lemmas.Bool.Decides.{nat_tests}
 use Rattle.rq_reference.specs.declared.rows.Act.{Act}
 use Rattle.rq_reference.specs.declared.rows.OpenTxn.{OpenTxn}
 use Rattle.rq_model.specs.Vocabulary.{Op}
-use Rattle.rq_model.specs.Ledger.{Open, Ledger, change}
+use Rattle.rq_model.specs.Ledger.{Open, change}
 use Rattle.rq_reference.specs.Plain.{open_of, done_of, op_of, ops_with, job_of, Stand}
 use Rattle.rq_model.proofs.Rises.{rising_further}
 use Rattle.rq_reference.proofs.Plainly.{stands_found, stands_row, stands_within, change_stands, numbered_change, same_row}
-use Rattle.rq_reference.proofs.Receives.{after_finish, finished_one, may_finish}
+use Rattle.rq_reference.proofs.Receives.{finished_one, may_finish, next_finish}
 use Rattle.rq_reference.proofs.Reference.finish.Goals as goal
 
 some_left : (n : ℕ) → 0 < n → nat_lt 0 n ≡ true
@@ -34,7 +34,7 @@ returns-clause-ok c =
     let f = stands_found i.open_txns.items l c.args.txn c.in_ok-place.place m v b.stands c.index-row.ensures in
     let none : m.left ≡ 0 = omega arith in
     let u = ap (λ (o : Open). o.under) (stands_row i.open_txns.items l c.args.txn c.in_ok-place.place m v b.stands c.index-row.ensures) ∙ b.under (open_of m) in
-    may_finish z l c.args.txn c.args.number c.in-Ok.finished (job_of c.in_ok-place.work) (open_of m) (b.passes.0, (b.passes.1.0, (rw (f, none) refl, tt))) f u c.in-Ok.ensures.ok
+    may_finish z c.args.self.now.growth l c.args.txn c.args.number c.in-Ok.finished (job_of c.in_ok-place.work) (open_of m) (b.passes.0, (b.passes.1.0, (rw (f, none) refl, tt))) f u c.in-Ok.ensures.ok
 
 pub invariant_of-self : goal.invariant_of-self
 invariant_of-self c =
@@ -63,4 +63,4 @@ returns-clause-step c =
     let r : OpenTxn = record m { acts = c.in-Ok-acts_with.acts; work = None } in
     let e = change_stands i.incarnation i.begins i.open_txns.items l c.args.txn (finished_one done) c.in_ok-place.place m r c.self.invariant.numbered v b.stands c.index_mut-row.ensures.value (ap (λ (x : List Op). record (open_of m) { ops = x; under = None }) more) in
     rw e (ap (λ (s : Stand). record s { ledger = record s.ledger { open_ones = change c.args.txn (finished_one done) s.ledger.open_ones; records = s.ledger.records + 1 } }) c.self.view_is
-    ∙ ap (λ (x : Ledger). record c.args.self.now { ledger = x }) (sym (after_finish c.args.txn c.args.number done l)))
+    ∙ sym (next_finish c.args.txn c.args.number done c.args.self.now))
