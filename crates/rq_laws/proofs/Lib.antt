@@ -12,5 +12,4 @@ pub mod Audits
 pub mod Restarting
 pub mod Writing
 pub mod Broken
-pub mod Checkpoints
-pub mod Migrations
+pub mod Making

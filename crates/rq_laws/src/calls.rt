@@ -4,6 +4,7 @@ ghost use Rattle.rq_content.specs.Read.{group_of};
 ghost use Rattle.rq_engine.specs.Opened.{AreHonest};
 ghost use Rattle.rq_engine.specs.Says.{receipt_of};
 ghost use Rattle.rq_laws.specs.Alike.{ReadAlike};
+ghost use Rattle.rq_laws.specs.Made.{MakeAlike, OnBoth};
 ghost use Rattle.rq_laws.specs.Refusals.{RefuseAlike, RefuseTheSame};
 ghost use Rattle.rq_page.specs.Sizes.{page_count, with_tags};
 ghost use Rattle.rq_sound.specs.Sound.{IsSound};
@@ -138,19 +139,7 @@ pub fn checkpoint<P: PageDevice, L: LogDevice, B: Level>(
     second: &mut Engine<P, L, B>,
 ) -> (Result<Lsn, Refusal>, Result<Lsn, Refusal>)
     requires same { first.old ≡ second.old }
-    ensures same { IfOk result.0 (λ a. IfOk result.1 (λ b. a ≡ b)) }
-    ensures state { IfOk result.0 (λ _. IfOk result.1 (λ _. first.new.state ≡ second.new.state)) }
-    ensures stopped { IfErr result.0 (λ r. IfErr result.1 (λ s. r ≡ s → first.new.state ≡ second.new.state)) }
-    ensures refused { IfErr result.0 (λ r. r ≢ Refusal.DiskWrite → first.new ≡ first.old) }
-    ensures memory { IfErr result.0 (λ r. r ≢ Refusal.NoMemory) }
-    ensures reads { IfOk result.0 (λ _. IfOk result.1 (λ _. L.honest first.new.log → L.honest second.new.log
-        → L.seen first.new.log ≡ L.seen second.new.log)) }
-    ensures durable { IfOk result.0 (λ _. IfOk result.1 (λ _. L.honest first.new.log → L.honest second.new.log
-        → (c d : List ℕ) → L.may_leave first.new.log c → L.may_leave second.new.log d → c ≡ d)) }
-    ensures pages { IfOk result.0 (λ _. IfOk result.1 (λ _. P.honest first.new.pages → P.honest second.new.pages
-        → (p : ℕ) → 1 ≤ p → p < page_count first.old.state.sizes → (c d : List ℕ) → P.may_be first.new.pages p c
-        → P.may_be second.new.pages p d → c ≡ d)) }
-    ensures decided { RefuseAlike result.0 result.1 }
+    ensures { MakeAlike P.PageDevice L.LogDevice first.old first.new second.new result.0 result.1 }
 {
     (first.checkpoint(), second.checkpoint())
 }
@@ -167,26 +156,14 @@ pub fn migrate<P: PageDevice, L: LogDevice, B: Level>(
     pages: u32,
 ) -> (Result<Lsn, Refusal>, Result<Lsn, Refusal>)
     requires same { first.old ≡ second.old }
-    ensures same { IfOk result.0 (λ a. IfOk result.1 (λ b. a ≡ b)) }
-    ensures state { IfOk result.0 (λ _. IfOk result.1 (λ _. first.new.state ≡ second.new.state)) }
-    ensures stopped { IfErr result.0 (λ r. IfErr result.1 (λ s. r ≡ s → first.new.state ≡ second.new.state)) }
-    ensures refused { IfErr result.0 (λ r. r ≢ Refusal.DiskWrite → first.new ≡ first.old) }
-    ensures memory { IfErr result.0 (λ r. r ≢ Refusal.NoMemory) }
-    ensures reads { IfOk result.0 (λ _. IfOk result.1 (λ _. L.honest first.new.log → L.honest second.new.log
-        → L.seen first.new.log ≡ L.seen second.new.log)) }
-    ensures durable { IfOk result.0 (λ _. IfOk result.1 (λ _. L.honest first.new.log → L.honest second.new.log
-        → (c d : List ℕ) → L.may_leave first.new.log c → L.may_leave second.new.log d → c ≡ d)) }
-    ensures pages { IfOk result.0 (λ _. IfOk result.1 (λ _. P.honest first.new.pages → P.honest second.new.pages
-        → (p : ℕ) → 1 ≤ p → p < page_count first.old.state.sizes → (c d : List ℕ) → P.may_be first.new.pages p c
-        → P.may_be second.new.pages p d → c ≡ d)) }
-    ensures first { IfOk result.0 (λ _. IfOk result.1 (λ _. (c d : List ℕ) → P.may_be first.new.pages 0 c
-        → P.may_be second.new.pages 0 d → ReadAlike c d)) }
-    ensures tags { IfOk result.0 (λ _. IfOk result.1 (λ _. (p : ℕ) → page_count first.old.state.sizes ≤ p
+    ensures alike { MakeAlike P.PageDevice L.LogDevice first.old first.new second.new result.0 result.1 }
+    ensures first { OnBoth result.0 result.1 ((c d : List ℕ) → P.may_be first.new.pages 0 c → P.may_be second.new.pages 0 d
+        → ReadAlike c d) }
+    ensures tags { OnBoth result.0 result.1 ((p : ℕ) → page_count first.old.state.sizes ≤ p
         → p < page_count (with_tags pages first.old.state.sizes) → (c d : List ℕ) → P.may_be first.new.pages p c
-        → P.may_be second.new.pages p d → ReadAlike c d)) }
-    ensures beyond { IfOk result.0 (λ _. IfOk result.1 (λ _. (p : ℕ) → page_count (with_tags pages first.old.state.sizes) ≤ p
-        → (c d : List ℕ) → P.may_be first.new.pages p c → P.may_be second.new.pages p d → c ≡ d)) }
-    ensures decided { RefuseAlike result.0 result.1 }
+        → P.may_be second.new.pages p d → ReadAlike c d) }
+    ensures beyond { OnBoth result.0 result.1 ((p : ℕ) → page_count (with_tags pages first.old.state.sizes) ≤ p
+        → (c d : List ℕ) → P.may_be first.new.pages p c → P.may_be second.new.pages p d → c ≡ d) }
 {
     (first.migrate(pages), second.migrate(pages))
 }
