@@ -13,10 +13,11 @@ use Rattle.rq_model.specs.Tests.{size_at}
 use Rattle.rq_model.specs.Worked.{committed_once, failed_force, hello, sent_once, small, txn}
 use Rattle.rq_model.specs.WorkedMarks.{untagged}
 use Rattle.rq_disk.specs.Device.{Images}
-use Rattle.rq_disk.specs.declared.device.PageDevice as page_device
+use Rattle.rq_disk.specs.declared.mem_pages.MemPages.{MemPages}
 use Rattle.rq_page.specs.Sizes.{page_count, with_tags}
 use Rattle.rq_store.specs.Opening.{IsLeft}
 use Rattle.rq_engine.specs.Migration.{KeepsBeyond}
+use Rattle.rq_core.specs.Devices.{mem_pages}
 use Rattle.rq_cases.specs.Store.{sizes}
 
 -- one commit, and one tag page more
@@ -113,7 +114,7 @@ pub record MigrationsAreJudged : Type 0 where
   pub unwritten : (n p : ℕ) (log : List Record) (images : Images) → 1 ≤ p → p < page_count (with_tags n sizes) → images p ≡ []
       → IsLeft (with_tags n sizes) images log → ⊥
   -- pages behind the tag pages that were written to: one that reads otherwise, and one of which a crash may leave something else
-  pub reads_otherwise : {P : Type 0} (p : page_device.Ghosts P) (n page : ℕ) (old new : P) → page_count (with_tags n sizes) ≤ page
-      → p.seen new page ≢ p.seen old page → KeepsBeyond p n sizes old new → ⊥
-  pub may_be_another : {P : Type 0} (p : page_device.Ghosts P) (n page : ℕ) (image : List ℕ) (old new : P)
-      → page_count (with_tags n sizes) ≤ page → p.may_be new page image → (p.may_be old page image → ⊥) → KeepsBeyond p n sizes old new → ⊥
+  pub reads_otherwise : (n page : ℕ) (old new : MemPages) → page_count (with_tags n sizes) ≤ page
+      → mem_pages.seen new page ≢ mem_pages.seen old page → KeepsBeyond mem_pages n sizes old new → ⊥
+  pub may_be_another : (n page : ℕ) (image : List ℕ) (old new : MemPages) → page_count (with_tags n sizes) ≤ page
+      → mem_pages.may_be new page image → (mem_pages.may_be old page image → ⊥) → KeepsBeyond mem_pages n sizes old new → ⊥
