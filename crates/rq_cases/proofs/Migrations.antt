@@ -100,4 +100,6 @@ worked_migrations = record {
   unasked = λ a. a;
   untold = untold;
   unwritten = λ n p log images low high none left. no_bytes (kind_of (with_tags n sizes) p) p (lsn_of (images p)) (images p) none (left.fits.headers p low high);
+  reads_otherwise = λ n page old new past ne kept. ne (kept page past).0;
+  may_be_another = λ n page image old new past may none kept. none ((kept page past).1 image may);
 }

@@ -1,5 +1,5 @@
 -- Worked histories with migrations: which are legal, what the store has then, and which are not legal.
-use Rattle.std.specs.Prelude.{◌≡◌, ℕ, ◌+◌, ◌^◌, ◌<◌, ◌≤◌, List, [], ◌∷◌, false, None, Some}
+use Rattle.std.specs.Prelude.{◌≡◌, ◌≢◌, ℕ, ◌+◌, ◌^◌, ◌<◌, ◌≤◌, List, [], ◌∷◌, false, None, Some}
 use Rattle.rq_model.specs.declared.record.Record.{Record}
 use Rattle.rq_model.specs.declared.refusal.Refusal.TheVariants.{BadTags, DiskWrite, Failed, LogFull, NotQuiet, UnknownClient}
 use Rattle.rq_model.specs.History.{Entry}
@@ -13,8 +13,11 @@ use Rattle.rq_model.specs.Tests.{size_at}
 use Rattle.rq_model.specs.Worked.{committed_once, failed_force, hello, sent_once, small, txn}
 use Rattle.rq_model.specs.WorkedMarks.{untagged}
 use Rattle.rq_disk.specs.Device.{Images}
+use Rattle.rq_disk.specs.declared.mem_pages.MemPages.{MemPages}
 use Rattle.rq_page.specs.Sizes.{page_count, with_tags}
 use Rattle.rq_store.specs.Opening.{IsLeft}
+use Rattle.rq_engine.specs.Migration.{KeepsBeyond}
+use Rattle.rq_core.specs.Devices.{mem_pages}
 use Rattle.rq_cases.specs.Store.{sizes}
 
 -- one commit, and one tag page more
@@ -110,3 +113,8 @@ pub record MigrationsAreJudged : Type 0 where
       → IsLeft (with_tags n sizes) images log → ⊥
   pub unwritten : (n p : ℕ) (log : List Record) (images : Images) → 1 ≤ p → p < page_count (with_tags n sizes) → images p ≡ []
       → IsLeft (with_tags n sizes) images log → ⊥
+  -- pages behind the tag pages that were written to: one that reads otherwise, and one of which a crash may leave something else
+  pub reads_otherwise : (n page : ℕ) (old new : MemPages) → page_count (with_tags n sizes) ≤ page
+      → mem_pages.seen new page ≢ mem_pages.seen old page → KeepsBeyond mem_pages n sizes old new → ⊥
+  pub may_be_another : (n page : ℕ) (image : List ℕ) (old new : MemPages) → page_count (with_tags n sizes) ≤ page
+      → mem_pages.may_be new page image → (mem_pages.may_be old page image → ⊥) → KeepsBeyond mem_pages n sizes old new → ⊥

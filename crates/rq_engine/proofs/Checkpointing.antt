@@ -15,7 +15,7 @@ use Rattle.rq_log.specs.Spelled.{spelled_all}
 use Rattle.rq_pool.specs.declared.Written.{Written}
 use Rattle.rq_pool.specs.declared.Written.TheVariants as out
 use Rattle.rq_pool.specs.Pooled.{image_at, is_changed}
-use Rattle.rq_pool.specs.Writing.{DeviceAfter, HasChangeBeyond, NoChangeBeyond, changed_after}
+use Rattle.rq_pool.specs.Writing.{DeviceAfter, HasChangeBeyond, MayHaveWritten, NoChangeBeyond, changed_after}
 use Rattle.rq_store.specs.State.{open_ones_of}
 use Rattle.rq_sound.specs.ModelSteps.{IsModelStep}
 use Rattle.rq_engine.specs.Answers.{AnswersLegally, IsCausedIn}
@@ -48,7 +48,7 @@ use Rattle.rq_sound.proofs.Contracts.{calls_keep}
 use Rattle.rq_engine.specs.Opened.{AreHonest, OpenStore, WritesWhen, pooled, state_after}
 use Rattle.rq_engine.specs.Crash.{AreFit, IsCut, KeepsFit, LeavesCut}
 use Rattle.rq_engine.specs.Checkpoint.{CountsFailure, CountsOne, HasFewer, HasMadeOneRecord, MayMakeOneRecord, IsBeginningOrBase, IsCutOrBased, IsStopped, KeepsFitOrBased, NotCheckpointed}
-use Rattle.rq_engine.specs.Devices.{Path}
+use Rattle.rq_engine.specs.Devices.{KeepsPage, Path}
 use Rattle.rq_engine.specs.Devices.Path.{Start, Pages, Log}
 use Rattle.rq_engine.specs.Earlier.{IsEarlier, on, over, rebased}
 use Rattle.rq_engine.proofs.Crashing.{IsOnDevice, are_left, cut, on_device}
@@ -335,11 +335,24 @@ module _ {P L : Type 0} (p : page_device.Ghosts P) (l : log_device.Ghosts L) (fi
   page_counts_none out.Nothing after = ap p.faults after
 
 -- and leaves what other pages read as
-pub page_others : {P L : Type 0} (p : page_device.Ghosts P) (old new : OpenStore P L) (page : ℕ) (r : Result Written Refusal) → DeviceAfter p page (image_at old.state.images page) old.pages new.pages r → (q : ℕ) → (q ≢ page) → p.seen new.pages q ≡ p.seen old.pages q
-page_others p old new page (Ok out.Done) after q other = after.0 q ∙ if_no q page (image_at old.state.images page) (p.seen old.pages q) other
-page_others p old new page (Ok out.Nothing) after q other = ap (λ (d : _). p.seen d q) after
-page_others p old new page (Err why.DiskWrite) after q other = after.0.others q other
-page_others p old new page (Err r) after q other = ap (λ (d : _). p.seen d q) after
+module _ {P : Type 0} (p : page_device.Ghosts P) where
+  -- a device that was left alone keeps each page
+  pub kept_same : (old new : P) (page : ℕ) → new ≡ old → KeepsPage p old new page
+  kept_same old new page is = (ap (λ (d : P). p.seen d page) is, λ c may. subst (λ (d : P). p.may_be d page c) is may)
+
+  -- in two steps
+  pub kept_join : (old mid new : P) (page : ℕ) → KeepsPage p old mid page → KeepsPage p mid new page → KeepsPage p old new page
+  kept_join old mid new page one two = (two.0 ∙ one.0, λ c may. one.1 c (two.1 c may))
+
+  -- one that a page was handed to leaves of any other what it could
+  pub kept_of_others : (page : ℕ) (image : List ℕ) (old new : P) → MayHaveWritten p page image old new → (other : ℕ) → other ≢ page → (c : List ℕ) → p.may_be new other c → p.may_be old other c
+  kept_of_others page image old new wrote other ne c may = elim (wrote.crash other c may) [ inl was ↦ was | inr e ↦ absurd (ne e.0) ]
+
+pub page_others : {P L : Type 0} (p : page_device.Ghosts P) (old new : OpenStore P L) (page : ℕ) (r : Result Written Refusal) → DeviceAfter p page (image_at old.state.images page) old.pages new.pages r → (q : ℕ) → (q ≢ page) → KeepsPage p old.pages new.pages q
+page_others p old new page (Ok out.Done) after q other = (after.0 q ∙ if_no q page (image_at old.state.images page) (p.seen old.pages q) other, kept_of_others p page (image_at old.state.images page) old.pages new.pages after.1 q other)
+page_others p old new page (Ok out.Nothing) after q other = kept_same p old.pages new.pages q after
+page_others p old new page (Err why.DiskWrite) after q other = (after.0.others q other, kept_of_others p page (image_at old.state.images page) old.pages new.pages after.0 q other)
+page_others p old new page (Err r) after q other = kept_same p old.pages new.pages q after
 
 -- ---- what the log is left as
 

@@ -34,12 +34,12 @@ use Rattle.rq_sound.proofs.Checkpoints.{checkpoint_sound, migration}
 use Rattle.rq_engine.specs.Answers.{AnswersLegally, IsCausedIn}
 use Rattle.rq_engine.specs.Checkpoint.{CountsOne, IsCutOrBased, IsStopped, KeepsFitOrBased, MayMakeOneRecord}
 use Rattle.rq_engine.specs.Crash.{AreFit, IsCut, KeepsFit, LeavesCut}
-use Rattle.rq_engine.specs.Devices.{EachPair, Path}
+use Rattle.rq_engine.specs.Devices.{EachPair, KeepsPage, Path}
 use Rattle.rq_engine.specs.Devices.Path.{Pages}
 use Rattle.rq_engine.specs.Earlier.{IsEarlier, on, over, rebased}
 use Rattle.rq_engine.specs.Migration.{AreTagPages, HasMigrated, HasTags, IsCutGrown, IsCutOrGrown, KeepsBeyond, KeepsOrGrows, MayGetTags, NotMigrated, TellsSizes}
 use Rattle.rq_engine.specs.Opened.{AreHonest, OpenStore}
-use Rattle.rq_engine.proofs.Checkpointing.{base_put, checkpointed_on, cut_forced, none_beyond, none_open, path_join, path_weaker, some_open}
+use Rattle.rq_engine.proofs.Checkpointing.{base_put, checkpointed_on, cut_forced, kept_join, none_beyond, none_open, path_join, path_weaker, some_open}
 use Rattle.rq_engine.proofs.Crashing.{AreLeft, IsOnDevice, are_left, cut}
 use Rattle.rq_engine.proofs.Earlier.{full_on, long_on, lsn_on, told_on}
 use Rattle.rq_engine.proofs.Refusals.{refuse, refuse_failed}
@@ -179,15 +179,15 @@ handed p z page old new r is after =
 -- ---- what was written of the tag pages, and behind them
 
 module _ {P : Type 0} (p : page_device.Ghosts P) (n : ℕ) (z : Sizes) where
-  -- a call leaves what pages behind the store's own read as
-  pub beyond_stays : (may : bad_tags (size_of z) n ≡ false) (old mid new : P) → KeepsBeyond p n z old mid → ((page : ℕ) → page_count z ≤ page → p.seen new page ≡ p.seen mid page) → KeepsBeyond p n z old new
-  beyond_stays may old mid new first behind page past = let none = (may_get z n may).0 in behind page (omega (arith, none, past)) ∙ first page past
+  -- a call keeps pages behind the store's own
+  pub beyond_stays : (may : bad_tags (size_of z) n ≡ false) (old mid new : P) → KeepsBeyond p n z old mid → ((page : ℕ) → page_count z ≤ page → KeepsPage p mid new page) → KeepsBeyond p n z old new
+  beyond_stays may old mid new first behind page past = let none = (may_get z n may).0 in kept_join p old mid new page (first page past) (behind page (omega (arith, none, past)))
 
-  pub tags_stay : (mid new : P) → AreTagPages p n z mid → ((page : ℕ) → page_count z ≤ page → p.seen new page ≡ p.seen mid page) → AreTagPages p n z new
-  tags_stay mid new tags behind page low high = subst (IsFormatted (with_tags n z) page) (sym (behind page low)) (tags page low high)
+  pub tags_stay : (mid new : P) → AreTagPages p n z mid → ((page : ℕ) → page_count z ≤ page → KeepsPage p mid new page) → AreTagPages p n z new
+  tags_stay mid new tags behind page low high = subst (IsFormatted (with_tags n z) page) (sym (behind page low).0) (tags page low high)
 
   -- so does one that writes the first page
-  pub behind_first : (mid new : P) → ((page : ℕ) → page ≢ 0 → p.seen new page ≡ p.seen mid page) → (page : ℕ) → page_count z ≤ page → p.seen new page ≡ p.seen mid page
+  pub behind_first : (mid new : P) → ((page : ℕ) → page ≢ 0 → KeepsPage p mid new page) → (page : ℕ) → page_count z ≤ page → KeepsPage p mid new page
   behind_first mid new others page low = others page (λ e. absurd (omega (arith, e, low)))
 
 module _ {P L : Type 0} (p : page_device.Ghosts P) (l : log_device.Ghosts L) (n : ℕ) where
@@ -203,7 +203,7 @@ module _ {P L : Type 0} (p : page_device.Ghosts P) (l : log_device.Ghosts L) (n 
     durable = h.durable;
     pages = λ honest page low high. subst (λ (s : State). Only (image_at s.images page) (p.may_be new.pages page)) is (h.pages honest page low (subst (λ (s : State). page < page_count s.sizes) (sym is) high));
     tags = subst (λ (s : State). HasTags p n s.sizes new.pages) is h.tags;
-    beyond = λ page past b may. h.beyond page (subst (λ (s : State). page_count (with_tags n s.sizes) ≤ page) (sym is) past) b may ∙ beyond page past;
+    beyond = λ page past b may. h.beyond page (subst (λ (s : State). page_count (with_tags n s.sizes) ≤ page) (sym is) past) b may ∙ (beyond page past).0;
     replacing = h.replacing ∙ tried;
     counts = (h.counts.0 ∙ pages, h.counts.1 ∙ log);
   }

@@ -1,9 +1,13 @@
 -- Runs of calls of two devices: what a crash at each moment leaves of both, whichever of them a call changes.
-use Rattle.std.specs.Prelude.{ℕ, ◌≤◌, List}
+use Rattle.std.specs.Prelude.{◌≡◌, ℕ, ◌≤◌, List}
 use Rattle.rq_disk.specs.Device.{Images, Leaves}
 use Rattle.rq_disk.specs.declared.device.LogDevice as log_device
 use Rattle.rq_disk.specs.declared.device.PageDevice as page_device
 use Rattle.rq_log.specs.Crash.{LeavesOnly}
+
+-- The page reads as before, and a crash leaves nothing of it that it could not leave then.
+abbrev pub KeepsPage : {P : Type 0} → page_device.Ghosts P → P → P → ℕ → Type 0
+KeepsPage p old new page = (p.seen new page ≡ p.seen old page) × ((c : List ℕ) → p.may_be new page c → p.may_be old page c)
 
 -- A crash at any moment since old leaves pages that have Q.
 pub record PagesLeave {P : Type 0} (p : page_device.Ghosts P) (old new : P) (Q : Images → Type 0) : Type 0 where

@@ -17,7 +17,7 @@ use Rattle.rq_sound.specs.Calls.{checkpointed, migrated}
 use Rattle.rq_sound.specs.Sound.{IsSound}
 use Rattle.rq_engine.specs.Checkpoint.{CountsNone, CountsOne, IsCutOrBased, MayMakeOneRecord, NotCheckpointed}
 use Rattle.rq_engine.specs.Crash.{AreFit, IsCut}
-use Rattle.rq_engine.specs.Devices.{PagesLeave, Path}
+use Rattle.rq_engine.specs.Devices.{KeepsPage, PagesLeave, Path}
 use Rattle.rq_engine.specs.Earlier.{IsEarlier, on, over}
 use Rattle.rq_engine.specs.Opened.{AreHonest, OpenStore}
 
@@ -51,9 +51,9 @@ abbrev pub AreTagPages : {P : Type 0} → page_device.Ghosts P → ℕ → Sizes
 AreTagPages p n z pages = (page : ℕ) → page_count z ≤ page → page < page_count (with_tags n z)
     → IsFormatted (with_tags n z) page (p.seen pages page)
 
--- Pages behind them read as before.
+-- Pages behind them are kept.
 abbrev pub KeepsBeyond : {P : Type 0} → page_device.Ghosts P → ℕ → Sizes → P → P → Type 0
-KeepsBeyond p n z old new = (page : ℕ) → page_count (with_tags n z) ≤ page → p.seen new page ≡ p.seen old page
+KeepsBeyond p n z old new = (page : ℕ) → page_count (with_tags n z) ≤ page → KeepsPage p old new page
 
 module _ {P L : Type 0} (p : page_device.Ghosts P) (l : log_device.Ghosts L) (n : ℕ) where
   -- Of a sound store over honest devices whose pages fit, and whose log no failed call may have replaced. A crash at any moment of the
@@ -81,7 +81,7 @@ module _ {P L : Type 0} (p : page_device.Ghosts P) (l : log_device.Ghosts L) (n 
     pub counts : CountsNone p l old new
 
   -- A device failed in it, which stops the store. The log was left alone, or in the end each tag page reads as formatted. Pages behind
-  -- them read as before.
+  -- them are kept.
   pub record HasStoppedGrowing (old new : OpenStore P L) : Type 0 where
     pub could : MayMakeOneRecord old
     pub state : new.state ≡ record old.state { failed = true }

@@ -11,6 +11,7 @@ ghost use Rattle.rq_pool.specs.Writing.{NoChangeBeyond};
 ghost use Rattle.rq_engine.specs.Answers.{AnswersLegally};
 ghost use Rattle.rq_engine.specs.Checkpoint.{CountsFailure, HasFewer, HasMadeOneRecord, IsBeginningOrBase, IsStopped, KeepsFitOrBased, MayMakeOneRecord, NotCheckpointed};
 ghost use Rattle.rq_engine.specs.Crash.{KeepsFit};
+ghost use Rattle.rq_engine.specs.Devices.{KeepsPage};
 ghost use Rattle.rq_engine.specs.Opened.{AreHonest, pooled};
 
 use crate::engine::Engine;
@@ -96,7 +97,7 @@ impl<P: PageDevice, L: LogDevice, B: Level> Engine<P, L, B> {
         ensures clean { OnOk result ((page : ℕ) → 1 ≤ page → page < page_count self.old.state.sizes
             → is_changed self.new.changed page ≡ false) }
         ensures durable { OnOk result ((page : ℕ) → Only (P.seen self.new.pages page) (P.may_be self.new.pages page)) }
-        ensures behind { (page : ℕ) → page_count self.old.state.sizes ≤ page → P.seen self.new.pages page ≡ P.seen self.old.pages page }
+        ensures behind { (page : ℕ) → page_count self.old.state.sizes ≤ page → KeepsPage P.PageDevice self.old.pages self.new.pages page }
         ensures refused { IfErr result (λ r. IsStopped self.old.state self.new.state r) }
         ensures cause { CountsFailure P.PageDevice L.LogDevice self.old self.new result }
         ensures fewer { HasFewer self.old.changed self.new.changed }
@@ -120,7 +121,7 @@ impl<P: PageDevice, L: LogDevice, B: Level> Engine<P, L, B> {
         ensures state { OnOk result (self.new.state ≡ self.old.state) }
         ensures clean { OnOk result ((page : ℕ) → 1 ≤ page → page < page_count self.old.state.sizes
             → is_changed self.new.changed page ≡ false) }
-        ensures behind { (page : ℕ) → page_count self.old.state.sizes ≤ page → P.seen self.new.pages page ≡ P.seen self.old.pages page }
+        ensures behind { (page : ℕ) → page_count self.old.state.sizes ≤ page → KeepsPage P.PageDevice self.old.pages self.new.pages page }
         ensures refused { IfErr result (λ r. IsStopped self.old.state self.new.state r) }
         ensures cause { CountsFailure P.PageDevice L.LogDevice self.old self.new result }
         ensures fewer { HasFewer self.old.changed self.new.changed }
@@ -142,7 +143,7 @@ impl<P: PageDevice, L: LogDevice, B: Level> Engine<P, L, B> {
         requires running { self.old.state.failed ≡ false }
         ensures state { OnOk result (self.new.state ≡ self.old.state) }
         ensures durable { OnOk result ((page : ℕ) → Only (P.seen self.new.pages page) (P.may_be self.new.pages page)) }
-        ensures seen { P.seen self.new.pages ≡ P.seen self.old.pages }
+        ensures kept { (page : ℕ) → KeepsPage P.PageDevice self.old.pages self.new.pages page }
         ensures refused { IfErr result (λ r. IsStopped self.old.state self.new.state r) }
         ensures cause { CountsFailure P.PageDevice L.LogDevice self.old self.new result }
         ensures changed { self.new.changed ≡ self.old.changed }

@@ -12,6 +12,7 @@ ghost use Rattle.rq_store.specs.State.{size_of};
 ghost use Rattle.rq_engine.specs.Answers.{AnswersLegally};
 ghost use Rattle.rq_engine.specs.Checkpoint.{CountsFailure, IsBeginningOrBase, IsStopped, MayMakeOneRecord};
 ghost use Rattle.rq_engine.specs.Crash.{KeepsFit};
+ghost use Rattle.rq_engine.specs.Devices.{KeepsPage};
 ghost use Rattle.rq_engine.specs.Migration.{AreTagPages, HasMigrated, HasTags, KeepsBeyond, KeepsOrGrows, MayGetTags, NotMigrated, TellsSizes};
 ghost use Rattle.rq_engine.specs.Opened.{AreHonest};
 
@@ -103,7 +104,7 @@ impl<P: PageDevice, L: LogDevice, B: Level> Engine<P, L, B> {
         ensures state { OnOk result (self.new.state ≡ self.old.state) }
         ensures written { OnOk result ((page : ℕ) → page_count self.old.state.sizes ≤ page → page < page_count grown.now
             → IsFormatted grown.now page (P.seen self.new.pages page)) }
-        ensures beyond { (page : ℕ) → page_count grown.now ≤ page → P.seen self.new.pages page ≡ P.seen self.old.pages page }
+        ensures beyond { (page : ℕ) → page_count grown.now ≤ page → KeepsPage P.PageDevice self.old.pages self.new.pages page }
         ensures refused { IfErr result (λ r. IsStopped self.old.state self.new.state r) }
         ensures cause { CountsFailure P.PageDevice L.LogDevice self.old self.new result }
         ensures changed { self.new.changed ≡ self.old.changed }
@@ -126,7 +127,7 @@ impl<P: PageDevice, L: LogDevice, B: Level> Engine<P, L, B> {
         requires within { page < page_count grown.now }
         ensures state { OnOk result (self.new.state ≡ self.old.state) }
         ensures written { OnOk result (IsFormatted grown.now page (P.seen self.new.pages page)) }
-        ensures others { (other : ℕ) → other ≢ page → P.seen self.new.pages other ≡ P.seen self.old.pages other }
+        ensures others { (other : ℕ) → other ≢ page → KeepsPage P.PageDevice self.old.pages self.new.pages other }
         ensures refused { IfErr result (λ r. IsStopped self.old.state self.new.state r) }
         ensures cause { CountsFailure P.PageDevice L.LogDevice self.old self.new result }
         ensures changed { self.new.changed ≡ self.old.changed }
@@ -159,7 +160,7 @@ impl<P: PageDevice, L: LogDevice, B: Level> Engine<P, L, B> {
         ensures made { IfOk result (λ lsn. HasMigrated P.PageDevice L.LogDevice grown.now.tags self.old self.new lsn) }
         ensures refused { IfErr result (λ r. IsStopped self.old.state self.new.state r) }
         ensures cause { CountsFailure P.PageDevice L.LogDevice self.old self.new result }
-        ensures others { (page : ℕ) → page ≢ 0 → P.seen self.new.pages page ≡ P.seen self.old.pages page }
+        ensures others { (page : ℕ) → page ≢ 0 → KeepsPage P.PageDevice self.old.pages self.new.pages page }
         ensures honest { AreHonest P.PageDevice L.LogDevice self.new → AreHonest P.PageDevice L.LogDevice self.old }
         ensures honest_log { L.honest self.new.log → L.honest self.old.log }
         ensures any_moment { self.old.replacing ≡ false → L.honest self.new.log → LeavesOnly L.LogDevice self.old.log self.new.log

@@ -61,7 +61,7 @@ grows c g l e (Commits t lsn) s low =
 grows c g l e (Forces lsn) s low = record { commits = λ d i. i; forced = low; records = omega arith; within = omega arith }
 grows c g l e (Checkpoints lsn) s low = record { commits = λ d i. i; forced = omega (arith, low); records = omega arith; within = omega arith }
 grows c g l e (Migrates pages lsn) s low = record { commits = λ d i. i; forced = omega (arith, low); records = omega arith; within = omega arith }
-grows c g l e (Gains_pages pages) s low = absurd (true≢false (never_break c g (Grew pages) s))
+grows c g l e (Gains_pages pages records) s low = absurd (true≢false (never_break c g (Grew pages records) s))
 grows c g l e (Crashes kept records) s low = absurd (true≢false (never_break c g (Crash kept records) s))
 grows c g l e (Restarts i records) s low = absurd (true≢false (never_break c g (Restarted i records) s))
 

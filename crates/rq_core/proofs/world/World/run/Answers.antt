@@ -1,4 +1,4 @@
-use Rattle.std.proofs.Common.{◌+◌, [], length, map, take, sym, ◌∙◌, ap, subst, arith}
+use Rattle.std.proofs.Common.{◌+◌, [], length, take, sym, ◌∙◌, ap, subst, arith}
 use Rattle.std.proofs.lemmas.List.{length_push, take_all}
 use Rattle.rq_core.specs.Chosen.{IsAsChosen, LedAsChosen, course_in, entered}
 use Rattle.rq_core.specs.Runs.{Happened}

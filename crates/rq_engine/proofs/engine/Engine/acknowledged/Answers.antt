@@ -2,8 +2,6 @@ use Rattle.std.proofs.Common.{◌≡◌, ◌≢◌, ◌≤◌, ◌<◌, ℕ, ◌
 use Rattle.std.proofs.lemmas.Bool.{eq-eqb, eqb-true, false_from_ne_true, le-ltb, lt-ltb}
 use Rattle.rq_model.specs.Replay.{receipt}
 use Rattle.rq_store.specs.State.{State}
-use Rattle.rq_sound.proofs.Unchanged.{unchanged}
-use Rattle.rq_engine.specs.Earlier.{on}
 use Rattle.rq_engine.proofs.Opened.{state_is}
 use Rattle.rq_engine.proofs.engine.Engine.acknowledged.Goals as goal
 use Rattle.rq_engine.proofs.engine.Engine.acknowledged.Goals.{else-txn-self-via-then-txn-self+else-lsn-forced, else-txn-self-via-else-txn-self}

@@ -4,6 +4,7 @@ use Rattle.rq_log.specs.Spelled.{IsBeginning}
 use Rattle.rq_page.specs.Formatted.{IsFormatted}
 use Rattle.rq_page.specs.Sizes.{Sizes, page_count}
 use Rattle.rq_store.specs.State.{State}
+use Rattle.rq_engine.specs.Devices.{KeepsPage}
 use Rattle.rq_engine.specs.Migration.{AreTagPages}
 use Rattle.rq_engine.proofs.Checkpointing.{begins_first, begins_join, forced_sound, if_ok, keeps_join}
 use Rattle.rq_engine.proofs.Migrating.{behind_first, beyond_stays, grows_either, grows_join, migrated_later, tags_stay}
@@ -38,7 +39,7 @@ returns-in_err-write_tags-clause-first g c = inl c.in_err-write_tags.ensures.log
 pub returns-in_err-write_tags-clause-beyond : goal.returns-in_err-write_tags-clause-beyond
 returns-in_err-write_tags-clause-beyond g c =
     let old = c.args.self.now in
-    subst (λ (z : Sizes). (page : ℕ) → page_count z ≤ page → g.P.PageDevice.seen c.write_tags.new.self.pages page ≡ g.P.PageDevice.seen old.pages page) c.requires.grown c.in_err-write_tags.ensures.beyond
+    subst (λ (z : Sizes). (page : ℕ) → page_count z ≤ page → KeepsPage g.P.PageDevice old.pages c.write_tags.new.self.pages page) c.requires.grown c.in_err-write_tags.ensures.beyond
 
 pub returns-in_err-make_durable-clause-first : goal.returns-in_err-make_durable-clause-first
 returns-in_err-make_durable-clause-first g c =
@@ -49,7 +50,7 @@ returns-in_err-make_durable-clause-first g c =
     let two = c.make_durable.new.self in
     let tags : AreTagPages P c.args.grown.now.tags z one.pages = subst (λ (y : Sizes). (page : ℕ) → page_count z ≤ page → page < page_count y → IsFormatted y page (P.seen one.pages page)) c.requires.grown wrote.written in
     inr (tags_stay P c.args.grown.now.tags z one.pages two.pages tags
-    (subst (λ (s : State). (page : ℕ) → page_count s.sizes ≤ page → P.seen two.pages page ≡ P.seen one.pages page) wrote.state c.in_err-make_durable.ensures.behind))
+    (subst (λ (s : State). (page : ℕ) → page_count s.sizes ≤ page → KeepsPage P one.pages two.pages page) wrote.state c.in_err-make_durable.ensures.behind))
 
 pub returns-in_err-make_durable-clause-beyond : goal.returns-in_err-make_durable-clause-beyond
 returns-in_err-make_durable-clause-beyond g c =
@@ -59,8 +60,8 @@ returns-in_err-make_durable-clause-beyond g c =
     let one = c.write_tags.new.self in
     let two = c.make_durable.new.self in
     beyond_stays P c.args.grown.now.tags old.state.sizes c.requires.may old.pages one.pages two.pages
-    (subst (λ (z : Sizes). (page : ℕ) → page_count z ≤ page → P.seen one.pages page ≡ P.seen old.pages page) c.requires.grown wrote.beyond)
-    (subst (λ (s : State). (page : ℕ) → page_count s.sizes ≤ page → P.seen two.pages page ≡ P.seen one.pages page) wrote.state c.in_err-make_durable.ensures.behind)
+    (subst (λ (z : Sizes). (page : ℕ) → page_count z ≤ page → KeepsPage P old.pages one.pages page) c.requires.grown wrote.beyond)
+    (subst (λ (s : State). (page : ℕ) → page_count s.sizes ≤ page → KeepsPage P one.pages two.pages page) wrote.state c.in_err-make_durable.ensures.behind)
 
 pub returns-clause-first : goal.returns-clause-first
 returns-clause-first g c =
@@ -73,7 +74,7 @@ returns-clause-first g c =
     let new = c.put_grown.new.self in
     let tags : AreTagPages P n z one.pages = subst (λ (y : Sizes). (page : ℕ) → page_count z ≤ page → page < page_count y → IsFormatted y page (P.seen one.pages page)) c.requires.grown wrote.written in
     inr (tags_stay P n z two.pages new.pages
-    (tags_stay P n z one.pages two.pages tags (subst (λ (s : State). (page : ℕ) → page_count s.sizes ≤ page → P.seen two.pages page ≡ P.seen one.pages page) wrote.state c.in_ok-make_durable.ensures.behind))
+    (tags_stay P n z one.pages two.pages tags (subst (λ (s : State). (page : ℕ) → page_count s.sizes ≤ page → KeepsPage P one.pages two.pages page) wrote.state c.in_ok-make_durable.ensures.behind))
     (behind_first P n z two.pages new.pages c.put_grown.ensures.others))
 
 pub returns-clause-beyond : goal.returns-clause-beyond
@@ -88,8 +89,8 @@ returns-clause-beyond g c =
     let new = c.put_grown.new.self in
     beyond_stays P n z c.requires.may old.pages two.pages new.pages
     (beyond_stays P n z c.requires.may old.pages one.pages two.pages
-    (subst (λ (y : Sizes). (page : ℕ) → page_count y ≤ page → P.seen one.pages page ≡ P.seen old.pages page) c.requires.grown wrote.beyond)
-    (subst (λ (s : State). (page : ℕ) → page_count s.sizes ≤ page → P.seen two.pages page ≡ P.seen one.pages page) wrote.state c.in_ok-make_durable.ensures.behind))
+    (subst (λ (y : Sizes). (page : ℕ) → page_count y ≤ page → KeepsPage P old.pages one.pages page) c.requires.grown wrote.beyond)
+    (subst (λ (s : State). (page : ℕ) → page_count s.sizes ≤ page → KeepsPage P one.pages two.pages page) wrote.state c.in_ok-make_durable.ensures.behind))
     (behind_first P n z two.pages new.pages c.put_grown.ensures.others)
 
 pub returns-clause-made : goal.returns-clause-made
@@ -102,8 +103,8 @@ returns-clause-made g c =
     let one = c.write_tags.new.self in
     let two = c.make_durable.new.self in
     let two_beyond = beyond_stays P c.args.grown.now.tags old.state.sizes c.requires.may old.pages one.pages two.pages
-    (subst (λ (z : Sizes). (page : ℕ) → page_count z ≤ page → P.seen one.pages page ≡ P.seen old.pages page) c.requires.grown wrote.beyond)
-    (subst (λ (s : State). (page : ℕ) → page_count s.sizes ≤ page → P.seen two.pages page ≡ P.seen one.pages page) wrote.state made.behind) in
+    (subst (λ (z : Sizes). (page : ℕ) → page_count z ≤ page → KeepsPage P old.pages one.pages page) c.requires.grown wrote.beyond)
+    (subst (λ (s : State). (page : ℕ) → page_count s.sizes ≤ page → KeepsPage P one.pages two.pages page) wrote.state made.behind) in
     if_ok c.put_grown.result (λ lsn m. migrated_later P L c.args.grown.now.tags old c.make_durable.new.self c.put_grown.new.self lsn (length old.state.records) c.requires.could
     (made.state ∙ ap (λ (s : State). record s { forced = length s.records }) wrote.state) (made.replacing ∙ wrote.replacing)
     (made.cause.0 ∙ wrote.cause.0) (made.cause.1 ∙ wrote.cause.1) two_beyond m) c.put_grown.ensures.made

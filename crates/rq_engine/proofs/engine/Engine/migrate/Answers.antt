@@ -55,3 +55,12 @@ returns-in-Err-clause-answered g c =
     (subst (λ (n : _). KeepsBeyond g.P.PageDevice n c.args.self.now.state.sizes c.args.self.now.pages mid.pages) tags c.in-Err.ensures.beyond)
     (search rules) (search rules) (search rules) in
     not_legally g.P.PageDevice g.L.LogDevice c.args.pages c.args.self.now new (λ lsn. Gave_migrated lsn) c.in-Err.refusal why
+
+pub returns-in-Err-clause-refused : goal.returns-in-Err-clause-refused
+returns-in-Err-clause-refused g c =
+    let mid = c.grow.new.self in
+    let tags : c.in_ok-grown.grown.tags ≡ c.args.pages = ap (λ (z : Sizes). z.tags) c.in_ok-grown.ensures.grown in
+    stopped_so g.P.PageDevice g.L.LogDevice c.args.pages c.args.self.now mid _ c.in-Err.refusal c.in_ok-grown.ensures.ok.1 c.in_ok-grown.ensures.ok.0 c.in-Err.ensures.refused c.in-Err.ensures.cause
+    (subst (λ (n : _). (mid.log ≡ c.args.self.now.log) ⊎ AreTagPages g.P.PageDevice n c.args.self.now.state.sizes mid.pages) tags c.in-Err.ensures.first)
+    (subst (λ (n : _). KeepsBeyond g.P.PageDevice n c.args.self.now.state.sizes c.args.self.now.pages mid.pages) tags c.in-Err.ensures.beyond)
+    (search rules) (search rules) (search rules)

@@ -11,9 +11,10 @@ use Rattle.rq_page.specs.Formatted.{IsFormatted}
 use Rattle.rq_pool.specs.Pooled.{AreOver}
 use Rattle.rq_store.specs.State.{State}
 use Rattle.rq_engine.specs.Checkpoint.{IsBeginningOrBase}
+use Rattle.rq_engine.specs.Devices.{KeepsPage}
 use Rattle.rq_engine.specs.Migration.{TellsSizes}
 use Rattle.rq_engine.specs.Opened.{OpenStore}
-use Rattle.rq_engine.proofs.Checkpointing.{base_missed, whole_or_base}
+use Rattle.rq_engine.proofs.Checkpointing.{base_missed, kept_same, whole_or_base}
 use Rattle.rq_engine.proofs.Migrating.{based_grows, told_grows}
 use Rattle.rq_engine.proofs.Opened.{none_tried, state_is}
 use Rattle.rq_engine.proofs.Refusals.{not_full}
@@ -44,6 +45,17 @@ returns-clause-any_moment g c = λ untried h.
     (weaker L old.log c.put_base.new.self.device _ _ (subst (λ (o : OpenStore _ _). LeavesOnly L o.log c.put_base.new.self.device (λ b. (b ≡ spelled o.state.records) ⊎ (b ≡ spelled (based o.state.incarnation o.state.records)))) c.self.view_is
     (c.in_ok-put_base.ensures.any_moment (subst L.honest same h) (c.self.invariant.durable, none_tried _ (ap (λ (o : OpenStore _ _). o.replacing) c.self.view_is ∙ untried))))
     (λ bytes b. whole_or_base old.state old.state.incarnation bytes c.requires.forced b))
+
+pub returns-in_err-put_base-clause-others : goal.returns-in_err-put_base-clause-others
+returns-in_err-put_base-clause-others g c = λ page ne. kept_same g.P.PageDevice c.args.self.now.pages c.self.inside.pages.device page (ap (λ (o : OpenStore _ _). o.pages) c.self.view_is)
+
+pub returns-in_err-tell_sizes-clause-others : goal.returns-in_err-tell_sizes-clause-others
+returns-in_err-tell_sizes-clause-others g c = λ page ne.
+    subst (λ (o : OpenStore _ _). KeepsPage g.P.PageDevice o.pages c.tell_sizes.new.pages.device page) c.self.view_is (c.in_err-tell_sizes.ensures.others page ne, λ b may. c.in_err-tell_sizes.ensures.device.others page b ne may)
+
+pub returns-clause-others : goal.returns-clause-others
+returns-clause-others g c = λ page ne.
+    subst (λ (o : OpenStore _ _). KeepsPage g.P.PageDevice o.pages c.tell_sizes.new.pages.device page) c.self.view_is (c.in_ok-tell_sizes.ensures.others page ne, λ b may. c.in_ok-tell_sizes.ensures.device.others page b ne may)
 
 pub returns-in_err-put_base-clause-fit : goal.returns-in_err-put_base-clause-fit
 returns-in_err-put_base-clause-fit g c =

@@ -1,4 +1,4 @@
-use Rattle.std.proofs.Common.{subst, ◌∙◌, length, refl}
+use Rattle.std.proofs.Common.{subst, ◌∙◌, length}
 use Rattle.rq_engine.proofs.Checkpointing.{begins_join, either, either_join, forced_sound}
 use Rattle.rq_engine.proofs.engine.Engine.replace_log.Goals as goal
 

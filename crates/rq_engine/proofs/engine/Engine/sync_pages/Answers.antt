@@ -1,5 +1,6 @@
-use Rattle.std.proofs.Common.{refl, true}
+use Rattle.std.proofs.Common.{ap, refl, true}
 use Rattle.std.proofs.lemmas.Bool.{true≢false}
+use Rattle.rq_disk.specs.Device.{Images}
 use Rattle.rq_engine.proofs.Crashing.{sync_fit}
 use Rattle.rq_engine.proofs.Keeping.{kept_device}
 use Rattle.rq_engine.proofs.engine.Engine.sync_pages.Goals as goal
@@ -11,6 +12,12 @@ invariant_of-self-in-Err g c =
       durable = c.self.invariant.durable;
       cells = c.self.invariant.cells;
     })
+
+pub returns-in-Ok-clause-kept : goal.returns-in-Ok-clause-kept
+returns-in-Ok-clause-kept g c = rw (← c.self.view_is) (λ page. (ap (λ (images : Images). images page) c.in-Ok.ensures.device.same, c.in-Ok.ensures.device.crash page))
+
+pub returns-in-Err-clause-kept : goal.returns-in-Err-clause-kept
+returns-in-Err-clause-kept g c = rw (← c.self.view_is) (λ page. (ap (λ (images : Images). images page) c.in-Err.ensures.device.same, c.in-Err.ensures.device.crash page))
 
 pub returns-in-Ok-clause-fit : goal.returns-in-Ok-clause-fit
 returns-in-Ok-clause-fit g c =

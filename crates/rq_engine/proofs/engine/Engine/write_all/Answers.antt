@@ -4,7 +4,7 @@ use Rattle.rq_pool.specs.declared.Written.{Written}
 use Rattle.rq_pool.specs.Pooled.{is_changed}
 use Rattle.rq_engine.specs.Checkpoint.{CountsOne, IsStopped}
 use Rattle.rq_engine.specs.Opened.{WritesWhen}
-use Rattle.rq_engine.proofs.Checkpointing.{cleared, fewer_after, keeps_join, page_counts, page_counts_none, page_others, page_stops}
+use Rattle.rq_engine.proofs.Checkpointing.{cleared, fewer_after, keeps_join, kept_join, page_counts, page_counts_none, page_others, page_stops}
 use Rattle.rq_engine.proofs.Crashing.{none_fit}
 use Rattle.rq_store.specs.State.{State}
 use Rattle.rq_engine.proofs.Opened.{state_is}
@@ -15,7 +15,7 @@ loop-page-init g c = record {
   low = omega arith;
   state = refl;
   clean = λ p low high. absurd (omega (arith, low, high));
-  behind = λ p past. refl;
+  behind = λ p past. (refl, λ b may. may);
   fewer = λ p h. h;
   faults = refl;
   log = refl;
@@ -50,7 +50,8 @@ returns-in_err-write_page-clause-behind g c = λ p past.
     let end = c.pages-page-end.ensures.number in
     let z = ap page_count (c.layout-layout.ensures.sizes ∙ ap (λ (s : State). s.sizes) (state_is c.self.view_is)) in
     let within = c.loop-page-test.true in
-    page_others g.P.PageDevice c.loop-page.self c.write_page.new.self c.loop-page.page (Err c.in_err-write_page.field-0.0) c.in_err-write_page.ensures.device p (λ e. absurd (omega (arith, end, z, within, past, e))) ∙ kept.behind p past
+    kept_join g.P.PageDevice c.args.self.now.pages c.loop-page.self.pages c.write_page.new.self.pages p (kept.behind p past)
+    (page_others g.P.PageDevice c.loop-page.self c.write_page.new.self c.loop-page.page (Err c.in_err-write_page.field-0.0) c.in_err-write_page.ensures.device p (λ e. absurd (omega (arith, end, z, within, past, e))))
 
 pub returns-in_err-write_page-clause-fewer : goal.returns-in_err-write_page-clause-fewer
 returns-in_err-write_page-clause-fewer g c = λ q h.
@@ -77,7 +78,7 @@ loop-page-preserved g c =
       clean = λ p low high. ap (λ (f : List Bool). is_changed f p) made.changed ∙ cleared old.changed n p w
           (λ e. (subst (λ (x : Written). WritesWhen old n (Ok x)) e made.answer).1)
           (λ other. kept.clean p low (omega (arith, high, other)));
-      behind = λ p past. page_others g.P.PageDevice old c.write_page.new.self n (Ok w) made.device p (let end = c.pages-page-end.ensures.number in let z = ap page_count (c.layout-layout.ensures.sizes ∙ ap (λ (s : State). s.sizes) (state_is c.self.view_is)) in let within = c.loop-page-test.true in λ e. absurd (omega (arith, end, z, within, past, e))) ∙ kept.behind p past;
+      behind = λ p past. kept_join g.P.PageDevice c.args.self.now.pages old.pages c.write_page.new.self.pages p (kept.behind p past) (page_others g.P.PageDevice old c.write_page.new.self n (Ok w) made.device p (let end = c.pages-page-end.ensures.number in let z = ap page_count (c.layout-layout.ensures.sizes ∙ ap (λ (s : State). s.sizes) (state_is c.self.view_is)) in let within = c.loop-page-test.true in λ e. absurd (omega (arith, end, z, within, past, e))));
       fewer = λ p h. ap (λ (f : List Bool). is_changed f p) made.changed ∙ fewer_after old.changed n (Ok w) p (kept.fewer p h);
       faults = page_counts_none g.P.PageDevice g.L.LogDevice c.args.self.now old c.write_page.new.self n w made.device ∙ kept.faults;
       log = made.log ∙ kept.log;

@@ -1,5 +1,6 @@
 use Rattle.std.proofs.Common.{refl, true}
 use Rattle.std.proofs.lemmas.Bool.{true≢false}
+use Rattle.rq_engine.proofs.Checkpointing.{kept_of_others}
 use Rattle.rq_engine.proofs.Crashing.{behind_fit}
 use Rattle.rq_engine.proofs.Keeping.{kept_device}
 use Rattle.rq_engine.proofs.Migrating.{handed}
@@ -26,9 +27,11 @@ returns-in-Err-clause-fit g c =
     c.args.page w.0 c.requires.behind (rw (← c.self.view_is) w.1) (rw (← c.self.view_is, c.in-Err.ensures.same) refl) (rw (← c.self.view_is) refl) (rw (← c.self.view_is) refl) (rw (← c.self.view_is) refl)
 
 pub returns-in-Ok-clause-others : goal.returns-in-Ok-clause-others
-returns-in-Ok-clause-others g c = rw (← c.self.view_is) c.in-Ok.ensures.device.3.others
+returns-in-Ok-clause-others g c =
+    let w = c.in-Ok.ensures.device in
+    rw (← c.self.view_is) (λ other ne. (w.3.others other ne, kept_of_others g.P.PageDevice c.args.page w.0 _ _ w.3 other ne))
 
 pub returns-in-Err-clause-others : goal.returns-in-Err-clause-others
 returns-in-Err-clause-others g c =
     let w = handed g.P.PageDevice c.args.grown.now c.args.page _ _ c.in-Err.refusal c.in-Err.ensures.err c.in-Err.ensures.device in
-    rw (← c.self.view_is) w.1.others
+    rw (← c.self.view_is) (λ other ne. (w.1.others other ne, kept_of_others g.P.PageDevice c.args.page w.0 _ _ w.1 other ne))

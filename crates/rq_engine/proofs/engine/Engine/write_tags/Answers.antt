@@ -4,7 +4,7 @@ use Rattle.rq_page.specs.Sizes.{page_count}
 use Rattle.rq_page.specs.Formatted.{IsFormatted}
 use Rattle.rq_store.specs.State.{State}
 use Rattle.rq_engine.specs.Checkpoint.{CountsOne, IsStopped}
-use Rattle.rq_engine.proofs.Checkpointing.{counts_one, keeps_join}
+use Rattle.rq_engine.proofs.Checkpointing.{counts_one, keeps_join, kept_join}
 use Rattle.rq_engine.proofs.Crashing.{none_fit}
 use Rattle.rq_engine.proofs.Opened.{state_is}
 use Rattle.rq_engine.proofs.engine.Engine.write_tags.Goals as goal
@@ -16,7 +16,7 @@ loop-page-init g c =
       low = omega (arith, first);
       state = refl;
       written = λ p low high. absurd (omega (arith, first, low, high));
-      beyond = λ p past. refl;
+      beyond = λ p past. (refl, λ b may. may);
       faults = refl;
       changed = refl;
       log = refl;
@@ -51,7 +51,7 @@ pub returns-in_err-write_tag_page-clause-beyond : goal.returns-in_err-write_tag_
 returns-in_err-write_tag_page-clause-beyond g c = λ p past.
     let end = c.pages-page-end.ensures.number in
     let within = c.loop-page-test.true in
-    c.in_err-write_tag_page.ensures.others p (λ e. absurd (omega (arith, end, within, past, e))) ∙ c.loop-page.invariant.beyond p past
+    kept_join g.P.PageDevice c.args.self.now.pages c.loop-page.self.pages c.write_tag_page.new.self.pages p (c.loop-page.invariant.beyond p past) (c.in_err-write_tag_page.ensures.others p (λ e. absurd (omega (arith, end, within, past, e))))
 
 pub returns-in_err-write_tag_page-clause-changed : goal.returns-in_err-write_tag_page-clause-changed
 returns-in_err-write_tag_page-clause-changed g c = c.in_err-write_tag_page.ensures.changed ∙ c.loop-page.invariant.changed
@@ -84,9 +84,9 @@ loop-page-preserved g c =
       state = made.state ∙ kept.state;
       written = λ p least most. elim (cases_eq p n) [
         | inl is ↦ subst (λ (q : ℕ). IsFormatted c.args.grown.now q (P.seen now.pages q)) (sym is) made.written
-        | inr other ↦ subst (IsFormatted c.args.grown.now p) (sym (made.others p other)) (kept.written p least (omega (arith, most, other)))
+        | inr other ↦ subst (IsFormatted c.args.grown.now p) (sym (made.others p other).0) (kept.written p least (omega (arith, most, other)))
       ];
-      beyond = λ p past. made.others p (let end = c.pages-page-end.ensures.number in let within = c.loop-page-test.true in λ e. absurd (omega (arith, end, within, past, e))) ∙ kept.beyond p past;
+      beyond = λ p past. kept_join P c.args.self.now.pages c.loop-page.self.pages now.pages p (kept.beyond p past) (made.others p (let end = c.pages-page-end.ensures.number in let within = c.loop-page-test.true in λ e. absurd (omega (arith, end, within, past, e))));
       faults = made.cause.0 ∙ kept.faults;
       changed = made.changed ∙ kept.changed;
       log = made.log ∙ kept.log;
