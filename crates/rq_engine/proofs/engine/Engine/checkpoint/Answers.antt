@@ -1,4 +1,4 @@
-use Rattle.std.proofs.Common.{rules, inl, refl}
+use Rattle.std.proofs.Common.{rules, inl, refl, ap, ◌∙◌}
 use Rattle.rq_model.specs.Replay.Reply.{Gave_checkpoint}
 use Rattle.rq_model.specs.Vocabulary.{is_some}
 use Rattle.rq_engine.specs.Checkpoint.{NotCheckpointed}
@@ -6,6 +6,7 @@ use Rattle.rq_engine.specs.Opened.{OpenStore}
 use Rattle.rq_engine.proofs.Listing.{log_left}
 use Rattle.rq_engine.proofs.Checkpointing.{either, forgets, made_legally, refused_legally, stopped_is}
 use Rattle.rq_engine.proofs.Crashing.{none_fit}
+use Rattle.rq_engine.proofs.Keeping.{kept_device}
 use Rattle.rq_engine.proofs.engine.Engine.checkpoint.Goals as goal
 
 pub returns-in_err-check_quiet-clause-answered : goal.returns-in_err-check_quiet-clause-answered
@@ -60,4 +61,15 @@ returns-in-Err g c =
       honest = search rules;
       any_moment = search rules;
       fit = forgets g.P.PageDevice g.L.LogDevice c.args.self.now mid new c.in-Err.refusal (search rules) (search rules) why c.in-Err.ensures.fit;
+    }
+
+pub invariant_of-self : goal.invariant_of-self
+invariant_of-self g c =
+    let k = c.self-2.invariant in
+    let log = c.forget_force.new.self in
+    record {
+      kept = kept_device _ _ log.failed _ _ log.reserved log.forced c.self-2.inside.failed log.records k.kept
+          (ap (λ l. l.records) c.forget_force.ensures) (ap (λ l. l.reserved) c.forget_force.ensures) (λ e. ap (λ l. l.failed) c.forget_force.ensures ∙ k.kept.fails e);
+      durable = rw (c.forget_force.ensures) k.durable;
+      cells = k.cells;
     }

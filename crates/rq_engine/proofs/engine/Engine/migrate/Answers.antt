@@ -1,4 +1,4 @@
-use Rattle.std.proofs.Common.{rules, ap, subst, ◌≡◌, ◌⊎◌}
+use Rattle.std.proofs.Common.{rules, ap, subst, ◌≡◌, ◌⊎◌, ◌∙◌}
 use Rattle.rq_model.specs.Replay.Reply.{Gave_migrated}
 use Rattle.rq_model.specs.Vocabulary.{is_some}
 use Rattle.rq_page.specs.Sizes.{Sizes}
@@ -6,6 +6,7 @@ use Rattle.rq_engine.specs.Migration.{AreTagPages, HasMigrated, KeepsBeyond, Not
 use Rattle.rq_engine.specs.Opened.{OpenStore}
 use Rattle.rq_engine.proofs.Crashing.{none_fit}
 use Rattle.rq_engine.proofs.Migrating.{grows_either, migrated_legally, not_legally, stopped_so}
+use Rattle.rq_engine.proofs.Keeping.{kept_device}
 use Rattle.rq_engine.proofs.engine.Engine.migrate.Goals as goal
 
 pub returns-in_err-grown-clause-answered : goal.returns-in_err-grown-clause-answered
@@ -64,3 +65,14 @@ returns-in-Err-clause-refused g c =
     (subst (λ (n : _). (mid.log ≡ c.args.self.now.log) ⊎ AreTagPages g.P.PageDevice n c.args.self.now.state.sizes mid.pages) tags c.in-Err.ensures.first)
     (subst (λ (n : _). KeepsBeyond g.P.PageDevice n c.args.self.now.state.sizes c.args.self.now.pages mid.pages) tags c.in-Err.ensures.beyond)
     (search rules) (search rules) (search rules)
+
+pub invariant_of-self : goal.invariant_of-self
+invariant_of-self g c =
+    let k = c.self-2.invariant in
+    let log = c.forget_force.new.self in
+    record {
+      kept = kept_device _ _ log.failed _ _ log.reserved log.forced c.self-2.inside.failed log.records k.kept
+          (ap (λ l. l.records) c.forget_force.ensures) (ap (λ l. l.reserved) c.forget_force.ensures) (λ e. ap (λ l. l.failed) c.forget_force.ensures ∙ k.kept.fails e);
+      durable = rw (c.forget_force.ensures) k.durable;
+      cells = k.cells;
+    }
