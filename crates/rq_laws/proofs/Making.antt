@@ -1,5 +1,5 @@
 -- Checkpoints and migrations, by two stores in the same state.
-use Rattle.std.proofs.Common.{◌≡◌, ◌≢◌, ℕ, ◌≤◌, ◌<◌, List, [], ◌∷◌, length, refl, sym, ◌∙◌, ap, Bool, true, false, cond, ◌⊎◌, inl, inr, Option, Some, None, Result, Ok, Err, arith}
+use Rattle.std.proofs.Common.{◌≡◌, ◌≢◌, ℕ, ◌+◌, ◌≤◌, ◌<◌, List, [], ◌∷◌, length, refl, sym, ◌∙◌, ap, Bool, true, false, cond, ◌⊎◌, inl, inr, Option, Some, None, Result, Ok, Err, arith}
 use Rattle.std.specs.Prelude.{IfErr, IfOk}
 use Rattle.std.proofs.lemmas.Option.{same_Some}
 use Rattle.rq_model.specs.declared.refusal.Refusal.{Refusal}
@@ -24,7 +24,7 @@ use Rattle.rq_engine.specs.Migration.{HasMigrated, MayGetTags, NotMigrated}
 use Rattle.rq_engine.specs.Opened.{OpenStore, pooled}
 use Rattle.rq_laws.specs.Alike.{ReadAlike}
 use Rattle.rq_laws.specs.Made.{MakeAlike, OnBoth}
-use Rattle.rq_laws.specs.Refusals.{IsWant, RefuseAlike}
+use Rattle.rq_laws.specs.Refusals.{IsWant}
 use Rattle.rq_laws.proofs.Ending.{some_none}
 
 abbrev has_some : List Row → Bool

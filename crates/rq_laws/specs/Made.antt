@@ -12,9 +12,10 @@ use Rattle.rq_laws.specs.Refusals.{RefuseAlike}
 abbrev pub OnBoth : Result ℕ Refusal → Result ℕ Refusal → Type 0 → Type 0
 OnBoth a b Q = IfOk a (λ _. IfOk b (λ _. Q))
 
--- Two calls made these of one store. They answer the same LSN and leave the same state. Both logs read as the same bytes, and a crash
--- leaves the same of both logs and of each page. Where one is refused, so is the other, but for a device that failed, and never for
--- memory. Refused for the same they leave the same state; unless a device failed, the store as it was.
+-- Two calls made these of one store. They answer the same LSN and leave the same state. Both logs read as the same bytes. A crash
+-- leaves the same of both logs, and of each page of the store but the first. Where one is refused, so is the other, but for a device
+-- that failed, and never for memory. Refused for the same, they leave the same state. Unless a device failed, they leave the store as
+-- it was.
 pub record MakeAlike {P L : Type 0} (p : page_device.Ghosts P) (l : log_device.Ghosts L) (old x y : OpenStore P L)
     (a b : Result ℕ Refusal) : Type 0 where
   pub same : IfOk a (λ i. IfOk b (λ j. i ≡ j))

@@ -1,5 +1,5 @@
 //! Calls of the engine that start and step no operation, by two stores in the same state.
-ghost use Rattle.std.specs.Prelude.{◌≡◌, ◌≢◌, ◌≤◌, ◌<◌, ℕ, List, IfErr, IfOk, map};
+ghost use Rattle.std.specs.Prelude.{◌≡◌, ◌≤◌, ◌<◌, ℕ, List, IfOk, map};
 ghost use Rattle.rq_content.specs.Read.{group_of};
 ghost use Rattle.rq_engine.specs.Opened.{AreHonest};
 ghost use Rattle.rq_engine.specs.Says.{receipt_of};
