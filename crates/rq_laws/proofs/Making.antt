@@ -168,12 +168,12 @@ module _ {P L : Type 0} (p : page_device.Ghosts P) (l : log_device.Ghosts L) (ol
       → IfOk b (HasMadeOneRecord p l old y) → IfErr b (NotCheckpointed p l old y) → MakeAlike p l old x y a b
   checkpoints_alike x y a b made refused made_too refused_too =
       alike (refuses old.state) (checkpointed old.state) x y a b (said x a made refused) (said y b made_too refused_too) where
-    said : (new : OpenStore P L) (a : Result ℕ Refusal) → IfOk a (HasMadeOneRecord p l old new) → IfErr a (NotCheckpointed p l old new) → IsSaid (refuses old.state) (checkpointed old.state) new a
-    said new (Ok n) m r = record {
-      made = record { could = m.could; none = no_cause m.could.running m.could.none_open m.could.room; lsn = m.lsn; state = m.state; reads = m.reads; durable = m.durable; pages = m.pages };
-      refused = tt;
-    }
-    said new (Err e) m r = record { made = tt; refused = not_made new e r }
+        said : (new : OpenStore P L) (a : Result ℕ Refusal) → IfOk a (HasMadeOneRecord p l old new) → IfErr a (NotCheckpointed p l old new) → IsSaid (refuses old.state) (checkpointed old.state) new a
+        said new (Ok n) m r = record {
+          made = record { could = m.could; none = no_cause m.could.running m.could.none_open m.could.room; lsn = m.lsn; state = m.state; reads = m.reads; durable = m.durable; pages = m.pages };
+          refused = tt;
+        }
+        said new (Err e) m r = record { made = tt; refused = not_made new e r }
 
   -- ---- migrations
 
