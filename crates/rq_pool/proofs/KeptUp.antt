@@ -1,5 +1,5 @@
 -- Pages are kept up, one call after the other.
-use Rattle.std.proofs.Common.{◌≡◌, ◌≢◌, ◌⊎◌, ℕ, ◌≤◌, Bool, true, false, List, slice_set, refl, sym, ap, subst, arith, ◌∙◌, inl, inr, ⊎_elim, Result, Ok, Err}
+use Rattle.std.proofs.Common.{◌≡◌, ◌≢◌, ℕ, ◌≤◌, Bool, true, false, List, slice_set, sym, ap, subst, arith, ◌∙◌, inl, inr, ⊎_elim, Result, Ok, Err}
 use Rattle.std.proofs.lemmas.Bool.{cases_eq, true≢false}
 use Rattle.std.proofs.lemmas.List.{get_or-set_other}
 use Rattle.rq_disk.specs.Device.{Leaves, Elapses}
@@ -12,7 +12,7 @@ use Rattle.rq_pool.specs.Reading.{OnlyRead}
 use Rattle.rq_pool.specs.Writing.{AnswersWhen, DeviceAfter, MayHaveWritten, changed_after}
 use Rattle.rq_pool.specs.declared.Written.{Written}
 use Rattle.rq_pool.specs.declared.Written.TheVariants.{Done, Nothing}
-use Rattle.rq_pool.specs.KeptUp.{IsForced, IsKeptUp, MayBeKept, StaysChanged}
+use Rattle.rq_pool.specs.KeptUp.{IsForced, IsKeptUp, MayBeKept}
 
 module _ {P : Type 0} (g : Ghosts P) (forced : ℕ) where
   -- nothing happened to the device
