@@ -1,16 +1,18 @@
 -- Open stores that are kept up.
-use Rattle.std.proofs.Common.{◌≡◌, Bool, true, false, List, refl, sym, ap, subst, ◌∙◌, ◌⊎◌}
+use Rattle.std.proofs.Common.{◌≡◌, Bool, IsTrue, List, refl, sym, ap, subst, ◌∙◌}
 use Rattle.rq_disk.specs.declared.device.LogDevice as log_device
 use Rattle.rq_disk.specs.declared.device.PageDevice as page_device
 use Rattle.rq_level.specs.LevelState.{LevelState}
 use Rattle.rq_log.specs.Logged.{Logged}
 use Rattle.rq_model.specs.declared.refusal.Refusal.{Refusal}
 use Rattle.rq_model.specs.declared.refusal.Refusal.TheVariants as why
+use Rattle.rq_model.specs.Tests.{without_pages}
+use Rattle.rq_planner.specs.Answered.{RefusesPlan}
 use Rattle.rq_pool.specs.KeptUp.{IsKeptUp}
 use Rattle.rq_pool.proofs.KeptUp.{kept_on, kept_still}
 use Rattle.rq_store.specs.State.{State}
 use Rattle.rq_engine.specs.Invariant.{IsConsistent, IsEngine}
-use Rattle.rq_engine.specs.KeptUp.{AreButRead, KeepsDevices, KeepsUp}
+use Rattle.rq_engine.specs.KeptUp.{AreButRead, HaveBegun, KeepsDevices, KeepsUp, RefusedButRead}
 use Rattle.rq_engine.specs.Opened.{AreHonest, LeavesDevices, OpenStore, pooled}
 
 -- the images that a store has are those that it has
@@ -45,7 +47,7 @@ but_same lists new but same = but ∙ ap (λ (i : List (List _)). record lists {
 module _ {P L : Type 0} (g : page_device.Ghosts P) where
   -- no device was called
   pub devices_still : (old new : OpenStore P L) → LeavesDevices old new → new.state.sizes ≡ old.state.sizes → new.state.images ≡ old.state.images → KeepsDevices g old new
-  devices_still old new left sizes images = record { pages = kept_still g old.state.forced (pooled old) (pooled new) left.0 sizes images left.2; log = left.1; replacing = left.3 }
+  devices_still old new left sizes images = (kept_still g old.state.forced (pooled old) (pooled new) left.0 sizes images left.2, left.1, left.3)
 
   -- nothing happened
   pub up_still : (old new : OpenStore P L) → new ≡ old → KeepsUp g old new
@@ -57,21 +59,21 @@ module _ {P L : Type 0} (g : page_device.Ghosts P) where
   up_twice old mid new a b =
       let forced = ap (λ (s : State). s.forced) a.lists in
       record {
-        devices = record {
-          pages = kept_on g old.state.forced (pooled old) (pooled mid) (pooled new) a.devices.pages (subst (λ n. IsKeptUp g n (pooled mid) (pooled new)) forced b.devices.pages);
-          log = b.devices.log ∙ a.devices.log;
-          replacing = b.devices.replacing ∙ a.devices.replacing;
-        };
+        devices = (
+          kept_on g old.state.forced (pooled old) (pooled mid) (pooled new) a.devices.0 (subst (λ n. IsKeptUp g n (pooled mid) (pooled new)) forced b.devices.0),
+          b.devices.1 ∙ a.devices.1,
+          b.devices.2 ∙ a.devices.2,
+        );
         lists = but_twice old.state mid.state new.state a.lists b.lists;
       }
 
   -- over an honest device the lists are all as they were
   pub up_state : (old new : OpenStore P L) → KeepsUp g old new → g.honest new.pages → new.state ≡ old.state
-  up_state old new k h = but_same old.state new.state k.lists (k.devices.pages.images h)
+  up_state old new k h = but_same old.state new.state k.lists (k.devices.0.images h)
 
   -- honesty falls only
   pub up_honest : (l : log_device.Ghosts L) (old new : OpenStore P L) → KeepsDevices g old new → AreHonest g l new → AreHonest g l old
-  up_honest l old new k h = (k.pages.honest h.0, subst (λ (d : L). l.honest d) k.log h.1)
+  up_honest l old new k h = (k.0.honest h.0, subst (λ (d : L). l.honest d) k.1 h.1)
 
   -- What is so of the fields of an engine stays so: of its lists whatever the device, of what its levels know of pages where
   -- that is honest.
@@ -80,3 +82,35 @@ module _ {P L : Type 0} (g : page_device.Ghosts P) where
 
   pub up_engine : (l : log_device.Ghosts L) (old new : OpenStore P L) (log : Logged L) (owed : _) (known : List LevelState) → KeepsUp g old new → g.honest new.pages → IsEngine l old.state log owed known → IsEngine l new.state log owed known
   up_engine l old new log owed known k h is = subst (λ (s : State). IsEngine l s log owed known) (sym (up_state old new k h)) is
+
+  -- a store that was let alone, as is
+  pub devices_same : (s : OpenStore P L) → KeepsDevices g s s
+  devices_same s = devices_still s s (refl, refl, refl, refl) refl refl
+
+  -- a start, whose plan read no device: it changes nothing but lists
+  pub devices_begun : (old new : OpenStore P L) (rows : _) (ends : _) (cells : _) → LeavesDevices old new → new.state ≡ record old.state { rows = rows; ends = ends; cells_in_use = cells } → KeepsDevices g old new
+  devices_begun old new rows ends cells left is = devices_still old new left (ap (λ (s : State). s.sizes) is) (ap (λ (s : State). s.images) is)
+
+  pub devices_refused : (old new : OpenStore P L) → new ≡ old → KeepsDevices g old new
+  devices_refused old new is = (up_still old new is).devices
+
+-- what has begun
+pub begun_by : (old new : State) (rows : _) (ends : _) (cells : _) → new ≡ record old { rows = rows; ends = ends; cells_in_use = cells } → HaveBegun old new
+begun_by old new rows ends cells is = subst (HaveBegun old) (sym is) refl
+
+-- what a refusal leaves where no page was read: of a test, and of a plan
+module _ {P L : Type 0} (starts : Bool) (old new : OpenStore P L) where
+  pub tested_leaves : (r : Refusal) → IsTrue (without_pages r) → new ≡ old → RefusedButRead starts old r new
+  tested_leaves why.DiskWrite plain is = cc plain
+  tested_leaves why.DiskRead plain is = cc plain
+  tested_leaves (why.Damaged d) plain is = cc plain
+  tested_leaves why.Latched plain is = cc plain
+  tested_leaves why.PoolFull plain is = cc plain
+  tested_leaves why.NoMemory plain is = subst (λ (s : OpenStore P L). AreButRead old.state s.state) (sym is) refl
+  tested_leaves _ plain is = is
+
+  pub planned_leaves : (IsHeld : Type 0) (r : Refusal) → RefusesPlan IsHeld r → new ≡ old → RefusedButRead starts old r new
+  planned_leaves IsHeld why.NoMemory causes is = subst (λ (s : OpenStore P L). AreButRead old.state s.state) (sym is) refl
+  planned_leaves IsHeld why.Latched causes is = subst (λ (s : OpenStore P L). AreButRead old.state s.state) (sym is) refl
+  planned_leaves IsHeld (why.Damaged d) causes is = subst (λ (s : OpenStore P L). AreButRead old.state s.state) (sym is) refl
+  planned_leaves IsHeld _ causes is = absurd causes
