@@ -1,12 +1,11 @@
 -- Open stores that are kept up.
-use Rattle.std.proofs.Common.{◌≡◌, Bool, IsTrue, List, refl, sym, ap, subst, ◌∙◌}
+use Rattle.std.proofs.Common.{◌≡◌, Bool, List, refl, sym, ap, subst, ◌∙◌}
 use Rattle.rq_disk.specs.declared.device.LogDevice as log_device
 use Rattle.rq_disk.specs.declared.device.PageDevice as page_device
 use Rattle.rq_level.specs.LevelState.{LevelState}
 use Rattle.rq_log.specs.Logged.{Logged}
 use Rattle.rq_model.specs.declared.refusal.Refusal.{Refusal}
 use Rattle.rq_model.specs.declared.refusal.Refusal.TheVariants as why
-use Rattle.rq_model.specs.Tests.{without_pages}
 use Rattle.rq_planner.specs.Answered.{RefusesPlan}
 use Rattle.rq_pool.specs.KeptUp.{IsKeptUp}
 use Rattle.rq_pool.proofs.KeptUp.{kept_on, kept_still}
@@ -14,10 +13,6 @@ use Rattle.rq_store.specs.State.{State}
 use Rattle.rq_engine.specs.Invariant.{IsConsistent, IsEngine}
 use Rattle.rq_engine.specs.KeptUp.{AreButRead, HaveBegun, KeepsDevices, KeepsUp, RefusedButRead}
 use Rattle.rq_engine.specs.Opened.{AreHonest, LeavesDevices, OpenStore, pooled}
-
--- the images that a store has are those that it has
-pub but_none : (s : State) → AreButRead s s
-but_none s = refl
 
 -- lists but for images, twice
 pub but_twice : (lists mid new : State) → AreButRead lists mid → AreButRead mid new → AreButRead lists new
@@ -83,32 +78,16 @@ module _ {P L : Type 0} (g : page_device.Ghosts P) where
   pub up_engine : (l : log_device.Ghosts L) (old new : OpenStore P L) (log : Logged L) (owed : _) (known : List LevelState) → KeepsUp g old new → g.honest new.pages → IsEngine l old.state log owed known → IsEngine l new.state log owed known
   up_engine l old new log owed known k h is = subst (λ (s : State). IsEngine l s log owed known) (sym (up_state old new k h)) is
 
-  -- a store that was let alone, as is
-  pub devices_same : (s : OpenStore P L) → KeepsDevices g s s
-  devices_same s = devices_still s s (refl, refl, refl, refl) refl refl
-
   -- a start, whose plan read no device: it changes nothing but lists
   pub devices_begun : (old new : OpenStore P L) (rows : _) (ends : _) (cells : _) → LeavesDevices old new → new.state ≡ record old.state { rows = rows; ends = ends; cells_in_use = cells } → KeepsDevices g old new
   devices_begun old new rows ends cells left is = devices_still old new left (ap (λ (s : State). s.sizes) is) (ap (λ (s : State). s.images) is)
-
-  pub devices_refused : (old new : OpenStore P L) → new ≡ old → KeepsDevices g old new
-  devices_refused old new is = (up_still old new is).devices
 
 -- what has begun
 pub begun_by : (old new : State) (rows : _) (ends : _) (cells : _) → new ≡ record old { rows = rows; ends = ends; cells_in_use = cells } → HaveBegun old new
 begun_by old new rows ends cells is = subst (HaveBegun old) (sym is) refl
 
--- what a refusal leaves where no page was read: of a test, and of a plan
+-- what a refusal of a plan leaves that read no device
 module _ {P L : Type 0} (starts : Bool) (old new : OpenStore P L) where
-  pub tested_leaves : (r : Refusal) → IsTrue (without_pages r) → new ≡ old → RefusedButRead starts old r new
-  tested_leaves why.DiskWrite plain is = cc plain
-  tested_leaves why.DiskRead plain is = cc plain
-  tested_leaves (why.Damaged d) plain is = cc plain
-  tested_leaves why.Latched plain is = cc plain
-  tested_leaves why.PoolFull plain is = cc plain
-  tested_leaves why.NoMemory plain is = subst (λ (s : OpenStore P L). AreButRead old.state s.state) (sym is) refl
-  tested_leaves _ plain is = is
-
   pub planned_leaves : (IsHeld : Type 0) (r : Refusal) → RefusesPlan IsHeld r → new ≡ old → RefusedButRead starts old r new
   planned_leaves IsHeld why.NoMemory causes is = subst (λ (s : OpenStore P L). AreButRead old.state s.state) (sym is) refl
   planned_leaves IsHeld why.Latched causes is = subst (λ (s : OpenStore P L). AreButRead old.state s.state) (sym is) refl
