@@ -291,7 +291,7 @@ module _ (n : ℕ) where
         record {
           steps = λ honest earlier long k. committed_over earlier (λ a b. IsModelStep a (Commit t) (Gave_commit (commit_number number)) b) steps;
           cause = λ honest earlier long k. tt;
-          latched = λ earlier long k. tt;
+          latched = λ true_pages earlier long k. tt;
           sizes = refl;
           unknown = refl;
           replacing = refl;
@@ -299,8 +299,9 @@ module _ (n : ℕ) where
           failed = (λ e. cc e, λ e. cc e);
           refused = tt;
           lists = record { txn = of; lsn = next; ready = (1, rw (same_self t) (refl, refl)); lists = refl };
+          begun = tt;
           changes = refl;
-          starts = tt;
+          starts = λ true_pages. tt;
           writes = tt;
           pages = refl;
           log = refl;
@@ -326,7 +327,7 @@ module _ (n : ℕ) where
           steps = λ honest earlier long k.
               begun_over earlier (λ a. IsModelStep a (Commit t) (Gave_refusal why.LogFull) a) (refuse_full s t ready (commit_full le) (begun_sound n)).0;
           cause = λ honest earlier long k. tt;
-          latched = λ earlier long k. tt;
+          latched = λ true_pages earlier long k. tt;
           sizes = refl;
           unknown = refl;
           replacing = refl;
@@ -334,8 +335,9 @@ module _ (n : ℕ) where
           failed = (λ e. cc e, λ e. cc e);
           refused = refl;
           lists = tt;
+          begun = tt;
           changes = refl;
-          starts = tt;
+          starts = λ true_pages. tt;
           writes = tt;
           pages = refl;
           log = refl;

@@ -1,15 +1,20 @@
 -- What one call makes of a whole open store: a force where a message is committed; and answers and stores that no call
 -- may give.
-use Rattle.std.specs.Prelude.{◌≡◌, ◌≢◌, ◌<◌, ◌^◌, [], take, false, true}
+use Rattle.std.specs.Prelude.{◌≡◌, ◌≢◌, ◌<◌, ◌^◌, ℕ, List, [], Ok, slice_set, take, false, true}
 use Rattle.rq_model.specs.declared.refusal.Refusal.TheVariants as why
 use Rattle.rq_model.specs.declared.txn.Txn.{Txn}
 use Rattle.rq_disk.specs.declared.mem_log.MemLog.{MemLog}
 use Rattle.rq_disk.specs.declared.mem_pages.MemPages.{MemPages}
 use Rattle.rq_log.specs.Spelled.{spelled}
+use Rattle.rq_page.specs.Pages.{lsn_of}
 use Rattle.rq_pool.specs.declared.Written.TheVariants.{Done, Nothing}
+use Rattle.rq_pool.specs.Pooled.{is_changed}
+use Rattle.rq_pool.specs.Writing.{DeviceAfter}
 use Rattle.rq_sound.specs.Sound.{IsSound}
 use Rattle.rq_engine.specs.Applied.{Applied}
 use Rattle.rq_engine.specs.Crash.{AreFit}
+use Rattle.rq_engine.specs.KeptUp.{reads_pages}
+use Rattle.rq_engine.specs.Says.{PagesSay}
 use Rattle.rq_engine.specs.Opened.{AreHonest, OpenStore}
 use Rattle.rq_engine.specs.declared.event.Event.{Event}
 use Rattle.rq_engine.specs.declared.event.Event.TheVariants as event
@@ -18,7 +23,7 @@ use Rattle.rq_engine.specs.declared.event.Reply.TheVariants as reply
 use Rattle.rq_core.specs.Devices.{mem_log, mem_pages}
 use Rattle.rq_cases.specs.Opened.{AreNewPages, IsForcedSince, IsNewLog, over}
 use Rattle.rq_cases.specs.Run.{log_1, log_5, committed, forced}
-use Rattle.rq_cases.specs.Store.{formatted_pages}
+use Rattle.rq_cases.specs.Store.{cells_1, formatted_pages, page_image}
 
 -- the call was made of the one store, and made the other of it
 abbrev pub Makes : OpenStore MemPages MemLog → Event → Reply → OpenStore MemPages MemLog → Type 0
@@ -29,6 +34,10 @@ pub record MeetsAll (s : OpenStore MemPages MemLog) : Type 0 where
   pub honest : AreHonest mem_pages mem_log s
   pub sound : IsSound s.state
   pub fit : AreFit mem_pages s
+
+-- the store whose message's commit is forced, with its page written out to this device
+abbrev pub written_out : MemPages → MemPages → MemLog → OpenStore MemPages MemLog
+written_out pages new log = record (over forced pages log) { pages = new; changed = slice_set (over forced pages log).changed 2 false }
 
 -- the commit of a message is forced; and what no call may answer or make, whatever else it does
 pub record CallsAreApplied : Type 0 where
@@ -43,11 +52,26 @@ pub record CallsAreApplied : Type 0 where
       → Makes old e (reply.Refused why.Failed) new → ⊥
   pub answered_while_it_failed : (old new : OpenStore MemPages MemLog) → old.state.failed ≡ true
       → Makes old event.HandOver reply.HandedOver new → ⊥
-  pub refused_and_changed : (old new : OpenStore MemPages MemLog) (e : Event) → new ≢ old
+  pub refused_and_changed : (old new : OpenStore MemPages MemLog) (e : Event) → reads_pages e ≡ false → new ≢ old
       → Makes old e (reply.Refused why.NoMemory) new → ⊥
-  pub page_marked : (old new : OpenStore MemPages MemLog) (t : Txn) (r : Reply) → new.changed ≢ old.changed
+  pub refused_by_a_test_and_changed : (old new : OpenStore MemPages MemLog) (t : Txn) → new ≢ old
+      → Makes old (event.StartReceive t) (reply.Refused why.LogFull) new → ⊥
+  -- a start may write out a page whose last record is forced; it stays whole
+  pub evicted : (pages new : MemPages) (log : MemLog) (t : Txn) (r : Reply)
+      → DeviceAfter mem_pages 2 (page_image 2 2 2 cells_1) pages new (Ok Done)
+      → PagesSay mem_pages (over forced pages log) (written_out pages new log) (event.StartReceive t) r
+  pub evicted_and_failed : (old new : OpenStore MemPages MemLog) (t : Txn) → new.state.failed ≡ false
+      → Makes old (event.StartReceive t) (reply.Refused why.DiskWrite) new → ⊥
+  pub page_marked : (old new : OpenStore MemPages MemLog) (t : Txn) (r : Reply) (page : ℕ)
+      → is_changed old.changed page ≡ false → is_changed new.changed page ≡ true
       → Makes old (event.StartReceive t) r new → ⊥
-  pub page_touched : (old new : OpenStore MemPages MemLog) (t : Txn) (r : Reply) → new.pages ≢ old.pages
+  pub clean_page_written : (old new : OpenStore MemPages MemLog) (t : Txn) (r : Reply) (page : ℕ) (c : List ℕ)
+      → is_changed old.changed page ≡ false → mem_pages.may_be new.pages page c
+      → (mem_pages.may_be old.pages page c → ⊥) → Makes old (event.StartReceive t) r new → ⊥
+  pub evicted_ahead_of_its_log : (old new : OpenStore MemPages MemLog) (t : Txn) (r : Reply) (page : ℕ) (c : List ℕ)
+      → old.state.forced < lsn_of c → mem_pages.may_be new.pages page c
+      → (mem_pages.may_be old.pages page c → ⊥) → Makes old (event.StartReceive t) r new → ⊥
+  pub another_image : (old new : OpenStore MemPages MemLog) (t : Txn) (r : Reply) → new.state.images ≢ old.state.images
       → Makes old (event.StartReceive t) r new → ⊥
   pub log_touched : (old new : OpenStore MemPages MemLog) (t : Txn) (r : Reply) → new.log ≢ old.log
       → Makes old (event.StartReceive t) r new → ⊥

@@ -34,6 +34,7 @@ use Rattle.rq_engine.specs.Earlier.{IsEarlier, on}
 use Rattle.rq_engine.specs.Migration.{HasMigrated, IsCutGrown, IsCutOrGrown, MayGetTags, NotMigrated}
 use Rattle.rq_engine.specs.Opened.{AreHonest, OpenStore}
 use Rattle.rq_engine.proofs.Earlier.{full_on, long_on}
+use Rattle.rq_engine.proofs.Leaving.{failed_leaves}
 use Rattle.rq_engine.proofs.Migrating.{grown_failed, left_after}
 use Rattle.rq_core.specs.Happenings.{call_growth, is_of_device}
 use Rattle.rq_core.specs.World.{IsCutBy, IsCutTagged, IsHalfMade, IsWritten, LeftBehind, MayBeTold}
@@ -231,7 +232,7 @@ module _ {P L : Type 0} (p : page_device.Ghosts P) (l : log_device.Ghosts L) (z 
 
   -- a store that was stopped answers no call, and stays
   still : (e : Event) (r : Reply) → Applied p l old e r new → old.state.failed ≡ true → new ≡ old
-  still e r a failed = subst (λ (x : Reply). RefusalLeaves old e x new) (a.failed.1 failed) a.refused
+  still e r a failed = failed_leaves old new e (subst (λ (x : Reply). RefusalLeaves old e x new) (a.failed.1 failed) a.refused)
 
   half_after : (x : Entry) (e : Event) (r : Reply) → Says (call_of e) (gave r) x → Applied p l old e r new → IsHalfMade p l z h past old → IsHalfMade p l z (x ∷ h) past new
   half_after x e r says a half =

@@ -133,7 +133,7 @@ module _ (size_once : OneSizeEach) (met : (z : Sizes) (course : Course) (w : Mem
         let s = b.steps (tt, tt) past long sound in
         let legal : LegalRefusal (size_of old.state.sizes) (ledger_of (on past old.state)) (call_of a.event) why.Latched = subst (Legal (size_of old.state.sizes) (ledger_of (on past old.state))) s.says s.legal in
         let is : call_of a.event ≡ call = ap (λ o. call_in o call) (sym a.call_is) in
-        subst (IsLatched (on past old.state)) is (by_latches (on past old.state) a.event legal (b.latched past long sound))
+        subst (IsLatched (on past old.state)) is (by_latches (on past old.state) a.event legal (b.latched tt past long sound))
 
   refused : (pages new_pages : MemPages) (log new_log : MemLog) (r : Refusal) → Led z course (Is_shut pages log) → IsRefused pages log r new_pages new_log → IsRefusedOver pages log r new_pages new_log
   refused pages new_pages log new_log r led stopped =

@@ -16,7 +16,8 @@ use Rattle.rq_engine.specs.declared.event.Event.{Event}
 use Rattle.rq_engine.specs.declared.event.Event.TheVariants as event
 use Rattle.rq_engine.specs.declared.event.Reply.{Reply}
 use Rattle.rq_engine.specs.declared.event.Reply.TheVariants as reply
-use Rattle.rq_engine.specs.Applied.{CheckpointSays, KeepsOrBased, MayLeave, RefusalLeaves, RunsThrough, StaysWhole}
+use Rattle.rq_engine.specs.KeptUp.{OnRead, reads_pages}
+use Rattle.rq_engine.specs.Applied.{BegunSay, CheckpointSays, KeepsOrBased, MayLeave, RefusalLeaves, RunsThrough, StaysWhole}
 use Rattle.rq_engine.specs.Checkpoint.{NotCheckpointed}
 use Rattle.rq_engine.specs.Migration.{NotMigrated}
 use Rattle.rq_engine.specs.Crash.{AreFit}
@@ -30,13 +31,13 @@ use Rattle.rq_engine.proofs.UnknownStay.{base_stays}
 
 module _ {P L : Type 0} (p : page_device.Ghosts P) (l : log_device.Ghosts L) (old new : OpenStore P L) where
   -- what a checkpoint leaves that was refused
-  pub not_leaves : (e : Event) (r : Refusal) → writes_out (call_of e) ≡ true → NotCheckpointed p l old new r → RefusalLeaves old e (reply.Refused r) new
-  not_leaves e why.Failed writes n = n.1
-  not_leaves e why.NotQuiet writes n = n.2
-  not_leaves e why.LogFull writes n = n.3
-  not_leaves e why.NotForced writes n = n.4
-  not_leaves e why.DiskWrite writes n = rw (writes) n.0.state
-  not_leaves e _ writes n = absurd n
+  pub not_leaves : (e : Event) (r : Refusal) → reads_pages e ≡ false → writes_out (call_of e) ≡ true → NotCheckpointed p l old new r → RefusalLeaves old e (reply.Refused r) new
+  not_leaves e why.Failed reads writes n = rw reads n.1
+  not_leaves e why.NotQuiet reads writes n = rw reads n.2
+  not_leaves e why.LogFull reads writes n = rw reads n.3
+  not_leaves e why.NotForced reads writes n = rw reads n.4
+  not_leaves e why.DiskWrite reads writes n = rw (reads, writes) n.0.state
+  not_leaves e _ reads writes n = absurd n
 
   -- or a migration
   pub not_grown : (n : ℕ) (r : Refusal) → NotMigrated p l n old new r → RefusalLeaves old (event.Migrate n) (reply.Refused r) new
@@ -81,11 +82,11 @@ module _ {P L : Type 0} (p : page_device.Ghosts P) (l : log_device.Ghosts L) (on
     (old new : OpenStore P L) (x : List Record) (told : IsOnDevice old.state) (long : IsEarlier x old.state) (k : IsSound (on x old.state)) (fit : AreFit p (over x old)) where
   -- the pages fit afterwards
   pub fit_after : (old.state.failed ≡ false → old.replacing ≡ false) → AreHonest p l new → (e : Event) (r : Reply) → StaysWhole e new → CheckpointSays p l old e r new → KeepsOrBased p l old e new → new.state.sizes ≡ old.state.sizes
-      → ListsSay old.state e r new.state → RefusalLeaves old e r new → IsModelStep (on x old.state) (call_of e) (gave r) (on x new.state) → WritesSay old e r → PagesSay p old new e r → AreFit p (over x new)
-  fit_after untried h event.Checkpoint r whole says keeps sizes lists refused steps when pages = (keeps (untried (ran_before p l old new r says whole)) h x long k fit).fit whole
-  fit_after untried h (event.Migrate n) r whole says keeps sizes lists refused steps when pages = subst (λ (o : OpenStore P L). AreFit p (over x o)) (sym (as_before p l old new n r says whole)) fit
-  fit_after untried h e r whole says keeps sizes lists refused steps when pages =
-      fit_kept_over p l only_now old new x told long k fit e r tt _ _ sizes (base_stays old new x e r tt lists refused) steps when pages
+      → OnRead (reads_pages e) (p.honest new.pages) (ListsSay old.state e r new.state) → BegunSay old e r new → RefusalLeaves old e r new → IsModelStep (on x old.state) (call_of e) (gave r) (on x new.state) → WritesSay old e r → PagesSay p old new e r → AreFit p (over x new)
+  fit_after untried h event.Checkpoint r whole says keeps sizes lists begun refused steps when pages = (keeps (untried (ran_before p l old new r says whole)) h x long k fit).fit whole
+  fit_after untried h (event.Migrate n) r whole says keeps sizes lists begun refused steps when pages = subst (λ (o : OpenStore P L). AreFit p (over x o)) (sym (as_before p l old new n r says whole)) fit
+  fit_after untried h e r whole says keeps sizes lists begun refused steps when pages =
+      fit_kept_over p l only_now old new x told long k fit e r tt _ _ sizes (base_stays old new x e r tt (p.honest new.pages) lists begun refused) steps when pages
 
   -- and what a crash leaves at any moment of the call
   pub runs_after : old.replacing ≡ false → AreHonest p l new → (e : Event) (r : Reply) → KeepsOrBased p l old e new → WritesSay old e r → PagesSay p old new e r

@@ -1,5 +1,5 @@
 -- Pages that a crash leaves fit the log that it leaves.
-use Rattle.std.proofs.Common.{◌≡◌, false, ℕ, zero, suc, ◌+◌, ◌-◌, ◌<◌, ◌≤◌, List, drop, refl, sym, subst, Result, Ok, Err, ◌⊎◌, ⊎_elim, inl, inr, arith, length, take, ap, ◌∙◌, ◌≡◌}
+use Rattle.std.proofs.Common.{◌≡◌, Bool, true, false, ℕ, zero, suc, ◌+◌, ◌-◌, ◌<◌, ◌≤◌, List, drop, refl, sym, subst, Result, Ok, Err, ◌⊎◌, ⊎_elim, inl, inr, arith, length, take, ap, ◌∙◌, ◌≡◌}
 use Rattle.std.proofs.lemmas.List.{drop_all, length-drop, take-append-drop}
 use Rattle.rq_model.specs.Commits.{committed_of}
 use Rattle.rq_model.specs.Incarnations.{incarnation_of}
@@ -24,6 +24,7 @@ use Rattle.rq_log.specs.Spelled.{AreAllSpelled, AreSpelled, EndsWithAll, IsBegin
 use Rattle.rq_log.specs.Crash.{LeavesOnly}
 use Rattle.rq_pool.specs.declared.Written.{Written}
 use Rattle.rq_pool.specs.declared.Written.TheVariants as out
+use Rattle.rq_pool.specs.KeptUp.{IsKeptUp, MayBeKept}
 use Rattle.rq_pool.specs.Pooled.{image_at}
 use Rattle.rq_pool.specs.Writing.{DeviceAfter, MayHaveSynced, MayHaveWritten}
 use Rattle.rq_store.specs.State.{State}
@@ -37,7 +38,8 @@ use Rattle.rq_store.proofs.Cutting.{whole_dropped, longer_continues, oldest_cont
 use Rattle.rq_engine.specs.declared.event.Event.{Event}
 use Rattle.rq_engine.specs.declared.event.Event.TheVariants as event
 use Rattle.rq_engine.specs.declared.event.Reply.{Reply}
-use Rattle.rq_engine.specs.Opened.{AreHonest, OpenStore, WritesWhen, state_after}
+use Rattle.rq_engine.specs.Opened.{AreHonest, OpenStore, WritesWhen, pooled, state_after}
+use Rattle.rq_engine.specs.KeptUp.{PagesStay, starts_one}
 use Rattle.rq_engine.specs.Says.{PagesSay, WritesSay, written_by}
 use Rattle.rq_engine.specs.Crash.{AreFit, IsCut, KeepsFit, LeavesCut, RunsThroughCuts, StaysFit, commits_left}
 use Rattle.rq_engine.specs.Earlier.{on, over, rebased, IsEarlier}
@@ -150,6 +152,34 @@ module _ {P L : Type 0} (p : page_device.Ghosts P) (l : log_device.Ghosts L) (on
         later = w.time.later;
       }
 
+    -- pages are read, and others whose last records are forced are handed to the device
+    module _ (k_up : IsKeptUp p old.state.forced (pooled old) (pooled new)) where
+      abbrev may_be_kept : ℕ → List ℕ → Type 0
+      may_be_kept = MayBeKept p old.state.forced (pooled old)
+
+      kept_fits : AllFit may_be_kept z kept
+      kept_fits = record {
+        superblock = λ c may. ⊎_elim (fit.superblock c) (λ e. subst (λ b. IsFormatted z 0 b) (sym e.is) k.fits.superblock) may;
+        headers = λ q c low high may. ⊎_elim (fit.headers q c low high) (λ e. subst (λ b. IsHeaderOf z q b) (sym e.is) (k.fits.headers q low high)) may;
+        pages = λ q c low high may. ⊎_elim (fit.pages q c low high) (λ e. subst (λ b. lsn_of b ≤ old.state.forced → FitsPage z kept q b) (sym e.is) (λ le. page_fits_oldest z q old.state.forced (image_in old.state.images q) old.state.records le k.forced (k.fits.pages q low high)) e.lsn) may;
+        based = λ q c low high may. ⊎_elim (fit.based q c low high) (λ e. subst (λ b. HoldsBase z kept q b) (sym e.is) (base_shorter kept old.state.records kept_of same_base z q (image_in old.state.images q) (k.based q low high))) may;
+      }
+
+      kept_up : Goes
+      kept_up = record {
+        now = record {
+          superblock = λ c may. kept_fits.superblock c (k_up.crash 0 c may);
+          headers = λ q c low high may. kept_fits.headers q c low high (k_up.crash q c may);
+          pages = λ q c low high may. kept_fits.pages q c low high (k_up.crash q c may);
+          based = λ q c low high may. kept_fits.based q c low high (k_up.crash q c may);
+        };
+        each = λ images left. ⊎_elim
+            (λ was. are_left (p.may_be old.pages) z kept images fit (only_now old.pages images was))
+            (λ now. are_left may_be_kept z kept images kept_fits now)
+            (k_up.time.nothing_else (p.moment old.pages) images (omega arith) left);
+        later = k_up.time.later;
+      }
+
     -- a page behind those of the store is
     behind : (page : ℕ) (image : List ℕ) → page_count z ≤ page → MayHaveWritten p page image old.pages new.pages → Goes
     behind page image over w =
@@ -189,11 +219,16 @@ module _ {P L : Type 0} (p : page_device.Ghosts P) (l : log_device.Ghosts L) (on
     goes_out page (Err why.DiskWrite) when after = written page when.1.0.of_store when.1.1 after.0
     goes_out page (Err _) when after = stays after
 
+    goes_by : (starts : Bool) → PagesStay starts p old new → Goes
+    goes_by true say = kept_up say
+    goes_by false say = stays say
+
     goes : (e : Event) (r : Reply) → IsNoCheckpoint e → WritesSay old e r → PagesSay p old new e r → Goes
     goes (event.WritePage page) r other when say = goes_out page (written_by r) when say
     goes event.Checkpoint r other when say = absurd other
     goes (event.Migrate pages) r other when say = absurd other
-    goes _ r other when say = stays say
+    goes event.Content r other when say = kept_up say.0
+    goes e r other when say = goes_by (starts_one e) say
 
     pub fit_kept : (e : Event) (r : Reply) → IsNoCheckpoint e → (call : Call) (gave : Gave) → new.state.sizes ≡ old.state.sizes → base_lsn new.state.records ≡ base_lsn old.state.records → IsModelStep old.state call gave new.state → WritesSay old e r → PagesSay p old new e r → AreFit p new
     fit_kept e r other call gave sizes base steps when say =

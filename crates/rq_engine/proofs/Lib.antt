@@ -1,5 +1,6 @@
 pub mod Told
 pub mod Opened
+pub mod KeptUp
 pub mod Earlier
 pub mod UnknownStay
 pub mod Owned

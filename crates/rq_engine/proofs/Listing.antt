@@ -25,6 +25,7 @@ use Rattle.rq_engine.specs.Opened.{AreHonest, OpenStore}
 use Rattle.rq_engine.specs.Aborts.{UndoSays}
 use Rattle.rq_engine.specs.Receives.{started_of, undoing_of}
 use Rattle.rq_engine.specs.Says.{begun_reply, call_of, gave, undo_reply}
+use Rattle.rq_engine.specs.KeptUp.{OnRead, reads_pages}
 use Rattle.rq_engine.specs.Lists.{IsBegun, IsCommitted, TakeSays, TakeFromSays, ListsSay, done_by}
 use Rattle.rq_engine.specs.declared.event.CommitNo.{CommitNo}
 use Rattle.rq_engine.specs.declared.event.Event.{Event}
@@ -48,21 +49,21 @@ pub committed_from : {a b : State} (t : Txn) (number : CommitNo) (new : State) �
 committed_from t number new e is = subst (λ (s : State). IsCommitted s t number new) e is
 
 -- the start of a receive
-pub take_lists : (old : State) (t : Txn) (x : Result (Option Sub) Refusal) (y : Reply) (e : Event) (new : State) → e ≡ event.StartReceive t → IfOk x (λ b. TakeSays old t b new) → y ≡ begun_reply x → ListsSay old e y new
-take_lists old t (Ok (Some sub)) y e new is says reply = rw (is, reply) says
-take_lists old t (Ok None) y e new is says reply = rw (is, reply) says
-take_lists old t (Err r) y e new is says reply = rw (is, reply) tt
+pub take_lists : (old : State) (t : Txn) (x : Result (Option Sub) Refusal) (y : Reply) (e : Event) (new : State) (H : Type 0) → e ≡ event.StartReceive t → (H → IfOk x (λ b. TakeSays old t b new)) → y ≡ begun_reply x → OnRead (reads_pages e) H (ListsSay old e y new)
+take_lists old t (Ok (Some sub)) y e new H is says reply = rw (is, reply) says
+take_lists old t (Ok None) y e new H is says reply = rw (is, reply) says
+take_lists old t (Err r) y e new H is says reply = rw (is, reply) (λ h. tt)
 
-pub take_from_lists : (old : State) (t : Txn) (s : ℕ) (x : Result (Option Sub) Refusal) (y : Reply) (e : Event) (new : State) → e ≡ event.StartReceiveFrom t s → IfOk x (λ b. TakeFromSays old t s b new) → y ≡ begun_reply x → ListsSay old e y new
-take_from_lists old t s (Ok (Some sub)) y e new is says reply = rw (is, reply) says
-take_from_lists old t s (Ok None) y e new is says reply = rw (is, reply) says
-take_from_lists old t s (Err r) y e new is says reply = rw (is, reply) tt
+pub take_from_lists : (old : State) (t : Txn) (s : ℕ) (x : Result (Option Sub) Refusal) (y : Reply) (e : Event) (new : State) (H : Type 0) → e ≡ event.StartReceiveFrom t s → (H → IfOk x (λ b. TakeFromSays old t s b new)) → y ≡ begun_reply x → OnRead (reads_pages e) H (ListsSay old e y new)
+take_from_lists old t s (Ok (Some sub)) y e new H is says reply = rw (is, reply) says
+take_from_lists old t s (Ok None) y e new H is says reply = rw (is, reply) says
+take_from_lists old t s (Err r) y e new H is says reply = rw (is, reply) (λ h. tt)
 
 -- the start of an inverse
-pub undo_lists : (old : State) (t : Txn) (x : Result (Option Sub) Refusal) (y : Reply) (e : Event) (new : State) → e ≡ event.UndoNext t → IfOk x (λ b. UndoSays old t b new) → y ≡ undo_reply x → ListsSay old e y new
-undo_lists old t (Ok (Some sub)) y e new is says reply = rw (is, reply) says
-undo_lists old t (Ok None) y e new is says reply = rw (is, reply) says
-undo_lists old t (Err r) y e new is says reply = rw (is, reply) tt
+pub undo_lists : (old : State) (t : Txn) (x : Result (Option Sub) Refusal) (y : Reply) (e : Event) (new : State) (H : Type 0) → e ≡ event.UndoNext t → (H → IfOk x (λ b. UndoSays old t b new)) → y ≡ undo_reply x → OnRead (reads_pages e) H (ListsSay old e y new)
+undo_lists old t (Ok (Some sub)) y e new H is says reply = rw (is, reply) says
+undo_lists old t (Ok None) y e new H is says reply = rw (is, reply) says
+undo_lists old t (Err r) y e new H is says reply = rw (is, reply) (λ h. tt)
 
 -- a call that leaves the log's device alone leaves what it left
 pub log_left : {L : Type 0} (g : log_device.Ghosts L) (old new : L) (P : List ℕ → Type 0) → new ≡ old → ((d : L) (c : List ℕ) → g.left_since d (g.moment d) c → g.may_leave d c)

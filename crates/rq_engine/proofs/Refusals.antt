@@ -1,5 +1,5 @@
 -- Refusals are the first test that holds, with their causes.
-use Rattle.std.proofs.Common.{◌≡◌, ◌≢◌, ℕ, ◌+◌, ◌^◌, ◌≤◌, ◌||◌, List, length, refl, sym, ◌∙◌, ap, subst, true, false, not, nat_eq, nat_lt, Option, Some, None, IsTrue, inl, inr, Result, Err, ◌↔◌}
+use Rattle.std.proofs.Common.{◌≡◌, ◌≢◌, ℕ, ◌+◌, ◌^◌, ◌≤◌, ◌||◌, length, refl, sym, ◌∙◌, ap, subst, true, false, not, nat_eq, nat_lt, Option, Some, None, IsTrue, inl, inr}
 use Rattle.std.proofs.lemmas.Bool.{cases_Bool, false≢true, false_from_ne_true, eqb-true, or_from, ltb-false}
 use Rattle.rq_model.specs.declared.txn.Txn.{Txn}
 use Rattle.rq_model.specs.declared.refusal.Refusal.{Refusal}
@@ -17,8 +17,6 @@ use Rattle.rq_txn.specs.Rows.{Row, Under, found_row, under_way_of}
 use Rattle.rq_store.specs.State.{State, owed_by, ledger_of, size_of, open_of, job_under, phase_of}
 use Rattle.rq_store.proofs.Opens.{found_open, open_found, owed_is}
 use Rattle.rq_engine.proofs.Standing.{refused_steps}
-use Rattle.rq_page.specs.Sizes.{Sizes}
-use Rattle.rq_content.specs.Read.{StopsFor, IsBroken, damaged_for}
 use Rattle.rq_sound.specs.Sound.{IsSound}
 use Rattle.rq_engine.specs.Answers.{IsCausedIn, Refuses, needs_memory}
 
@@ -113,12 +111,3 @@ found_of P (Some r) h = (r, refl, h)
 
 pub on_found : (P : Row → Type 0) (o : Option Row) (r : Row) → o ≡ Some r → P r → OnFound o P
 on_found P o r e h = subst (λ (x : Option Row). OnFound x P) (sym e) h
-
--- a content that is not had is not refused as a store that has failed is
-never_failed : (z : Sizes) (images : List (List ℕ)) (rows : List Row) (r : Refusal) → StopsFor z images rows r → r ≡ why.Failed → ⊥
-never_failed z images rows r h e = let b : IsBroken z images rows why.Failed = subst (StopsFor z images rows) e h in let bad : why.Failed ≡ damaged_for b.sender = b.page in cc bad
-
-pub stops_plainly : {X : Type 0} (z : Sizes) (images : List (List ℕ)) (rows : List Row) (s : State) (r : Refusal) → StopsFor z images rows r → s.failed ≡ false
-    → ◌≡◌ {A = Result X Refusal} (Err r) (Err why.Failed) ↔ (s.failed ≡ true)
-stops_plainly z images rows s r h running =
-    (λ e. absurd (never_failed z images rows r h (cc e)), λ f. absurd (false≢true (sym running ∙ f)))

@@ -28,6 +28,7 @@ use Rattle.rq_engine.specs.Answers.{IsUnderWay}
 use Rattle.rq_engine.specs.Lists.{ListsSay}
 use Rattle.rq_engine.specs.Sends.{TakesLowest}
 use Rattle.rq_engine.specs.Opened.{OpenStore, AreHonest}
+use Rattle.rq_engine.specs.KeptUp.{AreButRead, ChangesStay, HaveBegun, OnRead, RefusedButRead, reads_pages, starts_one}
 use Rattle.rq_engine.specs.Checkpoint.{HasMadeOneRecord, IsBeginningOrBase, IsCutOrBased, KeepsFitOrBased, NotCheckpointed}
 use Rattle.rq_engine.specs.Migration.{HasMigrated, IsCutOrGrown, KeepsOrGrows, MayGetTags, NotMigrated}
 use Rattle.rq_engine.specs.Crash.{AreFit, RunsThroughCuts}
@@ -40,11 +41,53 @@ abbrev pub WriteFails : {P L : Type 0} → Bool → OpenStore P L → OpenStore 
 WriteFails true old new = new.state ≡ record old.state { failed = true }
 WriteFails false old new = new ≡ old
 
--- What a refusal leaves of the store: all as it was, but that a device's failure in a write stops it.
+-- what a refusal leaves of the store, of a call that reads no page
+abbrev pub RefusedStill : {P L : Type 0} → Bool → OpenStore P L → Refusal → OpenStore P L → Type 0
+RefusedStill writes old why.DiskWrite new = WriteFails writes old new
+RefusedStill writes old r new = new ≡ old
+
+abbrev pub RefusedBy : {P L : Type 0} → (reads starts writes : Bool) → OpenStore P L → Refusal → OpenStore P L → Type 0
+RefusedBy true starts writes old r new = RefusedButRead starts old r new
+RefusedBy false starts writes old r new = RefusedStill writes old r new
+
+-- What a refusal leaves of the store. All is as it was, but that a device's failure in a write stops it, and that a start and a
+-- content may have read pages.
 abbrev pub RefusalLeaves : {P L : Type 0} → OpenStore P L → Event → Reply → OpenStore P L → Type 0
-RefusalLeaves old e (reply.Refused why.DiskWrite) new = WriteFails (writes_out (call_of e)) old new
-RefusalLeaves old e (reply.Refused r) new = new ≡ old
+RefusalLeaves old e (reply.Refused r) new = RefusedBy (reads_pages e) (starts_one e) (writes_out (call_of e)) old r new
 RefusalLeaves old e _ new = Unit {0}
+
+-- What a call leaves of the lists that may read pages, whatever its device gave: what has begun, or nothing has.
+abbrev pub StartBegan : {P L : Type 0} → OpenStore P L → Reply → OpenStore P L → Type 0
+StartBegan old (reply.Started sub) new = HaveBegun old.state new.state
+StartBegan old (reply.Refused r) new = Unit {0}
+StartBegan old _ new = ⊥
+
+abbrev pub TakeBegan : {P L : Type 0} → OpenStore P L → Reply → OpenStore P L → Type 0
+TakeBegan old (reply.Started sub) new = HaveBegun old.state new.state
+TakeBegan old reply.NoMessage new = new ≡ old
+TakeBegan old (reply.Refused r) new = Unit {0}
+TakeBegan old _ new = ⊥
+
+abbrev pub UndoBegan : {P L : Type 0} → OpenStore P L → Reply → OpenStore P L → Type 0
+UndoBegan old (reply.Started sub) new = HaveBegun old.state new.state
+UndoBegan old reply.NothingLeft new = new ≡ old
+UndoBegan old (reply.Refused r) new = Unit {0}
+UndoBegan old _ new = ⊥
+
+abbrev pub ContentShown : {P L : Type 0} → OpenStore P L → Reply → OpenStore P L → Type 0
+ContentShown old (reply.Content groups) new = AreButRead old.state new.state
+ContentShown old (reply.Refused r) new = Unit {0}
+ContentShown old _ new = ⊥
+
+abbrev pub BegunSay : {P L : Type 0} → OpenStore P L → Event → Reply → OpenStore P L → Type 0
+BegunSay old (event.StartSend txn sender tag body) r new = StartBegan old r new
+BegunSay old (event.StartReceive txn) r new = TakeBegan old r new
+BegunSay old (event.StartReceiveFrom txn sender) r new = TakeBegan old r new
+BegunSay old (event.StartClose txn sender) r new = StartBegan old r new
+BegunSay old (event.StartMark txn client tag) r new = StartBegan old r new
+BegunSay old (event.UndoNext txn) r new = UndoBegan old r new
+BegunSay old event.Content r new = ContentShown old r new
+BegunSay old _ r new = Unit {0}
 
 -- one page has a change that was not written: that of the record with this LSN
 abbrev pub IsStamped : {P L : Type 0} → OpenStore P L → ℕ → OpenStore P L → Type 0
@@ -66,7 +109,7 @@ ChangesSay old (event.Step sub) r new = SteppedSay old r new
 ChangesSay old (event.WritePage page) r new = new.changed ≡ changed_after old.changed page (written_by r)
 ChangesSay old event.Checkpoint r new = Unit {0}
 ChangesSay old (event.Migrate pages) r new = Unit {0}
-ChangesSay old _ r new = new.changed ≡ old.changed
+ChangesSay old e r new = ChangesStay (starts_one e) old new
 
 -- the operation that a send started is under way, and takes the lowest free cell on a page that nobody has latched
 abbrev pub StartSays : {P L : Type 0} → OpenStore P L → Event → Reply → OpenStore P L → Type 0
@@ -164,12 +207,12 @@ KeepsOrBased p l old _ new = Unit {0}
 pub record Applied {P L : Type 0} (p : page_device.Ghosts P) (l : log_device.Ghosts L) (old : OpenStore P L)
     (e : Event) (r : Reply) (new : OpenStore P L) : Type 0 where
   -- Of a sound store over honest devices, whatever its earlier records were. The entry that event and reply say may come next,
-  -- and a refusal has its cause. Whatever the devices, latches are judged.
+  -- and a refusal has its cause. Where the pages' device is honest, latches are judged.
   pub steps : AreHonest p l new → (earlier : List Record) → IsEarlier earlier old.state → IsSound (on earlier old.state)
       → IsModelStep (on earlier old.state) (call_of e) (gave r) (on earlier new.state)
   pub cause : AreHonest p l new → (earlier : List Record) → IsEarlier earlier old.state → IsSound (on earlier old.state)
       → RefusedForCause (on earlier old.state) e r
-  pub latched : (earlier : List Record) → IsEarlier earlier old.state → IsSound (on earlier old.state)
+  pub latched : p.honest new.pages → (earlier : List Record) → IsEarlier earlier old.state → IsSound (on earlier old.state)
       → LatchedSay (on earlier old.state) e r
   -- of every store
   pub sizes : new.state.sizes ≡ old.state.sizes
@@ -178,9 +221,10 @@ pub record Applied {P L : Type 0} (p : page_device.Ghosts P) (l : log_device.Gho
   pub replacing : ReplacingSays old e r new
   pub failed : (r ≡ reply.Refused why.Failed) ↔ (old.state.failed ≡ true)
   pub refused : RefusalLeaves old e r new
-  pub lists : ListsSay old.state e r new.state
+  pub lists : OnRead (reads_pages e) (p.honest new.pages) (ListsSay old.state e r new.state)
+  pub begun : BegunSay old e r new
   pub changes : ChangesSay old e r new
-  pub starts : StartSays old e r new
+  pub starts : p.honest new.pages → StartSays old e r new
   pub writes : WritesSay old e r
   pub pages : PagesSay p old new e r
   pub log : LogSays l old new e r

@@ -1,5 +1,5 @@
 //! Events and their replies.
-ghost use Rattle.std.specs.Prelude.{◌≡◌, ◌↔◌, ℕ, map, true, false, Err, List};
+ghost use Rattle.std.specs.Prelude.{◌≡◌, ◌↔◌, ℕ, map, true, false, Err, IfErr, OnOk, List};
 ghost use Rattle.rq_model.specs.History.Call.{Show};
 ghost use Rattle.rq_model.specs.Replay.Reply.{Gave_content};
 ghost use Rattle.rq_log.specs.Crash.{LeavesOnly};
@@ -9,7 +9,8 @@ ghost use Rattle.rq_content.specs.Read.{group_of};
 ghost use Rattle.rq_engine.specs.Answers.{AnswersLegally};
 ghost use Rattle.rq_engine.specs.Earlier.{on, IsEarlier};
 ghost use Rattle.rq_model.specs.declared.record.Record.{Record};
-ghost use Rattle.rq_engine.specs.Applied.{Applied, ChangesSay, CheckpointSays, KeepsOrBased, LatchedSay, MayLeave, RefusalLeaves, ReplacingSays, StartSays};
+ghost use Rattle.rq_engine.specs.KeptUp.{AreButRead, IsShown, KeepsUp, OnRead, RefusedButRead, reads_pages};
+ghost use Rattle.rq_engine.specs.Applied.{Applied, BegunSay, ChangesSay, CheckpointSays, KeepsOrBased, LatchedSay, MayLeave, RefusalLeaves, ReplacingSays, StartSays};
 ghost use Rattle.rq_engine.specs.Lists.{ListsSay};
 ghost use Rattle.rq_engine.specs.Opened.{AreHonest};
 ghost use Rattle.rq_engine.specs.Says.{RefusedForCause, IsContent, LogSays, PagesSay, WritesSay, begun_reply, call_of, gave, undo_reply};
@@ -37,10 +38,18 @@ impl<P: PageDevice, L: LogDevice, B: Level> Engine<P, L, B> {
     ///
     /// # Errors
     /// `Failed`, `Unfinished` where any operation is under way, `NoMemory`.
-    pub fn content(&self) -> Result<Vec<GroupContent>, Refusal>
-        ensures answered { AnswersLegally P.PageDevice L.LogDevice self.now Show
-            (λ groups. Gave_content (map group_of groups.items)) result self.now }
-        ensures failed { (result ≡ Err Refusal.Failed) ↔ (self.now.state.failed ≡ true) }
+    pub fn content(&mut self) -> Result<Vec<GroupContent>, Refusal>
+        ensures answered { AnswersLegally P.PageDevice L.LogDevice self.old Show
+            (λ groups. Gave_content (map group_of groups.items)) result self.new }
+        ensures lists { P.honest self.new.pages → OnOk result (self.new.state ≡ self.old.state) }
+        ensures shown { OnOk result (AreButRead self.old.state self.new.state) }
+        // Pages are perhaps read, and none is written out.
+        ensures pages { IsShown P.PageDevice self.old self.new }
+        ensures changed { self.new.changed ≡ self.old.changed }
+        ensures log { self.new.log ≡ self.old.log }
+        ensures replacing { self.new.replacing ≡ self.old.replacing }
+        ensures refused { IfErr result (λ r. RefusedButRead false self.old r self.new) }
+        ensures failed { (result ≡ Err Refusal.Failed) ↔ (self.old.state.failed ≡ true) }
     {
         self.check_running()?;
         if self.transactions.any_under_way() {
@@ -58,9 +67,9 @@ impl<P: PageDevice, L: LogDevice, B: Level> Engine<P, L, B> {
     /// may leave its one record instead, and a migration that with the tag pages.
     pub fn apply(&mut self, event: &Event) -> Reply
         ensures applied { Applied P.PageDevice L.LogDevice self.old event.now result self.new }
-        // a reply that memory is wanting for, or that shows the content, leaves all as it was
-        ensures no_memory { result ≡ Reply.Refused Refusal.NoMemory → self.new ≡ self.old }
-        ensures content { IsContent result → self.new ≡ self.old }
+        // a reply that memory is wanting for, or that shows the content, leaves all as it was, but for pages that were read
+        ensures no_memory { result ≡ Reply.Refused Refusal.NoMemory → KeepsUp P.PageDevice self.old self.new }
+        ensures content { IsContent result → KeepsUp P.PageDevice self.old self.new }
         ensures forced { (lsn : ℕ) → result ≡ Reply.Forced lsn → self.new.state.forced ≡ lsn }
     {
         self.shows_kept();
@@ -75,10 +84,8 @@ impl<P: PageDevice, L: LogDevice, B: Level> Engine<P, L, B> {
             → IsModelStep (on e self.old.state) (call_of event.now) (gave result) (on e self.new.state) }
         ensures cause { AreHonest P.PageDevice L.LogDevice self.new → (e : List Record) → IsEarlier e self.old.state
             → IsSound (on e self.old.state) → RefusedForCause (on e self.old.state) event.now result }
-        // Answers that change nothing, or one thing.
+        // What stays, and an answer that changes one thing.
         ensures sizes { self.new.state.sizes ≡ self.old.state.sizes }
-        ensures no_memory { result ≡ Reply.Refused Refusal.NoMemory → self.new ≡ self.old }
-        ensures content { IsContent result → self.new ≡ self.old }
         ensures forced { (lsn : ℕ) → result ≡ Reply.Forced lsn → self.new.state.forced ≡ lsn }
         // What each device is left as.
         ensures writes { WritesSay self.old event.now result }
@@ -87,10 +94,12 @@ impl<P: PageDevice, L: LogDevice, B: Level> Engine<P, L, B> {
         // Refusals, the lists, and the marks of changed pages, of every store.
         ensures failed { (result ≡ Reply.Refused Refusal.Failed) ↔ (self.old.state.failed ≡ true) }
         ensures refused { RefusalLeaves self.old event.now result self.new }
-        ensures lists { ListsSay self.old.state event.now result self.new.state }
+        ensures lists { OnRead (reads_pages event.now) (P.honest self.new.pages)
+            (ListsSay self.old.state event.now result self.new.state) }
+        ensures begun { BegunSay self.old event.now result self.new }
         ensures changes { ChangesSay self.old event.now result self.new }
-        ensures starts { StartSays self.old event.now result self.new }
-        ensures latched { (e : List Record) → IsEarlier e self.old.state → IsSound (on e self.old.state)
+        ensures starts { P.honest self.new.pages → StartSays self.old event.now result self.new }
+        ensures latched { P.honest self.new.pages → (e : List Record) → IsEarlier e self.old.state → IsSound (on e self.old.state)
             → LatchedSay (on e self.old.state) event.now result }
         // Devices and what a crash at any moment leaves.
         ensures honest { AreHonest P.PageDevice L.LogDevice self.new → AreHonest P.PageDevice L.LogDevice self.old }

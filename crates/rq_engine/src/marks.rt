@@ -1,8 +1,8 @@
 //! Marks.
-ghost use Rattle.std.specs.Prelude.{ℕ, ◌≡◌, ◌≢◌, ◌↔◌, Err, IfOk, IfErr, OnOk, OnErr, true, false, List};
+ghost use Rattle.std.specs.Prelude.{ℕ, ◌≡◌, ◌≢◌, ◌↔◌, Err, IfOk, IfErr, IsTrue, OnOk, true, false, List};
 ghost use Rattle.rq_model.specs.History.Call.{Start_mark};
 ghost use Rattle.rq_model.specs.Replay.Reply.{Gave_sub};
-ghost use Rattle.rq_model.specs.Tests.{NoneHolds, Passes, log_full, ready_tests};
+ghost use Rattle.rq_model.specs.Tests.{NoneHolds, Passes, log_full, ready_tests, without_pages};
 ghost use Rattle.rq_model.specs.Vocabulary.{client_group};
 ghost use Rattle.rq_groups.specs.Ends.{is_free_for};
 ghost use Rattle.rq_planner.specs.Asked.{Tag};
@@ -10,7 +10,7 @@ ghost use Rattle.rq_store.specs.State.{ledger_of, size_of};
 ghost use Rattle.rq_sound.specs.Sound.{IsSound};
 ghost use Rattle.rq_engine.specs.Earlier.{on, IsEarlier};
 ghost use Rattle.rq_model.specs.declared.record.Record.{Record};
-ghost use Rattle.rq_engine.specs.Opened.{LeavesDevices};
+ghost use Rattle.rq_engine.specs.KeptUp.{HaveBegun, KeepsDevices, RefusedButRead};
 ghost use Rattle.rq_engine.specs.Answers.{AnswersLegally, RefusesOver};
 ghost use Rattle.rq_engine.specs.Applied.{OnLatched, StartsUnlatched};
 ghost use Rattle.rq_engine.specs.Lists.{IsMarkStarted};
@@ -36,11 +36,13 @@ impl<P: PageDevice, L: LogDevice, B: Level> Engine<P, L, B> {
             (Start_mark txn client tag) (λ sub. Gave_sub sub.txn sub.number) result self.new }
         ensures sizes { self.new.state.sizes ≡ self.old.state.sizes }
         ensures sub { IfOk result (λ sub. sub.txn ≡ txn) }
-        ensures lists { IfOk result (λ sub. IsMarkStarted self.old.state txn client tag sub self.new.state) }
-        ensures latched { (e : List Record) → IsEarlier e self.old.state → IsSound (on e self.old.state)
+        ensures lists { P.honest self.new.pages
+            → IfOk result (λ sub. IsMarkStarted self.old.state txn client tag sub self.new.state) }
+        ensures begun { OnOk result (HaveBegun self.old.state self.new.state) }
+        ensures latched { P.honest self.new.pages → (e : List Record) → IsEarlier e self.old.state → IsSound (on e self.old.state)
             → StartsUnlatched (on e self.old.state) (Start_mark txn client tag) result }
-        ensures devices { LeavesDevices self.old self.new }
-        ensures refused { OnErr result (self.new ≡ self.old) }
+        ensures devices { KeepsDevices P.PageDevice self.old self.new }
+        ensures refused { IfErr result (λ r. RefusedButRead true self.old r self.new) }
         ensures failed { (result ≡ Err Refusal.Failed) ↔ (self.old.state.failed ≡ true) }
     {
         let number = self.check_open(txn)?;
@@ -65,6 +67,7 @@ impl<P: PageDevice, L: LogDevice, B: Level> Engine<P, L, B> {
         // What was tested.
         ensures plain { IfErr result (λ r. r ≢ Refusal.Failed) }
         ensures unlatched { IfErr result (λ r. OnLatched ⊥ r) }
+        ensures tests { IfErr result (λ r. IsTrue (without_pages r)) }
         ensures client { (tag : ℕ) → OnOk result (IsWithin self.now.state.sizes (Tag (record { client = client; tag = tag }))) }
         ensures free { OnOk result (is_free_for txn (client_group client) self.now.state.ends.sending ≡ true) }
         ensures log { OnOk result (log_full (ledger_of self.now.state) 2 ≡ false) }

@@ -10,6 +10,7 @@ ghost use Rattle.rq_model.specs.declared.record.Record.{Record};
 ghost use Rattle.rq_store.specs.Plans.{NoneWaits, WaitsFor};
 ghost use Rattle.rq_engine.specs.Applied.{TakesUnlatched};
 ghost use Rattle.rq_engine.specs.Opened.{LeavesDevices};
+ghost use Rattle.rq_engine.specs.KeptUp.{HaveBegun, KeepsDevices, RefusedButRead};
 ghost use Rattle.rq_engine.specs.Answers.{AnswersLegally};
 ghost use Rattle.rq_engine.specs.Lists.{TakeSays, TakeFromSays};
 ghost use Rattle.rq_engine.specs.Receives.{started_of};
@@ -37,12 +38,13 @@ impl<P: PageDevice, L: LogDevice, B: Level> Engine<P, L, B> {
             (Start_receive txn) started_of result self.new }
         ensures sizes { self.new.state.sizes ≡ self.old.state.sizes }
         ensures sub { IfOk result (λ begun. IfSome begun (λ sub. sub.txn ≡ txn)) }
-        ensures lists { IfOk result (λ begun. TakeSays self.old.state txn begun self.new.state) }
+        ensures lists { P.honest self.new.pages → IfOk result (λ begun. TakeSays self.old.state txn begun self.new.state) }
+        ensures begun { IfOk result (λ begun. IfSome begun (λ sub. HaveBegun self.old.state self.new.state)) }
         ensures none { IfOk result (λ begun. IfNone begun (self.new ≡ self.old)) }
-        ensures latched { (e : List Record) → IsEarlier e self.old.state → IsSound (on e self.old.state)
+        ensures latched { P.honest self.new.pages → (e : List Record) → IsEarlier e self.old.state → IsSound (on e self.old.state)
             → TakesUnlatched (on e self.old.state) (Start_receive txn) result }
-        ensures devices { LeavesDevices self.old self.new }
-        ensures refused { OnErr result (self.new ≡ self.old) }
+        ensures devices { KeepsDevices P.PageDevice self.old self.new }
+        ensures refused { IfErr result (λ r. RefusedButRead true self.old r self.new) }
         ensures failed { (result ≡ Err Refusal.Failed) ↔ (self.old.state.failed ≡ true) }
     {
         let number = self.check_open(txn)?;
@@ -69,12 +71,14 @@ impl<P: PageDevice, L: LogDevice, B: Level> Engine<P, L, B> {
             (Start_receive_from txn sender) started_of result self.new }
         ensures sizes { self.new.state.sizes ≡ self.old.state.sizes }
         ensures sub { IfOk result (λ begun. IfSome begun (λ sub. sub.txn ≡ txn)) }
-        ensures lists { IfOk result (λ begun. TakeFromSays self.old.state txn sender begun self.new.state) }
+        ensures lists { P.honest self.new.pages
+            → IfOk result (λ begun. TakeFromSays self.old.state txn sender begun self.new.state) }
+        ensures begun { IfOk result (λ begun. IfSome begun (λ sub. HaveBegun self.old.state self.new.state)) }
         ensures none { IfOk result (λ begun. IfNone begun (self.new ≡ self.old)) }
-        ensures latched { (e : List Record) → IsEarlier e self.old.state → IsSound (on e self.old.state)
+        ensures latched { P.honest self.new.pages → (e : List Record) → IsEarlier e self.old.state → IsSound (on e self.old.state)
             → TakesUnlatched (on e self.old.state) (Start_receive_from txn sender) result }
-        ensures devices { LeavesDevices self.old self.new }
-        ensures refused { OnErr result (self.new ≡ self.old) }
+        ensures devices { KeepsDevices P.PageDevice self.old self.new }
+        ensures refused { IfErr result (λ r. RefusedButRead true self.old r self.new) }
         ensures failed { (result ≡ Err Refusal.Failed) ↔ (self.old.state.failed ≡ true) }
     {
         let number = self.check_open(txn)?;

@@ -1,8 +1,8 @@
 //! Sends.
-ghost use Rattle.std.specs.Prelude.{◌≡◌, ◌≢◌, ◌↔◌, Err, ◌<◌, ◌≤◌, ◌^◌, IfOk, IfErr, OnOk, OnErr, List, true, false, length};
+ghost use Rattle.std.specs.Prelude.{◌≡◌, ◌≢◌, ◌↔◌, Err, ◌<◌, ◌≤◌, ◌^◌, IfOk, IfErr, IsTrue, OnOk, List, true, false, length};
 ghost use Rattle.rq_model.specs.History.Call.{Start_send};
 ghost use Rattle.rq_model.specs.Replay.Reply.{Gave_sub};
-ghost use Rattle.rq_model.specs.Tests.{NoneHolds, Passes, log_full, ready_tests};
+ghost use Rattle.rq_model.specs.Tests.{NoneHolds, Passes, log_full, ready_tests, without_pages};
 ghost use Rattle.rq_model.specs.Vocabulary.{message_of};
 ghost use Rattle.rq_page.specs.Sizes.{sender_count, cell_count};
 ghost use Rattle.rq_groups.specs.Ends.{is_free_for};
@@ -10,7 +10,7 @@ ghost use Rattle.rq_store.specs.State.{ledger_of, size_of};
 ghost use Rattle.rq_sound.specs.Sound.{IsSound};
 ghost use Rattle.rq_engine.specs.Earlier.{on, IsEarlier};
 ghost use Rattle.rq_model.specs.declared.record.Record.{Record};
-ghost use Rattle.rq_engine.specs.Opened.{LeavesDevices};
+ghost use Rattle.rq_engine.specs.KeptUp.{HaveBegun, KeepsDevices, RefusedButRead};
 ghost use Rattle.rq_engine.specs.Answers.{AnswersLegally, IsUnderWay, RefusesOver};
 ghost use Rattle.rq_engine.specs.Applied.{OnLatched, StartsUnlatched};
 ghost use Rattle.rq_engine.specs.Lists.{IsSendStarted};
@@ -42,13 +42,15 @@ impl<P: PageDevice, L: LogDevice, B: Level> Engine<P, L, B> {
             (Start_send txn (message_of sender tag body.now)) (λ sub. Gave_sub sub.txn sub.number) result self.new }
         ensures sizes { self.new.state.sizes ≡ self.old.state.sizes }
         ensures sub { IfOk result (λ sub. sub.txn ≡ txn) }
-        ensures lists { IfOk result (λ sub. IsSendStarted self.old.state txn sender tag body.now sub self.new.state) }
-        ensures lowest { IfOk result (λ sub. IsUnderWay self.new.state sub
+        ensures lists { P.honest self.new.pages
+            → IfOk result (λ sub. IsSendStarted self.old.state txn sender tag body.now sub self.new.state) }
+        ensures begun { OnOk result (HaveBegun self.old.state self.new.state) }
+        ensures lowest { P.honest self.new.pages → IfOk result (λ sub. IsUnderWay self.new.state sub
             (λ r u. TakesLowest self.old.state u.writes)) }
-        ensures latched { (e : List Record) → IsEarlier e self.old.state → IsSound (on e self.old.state)
+        ensures latched { P.honest self.new.pages → (e : List Record) → IsEarlier e self.old.state → IsSound (on e self.old.state)
             → StartsUnlatched (on e self.old.state) (Start_send txn (message_of sender tag body.now)) result }
-        ensures devices { LeavesDevices self.old self.new }
-        ensures refused { OnErr result (self.new ≡ self.old) }
+        ensures devices { KeepsDevices P.PageDevice self.old self.new }
+        ensures refused { IfErr result (λ r. RefusedButRead true self.old r self.new) }
         ensures failed { (result ≡ Err Refusal.Failed) ↔ (self.old.state.failed ≡ true) }
     {
         let number = self.check_open(txn)?;
@@ -78,6 +80,7 @@ impl<P: PageDevice, L: LogDevice, B: Level> Engine<P, L, B> {
         // What was tested.
         ensures plain { IfErr result (λ r. r ≢ Refusal.Failed) }
         ensures unlatched { IfErr result (λ r. OnLatched ⊥ r) }
+        ensures tests { IfErr result (λ r. IsTrue (without_pages r)) }
         ensures short { OnOk result (length body.now ≤ 216) }
         ensures sender { OnOk result (sender < sender_count self.now.state.sizes) }
         ensures free { OnOk result (is_free_for txn sender self.now.state.ends.sending ≡ true) }

@@ -1,5 +1,5 @@
 //! What an abort undoes: the inverses of finished operations.
-ghost use Rattle.std.specs.Prelude.{◌≡◌, ◌≢◌, ◌↔◌, ◌≤◌, Err, IfOk, IfErr, OnOk, OnErr, Some, false, true, length, List, ℕ};
+ghost use Rattle.std.specs.Prelude.{◌≡◌, ◌≢◌, ◌↔◌, ◌≤◌, Err, IfOk, IfErr, IfSome, IfNone, OnOk, OnErr, Some, false, true, length, List, ℕ};
 ghost use Rattle.rq_model.specs.History.Call.{Undo_next};
 ghost use Rattle.rq_model.specs.Tests.{log_full, undo_cost};
 ghost use Rattle.rq_model.specs.Commits.{op_of};
@@ -11,6 +11,7 @@ ghost use Rattle.rq_sound.specs.Sound.{IsSound};
 ghost use Rattle.rq_engine.specs.Earlier.{on, IsEarlier};
 ghost use Rattle.rq_model.specs.declared.record.Record.{Record as AnyRecord};
 ghost use Rattle.rq_engine.specs.Opened.{LeavesDevices};
+ghost use Rattle.rq_engine.specs.KeptUp.{HaveBegun, KeepsDevices, RefusedButRead};
 ghost use Rattle.rq_engine.specs.Answers.{AnswersLegally};
 ghost use Rattle.rq_engine.specs.Applied.{TakesUnlatched};
 ghost use Rattle.rq_engine.specs.Invariant.{IsDoneConsistent, IsLogged, end_of};
@@ -69,11 +70,13 @@ impl<P: PageDevice, L: LogDevice, B: Level> Engine<P, L, B> {
     pub fn undo_next(&mut self, txn: Txn) -> Result<Option<Sub>, Refusal>
         ensures answered { AnswersLegally P.PageDevice L.LogDevice self.old (Undo_next txn) undoing_of result self.new }
         ensures sizes { self.new.state.sizes ≡ self.old.state.sizes }
-        ensures lists { IfOk result (λ started. UndoSays self.old.state txn started self.new.state) }
-        ensures latched { (e : List AnyRecord) → IsEarlier e self.old.state → IsSound (on e self.old.state)
+        ensures lists { P.honest self.new.pages → IfOk result (λ started. UndoSays self.old.state txn started self.new.state) }
+        ensures begun { IfOk result (λ started. IfSome started (λ sub. HaveBegun self.old.state self.new.state)) }
+        ensures none { IfOk result (λ started. IfNone started (self.new ≡ self.old)) }
+        ensures latched { P.honest self.new.pages → (e : List AnyRecord) → IsEarlier e self.old.state → IsSound (on e self.old.state)
             → TakesUnlatched (on e self.old.state) (Undo_next txn) result }
-        ensures devices { LeavesDevices self.old self.new }
-        ensures refused { OnErr result (self.new ≡ self.old) }
+        ensures devices { KeepsDevices P.PageDevice self.old self.new }
+        ensures refused { IfErr result (λ r. RefusedButRead true self.old r self.new) }
         ensures failed { (result ≡ Err Refusal.Failed) ↔ (self.old.state.failed ≡ true) }
     {
         let number = self.check_aborting(txn)?;

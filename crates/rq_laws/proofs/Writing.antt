@@ -210,15 +210,15 @@ shown : (old new : State) (gs : List Group) → IsModelStep old Show (Gave_conte
 shown old new gs s = (subst (entry_legal old) s.says s.legal).1
 
 module _ {P L : Type 0} (p : page_device.Ghosts P) (l : log_device.Ghosts L) where
-  -- what shows the content of a store
-  abbrev pub Shows : OpenStore P L → Result (Vec GroupContent Global) Refusal → Type 0
-  Shows s r = AnswersLegally p l s Show (λ groups. Gave_content (map group_of groups.items)) r s
+  -- what shows the content of a store, and leaves another
+  abbrev pub Shows : OpenStore P L → Result (Vec GroupContent Global) Refusal → OpenStore P L → Type 0
+  Shows s r v = AnswersLegally p l s Show (λ groups. Gave_content (map group_of groups.items)) r v
 
-  pub shown_alike : (s t : OpenStore P L) (a b : Result (Vec GroupContent Global) Refusal) → s ≡ t → Shows s a → Shows t b → AreHonest p l s → AreHonest p l t → IsSound s.state → IfOk a (λ x. IfOk b (λ y. map group_of x.items ≡ map group_of y.items))
-  shown_alike s t (Ok x) (Ok y) is f g h k sound =
-      let there : Shows s (Ok y) = subst (λ o. Shows o (Ok y)) (sym is) g in
-      let a = ok_own p l s s Show (λ groups. Gave_content (map group_of groups.items)) x f h sound in
-      let b = ok_own p l s s Show (λ groups. Gave_content (map group_of groups.items)) y there h sound in
+  pub shown_alike : (s t v w : OpenStore P L) (a b : Result (Vec GroupContent Global) Refusal) → s ≡ t → Shows s a v → Shows t b w → AreHonest p l v → AreHonest p l w → IsSound s.state → IfOk a (λ x. IfOk b (λ y. map group_of x.items ≡ map group_of y.items))
+  shown_alike s t v w (Ok x) (Ok y) is f g h k sound =
+      let there : Shows s (Ok y) w = subst (λ o. Shows o (Ok y) w) (sym is) g in
+      let a = ok_own p l s v Show (λ groups. Gave_content (map group_of groups.items)) x f h sound in
+      let b = ok_own p l s w Show (λ groups. Gave_content (map group_of groups.items)) y there k sound in
       shown s.state a.0 (map group_of x.items) a.1 ∙ sym (shown s.state b.0 (map group_of y.items) b.1)
-  shown_alike s t (Ok x) (Err e) is f g h k sound = tt
-  shown_alike s t (Err d) b is f g h k sound = tt
+  shown_alike s t v w (Ok x) (Err e) is f g h k sound = tt
+  shown_alike s t v w (Err d) b is f g h k sound = tt

@@ -222,18 +222,18 @@ pub fn write_page<P: PageDevice, L: LogDevice, B: Level>(
 /// Of a sound store the same content is shown. Of one that is not sound, or whose devices were not honest, the contract
 /// says nothing of what is shown. Excludes what is not committed, what was received, and a group that is left out.
 pub fn content<P: PageDevice, L: LogDevice, B: Level>(
-    first: &Engine<P, L, B>,
-    second: &Engine<P, L, B>,
+    first: &mut Engine<P, L, B>,
+    second: &mut Engine<P, L, B>,
 ) -> (
     Result<Vec<GroupContent>, Refusal>,
     Result<Vec<GroupContent>, Refusal>,
 )
-    requires same { first.now ≡ second.now }
-    ensures same { AreHonest P.PageDevice L.LogDevice first.now → AreHonest P.PageDevice L.LogDevice second.now
-        → IsSound first.now.state
+    requires same { first.old ≡ second.old }
+    ensures same { AreHonest P.PageDevice L.LogDevice first.new → AreHonest P.PageDevice L.LogDevice second.new
+        → IsSound first.old.state
         → IfOk result.0 (λ a. IfOk result.1 (λ b. map group_of a.items ≡ map group_of b.items)) }
-    ensures decided { AreHonest P.PageDevice L.LogDevice first.now → AreHonest P.PageDevice L.LogDevice second.now
-        → IsSound first.now.state → RefuseAlike result.0 result.1 }
+    ensures decided { AreHonest P.PageDevice L.LogDevice first.new → AreHonest P.PageDevice L.LogDevice second.new
+        → IsSound first.old.state → RefuseAlike result.0 result.1 }
 {
     (first.content(), second.content())
 }

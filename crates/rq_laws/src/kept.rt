@@ -7,8 +7,8 @@ use rq_level::Level;
 use rq_model::refusal::Refusal;
 use rq_shared::kept::{Kept, Stamped, Taken};
 
-/// A stamp says who asked and what; two of one reply come with the same entry, and where memory was wanting nothing
-/// changed. Excludes an entry that is left out, and a call that is told as another.
+/// A stamp says who asked and what. Two of one reply come with the same entry. Where memory was wanting there is none, and
+/// over honest devices the lists are as they were. Excludes an entry that is left out, and a call that is told as another.
 pub fn step<P: PageDevice + Drop, L: LogDevice + Drop, B: Level>(
     first: &mut Kept<P, L, B>,
     second: &mut Kept<P, L, B>,
@@ -23,7 +23,10 @@ pub fn step<P: PageDevice + Drop, L: LogDevice + Drop, B: Level>(
     ensures audit { result.0.reply ≢ Reply.Refused Refusal.NoMemory → result.0.reply ≡ result.1.reply
         → first.new.audit ≡ second.new.audit }
     ensures refused { result.0.reply ≡ Reply.Refused Refusal.NoMemory → result.1.reply ≡ Reply.Refused Refusal.NoMemory
-        → first.new ≡ second.new }
+        → first.new.audit ≡ second.new.audit }
+    ensures same { result.0.reply ≡ Reply.Refused Refusal.NoMemory → result.1.reply ≡ Reply.Refused Refusal.NoMemory
+        → P.honest first.new.engine.pages → P.honest second.new.engine.pages
+        → first.new.engine.state ≡ second.new.engine.state }
 {
     (first.step(pass, event), second.step(pass, again))
 }

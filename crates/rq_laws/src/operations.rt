@@ -24,9 +24,10 @@ pub fn start_send<P: PageDevice, L: LogDevice, B: Level>(
     body: &[u8],
 ) -> (Result<Sub, Refusal>, Result<Sub, Refusal>)
     requires same { first.old ≡ second.old }
-    ensures same { IfOk result.0 (λ a. IfOk result.1
+    ensures same { P.honest first.new.pages → P.honest second.new.pages → IfOk result.0 (λ a. IfOk result.1
         (λ b. (a ≡ b) × AreAlike first.new.state second.new.state)) }
-    ensures latched { IsSound first.old.state → LatchedApart result.0 result.1 }
+    ensures latched { P.honest first.new.pages → P.honest second.new.pages → IsSound first.old.state
+        → LatchedApart result.0 result.1 }
     ensures decided { AreHonest P.PageDevice L.LogDevice first.new → AreHonest P.PageDevice L.LogDevice second.new
         → IsSound first.old.state → RefuseAlike result.0 result.1 }
 {
@@ -44,9 +45,10 @@ pub fn start_receive<P: PageDevice, L: LogDevice, B: Level>(
     txn: Txn,
 ) -> (Result<Option<Sub>, Refusal>, Result<Option<Sub>, Refusal>)
     requires same { first.old ≡ second.old }
-    ensures same { IfOk result.0 (λ a. IfOk result.1
+    ensures same { P.honest first.new.pages → P.honest second.new.pages → IfOk result.0 (λ a. IfOk result.1
         (λ b. StartedAlike a b first.new.state second.new.state)) }
-    ensures latched { IsSound first.old.state → TakenApart result.0 result.1 }
+    ensures latched { P.honest first.new.pages → P.honest second.new.pages → IsSound first.old.state
+        → TakenApart result.0 result.1 }
     ensures decided { AreHonest P.PageDevice L.LogDevice first.new → AreHonest P.PageDevice L.LogDevice second.new
         → IsSound first.old.state → RefuseAlike result.0 result.1 }
 {
@@ -62,9 +64,10 @@ pub fn start_receive_from<P: PageDevice, L: LogDevice, B: Level>(
     sender: u32,
 ) -> (Result<Option<Sub>, Refusal>, Result<Option<Sub>, Refusal>)
     requires same { first.old ≡ second.old }
-    ensures same { IfOk result.0 (λ a. IfOk result.1
+    ensures same { P.honest first.new.pages → P.honest second.new.pages → IfOk result.0 (λ a. IfOk result.1
         (λ b. (a ≡ b) × AreAlike first.new.state second.new.state)) }
-    ensures latched { IsSound first.old.state → TakenApart result.0 result.1 }
+    ensures latched { P.honest first.new.pages → P.honest second.new.pages → IsSound first.old.state
+        → TakenApart result.0 result.1 }
     ensures decided { AreHonest P.PageDevice L.LogDevice first.new → AreHonest P.PageDevice L.LogDevice second.new
         → IsSound first.old.state → RefuseAlike result.0 result.1 }
 {
@@ -82,9 +85,10 @@ pub fn start_close<P: PageDevice, L: LogDevice, B: Level>(
     sender: u32,
 ) -> (Result<Sub, Refusal>, Result<Sub, Refusal>)
     requires same { first.old ≡ second.old }
-    ensures same { IfOk result.0 (λ a. IfOk result.1
+    ensures same { P.honest first.new.pages → P.honest second.new.pages → IfOk result.0 (λ a. IfOk result.1
         (λ b. (a ≡ b) × AreAlike first.new.state second.new.state)) }
-    ensures latched { IsSound first.old.state → LatchedApart result.0 result.1 }
+    ensures latched { P.honest first.new.pages → P.honest second.new.pages → IsSound first.old.state
+        → LatchedApart result.0 result.1 }
     ensures decided { AreHonest P.PageDevice L.LogDevice first.new → AreHonest P.PageDevice L.LogDevice second.new
         → IsSound first.old.state → RefuseAlike result.0 result.1 }
 {
@@ -104,9 +108,10 @@ pub fn start_mark<P: PageDevice, L: LogDevice, B: Level>(
     tag: u64,
 ) -> (Result<Sub, Refusal>, Result<Sub, Refusal>)
     requires same { first.old ≡ second.old }
-    ensures same { IfOk result.0 (λ a. IfOk result.1
+    ensures same { P.honest first.new.pages → P.honest second.new.pages → IfOk result.0 (λ a. IfOk result.1
         (λ b. (a ≡ b) × AreAlike first.new.state second.new.state)) }
-    ensures latched { IsSound first.old.state → LatchedApart result.0 result.1 }
+    ensures latched { P.honest first.new.pages → P.honest second.new.pages → IsSound first.old.state
+        → LatchedApart result.0 result.1 }
     ensures decided { AreHonest P.PageDevice L.LogDevice first.new → AreHonest P.PageDevice L.LogDevice second.new
         → IsSound first.old.state → RefuseAlike result.0 result.1 }
 {
@@ -124,9 +129,10 @@ pub fn undo_next<P: PageDevice, L: LogDevice, B: Level>(
     txn: Txn,
 ) -> (Result<Option<Sub>, Refusal>, Result<Option<Sub>, Refusal>)
     requires same { first.old ≡ second.old }
-    ensures same { IfOk result.0 (λ a. IfOk result.1
+    ensures same { P.honest first.new.pages → P.honest second.new.pages → IfOk result.0 (λ a. IfOk result.1
         (λ b. (a ≡ b) × AreAlike first.new.state second.new.state)) }
-    ensures latched { IsSound first.old.state → TakenApart result.0 result.1 }
+    ensures latched { P.honest first.new.pages → P.honest second.new.pages → IsSound first.old.state
+        → TakenApart result.0 result.1 }
     ensures decided { AreHonest P.PageDevice L.LogDevice first.new → AreHonest P.PageDevice L.LogDevice second.new
         → IsSound first.old.state → RefuseAlike result.0 result.1 }
 {

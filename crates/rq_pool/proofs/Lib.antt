@@ -6,3 +6,4 @@ pub mod Indexes
 pub mod Kept
 pub mod Over
 pub mod Growths
+pub mod KeptUp

@@ -1,4 +1,5 @@
 mod Replaying
+mod NoEntries
 mod Moves
 mod Ties
 mod Receiving

@@ -10,6 +10,7 @@ use Rattle.rq_engine.specs.declared.event.Reply.TheVariants.{Forced, Refused}
 use Rattle.rq_shared.specs.declared.kept.Stamped.{Stamped}
 use Rattle.rq_shared.specs.Entries.{Audited, TakenAudit, Follows, BeginsSound, OneMore, noted}
 use Rattle.rq_shared.specs.Marks.{MarkView}
+use Rattle.rq_shared.specs.NoEntry.{LeavesNone}
 use Rattle.rq_shared.specs.Passes.{PassView}
 
 -- The call of this event was made under a pass, and answered by this stamp. The pass counts it, but where memory was
@@ -35,7 +36,7 @@ pub record IsStepOf {P L : Type 0} (p : page_device.Ghosts P) (l : log_device.Gh
   pub event : s.event ≡ e
   pub entry : s.reply ≢ Refused NoMemory → OneMore old.audit new.audit (noted number e s.reply)
   pub applied : s.reply ≢ Refused NoMemory → Applied p l old.engine e s.reply new.engine
-  pub no_change : s.reply ≡ Refused NoMemory → new ≡ old
+  pub no_entry : s.reply ≡ Refused NoMemory → LeavesNone p old new
   pub base : (new.base ≡ old.base) × (new.taken ≡ old.taken)
 
 -- A force was called, and what was answered was published: the seat has seen at least as much.

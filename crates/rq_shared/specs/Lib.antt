@@ -1,4 +1,5 @@
 pub mod Entries
+pub mod NoEntry
 pub mod Counts
 pub mod Begun
 pub mod Marks

@@ -4,6 +4,7 @@ ghost use Rattle.rq_engine.specs.Applied.{Applied};
 ghost use Rattle.rq_shared.specs.Calls.{CountsTaken, IsCalled, IsForced, IsTakenOf};
 ghost use Rattle.rq_shared.specs.Begun.{BeginsFrom};
 ghost use Rattle.rq_shared.specs.Entries.{BeginsSound, OneMore, noted};
+ghost use Rattle.rq_shared.specs.NoEntry.{LeavesNone};
 
 use crate::kept::{Kept, Stamped, Taken, is_no_memory};
 use crate::mark::{Mark, MarkPass};
@@ -105,7 +106,7 @@ impl<P: PageDevice + Drop, L: LogDevice + Drop, B: Level, G: Sharing> Guarded<P,
             → OneMore self.old.audit self.new.audit (noted pass.old.number event result.reply) }
         ensures applied { result.reply ≢ Reply.Refused Refusal.NoMemory
             → Applied P.PageDevice L.LogDevice self.old.engine event result.reply self.new.engine }
-        ensures no_change { result.reply ≡ Reply.Refused Refusal.NoMemory → self.new ≡ self.old }
+        ensures no_entry { result.reply ≡ Reply.Refused Refusal.NoMemory → LeavesNone P.PageDevice self.old self.new }
         ensures forced { (lsn : ℕ) → result.reply ≡ Reply.Forced lsn → self.new.engine.state.forced ≡ lsn }
     {
         let stamped = self.kept.step(pass.number, event);

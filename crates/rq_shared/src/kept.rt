@@ -130,6 +130,7 @@ impl<P: PageDevice, L: LogDevice, B: Level> Model for Kept<P, L, B> {
 
 impl<P: PageDevice + Drop, L: LogDevice + Drop, B: Level> Kept<P, L, B> {
     ghost use Rattle.rq_shared.specs.Entries.{Follows, OneMore, entries, noted};
+    ghost use Rattle.rq_shared.specs.NoEntry.{LeavesNone};
 
     /// Keeps an engine. The audit is empty.
     pub fn new(alloc: Global, engine: Engine<P, L, B>) -> Self
@@ -149,7 +150,7 @@ impl<P: PageDevice + Drop, L: LogDevice + Drop, B: Level> Kept<P, L, B> {
     }
 
     /// Makes the call that the event stands for, and answers a stamp of it. It leaves one entry, which says
-    /// what the stamp says; where it is answered `NoMemory` it leaves none, and no change.
+    /// what the stamp says. Where it is answered `NoMemory` it leaves none, and changes nothing but which pages stand in memory.
     pub fn step(&mut self, pass: u64, event: Event) -> Stamped
         ensures pass { result.pass ≡ pass }
         ensures event { result.event ≡ event }
@@ -157,7 +158,7 @@ impl<P: PageDevice + Drop, L: LogDevice + Drop, B: Level> Kept<P, L, B> {
             → OneMore self.old.audit self.new.audit (noted pass event result.reply) }
         ensures applied { result.reply ≢ Reply.Refused Refusal.NoMemory
             → Applied P.PageDevice L.LogDevice self.old.engine event result.reply self.new.engine }
-        ensures no_change { result.reply ≡ Reply.Refused Refusal.NoMemory → self.new ≡ self.old }
+        ensures no_entry { result.reply ≡ Reply.Refused Refusal.NoMemory → LeavesNone P.PageDevice self.old self.new }
         ensures forced { (lsn : ℕ) → result.reply ≡ Reply.Forced lsn → self.new.engine.state.forced ≡ lsn }
         ensures base { (self.new.base ≡ self.old.base) × (self.new.taken ≡ self.old.taken) }
         ensures honest { AreHonest P.PageDevice L.LogDevice self.new.engine

@@ -1,4 +1,4 @@
-use Rattle.std.proofs.Common.{rules, refl, ap, arith}
+use Rattle.std.proofs.Common.{rules, refl, ap, arith, true}
 use Rattle.rq_model.specs.declared.refusal.Refusal.{Refusal}
 use Rattle.rq_model.specs.History.Call.{Start_mark}
 use Rattle.rq_groups.specs.declared.End.TheVariants.{Marking}
@@ -18,6 +18,7 @@ use Rattle.rq_engine.proofs.MarkCalls.{mark_done, refused}
 use Rattle.rq_engine.proofs.Latches.{mark_refused, mark_unlatched}
 use Rattle.rq_engine.proofs.Leveled.{mark_free, mark_held, mark_plan, refused_for}
 use Rattle.rq_engine.proofs.Refusals.{no_memory, not_full}
+use Rattle.rq_engine.proofs.KeptUp.{begun_by, devices_begun, planned_leaves}
 use Rattle.rq_engine.proofs.engine.Engine.start_mark.Goals as goal
 
 pub returns-in_default-clause-answered : goal.returns-in_default-clause-answered
@@ -53,14 +54,14 @@ returns-in-Ok-start_planned-clause-sizes g c =
     ap (λ (x : State). x.sizes) (b.state)
 
 pub returns-in-Ok-start_planned-clause-latched : goal.returns-in-Ok-start_planned-clause-latched
-returns-in-Ok-start_planned-clause-latched g c earlier long k =
+returns-in-Ok-start_planned-clause-latched g c honest earlier long k =
     let s = on earlier c.args.self.now.state in
     let mark : Tagging = record { client = c.args.client; tag = c.args.tag } in
     let told = tagged c.in-Ok.op.level c.in-Ok.op.bytes _ (ap (λ (j : Job). j.level) c.in-Ok.ensures.op) c.in-Ok.ensures.told in
     mark_unlatched s k c.args.txn c.args.client c.args.tag (mark_free s mark (c.in-Ok-start_planned.ensures.started (Tag mark) told).free)
 
 pub returns-in-Ok-start_planned-clause-lists : goal.returns-in-Ok-start_planned-clause-lists
-returns-in-Ok-start_planned-clause-lists g c =
+returns-in-Ok-start_planned-clause-lists g c honest =
     let s = c.args.self.now.state in
     let mark : Tagging = record { client = c.args.client; tag = c.args.tag } in
     let told = tagged c.in-Ok.op.level c.in-Ok.op.bytes _ (ap (λ (j : Job). j.level) c.in-Ok.ensures.op) c.in-Ok.ensures.told in
@@ -88,7 +89,7 @@ returns-clause-answered g c h earlier long k =
     (no_memory s _ c.in_ok-number.ensures.running (λ k. c.in_ok-check_mark.ensures.passes earlier c.args.tag long k c.in_ok-number.ensures.passes) (λ k. refl)) (λ held. refused s c.args.txn c.args.client c.args.tag c.in_ok-number.ensures.passes (λ k. c.in_ok-check_mark.ensures.passes earlier c.args.tag long k c.in_ok-number.ensures.passes) (mark_held s mark held)) k)
 
 pub returns-clause-latched : goal.returns-clause-latched
-returns-clause-latched g c earlier long k =
+returns-clause-latched g c honest earlier long k =
     let old = c.args.self.now.state in
     let s = on earlier old in
     let mark : Tagging = record { client = c.args.client; tag = c.args.tag } in
@@ -103,3 +104,26 @@ pub returns-in_err-check_mark-clause-answered : goal.returns-in_err-check_mark-c
 returns-in_err-check_mark-clause-answered g c =
     let refuses = c.in_err-check_mark.ensures.refused c.args.tag c.in_ok-number.ensures.passes in
     search (rules, refuses)
+
+pub returns-in-Ok-start_planned-clause-begun : goal.returns-in-Ok-start_planned-clause-begun
+returns-in-Ok-start_planned-clause-begun g c =
+    let s = c.args.self.now.state in
+    let mark : Tagging = record { client = c.args.client; tag = c.args.tag } in
+    let told = tagged c.in-Ok.op.level c.in-Ok.op.bytes _ (ap (λ (j : Job). j.level) c.in-Ok.ensures.op) c.in-Ok.ensures.told in
+    let b : HasStarted s c.args.txn c.in_ok-number.number (Marking c.args.client) (Tag mark) c.start_planned.new.self.state = (c.in-Ok-start_planned.ensures.started (Tag mark) told).begun in
+    begun_by s _ _ _ _ b.state
+
+pub returns-in-Ok-start_planned-clause-devices : goal.returns-in-Ok-start_planned-clause-devices
+returns-in-Ok-start_planned-clause-devices g c =
+    let s = c.args.self.now.state in
+    let mark : Tagging = record { client = c.args.client; tag = c.args.tag } in
+    let told = tagged c.in-Ok.op.level c.in-Ok.op.bytes _ (ap (λ (j : Job). j.level) c.in-Ok.ensures.op) c.in-Ok.ensures.told in
+    let b : HasStarted s c.args.txn c.in_ok-number.number (Marking c.args.client) (Tag mark) c.start_planned.new.self.state = (c.in-Ok-start_planned.ensures.started (Tag mark) told).begun in
+    devices_begun g.P.PageDevice c.args.self.now _ _ _ _ c.in-Ok-start_planned.ensures.devices b.state
+
+pub returns-clause-refused : goal.returns-clause-refused
+returns-clause-refused g c =
+    let mark : Tagging = record { client = c.args.client; tag = c.args.tag } in
+    let told = tagged c.in-Ok.op.level c.in-Ok.op.bytes _ (ap (λ (j : Job). j.level) c.in-Ok.ensures.op) c.in-Ok.ensures.told in
+    let p = c.in-Err.ensures.started (Tag mark) told in
+    planned_leaves true c.args.self.now c.start_planned.new.self _ c.in-Err.refusal p.causes c.in-Err.ensures.refused

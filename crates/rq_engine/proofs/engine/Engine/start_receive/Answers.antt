@@ -1,5 +1,5 @@
 use Rattle.std.specs.Bool.{⊤}
-use Rattle.std.proofs.Common.{sym, ◌∙◌, refl, ap, inl}
+use Rattle.std.proofs.Common.{sym, ◌∙◌, refl, ap, inl, true}
 use Rattle.rq_model.specs.declared.refusal.Refusal.{Refusal}
 use Rattle.rq_model.specs.History.Call.{Start_receive}
 use Rattle.rq_store.specs.Plans.{NoneWaits, WaitsFor}
@@ -14,6 +14,7 @@ use Rattle.rq_engine.proofs.Free.{left_none}
 use Rattle.rq_engine.proofs.Latches.{any_latches, any_unlatched}
 use Rattle.rq_engine.proofs.Leveled.{refused_for, take_plan}
 use Rattle.rq_engine.proofs.TakeCalls.{any_refused, log_is_full, none_done, take_done, take_memory, take_started}
+use Rattle.rq_engine.proofs.KeptUp.{begun_by, devices_begun, planned_leaves}
 use Rattle.rq_engine.proofs.engine.Engine.start_receive.Goals as goal
 
 pub returns-in_default-clause-answered : goal.returns-in_default-clause-answered
@@ -22,7 +23,7 @@ returns-in_default-clause-answered g c h earlier long =
     (left_none (NoneWaits c.args.self.now.state c.args.txn) c.first_waiting.result c.in_default.not-Some c.first_waiting.ensures.none)
 
 pub returns-in_default-clause-lists : goal.returns-in_default-clause-lists
-returns-in_default-clause-lists g c = (
+returns-in_default-clause-lists g c honest = (
   (c.in_ok-number.number, c.in_ok-number.ensures.ready),
   left_none (NoneWaits c.args.self.now.state c.args.txn) c.first_waiting.result c.in_default.not-Some c.first_waiting.ensures.none,
   refl,
@@ -49,12 +50,12 @@ pub returns-in-Ok-clause-sizes : goal.returns-in-Ok-clause-sizes
 returns-in-Ok-clause-sizes g c = ap (λ (x : State). x.sizes) c.in-Ok.ensures.taken.begun.started.state
 
 pub returns-in-Ok-clause-lists : goal.returns-in-Ok-clause-lists
-returns-in-Ok-clause-lists g c =
+returns-in-Ok-clause-lists g c honest =
     let b = c.in-Ok.ensures.taken.begun in
     (b.sender, take_started c.args.self.now.state c.args.txn c.in_ok-number.number b.sender _ c.in_ok-number.ensures.ready b.waits b.started)
 
 pub returns-in-Ok-clause-latched : goal.returns-in-Ok-clause-latched
-returns-in-Ok-clause-latched g c earlier long k =
+returns-in-Ok-clause-latched g c honest earlier long k =
     let b = c.in-Ok.ensures.taken.begun in
     any_unlatched (on earlier c.args.self.now.state) k c.args.txn b.sender b.waits b.free
 
@@ -69,9 +70,18 @@ returns-in-Err-clause-answered g c h earlier long k =
     (λ held. any_refused s c.args.txn c.in_ok-number.ensures.passes c.in-Some.first w.0 w.1 w.2 room (λ e. held e tt)) k)
 
 pub returns-in-Err-clause-latched : goal.returns-in-Err-clause-latched
-returns-in-Err-clause-latched g c earlier long k =
+returns-in-Err-clause-latched g c honest earlier long k =
     let s = on earlier c.args.self.now.state in
     let w : WaitsFor s c.args.txn c.in-Some.first = c.in-Some.ensures.waits in
     let p = c.in-Err.ensures.taken in
     refused_for (OnLatched (IsLatched s (Start_receive c.args.txn))) (AreHeldUp c.args.self.now.state c.args.txn (λ _. ⊤)) c.in-Err.refusal p.causes (p.sound (earlier, long, k))
     tt (λ held. any_latches s k c.args.txn c.in-Some.first w (λ e. held e tt))
+
+pub returns-in-Ok-clause-begun : goal.returns-in-Ok-clause-begun
+returns-in-Ok-clause-begun g c = begun_by c.args.self.now.state _ _ _ _ c.in-Ok.ensures.taken.begun.started.state
+
+pub returns-in-Ok-clause-devices : goal.returns-in-Ok-clause-devices
+returns-in-Ok-clause-devices g c = devices_begun g.P.PageDevice c.args.self.now _ _ _ _ c.in-Ok.ensures.devices c.in-Ok.ensures.taken.begun.started.state
+
+pub returns-in-Err-clause-refused : goal.returns-in-Err-clause-refused
+returns-in-Err-clause-refused g c = planned_leaves true c.args.self.now c.start_any_take.new.self _ c.in-Err.refusal c.in-Err.ensures.taken.causes c.in-Err.ensures.refused

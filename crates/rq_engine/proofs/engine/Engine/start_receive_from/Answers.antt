@@ -15,6 +15,7 @@ use Rattle.rq_engine.proofs.Latches.{from_latched, from_unlatched}
 use Rattle.rq_engine.proofs.Leveled.{refused_for, take_free, take_plan}
 use Rattle.rq_engine.proofs.Opened.{state_is}
 use Rattle.rq_engine.proofs.TakeCalls.{from_refused, log_is_full, none_from_done, receiver_busy, take_done, take_memory, take_started}
+use Rattle.rq_engine.proofs.KeptUp.{begun_by, devices_begun, planned_leaves}
 use Rattle.rq_engine.proofs.engine.Engine.start_receive_from.Goals as goal
 
 pub returns-then-not-may_receive-clause-answered : goal.returns-then-not-may_receive-clause-answered
@@ -33,7 +34,7 @@ returns-then-count-eq0-clause-answered g c h earlier long =
     (ap (λ (s : State). waits s.waiting c.args.sender) (sym (state_is c.self.view_is)) ∙ sym c.count.ensures ∙ c.if-count-eq0.true)
 
 pub returns-then-count-eq0-clause-lists : goal.returns-then-count-eq0-clause-lists
-returns-then-count-eq0-clause-lists g c =
+returns-then-count-eq0-clause-lists g c honest =
     let n : c.senders.result ≡ sender_count c.args.self.now.state.sizes = c.senders.ensures.number ∙ ap sender_count (c.layout.ensures.sizes ∙ ap (λ (s : State). s.sizes) (state_is c.self.view_is)) in
     let lt = c.if-sender-senders.false in (
       (c.in_ok-number.number, c.in_ok-number.ensures.ready),
@@ -88,7 +89,7 @@ pub returns-in-Ok-clause-sizes : goal.returns-in-Ok-clause-sizes
 returns-in-Ok-clause-sizes g c = ap (λ (x : State). x.sizes) c.in-Ok.ensures.started.begun.state
 
 pub returns-in-Ok-clause-lists : goal.returns-in-Ok-clause-lists
-returns-in-Ok-clause-lists g c =
+returns-in-Ok-clause-lists g c honest =
     let s = c.args.self.now.state in
     let n : c.senders.result ≡ sender_count s.sizes = c.senders.ensures.number ∙ ap sender_count (c.layout.ensures.sizes ∙ ap (λ (x : State). x.sizes) (state_is c.self.view_is)) in
     let lt = c.if-sender-senders.false in
@@ -100,7 +101,7 @@ returns-in-Ok-clause-lists g c =
     take_started s c.args.txn c.in_ok-number.number c.args.sender _ c.in_ok-number.ensures.ready (below, free, wait) c.in-Ok.ensures.started.begun
 
 pub returns-in-Ok-clause-latched : goal.returns-in-Ok-clause-latched
-returns-in-Ok-clause-latched g c earlier long k =
+returns-in-Ok-clause-latched g c honest earlier long k =
     let s = on earlier c.args.self.now.state in
     from_unlatched s k c.args.txn c.args.sender (take_free s c.args.sender c.in-Ok.ensures.started.free)
 
@@ -121,7 +122,7 @@ returns-in-Err-clause-answered g c h earlier long k =
     (from_refused (on earlier s) c.args.txn c.in_ok-number.ensures.passes c.args.sender below free wait room) k)
 
 pub returns-in-Err-clause-latched : goal.returns-in-Err-clause-latched
-returns-in-Err-clause-latched g c earlier long k =
+returns-in-Err-clause-latched g c honest earlier long k =
     let s = c.args.self.now.state in
     let n : c.senders.result ≡ sender_count s.sizes = c.senders.ensures.number ∙ ap sender_count (c.layout.ensures.sizes ∙ ap (λ (x : State). x.sizes) (state_is c.self.view_is)) in
     let lt = c.if-sender-senders.false in
@@ -133,3 +134,12 @@ returns-in-Err-clause-latched g c earlier long k =
     let p = c.in-Err.ensures.started in
     refused_for (OnLatched (IsLatched (on earlier s) (Start_receive_from c.args.txn c.args.sender))) (take_latched s c.args.sender ≡ true) c.in-Err.refusal p.causes (p.sound earlier long k wait)
     tt (from_latched (on earlier s) k c.args.txn c.args.sender)
+
+pub returns-in-Ok-clause-begun : goal.returns-in-Ok-clause-begun
+returns-in-Ok-clause-begun g c = begun_by c.args.self.now.state _ _ _ _ c.in-Ok.ensures.started.begun.state
+
+pub returns-in-Ok-clause-devices : goal.returns-in-Ok-clause-devices
+returns-in-Ok-clause-devices g c = devices_begun g.P.PageDevice c.args.self.now _ _ _ _ c.in-Ok.ensures.devices c.in-Ok.ensures.started.begun.state
+
+pub returns-in-Err-clause-refused : goal.returns-in-Err-clause-refused
+returns-in-Err-clause-refused g c = planned_leaves true c.args.self.now c.start_take.new.self _ c.in-Err.refusal c.in-Err.ensures.started.causes c.in-Err.ensures.refused

@@ -1,4 +1,4 @@
-use Rattle.std.proofs.Common.{◌≡◌, arith, ◌+◌, ap, ◌∙◌, refl}
+use Rattle.std.proofs.Common.{◌≡◌, arith, ◌+◌, ap, ◌∙◌, refl, true}
 use Rattle.rq_model.specs.declared.refusal.Refusal.{Refusal}
 use Rattle.rq_model.specs.History.Call.{Start_send}
 use Rattle.rq_model.specs.Vocabulary.{message_of}
@@ -20,6 +20,8 @@ use Rattle.rq_engine.proofs.Leveled.{refused_for, send_plan}
 use Rattle.rq_engine.proofs.Opened.{state_is}
 use Rattle.rq_engine.proofs.Refusals.{no_memory, not_full}
 use Rattle.rq_engine.proofs.SendCalls.{going_started, send_done, send_refused}
+use Rattle.rq_engine.specs.Opened.{OpenStore}
+use Rattle.rq_engine.proofs.KeptUp.{begun_by, devices_begun, planned_leaves}
 use Rattle.rq_engine.proofs.engine.Engine.start_send.Goals as goal
 
 pub returns-in_default-clause-answered : goal.returns-in_default-clause-answered
@@ -52,17 +54,17 @@ returns-in-Ok-start_planned-clause-sizes g c =
     ap (λ (x : State). x.sizes) (state_is c.self-2.view_is ∙ b.state)
 
 pub returns-in-Ok-start_planned-clause-latched : goal.returns-in-Ok-start_planned-clause-latched
-returns-in-Ok-start_planned-clause-latched g c earlier long k =
+returns-in-Ok-start_planned-clause-latched g c honest earlier long k =
     send_unlatched (on earlier c.args.self.now.state) k c.args.txn c.args.sender c.args.tag c.args.body.now (c.in-Ok-start_planned.ensures.started (Chain (Send c.args.sender c.args.tag c.args.body.now)) (chained c.in-Ok.op.level c.in-Ok.op.bytes _ (c.in-Ok.ensures.told c.in_ok-check_send.ensures.short))).free
 
 pub returns-in-Ok-start_planned-clause-lowest : goal.returns-in-Ok-start_planned-clause-lowest
-returns-in-Ok-start_planned-clause-lowest g c =
+returns-in-Ok-start_planned-clause-lowest g c honest =
     let s = c.args.self.now.state in
     let b : HasStarted s c.args.txn c.in_ok-number.number (Sending c.args.sender) (Chain (Send c.args.sender c.args.tag c.args.body.now)) c.start_planned.new.self.state = (c.in-Ok-start_planned.ensures.started (Chain (Send c.args.sender c.args.tag c.args.body.now)) (chained c.in-Ok.op.level c.in-Ok.op.bytes _ (c.in-Ok.ensures.told c.in_ok-check_send.ensures.short))).begun in
     going_started s _ c.args.txn c.in_ok-number.number b.plan (λ r u. TakesLowest s u.writes) c.in_ok-number.ensures.ready (ap (λ (x : State). x.rows) (state_is c.self-2.view_is ∙ b.state)) (λ r. b.planned.lowest)
 
 pub returns-in-Ok-start_planned-clause-lists : goal.returns-in-Ok-start_planned-clause-lists
-returns-in-Ok-start_planned-clause-lists g c =
+returns-in-Ok-start_planned-clause-lists g c honest =
     let s = c.args.self.now.state in
     let b : HasStarted s c.args.txn c.in_ok-number.number (Sending c.args.sender) (Chain (Send c.args.sender c.args.tag c.args.body.now)) c.start_planned.new.self.state = (c.in-Ok-start_planned.ensures.started (Chain (Send c.args.sender c.args.tag c.args.body.now)) (chained c.in-Ok.op.level c.in-Ok.op.bytes _ (c.in-Ok.ensures.told c.in_ok-check_send.ensures.short))).begun in (
       refl,
@@ -86,7 +88,7 @@ returns-clause-answered g c h earlier long k =
     (no_memory s _ c.in_ok-number.ensures.running (λ k. c.in_ok-check_send.ensures.passes earlier long k c.in_ok-number.ensures.passes) (λ k. refl)) (send_refused s c.args.txn c.args.sender c.args.tag c.args.body.now (λ k. c.in_ok-check_send.ensures.passes earlier long k c.in_ok-number.ensures.passes) c.in_ok-check_send.ensures.room) k)
 
 pub returns-clause-latched : goal.returns-clause-latched
-returns-clause-latched g c earlier long k =
+returns-clause-latched g c honest earlier long k =
     let old = c.args.self.now.state in
     let s = on earlier old in
     let few = not_full old 4 c.in_ok-check_send.ensures.log in
@@ -101,3 +103,23 @@ overflow_add-self g c =
     let same : c.self-2.inside.cells_in_use ≡ c.args.self.now.state.cells_in_use = ap (λ (x : State). x.cells_in_use) (state_is c.self-2.view_is ∙ b.state) in
     let small = c.in_ok-check_send.ensures.small in
     omega (arith, same, small)
+
+pub returns-in-Ok-start_planned-clause-begun : goal.returns-in-Ok-start_planned-clause-begun
+returns-in-Ok-start_planned-clause-begun g c =
+    let s = c.args.self.now.state in
+    let b : HasStarted s c.args.txn c.in_ok-number.number (Sending c.args.sender) (Chain (Send c.args.sender c.args.tag c.args.body.now)) c.start_planned.new.self.state = (c.in-Ok-start_planned.ensures.started (Chain (Send c.args.sender c.args.tag c.args.body.now)) (chained c.in-Ok.op.level c.in-Ok.op.bytes _ (c.in-Ok.ensures.told c.in_ok-check_send.ensures.short))).begun in
+    begun_by s _ _ _ _ (ap (λ (x : State). record x { cells_in_use = x.cells_in_use + 1 }) (state_is c.self-2.view_is ∙ b.state))
+
+pub returns-in-Ok-start_planned-clause-devices : goal.returns-in-Ok-start_planned-clause-devices
+returns-in-Ok-start_planned-clause-devices g c =
+    let s = c.args.self.now.state in
+    let b : HasStarted s c.args.txn c.in_ok-number.number (Sending c.args.sender) (Chain (Send c.args.sender c.args.tag c.args.body.now)) c.start_planned.new.self.state = (c.in-Ok-start_planned.ensures.started (Chain (Send c.args.sender c.args.tag c.args.body.now)) (chained c.in-Ok.op.level c.in-Ok.op.bytes _ (c.in-Ok.ensures.told c.in_ok-check_send.ensures.short))).begun in
+    let d = c.in-Ok-start_planned.ensures.devices in
+    let v = c.self-2.view_is in
+    devices_begun g.P.PageDevice c.args.self.now _ _ _ _ (ap (λ (o : OpenStore _ _). o.pages) v ∙ d.0, ap (λ (o : OpenStore _ _). o.log) v ∙ d.1, ap (λ (o : OpenStore _ _). o.changed) v ∙ d.2, ap (λ (o : OpenStore _ _). o.replacing) v ∙ d.3)
+    (ap (λ (x : State). record x { cells_in_use = x.cells_in_use + 1 }) (state_is v ∙ b.state))
+
+pub returns-clause-refused : goal.returns-clause-refused
+returns-clause-refused g c =
+    let p = c.in-Err.ensures.started (Chain (Send c.args.sender c.args.tag c.args.body.now)) (chained c.in-Ok.op.level c.in-Ok.op.bytes _ (c.in-Ok.ensures.told c.in_ok-check_send.ensures.short)) in
+    planned_leaves true c.args.self.now c.start_planned.new.self _ c.in-Err.refusal p.causes c.in-Err.ensures.refused

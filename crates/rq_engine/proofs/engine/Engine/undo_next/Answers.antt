@@ -1,4 +1,4 @@
-use Rattle.std.proofs.Common.{◌≡◌, Option, Some, false, refl, sym, ap, ◌∙◌, subst}
+use Rattle.std.proofs.Common.{◌≡◌, Option, Some, false, refl, sym, ap, ◌∙◌, subst, true}
 use Rattle.rq_model.specs.declared.refusal.Refusal.{Refusal}
 use Rattle.rq_model.specs.History.Call.{Undo_next}
 use Rattle.rq_model.specs.Tests.{log_full, undo_cost}
@@ -17,6 +17,7 @@ use Rattle.rq_engine.proofs.Earlier.{full_on}
 use Rattle.rq_engine.proofs.Latches.{undo_latched, undo_unlatched}
 use Rattle.rq_engine.proofs.Leveled.{refused_for}
 use Rattle.rq_engine.proofs.Opened.{state_is}
+use Rattle.rq_engine.proofs.KeptUp.{begun_by, devices_begun, planned_leaves}
 use Rattle.rq_engine.proofs.engine.Engine.undo_next.Goals as goal
 
 pub returns-in_default-clause-answered : goal.returns-in_default-clause-answered
@@ -58,14 +59,14 @@ pub returns-in-Ok-clause-sizes : goal.returns-in-Ok-clause-sizes
 returns-in-Ok-clause-sizes g c = ap (λ (x : State). x.sizes) c.in-Ok.ensures.started.begun.state
 
 pub returns-in-Ok-clause-latched : goal.returns-in-Ok-clause-latched
-returns-in-Ok-clause-latched g c earlier long k =
+returns-in-Ok-clause-latched g c honest earlier long k =
     let s = on earlier c.args.self.now.state in
     let f = c.in-Some.done in
     let back : IsTurnedBack s c.args.txn c.in_ok-number.number (Some f) = subst (λ (o : Option Finished). IsTurnedBack s c.args.txn c.in_ok-number.number o) (is_newest_of c.args.self.now.state _ c.args.txn _ _ (state_is c.self.view_is) c.next_undo.ensures c.in-Some.is) c.in_ok-number.ensures.ready in
     undo_unlatched s k c.args.txn f (turned_newest s c.args.txn c.in_ok-number.number (Some f) back) c.in-Ok.ensures.started.free
 
 pub returns-in-Ok-clause-lists : goal.returns-in-Ok-clause-lists
-returns-in-Ok-clause-lists g c =
+returns-in-Ok-clause-lists g c honest =
     let s = c.args.self.now.state in
     let f = c.in-Some.done in
     let b = c.in-Ok.ensures.started.begun in (
@@ -93,10 +94,19 @@ returns-in-Err-clause-answered g c h earlier long k =
     (undo_refused s c.args.txn c.in_ok-number.number f c.in_ok-number.ensures.passes back (may_be_undone s c.args.txn c.in_ok-number.number f c.in_ok-number.ensures.passes back) room) k)
 
 pub returns-in-Err-clause-latched : goal.returns-in-Err-clause-latched
-returns-in-Err-clause-latched g c earlier long k =
+returns-in-Err-clause-latched g c honest earlier long k =
     let s = on earlier c.args.self.now.state in
     let f = c.in-Some.done in
     let back : IsTurnedBack s c.args.txn c.in_ok-number.number (Some f) = subst (λ (o : Option Finished). IsTurnedBack s c.args.txn c.in_ok-number.number o) (is_newest_of c.args.self.now.state _ c.args.txn _ _ (state_is c.self.view_is) c.next_undo.ensures c.in-Some.is) c.in_ok-number.ensures.ready in
     let p = c.in-Err.ensures.started in
     refused_for (OnLatched (IsLatched s (Undo_next c.args.txn))) (UndoIsLatched s f.deed) c.in-Err.refusal p.causes (p.sound earlier long k (is_newest s c.args.txn c.in_ok-number.number f c.in_ok-number.ensures.passes back))
     tt (undo_latched s k c.args.txn f (turned_newest s c.args.txn c.in_ok-number.number (Some f) back))
+
+pub returns-in-Ok-clause-begun : goal.returns-in-Ok-clause-begun
+returns-in-Ok-clause-begun g c = begun_by c.args.self.now.state _ _ _ _ c.in-Ok.ensures.started.begun.state
+
+pub returns-in-Ok-clause-devices : goal.returns-in-Ok-clause-devices
+returns-in-Ok-clause-devices g c = devices_begun g.P.PageDevice c.args.self.now _ _ _ _ c.in-Ok.ensures.devices c.in-Ok.ensures.started.begun.state
+
+pub returns-in-Err-clause-refused : goal.returns-in-Err-clause-refused
+returns-in-Err-clause-refused g c = planned_leaves true c.args.self.now c.start_inverse.new.self _ c.in-Err.refusal c.in-Err.ensures.started.causes c.in-Err.ensures.refused

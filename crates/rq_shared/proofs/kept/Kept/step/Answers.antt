@@ -2,6 +2,7 @@ use Rattle.std.proofs.Common.{subst, ap}
 use Rattle.rq_engine.specs.Applied.{Applied}
 use Rattle.rq_engine.specs.Opened.{OpenStore}
 use Rattle.rq_shared.specs.declared.kept.AuditEntry.{AuditEntry}
+use Rattle.rq_shared.proofs.NoEntries.{follows_kept}
 use Rattle.rq_shared.proofs.Replaying.{one_noted}
 use Rattle.rq_shared.proofs.kept.Kept.step.Goals as goal
 
@@ -15,3 +16,13 @@ invariant_of-self-2 g c =
 pub returns-clause-applied : goal.returns-clause-applied
 returns-clause-applied g c some =
     subst (λ (old : OpenStore _ _). Applied g.P.PageDevice g.L.LogDevice old c.args.event c.apply-reply.result c.apply-reply.new.self) (ap (λ k. k.engine) c.self.view_is) c.apply-reply.ensures.applied
+
+pub invariant_of-self-in_default-copy_of : goal.invariant_of-self-in_default-copy_of
+invariant_of-self-in_default-copy_of g c =
+    let before = c.self.inside in
+    rw (c.in-Ok.ensures.audit) (follows_kept g.P.PageDevice g.L.LogDevice before.base.value before.engine c.apply-reply.new.self _ c.self.invariant (c.apply-reply.ensures.content c.in_default-copy_of.ensures.content))
+
+pub invariant_of-self-then-is_no_memory : goal.invariant_of-self-then-is_no_memory
+invariant_of-self-then-is_no_memory g c =
+    let before = c.self.inside in
+    rw (c.in-Ok.ensures.audit) (follows_kept g.P.PageDevice g.L.LogDevice before.base.value before.engine c.apply-reply.new.self _ c.self.invariant (c.apply-reply.ensures.no_memory (c.is_no_memory.ensures.0 c.if-is_no_memory.true)))

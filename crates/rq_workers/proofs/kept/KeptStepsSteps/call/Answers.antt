@@ -12,6 +12,6 @@ invariant_of-self g c =
     let old = c.args.self.now in
     let stamp = ap (λ p. noted p c.args.event stamped.reply) (sym step.pass) ∙ ap (λ e. noted stamped.pass e stamped.reply) (sym step.event) in
     record {
-      audit = leaves stamped old.made.value old.kept.audit c.step-stamped.new.self.audit old.begun.value.audit (λ n. step.entry n ∙ ap (λ x. old.kept.audit ++ x ∷ []) stamp) (λ e. ap (λ k. k.audit) (step.no_change e)) old.audit ∙ ap (λ l. old.begun.value.audit ++ entries_left l) (sym c.push.ensures);
+      audit = leaves stamped old.made.value old.kept.audit c.step-stamped.new.self.audit old.begun.value.audit (λ n. step.entry n ∙ ap (λ x. old.kept.audit ++ x ∷ []) stamp) (λ e. (step.no_entry e).audit) old.audit ∙ ap (λ l. old.begun.value.audit ++ entries_left l) (sym c.push.ensures);
       base = (step.base.0 ∙ old.base.0, step.base.1 ∙ old.base.1);
     }

@@ -1,0 +1,34 @@
+-- What a call may make of pages that changes none of them: some are read, and some are written out whose last record is
+-- forced.
+use Rattle.std.specs.Prelude.{◌≡◌, ◌⊎◌, ℕ, ◌≤◌, true, List}
+use Rattle.rq_disk.specs.Device.{Leaves, Elapses}
+use Rattle.rq_disk.specs.declared.device.PageDevice.{Ghosts}
+use Rattle.rq_page.specs.Pages.{lsn_of}
+use Rattle.rq_pool.specs.Pooled.{Pooled, image_at, is_changed}
+
+module _ {P : Type 0} (g : Ghosts P) (forced : ℕ) where
+  -- the image of a page that was changed, where its last record is forced
+  pub record IsForced (old : Pooled P) (p : ℕ) (c : List ℕ) : Type 0 where
+    pub changed : is_changed old.changed p ≡ true
+    pub is : c ≡ image_at old.images p
+    pub lsn : lsn_of c ≤ forced
+
+  -- a crash may leave what it might have left before, or such an image
+  abbrev pub MayBeKept : Pooled P → ℕ → List ℕ → Type 0
+  MayBeKept old p c = g.may_be old.device p c ⊎ IsForced old p c
+
+  -- a page that counts as changed did so before, and has that image
+  pub record StaysChanged (old new : Pooled P) (p : ℕ) : Type 0 where
+    pub was : is_changed old.changed p ≡ true
+    pub same : image_at new.images p ≡ image_at old.images p
+
+  -- Pages are kept up. Where the device is honest, each has its image. None counts as changed that did not. A crash, now or at any
+  -- moment of it, leaves of each what it might have left, or an image that is forced.
+  pub record IsKeptUp (old new : Pooled P) : Type 0 where
+    pub sizes : new.sizes ≡ old.sizes
+    pub images : g.honest new.device → new.images ≡ old.images
+    pub changed : (p : ℕ) → is_changed new.changed p ≡ true → StaysChanged old new p
+    pub honest : g.honest new.device → g.honest old.device
+    pub crash : (p : ℕ) (c : List ℕ) → g.may_be new.device p c → MayBeKept old p c
+    pub time : Elapses (g.moment old.device) (g.moment new.device) (g.left_since old.device) (g.left_since new.device)
+        (Leaves (MayBeKept old))
