@@ -209,7 +209,7 @@ impl StampSink for KeepStamps {
 
 /// Whether this sender's group is open and has sent one message, of this byte, which nobody has received.
 pub fn has_sent<P: PageDevice + Drop, L: LogDevice + Drop>(
-    engine: &Engine<P, L, StoreLevel>,
+    engine: &mut Engine<P, L, StoreLevel>,
     sender: usize,
     byte: u8,
 ) -> Result<bool, &'static str> {
@@ -224,7 +224,7 @@ pub fn has_sent<P: PageDevice + Drop, L: LogDevice + Drop>(
 
 /// How many senders have sent something.
 pub fn senders_of<P: PageDevice + Drop, L: LogDevice + Drop>(
-    engine: &Engine<P, L, StoreLevel>,
+    engine: &mut Engine<P, L, StoreLevel>,
 ) -> Result<usize, &'static str> {
     let Ok(groups) = engine.content() else {
         return Err("content");
@@ -254,7 +254,7 @@ pub fn leave<P: PageDevice + Drop, L: LogDevice + Drop, B: Level>(
 ) -> bool {
     let kept = steps.into_kept();
     let is_called = are_called(kept.entries(), left);
-    messages_of(&kept.give_back()) == left.messages && is_called
+    messages_of(&mut kept.give_back()) == left.messages && is_called
 }
 
 fn are_called(audit: &[AuditEntry], left: &EndState) -> bool {
@@ -266,7 +266,7 @@ fn are_called(audit: &[AuditEntry], left: &EndState) -> bool {
 }
 
 fn messages_of<P: PageDevice + Drop, L: LogDevice + Drop, B: Level>(
-    engine: &Engine<P, L, B>,
+    engine: &mut Engine<P, L, B>,
 ) -> Option<(u64, u64, bool)> {
     let groups = engine.content().ok()?;
     let mut others = 0u64;

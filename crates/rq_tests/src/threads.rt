@@ -434,12 +434,12 @@ fn outlives(
     closed: Closed<MemPages, MemLog, StoreLevel>,
 ) -> Result<bool, &'static str> {
     let (pages, log) = crashed(closed.kept);
-    let engine = opened(alloc, pages, log)?;
-    have_sent(&engine)
+    let mut engine = opened(alloc, pages, log)?;
+    have_sent(&mut engine)
 }
 
 fn have_sent<P: PageDevice + Drop, L: LogDevice + Drop>(
-    engine: &Engine<P, L, StoreLevel>,
+    engine: &mut Engine<P, L, StoreLevel>,
 ) -> Result<bool, &'static str> {
     Ok(has_sent(engine, 0, b'x')? && has_sent(engine, 15, b'y')?)
 }
@@ -461,7 +461,7 @@ fn what_receipts_name_outlives_a_crash(rt: HostRuntime) -> Result<(), Fail> {
 
 // Whether the second thread's message is all that an engine has.
 fn has_only_the_seconds<P: PageDevice + Drop, L: LogDevice + Drop>(
-    engine: &Engine<P, L, StoreLevel>,
+    engine: &mut Engine<P, L, StoreLevel>,
     case: Case,
 ) -> Result<bool, &'static str> {
     Ok(has_sent(engine, case.sender() as usize, b'y')? && senders_of(engine)? == 1)
@@ -472,8 +472,8 @@ fn leaves_only_the_seconds(
     closed: Closed<MemPages, MemLog, StoreLevel>,
     case: Case,
 ) -> Result<bool, &'static str> {
-    let engine = closed.kept.give_back();
-    has_only_the_seconds(&engine, case)
+    let mut engine = closed.kept.give_back();
+    has_only_the_seconds(&mut engine, case)
 }
 
 // What the first thread's calls were, of which so many were refused for a latch; both did all that they were to do, in time.
