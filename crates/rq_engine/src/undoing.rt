@@ -23,7 +23,7 @@ ghost use Rattle.rq_planner.specs.Answered.{IsPlanned};
 ghost use Rattle.rq_planner.specs.Asked.{Undo};
 ghost use Rattle.rq_model.specs.declared.record.Deed.{Deed};
 ghost use Rattle.rq_views.specs.InStore.{IsDeedOf};
-ghost use Rattle.rq_engine.specs.Plans.{HasTurnedBack, IsStartOf, known_part};
+ghost use Rattle.rq_engine.specs.Plans.{BeginsBack, HasTurnedBack, IsStartOf, LevelsAnswer, known_part, turned_back};
 
 use crate::engine::Engine;
 use crate::starts::{CHAIN_RECORDS, ONE_SLOT_RECORDS};
@@ -47,7 +47,7 @@ fn undo_records(deed: &ToldDeed) -> u64
     }
 }
 
-/// The record that ended a finished operation of the transaction.
+// The record that ended a finished operation of the transaction.
 fn op_end_of(txn: Txn, done: &Finished) -> Record
     ensures { result ≡ end_of txn done.now }
 {
@@ -98,6 +98,8 @@ impl<P: PageDevice, L: LogDevice, B: Level> Engine<P, L, B> {
         requires log { log_full (ledger_of self.old.state) (undo_cost (Some (op_done done.now))) ≡ false }
         ensures started { IsStartOf self.old.state (Undo done.now.deed)
             (HasTurnedBack self.old.state txn number done.now self.new.state) result }
+        ensures answered { BeginsBack self.old.state (end_of txn done.now)
+            (λ plan. self.new.state ≡ turned_back self.old.state txn number done.now plan.writes.items) result }
         ensures devices { LeavesDevices self.old self.new }
         ensures plain { IfErr result (λ r. r ≢ Refusal.Failed) }
         ensures refused { OnErr result (self.new ≡ self.old) }
@@ -108,11 +110,12 @@ impl<P: PageDevice, L: LogDevice, B: Level> Engine<P, L, B> {
         }
     }
 
-    // What the level plans whose deed the record tells, to take that back. The log holds the record.
+    // The level of the record's deed plans what takes it back. The log holds the record.
     fn plan_inverse(&mut self, told: &Record) -> Result<Plan, Refusal>
         requires logged { (lsn : ℕ) × IsLogged self.old.state.records lsn told.now }
         requires reads { is_some (deed_back told.now) ≡ true }
         ensures same { self.new ≡ self.old }
+        ensures answered { LevelsAnswer self.old.state told.now result }
         ensures planned { (d : Deed) → deed_back told.now ≡ Some d → IsDeedOf self.old.state.sizes d
             → IsPlanned (known_part self.old.state) (Undo d) result }
     {

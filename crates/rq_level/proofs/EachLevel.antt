@@ -188,7 +188,6 @@ pages_lawful = record {
   no_others = no_sizes;
   stays = λ k z a x ne h. h;
   reads = there_is 0;
-  asked = λ bytes some. omega arith;
   own = λ k job given latched p after h. pages.plan_own k given latched p after job h;
   own_back = λ k told given latched p after h. pages.back_read k given latched p after told h;
 }
@@ -227,7 +226,6 @@ chains_lawful = record {
   no_others = λ k z y h told. (let is : Some y ≡ Some z = sym told ∙ h.sizes in cc);
   stays = stays_ready;
   reads = there_is 1;
-  asked = λ bytes some. omega arith;
   own = chains.plan_own;
   own_back = chains.back_read;
 }
@@ -266,7 +264,6 @@ none_lawful n = record {
   no_others = no_sizes;
   stays = λ k z a x ne h. h;
   reads = there_is n;
-  asked = λ bytes some. absurd (false≢true some);
   own = λ k job given latched p after h. absurd h;
   own_back = λ k told given latched p after h. absurd h;
 }

@@ -1,5 +1,5 @@
 -- What the level of single slots keeps to.
-use Rattle.std.proofs.Common.{◌≡◌, cond, ℕ, ◌+◌, ◌*◌, List, [], ◌∷◌, Bool, true, false, Option, None, Some, Ok, map, All, refl, sym, ap, ◌∙◌, subst, inl}
+use Rattle.std.proofs.Common.{◌≡◌, ◌<◌, cond, ℕ, ◌+◌, ◌*◌, arith, List, [], ◌∷◌, Bool, true, false, Option, None, Some, Ok, map, All, refl, sym, ap, ◌∙◌, subst, inl}
 use Rattle.std.proofs.lemmas.List.Elements.{All-cons, All-nil, recursion_from_All}
 use Rattle.rq_model.specs.declared.record.Record.{Record}
 use Rattle.rq_model.specs.declared.record.Record.TheVariants as records
@@ -7,11 +7,11 @@ use Rattle.rq_model.specs.Vocabulary.{In, is_some}
 use Rattle.rq_level.specs.Asked.{AreWanted, IsGathered, job_back, TellsDeedOf, AreOver, IsOver, AreBackOver, AreWritten, AreAsGiven, AreOverSlots, StandsYet, Chooses, ChoosesBack, AreBackOfSlots}
 use Rattle.rq_level.specs.Given.{given_at}
 use Rattle.rq_level.specs.LevelState.{LevelState}
-use Rattle.rq_level.specs.Meaning.{page_meaning}
+use Rattle.rq_level.specs.Meaning.{level_count, page_meaning}
 use Rattle.rq_level.specs.Ops.{Job, Overwrite, overwrite_by, overwrite_in}
 use Rattle.rq_level.specs.PagePlans.{IsOneWrite, IsOverwritten, TakesBack, WritesFor, is_slot_number, page_plans, page_undoes, write_wants}
 use Rattle.rq_level.specs.declared.slots.Given.{Given}
-use Rattle.rq_level.specs.Writes.{replied, reply_of}
+use Rattle.rq_level.specs.declared.writes.Replies.TheVariants as replies
 use Rattle.rq_level.specs.declared.writes.Plan.{Plan}
 use Rattle.rq_level.specs.declared.writes.SlotWrite.{SlotWrite}
 use Rattle.rq_level.proofs.Based.{all_each, each_in, was_given}
@@ -79,15 +79,17 @@ module _ (k : LevelState) (given : List Given) (latched : List ℕ) (p : Plan) (
   back_kept (records.PageOp t n page slot x y) h = (back_one (is_slot_number slot) (page * 16 + slot) x y h).2
   back_kept _ h = absurd h
 
-  pub plan_own : (job : Job) → page_plans k job given latched (Ok p) after → (job.level ≡ 0) × (page_meaning.asks job.bytes ≡ true)
-  plan_own job h = read_of 0 job.level (overwrite_in job.bytes) (ap is_some (written job.undo k (overwrite_by job.level job.bytes) given p after h).1)
+  pub plan_own : (job : Job) → page_plans k job given latched (Ok p) after → (job.level ≡ 0) × (job.undo ≡ false) × (0 < level_count)
+  plan_own job h =
+      let m = written job.undo k (overwrite_by job.level job.bytes) given p after h in
+      (read_of 0 job.level (overwrite_in job.bytes) (ap is_some m.1), m.2, omega arith)
 
   pub back_read : (told : Record) → page_undoes k told given latched (Ok p) after → TellsDeedOf 0 told
-  back_read (records.PageOp t n page slot x y) h = tt
+  back_read (records.PageOp t n page slot x y) h = refl
   back_read _ h = absurd h
 
-  pub tells_none : (job : Job) → page_plans k job given latched (Ok p) after → (p.deed ≡ []) × (reply_of 0 p ≡ None)
-  tells_none job h = let m = written job.undo k (overwrite_by job.level job.bytes) given p after h in (m.3.plan.deed, ap (λ r. replied r None) m.3.plan.reply)
+  pub tells_none : (job : Job) → page_plans k job given latched (Ok p) after → (p.deed ≡ []) × (p.reply ≡ replies.Nothing)
+  tells_none job h = let m = written job.undo k (overwrite_by job.level job.bytes) given p after h in (m.3.plan.deed, m.3.plan.reply)
 
   pub back_writes : (told : Record) → page_undoes k told given latched (Ok p) after → IsGathered page_meaning k.sizes (job_back told) given → AreWritten given p
   back_writes (records.PageOp t n page slot x y) h g = all_in (none_within (λ n. In n (map (λ (w : SlotWrite). w.at) p.writes.items)) given [] given refl g)

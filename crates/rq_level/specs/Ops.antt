@@ -71,10 +71,6 @@ overwrite_in bytes =
 abbrev pub overwrite_by : (level : ℕ) → List ℕ → Option Overwrite
 overwrite_by level bytes = cond (nat_eq level 0) (overwrite_in bytes) None
 
--- to do this on the level of single slots
-abbrev pub page_job : ℕ → List ℕ → Job
-page_job a after = record { level = 0; undo = false; bytes = big_bytes 8 a ++ after }
-
 -- what the level of tags can be asked to do: to mark a tag for a client
 pub record Tagging : Type 0 where
   pub client : ℕ

@@ -50,8 +50,8 @@ pub enum Gist {
 pub enum Replies {
     /// Nothing: the operation has no end.
     Nothing,
-    /// What its deed tells: that a message was sent, which one was received, that a group was closed or a tag marked. With what is
-    /// counted of it.
+    /// What its deed tells: that a message was sent, which one was received, that a group was closed or a tag marked. It has what is
+    /// counted of that.
     Deed(Gist),
     /// That an earlier operation was undone.
     Undone,

@@ -19,7 +19,7 @@ use Rattle.rq_txn.specs.Rows.{latched_in}
 use Rattle.rq_sound.specs.Gathering.{with_slot}
 use Rattle.rq_sound.specs.Groups.{slots_now}
 use Rattle.rq_sound.proofs.Gathering.{slots_gathered}
-use Rattle.rq_planner.specs.Answered.{ComesFrom, HasGathered, IsAnswered, IsWithheld, Wants, wants_of}
+use Rattle.rq_planner.specs.Answered.{ComesFrom, HasGathered, IsAnswered, Wants, wants_of}
 
 -- ---- what is wanted
 
@@ -54,10 +54,6 @@ fewer_left s levels n job given now a bytes e h =
 -- ---- answers
 
 module _ (s : State) (want : Wants) (job : Job) (May : List Given → Result Plan Refusal → Type 0) where
-  -- a slot that it wants is not given to it
-  pub withheld : (given : List Given) (a : ℕ) (r : Refusal) → HasGathered s want job given → want job given ≡ Some a → IsWithheld s a r → IsAnswered s want job May (Err r)
-  withheld given a r h next stops = record { given = given; has = h; comes = subst (λ o. ComesFrom s o (May given) (Err r)) (sym next) stops }
-
   lacks : (o : Option ℕ) (P : Result Plan Refusal → Type 0) → ComesFrom s o P (Err why.NoMemory)
   lacks None P = inr refl
   lacks (Some a) P = tt

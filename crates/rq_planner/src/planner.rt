@@ -8,7 +8,7 @@ ghost use Rattle.rq_level.specs.Asked.{deed_back, job_back};
 ghost use Rattle.rq_level.specs.Meaning.{AppliesOnce, AreTold, kept_at, meaning_of, redo_of};
 ghost use Rattle.rq_pool.specs.Pooled.{image_at};
 ghost use Rattle.rq_pool.specs.Writing.{IsRedoAt};
-ghost use Rattle.rq_planner.specs.Answered.{IsAnswered, IsAnsweredBack, IsPlannedBy, KnowsCells, MayPlan, level_back, wants_of};
+ghost use Rattle.rq_planner.specs.Answered.{IsAnswered, IsAnsweredBack, IsPlannedAlone, IsPlannedBy, KnowsCells, MayPlan, level_back, wants_of};
 ghost use Rattle.rq_planner.specs.Asked.{known_from};
 ghost use Rattle.rq_planner.specs.Backs.{IsJudgedBack, IsRefusedBack, IsTakingBack};
 ghost use Rattle.rq_planner.specs.Handed.{AreForStores};
@@ -120,7 +120,7 @@ impl<B: Level> Planner<B> {
         )
     }
 
-    /// The plan of what takes back what a record tells, as `plan` does.
+    /// Has the level that a record names plan what takes its deed back, as `plan` does.
     ///
     /// # Errors
     /// `Latched`, `NoMemory`; of a store that is not sound, or where the operation may not be undone, also `Damaged`.
@@ -164,6 +164,8 @@ impl<B: Level> Planner<B> {
     ) -> Result<Vec<SlotWrite>, Refusal>
         requires { KnowsCells pages.now.sizes pages.now.images self.old }
         ensures same { self.new ≡ self.old }
+        ensures answered { IfOk result (λ writes.
+            IsPlannedAlone pages.now.sizes pages.now.images self.old told.now writes.items) }
         ensures plan { IfOk result (λ writes. IsTakingBack pages.now.sizes
             (slots_in pages.now.sizes pages.now.images) (deed_back told.now) writes.items) }
         ensures refused { IfErr result (λ r. IsRefusedBack pages.now.sizes

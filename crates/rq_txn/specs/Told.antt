@@ -13,8 +13,8 @@ pub record IsTold (level : ℕ) (bytes : List ℕ) : Type 0 where
   pub reads : deed_by level bytes ≡ Some (told_deed (deed_by level bytes))
   pub spelled : spelled_deed (told_deed (deed_by level bytes)) ≡ bytes
 
--- and this is counted of it
-pub record IsCounted (level : ℕ) (bytes : List ℕ) (gist : Gist) : Type 0 where
+-- they tell a deed, and this is counted of it
+pub record TellsGist (level : ℕ) (bytes : List ℕ) (gist : Gist) : Type 0 where
   pub told : IsTold level bytes
   pub counted : gist ≡ gist_of (told_deed (deed_by level bytes))
 

@@ -3,7 +3,7 @@ ghost use Rattle.std.specs.Prelude.{◌≡◌, ◌↔◌, IsTrue, Some};
 ghost use Rattle.rq_model.specs.Deeds.{deed_by, deed_level, spelled_deed};
 ghost use Rattle.rq_views.specs.Plans.{deed_sender};
 ghost use Rattle.rq_level.specs.Gists.{gist_of};
-ghost use Rattle.rq_txn.specs.Told.{IsCounted, message_of};
+ghost use Rattle.rq_txn.specs.Told.{TellsGist, message_of};
 
 use rq_level::Gist;
 use rq_model::message::Message;
@@ -26,13 +26,13 @@ impl Model for ToldDeed {
     ghost use Rattle.rq_model.proofs.Deeds.{told_by_its_level};
     ghost use Rattle.rq_views.specs.Items.{told_deed};
     ghost use Rattle.rq_level.specs.Gists.{gist_of};
-    ghost use Rattle.rq_txn.specs.Told.{IsCounted};
+    ghost use Rattle.rq_txn.specs.Told.{TellsGist};
 
     ghost Value = { Deed };
 
     ghost view = { λ t. told_deed (deed_by t.level t.bytes) };
 
-    ghost invariant = { λ t. IsCounted t.level t.bytes t.gist };
+    ghost invariant = { λ t. TellsGist t.level t.bytes t.gist };
 
     ghost inverse = { λ d. record { level = deed_level d; bytes = spelled_deed d; gist = gist_of d } };
 
@@ -45,7 +45,7 @@ impl Model for ToldDeed {
 impl ToldDeed {
     /// The deed of this level that these bytes are the spelling of, with what is counted of it.
     pub fn new(level: u8, bytes: DeedBytes, gist: Gist) -> Self
-        requires { IsCounted level bytes gist }
+        requires { TellsGist level bytes gist }
         ensures { deed_by level bytes ≡ Some result }
     {
         ToldDeed { level, bytes, gist }

@@ -1,4 +1,4 @@
-use Rattle.std.proofs.Common.{Some, refl, sym, ◌∙◌, ap, subst, arith}
+use Rattle.std.proofs.Common.{◌≡◌, Some, Ok, Err, refl, sym, ◌∙◌, ap, subst, arith}
 use Rattle.rq_model.specs.declared.record.Record.{Record}
 use Rattle.rq_model.specs.Tests.{undo_cost}
 use Rattle.rq_model.specs.Vocabulary.{is_some}
@@ -13,10 +13,11 @@ use Rattle.rq_planner.specs.Asked.Asked.{Undo}
 use Rattle.rq_engine.specs.Aborts.{IsTurnedBack}
 use Rattle.rq_engine.specs.Earlier.{on}
 use Rattle.rq_engine.specs.Invariant.{IsDoneConsistent, IsLogged}
-use Rattle.rq_engine.specs.Plans.{HasTurnedBack, known_part}
+use Rattle.rq_level.specs.declared.writes.Plan.{Plan}
+use Rattle.rq_engine.specs.Plans.{HasTurnedBack, LevelsAnswer, known_part, turned_back}
 use Rattle.rq_engine.specs.Sends.{HasRoom}
 use Rattle.rq_engine.proofs.Inverses.{cost_is, few_writes}
-use Rattle.rq_engine.proofs.Leveled.{never_failed, plain_memory, start_answered, start_refused}
+use Rattle.rq_engine.proofs.Leveled.{begins_planned, never_failed, plain_memory, start_answered, start_refused}
 use Rattle.rq_engine.proofs.Opened.{state_is}
 use Rattle.rq_engine.proofs.SendCalls.{has_room}
 use Rattle.rq_engine.proofs.engine.Engine.start_inverse.Goals as goal
@@ -73,6 +74,26 @@ returns-in-Err-clause-started g c =
     let s = c.args.self.now.state in
     let is = c.in-Err.ensures.planned c.args.done.now.deed (ap deed_back c.op_end_of.ensures ∙ c.requires.kept.reads) c.requires.kept.sender in
     start_refused s (Undo c.args.done.now.deed) _ c.in-Err.why is.causes (λ earlier long k may. is.sound (on earlier s) refl k may)
+
+pub returns-in-Ok-clause-answered : goal.returns-in-Ok-clause-answered
+returns-in-Ok-clause-answered g c =
+    let s = c.args.self.now.state in
+    let f = c.args.done.now in
+    record {
+      plan = Ok c.in-Ok.plan;
+      asked = subst (λ (r : Record). LevelsAnswer s r (Ok c.in-Ok.plan)) c.op_end_of.ensures c.in-Ok.ensures.answered;
+      begun = begins_planned c.in-Ok.plan (λ (p : Plan). c.start_undo.new.self.state ≡ turned_back s c.args.txn c.args.number f p.writes.items) c.start_undo.result
+          (λ begun. begun ∙ ap (λ (x : State). turned_back x c.args.txn c.args.number f c.in-Ok.plan.writes.items) (state_is c.in-Ok.ensures.same))
+          c.start_undo.ensures.started c.start_undo.ensures.refusal;
+    }
+
+pub returns-in-Err-clause-answered : goal.returns-in-Err-clause-answered
+returns-in-Err-clause-answered g c =
+    record {
+      plan = Err c.in-Err.why;
+      asked = subst (λ (r : Record). LevelsAnswer c.args.self.now.state r (Err c.in-Err.why)) c.op_end_of.ensures c.in-Err.ensures.answered;
+      begun = refl;
+    }
 
 pub returns-in-Ok-clause-plain : goal.returns-in-Ok-clause-plain
 returns-in-Ok-clause-plain g c = plain_memory c.start_undo.result c.start_undo.ensures.refusal
