@@ -21,3 +21,7 @@ pub record TellsGist (level : ℕ) (bytes : List ℕ) (gist : Gist) : Type 0 whe
 abbrev pub message_of : Deed → Option Message
 message_of (UnlinkHead sender sequence tag body) = Some (record { sender = sender; tag = tag; body = body })
 message_of _ = None
+
+abbrev pub message_in : Option Deed → Option Message
+message_in None = None
+message_in (Some d) = message_of d

@@ -1,12 +1,14 @@
 //! Deeds, as levels tell them.
-ghost use Rattle.std.specs.Prelude.{◌≡◌, ◌↔◌, IsTrue, Some};
-ghost use Rattle.rq_model.specs.Deeds.{deed_by, deed_level, spelled_deed};
+ghost use Rattle.std.specs.Prelude.{◌≡◌, ◌+◌, ◌≤◌, ◌↔◌, IsTrue, Some, drop, length};
+ghost use Rattle.byteorder.specs.Endian.{big_number};
+ghost use Rattle.rq_model.specs.Deeds.{deed_by, deed_in, deed_level, spelled_deed, unlink_head_in};
 ghost use Rattle.rq_views.specs.Plans.{deed_sender};
 ghost use Rattle.rq_level.specs.Gists.{gist_of};
-ghost use Rattle.rq_txn.specs.Told.{TellsGist, message_of};
+ghost use Rattle.rq_txn.specs.Told.{TellsGist, message_in, message_of};
 
+use byteorder::{BigEndian, ByteOrder};
 use rq_level::Gist;
-use rq_model::message::Message;
+use rq_model::message::{Body, Message};
 use rq_model::record::{Deed, DeedBytes};
 use rq_record::decode_told;
 use std::marker::Model;
@@ -84,15 +86,7 @@ impl ToldDeed {
     pub fn message(&self) -> Option<Message>
         ensures { result ≡ message_of self.now }
     {
-        match self.deed() {
-            Deed::UnlinkHead {
-                sender,
-                tag,
-                body,
-                ..
-            } => Some(Message { sender, tag, body }),
-            _ => None,
-        }
+        message_in(self.level, self.bytes.as_slice())
     }
 
     /// Whether it is of this sender's group. A mark is of none.
@@ -106,4 +100,49 @@ impl ToldDeed {
             Gist::Mark { .. } => false,
         }
     }
+}
+
+// The message that was taken by the deed that a level tells by these bytes; none where it tells no such deed.
+fn message_in(level: u8, bytes: &[u8]) -> Option<Message>
+    ensures { result ≡ message_in (deed_by level bytes.now) }
+{
+    match level {
+        1 => chain_message(bytes),
+        _ => None,
+    }
+}
+
+// The message that was taken by a deed of chains.
+fn chain_message(bytes: &[u8]) -> Option<Message>
+    ensures { result ≡ message_in (deed_in bytes.now) }
+{
+    match bytes {
+        [1, ..] => None,
+        [2, fields @ ..] => message_at(fields),
+        [3, ..] => None,
+        _ => None,
+    }
+}
+
+// The message in the fields of a deed that took one.
+fn message_at(fields: &[u8]) -> Option<Message>
+    ensures { result ≡ message_in (unlink_head_in fields.now) }
+{
+    if fields.len() < 20 || number_at(fields, 4) == 0 {
+        return None;
+    }
+    let body = Body::new(&fields[20..])?;
+    Some(Message {
+        sender: BigEndian::read_u32(fields),
+        tag: number_at(fields, 12),
+        body,
+    })
+}
+
+// A number of the fields of a deed.
+fn number_at(fields: &[u8], at: usize) -> u64
+    requires { at + 8 ≤ length fields.now }
+    ensures { result ≡ big_number 8 (drop at fields.now) }
+{
+    BigEndian::read_u64(&fields[at..])
 }
